@@ -1,0 +1,146 @@
+-- What a command line means (RFC 5321, 4.1.1; RFC 2033, 4.1; RFC 1870, 3; RFC 6152, 2). The first rule that fits decides.
+use Rattle.std.specs.Prelude.{ℕ, ◌-◌, Bool, false, not, ◌&&◌, ◌||◌, ◌==◌, nat_lt, List, [], ◌∷◌, length, take, drop, filter, if◌then◌else◌, Option, Some, None, Result, Ok, Err, codes}
+use Rattle.std.specs.List.{list_any, list_all, prefix_len, suffix_len, before_first, after_first, slice_split, filter_map}
+use Rattle.std.specs.Char.{is_ascii_digit}
+use Rattle.std.specs.Str.{byte, str_eq_ignore_ascii_case}
+use Rattle.std.specs.Str.Parse.{digits_value}
+use Rattle.mail_world.specs.declared.BadCommand.{BadCommand}
+use Rattle.mail_world.specs.declared.BadCommand.TheVariants as bad
+use Rattle.mail_world.specs.declared.limits.TheConstants.{NAME_LIMIT, SIZE_DIGIT_LIMIT, MESSAGE_LIMIT}
+use Rattle.mail_world.specs.Text.{has_byte, space, tab, begins}
+use Rattle.mail_world.specs.Grammar.{is_between, is_visible, Target}
+use Rattle.mail_world.specs.Paths.{Found, Path, reverse_path, forward_path}
+
+pub data Command : Type 0 where
+  Lhlo : (client : List ℕ) → Command
+  Mail : (sender : List ℕ) → Command
+  Rcpt : (target : Target) → Command
+  StartData : Command
+  Rset : Command
+  Noop : Command
+  Quit : Command
+  Vrfy : Command
+  Help : Command
+
+abbrev pub Answer : Type 0
+Answer = Result Command BadCommand
+
+-- the text without the spaces and tabs at its end, without the spaces at its front
+abbrev pub trimmed : List ℕ → List ℕ
+trimmed text = take (length text - suffix_len (has_byte (space ∷ tab ∷ [])) text) text
+
+abbrev pub behind_spaces : List ℕ → List ℕ
+behind_spaces text = drop (prefix_len (λ b. b == space) text) text
+
+-- the same word, whatever the case of its letters
+abbrev pub is_word : List ℕ → List ℕ → Bool
+is_word word text = str_eq_ignore_ascii_case text word
+
+-- what stands behind `FROM:` or `TO:` and spaces, if the text begins so
+abbrev pub behind_label : List ℕ → List ℕ → Option (List ℕ)
+behind_label label text = if is_word label (take (length label) text) then Some (behind_spaces (drop (length label) text)) else None
+
+-- `LHLO` names the client
+abbrev pub is_client_name : List ℕ → Bool
+is_client_name text = is_between 1 NAME_LIMIT (length text) && list_all (λ b. is_visible b && not (has_byte (codes "()<>;,\"\\") b)) text
+
+-- parameters: what stands before the first equals sign, and what stands behind it if there is one
+pub record Parameter : Type 0 where
+  pub keyword : List ℕ
+  pub value : Option (List ℕ)
+
+abbrev pub parameter : List ℕ → Parameter
+parameter piece = record {
+  keyword = before_first (λ b. b == byte "=") piece;
+  value = if has_byte piece (byte "=") then Some (after_first (λ b. b == byte "=") piece) else None;
+}
+
+abbrev pub is_empty : List ℕ → Bool
+is_empty text = length text == 0
+
+abbrev pub parameters : List ℕ → List Parameter
+parameters text = filter_map (λ piece. if is_empty piece then None else Some (parameter piece)) (slice_split (λ b. b == space) text)
+
+abbrev pub has_keyword : List ℕ → Parameter → Bool
+has_keyword word p = is_word word p.keyword
+
+-- a size in decimal digits (RFC 1870), the kind of the body (RFC 6152)
+abbrev pub is_size_value : Option (List ℕ) → Bool
+is_size_value None = false
+is_size_value (Some v) = is_between 1 SIZE_DIGIT_LIMIT (length v) && list_all is_ascii_digit v
+
+abbrev pub is_body_value : Option (List ℕ) → Bool
+is_body_value None = false
+is_body_value (Some v) = is_word (codes "7BIT") v || is_word (codes "8BITMIME") v
+
+abbrev pub is_known : Parameter → Bool
+is_known p = has_keyword (codes "SIZE") p || has_keyword (codes "BODY") p
+
+abbrev pub is_well_valued : Parameter → Bool
+is_well_valued p = if has_keyword (codes "SIZE") p then is_size_value p.value else is_body_value p.value
+
+abbrev pub stands_twice : List ℕ → List Parameter → Bool
+stands_twice word ps = nat_lt 1 (length (filter (has_keyword word) ps))
+
+abbrev pub is_above_limit : Option (List ℕ) → Bool
+is_above_limit None = false
+is_above_limit (Some digits) = nat_lt MESSAGE_LIMIT (digits_value 10 digits)
+
+abbrev pub is_too_large : Parameter → Bool
+is_too_large p = has_keyword (codes "SIZE") p && is_above_limit p.value
+
+-- MAIL with a path and parameters, RCPT with a path and parameters
+abbrev pub mail_with : List ℕ → List Parameter → Answer
+mail_with sender ps =
+    if not (list_all is_known ps) then Err bad.Parameter
+    else if not (list_all is_well_valued ps) || stands_twice (codes "SIZE") ps || stands_twice (codes "BODY") ps then Err bad.Arguments
+    else if list_any is_too_large ps then Err bad.TooLarge
+    else Ok (Mail sender)
+
+abbrev pub rcpt_with : Target → List Parameter → Answer
+rcpt_with target [] = Ok (Rcpt target)
+rcpt_with target (p ∷ ps) = Err bad.Parameter
+
+-- what follows a path is nothing or a space
+abbrev pub ends_path : List ℕ → Bool
+ends_path rest = is_empty rest || begins space rest
+
+-- what stands behind `FROM:`, behind `TO:`
+abbrev pub mail_path : Option (Found (List ℕ)) → Answer
+mail_path None = Err bad.SenderSyntax
+mail_path (Some found) = if ends_path found.rest then mail_with found.value (parameters found.rest) else Err bad.SenderSyntax
+
+abbrev pub rcpt_path : Option (Found Path) → Answer
+rcpt_path None = Err bad.RecipientSyntax
+rcpt_path (Some found) = if ends_path found.rest then rcpt_with found.value.target (parameters found.rest) else Err bad.RecipientSyntax
+
+abbrev pub mail : Option (List ℕ) → Answer
+mail None = Err bad.Arguments
+mail (Some text) = mail_path (reverse_path text)
+
+abbrev pub rcpt : Option (List ℕ) → Answer
+rcpt None = Err bad.Arguments
+rcpt (Some text) = rcpt_path (forward_path text)
+
+-- a command that stands alone
+abbrev pub alone : Command → List ℕ → Answer
+alone c rest = if is_empty rest then Ok c else Err bad.Arguments
+
+abbrev pub by_verb : List ℕ → List ℕ → Answer
+by_verb verb rest =
+    if is_word (codes "HELO") verb || is_word (codes "EHLO") verb then Err bad.NotHere
+    else if is_word (codes "EXPN") verb then Err bad.NotDone
+    else if is_word (codes "NOOP") verb then Ok Noop
+    else if is_word (codes "VRFY") verb then Ok Vrfy
+    else if is_word (codes "HELP") verb then Ok Help
+    else if is_word (codes "DATA") verb then alone StartData rest
+    else if is_word (codes "RSET") verb then alone Rset rest
+    else if is_word (codes "QUIT") verb then alone Quit rest
+    else if is_word (codes "LHLO") verb then (if is_client_name rest then Ok (Lhlo rest) else Err bad.ClientName)
+    else if is_word (codes "MAIL") verb then mail (behind_label (codes "FROM:") rest)
+    else if is_word (codes "RCPT") verb then rcpt (behind_label (codes "TO:") rest)
+    else Err bad.Unknown
+
+-- the verb stands before the first space, the rest behind it and behind further spaces
+unfoldable pub command : List ℕ → Answer
+command line = let w = trimmed line in by_verb (before_first (λ b. b == space) w) (behind_spaces (after_first (λ b. b == space) w))

@@ -1,0 +1,106 @@
+-- The session (RFC 5321, 4.1.4, for the order of commands; RFC 2033, 4.2, for a reply to each recipient after the data).
+use Rattle.std.specs.Prelude.{ℕ, nat_lt, List, [], ◌∷◌, ◌++◌, length, zip, map, if◌then◌else◌, Option, Some, None, Result, Ok, Err}
+use Rattle.mail_world.specs.declared.Outcome.{Outcome}
+use Rattle.mail_world.specs.declared.Outcome.TheVariants as outcomes
+use Rattle.mail_world.specs.declared.Verdict.{Verdict}
+use Rattle.mail_world.specs.declared.Verdict.TheVariants as verdicts
+use Rattle.mail_world.specs.declared.State.{State}
+use Rattle.mail_world.specs.declared.State.TheVariants.{Fresh, Greeted, Sender, Recipients, Content, Waiting, Ended}
+use Rattle.mail_world.specs.declared.BadCommand.{BadCommand}
+use Rattle.mail_world.specs.declared.Reply.{Reply}
+use Rattle.mail_world.specs.declared.Reply.TheVariants as replies
+use Rattle.mail_world.specs.declared.limits.TheConstants.{RECIPIENT_LIMIT}
+use Rattle.mail_world.specs.Site.{Site}
+use Rattle.mail_world.specs.Commands.{Command, Lhlo, Mail, Rcpt, StartData, Rset, Noop, Quit, Vrfy, Help, command}
+use Rattle.mail_world.specs.Targets.{box_of}
+
+-- where the session stands, the client's name, the sender, and the mailbox of each accepted recipient in their order
+pub record Session : Type 0 where
+  pub state : State
+  pub client : List ℕ
+  pub sender : List ℕ
+  pub recipients : List ℕ
+
+abbrev pub fresh : Session
+fresh = record { state = Fresh; client = []; sender = []; recipients = [] }
+
+-- what a session is given: a line without its CRLF, a line that is too long, what was found at the end of data, what became of the copies, the order to stop
+pub data Input : Type 0 where
+  Line : (text : List ℕ) → Input
+  LongLine : Input
+  DataEnded : (verdict : Verdict) → Input
+  Outcomes : (list : List Outcome) → Input
+  Stop : Input
+
+-- what a session says, and where it stands then
+pub record Step : Type 0 where
+  pub replies : List Reply
+  pub next : Session
+
+abbrev pub says : Reply → Session → Step
+says r s = record { replies = r ∷ []; next = s }
+
+-- the session in another state
+abbrev pub moved_to : State → Session → Session
+moved_to state s = record { state = state; client = s.client; sender = s.sender; recipients = s.recipients }
+
+-- sender and recipients are forgotten
+abbrev pub greeted : List ℕ → Session
+greeted client = record { state = Greeted; client = client; sender = []; recipients = [] }
+
+abbrev pub on_mail : State → Session → List ℕ → Step
+on_mail Greeted s sender = says replies.SenderOk (record { state = Sender; client = s.client; sender = sender; recipients = [] })
+on_mail _ s sender = says replies.OutOfOrder s
+
+-- a recipient whose mailbox is known, or isn't
+abbrev pub add_recipient : Session → Option ℕ → Step
+add_recipient s None = says replies.NoSuchBox s
+add_recipient s (Some box) =
+    if nat_lt (length s.recipients) RECIPIENT_LIMIT
+    then says replies.RecipientOk (record { state = Recipients; client = s.client; sender = s.sender; recipients = s.recipients ++ box ∷ [] })
+    else says replies.TooMany s
+
+abbrev pub on_rcpt : State → Session → Option ℕ → Step
+on_rcpt Sender s box = add_recipient s box
+on_rcpt Recipients s box = add_recipient s box
+on_rcpt _ s box = says replies.OutOfOrder s
+
+abbrev pub on_data : State → Session → Step
+on_data Recipients s = says replies.GoAhead (moved_to Content s)
+on_data _ s = says replies.OutOfOrder s
+
+abbrev pub on_rset : State → Session → Step
+on_rset Fresh s = says replies.ResetOk s
+on_rset _ s = says replies.ResetOk (greeted s.client)
+
+abbrev pub on_command : Site → Session → Result Command BadCommand → Step
+on_command site s (Err why) = says (replies.Refused why) s
+on_command site s (Ok (Lhlo client)) = says replies.Offer (greeted client)
+on_command site s (Ok (Mail sender)) = on_mail s.state s sender
+on_command site s (Ok (Rcpt target)) = on_rcpt s.state s (box_of site target)
+on_command site s (Ok StartData) = on_data s.state s
+on_command site s (Ok Rset) = on_rset s.state s
+on_command site s (Ok Noop) = says replies.NoopOk s
+on_command site s (Ok Vrfy) = says replies.NotChecked s
+on_command site s (Ok Help) = says replies.HelpText s
+on_command site s (Ok Quit) = says replies.Bye (moved_to Ended s)
+
+-- a reply for each recipient, in their order (RFC 2033, 4.2)
+abbrev pub results : List Outcome → List ℕ → List Reply
+results os boxes = map (λ pair. replies.Result pair.0 pair.1) (zip os boxes)
+
+abbrev pub result_for_all : Outcome → List ℕ → List Reply
+result_for_all o boxes = map (λ box. replies.Result o box) boxes
+
+abbrev pub on_verdict : Session → Verdict → Step
+on_verdict s verdicts.Whole = record { replies = []; next = moved_to Waiting s }
+on_verdict s verdicts.TooLarge = record { replies = result_for_all outcomes.TooLarge s.recipients; next = greeted s.client }
+on_verdict s verdicts.NoRoom = record { replies = result_for_all outcomes.NoRoom s.recipients; next = greeted s.client }
+
+-- The table. A line comes in the first four states, a verdict in Content, outcomes in Waiting, one for each recipient, and stop in any of the first five.
+abbrev pub step : Site → Session → Input → Step
+step site s (Line text) = on_command site s (command text)
+step site s LongLine = says replies.LineTooLong s
+step site s (DataEnded verdict) = on_verdict s verdict
+step site s (Outcomes os) = record { replies = results os s.recipients; next = greeted s.client }
+step site s Stop = says replies.Stopping (moved_to Ended s)

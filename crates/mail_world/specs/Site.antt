@@ -1,0 +1,56 @@
+-- What a server is named and serves.
+use Rattle.std.specs.Prelude.{◌≡◌, ℕ, Bool, false, not, ◌&&◌, ◌||◌, nat_lt, nat_le, ◌==◌, List, [], ◌∷◌, length, if◌then◌else◌, Option, Some, None, slice_get, unwrap_or, codes}
+use Rattle.std.specs.List.{list_all}
+use Rattle.std.specs.Char.{is_ascii_alphanumeric, is_ascii_lowercase, is_ascii_digit}
+use Rattle.std.specs.Str.{byte, bytes_eq}
+use Rattle.mail_world.specs.declared.limits.TheConstants.{NAME_LIMIT, BOX_NAME_LIMIT, BOX_LIMIT}
+use Rattle.mail_world.specs.Text.{has_byte, begins}
+
+-- the host's name, the further domains, and the names of the mailboxes
+pub record Site : Type 0 where
+  pub host : List ℕ
+  pub domains : List (List ℕ)
+  pub boxes : List (List ℕ)
+
+-- the name of the mailbox with the number
+abbrev pub box_name : Site → ℕ → List ℕ
+box_name site n = unwrap_or (slice_get site.boxes n) []
+
+-- a host or a domain that a site may have: letters, digits, dashes and dots (RFC 5321, 2.3.5)
+abbrev pub is_host_name : List ℕ → Bool
+is_host_name text = nat_le 1 (length text) && nat_le (length text) NAME_LIMIT && list_all (λ b. is_ascii_alphanumeric b || has_byte (codes "-.") b) text
+
+-- a mailbox's name, which is a file's name too
+abbrev pub is_box_name : List ℕ → Bool
+is_box_name text =
+    nat_le 1 (length text) && nat_le (length text) BOX_NAME_LIMIT && not (begins (byte ".") text)
+    && list_all (λ b. is_ascii_lowercase b || is_ascii_digit b || has_byte (codes "-_.") b) text
+
+abbrev pub has_text : List (List ℕ) → List ℕ → Bool
+has_text [] text = false
+has_text (x ∷ xs) text = bytes_eq x text || has_text xs text
+
+abbrev pub has_twice : List (List ℕ) → Bool
+has_twice [] = false
+has_twice (x ∷ xs) = has_text xs x || has_twice xs
+
+-- what is wrong with a site, the first of these
+pub data Fault : Type 0 where
+  BadHost : Fault
+  BadDomain : Fault
+  BadCount : Fault
+  BadBox : Fault
+  NamedTwice : Fault
+
+abbrev pub fault_of : Site → Option Fault
+fault_of site =
+    if not (is_host_name site.host) then Some BadHost
+    else if not (list_all is_host_name site.domains) then Some BadDomain
+    else if (length site.boxes == 0) || nat_lt BOX_LIMIT (length site.boxes) then Some BadCount
+    else if not (list_all is_box_name site.boxes) then Some BadBox
+    else if has_twice site.boxes then Some NamedTwice
+    else None
+
+-- a site that a server may have
+abbrev pub IsSite : Site → Type 0
+IsSite site = fault_of site ≡ None

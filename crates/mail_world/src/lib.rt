@@ -1,0 +1,139 @@
+//! What delivered mail, replies and mailboxes are: the definitions that all other crates cite.
+#![tactic(auto)]
+
+use std::collections::LinkedList;
+
+pub mod laws;
+pub mod limits;
+pub mod rows;
+pub mod runs;
+
+/// A transaction: the lane that ran it, and its number among the lane's accepted DATA commands.
+#[derive(Clone, Copy, Debug, PartialEq, Eq)]
+pub struct Txn {
+    pub lane: u32,
+    pub number: u32,
+}
+
+/// What became of one copy of a message.
+#[derive(Clone, Copy, Debug, PartialEq, Eq)]
+pub enum Outcome {
+    Stored,
+    Failed,
+    NoRoom,
+    TooLarge,
+}
+
+/// What one recipient's copy came to, as a worker or the lane itself reports it.
+#[derive(Clone, Copy, Debug, PartialEq, Eq)]
+pub struct Slip {
+    pub txn: Txn,
+    pub place: u32,
+    pub worker: u32,
+    pub outcome: Outcome,
+}
+
+/// One copy of a message for one mailbox, as contracts see it.
+#[derive(Debug, Drop)]
+pub struct Note {
+    pub txn: Txn,
+    pub place: u32,
+    pub mailbox: u32,
+    pub sender: LinkedList<u8>,
+    pub client: LinkedList<u8>,
+    pub moment: u32,
+    pub message: LinkedList<u8>,
+}
+
+/// What may happen in a server, one atomic step at a time. A step of a lane or of a worker has its number first; a mailbox has its worker's number.
+#[derive(Debug, Drop)]
+pub enum Event {
+    /// The lane opens a draft.
+    Begin(u32),
+    /// The lane adds bytes to its draft.
+    Put(u32, LinkedList<u8>),
+    /// The lane drops its draft.
+    Cancel(u32),
+    /// The lane's draft becomes a message with a hold of that weight.
+    Seal(u32, u32),
+    /// One of the weight of the lane's hold at that index becomes a hold of its own.
+    Split(u32, u32),
+    /// The channel of the note's mailbox accepts the lane's copy.
+    Offer(u32, Note),
+    /// The lane releases its hold at that index, for a copy which the channel of that mailbox handed back.
+    HandBack(u32, u32, u32),
+    /// The lane's gatherer gets the next slip of its channel.
+    Collect(u32),
+    /// The worker takes the next copy from its channel.
+    Take(u32),
+    /// The worker's spool takes bytes.
+    Write(u32, LinkedList<u8>),
+    /// The worker's spool is synced.
+    Sync(u32),
+    /// The worker releases the hold of its copy.
+    Release(u32),
+    /// The worker tells the copy's lane what became of it.
+    GiveSlip(u32, Outcome),
+    /// The blocks of the message in that slot, of that generation, are given back.
+    Reclaim(u32, u64),
+    /// The mailbox's channel is closed.
+    Close(u32),
+}
+
+/// Where a session stands.
+#[derive(Clone, Copy, Debug, PartialEq, Eq)]
+pub enum State {
+    Fresh,
+    Greeted,
+    Sender,
+    Recipients,
+    Content,
+    Waiting,
+    Ended,
+}
+
+/// What the lane found once the data of a message has ended.
+#[derive(Clone, Copy, Debug, PartialEq, Eq)]
+pub enum Verdict {
+    Whole,
+    TooLarge,
+    NoRoom,
+}
+
+/// Why a line is no command.
+#[derive(Clone, Copy, Debug, PartialEq, Eq)]
+pub enum BadCommand {
+    Unknown,
+    NotHere,
+    NotDone,
+    Arguments,
+    SenderSyntax,
+    RecipientSyntax,
+    Parameter,
+    TooLarge,
+    ClientName,
+}
+
+/// A reply, by what it says.
+#[derive(Clone, Copy, Debug, PartialEq, Eq)]
+pub enum Reply {
+    Greeting,
+    Offer,
+    SenderOk,
+    RecipientOk,
+    GoAhead,
+    ResetOk,
+    NoopOk,
+    NotChecked,
+    HelpText,
+    Bye,
+    Stopping,
+    NoSuchBox,
+    TooMany,
+    OutOfOrder,
+    LineTooLong,
+    /// The line was no command.
+    Refused(BadCommand),
+    /// What became of the copy for the mailbox of that number.
+    Result(Outcome, u32),
+}

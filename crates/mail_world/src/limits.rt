@@ -1,0 +1,46 @@
+//! The limits of the server, one constant each: definitions and code cite these and no number of their own.
+
+/// A command line, with its CRLF, in bytes.
+pub const LINE_LIMIT: usize = 1024;
+
+/// A reverse or forward path without its route and brackets, in bytes.
+pub const PATH_LIMIT: usize = 254;
+
+/// A client's name, a host's name, a domain, in bytes.
+pub const NAME_LIMIT: usize = 255;
+
+/// A mailbox's name, in bytes.
+pub const BOX_NAME_LIMIT: usize = 32;
+
+/// A message with its CRLFs and without the dots of transparency, in bytes.
+pub const MESSAGE_LIMIT: usize = 1_048_576;
+
+/// The digits of a SIZE parameter.
+pub const SIZE_DIGIT_LIMIT: usize = 20;
+
+/// The recipients of one transaction.
+pub const RECIPIENT_LIMIT: usize = 100;
+
+/// The mailboxes of a site.
+pub const BOX_LIMIT: usize = 64;
+
+/// The transactions that one lane may number, from 1.
+pub const NUMBER_LIMIT: u32 = 4_294_967_295;
+
+/// The reads of one conversation.
+pub const READ_LIMIT: u32 = 4_294_967_295;
+
+/// The lanes of a server.
+pub const LANE_LIMIT: u32 = 16;
+
+/// The bytes of a block.
+pub const BLOCK_SIZE: usize = 512;
+
+/// The blocks of an arena.
+pub const BLOCK_LIMIT: u32 = 65_536;
+
+/// The slots of an arena.
+pub const SLOT_LIMIT: u32 = 64;
+
+/// The copies that a mailbox's channel may hold.
+pub const CAPACITY_LIMIT: u32 = 1024;
