@@ -2,6 +2,7 @@
 #![tactic(auto)]
 
 use std::collections::LinkedList;
+use thiserror::Error;
 
 pub mod laws;
 pub mod limits;
@@ -101,16 +102,34 @@ pub enum Verdict {
 }
 
 /// Why a line is no command.
-#[derive(Clone, Copy, Debug, PartialEq, Eq)]
+#[derive(Clone, Copy, Debug, PartialEq, Eq, Error)]
 pub enum BadCommand {
-    Unknown,
+    /// No verb of this server, the empty one among them.
+    #[error("unknown command")]
+    Unknown = 1,
+    /// HELO or EHLO: LMTP begins with LHLO (RFC 2033, 4.1).
+    #[error("use LHLO")]
     NotHere,
+    /// EXPN, which isn't offered.
+    #[error("not offered")]
     NotDone,
+    /// Text behind a command that stands alone, or a wrong parameter.
+    #[error("bad arguments")]
     Arguments,
+    /// MAIL without a reverse path.
+    #[error("bad sender")]
     SenderSyntax,
+    /// RCPT without a forward path.
+    #[error("bad recipient")]
     RecipientSyntax,
+    /// A keyword that isn't known.
+    #[error("unknown parameter")]
     Parameter,
+    /// MAIL with a SIZE above the limit (RFC 1870, 6.1).
+    #[error("message too large")]
     TooLarge,
+    /// LHLO without a client's name.
+    #[error("bad client name")]
     ClientName,
 }
 

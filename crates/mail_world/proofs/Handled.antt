@@ -1,0 +1,227 @@
+-- What an engine has handled of the bytes of a conversation: parts at their front, and what goes on from there.
+use Rattle.std.proofs.Common.{◌≡◌, ℕ, cond, ◌+◌, ◌≤◌, List, [], ◌∷◌, ◌++◌, length, take, drop, Option, Some, None, refl, sym, ap, ◌∙◌, arith, append_assoc, length-drop, length-append, drop-drop, length-take-le}
+use Rattle.std.specs.Prelude.{option_map, flat_map, sum_by, count_by, false, ⊤}
+use Rattle.std.proofs.lemmas.List.{append-nil}
+use Rattle.std.proofs.lemmas.Grind.{flat_map-append}
+use Rattle.std.proofs.lemmas.List.Sums.{sum_by-append}
+use Rattle.std.proofs.lemmas.List.Recursion.{is_count_by}
+use Rattle.mail_world.specs.declared.Verdict.{Verdict}
+use Rattle.mail_world.specs.declared.Verdict.TheVariants as verdicts
+use Rattle.mail_world.specs.declared.Reply.{Reply}
+use Rattle.mail_world.specs.declared.State.{State}
+use Rattle.mail_world.specs.declared.State.TheVariants.{Fresh, Greeted, Sender, Recipients, Content, Waiting, Ended}
+use Rattle.mail_world.specs.Text.{crlf, place_of}
+use Rattle.mail_world.specs.Data.{data_end, end_of_data}
+use Rattle.mail_world.specs.Site.{Site}
+use Rattle.mail_world.specs.Session.{Session, fresh, Input, step}
+use Rattle.mail_world.specs.Conversation.{Disposition, Part, CommandLine, MailData, Cut, cut_line, cut_data, cut, cut_then, inputs_of, session_after, replies_to, parts, session_behind, size_of, is_data, OutcomesFit, AllFit, NoDataEnded, Fits, Conversation, stop_at, inputs, IsAccount}
+use Rattle.mail_world.proofs.Places.{place_of_stands}
+use Rattle.mail_world.proofs.Cuts.{parts-cut}
+
+-- inputs one after another
+pub session_after-append : (site : Site) (session : Session) (xs ys : List Input)
+    → session_after site session (xs ++ ys) ≡ session_after site (session_after site session xs) ys
+session_after-append site session [] ys = refl
+session_after-append site session (x ∷ xs) ys = session_after-append site (step site session x).next xs ys
+
+pub replies_to-append : (site : Site) (session : Session) (xs ys : List Input)
+    → replies_to site session (xs ++ ys) ≡ replies_to site session xs ++ replies_to site (session_after site session xs) ys
+replies_to-append site session [] ys = refl
+replies_to-append site session (x ∷ xs) ys =
+    ap (λ rs. (step site session x).replies ++ rs) (replies_to-append site (step site session x).next xs ys)
+    ∙ sym (append_assoc (step site session x).replies _ _)
+
+-- parts one after another
+pub inputs-snoc : (ps : List Part) (p : Part) → flat_map inputs_of (ps ++ p ∷ []) ≡ flat_map inputs_of ps ++ inputs_of p
+inputs-snoc ps p = flat_map-append inputs_of ps (p ∷ []) ∙ ap (λ xs. flat_map inputs_of ps ++ xs) (append-nil (inputs_of p))
+
+pub session_behind-snoc : (site : Site) (session : Session) (ps : List Part) (p : Part)
+    → session_behind site session (ps ++ p ∷ []) ≡ session_after site (session_behind site session ps) (inputs_of p)
+session_behind-snoc site session ps p =
+    ap (λ xs. session_after site session xs) (inputs-snoc ps p) ∙ session_after-append site session (flat_map inputs_of ps) (inputs_of p)
+
+session_behind-cons : (site : Site) (session : Session) (p : Part) (ps : List Part)
+    → session_behind site session (p ∷ ps) ≡ session_behind site (session_after site session (inputs_of p)) ps
+session_behind-cons site session p ps = session_after-append site session (inputs_of p) (flat_map inputs_of ps)
+
+-- the outcomes that a part brings are as many as the recipients
+abbrev pub PartFits : Session → Part → Type 0
+PartFits session (CommandLine text) = ⊤
+PartFits session (MailData text d) = OutcomesFit session.recipients d d.verdict
+
+one_fits : (site : Site) (session : Session) (p : Part) → PartFits session p → AllFit site session (p ∷ [])
+one_fits site session (CommandLine text) h = tt
+one_fits site session (MailData text d) h = (h, tt)
+
+AllFit-append : (site : Site) (session : Session) (ps qs : List Part) → AllFit site session ps → AllFit site (session_behind site session ps) qs → AllFit site session (ps ++ qs)
+AllFit-append site session [] qs f g = g
+AllFit-append site session (CommandLine text ∷ ps) qs f g =
+    AllFit-append site (session_after site session (inputs_of (CommandLine text))) ps qs f (rw (session_behind-cons site session (CommandLine text) ps) at g)
+AllFit-append site session (MailData text d ∷ ps) qs f g =
+    (f.0, AllFit-append site (session_after site session (inputs_of (MailData text d))) ps qs f.1 (rw (session_behind-cons site session (MailData text d) ps) at g))
+
+-- what became of the data among parts
+abbrev pub disposition_of : Part → List Disposition
+disposition_of (CommandLine text) = []
+disposition_of (MailData text d) = d ∷ []
+
+abbrev pub dispositions_of : List Part → List Disposition
+dispositions_of ps = flat_map disposition_of ps
+
+dispositions-snoc : (ps : List Part) (p : Part) (ds : List Disposition) → dispositions_of (ps ++ p ∷ []) ++ ds ≡ dispositions_of ps ++ (disposition_of p ++ ds)
+dispositions-snoc ps p ds =
+    ap (λ l. l ++ ds) (flat_map-append disposition_of ps (p ∷ []) ∙ ap (λ l. dispositions_of ps ++ l) (append-nil (disposition_of p)))
+    ∙ append_assoc (dispositions_of ps) (disposition_of p) ds
+
+one_more : (p : Part) (ps : List Part) → length (dispositions_of (p ∷ ps)) ≡ cond (is_data p) (1 + length (dispositions_of ps)) (length (dispositions_of ps))
+one_more (CommandLine text) ps = refl
+one_more (MailData text d) ps = omega arith
+
+pub counted : (ps : List Part) → count_by is_data ps ≡ length (dispositions_of ps)
+counted ps = sym (is_count_by (λ l. length (dispositions_of l)) is_data refl one_more ps)
+
+-- the parts are those at the front of the text, they take so many bytes, and what goes on from them is read in the session behind them
+pub record Handled (site : Site) (s : List ℕ) (at : ℕ) (ps : List Part) : Type 0 where
+  pub goes : (ds : List Disposition) → parts site fresh s (dispositions_of ps ++ ds) ≡ ps ++ parts site (session_behind site fresh ps) (drop at s) ds
+  pub size : sum_by size_of ps ≡ at
+  pub within : at ≤ length s
+  pub fit : AllFit site fresh ps
+
+pub handled_none : (site : Site) (s : List ℕ) → Handled site s 0 []
+handled_none site s = record { goes = λ ds. refl; size = refl; within = omega arith; fit = tt }
+
+-- one more part
+handled_one : (site : Site) (s : List ℕ) (at : ℕ) (ps : List Part) (p : Part) (n : ℕ) → Handled site s at ps
+    → ((ds : List Disposition) → cut (session_behind site fresh ps).state (drop at s) (disposition_of p ++ ds) ≡ Some (record { part = p; size = n; dispositions = ds }))
+    → size_of p ≡ n → at + n ≤ length s → PartFits (session_behind site fresh ps) p
+    → Handled site s (at + n) (ps ++ p ∷ [])
+handled_one site s at ps p n h is size within fit = record {
+  goes = λ ds.
+      let session = session_behind site fresh ps in
+      ap (λ l. parts site fresh s l) (dispositions-snoc ps p ds)
+      ∙ h.goes (disposition_of p ++ ds)
+      ∙ ap (λ l. ps ++ l) (parts-cut site session (drop at s) (disposition_of p ++ ds) ∙ ap (λ o. cut_then o (λ c. parts site (session_after site session (inputs_of c.part)) (drop c.size (drop at s)) c.dispositions)) (is ds))
+      ∙ ap (λ l. ps ++ p ∷ parts site (session_after site session (inputs_of p)) l ds) (drop-drop n at s)
+      ∙ ap (λ x. ps ++ p ∷ parts site x (drop (at + n) s) ds) (sym (session_behind-snoc site fresh ps p))
+      ∙ sym (append_assoc ps (p ∷ []) _);
+  size = omega (arith, sum_by-append size_of ps (p ∷ []), h.size, size);
+  within = within;
+  fit = AllFit-append site fresh ps (p ∷ []) h.fit (one_fits site (session_behind site fresh ps) p fit);
+}
+
+-- the states in which a line is read
+abbrev pub TakesLines : State → Type 0
+TakesLines Fresh = ⊤
+TakesLines Greeted = ⊤
+TakesLines Sender = ⊤
+TakesLines Recipients = ⊤
+TakesLines _ = ⊥
+
+cut-line : (state : State) (s : List ℕ) (ds : List Disposition) → TakesLines state → cut state s ds ≡ cut_line s ds
+cut-line Fresh s ds h = refl
+cut-line Greeted s ds h = refl
+cut-line Sender s ds h = refl
+cut-line Recipients s ds h = refl
+cut-line Content s ds h = absurd h
+cut-line Waiting s ds h = absurd h
+cut-line Ended s ds h = absurd h
+
+pub line_within : (s : List ℕ) (n : ℕ) → place_of crlf s ≡ Some n → n + 2 ≤ length s
+line_within s n e = let at = place_of_stands crlf s n e in
+    omega (arith, at.place, ap length at.whole, length-append (at.front ++ crlf) at.rest, length-append at.front crlf)
+
+pub data_within : (s : List ℕ) (n : ℕ) → data_end s ≡ Some n → n + 3 ≤ length s
+unfolding data_end
+data_within s n e = let at = place_of_stands end_of_data (crlf ++ s) n e in
+    omega (arith, at.place, ap length at.whole, length-append (at.front ++ end_of_data) at.rest, length-append at.front end_of_data, length-append crlf s)
+
+pub handled_line : (site : Site) (s : List ℕ) (at : ℕ) (ps : List Part) (n : ℕ) → Handled site s at ps
+    → TakesLines (session_behind site fresh ps).state → place_of crlf (drop at s) ≡ Some n
+    → Handled site s (at + (n + 2)) (ps ++ CommandLine (take n (drop at s)) ∷ [])
+handled_line site s at ps n h takes e =
+    let long : n + 2 ≤ length (drop at s) = line_within (drop at s) n e in
+    let whole = h.within in
+    handled_one site s at ps (CommandLine (take n (drop at s))) (n + 2) h
+    (λ ds. cut-line (session_behind site fresh ps).state (drop at s) ds takes
+    ∙ ap (λ o. option_map (λ k. record { part = CommandLine (take k (drop at s)); size = k + 2; dispositions = ds }) o) e)
+    (let size : length (take n (drop at s)) ≡ n = length-take-le n (drop at s) (omega arith) in omega arith)
+    (omega (arith, length-drop at s))
+    tt
+
+pub handled_data : (site : Site) (s : List ℕ) (at : ℕ) (ps : List Part) (n : ℕ) (d : Disposition) → Handled site s at ps
+    → (session_behind site fresh ps).state ≡ Content → data_end (drop at s) ≡ Some n
+    → OutcomesFit (session_behind site fresh ps).recipients d d.verdict
+    → Handled site s (at + (n + 3)) (ps ++ MailData (take (n + 3) (drop at s)) d ∷ [])
+handled_data site s at ps n d h content e fit =
+    let long : n + 3 ≤ length (drop at s) = data_within (drop at s) n e in
+    let whole = h.within in
+    handled_one site s at ps (MailData (take (n + 3) (drop at s)) d) (n + 3) h
+    (λ ds. ap (λ state. cut state (drop at s) (d ∷ ds)) content
+    ∙ ap (λ o. option_map (λ k. record { part = MailData (take (k + 3) (drop at s)) d; size = k + 3; dispositions = ds }) o) e)
+    (length-take-le (n + 3) (drop at s) long)
+    (omega (arith, length-drop at s))
+    fit
+
+-- nothing at the front of the text has ended
+abbrev pub HasNoPart : State → List ℕ → Type 0
+HasNoPart Content s = data_end s ≡ None
+HasNoPart Ended s = ⊤
+HasNoPart Waiting s = ⊥
+HasNoPart _ s = place_of crlf s ≡ None
+
+no_cut : (state : State) (s : List ℕ) → HasNoPart state s → cut state s [] ≡ None
+no_cut Fresh s h = ap (λ o. option_map (λ k. record { part = CommandLine (take k s); size = k + 2; dispositions = [] }) o) h
+no_cut Greeted s h = ap (λ o. option_map (λ k. record { part = CommandLine (take k s); size = k + 2; dispositions = [] }) o) h
+no_cut Sender s h = ap (λ o. option_map (λ k. record { part = CommandLine (take k s); size = k + 2; dispositions = [] }) o) h
+no_cut Recipients s h = ap (λ o. option_map (λ k. record { part = CommandLine (take k s); size = k + 2; dispositions = [] }) o) h
+no_cut Content s h = refl
+no_cut Waiting s h = refl
+no_cut Ended s h = refl
+
+no_data_ended : (state : State) (s : List ℕ) → HasNoPart state s → NoDataEnded state s
+no_data_ended Content s h = h
+no_data_ended Fresh s h = tt
+no_data_ended Greeted s h = tt
+no_data_ended Sender s h = tt
+no_data_ended Recipients s h = tt
+no_data_ended Waiting s h = tt
+no_data_ended Ended s h = tt
+
+not_stopped : (state : State) → stop_at state false ≡ []
+not_stopped Fresh = refl
+not_stopped Greeted = refl
+not_stopped Sender = refl
+not_stopped Recipients = refl
+not_stopped Content = refl
+not_stopped Waiting = refl
+not_stopped Ended = refl
+
+abbrev pub account_of : List ℕ → List Part → Conversation
+account_of s ps = record { bytes = s; dispositions = dispositions_of ps; stopped = false }
+
+-- all is handled
+pub all_parts : (site : Site) (s : List ℕ) (at : ℕ) (ps : List Part) → Handled site s at ps → HasNoPart (session_behind site fresh ps).state (drop at s)
+    → parts site fresh s (dispositions_of ps) ≡ ps
+all_parts site s at ps h none =
+    let session = session_behind site fresh ps in
+    ap (λ ds. parts site fresh s ds) (sym (append-nil (dispositions_of ps)))
+    ∙ h.goes []
+    ∙ ap (λ l. ps ++ l) (parts-cut site session (drop at s) [] ∙ ap (λ o. cut_then o (λ c. parts site (session_after site session (inputs_of c.part)) (drop c.size (drop at s)) c.dispositions)) (no_cut session.state (drop at s) none))
+    ∙ append-nil ps
+
+pub all_inputs : (site : Site) (s : List ℕ) (ps : List Part) → parts site fresh s (dispositions_of ps) ≡ ps → inputs site (account_of s ps) ≡ flat_map inputs_of ps
+unfolding inputs
+all_inputs site s ps e =
+    ap (λ (l : List Part). flat_map inputs_of l ++ stop_at (session_behind site fresh l).state false) e
+    ∙ ap (λ l. flat_map inputs_of ps ++ l) (not_stopped (session_behind site fresh ps).state)
+    ∙ append-nil (flat_map inputs_of ps)
+
+pub all_accounted : (site : Site) (s : List ℕ) (at : ℕ) (ps : List Part) → Handled site s at ps → HasNoPart (session_behind site fresh ps).state (drop at s)
+    → IsAccount site (account_of s ps)
+all_accounted site s at ps h none =
+    let e = all_parts site s at ps h none in
+    record {
+      outcomes = rw e h.fit;
+      none_left = rw e (counted ps);
+      none_lacks = rw (e, h.size) (no_data_ended (session_behind site fresh ps).state (drop at s) none);
+    }

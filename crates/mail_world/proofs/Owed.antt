@@ -1,0 +1,104 @@
+-- The transactions of parts, one part at a time; what they owe a mailbox, and what was told of it.
+use Rattle.std.proofs.Common.{◌≡◌, ℕ, ◌+◌, List, [], ◌∷◌, ◌++◌, false, cond, refl, sym, ap, ◌∙◌, append_assoc}
+use Rattle.std.specs.Prelude.{filter, flat_map, ◌==◌, if◌then◌else◌}
+use Rattle.std.proofs.lemmas.List.{append-nil}
+use Rattle.std.proofs.lemmas.Grind.{flat_map-append}
+use Rattle.std.proofs.lemmas.List.Elements.{filter-append}
+use Rattle.mail_world.specs.declared.Outcome.{Outcome}
+use Rattle.mail_world.specs.declared.Note.{Note}
+use Rattle.mail_world.specs.Data.{message}
+use Rattle.mail_world.specs.Site.{Site}
+use Rattle.mail_world.specs.declared.Verdict.{Verdict}
+use Rattle.mail_world.specs.declared.Verdict.TheVariants as verdicts
+use Rattle.mail_world.specs.Session.{Session, fresh, DataEnded}
+use Rattle.mail_world.specs.Conversation.{Disposition, Part, CommandLine, MailData, inputs_of, outcomes_of, session_after, session_behind, parts}
+use Rattle.mail_world.specs.Lists.{Transaction, is_content, accepted_after, transactions_of, transactions, copies, due}
+use Rattle.mail_world.specs.Deliveries.{told_of, told}
+use Rattle.mail_world.proofs.Handled.{session_after-append, dispositions_of, account_of}
+
+-- how many DATA commands were accepted behind one part
+abbrev pub accepted_behind : Site → ℕ → Session → Part → ℕ
+accepted_behind site n session p = if is_content (session_after site session (inputs_of p)).state then n + 1 else n
+
+pub accepted-append : (site : Site) (n : ℕ) (session : Session) (ps qs : List Part)
+    → accepted_after site n session (ps ++ qs) ≡ accepted_after site (accepted_after site n session ps) (session_behind site session ps) qs
+accepted-append site n session [] qs = refl
+accepted-append site n session (p ∷ ps) qs =
+    accepted-append site (accepted_behind site n session p) (session_after site session (inputs_of p)) ps qs
+    ∙ ap (λ x. accepted_after site (accepted_after site (accepted_behind site n session p) (session_after site session (inputs_of p)) ps) x qs)
+    (sym (session_after-append site session (inputs_of p) (flat_map inputs_of ps)))
+
+-- no DATA is accepted by data
+behind_data : (site : Site) (session : Session) (d : Disposition) (v : Verdict) → is_content (session_after site session (DataEnded v ∷ outcomes_of d v)).state ≡ false
+behind_data site session d verdicts.Whole = refl
+behind_data site session d verdicts.TooLarge = refl
+behind_data site session d verdicts.NoRoom = refl
+
+pub same_behind_data : (site : Site) (n : ℕ) (session : Session) (text : List ℕ) (d : Disposition) → accepted_behind site n session (MailData text d) ≡ n
+same_behind_data site n session text d = ap (λ b. cond b (n + 1) n) (behind_data site session d d.verdict)
+
+pub transactions-append : (site : Site) (n : ℕ) (session : Session) (ps qs : List Part)
+    → transactions_of site n session (ps ++ qs)
+    ≡ transactions_of site n session ps ++ transactions_of site (accepted_after site n session ps) (session_behind site session ps) qs
+transactions-append site n session [] qs = refl
+transactions-append site n session (CommandLine text ∷ ps) qs =
+    let p : Part = CommandLine text in
+    transactions-append site (accepted_behind site n session p) (session_after site session (inputs_of p)) ps qs
+    ∙ ap (λ x. transactions_of site n session (p ∷ ps) ++ transactions_of site (accepted_after site n session (p ∷ ps)) x qs)
+    (sym (session_after-append site session (inputs_of p) (flat_map inputs_of ps)))
+transactions-append site n session (MailData text d ∷ ps) qs =
+    let p : Part = MailData text d in
+    ap (λ l. record { number = n; session = session; message = message text; disposition = d } ∷ l)
+    (transactions-append site n (session_after site session (inputs_of p)) ps qs
+    ∙ ap (λ x. transactions_of site n (session_after site session (inputs_of p)) ps ++ transactions_of site (accepted_after site n (session_after site session (inputs_of p)) ps) x qs)
+    (sym (session_after-append site session (inputs_of p) (flat_map inputs_of ps)))
+    ∙ ap (λ k. transactions_of site n (session_after site session (inputs_of p)) ps ++ transactions_of site (accepted_after site k (session_after site session (inputs_of p)) ps) (session_behind site session (p ∷ ps)) qs)
+    (sym (same_behind_data site n session text d)))
+
+-- one part more
+pub accepted-snoc : (site : Site) (ps : List Part) (p : Part)
+    → accepted_after site 0 fresh (ps ++ p ∷ []) ≡ accepted_behind site (accepted_after site 0 fresh ps) (session_behind site fresh ps) p
+accepted-snoc site ps p = accepted-append site 0 fresh ps (p ∷ [])
+
+pub transactions-line : (site : Site) (ps : List Part) (text : List ℕ) → transactions_of site 0 fresh (ps ++ CommandLine text ∷ []) ≡ transactions_of site 0 fresh ps
+transactions-line site ps text = transactions-append site 0 fresh ps (CommandLine text ∷ []) ∙ append-nil (transactions_of site 0 fresh ps)
+
+-- the transaction that data ends
+abbrev pub transaction_at : Site → List Part → List ℕ → Disposition → Transaction
+transaction_at site ps text d = record { number = accepted_after site 0 fresh ps; session = session_behind site fresh ps; message = message text; disposition = d }
+
+pub transactions-data : (site : Site) (ps : List Part) (text : List ℕ) (d : Disposition)
+    → transactions_of site 0 fresh (ps ++ MailData text d ∷ []) ≡ transactions_of site 0 fresh ps ++ transaction_at site ps text d ∷ []
+transactions-data site ps text d = transactions-append site 0 fresh ps (MailData text d ∷ [])
+
+-- what transactions owe a mailbox, and what was told of it
+abbrev pub owed : ℕ → ℕ → List Transaction → List Note
+owed lane box ts = filter (λ note. note.mailbox == box) (flat_map (copies lane) ts)
+
+abbrev pub told_all : ℕ → List Transaction → List Outcome
+told_all box ts = flat_map (told_of box) ts
+
+pub owed-snoc : (lane box : ℕ) (ts : List Transaction) (t : Transaction) → owed lane box (ts ++ t ∷ []) ≡ owed lane box ts ++ filter (λ note. note.mailbox == box) (copies lane t)
+owed-snoc lane box ts t =
+    ap (λ l. filter (λ note. note.mailbox == box) l) (flat_map-append (copies lane) ts (t ∷ []) ∙ ap (λ l. flat_map (copies lane) ts ++ l) (append-nil (copies lane t)))
+    ∙ filter-append (λ note. note.mailbox == box) (flat_map (copies lane) ts) (copies lane t)
+
+pub told-snoc : (box : ℕ) (ts : List Transaction) (t : Transaction) → told_all box (ts ++ t ∷ []) ≡ told_all box ts ++ told_of box t
+told-snoc box ts t = flat_map-append (told_of box) ts (t ∷ []) ∙ ap (λ l. told_all box ts ++ l) (append-nil (told_of box t))
+
+-- all parts of a conversation that is the lane's only one
+pub all_transactions : (site : Site) (s : List ℕ) (ps : List Part) → parts site fresh s (dispositions_of ps) ≡ ps
+    → transactions site 0 (account_of s ps ∷ []) ≡ transactions_of site 0 fresh ps
+unfolding transactions
+all_transactions site s ps e =
+    ap (λ (l : List Part). transactions_of site 0 fresh l ++ transactions site (accepted_after site 0 fresh l) []) e ∙ append-nil (transactions_of site 0 fresh ps)
+
+pub all_due : (site : Site) (box : ℕ) (s : List ℕ) (ps : List Part) → parts site fresh s (dispositions_of ps) ≡ ps
+    → due site 0 box (account_of s ps ∷ []) ≡ owed 0 box (transactions_of site 0 fresh ps)
+unfolding due
+all_due site box s ps e = ap (λ ts. owed 0 box ts) (all_transactions site s ps e)
+
+pub all_told : (site : Site) (box : ℕ) (s : List ℕ) (ps : List Part) → parts site fresh s (dispositions_of ps) ≡ ps
+    → told site box (account_of s ps ∷ []) ≡ told_all box (transactions_of site 0 fresh ps)
+unfolding told
+all_told site box s ps e = ap (λ ts. told_all box ts) (all_transactions site s ps e)
