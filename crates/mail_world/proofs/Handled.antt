@@ -166,7 +166,7 @@ handled_data site s at ps n d h content e fit =
 abbrev pub HasNoPart : State → List ℕ → Type 0
 HasNoPart Content s = data_end s ≡ None
 HasNoPart Ended s = ⊤
-HasNoPart Waiting s = ⊥
+HasNoPart Waiting s = ⊤
 HasNoPart _ s = place_of crlf s ≡ None
 
 no_cut : (state : State) (s : List ℕ) → HasNoPart state s → cut state s [] ≡ None

@@ -1,0 +1,4 @@
+pub mod View
+pub mod Kept
+pub mod Steps
+pub mod Fits

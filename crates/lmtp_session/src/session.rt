@@ -1,0 +1,195 @@
+//! One conversation's session: where it stands, its sender and its recipients, in memory that is taken once.
+
+ghost use Rattle.std.specs.Prelude.{◌≡◌, ◌<◌, ◌≤◌, [], length, slice_get, slice_index, Some, IfOk};
+ghost use Rattle.std.specs.Arc.{arc_value};
+ghost use Rattle.mail_world.specs.Session.{Line, LongLine, DataEnded, Outcomes, Stop, fresh};
+ghost use Rattle.lmtp_session.specs.View.{reserved};
+ghost use Rattle.lmtp_session.specs.Steps.{TakesLines, MayStop, IsStep};
+
+use crate::act::Act;
+use lmtp_text::{Site, read_command};
+use mail_world::limits::{NAME_LIMIT, PATH_LIMIT, RECIPIENT_LIMIT};
+use mail_world::{Outcome, Reply, State, Verdict};
+use smallvec::SmallVec;
+use std::alloc::{AllocError, Global};
+use std::marker::Model;
+use std::sync::Arc;
+
+mod commands;
+mod lists;
+mod messages;
+#[cfg(test)]
+mod tests;
+
+/// A session. Contracts see the site, what the definitions call a session, the replies that `reply_at` gives, and the
+/// room of its lists, which no call but `new` changes: the others take no memory.
+#[derive(Drop)]
+pub struct Session {
+    site: Arc<Site>,
+    state: State,
+    client: SmallVec<u8, 256>,
+    sender: SmallVec<u8, 256>,
+    recipients: SmallVec<u32, 8>,
+    answers: Vec<Reply>,
+}
+
+impl Model for Session {
+    ghost use Rattle.lmtp_session.specs.View.{View};
+
+    ghost Value = { View };
+
+    ghost use Rattle.lmtp_session.specs.Kept.{view_of, IsKept};
+
+    ghost view = { view_of };
+
+    ghost invariant = { IsKept };
+}
+
+impl Session {
+    /// A session at that site, before its greeting, with memory for 100 recipients and their replies.
+    pub fn new(alloc: Global, site: Arc<Site>) -> Result<Session, AllocError>
+        ensures site { IfOk result (λ s. s.site ≡ arc_value site) }
+        ensures session { IfOk result (λ s. s.session ≡ fresh) }
+        ensures no_answer { IfOk result (λ s. s.answers ≡ []) }
+        ensures room { IfOk result (λ s. s.room ≡ reserved) }
+    {
+        let recipients = SmallVec::with_capacity(alloc, RECIPIENT_LIMIT)?;
+        let answers = Vec::with_capacity(alloc, RECIPIENT_LIMIT)?;
+        Ok(Session {
+            site,
+            state: State::Fresh,
+            client: SmallVec::new(alloc),
+            sender: SmallVec::new(alloc),
+            recipients,
+            answers,
+        })
+    }
+
+    /// Begins a conversation anew, in any state: nothing of the one before is kept. The reply is 220 (RFC 5321, 4.3.1).
+    pub fn greeting(&mut self) -> Reply
+        ensures reply { result ≡ Reply.Greeting }
+        ensures session { self.new.session ≡ fresh }
+        ensures no_answer { self.new.answers ≡ [] }
+        ensures site { self.new.site ≡ self.old.site }
+        ensures no_memory { self.new.room ≡ self.old.room }
+    {
+        self.state = State::Fresh;
+        self.client.clear();
+        self.sender.clear();
+        self.recipients.clear();
+        self.answers.clear();
+        Reply::Greeting
+    }
+
+    /// Where the session stands.
+    pub fn state(&self) -> State
+        ensures { result ≡ self.now.session.state }
+    {
+        self.state
+    }
+
+    /// Takes a command line, without its CRLF.
+    #[tactic(auto, using(crate::proofs::Limits::command_within))]
+    pub fn line(&mut self, line: &[u8]) -> Act
+        requires { TakesLines self.old.session.state }
+        ensures step { IsStep self.old (Line line.now) result self.new }
+        ensures no_memory { self.new.room ≡ self.old.room }
+    {
+        self.on_command(read_command(line))
+    }
+
+    /// Takes note of a line that was too long to be a command.
+    pub fn too_long(&mut self) -> Act
+        requires { TakesLines self.old.session.state }
+        ensures step { IsStep self.old LongLine result self.new }
+        ensures no_memory { self.new.room ≡ self.old.room }
+    {
+        self.answers.clear();
+        Act::Say(Reply::LineTooLong)
+    }
+
+    /// Ends the conversation because the server stops: the reply is 421 (RFC 5321, 3.8).
+    pub fn stop(&mut self) -> Act
+        requires { MayStop self.old.session.state }
+        ensures step { IsStep self.old Stop result self.new }
+        ensures no_memory { self.new.room ≡ self.old.room }
+    {
+        self.answers.clear();
+        self.end(Reply::Stopping)
+    }
+
+    /// Takes what was found once the data of the message had ended.
+    pub fn data_done(&mut self, verdict: Verdict) -> Act
+        requires { self.old.session.state ≡ State.Content }
+        ensures step { IsStep self.old (DataEnded verdict) result self.new }
+        ensures no_memory { self.new.room ≡ self.old.room }
+    {
+        self.answers.clear();
+        match verdict {
+            Verdict::Whole => self.deliver(),
+            Verdict::TooLarge => self.answer_all(Outcome::TooLarge),
+            Verdict::NoRoom => self.answer_all(Outcome::NoRoom),
+        }
+    }
+
+    /// Takes what became of the copies of a message, one outcome for each recipient in their order.
+    pub fn outcomes(&mut self, outcomes: &[Outcome]) -> Act
+        requires state { self.old.session.state ≡ State.Waiting }
+        requires count { length outcomes.now ≡ length self.old.session.recipients }
+        ensures step { IsStep self.old (Outcomes outcomes.now) result self.new }
+        ensures no_memory { self.new.room ≡ self.old.room }
+    {
+        self.answers.clear();
+        lists::push_results(&mut self.answers, outcomes, &self.recipients);
+        self.forget_message();
+        Act::Answer(self.answers.len() as u32)
+    }
+
+    /// The reply to a recipient, after `Act::Answer` and until the next line, outcome, verdict, greeting or stop.
+    pub fn reply_at(&self, i: u32) -> Reply
+        requires { i < length self.now.answers }
+        ensures { slice_get self.now.answers i ≡ Some result }
+    {
+        self.answers[i as usize]
+    }
+
+    /// How many recipients the message has so far.
+    pub fn recipient_count(&self) -> u32
+        ensures count { result ≡ length self.now.session.recipients }
+        ensures bound { result ≤ RECIPIENT_LIMIT }
+    {
+        self.recipients.len() as u32
+    }
+
+    /// The number of a recipient's mailbox.
+    pub fn recipient(&self, i: u32) -> u32
+        requires { i < length self.now.session.recipients }
+        ensures mailbox { result ≡ slice_index self.now.session.recipients i }
+        ensures known { result < length self.now.site.boxes }
+    {
+        self.recipients[i as usize]
+    }
+
+    /// The sender's mailbox, without brackets and route; empty for `<>` and where no message has begun.
+    pub fn sender(&self) -> &[u8]
+        ensures text { result.now ≡ self.now.session.sender }
+        ensures bound { length result.now ≤ PATH_LIMIT }
+    {
+        self.sender.as_slice()
+    }
+
+    /// The client's name, as its last LHLO gave it; empty before that.
+    pub fn client(&self) -> &[u8]
+        ensures text { result.now ≡ self.now.session.client }
+        ensures bound { length result.now ≤ NAME_LIMIT }
+    {
+        self.client.as_slice()
+    }
+
+    /// The site that the session is held at.
+    pub fn site(&self) -> &Site
+        ensures { result.now ≡ self.now.site }
+    {
+        &self.site
+    }
+}

@@ -1,0 +1,11 @@
+pub mod SiteRules
+pub mod WordSteps
+pub mod ReplyTexts
+pub mod Finds
+pub mod TextLists
+pub mod CommandCuts
+pub mod ParameterLists
+pub mod ParameterTallies
+pub mod PathFronts
+pub mod CalendarDates
+pub mod CalendarMoments

@@ -1,0 +1,7 @@
+use Rattle.std.proofs.Common.{map}
+use Rattle.lmtp_text.specs.Parameters.{Tallies, parameters_of}
+use Rattle.lmtp_text.proofs.parameters.tally_of.Given as goal
+
+-- the tally of the pieces that came
+abbrev pub invariant-loop-piece : goal.invariant-loop-piece
+invariant-loop-piece l = Tallies l.tally (parameters_of (map (λ piece. piece.now) l.yielded))

@@ -1,0 +1,9 @@
+use Rattle.std.proofs.Common.{◌∙◌, arith}
+use Rattle.lmtp_text.proofs.ReplyTexts.{drop-later}
+use Rattle.lmtp_text.proofs.reply.write_reply.Goals as goal
+
+pub returns-clause-rest : goal.returns-clause-rest
+returns-clause-rest c =
+    c.put.ensures.rest
+    ∙ drop-later c.put-behind.result c.put.result c.put-behind.new.out c.put-named.new.out (omega arith) c.put-behind.ensures.rest
+    ∙ drop-later c.put-named.result c.put.result c.put-named.new.out c.args.out.now (omega arith) c.put-named.ensures.rest

@@ -1,0 +1,5 @@
+pub mod Seen
+pub mod Sites
+pub mod Paths
+pub mod Parameters
+pub mod Calendar

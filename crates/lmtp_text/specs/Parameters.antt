@@ -1,0 +1,50 @@
+-- The parameters of MAIL as they are read one by one, and what they come to.
+use Rattle.std.specs.Prelude.{◌≡◌, ℕ, true, false, not, ◌||◌, nat_lt, List, length, filter, Option, Some, None, if◌then◌else◌, option_map, Result, Ok, Err, codes}
+use Rattle.std.specs.List.{list_any, list_all, filter_map}
+use Rattle.std.specs.Borrow.{Bor}
+use Rattle.mail_world.specs.declared.BadCommand.{BadCommand}
+use Rattle.mail_world.specs.Commands as m
+use Rattle.lmtp_text.specs.declared.parameters.Parameter.{Parameter}
+use Rattle.lmtp_text.specs.declared.parameters.Tally.{Tally}
+
+abbrev pub seen_value : Option (Bor (List ℕ)) → Option (List ℕ)
+seen_value value = option_map (λ text. text.now) value
+
+abbrev pub seen_parameter : Parameter → m.Parameter
+seen_parameter p = record { keyword = p.keyword.now; value = seen_value p.value }
+
+-- the parameters that these pieces spell
+abbrev pub parameters_of : List (List ℕ) → List m.Parameter
+parameters_of pieces = filter_map (λ piece. if m.is_empty piece then None else Some (m.parameter piece)) pieces
+
+-- how many of the parameters have this keyword
+abbrev pub count_of : List ℕ → List m.Parameter → ℕ
+count_of word ps = length (filter (m.has_keyword word) ps)
+
+-- the tally of these parameters: what is wrong counts only where all are known, what is too large only where none is wrong
+pub record Tallies (t : Tally) (ps : List m.Parameter) : Type 0 where
+  pub unknown : t.unknown ≡ not (list_all m.is_known ps)
+  pub has_size : t.has_size ≡ nat_lt 0 (count_of (codes "SIZE") ps)
+  pub has_body : t.has_body ≡ nat_lt 0 (count_of (codes "BODY") ps)
+  pub wrong : t.unknown ≡ false → t.wrong ≡ (not (list_all m.is_well_valued ps) || m.stands_twice (codes "SIZE") ps || m.stands_twice (codes "BODY") ps)
+  pub large : t.unknown ≡ false → t.wrong ≡ false → t.large ≡ list_any m.is_too_large ps
+
+-- the tally u is t with a SIZE, with a BODY more
+pub record IsWithSize (t : Tally) (value : Option (List ℕ)) (u : Tally) : Type 0 where
+  pub unknown : u.unknown ≡ t.unknown
+  pub has_size : u.has_size ≡ true
+  pub has_body : u.has_body ≡ t.has_body
+  pub wrong : u.wrong ≡ (t.wrong || t.has_size || not (m.is_size_value value))
+  pub large : m.is_size_value value ≡ true → u.large ≡ (t.large || m.is_above_limit value)
+
+pub record IsWithBody (t : Tally) (value : Option (List ℕ)) (u : Tally) : Type 0 where
+  pub unknown : u.unknown ≡ t.unknown
+  pub has_size : u.has_size ≡ t.has_size
+  pub has_body : u.has_body ≡ true
+  pub wrong : u.wrong ≡ (t.wrong || t.has_body || not (m.is_body_value value))
+  pub large : u.large ≡ t.large
+
+-- the answer to MAIL from this sender, where its parameters were accepted or refused
+abbrev pub told : List ℕ → Result (Unit {0}) BadCommand → m.Answer
+told sender (Ok _) = Ok (m.Mail sender)
+told sender (Err refusal) = Err refusal

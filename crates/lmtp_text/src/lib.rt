@@ -1,0 +1,19 @@
+//! The texts of LMTP and of a mailbox: what a site is named and serves, commands as they are read, replies and moments as they are written.
+#![tactic(auto)]
+
+mod alphabet;
+mod command;
+mod cut;
+mod names;
+mod parameters;
+mod path;
+mod reply;
+mod rules;
+mod site;
+mod stamp;
+
+pub use command::{Command, Target, read_command};
+pub use mail_world::{BadCommand, Outcome, Reply};
+pub use reply::{REPLY_LIMIT, write_reply};
+pub use site::{Site, SiteFault};
+pub use stamp::{Stamp, stamp_5322, stamp_ctime};

@@ -1,0 +1,67 @@
+//! Whether a name is a word, whatever the case of its letters (RFC 5321, 2.4).
+
+ghost use Rattle.std.specs.Prelude.{◌≡◌, false, position};
+ghost use Rattle.std.specs.List.{list_any};
+ghost use Rattle.mail_world.specs.Commands.{is_word};
+ghost use Rattle.mail_world.specs.Targets.{unescaped, local_name};
+ghost use Rattle.lmtp_text.specs.Seen.{seen_target};
+ghost use Rattle.lmtp_text.specs.Sites.{owned};
+
+use crate::command::Target;
+
+/// The text is the word.
+pub(crate) fn is_word(text: &[u8], word: &[u8]) -> bool
+    ensures { result ≡ is_word word.now text.now }
+{
+    text.eq_ignore_ascii_case(word)
+}
+
+/// The quoted text is the word once each backslash that begins a pair is taken away.
+fn is_quoted_word(text: &[u8], word: &[u8]) -> bool
+    ensures { result ≡ is_word word.now (unescaped false text.now) }
+{
+    let mut left = word;
+    let mut escaped = false;
+    for b in text {
+        if !escaped && *b == b'\\' {
+            escaped = true;
+        } else {
+            match left {
+                [] => return false,
+                [first, rest @ ..] => {
+                    if !first.eq_ignore_ascii_case(b) {
+                        return false;
+                    }
+                    left = rest;
+                }
+            }
+            escaped = false;
+        }
+    }
+    left.is_empty()
+}
+
+/// The target's local part is the word.
+pub(crate) fn names(target: &Target, word: &[u8]) -> bool
+    ensures { result ≡ is_word word.now (local_name (seen_target target.now)) }
+{
+    if target.quoted {
+        is_quoted_word(target.local, word)
+    } else {
+        is_word(target.local, word)
+    }
+}
+
+/// The domain is among these.
+pub(crate) fn is_listed(domain: &[u8], domains: &[Vec<u8>]) -> bool
+    ensures { result ≡ list_any (λ name. is_word name domain.now) (owned domains.now) }
+{
+    domains.iter().any(|name| is_word(domain, name))
+}
+
+/// The first of these names that the target's local part is.
+pub(crate) fn named_at(target: &Target, boxes: &[Vec<u8>]) -> Option<usize>
+    ensures { result ≡ position (λ name. is_word name.items (local_name (seen_target target.now))) boxes.now }
+{
+    boxes.iter().position(|name| names(target, name))
+}

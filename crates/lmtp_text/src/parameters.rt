@@ -1,0 +1,164 @@
+//! The parameters behind a path (RFC 5321, 4.1.2): SIZE (RFC 1870) and BODY (RFC 6152), which are checked and then forgotten.
+
+ghost use Rattle.std.specs.Prelude.{◌≡◌, ◌++◌, ◌==◌, [], ◌∷◌, List, ℕ, IfSome, is_some, nat_lt, length, option_map};
+ghost use Rattle.mail_world.specs.Commands as m;
+ghost use Rattle.lmtp_text.specs.Parameters.{seen_value, seen_parameter, Tallies, IsWithSize, IsWithBody, told};
+
+use crate::cut::{cut_at, is_the_word};
+use mail_world::BadCommand;
+use mail_world::limits::{MESSAGE_LIMIT, SIZE_DIGIT_LIMIT};
+
+/// A keyword, and what stands behind its equals sign, if there is one.
+#[derive(Clone, Copy)]
+struct Parameter<'a> {
+    keyword: &'a [u8],
+    value: Option<&'a [u8]>,
+}
+
+/// What the parameters of MAIL have come to so far.
+#[derive(Clone, Copy)]
+struct Tally {
+    unknown: bool,
+    wrong: bool,
+    large: bool,
+    has_size: bool,
+    has_body: bool,
+}
+
+/// The parameter that a piece between spaces spells.
+fn read_parameter(piece: &[u8]) -> Parameter
+    ensures { seen_parameter result ≡ m.parameter piece.now }
+{
+    match cut_at(piece, b'=') {
+        Some((keyword, value)) => Parameter {
+            keyword,
+            value: Some(value),
+        },
+        None => Parameter {
+            keyword: piece,
+            value: None,
+        },
+    }
+}
+
+/// The size that a value of 1 to 20 digits gives, at most one above the limit; nothing for another value.
+fn read_size(value: Option<&[u8]>) -> Option<usize>
+    ensures valid { is_some result ≡ m.is_size_value (seen_value value.entry) }
+    ensures above { IfSome result
+        (λ size. nat_lt MESSAGE_LIMIT size ≡ m.is_above_limit (seen_value value.entry)) }
+{
+    let digits = value?;
+    if digits.is_empty() || digits.len() > SIZE_DIGIT_LIMIT {
+        return None;
+    }
+    let mut size = 0;
+    for digit in digits {
+        if !digit.is_ascii_digit() {
+            return None;
+        }
+        size = (size * 10 + usize::from(*digit - b'0')).min(MESSAGE_LIMIT + 1);
+    }
+    Some(size)
+}
+
+/// Whether the value names a kind of body.
+fn is_body(value: Option<&[u8]>) -> bool
+    ensures { result ≡ m.is_body_value (seen_value value.entry) }
+{
+    match value {
+        Some(kind) => is_the_word(kind, b"7BIT") || is_the_word(kind, b"8BITMIME"),
+        None => false,
+    }
+}
+
+impl Tally {
+    /// The tally with one parameter more.
+    fn with(self, parameter: Parameter) -> Tally
+        ensures { (before : List m.Parameter) → Tallies self before
+            → Tallies result (before ++ seen_parameter parameter.entry ∷ []) }
+    {
+        if is_the_word(parameter.keyword, b"SIZE") {
+            self.with_size(parameter.value)
+        } else if is_the_word(parameter.keyword, b"BODY") {
+            self.with_body(parameter.value)
+        } else {
+            Tally {
+                unknown: true,
+                ..self
+            }
+        }
+    }
+
+    /// The tally with a SIZE more.
+    fn with_size(self, value: Option<&[u8]>) -> Tally
+        ensures { IsWithSize self (seen_value value.entry) result }
+    {
+        match read_size(value) {
+            Some(size) => Tally {
+                wrong: self.wrong || self.has_size,
+                large: self.large || size > MESSAGE_LIMIT,
+                has_size: true,
+                ..self
+            },
+            None => Tally {
+                wrong: true,
+                has_size: true,
+                ..self
+            },
+        }
+    }
+
+    /// The tally with a BODY more.
+    fn with_body(self, value: Option<&[u8]>) -> Tally
+        ensures { IsWithBody self (seen_value value.entry) result }
+    {
+        Tally {
+            wrong: self.wrong || self.has_body || !is_body(value),
+            has_body: true,
+            ..self
+        }
+    }
+}
+
+/// Whether any parameter stands in the text.
+pub(crate) fn has_parameters(text: &[u8]) -> bool
+    ensures { result ≡ nat_lt 0 (length (m.parameters text.now)) }
+{
+    text.iter().any(|b| *b != b' ')
+}
+
+/// The tally of the text's parameters.
+fn tally_of(text: &[u8]) -> Tally
+    ensures { Tallies result (m.parameters text.now) }
+{
+    let mut tally = Tally {
+        unknown: false,
+        wrong: false,
+        large: false,
+        has_size: false,
+        has_body: false,
+    };
+    for piece in text.split(|b| *b == b' ') {
+        if !piece.is_empty() {
+            tally = tally.with(read_parameter(piece));
+        }
+    }
+    tally
+}
+
+/// Whether MAIL may have the text's parameters; else Parameter where a keyword is unknown, Arguments where a value is wrong
+/// or a keyword stands twice, TooLarge where the size is above the limit.
+pub(crate) fn check_mail_parameters(text: &[u8]) -> Result<(), BadCommand>
+    ensures { (sender : List ℕ) → told sender result ≡ m.mail_with sender (m.parameters text.now) }
+{
+    let tally = tally_of(text);
+    if tally.unknown {
+        Err(BadCommand::Parameter)
+    } else if tally.wrong {
+        Err(BadCommand::Arguments)
+    } else if tally.large {
+        Err(BadCommand::TooLarge)
+    } else {
+        Ok(())
+    }
+}

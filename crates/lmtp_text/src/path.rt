@@ -1,0 +1,279 @@
+//! Reverse and forward paths (RFC 5321, 4.1.2). Each reader takes what stands at the front of its text, and gives what follows that;
+//! nothing where no such part stands there.
+
+ghost use Rattle.std.specs.Prelude.{false, ◌≡◌, ◌==◌, ◌<◌, ◌≤◌, length, option_map, IfSome};
+ghost use Rattle.std.specs.List.{list_all, prefix_len, slice_split};
+ghost use Rattle.std.specs.Str.{byte};
+ghost use Rattle.mail_world.specs.Grammar.{is_plain, is_of_domain, is_of_literal, is_domain};
+ghost use Rattle.mail_world.specs.Paths as m;
+ghost use Rattle.lmtp_text.specs.Seen.{seen_target};
+ghost use Rattle.lmtp_text.specs.Paths.{seen_found, seen_text, seen_path};
+
+use crate::alphabet::{is_domain_byte, is_literal_byte, is_plain_byte};
+use crate::command::Target;
+use crate::cut::{begins_with_byte, cut_at};
+use mail_world::limits::{NAME_LIMIT, PATH_LIMIT};
+
+/// What a text begins with, and what follows that.
+#[derive(Clone, Copy)]
+pub(crate) struct Found<'a, T> {
+    pub(crate) value: T,
+    pub(crate) rest: &'a [u8],
+}
+
+/// A path's mailbox as it was written, and taken apart.
+#[derive(Clone, Copy)]
+pub(crate) struct Path<'a> {
+    pub(crate) mailbox: &'a [u8],
+    pub(crate) target: Target<'a>,
+}
+
+/// How many bytes at the front may stand bare in a local part.
+fn plain_len(text: &[u8]) -> usize
+    ensures value { result ≡ prefix_len is_plain text.now }
+    ensures bound { result ≤ length text.now }
+{
+    text.iter()
+        .position(|b| !is_plain_byte(*b))
+        .unwrap_or(text.len())
+}
+
+/// How many bytes at the front may stand in an address between brackets.
+fn literal_len(text: &[u8]) -> usize
+    ensures value { result ≡ prefix_len is_of_literal text.now }
+    ensures bound { result ≤ length text.now }
+{
+    text.iter()
+        .position(|b| !is_literal_byte(*b))
+        .unwrap_or(text.len())
+}
+
+/// How many bytes at the front may stand in a domain.
+fn domain_len(text: &[u8]) -> usize
+    ensures value { result ≡ prefix_len is_of_domain text.now }
+    ensures bound { result ≤ length text.now }
+{
+    text.iter()
+        .position(|b| !is_domain_byte(*b))
+        .unwrap_or(text.len())
+}
+
+/// Whether each byte may stand in a domain.
+fn all_of_domain(text: &[u8]) -> bool
+    ensures { result ≡ list_all is_of_domain text.now }
+{
+    text.iter().all(|b| is_domain_byte(*b))
+}
+
+/// Whether the text is a domain.
+fn is_domain_name(text: &[u8]) -> bool
+    ensures { result ≡ is_domain text.now }
+{
+    (1..=NAME_LIMIT).contains(&text.len()) && all_of_domain(text)
+}
+
+/// Whether each piece between commas is an at sign and a domain.
+fn are_hops(text: &[u8]) -> bool
+    ensures { result ≡ list_all m.is_hop (slice_split (λ b. b == byte ",") text.now) }
+{
+    text.split(|b| *b == b',').all(|hop| is_hop(hop))
+}
+
+/// Whether the text is an at sign and a domain.
+fn is_hop(text: &[u8]) -> bool
+    ensures { result ≡ m.is_hop text.now }
+{
+    match text {
+        [b'@', domain @ ..] => is_domain_name(domain),
+        _ => false,
+    }
+}
+
+/// Of the text behind the quote that opens a local part, how many bytes stand before the one that closes it.
+fn quoted_len(text: &[u8]) -> Option<usize>
+    ensures value { result ≡ m.quoted_len false text.now }
+    ensures bound { IfSome result (λ n. n < length text.now) }
+{
+    let mut escaped = false;
+    for (i, b) in text.iter().enumerate() {
+        if !escaped && *b == b'"' {
+            return Some(i);
+        }
+        if !(32..=126).contains(b) {
+            return None;
+        }
+        escaped = !escaped && *b == b'\\';
+    }
+    None
+}
+
+/// The first n bytes, if there are any.
+fn some_front(text: &[u8], n: usize) -> Option<Found<&[u8]>>
+    requires { n ≤ length text.now }
+    ensures value { option_map seen_text result ≡ m.some_front n text.now }
+    ensures within { IfSome result (λ found. length found.rest.now ≤ length text.now) }
+{
+    if n == 0 {
+        return None;
+    }
+    let (value, rest) = text.split_at(n);
+    Some(Found { value, rest })
+}
+
+/// A plain local part.
+fn plain_local(text: &[u8]) -> Option<Found<&[u8]>>
+    ensures value { option_map seen_text result ≡ m.plain_local text.now }
+    ensures within { IfSome result (λ found. length found.rest.now ≤ length text.now) }
+{
+    some_front(text, plain_len(text))
+}
+
+/// The text behind the quote that opens a local part: the part without its quotes.
+fn quoted_local(text: &[u8]) -> Option<Found<&[u8]>>
+    ensures value { option_map seen_text result ≡ m.quoted_local text.now }
+    ensures within { IfSome result (λ found. length found.rest.now ≤ length text.now) }
+{
+    let n = quoted_len(text)?;
+    Some(Found {
+        value: &text[..n],
+        rest: &text[n + 1..],
+    })
+}
+
+/// A domain.
+fn domain_at(text: &[u8]) -> Option<Found<&[u8]>>
+    ensures value { option_map seen_text result ≡ m.domain_at text.now }
+    ensures within { IfSome result (λ found. length found.rest.now ≤ length text.now) }
+{
+    let n = domain_len(text);
+    if n > NAME_LIMIT {
+        return None;
+    }
+    some_front(text, n)
+}
+
+/// An address in brackets, with them; the text begins with the one that opens it.
+fn literal_at(text: &[u8]) -> Option<Found<&[u8]>>
+    requires { 0 < length text.now }
+    ensures value { option_map seen_text result ≡ m.literal_at text.now }
+    ensures within { IfSome result (λ found. length found.rest.now ≤ length text.now) }
+{
+    let inner = &text[1..];
+    let n = literal_len(inner);
+    if n == 0 || !begins_with_byte(&inner[n..], b']') {
+        return None;
+    }
+    some_front(text, n + 2)
+}
+
+/// A domain or an address in brackets.
+fn host_at(text: &[u8]) -> Option<Found<&[u8]>>
+    ensures value { option_map seen_text result ≡ m.host_at text.now }
+    ensures within { IfSome result (λ found. length found.rest.now ≤ length text.now) }
+{
+    if begins_with_byte(text, b'[') {
+        literal_at(text)
+    } else {
+        domain_at(text)
+    }
+}
+
+/// A local part with the host part behind it, where an at sign leads to one.
+fn with_host<'a>(quoted: bool, local: Found<'a, &'a [u8]>) -> Option<Found<'a, Target<'a>>>
+    ensures value { option_map (seen_found seen_target) result ≡ m.with_host quoted (seen_text local.entry) }
+    ensures within { IfSome result (λ found. length found.rest.now ≤ length local.entry.rest.now) }
+{
+    let Found { value, rest } = local;
+    let (domain, rest) = match rest {
+        [b'@', host @ ..] => {
+            let host = host_at(host)?;
+            (Some(host.value), host.rest)
+        }
+        _ => (None, rest),
+    };
+    let target = Target {
+        local: value,
+        quoted,
+        domain,
+    };
+    Some(Found {
+        value: target,
+        rest,
+    })
+}
+
+/// A mailbox.
+fn mailbox_at(text: &[u8]) -> Option<Found<Target>>
+    ensures value { option_map (seen_found seen_target) result ≡ m.mailbox_at text.now }
+    ensures within { IfSome result (λ found. length found.rest.now ≤ length text.now) }
+{
+    match text {
+        [b'"', quoted @ ..] => with_host(true, quoted_local(quoted)?),
+        _ => with_host(false, plain_local(text)?),
+    }
+}
+
+/// What stands behind a source route (RFC 5321, Appendix C); the text itself where no at sign begins one.
+fn behind_route(text: &[u8]) -> Option<&[u8]>
+    ensures { option_map (λ rest. rest.now) result ≡ m.behind_route text.now }
+{
+    if !begins_with_byte(text, b'@') {
+        return Some(text);
+    }
+    let (route, rest) = cut_at(text, b':')?;
+    if are_hops(route) { Some(rest) } else { None }
+}
+
+/// The mailbox that was found at the front of the text, if a bracket closes its path and it is short enough.
+fn closed_at<'a>(text: &'a [u8], found: Found<'a, Target<'a>>) -> Option<Found<'a, Path<'a>>>
+    requires { length found.rest.now ≤ length text.now }
+    ensures { option_map (seen_found seen_path) result ≡ m.closed_at text.now (seen_found seen_target found.entry) }
+{
+    let Found {
+        value: target,
+        rest,
+    } = found;
+    let n = text.len() - rest.len();
+    match rest {
+        [b'>', rest @ ..] if n <= PATH_LIMIT => {
+            let mailbox = &text[..n];
+            Some(Found {
+                value: Path { mailbox, target },
+                rest,
+            })
+        }
+        _ => None,
+    }
+}
+
+/// A forward path.
+#[tactic(auto, unfolding(mail_world::specs::Paths::forward_path))]
+pub(crate) fn read_forward_path(text: &[u8]) -> Option<Found<Path>>
+    ensures { option_map (seen_found seen_path) result ≡ m.forward_path text.now }
+{
+    match text {
+        [b'<', inner @ ..] => {
+            let mailbox = behind_route(inner)?;
+            closed_at(mailbox, mailbox_at(mailbox)?)
+        }
+        _ => None,
+    }
+}
+
+/// A reverse path: its mailbox, empty for `<>`.
+#[tactic(auto, unfolding(mail_world::specs::Paths::reverse_path))]
+pub(crate) fn read_reverse_path(text: &[u8]) -> Option<Found<&[u8]>>
+    ensures { option_map seen_text result ≡ m.reverse_path text.now }
+{
+    if text.starts_with(b"<>") {
+        return Some(Found {
+            value: b"",
+            rest: &text[2..],
+        });
+    }
+    let Found { value: path, rest } = read_forward_path(text)?;
+    Some(Found {
+        value: path.mailbox,
+        rest,
+    })
+}

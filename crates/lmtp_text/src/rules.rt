@@ -1,0 +1,106 @@
+//! The rules for what a site is named and serves.
+
+ghost use Rattle.std.specs.Prelude.{◌≡◌, length, option_map};
+ghost use Rattle.std.specs.List.{list_all};
+ghost use Rattle.std.specs.Str.{byte};
+ghost use Rattle.mail_world.specs.Text.{begins};
+ghost use Rattle.mail_world.specs.Grammar.{is_between};
+ghost use Rattle.mail_world.specs.Site.{is_host_name, is_box_name, has_text, has_twice, fault_of};
+ghost use Rattle.lmtp_text.specs.Sites.{texts, site_of, cause, is_of_host_name, is_of_box_name};
+
+use crate::site::SiteFault;
+use mail_world::limits::{BOX_LIMIT, BOX_NAME_LIMIT, NAME_LIMIT};
+
+fn is_of_host_name(b: u8) -> bool
+    ensures { result ≡ is_of_host_name b }
+{
+    b.is_ascii_alphanumeric() || b"-.".contains(&b)
+}
+
+fn is_of_box_name(b: u8) -> bool
+    ensures { result ≡ is_of_box_name b }
+{
+    b.is_ascii_lowercase() || b.is_ascii_digit() || b"-_.".contains(&b)
+}
+
+fn has_size(text: &[u8], most: usize) -> bool
+    ensures { result ≡ is_between 1 most (length text.now) }
+{
+    !text.is_empty() && text.len() <= most
+}
+
+fn is_made_for_host(text: &[u8]) -> bool
+    ensures { result ≡ list_all is_of_host_name text.now }
+{
+    text.iter().all(|b| is_of_host_name(*b))
+}
+
+fn is_made_for_box(text: &[u8]) -> bool
+    ensures { result ≡ list_all is_of_box_name text.now }
+{
+    text.iter().all(|b| is_of_box_name(*b))
+}
+
+fn begins_with_dot(text: &[u8]) -> bool
+    ensures { result ≡ begins (byte ".") text.now }
+{
+    matches!(text, [b'.', ..])
+}
+
+fn is_host_name(text: &[u8]) -> bool
+    ensures { result ≡ is_host_name text.now }
+{
+    has_size(text, NAME_LIMIT) && is_made_for_host(text)
+}
+
+fn is_box_name(text: &[u8]) -> bool
+    ensures { result ≡ is_box_name text.now }
+{
+    has_size(text, BOX_NAME_LIMIT) && !begins_with_dot(text) && is_made_for_box(text)
+}
+
+fn are_host_names(names: &[&[u8]]) -> bool
+    ensures { result ≡ list_all is_host_name (texts names.now) }
+{
+    names.iter().all(|name| is_host_name(name))
+}
+
+fn are_box_names(names: &[&[u8]]) -> bool
+    ensures { result ≡ list_all is_box_name (texts names.now) }
+{
+    names.iter().all(|name| is_box_name(name))
+}
+
+fn has_text(names: &[&[u8]], text: &[u8]) -> bool
+    ensures { result ≡ has_text (texts names.now) text.now }
+{
+    names.iter().any(|name| *name == text)
+}
+
+fn has_twice(names: &[&[u8]]) -> bool
+    ensures { result ≡ has_twice (texts names.now) }
+{
+    match names {
+        [] => false,
+        [first, rest @ ..] => has_text(rest, first) || has_twice(rest),
+    }
+}
+
+/// The first rule that a site of these names would break.
+pub(crate) fn first_fault(host: &[u8], domains: &[&[u8]], boxes: &[&[u8]]) -> Option<SiteFault>
+    ensures { result ≡ option_map cause (fault_of (site_of host.now domains.now boxes.now)) }
+{
+    if !is_host_name(host) {
+        Some(SiteFault::Host)
+    } else if !are_host_names(domains) {
+        Some(SiteFault::Domain)
+    } else if !(1..=BOX_LIMIT).contains(&boxes.len()) {
+        Some(SiteFault::Count)
+    } else if !are_box_names(boxes) {
+        Some(SiteFault::Box)
+    } else if has_twice(boxes) {
+        Some(SiteFault::Twice)
+    } else {
+        None
+    }
+}

@@ -1,0 +1,161 @@
+//! What a server is named and serves.
+
+ghost use Rattle.std.specs.Prelude.{◌≡◌, ◌≤◌, ◌<◌, [], length, slice_get, unwrap_or, option_map, IfOk, IfErr, IfSome};
+ghost use Rattle.mail_world.specs.Site.{Fault, IsSite, fault_of, box_name};
+ghost use Rattle.mail_world.specs.Targets.{is_here, box_of};
+ghost use Rattle.lmtp_text.specs.Seen.{seen_target};
+ghost use Rattle.lmtp_text.specs.Sites.{texts, site_of, cause, owned};
+
+use crate::command::Target;
+use crate::names::{is_listed, is_word, named_at, names};
+use crate::rules::first_fault;
+use mail_world::limits::{BOX_LIMIT, BOX_NAME_LIMIT, NAME_LIMIT};
+use std::alloc::{AllocError, Global};
+use std::marker::Model;
+use thiserror::Error;
+
+/// Why there is no such site.
+#[derive(Clone, Copy, Debug, PartialEq, Eq, Error)]
+pub enum SiteFault {
+    #[error("out of memory")]
+    Memory = 1,
+    #[error("the host has 1 to 255 letters, digits, dashes and dots")]
+    Host = 2,
+    #[error("a domain has 1 to 255 letters, digits, dashes and dots")]
+    Domain = 3,
+    #[error("a mailbox has 1 to 32 of a-z, 0-9, dash, underscore and dot, and no dot at its front")]
+    Box = 4,
+    #[error("a site has 1 to 64 mailboxes")]
+    Count = 5,
+    #[error("two mailboxes have the same name")]
+    Twice = 6,
+}
+
+impl From<AllocError> for SiteFault {
+    ghost use Rattle.lmtp_text.specs.declared.site.SiteFault.TheVariants.{Memory};
+
+    ghost from_gives = { λ _ fault. fault ≡ Memory };
+
+    fn from(_refused: AllocError) -> SiteFault {
+        SiteFault::Memory
+    }
+}
+
+/// A host, the further domains that it serves, and its mailboxes in their order.
+#[derive(Debug, Drop)]
+pub struct Site {
+    host: Vec<u8>,
+    domains: Vec<Vec<u8>>,
+    boxes: Vec<Vec<u8>>,
+}
+
+impl Model for Site {
+    ghost use Rattle.mail_world.specs.Site as m;
+
+    ghost Value = { m.Site };
+
+    ghost use Rattle.lmtp_text.specs.Sites.{owned};
+
+    ghost view = { λ s. record { host = s.host.items; domains = owned s.domains.items; boxes = owned s.boxes.items } };
+
+    ghost invariant = { λ s. m.IsSite (record { host = s.host.items; domains = owned s.domains.items; boxes = owned s.boxes.items }) };
+}
+
+fn copied(alloc: Global, names: &[&[u8]]) -> Result<Vec<Vec<u8>>, AllocError>
+    ensures { IfOk result (λ v. owned v.items ≡ texts names.now) }
+{
+    let mut all = Vec::with_capacity(alloc, names.len())?;
+    for name in names {
+        all.push(name.to_vec(alloc)?)?;
+    }
+    Ok(all)
+}
+
+fn name_at(names: &[Vec<u8>], i: usize) -> &[u8]
+    ensures { result.now ≡ unwrap_or (slice_get (owned names.now) i) [] }
+{
+    match names.get(i) {
+        Some(name) => name,
+        None => b"",
+    }
+}
+
+impl Site {
+    /// A site takes memory for its names. Of several broken rules the answer is the first in the order `Host`, `Domain`, `Count`, `Box`, `Twice`.
+    pub fn new(
+        alloc: Global,
+        host: &[u8],
+        domains: &[&[u8]],
+        boxes: &[&[u8]],
+    ) -> Result<Site, SiteFault>
+        ensures made { IfOk result (λ site. site ≡ site_of host.now domains.now boxes.now) }
+        ensures sound { IfOk result IsSite }
+        ensures broken { (rule : Fault) → fault_of (site_of host.now domains.now boxes.now) ≡ Some rule → result ≡ Err (cause rule) }
+        ensures whole { fault_of (site_of host.now domains.now boxes.now) ≡ None → IfErr result (λ fault. fault ≡ SiteFault.Memory) }
+    {
+        if let Some(fault) = first_fault(host, domains, boxes) {
+            return Err(fault);
+        }
+        let host = host.to_vec(alloc)?;
+        let domains = copied(alloc, domains)?;
+        let boxes = copied(alloc, boxes)?;
+        Ok(Site {
+            host,
+            domains,
+            boxes,
+        })
+    }
+
+    /// The host's name.
+    pub fn host(&self) -> &[u8]
+        ensures value { result.now ≡ self.now.host }
+        ensures size { length result.now ≤ NAME_LIMIT }
+    {
+        &self.host
+    }
+
+    /// How many mailboxes there are.
+    pub fn box_count(&self) -> u32
+        ensures value { result ≡ length self.now.boxes }
+        ensures most { result ≤ BOX_LIMIT }
+        ensures least { 0 < result }
+    {
+        self.boxes.len() as u32
+    }
+
+    /// The name of the mailbox with that number, counted from 0; empty where there is none.
+    pub fn box_name(&self, i: u32) -> &[u8]
+        ensures value { result.now ≡ box_name self.now i }
+        ensures size { length result.now ≤ BOX_NAME_LIMIT }
+    {
+        name_at(&self.boxes, i as usize)
+    }
+
+    /// The number of the mailbox that a recipient's address means, counted from 0 (RFC 5321, 4.5.1 for `postmaster`). It takes no memory.
+    #[tactic(auto, unfolding(mail_world::specs::Targets::box_of))]
+    pub fn find(&self, target: &Target) -> Option<u32>
+        ensures value { result ≡ box_of self.now (seen_target target.now) }
+        ensures known { IfSome result (λ n. n < length self.now.boxes) }
+    {
+        if !self.serves(target.domain) {
+            return None;
+        }
+        match named_at(target, &self.boxes) {
+            Some(n) => Some(n as u32),
+            None if names(target, b"postmaster") => Some(0),
+            None => None,
+        }
+    }
+
+    fn serves(&self, domain: Option<&[u8]>) -> bool
+        ensures { result ≡ is_here self.now (option_map (λ d. d.now) domain.entry) }
+    {
+        match domain {
+            None => true,
+            Some(domain) => is_word(domain, &self.host) || is_listed(domain, &self.domains),
+        }
+    }
+}
+
+#[cfg(test)]
+mod tests;

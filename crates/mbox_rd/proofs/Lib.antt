@@ -1,0 +1,3 @@
+pub mod Taken
+pub mod Lines
+pub mod Parts

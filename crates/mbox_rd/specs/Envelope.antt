@@ -1,0 +1,27 @@
+-- What the record of a copy is made of besides the message.
+use Rattle.std.specs.Prelude.{ℕ, List}
+use Rattle.mail_world.specs.declared.Txn.{Txn}
+use Rattle.mail_world.specs.declared.Note.{Note}
+use Rattle.mail_world.specs.Records.{Calendar, record_of}
+
+pub record Envelope : Type 0 where
+  pub sender : List ℕ
+  pub client : List ℕ
+  pub txn : Txn
+  pub moment : ℕ
+
+-- a copy of the message under that envelope; no record tells its place or its mailbox
+abbrev pub note_of : Envelope → List ℕ → Note
+note_of envelope message = record {
+  txn = envelope.txn;
+  place = 0;
+  mailbox = 0;
+  sender = envelope.sender;
+  client = envelope.client;
+  moment = envelope.moment;
+  message = message;
+}
+
+-- the record of the message, at the host of that name
+abbrev pub record_text : Calendar → List ℕ → Envelope → List ℕ → List ℕ
+record_text calendar host envelope message = record_of calendar host (note_of envelope message)

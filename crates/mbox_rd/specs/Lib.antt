@@ -1,0 +1,5 @@
+pub mod Envelope
+pub mod Spool
+pub mod MemorySpool
+pub mod Lines
+pub mod Parts

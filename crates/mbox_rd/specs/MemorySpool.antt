@@ -1,0 +1,8 @@
+-- What contracts see of a spool in memory.
+use Rattle.std.specs.Prelude.{ℕ, List}
+
+pub record MemorySpool : Type 0 where
+  pub bytes : List ℕ
+  -- how many bytes more it takes
+  pub room : ℕ
+  pub failures : ℕ
