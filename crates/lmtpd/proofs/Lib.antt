@@ -1,0 +1,9 @@
+pub mod Finding
+pub mod Unstuffing
+pub mod Delivered
+pub mod Stored
+pub mod Reached
+pub mod Finished
+pub mod Written
+pub mod Listed
+pub mod Ran
