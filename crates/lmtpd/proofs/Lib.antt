@@ -7,3 +7,6 @@ pub mod Finished
 pub mod Written
 pub mod Listed
 pub mod Ran
+pub mod Calls
+pub mod Numbers
+pub mod Orders

@@ -6,3 +6,5 @@ pub mod Engine
 pub mod Input
 pub mod Output
 pub mod Rehearsal
+pub mod Faults
+pub mod Words

@@ -1,0 +1,35 @@
+use Rattle.std.proofs.Common.{◌≡◌, ◌∙◌, ap, sym, refl, codes, option_map, Some}
+use Rattle.std.proofs.lemmas.Result.{err_from_is_err_and}
+use Rattle.clap.specs.Words.{fault_of as kinds_for, found_of, is_simple, rows_of, subcommand_of, subcommand_rows_of, takes}
+use Rattle.clap.specs.Faults.{is_simple_and_free}
+use Rattle.lmtpd.specs.Words.{given, program_app}
+use Rattle.lmtpd.proofs.Calls.{is_free_program, is_simple_program, name-rows, read_of_call}
+use Rattle.lmtpd.proofs.words.rehearsal.Goals as goal
+
+pub returns-in_err-matches-clause-refused : goal.returns-in_err-matches-clause-refused
+returns-in_err-matches-clause-refused c =
+    let p = err_from_is_err_and c.from_residual-in_err-matches.result c.from_residual-in_err-matches.ensures.1 in
+    rw (p.1, p.2) (λ taken. c.in_err-matches.ensures.passes (ap (λ app. takes app (given c.args.words.now)) c.in_ok-program.ensures ∙ taken))
+
+pub returns-in_default-clause-taken : goal.returns-in_default-clause-taken
+returns-in_default-clause-taken c =
+    ap (λ app. kinds_for app (given c.args.words.now)) (sym c.in_ok-program.ensures)
+    ∙ c.in_ok-matches.ensures.kinds (ap is_simple_and_free c.in_ok-program.ensures ∙ is_free_program)
+
+pub returns-clause-taken : goal.returns-clause-taken
+returns-clause-taken c =
+    ap (λ app. kinds_for app (given c.args.words.now)) (sym c.in_ok-program.ensures)
+    ∙ c.in_ok-matches.ensures.kinds (ap is_simple_and_free c.in_ok-program.ensures ∙ is_free_program)
+
+pub returns-clause-read : goal.returns-clause-read
+returns-clause-read c =
+    let words = given c.args.words.now in
+    let m = c.in_ok-matches.matches in
+    let met : subcommand_rows_of m ≡ subcommand_of program_app words =
+    (c.in_ok-matches.ensures.matches (ap is_simple c.in_ok-program.ensures ∙ is_simple_program)).1
+    ∙ ap (λ app. subcommand_of app words) c.in_ok-program.ensures in
+    let name : option_map (λ p. p.0) (subcommand_of program_app words) ≡ Some (codes "rehearse") =
+    ap (option_map (λ p. p.0)) (sym met) ∙ (sym (name-rows _) ∙ c.in-Some.ensures.found.0 refl) in
+    let rows : option_map (λ p. p.1) (subcommand_of program_app words) ≡ Some (rows_of (found_of c.in-Some.rehearse.now)) =
+    ap (option_map (λ p. p.1)) (sym met) ∙ c.in-Some.ensures.rows in
+    read_of_call (subcommand_of program_app words) (codes "rehearse") (rows_of (found_of c.in-Some.rehearse.now)) c.in_ok-read.read name rows c.in_ok-read.ensures

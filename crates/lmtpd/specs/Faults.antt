@@ -1,0 +1,61 @@
+-- What the program's words may lack, and what the program then answers.
+use Rattle.std.specs.Prelude.{ℕ, Bool, true, false, not, ◌||◌, nat_lt, ◌==◌, length, if◌then◌else◌, Option, Some, None}
+use Rattle.std.specs.List.{list_all}
+use Rattle.mail_world.specs.declared.limits.TheConstants.{BOX_LIMIT}
+use Rattle.mail_world.specs.Site.{Site, is_host_name, is_box_name, has_twice}
+use Rattle.lmtp_text.specs.declared.site.SiteFault.{SiteFault}
+use Rattle.lmtp_text.specs.declared.site.SiteFault.TheVariants as cause
+use Rattle.lmtpd.specs.declared.rehearse.ending.Ending.{Ending}
+use Rattle.lmtpd.specs.declared.rehearse.ending.EndCause.{EndCause}
+use Rattle.lmtpd.specs.declared.rehearse.ending.EndCause.TheVariants.{ReadFault, WriteFault}
+use Rattle.lmtpd.specs.declared.fault.Fault.{Fault}
+use Rattle.lmtpd.specs.declared.fault.Fault.TheVariants as fault
+use Rattle.lmtpd.specs.declared.stop.Stop.{Stop}
+use Rattle.lmtpd.specs.declared.stop.Stop.TheVariants as stop
+use Rattle.clap.specs.Words.{kind_of}
+use Rattle.clap.specs.declared.error.Error.{Error}
+use Rattle.clap.specs.declared.error.kind.ErrorKind.{ErrorKind}
+use Rattle.clap.specs.declared.error.kind.ErrorKind.TheVariants.{OutOfMemory}
+
+-- the program's exit status
+abbrev pub status_of : Fault → ℕ
+status_of fault.Memory = 1
+status_of fault.Device = 1
+status_of _ = 2
+
+-- the fault for a site that could not be made
+abbrev pub refusal : SiteFault → Fault
+refusal cause.Memory = fault.Memory
+refusal cause.Host = fault.Host
+refusal cause.Domain = fault.Domain
+refusal cause.Box = fault.Box
+refusal cause.Count = fault.TooManyBoxes
+refusal cause.Twice = fault.BoxTwice
+
+abbrev pub is_memory : ErrorKind → Bool
+is_memory OutOfMemory = true
+is_memory _ = false
+
+-- the first fault of a site, in the order in which the program looks: each box alone before their number
+abbrev pub first_fault : Site → Option Fault
+first_fault site =
+    if not (is_host_name site.host) then Some fault.Host
+    else if not (list_all is_host_name site.domains) then Some fault.Domain
+    else if not (list_all is_box_name site.boxes) then Some fault.Box
+    else if (length site.boxes == 0) || nat_lt BOX_LIMIT (length site.boxes) then Some fault.TooManyBoxes
+    else if has_twice site.boxes then Some fault.BoxTwice
+    else None
+
+-- why the program ends where clap answers so
+abbrev pub stop_for : Error → Stop
+stop_for error = if is_memory (kind_of error) then stop.Fault fault.Memory else stop.Words error
+
+-- a read or a write failed
+abbrev pub is_broken : EndCause → Bool
+is_broken ReadFault = true
+is_broken WriteFault = true
+is_broken _ = false
+
+-- a rehearsal in which a device failed
+abbrev pub is_device_fault : Ending → Bool
+is_device_fault ending = ending.faulty || ending.cut || is_broken ending.end

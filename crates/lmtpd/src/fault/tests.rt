@@ -1,0 +1,38 @@
+use super::{Fault, outcome};
+use crate::rehearse::{EndCause, Ending};
+use std::test::Fail;
+
+#[test]
+fn each_fault_has_its_text_and_status(rt: HostRuntime) -> Result<(), Fail> {
+    let table = [
+        (Fault::Host, "bad host", 2),
+        (Fault::Domain, "bad domain", 2),
+        (Fault::Box, "bad box", 2),
+        (Fault::TooManyBoxes, "too many boxes", 2),
+        (Fault::BoxTwice, "box named twice", 2),
+        (Fault::Memory, "memory", 1),
+        (Fault::Device, "device fault", 1),
+    ];
+    for (fault, text, status) in table {
+        let shown = format!(in rt.alloc(); "{fault}")?;
+        assert_eq!(rt; shown.as_str(), text);
+        assert_eq!(rt; fault.status(), status);
+    }
+    Ok(())
+}
+
+#[test]
+fn only_a_whole_rehearsal_is_good(rt: HostRuntime) {
+    let table = [
+        (EndCause::Quit, false, false, true),
+        (EndCause::EndOfInput, false, false, true),
+        (EndCause::ReadFault, false, false, false),
+        (EndCause::WriteFault, false, false, false),
+        (EndCause::Quit, true, false, false),
+        (EndCause::Quit, false, true, false),
+    ];
+    for (end, faulty, cut, good) in table {
+        let ended = outcome(Ending { end, faulty, cut });
+        assert_eq!(rt; ended.is_ok(), good);
+    }
+}

@@ -1,0 +1,64 @@
+//! The site that the program's words name.
+
+ghost use Rattle.std.specs.Prelude.{◌≡◌, ◌⊎◌, true, Some, None, IfOk, MatchResult};
+ghost use Rattle.mail_world.specs.Site.{IsSite, is_box_name};
+ghost use Rattle.std.specs.List.{list_all};
+ghost use Rattle.lmtp_text.specs.Sites.{site_of, texts};
+ghost use Rattle.lmtpd.specs.Faults.{first_fault};
+ghost use Rattle.lmtpd.specs.Words.{named_site, with_box};
+
+use crate::fault::Fault;
+use crate::words::Words;
+use lmtp_text::Site;
+use std::alloc::{AllocError, Global};
+
+/// The site of these words. Each mailbox is tried alone first, so that a bad name comes before too many.
+pub fn site_of(alloc: Global, words: &Words) -> Result<Site, Fault>
+    ensures made { IfOk result (λ site. site ≡ named_site words.now) }
+    ensures sound { IfOk result IsSite }
+    ensures order { MatchResult result (λ _. first_fault (named_site words.now) ≡ None)
+        (λ fault. (fault ≡ Fault.Memory) ⊎ (first_fault (named_site words.now) ≡ Some fault)) }
+{
+    let domains = bytes_of(alloc, &words.domains)?;
+    let boxes = bytes_of(alloc, &words.boxes)?;
+    make_site(alloc, words.host.as_bytes(), &domains, &boxes)
+}
+
+fn bytes_of<'a>(alloc: Global, names: &[&'a str]) -> Result<Vec<&'a [u8]>, AllocError>
+    ensures { IfOk result (λ v. texts v.items ≡ texts names.now) }
+{
+    let mut all = Vec::with_capacity(alloc, names.len())?;
+    for name in names {
+        all.push(name.as_bytes())?;
+    }
+    Ok(all)
+}
+
+fn make_site(alloc: Global, host: &[u8], domains: &[&[u8]], boxes: &[&[u8]]) -> Result<Site, Fault>
+    ensures made { IfOk result (λ site. site ≡ site_of host.now domains.now boxes.now) }
+    ensures sound { IfOk result IsSite }
+    ensures order { let site = site_of host.now domains.now boxes.now in
+        MatchResult result (λ _. first_fault site ≡ None) (λ fault. (fault ≡ Fault.Memory) ⊎ (first_fault site ≡ Some fault)) }
+{
+    try_each_box(alloc, host, domains, boxes)?;
+    let site = Site::new(alloc, host, domains, boxes)?;
+    Ok(site)
+}
+
+fn try_each_box(alloc: Global, host: &[u8], domains: &[&[u8]], boxes: &[&[u8]]) -> Result<(), Fault>
+    ensures { MatchResult result (λ _. list_all is_box_name (texts boxes.now) ≡ true)
+        (λ fault. (fault ≡ Fault.Memory) ⊎ (first_fault (site_of host.now domains.now boxes.now) ≡ Some fault)) }
+{
+    for name in boxes {
+        try_box(alloc, host, domains, name)?;
+    }
+    Ok(())
+}
+
+fn try_box(alloc: Global, host: &[u8], domains: &[&[u8]], name: &[u8]) -> Result<(), Fault>
+    ensures { let site = with_box host.now domains.now name.now in
+        MatchResult result (λ _. first_fault site ≡ None) (λ fault. (fault ≡ Fault.Memory) ⊎ (first_fault site ≡ Some fault)) }
+{
+    let _site = Site::new(alloc, host, domains, &[name])?;
+    Ok(())
+}

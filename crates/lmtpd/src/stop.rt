@@ -1,0 +1,53 @@
+//! Why the program ends before its work is done, and what it says then.
+
+ghost use Rattle.std.specs.Prelude.{◌≡◌};
+ghost use Rattle.lmtpd.specs.Faults.{stop_for};
+
+use crate::fault::Fault;
+use clap::Error;
+use clap::error::ErrorKind;
+
+/// Words that `clap` refuses or answers with help, or a fault.
+#[derive(Debug, Drop)]
+pub enum Stop {
+    Words(Error),
+    Fault(Fault),
+}
+
+impl From<Error> for Stop {
+    ghost from_gives = { λ refused stop. stop ≡ stop_for refused };
+
+    fn from(refused: Error) -> Stop {
+        if refused.kind() == ErrorKind::OutOfMemory {
+            Stop::Fault(Fault::Memory)
+        } else {
+            Stop::Words(refused)
+        }
+    }
+}
+
+impl From<Fault> for Stop {
+    ghost use Rattle.lmtpd.specs.declared.stop.Stop.TheVariants as variant;
+
+    ghost from_gives = { λ fault stop. stop ≡ variant.Fault fault };
+
+    fn from(fault: Fault) -> Stop {
+        Stop::Fault(fault)
+    }
+}
+
+impl Stop {
+    /// Says it, and gives the program's exit status. Text that can't be written is dropped.
+    pub fn report<R: Print + Eprint>(self, rt: &R) -> u8 {
+        match self {
+            Stop::Words(refused) => {
+                let _ = refused.print(rt);
+                if refused.use_stderr() { 2 } else { 0 }
+            }
+            Stop::Fault(fault) => {
+                let _ = eprintln!(rt; "lmtpd: {fault}");
+                fault.status()
+            }
+        }
+    }
+}

@@ -1,0 +1,58 @@
+#!/usr/bin/env bash
+# What the program says to words that it can't use, and the status that it ends with. It prints one line a case,
+# and fails where a case does. LMTPD names a program that is built already.
+set -euo pipefail
+cd "$(dirname "$0")/.."
+if [ -z "${LMTPD:-}" ]; then
+    make -s build
+    LMTPD=$PWD/crates/lmtpd/out/lmtpd
+fi
+failed=0
+
+# try STATUS LINE WORD..: the status, the one line on standard error ('clap' for a text of clap's there,
+# 'none' for nothing) and the words.
+try() {
+    local wanted=$1 line=$2 status=0 said verdict=ok
+    shift 2
+    said=$(printf 'QUIT\r\n' | "$LMTPD" "$@" 2>&1 >/dev/null) || status=$?
+    [ "$status" = "$wanted" ] || verdict=FAILED
+    case $line in
+    none) [ -z "$said" ] || verdict=FAILED ;;
+    clap) [[ $said == error:* || $said == *Usage:* ]] || verdict=FAILED ;;
+    *) [ "$said" = "$line" ] || verdict=FAILED ;;
+    esac
+    [ "$verdict" = ok ] || failed=1
+    printf '%s: status %s, %s: %.70s\n' "$verdict" "$status" "${line/none/no line}" "$*"
+}
+
+good=(rehearse --host mx.example --time 0)
+many=()
+for i in {1..65}; do many+=("box$i"); done
+
+try 2 'lmtpd: bad host' rehearse --host mx_example --time 0 anna
+try 2 'lmtpd: bad host' rehearse --host mx_example --time 0 --domains a_b Anna
+try 2 'lmtpd: bad domain' "${good[@]}" --domains a.example,b_c anna
+try 2 'lmtpd: bad domain' "${good[@]}" --domains a.example, Anna
+try 2 'lmtpd: bad box' "${good[@]}" Anna
+try 2 'lmtpd: bad box' "${good[@]}" anna anna .ben
+try 2 'lmtpd: bad box' "${good[@]}" "${many[@]:1}" Anna
+try 2 'lmtpd: too many boxes' "${good[@]}" "${many[@]}"
+try 2 'lmtpd: too many boxes' "${good[@]}" "${many[@]}" box1
+try 2 'lmtpd: box named twice' "${good[@]}" anna anna
+try 2 clap rehearse --host mx.example anna
+try 2 clap rehearse --host mx.example --time 4294967296 anna
+try 2 clap rehearse --host mx.example --time x anna
+try 2 clap rehearse --time 0 anna
+try 2 clap "${good[@]}"
+try 2 clap
+try 2 clap receive
+try 2 clap "${good[@]}" --shout anna
+try 2 clap "${good[@]}" --host mx.example anna
+try 2 clap "${good[@]}" $'\xff'
+try 0 none --help
+try 0 none help
+try 0 none rehearse --help
+try 0 none "${good[@]}" anna
+try 0 none "${good[@]}" --domains a.example,b.example anna ben
+try 0 none rehearse --host mx.example --time 4294967295 "${many[@]:1}"
+exit $failed
