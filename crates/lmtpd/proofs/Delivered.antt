@@ -98,9 +98,9 @@ pub delivers_none : (host : List ℕ) (t : Transaction) (ks : List Kept) → Del
 delivers_none host t ks = record {
   size = refl;
   each = λ box within notes told holds.
-    let P : List Note → Type 0 = λ l. HoldsCopies civil_at host l (told ++ []) (kept_at ks box).bytes (kept_at ks box).failed in
-    let Q : List Outcome → Type 0 = λ l. HoldsCopies civil_at host notes l (kept_at ks box).bytes (kept_at ks box).failed in
-    subst P (sym (append-nil notes)) (subst Q (sym (append-nil told)) holds);
+      let P : List Note → Type 0 = λ l. HoldsCopies civil_at host l (told ++ []) (kept_at ks box).bytes (kept_at ks box).failed in
+      let Q : List Outcome → Type 0 = λ l. HoldsCopies civil_at host notes l (kept_at ks box).bytes (kept_at ks box).failed in
+      subst P (sym (append-nil notes)) (subst Q (sym (append-nil told)) holds);
   calm = λ c. c;
   stored = λ c. tt;
 }
@@ -118,7 +118,7 @@ each_by : (x : Bool) (host : List ℕ) (t : Transaction) (xs : List ℕ) (os : L
 each_by true host t xs os r o k0 ks ks' box e n within takes before notes told holds =
     let is : r ≡ box = same_number r box e in
     let becomes : kept_at ks' box ≡ takes.becomes =
-        ap (λ k. kept_at ks' k) (sym is) ∙ ap (λ l. kept_at l r) takes.only ∙ get_or-set_same ks r takes.becomes nothing_kept within in
+    ap (λ k. kept_at ks' k) (sym is) ∙ ap (λ l. kept_at l r) takes.only ∙ get_or-set_same ks r takes.becomes nothing_kept within in
     let old_is : kept_at ks r ≡ kept_at ks box = ap (λ k. kept_at ks k) is in
     let T : Kept → Type 0 = λ k. TakesCopy (record_of civil_at host (copy_at 0 t (length xs) r)) o k takes.becomes in
     let more = takes_holds o host (copy_at 0 t (length xs) r) _ _ (kept_at ks box) takes.becomes (subst T old_is takes.takes) (before notes told holds) in
@@ -130,7 +130,7 @@ each_by true host t xs os r o k0 ks ks' box e n within takes before notes told h
     (subst P (sym becomes) more))
 each_by false host t xs os r o k0 ks ks' box e n within takes before notes told holds =
     let same : kept_at ks' box ≡ kept_at ks box =
-        ap (λ l. kept_at l box) takes.only ∙ get_or-set_other ks r box takes.becomes nothing_kept (other_number r box e) in
+    ap (λ l. kept_at l box) takes.only ∙ get_or-set_other ks r box takes.becomes nothing_kept (other_number r box e) in
     let P : Kept → Type 0 = λ k. HoldsCopies civil_at host (notes ++ copies_for t box xs) (told ++ outcomes_for box xs os) k.bytes k.failed in
     let Q : List Note → Type 0 = λ l. HoldsCopies civil_at host (notes ++ l) (told ++ outcomes_for box xs os) (kept_at ks' box).bytes (kept_at ks' box).failed in
     let R : List Outcome → Type 0 = λ l. HoldsCopies civil_at host (notes ++ copies_for t box (xs ++ r ∷ [])) (told ++ l) (kept_at ks' box).bytes (kept_at ks' box).failed in

@@ -16,9 +16,9 @@ stands_occurs part text n at =
     record {
       fits = fits;
       reads = λ j h. ap (λ (l : List ℕ). get_or l (n + j) 0) whole
-        ∙ ap (λ k. get_or (at.front ++ (part ++ at.rest)) (k + j) 0) (sym at.place)
-        ∙ get_or-append-add at.front (part ++ at.rest) j 0
-        ∙ get_or_append_left part at.rest 0 j h;
+          ∙ ap (λ k. get_or (at.front ++ (part ++ at.rest)) (k + j) 0) (sym at.place)
+          ∙ get_or-append-add at.front (part ++ at.rest) j 0
+          ∙ get_or_append_left part at.rest 0 j h;
     }
 
 occurs_stands : (part text : List ℕ) (n : ℕ) → OccursAt text part n → StandsAt part text n

@@ -45,10 +45,10 @@ too_large site moment s at old new ps end is content ends h = record {
   calm = λ calm. subst (λ m. IsCalm (kept_all m.items)) h.mailboxes calm;
   stored = λ calm. tt;
   holds = λ box within notes told holds.
-    let P : List Note → Type 0 = λ l. HoldsCopies civil_at site.host l (told ++ []) (kept_at (kept_all new.mailboxes.items) box).bytes (kept_at (kept_all new.mailboxes.items) box).failed in
-    let Q : List Outcome → Type 0 = λ l. HoldsCopies civil_at site.host notes l (kept_at (kept_all new.mailboxes.items) box).bytes (kept_at (kept_all new.mailboxes.items) box).failed in
-    subst P (sym (append-nil notes)) (subst Q (sym (append-nil told))
-    (subst (λ m. HoldsCopies civil_at site.host notes told (kept_at (kept_all m.items) box).bytes (kept_at (kept_all m.items) box).failed) (sym h.mailboxes) holds));
+      let P : List Note → Type 0 = λ l. HoldsCopies civil_at site.host l (told ++ []) (kept_at (kept_all new.mailboxes.items) box).bytes (kept_at (kept_all new.mailboxes.items) box).failed in
+      let Q : List Outcome → Type 0 = λ l. HoldsCopies civil_at site.host notes l (kept_at (kept_all new.mailboxes.items) box).bytes (kept_at (kept_all new.mailboxes.items) box).failed in
+      subst P (sym (append-nil notes)) (subst Q (sym (append-nil told))
+      (subst (λ m. HoldsCopies civil_at site.host notes told (kept_at (kept_all m.items) box).bytes (kept_at (kept_all m.items) box).failed) (sym h.mailboxes) holds));
 }
 
 no_room : (site : Site) (moment : ℕ) (s : List ℕ) (at : ℕ) (old new : Engine) (ps : List Part) (end : ℕ)
@@ -66,10 +66,10 @@ no_room site moment s at old new ps end is content ends h = record {
   calm = λ calm. subst (λ m. IsCalm (kept_all m.items)) h.mailboxes calm;
   stored = λ calm. tt;
   holds = λ box within notes told holds.
-    let P : List Note → Type 0 = λ l. HoldsCopies civil_at site.host l (told ++ []) (kept_at (kept_all new.mailboxes.items) box).bytes (kept_at (kept_all new.mailboxes.items) box).failed in
-    let Q : List Outcome → Type 0 = λ l. HoldsCopies civil_at site.host notes l (kept_at (kept_all new.mailboxes.items) box).bytes (kept_at (kept_all new.mailboxes.items) box).failed in
-    subst P (sym (append-nil notes)) (subst Q (sym (append-nil told))
-    (subst (λ m. HoldsCopies civil_at site.host notes told (kept_at (kept_all m.items) box).bytes (kept_at (kept_all m.items) box).failed) (sym h.mailboxes) holds));
+      let P : List Note → Type 0 = λ l. HoldsCopies civil_at site.host l (told ++ []) (kept_at (kept_all new.mailboxes.items) box).bytes (kept_at (kept_all new.mailboxes.items) box).failed in
+      let Q : List Outcome → Type 0 = λ l. HoldsCopies civil_at site.host notes l (kept_at (kept_all new.mailboxes.items) box).bytes (kept_at (kept_all new.mailboxes.items) box).failed in
+      subst P (sym (append-nil notes)) (subst Q (sym (append-nil told))
+      (subst (λ m. HoldsCopies civil_at site.host notes told (kept_at (kept_all m.items) box).bytes (kept_at (kept_all m.items) box).failed) (sym h.mailboxes) holds));
 }
 
 -- a whole message
@@ -85,14 +85,14 @@ whole site moment s at old new ps end r is content ends h =
     let number : old.accepted ≡ accepted_after site 0 fresh ps = exact old.accepted (accepted_after site 0 fresh ps) (length (unstuffed (take end (drop at s)))) r.accepted is in
     let D : Site → ℕ → Session → ℕ → List ℕ → Type 0 = λ x n y m l. DeliversTo x.host (transaction n y m l) y.recipients h.outcomes (kept_all old.mailboxes.items) (kept_all new.mailboxes.items) in
     let delivers : D site (accepted_after site 0 fresh ps) before moment (message text) =
-      subst (λ l. D site (accepted_after site 0 fresh ps) before moment l) (sym (own_message (drop at s) end ends))
-      (subst (λ m. D site (accepted_after site 0 fresh ps) before m (unstuffed (take end (drop at s)))) r.same_moment
-      (subst (λ y. D site (accepted_after site 0 fresh ps) y old.moment (unstuffed (take end (drop at s)))) r.session
-      (subst (λ n. D site n old.session.session old.moment (unstuffed (take end (drop at s)))) number
-      (subst (λ x. D x old.accepted old.session.session old.moment (unstuffed (take end (drop at s)))) r.same_site h.delivers)))) in
+    subst (λ l. D site (accepted_after site 0 fresh ps) before moment l) (sym (own_message (drop at s) end ends))
+    (subst (λ m. D site (accepted_after site 0 fresh ps) before m (unstuffed (take end (drop at s)))) r.same_moment
+    (subst (λ y. D site (accepted_after site 0 fresh ps) y old.moment (unstuffed (take end (drop at s)))) r.session
+    (subst (λ n. D site n old.session.session old.moment (unstuffed (take end (drop at s)))) number
+    (subst (λ x. D x old.accepted old.session.session old.moment (unstuffed (take end (drop at s)))) r.same_site h.delivers)))) in
     let own : DeliversTo site.host t before.recipients h.outcomes (kept_all old.mailboxes.items) (kept_all new.mailboxes.items) =
-      delivers_same site.host (transaction (accepted_after site 0 fresh ps) before moment (message text)) t before.recipients h.outcomes _ _
-      (copies_parts (transaction (accepted_after site 0 fresh ps) before moment (message text)) 0 before.recipients ∙ sym (copies_parts t 0 before.recipients)) delivers in
+    delivers_same site.host (transaction (accepted_after site 0 fresh ps) before moment (message text)) t before.recipients h.outcomes _ _
+    (copies_parts (transaction (accepted_after site 0 fresh ps) before moment (message text)) 0 before.recipients ∙ sym (copies_parts t 0 before.recipients)) delivers in
     record {
       ends = ends;
       content = content;
@@ -175,9 +175,9 @@ finished site moment s at e ps r none =
       quits = (λ ended. ap has_quit inputs_are ∙ r.quits.ends ended, λ q. r.quits.quit (sym (ap has_quit inputs_are) ∙ q));
       count = r.count;
       holds = λ box within.
-        let P : List Note → Type 0 = λ l. HoldsCopies civil_at site.host l (told_all box (transactions_of site 0 fresh ps)) (kept_at (kept_all e.mailboxes.items) box).bytes (kept_at (kept_all e.mailboxes.items) box).failed in
-        subst (λ l. HoldsCopies civil_at site.host (due site 0 box (account_of s ps ∷ [])) l (kept_at (kept_all e.mailboxes.items) box).bytes (kept_at (kept_all e.mailboxes.items) box).failed) (sym (all_told site box s ps parts_are))
-        (subst P (sym (all_due site box s ps parts_are)) (r.holds box within));
+          let P : List Note → Type 0 = λ l. HoldsCopies civil_at site.host l (told_all box (transactions_of site 0 fresh ps)) (kept_at (kept_all e.mailboxes.items) box).bytes (kept_at (kept_all e.mailboxes.items) box).failed in
+          subst (λ l. HoldsCopies civil_at site.host (due site 0 box (account_of s ps ∷ [])) l (kept_at (kept_all e.mailboxes.items) box).bytes (kept_at (kept_all e.mailboxes.items) box).failed) (sym (all_told site box s ps parts_are))
+          (subst P (sym (all_due site box s ps parts_are)) (r.holds box within));
       stored = r.stored;
     }
 

@@ -130,9 +130,9 @@ rehearsed site moment unread left before after input e ending i h w =
         sound = w.sound;
         stored = λ f. h.stored (calm f);
         held = λ f box within.
-          let failed : (kept_at (kept_all e.mailboxes.items) box).failed ≡ false = calm f box (omega (arith, length-map e.mailboxes.items kept, h.count)) in
-          let P : Bool → Type 0 = λ b. HoldsCopies civil_at site.host (due site 0 box (conversation input.bytes.items h.dispositions ∷ [])) (told site box (conversation input.bytes.items h.dispositions ∷ [])) (kept_at (kept_all e.mailboxes.items) box).bytes b in
-          (holds_all civil_at site.host _ _ (kept_at (kept_all e.mailboxes.items) box).bytes (subst P failed (h.holds box within))).held;
+            let failed : (kept_at (kept_all e.mailboxes.items) box).failed ≡ false = calm f box (omega (arith, length-map e.mailboxes.items kept, h.count)) in
+            let P : Bool → Type 0 = λ b. HoldsCopies civil_at site.host (due site 0 box (conversation input.bytes.items h.dispositions ∷ [])) (told site box (conversation input.bytes.items h.dispositions ∷ [])) (kept_at (kept_all e.mailboxes.items) box).bytes b in
+            (holds_all civil_at site.host _ _ (kept_at (kept_all e.mailboxes.items) box).bytes (subst P failed (h.holds box within))).held;
       };
       said = w.said;
       listed = w.listed;

@@ -57,7 +57,7 @@ pub record Reached (site : Site) (moment : ℕ) (s : List ℕ) (at : ℕ) (e : E
   pub accepted : e.accepted ≡ min (accepted_after site 0 fresh ps) most
   pub count : length e.mailboxes.items ≡ length site.boxes
   pub holds : (box : ℕ) → box < length site.boxes
-    → HoldsCopies civil_at site.host (owed 0 box (transactions_of site 0 fresh ps)) (told_all box (transactions_of site 0 fresh ps))
+      → HoldsCopies civil_at site.host (owed 0 box (transactions_of site 0 fresh ps)) (told_all box (transactions_of site 0 fresh ps))
       (kept_at (kept_all e.mailboxes.items) box).bytes (kept_at (kept_all e.mailboxes.items) box).failed
   pub stored : IsCalm (kept_all e.mailboxes.items) → AllByRecursion IsAllStored (dispositions_of ps)
   pub moments : AllByRecursion (λ d. d.moment ≡ moment) (dispositions_of ps)
@@ -75,8 +75,8 @@ reached_none site moment s e h = record {
   accepted = h.accepted;
   count = h.count;
   holds = λ box within.
-    let P : Kept → Type 0 = λ k. HoldsCopies civil_at site.host [] [] k.bytes k.failed in
-    subst P (sym (h.empty box)) (holds_none civil_at site.host);
+      let P : Kept → Type 0 = λ k. HoldsCopies civil_at site.host [] [] k.bytes k.failed in
+      subst P (sym (h.empty box)) (holds_none civil_at site.host);
   stored = λ calm. tt;
   moments = tt;
   verdicts = tt;
@@ -234,7 +234,7 @@ quits_line site old new xs ys text q lines takes is =
     record {
       ends = λ ended. whole ∙ or_right (has_quit xs) (is_quit (if b then LongLine else Line text)) (line_ends b old.session.site old.session.session text lines (sym state ∙ ended));
       quit = λ e. state ∙ ends_line b old.session.site old.session.session text (or_last (is_quit (if b then LongLine else Line text))
-        (or_first (has_quit xs) _ (sym whole ∙ e) (λ f. not_ended old.session.session.state lines (q.quit f))));
+          (or_first (has_quit xs) _ (sym whole ∙ e) (λ f. not_ended old.session.session.state lines (q.quit f))));
     }
 
 pub reached_line : (site : Site) (moment : ℕ) (s : List ℕ) (at : ℕ) (old new : Engine) (ps : List Part) (size : ℕ)
@@ -258,9 +258,9 @@ reached_line site moment s at old new ps size r takes h =
       session = session;
       replies = replies_more site ps p old new h.takes r.same_site r.session r.replies;
       accepted = h.accepted
-        ∙ ap (λ (x : Session). if is_content x.state then counted old.accepted else old.accepted) (session ∙ session_behind-snoc site fresh ps p)
-        ∙ counted_more (is_content (session_after site (session_behind site fresh ps) (inputs_of p)).state) old.accepted (accepted_after site 0 fresh ps) r.accepted
-        ∙ ap (λ n. min n most) (sym (accepted-snoc site ps p));
+          ∙ ap (λ (x : Session). if is_content x.state then counted old.accepted else old.accepted) (session ∙ session_behind-snoc site fresh ps p)
+          ∙ counted_more (is_content (session_after site (session_behind site fresh ps) (inputs_of p)).state) old.accepted (accepted_after site 0 fresh ps) r.accepted
+          ∙ ap (λ n. min n most) (sym (accepted-snoc site ps p));
       count = ap (λ m. length m.items) h.mailboxes ∙ r.count;
       holds = subst T (sym ts_is) (subst M ks_is r.holds);
       stored = λ calm. subst (λ (l : List Disposition). AllByRecursion IsAllStored l) (sym ds_is) (r.stored (subst IsCalm (sym ks_is) calm));
@@ -276,13 +276,14 @@ front_place first part text n m e fits within =
     let k : ℕ = m - length (at.front ++ first ∷ part) in
     let size : length (at.front ++ first ∷ part) + k ≡ m = omega (arith, length-append at.front (first ∷ part), at.place) in
     let here : StandsAt (first ∷ part) (take m text) n = record {
-      front = at.front; rest = take k at.rest;
+      front = at.front;
+      rest = take k at.rest;
       whole = ap (λ l. take m l) at.whole ∙ ap (λ j. take j ((at.front ++ first ∷ part) ++ at.rest)) (sym size) ∙ take-append-add (at.front ++ first ∷ part) at.rest k;
       place = at.place;
     } in
     let found = place_of_least first part (take m text) n here in
     let there : StandsAt (first ∷ part) text found.place =
-      subst (λ l. StandsAt (first ∷ part) l found.place) (take-append-drop m text) (StandsAt-more (first ∷ part) (take m text) (drop m text) found.place (place_of_stands (first ∷ part) (take m text) found.place found.found)) in
+    subst (λ l. StandsAt (first ∷ part) l found.place) (take-append-drop m text) (StandsAt-more (first ∷ part) (take m text) (drop m text) found.place (place_of_stands (first ∷ part) (take m text) found.place found.found)) in
     let again = place_of_least first part text found.place there in
     let same : ◌≡◌ {A = Option ℕ} (Some again.place) (Some n) = sym again.found ∙ e in
     let same' : again.place ≡ n = cc in
@@ -305,25 +306,31 @@ own_message rest n e =
 fits_by : (a b : Bool) (k size : ℕ) → nat_lt NUMBER_LIMIT k ≡ a → nat_lt MESSAGE_LIMIT size ≡ b → (t : Transaction) → t.number ≡ k → length t.message ≡ size
     → t.disposition.verdict ≡ (if a then NoRoom else if b then TooLarge else Whole) → VerdictFits t × RoomFits t
 fits_by true b k size ea eb t number long v =
-    let over : NUMBER_LIMIT < k = grind (arith, nat_tests, ea) in
-    (record {
-      too_large = (λ e. let wrong : NoRoom ≡ TooLarge = sym v ∙ e in cc, λ h. absurd (omega (arith, h.1, over, number)));
-      no_number = λ h. v;
-    }, record { only = λ e. omega (arith, over, number) })
+    let over : NUMBER_LIMIT < k = grind (arith, nat_tests, ea) in (
+      record {
+        too_large = (λ e. let wrong : NoRoom ≡ TooLarge = sym v ∙ e in cc, λ h. absurd (omega (arith, h.1, over, number)));
+        no_number = λ h. v;
+      },
+      record { only = λ e. omega (arith, over, number) },
+    )
 fits_by false true k size ea eb t number long v =
     let under : k ≤ NUMBER_LIMIT = grind (arith, nat_tests, ea) in
-    let over : MESSAGE_LIMIT < size = grind (arith, nat_tests, eb) in
-    (record {
-      too_large = (λ e. (omega (arith, over, long), omega (arith, under, number)), λ h. v);
-      no_number = λ h. absurd (omega (arith, h, under, number));
-    }, record { only = λ e. let wrong : TooLarge ≡ NoRoom = sym v ∙ e in cc })
+    let over : MESSAGE_LIMIT < size = grind (arith, nat_tests, eb) in (
+      record {
+        too_large = (λ e. (omega (arith, over, long), omega (arith, under, number)), λ h. v);
+        no_number = λ h. absurd (omega (arith, h, under, number));
+      },
+      record { only = λ e. let wrong : TooLarge ≡ NoRoom = sym v ∙ e in cc },
+    )
 fits_by false false k size ea eb t number long v =
     let under : k ≤ NUMBER_LIMIT = grind (arith, nat_tests, ea) in
-    let small : size ≤ MESSAGE_LIMIT = grind (arith, nat_tests, eb) in
-    (record {
-      too_large = (λ e. let wrong : Whole ≡ TooLarge = sym v ∙ e in cc, λ h. absurd (omega (arith, h.0, small, long)));
-      no_number = λ h. absurd (omega (arith, h, under, number));
-    }, record { only = λ e. let wrong : Whole ≡ NoRoom = sym v ∙ e in cc })
+    let small : size ≤ MESSAGE_LIMIT = grind (arith, nat_tests, eb) in (
+      record {
+        too_large = (λ e. let wrong : Whole ≡ TooLarge = sym v ∙ e in cc, λ h. absurd (omega (arith, h.0, small, long)));
+        no_number = λ h. absurd (omega (arith, h, under, number));
+      },
+      record { only = λ e. let wrong : Whole ≡ NoRoom = sym v ∙ e in cc },
+    )
 
 over_min : (k n : ℕ) → n ≡ min k most → nat_lt NUMBER_LIMIT n ≡ nat_lt NUMBER_LIMIT k
 over_min k n e = grind (arith, nat_tests, e)
@@ -355,7 +362,7 @@ pub record EndsData (site : Site) (moment : ℕ) (s : List ℕ) (at : ℕ) (old 
   pub holds : (box : ℕ) → box < length site.boxes → (notes : List Note) (told : List Outcome)
       → HoldsCopies civil_at site.host notes told (kept_at (kept_all old.mailboxes.items) box).bytes (kept_at (kept_all old.mailboxes.items) box).failed
       → HoldsCopies civil_at site.host (notes ++ filter (λ note. note.mailbox == box) (copies 0 (transaction_at site ps (take (end + 3) (drop at s)) d)))
-          (told ++ told_of box (transaction_at site ps (take (end + 3) (drop at s)) d)) (kept_at (kept_all new.mailboxes.items) box).bytes (kept_at (kept_all new.mailboxes.items) box).failed
+      (told ++ told_of box (transaction_at site ps (take (end + 3) (drop at s)) d)) (kept_at (kept_all new.mailboxes.items) box).bytes (kept_at (kept_all new.mailboxes.items) box).failed
 
 goes_on : (v : Verdict) (site : Site) (s : Session) (d : Disposition) → (session_after site s (DataEnded v ∷ outcomes_of d v)).state ≡ Greeted ⊎ (session_after site s (DataEnded v ∷ outcomes_of d v)).state ≡ Waiting
 goes_on Whole site s d = inl refl
@@ -378,8 +385,8 @@ quits_data site s text d old new xs ys q content takes is =
         | inr e ↦ let wrong : Waiting ≡ Ended = sym e ∙ sym state ∙ ended in cc
       ]);
       quit = λ e.
-        let last : has_quit (inputs_of (MailData text d)) ≡ true = or_first (has_quit xs) _ (sym whole ∙ e) (λ f. let wrong : Content ≡ Ended = sym content ∙ q.quit f in cc) in
-        let wrong : false ≡ true = sym (no_quit d.verdict d) ∙ last in cc;
+          let last : has_quit (inputs_of (MailData text d)) ≡ true = or_first (has_quit xs) _ (sym whole ∙ e) (λ f. let wrong : Content ≡ Ended = sym content ∙ q.quit f in cc) in
+          let wrong : false ≡ true = sym (no_quit d.verdict d) ∙ last in cc;
     }
 
 pub reached_data : (site : Site) (moment : ℕ) (s : List ℕ) (at : ℕ) (old new : Engine) (ps : List Part) (d : Disposition) (end : ℕ)
@@ -395,7 +402,7 @@ reached_data site moment s at old new ps d end r h =
     let fits : VerdictFits t × RoomFits t = verdict_fits t old.accepted r.accepted (h.verdict ∙ ap (λ l. verdict_on old.accepted (length l)) (sym (own_message (drop at s) end h.ends))) in
     record {
       handled = handled_data site s at ps end d r.handled (ap (λ (x : Session). x.state) (sym r.session) ∙ h.content) h.ends
-        (subst (λ (x : Session). OutcomesFit x.recipients d d.verdict) r.session h.fit);
+          (subst (λ (x : Session). OutcomesFit x.recipients d d.verdict) r.session h.fit);
       quits = quits_data site s text d old new (flat_map inputs_of ps) (flat_map inputs_of (ps ++ p ∷ [])) r.quits h.content h.takes (inputs-snoc ps p);
       same_site = h.takes.site ∙ r.same_site;
       same_moment = h.takes.moment ∙ r.same_moment;
@@ -404,11 +411,11 @@ reached_data site moment s at old new ps d end r h =
       accepted = h.accepted ∙ r.accepted ∙ ap (λ n. min n most) (sym (accepted-snoc site ps p ∙ same_behind_data site (accepted_after site 0 fresh ps) (session_behind site fresh ps) text d));
       count = h.size ∙ r.count;
       holds = λ box within.
-        let before = r.holds box within in
-        let P : List Note → Type 0 = λ l. HoldsCopies civil_at site.host l (told_all box (transactions_of site 0 fresh ps) ++ told_of box t) (kept_at (kept_all new.mailboxes.items) box).bytes (kept_at (kept_all new.mailboxes.items) box).failed in
-        let Q : List Outcome → Type 0 = λ l. HoldsCopies civil_at site.host (owed 0 box (transactions_of site 0 fresh ps ++ t ∷ [])) l (kept_at (kept_all new.mailboxes.items) box).bytes (kept_at (kept_all new.mailboxes.items) box).failed in
-        let T : List Transaction → Type 0 = λ ts. HoldsCopies civil_at site.host (owed 0 box ts) (told_all box ts) (kept_at (kept_all new.mailboxes.items) box).bytes (kept_at (kept_all new.mailboxes.items) box).failed in
-        subst T (sym ts_is) (subst Q (sym (told-snoc box (transactions_of site 0 fresh ps) t)) (subst P (sym (owed-snoc 0 box (transactions_of site 0 fresh ps) t)) (h.holds box within _ _ before)));
+          let before = r.holds box within in
+          let P : List Note → Type 0 = λ l. HoldsCopies civil_at site.host l (told_all box (transactions_of site 0 fresh ps) ++ told_of box t) (kept_at (kept_all new.mailboxes.items) box).bytes (kept_at (kept_all new.mailboxes.items) box).failed in
+          let Q : List Outcome → Type 0 = λ l. HoldsCopies civil_at site.host (owed 0 box (transactions_of site 0 fresh ps ++ t ∷ [])) l (kept_at (kept_all new.mailboxes.items) box).bytes (kept_at (kept_all new.mailboxes.items) box).failed in
+          let T : List Transaction → Type 0 = λ ts. HoldsCopies civil_at site.host (owed 0 box ts) (told_all box ts) (kept_at (kept_all new.mailboxes.items) box).bytes (kept_at (kept_all new.mailboxes.items) box).failed in
+          subst T (sym ts_is) (subst Q (sym (told-snoc box (transactions_of site 0 fresh ps) t)) (subst P (sym (owed-snoc 0 box (transactions_of site 0 fresh ps) t)) (h.holds box within _ _ before)));
       stored = λ calm. subst (λ (l : List Disposition). AllByRecursion IsAllStored l) (sym ds_is) (all_snoc IsAllStored (dispositions_of ps) d (r.stored (h.calm calm)) (h.stored calm));
       moments = subst (λ (l : List Disposition). AllByRecursion (λ x. x.moment ≡ moment) l) (sym ds_is) (all_snoc (λ x. x.moment ≡ moment) (dispositions_of ps) d r.moments h.at_moment);
       verdicts = subst (λ (l : List Transaction). AllByRecursion VerdictFits l) (sym ts_is) (all_snoc VerdictFits (transactions_of site 0 fresh ps) t r.verdicts fits.0);

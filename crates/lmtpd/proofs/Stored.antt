@@ -53,7 +53,7 @@ delivers_same host t t' xs os k0 ks e d = record {
   each = λ box h. let P : List Note → Type 0 = λ l. (notes : List Note) (told : List Outcome)
       → HoldsCopies civil_at host notes told (kept_at k0 box).bytes (kept_at k0 box).failed
       → HoldsCopies civil_at host (notes ++ filter (λ note. note.mailbox == box) l) (told ++ outcomes_for box xs os) (kept_at ks box).bytes (kept_at ks box).failed in
-    subst P e (d.each box h);
+      subst P e (d.each box h);
   calm = d.calm;
   stored = d.stored;
 }
@@ -78,15 +78,15 @@ stores old new message mid outcomes first then ended count delivers told replies
         site = site;
         session = told.next ∙ ap (λ (s : Session). greeted s.client) waiting;
         replies = replies ∙ ap (λ l. old.replies.items ++ l)
-          (ap (λ s. reply_texts s (said then new.session.answers)) site
-          ∙ ap (λ rs. reply_texts old.session.site rs) (said_is then (step mid.site mid.session (Outcomes outcomes)) new.session.answers told.fits
+            (ap (λ s. reply_texts s (said then new.session.answers)) site
+            ∙ ap (λ rs. reply_texts old.session.site rs) (said_is then (step mid.site mid.session (Outcomes outcomes)) new.session.answers told.fits
             ∙ ap (λ (s : Session). results outcomes s.recipients) waiting ∙ sym (append-nil (results outcomes old.session.session.recipients))));
         moment = moment;
       };
       delivers = subst Q ended.site (delivers_same mid.site.host (transaction old.accepted (moved_to Waiting old.session.session) old.moment message) (transaction old.accepted old.session.session old.moment message)
-        old.session.session.recipients outcomes _ _
-        (copies_parts (transaction old.accepted (moved_to Waiting old.session.session) old.moment message) 0 old.session.session.recipients
+          old.session.session.recipients outcomes _ _
+          (copies_parts (transaction old.accepted (moved_to Waiting old.session.session) old.moment message) 0 old.session.session.recipients
           ∙ sym (copies_parts (transaction old.accepted old.session.session old.moment message) 0 old.session.session.recipients))
-        (subst P waiting delivers));
+          (subst P waiting delivers));
       accepted = accepted;
     }

@@ -64,7 +64,7 @@ some_by false a b c text (Some m) n e f ih =
     let next : suc m ≡ n = cc in
     let P : ℕ → Type 0 = λ k. without_dots a b (c ∷ text) ≡ dropped_at k (c ∷ text) in
     subst P next (ap (λ x. cond x (without_dots b c text) (c ∷ without_dots b c text)) (sym (same_test a b c text) ∙ e) ∙ ap (λ l. c ∷ l) (ih m refl)
-      ∙ ap (λ k. c ∷ (take m text ++ without_dots lf dot (drop k (c ∷ text)))) (let r : suc (m + 1) ≡ suc m + 1 = omega arith in r))
+    ∙ ap (λ k. c ∷ (take m text ++ without_dots lf dot (drop k (c ∷ text)))) (let r : suc (m + 1) ≡ suc m + 1 = omega arith in r))
 
 pub one_dot : (a b : ℕ) (text : List ℕ) (n : ℕ) → place_of dotted (a ∷ b ∷ text) ≡ Some n → without_dots a b text ≡ dropped_at n text
 one_dot a b [] n e = let at = place_of_stands dotted (a ∷ b ∷ []) n e in

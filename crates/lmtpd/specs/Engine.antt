@@ -130,6 +130,6 @@ pub record HandlesAll (site : Site) (moment : ℕ) (bytes : List ℕ) (e : Engin
   pub quits : (e.session.session.state ≡ Ended) ↔ (has_quit (inputs site (conversation bytes dispositions)) ≡ true)
   pub count : length e.mailboxes.items ≡ length site.boxes
   pub holds : (box : ℕ) → box < length site.boxes
-    → HoldsCopies civil_at site.host (due site 0 box (conversation bytes dispositions ∷ [])) (told site box (conversation bytes dispositions ∷ []))
+      → HoldsCopies civil_at site.host (due site 0 box (conversation bytes dispositions ∷ [])) (told site box (conversation bytes dispositions ∷ []))
       (kept_at (kept_all e.mailboxes.items) box).bytes (kept_at (kept_all e.mailboxes.items) box).failed
   pub stored : IsCalm (kept_all e.mailboxes.items) → AllByRecursion IsAllStored dispositions

@@ -37,7 +37,7 @@ pub record AreMailboxes (site : Site) (read : List ℕ) (account : List Disposit
   pub count : length mailboxes ≡ length site.boxes
   -- each holds the records of its first copies, which were told Stored; once its spool failed, the others were told Failed
   pub each : (box : ℕ) → box < length site.boxes
-    → HoldsCopies civil_at site.host (due site 0 box (conversation read account ∷ [])) (told site box (conversation read account ∷ [])) (kept_at mailboxes box).bytes (kept_at mailboxes box).failed
+      → HoldsCopies civil_at site.host (due site 0 box (conversation read account ∷ [])) (told site box (conversation read account ∷ [])) (kept_at mailboxes box).bytes (kept_at mailboxes box).failed
   -- a rehearsal is faulty exactly where a spool failed
   pub sound : (faulty ≡ false) ↔ IsCalm mailboxes
   -- and where it isn't, every outcome is Stored and each mailbox has the records of all its copies

@@ -14,7 +14,14 @@ use std::alloc::{AllocError, Global};
 
 /// Gives each recipient's mailbox its copy, in the order of the recipients, and answers an outcome for each (RFC 2033, 4.2).
 /// A mailbox that several recipients share gets a copy for each of them.
-pub fn deliver(alloc: Global, session: &Session, mailboxes: &mut Vec<Mailbox>, number: u32, moment: u32, message: &[u8]) -> Result<Vec<Outcome>, AllocError>
+pub fn deliver(
+    alloc: Global,
+    session: &Session,
+    mailboxes: &mut Vec<Mailbox>,
+    number: u32,
+    moment: u32,
+    message: &[u8],
+) -> Result<Vec<Outcome>, AllocError>
     requires { length mailboxes.old.items ≡ length session.now.site.boxes }
     ensures count { IfOk result (λ outcomes. length outcomes.items ≡ length session.now.session.recipients) }
     ensures delivers { IfOk result (λ outcomes. DeliversTo session.now.site.host (transaction number session.now.session moment message.now)
@@ -26,14 +33,26 @@ pub fn deliver(alloc: Global, session: &Session, mailboxes: &mut Vec<Mailbox>, n
     let count = session.recipient_count();
     let mut outcomes = Vec::with_capacity(alloc, count as usize)?;
     for place in 0..count {
-        let outcome = take_at(mailboxes, session.recipient(place), host, &envelope, message);
+        let outcome = take_at(
+            mailboxes,
+            session.recipient(place),
+            host,
+            &envelope,
+            message,
+        );
         outcomes.push(outcome)?;
     }
     Ok(outcomes)
 }
 
 // Gives the mailbox of that number a copy.
-fn take_at(mailboxes: &mut Vec<Mailbox>, number: u32, host: &[u8], envelope: &Envelope, message: &[u8]) -> Outcome
+fn take_at(
+    mailboxes: &mut Vec<Mailbox>,
+    number: u32,
+    host: &[u8],
+    envelope: &Envelope,
+    message: &[u8],
+) -> Outcome
     requires { number < length mailboxes.old.items }
     ensures { TakesCopyAt (record_text civil_at host.now envelope.now message.now) number result (kept_all mailboxes.old.items) (kept_all mailboxes.new.items) }
 {

@@ -1,6 +1,5 @@
 //! How a rehearsal ends.
 
-
 use std::alloc::AllocError;
 use thiserror::Error;
 

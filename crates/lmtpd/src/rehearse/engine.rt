@@ -73,7 +73,9 @@ impl Engine {
         match self.session.state() {
             State::Content => self.handle_data(alloc, rest),
             State::Waiting | State::Ended => Ok(None),
-            State::Fresh | State::Greeted | State::Sender | State::Recipients => self.handle_line(rest),
+            State::Fresh | State::Greeted | State::Sender | State::Recipients => self.handle_line(
+                rest,
+            ),
         }
     }
 
@@ -120,7 +122,14 @@ impl Engine {
     {
         let _ = self.session.data_done(Verdict::Whole);
         let number = self.accepted as u32;
-        let outcomes = deliver(alloc, &self.session, &mut self.mailboxes, number, self.moment, message)?;
+        let outcomes = deliver(
+            alloc,
+            &self.session,
+            &mut self.mailboxes,
+            number,
+            self.moment,
+            message,
+        )?;
         let act = self.session.outcomes(&outcomes);
         add_replies(&mut self.replies, &self.session, act)?;
         Ok(())

@@ -50,11 +50,18 @@ fn write_mailbox<W: Write>(writer: &mut W, name: &[u8], bytes: &[u8]) -> Result<
 {
     let mut digits = Buffer::new();
     let size = digits.format(bytes.len());
-    write_each(writer, &[b"mailbox ", name, b" ", size.as_bytes(), b"\n", bytes])
+    write_each(
+        writer,
+        &[b"mailbox ", name, b" ", size.as_bytes(), b"\n", bytes],
+    )
 }
 
 /// Writes the mailboxes of the site, in their order, each behind a line of its name and size.
-pub fn write_mailboxes<W: Write>(writer: &mut W, site: &Site, mailboxes: &[Mailbox]) -> Result<(), WriteFault>
+pub fn write_mailboxes<W: Write>(
+    writer: &mut W,
+    site: &Site,
+    mailboxes: &[Mailbox],
+) -> Result<(), WriteFault>
     requires { length mailboxes.now ≡ length site.now.boxes }
     ensures ok { OnOk result (Appends (W.contents writer.old) (W.contents writer.new) (mailboxes_text site.now.boxes (kept_all mailboxes.now))) }
     ensures err { OnErr result (Breaks (W.contents writer.old) (W.contents writer.new) (mailboxes_text site.now.boxes (kept_all mailboxes.now))) }

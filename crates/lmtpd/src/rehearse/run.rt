@@ -20,7 +20,13 @@ use std::sync::Arc;
 /// Serves one conversation at the site: reads all of the input, handles it, writes the replies and then the mailboxes, each
 /// behind the line `mailbox NAME LENGTH`. The mailboxes are empty at the start and lie in memory; every message is of the
 /// given moment, in seconds since 1970. Where memory is wanting nothing is written.
-pub fn rehearse_run<R: Read, W: Write>(alloc: Global, site: Arc<Site>, moment: u32, reader: &mut R, writer: &mut W) -> Result<Ending, HouseFault>
+pub fn rehearse_run<R: Read, W: Write>(
+    alloc: Global,
+    site: Arc<Site>,
+    moment: u32,
+    reader: &mut R,
+    writer: &mut W,
+) -> Result<Ending, HouseFault>
     ensures rehearses { IfOk result (IsRehearsed (arc_value site) moment (R.remaining reader.old) (R.remaining reader.new)
         (W.contents writer.old) (W.contents writer.new)) }
     ensures memory { OnErr result (Keeps (W.contents writer.old) (W.contents writer.new)) }
