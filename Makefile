@@ -10,7 +10,7 @@ rehearse: build
 
 # Only a proved crate is built; its run on the stored words is thrown away.
 build:
-	cd crates/lmtpd && rt run -- $$(cat args) < stdin > /dev/null
+	@cd crates/lmtpd && mkdir -p out && { rt run -- $$(cat args) < stdin > /dev/null 2> out/build.log || { cat out/build.log >&2; exit 1; }; }
 
 # Proves every crate, lowest first, over what earlier checks kept.
 check:

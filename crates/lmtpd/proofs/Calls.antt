@@ -1,5 +1,5 @@
 -- What follows from the program's command line.
-use Rattle.std.proofs.Common.{◌≡◌, ◌∙◌, ap, ap₂, sym, subst, refl, true, false, Bool, List, Option, Some, None, codes, rules}
+use Rattle.std.proofs.Common.{◌≡◌, ◌∙◌, ap, ap₂, sym, subst, refl, true, List, Option, Some, None}
 use Rattle.std.specs.Prelude.{Box, option_map, MatchOption}
 use Rattle.std.specs.Box.{box_value}
 use Rattle.clap.specs.Words.{Row, Text, is_simple, subcommand_rows}

@@ -1,6 +1,6 @@
 -- The copies of a message, place by place.
-use Rattle.std.proofs.Common.{◌≡◌, ℕ, suc, ◌+◌, ◌<◌, ◌≤◌, List, [], ◌∷◌, ◌++◌, length, take, get_or, set, Bool, true, false, refl, sym, ap, ◌∙◌, subst, arith, append_assoc, add-one, length-set, length-take-le, get_or-set_same, get_or-set_other}
-use Rattle.std.specs.Prelude.{map, ◌==◌, ◌≢◌, slice_set, slice_index_or, slice_get, Some}
+use Rattle.std.proofs.Common.{◌≡◌, ℕ, ◌+◌, ◌<◌, List, [], ◌∷◌, ◌++◌, length, take, get_or, Bool, true, false, refl, sym, ap, ◌∙◌, subst, arith, append_assoc, add-one, length-set, length-take-le, get_or-set_same, get_or-set_other}
+use Rattle.std.specs.Prelude.{◌==◌, ◌≢◌, slice_set, slice_get, Some}
 use Rattle.std.specs.List.{AllByRecursion}
 use Rattle.std.proofs.Math.Seq.{take-suc}
 use Rattle.std.proofs.lemmas.Option.{get_or_from_slice_get}
@@ -15,14 +15,13 @@ use Rattle.mail_world.specs.Site.{Site}
 use Rattle.mail_world.specs.Lists.{Transaction}
 use Rattle.mail_world.specs.Records.{record_of}
 use Rattle.mail_world.specs.Replies.{reply_text, reply_texts}
-use Rattle.mail_world.specs.Session.{Session}
-use Rattle.mail_world.specs.Deliveries.{outcomes_for, IsFront, HoldsCopies}
+use Rattle.mail_world.specs.Deliveries.{outcomes_for, HoldsCopies}
 use Rattle.mail_world.proofs.Deliveries.{holds_stored, holds_torn, holds_lost, copy_at, notes_for-here, notes_for-other, outcomes_for-here, outcomes_for-other}
 use Rattle.lmtp_text.specs.Calendar.{civil_at}
-use Rattle.mbox_rd.specs.Envelope.{Envelope, record_text}
+use Rattle.mbox_rd.specs.Envelope.{record_text}
 use Rattle.lmtpd.specs.declared.rehearse.mailbox.Mailbox.{Mailbox}
 use Rattle.lmtpd.specs.Mailboxes.{Kept, kept, kept_all, kept_at, nothing_kept, TakesCopyIf, TakesCopy, TakesCopyAt, IsCalm}
-use Rattle.lmtpd.specs.Delivery.{transaction, copies_for, TakesCopies, DeliversTo}
+use Rattle.lmtpd.specs.Delivery.{copies_for, TakesCopies, DeliversTo}
 
 -- replies one after another
 pub one_reply_more : (site : Site) (rs : List Reply) (i : ℕ) (r : Reply) (done text added : List ℕ) → i < length rs → slice_get rs i ≡ Some r

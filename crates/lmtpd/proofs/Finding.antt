@@ -1,12 +1,12 @@
 -- A search for a needle finds the place of the definitions.
-use Rattle.std.proofs.Common.{◌≡◌, ℕ, zero, suc, ◌+◌, ◌<◌, ◌≤◌, List, [], ◌∷◌, ◌++◌, length, take, drop, get_or, Option, Some, None, refl, sym, ap, ◌∙◌, subst, arith, append_assoc, length-append, get_or-append-add, take-append-drop, length-drop, drop-drop}
+use Rattle.std.proofs.Common.{◌≡◌, ℕ, ◌+◌, ◌<◌, ◌≤◌, List, ◌∷◌, ◌++◌, length, take, drop, get_or, Option, Some, None, refl, sym, ap, ◌∙◌, arith, append_assoc, length-append, get_or-append-add, take-append-drop}
 use Rattle.std.proofs.lemmas.List.{get_or_append_left, length-take-le}
-use Rattle.memchr.specs.Find.{OccursAt, NoneBefore, Nowhere, FindsNeedle}
+use Rattle.memchr.specs.Find.{OccursAt, FindsNeedle}
 use Rattle.memchr.proofs.lemmas.MatchLemmas.{OccursAt-part}
 use Rattle.std.specs.Prelude.{IfSome}
 use Rattle.mail_world.specs.Data.{data_end}
 use Rattle.mail_world.proofs.Handled.{line_within, data_within}
-use Rattle.mail_world.specs.Text.{crlf, place_of, StandsAt, IsFoundBy}
+use Rattle.mail_world.specs.Text.{crlf, place_of, StandsAt}
 use Rattle.mail_world.proofs.Places.{place_of_stands, place_of_least}
 
 stands_occurs : (part text : List ℕ) (n : ℕ) → StandsAt part text n → OccursAt text part n

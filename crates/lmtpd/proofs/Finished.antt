@@ -1,6 +1,6 @@
 -- Each part that the engine handles, and the whole of them.
-use Rattle.std.proofs.Common.{◌≡◌, ℕ, ◌+◌, ◌-◌, ◌<◌, ◌≤◌, List, [], ◌∷◌, ◌++◌, length, take, drop, Bool, true, false, Option, Some, None, refl, sym, ap, ◌∙◌, subst, arith, length-drop}
-use Rattle.std.specs.Prelude.{filter, flat_map, ◌==◌, ◌↔◌}
+use Rattle.std.proofs.Common.{◌≡◌, ℕ, ◌+◌, ◌-◌, ◌<◌, List, [], ◌∷◌, ◌++◌, length, take, drop, Option, Some, None, refl, sym, ap, ◌∙◌, subst, arith}
+use Rattle.std.specs.Prelude.{flat_map}
 use Rattle.std.specs.List.{AllByRecursion}
 use Rattle.std.proofs.lemmas.List.{append-nil}
 use Rattle.mail_world.specs.declared.Outcome.{Outcome}
@@ -12,18 +12,18 @@ use Rattle.mail_world.specs.declared.Note.{Note}
 use Rattle.mail_world.specs.Data.{data_end, message, unstuffed}
 use Rattle.mail_world.specs.Site.{Site}
 use Rattle.mail_world.specs.Session.{Session, fresh}
-use Rattle.mail_world.specs.Conversation.{Disposition, Part, CommandLine, MailData, inputs_of, outcomes_of, session_behind, OutcomesFit, replies_to, inputs, replies}
+use Rattle.mail_world.specs.Conversation.{Disposition, Part, inputs_of, session_behind, replies_to, inputs, replies}
 use Rattle.mail_world.specs.Replies.{reply_text, reply_texts}
 use Rattle.mail_world.specs.declared.Reply.TheVariants.{Greeting}
-use Rattle.mail_world.specs.Lists.{VerdictFits, Transaction, due, accepted_after, transactions_of, copies, copies_from}
-use Rattle.mail_world.specs.Deliveries.{told_of, HoldsCopies}
-use Rattle.mail_world.proofs.Handled.{Handled, HasNoPart, TakesLines, dispositions_of, account_of, all_parts, all_inputs, all_accounted}
-use Rattle.mail_world.proofs.Owed.{transaction_at, owed, told_all, all_transactions, all_due, all_told}
+use Rattle.mail_world.specs.Lists.{VerdictFits, Transaction, due, accepted_after, transactions_of}
+use Rattle.mail_world.specs.Deliveries.{HoldsCopies}
+use Rattle.mail_world.proofs.Handled.{HasNoPart, TakesLines, dispositions_of, account_of, all_parts, all_inputs, all_accounted}
+use Rattle.mail_world.proofs.Owed.{transaction_at, told_all, all_transactions, all_due, all_told}
 use Rattle.lmtp_text.specs.Calendar.{civil_at}
 use Rattle.lmtpd.specs.declared.rehearse.engine.Engine.{Engine}
-use Rattle.lmtpd.specs.Mailboxes.{Kept, kept_all, kept_at, IsCalm}
+use Rattle.lmtpd.specs.Mailboxes.{kept_all, kept_at, IsCalm}
 use Rattle.lmtpd.specs.Delivery.{transaction, DeliversTo}
-use Rattle.lmtpd.specs.Engine.{TakesInputs, HandlesLine, HandlesData, HandlesMessage, HandlesFront, HandlesPart, HandlesAll, StoresMessage, RefusesMessage, verdict_on, RoomFits, IsAllStored, has_quit}
+use Rattle.lmtpd.specs.Engine.{HandlesLine, HandlesData, HandlesMessage, HandlesFront, HandlesPart, HandlesAll, StoresMessage, RefusesMessage, verdict_on, RoomFits, has_quit}
 use Rattle.lmtpd.proofs.Unstuffing.{rest_of}
 use Rattle.lmtpd.proofs.Delivered.{length-kept}
 use Rattle.lmtpd.proofs.Stored.{copies_parts, delivers_same}

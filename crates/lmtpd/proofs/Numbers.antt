@@ -1,5 +1,5 @@
 -- What the getters of the matches read.
-use Rattle.std.proofs.Common.{◌≡◌, ap, sym, subst, ℕ, List, Option, Some, None, refl}
+use Rattle.std.proofs.Common.{◌≡◌, ap, sym, subst, ℕ, Option, Some, None, refl}
 use Rattle.std.specs.Prelude.{Err, Ok, Result, option_map, MatchOption}
 use Rattle.std.specs.Str.Parse.{ParsesUnsigned}
 use Rattle.std.proofs.lemmas.Result.{OkIff-at_err, OkIff-at_ok}

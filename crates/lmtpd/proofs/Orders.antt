@@ -1,6 +1,6 @@
 -- The order in which the program says what is wrong with a site, against the site's own.
-use Rattle.std.proofs.Common.{◌≡◌, ◌∙◌, ◌⊎◌, inl, inr, ap, sym, ℕ, zero, suc, ◌<◌, Bool, true, false, List, [], ◌∷◌, length, Option, Some, None, refl, arith, cond, get_or}
-use Rattle.std.specs.Prelude.{not, ◌||◌, ◌==◌, ◌&&◌, nat_lt, option_map, Err, Ok, Result, map}
+use Rattle.std.proofs.Common.{◌≡◌, ◌∙◌, ◌⊎◌, inl, inr, ap, sym, ℕ, Bool, true, false, List, length, Option, Some, None, refl, cond}
+use Rattle.std.specs.Prelude.{not, ◌||◌, ◌==◌, ◌&&◌, nat_lt, option_map, Err, Result}
 use Rattle.std.specs.Borrow.{Bor}
 use Rattle.std.specs.List.{list_all}
 use Rattle.mail_world.specs.Site.{Site, Fault as Rule, BadHost, BadDomain, BadCount, BadBox, NamedTwice, fault_of, is_host_name, is_box_name, has_twice}

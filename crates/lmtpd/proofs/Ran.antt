@@ -1,9 +1,9 @@
 -- A rehearsal from its parts: what was read, what the engine came to, what was written.
-use Rattle.std.proofs.Common.{◌≡◌, ℕ, ◌<◌, List, [], ◌++◌, length, Bool, true, false, Option, Result, Ok, Err, refl, sym, ap, ◌∙◌, subst, append-nil, inl, inr, ◌∷◌, arith}
+use Rattle.std.proofs.Common.{◌≡◌, ℕ, List, [], Bool, true, false, Option, Result, Ok, Err, refl, sym, ap, ◌∙◌, subst, append-nil, inl, inr, ◌∷◌, arith}
 use Rattle.std.specs.Prelude.{◌↔◌, ◌⊎◌}
-use Rattle.std.specs.List.{AllByRecursion, list_any}
+use Rattle.std.specs.List.{list_any}
 use Rattle.std.specs.Result.{OnOk, OnErr, is_ok, is_err}
-use Rattle.std.specs.Io.KnownBytes.{Appends, IsAtEnd}
+use Rattle.std.specs.Io.KnownBytes.{Appends}
 use Rattle.mail_world.specs.declared.State.{State}
 use Rattle.mail_world.specs.declared.State.TheVariants.{Fresh, Greeted, Sender, Recipients, Content, Waiting, Ended}
 use Rattle.mail_world.specs.Site.{Site}
@@ -14,7 +14,7 @@ use Rattle.std.proofs.lemmas.List.{length-map}
 use Rattle.mail_world.proofs.Deliveries.{holds_all}
 use Rattle.lmtp_text.specs.Calendar.{civil_at}
 use Rattle.lmtpd.specs.declared.rehearse.ending.EndCause.{EndCause}
-use Rattle.lmtpd.specs.declared.rehearse.ending.EndCause.TheVariants.{Quit, EndOfInput, ReadFault, WriteFault, Stopped, ReadBound}
+use Rattle.lmtpd.specs.declared.rehearse.ending.EndCause.TheVariants.{Quit, EndOfInput, WriteFault, Stopped, ReadBound}
 use Rattle.lmtpd.specs.declared.rehearse.ending.Ending.{Ending}
 use Rattle.lmtpd.specs.declared.rehearse.engine.Engine.{Engine}
 use Rattle.lmtpd.specs.declared.rehearse.input.Input.{Input}
@@ -23,7 +23,7 @@ use Rattle.lmtpd.specs.Input.{EndsReading, IsInput}
 use Rattle.lmtpd.specs.Output.{Breaks}
 use Rattle.lmtpd.specs.Mailboxes.{kept, kept_all, kept_at, mailboxes_text, IsCalm}
 use Rattle.lmtpd.specs.Engine.{HandlesAll, conversation, has_quit}
-use Rattle.lmtpd.specs.Rehearsal.{IsWritten, IsAccountAt, AreMailboxes, EndsFor, IsRehearsed, end_at, end_of, IsWrittenOut}
+use Rattle.lmtpd.specs.Rehearsal.{IsWritten, EndsFor, IsRehearsed, end_at, end_of, IsWrittenOut}
 use Rattle.lmtpd.proofs.Written.{Appends-then}
 use Rattle.lmtpd.proofs.Listed.{none_failed, all_calm}
 

@@ -1,18 +1,16 @@
 -- What the engine has come to behind parts of a conversation, one part at a time.
-use Rattle.std.proofs.Common.{◌≡◌, ℕ, ◌+◌, ◌-◌, ◌^◌, ◌<◌, ◌≤◌, List, [], ◌∷◌, ◌++◌, length, take, drop, Bool, true, false, cond, Option, Some, None, refl, sym, ap, ◌∙◌, subst, arith, append_assoc, suc, length-append, take-append-drop, take-take, inl, inr}
-use Rattle.std.specs.Prelude.{min, unwrap_or, ◌⊎◌, filter, flat_map, ◌==◌, ◌||◌, ◌↔◌, IsTrue, nat_lt, if◌then◌else◌, Ok, Err}
+use Rattle.std.proofs.Common.{◌≡◌, ℕ, ◌+◌, ◌-◌, ◌^◌, ◌<◌, ◌≤◌, List, [], ◌∷◌, ◌++◌, length, take, drop, Bool, true, false, Option, Some, None, refl, sym, ap, ◌∙◌, subst, arith, append_assoc, suc, length-append, take-append-drop, take-take, inl, inr}
+use Rattle.std.specs.Prelude.{min, unwrap_or, ◌⊎◌, filter, flat_map, ◌==◌, ◌||◌, nat_lt, if◌then◌else◌, Ok, Err}
 use Rattle.std.specs.List.{AllByRecursion}
-use Rattle.std.proofs.lemmas.List.{append-nil, length-map}
+use Rattle.std.proofs.lemmas.List.{append-nil}
 use Rattle.std.proofs.lemmas.Bool.Decides.{nat_tests}
 use Rattle.std.proofs.lemmas.Grind.{flat_map-append}
 use Rattle.mail_world.specs.declared.Outcome.{Outcome}
-use Rattle.mail_world.specs.declared.Outcome.TheVariants.{Stored}
 use Rattle.mail_world.specs.declared.Verdict.{Verdict}
 use Rattle.mail_world.specs.declared.Verdict.TheVariants.{Whole, TooLarge, NoRoom}
 use Rattle.mail_world.specs.declared.State.{State}
 use Rattle.mail_world.specs.declared.State.TheVariants.{Fresh, Greeted, Sender, Recipients, Content, Waiting, Ended}
 use Rattle.mail_world.specs.declared.Note.{Note}
-use Rattle.mail_world.specs.declared.Reply.{Reply}
 use Rattle.mail_world.specs.declared.Reply.TheVariants.{Greeting}
 use Rattle.mail_world.specs.declared.Reply.TheVariants as replies
 use Rattle.mail_world.specs.declared.limits.TheConstants.{LINE_LIMIT, RECIPIENT_LIMIT, MESSAGE_LIMIT, NUMBER_LIMIT}
@@ -21,23 +19,21 @@ use Rattle.mail_world.specs.Data.{dot, data_end, message, unstuffed}
 use Rattle.mail_world.proofs.Places.{place_of_stands, place_of_least, StandsAt-more}
 use Rattle.std.proofs.Math.Seq.{take-append-add}
 use Rattle.mail_world.specs.Site.{Site}
-use Rattle.mail_world.specs.Session.{Session, fresh, Input, Line, LongLine, DataEnded, Outcomes, says, greeted, on_mail, add_recipient, on_rcpt, on_data, on_rset, on_command, step}
+use Rattle.mail_world.specs.Session.{Session, fresh, Input, Line, LongLine, DataEnded, says, on_mail, add_recipient, on_rcpt, on_data, on_rset, on_command, step}
 use Rattle.mail_world.specs.Commands.{Answer, Lhlo, Mail, Rcpt, StartData, Rset, Noop, Quit, Vrfy, Help, command}
 use Rattle.mail_world.specs.Targets.{box_of}
 use Rattle.mail_world.specs.Replies.{reply_text, reply_texts}
 use Rattle.mail_world.specs.Conversation.{Disposition, Part, CommandLine, MailData, inputs_of, outcomes_of, session_after, session_behind, replies_to, OutcomesFit}
-use Rattle.mail_world.specs.Lists.{Transaction, is_content, accepted_after, transactions_of, VerdictFits, copies, copies_from}
-use Rattle.mail_world.specs.Deliveries.{told_of, outcomes_for, HoldsCopies}
+use Rattle.mail_world.specs.Lists.{Transaction, is_content, accepted_after, transactions_of, VerdictFits, copies}
+use Rattle.mail_world.specs.Deliveries.{told_of, HoldsCopies}
 use Rattle.mail_world.proofs.Handled.{Handled, data_within, handled_none, handled_line, handled_data, TakesLines, dispositions_of, disposition_of, inputs-snoc, session_behind-snoc, replies_to-append}
-use Rattle.mail_world.proofs.Owed.{accepted_behind, accepted-snoc, same_behind_data, transaction_at, transactions-line, transactions-data, owed, told_all, owed-snoc, told-snoc}
+use Rattle.mail_world.proofs.Owed.{accepted-snoc, same_behind_data, transaction_at, transactions-line, transactions-data, owed, told_all, owed-snoc, told-snoc}
 use Rattle.mail_world.proofs.Deliveries.{holds_none}
 use Rattle.lmtp_text.specs.Calendar.{civil_at}
 use Rattle.lmtpd.specs.declared.rehearse.engine.Engine.{Engine}
-use Rattle.lmtpd.specs.Mailboxes.{Kept, kept_all, kept_at, nothing_kept, IsCalm}
-use Rattle.lmtpd.specs.Delivery.{transaction, DeliversTo}
-use Rattle.lmtpd.specs.Engine.{IsNew, TakesInputs, HandlesLine, HandlesData, HandlesMessage, StoresMessage, RefusesMessage, counted, verdict_on, RoomFits, IsAllStored, is_quit, is_quit_answer, has_quit}
+use Rattle.lmtpd.specs.Mailboxes.{Kept, kept_all, kept_at, IsCalm}
+use Rattle.lmtpd.specs.Engine.{IsNew, TakesInputs, HandlesLine, counted, verdict_on, RoomFits, IsAllStored, is_quit, is_quit_answer, has_quit}
 use Rattle.lmtpd.proofs.Delivered.{all_snoc}
-use Rattle.lmtpd.proofs.Stored.{copies_parts, delivers_same}
 
 abbrev pub most : ℕ
 most = 2 ^ 64 - 1

@@ -8,8 +8,7 @@ use Rattle.mail_world.specs.declared.State.TheVariants.{Waiting}
 use Rattle.mail_world.specs.declared.Verdict.TheVariants.{Whole}
 use Rattle.mail_world.specs.declared.Note.{Note}
 use Rattle.mail_world.specs.Site.{Site}
-use Rattle.mail_world.specs.Session.{Session, Step, Input, DataEnded, Outcomes, moved_to, greeted, results, step}
-use Rattle.mail_world.specs.Conversation.{session_after, replies_to}
+use Rattle.mail_world.specs.Session.{Session, Step, DataEnded, Outcomes, moved_to, greeted, results, step}
 use Rattle.mail_world.specs.Replies.{reply_texts}
 use Rattle.mail_world.specs.Lists.{Transaction, copies_from}
 use Rattle.lmtp_session.specs.declared.act.Act.{Act}
@@ -19,8 +18,8 @@ use Rattle.lmtp_session.specs.Steps.{IsAct, IsStep}
 use Rattle.lmtpd.specs.declared.rehearse.engine.Engine.{Engine}
 use Rattle.lmtpd.specs.Said.{said}
 use Rattle.lmtpd.specs.Mailboxes.{Kept, kept_all, kept_at}
-use Rattle.lmtpd.specs.Delivery.{transaction, copies_for, TakesCopies, DeliversTo}
-use Rattle.lmtpd.specs.Engine.{TakesInputs, StoresMessage}
+use Rattle.lmtpd.specs.Delivery.{transaction, DeliversTo}
+use Rattle.lmtpd.specs.Engine.{StoresMessage}
 use Rattle.mail_world.specs.Deliveries.{outcomes_for, HoldsCopies}
 use Rattle.lmtp_text.specs.Calendar.{civil_at}
 

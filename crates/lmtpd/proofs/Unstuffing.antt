@@ -1,9 +1,9 @@
 -- The dots of transparency, run by run.
-use Rattle.std.proofs.Common.{◌≡◌, ℕ, zero, suc, ◌+◌, List, [], ◌∷◌, ◌++◌, take, drop, Bool, true, false, cond, ◌&&◌, ◌==◌, Option, Some, None, length, subst, length-append, append_assoc, take_all, length-drop, ◌-◌, ◌≤◌, refl, sym, ap, ◌∙◌, arith}
-use Rattle.std.specs.Prelude.{option_map, if◌then◌else◌}
+use Rattle.std.proofs.Common.{◌≡◌, ℕ, suc, ◌+◌, List, [], ◌∷◌, ◌++◌, take, drop, Bool, true, false, cond, ◌&&◌, ◌==◌, Option, Some, None, length, subst, length-append, append_assoc, take_all, length-drop, ◌-◌, ◌≤◌, refl, sym, ap, ◌∙◌, arith}
+use Rattle.std.specs.Prelude.{option_map}
 use Rattle.std.proofs.lemmas.Bool.Decides.{nat_tests}
 use Rattle.lmtpd.specs.Runs.{CutsRun}
-use Rattle.mail_world.specs.Text.{cr, lf, crlf, place_of, begins_with, begins}
+use Rattle.mail_world.specs.Text.{cr, lf, crlf, place_of, begins_with}
 use Rattle.mail_world.proofs.Places.{place_of_stands, begins_with-front}
 use Rattle.memchr.specs.Find.{FindsNeedle}
 use Rattle.lmtpd.proofs.Finding.{finds_place}

@@ -1,11 +1,10 @@
 -- What the engine of a rehearsal does with the part at the front of a text.
-use Rattle.std.specs.Prelude.{◌↔◌, ◌||◌, IsTrue, Ok, Err, Result, ◌≡◌, ◌<◌, ◌≤◌, ◌+◌, ◌-◌, ◌^◌, min, ℕ, Bool, true, false, nat_lt, if◌then◌else◌, List, [], ◌∷◌, ◌++◌, length, take, Option, Some, None, MatchOption}
+use Rattle.std.specs.Prelude.{◌↔◌, ◌||◌, Ok, ◌≡◌, ◌<◌, ◌+◌, ◌-◌, ◌^◌, min, ℕ, Bool, true, false, nat_lt, if◌then◌else◌, List, [], ◌∷◌, ◌++◌, length, take, Option, Some, None}
 use Rattle.std.specs.List.{AllByRecursion}
 use Rattle.mail_world.specs.declared.Outcome.{Outcome}
 use Rattle.mail_world.specs.declared.Outcome.TheVariants.{Stored}
 use Rattle.mail_world.specs.declared.Verdict.{Verdict}
 use Rattle.mail_world.specs.declared.Verdict.TheVariants.{Whole, TooLarge, NoRoom}
-use Rattle.mail_world.specs.declared.Reply.{Reply}
 use Rattle.mail_world.specs.declared.Reply.TheVariants.{Greeting}
 use Rattle.mail_world.specs.declared.State.{State}
 use Rattle.mail_world.specs.declared.State.TheVariants.{Content, Waiting, Ended}
@@ -13,12 +12,12 @@ use Rattle.mail_world.specs.declared.limits.TheConstants.{MESSAGE_LIMIT, NUMBER_
 use Rattle.mail_world.specs.Text.{crlf, place_of}
 use Rattle.mail_world.specs.Data.{data_end, unstuffed}
 use Rattle.mail_world.specs.Site.{Site}
-use Rattle.mail_world.specs.Session.{Session, fresh, Input, Line, DataEnded, Outcomes}
+use Rattle.mail_world.specs.Session.{fresh, Input, Line, DataEnded, Outcomes}
 use Rattle.mail_world.specs.Commands.{Answer, Quit, command}
 use Rattle.mail_world.specs.Replies.{reply_text, reply_texts}
 use Rattle.mail_world.specs.Deliveries.{HoldsCopies, told}
 use Rattle.lmtp_text.specs.Calendar.{civil_at}
-use Rattle.mail_world.specs.Conversation.{Disposition, Part, CommandLine, MailData, inputs_of, outcomes_of, session_after, replies_to, OutcomesFit, Conversation, IsAccount, inputs, replies}
+use Rattle.mail_world.specs.Conversation.{Disposition, CommandLine, inputs_of, session_after, replies_to, Conversation, IsAccount, inputs, replies}
 use Rattle.mail_world.specs.Lists.{is_content, Transaction, transactions, VerdictFits, due}
 use Rattle.mail_world.proofs.Handled.{HasNoPart}
 use Rattle.lmtpd.specs.declared.rehearse.engine.Engine.{Engine}

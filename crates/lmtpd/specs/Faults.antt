@@ -15,7 +15,7 @@ use Rattle.lmtpd.specs.declared.stop.Stop.TheVariants as stop
 use Rattle.clap.specs.Words.{kind_of}
 use Rattle.clap.specs.declared.error.Error.{Error}
 use Rattle.clap.specs.declared.error.kind.ErrorKind.{ErrorKind}
-use Rattle.clap.specs.declared.error.kind.ErrorKind.TheVariants.{OutOfMemory}
+use Rattle.clap.specs.declared.error.kind.ErrorKind.TheVariants.{DisplayHelp, DisplayVersion, OutOfMemory}
 
 -- the program's exit status
 abbrev pub status_of : Fault → ℕ
@@ -49,6 +49,21 @@ first_fault site =
 -- why the program ends where clap answers so
 abbrev pub stop_for : Error → Stop
 stop_for error = if is_memory (kind_of error) then stop.Fault fault.Memory else stop.Words error
+
+-- help was asked for, and so it is no mistake
+abbrev pub is_shown : ErrorKind → Bool
+is_shown DisplayHelp = true
+is_shown DisplayVersion = true
+is_shown _ = false
+
+-- the exit status after clap's answer
+abbrev pub words_status : ErrorKind → ℕ
+words_status kind = if is_shown kind then 0 else 2
+
+-- the program's exit status where it stops early
+abbrev pub stop_status : Stop → ℕ
+stop_status (stop.Words error) = words_status (kind_of error)
+stop_status (stop.Fault f) = status_of f
 
 -- a read or a write failed
 abbrev pub is_broken : EndCause → Bool

@@ -1,7 +1,7 @@
 //! Why the program ends before its work is done, and what it says then.
 
 ghost use Rattle.std.specs.Prelude.{◌≡◌};
-ghost use Rattle.lmtpd.specs.Faults.{stop_for};
+ghost use Rattle.lmtpd.specs.Faults.{stop_for, stop_status, words_status};
 
 use crate::fault::Fault;
 use clap::Error;
@@ -38,11 +38,13 @@ impl From<Fault> for Stop {
 
 impl Stop {
     /// Says it, and gives the program's exit status. Text that can't be written is dropped.
-    pub fn report<R: Print + Eprint>(self, rt: &R) -> u8 {
+    pub fn report<R: Print + Eprint>(self, rt: &R) -> u8
+        ensures { result ≡ stop_status self }
+    {
         match self {
             Stop::Words(refused) => {
                 let _ = refused.print(rt);
-                if refused.use_stderr() { 2 } else { 0 }
+                words_status(refused.kind())
             }
             Stop::Fault(fault) => {
                 let _ = eprintln!(rt; "lmtpd: {fault}");
@@ -50,4 +52,11 @@ impl Stop {
             }
         }
     }
+}
+
+fn words_status(kind: ErrorKind) -> u8
+    ensures { result ≡ words_status kind }
+{
+    let shown = matches!(kind, ErrorKind::DisplayHelp | ErrorKind::DisplayVersion);
+    if shown { 0 } else { 2 }
 }

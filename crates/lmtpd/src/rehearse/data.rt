@@ -17,14 +17,14 @@ pub fn line_end(text: &[u8]) -> Option<usize>
 }
 
 /// How many bytes stand before the line of the lone dot, where it has come.
-pub fn data_end(data: &[u8]) -> Option<usize>
-    ensures place { result ≡ data_end data.now }
-    ensures within { IfSome result (λ n. n + 3 ≤ length data.now) }
+pub fn data_end(text: &[u8]) -> Option<usize>
+    ensures place { result ≡ data_end text.now }
+    ensures within { IfSome result (λ n. n + 3 ≤ length text.now) }
 {
-    if data.starts_with(b".\r\n") {
+    if text.starts_with(b".\r\n") {
         return Some(0);
     }
-    let n = data.find(b"\r\n.\r\n")?;
+    let n = text.find(b"\r\n.\r\n")?;
     Some(n + 2)
 }
 

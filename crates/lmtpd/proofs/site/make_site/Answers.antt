@@ -1,4 +1,4 @@
-use Rattle.std.proofs.Common.{◌≡◌, inl}
+use Rattle.std.proofs.Common.{inl}
 use Rattle.std.proofs.lemmas.Result.{err_from_is_err_and}
 use Rattle.lmtp_text.specs.Sites.{site_of}
 use Rattle.lmtpd.proofs.Orders.{site_refused}

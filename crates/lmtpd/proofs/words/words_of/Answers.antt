@@ -1,4 +1,4 @@
-use Rattle.std.proofs.Common.{◌∙◌, ◌≡◌, ap, sym, inl, inr, codes, Some, None}
+use Rattle.std.proofs.Common.{◌∙◌, ◌≡◌, ap, sym, inl, inr, codes, Some}
 use Rattle.clap.specs.Words.{found_of}
 use Rattle.clap.proofs.WalkLemmas.{first_value-rows, raw_values-rows}
 use Rattle.lmtp_text.specs.Sites.{texts}

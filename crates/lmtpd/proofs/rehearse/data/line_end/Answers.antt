@@ -1,4 +1,4 @@
-use Rattle.std.proofs.Common.{◌∷◌, [], sym}
+use Rattle.std.proofs.Common.{◌∷◌, []}
 use Rattle.mail_world.specs.Text.{cr, lf}
 use Rattle.lmtpd.proofs.Finding.{finds_place, line_found}
 use Rattle.lmtpd.proofs.rehearse.data.line_end.Goals as goal

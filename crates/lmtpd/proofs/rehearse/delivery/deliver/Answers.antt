@@ -1,5 +1,4 @@
-use Rattle.std.proofs.Common.{◌≡◌, ◌<◌, ◌++◌, ◌∷◌, [], length, ap, ◌∙◌, arith, length-append}
-use Rattle.mbox_rd.specs.Envelope.{Envelope}
+use Rattle.std.proofs.Common.{◌≡◌, ◌<◌, ◌∷◌, [], length, ap, ◌∙◌, arith, length-append}
 use Rattle.lmtpd.specs.Delivery.{transaction}
 use Rattle.lmtpd.specs.Mailboxes.{kept_all}
 use Rattle.lmtpd.proofs.Delivered.{delivers_next, same_size, length-kept}

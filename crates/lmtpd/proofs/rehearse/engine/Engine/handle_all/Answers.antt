@@ -1,4 +1,4 @@
-use Rattle.std.proofs.Common.{ℕ, ◌+◌, ◌-◌, ◌<◌, ◌≤◌, length, arith}
+use Rattle.std.proofs.Common.{◌+◌, ◌-◌, ◌<◌, length, arith}
 use Rattle.lmtpd.proofs.Reached.{reached_none}
 use Rattle.lmtpd.proofs.Finished.{Ahead, ahead, nothing_left}
 use Rattle.lmtpd.proofs.rehearse.engine.Engine.handle_all.Goals as goal
