@@ -1,6 +1,6 @@
 -- Each part that the engine handles, and the whole of them.
 use Rattle.std.proofs.Common.{◌≡◌, ℕ, ◌+◌, ◌-◌, ◌<◌, List, [], ◌∷◌, ◌++◌, length, take, drop, Option, Some, None, refl, sym, ap, ◌∙◌, subst, arith}
-use Rattle.std.specs.Prelude.{flat_map}
+use Rattle.std.specs.Prelude.{filter, flat_map, ◌==◌}
 use Rattle.std.specs.List.{AllByRecursion}
 use Rattle.std.proofs.lemmas.List.{append-nil}
 use Rattle.mail_world.specs.declared.Outcome.{Outcome}
@@ -12,63 +12,58 @@ use Rattle.mail_world.specs.declared.Note.{Note}
 use Rattle.mail_world.specs.Data.{data_end, message, unstuffed}
 use Rattle.mail_world.specs.Site.{Site}
 use Rattle.mail_world.specs.Session.{Session, fresh}
-use Rattle.mail_world.specs.Conversation.{Disposition, Part, inputs_of, session_behind, replies_to, inputs, replies}
+use Rattle.mail_world.specs.Conversation.{Disposition, Part, inputs_of, session_behind, replies_to, inputs, replies, OutcomesFit, MailData}
 use Rattle.mail_world.specs.Replies.{reply_text, reply_texts}
 use Rattle.mail_world.specs.declared.Reply.TheVariants.{Greeting}
-use Rattle.mail_world.specs.Lists.{VerdictFits, Transaction, due, accepted_after, transactions_of}
-use Rattle.mail_world.specs.Deliveries.{HoldsCopies}
+use Rattle.mail_world.specs.Lists.{VerdictFits, Transaction, due, accepted_after, transactions_of, copies_if, copies}
+use Rattle.mail_world.specs.Deliveries.{HoldsCopies, told_if, told_of}
 use Rattle.mail_world.proofs.Handled.{HasNoPart, TakesLines, dispositions_of, account_of, all_parts, all_inputs, all_accounted}
 use Rattle.mail_world.proofs.Owed.{transaction_at, told_all, all_transactions, all_due, all_told}
 use Rattle.lmtp_text.specs.Calendar.{civil_at}
 use Rattle.lmtpd.specs.declared.rehearse.engine.Engine.{Engine}
-use Rattle.lmtpd.specs.Mailboxes.{kept_all, kept_at, IsCalm}
+use Rattle.lmtpd.specs.Mailboxes.{Kept, kept_all, kept_at, IsCalm}
 use Rattle.lmtpd.specs.Delivery.{transaction, DeliversTo}
-use Rattle.lmtpd.specs.Engine.{HandlesLine, HandlesData, HandlesMessage, HandlesFront, HandlesPart, HandlesAll, StoresMessage, RefusesMessage, verdict_on, RoomFits, has_quit}
+use Rattle.lmtpd.specs.Engine.{HandlesLine, HandlesData, HandlesMessage, HandlesFront, HandlesPart, HandlesAll, StoresMessage, RefusesMessage, verdict_on, RoomFits, has_quit, TakesInputs}
 use Rattle.lmtpd.proofs.Unstuffing.{rest_of}
 use Rattle.lmtpd.proofs.Delivered.{length-kept}
 use Rattle.lmtpd.proofs.Stored.{copies_parts, delivers_same}
 use Rattle.lmtpd.proofs.Reached.{Reached, EndsData, reached_line, reached_data, own_message, exact}
 
 -- a message that is refused leaves nothing: it owes no copy, and nobody is told of one
-too_large : (site : Site) (moment : ℕ) (s : List ℕ) (at : ℕ) (old new : Engine) (ps : List Part) (end : ℕ)
-    → TooLarge ≡ verdict_on old.accepted (length (unstuffed (take end (drop at s)))) → old.session.session.state ≡ Content → data_end (drop at s) ≡ Some end
-    → RefusesMessage TooLarge old new → EndsData site moment s at old new ps (record { verdict = TooLarge; moment = moment; outcomes = [] }) end
-too_large site moment s at old new ps end is content ends h = record {
-  ends = ends;
-  content = content;
-  takes = h.takes;
-  accepted = h.accepted;
-  size = ap (λ m. length m.items) h.mailboxes;
-  at_moment = refl;
-  verdict = is;
-  fit = tt;
-  calm = λ calm. subst (λ m. IsCalm (kept_all m.items)) h.mailboxes calm;
-  stored = λ calm. tt;
-  holds = λ box within notes told holds.
-      let P : List Note → Type 0 = λ l. HoldsCopies civil_at site.host l (told ++ []) (kept_at (kept_all new.mailboxes.items) box).bytes (kept_at (kept_all new.mailboxes.items) box).failed in
-      let Q : List Outcome → Type 0 = λ l. HoldsCopies civil_at site.host notes l (kept_at (kept_all new.mailboxes.items) box).bytes (kept_at (kept_all new.mailboxes.items) box).failed in
-      subst P (sym (append-nil notes)) (subst Q (sym (append-nil told))
-      (subst (λ m. HoldsCopies civil_at site.host notes told (kept_at (kept_all m.items) box).bytes (kept_at (kept_all m.items) box).failed) (sym h.mailboxes) holds));
-}
+record OwesNothing (v : Verdict) : Type 0 where
+  fit : (recipients : List ℕ) (d : Disposition) → OutcomesFit recipients d v
+  no_copy : (t : Transaction) → copies_if 0 t v ≡ []
+  not_told : (box : ℕ) (t : Transaction) → told_if box t v ≡ []
 
-no_room : (site : Site) (moment : ℕ) (s : List ℕ) (at : ℕ) (old new : Engine) (ps : List Part) (end : ℕ)
-    → NoRoom ≡ verdict_on old.accepted (length (unstuffed (take end (drop at s)))) → old.session.session.state ≡ Content → data_end (drop at s) ≡ Some end
-    → RefusesMessage NoRoom old new → EndsData site moment s at old new ps (record { verdict = NoRoom; moment = moment; outcomes = [] }) end
-no_room site moment s at old new ps end is content ends h = record {
+too_large_owes : OwesNothing TooLarge
+too_large_owes = record { fit = λ recipients d. tt; no_copy = λ t. refl; not_told = λ box t. refl }
+
+no_room_owes : OwesNothing NoRoom
+no_room_owes = record { fit = λ recipients d. tt; no_copy = λ t. refl; not_told = λ box t. refl }
+
+refused : (v : Verdict) (site : Site) (moment : ℕ) (s : List ℕ) (at : ℕ) (old new : Engine) (ps : List Part) (end : ℕ) → OwesNothing v
+    → v ≡ verdict_on old.accepted (length (unstuffed (take end (drop at s)))) → old.session.session.state ≡ Content → data_end (drop at s) ≡ Some end
+    → TakesInputs (inputs_of (MailData (take (end + 3) (drop at s)) (record { verdict = v; moment = moment; outcomes = [] }))) old new
+    → RefusesMessage v old new → EndsData site moment s at old new ps (record { verdict = v; moment = moment; outcomes = [] }) end
+refused v site moment s at old new ps end owes is content ends takes h = record {
   ends = ends;
   content = content;
-  takes = h.takes;
+  takes = takes;
   accepted = h.accepted;
   size = ap (λ m. length m.items) h.mailboxes;
   at_moment = refl;
   verdict = is;
-  fit = tt;
+  fit = owes.fit old.session.session.recipients (record { verdict = v; moment = moment; outcomes = [] });
   calm = λ calm. subst (λ m. IsCalm (kept_all m.items)) h.mailboxes calm;
   stored = λ calm. tt;
   holds = λ box within notes told holds.
-      let P : List Note → Type 0 = λ l. HoldsCopies civil_at site.host l (told ++ []) (kept_at (kept_all new.mailboxes.items) box).bytes (kept_at (kept_all new.mailboxes.items) box).failed in
-      let Q : List Outcome → Type 0 = λ l. HoldsCopies civil_at site.host notes l (kept_at (kept_all new.mailboxes.items) box).bytes (kept_at (kept_all new.mailboxes.items) box).failed in
-      subst P (sym (append-nil notes)) (subst Q (sym (append-nil told))
+      let t : Transaction = transaction_at site ps (take (end + 3) (drop at s)) (record { verdict = v; moment = moment; outcomes = [] }) in
+      let k : Kept = kept_at (kept_all new.mailboxes.items) box in
+      let no_notes : notes ++ filter (λ note. note.mailbox == box) (copies 0 t) ≡ notes = ap (λ l. notes ++ filter (λ note. note.mailbox == box) l) (owes.no_copy t) ∙ append-nil notes in
+      let no_outcomes : told ++ told_of box t ≡ told = ap (λ l. told ++ l) (owes.not_told box t) ∙ append-nil told in
+      let P : List Note → Type 0 = λ l. HoldsCopies civil_at site.host l (told ++ told_of box t) k.bytes k.failed in
+      let Q : List Outcome → Type 0 = λ l. HoldsCopies civil_at site.host notes l k.bytes k.failed in
+      subst P (sym no_notes) (subst Q (sym no_outcomes)
       (subst (λ m. HoldsCopies civil_at site.host notes told (kept_at (kept_all m.items) box).bytes (kept_at (kept_all m.items) box).failed) (sym h.mailboxes) holds));
 }
 
@@ -119,9 +114,9 @@ by_verdict : (v : Verdict) (site : Site) (moment : ℕ) (s : List ℕ) (at : ℕ
 by_verdict Whole site moment s at old new ps end r is content ends h =
     record { done = _; reached = reached_data site moment s at old new ps _ end r (whole site moment s at old new ps end r is content ends h); some = omega arith }
 by_verdict TooLarge site moment s at old new ps end r is content ends h =
-    record { done = _; reached = reached_data site moment s at old new ps _ end r (too_large site moment s at old new ps end is content ends h); some = omega arith }
+    record { done = _; reached = reached_data site moment s at old new ps _ end r (refused TooLarge site moment s at old new ps end too_large_owes is content ends h.takes h); some = omega arith }
 by_verdict NoRoom site moment s at old new ps end r is content ends h =
-    record { done = _; reached = reached_data site moment s at old new ps _ end r (no_room site moment s at old new ps end is content ends h); some = omega arith }
+    record { done = _; reached = reached_data site moment s at old new ps _ end r (refused NoRoom site moment s at old new ps end no_room_owes is content ends h.takes h); some = omega arith }
 
 ahead_data : (site : Site) (moment : ℕ) (s : List ℕ) (at : ℕ) (old new : Engine) (ps : List Part) (size : ℕ) → Reached site moment s at old ps
     → old.session.session.state ≡ Content → HandlesData old new (drop at s) size → Ahead site moment s at size new

@@ -12,3 +12,6 @@ mod run;
 
 pub use ending::{EndCause, Ending, HouseFault};
 pub use run::rehearse_run;
+
+#[cfg(test)]
+mod tests;

@@ -1,0 +1,152 @@
+//! Whole rehearsals in memory: what goes in, and every byte that comes out.
+
+mod conversations;
+mod faults;
+mod sizes;
+
+use super::{EndCause, Ending, HouseFault, rehearse_run};
+use lmtp_text::Site;
+use std::alloc::{AllocError, Global};
+use std::io;
+use std::io::{ErrorKind, Read, Write};
+use std::sync::Arc;
+use std::test::Fail;
+
+const GREETING: &str = "220 mx.example LMTP ready";
+
+const OFFER: &str =
+    "250-mx.example\r\n250-PIPELINING\r\n250-ENHANCEDSTATUSCODES\r\n250-8BITMIME\r\n250 SIZE 1048576";
+
+const SENDER_OK: &str = "250 2.1.0 Sender ok";
+
+const RECIPIENT_OK: &str = "250 2.1.5 Recipient ok";
+
+const GO_AHEAD: &str = "354 End with a lone dot";
+
+const STORED_FOR_ANNA: &str = "250 2.0.0 Stored for anna";
+
+const CLOSING: &str = "221 2.0.0 mx.example closing";
+
+const LHLO: &str = "LHLO relay.example";
+
+const MAIL: &str = "MAIL FROM:<carl@a.example>";
+
+const TO_ANNA: &str = "RCPT TO:<anna@mx.example>";
+
+const TO_BEN: &str = "RCPT TO:<ben@mx.example>";
+
+/// The lines of the first message that carl sends, up to its content.
+const HEAD: &str = "From carl@a.example Thu Jan  1 00:00:00 1970
+Return-Path: <carl@a.example>
+Received: from relay.example
+\tby mx.example with LMTP id 0-1;
+\tThu, 1 Jan 1970 00:00:00 +0000
+";
+
+/// A line of a message that takes 64 bytes with CRLF, and 63 in a mailbox.
+const LINE_OF_62: &str = "xxxxxxxxxxxxxxxxxxxxxxxxxxxxxxxxxxxxxxxxxxxxxxxxxxxxxxxxxxxxxx";
+
+const ANNA: &[&[u8]] = &[b"anna"];
+
+const ANNA_AND_BEN: &[&[u8]] = &[b"anna", b"ben"];
+
+/// The lines, each with CRLF.
+fn said(alloc: Global, lines: &[&str]) -> Result<Vec<u8>, AllocError> {
+    let mut text = Vec::new(alloc);
+    add_lines(&mut text, lines)?;
+    Ok(text)
+}
+
+fn add_lines(text: &mut Vec<u8>, lines: &[&str]) -> Result<(), AllocError> {
+    for line in lines {
+        text.extend_from_slice(line.as_bytes())?;
+        text.extend_from_slice(b"\r\n")?;
+    }
+    Ok(())
+}
+
+fn add_pieces(text: &mut Vec<u8>, pieces: &[&str]) -> Result<(), AllocError> {
+    for piece in pieces {
+        text.extend_from_slice(piece.as_bytes())?;
+    }
+    Ok(())
+}
+
+fn add_times(text: &mut Vec<u8>, piece: &str, times: u32) -> Result<(), AllocError> {
+    for _ in 0..times {
+        text.extend_from_slice(piece.as_bytes())?;
+    }
+    Ok(())
+}
+
+/// A rehearsal at the first moment of 1970.
+fn rehearse<R: Read, W: Write>(
+    alloc: Global,
+    boxes: &[&[u8]],
+    reader: &mut R,
+    writer: &mut W,
+) -> Result<Ending, Fail> {
+    let site = Site::new(alloc, b"mx.example", &[], boxes)?;
+    let site = Arc::new(alloc, site).ok().ok_or(HouseFault::Memory)?;
+    let ending = rehearse_run(alloc, site, 0, reader, writer)?;
+    Ok(ending)
+}
+
+/// How a rehearsal ends in which no spool and no write fails.
+fn good(end: EndCause) -> Ending {
+    Ending {
+        end,
+        faulty: false,
+        cut: false,
+    }
+}
+
+/// Gives one byte a read, and then ends or fails.
+#[derive(Drop)]
+struct DripReader<'a> {
+    rest: &'a [u8],
+    fails: bool,
+}
+
+impl Read for DripReader<'_> {
+    fn read(&mut self, buf: &mut [u8]) -> io::Result<usize> {
+        if buf.is_empty() {
+            return Ok(0);
+        }
+        match self.rest.split_first() {
+            Some((first, rest)) => {
+                buf[0] = *first;
+                self.rest = rest;
+                Ok(1)
+            }
+            None if self.fails => Err(ErrorKind::Other.into()),
+            None => Ok(0),
+        }
+    }
+}
+
+/// Takes one byte a write, as many as it has room for, and then fails.
+#[derive(Drop)]
+struct DripWriter {
+    bytes: Vec<u8>,
+    room: usize,
+}
+
+impl Write for DripWriter {
+    fn write(&mut self, buf: &[u8]) -> io::Result<usize> {
+        if self.bytes.len() >= self.room {
+            return Err(ErrorKind::Other.into());
+        }
+        match buf.first() {
+            Some(first) => {
+                self.bytes.push(*first)?;
+                Ok(1)
+            }
+            None => Ok(0),
+        }
+    }
+
+    fn flush(&mut self) -> io::Result<()> {
+        Ok(())
+    }
+}
