@@ -7,6 +7,7 @@ use Rattle.std.proofs.lemmas.Option.{unwrap_or-slice_get}
 use Rattle.std.specs.Io.KnownBytes.{Appends}
 use Rattle.mail_world.specs.Site.{Site, box_name}
 use Rattle.lmtpd.specs.declared.rehearse.mailbox.Mailbox.{Mailbox}
+use Rattle.lmtpd.specs.declared.rehearse.mailbox.TheConstants.{MAILBOX_ROOM}
 use Rattle.lmtpd.specs.Mailboxes.{Kept, kept, kept_all, kept_at, nothing_kept, mailbox_line, mailboxes_text, IsCalm}
 use Rattle.lmtpd.specs.Output.{Breaks}
 use Rattle.lmtpd.proofs.Written.{WritesUpTo, writes_next, breaks_next}
@@ -94,3 +95,9 @@ empty_more (x ∷ ks) k h e (suc n) = empty_more ks k (λ m. h (suc m)) e n
 pub one_more_empty : (ms ms' : List Mailbox) (m : Mailbox) → ms' ≡ ms ++ m ∷ [] → ((n : ℕ) → kept_at (kept_all ms) n ≡ nothing_kept) → kept m ≡ nothing_kept
     → (n : ℕ) → kept_at (kept_all ms') n ≡ nothing_kept
 one_more_empty ms ms' m e h k n = ap (λ l. kept_at (kept_all l) n) e ∙ ap (λ l. kept_at l n) (map-append kept ms (m ∷ [])) ∙ empty_more (kept_all ms) (kept m) h k n
+
+-- a mailbox that failed is full
+pub all_full : (ms : List Mailbox) (n : ℕ) → n < length ms → (kept_at (kept_all ms) n).failed ≡ true → length (kept_at (kept_all ms) n).bytes ≡ MAILBOX_ROOM
+all_full [] n h e = absurd (omega arith)
+all_full (m ∷ ms) zero h e = m.full e
+all_full (m ∷ ms) (suc n) h e = all_full ms n (omega arith) e

@@ -25,7 +25,7 @@ use Rattle.lmtpd.specs.Mailboxes.{kept, kept_all, kept_at, mailboxes_text, IsCal
 use Rattle.lmtpd.specs.Engine.{HandlesAll, conversation, has_quit}
 use Rattle.lmtpd.specs.Rehearsal.{IsWritten, EndsFor, IsRehearsed, end_at, end_of, IsWrittenOut}
 use Rattle.lmtpd.proofs.Written.{Appends-then}
-use Rattle.lmtpd.proofs.Listed.{none_failed, all_calm}
+use Rattle.lmtpd.proofs.Listed.{none_failed, all_calm, all_full}
 
 -- one of the two texts: all of it, or a front
 pub record Took (r : Result (Unit {0}) Fault) (u v : Option (List ℕ)) (text : List ℕ) : Type 0 where
@@ -127,6 +127,7 @@ rehearsed site moment unread left before after input e ending i h w =
       delivered = record {
         count = length-map e.mailboxes.items kept ∙ h.count;
         each = h.holds;
+        full = λ box within failed. all_full e.mailboxes.items box (omega (arith, h.count)) failed;
         sound = w.sound;
         stored = λ f. h.stored (calm f);
         held = λ f box within.

@@ -3,6 +3,7 @@ use Rattle.std.specs.Prelude.{◌≡◌, ◌↔◌, ◌⊎◌, ◌<◌, ◌≤�
 use Rattle.std.specs.List.{AllByRecursion}
 use Rattle.std.specs.Io.KnownBytes.{Consumes, Appends, IsAtEnd}
 use Rattle.mail_world.specs.declared.limits.TheConstants.{READ_LIMIT}
+use Rattle.lmtpd.specs.declared.rehearse.mailbox.TheConstants.{MAILBOX_ROOM}
 use Rattle.mail_world.specs.declared.State.{State}
 use Rattle.mail_world.specs.declared.State.TheVariants.{Ended}
 use Rattle.mail_world.specs.Site.{Site}
@@ -38,6 +39,8 @@ pub record AreMailboxes (site : Site) (read : List ℕ) (account : List Disposit
   -- each holds the records of its first copies, which were told Stored; once its spool failed, the others were told Failed
   pub each : (box : ℕ) → box < length site.boxes
       → HoldsCopies civil_at site.host (due site 0 box (conversation read account ∷ [])) (told site box (conversation read account ∷ [])) (kept_at mailboxes box).bytes (kept_at mailboxes box).failed
+  -- a spool failed only once its room was used up
+  pub full : (box : ℕ) → box < length site.boxes → (kept_at mailboxes box).failed ≡ true → length (kept_at mailboxes box).bytes ≡ MAILBOX_ROOM
   -- a rehearsal is faulty exactly where a spool failed
   pub sound : (faulty ≡ false) ↔ IsCalm mailboxes
   -- and where it isn't, every outcome is Stored and each mailbox has the records of all its copies

@@ -30,7 +30,7 @@ origin_pieces host sender client lane number e p q r s = rw (p, q, r, s) refl
 right_nested : (a b c d : List ℕ) → ((a ++ b) ++ c) ++ d ≡ a ++ (b ++ (c ++ d))
 right_nested a b c d = simp append_assoc
 
-module _ {S : Type 0} (bytes : S → Option (List ℕ)) (failures : S → ℕ) (calendar : Calendar) (host : List ℕ) (e : Envelope) (message : List ℕ) where
+module _ {S : Type 0} (bytes : S → Option (List ℕ)) (failures : S → ℕ) (limit : S → Option ℕ) (calendar : Calendar) (host : List ℕ) (e : Envelope) (message : List ℕ) where
   abbrev first : List ℕ
   first = from_line e.sender (calendar e.moment)
 
@@ -48,30 +48,30 @@ module _ {S : Type 0} (bytes : S → Option (List ℕ)) (failures : S → ℕ) (
   whole = right_nested first trace content (lf ∷ [])
 
   abbrev Taken : S → S → List ℕ → Type 0
-  Taken s t a = HasTaken bytes failures s t a
+  Taken s t a = HasTaken bytes failures limit s t a
 
   abbrev Failed : S → S → List ℕ → Type 0
-  Failed s t a = HasFailed bytes failures s t a
+  Failed s t a = HasFailed bytes failures limit s t a
 
   abbrev UpTo : S → S → List ℕ → Type 0
-  UpTo s t rest = TakesUpTo bytes failures s t text rest
+  UpTo s t rest = TakesUpTo bytes failures limit s t text rest
 
   after_first : (s t : S) → Taken s t first → UpTo s t (trace ++ (content ++ lf ∷ []))
-  after_first s t x = TakesUpTo-first bytes failures s t text first (trace ++ (content ++ lf ∷ [])) whole x
+  after_first s t x = TakesUpTo-first bytes failures limit s t text first (trace ++ (content ++ lf ∷ [])) whole x
 
   after_trace : (s t u : S) → Taken s t first → Taken t u trace → UpTo s u (content ++ lf ∷ [])
-  after_trace s t u x y = TakesUpTo-then bytes failures s t u text _ trace (content ++ lf ∷ []) (after_first s t x) refl y
+  after_trace s t u x y = TakesUpTo-then bytes failures limit s t u text _ trace (content ++ lf ∷ []) (after_first s t x) refl y
 
   pub after_content : (s t u v : S) → Taken s t first → Taken t u trace → Taken u v content → UpTo s v (lf ∷ [])
-  after_content s t u v x y z = TakesUpTo-then bytes failures s u v text _ content (lf ∷ []) (after_trace s t u x y) refl z
+  after_content s t u v x y z = TakesUpTo-then bytes failures limit s u v text _ content (lf ∷ []) (after_trace s t u x y) refl z
 
   pub failed_first : (s t : S) → Failed s t first → Failed s t text
   failed_first s t x =
-      HasFailed-as bytes failures s t text (first ++ (trace ++ (content ++ lf ∷ []))) whole
-      (HasFailed-first bytes failures s t first (trace ++ (content ++ lf ∷ [])) x)
+      HasFailed-as bytes failures limit s t text (first ++ (trace ++ (content ++ lf ∷ []))) whole
+      (HasFailed-first bytes failures limit s t first (trace ++ (content ++ lf ∷ [])) x)
 
   pub failed_trace : (s t u : S) → Taken s t first → Failed t u trace → Failed s u text
-  failed_trace s t u x y = HasFailed-then bytes failures s t u text _ trace (content ++ lf ∷ []) (after_first s t x) refl y
+  failed_trace s t u x y = HasFailed-then bytes failures limit s t u text _ trace (content ++ lf ∷ []) (after_first s t x) refl y
 
   pub failed_content : (s t u v : S) → Taken s t first → Taken t u trace → Failed u v content → Failed s v text
-  failed_content s t u v x y z = HasFailed-then bytes failures s u v text _ content (lf ∷ []) (after_trace s t u x y) refl z
+  failed_content s t u v x y z = HasFailed-then bytes failures limit s u v text _ content (lf ∷ []) (after_trace s t u x y) refl z

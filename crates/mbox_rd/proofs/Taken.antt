@@ -27,20 +27,21 @@ pieces-split f xs k d h =
     ap (flat_map f) (sym (take-append-drop k xs)) ∙ flat_map-append f (take k xs) (drop k xs)
     ∙ ap (λ ys. flat_map f (take k xs) ++ flat_map f ys) (drop_more xs k d h)
 
-module _ {S : Type 0} (bytes : S → Option (List ℕ)) (failures : S → ℕ) where
+module _ {S : Type 0} (bytes : S → Option (List ℕ)) (failures : S → ℕ) (limit : S → Option ℕ) where
   abbrev Taken : S → S → List ℕ → Type 0
-  Taken old new text = HasTaken bytes failures old new text
+  Taken old new text = HasTaken bytes failures limit old new text
 
   abbrev Failed : S → S → List ℕ → Type 0
-  Failed old new text = HasFailed bytes failures old new text
+  Failed old new text = HasFailed bytes failures limit old new text
 
   pub HasTaken-none : (s : S) → Taken s s []
-  HasTaken-none s = record { appended = Appends-nil (bytes s); sound = refl }
+  HasTaken-none s = record { appended = Appends-nil (bytes s); sound = refl; limited = refl }
 
   pub HasTaken-then : (s t u : S) (a b : List ℕ) → Taken s t a → Taken t u b → Taken s u (a ++ b)
   HasTaken-then s t u a b x y = record {
     appended = Appends-then (bytes s) (bytes t) (bytes u) a b x.appended y.appended;
     sound = y.sound ∙ x.sound;
+    limited = y.limited ∙ x.limited;
   }
 
   -- a failure in the first text, in the second
@@ -51,6 +52,8 @@ module _ {S : Type 0} (bytes : S → Option (List ℕ)) (failures : S → ℕ) w
     whole = ap (λ (w : List ℕ). w ++ b) x.whole ∙ append_assoc x.front x.rest b;
     appended = x.appended;
     failed = x.failed;
+    limited = x.limited;
+    full = x.full;
   }
 
   pub HasFailed-later : (s t u : S) (a b : List ℕ) → Taken s t a → Failed t u b → Failed s u (a ++ b)
@@ -60,13 +63,15 @@ module _ {S : Type 0} (bytes : S → Option (List ℕ)) (failures : S → ℕ) w
     whole = ap (λ (w : List ℕ). a ++ w) y.whole ∙ sym (append_assoc a y.front y.rest);
     appended = Appends-then (bytes s) (bytes t) (bytes u) a y.front x.appended y.appended;
     failed = let P : ℕ → Type 0 = λ n. Rises n (failures u) in subst P x.sound y.failed;
+    limited = y.limited ∙ x.limited;
+    full = y.full;
   }
 
   -- the spool took the text up to the rest
   pub record TakesUpTo (old new : S) (text rest : List ℕ) : Type 0 where
     pub front : List ℕ
     pub whole : text ≡ front ++ rest
-    pub taken : HasTaken bytes failures old new front
+    pub taken : HasTaken bytes failures limit old new front
 
   pub TakesUpTo-more : (s t u : S) (text rest : List ℕ) (n : ℕ) → TakesUpTo s t text rest → Taken t u (take n rest)
       → TakesUpTo s u text (take (length rest - n) (drop n rest))

@@ -52,6 +52,8 @@ impl Spool for MemorySpool {
 
     ghost failures = { λ s. s.failures };
 
+    ghost limit = { λ s. Some (length s.bytes + s.room) };
+
     /// Takes as much as there is room for, and fails where there is none.
     fn append(&mut self, piece: &[u8]) -> Result<usize, SpoolFault>
         requires { 0 < length piece.now }
@@ -67,8 +69,8 @@ impl Spool for MemorySpool {
 
         // what every spool ensures
         ensures within { IfOk result (λ n. (1 ≤ n) × (n ≤ length piece.now)) }
-        ensures ok { IfOk result (λ n. HasTaken ⟦<MemorySpool as Spool>⟧.bytes ⟦<MemorySpool as Spool>⟧.failures self.old self.new (take n piece.now)) }
-        ensures err { OnErr result (HasFailed ⟦<MemorySpool as Spool>⟧.bytes ⟦<MemorySpool as Spool>⟧.failures self.old self.new piece.now) }
+        ensures ok { IfOk result (λ n. HasTaken ⟦<MemorySpool as Spool>⟧.bytes ⟦<MemorySpool as Spool>⟧.failures ⟦<MemorySpool as Spool>⟧.limit self.old self.new (take n piece.now)) }
+        ensures err { OnErr result (HasFailed ⟦<MemorySpool as Spool>⟧.bytes ⟦<MemorySpool as Spool>⟧.failures ⟦<MemorySpool as Spool>⟧.limit self.old self.new piece.now) }
     {
         if self.room == 0 {
             self.failures = self.failures.saturating_add(1);

@@ -21,9 +21,9 @@ pub fn write_record<S: Spool>(
     envelope: &Envelope,
     message: &[u8],
 ) -> Result<(), SpoolFault>
-    ensures ok { OnOk result (HasTaken S.bytes S.failures spool.old spool.new
+    ensures ok { OnOk result (HasTaken S.bytes S.failures S.limit spool.old spool.new
         (record_text civil_at host.now envelope.now message.now)) }
-    ensures err { OnErr result (HasFailed S.bytes S.failures spool.old spool.new
+    ensures err { OnErr result (HasFailed S.bytes S.failures S.limit spool.old spool.new
         (record_text civil_at host.now envelope.now message.now)) }
 {
     let stamp = Stamp::of_unix(envelope.moment());
@@ -34,8 +34,8 @@ pub fn write_record<S: Spool>(
 }
 
 fn write_from_line<S: Spool>(spool: &mut S, sender: &[u8], stamp: &Stamp) -> Result<(), SpoolFault>
-    ensures ok { OnOk result (HasTaken S.bytes S.failures spool.old spool.new (from_line sender.now stamp.now)) }
-    ensures err { OnErr result (HasFailed S.bytes S.failures spool.old spool.new (from_line sender.now stamp.now)) }
+    ensures ok { OnOk result (HasTaken S.bytes S.failures S.limit spool.old spool.new (from_line sender.now stamp.now)) }
+    ensures err { OnErr result (HasFailed S.bytes S.failures S.limit spool.old spool.new (from_line sender.now stamp.now)) }
 {
     let moment = stamp_ctime(stamp);
     append_each(
@@ -61,9 +61,9 @@ fn write_trace<S: Spool>(
     envelope: &Envelope,
     stamp: &Stamp,
 ) -> Result<(), SpoolFault>
-    ensures ok { OnOk result (HasTaken S.bytes S.failures spool.old spool.new
+    ensures ok { OnOk result (HasTaken S.bytes S.failures S.limit spool.old spool.new
         (trace_lines host.now stamp.now envelope.now)) }
-    ensures err { OnErr result (HasFailed S.bytes S.failures spool.old spool.new
+    ensures err { OnErr result (HasFailed S.bytes S.failures S.limit spool.old spool.new
         (trace_lines host.now stamp.now envelope.now)) }
 {
     write_origin(spool, host, envelope)?;
@@ -71,8 +71,8 @@ fn write_trace<S: Spool>(
 }
 
 fn write_origin<S: Spool>(spool: &mut S, host: &[u8], envelope: &Envelope) -> Result<(), SpoolFault>
-    ensures ok { OnOk result (HasTaken S.bytes S.failures spool.old spool.new (origin host.now envelope.now)) }
-    ensures err { OnErr result (HasFailed S.bytes S.failures spool.old spool.new (origin host.now envelope.now)) }
+    ensures ok { OnOk result (HasTaken S.bytes S.failures S.limit spool.old spool.new (origin host.now envelope.now)) }
+    ensures err { OnErr result (HasFailed S.bytes S.failures S.limit spool.old spool.new (origin host.now envelope.now)) }
 {
     let txn = envelope.txn();
     let (mut lane, mut number) = (Buffer::new(), Buffer::new());
@@ -95,8 +95,8 @@ fn write_origin<S: Spool>(spool: &mut S, host: &[u8], envelope: &Envelope) -> Re
 }
 
 fn write_date<S: Spool>(spool: &mut S, stamp: &Stamp) -> Result<(), SpoolFault>
-    ensures ok { OnOk result (HasTaken S.bytes S.failures spool.old spool.new (date_line stamp.now)) }
-    ensures err { OnErr result (HasFailed S.bytes S.failures spool.old spool.new (date_line stamp.now)) }
+    ensures ok { OnOk result (HasTaken S.bytes S.failures S.limit spool.old spool.new (date_line stamp.now)) }
+    ensures err { OnErr result (HasFailed S.bytes S.failures S.limit spool.old spool.new (date_line stamp.now)) }
 {
     let mut date = [0; 31];
     let len = stamp_5322(stamp, &mut date);
@@ -105,9 +105,9 @@ fn write_date<S: Spool>(spool: &mut S, stamp: &Stamp) -> Result<(), SpoolFault>
 
 // Appends the lines of the message, each with LF at its end.
 fn write_lines<S: Spool>(spool: &mut S, message: &[u8]) -> Result<(), SpoolFault>
-    ensures ok { OnOk result (HasTaken S.bytes S.failures spool.old spool.new
+    ensures ok { OnOk result (HasTaken S.bytes S.failures S.limit spool.old spool.new
         (quoted_text (unix message.now))) }
-    ensures err { OnErr result (HasFailed S.bytes S.failures spool.old spool.new
+    ensures err { OnErr result (HasFailed S.bytes S.failures S.limit spool.old spool.new
         (quoted_text (unix message.now))) }
 {
     let mut rest = message;
@@ -122,9 +122,9 @@ fn write_lines<S: Spool>(spool: &mut S, message: &[u8]) -> Result<(), SpoolFault
 // Appends what stands behind the last LF, as a line if it isn't empty.
 fn write_last<S: Spool>(spool: &mut S, line: &[u8]) -> Result<(), SpoolFault>
     requires { IsOneLine line.now }
-    ensures ok { OnOk result (HasTaken S.bytes S.failures spool.old spool.new
+    ensures ok { OnOk result (HasTaken S.bytes S.failures S.limit spool.old spool.new
         (quoted_text (unix line.now))) }
-    ensures err { OnErr result (HasFailed S.bytes S.failures spool.old spool.new
+    ensures err { OnErr result (HasFailed S.bytes S.failures S.limit spool.old spool.new
         (quoted_text (unix line.now))) }
 {
     if line.is_empty() {
@@ -136,9 +136,9 @@ fn write_last<S: Spool>(spool: &mut S, line: &[u8]) -> Result<(), SpoolFault>
 // Appends one line, which has its LF, in as few pieces as it takes.
 fn write_line<S: Spool>(spool: &mut S, line: &[u8]) -> Result<(), SpoolFault>
     requires { IsLine line.now }
-    ensures ok { OnOk result (HasTaken S.bytes S.failures spool.old spool.new
+    ensures ok { OnOk result (HasTaken S.bytes S.failures S.limit spool.old spool.new
         (quoted_text (unix line.now))) }
-    ensures err { OnErr result (HasFailed S.bytes S.failures spool.old spool.new
+    ensures err { OnErr result (HasFailed S.bytes S.failures S.limit spool.old spool.new
         (quoted_text (unix line.now))) }
 {
     match line.strip_suffix(b"\r\n") {
@@ -149,9 +149,9 @@ fn write_line<S: Spool>(spool: &mut S, line: &[u8]) -> Result<(), SpoolFault>
 
 // Appends the line, with `>` before it if it is a From line, and its end.
 fn write_quoted<S: Spool>(spool: &mut S, line: &[u8], end: &[u8]) -> Result<(), SpoolFault>
-    ensures ok { OnOk result (HasTaken S.bytes S.failures spool.old spool.new
+    ensures ok { OnOk result (HasTaken S.bytes S.failures S.limit spool.old spool.new
         (quoted line.now ++ end.now)) }
-    ensures err { OnErr result (HasFailed S.bytes S.failures spool.old spool.new
+    ensures err { OnErr result (HasFailed S.bytes S.failures S.limit spool.old spool.new
         (quoted line.now ++ end.now)) }
 {
     let mark: &[u8] = if is_from_line(line) { b">" } else { b"" };
@@ -172,9 +172,9 @@ fn is_from_line(line: &[u8]) -> bool
 
 // Appends the pieces one behind the other.
 fn append_each<S: Spool>(spool: &mut S, pieces: &[&[u8]]) -> Result<(), SpoolFault>
-    ensures ok { OnOk result (HasTaken S.bytes S.failures spool.old spool.new
+    ensures ok { OnOk result (HasTaken S.bytes S.failures S.limit spool.old spool.new
         (flat_map (λ piece. piece.now) pieces.now)) }
-    ensures err { OnErr result (HasFailed S.bytes S.failures spool.old spool.new
+    ensures err { OnErr result (HasFailed S.bytes S.failures S.limit spool.old spool.new
         (flat_map (λ piece. piece.now) pieces.now)) }
 {
     for piece in pieces {
@@ -185,8 +185,8 @@ fn append_each<S: Spool>(spool: &mut S, pieces: &[&[u8]]) -> Result<(), SpoolFau
 
 // Appends all the bytes, in as many pieces as the spool takes them.
 fn append_all<S: Spool>(spool: &mut S, bytes: &[u8]) -> Result<(), SpoolFault>
-    ensures ok { OnOk result (HasTaken S.bytes S.failures spool.old spool.new bytes.now) }
-    ensures err { OnErr result (HasFailed S.bytes S.failures spool.old spool.new bytes.now) }
+    ensures ok { OnOk result (HasTaken S.bytes S.failures S.limit spool.old spool.new bytes.now) }
+    ensures err { OnErr result (HasFailed S.bytes S.failures S.limit spool.old spool.new bytes.now) }
 {
     let mut rest = bytes;
     while !rest.is_empty() {

@@ -17,10 +17,13 @@ pub trait Spool {
     // how often it failed
     ghost failures: { Self → ℕ };
 
+    // the most bytes that it holds, where it has such a limit
+    ghost limit: { Self → Option ℕ };
+
     /// Takes bytes at the front of the piece, one at least, and says how many.
     fn append(&mut self, piece: &[u8]) -> Result<usize, SpoolFault>
         requires { 0 < length piece.now }
         ensures within { IfOk result (λ n. (1 ≤ n) × (n ≤ length piece.now)) }
-        ensures ok { IfOk result (λ n. HasTaken bytes failures self.old self.new (take n piece.now)) }
-        ensures err { OnErr result (HasFailed bytes failures self.old self.new piece.now) };
+        ensures ok { IfOk result (λ n. HasTaken bytes failures limit self.old self.new (take n piece.now)) }
+        ensures err { OnErr result (HasFailed bytes failures limit self.old self.new piece.now) };
 }

@@ -1,5 +1,5 @@
 //! Records as they stand in a mailbox, and spools that stop or take little at once.
-ghost use Rattle.std.specs.Prelude.{◌≤◌, length, Some};
+ghost use Rattle.std.specs.Prelude.{None, ◌≤◌, length, Some};
 ghost use Rattle.mail_world.specs.declared.limits.TheConstants.{PATH_LIMIT};
 
 use crate::{Envelope, MemorySpool, Spool, SpoolFault, write_record};
@@ -114,6 +114,8 @@ impl Spool for ByteSpool {
     ghost bytes = { λ s. Some s.bytes.items };
 
     ghost failures = { λ s. s.failures };
+
+    ghost limit = { λ s. None };
 
     fn append(&mut self, piece: &[u8]) -> Result<usize, SpoolFault> {
         if self.bytes.push(piece[0]).is_err() {

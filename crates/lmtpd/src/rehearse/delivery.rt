@@ -1,9 +1,9 @@
 //! The delivery of a whole message to the mailboxes of its recipients.
 
-ghost use Rattle.std.specs.Prelude.{◌≡◌, ◌<◌, length, map, IfOk};
+ghost use Rattle.std.specs.Prelude.{◌≡◌, ◌<◌, ℕ, length, map, IfOk};
 ghost use Rattle.lmtp_text.specs.Calendar.{civil_at};
 ghost use Rattle.mbox_rd.specs.Envelope.{record_text};
-ghost use Rattle.lmtpd.specs.Mailboxes.{kept, kept_all, TakesCopyAt};
+ghost use Rattle.lmtpd.specs.Mailboxes.{kept, kept_all, kept_at, nothing_kept, TakesCopyAt};
 ghost use Rattle.lmtpd.specs.Delivery.{transaction, DeliversTo};
 
 use super::mailbox::Mailbox;
@@ -58,4 +58,16 @@ fn take_at(
 {
     let mailbox = &mut mailboxes[number as usize];
     mailbox.take(host, envelope, message)
+}
+
+/// So many empty mailboxes.
+pub fn empty_mailboxes(alloc: Global, count: u32) -> Result<Vec<Mailbox>, AllocError>
+    ensures count { IfOk result (λ mailboxes. length mailboxes.items ≡ count) }
+    ensures empty { IfOk result (λ mailboxes. (n : ℕ) → kept_at (kept_all mailboxes.items) n ≡ nothing_kept) }
+{
+    let mut mailboxes = Vec::with_capacity(alloc, count as usize)?;
+    for _made in 0..count {
+        mailboxes.push(Mailbox::new(alloc)?)?;
+    }
+    Ok(mailboxes)
 }

@@ -9,8 +9,8 @@ ghost use Rattle.mail_world.specs.Replies.{reply_text};
 ghost use Rattle.lmtp_session.specs.Steps.{TakesLines, IsStep};
 
 use super::data::{data_end, line_end, unstuffed};
-use super::delivery::deliver;
-use super::mailbox::{Mailbox, empty_mailboxes};
+use super::delivery::{deliver, empty_mailboxes};
+use super::mailbox::Mailbox;
 use super::replies::{add_replies, add_reply};
 use lmtp_session::{Act, Session};
 use lmtp_text::Site;

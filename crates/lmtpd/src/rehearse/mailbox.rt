@@ -1,9 +1,9 @@
 //! The mailboxes of a rehearsal.
 
-ghost use Rattle.std.specs.Prelude.{◌≡◌, ℕ, length, IfOk, [], false};
+ghost use Rattle.lmtpd.specs.declared.rehearse.mailbox.TheConstants.{MAILBOX_ROOM};
+ghost use Rattle.std.specs.Prelude.{◌≡◌, ◌+◌, length, IfOk, [], true, false};
 ghost use Rattle.lmtp_text.specs.Calendar.{civil_at};
 ghost use Rattle.mbox_rd.specs.Envelope.{record_text};
-ghost use Rattle.lmtpd.specs.Mailboxes.{kept, kept_all, kept_at, nothing_kept, TakesCopy};
 
 use mail_world::Outcome;
 use mbox_rd::{Envelope, MemorySpool, write_record};
@@ -17,9 +17,14 @@ pub const MAILBOX_ROOM: usize = 2_097_152;
 pub struct Mailbox {
     pub spool: MemorySpool,
     pub failed: bool,
+    ghost limit: { length spool.bytes + spool.room ≡ MAILBOX_ROOM },
+    // A spool in memory fails for one cause alone: its room is used up.
+    ghost full: { failed ≡ true → length spool.bytes ≡ MAILBOX_ROOM },
 }
 
 impl Mailbox {
+    ghost use Rattle.lmtpd.specs.Mailboxes.{kept, TakesCopy};
+
     /// An empty mailbox.
     pub fn new(alloc: Global) -> Result<Mailbox, AllocError>
         ensures { IfOk result (λ mailbox. kept mailbox ≡ record { bytes = []; failed = false }) }
@@ -46,16 +51,4 @@ impl Mailbox {
             }
         }
     }
-}
-
-/// So many empty mailboxes.
-pub fn empty_mailboxes(alloc: Global, count: u32) -> Result<Vec<Mailbox>, AllocError>
-    ensures count { IfOk result (λ mailboxes. length mailboxes.items ≡ count) }
-    ensures empty { IfOk result (λ mailboxes. (n : ℕ) → kept_at (kept_all mailboxes.items) n ≡ nothing_kept) }
-{
-    let mut mailboxes = Vec::with_capacity(alloc, count as usize)?;
-    for _made in 0..count {
-        mailboxes.push(Mailbox::new(alloc)?)?;
-    }
-    Ok(mailboxes)
 }

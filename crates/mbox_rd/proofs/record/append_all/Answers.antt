@@ -3,9 +3,9 @@ use Rattle.mbox_rd.proofs.record.append_all.Goals as goal
 
 pub returns-in_err-n-clause-err : goal.returns-in_err-n-clause-err
 returns-in_err-n-clause-err g c = OnErr-any _ (
-    HasFailed-rest g.S.Spool.bytes g.S.Spool.failures _ _ _ _ _ c.loop-rest.invariant c.in_err-n.ensures.err
+    HasFailed-rest g.S.Spool.bytes g.S.Spool.failures g.S.Spool.limit _ _ _ _ _ c.loop-rest.invariant c.in_err-n.ensures.err
     )
 
 pub loop-rest-preserved : goal.loop-rest-preserved
 loop-rest-preserved g c =
-    TakesUpTo-more g.S.Spool.bytes g.S.Spool.failures _ _ _ _ c.loop-rest.rest.now c.in_ok-n.n c.loop-rest.invariant c.in_ok-n.ensures.ok
+    TakesUpTo-more g.S.Spool.bytes g.S.Spool.failures g.S.Spool.limit _ _ _ _ c.loop-rest.rest.now c.in_ok-n.n c.loop-rest.invariant c.in_ok-n.ensures.ok

@@ -10,9 +10,9 @@ as_line [] e no_lf = cc
 as_line (b ∷ line) e no_lf = quoted_last b line no_lf
 
 pub returns-clause-ok : goal.returns-clause-ok
-returns-clause-ok g c = OnOk-as g.S.Spool.bytes g.S.Spool.failures c.write_quoted.result _ _ _ _
+returns-clause-ok g c = OnOk-as g.S.Spool.bytes g.S.Spool.failures g.S.Spool.limit c.write_quoted.result _ _ _ _
     (as_line c.args.line.now c.if-is_empty.ensures c.requires.no_lf) c.write_quoted.ensures.ok
 
 pub returns-clause-err : goal.returns-clause-err
-returns-clause-err g c = OnErr-as g.S.Spool.bytes g.S.Spool.failures c.write_quoted.result _ _ _ _
+returns-clause-err g c = OnErr-as g.S.Spool.bytes g.S.Spool.failures g.S.Spool.limit c.write_quoted.result _ _ _ _
     (as_line c.args.line.now c.if-is_empty.ensures c.requires.no_lf) c.write_quoted.ensures.err

@@ -18,14 +18,14 @@ write_line-requires g c = front_line _ _ _ (IsLine-found c.loop-at.rest.now c.in
 
 pub returns-in_err-write_line-clause-err : goal.returns-in_err-write_line-clause-err
 returns-in_err-write_line-clause-err g c = OnErr-any c.from_residual.result (
-    HasFailed-then g.S.Spool.bytes g.S.Spool.failures _ _ _ _ _ _ _ c.loop-at.invariant.up_to
+    HasFailed-then g.S.Spool.bytes g.S.Spool.failures g.S.Spool.limit _ _ _ _ _ _ _ c.loop-at.invariant.up_to
     (cut _ _ _ (c.in-Some.at + 1) (IsLine-found c.loop-at.rest.now c.in-Some.at c.in-Some.ensures.0 c.in-Some.ensures.1) c.split_at.ensures.front c.split_at.ensures.back)
     c.in_err-write_line.ensures.err
     )
 
 pub loop-at-preserved : goal.loop-at-preserved
 loop-at-preserved g c = record {
-  up_to = TakesUpTo-then g.S.Spool.bytes g.S.Spool.failures _ _ _ _ _ _ _ c.loop-at.invariant.up_to
+  up_to = TakesUpTo-then g.S.Spool.bytes g.S.Spool.failures g.S.Spool.limit _ _ _ _ _ _ _ c.loop-at.invariant.up_to
       (cut _ _ _ (c.in-Some.at + 1) (IsLine-found c.loop-at.rest.now c.in-Some.at c.in-Some.ensures.0 c.in-Some.ensures.1) c.split_at.ensures.front c.split_at.ensures.back)
       c.in_ok-write_line.ensures.ok;
   within = omega (arith, c.split_at.ensures.back_len, c.loop-at.invariant.within);
@@ -35,4 +35,4 @@ pub write_last-requires : goal.write_last-requires
 write_last-requires g c = IsOneLine-unfound c.loop-at.rest.now c.in_default.ensures
 
 pub returns-clause-err : goal.returns-clause-err
-returns-clause-err g c = OnErr-rest g.S.Spool.bytes g.S.Spool.failures c.write_last.result _ _ _ _ _ c.loop-at.invariant.up_to c.write_last.ensures.err
+returns-clause-err g c = OnErr-rest g.S.Spool.bytes g.S.Spool.failures g.S.Spool.limit c.write_last.result _ _ _ _ _ c.loop-at.invariant.up_to c.write_last.ensures.err

@@ -5,7 +5,7 @@ use Rattle.mbox_rd.proofs.Taken.{OnOk-as}
 use Rattle.mbox_rd.proofs.record.write_origin.Goals as goal
 
 pub returns-clause-ok : goal.returns-clause-ok
-returns-clause-ok g c = OnOk-as g.S.Spool.bytes g.S.Spool.failures c.append_each.result _ _ _ _
+returns-clause-ok g c = OnOk-as g.S.Spool.bytes g.S.Spool.failures g.S.Spool.limit c.append_each.result _ _ _ _
     (origin_pieces c.args.host.now c.sender.result.now c.client.result.now c.as_bytes.result.now c.as_bytes-2.result.now c.args.envelope.now
     c.sender.ensures c.client.ensures
     (c.as_bytes.ensures.value ∙ c.format.ensures.text ∙ ap (λ t. decimal t.lane) c.txn-txn.ensures)

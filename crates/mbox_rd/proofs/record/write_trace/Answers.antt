@@ -4,16 +4,16 @@ use Rattle.mbox_rd.proofs.record.write_trace.Goals as goal
 
 pub returns-in_err-write_origin-clause-err : goal.returns-in_err-write_origin-clause-err
 returns-in_err-write_origin-clause-err g c = OnErr-any c.from_residual.result (
-    HasFailed-as g.S.Spool.bytes g.S.Spool.failures _ _ _ _ (trace_split c.args.host.now c.args.stamp.now c.args.envelope.now)
-    (HasFailed-first g.S.Spool.bytes g.S.Spool.failures _ _ _ _ c.in_err-write_origin.ensures.err)
+    HasFailed-as g.S.Spool.bytes g.S.Spool.failures g.S.Spool.limit _ _ _ _ (trace_split c.args.host.now c.args.stamp.now c.args.envelope.now)
+    (HasFailed-first g.S.Spool.bytes g.S.Spool.failures g.S.Spool.limit _ _ _ _ c.in_err-write_origin.ensures.err)
     )
 
 pub returns-clause-ok : goal.returns-clause-ok
-returns-clause-ok g c = OnOk-rest g.S.Spool.bytes g.S.Spool.failures c.write_date.result _ _ _ _ _
-    (TakesUpTo-first g.S.Spool.bytes g.S.Spool.failures _ _ _ _ _ (trace_split c.args.host.now c.args.stamp.now c.args.envelope.now) c.in_ok-write_origin.ensures.ok)
+returns-clause-ok g c = OnOk-rest g.S.Spool.bytes g.S.Spool.failures g.S.Spool.limit c.write_date.result _ _ _ _ _
+    (TakesUpTo-first g.S.Spool.bytes g.S.Spool.failures g.S.Spool.limit _ _ _ _ _ (trace_split c.args.host.now c.args.stamp.now c.args.envelope.now) c.in_ok-write_origin.ensures.ok)
     c.write_date.ensures.ok
 
 pub returns-clause-err : goal.returns-clause-err
-returns-clause-err g c = OnErr-rest g.S.Spool.bytes g.S.Spool.failures c.write_date.result _ _ _ _ _
-    (TakesUpTo-first g.S.Spool.bytes g.S.Spool.failures _ _ _ _ _ (trace_split c.args.host.now c.args.stamp.now c.args.envelope.now) c.in_ok-write_origin.ensures.ok)
+returns-clause-err g c = OnErr-rest g.S.Spool.bytes g.S.Spool.failures g.S.Spool.limit c.write_date.result _ _ _ _ _
+    (TakesUpTo-first g.S.Spool.bytes g.S.Spool.failures g.S.Spool.limit _ _ _ _ _ (trace_split c.args.host.now c.args.stamp.now c.args.envelope.now) c.in_ok-write_origin.ensures.ok)
     c.write_date.ensures.err
