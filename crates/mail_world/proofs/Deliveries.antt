@@ -1,6 +1,6 @@
 -- A mailbox takes one more copy, or is told that it is lost.
 use Rattle.std.proofs.Common.{◌≡◌, ℕ, suc, ◌+◌, List, [], ◌∷◌, ◌++◌, length, Bool, subst, true, false, cond, refl, sym, ap, ◌∙◌, arith, append_assoc}
-use Rattle.std.specs.Prelude.{not, map, flat_map, filter, ◌==◌, if◌then◌else◌}
+use Rattle.std.specs.Prelude.{not, map, filter, ◌==◌}
 use Rattle.std.proofs.lemmas.List.{append-nil, map-append}
 use Rattle.std.proofs.lemmas.Grind.{flat_map-append}
 use Rattle.std.proofs.lemmas.List.Elements.{filter-append}

@@ -1,20 +1,18 @@
 -- What an engine has handled of the bytes of a conversation: parts at their front, and what goes on from there.
-use Rattle.std.proofs.Common.{◌≡◌, ℕ, cond, ◌+◌, ◌≤◌, List, [], ◌∷◌, ◌++◌, length, take, drop, Option, Some, None, refl, sym, ap, ◌∙◌, arith, append_assoc, length-drop, length-append, drop-drop, length-take-le}
+use Rattle.std.proofs.Common.{◌≡◌, ℕ, cond, ◌+◌, ◌≤◌, List, [], ◌∷◌, ◌++◌, length, take, drop, Some, None, refl, sym, ap, ◌∙◌, arith, append_assoc, length-drop, length-append, drop-drop, length-take-le}
 use Rattle.std.specs.Prelude.{option_map, flat_map, sum_by, count_by, false, ⊤}
 use Rattle.std.proofs.lemmas.List.{append-nil}
 use Rattle.std.proofs.lemmas.Grind.{flat_map-append}
 use Rattle.std.proofs.lemmas.List.Sums.{sum_by-append}
 use Rattle.std.proofs.lemmas.List.Recursion.{is_count_by}
-use Rattle.mail_world.specs.declared.Verdict.{Verdict}
-use Rattle.mail_world.specs.declared.Verdict.TheVariants as verdicts
-use Rattle.mail_world.specs.declared.Reply.{Reply}
 use Rattle.mail_world.specs.declared.State.{State}
 use Rattle.mail_world.specs.declared.State.TheVariants.{Fresh, Greeted, Sender, Recipients, Content, Waiting, Ended}
 use Rattle.mail_world.specs.Text.{crlf, place_of}
 use Rattle.mail_world.specs.Data.{data_end, end_of_data}
 use Rattle.mail_world.specs.Site.{Site}
 use Rattle.mail_world.specs.Session.{Session, fresh, Input, step}
-use Rattle.mail_world.specs.Conversation.{Disposition, Part, CommandLine, MailData, Cut, cut_line, cut_data, cut, cut_then, inputs_of, session_after, replies_to, parts, session_behind, size_of, is_data, OutcomesFit, AllFit, NoDataEnded, Fits, Conversation, stop_at, inputs, IsAccount}
+use Rattle.mail_world.specs.Conversation.{Disposition, Part, CommandLine, MailData, cut_line, cut, cut_then, inputs_of, session_after, replies_to, parts, session_behind, size_of, is_data, OutcomesFit, AllFit, NoDataEnded, Conversation, stop_at, inputs, IsAccount}
+use Rattle.mail_world.specs.Dispositions.{disposition_of, dispositions_of, HasNoPart}
 use Rattle.mail_world.proofs.Places.{place_of_stands}
 use Rattle.mail_world.proofs.Cuts.{parts-cut}
 
@@ -59,14 +57,6 @@ AllFit-append site session (CommandLine text ∷ ps) qs f g =
     AllFit-append site (session_after site session (inputs_of (CommandLine text))) ps qs f (rw (session_behind-cons site session (CommandLine text) ps) at g)
 AllFit-append site session (MailData text d ∷ ps) qs f g =
     (f.0, AllFit-append site (session_after site session (inputs_of (MailData text d))) ps qs f.1 (rw (session_behind-cons site session (MailData text d) ps) at g))
-
--- what became of the data among parts
-abbrev pub disposition_of : Part → List Disposition
-disposition_of (CommandLine text) = []
-disposition_of (MailData text d) = d ∷ []
-
-abbrev pub dispositions_of : List Part → List Disposition
-dispositions_of ps = flat_map disposition_of ps
 
 dispositions-snoc : (ps : List Part) (p : Part) (ds : List Disposition) → dispositions_of (ps ++ p ∷ []) ++ ds ≡ dispositions_of ps ++ (disposition_of p ++ ds)
 dispositions-snoc ps p ds =
@@ -161,13 +151,6 @@ handled_data site s at ps n d h content e fit =
     (length-take-le (n + 3) (drop at s) long)
     (omega (arith, length-drop at s))
     fit
-
--- nothing at the front of the text has ended
-abbrev pub HasNoPart : State → List ℕ → Type 0
-HasNoPart Content s = data_end s ≡ None
-HasNoPart Ended s = ⊤
-HasNoPart Waiting s = ⊤
-HasNoPart _ s = place_of crlf s ≡ None
 
 no_cut : (state : State) (s : List ℕ) → HasNoPart state s → cut state s [] ≡ None
 no_cut Fresh s h = ap (λ o. option_map (λ k. record { part = CommandLine (take k s); size = k + 2; dispositions = [] }) o) h

@@ -1,5 +1,5 @@
 -- The transactions of parts, one part at a time; what they owe a mailbox, and what was told of it.
-use Rattle.std.proofs.Common.{◌≡◌, ℕ, ◌+◌, List, [], ◌∷◌, ◌++◌, false, cond, refl, sym, ap, ◌∙◌, append_assoc}
+use Rattle.std.proofs.Common.{◌≡◌, ℕ, ◌+◌, List, [], ◌∷◌, ◌++◌, false, cond, refl, sym, ap, ◌∙◌}
 use Rattle.std.specs.Prelude.{filter, flat_map, ◌==◌, if◌then◌else◌}
 use Rattle.std.proofs.lemmas.List.{append-nil}
 use Rattle.std.proofs.lemmas.Grind.{flat_map-append}
@@ -14,7 +14,8 @@ use Rattle.mail_world.specs.Session.{Session, fresh, DataEnded}
 use Rattle.mail_world.specs.Conversation.{Disposition, Part, CommandLine, MailData, inputs_of, outcomes_of, session_after, session_behind, parts}
 use Rattle.mail_world.specs.Lists.{Transaction, is_content, accepted_after, transactions_of, transactions, copies, due}
 use Rattle.mail_world.specs.Deliveries.{told_of, told}
-use Rattle.mail_world.proofs.Handled.{session_after-append, dispositions_of, account_of}
+use Rattle.mail_world.specs.Dispositions.{dispositions_of}
+use Rattle.mail_world.proofs.Handled.{session_after-append, account_of}
 
 -- how many DATA commands were accepted behind one part
 abbrev pub accepted_behind : Site → ℕ → Session → Part → ℕ
