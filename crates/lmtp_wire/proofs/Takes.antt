@@ -1,0 +1,112 @@
+-- What a call makes of what was made before: a byte, a run of text, a byte that was owed.
+use Rattle.std.proofs.Common.{◌≡◌, ℕ, zero, suc, ◌+◌, ◌-◌, ◌<◌, ◌≤◌, List, [], ◌∷◌, ◌++◌, length, take, drop, get_or, set, Bool, true, false, not, ◌==◌, Option, Some, None, refl, ap, sym, ◌∙◌, subst, arith, append_assoc, append-nil}
+use Rattle.std.specs.Prelude.{unwrap_or}
+use Rattle.std.proofs.lemmas.List.{take_more, take_more_set, drop-drop}
+use Rattle.std.proofs.Math.Seq.{take-add}
+use Rattle.std.proofs.lemmas.Bool.{or_from, false_from_ne_true}
+use Rattle.memchr.specs.Find.{Nowhere, Passes, IsFirstByte, is_byte}
+use Rattle.mail_world.specs.Text.{cr, has_byte}
+use Rattle.mail_world.specs.Data.{shown}
+use Rattle.lmtp_wire.specs.declared.dot.Dot.{Dot}
+use Rattle.lmtp_wire.specs.declared.dot.Place.{Place}
+use Rattle.lmtp_wire.specs.declared.dot.Place.TheVariants.{InText}
+use Rattle.lmtp_wire.specs.Place.{Stands, Ends}
+use Rattle.lmtp_wire.specs.Dot.{HasMade, Comes, bytes_of}
+use Rattle.lmtp_wire.proofs.PlaceSteps.{stands_none, Adds, adds_run}
+
+pub drop-later : (i j : ℕ) (xs ys : List ℕ) → i ≤ j → drop i xs ≡ drop i ys → drop j xs ≡ drop j ys
+drop-later i j xs ys h e =
+    let n : i + (j - i) ≡ j = omega arith in
+    ap (λ k. drop k xs) (sym n) ∙ sym (drop-drop (j - i) i xs) ∙ ap (λ l. drop (j - i) l) e ∙ drop-drop (j - i) i ys ∙ ap (λ k. drop k ys) n
+
+-- the text before the first CR has none
+none_before : (text : List ℕ) (n : ℕ) → Nowhere (Passes (is_byte cr) text) 0 n → has_byte (take n text) cr ≡ false
+none_before [] zero h = refl
+none_before [] (suc n) h = refl
+none_before (b ∷ text) zero h = refl
+none_before (b ∷ text) (suc n) h =
+    or_from (b == cr) (has_byte (take n text) cr) (false_from_ne_true (b == cr) (h 0 (omega arith) (omega arith)))
+    (none_before text n (λ k low high. h (suc k) (omega arith) (omega arith)))
+
+pub text_before : (text : List ℕ) (r : Option ℕ) (n : ℕ) → IsFirstByte (is_byte cr) text r → n ≡ unwrap_or r (length text) → has_byte (take n text) cr ≡ false
+text_before text None n h e = ap (λ k. has_byte (take k text) cr) e ∙ none_before text (length text) h
+text_before text (Some k) n h e = ap (λ m. has_byte (take m text) cr) e ∙ none_before text k h.0.before
+
+-- a byte that was owed is put first
+pub pays : (out : List ℕ) (byte : ℕ) (owed : Option ℕ) → 0 < length out → owed ≡ Some byte → take 1 (set out 0 byte) ≡ bytes_of owed
+pays [] byte owed h e = absurd (omega arith)
+pays (x ∷ out) byte owed h e = sym (ap bytes_of e)
+
+pub paid : (old new : Dot) (out : List ℕ) (n : ℕ) → new.owed ≡ None → new.place ≡ old.place → take n out ≡ bytes_of old.owed
+    → (taken made : List ℕ) → HasMade old taken made → HasMade new taken (made ++ take n out)
+paid old new out n none same bytes taken made h =
+    let P : Place → Type 0 = λ p. Stands p taken in
+    record {
+      goes_on = h.goes_on;
+      shows = h.shows ∙ ap (λ l. made ++ l) (sym bytes) ∙ sym (append-nil (made ++ take n out)) ∙ ap (λ o. (made ++ take n out) ++ bytes_of o) (sym none);
+      stands = subst P (sym same) h.stands;
+    }
+
+-- nothing was owed
+all_made : (dot : Dot) (taken made : List ℕ) → dot.owed ≡ None → HasMade dot taken made → shown taken ≡ made
+all_made dot taken made none h = h.shows ∙ ap (λ o. made ++ bytes_of o) none ∙ append-nil made
+
+-- a byte
+pub takes_byte : (old new : Dot) (piece out out' : List ℕ) (used m m' : ℕ) (add : List ℕ) → old.owed ≡ None → used < length piece
+    → ((taken : List ℕ) → Stands old.place taken → Adds new.place taken (get_or piece used 0) add)
+    → take m' out' ++ bytes_of new.owed ≡ take m out ++ add
+    → (taken made : List ℕ) → HasMade old (taken ++ take used piece) (made ++ take m out) → HasMade new (taken ++ take (used + 1) piece) (made ++ take m' out')
+takes_byte old new piece out out' used m m' add none within adds bytes taken made h =
+    let now : List ℕ = taken ++ take used piece in
+    let one = adds now h.stands in
+    let more : now ++ get_or piece used 0 ∷ [] ≡ taken ++ take (used + 1) piece =
+    append_assoc taken (take used piece) (get_or piece used 0 ∷ []) ∙ ap (λ l. taken ++ l) (sym (take_more piece used 0 within)) in
+    let P : List ℕ → Type 0 = λ l. Stands new.place l in
+    let stands : Stands new.place (taken ++ take (used + 1) piece) = subst P more one.stands in
+    record {
+      goes_on = stands_none new.place (taken ++ take (used + 1) piece) stands;
+      shows = ap shown (sym more) ∙ one.shows ∙ ap (λ l. l ++ add) (all_made old now (made ++ take m out) none h)
+          ∙ append_assoc made (take m out) add ∙ ap (λ l. made ++ l) (sym bytes) ∙ sym (append_assoc made (take m' out') (bytes_of new.owed));
+      stands = stands;
+    }
+
+-- the last byte
+pub takes_last : (old : Dot) (piece out : List ℕ) (used m : ℕ) → old.owed ≡ None → used < length piece
+    → ((taken : List ℕ) → Stands old.place taken → Ends (taken ++ get_or piece used 0 ∷ []) (shown taken))
+    → (taken made : List ℕ) → HasMade old (taken ++ take used piece) (made ++ take m out) → Ends (taken ++ take (used + 1) piece) (made ++ take m out)
+takes_last old piece out used m none within ends taken made h =
+    let now : List ℕ = taken ++ take used piece in
+    let more : now ++ get_or piece used 0 ∷ [] ≡ taken ++ take (used + 1) piece =
+    append_assoc taken (take used piece) (get_or piece used 0 ∷ []) ∙ ap (λ l. taken ++ l) (sym (take_more piece used 0 within)) in
+    let P : List ℕ → Type 0 = λ l. Ends l (made ++ take m out) in
+    let Q : List ℕ → Type 0 = λ l. Ends (now ++ get_or piece used 0 ∷ []) l in
+    subst P more (subst Q (all_made old now (made ++ take m out) none h) (ends now h.stands))
+
+-- a run of text
+pub takes_run : (dot : Dot) (piece out out' : List ℕ) (used n m m' : ℕ) (run : List ℕ) → dot.owed ≡ None → dot.place ≡ InText
+    → run ≡ take n (drop used piece) → has_byte run cr ≡ false → take m' out' ≡ take m out ++ run
+    → (taken made : List ℕ) → HasMade dot (taken ++ take used piece) (made ++ take m out) → HasMade dot (taken ++ take (used + n) piece) (made ++ take m' out')
+takes_run dot piece out out' used n m m' run none place is text bytes taken made h =
+    let now : List ℕ = taken ++ take used piece in
+    let P : Place → Type 0 = λ p. Stands p now in
+    let all = adds_run now run text (subst P place h.stands) in
+    let more : now ++ run ≡ taken ++ take (used + n) piece =
+    append_assoc taken (take used piece) run ∙ ap (λ l. taken ++ (take used piece ++ l)) is ∙ ap (λ l. taken ++ l) (sym (take-add used n piece)) in
+    let Q : List ℕ → Type 0 = λ l. Stands InText l in
+    let R : Place → Type 0 = λ p. Stands p (taken ++ take (used + n) piece) in
+    let stands : Stands dot.place (taken ++ take (used + n) piece) = subst R (sym place) (subst Q more all.stands) in
+    record {
+      goes_on = stands_none dot.place (taken ++ take (used + n) piece) stands;
+      shows = ap shown (sym more) ∙ all.shows ∙ ap (λ l. l ++ run) (all_made dot now (made ++ take m out) none h)
+          ∙ append_assoc made (take m out) run ∙ ap (λ l. made ++ l) (sym bytes) ∙ sym (append-nil (made ++ take m' out')) ∙ ap (λ o. (made ++ take m' out') ++ bytes_of o) (sym none);
+      stands = stands;
+    }
+
+-- a byte is put where there is room
+pub puts_byte : (out : List ℕ) (m b : ℕ) (owed : Option ℕ) → owed ≡ None → m < length out → take (m + 1) (set out m b) ++ bytes_of owed ≡ take m out ++ b ∷ []
+puts_byte out m b owed none room = ap (λ o. take (m + 1) (set out m b) ++ bytes_of o) none ∙ append-nil (take (m + 1) (set out m b)) ∙ take_more_set out m b room
+
+-- what comes where the data goes on
+pub on_from : (dot : Dot) (taken made : List ℕ) (ended : Bool) → not ended ≡ true → Comes dot taken made ended → HasMade dot taken made
+on_from dot taken made true e h = cc
+on_from dot taken made false e h = h

@@ -1,0 +1,36 @@
+-- Where a dot stands in data, and what it has made of the message (RFC 5321, 4.5.2).
+use Rattle.std.specs.Prelude.{◌≡◌, ◌<◌, ◌⊎◌, ℕ, Bool, true, false, List, [], ◌∷◌, ◌++◌, Option, Some, None}
+use Rattle.mail_world.specs.Data.{data_end, shown}
+use Rattle.lmtp_wire.specs.declared.dot.Dot.{Dot}
+use Rattle.lmtp_wire.specs.declared.dot.Fed.{Fed}
+use Rattle.lmtp_wire.specs.Place.{Stands, Ends}
+
+-- a byte, if there is one
+abbrev pub bytes_of : Option ℕ → List ℕ
+bytes_of None = []
+bytes_of (Some byte) = byte ∷ []
+
+-- this data was taken and hasn't ended, and this of the message was made; what is owed of it had no room
+pub record HasMade (dot : Dot) (taken made : List ℕ) : Type 0 where
+  pub goes_on : data_end taken ≡ None
+  pub shows : shown taken ≡ made ++ bytes_of dot.owed
+  pub stands : Stands dot.place taken
+
+-- the data has ended, or goes on
+abbrev pub Comes : Dot → List ℕ → List ℕ → Bool → Type 0
+Comes new taken made true = Ends taken made
+Comes new taken made false = HasMade new taken made
+
+-- the data goes on: the piece is used up or `out` is full, and where it isn't, all that is sure of the message was made
+pub record GoesOn (new : Dot) (taken made : List ℕ) (piece out : ℕ) (fed : Fed) : Type 0 where
+  pub behind : HasMade new taken made
+  pub stops : (fed.used ≡ piece) ⊎ (fed.made ≡ out)
+  pub whole : fed.made < out → new.owed ≡ None
+
+abbrev pub FeedsBy : Bool → Dot → List ℕ → List ℕ → ℕ → ℕ → Fed → Type 0
+FeedsBy true new taken made piece out fed = Ends taken made
+FeedsBy false new taken made piece out fed = GoesOn new taken made piece out fed
+
+-- what a call did, by whether the data has ended
+abbrev pub Feeds : Dot → List ℕ → List ℕ → ℕ → ℕ → Fed → Type 0
+Feeds new taken made piece out fed = FeedsBy fed.ended new taken made piece out fed

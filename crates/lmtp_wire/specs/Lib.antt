@@ -1,0 +1,4 @@
+pub mod Wire
+pub mod Place
+pub mod Dot
+pub mod Runs
