@@ -1,3 +1,11 @@
 pub mod Taken
-pub mod Lines
 pub mod Parts
+pub mod Rests
+pub mod Words
+pub mod Steps
+pub mod Ends
+pub mod Pieces
+pub mod Wholes
+pub mod Bodies
+pub mod LineCuts
+pub mod Mailboxes

@@ -1,8 +1,10 @@
 -- What the record of a copy is made of besides the message.
-use Rattle.std.specs.Prelude.{ℕ, List}
+use Rattle.std.specs.Prelude.{ℕ, List, [], ◌∷◌, ◌++◌, codes}
 use Rattle.mail_world.specs.declared.Txn.{Txn}
 use Rattle.mail_world.specs.declared.Note.{Note}
-use Rattle.mail_world.specs.Records.{Calendar, record_of}
+use Rattle.mail_world.specs.Text.{lf, with_lf}
+use Rattle.mail_world.specs.Stamps.{Civil}
+use Rattle.mail_world.specs.Records.{Calendar, record_of, from_head, trace}
 
 pub record Envelope : Type 0 where
   pub sender : List ℕ
@@ -25,3 +27,14 @@ note_of envelope message = record {
 -- the record of the message, at the host of that name
 abbrev pub record_text : Calendar → List ℕ → Envelope → List ℕ → List ℕ
 record_text calendar host envelope message = record_of calendar host (note_of envelope message)
+
+-- the front of it that stands before the message: the From line and the trace lines
+abbrev pub from_line : List ℕ → Civil → List ℕ
+from_line sender civil = codes "From " ++ from_head sender civil ++ lf ∷ []
+
+abbrev pub trace_lines : List ℕ → Civil → Envelope → List ℕ
+trace_lines host civil envelope = with_lf (trace host civil (note_of envelope []))
+
+abbrev pub head_text : Calendar → List ℕ → Envelope → List ℕ
+head_text calendar host envelope =
+    from_line envelope.sender (calendar envelope.moment) ++ trace_lines host (calendar envelope.moment) envelope

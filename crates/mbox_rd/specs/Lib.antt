@@ -1,5 +1,8 @@
 pub mod Envelope
 pub mod Spool
 pub mod MemorySpool
-pub mod Lines
+pub mod Mending
 pub mod Parts
+pub mod Writing
+pub mod Steps
+pub mod Letters

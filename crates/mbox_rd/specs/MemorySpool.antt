@@ -6,3 +6,5 @@ pub record MemorySpool : Type 0 where
   -- how many bytes more it takes
   pub room : ℕ
   pub failures : ℕ
+  -- how many of its first bytes the last sync covered
+  pub synced : ℕ

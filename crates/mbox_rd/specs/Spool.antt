@@ -1,28 +1,64 @@
--- What a spool took, by what it holds and how often it failed.
-use Rattle.std.specs.Prelude.{◌≡◌, ℕ, ◌-◌, ◌^◌, ◌<◌, ◌⊎◌, List, ◌++◌, length, Option, Some, ⊤}
-use Rattle.std.specs.Io.KnownBytes.{Appends}
+-- What a spool took, by what it holds, how often it failed and what its syncs covered.
+use Rattle.std.specs.Prelude.{◌≡◌, ℕ, ◌-◌, ◌^◌, ◌<◌, ◌⊎◌, List, [], ◌∷◌, ◌++◌, length, if◌then◌else◌, Option, Some, None, ⊤}
+use Rattle.std.specs.Io.KnownBytes.{Appends, Keeps}
+use Rattle.mail_world.specs.Failures.{Rises}
+use Rattle.mail_world.specs.Text.{lf, ends_in}
+use Rattle.mbox_rd.specs.declared.spool.Tail.{Tail}
+use Rattle.mbox_rd.specs.declared.spool.Tail.TheVariants.{Empty, NoLf, OneLf, TwoLf}
 
--- a count of failures that stops at 2^64 - 1 went up
-abbrev pub Rises : ℕ → ℕ → Type 0
-Rises old new = (old < new) ⊎ ((old ≡ 2 ^ 64 - 1) × (new ≡ 2 ^ 64 - 1))
+-- What contracts see of a spool: what it holds and how many bytes it may hold, where it tells; how often it failed; how many of its first bytes the last good sync covered.
+pub record SpoolState : Type 0 where
+  pub bytes : Option (List ℕ)
+  pub failures : ℕ
+  pub limit : Option ℕ
+  pub synced : ℕ
 
 -- a spool with a limit holds as much as that
 abbrev pub IsFull : Option ℕ → Option (List ℕ) → Type 0
 IsFull (Some most) (Some held) = length held ≡ most
 IsFull _ _ = ⊤
 
+-- all known bytes are among the first n
+abbrev pub CoversAll : Option (List ℕ) → ℕ → Type 0
+CoversAll None n = ⊤
+CoversAll (Some held) n = n ≡ length held
+
 -- the spool took the text, and nothing failed
-pub record HasTaken {S : Type 0} (bytes : S → Option (List ℕ)) (failures : S → ℕ) (limit : S → Option ℕ) (old new : S) (text : List ℕ) : Type 0 where
-  pub appended : Appends (bytes old) (bytes new) text
-  pub sound : failures new ≡ failures old
-  pub limited : limit new ≡ limit old
+pub record HasTaken (old new : SpoolState) (text : List ℕ) : Type 0 where
+  pub appended : Appends old.bytes new.bytes text
+  pub sound : new.failures ≡ old.failures
+  pub limited : new.limit ≡ old.limit
+  pub covered : new.synced ≡ old.synced
 
 -- the spool took a front of the text, and failed, which one with a limit does only once it is full
-pub record HasFailed {S : Type 0} (bytes : S → Option (List ℕ)) (failures : S → ℕ) (limit : S → Option ℕ) (old new : S) (text : List ℕ) : Type 0 where
+pub record HasFailed (old new : SpoolState) (text : List ℕ) : Type 0 where
   pub front : List ℕ
   pub rest : List ℕ
   pub whole : text ≡ front ++ rest
-  pub appended : Appends (bytes old) (bytes new) front
-  pub failed : Rises (failures old) (failures new)
-  pub limited : limit new ≡ limit old
-  pub full : IsFull (limit new) (bytes new)
+  pub appended : Appends old.bytes new.bytes front
+  pub failed : Rises old.failures new.failures
+  pub limited : new.limit ≡ old.limit
+  pub covered : new.synced ≡ old.synced
+  pub full : IsFull new.limit new.bytes
+
+-- all that the spool holds is covered by a sync
+pub record HasSynced (old new : SpoolState) : Type 0 where
+  pub kept : Keeps old.bytes new.bytes
+  pub sound : new.failures ≡ old.failures
+  pub limited : new.limit ≡ old.limit
+  pub covered : CoversAll new.bytes new.synced
+
+-- a sync failed: the spool holds what it held, and no more of it is covered
+pub record HasNotSynced (old new : SpoolState) : Type 0 where
+  pub kept : Keeps old.bytes new.bytes
+  pub failed : Rises old.failures new.failures
+  pub limited : new.limit ≡ old.limit
+  pub covered : new.synced ≡ old.synced
+
+-- how the bytes end
+abbrev pub tail_of : List ℕ → Tail
+tail_of [] = Empty
+tail_of (b ∷ held) =
+    if ends_in (lf ∷ lf ∷ []) (b ∷ held) then TwoLf
+    else if ends_in (lf ∷ []) (b ∷ held) then OneLf
+    else NoLf

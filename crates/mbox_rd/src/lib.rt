@@ -1,14 +1,23 @@
-//! Mailboxes in the mboxrd format (RFC 4155): the record of a delivered message, and the spools that take it.
+//! Mailboxes in the mboxrd format (RFC 4155): the record of a delivered message, the spools that take it, and the letters that are read back.
 #![tactic(auto)]
 
+mod append;
 mod envelope;
+mod head;
+mod letter;
 mod memory;
+mod mending;
+mod pending;
+mod reading;
 mod record;
 mod spool;
 #[cfg(test)]
 mod tests;
 
 pub use envelope::Envelope;
+pub use letter::Letter;
 pub use memory::MemorySpool;
-pub use record::write_record;
-pub use spool::{Spool, SpoolFault};
+pub use mending::mend;
+pub use reading::{BadMailbox, read_mailbox};
+pub use record::RecordWriter;
+pub use spool::{Spool, SpoolFault, Tail};

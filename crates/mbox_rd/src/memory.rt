@@ -1,8 +1,9 @@
 //! A spool in memory, with a bound on what it takes.
-ghost use Rattle.std.specs.Prelude.{◌≡◌, ◌↔◌, ◌+◌, ◌-◌, ◌^◌, ◌<◌, ◌≤◌, ◌++◌, length, take, min, IsErr, IfOk, OnErr, Some};
-ghost use Rattle.mbox_rd.specs.Spool.{HasTaken, HasFailed};
+ghost use Rattle.std.specs.Prelude.{◌≡◌, ◌↔◌, ◌+◌, ◌-◌, ◌^◌, ◌<◌, ◌≤◌, ◌++◌, length, take, min, IsOk, IsErr, IfOk, OnOk, OnErr, Some};
+ghost use Rattle.std.specs.Option.{IfSome};
+ghost use Rattle.mbox_rd.specs.Spool.{HasTaken, HasFailed, HasSynced, HasNotSynced, tail_of};
 
-use crate::spool::{Spool, SpoolFault};
+use crate::spool::{Spool, SpoolFault, Tail};
 use std::alloc::{AllocError, Global};
 use std::marker::Model;
 
@@ -12,6 +13,7 @@ pub struct MemorySpool {
     bytes: Vec<u8>,
     room: usize,
     failures: u64,
+    synced: usize,
 }
 
 impl Model for MemorySpool {
@@ -20,7 +22,12 @@ impl Model for MemorySpool {
 
     ghost Value = { Held };
 
-    ghost view = { λ s. record { bytes = s.bytes.items; room = s.room; failures = s.failures } };
+    ghost view = { λ s. record {
+      bytes = s.bytes.items;
+      room = s.room;
+      failures = s.failures;
+      synced = s.synced;
+    } };
 
     ghost invariant = { λ s. vec_len s.bytes + s.room ≤ vec_capacity s.bytes };
 }
@@ -28,7 +35,12 @@ impl Model for MemorySpool {
 impl MemorySpool {
     /// Holds the old bytes and reserves the room, so that no append takes memory.
     pub fn new(alloc: Global, old: &[u8], room: usize) -> Result<MemorySpool, AllocError>
-        ensures { IfOk result (λ spool. spool ≡ record { bytes = old.now; room = room; failures = 0 }) }
+        ensures { IfOk result (λ spool. spool ≡ record {
+          bytes = old.now;
+          room = room;
+          failures = 0;
+          synced = 0;
+        }) }
     {
         let mut bytes = Vec::from_slice(alloc, old)?;
         bytes.reserve(room)?;
@@ -36,6 +48,7 @@ impl MemorySpool {
             bytes,
             room,
             failures: 0,
+            synced: 0,
         })
     }
 
@@ -48,11 +61,12 @@ impl MemorySpool {
 }
 
 impl Spool for MemorySpool {
-    ghost bytes = { λ s. Some s.bytes };
-
-    ghost failures = { λ s. s.failures };
-
-    ghost limit = { λ s. Some (length s.bytes + s.room) };
+    ghost state = { λ s. record {
+      bytes = Some s.bytes;
+      failures = s.failures;
+      limit = Some (length s.bytes + s.room);
+      synced = s.synced;
+    } };
 
     /// Takes as much as there is room for, and fails where there is none.
     fn append(&mut self, piece: &[u8]) -> Result<usize, SpoolFault>
@@ -63,14 +77,15 @@ impl Spool for MemorySpool {
           bytes = self.old.bytes ++ take n piece.now;
           room = self.old.room - n;
           failures = self.old.failures;
+          synced = self.old.synced;
         }) }
         ensures failed { OnErr result (self.new
             ≡ record self.old { failures = min (self.old.failures + 1) (2 ^ 64 - 1) }) }
 
         // what every spool ensures
         ensures within { IfOk result (λ n. (1 ≤ n) × (n ≤ length piece.now)) }
-        ensures ok { IfOk result (λ n. HasTaken ⟦<MemorySpool as Spool>⟧.bytes ⟦<MemorySpool as Spool>⟧.failures ⟦<MemorySpool as Spool>⟧.limit self.old self.new (take n piece.now)) }
-        ensures err { OnErr result (HasFailed ⟦<MemorySpool as Spool>⟧.bytes ⟦<MemorySpool as Spool>⟧.failures ⟦<MemorySpool as Spool>⟧.limit self.old self.new piece.now) }
+        ensures ok { IfOk result (λ n. HasTaken (⟦<MemorySpool as Spool>⟧.state self.old) (⟦<MemorySpool as Spool>⟧.state self.new) (take n piece.now)) }
+        ensures err { OnErr result (HasFailed (⟦<MemorySpool as Spool>⟧.state self.old) (⟦<MemorySpool as Spool>⟧.state self.new) piece.now) }
     {
         if self.room == 0 {
             self.failures = self.failures.saturating_add(1);
@@ -82,5 +97,41 @@ impl Spool for MemorySpool {
         }
         self.room -= n;
         Ok(n)
+    }
+
+    /// Covers all that it holds.
+    fn sync(&mut self) -> Result<(), SpoolFault>
+        ensures sound { IsOk result }
+        ensures new { self.new ≡ record self.old { synced = length self.old.bytes } }
+
+        // what every spool ensures
+        ensures ok { OnOk result (HasSynced (⟦<MemorySpool as Spool>⟧.state self.old) (⟦<MemorySpool as Spool>⟧.state self.new)) }
+        ensures err { OnErr result (HasNotSynced (⟦<MemorySpool as Spool>⟧.state self.old) (⟦<MemorySpool as Spool>⟧.state self.new)) }
+    {
+        self.synced = self.bytes.len();
+        Ok(())
+    }
+
+    fn tail(&self) -> Tail
+        ensures exact { result ≡ tail_of self.now.bytes }
+
+        // what every spool ensures
+        ensures known { IfSome (⟦<MemorySpool as Spool>⟧.state self.now).bytes (λ held. result ≡ tail_of held) }
+    {
+        tail_of(&self.bytes)
+    }
+}
+
+fn tail_of(bytes: &[u8]) -> Tail
+    ensures { result ≡ tail_of bytes.now }
+{
+    if bytes.is_empty() {
+        Tail::Empty
+    } else if bytes.ends_with(b"\n\n") {
+        Tail::TwoLf
+    } else if bytes.ends_with(b"\n") {
+        Tail::OneLf
+    } else {
+        Tail::NoLf
     }
 }

@@ -1,197 +1,88 @@
-//! A record of a mailbox: the From line, the trace lines, and the message with its From lines quoted.
-ghost use Rattle.std.specs.Prelude.{◌≡◌, ◌++◌, [], ◌∷◌, flat_map, OnOk, OnErr, codes};
-ghost use Rattle.mail_world.specs.Records.{is_from_line, quoted, quoted_text, from_address};
-ghost use Rattle.mail_world.specs.Text.{unix, IsOneLine};
+//! A record of a mailbox, written while its message comes: the From line, the trace lines, and the message with its From lines quoted.
+ghost use Rattle.std.specs.Prelude.{◌≡◌, ◌≤◌, ℕ, List, [], ◌∷◌, ◌++◌, length, IfOk, OnOk, OnErr};
+ghost use Rattle.mail_world.specs.Records.{quoted_text};
+ghost use Rattle.mail_world.specs.Text.{unix, lf};
 ghost use Rattle.lmtp_text.specs.Calendar.{civil_at};
-ghost use Rattle.mbox_rd.specs.Envelope.{record_text};
-ghost use Rattle.mbox_rd.specs.Lines.{IsLine};
-ghost use Rattle.mbox_rd.specs.Parts.{from_line, origin, date_line, trace_lines};
+ghost use Rattle.mbox_rd.specs.Envelope.{head_text};
 ghost use Rattle.mbox_rd.specs.Spool.{HasTaken, HasFailed};
+ghost use Rattle.mbox_rd.specs.Steps.{written};
+ghost use Rattle.mbox_rd.specs.Writing.{owed, WritesPiece, FailsPiece};
 
+use crate::append::{append_all, append_each};
 use crate::envelope::Envelope;
+use crate::head::write_head;
+use crate::pending::{FROM, Pending, Step, long_step};
 use crate::spool::{Spool, SpoolFault};
-use itoa::Buffer;
-use lmtp_text::{Stamp, stamp_5322, stamp_ctime};
-use memchr::memchr;
+use std::marker::Model;
 
-/// Appends the record of a message at the host of that name: the From line, trace lines (RFC 5321, 4.4), the message with LF for CRLF and with From lines quoted, and an empty line. After a fault the spool holds a front of the record.
-pub fn write_record<S: Spool>(
-    spool: &mut S,
-    host: &[u8],
-    envelope: &Envelope,
-    message: &[u8],
-) -> Result<(), SpoolFault>
-    ensures ok { OnOk result (HasTaken S.bytes S.failures S.limit spool.old spool.new
-        (record_text civil_at host.now envelope.now message.now)) }
-    ensures err { OnErr result (HasFailed S.bytes S.failures S.limit spool.old spool.new
-        (record_text civil_at host.now envelope.now message.now)) }
-{
-    let stamp = Stamp::of_unix(envelope.moment());
-    write_from_line(spool, envelope.sender(), &stamp)?;
-    write_trace(spool, host, envelope, &stamp)?;
-    write_lines(spool, message)?;
-    append_all(spool, b"\n")
+/// Writes the record of a message that comes in pieces. It holds back a CR, or the front of a line's `From `, and keeps no bytes of the message.
+#[derive(Debug, Drop)]
+pub struct RecordWriter {
+    pending: Pending,
 }
 
-fn write_from_line<S: Spool>(spool: &mut S, sender: &[u8], stamp: &Stamp) -> Result<(), SpoolFault>
-    ensures ok { OnOk result (HasTaken S.bytes S.failures S.limit spool.old spool.new (from_line sender.now stamp.now)) }
-    ensures err { OnErr result (HasFailed S.bytes S.failures S.limit spool.old spool.new (from_line sender.now stamp.now)) }
-{
-    let moment = stamp_ctime(stamp);
-    append_each(
-        spool,
-        &[b"From ", from_address(sender), b" ", &moment, b"\n"],
-    )
+impl Model for RecordWriter {
+    ghost use Rattle.mbox_rd.specs.Writing.{Pending, IsPending};
+
+    ghost Value = { Pending };
+
+    ghost view = { λ w. w.pending };
+
+    ghost invariant = { λ w. IsPending w.pending };
 }
 
-// The null reverse path has no address.
-fn from_address(sender: &[u8]) -> &[u8]
-    ensures { result.now ≡ from_address sender.now }
-{
-    if sender.is_empty() {
-        b"MAILER-DAEMON"
-    } else {
-        sender
+impl RecordWriter {
+    /// Writes the From line and the trace lines (RFC 4155, Appendix A; RFC 5321, 4.4).
+    pub fn begin<S: Spool>(
+        spool: &mut S,
+        host: &[u8],
+        envelope: &Envelope,
+    ) -> Result<RecordWriter, SpoolFault>
+        ensures ok { OnOk result (HasTaken (S.state spool.old) (S.state spool.new) (head_text civil_at host.now envelope.now)) }
+        ensures new { IfOk result (λ writer. (text : List ℕ) → owed writer text ≡ quoted_text (unix text)) }
+        ensures err { OnErr result (HasFailed (S.state spool.old) (S.state spool.new) (head_text civil_at host.now envelope.now)) }
+    {
+        write_head(spool, host, envelope)?;
+        Ok(RecordWriter {
+            pending: Pending::Start,
+        })
     }
-}
 
-fn write_trace<S: Spool>(
-    spool: &mut S,
-    host: &[u8],
-    envelope: &Envelope,
-    stamp: &Stamp,
-) -> Result<(), SpoolFault>
-    ensures ok { OnOk result (HasTaken S.bytes S.failures S.limit spool.old spool.new
-        (trace_lines host.now stamp.now envelope.now)) }
-    ensures err { OnErr result (HasFailed S.bytes S.failures S.limit spool.old spool.new
-        (trace_lines host.now stamp.now envelope.now)) }
-{
-    write_origin(spool, host, envelope)?;
-    write_date(spool, stamp)
-}
-
-fn write_origin<S: Spool>(spool: &mut S, host: &[u8], envelope: &Envelope) -> Result<(), SpoolFault>
-    ensures ok { OnOk result (HasTaken S.bytes S.failures S.limit spool.old spool.new (origin host.now envelope.now)) }
-    ensures err { OnErr result (HasFailed S.bytes S.failures S.limit spool.old spool.new (origin host.now envelope.now)) }
-{
-    let txn = envelope.txn();
-    let (mut lane, mut number) = (Buffer::new(), Buffer::new());
-    append_each(
-        spool,
-        &[
-            b"Return-Path: <",
-            envelope.sender(),
-            b">\nReceived: from ",
-            envelope.client(),
-            b"\n\tby ",
-            host,
-            b" with LMTP id ",
-            lane.format(txn.lane).as_bytes(),
-            b"-",
-            number.format(txn.number).as_bytes(),
-            b";\n",
-        ],
-    )
-}
-
-fn write_date<S: Spool>(spool: &mut S, stamp: &Stamp) -> Result<(), SpoolFault>
-    ensures ok { OnOk result (HasTaken S.bytes S.failures S.limit spool.old spool.new (date_line stamp.now)) }
-    ensures err { OnErr result (HasFailed S.bytes S.failures S.limit spool.old spool.new (date_line stamp.now)) }
-{
-    let mut date = [0; 31];
-    let len = stamp_5322(stamp, &mut date);
-    append_each(spool, &[b"\t", &date[..len], b"\n"])
-}
-
-// Appends the lines of the message, each with LF at its end.
-fn write_lines<S: Spool>(spool: &mut S, message: &[u8]) -> Result<(), SpoolFault>
-    ensures ok { OnOk result (HasTaken S.bytes S.failures S.limit spool.old spool.new
-        (quoted_text (unix message.now))) }
-    ensures err { OnErr result (HasFailed S.bytes S.failures S.limit spool.old spool.new
-        (quoted_text (unix message.now))) }
-{
-    let mut rest = message;
-    while let Some(at) = memchr(b'\n', rest) {
-        let (line, more) = rest.split_at(at + 1);
-        write_line(spool, line)?;
-        rest = more;
+    /// Writes what is sure of the message's bytes, with LF for CRLF and one `>` more before a From line. The piece may end anywhere. After a fault the spool holds a front of the record, and the writer is gone.
+    pub fn piece<S: Spool>(self, spool: &mut S, piece: &[u8]) -> Result<RecordWriter, SpoolFault>
+        ensures ok { IfOk result (λ writer. WritesPiece (S.state spool.old) (S.state spool.new) self writer piece.now) }
+        ensures err { OnErr result (FailsPiece (S.state spool.old) (S.state spool.new) self piece.now) }
+    {
+        let mut pending = self.pending;
+        let mut rest = piece;
+        while !rest.is_empty() {
+            let step = long_step(pending, rest);
+            write_step(spool, rest, &step)?;
+            pending = step.next;
+            rest = &rest[step.taken..];
+        }
+        Ok(RecordWriter { pending })
     }
-    write_last(spool, rest)
-}
 
-// Appends what stands behind the last LF, as a line if it isn't empty.
-fn write_last<S: Spool>(spool: &mut S, line: &[u8]) -> Result<(), SpoolFault>
-    requires { IsOneLine line.now }
-    ensures ok { OnOk result (HasTaken S.bytes S.failures S.limit spool.old spool.new
-        (quoted_text (unix line.now))) }
-    ensures err { OnErr result (HasFailed S.bytes S.failures S.limit spool.old spool.new
-        (quoted_text (unix line.now))) }
-{
-    if line.is_empty() {
-        return Ok(());
-    }
-    write_quoted(spool, line, b"\n")
-}
-
-// Appends one line, which has its LF, in as few pieces as it takes.
-fn write_line<S: Spool>(spool: &mut S, line: &[u8]) -> Result<(), SpoolFault>
-    requires { IsLine line.now }
-    ensures ok { OnOk result (HasTaken S.bytes S.failures S.limit spool.old spool.new
-        (quoted_text (unix line.now))) }
-    ensures err { OnErr result (HasFailed S.bytes S.failures S.limit spool.old spool.new
-        (quoted_text (unix line.now))) }
-{
-    match line.strip_suffix(b"\r\n") {
-        Some(text) => write_quoted(spool, text, b"\n"),
-        None => write_quoted(spool, line, b""),
-    }
-}
-
-// Appends the line, with `>` before it if it is a From line, and its end.
-fn write_quoted<S: Spool>(spool: &mut S, line: &[u8], end: &[u8]) -> Result<(), SpoolFault>
-    ensures ok { OnOk result (HasTaken S.bytes S.failures S.limit spool.old spool.new
-        (quoted line.now ++ end.now)) }
-    ensures err { OnErr result (HasFailed S.bytes S.failures S.limit spool.old spool.new
-        (quoted line.now ++ end.now)) }
-{
-    let mark: &[u8] = if is_from_line(line) { b">" } else { b"" };
-    append_each(spool, &[mark, line, end])
-}
-
-// Whether the line is zero or more `>` and then `From `.
-fn is_from_line(line: &[u8]) -> bool
-    ensures { result ≡ is_from_line line.now }
-{
-    for (i, byte) in line.iter().enumerate() {
-        if *byte != b'>' {
-            return line[i..].starts_with(b"From ");
+    /// Writes what is left of the message, with LF behind a last line that has none, and the empty line that ends a record.
+    pub fn end<S: Spool>(self, spool: &mut S) -> Result<(), SpoolFault>
+        ensures ok { OnOk result (HasTaken (S.state spool.old) (S.state spool.new) (owed self [] ++ lf ∷ [])) }
+        ensures err { OnErr result (HasFailed (S.state spool.old) (S.state spool.new) (owed self [] ++ lf ∷ [])) }
+    {
+        match self.pending {
+            Pending::Start => append_all(spool, b"\n"),
+            Pending::Marks | Pending::Inside => append_all(spool, b"\n\n"),
+            Pending::Word(n) => append_each(spool, &[&FROM[..n], b"\n\n"]),
+            Pending::Cr => append_all(spool, b"\r\n\n"),
         }
     }
-    false
 }
 
-// Appends the pieces one behind the other.
-fn append_each<S: Spool>(spool: &mut S, pieces: &[&[u8]]) -> Result<(), SpoolFault>
-    ensures ok { OnOk result (HasTaken S.bytes S.failures S.limit spool.old spool.new
-        (flat_map (λ piece. piece.now) pieces.now)) }
-    ensures err { OnErr result (HasFailed S.bytes S.failures S.limit spool.old spool.new
-        (flat_map (λ piece. piece.now) pieces.now)) }
+fn write_step<S: Spool>(spool: &mut S, piece: &[u8], step: &Step) -> Result<(), SpoolFault>
+    requires { step.now.len ≤ length piece.now }
+    ensures ok { OnOk result (HasTaken (S.state spool.old) (S.state spool.new) (written step.now piece.now)) }
+    ensures err { OnErr result (HasFailed (S.state spool.old) (S.state spool.new) (written step.now piece.now)) }
 {
-    for piece in pieces {
-        append_all(spool, piece)?;
-    }
-    Ok(())
-}
-
-// Appends all the bytes, in as many pieces as the spool takes them.
-fn append_all<S: Spool>(spool: &mut S, bytes: &[u8]) -> Result<(), SpoolFault>
-    ensures ok { OnOk result (HasTaken S.bytes S.failures S.limit spool.old spool.new bytes.now) }
-    ensures err { OnErr result (HasFailed S.bytes S.failures S.limit spool.old spool.new bytes.now) }
-{
-    let mut rest = bytes;
-    while !rest.is_empty() {
-        let n = spool.append(rest)?;
-        rest = &rest[n..];
-    }
-    Ok(())
+    append_all(spool, &piece[..step.len])?;
+    append_all(spool, step.extra)
 }

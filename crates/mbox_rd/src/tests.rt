@@ -1,8 +1,9 @@
-//! Records as they stand in a mailbox, and spools that stop or take little at once.
-ghost use Rattle.std.specs.Prelude.{None, ◌≤◌, length, Some};
+//! Records as they stand in a mailbox, from messages in pieces, and spools that stop or take little at once.
+ghost use Rattle.std.specs.Prelude.{◌≤◌, length, None};
+ghost use Rattle.mail_world.specs.Failures.{Rises};
 ghost use Rattle.mail_world.specs.declared.limits.TheConstants.{PATH_LIMIT};
 
-use crate::{Envelope, MemorySpool, Spool, SpoolFault, write_record};
+use crate::{Envelope, MemorySpool, RecordWriter, Spool, SpoolFault, Tail, mend};
 use mail_world::Txn;
 use std::alloc::Global;
 use std::test::Fail;
@@ -16,6 +17,19 @@ Received: from relay.example
 
 const HELLO: &[u8] = b"Subject: hi\r\n\r\nhello\r\n";
 
+// Messages, and what stands behind the head for each.
+const TABLE: [(&[u8], &[u8]); 6] = [
+    (HELLO, b"Subject: hi\n\nhello\n\n"),
+    (b"", b"\n"),
+    (
+        b"From x\r\n>From x\r\n>>From x\r\nFrom:x\r\na\nFrom y\r\n",
+        b">From x\n>>From x\n>>>From x\nFrom:x\na\n>From y\n\n",
+    ),
+    (b"a\n.\nb\r\n\nc\r\n", b"a\n.\nb\n\nc\n\n"),
+    (b"a\r\r\nb\rc\r\n\r\n", b"a\r\nb\rc\n\n\n"),
+    (b"a\r\n>From\r\nFrom \r", b"a\n>From\n>From \r\n\n"),
+];
+
 fn first_from(alloc: Global, sender: &[u8]) -> Envelope
     requires { length sender.now ≤ PATH_LIMIT }
 {
@@ -23,46 +37,68 @@ fn first_from(alloc: Global, sender: &[u8]) -> Envelope
     Envelope::new(alloc, sender, b"relay.example", txn, 0)
 }
 
-fn deliver<S: Spool>(alloc: Global, spool: &mut S, message: &[u8]) -> Result<(), SpoolFault> {
+fn deliver<S: Spool>(alloc: Global, spool: &mut S, pieces: &[&[u8]]) -> Result<(), SpoolFault> {
     let envelope = first_from(alloc, b"carl@a.example");
-    write_record(spool, b"mx.example", &envelope, message)
+    let mut writer = RecordWriter::begin(spool, b"mx.example", &envelope)?;
+    for piece in pieces {
+        writer = writer.piece(spool, piece)?;
+    }
+    writer.end(spool)
+}
+
+// In single bytes.
+fn deliver_slowly<S: Spool>(
+    alloc: Global,
+    spool: &mut S,
+    message: &[u8],
+) -> Result<(), SpoolFault> {
+    let envelope = first_from(alloc, b"carl@a.example");
+    let mut writer = RecordWriter::begin(spool, b"mx.example", &envelope)?;
+    for piece in message.chunks(1) {
+        writer = writer.piece(spool, piece)?;
+    }
+    writer.end(spool)
+}
+
+// Whether the message is stored so, whole, cut at every place, and in single bytes.
+fn is_stored_as(alloc: Global, message: &[u8], stored: &[u8]) -> Result<bool, Fail> {
+    let mut slow = MemorySpool::new(alloc, b"", 1000)?;
+    deliver_slowly(alloc, &mut slow, message)?;
+    let mut same = slow.bytes().strip_prefix(HEAD) == Some(stored);
+    for at in 0..=message.len() {
+        let (front, back) = message.split_at(at);
+        let mut spool = MemorySpool::new(alloc, b"", 1000)?;
+        deliver(alloc, &mut spool, &[front, back])?;
+        same = same && spool.bytes().strip_prefix(HEAD) == Some(stored);
+    }
+    Ok(same)
 }
 
 #[test]
-fn a_message_stands_behind_its_head(rt: HostRuntime) -> Result<(), Fail> {
-    let mut spool = MemorySpool::new(rt.alloc(), b"", 1000)?;
-    deliver(rt.alloc(), &mut spool, HELLO)?;
-    assert_eq!(rt;
-        spool.bytes().strip_prefix(HEAD),
-        Some(b"Subject: hi\n\nhello\n\n".as_slice())
-    );
-    assert_eq!(rt; spool.bytes().len(), 189);
-    Ok(())
-}
-
-#[test]
-fn an_empty_message_leaves_the_empty_line(rt: HostRuntime) -> Result<(), Fail> {
-    let mut spool = MemorySpool::new(rt.alloc(), b"", 1000)?;
-    deliver(rt.alloc(), &mut spool, b"")?;
-    assert_eq!(rt; spool.bytes().strip_prefix(HEAD), Some(b"\n".as_slice()));
-    assert_eq!(rt; spool.bytes().len(), 170);
-    Ok(())
-}
-
-#[test]
-fn lines_are_quoted_and_end_in_lf(rt: HostRuntime) -> Result<(), Fail> {
-    let table: [(&[u8], &[u8]); 3] = [
-        (
-            b"From x\r\n>From x\r\n>>From x\r\nFrom:x\r\na\nFrom y\r\n",
-            b">From x\n>>From x\n>>>From x\nFrom:x\na\n>From y\n\n",
-        ),
-        (b"a\r\r\nb\rc\r\n\r\n", b"a\r\nb\rc\n\n\n"),
-        (b"a\r\n>From\r\nFrom \r", b"a\n>From\n>From \r\n\n"),
-    ];
-    for (message, stored) in table {
+fn each_message_is_stored_however_it_is_cut(rt: HostRuntime) -> Result<(), Fail> {
+    for (message, stored) in TABLE {
+        assert!(rt; is_stored_as(rt.alloc(), message, stored)?);
+    }
+    let lens = [(HELLO, 189), (b"".as_slice(), 170)];
+    for (message, len) in lens {
         let mut spool = MemorySpool::new(rt.alloc(), b"", 1000)?;
-        deliver(rt.alloc(), &mut spool, message)?;
-        assert_eq!(rt; spool.bytes().strip_prefix(HEAD), Some(stored));
+        deliver(rt.alloc(), &mut spool, &[message])?;
+        assert_eq!(rt; spool.bytes().len(), len);
+    }
+    Ok(())
+}
+
+#[test]
+fn a_from_line_is_quoted_wherever_it_begins(rt: HostRuntime) -> Result<(), Fail> {
+    for n in 505..=513 {
+        let mut message = Vec::from_elem(rt.alloc(), b'x', n - 2)?;
+        let mut stored = message.clone()?;
+        message.extend_from_slice(b"\r\n>>>From q\r\n")?;
+        stored.extend_from_slice(b"\n>>>>From q\n\n")?;
+        assert!(rt; is_stored_as(rt.alloc(), &message, &stored)?);
+        if n == 512 {
+            assert_eq!(rt; HEAD.len() + stored.len(), 692);
+        }
     }
     Ok(())
 }
@@ -71,7 +107,7 @@ fn lines_are_quoted_and_end_in_lf(rt: HostRuntime) -> Result<(), Fail> {
 fn the_null_path_has_a_name(rt: HostRuntime) -> Result<(), Fail> {
     let mut spool = MemorySpool::new(rt.alloc(), b"", 1000)?;
     let envelope = first_from(rt.alloc(), b"");
-    write_record(&mut spool, b"mx.example", &envelope, HELLO)?;
+    let _writer = RecordWriter::begin(&mut spool, b"mx.example", &envelope)?;
     let head = b"From MAILER-DAEMON Thu Jan  1 00:00:00 1970\nReturn-Path: <>\n";
     assert!(rt; spool.bytes().starts_with(head));
     Ok(())
@@ -79,49 +115,111 @@ fn the_null_path_has_a_name(rt: HostRuntime) -> Result<(), Fail> {
 
 #[test]
 fn a_full_spool_holds_a_front(rt: HostRuntime) -> Result<(), Fail> {
-    let mut spool = MemorySpool::new(rt.alloc(), b"old\n\n", 40)?;
+    let mut spool = MemorySpool::new(rt.alloc(), b"", 40)?;
     for _ in 0..2 {
-        assert_eq!(rt; deliver(rt.alloc(), &mut spool, HELLO), Err(SpoolFault));
+        assert!(rt; deliver(rt.alloc(), &mut spool, &[HELLO]).is_err());
         assert_eq!(rt;
             spool.bytes(),
-            b"old\n\nFrom carl@a.example Thu Jan  1 00:00:00 ".as_slice()
+            b"From carl@a.example Thu Jan  1 00:00:00 ".as_slice()
         );
+    }
+    let mut narrow = MemorySpool::new(rt.alloc(), b"abc", 1)?;
+    assert_eq!(rt; mend(&mut narrow), Err(SpoolFault));
+    assert_eq!(rt; narrow.bytes(), b"abc\n".as_slice());
+    Ok(())
+}
+
+#[test]
+fn an_old_mailbox_is_mended(rt: HostRuntime) -> Result<(), Fail> {
+    let table = [
+        (b"abc".as_slice(), Tail::NoLf, 194),
+        (b"abc\n", Tail::OneLf, 194),
+        (b"a\n\n", Tail::TwoLf, 192),
+        (b"", Tail::Empty, 189),
+    ];
+    for (old, tail, len) in table {
+        let mut spool = MemorySpool::new(rt.alloc(), old, 1000)?;
+        assert_eq!(rt; spool.tail(), tail);
+        mend(&mut spool)?;
+        deliver(rt.alloc(), &mut spool, &[HELLO])?;
+        spool.sync()?;
+        assert_eq!(rt; spool.bytes().len(), len);
+        assert_eq!(rt; spool.tail(), Tail::TwoLf);
     }
     Ok(())
 }
 
 #[test]
-fn single_bytes_make_the_same_record(rt: HostRuntime) -> Result<(), Fail> {
-    let mut slow = ByteSpool {
-        bytes: Vec::new(rt.alloc()),
-        failures: 0,
-    };
+fn a_spool_may_take_one_byte_at_once(rt: HostRuntime) -> Result<(), Fail> {
+    let mut slow = LazySpool::new(rt.alloc(), 1, usize::MAX);
     let mut spool = MemorySpool::new(rt.alloc(), b"", 1000)?;
-    deliver(rt.alloc(), &mut slow, HELLO)?;
-    deliver(rt.alloc(), &mut spool, HELLO)?;
+    deliver(rt.alloc(), &mut slow, &[HELLO])?;
+    deliver(rt.alloc(), &mut spool, &[HELLO])?;
     assert_eq!(rt; slow.bytes.as_slice(), spool.bytes());
     Ok(())
 }
 
-// Takes one byte at once.
+#[test]
+fn each_append_may_be_the_last(rt: HostRuntime) -> Result<(), Fail> {
+    let mut whole = LazySpool::new(rt.alloc(), 1000, usize::MAX);
+    deliver(rt.alloc(), &mut whole, &[HELLO])?;
+    for appends in 0..whole.appends {
+        let mut spool = LazySpool::new(rt.alloc(), 1000, appends);
+        assert!(rt; deliver(rt.alloc(), &mut spool, &[HELLO]).is_err());
+        assert!(rt; whole.bytes.starts_with(&spool.bytes));
+    }
+    Ok(())
+}
+
+// Takes a few bytes at once, fails behind so many appends, and doesn't tell what it holds.
 #[derive(Drop)]
-struct ByteSpool {
+struct LazySpool {
     bytes: Vec<u8>,
+    at_once: usize,
+    most: usize,
+    appends: usize,
     failures: u64,
 }
 
-impl Spool for ByteSpool {
-    ghost bytes = { λ s. Some s.bytes.items };
+impl LazySpool {
+    fn new(alloc: Global, at_once: usize, most: usize) -> LazySpool {
+        LazySpool {
+            bytes: Vec::new(alloc),
+            at_once,
+            most,
+            appends: 0,
+            failures: 0,
+        }
+    }
 
-    ghost failures = { λ s. s.failures };
+    fn fail(&mut self) -> SpoolFault
+        ensures { Rises self.old.failures self.new.failures }
+    {
+        self.failures = self.failures.saturating_add(1);
+        SpoolFault
+    }
+}
 
-    ghost limit = { λ s. None };
+impl Spool for LazySpool {
+    ghost state = { λ s. record { bytes = None; failures = s.failures; limit = None; synced = 0 } };
 
     fn append(&mut self, piece: &[u8]) -> Result<usize, SpoolFault> {
-        if self.bytes.push(piece[0]).is_err() {
-            self.failures = self.failures.saturating_add(1);
-            return Err(SpoolFault);
+        if self.appends == self.most {
+            return Err(self.fail());
         }
-        Ok(1)
+        let n = piece.len().min(self.at_once).max(1);
+        if self.bytes.extend_from_slice(&piece[..n]).is_err() {
+            return Err(self.fail());
+        }
+        self.appends = self.appends.saturating_add(1);
+        Ok(n)
+    }
+
+    fn sync(&mut self) -> Result<(), SpoolFault> {
+        Err(self.fail())
+    }
+
+    fn tail(&self) -> Tail {
+        Tail::Empty
     }
 }

@@ -1,9 +1,0 @@
-use Rattle.std.proofs.Common.{take}
-use Rattle.std.specs.Prelude.{flat_map}
-use Rattle.mbox_rd.specs.Spool.{HasTaken}
-use Rattle.mbox_rd.proofs.record.append_each.Given as goal
-
--- the pieces that were passed are taken
-abbrev pub invariant-loop-piece : goal.invariant-loop-piece
-invariant-loop-piece g l =
-    HasTaken g.S.Spool.bytes g.S.Spool.failures g.S.Spool.limit l.initial.spool l.spool (flat_map (λ piece. piece.now) (take l.piece-index l.pieces))
