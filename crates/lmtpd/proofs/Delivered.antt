@@ -1,20 +1,15 @@
 -- The copies of a message, place by place.
 use Rattle.std.proofs.Common.{◌≡◌, ℕ, ◌+◌, ◌<◌, List, [], ◌∷◌, ◌++◌, length, take, get_or, Bool, true, false, refl, sym, ap, ◌∙◌, subst, arith, append_assoc, add-one, length-set, length-take-le, get_or-set_same, get_or-set_other}
-use Rattle.std.specs.Prelude.{◌==◌, ◌≢◌, slice_set, slice_get, Some}
+use Rattle.std.specs.Prelude.{◌==◌, ◌≢◌, slice_set}
 use Rattle.std.specs.List.{AllByRecursion}
 use Rattle.std.proofs.Math.Seq.{take-suc}
-use Rattle.std.proofs.lemmas.Option.{get_or_from_slice_get}
 use Rattle.std.proofs.lemmas.Bool.Decides.{nat_tests}
 use Rattle.std.proofs.lemmas.List.{append-nil, map-set, get_or-map, length-map}
-use Rattle.std.proofs.lemmas.Grind.{flat_map-append}
 use Rattle.mail_world.specs.declared.Outcome.{Outcome}
 use Rattle.mail_world.specs.declared.Outcome.TheVariants.{Stored, Failed, NoRoom, TooLarge}
-use Rattle.mail_world.specs.declared.Reply.{Reply}
 use Rattle.mail_world.specs.declared.Note.{Note}
-use Rattle.mail_world.specs.Site.{Site}
 use Rattle.mail_world.specs.Lists.{Transaction}
 use Rattle.mail_world.specs.Records.{record_of}
-use Rattle.mail_world.specs.Replies.{reply_text, reply_texts}
 use Rattle.mail_world.specs.Deliveries.{outcomes_for, HoldsCopies}
 use Rattle.mail_world.proofs.Deliveries.{holds_stored, holds_torn, holds_lost, copy_at, notes_for-here, notes_for-other, outcomes_for-here, outcomes_for-other}
 use Rattle.lmtp_text.specs.Calendar.{civil_at}
@@ -22,16 +17,6 @@ use Rattle.mbox_rd.specs.Envelope.{record_text}
 use Rattle.lmtpd.specs.declared.rehearse.mailbox.Mailbox.{Mailbox}
 use Rattle.lmtpd.specs.Mailboxes.{Kept, kept, kept_all, kept_at, nothing_kept, TakesCopyIf, TakesCopy, TakesCopyAt, IsCalm}
 use Rattle.lmtpd.specs.Delivery.{copies_for, TakesCopies, DeliversTo}
-
--- replies one after another
-pub one_reply_more : (site : Site) (rs : List Reply) (i : ℕ) (r : Reply) (done text added : List ℕ) → i < length rs → slice_get rs i ≡ Some r
-    → done ≡ added ++ reply_texts site (take i rs) → text ≡ done ++ reply_text site r → text ≡ added ++ reply_texts site (take (i + 1) rs)
-one_reply_more site rs i r done text added within is done_is text_is =
-    text_is ∙ ap (λ l. l ++ reply_text site r) done_is ∙ append_assoc added (reply_texts site (take i rs)) (reply_text site r)
-    ∙ ap (λ l. added ++ (reply_texts site (take i rs) ++ l)) (sym (append-nil (reply_text site r)))
-    ∙ ap (λ l. added ++ l) (sym (flat_map-append (reply_text site) (take i rs) (r ∷ [])))
-    ∙ ap (λ (x : Reply). added ++ reply_texts site (take i rs ++ x ∷ [])) (sym (get_or_from_slice_get rs i r r is))
-    ∙ ap (λ l. added ++ reply_texts site l) (sym (take-suc rs i r within) ∙ ap (λ k. take k rs) (sym (add-one i)))
 
 -- a mailbox among others
 pub takes_at : (text : List ℕ) (n : ℕ) (o : Outcome) (ms : List Mailbox) (d m m' : Mailbox) → n < length ms → m ≡ get_or ms n d → TakesCopy text o (kept m) (kept m')

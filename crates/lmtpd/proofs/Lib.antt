@@ -1,9 +1,6 @@
-pub mod Finding
-pub mod Unstuffing
 pub mod Delivered
-pub mod Stored
-pub mod Reached
-pub mod Finished
+pub mod Copies
+pub mod Keeping
 pub mod Written
 pub mod Listed
 pub mod Ran

@@ -1,144 +1,146 @@
--- A rehearsal from its parts: what was read, what the engine came to, what was written.
-use Rattle.std.proofs.Common.{◌≡◌, ℕ, List, [], Bool, true, false, Option, Result, Ok, Err, refl, sym, ap, ◌∙◌, subst, append-nil, inl, inr, ◌∷◌, arith}
-use Rattle.std.specs.Prelude.{◌↔◌, ◌⊎◌}
-use Rattle.std.specs.List.{list_any}
-use Rattle.std.specs.Result.{OnOk, OnErr, is_ok, is_err}
+-- A rehearsal from its parts: the conversation, what the mailboxes came to, and how they were written.
+use Rattle.std.proofs.Common.{◌≡◌, ℕ, List, [], ◌∷◌, length, Bool, true, false, Option, Result, Ok, Err, refl, sym, ap, ◌∙◌, subst, append-nil, arith}
+use Rattle.std.specs.Prelude.{◌<◌, map}
+use Rattle.std.specs.List.{list_any, AllByRecursion}
+use Rattle.std.specs.Result.{OnOk, OnErr, is_err}
 use Rattle.std.specs.Io.KnownBytes.{Appends}
-use Rattle.mail_world.specs.declared.State.{State}
-use Rattle.mail_world.specs.declared.State.TheVariants.{Fresh, Greeted, Sender, Recipients, Content, Waiting, Ended}
-use Rattle.mail_world.specs.Site.{Site}
-use Rattle.mail_world.specs.Conversation.{Disposition, inputs, replies}
-use Rattle.mail_world.specs.Deliveries.{IsFront, HoldsCopies, told}
-use Rattle.mail_world.specs.Lists.{due}
 use Rattle.std.proofs.lemmas.List.{length-map}
+use Rattle.mail_world.specs.declared.Note.{Note}
+use Rattle.mail_world.specs.declared.Outcome.{Outcome}
+use Rattle.mail_world.specs.Site.{Site}
+use Rattle.mail_world.specs.Conversation.{Disposition, Conversation, inputs, replies}
+use Rattle.mail_world.specs.Lists.{Transaction, VerdictFits, transactions, due}
+use Rattle.mail_world.specs.Deliveries.{HoldsCopies, told}
+use Rattle.mail_world.proofs.Owed.{owed, told_all}
+use Rattle.mail_world.proofs.Accounts.{account_told}
 use Rattle.mail_world.proofs.Deliveries.{holds_all}
 use Rattle.lmtp_text.specs.Calendar.{civil_at}
-use Rattle.lmtpd.specs.declared.rehearse.ending.EndCause.{EndCause}
-use Rattle.lmtpd.specs.declared.rehearse.ending.EndCause.TheVariants.{Quit, EndOfInput, WriteFault, Stopped, ReadBound}
+use Rattle.lmtp_house.specs.declared.ending.EndCause.{EndCause}
+use Rattle.lmtp_house.specs.declared.ending.EndCause.TheVariants.{WriteFault}
+use Rattle.lmtp_house.specs.Peer.{PeerState}
+use Rattle.lmtp_house.specs.Served.{IsWritten, IsServed, has_quit, transactions_in, accepted_behind_all}
 use Rattle.lmtpd.specs.declared.rehearse.ending.Ending.{Ending}
-use Rattle.lmtpd.specs.declared.rehearse.engine.Engine.{Engine}
-use Rattle.lmtpd.specs.declared.rehearse.input.Input.{Input}
+use Rattle.lmtpd.specs.declared.rehearse.mailbox.Mailbox.{Mailbox}
 use Rattle.lmtpd.specs.declared.rehearse.output.WriteFault.{WriteFault as Fault}
-use Rattle.lmtpd.specs.Input.{EndsReading, IsInput}
 use Rattle.lmtpd.specs.Output.{Breaks}
 use Rattle.lmtpd.specs.Mailboxes.{kept, kept_all, kept_at, mailboxes_text, IsCalm}
-use Rattle.lmtpd.specs.Engine.{HandlesAll, conversation, has_quit}
-use Rattle.lmtpd.specs.Rehearsal.{IsWritten, EndsFor, IsRehearsed, end_at, end_of, IsWrittenOut}
+use Rattle.lmtpd.specs.Account.{conversation, RoomFits, IsAllStored, HasKept}
+use Rattle.lmtpd.specs.Rehearsal.{EndsFor, IsRehearsed, IsHeld, IsListed}
 use Rattle.lmtpd.proofs.Written.{Appends-then}
 use Rattle.lmtpd.proofs.Listed.{none_failed, all_calm, all_full}
 
--- one of the two texts: all of it, or a front
-pub record Took (r : Result (Unit {0}) Fault) (u v : Option (List ℕ)) (text : List ℕ) : Type 0 where
-  pub done : List ℕ
-  pub appended : Appends u v done
-  pub begins : IsFront done text
-  pub whole : is_ok r ≡ true → done ≡ text
+-- a peer that never says to stop
+not_stopped : (b : Bool) → (b ≡ true → false ≡ true) → b ≡ false
+not_stopped true f = let wrong : false ≡ true = f refl in cc
+not_stopped false f = refl
 
-pub took : (r : Result (Unit {0}) Fault) (u v : Option (List ℕ)) (text : List ℕ) → OnOk r (Appends u v text) → OnErr r (Breaks u v text) → Took r u v text
-took (Ok x) u v text a b = record { done = text; appended = a; begins = record { rest = []; whole = sym (append-nil text) }; whole = λ e. refl }
-took (Err x) u v text a b = record { done = b.front; appended = b.appended; begins = b.begins; whole = λ e. cc }
-
-end_not_fault : (written : Bool) (state : State) (read_end end : EndCause) → end ≡ end_of written state read_end → (end ≡ WriteFault → ⊥) → written ≡ true
-end_not_fault true state read_end end e f = refl
-end_not_fault false state read_end end e f = absurd (f e)
-
-end_is : (written : Bool) (state : State) (read_end end : EndCause) → end ≡ end_of written state read_end → (end ≡ WriteFault) ⊎ (end ≡ end_at state read_end)
-end_is true state read_end end e = inr e
-end_is false state read_end end e = inl e
-
-not_cut : (r : Result (Unit {0}) Fault) (cut : Bool) → cut ≡ is_err r → (cut ≡ true → ⊥) → is_ok r ≡ true
-not_cut (Ok x) cut e f = refl
-not_cut (Err x) cut e f = absurd (f e)
-
-pub written_out : (e : Engine) (read_end : EndCause) (u v w : Option (List ℕ)) (replies mailboxes : Result (Unit {0}) Fault) (end : EndCause) (faulty cut : Bool)
-    → Took replies u v e.replies.items → Took mailboxes v w (mailboxes_text e.session.site.boxes (kept_all e.mailboxes.items))
-    → end ≡ end_of (is_ok replies) e.session.session.state read_end → cut ≡ is_err mailboxes → faulty ≡ list_any (λ m. m.failed) e.mailboxes.items
-    → IsWrittenOut e read_end u w (record { end = end; faulty = faulty; cut = cut })
-written_out e read_end u v w replies mailboxes end faulty cut r m end_is' cut_is faulty_is = record {
-  said = r.done;
-  listed = m.done;
-  output = Appends-then u v w r.done m.done r.appended m.appended;
-  says = record { begins = r.begins; whole = λ f. r.whole (end_not_fault (is_ok replies) e.session.session.state read_end end end_is' f) };
-  lists = record { begins = m.begins; whole = λ f. m.whole (not_cut mailboxes cut cut_is f) };
-  ends = end_is (is_ok replies) e.session.session.state read_end end end_is';
-  sound = (λ f. none_failed e.mailboxes.items (sym faulty_is ∙ f), λ calm. faulty_is ∙ all_calm e.mailboxes.items calm);
-}
-
--- the cause of the end: QUIT, or that of reading
-record EndsBy (state : State) (read_end end : EndCause) : Type 0 where
-  one : ((state ≡ Ended) × (end ≡ Quit)) ⊎ ((state ≡ Ended → ⊥) × (end ≡ read_end))
-
-ends_by : (state : State) (read_end end : EndCause) → end ≡ end_at state read_end → EndsBy state read_end end
-ends_by Ended read_end end e = record { one = inl (refl, e) }
-ends_by Fresh read_end end e = record { one = inr (λ h. cc, e) }
-ends_by Greeted read_end end e = record { one = inr (λ h. cc, e) }
-ends_by Sender read_end end e = record { one = inr (λ h. cc, e) }
-ends_by Recipients read_end end e = record { one = inr (λ h. cc, e) }
-ends_by Content read_end end e = record { one = inr (λ h. cc, e) }
-ends_by Waiting read_end end e = record { one = inr (λ h. cc, e) }
-
-reading : (read_end end : EndCause) (left : Option (List ℕ)) (read : List ℕ) → EndsReading read_end left read → end ≡ read_end → EndsReading end left read
-reading read_end end left read h e = let P : EndCause → Type 0 = λ x. EndsReading x left read in subst P (sym e) h
-
-as_cause : (end : EndCause) (left : Option (List ℕ)) (read : List ℕ) (x : EndCause) → EndsReading end left read → end ≡ x → EndsReading x left read
-as_cause end left read x h e = let P : EndCause → Type 0 = λ y. EndsReading y left read in subst P e h
-
-ends_for : (site : Site) (read : List ℕ) (account : List Disposition) (left : Option (List ℕ)) (state : State) (read_end end : EndCause)
-    → EndsReading read_end left read → ((state ≡ Ended) ↔ (has_quit (inputs site (conversation read account)) ≡ true))
-    → (end ≡ WriteFault) ⊎ (end ≡ end_at state read_end) → EndsFor site read account left end
-ends_for site read account left state read_end end h q (inl e) = record {
-  quit = λ f. let wrong : WriteFault ≡ Quit = sym e ∙ f in cc;
-  quits = λ f. inr e;
-  end_of_input = λ f. let wrong : WriteFault ≡ EndOfInput = sym e ∙ f in cc;
-  read_bound = λ f. let wrong : WriteFault ≡ ReadBound = sym e ∙ f in cc;
-  not_stopped = λ f. let wrong : WriteFault ≡ Stopped = sym e ∙ f in cc;
-}
-ends_for site read account left state read_end end h q (inr e) = elim ((ends_by state read_end end e).one) [
-  | inl ended ↦ record {
-    quit = λ f. q.0 ended.0;
-    quits = λ f. inl ended.1;
-    end_of_input = λ f. let wrong : Quit ≡ EndOfInput = sym ended.1 ∙ f in cc;
-    read_bound = λ f. let wrong : Quit ≡ ReadBound = sym ended.1 ∙ f in cc;
-    not_stopped = λ f. let wrong : Quit ≡ Stopped = sym ended.1 ∙ f in cc;
-  }
-  | inr goes ↦ record {
-    quit = λ f. absurd (as_cause end left read Quit (reading read_end end left read h goes.1) f);
-    quits = λ f. absurd (goes.0 (q.1 f));
-    end_of_input = λ f. as_cause end left read EndOfInput (reading read_end end left read h goes.1) f;
-    read_bound = λ f. as_cause end left read ReadBound (reading read_end end left read h goes.1) f;
-    not_stopped = λ f. as_cause end left read Stopped (reading read_end end left read h goes.1) f;
-  }
-]
-
-pub rehearsed : (site : Site) (moment : ℕ) (unread left before after : Option (List ℕ)) (input : Input) (e : Engine) (ending : Ending)
-    → IsInput unread left input → HandlesAll site moment input.bytes.items e → IsWrittenOut e input.end before after ending
-    → IsRehearsed site moment unread left before after ending
-rehearsed site moment unread left before after input e ending i h w =
-    let calm : ending.faulty ≡ false → IsCalm (kept_all e.mailboxes.items) = λ f. w.sound.0 f in
-    let names : mailboxes_text e.session.site.boxes (kept_all e.mailboxes.items) ≡ mailboxes_text site.boxes (kept_all e.mailboxes.items) = ap (λ (x : Site). mailboxes_text x.boxes (kept_all e.mailboxes.items)) h.at in
-    let S : List ℕ → Type 0 = λ text. IsWritten text (ending.end ≡ WriteFault) w.said in
-    let L : List ℕ → Type 0 = λ text. IsWritten text (ending.cut ≡ true) w.listed in
+pub held : (site : Site) (old new : PeerState) (Before After : ℕ → List Transaction → Type 0) (end : EndCause) → old.stops ≡ false → IsServed site old new Before After end
+    → IsHeld site old.unread new.unread old.written new.written Before After end
+held site old new Before After end never h =
+    let c = h.conversation in
+    let stopped : c.stopped ≡ false = not_stopped c.stopped (λ e. sym never ∙ h.causes.may_stop e) in
+    let is : c ≡ conversation c.bytes c.dispositions = ap (λ b. record { bytes = c.bytes; dispositions = c.dispositions; stopped = b }) stopped in
+    let Q : Conversation → Type 0 = λ x. has_quit (inputs site x) ≡ true in
+    let W : Conversation → Type 0 = λ x. IsWritten (replies site (inputs site x)) (end ≡ WriteFault) h.said in
     record {
-      read = input.bytes.items;
-      input = i.read;
-      account = h.dispositions;
-      accounted = record { complete = h.account; moments = h.moments; verdicts = h.verdicts; room = h.room };
-      mailboxes = kept_all e.mailboxes.items;
-      delivered = record {
-        count = length-map e.mailboxes.items kept ∙ h.count;
-        each = h.holds;
-        full = λ box within failed. all_full e.mailboxes.items box (omega (arith, h.count)) failed;
-        sound = w.sound;
-        stored = λ f. h.stored (calm f);
-        held = λ f box within.
-            let failed : (kept_at (kept_all e.mailboxes.items) box).failed ≡ false = calm f box (omega (arith, length-map e.mailboxes.items kept, h.count)) in
-            let P : Bool → Type 0 = λ b. HoldsCopies civil_at site.host (due site 0 box (conversation input.bytes.items h.dispositions ∷ [])) (told site box (conversation input.bytes.items h.dispositions ∷ [])) (kept_at (kept_all e.mailboxes.items) box).bytes b in
-            (holds_all civil_at site.host _ _ (kept_at (kept_all e.mailboxes.items) box).bytes (subst P failed (h.holds box within))).held;
+      read = c.bytes;
+      input = h.moved.unread;
+      account = c.dispositions;
+      accounted = h.accounted;
+      said = h.said;
+      output = h.moved.written;
+      says = subst W is h.says;
+      delivered = h.delivered;
+      ends = record {
+        quit = λ e. subst Q is (h.causes.quit e);
+        quits = λ q. h.causes.quits (subst Q (sym is) q);
+        end_of_input = h.causes.end_of_input;
+        read_bound = h.causes.read_bound;
+        not_stopped = λ e. let wrong : true ≡ false = sym (h.causes.stop e) ∙ stopped in cc;
       };
-      said = w.said;
+    }
+
+-- the mailboxes as they are written: all of the text, or a front
+pub listed : (names : List (List ℕ)) (ms : List Mailbox) (end : EndCause) (u v : Option (List ℕ)) (r : Result (Unit {0}) Fault) (faulty cut : Bool)
+    → OnOk r (Appends u v (mailboxes_text names (kept_all ms))) → OnErr r (Breaks u v (mailboxes_text names (kept_all ms)))
+    → cut ≡ is_err r → faulty ≡ list_any (λ m. m.failed) ms → IsListed names (kept_all ms) end u v (record { end = end; faulty = faulty; cut = cut })
+listed names ms end u v (Ok x) faulty cut a b cut_is faulty_is = record {
+  same = refl;
+  listed = mailboxes_text names (kept_all ms);
+  output = a;
+  lists = record { begins = record { rest = []; whole = sym (append-nil (mailboxes_text names (kept_all ms))) }; whole = λ e. refl };
+  sound = (λ f. none_failed ms (sym faulty_is ∙ f), λ calm. faulty_is ∙ all_calm ms calm);
+}
+listed names ms end u v (Err x) faulty cut a b cut_is faulty_is = record {
+  same = refl;
+  listed = b.front;
+  output = b.appended;
+  lists = record { begins = b.begins; whole = λ e. absurd (e cut_is) };
+  sound = (λ f. none_failed ms (sym faulty_is ∙ f), λ calm. faulty_is ∙ all_calm ms calm);
+}
+
+-- the lane's only conversation
+only_one : (site : Site) (c : Conversation) → transactions site 0 (c ∷ []) ≡ transactions_in site 0 c
+unfolding transactions
+only_one site c = append-nil (transactions_in site 0 c)
+
+due_is : (site : Site) (box : ℕ) (c : Conversation) → due site 0 box (c ∷ []) ≡ owed 0 box (transactions_in site 0 c)
+unfolding due
+due_is site box c = ap (λ ts. owed 0 box ts) (only_one site c)
+
+told_is : (site : Site) (box : ℕ) (c : Conversation) → told site box (c ∷ []) ≡ told_all box (transactions_in site 0 c)
+unfolding told
+told_is site box c = ap (λ ts. told_all box ts) (only_one site c)
+
+pub rehearsed : (site : Site) (moment counted : ℕ) (ms : List Mailbox) (unread left before between after : Option (List ℕ)) (Before : ℕ → List Transaction → Type 0) (end : EndCause) (ending : Ending)
+    → IsHeld site unread left before between Before (λ n ts. HasKept site moment counted (kept_all ms) n ts) end → Before 0 []
+    → length ms ≡ length site.boxes → IsListed site.boxes (kept_all ms) end between after ending
+    → IsRehearsed site moment unread left before after ending
+rehearsed site moment counted ms unread left before between after Before end ending h start size w =
+    let c : Conversation = conversation h.read h.account in
+    let ts : List Transaction = transactions_in site 0 c in
+    let k : HasKept site moment counted (kept_all ms) (accepted_behind_all site 0 c) ts = h.delivered 0 [] start in
+    let told_it : map (λ t. t.disposition) ts ≡ h.account = account_told site 0 c h.accounted in
+    let ts_is : ts ≡ transactions site 0 (c ∷ []) = sym (only_one site c) in
+    let count : length (kept_all ms) ≡ length site.boxes = length-map ms kept ∙ size in
+    let calm : ending.faulty ≡ false → IsCalm (kept_all ms) = λ f. w.sound.0 f in
+    let E : EndCause → Type 0 = λ x. EndsFor site h.read h.account left x in
+    let S : EndCause → Type 0 = λ x. IsWritten (replies site (inputs site c)) (x ≡ WriteFault) h.said in
+    let D : List Disposition → Type 0 = λ ds. AllByRecursion (λ d. d.moment ≡ moment) ds in
+    let A : List Disposition → Type 0 = λ ds. AllByRecursion IsAllStored ds in
+    let V : List Transaction → Type 0 = λ l. AllByRecursion VerdictFits l in
+    let R : List Transaction → Type 0 = λ l. AllByRecursion RoomFits l in
+    let each : (box : ℕ) → box < length site.boxes → HoldsCopies civil_at site.host (due site 0 box (c ∷ [])) (told site box (c ∷ [])) (kept_at (kept_all ms) box).bytes (kept_at (kept_all ms) box).failed =
+    λ box within.
+    let P : List Note → Type 0 = λ l. HoldsCopies civil_at site.host l (told_all box ts) (kept_at (kept_all ms) box).bytes (kept_at (kept_all ms) box).failed in
+    let Q : List Outcome → Type 0 = λ l. HoldsCopies civil_at site.host (due site 0 box (c ∷ [])) l (kept_at (kept_all ms) box).bytes (kept_at (kept_all ms) box).failed in
+    subst Q (sym (told_is site box c)) (subst P (sym (due_is site box c)) (k.holds box within)) in
+    record {
+      read = h.read;
+      input = h.input;
+      account = h.account;
+      accounted = record {
+        complete = h.accounted;
+        moments = subst D told_it k.moments;
+        verdicts = subst V ts_is k.verdicts;
+        room = subst R ts_is k.room;
+      };
+      mailboxes = kept_all ms;
+      delivered = record {
+        count = count;
+        each = each;
+        full = λ box within failed. all_full ms box (omega (arith, within, size)) failed;
+        sound = w.sound;
+        stored = λ f. subst A told_it (k.stored (calm f));
+        held = λ f box within.
+            let failed : (kept_at (kept_all ms) box).failed ≡ false = calm f box (omega (arith, within, count)) in
+            let P : Bool → Type 0 = λ b. HoldsCopies civil_at site.host (due site 0 box (c ∷ [])) (told site box (c ∷ [])) (kept_at (kept_all ms) box).bytes b in
+            (holds_all civil_at site.host _ _ (kept_at (kept_all ms) box).bytes (subst P failed (each box within))).held;
+      };
+      said = h.said;
       listed = w.listed;
-      output = w.output;
-      says = subst S h.replies w.says;
-      lists = subst L names w.lists;
-      ends = ends_for site input.bytes.items h.dispositions left e.session.session.state input.end ending.end i.ends h.quits w.ends;
+      output = Appends-then before between after h.said w.listed h.output w.output;
+      says = subst S (sym w.same) h.says;
+      lists = w.lists;
+      ends = subst E (sym w.same) h.ends;
     }

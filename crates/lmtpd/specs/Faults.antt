@@ -6,8 +6,8 @@ use Rattle.mail_world.specs.Site.{Site, is_host_name, is_box_name, has_twice}
 use Rattle.lmtp_text.specs.declared.site.SiteFault.{SiteFault}
 use Rattle.lmtp_text.specs.declared.site.SiteFault.TheVariants as cause
 use Rattle.lmtpd.specs.declared.rehearse.ending.Ending.{Ending}
-use Rattle.lmtpd.specs.declared.rehearse.ending.EndCause.{EndCause}
-use Rattle.lmtpd.specs.declared.rehearse.ending.EndCause.TheVariants.{ReadFault, WriteFault}
+use Rattle.lmtp_house.specs.declared.ending.EndCause.{EndCause}
+use Rattle.lmtp_house.specs.declared.ending.EndCause.TheVariants.{ReadFault, WriteFault}
 use Rattle.lmtpd.specs.declared.fault.Fault.{Fault}
 use Rattle.lmtpd.specs.declared.fault.Fault.TheVariants as fault
 use Rattle.lmtpd.specs.declared.stop.Stop.{Stop}

@@ -1,9 +1,8 @@
-pub mod Runs
+pub mod Storing
 pub mod Mailboxes
-pub mod Said
 pub mod Delivery
-pub mod Engine
-pub mod Input
+pub mod Drafts
+pub mod Account
 pub mod Output
 pub mod Rehearsal
 pub mod Faults

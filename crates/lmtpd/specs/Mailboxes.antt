@@ -3,7 +3,9 @@ use Rattle.std.specs.Prelude.{◌≡◌, ◌<◌, ℕ, Bool, true, false, List, 
 use Rattle.mail_world.specs.declared.Outcome.{Outcome}
 use Rattle.mail_world.specs.declared.Outcome.TheVariants.{Stored, Failed}
 use Rattle.mail_world.specs.Text.{lf}
+use Rattle.mail_world.specs.Records.{mended}
 use Rattle.mail_world.specs.Deliveries.{IsFront}
+use Rattle.lmtpd.specs.declared.rehearse.mailbox.TheConstants.{MAILBOX_ROOM}
 use Rattle.lmtpd.specs.declared.rehearse.mailbox.Mailbox.{Mailbox}
 
 -- what a mailbox holds, and whether it failed
@@ -13,6 +15,11 @@ pub record Kept : Type 0 where
 
 abbrev pub kept : Mailbox → Kept
 kept mailbox = record { bytes = mailbox.spool.bytes; failed = mailbox.failed }
+
+-- a mailbox that goes on from these bytes: their last line is ended, and an empty line stands behind it
+pub record IsMended (bytes : List ℕ) (k : Kept) : Type 0 where
+  pub ended : k.failed ≡ false → k.bytes ≡ bytes ++ mended bytes
+  pub room : length (bytes ++ mended bytes) < MAILBOX_ROOM → k.failed ≡ false
 
 -- a mailbox that failed takes nothing; another takes the record and says Stored, or takes a front of it, says Failed and has failed
 abbrev pub TakesCopyIf : Bool → List ℕ → Outcome → Kept → Kept → Type 0

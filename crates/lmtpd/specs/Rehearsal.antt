@@ -4,25 +4,18 @@ use Rattle.std.specs.List.{AllByRecursion}
 use Rattle.std.specs.Io.KnownBytes.{Consumes, Appends, IsAtEnd}
 use Rattle.mail_world.specs.declared.limits.TheConstants.{READ_LIMIT}
 use Rattle.lmtpd.specs.declared.rehearse.mailbox.TheConstants.{MAILBOX_ROOM}
-use Rattle.mail_world.specs.declared.State.{State}
-use Rattle.mail_world.specs.declared.State.TheVariants.{Ended}
 use Rattle.mail_world.specs.Site.{Site}
 use Rattle.mail_world.specs.Conversation.{Disposition, IsAccount, inputs, replies}
-use Rattle.mail_world.specs.Lists.{VerdictFits, transactions, due}
+use Rattle.mail_world.specs.Lists.{Transaction, VerdictFits, transactions, due}
 use Rattle.mail_world.specs.Records.{mailbox}
-use Rattle.mail_world.specs.Deliveries.{IsFront, HoldsCopies, told}
+use Rattle.mail_world.specs.Deliveries.{HoldsCopies, told}
 use Rattle.lmtp_text.specs.Calendar.{civil_at}
-use Rattle.lmtpd.specs.declared.rehearse.ending.EndCause.{EndCause}
-use Rattle.lmtpd.specs.declared.rehearse.ending.EndCause.TheVariants.{Quit, EndOfInput, WriteFault, Stopped, ReadBound}
+use Rattle.lmtp_house.specs.declared.ending.EndCause.{EndCause}
+use Rattle.lmtp_house.specs.declared.ending.EndCause.TheVariants.{Quit, EndOfInput, WriteFault, Stopped, ReadBound}
+use Rattle.lmtp_house.specs.Served.{IsWritten, has_quit, accepted_behind_all, transactions_in}
 use Rattle.lmtpd.specs.declared.rehearse.ending.Ending.{Ending}
-use Rattle.lmtpd.specs.declared.rehearse.engine.Engine.{Engine}
-use Rattle.lmtpd.specs.Mailboxes.{Kept, kept_all, kept_at, mailboxes_text, IsCalm}
-use Rattle.lmtpd.specs.Engine.{conversation, RoomFits, IsAllStored, has_quit}
-
--- a text is written, or a front of it where a write failed
-pub record IsWritten (text : List ℕ) (fails : Type 0) (done : List ℕ) : Type 0 where
-  pub begins : IsFront done text
-  pub whole : (fails → ⊥) → done ≡ text
+use Rattle.lmtpd.specs.Mailboxes.{Kept, kept_at, mailboxes_text, IsCalm}
+use Rattle.lmtpd.specs.Account.{conversation, RoomFits, IsAllStored}
 
 -- the account of a conversation whose bytes were read: what became of its data, each at that moment
 pub record IsAccountAt (site : Site) (moment : ℕ) (read : List ℕ) (account : List Disposition) : Type 0 where
@@ -71,20 +64,22 @@ pub record IsRehearsed (site : Site) (moment : ℕ) (unread left before after : 
   pub lists : IsWritten (mailboxes_text site.boxes mailboxes) (ending.cut ≡ true) listed
   pub ends : EndsFor site read account left ending.end
 
-abbrev pub end_at : State → EndCause → EndCause
-end_at Ended read_end = Quit
-end_at _ read_end = read_end
-
-abbrev pub end_of : Bool → State → EndCause → EndCause
-end_of false state read_end = WriteFault
-end_of true state read_end = end_at state read_end
-
--- what an engine came to is written
-pub record IsWrittenOut (e : Engine) (read_end : EndCause) (before after : Option (List ℕ)) (ending : Ending) : Type 0 where
+-- From a reader and a writer that stood so to ones that stand so: one conversation, which nobody stopped, and from what the delivery had come to, to what it has come to.
+pub record IsHeld (site : Site) (unread left before after : Option (List ℕ)) (Before After : ℕ → List Transaction → Type 0) (end : EndCause) : Type 0 where
+  pub read : List ℕ
+  pub input : Consumes unread left read
+  pub account : List Disposition
+  pub accounted : IsAccount site (conversation read account)
   pub said : List ℕ
+  pub output : Appends before after said
+  pub says : IsWritten (replies site (inputs site (conversation read account))) (end ≡ WriteFault) said
+  pub delivered : (n : ℕ) (ts : List Transaction) → Before n ts → After (accepted_behind_all site n (conversation read account)) (ts ++ transactions_in site n (conversation read account))
+  pub ends : EndsFor site read account left end
+
+-- behind a conversation that ended so the mailboxes are written
+pub record IsListed (names : List (List ℕ)) (mailboxes : List Kept) (end : EndCause) (before after : Option (List ℕ)) (ending : Ending) : Type 0 where
+  pub same : ending.end ≡ end
   pub listed : List ℕ
-  pub output : Appends before after (said ++ listed)
-  pub says : IsWritten e.replies.items (ending.end ≡ WriteFault) said
-  pub lists : IsWritten (mailboxes_text e.session.site.boxes (kept_all e.mailboxes.items)) (ending.cut ≡ true) listed
-  pub ends : (ending.end ≡ WriteFault) ⊎ (ending.end ≡ end_at e.session.session.state read_end)
-  pub sound : (ending.faulty ≡ false) ↔ IsCalm (kept_all e.mailboxes.items)
+  pub output : Appends before after listed
+  pub lists : IsWritten (mailboxes_text names mailboxes) (ending.cut ≡ true) listed
+  pub sound : (ending.faulty ≡ false) ↔ IsCalm mailboxes

@@ -1,16 +1,18 @@
 //! A rehearsal: one conversation from a reader, its replies and then its mailboxes to a writer.
 
-mod data;
 mod delivery;
+mod draft;
 mod ending;
-mod engine;
-mod input;
 mod mailbox;
 mod output;
-mod replies;
+mod peer;
+mod rehearsal;
 mod run;
+mod setting;
+mod storing;
 
-pub use ending::{EndCause, Ending, HouseFault};
+pub use ending::{Ending, HouseFault};
+pub use lmtp_house::EndCause;
 pub use run::rehearse_run;
 
 #[cfg(test)]

@@ -1,6 +1,7 @@
 //! The delivery of a whole message to the mailboxes of its recipients.
 
-ghost use Rattle.std.specs.Prelude.{◌≡◌, ◌<◌, ℕ, length, map, IfOk};
+ghost use Rattle.std.specs.Prelude.{◌≡◌, ◌<◌, ◌≤◌, ℕ, [], length, vec_capacity, IfOk};
+ghost use Rattle.mail_world.specs.declared.limits.TheConstants.{RECIPIENT_LIMIT as MOST};
 ghost use Rattle.lmtp_text.specs.Calendar.{civil_at};
 ghost use Rattle.mbox_rd.specs.Envelope.{record_text};
 ghost use Rattle.lmtpd.specs.Mailboxes.{kept, kept_all, kept_at, nothing_kept, TakesCopyAt};
@@ -12,26 +13,30 @@ use mail_world::{Outcome, Txn};
 use mbox_rd::Envelope;
 use std::alloc::{AllocError, Global};
 
-/// Gives each recipient's mailbox its copy, in the order of the recipients, and answers an outcome for each (RFC 2033, 4.2).
+/// Gives each recipient's mailbox its copy, in the order of the recipients, and adds an outcome for each (RFC 2033, 4.2).
 /// A mailbox that several recipients share gets a copy for each of them.
 pub fn deliver(
     alloc: Global,
     session: &Session,
     mailboxes: &mut Vec<Mailbox>,
+    outcomes: &mut Vec<Outcome>,
     number: u32,
     moment: u32,
     message: &[u8],
-) -> Result<Vec<Outcome>, AllocError>
-    requires { length mailboxes.old.items ≡ length session.now.site.boxes }
-    ensures count { IfOk result (λ outcomes. length outcomes.items ≡ length session.now.session.recipients) }
-    ensures delivers { IfOk result (λ outcomes. DeliversTo session.now.site.host (transaction number session.now.session moment message.now)
-        session.now.session.recipients outcomes.items (kept_all mailboxes.old.items) (kept_all mailboxes.new.items)) }
+)
+    requires mailboxes { length mailboxes.old.items ≡ length session.now.site.boxes }
+    requires none { outcomes.old.items ≡ [] }
+    requires room { MOST ≤ vec_capacity outcomes.old }
+    ensures size { length mailboxes.new.items ≡ length mailboxes.old.items }
+    ensures room { vec_capacity outcomes.new ≡ vec_capacity outcomes.old }
+    ensures count { length outcomes.new.items ≡ length session.now.session.recipients }
+    ensures delivers { DeliversTo session.now.site.host (transaction number session.now.session moment message.now)
+        session.now.session.recipients outcomes.new.items (kept_all mailboxes.old.items) (kept_all mailboxes.new.items) }
 {
     let txn = Txn { lane: 0, number };
     let envelope = Envelope::new(alloc, session.sender(), session.client(), txn, moment);
     let host = session.site().host();
     let count = session.recipient_count();
-    let mut outcomes = Vec::with_capacity(alloc, count as usize)?;
     for place in 0..count {
         let outcome = take_at(
             mailboxes,
@@ -40,9 +45,8 @@ pub fn deliver(
             &envelope,
             message,
         );
-        outcomes.push(outcome)?;
+        outcomes.push_reserved(outcome);
     }
-    Ok(outcomes)
 }
 
 // Gives the mailbox of that number a copy.

@@ -1,24 +1,8 @@
 //! How a rehearsal ends.
 
+use lmtp_house::EndCause;
 use std::alloc::AllocError;
 use thiserror::Error;
-
-/// Why a conversation ended.
-#[derive(Clone, Copy, Debug, PartialEq, Eq)]
-pub enum EndCause {
-    /// The client said QUIT.
-    Quit = 1,
-    /// The reader had no more bytes.
-    EndOfInput,
-    /// A read failed.
-    ReadFault,
-    /// A write of the replies failed.
-    WriteFault,
-    /// The server was told to stop.
-    Stopped,
-    /// So many reads were made as one conversation may make.
-    ReadBound,
-}
 
 /// What a rehearsal came to.
 #[derive(Clone, Copy, Debug, PartialEq, Eq)]

@@ -4,22 +4,25 @@ ghost use Rattle.std.specs.Prelude.{◌≡◌, IfOk, OnErr, length};
 ghost use Rattle.std.specs.List.{list_any};
 ghost use Rattle.std.specs.Arc.{arc_value};
 ghost use Rattle.std.specs.Io.KnownBytes.{Keeps};
-ghost use Rattle.lmtpd.specs.Rehearsal.{IsRehearsed, IsWrittenOut, end_of};
+ghost use Rattle.lmtpd.specs.Mailboxes.{kept_all};
+ghost use Rattle.lmtpd.specs.Rehearsal.{IsRehearsed, IsHeld, IsListed};
 
-use super::ending::{EndCause, Ending, HouseFault};
-use super::engine::Engine;
-use super::input::Input;
+use super::ending::{Ending, HouseFault};
 use super::mailbox::Mailbox;
-use super::output::{write_bytes, write_mailboxes};
+use super::output::write_mailboxes;
+use super::peer::StreamPeer;
+use super::rehearsal::Rehearsal;
+use super::setting::Setting;
+use lmtp_house::{Delivery, Desk, EndCause, serve};
 use lmtp_text::Site;
-use mail_world::State;
 use std::alloc::Global;
 use std::io::{Read, Write};
+use std::marker::Brand;
 use std::sync::Arc;
 
-/// Serves one conversation at the site: reads all of the input, handles it, writes the replies and then the mailboxes, each
-/// behind the line `mailbox NAME LENGTH`. The mailboxes are empty at the start and lie in memory; every message is of the
-/// given moment, in seconds since 1970. Where memory is wanting nothing is written.
+/// Serves one conversation at the site, and then writes the mailboxes, each behind the line `mailbox NAME LENGTH`. Each reply
+/// is written before more is read than brought it. The mailboxes are empty at the start and lie in memory; every message is of
+/// the given moment, in seconds since 1970. All memory is taken first: where it is wanting nothing is read or written.
 pub fn rehearse_run<R: Read, W: Write>(
     alloc: Global,
     site: Arc<Site>,
@@ -31,34 +34,58 @@ pub fn rehearse_run<R: Read, W: Write>(
         (W.contents writer.old) (W.contents writer.new)) }
     ensures memory { OnErr result (Keeps (W.contents writer.old) (W.contents writer.new)) }
 {
-    let input = Input::read_from(alloc, reader)?;
-    let mut engine = Engine::new(alloc, site, moment)?;
-    engine.handle_all(alloc, input.bytes.as_slice())?;
-    Ok(write_out(&engine, input.end, writer))
+    rehearse_at::<Brand, R, W>(alloc, site, moment, reader, writer)
 }
 
-// Writes the replies and the mailboxes. Where a write of the replies fails, the mailboxes are tried all the same.
-fn write_out<W: Write>(engine: &Engine, read_end: EndCause, writer: &mut W) -> Ending
-    requires { length engine.now.mailboxes.items ≡ length engine.now.session.site.boxes }
-    ensures { IsWrittenOut engine.now read_end (W.contents writer.old) (W.contents writer.new) result }
+fn rehearse_at<S: Setting, R: Read, W: Write>(
+    alloc: Global,
+    site: Arc<Site>,
+    moment: u32,
+    reader: &mut R,
+    writer: &mut W,
+) -> Result<Ending, HouseFault>
+    requires here { arc_value site ≡ S.site }
+    requires now { moment ≡ S.moment }
+    ensures rehearses { IfOk result (IsRehearsed S.site S.moment (R.remaining reader.old) (R.remaining reader.new)
+        (W.contents writer.old) (W.contents writer.new)) }
+    ensures memory { OnErr result (Keeps (W.contents writer.old) (W.contents writer.new)) }
 {
-    let replies = write_bytes(writer, engine.replies.as_slice());
-    let mailboxes = write_mailboxes(writer, engine.session.site(), engine.mailboxes.as_slice());
+    let mut rehearsal: Rehearsal<S> = Rehearsal::new(alloc, site.box_count(), moment)?;
+    let mut desk = Desk::new(alloc, site)?;
+    let end = hold(&mut desk, &mut rehearsal, reader, writer);
+    Ok(write_out(desk.session.site(), &rehearsal.mailboxes, end, writer))
+}
+
+// Serves one conversation with the reader and the writer.
+fn hold<D: Delivery, R: Read, W: Write>(
+    desk: &mut Desk,
+    delivery: &mut D,
+    reader: &mut R,
+    writer: &mut W,
+) -> EndCause
+    requires { D.site delivery.old ≡ desk.old.session.site }
+    ensures held { IsHeld desk.old.session.site (R.remaining reader.old) (R.remaining reader.new) (W.contents writer.old) (W.contents writer.new)
+        (D.HasCome delivery.old) (D.HasCome delivery.new) result }
+    ensures same { desk.new.session.site ≡ desk.old.session.site }
+{
+    let mut peer = StreamPeer {
+        reader,
+        writer,
+        failures: 0,
+    };
+    serve(desk, &mut peer, delivery)
+}
+
+// Writes the mailboxes, also where a write of the replies has failed.
+fn write_out<W: Write>(site: &Site, mailboxes: &[Mailbox], end: EndCause, writer: &mut W) -> Ending
+    requires { length mailboxes.now ≡ length site.now.boxes }
+    ensures { IsListed site.now.boxes (kept_all mailboxes.now) end (W.contents writer.old) (W.contents writer.new) result }
+{
+    let listed = write_mailboxes(writer, site, mailboxes);
     Ending {
-        end: end_of(replies.is_ok(), engine.session.state(), read_end),
-        faulty: has_failed(engine.mailboxes.as_slice()),
-        cut: mailboxes.is_err(),
-    }
-}
-
-// A write that failed comes before QUIT, and QUIT before the end of reading.
-fn end_of(written: bool, state: State, read_end: EndCause) -> EndCause
-    ensures { result ≡ end_of written state read_end }
-{
-    match (written, state) {
-        (false, _) => EndCause::WriteFault,
-        (true, State::Ended) => EndCause::Quit,
-        (true, _) => read_end,
+        end,
+        faulty: has_failed(mailboxes),
+        cut: listed.is_err(),
     }
 }
 

@@ -3,6 +3,7 @@
 mod conversations;
 mod faults;
 mod sizes;
+mod turns;
 
 use super::{EndCause, Ending, HouseFault, rehearse_run};
 use lmtp_text::Site;

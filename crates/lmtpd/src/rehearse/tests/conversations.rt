@@ -2,16 +2,16 @@
 
 use super::*;
 
-struct Case {
-    name: &'static str,
-    boxes: &'static [&'static [u8]],
-    input: &'static [&'static str],
-    replies: &'static [&'static str],
-    mailboxes: &'static [&'static str],
-    end: EndCause,
+pub struct Case {
+    pub name: &'static str,
+    pub boxes: &'static [&'static [u8]],
+    pub input: &'static [&'static str],
+    pub replies: &'static [&'static str],
+    pub mailboxes: &'static [&'static str],
+    pub end: EndCause,
 }
 
-const CASES: [Case; 17] = [
+pub const CASES: [Case; 17] = [
     Case {
         name: "a message to one mailbox",
         boxes: ANNA,
@@ -457,7 +457,7 @@ fn one_byte_at_once(rt: HostRuntime) -> Result<(), Fail> {
     Ok(())
 }
 
-fn expected_of(alloc: Global, case: &Case) -> Result<Vec<u8>, AllocError> {
+pub fn expected_of(alloc: Global, case: &Case) -> Result<Vec<u8>, AllocError> {
     let mut text = said(alloc, case.replies)?;
     add_pieces(&mut text, case.mailboxes)?;
     Ok(text)

@@ -15,10 +15,11 @@ loop-place-preserved c =
     let host : c.host-host.result.now ≡ site.host = c.host-host.ensures.value ∙ ap (λ x. x.host) c.site.ensures in
     let takes = rw (envelope, host) at c.take_at-outcome.ensures in
     let within : c.loop-place.place < length session.recipients = omega (arith, c.loop-place-test.true, c.recipient_count-count.ensures.count) in
-    let known : c.recipient.result < length (kept_all c.args.mailboxes.now.items) = omega (arith, c.recipient.ensures.known, length-kept c.args.mailboxes.now.items, c.requires) in
+    let known : c.recipient.result < length (kept_all c.args.mailboxes.now.items) = omega (arith, c.recipient.ensures.known, length-kept c.args.mailboxes.now.items, c.requires.mailboxes) in
     record {
-      count = omega (arith, ap length c.in_ok-push.ensures.items, length-append c.loop-place.outcomes.items (c.take_at-outcome.result ∷ []), c.loop-place.invariant.count);
+      count = omega (arith, ap length c.push_reserved.ensures.items, length-append c.loop-place.outcomes.items (c.take_at-outcome.result ∷ []), c.loop-place.invariant.count);
+      room = c.push_reserved.ensures.capacity ∙ c.loop-place.invariant.room;
       size = same_size _ _ _ c.loop-place.mailboxes.items c.take_at-outcome.new.mailboxes.items takes ∙ c.loop-place.invariant.size;
-      delivers = rw c.in_ok-push.ensures.items (delivers_next site.host (transaction c.args.number session c.args.moment c.args.message.now) session.recipients c.loop-place.place
+      delivers = rw c.push_reserved.ensures.items (delivers_next site.host (transaction c.args.number session c.args.moment c.args.message.now) session.recipients c.loop-place.place
           c.recipient.result c.loop-place.outcomes.items c.take_at-outcome.result _ _ _ within c.recipient.ensures.mailbox c.loop-place.invariant.count known c.loop-place.invariant.delivers takes);
     }

@@ -1,0 +1,19 @@
+//! The conversation of an LMTP server with one client, over any peer and any delivery (RFC 2033, RFC 5321).
+#![tactic(auto)]
+
+mod conversation;
+mod delivery;
+mod desk;
+mod ending;
+mod handling;
+mod outbox;
+mod peer;
+#[cfg(test)]
+mod tests;
+
+pub use conversation::serve;
+pub use delivery::Delivery;
+pub use desk::Desk;
+pub use ending::EndCause;
+pub use outbox::Outbox;
+pub use peer::{Came, Peer, PeerFault};

@@ -1,0 +1,48 @@
+//! A reader and a writer as the one peer of a conversation.
+
+ghost use Rattle.std.specs.Prelude.{[], ◌∷◌, false, None};
+
+use lmtp_house::{Came, Peer, PeerFault};
+use std::io::{Read, Write};
+
+/// A client whose bytes come from a reader, and whose replies go to a writer. It never says that the server is to stop.
+#[derive(Drop)]
+pub struct StreamPeer<'a, R: Read, W: Write> {
+    pub reader: &'a mut R,
+    pub writer: &'a mut W,
+    /// How many reads and writes failed; it stays at its largest value.
+    pub failures: u64,
+}
+
+impl<R: Read, W: Write> Peer for StreamPeer<'_, R, W> {
+    ghost state = { λ p. record {
+      read = None;
+      unread = R.remaining p.reader.now;
+      written = W.contents p.writer.now;
+      failures = p.failures;
+      stops = false;
+      holds = p.reader.ghost_name ∷ p.writer.ghost_name ∷ [];
+    } };
+
+    fn read(&mut self, buffer: &mut [u8]) -> Result<Came, PeerFault> {
+        match self.reader.read(buffer) {
+            Ok(0) => Ok(Came::End),
+            Ok(size) => Ok(Came::Bytes(size)),
+            Err(_) => {
+                self.failures = self.failures.saturating_add(1);
+                Err(PeerFault)
+            }
+        }
+    }
+
+    /// A write that takes nothing is a failure.
+    fn write(&mut self, bytes: &[u8]) -> Result<usize, PeerFault> {
+        match self.writer.write(bytes) {
+            Ok(0) | Err(_) => {
+                self.failures = self.failures.saturating_add(1);
+                Err(PeerFault)
+            }
+            Ok(size) => Ok(size),
+        }
+    }
+}
