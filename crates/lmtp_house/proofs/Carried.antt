@@ -1,34 +1,32 @@
 -- Where a conversation stands with more bytes handled.
-use Rattle.std.proofs.Common.{◌≡◌, ℕ, ◌+◌, ◌<◌, ◌≤◌, Bool, true, false, List, [], ◌∷◌, ◌++◌, length, take, Option, Some, None, refl, sym, ap, ◌∙◌, subst, arith, append_assoc, append-nil, length-append, length-take-le}
-use Rattle.std.specs.Prelude.{nat_lt, if◌then◌else◌, flat_map, ⊤}
+use Rattle.std.proofs.Common.{◌≡◌, ℕ, ◌+◌, ◌<◌, ◌≤◌, true, false, List, [], ◌∷◌, ◌++◌, length, take, Some, refl, sym, ap, ◌∙◌, subst, arith, append_assoc, append-nil, length-take-le}
+use Rattle.std.specs.Prelude.{nat_lt, if◌then◌else◌, flat_map}
 use Rattle.std.proofs.Math.Seq.{take-append-add}
 use Rattle.std.proofs.lemmas.List.{take_all}
 use Rattle.std.proofs.lemmas.Grind.{flat_map-append}
 use Rattle.std.proofs.lemmas.Bool.Decides.{nat_tests}
 use Rattle.mail_world.specs.declared.State.{State}
 use Rattle.mail_world.specs.declared.State.TheVariants.{Fresh, Greeted, Sender, Recipients, Content, Waiting, Ended}
-use Rattle.mail_world.specs.declared.Verdict.{Verdict}
 use Rattle.mail_world.specs.declared.Reply.TheVariants.{Greeting}
 use Rattle.mail_world.specs.declared.limits.TheConstants.{LINE_LIMIT}
 use Rattle.mail_world.specs.Text.{crlf, place_of}
-use Rattle.mail_world.specs.Data.{data_end, message}
+use Rattle.mail_world.specs.Data.{message}
 use Rattle.mail_world.specs.Site.{Site}
 use Rattle.mail_world.specs.Replies.{reply_text, reply_texts}
-use Rattle.mail_world.specs.Session.{Session, fresh, Input, Line, LongLine, DataEnded, step}
-use Rattle.mail_world.specs.Conversation.{Disposition, Part, CommandLine, MailData, inputs_of, outcomes_of, session_after, session_behind, replies_to, OutcomesFit}
+use Rattle.mail_world.specs.Session.{Session, fresh, Input, Line, LongLine, step}
+use Rattle.mail_world.specs.Conversation.{Disposition, Part, CommandLine, MailData, inputs_of, session_after, session_behind, replies_to}
 use Rattle.mail_world.specs.Lists.{Transaction, is_content, accepted_after, transactions_of}
 use Rattle.mail_world.proofs.Handled.{inputs-snoc, session_behind-snoc, replies_to-append, line_within}
-use Rattle.mail_world.proofs.Owed.{accepted_behind, accepted-append, transactions-append, same_behind_data}
+use Rattle.mail_world.proofs.Owed.{accepted_behind, accepted-append, transactions-append}
 use Rattle.lmtp_session.specs.Steps.{TakesLines}
 use Rattle.lmtp_wire.specs.Wire.{WireView, IsBehind, GoesOn as LineGoesOn, EndsLine}
 use Rattle.lmtp_house.specs.declared.desk.Desk.{Desk}
 use Rattle.lmtp_house.specs.Peer.{PeerState}
 use Rattle.lmtp_house.specs.Saying.{HasSaid}
-use Rattle.lmtp_house.specs.Delivery.{ended_so, EndsDraft}
-use Rattle.lmtp_house.specs.Standing.{IsCutUp, QuitsWith, Comes, InLine, InData, IsInside, Stands}
-use Rattle.lmtp_house.specs.Steps.{TakesInputs, BeginsIf, TakesLine, EndsData}
-use Rattle.lmtp_house.proofs.CutUp.{cut_line, cut_data}
-use Rattle.lmtp_house.proofs.Quits.{GoesOn, line_goes_on, long_goes_on, quits_line, quits_long, quits_data, data_greets}
+use Rattle.lmtp_house.specs.Standing.{QuitsWith, InLine, InData, IsInside, Stands}
+use Rattle.lmtp_house.specs.Steps.{TakesInputs, BeginsIf, TakesLine}
+use Rattle.lmtp_house.proofs.CutUp.{cut_line}
+use Rattle.lmtp_house.proofs.Quits.{GoesOn, line_goes_on, long_goes_on, quits_line, quits_long}
 
 -- the state says what is inside
 in_line : (state : State) (desk : Desk) (rest : List ℕ) (come : Type 0) (drafts : List ℕ → Type 0) → TakesLines state → IsInside state desk rest come drafts → InLine desk rest come
@@ -161,26 +159,26 @@ ended_line site start Before {D} HasCome IsDrafting old new wire before after de
       said = says_part site h.done p start before after mid new came takes h.same_site h.session h.said;
       inside = behind_line new.session.session.state new _ _ goes' (subst (λ w. IsBehind w []) (sym takes.wire) ends.behind)
           (λ content.
-              let begins : BeginsIf HasCome IsDrafting true new delivery later = subst (λ b. BeginsIf HasCome IsDrafting b new delivery later) content t.begins in
-              record {
-                made = [];
-                next = subst (λ w. IsBehind w []) (sym takes.wire) ends.behind;
-                behind = begins.0;
-                drafting = λ n ts first.
-                    let count : accepted_after site n fresh h.done + 1 ≡ accepted_after site n fresh (h.done ++ p ∷ []) =
-                    ap (λ b. if b then accepted_after site n fresh h.done + 1 else accepted_after site n fresh h.done) (sym content ∙ state_is) ∙ sym (accepted-snoc site n h.done p) in
-                    subst (λ k. IsDrafting later k (ts ++ transactions_of site n fresh (h.done ++ p ∷ [])) []) count
-                    (subst (λ l. IsDrafting later (accepted_after site n fresh h.done + 1) (ts ++ l) []) (sym (transactions-line site n h.done (take end bytes)))
-                    (begins.1 _ _ (line.comes n ts first)));
-              })
+          let begins : BeginsIf HasCome IsDrafting true new delivery later = subst (λ b. BeginsIf HasCome IsDrafting b new delivery later) content t.begins in
+          record {
+            made = [];
+            next = subst (λ w. IsBehind w []) (sym takes.wire) ends.behind;
+            behind = begins.0;
+            drafting = λ n ts first.
+                let count : accepted_after site n fresh h.done + 1 ≡ accepted_after site n fresh (h.done ++ p ∷ []) =
+                ap (λ b. if b then accepted_after site n fresh h.done + 1 else accepted_after site n fresh h.done) (sym content ∙ state_is) ∙ sym (accepted-snoc site n h.done p) in
+                subst (λ k. IsDrafting later k (ts ++ transactions_of site n fresh (h.done ++ p ∷ [])) []) count
+                (subst (λ l. IsDrafting later (accepted_after site n fresh h.done + 1) (ts ++ l) []) (sym (transactions-line site n h.done (take end bytes)))
+                (begins.1 _ _ (line.comes n ts first)));
+          })
           (λ content.
-              let same : later ≡ delivery = subst (λ b. BeginsIf HasCome IsDrafting b new delivery later) content t.begins in
-              λ n ts first.
-              let count : accepted_after site n fresh h.done ≡ accepted_after site n fresh (h.done ++ p ∷ []) =
-              ap (λ b. if b then accepted_after site n fresh h.done + 1 else accepted_after site n fresh h.done) (sym content ∙ state_is) ∙ sym (accepted-snoc site n h.done p) in
-              subst (λ k. HasCome later k (ts ++ transactions_of site n fresh (h.done ++ p ∷ []))) count
-              (subst (λ l. HasCome later (accepted_after site n fresh h.done) (ts ++ l)) (sym (transactions-line site n h.done (take end bytes)))
-              (subst (λ x. HasCome x (accepted_after site n fresh h.done) (ts ++ transactions_of site n fresh h.done)) (sym same) (line.comes n ts first))));
+          let same : later ≡ delivery = subst (λ b. BeginsIf HasCome IsDrafting b new delivery later) content t.begins in
+          λ n ts first.
+          let count : accepted_after site n fresh h.done ≡ accepted_after site n fresh (h.done ++ p ∷ []) =
+          ap (λ b. if b then accepted_after site n fresh h.done + 1 else accepted_after site n fresh h.done) (sym content ∙ state_is) ∙ sym (accepted-snoc site n h.done p) in
+          subst (λ k. HasCome later k (ts ++ transactions_of site n fresh (h.done ++ p ∷ []))) count
+          (subst (λ l. HasCome later (accepted_after site n fresh h.done) (ts ++ l)) (sym (transactions-line site n h.done (take end bytes)))
+          (subst (λ x. HasCome x (accepted_after site n fresh h.done) (ts ++ transactions_of site n fresh h.done)) (sym same) (line.comes n ts first))));
     }
 
 size_is : (bytes : List ℕ) (end : ℕ) → place_of crlf bytes ≡ Some end → length (take end bytes) ≡ end

@@ -1,9 +1,8 @@
 -- Where a conversation stands with more bytes of data handled.
-use Rattle.std.proofs.Common.{◌≡◌, ℕ, ◌+◌, Bool, true, false, List, [], ◌∷◌, ◌++◌, length, take, refl, sym, ap, ◌∙◌, subst, append_assoc, append-nil}
-use Rattle.std.specs.Prelude.{flat_map, if◌then◌else◌}
+use Rattle.std.proofs.Common.{◌≡◌, ℕ, List, [], ◌∷◌, ◌++◌, take, sym, ap, ◌∙◌, subst, append_assoc, append-nil}
+use Rattle.std.specs.Prelude.{flat_map}
 use Rattle.mail_world.specs.declared.State.{State}
 use Rattle.mail_world.specs.declared.State.TheVariants.{Greeted, Content}
-use Rattle.mail_world.specs.declared.Verdict.{Verdict}
 use Rattle.mail_world.specs.Data.{message}
 use Rattle.mail_world.specs.Site.{Site}
 use Rattle.mail_world.specs.Session.{Session, fresh, DataEnded}
@@ -20,7 +19,7 @@ use Rattle.lmtp_house.specs.declared.desk.Desk.{Desk}
 use Rattle.lmtp_house.specs.Peer.{PeerState}
 use Rattle.lmtp_house.specs.Delivery.{ended_so}
 use Rattle.lmtp_house.specs.Standing.{QuitsWith, Comes, InLine, InData, IsInside, Stands}
-use Rattle.lmtp_house.specs.Steps.{TakesInputs, EndsData}
+use Rattle.lmtp_house.specs.Steps.{EndsData}
 use Rattle.lmtp_house.proofs.CutUp.{cut_data}
 use Rattle.lmtp_house.proofs.Quits.{quits_data, data_greets}
 use Rattle.lmtp_house.proofs.Carried.{session_more, says_part, accepted-snoc, transactions-data}

@@ -6,8 +6,8 @@ use Rattle.mail_world.specs.declared.Verdict.TheVariants.{Whole, TooLarge, NoRoo
 use Rattle.mail_world.specs.declared.Reply.{Reply}
 use Rattle.mail_world.specs.Site.{Site}
 use Rattle.mail_world.specs.Replies.{reply_texts}
-use Rattle.mail_world.specs.Session.{Session, Input, Step, DataEnded, Outcomes, step}
-use Rattle.mail_world.specs.Conversation.{Disposition, outcomes_of, session_after, replies_to, OutcomesFit}
+use Rattle.mail_world.specs.Session.{Session, Step, DataEnded, Outcomes, step}
+use Rattle.mail_world.specs.Conversation.{session_after, replies_to}
 use Rattle.mail_world.specs.Lists.{Transaction}
 use Rattle.lmtp_session.specs.declared.act.Act.{Act}
 use Rattle.lmtp_session.specs.declared.act.Act.TheVariants.{Say, ReadData, Deliver, Answer, Quit}
@@ -16,8 +16,8 @@ use Rattle.lmtp_session.specs.Steps.{IsAct, IsTaken, IsStep}
 use Rattle.lmtp_house.specs.declared.desk.Desk.{Desk}
 use Rattle.lmtp_house.specs.Peer.{PeerState}
 use Rattle.lmtp_house.specs.Saying.{HasSaid, said}
-use Rattle.lmtp_house.specs.Delivery.{ended_so, EndsDraft}
-use Rattle.lmtp_house.specs.Steps.{TakesInputs, EndsData}
+use Rattle.lmtp_house.specs.Delivery.{EndsDraft}
+use Rattle.lmtp_house.specs.Steps.{EndsData}
 
 -- an act says the replies of its step
 said_is : (act : Act) (st : Step) (kept : List Reply) → IsAct act st kept → said act kept ≡ st.replies

@@ -1,12 +1,12 @@
 -- Where the steps of a session lead, and that only QUIT ends it.
-use Rattle.std.proofs.Common.{◌≡◌, ℕ, ◌+◌, Bool, true, false, List, [], ◌∷◌, ◌++◌, length, Option, Some, None, refl, sym, ap, ◌∙◌, subst}
+use Rattle.std.proofs.Common.{◌≡◌, ℕ, Bool, true, false, List, [], ◌∷◌, ◌++◌, length, Option, Some, None, refl, sym, ap, ◌∙◌}
 use Rattle.std.specs.Prelude.{nat_lt, if◌then◌else◌, ◌||◌, ⊤, Ok, Err}
 use Rattle.mail_world.specs.declared.Verdict.{Verdict}
 use Rattle.mail_world.specs.declared.Verdict.TheVariants.{Whole, TooLarge, NoRoom}
 use Rattle.mail_world.specs.declared.State.{State}
 use Rattle.mail_world.specs.declared.State.TheVariants.{Fresh, Greeted, Sender, Recipients, Content, Waiting, Ended}
 use Rattle.mail_world.specs.declared.Reply.TheVariants as replies
-use Rattle.mail_world.specs.declared.limits.TheConstants.{LINE_LIMIT, RECIPIENT_LIMIT}
+use Rattle.mail_world.specs.declared.limits.TheConstants.{RECIPIENT_LIMIT}
 use Rattle.mail_world.specs.Site.{Site}
 use Rattle.mail_world.specs.Commands.{Answer, Lhlo, Mail, Rcpt, StartData, Rset, Noop, Quit, Vrfy, Help, command}
 use Rattle.mail_world.specs.Targets.{box_of}

@@ -1,28 +1,24 @@
 -- Turns of a conversation, from what was read to what it comes to.
-use Rattle.std.proofs.Common.{rules, ◌≡◌, ℕ, ◌<◌, ◌≤◌, Bool, true, false, List, [], ◌∷◌, ◌++◌, length, Option, Some, None, refl, sym, ap, ◌∙◌, subst, append-nil}
-use Rattle.std.specs.Prelude.{MatchOption, flat_map}
-use Rattle.std.specs.Io.KnownBytes.{IsAtEnd}
+use Rattle.std.proofs.Common.{◌≡◌, ℕ, ◌<◌, Bool, true, false, List, [], ◌++◌, length, refl, sym, ap, ◌∙◌, subst, append-nil}
+use Rattle.std.specs.Prelude.{MatchOption}
 use Rattle.mail_world.specs.declared.State.{State}
 use Rattle.mail_world.specs.declared.State.TheVariants.{Fresh, Greeted, Sender, Recipients, Content, Waiting, Ended}
-use Rattle.mail_world.specs.declared.Reply.{Reply}
 use Rattle.mail_world.specs.declared.Reply.TheVariants.{Greeting}
 use Rattle.mail_world.specs.Site.{Site}
-use Rattle.mail_world.specs.Session.{Session, fresh}
+use Rattle.mail_world.specs.Session.{Session}
 use Rattle.mail_world.specs.Replies.{reply_text}
-use Rattle.mail_world.specs.Lists.{Transaction, is_content}
+use Rattle.mail_world.specs.Lists.{Transaction}
 use Rattle.lmtp_session.specs.Steps.{MayStop}
 use Rattle.lmtp_house.specs.declared.desk.Desk.{Desk}
 use Rattle.lmtp_house.specs.declared.outbox.Outbox.{Outbox}
-use Rattle.lmtp_house.specs.declared.ending.EndCause.{EndCause}
 use Rattle.lmtp_house.specs.declared.ending.EndCause.TheVariants as ends
 use Rattle.lmtp_house.specs.Peer.{PeerState, HasWorked}
 use Rattle.lmtp_house.specs.Saying.{HasSaid}
-use Rattle.lmtp_house.specs.Served.{IsServed}
-use Rattle.lmtp_house.specs.Standing.{QuitsWith, Comes, IsInside, Stands}
-use Rattle.lmtp_house.specs.Turns.{Greets, Leaves, StandsFurther, TakesTurn, EndsTurn, HandlesPiece, quit_or, end_behind}
+use Rattle.lmtp_house.specs.Standing.{Comes, IsInside, Stands}
+use Rattle.lmtp_house.specs.Turns.{Greets, TakesTurn, EndsTurn, HandlesPiece, quit_or, end_behind}
 use Rattle.lmtp_house.proofs.Written.{moved_none, said_reading}
 use Rattle.lmtp_house.proofs.CutUp.{cut_none}
-use Rattle.lmtp_house.proofs.Ends.{IsQuiet, leave_none, served}
+use Rattle.lmtp_house.proofs.Ends.{leave_none, served}
 
 -- before the first reply nothing was said
 pub said_none : (s : PeerState) (broken : Bool) (pending : List ℕ) → broken ≡ false → pending ≡ [] → HasSaid s s broken pending [] []
@@ -139,13 +135,3 @@ module _ {D : Type 0} (HasCome : D → ℕ → List Transaction → Type 0) (IsD
   turns_by Content e none some w handles = goes_on some w handles
   turns_by Waiting e none some w handles = never_waits new.outbox.broken e w handles
   turns_by Ended e none some w handles = ends_with new.outbox.broken e refl none w handles
-
--- where the turn goes on the session may stop
-pub may_by : (state : State) (broken : Bool) → MatchOption (end_behind state broken) (MayStop state) (λ end. Unit {0})
-may_by Fresh broken = search rules
-may_by Greeted broken = search rules
-may_by Sender broken = search rules
-may_by Recipients broken = search rules
-may_by Content broken = search rules
-may_by Waiting broken = tt
-may_by Ended broken = tt

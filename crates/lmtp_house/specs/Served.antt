@@ -6,7 +6,7 @@ use Rattle.mail_world.specs.Failures.{Rises}
 use Rattle.mail_world.specs.Site.{Site}
 use Rattle.mail_world.specs.Commands.{Answer, Quit, command}
 use Rattle.mail_world.specs.Session.{fresh, Input, Line}
-use Rattle.mail_world.specs.Conversation.{Disposition, Conversation, IsAccount, inputs, replies, parts}
+use Rattle.mail_world.specs.Conversation.{Conversation, IsAccount, inputs, replies, parts}
 use Rattle.mail_world.specs.Lists.{Transaction, accepted_after, transactions_of}
 use Rattle.mail_world.specs.Deliveries.{IsFront}
 use Rattle.lmtp_house.specs.declared.ending.EndCause.{EndCause}

@@ -1,10 +1,10 @@
 -- Where a conversation stands between two of its bytes.
-use Rattle.std.specs.Prelude.{◌≡◌, ◌≤◌, ℕ, ⊤, true, List, [], ◌++◌, length, flat_map, sum_by}
+use Rattle.std.specs.Prelude.{◌≡◌, ℕ, true, List, [], ◌++◌, length, flat_map, sum_by}
 use Rattle.mail_world.specs.declared.State.{State}
 use Rattle.mail_world.specs.declared.State.TheVariants.{Content, Waiting, Ended}
 use Rattle.mail_world.specs.declared.Reply.TheVariants.{Greeting}
 use Rattle.mail_world.specs.Site.{Site}
-use Rattle.mail_world.specs.Session.{Session, fresh, Input}
+use Rattle.mail_world.specs.Session.{fresh, Input}
 use Rattle.mail_world.specs.Replies.{reply_text, reply_texts}
 use Rattle.mail_world.specs.Conversation.{Disposition, Part, inputs_of, session_behind, replies_to, parts, size_of, AllFit}
 use Rattle.mail_world.specs.Dispositions.{dispositions_of}

@@ -1,9 +1,8 @@
 -- What each step of a conversation does.
-use Rattle.std.specs.Prelude.{◌≡◌, ℕ, ◌+◌, Bool, true, false, List, [], ◌∷◌, ◌++◌, length}
-use Rattle.mail_world.specs.declared.State.{State}
+use Rattle.std.specs.Prelude.{◌≡◌, ℕ, ◌+◌, Bool, true, false, List, [], ◌∷◌, ◌++◌}
 use Rattle.mail_world.specs.declared.Verdict.{Verdict}
 use Rattle.mail_world.specs.declared.Outcome.{Outcome}
-use Rattle.mail_world.specs.Session.{Session, Input, DataEnded}
+use Rattle.mail_world.specs.Session.{Input, DataEnded}
 use Rattle.mail_world.specs.Replies.{reply_texts}
 use Rattle.mail_world.specs.Conversation.{session_after, replies_to, outcomes_of, OutcomesFit}
 use Rattle.mail_world.specs.Lists.{Transaction, is_content}

@@ -112,12 +112,7 @@ fn take_turn<P: Peer, D: Delivery>(
 }
 
 // Handles the bytes, and writes the replies to them.
-fn take_piece<P: Peer, D: Delivery>(
-    desk: &mut Desk,
-    peer: &mut P,
-    delivery: &mut D,
-    piece: &[u8],
-)
+fn take_piece<P: Peer, D: Delivery>(desk: &mut Desk, peer: &mut P, delivery: &mut D, piece: &[u8])
     requires { D.site delivery.old ≡ desk.old.session.site }
     ensures handles { HandlesPiece D.HasCome D.IsDrafting desk.old desk.new (P.state peer.old) (P.state peer.new) delivery.old delivery.new piece.now }
     ensures none { desk.new.outbox.pending.items ≡ [] }

@@ -17,12 +17,7 @@ use mail_world::{State, Verdict};
 const MADE_SIZE: usize = 512;
 
 /// Handles all that was read, up to QUIT.
-pub fn handle<P: Peer, D: Delivery>(
-    desk: &mut Desk,
-    peer: &mut P,
-    delivery: &mut D,
-    piece: &[u8],
-)
+pub fn handle<P: Peer, D: Delivery>(desk: &mut Desk, peer: &mut P, delivery: &mut D, piece: &[u8])
     requires { D.site delivery.old ≡ desk.old.session.site }
     ensures stands { Carries D.HasCome D.IsDrafting desk.old desk.new (P.state peer.old) (P.state peer.new) delivery.old delivery.new piece.now }
     ensures site { desk.new.session.site ≡ desk.old.session.site }
@@ -55,9 +50,9 @@ fn take_front<P: Peer, D: Delivery>(
 {
     match desk.session.state() {
         State::Content => Some(take_data(desk, peer, delivery, rest)),
-        State::Fresh | State::Greeted | State::Sender | State::Recipients => Some(
-            take_line(desk, peer, delivery, rest),
-        ),
+        State::Fresh | State::Greeted | State::Sender | State::Recipients => Some(take_line(
+            desk, peer, delivery, rest,
+        )),
         State::Waiting | State::Ended => None,
     }
 }

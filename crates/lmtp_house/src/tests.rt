@@ -13,7 +13,8 @@ use std::test::Fail;
 
 const GREETING: &[u8] = b"220 mx.example LMTP ready\r\n";
 
-const OFFER: &[u8] = b"250-mx.example\r\n250-PIPELINING\r\n250-ENHANCEDSTATUSCODES\r\n250-8BITMIME\r\n250 SIZE 1048576\r\n";
+const OFFER: &[u8] =
+    b"250-mx.example\r\n250-PIPELINING\r\n250-ENHANCEDSTATUSCODES\r\n250-8BITMIME\r\n250 SIZE 1048576\r\n";
 
 const STOPPING: &[u8] = b"421 4.3.2 mx.example stopping\r\n";
 
@@ -21,13 +22,22 @@ const STOPPING: &[u8] = b"421 4.3.2 mx.example stopping\r\n";
 const LINE_BY_LINE: [Turn; 10] = [
     (GREETING, Says(b"LHLO relay.example\r\n")),
     (OFFER, Says(b"MAIL FROM:<carl@a.example>\r\n")),
-    (b"250 2.1.0 Sender ok\r\n", Says(b"RCPT TO:<anna@mx.example>\r\n")),
-    (b"250 2.1.5 Recipient ok\r\n", Says(b"RCPT TO:<ben@mx.example>\r\n")),
+    (
+        b"250 2.1.0 Sender ok\r\n",
+        Says(b"RCPT TO:<anna@mx.example>\r\n"),
+    ),
+    (
+        b"250 2.1.5 Recipient ok\r\n",
+        Says(b"RCPT TO:<ben@mx.example>\r\n"),
+    ),
     (b"250 2.1.5 Recipient ok\r\n", Says(b"DATA\r\n")),
     (b"354 End with a lone dot\r\n", Says(b"Subject: hi\r\n")),
     (b"", Says(b"\r\n..hello\r\n")),
     (b"", Says(b".\r\n")),
-    (b"250 2.0.0 Stored for anna\r\n451 4.3.0 Not stored for ben\r\n", Says(b"QUIT\r\nNOOP\r\n")),
+    (
+        b"250 2.0.0 Stored for anna\r\n451 4.3.0 Not stored for ben\r\n",
+        Says(b"QUIT\r\nNOOP\r\n"),
+    ),
     (b"221 2.0.0 mx.example closing\r\n", Ends),
 ];
 
@@ -38,21 +48,21 @@ const STOPPED: [Turn; 3] = [
 ];
 
 const STOPPED_IN_DATA: [Turn; 4] = [
-    (GREETING, Says(b"LHLO a\r\nMAIL FROM:<>\r\nRCPT TO:<anna>\r\nDATA\r\nhello\r\n")),
-    (b"250-mx.example\r\n250-PIPELINING\r\n250-ENHANCEDSTATUSCODES\r\n250-8BITMIME\r\n250 SIZE 1048576\r\n250 2.1.0 Sender ok\r\n250 2.1.5 Recipient ok\r\n354 End with a lone dot\r\n", Says(b"more\r")),
+    (
+        GREETING,
+        Says(b"LHLO a\r\nMAIL FROM:<>\r\nRCPT TO:<anna>\r\nDATA\r\nhello\r\n"),
+    ),
+    (
+        b"250-mx.example\r\n250-PIPELINING\r\n250-ENHANCEDSTATUSCODES\r\n250-8BITMIME\r\n250 SIZE 1048576\r\n250 2.1.0 Sender ok\r\n250 2.1.5 Recipient ok\r\n354 End with a lone dot\r\n",
+        Says(b"more\r"),
+    ),
     (b"", Stops),
     (STOPPING, Ends),
 ];
 
-const CUT_OFF: [Turn; 2] = [
-    (GREETING, Says(b"NOO")),
-    (b"", Ends),
-];
+const CUT_OFF: [Turn; 2] = [(GREETING, Says(b"NOO")), (b"", Ends)];
 
-const READ_FAILS: [Turn; 2] = [
-    (GREETING, Says(b"NOOP\r\n")),
-    (b"250 2.0.0 Ok\r\n", Fails),
-];
+const READ_FAILS: [Turn; 2] = [(GREETING, Says(b"NOOP\r\n")), (b"250 2.0.0 Ok\r\n", Fails)];
 
 fn site(rt: &impl Abort, alloc: Global) -> Result<Arc<Site>, Fail> {
     let site = Site::new(alloc, b"mx.example", &[], &[b"anna", b"ben"])?;
@@ -62,7 +72,12 @@ fn site(rt: &impl Abort, alloc: Global) -> Result<Arc<Site>, Fail> {
 #[test]
 fn conversations_keep_to_their_scripts(rt: HostRuntime) -> Result<(), Fail> {
     let table: [(&[Turn], EndCause, &[u8], u32); 5] = [
-        (&LINE_BY_LINE, EndCause::Quit, b"Subject: hi\r\n\r\n.hello\r\n", 0),
+        (
+            &LINE_BY_LINE,
+            EndCause::Quit,
+            b"Subject: hi\r\n\r\n.hello\r\n",
+            0,
+        ),
         (&STOPPED, EndCause::Stopped, b"", 0),
         (&STOPPED_IN_DATA, EndCause::Stopped, b"hello\r\nmore\r", 1),
         (&CUT_OFF, EndCause::EndOfInput, b"", 0),

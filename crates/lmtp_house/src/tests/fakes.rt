@@ -53,7 +53,9 @@ impl<'a> Script<'a> {
             Some(turn) => turn.0,
             None => b"",
         };
-        !self.misheard && self.turns.len() <= self.at.saturating_add(1) && self.heard.as_slice() == last
+        !self.misheard
+            && self.turns.len() <= self.at.saturating_add(1)
+            && self.heard.as_slice() == last
     }
 
     fn fail(&mut self) -> PeerFault

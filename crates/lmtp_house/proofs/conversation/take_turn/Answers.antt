@@ -1,4 +1,4 @@
-use Rattle.std.proofs.Common.{◌≡◌, ◌<◌, ℕ, List, Option, [], take, length, refl, ap, ◌∙◌, sym, subst, arith, length-take-le}
+use Rattle.std.proofs.Common.{◌≡◌, ◌<◌, Option, take, length, refl, ◌∙◌, sym, subst, arith, length-take-le}
 use Rattle.std.specs.Prelude.{MatchOption}
 use Rattle.lmtp_house.specs.declared.ending.EndCause.{EndCause}
 use Rattle.lmtp_house.specs.declared.ending.EndCause.TheVariants as ends
@@ -6,9 +6,9 @@ use Rattle.lmtp_house.specs.declared.peer.Came.{Came}
 use Rattle.lmtp_house.specs.declared.peer.Came.TheVariants.{Bytes, End, Stop}
 use Rattle.lmtp_house.specs.Peer.{HasCome}
 use Rattle.lmtp_house.specs.Served.{IsServed}
-use Rattle.lmtp_house.specs.Turns.{TakesTurn, EndsTurn, end_behind}
-use Rattle.lmtp_house.proofs.Ends.{IsQuiet, served, served_read_fault, served_stopped}
-use Rattle.lmtp_house.proofs.Turning.{stands_still, may_not_ended, turns_by, may_by}
+use Rattle.lmtp_house.specs.Turns.{TakesTurn, EndsTurn}
+use Rattle.lmtp_house.proofs.Ends.{served, served_read_fault, served_stopped}
+use Rattle.lmtp_house.proofs.Turning.{stands_still, may_not_ended, turns_by}
 use Rattle.lmtp_house.proofs.conversation.take_turn.Goals as goal
 
 pub returns-then-desk-clause-turn : goal.returns-then-desk-clause-turn

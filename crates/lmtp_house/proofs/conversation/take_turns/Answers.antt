@@ -1,7 +1,7 @@
-use Rattle.std.proofs.Common.{◌≡◌, ◌+◌, ◌<◌, ◌≤◌, ℕ, List, ◌++◌, length, ◌∙◌, arith, length-append}
+use Rattle.std.proofs.Common.{◌<◌, ◌≤◌, ◌++◌, length, ◌∙◌, arith, length-append}
 use Rattle.mail_world.specs.declared.limits.TheConstants.{READ_LIMIT}
 use Rattle.lmtp_house.specs.declared.ending.EndCause.TheVariants as ends
-use Rattle.lmtp_house.proofs.Ends.{IsQuiet, served}
+use Rattle.lmtp_house.proofs.Ends.{served}
 use Rattle.lmtp_house.proofs.Turning.{may_not_ended}
 use Rattle.lmtp_house.proofs.conversation.take_turns.Goals as goal
 

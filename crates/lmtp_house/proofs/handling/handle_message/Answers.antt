@@ -1,4 +1,4 @@
-use Rattle.std.proofs.Common.{List, ◌≡◌, length, refl, ap, ◌∙◌, sym, subst}
+use Rattle.std.proofs.Common.{List, refl, subst}
 use Rattle.mail_world.specs.declared.Outcome.{Outcome}
 use Rattle.mail_world.specs.Session.{Outcomes}
 use Rattle.lmtp_session.specs.Steps.{IsStep}

@@ -1,6 +1,6 @@
 use Rattle.std.proofs.Common.{List, ℕ, ◌++◌, length, subst}
 use Rattle.lmtp_wire.specs.declared.wire.Got.{Got}
-use Rattle.lmtp_wire.specs.Wire.{IsBehind, TakesBy}
+use Rattle.lmtp_wire.specs.Wire.{TakesBy}
 use Rattle.lmtp_house.proofs.Carried.{more_of_line, line_of, long_line_of}
 use Rattle.lmtp_house.proofs.handling.take_line.Goals as goal
 
