@@ -1,27 +1,10 @@
--- Texts that a reader gives and a writer takes one after another.
+-- Texts that a writer takes one after another.
 use Rattle.std.proofs.Common.{◌≡◌, ℕ, ◌+◌, ◌-◌, ◌<◌, List, [], ◌++◌, length, Option, Some, None, Result, Ok, Err, take, drop, get_or, sym, ap, ◌∙◌, refl, subst, append_assoc, append-nil}
 use Rattle.std.proofs.lemmas.List.{take-append-drop, take_rest, drop_more}
 use Rattle.std.specs.List.{flat_map}
 use Rattle.std.specs.Result.{OnOk, OnErr}
-use Rattle.std.specs.Io.KnownBytes.{Appends, Consumes, Keeps}
+use Rattle.std.specs.Io.KnownBytes.{Appends, Keeps}
 use Rattle.lmtpd.specs.Output.{Breaks}
-
--- a reader
-pub Consumes-nil : (u : Option (List ℕ)) → Consumes u u []
-Consumes-nil None = tt
-Consumes-nil (Some xs) = refl
-
-pub Consumes-then : (u v w : Option (List ℕ)) (a b : List ℕ) → Consumes u v a → Consumes v w b → Consumes u w (a ++ b)
-Consumes-then None v w a b x y = tt
-Consumes-then (Some xs) None w a b x y = absurd x
-Consumes-then (Some xs) (Some ys) None a b x y = y
-Consumes-then (Some xs) (Some ys) (Some zs) a b x y = x ∙ ap (λ t. a ++ t) y ∙ sym (append_assoc a b zs)
-
-pub Consumes-keeps : (u v w : Option (List ℕ)) (a : List ℕ) → Consumes u v a → Keeps v w → Consumes u w a
-Consumes-keeps None v w a x y = tt
-Consumes-keeps (Some xs) None w a x y = absurd x
-Consumes-keeps (Some xs) (Some ys) None a x y = y
-Consumes-keeps (Some xs) (Some ys) (Some zs) a x y = x ∙ ap (λ t. a ++ t) (sym y)
 
 -- a writer
 pub Appends-nil : (u : Option (List ℕ)) → Appends u u []

@@ -19,7 +19,7 @@ pub struct Draft {
 impl Draft {
     ghost use Rattle.lmtpd.specs.Drafts.{HoldsDraft};
 
-    /// An empty draft, with memory for the largest message.
+    /// An empty draft, with memory for the longest message.
     pub fn new(alloc: Global) -> Result<Draft, AllocError> {
         let bytes = Vec::with_capacity(alloc, MESSAGE_LIMIT)?;
         Ok(Draft {

@@ -91,6 +91,7 @@ impl<S: Setting> Delivery for Rehearsal<S> {
         self.draft.add(bytes);
     }
 
+    /// The draft stays until the next DATA command clears it.
     fn cancel(&mut self) {}
 
     /// A message is refused where no number is left for it, or it is too large; each recipient of another gets its copy.

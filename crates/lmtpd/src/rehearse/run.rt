@@ -20,9 +20,9 @@ use std::io::{Read, Write};
 use std::marker::Brand;
 use std::sync::Arc;
 
-/// Serves one conversation at the site, and then writes the mailboxes, each behind the line `mailbox NAME LENGTH`. Each reply
-/// is written before more is read than brought it. The mailboxes are empty at the start and lie in memory; every message is of
-/// the given moment, in seconds since 1970. All memory is taken first: where it is wanting nothing is read or written.
+/// Serves one conversation at the site, and then writes the mailboxes, each behind the line `mailbox NAME LENGTH`. The replies
+/// to what was read are written before more is read. The mailboxes are empty at the start and lie in memory; every message is
+/// of the given moment, in seconds since 1970. All memory is taken first: where it is wanting nothing is read or written.
 pub fn rehearse_run<R: Read, W: Write>(
     alloc: Global,
     site: Arc<Site>,
@@ -37,6 +37,7 @@ pub fn rehearse_run<R: Read, W: Write>(
     rehearse_at::<Brand, R, W>(alloc, site, moment, reader, writer)
 }
 
+// The same, at a type that stands for the site and the moment.
 fn rehearse_at<S: Setting, R: Read, W: Write>(
     alloc: Global,
     site: Arc<Site>,

@@ -2,7 +2,8 @@
 
 use std::marker::Brand;
 
-/// The site and the moment of a rehearsal, which contracts can tell from the type of its parts. It has no value that runs.
+/// Stands for the site and the moment of a rehearsal. They are known only when the program runs, but they stay: so contracts
+/// take them from the type of a rehearsal's parts, and `rehearse_run` picks them. Nothing of it is left in the program.
 pub trait Setting {
     ghost use Rattle.std.specs.Prelude.{ℕ};
     ghost use Rattle.mail_world.specs.Site.{Site};
@@ -13,6 +14,7 @@ pub trait Setting {
     ghost moment: { ℕ };
 }
 
+// Whoever passes `Brand` may pick others.
 impl Setting for Brand {
     ghost use Rattle.std.specs.Prelude.{[]};
 

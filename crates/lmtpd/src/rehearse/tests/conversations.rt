@@ -11,6 +11,20 @@ pub struct Case {
     pub end: EndCause,
 }
 
+/// The replies to one message for anna.
+const STORED: &[&str] = &[
+    GREETING,
+    OFFER,
+    SENDER_OK,
+    RECIPIENT_OK,
+    GO_AHEAD,
+    STORED_FOR_ANNA,
+    CLOSING,
+];
+
+/// What two mailboxes hold that nothing was delivered to.
+const BOTH_EMPTY: &[&str] = &["mailbox anna 0\n", "mailbox ben 0\n"];
+
 pub const CASES: [Case; 17] = [
     Case {
         name: "a message to one mailbox",
@@ -26,15 +40,7 @@ pub const CASES: [Case; 17] = [
             ".",
             "QUIT",
         ],
-        replies: &[
-            GREETING,
-            OFFER,
-            SENDER_OK,
-            RECIPIENT_OK,
-            GO_AHEAD,
-            STORED_FOR_ANNA,
-            CLOSING,
-        ],
+        replies: STORED,
         mailboxes: &["mailbox anna 189\n", HEAD, "Subject: hi\n\nhello\n\n"],
         end: EndCause::Quit,
     },
@@ -134,7 +140,7 @@ pub const CASES: [Case; 17] = [
             "500 5.5.2 Unknown command",
             CLOSING,
         ],
-        mailboxes: &["mailbox anna 0\n", "mailbox ben 0\n"],
+        mailboxes: BOTH_EMPTY,
         end: EndCause::Quit,
     },
     Case {
@@ -148,22 +154,14 @@ pub const CASES: [Case; 17] = [
             "503 5.5.1 Out of order",
             CLOSING,
         ],
-        mailboxes: &["mailbox anna 0\n", "mailbox ben 0\n"],
+        mailboxes: BOTH_EMPTY,
         end: EndCause::Quit,
     },
     Case {
         name: "an empty message",
         boxes: ANNA_AND_BEN,
         input: &[LHLO, MAIL, TO_ANNA, "DATA", ".", "QUIT"],
-        replies: &[
-            GREETING,
-            OFFER,
-            SENDER_OK,
-            RECIPIENT_OK,
-            GO_AHEAD,
-            STORED_FOR_ANNA,
-            CLOSING,
-        ],
+        replies: STORED,
         mailboxes: &["mailbox anna 170\n", HEAD, "\n", "mailbox ben 0\n"],
         end: EndCause::Quit,
     },
@@ -171,15 +169,7 @@ pub const CASES: [Case; 17] = [
         name: "dots at the front of lines",
         boxes: ANNA_AND_BEN,
         input: &[LHLO, MAIL, TO_ANNA, "DATA", "..a", ".b", ".", "QUIT"],
-        replies: &[
-            GREETING,
-            OFFER,
-            SENDER_OK,
-            RECIPIENT_OK,
-            GO_AHEAD,
-            STORED_FOR_ANNA,
-            CLOSING,
-        ],
+        replies: STORED,
         mailboxes: &["mailbox anna 175\n", HEAD, ".a\nb\n\n", "mailbox ben 0\n"],
         end: EndCause::Quit,
     },
@@ -187,15 +177,7 @@ pub const CASES: [Case; 17] = [
         name: "dots behind a bare LF",
         boxes: ANNA_AND_BEN,
         input: &[LHLO, MAIL, TO_ANNA, "DATA", "a\n.\nb", ".\nc", ".", "QUIT"],
-        replies: &[
-            GREETING,
-            OFFER,
-            SENDER_OK,
-            RECIPIENT_OK,
-            GO_AHEAD,
-            STORED_FOR_ANNA,
-            CLOSING,
-        ],
+        replies: STORED,
         mailboxes: &[
             "mailbox anna 179\n",
             HEAD,
@@ -220,15 +202,7 @@ pub const CASES: [Case; 17] = [
             ".",
             "QUIT",
         ],
-        replies: &[
-            GREETING,
-            OFFER,
-            SENDER_OK,
-            RECIPIENT_OK,
-            GO_AHEAD,
-            STORED_FOR_ANNA,
-            CLOSING,
-        ],
+        replies: STORED,
         mailboxes: &[
             "mailbox anna 214\n",
             HEAD,
@@ -253,7 +227,7 @@ pub const CASES: [Case; 17] = [
             SENDER_OK,
             CLOSING,
         ],
-        mailboxes: &["mailbox anna 0\n", "mailbox ben 0\n"],
+        mailboxes: BOTH_EMPTY,
         end: EndCause::Quit,
     },
     Case {
@@ -270,15 +244,7 @@ pub const CASES: [Case; 17] = [
             ".",
             "QUIT",
         ],
-        replies: &[
-            GREETING,
-            OFFER,
-            SENDER_OK,
-            RECIPIENT_OK,
-            GO_AHEAD,
-            STORED_FOR_ANNA,
-            CLOSING,
-        ],
+        replies: STORED,
         mailboxes: &[
             "mailbox anna 174\n",
             "From MAILER-DAEMON Thu Jan  1 00:00:00 1970\nReturn-Path: <>\nReceived: from relay.example\n",
@@ -301,15 +267,7 @@ pub const CASES: [Case; 17] = [
             ".",
             "QUIT",
         ],
-        replies: &[
-            GREETING,
-            OFFER,
-            SENDER_OK,
-            RECIPIENT_OK,
-            GO_AHEAD,
-            STORED_FOR_ANNA,
-            CLOSING,
-        ],
+        replies: STORED,
         mailboxes: &[
             "mailbox anna 183\n",
             "From c@d.example Thu Jan  1 00:00:00 1970\nReturn-Path: <c@d.example>\nReceived: from relay.example\n",
@@ -323,7 +281,7 @@ pub const CASES: [Case; 17] = [
         boxes: ANNA_AND_BEN,
         input: &[LHLO, MAIL, TO_ANNA, "DATA", "Subject: hi"],
         replies: &[GREETING, OFFER, SENDER_OK, RECIPIENT_OK, GO_AHEAD],
-        mailboxes: &["mailbox anna 0\n", "mailbox ben 0\n"],
+        mailboxes: BOTH_EMPTY,
         end: EndCause::EndOfInput,
     },
     Case {
@@ -352,7 +310,7 @@ pub const CASES: [Case; 17] = [
             "501 Bad client name",
             CLOSING,
         ],
-        mailboxes: &["mailbox anna 0\n", "mailbox ben 0\n"],
+        mailboxes: BOTH_EMPTY,
         end: EndCause::Quit,
     },
     Case {
@@ -405,7 +363,7 @@ pub const CASES: [Case; 17] = [
             "250 2.0.0 Reset",
             CLOSING,
         ],
-        mailboxes: &["mailbox anna 0\n", "mailbox ben 0\n"],
+        mailboxes: BOTH_EMPTY,
         end: EndCause::Quit,
     },
     Case {
