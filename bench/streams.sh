@@ -1,0 +1,65 @@
+#!/usr/bin/env bash
+# How fast 64 MiB of mail go through the parts of the server that see each byte, against a plain loop over bytes
+# that does the same work (bench/streams/loops.rs, by `rustc -O`):
+#   lines    `Wire::command`, in pieces of 4,096 bytes
+#   data     `Dot::feed`, in pieces of 4,096 bytes
+#   record   `RecordWriter::piece`, in pieces of 512 bytes, to a spool that only counts
+# Prints the best of RUNS times of each (9 if it isn't set) and the loop's time over ours, and the appends that a piece
+# of a record makes. Fails where the counts differ or a ratio is below 1.0.
+# Both run by turns, so that a ratio means something on a machine that does other work.
+#
+# The program of bench/streams stands in no crates.txt, so that the gate doesn't prove it each time; and since the gate
+# stops at a .rt or .antt file of no crate, the names of its files end in `.in`. It is proved and built here by `rt run`, by
+# LLVM as any program is, in a copy of the crates that it needs, over what their checks kept.
+set -euo pipefail
+cd "$(dirname "$0")/.."
+folder=$(mktemp -d)
+trap 'rm -rf "$folder"' EXIT
+
+mkdir "$folder/crates"
+for crate in mail_world lmtp_text lmtp_wire mbox_rd; do
+    cp -a "crates/$crate" "$folder/crates/"
+    grep -E "^$crate( |:)" crates.txt
+done > "$folder/crates.txt"
+echo "streams: mail_world lmtp_wire mbox_rd anyhow" >> "$folder/crates.txt"
+cp -a bench/streams "$folder/crates/"
+find "$folder/crates/streams" -name '*.in' | while read -r file; do mv "$file" "${file%.in}"; done
+rustc -O -o "$folder/loops" bench/streams/loops.rs
+cd "$folder/crates/streams"
+rt run > "$folder/build.log" 2>&1 || { cat "$folder/build.log" >&2; exit 1; }
+
+python3 - out/streams "$folder/loops" "${RUNS:-9}" <<'PYTHON'
+import subprocess
+import sys
+
+OURS, LOOPS, RUNS = sys.argv[1], sys.argv[2], int(sys.argv[3])
+
+
+def run(program):
+    """By name the number that the program printed and the counts behind it."""
+    said = subprocess.run([program], check=True, capture_output=True, text=True).stdout
+    rows = [line.split(" ", 2) for line in said.splitlines()]
+    return {name: (int(number), counts) for name, number, counts in rows}
+
+
+def best(runs, name):
+    return min(run[name][0] for run in runs) / 1_000_000
+
+
+ours, loops = [], []
+for _ in range(RUNS):
+    ours.append(run(OURS))
+    loops.append(run(LOOPS))
+
+slow = False
+for name in ["lines", "data", "record"]:
+    if ours[0][name][1] != loops[0][name][1]:
+        sys.exit(f"{name}: {ours[0][name][1]}, and the loop has {loops[0][name][1]}")
+    us, loop = best(ours, name), best(loops, name)
+    print(f"{name}: {us:.4f} s, loop {loop:.4f} s, ratio {loop / us:.2f} (at least 1.0)")
+    slow = slow or loop < us
+
+appends, pieces = ours[0]["calls"]
+print(f"record: {appends / int(pieces.removeprefix('pieces=')):.2f} appends a piece")
+sys.exit(1 if slow else 0)
+PYTHON
