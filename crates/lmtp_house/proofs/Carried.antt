@@ -117,6 +117,7 @@ more_of_line site start Before Come Drafting old wire peer handled came piece us
       session = h.session;
       quits = h.quits;
       said = h.said;
+      goes = h.goes;
       inside = as_line old.session.session.state (record old { wire = wire }) (h.rest ++ piece) _ _ lines (record { behind = t.behind; comes = line.comes });
     }
 
@@ -157,6 +158,7 @@ ended_line site start Before {D} HasCome IsDrafting old new wire before after de
       quits = subst (λ (s : Session). QuitsWith s.state (flat_map inputs_of (h.done ++ p ∷ []))) (sym t.takes.session)
           (subst (λ l. QuitsWith (session_after old.session.site old.session.session (input ∷ [])).state l) (sym (inputs-snoc h.done p ∙ ap (λ l. flat_map inputs_of h.done ++ l) input_is)) quits);
       said = says_part site h.done p start before after mid new came takes h.same_site h.session h.said;
+      goes = takes.same ∙ h.goes;
       inside = behind_line new.session.session.state new _ _ goes' (subst (λ w. IsBehind w []) (sym takes.wire) ends.behind)
           (λ content.
           let begins : BeginsIf HasCome IsDrafting true new delivery later = subst (λ b. BeginsIf HasCome IsDrafting b new delivery later) content t.begins in

@@ -55,6 +55,7 @@ more_of_data site start Before {D} HasCome IsDrafting old dot peer delivery late
       session = h.session;
       quits = h.quits;
       said = h.said;
+      goes = h.goes;
       inside = subst (λ (s : State). IsInside s new text (Comes site h.done Before (HasCome later)) (λ made. Comes site h.done Before (λ n ts. IsDrafting later n ts made))) (sym content) now;
     }
 
@@ -105,5 +106,6 @@ end_of_data site start Before {D} HasCome IsDrafting old new dot before after de
           (subst (λ l. QuitsWith (session_after old.session.site old.session.session (DataEnded e.verdict ∷ outcomes_of d e.verdict)).state l) (sym (inputs-snoc h.done p))
           (quits_data e.verdict old.session.site old.session.session (flat_map inputs_of h.done) d content h.quits));
       said = says_part site h.done p start before after between new came e.takes h.same_site h.session h.said;
+      goes = e.takes.same ∙ h.goes;
       inside = subst (λ (s : State). IsInside s new [] (Comes site (h.done ++ p ∷ []) Before (HasCome later)) (λ made. Comes site (h.done ++ p ∷ []) Before (λ n ts. IsDrafting later n ts made))) (sym greets) now;
     }

@@ -19,13 +19,13 @@ use Rattle.lmtp_session.specs.Steps.{MayStop}
 use Rattle.lmtp_house.specs.declared.desk.Desk.{Desk}
 use Rattle.lmtp_house.specs.declared.ending.EndCause.{EndCause}
 use Rattle.lmtp_house.specs.declared.ending.EndCause.TheVariants as ends
-use Rattle.lmtp_house.specs.Peer.{PeerState, HasMoved, HasFailed}
+use Rattle.lmtp_house.specs.Peer.{PeerState, HasMoved, HasFailed, HasStopped}
 use Rattle.lmtp_house.specs.Saying.{HasSaid}
 use Rattle.lmtp_house.specs.Served.{is_quit, has_quit, IsWritten, IsServed}
 use Rattle.lmtp_house.specs.Standing.{Comes, IsInside, Stands}
 use Rattle.lmtp_house.specs.Steps.{TakesInputs}
 use Rattle.lmtp_house.specs.Turns.{Leaves, stopped_or}
-use Rattle.lmtp_house.proofs.Written.{moved_writing}
+use Rattle.lmtp_house.proofs.Written.{moved_writing, said_on}
 use Rattle.lmtp_house.proofs.CutUp.{all_cut, all_accounted, all_inputs}
 
 -- nothing is left but what is inside
@@ -159,7 +159,8 @@ record EndsBy (state : State) (stopped : Bool) (handled : List ℕ) (old new : P
   pub read_bound : end ≡ ends.ReadBound → READ_LIMIT ≤ length handled
   pub stop : end ≡ ends.Stopped → stopped ≡ true
   pub stops : stopped ≡ true → (end ≡ ends.Stopped) ⊎ (end ≡ ends.WriteFault)
-  pub may_stop : stopped ≡ true → old.stops ≡ true
+  pub rose : stopped ≡ true → Rises old.stops new.stops
+  pub kept : stopped ≡ false → new.stops ≡ old.stops
   pub read_fault : end ≡ ends.ReadFault → Rises old.failures new.failures
   pub write_fault : end ≡ ends.WriteFault → Rises old.failures new.failures
   pub sound : (end ≡ ends.ReadFault → ⊥) → (end ≡ ends.WriteFault → ⊥) → new.failures ≡ old.failures
@@ -200,7 +201,8 @@ finished site start before now Before Come Last Drafting desk handled stopped en
         read_bound = f.causes.read_bound;
         stop = f.causes.stop;
         stops = f.causes.stops;
-        may_stop = f.causes.may_stop;
+        rose = f.causes.rose;
+        kept = f.causes.kept;
         read_fault = f.causes.read_fault;
         write_fault = f.causes.write_fault;
         sound = f.causes.sound;
@@ -247,9 +249,9 @@ finishes_quiet site start now desk ps handled end q h causes =
     record { written = s.written; moved = s.moved; says = written_whole start now [] handled (last_text site (last_inputs site ps false)) (end ≡ ends.WriteFault) s refl; causes = causes s.is.sound }
 
 finishes_broken : (site : Site) (start now : PeerState) (broken : Bool) (pending : List ℕ) (state : State) (stopped : Bool) (ps : List Part) (handled text : List ℕ) → broken ≡ true
-    → text ≡ last_text site (last_inputs site ps stopped) → (stopped ≡ true → start.stops ≡ true) → HasSaid start now broken pending handled text
+    → text ≡ last_text site (last_inputs site ps stopped) → (stopped ≡ true → Rises start.stops now.stops) → (stopped ≡ false → now.stops ≡ start.stops) → HasSaid start now broken pending handled text
     → Finishes site start now stopped ps state handled ends.WriteFault
-finishes_broken site start now broken pending state stopped ps handled text e is may h =
+finishes_broken site start now broken pending state stopped ps handled text e is rose kept h =
     let s : HasSaid start now true pending handled (last_text site (last_inputs site ps stopped)) =
     subst (λ l. HasSaid start now true pending handled l) is (said_broken start now broken pending handled text e h) in
     record {
@@ -263,7 +265,8 @@ finishes_broken site start now broken pending state stopped ps handled text e is
         read_bound = λ f. cc;
         stop = λ f. cc;
         stops = λ f. inr refl;
-        may_stop = may;
+        rose = rose;
+        kept = kept;
         read_fault = λ f. s.is.failed;
         write_fault = λ f. s.is.failed;
         sound = λ f g. absurd (g refl);
@@ -271,63 +274,67 @@ finishes_broken site start now broken pending state stopped ps handled text e is
     }
 
 -- the causes of a conversation that was not stopped
-quit_ends : (state : State) (handled : List ℕ) (start now : PeerState) → state ≡ Ended → now.failures ≡ start.failures → EndsBy state false handled start now ends.Quit
-quit_ends state handled start now ended sound = record {
+quit_ends : (state : State) (handled : List ℕ) (start now : PeerState) → state ≡ Ended → now.failures ≡ start.failures → now.stops ≡ start.stops → EndsBy state false handled start now ends.Quit
+quit_ends state handled start now ended sound same = record {
   quit = λ f. ended;
   quits = λ f. inl refl;
   end_of_input = λ f. cc;
   read_bound = λ f. cc;
   stop = λ f. cc;
   stops = λ f. cc;
-  may_stop = λ f. cc;
+  rose = λ f. cc;
+  kept = λ f. same;
   read_fault = λ f. cc;
   write_fault = λ f. cc;
   sound = λ f g. sound;
 }
 
-input_ends : (state : State) (handled : List ℕ) (start now : PeerState) → (state ≡ Ended → ⊥) → IsAtEnd now.unread → now.failures ≡ start.failures → EndsBy state false handled start now ends.EndOfInput
-input_ends state handled start now open' none sound = record {
+input_ends : (state : State) (handled : List ℕ) (start now : PeerState) → (state ≡ Ended → ⊥) → IsAtEnd now.unread → now.failures ≡ start.failures → now.stops ≡ start.stops → EndsBy state false handled start now ends.EndOfInput
+input_ends state handled start now open' none sound same = record {
   quit = λ f. cc;
   quits = λ f. absurd (open' f);
   end_of_input = λ f. none;
   read_bound = λ f. cc;
   stop = λ f. cc;
   stops = λ f. cc;
-  may_stop = λ f. cc;
+  rose = λ f. cc;
+  kept = λ f. same;
   read_fault = λ f. cc;
   write_fault = λ f. cc;
   sound = λ f g. sound;
 }
 
-bound_ends : (state : State) (handled : List ℕ) (start now : PeerState) → (state ≡ Ended → ⊥) → READ_LIMIT ≤ length handled → now.failures ≡ start.failures → EndsBy state false handled start now ends.ReadBound
-bound_ends state handled start now open' long sound = record {
+bound_ends : (state : State) (handled : List ℕ) (start now : PeerState) → (state ≡ Ended → ⊥) → READ_LIMIT ≤ length handled → now.failures ≡ start.failures → now.stops ≡ start.stops → EndsBy state false handled start now ends.ReadBound
+bound_ends state handled start now open' long sound same = record {
   quit = λ f. cc;
   quits = λ f. absurd (open' f);
   end_of_input = λ f. cc;
   read_bound = λ f. long;
   stop = λ f. cc;
   stops = λ f. cc;
-  may_stop = λ f. cc;
+  rose = λ f. cc;
+  kept = λ f. same;
   read_fault = λ f. cc;
   write_fault = λ f. cc;
   sound = λ f g. sound;
 }
 
-fault_ends : (state : State) (handled : List ℕ) (start now : PeerState) → (state ≡ Ended → ⊥) → Rises start.failures now.failures → EndsBy state false handled start now ends.ReadFault
-fault_ends state handled start now open' failed = record {
+fault_ends : (state : State) (handled : List ℕ) (start now : PeerState) → (state ≡ Ended → ⊥) → Rises start.failures now.failures → now.stops ≡ start.stops → EndsBy state false handled start now ends.ReadFault
+fault_ends state handled start now open' failed same = record {
   quit = λ f. cc;
   quits = λ f. absurd (open' f);
   end_of_input = λ f. cc;
   read_bound = λ f. cc;
   stop = λ f. cc;
   stops = λ f. cc;
-  may_stop = λ f. cc;
+  rose = λ f. cc;
+  kept = λ f. same;
   read_fault = λ f. failed;
   write_fault = λ f. cc;
   sound = λ f g. absurd (f refl);
 }
 
-stop_ends : (state : State) (handled : List ℕ) (start now : PeerState) → (state ≡ Ended → ⊥) → start.stops ≡ true → now.failures ≡ start.failures → EndsBy state true handled start now ends.Stopped
+stop_ends : (state : State) (handled : List ℕ) (start now : PeerState) → (state ≡ Ended → ⊥) → Rises start.stops now.stops → now.failures ≡ start.failures → EndsBy state true handled start now ends.Stopped
 stop_ends state handled start now open' may sound = record {
   quit = λ f. cc;
   quits = λ f. absurd (open' f);
@@ -335,7 +342,8 @@ stop_ends state handled start now open' may sound = record {
   read_bound = λ f. cc;
   stop = λ f. refl;
   stops = λ f. inl refl;
-  may_stop = λ f. may;
+  rose = λ f. may;
+  kept = λ f. cc;
   read_fault = λ f. cc;
   write_fault = λ f. cc;
   sound = λ f g. sound;
@@ -347,16 +355,16 @@ pub served : (site : Site) (start now : PeerState) (Before Come Last : ℕ → L
     → EndsAs end desk now handled → IsServed site start now Before Last end
 served site start now Before Come Last Drafting desk handled ends.Quit h l e =
     finished site start now now Before Come Last Drafting desk handled false ends.Quit h (comes_in_the_end site start now Before Come Last Drafting desk handled handled h l)
-    (finishes_quiet site start now desk h.done handled ends.Quit e.0 h.said (quit_ends desk.session.session.state handled start now e.1))
+    (finishes_quiet site start now desk h.done handled ends.Quit e.0 h.said (λ sound. quit_ends desk.session.session.state handled start now e.1 sound h.goes))
 served site start now Before Come Last Drafting desk handled ends.EndOfInput h l e =
     finished site start now now Before Come Last Drafting desk handled false ends.EndOfInput h (comes_in_the_end site start now Before Come Last Drafting desk handled handled h l)
-    (finishes_quiet site start now desk h.done handled ends.EndOfInput e.0 h.said (input_ends desk.session.session.state handled start now e.1 e.2))
+    (finishes_quiet site start now desk h.done handled ends.EndOfInput e.0 h.said (λ sound. input_ends desk.session.session.state handled start now e.1 e.2 sound h.goes))
 served site start now Before Come Last Drafting desk handled ends.ReadBound h l e =
     finished site start now now Before Come Last Drafting desk handled false ends.ReadBound h (comes_in_the_end site start now Before Come Last Drafting desk handled handled h l)
-    (finishes_quiet site start now desk h.done handled ends.ReadBound e.0 h.said (bound_ends desk.session.session.state handled start now e.1 e.2))
+    (finishes_quiet site start now desk h.done handled ends.ReadBound e.0 h.said (λ sound. bound_ends desk.session.session.state handled start now e.1 e.2 sound h.goes))
 served site start now Before Come Last Drafting desk handled ends.WriteFault h l e =
     finished site start now now Before Come Last Drafting desk handled false ends.WriteFault h (comes_in_the_end site start now Before Come Last Drafting desk handled handled h l)
-    (finishes_broken site start now desk.outbox.broken desk.outbox.pending.items desk.session.session.state false h.done handled _ e (text_not_stopped site h.done) (λ f. cc) h.said)
+    (finishes_broken site start now desk.outbox.broken desk.outbox.pending.items desk.session.session.state false h.done handled _ e (text_not_stopped site h.done) (λ f. cc) (λ f. h.goes) h.said)
 served site start now Before Come Last Drafting desk handled ends.ReadFault h l e = absurd e
 served site start now Before Come Last Drafting desk handled ends.Stopped h l e = absurd e
 
@@ -374,7 +382,7 @@ served_read_fault site start before now Before Come Last Drafting desk handled h
       written = s.written;
       moved = moved;
       says = written_whole start before [] handled (last_text site (last_inputs site h.done false)) (ends.ReadFault ≡ ends.WriteFault) s refl;
-      causes = fault_ends desk.session.session.state handled start now open' failed;
+      causes = fault_ends desk.session.session.state handled start now open' failed (f.same ∙ h.goes);
     })
 
 -- the session was told to stop, and what it said to that was written as far as it could be
@@ -385,10 +393,10 @@ text_in_the_end site start before Before Come Drafting desk handled came h may =
 
 -- whether the outbox broke decides
 
-stopped_by : (broken : Bool) (site : Site) (start now : PeerState) (pending : List ℕ) (state : State) (ps : List Part) (handled text : List ℕ) → (state ≡ Ended → ⊥) → start.stops ≡ true
+stopped_by : (broken : Bool) (site : Site) (start now : PeerState) (pending : List ℕ) (state : State) (ps : List Part) (handled text : List ℕ) → (state ≡ Ended → ⊥) → Rises start.stops now.stops
     → text ≡ last_text site (last_inputs site ps true) → pending ≡ [] → HasSaid start now broken pending handled text
     → Finishes site start now true ps state handled (stopped_or broken)
-stopped_by true site start now pending state ps handled text open' may is none h = finishes_broken site start now true pending state true ps handled text refl is (λ f. may) h
+stopped_by true site start now pending state ps handled text open' may is none h = finishes_broken site start now true pending state true ps handled text refl is (λ f. may) (λ f. cc) h
 stopped_by false site start now pending state ps handled text open' may is none h =
     let s : HasSaid start now false pending handled (last_text site (last_inputs site ps true)) = subst (λ l. HasSaid start now false pending handled l) is h in
     record {
@@ -398,12 +406,16 @@ stopped_by false site start now pending state ps handled text open' may is none 
       causes = stop_ends state handled start now open' may s.is.sound;
     }
 
-pub served_stopped : (site : Site) (start before now : PeerState) (Before Come Last : ℕ → List Transaction → Type 0) (Drafting : ℕ → List Transaction → List ℕ → Type 0) (desk new : Desk) (handled : List ℕ)
-    → Stands site start Before desk before Come Drafting handled handled → Leaves (is_content desk.session.session.state) Come Drafting Last
-    → (desk.session.session.state ≡ Ended → ⊥) → before.stops ≡ true → TakesInputs (Stop ∷ []) desk new before now → new.outbox.pending.items ≡ []
+pub served_stopped : (site : Site) (start earlier before now : PeerState) (Before Come Last : ℕ → List Transaction → Type 0) (Drafting : ℕ → List Transaction → List ℕ → Type 0) (desk new : Desk) (handled : List ℕ)
+    → Stands site start Before desk earlier Come Drafting handled handled → Leaves (is_content desk.session.session.state) Come Drafting Last
+    → (desk.session.session.state ≡ Ended → ⊥) → HasStopped earlier before → TakesInputs (Stop ∷ []) desk new before now → new.outbox.pending.items ≡ []
     → IsServed site start now Before Last (stopped_or new.outbox.broken)
-served_stopped site start before now Before Come Last Drafting desk new handled h l open' stops t none =
-    let may : MayStop desk.session.session.state = may_stop site start before Before Come Drafting desk handled handled h open' in
-    finished site start before now Before Come Last Drafting desk handled true (stopped_or new.outbox.broken) h (comes_in_the_end site start before Before Come Last Drafting desk handled handled h l)
-    (stopped_by new.outbox.broken site start now new.outbox.pending.items desk.session.session.state h.done handled _ open' (sym h.said.moved.same ∙ stops)
-    (text_in_the_end site start before Before Come Drafting desk handled handled h may) none (t.says start handled _ h.said))
+served_stopped site start earlier before now Before Come Last Drafting desk new handled h l open' stops t none =
+    let may : MayStop desk.session.session.state = may_stop site start earlier Before Come Drafting desk handled handled h open' in
+    let said : HasSaid start before desk.outbox.broken desk.outbox.pending.items handled (last_text site (flat_map inputs_of h.done)) =
+    subst (λ l. HasSaid start before desk.outbox.broken desk.outbox.pending.items l (last_text site (flat_map inputs_of h.done))) (append-nil handled)
+    (said_on desk.outbox.broken start earlier before desk.outbox.pending.items handled [] (last_text site (flat_map inputs_of h.done)) h.said stops.moved stops.sound) in
+    let rose : Rises start.stops now.stops = subst (λ k. Rises start.stops k) (sym t.same) (subst (λ k. Rises k before.stops) h.goes stops.stopped) in
+    finished site start earlier now Before Come Last Drafting desk handled true (stopped_or new.outbox.broken) h (comes_in_the_end site start earlier Before Come Last Drafting desk handled handled h l)
+    (stopped_by new.outbox.broken site start now new.outbox.pending.items desk.session.session.state h.done handled _ open' rose
+    (text_in_the_end site start earlier Before Come Drafting desk handled handled h may) none (t.says start handled _ said))

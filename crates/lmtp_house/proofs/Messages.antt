@@ -36,11 +36,11 @@ pub whole_message : {D : Type 0} (HasCome : D → ℕ → List Transaction → T
     → verdict ≡ Whole
     → ((n : ℕ) (ts : List Transaction) (message : List ℕ) → IsDrafting delivery n ts message → EndsDraft (HasCome later) moment told old.session.session n ts message verdict)
     → length told ≡ length old.session.session.recipients
-    → IsStep old.session (DataEnded verdict) first mid → IsStep mid (Outcomes told) second new.session → new.wire ≡ old.wire
+    → IsStep old.session (DataEnded verdict) first mid → IsStep mid (Outcomes told) second new.session → new.wire ≡ old.wire → after.stops ≡ before.stops
     → ((start : PeerState) (came text : List ℕ) → HasSaid start before old.outbox.broken old.outbox.pending.items came text
     → HasSaid start after new.outbox.broken new.outbox.pending.items came (text ++ reply_texts new.session.site (said second new.session.answers)))
     → EndsData HasCome IsDrafting old new before after delivery later
-whole_message {D} HasCome IsDrafting old new mid before after delivery later verdict moment told first second is ended count one two wire says =
+whole_message {D} HasCome IsDrafting old new mid before after delivery later verdict moment told first second is ended count one two wire same says =
     let site : Site = old.session.site in
     let s : Session = old.session.session in
     let one' : IsStep old.session (DataEnded Whole) first mid = subst (λ (v : Verdict). IsStep old.session (DataEnded v) first mid) is one in
@@ -60,6 +60,7 @@ whole_message {D} HasCome IsDrafting old new mid before after delivery later ver
         session = session;
         says = λ start came text h. subst (λ l. HasSaid start after new.outbox.broken new.outbox.pending.items came (text ++ l)) texts (says start came text h);
         wire = wire;
+        same = same;
       };
       fits = count;
       ended = λ n ts message h. subst (λ (v : Verdict). EndsDraft (HasCome later) moment told s n ts message v) is (ended n ts message h);
@@ -69,12 +70,12 @@ pub refused_message : {D : Type 0} (HasCome : D → ℕ → List Transaction →
     (old new : Desk) (before after : PeerState) (delivery later : D) (verdict : Verdict) (moment : ℕ) (told : List Outcome) (act : Act)
     → (verdict ≡ Whole → ⊥)
     → ((n : ℕ) (ts : List Transaction) (message : List ℕ) → IsDrafting delivery n ts message → EndsDraft (HasCome later) moment told old.session.session n ts message verdict)
-    → IsStep old.session (DataEnded verdict) act new.session → new.wire ≡ old.wire
+    → IsStep old.session (DataEnded verdict) act new.session → new.wire ≡ old.wire → after.stops ≡ before.stops
     → ((start : PeerState) (came text : List ℕ) → HasSaid start before old.outbox.broken old.outbox.pending.items came text
     → HasSaid start after new.outbox.broken new.outbox.pending.items came (text ++ reply_texts new.session.site (said act new.session.answers)))
     → EndsData HasCome IsDrafting old new before after delivery later
-refused_message {D} HasCome IsDrafting old new before after delivery later Whole moment told act other ended one wire says = absurd (other refl)
-refused_message {D} HasCome IsDrafting old new before after delivery later TooLarge moment told act other ended one wire says = record {
+refused_message {D} HasCome IsDrafting old new before after delivery later Whole moment told act other ended one wire same says = absurd (other refl)
+refused_message {D} HasCome IsDrafting old new before after delivery later TooLarge moment told act other ended one wire same says = record {
   verdict = TooLarge;
   moment = moment;
   told = told;
@@ -85,11 +86,12 @@ refused_message {D} HasCome IsDrafting old new before after delivery later TooLa
         (texts_are old.session.site act (step old.session.site old.session.session (DataEnded TooLarge)) old.session new.session one refl ∙ ap (λ rs. reply_texts old.session.site rs) (sym (append-nil _)))
         (says start came text h);
     wire = wire;
+    same = same;
   };
   fits = tt;
   ended = ended;
 }
-refused_message {D} HasCome IsDrafting old new before after delivery later NoRoom moment told act other ended one wire says = record {
+refused_message {D} HasCome IsDrafting old new before after delivery later NoRoom moment told act other ended one wire same says = record {
   verdict = NoRoom;
   moment = moment;
   told = told;
@@ -100,6 +102,7 @@ refused_message {D} HasCome IsDrafting old new before after delivery later NoRoo
         (texts_are old.session.site act (step old.session.site old.session.session (DataEnded NoRoom)) old.session new.session one refl ∙ ap (λ rs. reply_texts old.session.site rs) (sym (append-nil _)))
         (says start came text h);
     wire = wire;
+    same = same;
   };
   fits = tt;
   ended = ended;

@@ -38,6 +38,7 @@ stands_reading site start peer later Before Come Drafting desk handled came more
   session = h.session;
   quits = h.quits;
   said = said_reading desk.outbox.broken start peer later desk.outbox.pending.items came more _ h.said w;
+  goes = w.same ∙ h.goes;
   inside = h.inside;
 }
 
@@ -59,8 +60,8 @@ inside_same Ended desk outbox rest come drafts x = x
 -- what waited was written
 pub stands_flushed : (site : Site) (start peer later : PeerState) (Before Come : ℕ → List Transaction → Type 0) (Drafting : ℕ → List Transaction → List ℕ → Type 0) (desk : Desk) (outbox : Outbox) (handled came : List ℕ)
     → ((text : List ℕ) → HasSaid start peer desk.outbox.broken desk.outbox.pending.items came text → HasSaid start later outbox.broken outbox.pending.items came text)
-    → Stands site start Before desk peer Come Drafting handled came → Stands site start Before (record desk { outbox = outbox }) later Come Drafting handled came
-stands_flushed site start peer later Before Come Drafting desk outbox handled came says h = record {
+    → later.stops ≡ peer.stops → Stands site start Before desk peer Come Drafting handled came → Stands site start Before (record desk { outbox = outbox }) later Come Drafting handled came
+stands_flushed site start peer later Before Come Drafting desk outbox handled came says same h = record {
   done = h.done;
   front = h.front;
   rest = h.rest;
@@ -70,6 +71,7 @@ stands_flushed site start peer later Before Come Drafting desk outbox handled ca
   session = h.session;
   quits = h.quits;
   said = says _ h.said;
+  goes = same ∙ h.goes;
   inside = inside_same desk.session.session.state desk outbox h.rest _ _ h.inside;
 }
 
@@ -94,6 +96,7 @@ begins site before after Come Drafting old new here h = record {
   same_site = h.site ∙ here;
   session = h.session;
   quits = record { ends = λ e. let wrong : Fresh ≡ Ended = sym (ap (λ (s : Session). s.state) h.session) ∙ e in cc; quit = λ e. cc };
+  goes = h.same;
   said = subst (λ l. HasSaid before after new.outbox.broken new.outbox.pending.items [] l) (ap (λ (x : Site). reply_text x Greeting) here ∙ sym (append-nil (reply_text site Greeting))) h.said;
   inside = subst (λ (s : State). IsInside s new [] (Comes site [] Come Come) (λ made. Comes site [] Come (λ n ts. Drafting n ts made))) (sym (ap (λ (s : Session). s.state) h.session))
       (record { behind = h.wire; comes = λ n ts c. subst (λ l. Come n l) (sym (append-nil ts)) c });

@@ -20,14 +20,13 @@ OnErr-any (Ok x) q = tt
 OnErr-any (Err e) q = q
 
 pub moved_none : (s : PeerState) → HasMoved s s [] []
-moved_none s = record { read = Appends-nil s.read; unread = Consumes-nil s.unread; written = Appends-nil s.written; same = refl; still = refl }
+moved_none s = record { read = Appends-nil s.read; unread = Consumes-nil s.unread; written = Appends-nil s.written; still = refl }
 
 pub moved_then : (s t u : PeerState) (a b c d : List ℕ) → HasMoved s t a c → HasMoved t u b d → HasMoved s u (a ++ b) (c ++ d)
 moved_then s t u a b c d x y = record {
   read = Appends-trans s.read t.read u.read a b x.read y.read;
   unread = Consumes-trans s.unread t.unread u.unread a b x.unread y.unread;
   written = Appends-trans s.written t.written u.written c d x.written y.written;
-  same = y.same ∙ x.same;
   still = y.still ∙ x.still;
 }
 
@@ -46,13 +45,13 @@ pub record GivenUpTo (old new : PeerState) (text rest : List ℕ) : Type 0 where
   pub worked : HasWorked old new [] front
 
 pub given_none : (s : PeerState) (text : List ℕ) → GivenUpTo s s text text
-given_none s text = record { front = []; whole = refl; worked = record { moved = moved_none s; sound = refl } }
+given_none s text = record { front = []; whole = refl; worked = record { moved = moved_none s; sound = refl; same = refl } }
 
 pub given_next : (s t u : PeerState) (text a b : List ℕ) → GivenUpTo s t text (a ++ b) → HasWorked t u [] a → GivenUpTo s u text b
 given_next s t u text a b x y = record {
   front = x.front ++ a;
   whole = x.whole ∙ sym (append_assoc x.front a b);
-  worked = record { moved = moved_writing s t u [] x.front a x.worked.moved y.moved; sound = y.sound ∙ x.worked.sound };
+  worked = record { moved = moved_writing s t u [] x.front a x.worked.moved y.moved; sound = y.sound ∙ x.worked.sound; same = y.same ∙ x.worked.same };
 }
 
 pub given_more : (s t u : PeerState) (text rest : List ℕ) (n : ℕ) → GivenUpTo s t text rest → HasWorked t u [] (take n rest)
@@ -72,6 +71,7 @@ given_broken s t u text rest x y = record {
   begins = record { rest = rest; whole = x.whole };
   moved = subst (λ l. HasMoved s u [] l) (append-nil x.front) (moved_writing s t u [] x.front [] x.worked.moved y.moved);
   failed = rises_from s.failures t.failures u.failures x.worked.sound y.failed;
+  same = y.same ∙ x.worked.same;
 }
 
 -- what waits is written, or a write failed
@@ -115,19 +115,24 @@ says_more true start s pending reply came text h = record {
   };
 }
 
+-- the peer moved on without a failure
+pub said_on : (broken : Bool) (start s t : PeerState) (pending came more text : List ℕ) → HasSaid start s broken pending came text → HasMoved s t more [] → t.failures ≡ s.failures
+    → HasSaid start t broken pending (came ++ more) text
+said_on false start s t pending came more text h moved sound = record {
+  written = h.written;
+  moved = moved_reading start s t came more h.written h.moved moved;
+  is = record { whole = h.is.whole; sound = sound ∙ h.is.sound };
+}
+said_on true start s t pending came more text h moved sound = record {
+  written = h.written;
+  moved = moved_reading start s t came more h.written h.moved moved;
+  is = record { begins = h.is.begins; failed = subst (λ k. Rises start.failures k) (sym sound) h.is.failed };
+}
+
 -- more has come
 pub said_reading : (broken : Bool) (start s t : PeerState) (pending came more text : List ℕ) → HasSaid start s broken pending came text → HasWorked s t more []
     → HasSaid start t broken pending (came ++ more) text
-said_reading false start s t pending came more text h w = record {
-  written = h.written;
-  moved = moved_reading start s t came more h.written h.moved w.moved;
-  is = record { whole = h.is.whole; sound = w.sound ∙ h.is.sound };
-}
-said_reading true start s t pending came more text h w = record {
-  written = h.written;
-  moved = moved_reading start s t came more h.written h.moved w.moved;
-  is = record { begins = h.is.begins; failed = subst (λ k. Rises start.failures k) (sym w.sound) h.is.failed };
-}
+said_reading broken start s t pending came more text h w = said_on broken start s t pending came more text h w.moved w.sound
 
 -- replies one after another
 pub one_more : (site : Site) (rs : List Reply) (i : ℕ) (r : Reply) (text : List ℕ) → i < length rs → slice_get rs i ≡ Some r
@@ -141,3 +146,8 @@ one_more site rs i r text within is =
 
 pub all_said : (site : Site) (rs : List Reply) (n : ℕ) (text : List ℕ) → n ≡ length rs → text ++ reply_texts site (take n rs) ≡ text ++ reply_texts site rs
 all_said site rs n text e = ap (λ l. text ++ reply_texts site l) (ap (λ k. take k rs) e ∙ take-length rs)
+
+-- a write never says that the server is to stop
+pub still_goes : {E : Type 0} (s t : PeerState) (r : Result (Unit {0}) E) (bytes : List ℕ) → OnOk r (HasWorked s t [] bytes) → OnErr r (BreaksOff s t bytes) → t.stops ≡ s.stops
+still_goes s t (Ok x) bytes ok err = ok.same
+still_goes s t (Err e) bytes ok err = err.same

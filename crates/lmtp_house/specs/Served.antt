@@ -46,7 +46,9 @@ pub record EndsFor (site : Site) (c : Conversation) (old new : PeerState) (end :
   pub read_bound : end ≡ ends.ReadBound → READ_LIMIT ≤ length c.bytes
   pub stop : end ≡ ends.Stopped → c.stopped ≡ true
   pub stops : c.stopped ≡ true → (end ≡ ends.Stopped) ⊎ (end ≡ ends.WriteFault)
-  pub may_stop : c.stopped ≡ true → old.stops ≡ true
+  -- the peer said so exactly where the conversation was stopped
+  pub rose : c.stopped ≡ true → Rises old.stops new.stops
+  pub kept : c.stopped ≡ false → new.stops ≡ old.stops
   pub read_fault : end ≡ ends.ReadFault → Rises old.failures new.failures
   pub write_fault : end ≡ ends.WriteFault → Rises old.failures new.failures
   pub sound : (end ≡ ends.ReadFault → ⊥) → (end ≡ ends.WriteFault → ⊥) → new.failures ≡ old.failures

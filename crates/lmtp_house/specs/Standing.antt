@@ -61,4 +61,5 @@ pub record Stands (site : Site) (start : PeerState) (Before : ℕ → List Trans
   pub session : desk.session.session ≡ session_behind site fresh done
   pub quits : QuitsWith desk.session.session.state (flat_map inputs_of done)
   pub said : HasSaid start peer desk.outbox.broken desk.outbox.pending.items came (reply_text site Greeting ++ reply_texts site (replies_to site fresh (flat_map inputs_of done)))
+  pub goes : peer.stops ≡ start.stops
   pub inside : IsInside desk.session.session.state desk rest (Comes site done Before Come) (λ made. Comes site done Before (λ n ts. Drafting n ts made))

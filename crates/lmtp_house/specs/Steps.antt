@@ -21,6 +21,7 @@ pub record TakesInputs (inputs : List Input) (old new : Desk) (before after : Pe
   pub says : (start : PeerState) (came text : List ℕ) → HasSaid start before old.outbox.broken old.outbox.pending.items came text
       → HasSaid start after new.outbox.broken new.outbox.pending.items came (text ++ reply_texts old.session.site (replies_to old.session.site old.session.session inputs))
   pub wire : new.wire ≡ old.wire
+  pub same : after.stops ≡ before.stops
 
 -- a draft begins where the data is asked for, and else the delivery stays as it was
 abbrev pub BeginsIf : {D : Type 0} → (D → ℕ → List Transaction → Type 0) → (D → ℕ → List Transaction → List ℕ → Type 0) → Bool → Desk → D → D → Type 0

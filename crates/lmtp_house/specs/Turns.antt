@@ -21,6 +21,7 @@ pub record Greets (old new : Desk) (before after : PeerState) : Type 0 where
   pub site : new.session.site ≡ old.session.site
   pub session : new.session.session ≡ fresh
   pub wire : IsBehind new.wire []
+  pub same : after.stops ≡ before.stops
   pub said : HasSaid before after new.outbox.broken new.outbox.pending.items [] (reply_text old.session.site Greeting)
 
 -- a draft is dropped, and where there is none all stays as it was

@@ -47,8 +47,9 @@ impl Outbox {
     /// Says what an act says, for the session that gave it.
     pub fn say_all<P: Peer>(&mut self, peer: &mut P, session: &Session, act: Act)
         requires { CanSay act session.now.answers }
-        ensures { (start : PeerState) (came text : List ℕ) → HasSaid start (P.state peer.old) self.old.broken self.old.pending.items came text
+        ensures says { (start : PeerState) (came text : List ℕ) → HasSaid start (P.state peer.old) self.old.broken self.old.pending.items came text
             → HasSaid start (P.state peer.new) self.new.broken self.new.pending.items came (text ++ reply_texts session.now.site (said act session.now.answers)) }
+        ensures goes { (P.state peer.new).stops ≡ (P.state peer.old).stops }
     {
         match act {
             Act::Say(reply) | Act::Quit(reply) => self.say(peer, session.site(), reply),
@@ -61,8 +62,9 @@ impl Outbox {
     // The answers to the recipients, in their order (RFC 2033, 4.2).
     fn say_answers<P: Peer>(&mut self, peer: &mut P, session: &Session, count: u32)
         requires { count ≡ length session.now.answers }
-        ensures { (start : PeerState) (came text : List ℕ) → HasSaid start (P.state peer.old) self.old.broken self.old.pending.items came text
+        ensures says { (start : PeerState) (came text : List ℕ) → HasSaid start (P.state peer.old) self.old.broken self.old.pending.items came text
             → HasSaid start (P.state peer.new) self.new.broken self.new.pending.items came (text ++ reply_texts session.now.site session.now.answers) }
+        ensures goes { (P.state peer.new).stops ≡ (P.state peer.old).stops }
     {
         for i in 0..count {
             self.say(peer, session.site(), session.reply_at(i));
@@ -71,8 +73,9 @@ impl Outbox {
 
     /// Says a reply: it waits behind the others, and all are written first where there is no room for it.
     pub fn say<P: Peer>(&mut self, peer: &mut P, site: &Site, reply: Reply)
-        ensures { (start : PeerState) (came text : List ℕ) → HasSaid start (P.state peer.old) self.old.broken self.old.pending.items came text
+        ensures says { (start : PeerState) (came text : List ℕ) → HasSaid start (P.state peer.old) self.old.broken self.old.pending.items came text
             → HasSaid start (P.state peer.new) self.new.broken self.new.pending.items came (text ++ reply_text site.now reply) }
+        ensures goes { (P.state peer.new).stops ≡ (P.state peer.old).stops }
     {
         if self.pending.len() > OUTBOX_SIZE - REPLY_LIMIT {
             self.flush(peer);
@@ -100,6 +103,7 @@ impl Outbox {
         ensures said { (start : PeerState) (came text : List ℕ) → HasSaid start (P.state peer.old) self.old.broken self.old.pending.items came text
             → HasSaid start (P.state peer.new) self.new.broken self.new.pending.items came text }
         ensures none { self.new.pending.items ≡ [] }
+        ensures goes { (P.state peer.new).stops ≡ (P.state peer.old).stops }
     {
         if self.broken {
             self.pending.clear();

@@ -1,12 +1,13 @@
 -- A rehearsal from its parts: the conversation, what the mailboxes came to, and how they were written.
-use Rattle.std.proofs.Common.{◌≡◌, ℕ, List, [], ◌∷◌, length, Bool, true, false, Option, Result, Ok, Err, refl, sym, ap, ◌∙◌, subst, append-nil, arith}
-use Rattle.std.specs.Prelude.{◌<◌, map}
+use Rattle.std.proofs.Common.{◌≡◌, ℕ, List, [], ◌∷◌, length, Bool, true, false, Option, Result, Ok, Err, refl, sym, ap, ◌∙◌, subst, append-nil, arith, inl, inr}
+use Rattle.std.specs.Prelude.{◌<◌, ◌-◌, ◌^◌, map}
 use Rattle.std.specs.List.{list_any, AllByRecursion}
 use Rattle.std.specs.Result.{OnOk, OnErr, is_err}
 use Rattle.std.specs.Io.KnownBytes.{Appends}
 use Rattle.std.proofs.lemmas.List.{length-map}
 use Rattle.mail_world.specs.declared.Note.{Note}
 use Rattle.mail_world.specs.declared.Outcome.{Outcome}
+use Rattle.mail_world.specs.Failures.{Rises}
 use Rattle.mail_world.specs.Site.{Site}
 use Rattle.mail_world.specs.Conversation.{Disposition, Conversation, inputs, replies}
 use Rattle.mail_world.specs.Lists.{Transaction, VerdictFits, transactions, due}
@@ -30,15 +31,19 @@ use Rattle.lmtpd.proofs.Written.{Appends-then}
 use Rattle.lmtpd.proofs.Listed.{none_failed, all_calm, all_full}
 
 -- a peer that never says to stop
-not_stopped : (b : Bool) → (b ≡ true → false ≡ true) → b ≡ false
-not_stopped true f = let wrong : false ≡ true = f refl in cc
-not_stopped false f = refl
+never_rises : (n : ℕ) → n ≡ 0 → Rises 0 n → ⊥
+never_rises n none (inl more) = omega (arith, none, more)
+never_rises n none (inr most) = let wrong : 0 ≡ 2 ^ 64 - 1 = most.0 in omega (arith, wrong)
 
-pub held : (site : Site) (old new : PeerState) (Before After : ℕ → List Transaction → Type 0) (end : EndCause) → old.stops ≡ false → IsServed site old new Before After end
+not_stopped : (b : Bool) (n : ℕ) → n ≡ 0 → (b ≡ true → Rises 0 n) → b ≡ false
+not_stopped true n none f = absurd (never_rises n none (f refl))
+not_stopped false n none f = refl
+
+pub held : (site : Site) (old new : PeerState) (Before After : ℕ → List Transaction → Type 0) (end : EndCause) → old.stops ≡ 0 → new.stops ≡ 0 → IsServed site old new Before After end
     → IsHeld site old.unread new.unread old.written new.written Before After end
-held site old new Before After end never h =
+held site old new Before After end never still h =
     let c = h.conversation in
-    let stopped : c.stopped ≡ false = not_stopped c.stopped (λ e. sym never ∙ h.causes.may_stop e) in
+    let stopped : c.stopped ≡ false = not_stopped c.stopped new.stops still (λ e. subst (λ k. Rises k new.stops) never (h.causes.rose e)) in
     let is : c ≡ conversation c.bytes c.dispositions = ap (λ b. record { bytes = c.bytes; dispositions = c.dispositions; stopped = b }) stopped in
     let Q : Conversation → Type 0 = λ x. has_quit (inputs site x) ≡ true in
     let W : Conversation → Type 0 = λ x. IsWritten (replies site (inputs site x)) (end ≡ WriteFault) h.said in

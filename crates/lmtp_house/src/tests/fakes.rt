@@ -1,6 +1,6 @@
 //! A peer that keeps to a script, and a delivery that keeps all bytes.
 
-ghost use Rattle.std.specs.Prelude.{◌≡◌, [], None, true, ⊤};
+ghost use Rattle.std.specs.Prelude.{◌≡◌, [], None, ⊤};
 ghost use Rattle.std.specs.Arc.{arc_value};
 ghost use Rattle.mail_world.specs.Failures.{Rises};
 
@@ -33,6 +33,7 @@ pub struct Script<'a> {
     /// How many bytes it still takes before a write fails.
     room: usize,
     failures: u64,
+    stops: u64,
 }
 
 impl<'a> Script<'a> {
@@ -44,6 +45,7 @@ impl<'a> Script<'a> {
             misheard: false,
             room,
             failures: 0,
+            stops: 0,
         }
     }
 
@@ -58,8 +60,18 @@ impl<'a> Script<'a> {
             && self.heard.as_slice() == last
     }
 
+    fn stop(&mut self) -> Came
+        ensures came { result ≡ Came.Stop }
+        ensures same { self.new.failures ≡ self.old.failures }
+        ensures stopped { Rises self.old.stops self.new.stops }
+    {
+        self.stops = self.stops.saturating_add(1);
+        Came::Stop
+    }
+
     fn fail(&mut self) -> PeerFault
-        ensures { Rises self.old.failures self.new.failures }
+        ensures failed { Rises self.old.failures self.new.failures }
+        ensures same { self.new.stops ≡ self.old.stops }
     {
         self.failures = self.failures.saturating_add(1);
         PeerFault
@@ -71,7 +83,7 @@ fn is_same(heard: &[u8], awaited: &[u8]) -> bool {
 }
 
 impl Peer for Script<'_> {
-    ghost state = { λ s. record { read = None; unread = None; written = None; failures = s.failures; stops = true; holds = [] } };
+    ghost state = { λ s. record { read = None; unread = None; written = None; failures = s.failures; stops = s.stops; holds = [] } };
 
     fn read(&mut self, buffer: &mut [u8]) -> Result<Came, PeerFault> {
         let (awaited, then) = match self.turns.get(self.at) {
@@ -93,7 +105,7 @@ impl Peer for Script<'_> {
                 Ok(Came::Bytes(n))
             }
             Then::Ends => Ok(Came::End),
-            Then::Stops => Ok(Came::Stop),
+            Then::Stops => Ok(self.stop()),
             Then::Fails => Err(self.fail()),
         }
     }

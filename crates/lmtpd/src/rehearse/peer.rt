@@ -1,6 +1,6 @@
 //! A reader and a writer as the one peer of a conversation.
 
-ghost use Rattle.std.specs.Prelude.{[], ◌∷◌, false, None};
+ghost use Rattle.std.specs.Prelude.{[], ◌∷◌, None};
 
 use lmtp_house::{Came, Peer, PeerFault};
 use std::io::{Read, Write};
@@ -20,7 +20,7 @@ impl<R: Read, W: Write> Peer for StreamPeer<'_, R, W> {
       unread = R.remaining p.reader.now;
       written = W.contents p.writer.now;
       failures = p.failures;
-      stops = false;
+      stops = 0;
       holds = p.reader.ghost_name ∷ p.writer.ghost_name ∷ [];
     } };
 

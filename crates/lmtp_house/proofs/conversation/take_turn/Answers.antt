@@ -45,10 +45,9 @@ returns-in-Ok-Stop-clause-turn g c site start first handled h =
     subst (λ (x : Came). HasCome (g.P.Peer.state c.args.peer.now) (g.P.Peer.state c.read.new.self) c.read.new.buffer x) c.in-Ok-Stop.field-0-is c.in-Ok-Stop.ensures.ok in
     let by : EndCause → Type 0 = λ end. IsServed site start (g.P.Peer.state c.stop.new.peer) (g.D.Delivery.HasCome first) (g.D.Delivery.HasCome c.leave-in-Ok-Stop.new.delivery) end in
     subst by (sym c.stopped_or_fault.ensures)
-    (served_stopped site start (g.P.Peer.state c.read.new.self) (g.P.Peer.state c.stop.new.peer) (g.D.Delivery.HasCome first) (g.D.Delivery.HasCome c.args.delivery.now) (g.D.Delivery.HasCome c.leave-in-Ok-Stop.new.delivery) (g.D.Delivery.IsDrafting c.args.delivery.now)
-    c.args.desk.now c.stop.new.desk handled
-    (stands_still site start (g.P.Peer.state c.args.peer.now) (g.P.Peer.state c.read.new.self) (g.D.Delivery.HasCome first) (g.D.Delivery.HasCome c.args.delivery.now) (g.D.Delivery.IsDrafting c.args.delivery.now) c.args.desk.now handled handled h came.0)
-    c.leave-in-Ok-Stop.ensures.leaves (may_not_ended c.args.desk.now.session.session.state c.requires.may) (came.0.moved.same ∙ came.1) c.stop.ensures.takes c.stop.ensures.none)
+    (served_stopped site start (g.P.Peer.state c.args.peer.now) (g.P.Peer.state c.read.new.self) (g.P.Peer.state c.stop.new.peer) (g.D.Delivery.HasCome first) (g.D.Delivery.HasCome c.args.delivery.now) (g.D.Delivery.HasCome c.leave-in-Ok-Stop.new.delivery) (g.D.Delivery.IsDrafting c.args.delivery.now)
+    c.args.desk.now c.stop.new.desk handled h
+    c.leave-in-Ok-Stop.ensures.leaves (may_not_ended c.args.desk.now.session.session.state c.requires.may) came c.stop.ensures.takes c.stop.ensures.none)
 
 pub returns-in-Err-clause-turn : goal.returns-in-Err-clause-turn
 returns-in-Err-clause-turn g c site start first handled h =
