@@ -8,6 +8,7 @@ pub mod laws;
 pub mod limits;
 pub mod rows;
 pub mod runs;
+pub mod steps;
 
 /// A transaction: the lane that ran it, and its number among the lane's accepted DATA commands.
 #[derive(Clone, Copy, Debug, PartialEq, Eq)]
