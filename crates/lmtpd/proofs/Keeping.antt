@@ -12,9 +12,9 @@ use Rattle.mail_world.specs.declared.limits.TheConstants.{MESSAGE_LIMIT, NUMBER_
 use Rattle.mail_world.specs.Site.{Site}
 use Rattle.mail_world.specs.Session.{Session}
 use Rattle.mail_world.specs.Conversation.{Disposition}
-use Rattle.mail_world.specs.Lists.{Transaction, VerdictFits, copies, copies_if}
-use Rattle.mail_world.specs.Deliveries.{told_of, told_if, HoldsCopies}
-use Rattle.mail_world.proofs.Owed.{owed, told_all, owed-snoc, told-snoc}
+use Rattle.mail_world.specs.Lists.{Transaction, VerdictFits, copies, copies_if, owed}
+use Rattle.mail_world.specs.Deliveries.{told_of, told_if, told_all, HoldsCopies}
+use Rattle.mail_world.proofs.Owed.{owed-snoc, told-snoc}
 use Rattle.mail_world.proofs.Deliveries.{holds_none}
 use Rattle.lmtp_text.specs.Calendar.{civil_at}
 use Rattle.lmtp_house.specs.Delivery.{EndsDraft}

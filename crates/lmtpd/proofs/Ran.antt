@@ -10,9 +10,8 @@ use Rattle.mail_world.specs.declared.Outcome.{Outcome}
 use Rattle.mail_world.specs.Failures.{Rises}
 use Rattle.mail_world.specs.Site.{Site}
 use Rattle.mail_world.specs.Conversation.{Disposition, Conversation, inputs, replies}
-use Rattle.mail_world.specs.Lists.{Transaction, VerdictFits, transactions, due}
-use Rattle.mail_world.specs.Deliveries.{HoldsCopies, told}
-use Rattle.mail_world.proofs.Owed.{owed, told_all}
+use Rattle.mail_world.specs.Lists.{Transaction, VerdictFits, transactions, owed, due}
+use Rattle.mail_world.specs.Deliveries.{HoldsCopies, told_all, told}
 use Rattle.mail_world.proofs.Accounts.{account_told}
 use Rattle.mail_world.proofs.Deliveries.{holds_all}
 use Rattle.lmtp_text.specs.Calendar.{civil_at}

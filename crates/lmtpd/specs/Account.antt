@@ -7,9 +7,8 @@ use Rattle.mail_world.specs.declared.Verdict.TheVariants.{Whole, TooLarge, NoRoo
 use Rattle.mail_world.specs.declared.limits.TheConstants.{NUMBER_LIMIT}
 use Rattle.mail_world.specs.Site.{Site}
 use Rattle.mail_world.specs.Conversation.{Disposition, Conversation}
-use Rattle.mail_world.specs.Lists.{Transaction, VerdictFits}
-use Rattle.mail_world.specs.Deliveries.{HoldsCopies}
-use Rattle.mail_world.proofs.Owed.{owed, told_all}
+use Rattle.mail_world.specs.Lists.{Transaction, VerdictFits, owed}
+use Rattle.mail_world.specs.Deliveries.{told_all, HoldsCopies}
 use Rattle.lmtp_text.specs.Calendar.{civil_at}
 use Rattle.lmtpd.specs.Mailboxes.{Kept, kept_at, IsCalm}
 

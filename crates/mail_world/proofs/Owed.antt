@@ -4,16 +4,14 @@ use Rattle.std.specs.Prelude.{filter, flat_map, ◌==◌, if◌then◌else◌}
 use Rattle.std.proofs.lemmas.List.{append-nil}
 use Rattle.std.proofs.lemmas.Grind.{flat_map-append}
 use Rattle.std.proofs.lemmas.List.Elements.{filter-append}
-use Rattle.mail_world.specs.declared.Outcome.{Outcome}
-use Rattle.mail_world.specs.declared.Note.{Note}
 use Rattle.mail_world.specs.Data.{message}
 use Rattle.mail_world.specs.Site.{Site}
 use Rattle.mail_world.specs.declared.Verdict.{Verdict}
 use Rattle.mail_world.specs.declared.Verdict.TheVariants as verdicts
 use Rattle.mail_world.specs.Session.{Session, fresh, DataEnded}
 use Rattle.mail_world.specs.Conversation.{Disposition, Part, CommandLine, MailData, inputs_of, outcomes_of, session_after, session_behind, parts}
-use Rattle.mail_world.specs.Lists.{Transaction, is_content, accepted_after, transactions_of, transactions, copies, due}
-use Rattle.mail_world.specs.Deliveries.{told_of, told}
+use Rattle.mail_world.specs.Lists.{Transaction, is_content, accepted_after, transactions_of, transactions, copies, owed, due}
+use Rattle.mail_world.specs.Deliveries.{told_of, told_all, told}
 use Rattle.mail_world.specs.Dispositions.{dispositions_of}
 use Rattle.mail_world.proofs.Handled.{session_after-append, account_of}
 
@@ -73,12 +71,6 @@ pub transactions-data : (site : Site) (ps : List Part) (text : List ℕ) (d : Di
 transactions-data site ps text d = transactions-append site 0 fresh ps (MailData text d ∷ [])
 
 -- what transactions owe a mailbox, and what was told of it
-abbrev pub owed : ℕ → ℕ → List Transaction → List Note
-owed lane box ts = filter (λ note. note.mailbox == box) (flat_map (copies lane) ts)
-
-abbrev pub told_all : ℕ → List Transaction → List Outcome
-told_all box ts = flat_map (told_of box) ts
-
 pub owed-snoc : (lane box : ℕ) (ts : List Transaction) (t : Transaction) → owed lane box (ts ++ t ∷ []) ≡ owed lane box ts ++ filter (λ note. note.mailbox == box) (copies lane t)
 owed-snoc lane box ts t =
     ap (λ l. filter (λ note. note.mailbox == box) l) (flat_map-append (copies lane) ts (t ∷ []) ∙ ap (λ l. flat_map (copies lane) ts ++ l) (append-nil (copies lane t)))

@@ -23,9 +23,12 @@ told_if box t _ = []
 abbrev pub told_of : ℕ → Transaction → List Outcome
 told_of box t = told_if box t t.disposition.verdict
 
+abbrev pub told_all : ℕ → List Transaction → List Outcome
+told_all box ts = flat_map (told_of box) ts
+
 -- beside `due`: an outcome for each copy that the conversations owe the mailbox
 unfoldable pub told : Site → ℕ → List Conversation → List Outcome
-told site box cs = flat_map (told_of box) (transactions site 0 cs)
+told site box cs = told_all box (transactions site 0 cs)
 
 -- the text begins so
 pub record IsFront (front text : List ℕ) : Type 0 where

@@ -75,9 +75,13 @@ copies_if lane t _ = []
 abbrev pub copies : ℕ → Transaction → List Note
 copies lane t = copies_if lane t t.disposition.verdict
 
--- what the lane owes the mailbox
+-- what these transactions of a lane owe the mailbox
+abbrev pub owed : ℕ → ℕ → List Transaction → List Note
+owed lane box ts = filter (λ note. note.mailbox == box) (flat_map (copies lane) ts)
+
+-- what the lane's conversations owe the mailbox
 unfoldable pub due : Site → ℕ → ℕ → List Conversation → List Note
-due site lane box cs = filter (λ note. note.mailbox == box) (flat_map (copies lane) (transactions site 0 cs))
+due site lane box cs = owed lane box (transactions site 0 cs)
 
 -- the verdict is TooLarge exactly where the message is above the limit and the lane had a number left for it; once it has none the verdict is NoRoom
 pub record VerdictFits (t : Transaction) : Type 0 where
