@@ -48,12 +48,13 @@ pub record HasSynced (old new : SpoolState) : Type 0 where
   pub limited : new.limit ≡ old.limit
   pub covered : CoversAll new.bytes new.synced
 
--- a sync failed: the spool holds what it held, and no more of it is covered
+-- a sync failed, which one of a spool with a limit does only once it is full: the spool holds what it held, and no more of it is covered
 pub record HasNotSynced (old new : SpoolState) : Type 0 where
   pub kept : Keeps old.bytes new.bytes
   pub failed : Rises old.failures new.failures
   pub limited : new.limit ≡ old.limit
   pub covered : new.synced ≡ old.synced
+  pub full : IsFull new.limit new.bytes
 
 -- how the bytes end
 abbrev pub tail_of : List ℕ → Tail

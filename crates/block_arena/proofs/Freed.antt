@@ -1,0 +1,218 @@
+-- A slot's blocks go to the free ones, by one link.
+use Rattle.std.proofs.Common.{◌≡◌, ℕ, suc, length-set, ◌+◌, ◌-◌, ◌<◌, ◌≤◌, List, [], ◌∷◌, ◌++◌, Bool, true, false, cond, ◌==◌, Some, length, set, map, refl, ap, sym, ◌∙◌, subst, arith}
+use Rattle.std.specs.Prelude.{slice_get, slice_set, nat_lt}
+use Rattle.std.specs.List.{AllByRecursion}
+use Rattle.std.proofs.lemmas.Bool.{eq-eqb, ltb-true}
+use Rattle.mail_world.specs.Depot as d
+use Rattle.mail_world.specs.Depot.{times}
+use Rattle.mail_world.proofs.Depots.{times-append}
+use Rattle.block_arena.specs.declared.key.Key.{Key}
+use Rattle.block_arena.specs.declared.slot.Run.{Run}
+use Rattle.block_arena.specs.declared.slot.Content.{Content}
+use Rattle.block_arena.specs.declared.slot.Content.TheVariants.{Free, Draft, Sealed, Retired}
+use Rattle.block_arena.specs.declared.slot.Slot.{Slot}
+use Rattle.block_arena.specs.Fields.{chain, node, held, slot_of, depot_of, slot_behind, run_of, block_count, IsContent, IsRun, IsArena}
+use Rattle.block_arena.specs.Calls.{depot_key, IsInUse, Frees}
+use Rattle.block_arena.proofs.Chains.{chain_last, splice}
+use Rattle.block_arena.proofs.Slots.{slot_at, Turn, turned, map_set, all_set, all_at, sum_set, get_within}
+use Rattle.block_arena.proofs.Seen.{Sees, under, stands, run_times}
+use Rattle.block_arena.proofs.Frames.{Without, none_else, map_kept, all_kept, slot_keeps, content_keeps}
+
+-- a slot in use, and its run
+pub record Owns (store : List (List ℕ)) (next : List ℕ) (content : Content) (run : Run) : Type 0 where
+  pub filled : (content ≡ Free) → ⊥
+  pub blocks : d.blocks_of (held store next content) ≡ chain run.blocks next run.first
+  pub count : block_count content ≡ run.blocks
+  pub is : IsContent next content → IsRun next run
+
+pub owns : (store : List (List ℕ)) (next : List ℕ) (content : Content) → IsInUse (held store next content) → Owns store next content (run_of content)
+owns store next Free h = absurd h
+owns store next (Draft run) h = record { filled = λ e. cc; blocks = refl; count = refl; is = λ x. x }
+owns store next (Sealed run holds) h = record { filled = λ e. cc; blocks = refl; count = refl; is = λ x. x }
+owns store next Retired h = absurd h
+
+-- the slot's content in an arena, whichever it is
+pub in_use : (key : Key) (depot : d.Depot) (store : List (List ℕ)) (next : List ℕ) (slots : List Slot) (free free_count : ℕ) (content : Content)
+    → Sees key depot store next slots free free_count content → IsInUse (d.held_under depot (depot_key key)) → Owns store next content (run_of content)
+in_use key depot store next slots free free_count content s h = owns store next content (subst (λ (x : d.Held). IsInUse x) (under key depot store next slots free free_count content s) h)
+
+behind_content : (t : Bool) (next : List ℕ) (g k : ℕ) → IsContent next ((cond t (slot_at g Free) (slot_at k Retired)).content)
+behind_content true next g k = tt
+behind_content false next g k = tt
+
+behind_blocks : (t : Bool) (store : List (List ℕ)) (next : List ℕ) (g k : ℕ) → d.blocks_of (held store next ((cond t (slot_at g Free) (slot_at k Retired)).content)) ≡ []
+behind_blocks true store next g k = refl
+behind_blocks false store next g k = refl
+
+behind_count : (t : Bool) (g k : ℕ) → block_count ((cond t (slot_at g Free) (slot_at k Retired)).content) ≡ 0
+behind_count true g k = refl
+behind_count false g k = refl
+
+behind_generation : (t : Bool) (g : ℕ) → nat_lt g d.last_generation ≡ t → g ≤ d.last_generation → (cond t (slot_at (g + 1) Free) (slot_at g Retired)).generation ≤ d.last_generation
+behind_generation true g e h = let low : g < d.last_generation = ltb-true g d.last_generation e in omega (arith, low)
+behind_generation false g e h = h
+
+abbrev depot_with : List d.Slot → List ℕ → d.Depot
+depot_with slots free = record { slots = slots; free = free }
+
+behind_as : (t : Bool) (store : List (List ℕ)) (next : List ℕ) (slots : List d.Slot) (i g : ℕ) (free : List ℕ)
+    → depot_with (slice_set slots i (slot_of store next (cond t (slot_at (g + 1) Free) (slot_at g Retired)))) free
+    ≡ cond t (depot_with (slice_set slots i (record { generation = g + 1; held = d.Free })) free) (depot_with (slice_set slots i (record { generation = g; held = d.Retired })) free)
+behind_as true store next slots i g free = refl
+behind_as false store next slots i g free = refl
+
+-- a slot without blocks
+pub empty_turn : (key : Key) (depot : d.Depot) (store : List (List ℕ)) (next : List ℕ) (slots : List Slot) (free free_count : ℕ) (content : Content) (run : Run)
+    → Sees key depot store next slots free free_count content → Owns store next content run → run.blocks ≡ 0
+    → Turn store next slots free free_count key.slot (slot_at key.generation content) (slot_behind key.generation) store next free free_count
+empty_turn key depot store next slots free free_count content run s o none =
+    let was : slice_get slots key.slot ≡ Some (slot_at key.generation content) = stands key depot store next slots free free_count content s o.filled in
+    record {
+      arena = s.arena;
+      was = was;
+      sizes = s.arena.sizes;
+      blocks_stay = refl;
+      next_stay = refl;
+      generation = behind_generation (nat_lt key.generation d.last_generation) key.generation refl (all_at (λ (slot : Slot). slot.generation ≤ d.last_generation) slots key.slot (slot_at key.generation content) s.arena.generations was);
+      count = omega (arith, behind_count (nat_lt key.generation d.last_generation) (key.generation + 1) key.generation, o.count, none);
+      others = map_set (slot_of store next) slots key.slot (slot_behind key.generation);
+      runs = all_set (λ (slot : Slot). IsContent next slot.content) slots key.slot (slot_behind key.generation) s.arena.runs (behind_content (nat_lt key.generation d.last_generation) next (key.generation + 1) key.generation);
+      split = λ x. ap (λ bs. times x (chain free_count next free) + times x bs)
+          (behind_blocks (nat_lt key.generation d.last_generation) store next (key.generation + 1) key.generation ∙ sym (ap (λ k. chain k next run.first) none) ∙ sym o.blocks);
+    }
+
+-- what holds of the last block of a run
+pub record IsLast (next : List ℕ) (free free_count n first last : ℕ) : Type 0 where
+  pub is : node n next first ≡ last
+  pub once : times last (chain n next first) ≡ 0
+  pub low : last < length next
+  pub apart : times last (chain free_count next free) ≡ 0
+  pub there : times last (chain (suc n) next first) ≡ 1
+
+one_of : (t : Bool) (m f : ℕ) → m + 1 + f ≤ cond t 1 0 → (m ≡ 0) × (f ≡ 0) × (t ≡ true)
+one_of true m f h = (omega (arith, h), omega (arith, h), refl)
+one_of false m f h = absurd (omega (arith, h))
+
+one_self : (x : ℕ) (t : Bool) → (x == x) ≡ t → 0 + cond t 1 0 ≡ 1
+one_self x true e = refl
+one_self x false e = let yes' : (x == x) ≡ true = eq-eqb x x refl in cc
+
+last_times : (n : ℕ) (next : List ℕ) (first last : ℕ) → node n next first ≡ last → times last (chain (suc n) next first) ≡ times last (chain n next first) + 1
+last_times n next first last e =
+    ap (times last) (chain_last n next first) ∙ times-append last (chain n next first) (node n next first ∷ []) ∙ ap (λ b. times last (chain n next first) + times last (b ∷ [])) e
+    ∙ ap (λ k. times last (chain n next first) + k) (one_self last (last == last) refl)
+
+pub last_of : (next : List ℕ) (free free_count n first last : ℕ) → node n next first ≡ last
+    → times last (chain free_count next free) + times last (chain (suc n) next first) ≤ cond (nat_lt last (length next)) 1 0 → IsLast next free free_count n first last
+last_of next free free_count n first last is within =
+    let count : times last (chain (suc n) next first) ≡ times last (chain n next first) + 1 = last_times n next first last is in
+    let p : (times last (chain n next first) ≡ 0) × (times last (chain free_count next free) ≡ 0) × (nat_lt last (length next) ≡ true) = one_of (nat_lt last (length next)) (times last (chain n next first)) (times last (chain free_count next free)) (omega (arith, within, count)) in
+    record {
+      is = is;
+      once = p.0;
+      low = ltb-true last (length next) p.2;
+      apart = p.1;
+      there = (let here : times last (chain n next first) ≡ 0 = p.0 in omega (arith, count, here));
+    }
+
+-- the blocks of a run go to the front of the free ones
+splice_free : (next : List ℕ) (free free_count : ℕ) (run : Run) → IsLast next free free_count (run.blocks - 1) run.first run.last → 0 < run.blocks
+    → chain (free_count + run.blocks) (set next run.last free) run.first ≡ chain run.blocks next run.first ++ chain free_count next free
+splice_free next free free_count run l some =
+    let one : suc (run.blocks - 1) ≡ run.blocks = omega (arith, some) in
+    let all : suc (run.blocks - 1) + free_count ≡ free_count + run.blocks = omega (arith, some) in
+    ap (λ k. chain k (set next run.last free) run.first) (sym all) ∙ splice (run.blocks - 1) free_count next run.first free run.last l.is l.once l.low l.apart ∙ ap (λ k. chain k next run.first ++ chain free_count next free) one
+
+pub last_in : (key : Key) (depot : d.Depot) (store : List (List ℕ)) (next : List ℕ) (slots : List Slot) (free free_count : ℕ) (content : Content) (run : Run)
+    → Sees key depot store next slots free free_count content → Owns store next content run → 0 < run.blocks → IsLast next free free_count (run.blocks - 1) run.first run.last
+last_in key depot store next slots free free_count content run s o some =
+    let was : slice_get slots key.slot ≡ Some (slot_at key.generation content) = stands key depot store next slots free free_count content s o.filled in
+    let is : IsRun next run = o.is (all_at (λ (slot : Slot). IsContent next slot.content) slots key.slot (slot_at key.generation content) s.arena.runs was) in
+    let one : suc (run.blocks - 1) ≡ run.blocks = omega (arith, some) in
+    let same : times run.last (d.blocks_of (held store next content)) ≡ times run.last (chain (suc (run.blocks - 1)) next run.first) = ap (times run.last) o.blocks ∙ ap (λ k. times run.last (chain k next run.first)) (sym one) in
+    last_of next free free_count (run.blocks - 1) run.first run.last (is.last some) (omega (arith, same, run_times store next slots free free_count key.slot (slot_at key.generation content) s.arena was run.last))
+
+pub freed_turn : (key : Key) (depot : d.Depot) (store : List (List ℕ)) (next : List ℕ) (slots : List Slot) (free free_count : ℕ) (content : Content) (run : Run)
+    → Sees key depot store next slots free free_count content → Owns store next content run → 0 < run.blocks
+    → Turn store next slots free free_count key.slot (slot_at key.generation content) (slot_behind key.generation) store (set next run.last free) run.first (free_count + run.blocks)
+freed_turn key depot store next slots free free_count content run s o some =
+    let was : slice_get slots key.slot ≡ Some (slot_at key.generation content) = stands key depot store next slots free free_count content s o.filled in
+    let l : IsLast next free free_count (run.blocks - 1) run.first run.last = last_in key depot store next slots free free_count content run s o some in
+    let one : suc (run.blocks - 1) ≡ run.blocks = omega (arith, some) in
+    let there : times run.last (d.blocks_of (held store next content)) ≡ 1 = ap (times run.last) o.blocks ∙ ap (λ k. times run.last (chain k next run.first)) (sym one) ∙ l.there in
+    let else' : AllByRecursion (Without store next run.last) (slice_set slots key.slot (slot_at 0 Free)) = none_else store next slots free free_count key.slot (slot_at key.generation content) run.last s.arena was (omega (arith, there)) in
+    record {
+      arena = s.arena;
+      was = was;
+      sizes = s.arena.sizes;
+      blocks_stay = refl;
+      next_stay = length-set next run.last free;
+      generation = behind_generation (nat_lt key.generation d.last_generation) key.generation refl (all_at (λ (slot : Slot). slot.generation ≤ d.last_generation) slots key.slot (slot_at key.generation content) s.arena.generations was);
+      count = omega (arith, behind_count (nat_lt key.generation d.last_generation) (key.generation + 1) key.generation, o.count);
+      others = map_kept (slot_of store next) (slot_of store (set next run.last free)) (Without store next run.last) slots key.slot (slot_behind key.generation) (slot_at 0 Free) else' (slot_keeps store next run.last free);
+      runs = all_kept (Without store next run.last) (λ (slot : Slot). IsContent next slot.content) (λ (slot : Slot). IsContent (set next run.last free) slot.content) slots key.slot (slot_behind key.generation) (slot_at 0 Free) else' s.arena.runs
+          (λ (x : Slot) without is. content_keeps store next run.last free x.content without is) (behind_content (nat_lt key.generation d.last_generation) (set next run.last free) (key.generation + 1) key.generation);
+      split = λ x.
+          ap (λ bs. times x (chain (free_count + run.blocks) (set next run.last free) run.first) + times x bs) (behind_blocks (nat_lt key.generation d.last_generation) store (set next run.last free) (key.generation + 1) key.generation)
+          ∙ split_by x (chain (free_count + run.blocks) (set next run.last free) run.first) (chain run.blocks next run.first) (chain free_count next free) (d.blocks_of (held store next content)) (splice_free next free free_count run l some) o.blocks;
+    } where
+      split_by : (x : ℕ) (new these those held : List ℕ) → new ≡ these ++ those → held ≡ these → times x new + 0 ≡ times x those + times x held
+      split_by x new these those held e h =
+          let a : times x new ≡ times x (these ++ those) = ap (times x) e in
+          let b : times x held ≡ times x these = ap (times x) h in
+          omega (arith, a, b, times-append x these those)
+
+-- what a turn of the slot behind its generation frees
+pub frees : (key : Key) (depot : d.Depot) (store : List (List ℕ)) (next : List ℕ) (slots : List Slot) (free free_count : ℕ) (content : Content) (next' : List ℕ) (free' free_count' : ℕ)
+    → Sees key depot store next slots free free_count content
+    → Turn store next slots free free_count key.slot (slot_at key.generation content) (slot_behind key.generation) store next' free' free_count'
+    → Frees depot (depot_key key) (depot_of store next' (slice_set slots key.slot (slot_behind key.generation)) free' free_count')
+frees key depot store next slots free free_count content next' free' free_count' s t = record {
+  free = chain free_count' next' free';
+  given = λ x.
+      let split : times x (chain free_count' next' free') + times x (d.blocks_of (held store next' ((slot_behind key.generation).content))) ≡ times x (chain free_count next free) + times x (d.blocks_of (held store next content)) = t.split x in
+      let none : times x (d.blocks_of (held store next' ((slot_behind key.generation).content))) ≡ 0 = ap (times x) (behind_blocks (nat_lt key.generation d.last_generation) store next' (key.generation + 1) key.generation) in
+      let here : times x (d.blocks_of (d.held_under depot (depot_key key))) ≡ times x (d.blocks_of (held store next content)) = ap (λ h. times x (d.blocks_of h)) (under key depot store next slots free free_count content s) in
+      let spare : times x depot.free ≡ times x (chain free_count next free) = ap (λ (e : d.Depot). times x e.free) (sym s.view) in
+      omega (arith, split, none, here, spare);
+  after =
+      ap (λ (ss : List d.Slot). depot_with ss (chain free_count' next' free')) t.others
+      ∙ behind_as (nat_lt key.generation d.last_generation) store next' (map (slot_of store next) slots) key.slot key.generation (chain free_count' next' free')
+      ∙ ap (λ (e : d.Depot). d.given_back e (depot_key key) (chain free_count' next' free')) s.view;
+}
+
+-- no more blocks are free than there are
+pub free_within : (store : List (List ℕ)) (next : List ℕ) (slots : List Slot) (free free_count i : ℕ) (s : Slot) → IsArena store next slots free free_count → slice_get slots i ≡ Some s
+    → free_count + block_count s.content ≤ length next
+free_within store next slots free free_count i s arena was = omega (arith, arena.total, sum_set (λ (slot : Slot). block_count slot.content) slots i s (slot_at 0 Free) was)
+
+-- the same, with the slot as code made it
+pub empty_arena : (key : Key) (depot : d.Depot) (store : List (List ℕ)) (next : List ℕ) (slots : List Slot) (free free_count : ℕ) (content : Content) (run : Run) (slot : Slot) → Sees key depot store next slots free free_count content → Owns store next content run → run.blocks ≡ 0 → slot ≡ slot_behind key.generation → IsArena store next (slice_set slots key.slot slot) free free_count
+empty_arena key depot store next slots free free_count content run slot s o none e = subst (λ (x : Slot). IsArena store next (slice_set slots key.slot x) free free_count) (sym e)
+    (turned store next slots free free_count key.slot (slot_at key.generation content) (slot_behind key.generation) store next free free_count (empty_turn key depot store next slots free free_count content run s o none))
+
+pub empty_frees : (key : Key) (depot : d.Depot) (store : List (List ℕ)) (next : List ℕ) (slots : List Slot) (free free_count : ℕ) (content : Content) (run : Run) (slot : Slot) → Sees key depot store next slots free free_count content → Owns store next content run → run.blocks ≡ 0 → slot ≡ slot_behind key.generation → Frees depot (depot_key key) (depot_of store next (slice_set slots key.slot slot) free free_count)
+empty_frees key depot store next slots free free_count content run slot s o none e = subst (λ (x : Slot). Frees depot (depot_key key) (depot_of store next (slice_set slots key.slot x) free free_count)) (sym e)
+    (frees key depot store next slots free free_count content next free free_count s (empty_turn key depot store next slots free free_count content run s o none))
+
+pub freed_arena : (key : Key) (depot : d.Depot) (store : List (List ℕ)) (next : List ℕ) (slots : List Slot) (free free_count : ℕ) (content : Content) (run : Run) (slot : Slot) → Sees key depot store next slots free free_count content → Owns store next content run → 0 < run.blocks → slot ≡ slot_behind key.generation
+    → IsArena store (set next run.last free) (slice_set slots key.slot slot) run.first (free_count + run.blocks)
+freed_arena key depot store next slots free free_count content run slot s o some e = subst (λ (x : Slot). IsArena store (set next run.last free) (slice_set slots key.slot x) run.first (free_count + run.blocks)) (sym e)
+    (turned store next slots free free_count key.slot (slot_at key.generation content) (slot_behind key.generation) store (set next run.last free) run.first (free_count + run.blocks) (freed_turn key depot store next slots free free_count content run s o some))
+
+pub freed_frees : (key : Key) (depot : d.Depot) (store : List (List ℕ)) (next : List ℕ) (slots : List Slot) (free free_count : ℕ) (content : Content) (run : Run) (slot : Slot) → Sees key depot store next slots free free_count content → Owns store next content run → 0 < run.blocks → slot ≡ slot_behind key.generation
+    → Frees depot (depot_key key) (depot_of store (set next run.last free) (slice_set slots key.slot slot) run.first (free_count + run.blocks))
+freed_frees key depot store next slots free free_count content run slot s o some e = subst (λ (x : Slot). Frees depot (depot_key key) (depot_of store (set next run.last free) (slice_set slots key.slot x) run.first (free_count + run.blocks))) (sym e)
+    (frees key depot store next slots free free_count content (set next run.last free) run.first (free_count + run.blocks) s (freed_turn key depot store next slots free free_count content run s o some))
+
+pub slot_within : (key : Key) (depot : d.Depot) (store : List (List ℕ)) (next : List ℕ) (slots : List Slot) (free free_count : ℕ) (content : Content) (run : Run)
+    → Sees key depot store next slots free free_count content → Owns store next content run → key.slot < length slots
+slot_within key depot store next slots free free_count content run s o = get_within slots key.slot (slot_at key.generation content) (stands key depot store next slots free free_count content s o.filled)
+
+pub generation_within : (key : Key) (depot : d.Depot) (store : List (List ℕ)) (next : List ℕ) (slots : List Slot) (free free_count : ℕ) (content : Content) (run : Run)
+    → Sees key depot store next slots free free_count content → Owns store next content run → key.generation ≤ d.last_generation
+generation_within key depot store next slots free free_count content run s o = all_at (λ (slot : Slot). slot.generation ≤ d.last_generation) slots key.slot (slot_at key.generation content) s.arena.generations (stands key depot store next slots free free_count content s o.filled)
+
+pub sum_within : (key : Key) (depot : d.Depot) (store : List (List ℕ)) (next : List ℕ) (slots : List Slot) (free free_count : ℕ) (content : Content) (run : Run)
+    → Sees key depot store next slots free free_count content → Owns store next content run → free_count + run.blocks ≤ 65536
+sum_within key depot store next slots free free_count content run s o = omega (arith, o.count, s.arena.limit, free_within store next slots free free_count key.slot (slot_at key.generation content) s.arena (stands key depot store next slots free free_count content s o.filled))

@@ -1,0 +1,16 @@
+pub mod Chains
+pub mod Slots
+pub mod Seen
+pub mod Labels
+pub mod Begun
+pub mod Made
+pub mod Frames
+pub mod Freed
+pub mod GivenBack
+pub mod Reading
+pub mod Pieces
+pub mod Filled
+pub mod Linked
+pub mod Puts
+pub mod Pieced
+pub mod Places

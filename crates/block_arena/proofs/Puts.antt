@@ -1,0 +1,158 @@
+-- A draft gains a piece, and a run of pieces is one.
+use Rattle.std.proofs.Common.{◌≡◌, ℕ, ◌+◌, ◌≤◌, List, [], ◌++◌, Bool, true, false, cond, ◌==◌, Some, length, take, drop, refl, ap, sym, ◌∙◌, subst, arith, length-append, length-drop, append-nil, append_assoc, take-add, drop-drop}
+use Rattle.std.specs.Prelude.{slice_get, slice_set}
+use Rattle.std.proofs.lemmas.Bool.{eq-eqb}
+use Rattle.mail_world.specs.Depot as d
+use Rattle.mail_world.specs.Depot.{times}
+use Rattle.mail_world.proofs.Depots.{set_at, times-append, used}
+use Rattle.block_arena.specs.declared.key.Key.{Key}
+use Rattle.block_arena.specs.declared.slot.Run.{Run}
+use Rattle.block_arena.specs.declared.slot.Content.{Content}
+use Rattle.block_arena.specs.declared.slot.Content.TheVariants.{Free, Draft}
+use Rattle.block_arena.specs.declared.slot.Slot.{Slot}
+use Rattle.block_arena.specs.Fields.{content_at, chain, blocks_in, bytes_in, depot_of, IsContent, IsRun}
+use Rattle.block_arena.specs.Calls.{depot_key}
+use Rattle.block_arena.proofs.Chains.{chain_length}
+use Rattle.block_arena.proofs.Slots.{slot_at, Turn, turned, all_at}
+use Rattle.block_arena.proofs.Seen.{Sees, under, stands, run_low, run_length, draft_length}
+use Rattle.block_arena.proofs.Labels.{set_same, set_twice, held_there}
+
+content_if : (g : ℕ) (c : Content) (t : Bool) → (g == g) ≡ t → cond t c Free ≡ c
+content_if g c true e = refl
+content_if g c false e = let yes' : (g == g) ≡ true = eq-eqb g g refl in cc
+
+-- the draft behind a turn of its slot
+pub sees_new : (key : Key) (depot : d.Depot) (store : List (List ℕ)) (next : List ℕ) (slots : List Slot) (free free_count : ℕ) (run run' : Run) (store' : List (List ℕ)) (next' : List ℕ) (free' free_count' : ℕ)
+    → Turn store next slots free free_count key.slot (slot_at key.generation (Draft run)) (slot_at key.generation (Draft run')) store' next' free' free_count'
+    → Sees key (depot_of store' next' (slice_set slots key.slot (slot_at key.generation (Draft run'))) free' free_count') store' next' (slice_set slots key.slot (slot_at key.generation (Draft run'))) free' free_count' (Draft run')
+sees_new key depot store next slots free free_count run run' store' next' free' free_count' t = record {
+  arena = turned store next slots free free_count key.slot (slot_at key.generation (Draft run)) (slot_at key.generation (Draft run')) store' next' free' free_count' t;
+  view = refl;
+  at = ap (λ o. content_at o key.generation) (set_at slots key.slot (slot_at key.generation (Draft run')) (slot_at key.generation (Draft run)) t.was) ∙ content_if key.generation (Draft run') (key.generation == key.generation) refl;
+}
+
+-- what room means by the counts
+pub room_to : (key : Key) (depot : d.Depot) (store : List (List ℕ)) (next : List ℕ) (slots : List Slot) (free free_count : ℕ) (run : Run) (bytes : List ℕ)
+    → Sees key depot store next slots free free_count (Draft run) → d.HasRoom depot (depot_key key) bytes → d.blocks_for (run.length + length bytes) ≤ run.blocks + free_count
+room_to key depot store next slots free free_count run bytes s h =
+    let all : length (d.bytes_of (d.held_under depot (depot_key key)) ++ bytes) ≡ run.length + length bytes = omega (arith, draft_length key depot store next slots free free_count run s, length-append (d.bytes_of (d.held_under depot (depot_key key))) bytes) in
+    let blocks : length (d.blocks_of (d.held_under depot (depot_key key))) ≡ run.blocks = ap (λ h. length (d.blocks_of h)) (under key depot store next slots free free_count (Draft run) s) ∙ chain_length run.blocks next run.first in
+    let spare : length depot.free ≡ free_count = ap (λ (e : d.Depot). length e.free) (sym s.view) ∙ chain_length free_count next free in
+    omega (arith, all, blocks, spare, h)
+
+pub room_from : (key : Key) (depot : d.Depot) (store : List (List ℕ)) (next : List ℕ) (slots : List Slot) (free free_count : ℕ) (run : Run) (bytes : List ℕ)
+    → Sees key depot store next slots free free_count (Draft run) → d.blocks_for (run.length + length bytes) ≤ run.blocks + free_count → d.HasRoom depot (depot_key key) bytes
+room_from key depot store next slots free free_count run bytes s h =
+    let all : length (d.bytes_of (d.held_under depot (depot_key key)) ++ bytes) ≡ run.length + length bytes = omega (arith, draft_length key depot store next slots free free_count run s, length-append (d.bytes_of (d.held_under depot (depot_key key))) bytes) in
+    let blocks : length (d.blocks_of (d.held_under depot (depot_key key))) ≡ run.blocks = ap (λ h. length (d.blocks_of h)) (under key depot store next slots free free_count (Draft run) s) ∙ chain_length run.blocks next run.first in
+    let spare : length depot.free ≡ free_count = ap (λ (e : d.Depot). length e.free) (sym s.view) ∙ chain_length free_count next free in
+    omega (arith, all, blocks, spare, h)
+
+-- a turn by which a draft gains a piece, and the free blocks that it picks
+pub record Gains (key : Key) (store : List (List ℕ)) (next : List ℕ) (slots : List Slot) (free free_count : ℕ) (run run' : Run) (piece picked : List ℕ) (store' : List (List ℕ)) (next' : List ℕ) (free' free_count' : ℕ) : Type 0 where
+  pub turn : Turn store next slots free free_count key.slot (slot_at key.generation (Draft run)) (slot_at key.generation (Draft run')) store' next' free' free_count'
+  pub long : run'.length ≡ run.length + length piece
+  pub bytes : bytes_in store' next' run' ≡ bytes_in store next run ++ piece
+  pub blocks : blocks_in next' run' ≡ blocks_in next run ++ picked
+  pub taken : (x : ℕ) → times x (chain free_count next free) ≡ times x picked + times x (chain free_count' next' free')
+
+pub gained_puts : (key : Key) (depot : d.Depot) (store : List (List ℕ)) (next : List ℕ) (slots : List Slot) (free free_count : ℕ) (run run' : Run) (piece picked : List ℕ) (store' : List (List ℕ)) (next' : List ℕ) (free' free_count' : ℕ)
+    → Sees key depot store next slots free free_count (Draft run) → Gains key store next slots free free_count run run' piece picked store' next' free' free_count'
+    → d.Puts depot (depot_key key) piece (depot_of store' next' (slice_set slots key.slot (slot_at key.generation (Draft run'))) free' free_count')
+gained_puts key depot store next slots free free_count run run' piece picked store' next' free' free_count' s g =
+    let new : Sees key (depot_of store' next' (slice_set slots key.slot (slot_at key.generation (Draft run'))) free' free_count') store' next' (slice_set slots key.slot (slot_at key.generation (Draft run'))) free' free_count' (Draft run') = sees_new key depot store next slots free free_count run run' store' next' free' free_count' g.turn in
+    let is : IsRun next' run' = all_at (λ (slot : Slot). IsContent next' slot.content) (slice_set slots key.slot (slot_at key.generation (Draft run'))) key.slot (slot_at key.generation (Draft run')) g.turn.runs (set_at slots key.slot (slot_at key.generation (Draft run')) (slot_at key.generation (Draft run)) g.turn.was) in
+    let long : run'.length ≡ length (bytes_in store' next' run') = run_length store' next' run' new.arena.count new.arena.sizes is (run_low store' next' (slice_set slots key.slot (slot_at key.generation (Draft run'))) free' free_count' key.slot (slot_at key.generation (Draft run')) new.arena (set_at slots key.slot (slot_at key.generation (Draft run')) (slot_at key.generation (Draft run)) g.turn.was)) in
+    record {
+      bytes = bytes_in store next run;
+      blocks = blocks_in next run;
+      picked = picked;
+      rest = chain free_count' next' free';
+      draft = under key depot store next slots free free_count (Draft run) s;
+      enough = ap length (sym g.blocks) ∙ chain_length run'.blocks next' run'.first ∙ is.enough ∙ ap (λ k. d.blocks_for k) (long ∙ ap length g.bytes);
+      taken = λ x. ap (λ (e : d.Depot). times x e.free) (sym s.view) ∙ g.taken x;
+      after =
+          ap (λ (ss : List d.Slot). record { slots = ss; free = chain free_count' next' free' }) g.turn.others
+          ∙ ap (λ bs. d.holding (depot_of store next slots free free_count) (depot_key key) (d.Draft bs (blocks_in next' run')) (chain free_count' next' free')) g.bytes
+          ∙ ap (λ bs. d.holding (depot_of store next slots free free_count) (depot_key key) (d.Draft (bytes_in store next run ++ piece) bs) (chain free_count' next' free')) g.blocks
+          ∙ ap (λ (e : d.Depot). d.holding e (depot_key key) (d.Draft (bytes_in store next run ++ piece) (blocks_in next run ++ picked)) (chain free_count' next' free')) s.view;
+    }
+
+pub gained_room : (key : Key) (depot : d.Depot) (store : List (List ℕ)) (next : List ℕ) (slots : List Slot) (free free_count : ℕ) (run run' : Run) (n : ℕ) (bytes picked : List ℕ) (store' : List (List ℕ)) (next' : List ℕ) (free' free_count' : ℕ)
+    → Sees key depot store next slots free free_count (Draft run) → Gains key store next slots free free_count run run' (take n bytes) picked store' next' free' free_count' → length (take n bytes) ≡ n → n ≤ length bytes
+    → d.HasRoom depot (depot_key key) bytes → d.HasRoom (depot_of store' next' (slice_set slots key.slot (slot_at key.generation (Draft run'))) free' free_count') (depot_key key) (drop n bytes)
+gained_room key depot store next slots free free_count run run' n bytes picked store' next' free' free_count' s g size short room =
+    let old : d.blocks_for (run.length + length bytes) ≤ run.blocks + free_count = room_to key depot store next slots free free_count run bytes s room in
+    let count : free_count' + run'.blocks ≡ free_count + run.blocks = g.turn.count in
+    let all : run'.length + length (drop n bytes) ≡ run.length + length bytes = omega (arith, g.long, size, short, length-drop n bytes) in
+    room_from key (depot_of store' next' (slice_set slots key.slot (slot_at key.generation (Draft run'))) free' free_count') store' next' (slice_set slots key.slot (slot_at key.generation (Draft run'))) free' free_count' run' (drop n bytes)
+    (sees_new key depot store next slots free free_count run run' store' next' free' free_count' g.turn)
+    (omega (arith, old, count, all))
+
+-- no bytes are put
+pub puts_none : (key : Key) (depot : d.Depot) (store : List (List ℕ)) (next : List ℕ) (slots : List Slot) (free free_count : ℕ) (run : Run) → Sees key depot store next slots free free_count (Draft run) → d.Puts depot (depot_key key) [] depot
+puts_none key depot store next slots free free_count run s =
+    let was : slice_get slots key.slot ≡ Some (slot_at key.generation (Draft run)) = stands key depot store next slots free free_count (Draft run) s (λ e. cc) in
+    let is : IsRun next run = all_at (λ (slot : Slot). IsContent next slot.content) slots key.slot (slot_at key.generation (Draft run)) s.arena.runs was in
+    let here : d.held_under depot (depot_key key) ≡ d.Draft (bytes_in store next run) (blocks_in next run) = under key depot store next slots free free_count (Draft run) s in
+    let long : run.length ≡ length (bytes_in store next run) = run_length store next run s.arena.count s.arena.sizes is (run_low store next slots free free_count key.slot (slot_at key.generation (Draft run)) s.arena was) in
+    record {
+      bytes = bytes_in store next run;
+      blocks = blocks_in next run;
+      picked = [];
+      rest = depot.free;
+      draft = here;
+      enough = ap length (append-nil (blocks_in next run)) ∙ chain_length run.blocks next run.first ∙ is.enough ∙ ap (λ k. d.blocks_for k) (long ∙ ap length (sym (append-nil (bytes_in store next run))));
+      taken = λ x. omega arith;
+      after = sym (
+          ap (λ bs. d.holding depot (depot_key key) (d.Draft bs (blocks_in next run ++ [])) depot.free) (append-nil (bytes_in store next run))
+          ∙ ap (λ bs. d.holding depot (depot_key key) (d.Draft (bytes_in store next run) bs) depot.free) (append-nil (blocks_in next run))
+          ∙ ap (λ (ss : List d.Slot). record { slots = ss; free = depot.free }) (set_same depot.slots key.slot (record { generation = key.generation; held = d.Draft (bytes_in store next run) (blocks_in next run) }) (used depot (depot_key key) (d.Draft (bytes_in store next run) (blocks_in next run)) here (λ e. cc)))
+          );
+    }
+
+-- one put behind another
+pub puts_then : (a b c : d.Depot) (key : d.Key) (xs ys : List ℕ) → d.Puts a key xs b → d.Puts b key ys c → d.Puts a key (xs ++ ys) c
+puts_then a b c key xs ys p q =
+    let was : slice_get a.slots key.slot ≡ Some (record { generation = key.generation; held = d.Draft p.bytes p.blocks }) = used a key (d.Draft p.bytes p.blocks) p.draft (λ e. cc) in
+    let there : slice_get (slice_set a.slots key.slot (record { generation = key.generation; held = d.Draft (p.bytes ++ xs) (p.blocks ++ p.picked) })) key.slot ≡ Some (record { generation = key.generation; held = d.Draft (p.bytes ++ xs) (p.blocks ++ p.picked) }) =
+    set_at a.slots key.slot (record { generation = key.generation; held = d.Draft (p.bytes ++ xs) (p.blocks ++ p.picked) }) (record { generation = key.generation; held = d.Draft p.bytes p.blocks }) was in
+    let between : d.held_under b key ≡ d.Draft (p.bytes ++ xs) (p.blocks ++ p.picked) = ap (λ (e : d.Depot). d.held_under e key) p.after ∙ held_there (d.holding a key (d.Draft (p.bytes ++ xs) (p.blocks ++ p.picked)) p.rest) key (d.Draft (p.bytes ++ xs) (p.blocks ++ p.picked)) there in
+    let same : d.Draft q.bytes q.blocks ≡ d.Draft (p.bytes ++ xs) (p.blocks ++ p.picked) = sym q.draft ∙ between in
+    let bytes : q.bytes ≡ p.bytes ++ xs = ap d.bytes_of same in
+    let blocks : q.blocks ≡ p.blocks ++ p.picked = ap d.blocks_of same in
+    let all : q.bytes ++ ys ≡ p.bytes ++ (xs ++ ys) = ap (λ t. t ++ ys) bytes ∙ append_assoc p.bytes xs ys in
+    let every : q.blocks ++ q.picked ≡ p.blocks ++ (p.picked ++ q.picked) = ap (λ t. t ++ q.picked) blocks ∙ append_assoc p.blocks p.picked q.picked in
+    record {
+      bytes = p.bytes;
+      blocks = p.blocks;
+      picked = p.picked ++ q.picked;
+      rest = q.rest;
+      draft = p.draft;
+      enough = ap length (sym every) ∙ q.enough ∙ ap (λ t. d.blocks_for (length t)) all;
+      taken = λ x.
+          let first : times x a.free ≡ times x p.picked + times x p.rest = p.taken x in
+          let second : times x b.free ≡ times x q.picked + times x q.rest = q.taken x in
+          let free : times x b.free ≡ times x p.rest = ap (λ (e : d.Depot). times x e.free) p.after in
+          omega (arith, first, second, free, times-append x p.picked q.picked);
+      after =
+          q.after
+          ∙ ap (λ t. d.holding b key (d.Draft t (q.blocks ++ q.picked)) q.rest) all
+          ∙ ap (λ t. d.holding b key (d.Draft (p.bytes ++ (xs ++ ys)) t) q.rest) every
+          ∙ ap (λ (e : d.Depot). d.holding e key (d.Draft (p.bytes ++ (xs ++ ys)) (p.blocks ++ (p.picked ++ q.picked))) q.rest) p.after
+          ∙ ap (λ (ss : List d.Slot). record { slots = ss; free = q.rest }) (set_twice a.slots key.slot (record { generation = key.generation; held = d.Draft (p.bytes ++ xs) (p.blocks ++ p.picked) }) (record { generation = key.generation; held = d.Draft (p.bytes ++ (xs ++ ys)) (p.blocks ++ (p.picked ++ q.picked)) }));
+    }
+
+-- the bytes up to a place are put, and there is room for the others
+pub record IsPutUpTo (old : d.Depot) (key : d.Key) (bytes : List ℕ) (done : ℕ) (now : d.Depot) : Type 0 where
+  pub within : done ≤ length bytes
+  pub put : d.Puts old key (take done bytes) now
+  pub room : d.HasRoom now key (drop done bytes)
+
+pub put_more : (old between now : d.Depot) (key : d.Key) (bytes : List ℕ) (done n : ℕ) → IsPutUpTo old key bytes done between → n ≤ length (drop done bytes) → d.Puts between key (take n (drop done bytes)) now → d.HasRoom now key (drop n (drop done bytes))
+    → IsPutUpTo old key bytes (done + n) now
+put_more old between now key bytes done n i short p room = record {
+  within = omega (arith, i.within, short, length-drop done bytes);
+  put = subst (λ t. d.Puts old key t now) (sym (take-add done n bytes)) (puts_then old between now key (take done bytes) (take n (drop done bytes)) i.put p);
+  room = subst (λ t. d.HasRoom now key t) (drop-drop n done bytes) room;
+}

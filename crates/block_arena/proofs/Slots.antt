@@ -1,0 +1,128 @@
+-- One slot of the arena changes, and the blocks that it gains or loses.
+use Rattle.std.proofs.Common.{◌≡◌, ℕ, zero, suc, ◌+◌, ◌<◌, ◌≤◌, List, [], ◌∷◌, ◌++◌, Bool, true, false, cond, ◌==◌, Option, Some, None, length, map, refl, ap, sym, ◌∙◌, subst, arith}
+use Rattle.std.specs.Prelude.{slice_get, slice_set, flat_map, sum_by, nat_lt}
+use Rattle.std.specs.List.{All, AllByRecursion}
+use Rattle.std.proofs.lemmas.Bool.{eqb-true}
+use Rattle.std.proofs.lemmas.List.Sums.{sum_by-cons}
+use Rattle.mail_world.specs.Depot as d
+use Rattle.mail_world.specs.Depot.{times}
+use Rattle.mail_world.specs.declared.limits.TheConstants.{BLOCK_SIZE}
+use Rattle.mail_world.proofs.Depots.{times-append, total_set}
+use Rattle.block_arena.specs.declared.slot.Content.{Content}
+use Rattle.block_arena.specs.declared.slot.Content.TheVariants.{Free}
+use Rattle.block_arena.specs.declared.slot.Slot.{Slot}
+use Rattle.block_arena.specs.Fields.{content_at, chain, held, slot_of, IsContent, block_count, IsArena}
+
+pub get_map : {A B : Type 0} (f : A → B) (xs : List A) (i : ℕ) (x : A) → slice_get xs i ≡ Some x → slice_get (map f xs) i ≡ Some (f x)
+get_map f [] i x e = cc
+get_map f (y ∷ xs) zero x e = let same : y ≡ x = cc in ap (λ z. Some (f z)) same
+get_map f (y ∷ xs) (suc i) x e = get_map f xs i x e
+
+pub get_within : {A : Type 0} (xs : List A) (i : ℕ) (x : A) → slice_get xs i ≡ Some x → i < length xs
+get_within [] i x e = cc
+get_within (y ∷ xs) zero x e = omega arith
+get_within (y ∷ xs) (suc i) x e = let h : i < length xs = get_within xs i x e in omega (arith, h)
+
+pub all_at : {A : Type 0} (P : A → Type 0) (xs : List A) (i : ℕ) (x : A) → AllByRecursion P xs → slice_get xs i ≡ Some x → P x
+all_at P [] i x h e = cc
+all_at P (y ∷ xs) zero x h e = let same : y ≡ x = cc in subst P same h.0
+all_at P (y ∷ xs) (suc i) x h e = all_at P xs i x h.1 e
+
+pub map_set : {A B : Type 0} (f : A → B) (xs : List A) (i : ℕ) (x : A) → map f (slice_set xs i x) ≡ slice_set (map f xs) i (f x)
+map_set f [] i x = refl
+map_set f (y ∷ xs) zero x = refl
+map_set f (y ∷ xs) (suc i) x = ap (λ t. f y ∷ t) (map_set f xs i x)
+
+pub all_set : {A : Type 0} (P : A → Type 0) (xs : List A) (i : ℕ) (x : A) → AllByRecursion P xs → P x → AllByRecursion P (slice_set xs i x)
+all_set P [] i x h p = h
+all_set P (y ∷ xs) zero x h p = (p, h.1)
+all_set P (y ∷ xs) (suc i) x h p = (h.0, all_set P xs i x h.1 p)
+
+pub length_set : {A : Type 0} (xs : List A) (i : ℕ) (x : A) → length (slice_set xs i x) ≡ length xs
+length_set [] i x = refl
+length_set (y ∷ xs) zero x = refl
+length_set (y ∷ xs) (suc i) x = ap (λ n. suc n) (length_set xs i x)
+
+pub sum_set : {A : Type 0} (f : A → ℕ) (xs : List A) (i : ℕ) (old new : A) → slice_get xs i ≡ Some old → sum_by f (slice_set xs i new) + f old ≡ sum_by f xs + f new
+sum_set f [] i old new e = cc
+sum_set f (x ∷ xs) zero old new e =
+    let same : x ≡ old = cc in
+    let count : f x ≡ f old = ap f same in
+    omega (arith, count, sum_by-cons f new xs, sum_by-cons f x xs)
+sum_set f (x ∷ xs) (suc i) old new e =
+    omega (arith, sum_set f xs i old new e, sum_by-cons f x (slice_set xs i new), sum_by-cons f x xs)
+
+-- what is not free under a generation lies in the slot
+found_if : (g k : ℕ) (t : Bool) (c content : Content) → (g == k) ≡ t → cond t c Free ≡ content → ((content ≡ Free) → ⊥) → (g ≡ k) × (c ≡ content)
+found_if g k true c content e is filled = (eqb-true g k e, is)
+found_if g k false c content e is filled = absurd (filled (sym is))
+
+abbrev pub slot_at : ℕ → Content → Slot
+slot_at g c = record { generation = g; content = c }
+
+same_slot : (g k : ℕ) (c content : Content) → g ≡ k → c ≡ content → slot_at g c ≡ slot_at k content
+same_slot g k c content e h = ap (λ n. slot_at n c) e ∙ ap (slot_at k) h
+
+pub found : (o : Option Slot) (g : ℕ) (content : Content) → content_at o g ≡ content → ((content ≡ Free) → ⊥) → o ≡ Some (record { generation = g; content = content })
+found None g content e filled = absurd (filled (sym e))
+found (Some slot) g content e filled =
+    let p : (slot.generation ≡ g) × (slot.content ≡ content) = found_if slot.generation g (slot.generation == g) slot.content content refl e filled in
+    ap (λ (x : Slot). Some x) (same_slot slot.generation g slot.content content p.0 p.1)
+
+-- what a step of one slot owes for the arena to stand behind it
+pub record Turn (blocks : List (List ℕ)) (next : List ℕ) (slots : List Slot) (free free_count i : ℕ) (old s : Slot) (blocks' : List (List ℕ)) (next' : List ℕ) (free' free_count' : ℕ) : Type 0 where
+  pub arena : IsArena blocks next slots free free_count
+  pub was : slice_get slots i ≡ Some old
+  pub sizes : All (λ (bytes : List ℕ). length bytes ≡ BLOCK_SIZE) blocks'
+  pub blocks_stay : length blocks' ≡ length blocks
+  pub next_stay : length next' ≡ length next
+  pub generation : s.generation ≤ d.last_generation
+  pub count : free_count' + block_count s.content ≡ free_count + block_count old.content
+  pub others : map (slot_of blocks' next') (slice_set slots i s) ≡ slice_set (map (slot_of blocks next) slots) i (slot_of blocks' next' s)
+  pub runs : AllByRecursion (λ (slot : Slot). IsContent next' slot.content) (slice_set slots i s)
+  pub split : (x : ℕ) → times x (chain free_count' next' free') + times x (d.blocks_of (held blocks' next' s.content)) ≡ times x (chain free_count next free) + times x (d.blocks_of (held blocks next old.content))
+
+pub turned : (blocks : List (List ℕ)) (next : List ℕ) (slots : List Slot) (free free_count i : ℕ) (old s : Slot) (blocks' : List (List ℕ)) (next' : List ℕ) (free' free_count' : ℕ)
+    → Turn blocks next slots free free_count i old s blocks' next' free' free_count' → IsArena blocks' next' (slice_set slots i s) free' free_count'
+turned blocks next slots free free_count i old s blocks' next' free' free_count' t = record {
+  sizes = t.sizes;
+  count = t.blocks_stay ∙ t.arena.count ∙ sym t.next_stay;
+  limit = omega (arith, t.next_stay, t.arena.limit);
+  slot_limit = omega (arith, length_set slots i s, t.arena.slot_limit);
+  runs = t.runs;
+  generations = all_set (λ (slot : Slot). slot.generation ≤ d.last_generation) slots i s t.arena.generations t.generation;
+  total = omega (arith, t.count, t.arena.total, t.next_stay, sum_set (λ (slot : Slot). block_count slot.content) slots i old s t.was);
+  once = λ x. once_by x;
+} where
+  f : Slot → d.Slot
+  f = slot_of blocks next
+
+  in_use : List d.Slot → List ℕ
+  in_use ss = flat_map (λ (slot : d.Slot). d.blocks_of slot.held) ss
+
+  once_by : (x : ℕ) → times x (chain free_count' next' free' ++ flat_map (λ (slot : d.Slot). d.blocks_of slot.held) (map (slot_of blocks' next') (slice_set slots i s))) ≡ cond (nat_lt x (length next')) 1 0
+  once_by x =
+      let used : times x (flat_map (λ (slot : d.Slot). d.blocks_of slot.held) (map (slot_of blocks' next') (slice_set slots i s))) ≡ times x (flat_map (λ (slot : d.Slot). d.blocks_of slot.held) (slice_set (map (slot_of blocks next) slots) i (slot_of blocks' next' s))) = ap (λ ss. times x (flat_map (λ (slot : d.Slot). d.blocks_of slot.held) ss)) t.others in
+      let total : times x (flat_map (λ (slot : d.Slot). d.blocks_of slot.held) (slice_set (map (slot_of blocks next) slots) i (slot_of blocks' next' s))) + times x (d.blocks_of (held blocks next old.content)) ≡ times x (flat_map (λ (slot : d.Slot). d.blocks_of slot.held) (map (slot_of blocks next) slots)) + times x (d.blocks_of (held blocks' next' s.content)) =
+      total_set (λ y. cond (y == x) 1 0) (λ (slot : d.Slot). d.blocks_of slot.held) (map (slot_of blocks next) slots) i (slot_of blocks next old) (slot_of blocks' next' s) (get_map (slot_of blocks next) slots i old t.was) in
+      let split : times x (chain free_count' next' free') + times x (d.blocks_of (held blocks' next' s.content)) ≡ times x (chain free_count next free) + times x (d.blocks_of (held blocks next old.content)) = t.split x in
+      let moved : times x (chain free_count' next' free' ++ flat_map (λ (slot : d.Slot). d.blocks_of slot.held) (map (slot_of blocks' next') (slice_set slots i s))) ≡ times x (chain free_count next free ++ flat_map (λ (slot : d.Slot). d.blocks_of slot.held) (map (slot_of blocks next) slots)) =
+      omega (arith, split, total, used, times-append x (chain free_count' next' free') (flat_map (λ (slot : d.Slot). d.blocks_of slot.held) (map (slot_of blocks' next') (slice_set slots i s))), times-append x (chain free_count next free) (flat_map (λ (slot : d.Slot). d.blocks_of slot.held) (map (slot_of blocks next) slots))) in
+      moved ∙ t.arena.once x ∙ ap (λ n. cond (nat_lt x n) 1 0) (sym t.next_stay)
+
+-- a slot changes what it says of its blocks, and no block moves
+pub relabelled : (blocks : List (List ℕ)) (next : List ℕ) (slots : List Slot) (free free_count i : ℕ) (old s : Slot) → IsArena blocks next slots free free_count → slice_get slots i ≡ Some old
+    → s.generation ≡ old.generation → IsContent next s.content → block_count s.content ≡ block_count old.content → d.blocks_of (held blocks next s.content) ≡ d.blocks_of (held blocks next old.content)
+    → IsArena blocks next (slice_set slots i s) free free_count
+relabelled blocks next slots free free_count i old s arena was generation content count same = turned blocks next slots free free_count i old s blocks next free free_count (record {
+  arena = arena;
+  was = was;
+  sizes = arena.sizes;
+  blocks_stay = refl;
+  next_stay = refl;
+  generation = let h : old.generation ≤ d.last_generation = all_at (λ (slot : Slot). slot.generation ≤ d.last_generation) slots i old arena.generations was in let P : ℕ → Type 0 = λ n. n ≤ d.last_generation in subst P (sym generation) h;
+  count = ap (λ n. free_count + n) count;
+  others = map_set (slot_of blocks next) slots i s;
+  runs = all_set (λ (slot : Slot). IsContent next slot.content) slots i s arena.runs content;
+  split = λ x. ap (λ b. times x (chain free_count next free) + times x b) same;
+})

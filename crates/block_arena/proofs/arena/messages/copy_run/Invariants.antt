@@ -1,0 +1,9 @@
+use Rattle.std.proofs.Common.{◌-◌}
+use Rattle.block_arena.proofs.Reading.{Reads, whole}
+use Rattle.block_arena.proofs.arena.messages.copy_run.Given as goal
+
+abbrev pub invariant-loop-done : goal.invariant-loop-done
+invariant-loop-done l = Reads l.store l.next (whole l.store l.next l.fn.run.blocks l.fn.run.first) l.total l.fn.at l.fn.out l.out l.done l.from l.block
+
+abbrev pub decreases-loop-done : goal.decreases-loop-done
+decreases-loop-done l = l.total - l.done

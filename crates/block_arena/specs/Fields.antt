@@ -1,0 +1,120 @@
+-- The arena's fields, and the depot that they stand for.
+use Rattle.std.specs.Prelude.{◌≡◌, ℕ, zero, suc, ◌+◌, ◌-◌, ◌*◌, ◌<◌, ◌≤◌, ◌==◌, nat_lt, List, [], ◌∷◌, length, take, slice_set, map, get_or, if◌then◌else◌, Option, Some, None, Bool, true, false, flat_map, sum_by}
+use Rattle.std.specs.List.{All, AllByRecursion}
+use Rattle.mail_world.specs.Depot as d
+use Rattle.mail_world.specs.declared.limits.TheConstants.{BLOCK_SIZE, BLOCK_LIMIT, SLOT_LIMIT}
+use Rattle.block_arena.specs.declared.slot.Run.{Run}
+use Rattle.block_arena.specs.declared.slot.Place.{Place}
+use Rattle.block_arena.specs.declared.slot.Content.{Content}
+use Rattle.block_arena.specs.declared.slot.Content.TheVariants.{Free, Draft, Sealed, Retired}
+use Rattle.block_arena.specs.declared.slot.Slot.{Slot}
+
+-- what lies in a slot, under a key of that generation
+abbrev pub content_at : Option Slot → ℕ → Content
+content_at None generation = Free
+content_at (Some slot) generation = if slot.generation == generation then slot.content else Free
+
+-- n numbers from the first on
+abbrev pub links : ℕ → ℕ → List ℕ
+links first zero = []
+links first (suc n) = first ∷ links (first + 1) n
+
+-- a slot whose message of that generation went
+abbrev pub slot_behind : ℕ → Slot
+slot_behind generation = if nat_lt generation d.last_generation then record { generation = generation + 1; content = Free } else record { generation = generation; content = Retired }
+
+-- n blocks from the first on, each followed by its next one
+abbrev pub chain : ℕ → List ℕ → ℕ → List ℕ
+chain zero next first = []
+chain (suc n) next first = first ∷ chain n next (get_or next first 0)
+
+-- the block n links behind the first
+abbrev pub node : ℕ → List ℕ → ℕ → ℕ
+node zero next first = first
+node (suc n) next first = node n next (get_or next first 0)
+
+abbrev pub blocks_in : List ℕ → Run → List ℕ
+blocks_in next run = chain run.blocks next run.first
+
+abbrev pub bytes_in : List (List ℕ) → List ℕ → Run → List ℕ
+bytes_in blocks next run = take run.length (flat_map (λ block. get_or blocks block []) (blocks_in next run))
+
+abbrev pub held : List (List ℕ) → List ℕ → Content → d.Held
+held blocks next Free = d.Free
+held blocks next (Draft run) = d.Draft (bytes_in blocks next run) (blocks_in next run)
+held blocks next (Sealed run holds) = d.Sealed (bytes_in blocks next run) (blocks_in next run) holds
+held blocks next Retired = d.Retired
+
+abbrev pub slot_of : List (List ℕ) → List ℕ → Slot → d.Slot
+slot_of blocks next slot = record { generation = slot.generation; held = held blocks next slot.content }
+
+abbrev pub depot_of : List (List ℕ) → List ℕ → List Slot → ℕ → ℕ → d.Depot
+depot_of blocks next slots free free_count = record { slots = map (slot_of blocks next) slots; free = chain free_count next free }
+
+-- a block of a run, by how many stand before it
+pub record IsPlace (next : List ℕ) (run : Run) (place : Place) : Type 0 where
+  pub is : node place.index next run.first ≡ place.block
+  pub within : place.index ≤ run.blocks
+
+-- as many blocks as the bytes take, the last of them, and one of them
+pub record IsRun (next : List ℕ) (run : Run) : Type 0 where
+  pub enough : run.blocks ≡ d.blocks_for run.length
+  pub last : 0 < run.blocks → node (run.blocks - 1) next run.first ≡ run.last
+  pub read : IsPlace next run run.read
+
+abbrev pub IsContent : List ℕ → Content → Type 0
+IsContent next Free = Unit {0}
+IsContent next (Draft run) = IsRun next run
+IsContent next (Sealed run holds) = IsRun next run
+IsContent next Retired = Unit {0}
+
+abbrev pub is_free : Content → Bool
+is_free Free = true
+is_free (Draft run) = false
+is_free (Sealed run holds) = false
+is_free Retired = false
+
+-- the run that lies in a slot, an empty one in a slot that is not in use
+abbrev pub run_of : Content → Run
+run_of Free = record { first = 0; last = 0; blocks = 0; length = 0; read = record { index = 0; block = 0 } }
+run_of (Draft run) = run
+run_of (Sealed run holds) = run
+run_of Retired = record { first = 0; last = 0; blocks = 0; length = 0; read = record { index = 0; block = 0 } }
+
+abbrev pub block_count : Content → ℕ
+block_count Free = 0
+block_count (Draft run) = run.blocks
+block_count (Sealed run holds) = run.blocks
+block_count Retired = 0
+
+pub record IsArena (blocks : List (List ℕ)) (next : List ℕ) (slots : List Slot) (free free_count : ℕ) : Type 0 where
+  pub sizes : All (λ bytes. length bytes ≡ BLOCK_SIZE) blocks
+  pub count : length blocks ≡ length next
+  pub limit : length next ≤ BLOCK_LIMIT
+  pub slot_limit : length slots ≤ SLOT_LIMIT
+  pub runs : AllByRecursion (λ slot. IsContent next slot.content) slots
+  pub generations : AllByRecursion (λ slot. slot.generation ≤ d.last_generation) slots
+  pub total : free_count + sum_by (λ (slot : Slot). block_count slot.content) slots ≡ length next
+  pub once : d.HasEachBlockOnce (length next) (depot_of blocks next slots free free_count)
+
+-- a run whose blocks are there, and hold its bytes
+pub record IsReadable (blocks : List (List ℕ)) (next : List ℕ) (run : Run) : Type 0 where
+  pub sizes : All (λ bytes. length bytes ≡ BLOCK_SIZE) blocks
+  pub count : length blocks ≡ length next
+  pub low : AllByRecursion (λ b. b < length next) (blocks_in next run)
+  pub enough : run.length ≤ BLOCK_SIZE * run.blocks
+
+-- a run of the same blocks, with so many bytes more
+abbrev pub longer : Run → ℕ → Run
+longer run n = record { first = run.first; last = run.last; blocks = run.blocks; length = run.length + n; read = run.read }
+
+-- the same run, read at another place
+abbrev pub reading : Run → Place → Run
+reading run place = record { first = run.first; last = run.last; blocks = run.blocks; length = run.length; read = place }
+
+-- a run with a block more behind its last, and the links that make it one
+abbrev pub linked_run : Run → ℕ → Run
+linked_run run block = record { first = if run.blocks == 0 then block else run.first; last = block; blocks = run.blocks + 1; length = run.length; read = record { index = 0; block = if run.blocks == 0 then block else run.first } }
+
+abbrev pub linked_next : List ℕ → Run → ℕ → List ℕ
+linked_next next run block = if run.blocks == 0 then next else slice_set next run.last block

@@ -1,0 +1,8 @@
+//! Keys of messages.
+
+/// A slot of the arena, and the generation under which its draft was begun.
+#[derive(Clone, Copy, Debug, PartialEq, Eq)]
+pub struct Key {
+    pub slot: u32,
+    pub generation: u64,
+}
