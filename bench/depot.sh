@@ -1,0 +1,64 @@
+#!/usr/bin/env bash
+# How the shared depot does under several threads, against plain Rust (bench/depot/loops.rs, by `rustc -O`):
+#   read    one sealed message of 16 KiB, read whole in pieces of 512 bytes by 1, 2 and 4 threads through holds of their own;
+#           beside it the same bytes in a Vec under a Mutex
+#   holds   holds cut off and given up again by 1, 2 and 4 threads, each on messages of its own with 100 holds, and each of these
+#           messages begun, sealed and reclaimed; beside it clones and drops of an Arc, a new one each 100
+# Prints the best of RUNS runs of each (9 if it isn't set): MB/s and how it grows over one thread, turns a second, and the
+# peer's time over ours. Fails where the counts differ. Both run by turns, so that a ratio means something on a machine that
+# does other work.
+#
+# As bench/streams.sh, it proves and builds the program of bench/depot in a copy of the crates that it needs, over what their
+# checks kept: it stands in no crates.txt, and the names of its files end in `.in`.
+set -euo pipefail
+cd "$(dirname "$0")/.."
+folder=$(mktemp -d)
+trap 'rm -rf "$folder"' EXIT
+
+mkdir "$folder/crates"
+cp HANDLES "$folder/"
+for crate in mail_world block_arena msg_depot; do
+    cp -a "crates/$crate" "$folder/crates/"
+    grep -E "^$crate( |:)" crates.txt
+done > "$folder/crates.txt"
+echo "depot_bench: mail_world msg_depot anyhow" >> "$folder/crates.txt"
+cp -a bench/depot "$folder/crates/depot_bench"
+find "$folder/crates/depot_bench" -name '*.in' | while read -r file; do mv "$file" "${file%.in}"; done
+rustc -O -o "$folder/loops" bench/depot/loops.rs
+cd "$folder/crates/depot_bench"
+rt run > "$folder/build.log" 2>&1 || { cat "$folder/build.log" >&2; exit 1; }
+
+python3 - out/depot_bench "$folder/loops" "${RUNS:-9}" <<'PYTHON'
+import subprocess
+import sys
+
+OURS, PEER, RUNS = sys.argv[1], sys.argv[2], int(sys.argv[3])
+THREADS = ["1", "2", "4"]
+
+
+def run(program):
+    """By name and threads the microseconds and the count that the program printed."""
+    said = subprocess.run([program], check=True, capture_output=True, text=True).stdout
+    rows = [line.split(" ") for line in said.splitlines()]
+    return {(name, threads): (int(micros), int(count.split("=")[1])) for name, threads, micros, count in rows}
+
+
+def best(runs, key):
+    return min(run[key][0] for run in runs)
+
+
+ours, peer = [], []
+for _ in range(RUNS):
+    ours.append(run(OURS))
+    peer.append(run(PEER))
+
+for name, unit in [("read", "MB/s"), ("holds", "M turns/s")]:
+    for threads in THREADS:
+        key = (name, threads)
+        count = ours[0][key][1]
+        if peer[0][key][1] != count:
+            sys.exit(f"{name} by {threads}: {count}, and the peer has {peer[0][key][1]}")
+        us, them = best(ours, key), best(peer, key)
+        first = best(ours, (name, "1")) * int(threads) / us
+        print(f"{name} by {threads}: {count / us:.1f} {unit}, {first:.2f} of one thread's, peer {count / them:.1f}, ratio {them / us:.2f}")
+PYTHON

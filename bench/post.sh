@@ -1,0 +1,61 @@
+#!/usr/bin/env bash
+# How fast copies and slips go through the channels between lanes and workers, beside std::sync::mpsc::sync_channel
+# doing the same (bench/post/channels.rs, by `rustc -O`):
+#   posts L   values as large as a copy, from 1, 2 and 4 lane threads to one receiver, at capacity 16: how many a second
+#   trips     such a value to a worker's thread and its slip back: microseconds a trip
+# Prints the best of RUNS times of each (9 if it isn't set) and std's time over ours. Fails where the counts differ.
+# Both run by turns, so that a ratio means something on a machine that does other work.
+#
+# As in bench/streams.sh, the program of bench/post stands in no crates.txt and its files end in `.in`; it is proved and
+# built here by `rt run` in a copy of the crates that it needs, over what their checks kept.
+set -euo pipefail
+cd "$(dirname "$0")/.."
+folder=$(mktemp -d)
+trap 'rm -rf "$folder"' EXIT
+
+mkdir "$folder/crates"
+for crate in mail_world lmtp_text mbox_rd block_arena msg_depot mail_post; do
+    cp -a "crates/$crate" "$folder/crates/"
+    grep -E "^$crate( |:)" crates.txt
+done > "$folder/crates.txt"
+echo "post: mail_world mail_post anyhow" >> "$folder/crates.txt"
+cp HANDLES "$folder/"
+cp -a bench/post "$folder/crates/"
+find "$folder/crates/post" -name '*.in' | while read -r file; do mv "$file" "${file%.in}"; done
+rustc -O -o "$folder/channels" bench/post/channels.rs
+cd "$folder/crates/post"
+rt run > "$folder/build.log" 2>&1 || { cat "$folder/build.log" >&2; exit 1; }
+
+python3 - out/post "$folder/channels" "${RUNS:-9}" <<'PYTHON'
+import subprocess
+import sys
+
+OURS, STD, RUNS = sys.argv[1], sys.argv[2], int(sys.argv[3])
+
+
+def run(program):
+    """By name the microseconds that the program printed and the counts behind them."""
+    said = subprocess.run([program], check=True, capture_output=True, text=True).stdout
+    rows = [line.split(" ", 2) for line in said.splitlines()]
+    return {name: (int(number), counts) for name, number, counts in rows}
+
+
+def best(runs, name):
+    return min(run[name][0] for run in runs)
+
+
+ours, std = [], []
+for _ in range(RUNS):
+    ours.append(run(OURS))
+    std.append(run(STD))
+
+for name, (_, counts) in ours[0].items():
+    if counts != std[0][name][1]:
+        sys.exit(f"{name}: {counts}, and std's has {std[0][name][1]}")
+    number = int(counts.split(" ")[0].split("=")[1])
+    us, theirs = best(ours, name), best(std, name)
+    if name == "trips":
+        print(f"{name}: {us / number:.2f} microseconds, std {theirs / number:.2f}, ratio {theirs / us:.2f}")
+    else:
+        print(f"{name}: {number / us * 1e6:,.0f} a second, std {number / theirs * 1e6:,.0f}, ratio {theirs / us:.2f}")
+PYTHON

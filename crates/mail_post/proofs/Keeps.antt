@@ -1,0 +1,281 @@
+-- Each move keeps the rule of the channel.
+use Rattle.std.proofs.Common.{◌≡◌, ◌≢◌, ◌==◌, ◌+◌, ◌≤◌, ◌<◌, ◌⊎◌, ℕ, zero, suc, Bool, true, false, cond, List, [], ◌∷◌, ◌++◌, length, get_or, slice_index_or, set, refl, sym, ap, ◌∙◌, subst, ⊎_elim, inl, inr, arith, append_assoc, append-nil, length-append, true≢false}
+use Rattle.std.proofs.lemmas.Bool.{eq-eqb, ne_eqb, cond-true, cond-false}
+use Rattle.std.proofs.lemmas.List.{get_or_append_left}
+use mathlib.Core.Option.{Option, some, none, some-ne-none, some-injective}
+use lib.ListN.{get_elem?}
+use Rattle.crossbeam_channel.specs.Fifo.{Pushes, Pops, Forks, Merges, Learns}
+use Rattle.atomic_table.proofs.Lists.{at_set}
+use Rattle.mail_post.specs.declared.rule.Parcel.{Parcel}
+use Rattle.mail_post.specs.declared.rule.Parcel.TheVariants.{Copy, Mark}
+use Rattle.mail_post.specs.declared.rule.View.{View}
+use Rattle.mail_post.specs.Views.{sender, taker, knower, settled, put, took}
+use Rattle.mail_post.specs.Parcels.{lane_of, part, copies, whole}
+use Rattle.mail_post.specs.Rule.{FitsKnown, Fits, Carries, Fair, Agrees}
+use Rattle.mail_post.proofs.Parcels.{part-append, part-here, part-else, of-copies, copies-append, copies-whole, whole-put, whole-end, front, all-there, ended-part}
+
+module _ {M : Type 0} (lane : M → ℕ) where
+  -- f, but a at k
+  abbrev changed : {A : Type 0} → (ℕ → A) → ℕ → A → ℕ → A
+  changed f k a j = cond (j == k) a (f j)
+
+  changed_here : {A : Type 0} (f : ℕ → A) (k : ℕ) (a : A) → changed f k a k ≡ a
+  changed_here f k a = cond-true (k == k) a (f k) (eq-eqb k k refl)
+
+  changed_else : {A : Type 0} (f : ℕ → A) (k : ℕ) (a : A) (j : ℕ) → j ≢ k → changed f k a j ≡ f j
+  changed_else f k a j n = cond-false (j == k) a (f j) (ne_eqb j k n)
+
+  -- whether two numbers are one
+  same? : (j k : ℕ) → (j ≡ k) ⊎ (j ≢ k)
+  same? j k = grind arith
+
+  at_end : (l : List (View M)) (a b : View M) (j : ℕ) → get_elem? (l ++ a ∷ []) j ≡ some b → (get_elem? l j ≡ some b) ⊎ ((j ≡ length l) × (a ≡ b))
+  at_end [] a b zero e = inr (refl, some-injective a b e)
+  at_end [] a b (suc j) e = absurd (some-ne-none b (sym e))
+  at_end (x ∷ xs) a b zero e = inl e
+  at_end (x ∷ xs) a b (suc j) e = ⊎_elim inl (λ (t : (j ≡ length xs) × (a ≡ b)). inr (ap suc t.0, t.1)) (at_end xs a b j e)
+
+  abbrev All : (ℕ → View M → Type 0) → List (View M) → Type 0
+  All F views = (pass : ℕ) (v : View M) → get_elem? views pass ≡ some v → F pass v
+
+  all_set : (F : ℕ → View M → Type 0) (views : List (View M)) (pass : ℕ) (w : View M) → F pass w → ((j : ℕ) (u : View M) → j ≢ pass → get_elem? views j ≡ some u → F j u) → All F (set views pass w)
+  all_set F views pass w mine others j u e = ⊎_elim (λ (x : (j ≡ pass) × (w ≡ u)). subst (λ (y : ℕ × View M). F y.0 y.1) (λ i. (sym x.0 i, x.1 i)) mine)
+      (λ (x : (j ≢ pass) × (get_elem? views j ≡ some u)). others j u x.0 x.1) (at_set views pass j w u e)
+
+  -- what is put at the back of one lane
+  behind : (k : ℕ) (got items : List (Parcel M)) (x : Parcel M) → part lane k (got ++ (items ++ x ∷ [])) ≡ part lane k (got ++ items) ++ part lane k (x ∷ [])
+  behind k got items x = ap (part lane k) (sym (append_assoc got items (x ∷ []))) ∙ part-append lane k (got ++ items) (x ∷ [])
+
+  -- the equation of each lane, after x at the back, where it is so of the lane of x
+  grows : (got : List (Parcel M)) (items : List (Parcel M)) (x : Parcel M) (f g : ℕ → List (Parcel M)) (k : ℕ) → lane_of lane x ≡ k → ((j : ℕ) → part lane j (got ++ items) ≡ f j)
+      → g k ≡ f k ++ x ∷ [] → ((j : ℕ) → j ≢ k → g j ≡ f j) → (j : ℕ) → part lane j (got ++ (items ++ x ∷ [])) ≡ g j
+  grows got items x f g k is was here else j = ⊎_elim
+      (λ (e : j ≡ k). behind j got items x ∙ ap (λ l. l ++ part lane j (x ∷ [])) (was j) ∙ ap (λ l. f j ++ l) (part-here lane j (x) (is ∙ sym e)) ∙ subst (λ i. f i ++ x ∷ [] ≡ g i) (sym e) (sym here))
+      (λ (n : j ≢ k). behind j got items x ∙ ap (λ l. l ++ part lane j (x ∷ [])) (was j) ∙ ap (λ l. f j ++ l) (part-else lane j (x) (λ e. n (sym e ∙ is))) ∙ append-nil (f j) ∙ sym (else j n))
+      (same? j k)
+
+  below? : (k n : ℕ) → (k < n) ⊎ (n ≤ k)
+  below? k n = grind arith
+
+  last? : (l : List (List M)) (a : List M) (k : ℕ) → k < length (l ++ a ∷ []) → (k < length l) ⊎ (k ≡ length l)
+  last? l a k h = let e = length-append l (a ∷ []) in let h' : k < length l + 1 = rw e at h in grind arith
+
+  get_or_last : (l : List (List M)) (a d : List M) → get_or (l ++ a ∷ []) (length l) d ≡ a
+  get_or_last [] a d = refl
+  get_or_last (x ∷ xs) a d = get_or_last xs a d
+
+  nil_left : (xs ys : List (Parcel M)) → xs ++ ys ≡ [] → xs ≡ []
+  nil_left [] ys e = refl
+  nil_left (x ∷ xs) ys e = absurd (cc)
+
+  pub begins : Carries lane [] (taker 0 [] ∷ [])
+  begins = record {
+    seat = λ _. none;
+    sent = λ _. [];
+    closed = λ _. false;
+    reader = 0;
+    lanes = 0;
+    got = [];
+    order = λ _. refl;
+    others = λ _ _. (refl, refl, refl);
+    fits = all_set (Fits (λ _. none) (λ _. []) (λ _. false) 0 0 []) (taker 0 [] ∷ []) 0 (taker 0 [])
+        ((λ p. absurd (true≢false (sym p))), (λ _. (refl, refl, refl)), (λ k h. absurd (omega arith)))
+        (λ j u other e. ⊎_elim (λ x. absurd (some-ne-none u (sym x))) (λ x. absurd (other x.0)) (at_end [] (taker 0 []) u j e));
+  }
+
+  -- a lane's pass puts x, after which it was told that s was accepted
+  moves : (n pass : ℕ) (v : View M) (x : Parcel M) (s : List M) (b : Bool) → v.sends ≡ true → lane_of lane x ≡ v.lane → whole v.lane s b ≡ whole v.lane v.sent v.shut ++ x ∷ []
+      → Pushes (Carries lane) n pass v x (λ w. w ≡ sender v.lane s b)
+  moves n pass v x s b may is grown items views _ h at =
+      let w : View M = sender v.lane s b in
+      let mine = (h.fits pass v at).0 may in
+      let sent : ℕ → List M = changed h.sent v.lane s in
+      let closed : ℕ → Bool = changed h.closed v.lane b in
+      let here : whole v.lane (sent v.lane) (closed v.lane) ≡ whole v.lane (h.sent v.lane) (h.closed v.lane) ++ x ∷ [] =
+      (λ i. whole v.lane (changed_here h.sent v.lane s i) (changed_here h.closed v.lane b i)) ∙ grown ∙ (λ i. whole v.lane (sym mine.1 i) (sym mine.2 i) ++ x ∷ []) in
+      let taken : (k : ℕ) → h.seat k ≡ none → k ≢ v.lane = λ k e q. some-ne-none pass (sym mine.0 ∙ ap h.seat (sym q) ∙ e) in (
+        w,
+        record {
+          seat = h.seat;
+          sent = sent;
+          closed = closed;
+          reader = h.reader;
+          lanes = h.lanes;
+          got = h.got;
+          order = grows h.got items x (λ j. whole j (h.sent j) (h.closed j)) (λ j. whole j (sent j) (closed j)) v.lane is h.order here (λ j other i. whole j (changed_else h.sent v.lane s j other i) (changed_else h.closed v.lane b j other i));
+          others = λ k le. let q = h.others k le in let other = taken k q.0 in (q.0, changed_else h.sent v.lane s k other ∙ q.1, changed_else h.closed v.lane b k other ∙ q.2);
+          fits = all_set (Fits h.seat sent closed h.reader h.lanes h.got) views pass w
+              ((λ _. (mine.0, changed_here h.sent v.lane s, changed_here h.closed v.lane b)), (λ p. absurd (true≢false (sym p))), (λ k l. absurd (omega arith)))
+              (λ j u apart e. let f = h.fits j u e in (
+                (λ p. let q = f.0 p in let other : u.lane ≢ v.lane = λ t. apart (some-injective j pass (sym q.0 ∙ ap h.seat t ∙ mine.0)) in
+                    (q.0, changed_else h.sent v.lane s u.lane other ∙ q.1, changed_else h.closed v.lane b u.lane other ∙ q.2)),
+                f.1,
+                (λ k l. let q = f.2 k l in (q.0, q.1, q.2 ∙ sym (changed_else h.sent v.lane s k (taken k q.1)))),
+              ));
+        },
+        refl,
+      )
+
+  -- a copy of the lane is accepted
+  pub offers : (n pass : ℕ) (v : View M) (p : M) → v.sends ≡ true → v.shut ≡ false → lane p ≡ v.lane → Pushes (Carries lane) n pass v (Copy p) (λ w. w ≡ put v (Copy p))
+  offers n pass v p may not_shut is = moves n pass v (Copy p) (v.sent ++ p ∷ []) false may is (sym (whole-put lane v.lane v.sent (p)) ∙ (λ i. whole v.lane v.sent (sym not_shut i) ++ Copy (p) ∷ []))
+
+  -- the lane's mark is put
+  pub marks : (n pass : ℕ) (v : View M) → v.sends ≡ true → v.shut ≡ false → Pushes (Carries lane) n pass v (Mark v.lane) (λ w. w ≡ put v (Mark v.lane))
+  marks n pass v may not_shut = moves n pass v (Mark v.lane) v.sent true may refl (sym (whole-end lane v.lane v.sent) ∙ (λ i. whole v.lane v.sent (sym not_shut i) ++ Mark v.lane ∷ []))
+
+  -- the oldest parcel is taken
+  pub takes : (pass : ℕ) (v : View M) → v.takes ≡ true → Pops (Carries lane) pass v (λ x w. (w ≡ took v x) × Fair lane w.lanes w.got)
+  takes pass v may x items views h at =
+      let w : View M = took v x in
+      let mine = (h.fits pass v at).1 may in
+      let got : List (Parcel M) = h.got ++ x ∷ [] in
+      let there : (k : ℕ) → part lane k (got ++ items) ≡ whole k (h.sent k) (h.closed k) = λ k. ap (part lane k) (append_assoc h.got (x ∷ []) items) ∙ h.order k in
+      let split : (k : ℕ) → part lane k got ++ part lane k items ≡ whole k (h.sent k) (h.closed k) = λ k. sym (part-append lane k got items) ∙ there k in
+      let fair : Fair lane h.lanes got = λ k. (
+        front lane k (part lane k got) (part lane k items) (h.sent k) (h.closed k) (split k),
+        λ le. let q = h.others k le in nil_left (part lane k got) (part lane k items) (split k ∙ (λ i. whole k (q.1 i) (q.2 i))),
+      ) in (
+        w,
+        record {
+          seat = h.seat;
+          sent = h.sent;
+          closed = h.closed;
+          reader = h.reader;
+          lanes = h.lanes;
+          got = got;
+          order = there;
+          others = h.others;
+          fits = all_set (Fits h.seat h.sent h.closed h.reader h.lanes got) views pass w
+              ((λ p. absurd (true≢false (sym p))), (λ _. (mine.0, mine.1, ap (λ l. l ++ x ∷ []) mine.2)), (λ k l. absurd (omega arith)))
+              (λ j u apart e. let f = h.fits j u e in (f.0, (λ p. absurd (apart ((f.1 p).0 ∙ sym mine.0))), f.2));
+        },
+        (refl, subst (λ (y : ℕ × List (Parcel M)). Fair lane y.0 y.1) (λ i. (sym mine.1 i, sym mine.2 i ++ x ∷ [])) fair),
+      )
+
+  -- the next lane gets its pass
+  pub lanes : (pass : ℕ) (v : View M) → v.takes ≡ true → Forks (Carries lane) pass v (taker (v.lanes + 1) v.got) (sender v.lanes [] false)
+  lanes pass v may items views h at =
+      let left : View M = taker (v.lanes + 1) v.got in
+      let right : View M = sender v.lanes [] false in
+      let mine = (h.fits pass v at).1 may in
+      let vs : List (View M) = set views pass left in
+      let seat : ℕ → Option ℕ = changed h.seat v.lanes (some (length vs)) in
+      let free = h.others v.lanes (let e : v.lanes ≡ h.lanes = mine.1 in omega arith) in
+      let old : All (Fits seat h.sent h.closed h.reader (v.lanes + 1) h.got) vs = all_set (Fits seat h.sent h.closed h.reader (v.lanes + 1) h.got) views pass left
+      ((λ p. absurd (true≢false (sym p))), (λ _. (mine.0, refl, mine.2)), (λ k l. absurd (omega arith)))
+      (λ j u apart e. let f = h.fits j u e in (
+        (λ p. let q = f.0 p in (changed_else h.seat v.lanes (some (length vs)) u.lane (λ t. some-ne-none j (sym q.0 ∙ ap h.seat t ∙ free.0)) ∙ q.0, q.1, q.2)),
+        (λ p. absurd (apart ((f.1 p).0 ∙ sym mine.0))),
+        (λ k l. let q = f.2 k l in let below : k < h.lanes = q.0 in let is : v.lanes ≡ h.lanes = mine.1 in (
+          (omega arith),
+          changed_else h.seat v.lanes (some (length vs)) k (λ t. omega arith) ∙ q.1,
+          q.2,
+        )),
+      )) in record {
+        seat = seat;
+        sent = h.sent;
+        closed = h.closed;
+        reader = h.reader;
+        lanes = v.lanes + 1;
+        got = h.got;
+        order = h.order;
+        others = λ k le. let is : v.lanes ≡ h.lanes = mine.1 in let q = h.others k (omega arith) in (changed_else h.seat v.lanes (some (length vs)) k (λ t. omega arith) ∙ q.0, q.1, q.2);
+        fits = (λ j u e. ⊎_elim (old j u)
+            (λ (is : (j ≡ length vs) × (right ≡ u)). subst (λ (y : ℕ × View M). Fits seat h.sent h.closed h.reader (v.lanes + 1) h.got y.0 y.1) (λ i. (sym is.0 i, is.1 i))
+            ((λ _. (changed_here h.seat v.lanes (some (length vs)), free.1, free.2)), (λ p. absurd (true≢false (sym p))), (λ k l. absurd (omega arith))))
+            (at_end vs right u j e));
+      }
+
+  -- a pass that knows nothing
+  pub opens : (pass : ℕ) (v : View M) → Forks (Carries lane) pass v v (knower [])
+  opens pass v items views h at =
+      let vs : List (View M) = set views pass v in
+      let F : ℕ → View M → Type 0 = Fits h.seat h.sent h.closed h.reader h.lanes h.got in
+      let old : All F vs = all_set F views pass v (h.fits pass v at) (λ j u apart e. h.fits j u e) in record {
+        seat = h.seat;
+        sent = h.sent;
+        closed = h.closed;
+        reader = h.reader;
+        lanes = h.lanes;
+        got = h.got;
+        order = h.order;
+        others = h.others;
+        fits = (λ j u e. ⊎_elim (old j u)
+            (λ (is : (j ≡ length vs) × (knower [] ≡ u)). subst (F j) is.1 ((λ p. absurd (true≢false (sym p))), (λ p. absurd (true≢false (sym p))), (λ k l. absurd (omega arith))))
+            (at_end vs (knower []) u j e));
+      }
+
+  -- what a lane's pass knows joins what is known of the lanes before
+  pub ends : (pass : ℕ) (v : View M) (other : ℕ) (w : View M) → w.sends ≡ true → length v.known ≡ w.lane → Merges (Carries lane) pass v other w (knower (v.known ++ w.sent ∷ [])) (knower [])
+  ends pass v other w may next items views h at apart at' =
+      let ls : List (List M) = v.known ++ w.sent ∷ [] in
+      let both : View M = knower ls in
+      let was : get_elem? views other ≡ some w = ⊎_elim (λ x. absurd (apart x.0)) (λ x. x.1) (at_set views pass other both w at') in
+      let theirs = (h.fits other w was).0 may in
+      let mine = (h.fits pass v at).2 in
+      let seat : ℕ → Option ℕ = changed h.seat w.lane none in
+      let gone : (k : ℕ) → h.seat k ≡ none → seat k ≡ none = λ k e. ⊎_elim (λ t. ap seat t ∙ changed_here h.seat w.lane none) (λ n. changed_else h.seat w.lane none k n ∙ e) (same? k w.lane) in
+      let F : ℕ → View M → Type 0 = Fits seat h.sent h.closed h.reader h.lanes h.got in
+      let known : FitsKnown seat h.sent h.lanes both = λ k l. ⊎_elim
+      (λ (low : k < length v.known). let q = mine k low in (q.0, gone k q.1, get_or_append_left v.known (w.sent ∷ []) [] k low ∙ q.2))
+      (λ (is : k ≡ length v.known). let at_k : k ≡ w.lane = is ∙ next in (
+        ⊎_elim (λ (x : k < h.lanes). x) (λ (le : h.lanes ≤ k). absurd (some-ne-none other (sym theirs.0 ∙ ap h.seat (sym at_k) ∙ (h.others k le).0))) (below? k h.lanes),
+        ap seat at_k ∙ changed_here h.seat w.lane none,
+        ap (λ (i : ℕ). get_or ls i []) is ∙ get_or_last v.known w.sent [] ∙ sym theirs.1 ∙ ap h.sent (sym at_k),
+      ))
+      (last? v.known w.sent k l) in
+      let now : (j : ℕ) (u : View M) → j ≢ other → get_elem? (set views pass both) j ≡ some u → F j u = λ j u away e. ⊎_elim
+      (λ (is : (j ≡ pass) × (both ≡ u)). subst (F j) is.1 ((λ p. absurd (true≢false (sym p))), (λ p. absurd (true≢false (sym p))), known))
+      (λ (is : (j ≢ pass) × (get_elem? views j ≡ some u)). let f = h.fits j u is.1 in (
+        (λ p. let q = f.0 p in (changed_else h.seat w.lane none u.lane (λ t. away (some-injective j other (sym q.0 ∙ ap h.seat t ∙ theirs.0))) ∙ q.0, q.1, q.2)),
+        f.1,
+        (λ k l. let q = f.2 k l in (q.0, gone k q.1, q.2)),
+      ))
+      (at_set views pass j both u e) in record {
+        seat = seat;
+        sent = h.sent;
+        closed = h.closed;
+        reader = h.reader;
+        lanes = h.lanes;
+        got = h.got;
+        order = h.order;
+        others = λ k le. let q = h.others k le in (gone k q.0, q.1, q.2);
+        fits = all_set F (set views pass both) other (knower []) ((λ p. absurd (true≢false (sym p))), (λ p. absurd (true≢false (sym p))), (λ k l. absurd (omega arith))) now;
+      }
+
+  -- what is known of the lanes joins what was taken
+  pub settles : (pass : ℕ) (v : View M) (other : ℕ) (w : View M) → w.takes ≡ true → Merges (Carries lane) pass v other w (settled w.lanes w.got v.known) (knower [])
+  settles pass v other w may items views h at apart at' =
+      let both : View M = settled w.lanes w.got v.known in
+      let was : get_elem? views other ≡ some w = ⊎_elim (λ x. absurd (apart x.0)) (λ x. x.1) (at_set views pass other both w at') in
+      let theirs = (h.fits other w was).1 may in
+      let F : ℕ → View M → Type 0 = Fits h.seat h.sent h.closed pass h.lanes h.got in
+      let now : (j : ℕ) (u : View M) → j ≢ other → get_elem? (set views pass both) j ≡ some u → F j u = λ j u away e. ⊎_elim
+      (λ (is : (j ≡ pass) × (both ≡ u)). subst (λ (y : ℕ × View M). F y.0 y.1) (λ i. (sym is.0 i, is.1 i))
+      ((λ p. absurd (true≢false (sym p))), (λ _. (refl, theirs.1, theirs.2)), (h.fits pass v at).2))
+      (λ (is : (j ≢ pass) × (get_elem? views j ≡ some u)). let f = h.fits j u is.1 in (f.0, (λ p. absurd (away ((f.1 p).0 ∙ sym theirs.0))), f.2))
+      (at_set views pass j both u e) in record {
+        seat = h.seat;
+        sent = h.sent;
+        closed = h.closed;
+        reader = pass;
+        lanes = h.lanes;
+        got = h.got;
+        order = h.order;
+        others = h.others;
+        fits = all_set F (set views pass both) other (knower []) ((λ p. absurd (true≢false (sym p))), (λ p. absurd (true≢false (sym p))), (λ k l. absurd (omega arith))) now;
+      }
+
+  -- what was taken of the known lanes
+  pub learns : (pass : ℕ) (v : View M) → v.takes ≡ true → Learns (Carries lane) pass v (λ items. Agrees lane v)
+  learns pass v may items views h at k l =
+      let f = h.fits pass v at in
+      let got : v.got ≡ h.got = (f.1 may).2 in
+      let split : part lane k v.got ++ part lane k items ≡ whole k (h.sent k) (h.closed k) = (λ i. part lane k (got i) ++ part lane k items) ∙ sym (part-append lane k h.got items) ∙ h.order k in
+      let sent : h.sent k ≡ slice_index_or v.known k [] = sym (f.2 k l).2 in
+      let rest : List M = copies (part lane k items) in
+      let both : copies (part lane k v.got) ++ rest ≡ h.sent k = sym (copies-append lane (part lane k v.got) (part lane k items)) ∙ ap copies split ∙ copies-whole lane k (h.sent k) (h.closed k) in (
+        (rest, (λ i. of-copies lane k v.got i ++ rest) ∙ both ∙ sent),
+        (λ mark. of-copies lane k v.got ∙ all-there lane k (part lane k v.got) (part lane k items) (h.sent k) (h.closed k) split (ended-part lane k v.got ∙ mark) ∙ sent),
+      )

@@ -1,0 +1,9 @@
+pub mod Parcels
+pub mod Keeps
+pub mod Counts
+pub mod Inboxes
+pub mod Closes
+pub mod Names
+pub mod Senders
+pub mod Relays
+pub mod Gathers

@@ -1,0 +1,30 @@
+-- The laws of a channel, for its messages and no parcels.
+use Rattle.std.specs.Prelude.{◌≡◌, ◌≤◌, ℕ, true, Some, List, [], ◌++◌}
+use mathlib.Core.Option.{some}
+use lib.ListN.{get_elem?}
+use Rattle.mail_post.specs.declared.rule.Parcel.{Parcel}
+use Rattle.mail_post.specs.declared.rule.View.{View}
+use Rattle.mail_post.specs.Parcels.{of, copies}
+use Rattle.mail_post.specs.Rule.{Carries}
+use Rattle.mail_post.specs.Line.{named}
+
+module _ {M : Type 0} (lane : M → ℕ) where
+  -- of each lane, what was taken and then what waits is what the lane was told was accepted
+  abbrev pub IsInOrder : Type 0
+  IsInOrder = (items : List (Parcel M)) (views : List (View M)) (h : Carries lane items views) (k : ℕ)
+      → of lane k (copies (h.got ++ items)) ≡ h.sent k
+
+  -- nothing is of another than the lanes
+  abbrev pub IsNothingElse : Type 0
+  IsNothingElse = (items : List (Parcel M)) (views : List (View M)) (h : Carries lane items views) (k : ℕ)
+      → h.lanes ≤ k → of lane k (copies (h.got ++ items)) ≡ []
+
+  -- a mark names all that its lane was told was accepted
+  abbrev pub NamesAll : Type 0
+  NamesAll = (items : List (Parcel M)) (views : List (View M)) (h : Carries lane items views) (k : ℕ)
+      → h.closed k ≡ true → named lane k (h.got ++ items) ≡ Some (h.sent k)
+
+  -- each lane's end knows just what the lane was told was accepted, and the receiver's what was taken
+  abbrev pub AreTold : Type 0
+  AreTold = (items : List (Parcel M)) (views : List (View M)) (h : Carries lane items views) (pass : ℕ) (v : View M) → get_elem? views pass ≡ some v
+      → (v.sends ≡ true → h.sent v.lane ≡ v.sent) × (v.takes ≡ true → h.got ≡ v.got)

@@ -1,0 +1,292 @@
+//! A channel from numbered lanes to one receiver. Copies and slips both go through it.
+ghost use Rattle.std.specs.Prelude.{◌≡◌, true, false, ◌<◌, [], ◌∷◌, ◌++◌, IfOk, IfErr, IfSome, OnOk, OnErr, length};
+ghost use Rattle.crossbeam_channel.specs.Claims.{IsSeatAt};
+ghost use Rattle.crossbeam_channel.specs.Ends.{sends_on, receives_on};
+ghost use Rattle.mail_post.specs.Views.{sender};
+ghost use Rattle.mail_post.specs.Line.{view_of, taken, IsNext, IsDrained, TookSome, TookAll, fresh, AreLanes, AreLanesFrom, lists};
+
+use crate::rule::{Ends, LaneOrder, Laned, Lanes, Offers, Opens, Parcel, Settles, Takes, View};
+use crossbeam_channel::{Pass, RuledReceiver, RuledSender, bounded_with};
+use std::alloc::{AllocError, Allocator, Global};
+use std::marker::Model;
+use std::sync::Wait;
+use thiserror::Error;
+
+/// Why nothing more is taken.
+#[derive(Clone, Copy, Debug, PartialEq, Eq, Error)]
+pub enum Gone {
+    /// Every lane's closing mark was taken, so all that was accepted has been.
+    #[error("closed")]
+    Closed = 1,
+    /// The channel answered that its other end is gone.
+    #[error("lost")]
+    Lost,
+}
+
+/// A channel with a sender for each lane, numbered from 0, and its receiver.
+pub fn open_line<M: Laned, A: Allocator + Clone>(
+    alloc: A,
+    capacity: usize,
+    lanes: u32,
+) -> Result<(Vec<LineSender<M, A>, A>, LineReceiver<M, A>), AllocError>
+    requires { 0 < capacity }
+    ensures senders { IfOk result (λ ends. ends.0.items ≡ fresh ends.1.line lanes) }
+    ensures receiver { IfOk result (λ ends. (ends.1.lanes ≡ lanes) × (ends.1.got ≡ []) × (ends.1.gone ≡ None)) }
+{
+    let mut senders = Vec::with_capacity(alloc.clone()?, lanes as usize)?;
+    let (to, from, mut first) = bounded_with::<Parcel<M>, View<M>, LaneOrder<M>, A>(
+        alloc, capacity,
+    )?;
+    for lane in 0..lanes {
+        let pass = to.another::<Lanes>(&mut first);
+        let end = to.try_clone()?;
+        senders.push(LineSender { end, pass, lane })?;
+    }
+    Ok((
+        senders,
+        LineReceiver {
+            end: from,
+            pass: first,
+            lanes,
+            marks: 0,
+            gone: None,
+        },
+    ))
+}
+
+/// A lane's end of a channel.
+#[derive(Drop)]
+pub struct LineSender<M: Laned, A: Allocator = Global> {
+    end: RuledSender<Parcel<M>, View<M>, LaneOrder<M>, A>,
+    pass: Pass<Parcel<M>, View<M>>,
+    lane: u32,
+}
+
+impl<M: Laned, A: Allocator> Model for LineSender<M, A> {
+    ghost use Rattle.std.specs.Prelude.{◌≡◌, false};
+    ghost use Rattle.crossbeam_channel.specs.Claims.{IsSeatAt};
+    ghost use Rattle.crossbeam_channel.specs.Ends.{sends_on};
+    ghost use Rattle.mail_post.specs.Views.{sender};
+    ghost use Rattle.mail_post.specs.Line.{Lane, line_of, view_of};
+
+    ghost Value = { Lane M };
+
+    ghost view = { λ s. record { line = line_of s.pass; lane = s.lane; sent = (view_of s.pass).sent } };
+
+    ghost invariant = { λ s. IsSeatAt (sends_on s.end) s.pass × (view_of s.pass ≡ sender s.lane (view_of s.pass).sent false) };
+}
+
+impl<M: Laned, A: Allocator> LineSender<M, A> {
+    /// The lane's number.
+    pub fn number(&self) -> u32
+        ensures { result ≡ self.now.lane }
+    {
+        self.lane
+    }
+
+    /// Ok where the channel has accepted the post at its end.
+    pub fn offer<R: Wait>(&mut self, rt: &R, post: M) -> Result<(), M>
+        requires { M.lane post ≡ self.old.lane }
+        ensures same { (self.new.line ≡ self.old.line) × (self.new.lane ≡ self.old.lane) }
+        ensures accepted { OnOk result (self.new.sent ≡ self.old.sent ++ post ∷ []) }
+        ensures refused { OnErr result (self.new ≡ self.old) }
+        ensures back { IfErr result (λ back. back ≡ post) }
+    {
+        match self
+            .end
+            .send_as::<Offers, R>(rt, &mut self.pass, Parcel::Copy(post))
+        {
+            Ok(()) => Ok(()),
+            Err(back) => match back.into_inner() {
+                Parcel::Copy(post) => Err(post),
+                Parcel::Mark(_) => unreachable!(),
+            },
+        }
+    }
+}
+
+/// The receiving end of a channel.
+#[derive(Drop)]
+pub struct LineReceiver<M: Laned, A: Allocator = Global> {
+    end: RuledReceiver<Parcel<M>, View<M>, LaneOrder<M>, A>,
+    pass: Pass<Parcel<M>, View<M>>,
+    lanes: u32,
+    marks: u32,
+    gone: Option<Gone>,
+}
+
+impl<M: Laned, A: Allocator> Model for LineReceiver<M, A> {
+    ghost use Rattle.crossbeam_channel.specs.Claims.{IsSeatAt};
+    ghost use Rattle.crossbeam_channel.specs.Ends.{receives_on};
+    ghost use Rattle.mail_post.specs.Line.{Inbox, IsInbox, line_of, view_of};
+
+    ghost Value = { Inbox M };
+
+    ghost view = { λ r. record { line = line_of r.pass; lanes = r.lanes; got = (view_of r.pass).got; gone = r.gone } };
+
+    ghost invariant = { λ r. IsSeatAt (receives_on r.end) r.pass × IsInbox M.lane r.lanes r.marks r.gone (view_of r.pass) };
+}
+
+impl<M: Laned, A: Allocator> LineReceiver<M, A> {
+    /// The oldest post. After a `Gone` each later call answers the same, and receives nothing.
+    pub fn take<R: Wait>(&mut self, rt: &R) -> Result<M, Gone>
+        ensures same { (self.new.line ≡ self.old.line) × (self.new.lanes ≡ self.old.lanes) }
+        ensures post { IfOk result (λ post. taken self.new ≡ taken self.old ++ post ∷ []) }
+        ensures lane { IfOk result (λ post. M.lane post < self.old.lanes) }
+        ensures open_still { OnOk result ((self.old.gone ≡ None) × (self.new.gone ≡ None)) }
+        ensures nothing { OnErr result (taken self.new ≡ taken self.old) }
+        ensures gone { IfErr result (λ why. self.new.gone ≡ Some why) }
+        ensures closed { IfErr result (λ why. why ≡ Gone.Closed → IsDrained M.lane self.new) }
+        ensures later { IfSome self.old.gone (λ why. (result ≡ Err why) × (self.new ≡ self.old)) }
+    {
+        if let Some(why) = self.gone {
+            return Err(why);
+        }
+        for _ in rt.forever() {
+            if let Some(answer) = self.next(rt) {
+                return answer;
+            }
+        }
+        unreachable!()
+    }
+
+    // What one parcel answers: None where it was a mark, and another is missing.
+    fn next<R: Wait>(&mut self, rt: &R) -> Option<Result<M, Gone>>
+        requires { self.old.gone ≡ None }
+        ensures same { (self.new.line ≡ self.old.line) × (self.new.lanes ≡ self.old.lanes) }
+        ensures next { IsNext M.lane self.old self.new result }
+    {
+        match self.end.recv_as::<Takes, R>(rt, &mut self.pass) {
+            Ok(Parcel::Copy(post)) => Some(Ok(post)),
+            Ok(Parcel::Mark(_)) => {
+                let lanes = self.lanes;
+                self.marks += 1;
+                if self.marks < lanes {
+                    return None;
+                }
+                self.gone = Some(Gone::Closed);
+                Some(Err(Gone::Closed))
+            }
+            Err(_) => {
+                self.gone = Some(Gone::Lost);
+                Some(Err(Gone::Lost))
+            }
+        }
+    }
+}
+
+/// The senders of a channel, whose marks are put, but for those from the first on that found the receiver gone.
+#[derive(Drop)]
+pub struct LineClosed<M: Laned, A: Allocator = Global> {
+    end: RuledSender<Parcel<M>, View<M>, LaneOrder<M>, A>,
+    pass: Pass<Parcel<M>, View<M>>,
+}
+
+impl<M: Laned, A: Allocator> Model for LineClosed<M, A> {
+    ghost use Rattle.std.specs.Prelude.{◌≡◌};
+    ghost use Rattle.crossbeam_channel.specs.Claims.{IsSeatAt};
+    ghost use Rattle.crossbeam_channel.specs.Ends.{sends_on};
+    ghost use Rattle.mail_post.specs.Views.{knower};
+    ghost use Rattle.mail_post.specs.Line.{Sent, line_of, view_of};
+
+    ghost Value = { Sent M };
+
+    ghost view = { λ c. record { line = line_of c.pass; sent = (view_of c.pass).known } };
+
+    ghost invariant = { λ c. IsSeatAt (sends_on c.end) c.pass × (view_of c.pass ≡ knower (view_of c.pass).known) };
+}
+
+// The lane's mark, unless the receiver is known to be gone. True where it is.
+fn put_mark<M: Laned, A: Allocator, R: Wait>(
+    rt: &R,
+    end: &RuledSender<Parcel<M>, View<M>, LaneOrder<M>, A>,
+    mut pass: Pass<Parcel<M>, View<M>>,
+    lane: u32,
+    is_lost: bool,
+) -> (Pass<Parcel<M>, View<M>>, bool)
+    requires seat { IsSeatAt (sends_on end.now) pass }
+    requires knows { view_of pass ≡ sender lane (view_of pass).sent false }
+    ensures seat { IsSeatAt (sends_on end.now) result.0 }
+    ensures knows { ((view_of result.0).sends ≡ true) × ((view_of result.0).lane ≡ lane) × ((view_of result.0).sent ≡ (view_of pass).sent) }
+{
+    if is_lost {
+        return (pass, true);
+    }
+    match end.send_as::<Offers, R>(rt, &mut pass, Parcel::Mark(lane)) {
+        Ok(()) => (pass, false),
+        Err(_) => (pass, true),
+    }
+}
+
+impl<M: Laned, A: Allocator> LineClosed<M, A> {
+    // Lane 0's mark. True where the receiver is gone.
+    fn first<R: Wait>(rt: &R, from: LineSender<M, A>) -> (LineClosed<M, A>, bool)
+        requires { from.lane ≡ 0 }
+        ensures { (result.0.line ≡ from.line) × (result.0.sent ≡ from.sent ∷ []) }
+    {
+        let LineSender {
+            end,
+            pass: mut mine,
+            lane,
+        } = from;
+        let mut pass = end.another::<Opens>(&mut mine);
+        let (mine, is_lost) = put_mark(rt, &end, mine, lane, false);
+        end.absorb::<Ends>(&mut pass, mine);
+        (LineClosed { end, pass }, is_lost)
+    }
+
+    // The next lane's mark, unless the receiver is gone.
+    fn join<R: Wait>(&mut self, rt: &R, from: LineSender<M, A>, is_lost: bool) -> bool
+        requires line { from.line ≡ self.old.line }
+        requires next { from.lane ≡ length self.old.sent }
+        ensures { (self.new.line ≡ self.old.line) × (self.new.sent ≡ self.old.sent ++ from.sent ∷ []) }
+    {
+        let LineSender {
+            end,
+            pass: mine,
+            lane,
+        } = from;
+        let (mine, is_lost) = put_mark(rt, &end, mine, lane, is_lost);
+        self.end.absorb::<Ends>(&mut self.pass, mine);
+        is_lost
+    }
+}
+
+/// Puts one closing mark for each sender, in lane order. Where the receiver is gone it puts no more, and answers the same.
+pub fn close_line<M: Laned, A: Allocator, R: Wait>(
+    senders: Vec<LineSender<M, A>, A>,
+    rt: &R,
+) -> LineClosed<M, A>
+    requires { AreLanes senders.items }
+    ensures line { AreLanesFrom 0 result.line senders.items }
+    ensures sent { result.sent ≡ lists senders.items }
+{
+    let mut rest = senders.into_iter();
+    let Some(first) = rest.next() else {
+        unreachable!();
+    };
+    let (mut closed, mut is_lost) = LineClosed::first(rt, first);
+    for sender in rest {
+        is_lost = closed.join(rt, sender, is_lost);
+    }
+    closed
+}
+
+/// Compares what was taken with what the lanes were told was accepted.
+pub fn settle<M: Laned, A: Allocator>(receiver: LineReceiver<M, A>, closed: LineClosed<M, A>)
+    requires line { receiver.line ≡ closed.line }
+    requires lanes { length closed.sent ≡ receiver.lanes }
+    ensures front { TookSome M.lane (taken receiver) closed.sent }
+    ensures all { receiver.gone ≡ Some Gone.Closed → TookAll M.lane (taken receiver) closed.sent }
+{
+    let LineClosed { end, mut pass } = closed;
+    let LineReceiver {
+        end: _from,
+        pass: other,
+        lanes: _,
+        marks: _,
+        gone: _,
+    } = receiver;
+    end.absorb::<Settles>(&mut pass, other);
+    end.learn_as::<Settles>(&mut pass);
+}

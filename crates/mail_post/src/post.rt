@@ -1,0 +1,98 @@
+//! A copy of a message on its way to a mailbox.
+ghost use Rattle.std.specs.Prelude.{◌≡◌};
+
+use mail_world::Txn;
+use mbox_rd::Envelope;
+use msg_depot::{DepotName, Hold};
+use std::marker::Model;
+
+/// One copy of a sealed message, for one recipient. Contracts see its note.
+#[derive(Drop)]
+pub struct Post<N: DepotName> {
+    txn: Txn,
+    place: u32,
+    mailbox: u32,
+    envelope: Envelope,
+    hold: Hold<N>,
+}
+
+impl<N: DepotName> Model for Post<N> {
+    ghost use Rattle.std.specs.Prelude.{◌≡◌};
+    ghost use Rattle.mail_world.specs.declared.Note.{Note};
+
+    ghost Value = { Note };
+
+    ghost view = { λ p. record {
+      txn = p.txn;
+      place = p.place;
+      mailbox = p.mailbox;
+      sender = p.envelope.sender;
+      client = p.envelope.client;
+      moment = p.envelope.moment;
+      message = p.hold.bytes;
+    } };
+
+    ghost invariant = { λ p. (p.envelope.txn ≡ p.txn) × (p.hold.weight ≡ 1) };
+}
+
+impl<N: DepotName> Post<N> {
+    /// The copy of the held message for the transaction's recipient at that place.
+    pub fn new(txn: Txn, place: u32, mailbox: u32, envelope: Envelope, hold: Hold<N>) -> Post<N>
+        requires txn { envelope.txn ≡ txn }
+        requires weight { hold.weight ≡ 1 }
+        ensures { result ≡ record {
+          txn = txn;
+          place = place;
+          mailbox = mailbox;
+          sender = envelope.sender;
+          client = envelope.client;
+          moment = envelope.moment;
+          message = hold.bytes;
+        } }
+    {
+        Post {
+            txn,
+            place,
+            mailbox,
+            envelope,
+            hold,
+        }
+    }
+
+    /// What it was made of.
+    pub fn parts(self) -> Parts<N>
+        ensures names { (result.txn ≡ self.txn) × (result.place ≡ self.place) × (result.mailbox ≡ self.mailbox) }
+        ensures envelope { result.envelope ≡ record {
+          sender = self.sender;
+          client = self.client;
+          txn = self.txn;
+          moment = self.moment;
+        } }
+        ensures hold { (result.hold.bytes ≡ self.message) × (result.hold.weight ≡ 1) }
+    {
+        let Post {
+            txn,
+            place,
+            mailbox,
+            envelope,
+            hold,
+        } = self;
+        Parts {
+            txn,
+            place,
+            mailbox,
+            envelope,
+            hold,
+        }
+    }
+}
+
+/// What a copy is made of.
+#[derive(Drop)]
+pub struct Parts<N: DepotName> {
+    pub txn: Txn,
+    pub place: u32,
+    pub mailbox: u32,
+    pub envelope: Envelope,
+    pub hold: Hold<N>,
+}

@@ -1,0 +1,130 @@
+//! The rule of a channel. Its types stand in proofs alone, but for `Parcel`.
+ghost use Rattle.std.specs.Prelude.{ℕ};
+
+use crossbeam_channel::protocol::{Join, Lesson, Outcome, Protocol, Split};
+use std::collections::LinkedList;
+use std::marker::PhantomData;
+
+/// A message of a numbered lane.
+pub trait Laned: Drop {
+    ghost lane: { Self → ℕ };
+}
+
+/// What goes through the channel: a message, or a lane's closing mark.
+#[derive(Drop)]
+pub enum Parcel<M: Drop> {
+    Copy(M),
+    Mark(u32),
+}
+
+/// What one thread knows of a channel.
+pub struct View<M: Drop> {
+    /// Whether it is a lane's, which may put messages, and then its closing mark.
+    pub sends: bool,
+    pub lane: u32,
+    pub sent: LinkedList<M>,
+    pub shut: bool,
+    /// Whether it is the receiver's, which knows how many lanes there are, and what was taken.
+    pub takes: bool,
+    pub lanes: u32,
+    pub got: LinkedList<Parcel<M>>,
+    /// What the first lanes sent in all.
+    pub known: LinkedList<LinkedList<M>>,
+}
+
+pub struct LaneOrder<M> {
+    marker: PhantomData<M>,
+}
+
+impl<M: Laned> Protocol<Parcel<M>, View<M>> for LaneOrder<M> {
+    ghost use Rattle.std.specs.Prelude.{[]};
+    ghost use Rattle.mail_post.specs.Views.{taker};
+    ghost use Rattle.mail_post.specs.Rule.{Carries};
+
+    ghost holds = { Carries M.lane };
+
+    ghost first = { taker 0 [] };
+}
+
+/// A lane's accepted parcel.
+pub struct Offers;
+
+impl<M: Laned> Outcome<Parcel<M>, View<M>> for Offers {
+    ghost use Rattle.std.specs.Prelude.{◌≡◌};
+    ghost use Rattle.mail_post.specs.Views.{put};
+
+    ghost then = { λ v x w. w ≡ put v x };
+}
+
+impl<M: Laned> Lesson<Parcel<M>, View<M>> for Offers {
+    ghost fact = { λ v items. Unit {0} };
+}
+
+/// What the receiver took.
+pub struct Takes;
+
+impl<M: Laned> Outcome<Parcel<M>, View<M>> for Takes {
+    ghost use Rattle.std.specs.Prelude.{◌≡◌};
+    ghost use Rattle.mail_post.specs.Views.{took};
+    ghost use Rattle.mail_post.specs.Rule.{Fair};
+
+    ghost then = { λ v x w. (w ≡ took v x) × Fair M.lane w.lanes w.got };
+}
+
+impl<M: Laned> Lesson<Parcel<M>, View<M>> for Takes {
+    ghost fact = { λ v items. Unit {0} };
+}
+
+/// The receiver's pass makes those of the lanes, by their numbers.
+pub struct Lanes;
+
+impl<M: Laned> Split<View<M>> for Lanes {
+    ghost use Rattle.std.specs.Prelude.{[], ◌+◌, false};
+    ghost use Rattle.mail_post.specs.Views.{taker, sender};
+
+    ghost left = { λ v. taker (v.lanes + 1) v.got };
+
+    ghost right = { λ v. sender v.lanes [] false };
+}
+
+/// A pass that knows of no lane, beside any other.
+pub struct Opens;
+
+impl<M: Laned> Split<View<M>> for Opens {
+    ghost use Rattle.std.specs.Prelude.{[]};
+    ghost use Rattle.mail_post.specs.Views.{knower};
+
+    ghost left = { λ v. v };
+
+    ghost right = { λ v. knower [] };
+}
+
+/// One lane more of which all is known.
+pub struct Ends;
+
+impl<M: Laned> Join<View<M>> for Ends {
+    ghost use Rattle.std.specs.Prelude.{[], ◌∷◌, ◌++◌};
+    ghost use Rattle.mail_post.specs.Views.{knower};
+
+    ghost both = { λ v w. knower (v.known ++ w.sent ∷ []) };
+
+    ghost spent = { knower [] };
+}
+
+/// What was sent beside what was taken.
+pub struct Settles;
+
+impl<M: Laned> Join<View<M>> for Settles {
+    ghost use Rattle.std.specs.Prelude.{[]};
+    ghost use Rattle.mail_post.specs.Views.{knower, settled};
+
+    ghost both = { λ v w. settled w.lanes w.got v.known };
+
+    ghost spent = { knower [] };
+}
+
+impl<M: Laned> Lesson<Parcel<M>, View<M>> for Settles {
+    ghost use Rattle.mail_post.specs.Rule.{Agrees};
+
+    ghost fact = { λ v items. Agrees M.lane v };
+}

@@ -1,0 +1,195 @@
+//! Copies and slips through their channels, on one thread and on several.
+ghost use Rattle.std.specs.Prelude.{◌≡◌, [], ◌∷◌, IfOk, IfSome};
+ghost use Rattle.mail_post.specs.Line.{fresh};
+ghost use Rattle.mail_post.specs.Relay.{AreOfLane};
+
+use super::*;
+use crate::line::close_line;
+use mail_world::{Outcome, Slip, Txn};
+use mbox_rd::Envelope;
+use msg_depot::{Blank, Depot, DepotName};
+use std::alloc::{AllocError, Global};
+use std::marker::Brand;
+use std::process::Abort;
+use std::sync::Wait;
+use std::test::*;
+use std::thread::Threads;
+
+mod relay;
+
+use relay::relay;
+
+// A message of its own, in a copy for the second mailbox.
+fn post<N: DepotName, R: Wait>(
+    rt: &R,
+    alloc: Global,
+    depot: &Depot<N>,
+    lane: u32,
+    number: u32,
+    text: &[u8],
+) -> Option<Post<N>>
+    ensures { IfSome result (λ post. post.txn.lane ≡ lane) }
+{
+    let mut draft = depot.draft(rt).ok()?;
+    depot.put(rt, &mut draft, text).ok()?;
+    let hold = depot.seal(rt, draft, 1);
+    let txn = Txn { lane, number };
+    let envelope = Envelope::new(alloc, b"carl@a.example", b"relay.example", txn, 7);
+    Some(Post::new(txn, 3, 1, envelope, hold))
+}
+
+fn slip(worker: u32, place: u32) -> Slip
+    ensures { result.worker ≡ worker }
+{
+    Slip {
+        txn: Txn { lane: 0, number: 1 },
+        place,
+        worker,
+        outcome: Outcome::Stored,
+    }
+}
+
+// Offers a and b, takes, offers c, closes, and takes until nothing comes: the three in their order.
+fn script<M: Laned, R: Wait>(
+    rt: &R,
+    mut senders: Vec<LineSender<M>>,
+    mut receiver: LineReceiver<M>,
+    a: M,
+    b: M,
+    c: M,
+) -> Option<(M, M, M, LineClosed<M>)>
+    requires senders { senders.items ≡ fresh receiver.line 2 }
+    requires lanes { (M.lane a ≡ 0) × (M.lane b ≡ 1) × (M.lane c ≡ 0) }
+    ensures { IfSome result (λ all. all.3.sent ≡ (a ∷ c ∷ []) ∷ (b ∷ []) ∷ []) }
+{
+    senders[0].offer(rt, a).ok()?;
+    senders[1].offer(rt, b).ok()?;
+    let first = receiver.take(rt).ok()?;
+    senders[0].offer(rt, c).ok()?;
+    let closed = close_line(senders, rt);
+    let second = receiver.take(rt).ok()?;
+    let third = receiver.take(rt).ok()?;
+    if is_closed(&receiver.take(rt)) && is_closed(&receiver.take(rt)) {
+        return Some((first, second, third, closed));
+    }
+    None
+}
+
+fn is_closed<M: Laned>(answer: &Result<M, Gone>) -> bool {
+    matches!(answer, Err(Gone::Closed))
+}
+
+#[test]
+fn slips_in_their_order(rt: HostRuntime) -> Result<(), Fail> {
+    let (senders, receiver) = slip_line(rt.alloc(), 2)?;
+    let (a, b, c) = (slip(0, 0), slip(1, 1), slip(0, 2));
+    let all = script(&rt, senders, receiver, a, b, c).ok_or("accepted, taken and closed")?;
+    assert!(rt; all.0 == a && all.1 == b && all.2 == c);
+    drop(all.3);
+    Ok(())
+}
+
+#[test]
+fn copies_in_their_order(rt: HostRuntime) -> Result<(), Fail> {
+    let blank = Blank::new(rt.alloc(), 3, 3)?;
+    copies_by::<Brand, _>(&rt, rt.alloc(), blank)
+}
+
+fn copies_by<N: DepotName, R: Wait + Abort>(rt: &R, alloc: Global, blank: Blank) -> Result<(), Fail>
+    requires { blank ≡ N.table }
+{
+    let depot = blank.open::<N>();
+    let (senders, receiver) = mail_line::<N, Global>(alloc, 4, 2)?;
+    let a = post(rt, alloc, &depot, 0, 1, b"a").ok_or("there is room")?;
+    let b = post(rt, alloc, &depot, 1, 1, b"b").ok_or("there is room")?;
+    let c = post(rt, alloc, &depot, 0, 2, b"c").ok_or("there is room")?;
+    let (first, second, third, closed) = script(rt, senders, receiver, a, b, c).ok_or(
+        "accepted, taken and closed",
+    )?;
+    assert!(rt; seen(rt, &depot, first) == (0, 1, *b"a"));
+    assert!(rt; seen(rt, &depot, second) == (1, 1, *b"b"));
+    assert!(rt; seen(rt, &depot, third) == (0, 2, *b"c"));
+    drop(closed);
+    Ok(())
+}
+
+#[test]
+fn a_copy_in_a_thread(rt: HostRuntime) -> Result<(), Fail> {
+    let blank = Blank::new(rt.alloc(), 1, 1)?;
+    copy_there::<Brand, _>(rt, rt.alloc(), blank)
+}
+
+fn copy_there<N, R>(rt: R, alloc: Global, blank: Blank) -> Result<(), Fail>
+where
+    N: DepotName + 'static,
+    R: Threads + Wait + Abort + Copy + Send + 'static,
+    requires { blank ≡ N.table }
+{
+    let depot = blank.open::<N>();
+    let copy = post(&rt, alloc, &depot, 0, 1, b"a").ok_or("there is room")?;
+    let copies = vec![in alloc; copy]?;
+    let jobs = vec![in alloc; copies]?;
+    let all = relay(rt, alloc, 1, jobs)?.ok_or("the copy was taken")?;
+    assert_eq!(rt; all.len(), 1);
+    for copy in all {
+        assert!(rt; seen(&rt, &depot, copy) == (0, 1, *b"a"));
+    }
+    Ok(())
+}
+
+// The transaction of a copy, and the first byte of its message.
+fn seen<N: DepotName, R: Wait>(rt: &R, depot: &Depot<N>, post: Post<N>) -> (u32, u32, [u8; 1]) {
+    let Parts { txn, mut hold, .. } = post.parts();
+    let mut first = [0];
+    depot.read(rt, &mut hold, 0, &mut first);
+    (txn.lane, txn.number, first)
+}
+
+#[test]
+fn an_offer_without_a_receiver_comes_back(rt: HostRuntime) -> Result<(), Fail> {
+    let (mut senders, receiver) = slip_line(rt.alloc(), 2)?;
+    drop(receiver);
+    assert_eq!(rt; senders.len(), 2);
+    assert_eq!(rt; senders[1].number(), 1);
+    assert_eq!(rt; senders[1].offer(&rt, slip(1, 4)).err(), Some(slip(1, 4)));
+    drop(close_slips(senders, &rt));
+    Ok(())
+}
+
+#[test]
+fn senders_without_a_mark_are_lost(rt: HostRuntime) -> Result<(), Fail> {
+    let (senders, mut receiver) = slip_line(rt.alloc(), 2)?;
+    drop(senders);
+    assert!(rt; matches!(receiver.take(&rt), Err(Gone::Lost)));
+    assert!(rt; matches!(receiver.take(&rt), Err(Gone::Lost)));
+    Ok(())
+}
+
+// The slips of a worker's thread.
+fn job(alloc: Global, worker: u32) -> Result<Vec<Slip>, AllocError>
+    ensures { IfOk result (λ slips. AreOfLane (λ slip. slip.worker) worker slips.items) }
+{
+    let (a, b, c, d) = (
+        slip(worker, 0),
+        slip(worker, 1),
+        slip(worker, 2),
+        slip(worker, 3),
+    );
+    Ok(vec![in alloc; a, b, c, d]?)
+}
+
+#[test]
+fn workers_in_threads(rt: HostRuntime) -> Result<(), Fail> {
+    let alloc = rt.alloc();
+    let (first, second, third) = (job(alloc, 0)?, job(alloc, 1)?, job(alloc, 2)?);
+    let jobs = vec![in alloc; first, second, third]?;
+    let all = relay(rt, alloc, 2, jobs)?.ok_or("every slip was taken")?;
+    let mut next = [0; 3];
+    for slip in &all {
+        let worker = slip.worker as usize;
+        assert!(rt; worker < 3 && slip.place == next[worker] && slip.place < 4);
+        next[worker] = slip.place + 1;
+    }
+    assert_eq!(rt; next, [4; 3]);
+    Ok(())
+}

@@ -1,0 +1,19 @@
+//! Messages by slot, shared by threads, and the holds on them, whose weights lie in the words of a table.
+#![tactic(auto)]
+
+mod depot;
+mod hold;
+mod keeper;
+mod rule;
+mod steps;
+mod token;
+mod view;
+
+pub use depot::{Blank, Depot};
+pub use keeper::{Keeper, NoRoom};
+pub use rule::HoldRule;
+pub use token::{Board, DepotName, Draft, Hold, Spent};
+pub use view::{Claim, Entry, Kind, Opening, Phase, View};
+
+#[cfg(test)]
+mod tests;

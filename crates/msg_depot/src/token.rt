@@ -1,0 +1,102 @@
+//! The tokens of a message, each with a seat of its own at the table of words. That a token is of the depot at hand is
+//! known by its type alone, which names the table.
+
+ghost use Rattle.std.specs.Prelude.{◌≡◌, [], ◌∷◌};
+ghost use Rattle.msg_depot.specs.Rules.{token, kind_of, claim_of};
+
+use crate::rule::HoldRule;
+use crate::view::{Opening, View};
+use atomic_table::{Badge, Seat, Table};
+use block_arena::Key;
+use std::alloc::Global;
+use std::marker::{Brand, Model, PhantomData};
+
+/// Names one table.
+pub trait DepotName: Send + Sync {
+    ghost use Rattle.atomic_table.specs.Seated.{TableId};
+
+    ghost table: { TableId };
+}
+
+impl DepotName for Brand {
+    ghost use Rattle.msg_depot.specs.Rules.{no_table};
+
+    ghost table = { no_table };
+}
+
+/// The words of the slots.
+pub type Board = Table<(), View, Opening, HoldRule, Global>;
+
+/// A seat of such a table.
+pub type Place = Seat<(), View>;
+
+/// A message that is being written.
+#[derive(Drop)]
+pub struct Draft<N: DepotName> {
+    pub(crate) key: Key,
+    pub(crate) badge: Badge<View>,
+    pub(crate) of: PhantomData<N>,
+}
+
+impl<N: DepotName> Model for Draft<N> {
+    ghost use Rattle.std.specs.Prelude.{◌≡◌, ◌<◌, [], ◌∷◌};
+    ghost use Rattle.msg_depot.specs.declared.view.Claim.{Claim};
+    ghost use Rattle.msg_depot.specs.declared.view.Kind.TheVariants.{Draft as DraftKind};
+    ghost use Rattle.msg_depot.specs.Rules.{token, claim_of};
+
+    ghost Value = { Claim };
+
+    ghost view = { λ h. claim_of h.badge.views };
+
+    ghost invariant = { λ h. (h.badge.table_id ≡ N.table) × (h.badge.views ≡ token DraftKind (claim_of h.badge.views) ∷ []) × (h.key.slot ≡ (claim_of h.badge.views).slot) × (h.key.generation ≡ (claim_of h.badge.views).generation) × (h.key.slot < N.table.words) };
+}
+
+/// Some weight of a sealed message.
+#[derive(Drop)]
+pub struct Hold<N: DepotName> {
+    pub(crate) key: Key,
+    pub(crate) badge: Badge<View>,
+    pub(crate) of: PhantomData<N>,
+}
+
+impl<N: DepotName> Model for Hold<N> {
+    ghost use Rattle.std.specs.Prelude.{◌≡◌, ◌<◌, [], ◌∷◌};
+    ghost use Rattle.msg_depot.specs.declared.view.Claim.{Claim};
+    ghost use Rattle.msg_depot.specs.declared.view.Kind.TheVariants.{Hold as HoldKind};
+    ghost use Rattle.msg_depot.specs.Rules.{token, claim_of};
+
+    ghost Value = { Claim };
+
+    ghost view = { λ h. claim_of h.badge.views };
+
+    ghost invariant = { λ h. (h.badge.table_id ≡ N.table) × (h.badge.views ≡ token HoldKind (claim_of h.badge.views) ∷ []) × (h.key.slot ≡ (claim_of h.badge.views).slot) × (h.key.generation ≡ (claim_of h.badge.views).generation) × (h.key.slot < N.table.words) };
+}
+
+/// The right to give back the blocks of a message that nobody holds.
+#[derive(Drop)]
+pub struct Spent<N: DepotName> {
+    pub(crate) key: Key,
+    pub(crate) badge: Badge<View>,
+    pub(crate) of: PhantomData<N>,
+}
+
+impl<N: DepotName> Model for Spent<N> {
+    ghost use Rattle.std.specs.Prelude.{◌≡◌, ◌<◌, [], ◌∷◌};
+    ghost use Rattle.msg_depot.specs.declared.view.Claim.{Claim};
+    ghost use Rattle.msg_depot.specs.declared.view.Kind.TheVariants.{Spent as SpentKind};
+    ghost use Rattle.msg_depot.specs.Rules.{token, claim_of};
+
+    ghost Value = { Claim };
+
+    ghost view = { λ h. claim_of h.badge.views };
+
+    ghost invariant = { λ h. (h.badge.table_id ≡ N.table) × (h.badge.views ≡ token SpentKind (claim_of h.badge.views) ∷ []) × (h.key.slot ≡ (claim_of h.badge.views).slot) × (h.key.generation ≡ (claim_of h.badge.views).generation) × (h.key.slot < N.table.words) };
+}
+
+// The seat of a token's badge.
+pub(crate) fn seat_of(badge: Badge<View>) -> Place
+    requires { badge.views ≡ token (kind_of badge.views) (claim_of badge.views) ∷ [] }
+    ensures { (result.table_id ≡ badge.table_id) × (result.me ≡ (token (kind_of badge.views) (claim_of badge.views), [])) }
+{
+    badge.into_seat()
+}
