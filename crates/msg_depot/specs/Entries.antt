@@ -25,6 +25,7 @@ phase_held d.Retired = Retired
 abbrev pub entry_of : d.Slot → Entry
 entry_of slot = entry (phase_held slot.held) slot.generation (d.bytes_of slot.held)
 
+-- what it knows of all slots
 abbrev pub entries_of : d.Depot → List Entry
 entries_of depot = map entry_of depot.slots
 

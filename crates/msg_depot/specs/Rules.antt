@@ -26,9 +26,11 @@ phase_of Draft = Drafted
 phase_of Hold = Sealed
 phase_of Spent = Sealed
 
+-- the keeper's entry of a slot
 abbrev pub entry : Phase → ℕ → List ℕ → Entry
 entry p g bs = record { phase = p; generation = g; bytes = bs }
 
+-- the claim of a seat that claims nothing
 abbrev pub no_claim : Claim
 no_claim = record { slot = 0; generation = 0; bytes = []; weight = 0 }
 
@@ -40,6 +42,7 @@ weighing c n = record { slot = c.slot; generation = c.generation; bytes = c.byte
 abbrev pub token : Kind → Claim → View
 token k c = record { keeps = false; book = []; kind = k; claim = c }
 
+-- the view of a seat that was joined: it counts for nothing
 abbrev pub nobody : View
 nobody = token Nothing no_claim
 
@@ -47,6 +50,7 @@ nobody = token Nothing no_claim
 abbrev pub keeping : List Entry → Kind → Claim → View
 keeping es k c = record { keeps = true; book = es; kind = k; claim = c }
 
+-- the keeper's view between two critical sections
 abbrev pub resting : List Entry → View
 resting es = keeping es Nothing no_claim
 
@@ -54,20 +58,25 @@ resting es = keeping es Nothing no_claim
 abbrev pub weight : View → ℕ
 weight v = v.claim.weight
 
+-- how many drafts a claim of a kind is
 abbrev pub draft_of : Kind → ℕ
 draft_of Draft = 1
 draft_of _ = 0
 
+-- how many Spents a claim of a kind is
 abbrev pub spent_of : Kind → ℕ
 spent_of Spent = 1
 spent_of _ = 0
 
+-- how many drafts a view claims
 abbrev pub drafts : View → ℕ
 drafts v = draft_of v.kind
 
+-- how many Spents a view claims
 abbrev pub spents : View → ℕ
 spents v = spent_of v.kind
 
+-- the number where the test holds, and else none
 abbrev pub when : Bool → ℕ → ℕ
 when true n = n
 when false n = 0
@@ -76,10 +85,12 @@ when false n = 0
 abbrev pub at : ℕ → (View → ℕ) → View → ℕ
 at i g v = when (v.claim.slot == i) (g v)
 
+-- what f counts in all views together
 abbrev pub total : (View → ℕ) → List View → ℕ
 total f [] = 0
 total f (v ∷ vs) = f v + total f vs
 
+-- 1 where there is anything
 abbrev pub positive : ℕ → ℕ
 positive zero = 0
 positive (suc n) = 1
@@ -106,6 +117,8 @@ Used Retired w d s = (w ≡ 0) × (d ≡ 0) × (s ≡ 0)
 abbrev pub Stands : Entry → ℕ → ℕ → ℕ → ℕ → Type 0
 Stands e n w d s = (n ≡ e.generation * GENERATION_UNIT + w) × (w ≤ RECIPIENT_LIMIT) × (e.generation ≤ last_generation) × Used e.phase w d s
 
+-- The rule. One seat at most is the keeper's, and what it knows is the book, which has an entry for each word; what any
+-- seat claims is an entry of the book; and each slot's word, entry and claims go together.
 pub record Kept (words : List ℕ) (views : List View) : Type 0 where
   pub seat : ℕ
   pub book : List Entry
@@ -122,6 +135,7 @@ holding b es c = record { keeps = b; book = es; kind = Hold; claim = c }
 abbrev pub one_less : View → View
 one_less v = record { keeps = v.keeps; book = v.book; kind = v.kind; claim = weighing v.claim (v.claim.weight - 1) }
 
+-- the part that is cut off
 abbrev pub one : View → View
 one v = token Hold (weighing v.claim 1)
 
@@ -130,6 +144,7 @@ abbrev pub released : Bool → View → View
 released true v = record { keeps = v.keeps; book = v.book; kind = Spent; claim = weighing v.claim 0 }
 released false v = record { keeps = v.keeps; book = v.book; kind = Nothing; claim = no_claim }
 
+-- a releaser learns by the word that it found whether its hold was the last
 abbrev pub Released : Step (Unit {0}) → Me (Unit {0}) View → ℕ → Me (Unit {0}) View → Type 0
 Released st me n me' = me' ≡ (released (n % GENERATION_UNIT == 1) me.0, me.1)
 
@@ -141,6 +156,7 @@ free_slots n g = replicate n (entry Free g [])
 abbrev pub emptied : View → View
 emptied v = record { keeps = v.keeps; book = v.book; kind = Nothing; claim = no_claim }
 
+-- what the keeper splits off
 abbrev pub handed : View → View
 handed v = token v.kind v.claim
 
@@ -152,9 +168,11 @@ taking v w = record { keeps = v.keeps; book = v.book; kind = w.kind; claim = w.c
 abbrev pub Checked : Step (Unit {0}) → Me (Unit {0}) View → ℕ → Me (Unit {0}) View → Type 0
 Checked st me n me' = (me' ≡ me) × (me.0.keeps ≡ true → Fits me.0.book me.0)
 
+-- a claim by its parts
 abbrev pub claim : ℕ → ℕ → List ℕ → ℕ → Claim
 claim i g bs n = record { slot = i; generation = g; bytes = bs; weight = n }
 
+-- what stands past the end of a book
 abbrev pub empty_entry : Entry
 empty_entry = entry Free 0 []
 
@@ -162,33 +180,43 @@ empty_entry = entry Free 0 []
 abbrev pub entered : List Entry → ℕ → Entry → List Entry
 entered es i e = slice_set es i e
 
+-- the entry of a slot
 abbrev pub entry_at : List Entry → ℕ → Entry
 entry_at es i = slice_index_or es i empty_entry
 
+-- its generation
 abbrev pub generation_at : List Entry → ℕ → ℕ
 generation_at es i = (entry_at es i).generation
 
+-- the keeper's view with a new draft in a slot
 abbrev pub begun : View → ℕ → View
 begun v i = keeping (entered v.book i (entry Drafted (generation_at v.book i) [])) Draft (claim i (generation_at v.book i) [] 0)
 
+-- a step that begins one in the slot of its word
 abbrev pub Begun : Step (Unit {0}) → Me (Unit {0}) View → ℕ → Me (Unit {0}) View → Type 0
 Begun st me n me' = me' ≡ (begun me.0 st.word, me.1)
 
+-- the claim with more bytes
 abbrev pub longer : Claim → List ℕ → Claim
 longer c bs = claim c.slot c.generation (c.bytes ++ bs) c.weight
 
+-- the keeper's view with more bytes in the draft that it has joined
 abbrev pub put : View → List ℕ → View
 put v bs = keeping (entered v.book v.claim.slot (entry Drafted v.claim.generation (v.claim.bytes ++ bs))) Draft (longer v.claim bs)
 
+-- a step that adds them
 abbrev pub Put : List ℕ → Step (Unit {0}) → Me (Unit {0}) View → ℕ → Me (Unit {0}) View → Type 0
 Put bs st me n me' = me' ≡ (put me.0 bs, me.1)
 
+-- the keeper's view with the draft that it has joined as a message of a weight
 abbrev pub sealed : View → ℕ → View
 sealed v n = keeping (entered v.book v.claim.slot (entry Sealed v.claim.generation v.claim.bytes)) Hold (weighing v.claim n)
 
+-- a step that adds that weight to the word
 abbrev pub SealedBy : Step (Unit {0}) → Me (Unit {0}) View → ℕ → Me (Unit {0}) View → Type 0
 SealedBy st me n me' = me' ≡ (sealed me.0 st.first, me.1)
 
+-- the keeper's view with the slot of what it has joined in another phase, some generations on
 abbrev pub freed : View → Phase → ℕ → View
 freed v p up = resting (entered v.book v.claim.slot (entry p (v.claim.generation + up) []))
 
@@ -209,6 +237,7 @@ abbrev pub claim_of : List View → Claim
 claim_of [] = no_claim
 claim_of (v ∷ vs) = v.claim
 
+-- and which kind that is
 abbrev pub kind_of : List View → Kind
 kind_of [] = Nothing
 kind_of (v ∷ vs) = v.kind

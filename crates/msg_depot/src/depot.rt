@@ -39,6 +39,7 @@ impl Blank {
     pub fn new(alloc: Global, blocks: u32, slots: u32) -> Result<Blank, AllocError>
         requires blocks { (1 ≤ blocks) × (blocks ≤ BLOCK_LIMIT) }
         requires slots { (1 ≤ slots) × (slots ≤ SLOT_LIMIT) }
+        ensures { IfOk result (λ b. b.words ≡ slots) }
     {
         Blank::new_at(alloc, blocks, slots, 0)
     }
@@ -53,6 +54,7 @@ impl Blank {
         requires blocks { (1 ≤ blocks) × (blocks ≤ BLOCK_LIMIT) }
         requires slots { (1 ≤ slots) × (slots ≤ SLOT_LIMIT) }
         requires generation { generation ≤ last_generation }
+        ensures { IfOk result (λ b. b.words ≡ slots) }
     {
         let arena = Arena::new_at(alloc, blocks, slots, generation)?;
         let words = words_of(alloc, slots, generation)?;

@@ -4,7 +4,7 @@ use crate::view::{Opening, View};
 use atomic_table::{Join, Play, Split, TableRule};
 use std::marker::{Brand, PhantomData};
 
-/// The word of a slot is its generation times 65,536 plus its weight.
+/// The word of a slot is its generation times `GENERATION_UNIT` plus its weight.
 pub struct HoldRule;
 
 impl TableRule<(), View, Opening> for HoldRule {

@@ -11,7 +11,7 @@ use block_arena::Key;
 use std::alloc::Global;
 use std::marker::{Brand, Model, PhantomData};
 
-/// Names one table.
+/// Names one table, so that tokens, keeper and depot of one name are of one table.
 pub trait DepotName: Send + Sync {
     ghost use Rattle.atomic_table.specs.Seated.{TableId};
 
@@ -39,16 +39,16 @@ pub struct Draft<N: DepotName> {
 }
 
 impl<N: DepotName> Model for Draft<N> {
-    ghost use Rattle.std.specs.Prelude.{◌≡◌, ◌<◌, [], ◌∷◌};
     ghost use Rattle.msg_depot.specs.declared.view.Claim.{Claim};
     ghost use Rattle.msg_depot.specs.declared.view.Kind.TheVariants.{Draft as DraftKind};
-    ghost use Rattle.msg_depot.specs.Rules.{token, claim_of};
+    ghost use Rattle.msg_depot.specs.Rules.{claim_of};
+    ghost use Rattle.msg_depot.specs.Tokens.{IsToken};
 
     ghost Value = { Claim };
 
     ghost view = { λ h. claim_of h.badge.views };
 
-    ghost invariant = { λ h. (h.badge.table_id ≡ N.table) × (h.badge.views ≡ token DraftKind (claim_of h.badge.views) ∷ []) × (h.key.slot ≡ (claim_of h.badge.views).slot) × (h.key.generation ≡ (claim_of h.badge.views).generation) × (h.key.slot < N.table.words) };
+    ghost invariant = { λ h. IsToken DraftKind N.table h.badge.table_id h.badge.views h.key };
 }
 
 /// Some weight of a sealed message.
@@ -60,16 +60,16 @@ pub struct Hold<N: DepotName> {
 }
 
 impl<N: DepotName> Model for Hold<N> {
-    ghost use Rattle.std.specs.Prelude.{◌≡◌, ◌<◌, [], ◌∷◌};
     ghost use Rattle.msg_depot.specs.declared.view.Claim.{Claim};
     ghost use Rattle.msg_depot.specs.declared.view.Kind.TheVariants.{Hold as HoldKind};
-    ghost use Rattle.msg_depot.specs.Rules.{token, claim_of};
+    ghost use Rattle.msg_depot.specs.Rules.{claim_of};
+    ghost use Rattle.msg_depot.specs.Tokens.{IsToken};
 
     ghost Value = { Claim };
 
     ghost view = { λ h. claim_of h.badge.views };
 
-    ghost invariant = { λ h. (h.badge.table_id ≡ N.table) × (h.badge.views ≡ token HoldKind (claim_of h.badge.views) ∷ []) × (h.key.slot ≡ (claim_of h.badge.views).slot) × (h.key.generation ≡ (claim_of h.badge.views).generation) × (h.key.slot < N.table.words) };
+    ghost invariant = { λ h. IsToken HoldKind N.table h.badge.table_id h.badge.views h.key };
 }
 
 /// The right to give back the blocks of a message that nobody holds.
@@ -81,16 +81,16 @@ pub struct Spent<N: DepotName> {
 }
 
 impl<N: DepotName> Model for Spent<N> {
-    ghost use Rattle.std.specs.Prelude.{◌≡◌, ◌<◌, [], ◌∷◌};
     ghost use Rattle.msg_depot.specs.declared.view.Claim.{Claim};
     ghost use Rattle.msg_depot.specs.declared.view.Kind.TheVariants.{Spent as SpentKind};
-    ghost use Rattle.msg_depot.specs.Rules.{token, claim_of};
+    ghost use Rattle.msg_depot.specs.Rules.{claim_of};
+    ghost use Rattle.msg_depot.specs.Tokens.{IsToken};
 
     ghost Value = { Claim };
 
     ghost view = { λ h. claim_of h.badge.views };
 
-    ghost invariant = { λ h. (h.badge.table_id ≡ N.table) × (h.badge.views ≡ token SpentKind (claim_of h.badge.views) ∷ []) × (h.key.slot ≡ (claim_of h.badge.views).slot) × (h.key.generation ≡ (claim_of h.badge.views).generation) × (h.key.slot < N.table.words) };
+    ghost invariant = { λ h. IsToken SpentKind N.table h.badge.table_id h.badge.views h.key };
 }
 
 // The seat of a token's badge.
