@@ -40,6 +40,11 @@ HasCount (d.Draft bytes blocks) = Unit {0}
 HasCount (d.Sealed bytes blocks weight) = 1 ≤ weight
 HasCount d.Retired = Unit {0}
 
+-- a depot without a name: the table of its words, and what lies in its arena
+pub record Unnamed : Type 0 where
+  pub table : TableId
+  pub depot : d.Depot
+
 -- The keeper's seat is of the named table and knows the arena's messages, one for each word. Each block is in one message
 -- or free, and stands there once.
 pub record IsKeeper (named table : TableId) (me : Me (Unit {0}) View) (depot : d.Depot) : Type 0 where

@@ -1,7 +1,7 @@
 //! The depot: the keeper behind a lock, and beside it the words on which holds are split and released without the lock.
 
 ghost use Rattle.std.specs.Prelude.{◌≡◌, ◌+◌, ◌-◌, ◌^◌, ◌*◌, ◌<◌, ◌≤◌, ◌++◌, [], length, take, drop, min, replicate, IfOk, IfErr, IfSome};
-ghost use Rattle.mail_world.specs.Depot.{last_generation};
+ghost use Rattle.mail_world.specs.Depot.{last_generation, Free};
 
 use crate::hold;
 use crate::keeper::{Keeper, NoRoom};
@@ -13,7 +13,7 @@ use std::alloc::{AllocError, Global};
 use std::marker::{Model, PhantomData};
 use std::sync::{Mutex, Wait};
 
-/// A depot that has no name yet. Contracts see which table it has.
+/// A depot that has no name yet. Contracts see which table it has, and what lies in its arena.
 #[derive(Drop)]
 pub struct Blank {
     board: Board,
@@ -22,14 +22,11 @@ pub struct Blank {
 }
 
 impl Model for Blank {
-    ghost use Rattle.atomic_table.specs.Seated.{TableId, table_id_coded};
-    ghost use Rattle.msg_depot.specs.Entries.{IsKeeper};
+    ghost use Rattle.msg_depot.specs.Entries.{Unnamed, IsKeeper};
 
-    ghost Value = { TableId };
+    ghost Value = { Unnamed };
 
-    ghost coded = { table_id_coded };
-
-    ghost view = { λ b. b.board.shared.table_id };
+    ghost view = { λ b. record { table = b.board.shared.table_id; depot = b.arena } };
 
     ghost invariant = { λ b. IsKeeper b.board.shared.table_id b.seat.table_id b.seat.me b.arena };
 }
@@ -39,7 +36,9 @@ impl Blank {
     pub fn new(alloc: Global, blocks: u32, slots: u32) -> Result<Blank, AllocError>
         requires blocks { (1 ≤ blocks) × (blocks ≤ BLOCK_LIMIT) }
         requires slots { (1 ≤ slots) × (slots ≤ SLOT_LIMIT) }
-        ensures { IfOk result (λ b. b.words ≡ slots) }
+        ensures slots { IfOk result (λ b. b.depot.slots ≡ replicate slots (record { generation = 0; held = Free })) }
+        ensures free { IfOk result (λ b. length b.depot.free ≡ blocks) }
+        ensures words { IfOk result (λ b. b.table.words ≡ slots) }
     {
         Blank::new_at(alloc, blocks, slots, 0)
     }
@@ -54,7 +53,9 @@ impl Blank {
         requires blocks { (1 ≤ blocks) × (blocks ≤ BLOCK_LIMIT) }
         requires slots { (1 ≤ slots) × (slots ≤ SLOT_LIMIT) }
         requires generation { generation ≤ last_generation }
-        ensures { IfOk result (λ b. b.words ≡ slots) }
+        ensures slots { IfOk result (λ b. b.depot.slots ≡ replicate slots (record { generation = generation; held = Free })) }
+        ensures free { IfOk result (λ b. length b.depot.free ≡ blocks) }
+        ensures words { IfOk result (λ b. b.table.words ≡ slots) }
     {
         let arena = Arena::new_at(alloc, blocks, slots, generation)?;
         let words = words_of(alloc, slots, generation)?;
@@ -65,7 +66,7 @@ impl Blank {
 
     /// The depot under a name.
     pub fn open<N: DepotName>(self) -> Depot<N>
-        requires { self ≡ N.table }
+        requires { self.table ≡ N.table }
     {
         let Blank { board, arena, seat } = self;
         Depot {

@@ -18,7 +18,7 @@ fn two_blocks_and_two_slots(rt: HostRuntime) -> Result<(), Fail> {
 }
 
 fn fill_and_free<N: DepotName, R: Abort + Wait>(rt: &R, blank: Blank) -> Result<(), Fail>
-    requires { blank ≡ N.table }
+    requires { blank.table ≡ N.table }
 {
     let depot = blank.open::<N>();
     let mut a = depot.draft(rt)?;
@@ -53,7 +53,7 @@ fn the_last_generation(rt: HostRuntime) -> Result<(), Fail> {
 }
 
 fn two_messages<N: DepotName, R: Abort + Wait>(rt: &R, blank: Blank) -> Result<(), Fail>
-    requires { blank ≡ N.table }
+    requires { blank.table ≡ N.table }
 {
     let depot = blank.open::<N>();
     for _ in 0..2u32 {
@@ -76,7 +76,7 @@ fn release_in_rounds<N: DepotName, R: Threads + Wait + Abort + Sync>(
     rt: &R,
     blank: Blank,
 ) -> Result<(), Fail>
-    requires { blank ≡ N.table }
+    requires { blank.table ≡ N.table }
 {
     let depot = blank.open::<N>();
     for _ in 0..1000u32 {
@@ -128,7 +128,7 @@ fn second_use<N: DepotName, R: Threads + Wait + Abort + Sync>(
     rt: &R,
     blank: Blank,
 ) -> Result<(), Fail>
-    requires { blank ≡ N.table }
+    requires { blank.table ≡ N.table }
 {
     let depot = blank.open::<N>();
     let shared = &depot;
