@@ -8,8 +8,8 @@ use std::time::Instant;
 
 const SIZE: usize = 16_384;
 const PIECE: usize = 512;
-const ROUNDS: u32 = 2_000;
-const MESSAGES: u32 = 10_000;
+const ROUNDS: u32 = 20_000;
+const MESSAGES: u32 = 100_000;
 const HOLDS: u32 = 100;
 
 fn main() {

@@ -14,7 +14,8 @@ use Rattle.block_arena.specs.Calls.{ReleasesAll, IsGivenBack}
 use Rattle.msg_depot.specs.declared.view.View.{View}
 use Rattle.msg_depot.specs.declared.view.Entry.{Entry}
 use Rattle.msg_depot.specs.declared.view.Phase.TheVariants.{Free, Sealed}
-use Rattle.msg_depot.specs.Rules.{entry, entry_at, empty_entry, entered, free_slots, resting}
+use Rattle.msg_depot.specs.Rules.{entry, free_slots, resting}
+use Rattle.msg_depot.specs.Moves.{entry_at, empty_entry, entered}
 use Rattle.msg_depot.specs.Entries.{entry_of, entries_of, phase_held, slot_behind, HasCount, IsKeeper}
 
 -- the entry of a slot that is there

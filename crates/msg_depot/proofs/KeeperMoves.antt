@@ -17,7 +17,8 @@ use Rattle.msg_depot.specs.declared.view.Kind.{Kind}
 use Rattle.msg_depot.specs.declared.view.Kind.TheVariants.{Nothing, Draft, Spent}
 use Rattle.msg_depot.specs.declared.view.Phase.{Phase}
 use Rattle.msg_depot.specs.declared.view.Phase.TheVariants.{Free, Drafted, Sealed, Retired}
-use Rattle.msg_depot.specs.Rules.{Kept, Fits, Stands, Used, weight, drafts, spents, draft_of, spent_of, at, when, total, positive, token, keeping, resting, nobody, entry, phase_of, emptied, handed, Checked, entry_at, begun, Begun, put, Put, sealed, SealedBy, freed, Freed, RetiredNow, IsOver, free_slots}
+use Rattle.msg_depot.specs.Rules.{Kept, Fits, Stands, Used, weight, drafts, spents, draft_of, spent_of, at, when, total, positive, token, keeping, resting, nobody, entry, phase_of, free_slots}
+use Rattle.msg_depot.specs.Moves.{emptied, handed, Checked, entry_at, begun, Begun, put, Put, sealed, SealedBy, freed, Freed, RetiredNow, IsOver}
 use Rattle.msg_depot.proofs.Totals.{total_set, within, elem_at, elem_is, when_zero, positive_one, total_has, at_here}
 use Rattle.msg_depot.proofs.Keeps.{off, splits, viewed}
 use Rattle.msg_depot.proofs.Moves.{Rule}
@@ -26,7 +27,7 @@ use Rattle.msg_depot.proofs.Keeping.{Alone, keeper_turns, alone_free, alone_draf
 spare : (a b : Bool) (n : ℕ) → when b n ≡ when a 0 + when b n
 spare a b n = let z = when_zero a in omega arith
 
--- word step 2: a token is split off
+-- a token is split off
 pub hands : (id : ℕ) (es : List Entry) (k : Kind) (c : Claim) → Splits Rule id (keeping es k c) (emptied (keeping es k c)) (handed (keeping es k c))
 hands id es k c s r here = splits s.words s.views id (keeping es k c) (emptied (keeping es k c)) (handed (keeping es k c)) r here refl refl refl
     (λ book f. (((λ e. absurd (e refl)), refl), f))
@@ -36,7 +37,7 @@ hands id es k c s r here = splits s.words s.views id (keeping es k c) (emptied (
       spent = spare (eqb 0 i) (eqb c.slot i) (spent_of k);
     })
 
--- word step 3: a token is joined
+-- a token is joined
 pub takes : (id : ℕ) (es : List Entry) (other : ℕ) (k : Kind) (c : Claim) → Joins Rule id (resting es) other (token k c) (keeping es k c) nobody
 takes id es other k c s r here apart there = viewed s.words s.views (set (set s.views id (keeping es k c)) other nobody) r
     (λ j u at_j. cases j u at_j (λ n x. x.keeps ≡ true → (n ≡ r.seat) × (x.book ≡ r.book)) (λ n q. absurd (off q)) (λ _. r.keeper id (resting es) here refl) r.keeper)
@@ -70,7 +71,7 @@ checks slots id i v s r _ here small = (
   (refl, λ k. subst (λ (l : List Entry). Fits l v) (sym (r.keeper id v here k).1) (r.fits id v here)),
 )
 
--- word step 1: a draft is begun
+-- a draft is begun
 pub begins : (slots id : ℕ) (es : List Entry) (i : ℕ) → i < length es → (entry_at es i).phase ≡ Free
     → Allows Rule slots id (resting es, []) i (λ n. n) (Begun (step slots i 0 0 none) (resting es, []))
 begins slots id es i inside free s r _ here small =
@@ -97,7 +98,7 @@ begins slots id es i inside free s r _ here small =
 abbrev of_token : Kind → Claim → Entry
 of_token k c = entry (phase_of k) c.generation c.bytes
 
--- word step 4: a joined draft gets bytes
+-- a joined draft gets bytes
 pub puts : (slots id : ℕ) (es : List Entry) (c : Claim) (bs : List ℕ)
     → Allows Rule slots id (keeping es Draft c, []) c.slot (λ n. n) (Put bs (step slots c.slot 0 0 none) (keeping es Draft c, []))
 puts slots id es c bs s r _ here small =
@@ -125,7 +126,7 @@ puts slots id es c bs s r _ here small =
 seal_word : (g n k : ℕ) → g ≤ last_generation → k ≤ RECIPIENT_LIMIT → n ≡ g * GENERATION_UNIT + 0 → (n + k) % 2 ^ 64 ≡ g * GENERATION_UNIT + k
 seal_word g n k a b e = omega arith
 
--- word step 5: a joined draft is sealed
+-- a joined draft is sealed
 pub seals : (slots id : ℕ) (es : List Entry) (c : Claim) (k : ℕ) → 0 < k → k ≤ RECIPIENT_LIMIT
     → Allows Rule slots id (keeping es Draft c, []) c.slot (λ n. (n + k) % 2 ^ 64) (SealedBy (step slots c.slot k 0 none) (keeping es Draft c, []))
 seals slots id es c k more few s r _ here small =
@@ -192,7 +193,7 @@ over s r id es k c here which = ⊎_elim draft spent which
         let none_left : total (at c.slot weight) s.views ≡ 0 = dite (ℕ_discrete (total (at c.slot weight) s.views) 0) (λ z. z) (λ ne. let p = positive_one (total (at c.slot weight) s.views) (omega arith) in absurd (omega arith)) in
         (some_spent d, there, alone_spent s.words s.views r id (keeping es k c) c.slot (of_token k c) here d refl there (ap phase_of d), st.0 ∙ ap (λ (x : ℕ). c.generation * GENERATION_UNIT + x) none_left, st.2)
 
--- word step 9: the slot is free, with the next generation
+-- the slot is free, with the next generation
 pub frees : (slots id : ℕ) (es : List Entry) (k : Kind) (c : Claim) → IsOver k → c.generation < last_generation
     → Allows Rule slots id (keeping es k c, []) c.slot (λ n. (n + GENERATION_UNIT) % 2 ^ 64) (Freed (step slots c.slot GENERATION_UNIT 0 none) (keeping es k c, []))
 frees slots id es k c which few s r _ here small =

@@ -13,7 +13,8 @@ use Rattle.msg_depot.specs.declared.view.View.{View}
 use Rattle.msg_depot.specs.declared.view.Claim.{Claim}
 use Rattle.msg_depot.specs.declared.view.Entry.{Entry}
 use Rattle.msg_depot.specs.declared.view.Phase.TheVariants.{Sealed}
-use Rattle.msg_depot.specs.Rules.{Kept, Fits, weight, drafts, spents, at, when, total, positive, entry, one_less, one, holding, released, Released}
+use Rattle.msg_depot.specs.Rules.{Kept, Fits, weight, drafts, spents, at, when, total, positive, entry}
+use Rattle.msg_depot.specs.Moves.{one_less, one, holding, released, Released}
 use Rattle.msg_depot.proofs.Totals.{total_set, total_has, at_here, at_else, at_none, positive_one}
 use Rattle.msg_depot.proofs.Keeps.{splits, turns}
 
@@ -24,7 +25,7 @@ when_sum : (b : Bool) (k n m : ℕ) → k ≡ n + m → when b k ≡ when b n + 
 when_sum true k n m e = e
 when_sum false k n m e = refl
 
--- word step 7: a hold is cut in two
+-- a hold is cut in two
 pub cuts_one : (id : ℕ) (q : Bool) (es : List Entry) (c : Claim) → 1 < c.weight → Splits Rule id (holding q es c) (one_less (holding q es c)) (one (holding q es c))
 cuts_one id q es c more s r here = splits s.words s.views id (holding q es c) (one_less (holding q es c)) (one (holding q es c)) r here refl refl refl
     (λ book f. ((f.0, omega arith), (f.0, omega arith)))
@@ -45,7 +46,7 @@ sub_word g w n a b h e = let d : ℕ = w - 1 in let q : w ≡ d + 1 = omega arit
 low_bits : (g w n : ℕ) → w ≤ RECIPIENT_LIMIT → n ≡ g * GENERATION_UNIT + w → n % GENERATION_UNIT ≡ w
 low_bits g w n b e = omega arith
 
--- word step 8: a hold of weight 1 is given up, and it was the last
+-- a hold of weight 1 is given up, and it was the last
 release_last : (words : List ℕ) (views : List View) (r : Kept words views) (id : ℕ) (q : Bool) (es : List Entry) (c : Claim) → get_elem? views id ≡ some (holding q es c) → c.weight ≡ 1
     → get_or words c.slot 0 % GENERATION_UNIT ≡ 1
     → Kept (set words c.slot ((get_or words c.slot 0 + (2 ^ 64 - 1)) % 2 ^ 64)) (set views id (released true (holding q es c)))

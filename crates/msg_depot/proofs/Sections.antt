@@ -10,7 +10,8 @@ use Rattle.msg_depot.specs.declared.view.Claim.{Claim}
 use Rattle.msg_depot.specs.declared.view.Kind.{Kind}
 use Rattle.msg_depot.specs.declared.view.Kind.TheVariants.{Nothing, Draft}
 use Rattle.msg_depot.specs.declared.view.Phase.TheVariants.{Drafted, Sealed}
-use Rattle.msg_depot.specs.Rules.{token, keeping, resting, entry, entry_at, generation_at, entered, phase_of, begun, put, sealed}
+use Rattle.msg_depot.specs.Rules.{token, keeping, resting, entry, phase_of}
+use Rattle.msg_depot.specs.Moves.{entry_at, generation_at, entered, begun, put, sealed}
 use Rattle.msg_depot.specs.Entries.{entry_of, entries_of, slot_behind, IsKeeper}
 use Rattle.msg_depot.proofs.Entries.{entry_there, agreed, kept_on, Turned, begins_turned, puts_turned, seals_turned, IsSealed, sealed_under}
 

@@ -5,7 +5,8 @@ ghost use Rattle.std.specs.List.{AllByRecursion};
 ghost use Rattle.mail_world.specs.Depot.{weight_under, HasRoom, Begins, Puts, Seals, Cancels};
 ghost use Rattle.mail_world.specs.Depot as depot;
 ghost use Rattle.block_arena.specs.Calls.{IsTaken, IsGivenBack};
-ghost use Rattle.msg_depot.specs.Rules.{longer, weighing, resting, keeping, entered, IsOver};
+ghost use Rattle.msg_depot.specs.Rules.{weighing, resting, keeping};
+ghost use Rattle.msg_depot.specs.Moves.{longer, entered, IsOver};
 ghost use Rattle.msg_depot.specs.Entries.{entry_of, key_of, slot_behind, IsKeeper};
 
 use crate::steps;

@@ -19,7 +19,7 @@ impl TableRule<(), View, Opening> for HoldRule {
 pub struct One;
 
 impl Split<View> for One {
-    ghost use Rattle.msg_depot.specs.Rules.{one_less, one};
+    ghost use Rattle.msg_depot.specs.Moves.{one_less, one};
 
     ghost left = { one_less };
 
@@ -30,7 +30,7 @@ impl Split<View> for One {
 pub struct Releases;
 
 impl Play<(), View> for Releases {
-    ghost use Rattle.msg_depot.specs.Rules.{Released};
+    ghost use Rattle.msg_depot.specs.Moves.{Released};
 
     ghost then = { Released };
 }
@@ -52,7 +52,7 @@ impl Piece for Brand {
 pub struct Off;
 
 impl Split<View> for Off {
-    ghost use Rattle.msg_depot.specs.Rules.{emptied, handed};
+    ghost use Rattle.msg_depot.specs.Moves.{emptied, handed};
 
     ghost left = { emptied };
 
@@ -63,7 +63,8 @@ impl Split<View> for Off {
 pub struct In;
 
 impl Join<View> for In {
-    ghost use Rattle.msg_depot.specs.Rules.{taking, nobody};
+    ghost use Rattle.msg_depot.specs.Rules.{nobody};
+    ghost use Rattle.msg_depot.specs.Moves.{taking};
 
     ghost both = { taking };
 
@@ -74,7 +75,7 @@ impl Join<View> for In {
 pub struct Checks;
 
 impl Play<(), View> for Checks {
-    ghost use Rattle.msg_depot.specs.Rules.{Checked};
+    ghost use Rattle.msg_depot.specs.Moves.{Checked};
 
     ghost then = { Checked };
 }
@@ -83,7 +84,7 @@ impl Play<(), View> for Checks {
 pub struct Begins;
 
 impl Play<(), View> for Begins {
-    ghost use Rattle.msg_depot.specs.Rules.{Begun};
+    ghost use Rattle.msg_depot.specs.Moves.{Begun};
 
     ghost then = { Begun };
 }
@@ -94,7 +95,7 @@ pub struct Puts<B: Piece> {
 }
 
 impl<B: Piece> Play<(), View> for Puts<B> {
-    ghost use Rattle.msg_depot.specs.Rules.{Put};
+    ghost use Rattle.msg_depot.specs.Moves.{Put};
 
     ghost then = { Put B.bytes };
 }
@@ -103,7 +104,7 @@ impl<B: Piece> Play<(), View> for Puts<B> {
 pub struct Seals;
 
 impl Play<(), View> for Seals {
-    ghost use Rattle.msg_depot.specs.Rules.{SealedBy};
+    ghost use Rattle.msg_depot.specs.Moves.{SealedBy};
 
     ghost then = { SealedBy };
 }
@@ -112,7 +113,7 @@ impl Play<(), View> for Seals {
 pub struct Frees;
 
 impl Play<(), View> for Frees {
-    ghost use Rattle.msg_depot.specs.Rules.{Freed};
+    ghost use Rattle.msg_depot.specs.Moves.{Freed};
 
     ghost then = { Freed };
 }
@@ -121,7 +122,7 @@ impl Play<(), View> for Frees {
 pub struct Retires;
 
 impl Play<(), View> for Retires {
-    ghost use Rattle.msg_depot.specs.Rules.{RetiredNow};
+    ghost use Rattle.msg_depot.specs.Moves.{RetiredNow};
 
     ghost then = { RetiredNow };
 }

@@ -2,7 +2,8 @@
 
 ghost use Rattle.std.specs.Prelude.{◌≡◌, ◌+◌, ◌<◌, ◌≤◌, ◌≢◌, [], length};
 ghost use Rattle.mail_world.specs.Depot.{last_generation};
-ghost use Rattle.msg_depot.specs.Rules.{keeping, resting, token, entry, phase_of, begun, put, sealed, freed, entry_at, IsOver};
+ghost use Rattle.msg_depot.specs.Rules.{keeping, resting, token, entry, phase_of};
+ghost use Rattle.msg_depot.specs.Moves.{begun, put, sealed, freed, entry_at, IsOver};
 ghost use Rattle.msg_depot.specs.declared.view.Kind.TheVariants.{Nothing, Draft};
 ghost use Rattle.msg_depot.specs.declared.view.Phase.TheVariants.{Free, Retired};
 

@@ -3,7 +3,8 @@ use mathlib.Core.Option.{none}
 use Rattle.atomic_table.specs.Table.{Allows, Me, step}
 use Rattle.msg_depot.specs.declared.view.View.{View}
 use Rattle.msg_depot.specs.declared.view.Claim.{Claim}
-use Rattle.msg_depot.specs.Rules.{Released, token, kind_of, claim_of, holding}
+use Rattle.msg_depot.specs.Rules.{token, kind_of, claim_of}
+use Rattle.msg_depot.specs.Moves.{Released, holding}
 use Rattle.msg_depot.proofs.Moves.{Rule, releases}
 use Rattle.msg_depot.proofs.hold.release.Goals as goal
 

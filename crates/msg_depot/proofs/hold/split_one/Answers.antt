@@ -3,7 +3,8 @@ use Rattle.atomic_table.specs.Table.{Splits}
 use Rattle.msg_depot.specs.declared.view.View.{View}
 use Rattle.msg_depot.specs.declared.view.Claim.{Claim}
 use Rattle.msg_depot.specs.declared.view.Kind.TheVariants.{Hold}
-use Rattle.msg_depot.specs.Rules.{one_less, one, token, kind_of, claim_of, holding}
+use Rattle.msg_depot.specs.Rules.{token, kind_of, claim_of}
+use Rattle.msg_depot.specs.Moves.{one_less, one, holding}
 use Rattle.msg_depot.proofs.Moves.{Rule, cuts_one}
 use Rattle.msg_depot.proofs.hold.split_one.Goals as goal
 

@@ -3,7 +3,7 @@ use mathlib.Core.Option.{none}
 use Rattle.atomic_table.specs.Table.{Allows, Me, step}
 use Rattle.msg_depot.specs.declared.view.TheConstants.{GENERATION_UNIT}
 use Rattle.msg_depot.specs.declared.view.View.{View}
-use Rattle.msg_depot.specs.Rules.{Freed}
+use Rattle.msg_depot.specs.Moves.{Freed}
 use Rattle.msg_depot.proofs.Moves.{Rule}
 use Rattle.msg_depot.proofs.KeeperMoves.{frees}
 use Rattle.msg_depot.proofs.steps.free.Goals as goal

@@ -1,7 +1,7 @@
 use Rattle.std.proofs.Common.{sym, ap, subst, arith}
 use Rattle.atomic_table.specs.Table.{Splits}
 use Rattle.msg_depot.specs.declared.view.View.{View}
-use Rattle.msg_depot.specs.Rules.{emptied, handed}
+use Rattle.msg_depot.specs.Moves.{emptied, handed}
 use Rattle.msg_depot.proofs.Moves.{Rule}
 use Rattle.msg_depot.proofs.KeeperMoves.{hands}
 use Rattle.msg_depot.proofs.steps.hand_out.Goals as goal

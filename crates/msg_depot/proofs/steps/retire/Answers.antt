@@ -2,7 +2,7 @@ use Rattle.std.proofs.Common.{ℕ, sym, subst}
 use mathlib.Core.Option.{none}
 use Rattle.atomic_table.specs.Table.{Allows, Me, step}
 use Rattle.msg_depot.specs.declared.view.View.{View}
-use Rattle.msg_depot.specs.Rules.{RetiredNow}
+use Rattle.msg_depot.specs.Moves.{RetiredNow}
 use Rattle.msg_depot.proofs.Moves.{Rule}
 use Rattle.msg_depot.proofs.KeeperMoves.{retires}
 use Rattle.msg_depot.proofs.steps.retire.Goals as goal

@@ -2,7 +2,7 @@ use Rattle.std.proofs.Common.{◌+◌, ◌%◌, ◌^◌, ℕ, sym, subst}
 use mathlib.Core.Option.{none}
 use Rattle.atomic_table.specs.Table.{Allows, Me, step}
 use Rattle.msg_depot.specs.declared.view.View.{View}
-use Rattle.msg_depot.specs.Rules.{SealedBy}
+use Rattle.msg_depot.specs.Moves.{SealedBy}
 use Rattle.msg_depot.proofs.Moves.{Rule}
 use Rattle.msg_depot.proofs.KeeperMoves.{seals}
 use Rattle.msg_depot.proofs.steps.seal.Goals as goal

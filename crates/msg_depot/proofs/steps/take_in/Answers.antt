@@ -2,7 +2,8 @@ use Rattle.std.proofs.Common.{◌≡◌, [], sym, ap, ◌∙◌, subst, arith, r
 use mathlib.Core.Option.{none}
 use Rattle.atomic_table.specs.Table.{Allows, Joins, Me, step}
 use Rattle.msg_depot.specs.declared.view.View.{View}
-use Rattle.msg_depot.specs.Rules.{Checked, Fits, taking, nobody, keeping, empty_entry}
+use Rattle.msg_depot.specs.Rules.{Fits, nobody, keeping}
+use Rattle.msg_depot.specs.Moves.{Checked, taking, empty_entry}
 use Rattle.msg_depot.proofs.Moves.{Rule}
 use Rattle.msg_depot.proofs.Totals.{within, elem_is}
 use Rattle.msg_depot.proofs.KeeperMoves.{takes, checks}

@@ -1,7 +1,7 @@
 use Rattle.std.proofs.Common.{◌≡◌, rules}
 use Rattle.mail_world.specs.Depot.{Key}
 use Rattle.block_arena.specs.Calls.{depot_key}
-use Rattle.msg_depot.specs.Rules.{generation_at}
+use Rattle.msg_depot.specs.Moves.{generation_at}
 use Rattle.msg_depot.proofs.Sections.{generation_there, draft_kept}
 use Rattle.msg_depot.proofs.keeper.Keeper.draft.Goals as goal
 
