@@ -3,7 +3,7 @@ use Rattle.std.proofs.Common.{◌≡◌, ◌<◌, ◌≤◌, ◌⊎◌, ℕ, tru
 use Rattle.std.proofs.Math.ListN.{get_or-eq_default}
 use Rattle.crossbeam_channel.specs.Fifo.{Pushes}
 use Rattle.mail_post.specs.declared.rule.Parcel.TheVariants.{Mark}
-use Rattle.mail_post.specs.Parcels.{of, copies, ended}
+use Rattle.mail_post.specs.Parcels.{of, copies, has_mark}
 use Rattle.mail_post.specs.declared.rule.View.{View}
 use Rattle.mail_post.specs.Views.{sender, put}
 use Rattle.mail_post.specs.declared.line.Gone.{Gone}
@@ -28,7 +28,7 @@ module _ {M : Type 0} (lane : M → ℕ) where
     fits k low = let e : length w.known ≡ length sent = ap length known in omega arith
 
     of_no_lane : (k : ℕ) → lanes ≤ k → of lane k (copies v.got) ≡ slice_index_or sent k []
-    of_no_lane k le = of-copies lane k v.got ∙ ap copies ((h.1 k).1 le) ∙ sym (get_or-eq_default sent [] {n = k} (omega arith))
+    of_no_lane k le = of-copies lane k v.got ∙ ap copies ((h.fair k).1 le) ∙ sym (get_or-eq_default sent [] {n = k} (omega arith))
 
     pub some_taken : TookSome lane (copies v.got) sent
     some_taken k = ⊎_elim
@@ -42,7 +42,7 @@ module _ {M : Type 0} (lane : M → ℕ) where
     pub all_taken : gone ≡ Some Closed → TookAll lane (copies v.got) sent
     all_taken is k = ⊎_elim
         (λ (low : k < lanes).
-        let there : ended k v.got ≡ true = count_all (λ j. ended j v.got) lanes (h.2 ∙ h.3 is) k low in
-        ap (λ g. of lane k (copies g)) (sym got) ∙ (agrees k (fits k low)).1 (ap (ended k) got ∙ there) ∙ ap (λ l. slice_index_or l k []) known)
+        let there : has_mark k v.got ≡ true = count_all (λ j. has_mark j v.got) lanes (h.counted ∙ h.all is) k low in
+        ap (λ g. of lane k (copies g)) (sym got) ∙ (agrees k (fits k low)).1 (ap (has_mark k) got ∙ there) ∙ ap (λ l. slice_index_or l k []) known)
         (λ (le : lanes ≤ k). of_no_lane k le)
         (below? k lanes)

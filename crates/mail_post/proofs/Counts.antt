@@ -3,10 +3,10 @@ use Rattle.std.proofs.Common.{◌≡◌, ◌≢◌, ◌+◌, ◌≤◌, ◌<◌,
 use Rattle.std.proofs.lemmas.Bool.{eq-eqb, ne_eqb, false_from_ne_true}
 use Rattle.mail_post.specs.declared.rule.Parcel.{Parcel}
 use Rattle.mail_post.specs.declared.rule.Parcel.TheVariants.{Copy, Mark}
-use Rattle.mail_post.specs.Parcels.{lane_of, part, ended}
-use Rattle.mail_post.specs.Rule.{Fair}
+use Rattle.mail_post.specs.Parcels.{lane_of, part, has_mark}
+use Rattle.mail_post.specs.Rule.{IsFair}
 use Rattle.mail_post.specs.Line.{count_lanes}
-use Rattle.mail_post.proofs.Parcels.{part-append, part-here, ended-append, ended-part, front-ended}
+use Rattle.mail_post.proofs.Parcels.{part-append, part-here, has_mark-append, has_mark-part, front-has_mark}
 
 or_false : (b : Bool) → (b || false) ≡ b
 or_false true = refl
@@ -70,26 +70,26 @@ module _ {M : Type 0} (lane : M → ℕ) where
 
   -- the marks whose lanes are known
   abbrev pub count_marks : List (Parcel M) → ℕ → ℕ
-  count_marks got n = count_lanes (λ k. ended k got) n
+  count_marks got n = count_lanes (λ k. has_mark k got) n
 
   pub after_copy : (got : List (Parcel M)) (m : M) (n : ℕ) → count_marks (got ++ Copy m ∷ []) n ≡ count_marks got n
-  after_copy got m n = count_same (λ k. ended k got) (λ k. ended k (got ++ Copy m ∷ [])) n (λ k. ended-append lane k got (Copy m ∷ []) ∙ or_false (ended k got))
+  after_copy got m n = count_same (λ k. has_mark k got) (λ k. has_mark k (got ++ Copy m ∷ [])) n (λ k. has_mark-append lane k got (Copy m ∷ []) ∙ or_false (has_mark k got))
 
   -- the last parcel taken is one of the lanes'
-  pub last_fits : (got : List (Parcel M)) (x : Parcel M) (n : ℕ) → Fair lane n (got ++ x ∷ []) → lane_of lane x < n
+  pub last_fits : (got : List (Parcel M)) (x : Parcel M) (n : ℕ) → IsFair lane n (got ++ x ∷ []) → lane_of lane x < n
   last_fits got x n fair =
       let k : ℕ = lane_of lane x in
       let both : part lane k (got ++ x ∷ []) ≡ part lane k got ++ x ∷ [] = part-append lane k got (x ∷ []) ∙ ap (λ l. part lane k got ++ l) (part-here lane k x refl) in
       ⊎_elim (λ (low : k < n). low) (λ (le : n ≤ k). absurd (not_nil (part lane k got) x (sym both ∙ (fair k).1 le))) (below? k n)
 
-  pub after_mark : (got : List (Parcel M)) (j n : ℕ) → Fair lane n (got ++ Mark j ∷ []) → count_marks (got ++ Mark j ∷ []) n ≡ count_marks got n + 1
+  pub after_mark : (got : List (Parcel M)) (j n : ℕ) → IsFair lane n (got ++ Mark j ∷ []) → count_marks (got ++ Mark j ∷ []) n ≡ count_marks got n + 1
   after_mark got j n fair =
       let both : part lane j (got ++ Mark j ∷ []) ≡ part lane j got ++ Mark j ∷ [] = part-append lane j got (Mark j ∷ []) ∙ ap (λ l. part lane j got ++ l) (part-here lane j (Mark j) refl) in
-      let open_before : ended j got ≡ false = false_from_ne_true (ended j got)
-      (λ h. not_nil [] (Mark j) (front-ended lane j (part lane j got) (Mark j ∷ []) (fair j).0.0 (fair j).0.1 (sym both ∙ (fair j).0.2) (ended-part lane j got ∙ h))) in
-      count_more (λ k. ended k got) (λ k. ended k (got ++ Mark j ∷ [])) j n (last_fits got (Mark j) n fair) open_before
-      (ended-append lane j got (Mark j ∷ []) ∙ (λ i. ended j got || (eq-eqb j j refl i || false)) ∙ or_true (ended j got))
-      (λ k other. ended-append lane k got (Mark j ∷ []) ∙ (λ i. ended k got || (ne_eqb j k (λ t. other (sym t)) i || false)) ∙ or_false (ended k got))
+      let open_before : has_mark j got ≡ false = false_from_ne_true (has_mark j got)
+      (λ h. not_nil [] (Mark j) (front-has_mark lane j (part lane j got) (Mark j ∷ []) (fair j).0.0 (fair j).0.1 (sym both ∙ (fair j).0.2) (has_mark-part lane j got ∙ h))) in
+      count_more (λ k. has_mark k got) (λ k. has_mark k (got ++ Mark j ∷ [])) j n (last_fits got (Mark j) n fair) open_before
+      (has_mark-append lane j got (Mark j ∷ []) ∙ (λ i. has_mark j got || (eq-eqb j j refl i || false)) ∙ or_true (has_mark j got))
+      (λ k other. has_mark-append lane k got (Mark j ∷ []) ∙ (λ i. has_mark k got || (ne_eqb j k (λ t. other (sym t)) i || false)) ∙ or_false (has_mark k got))
 
   pub no_marks : (n : ℕ) → count_marks [] n ≡ 0
   no_marks zero = refl

@@ -10,9 +10,9 @@ use Rattle.mail_post.specs.declared.rule.Parcel.{Parcel}
 use Rattle.mail_post.specs.declared.rule.Parcel.TheVariants.{Copy, Mark}
 use Rattle.mail_post.specs.declared.rule.View.{View}
 use Rattle.mail_post.specs.Views.{sender, taker, knower, settled, put, took}
-use Rattle.mail_post.specs.Parcels.{lane_of, part, copies, whole}
-use Rattle.mail_post.specs.Rule.{FitsKnown, Fits, Carries, Fair, Agrees}
-use Rattle.mail_post.proofs.Parcels.{part-append, part-here, part-else, of-copies, copies-append, copies-whole, whole-put, whole-end, front, all-there, ended-part}
+use Rattle.mail_post.specs.Parcels.{lane_of, part, copies, all_of_lane}
+use Rattle.mail_post.specs.Rule.{FitsKnown, Fits, Carries, IsFair, Agrees}
+use Rattle.mail_post.proofs.Parcels.{part-append, part-here, part-else, of-copies, copies-append, copies-all_of_lane, all_of_lane-put, all_of_lane-end, front, all-there, has_mark-part}
 
 module _ {M : Type 0} (lane : M → ℕ) where
   -- f, but a at k
@@ -84,15 +84,15 @@ module _ {M : Type 0} (lane : M → ℕ) where
   }
 
   -- a lane's pass puts x, after which it was told that s was accepted
-  moves : (n pass : ℕ) (v : View M) (x : Parcel M) (s : List M) (b : Bool) → v.sends ≡ true → lane_of lane x ≡ v.lane → whole v.lane s b ≡ whole v.lane v.sent v.shut ++ x ∷ []
+  moves : (n pass : ℕ) (v : View M) (x : Parcel M) (s : List M) (b : Bool) → v.sends ≡ true → lane_of lane x ≡ v.lane → all_of_lane v.lane s b ≡ all_of_lane v.lane v.sent v.shut ++ x ∷ []
       → Pushes (Carries lane) n pass v x (λ w. w ≡ sender v.lane s b)
   moves n pass v x s b may is grown items views _ h at =
       let w : View M = sender v.lane s b in
       let mine = (h.fits pass v at).0 may in
       let sent : ℕ → List M = changed h.sent v.lane s in
       let closed : ℕ → Bool = changed h.closed v.lane b in
-      let here : whole v.lane (sent v.lane) (closed v.lane) ≡ whole v.lane (h.sent v.lane) (h.closed v.lane) ++ x ∷ [] =
-      (λ i. whole v.lane (changed_here h.sent v.lane s i) (changed_here h.closed v.lane b i)) ∙ grown ∙ (λ i. whole v.lane (sym mine.1 i) (sym mine.2 i) ++ x ∷ []) in
+      let here : all_of_lane v.lane (sent v.lane) (closed v.lane) ≡ all_of_lane v.lane (h.sent v.lane) (h.closed v.lane) ++ x ∷ [] =
+      (λ i. all_of_lane v.lane (changed_here h.sent v.lane s i) (changed_here h.closed v.lane b i)) ∙ grown ∙ (λ i. all_of_lane v.lane (sym mine.1 i) (sym mine.2 i) ++ x ∷ []) in
       let taken : (k : ℕ) → h.seat k ≡ none → k ≢ v.lane = λ k e q. some-ne-none pass (sym mine.0 ∙ ap h.seat (sym q) ∙ e) in (
         w,
         record {
@@ -102,7 +102,7 @@ module _ {M : Type 0} (lane : M → ℕ) where
           reader = h.reader;
           lanes = h.lanes;
           got = h.got;
-          order = grows h.got items x (λ j. whole j (h.sent j) (h.closed j)) (λ j. whole j (sent j) (closed j)) v.lane is h.order here (λ j other i. whole j (changed_else h.sent v.lane s j other i) (changed_else h.closed v.lane b j other i));
+          order = grows h.got items x (λ j. all_of_lane j (h.sent j) (h.closed j)) (λ j. all_of_lane j (sent j) (closed j)) v.lane is h.order here (λ j other i. all_of_lane j (changed_else h.sent v.lane s j other i) (changed_else h.closed v.lane b j other i));
           others = λ k le. let q = h.others k le in let other = taken k q.0 in (q.0, changed_else h.sent v.lane s k other ∙ q.1, changed_else h.closed v.lane b k other ∙ q.2);
           fits = all_set (Fits h.seat sent closed h.reader h.lanes h.got) views pass w
               ((λ _. (mine.0, changed_here h.sent v.lane s, changed_here h.closed v.lane b)), (λ p. absurd (true≢false (sym p))), (λ k l. absurd (omega arith)))
@@ -118,23 +118,23 @@ module _ {M : Type 0} (lane : M → ℕ) where
 
   -- a copy of the lane is accepted
   pub offers : (n pass : ℕ) (v : View M) (p : M) → v.sends ≡ true → v.shut ≡ false → lane p ≡ v.lane → Pushes (Carries lane) n pass v (Copy p) (λ w. w ≡ put v (Copy p))
-  offers n pass v p may not_shut is = moves n pass v (Copy p) (v.sent ++ p ∷ []) false may is (sym (whole-put lane v.lane v.sent (p)) ∙ (λ i. whole v.lane v.sent (sym not_shut i) ++ Copy (p) ∷ []))
+  offers n pass v p may not_shut is = moves n pass v (Copy p) (v.sent ++ p ∷ []) false may is (sym (all_of_lane-put lane v.lane v.sent (p)) ∙ (λ i. all_of_lane v.lane v.sent (sym not_shut i) ++ Copy (p) ∷ []))
 
   -- the lane's mark is put
   pub marks : (n pass : ℕ) (v : View M) → v.sends ≡ true → v.shut ≡ false → Pushes (Carries lane) n pass v (Mark v.lane) (λ w. w ≡ put v (Mark v.lane))
-  marks n pass v may not_shut = moves n pass v (Mark v.lane) v.sent true may refl (sym (whole-end lane v.lane v.sent) ∙ (λ i. whole v.lane v.sent (sym not_shut i) ++ Mark v.lane ∷ []))
+  marks n pass v may not_shut = moves n pass v (Mark v.lane) v.sent true may refl (sym (all_of_lane-end lane v.lane v.sent) ∙ (λ i. all_of_lane v.lane v.sent (sym not_shut i) ++ Mark v.lane ∷ []))
 
   -- the oldest parcel is taken
-  pub takes : (pass : ℕ) (v : View M) → v.takes ≡ true → Pops (Carries lane) pass v (λ x w. (w ≡ took v x) × Fair lane w.lanes w.got)
+  pub takes : (pass : ℕ) (v : View M) → v.takes ≡ true → Pops (Carries lane) pass v (λ x w. (w ≡ took v x) × IsFair lane w.lanes w.got)
   takes pass v may x items views h at =
       let w : View M = took v x in
       let mine = (h.fits pass v at).1 may in
       let got : List (Parcel M) = h.got ++ x ∷ [] in
-      let there : (k : ℕ) → part lane k (got ++ items) ≡ whole k (h.sent k) (h.closed k) = λ k. ap (part lane k) (append_assoc h.got (x ∷ []) items) ∙ h.order k in
-      let split : (k : ℕ) → part lane k got ++ part lane k items ≡ whole k (h.sent k) (h.closed k) = λ k. sym (part-append lane k got items) ∙ there k in
-      let fair : Fair lane h.lanes got = λ k. (
+      let there : (k : ℕ) → part lane k (got ++ items) ≡ all_of_lane k (h.sent k) (h.closed k) = λ k. ap (part lane k) (append_assoc h.got (x ∷ []) items) ∙ h.order k in
+      let split : (k : ℕ) → part lane k got ++ part lane k items ≡ all_of_lane k (h.sent k) (h.closed k) = λ k. sym (part-append lane k got items) ∙ there k in
+      let fair : IsFair lane h.lanes got = λ k. (
         front lane k (part lane k got) (part lane k items) (h.sent k) (h.closed k) (split k),
-        λ le. let q = h.others k le in nil_left (part lane k got) (part lane k items) (split k ∙ (λ i. whole k (q.1 i) (q.2 i))),
+        λ le. let q = h.others k le in nil_left (part lane k got) (part lane k items) (split k ∙ (λ i. all_of_lane k (q.1 i) (q.2 i))),
       ) in (
         w,
         record {
@@ -150,7 +150,7 @@ module _ {M : Type 0} (lane : M → ℕ) where
               ((λ p. absurd (true≢false (sym p))), (λ _. (mine.0, mine.1, ap (λ l. l ++ x ∷ []) mine.2)), (λ k l. absurd (omega arith)))
               (λ j u apart e. let f = h.fits j u e in (f.0, (λ p. absurd (apart ((f.1 p).0 ∙ sym mine.0))), f.2));
         },
-        (refl, subst (λ (y : ℕ × List (Parcel M)). Fair lane y.0 y.1) (λ i. (sym mine.1 i, sym mine.2 i ++ x ∷ [])) fair),
+        (refl, subst (λ (y : ℕ × List (Parcel M)). IsFair lane y.0 y.1) (λ i. (sym mine.1 i, sym mine.2 i ++ x ∷ [])) fair),
       )
 
   -- the next lane gets its pass
@@ -272,10 +272,10 @@ module _ {M : Type 0} (lane : M → ℕ) where
   learns pass v may items views h at k l =
       let f = h.fits pass v at in
       let got : v.got ≡ h.got = (f.1 may).2 in
-      let split : part lane k v.got ++ part lane k items ≡ whole k (h.sent k) (h.closed k) = (λ i. part lane k (got i) ++ part lane k items) ∙ sym (part-append lane k h.got items) ∙ h.order k in
+      let split : part lane k v.got ++ part lane k items ≡ all_of_lane k (h.sent k) (h.closed k) = (λ i. part lane k (got i) ++ part lane k items) ∙ sym (part-append lane k h.got items) ∙ h.order k in
       let sent : h.sent k ≡ slice_index_or v.known k [] = sym (f.2 k l).2 in
       let rest : List M = copies (part lane k items) in
-      let both : copies (part lane k v.got) ++ rest ≡ h.sent k = sym (copies-append lane (part lane k v.got) (part lane k items)) ∙ ap copies split ∙ copies-whole lane k (h.sent k) (h.closed k) in (
+      let both : copies (part lane k v.got) ++ rest ≡ h.sent k = sym (copies-append lane (part lane k v.got) (part lane k items)) ∙ ap copies split ∙ copies-all_of_lane lane k (h.sent k) (h.closed k) in (
         (rest, (λ i. of-copies lane k v.got i ++ rest) ∙ both ∙ sent),
-        (λ mark. of-copies lane k v.got ∙ all-there lane k (part lane k v.got) (part lane k items) (h.sent k) (h.closed k) split (ended-part lane k v.got ∙ mark) ∙ sent),
+        (λ mark. of-copies lane k v.got ∙ all-there lane k (part lane k v.got) (part lane k items) (h.sent k) (h.closed k) split (has_mark-part lane k v.got ∙ mark) ∙ sent),
       )

@@ -6,39 +6,39 @@ use Rattle.mail_post.specs.declared.rule.Parcel.TheVariants.{Copy, Mark}
 use Rattle.mail_post.specs.declared.rule.View.{View}
 use Rattle.mail_post.specs.declared.line.Gone.{Gone}
 use Rattle.mail_post.specs.declared.line.Gone.TheVariants.{Closed}
-use Rattle.mail_post.specs.Parcels.{of, part, copies, ended, whole}
+use Rattle.mail_post.specs.Parcels.{of, part, copies, has_mark, all_of_lane}
 use Rattle.mail_post.specs.Order.{IsInOrder, IsNothingElse, NamesAll}
-use Rattle.mail_post.specs.Line.{IsInbox, with, named}
-use Rattle.mail_post.proofs.Parcels.{of-copies, copies-whole, ended-part}
+use Rattle.mail_post.specs.Line.{IsInbox, with, before_mark}
+use Rattle.mail_post.proofs.Parcels.{of-copies, copies-all_of_lane, has_mark-part}
 use Rattle.mail_post.proofs.Counts.{count_all}
 
 module _ {M : Type 0} (lane : M → ℕ) where
-  ended-whole : (k : ℕ) (s : List M) (b : Bool) → ended k (whole k s b) ≡ b
-  ended-whole k [] false = refl
-  ended-whole k [] true = ap (λ t. t || false) (eq-eqb k k refl)
-  ended-whole k (m ∷ s) b = ended-whole k s b
+  has_mark-all_of_lane : (k : ℕ) (s : List M) (b : Bool) → has_mark k (all_of_lane k s b) ≡ b
+  has_mark-all_of_lane k [] false = refl
+  has_mark-all_of_lane k [] true = ap (λ t. t || false) (eq-eqb k k refl)
+  has_mark-all_of_lane k (m ∷ s) b = has_mark-all_of_lane k s b
 
-  named_copy : (k : ℕ) (m : M) (b : Bool) (xs : List (Parcel M)) → named lane k (part lane k xs) ≡ named lane k xs → (lane m == k) ≡ b → named lane k (cond b (Copy m ∷ part lane k xs) (part lane k xs)) ≡ cond b (with m (named lane k xs)) (named lane k xs)
-  named_copy k m true xs more e = (λ i. cond (e i) (with m (named lane k (part lane k xs))) (named lane k (part lane k xs))) ∙ ap (with m) more
+  named_copy : (k : ℕ) (m : M) (b : Bool) (xs : List (Parcel M)) → before_mark lane k (part lane k xs) ≡ before_mark lane k xs → (lane m == k) ≡ b → before_mark lane k (cond b (Copy m ∷ part lane k xs) (part lane k xs)) ≡ cond b (with m (before_mark lane k xs)) (before_mark lane k xs)
+  named_copy k m true xs more e = (λ i. cond (e i) (with m (before_mark lane k (part lane k xs))) (before_mark lane k (part lane k xs))) ∙ ap (with m) more
   named_copy k m false xs more e = more
 
-  named_mark : (k j : ℕ) (b : Bool) (xs : List (Parcel M)) → named lane k (part lane k xs) ≡ named lane k xs → (j == k) ≡ b → named lane k (cond b (Mark j ∷ part lane k xs) (part lane k xs)) ≡ cond b (Some []) (named lane k xs)
-  named_mark k j true xs more e = λ i. cond (e i) (Some []) (named lane k (part lane k xs))
+  named_mark : (k j : ℕ) (b : Bool) (xs : List (Parcel M)) → before_mark lane k (part lane k xs) ≡ before_mark lane k xs → (j == k) ≡ b → before_mark lane k (cond b (Mark j ∷ part lane k xs) (part lane k xs)) ≡ cond b (Some []) (before_mark lane k xs)
+  named_mark k j true xs more e = λ i. cond (e i) (Some []) (before_mark lane k (part lane k xs))
   named_mark k j false xs more e = more
 
-  named-part : (k : ℕ) (xs : List (Parcel M)) → named lane k (part lane k xs) ≡ named lane k xs
-  named-part k [] = refl
-  named-part k (Copy m ∷ xs) = named_copy k m (lane m == k) xs (named-part k xs) refl
-  named-part k (Mark j ∷ xs) = named_mark k j (j == k) xs (named-part k xs) refl
+  before_mark-part : (k : ℕ) (xs : List (Parcel M)) → before_mark lane k (part lane k xs) ≡ before_mark lane k xs
+  before_mark-part k [] = refl
+  before_mark-part k (Copy m ∷ xs) = named_copy k m (lane m == k) xs (before_mark-part k xs) refl
+  before_mark-part k (Mark j ∷ xs) = named_mark k j (j == k) xs (before_mark-part k xs) refl
 
   -- all of the steps are of lane k
   abbrev AreOf : ℕ → List M → Type 0
   AreOf k [] = Unit {0}
   AreOf k (m ∷ ms) = (lane m ≡ k) × AreOf k ms
 
-  named-whole : (k : ℕ) (s : List M) → AreOf k s → named lane k (whole k s true) ≡ Some s
-  named-whole k [] h = λ i. cond (eq-eqb k k refl i) (Some []) None
-  named-whole k (m ∷ s) h = (λ i. cond (eq-eqb (lane m) k h.0 i) (with m (named lane k (whole k s true))) (named lane k (whole k s true))) ∙ ap (with m) (named-whole k s h.1)
+  before_mark-all_of_lane : (k : ℕ) (s : List M) → AreOf k s → before_mark lane k (all_of_lane k s true) ≡ Some s
+  before_mark-all_of_lane k [] h = λ i. cond (eq-eqb k k refl i) (Some []) None
+  before_mark-all_of_lane k (m ∷ s) h = (λ i. cond (eq-eqb (lane m) k h.0 i) (with m (before_mark lane k (all_of_lane k s true))) (before_mark lane k (all_of_lane k s true))) ∙ ap (with m) (before_mark-all_of_lane k s h.1)
 
   are_of_copy : (k : ℕ) (m : M) (xs : List (Parcel M)) (b : Bool) → AreOf k (copies (part lane k xs)) → (lane m == k) ≡ b → AreOf k (copies (cond b (Copy m ∷ part lane k xs) (part lane k xs)))
   are_of_copy k m xs true h e = (eqb-true (lane m) k e, h)
@@ -54,20 +54,20 @@ module _ {M : Type 0} (lane : M → ℕ) where
   are_of_part k (Mark j ∷ xs) = are_of_mark k j xs (j == k) (are_of_part k xs)
 
   -- a receiver that has taken every mark has taken what the marks name
-  pub drained : (lanes marks : ℕ) (gone : Option Gone) (v : View M) → IsInbox lane lanes marks gone v → gone ≡ Some Closed → (k : ℕ) → k < lanes → named lane k v.got ≡ Some (of lane k (copies v.got))
+  pub drained : (lanes marks : ℕ) (gone : Option Gone) (v : View M) → IsInbox lane lanes marks gone v → gone ≡ Some Closed → (k : ℕ) → k < lanes → before_mark lane k v.got ≡ Some (of lane k (copies v.got))
   drained lanes marks why v h is k low =
-      let there : ended k v.got ≡ true = count_all (λ j. ended j v.got) lanes (h.2 ∙ h.3 is) k low in
-      let s : List M = (h.1 k).0.0 in
-      let b : Bool = (h.1 k).0.1 in
-      let is_whole : part lane k v.got ≡ whole k s b = (h.1 k).0.2 in
-      let shut : b ≡ true = sym (ended-whole k s b) ∙ ap (ended k) (sym is_whole) ∙ ended-part lane k v.got ∙ there in
-      let all : part lane k v.got ≡ whole k s true = is_whole ∙ ap (whole k s) shut in
-      let mine : copies (part lane k v.got) ≡ s = ap copies all ∙ copies-whole lane k s true in
-      sym (named-part k v.got) ∙ ap (named lane k) all ∙ named-whole k s (subst (AreOf k) mine (are_of_part k v.got)) ∙ ap Some (sym mine ∙ sym (of-copies lane k v.got))
+      let there : has_mark k v.got ≡ true = count_all (λ j. has_mark j v.got) lanes (h.counted ∙ h.all is) k low in
+      let s : List M = (h.fair k).0.0 in
+      let b : Bool = (h.fair k).0.1 in
+      let is_whole : part lane k v.got ≡ all_of_lane k s b = (h.fair k).0.2 in
+      let shut : b ≡ true = sym (has_mark-all_of_lane k s b) ∙ ap (has_mark k) (sym is_whole) ∙ has_mark-part lane k v.got ∙ there in
+      let all : part lane k v.got ≡ all_of_lane k s true = is_whole ∙ ap (all_of_lane k s) shut in
+      let mine : copies (part lane k v.got) ≡ s = ap copies all ∙ copies-all_of_lane lane k s true in
+      sym (before_mark-part k v.got) ∙ ap (before_mark lane k) all ∙ before_mark-all_of_lane k s (subst (AreOf k) mine (are_of_part k v.got)) ∙ ap Some (sym mine ∙ sym (of-copies lane k v.got))
 
   -- the rule in other words
   pub in_order : IsInOrder lane
-  in_order items views h k = of-copies lane k (h.got ++ items) ∙ ap copies (h.order k) ∙ copies-whole lane k (h.sent k) (h.closed k)
+  in_order items views h k = of-copies lane k (h.got ++ items) ∙ ap copies (h.order k) ∙ copies-all_of_lane lane k (h.sent k) (h.closed k)
 
   pub nothing_else : IsNothingElse lane
   nothing_else items views h k le = in_order items views h k ∙ (h.others k le).1
@@ -75,5 +75,5 @@ module _ {M : Type 0} (lane : M → ℕ) where
   pub names_all : NamesAll lane
   names_all items views h k is =
       let xs : List (Parcel M) = h.got ++ items in
-      let mine : copies (part lane k xs) ≡ h.sent k = ap copies (h.order k) ∙ copies-whole lane k (h.sent k) (h.closed k) in
-      sym (named-part k xs) ∙ ap (named lane k) (h.order k ∙ ap (whole k (h.sent k)) is) ∙ named-whole k (h.sent k) (subst (AreOf k) mine (are_of_part k xs))
+      let mine : copies (part lane k xs) ≡ h.sent k = ap copies (h.order k) ∙ copies-all_of_lane lane k (h.sent k) (h.closed k) in
+      sym (before_mark-part k xs) ∙ ap (before_mark lane k) (h.order k ∙ ap (all_of_lane k (h.sent k)) is) ∙ before_mark-all_of_lane k (h.sent k) (subst (AreOf k) mine (are_of_part k xs))

@@ -1,16 +1,14 @@
 -- The steps of one lane among those of all.
 use Rattle.std.proofs.Common.{◌≡◌, ◌≢◌, ◌==◌, ℕ, Bool, true, false, ◌||◌, cond, List, [], ◌∷◌, ◌++◌, refl, sym, ap, ◌∙◌, true≢false, append-nil}
 use Rattle.std.proofs.lemmas.Bool.{eq-eqb, ne_eqb, cond-true, cond-false}
+use Rattle.std.proofs.lemmas.List.Elements.{filter-append}
 use Rattle.mail_post.specs.declared.rule.Parcel.{Parcel}
 use Rattle.mail_post.specs.declared.rule.Parcel.TheVariants.{Copy, Mark}
-use Rattle.mail_post.specs.Parcels.{of, lane_of, part, copies, ended, whole}
+use Rattle.mail_post.specs.Parcels.{of, lane_of, part, copies, has_mark, all_of_lane}
 
 module _ {M : Type 0} (lane : M → ℕ) where
   pub part-append : (k : ℕ) (xs ys : List (Parcel M)) → part lane k (xs ++ ys) ≡ part lane k xs ++ part lane k ys
-  part-append k [] ys = refl
-  part-append k (x ∷ xs) ys =
-      let more : part lane k (xs ++ ys) ≡ part lane k xs ++ part lane k ys = part-append k xs ys in
-      elim (lane_of lane x == k) as (λ b. cond b (x ∷ part lane k (xs ++ ys)) (part lane k (xs ++ ys)) ≡ cond b (x ∷ part lane k xs) (part lane k xs) ++ part lane k ys) [ true ↦ ap (λ l. x ∷ l) more | false ↦ more ]
+  part-append k xs ys = filter-append (λ x. lane_of lane x == k) xs ys
 
   pub part-here : (k : ℕ) (x : Parcel M) → lane_of lane x ≡ k → part lane k (x ∷ []) ≡ x ∷ []
   part-here k x e = cond-true (lane_of lane x == k) (x ∷ []) [] (eq-eqb (lane_of lane x) k e)
@@ -32,39 +30,39 @@ module _ {M : Type 0} (lane : M → ℕ) where
       let more : of lane k (copies xs) ≡ copies (part lane k xs) = of-copies k xs in
       elim (j == k) as (λ b. of lane k (copies xs) ≡ copies (cond b (Mark j ∷ part lane k xs) (part lane k xs))) [ true ↦ more | false ↦ more ]
 
-  pub copies-whole : (k : ℕ) (s : List M) (b : Bool) → copies (whole k s b) ≡ s
-  copies-whole k [] false = refl
-  copies-whole k [] true = refl
-  copies-whole k (n ∷ ns) b = ap (λ l. n ∷ l) (copies-whole k ns b)
+  pub copies-all_of_lane : (k : ℕ) (s : List M) (b : Bool) → copies (all_of_lane k s b) ≡ s
+  copies-all_of_lane k [] false = refl
+  copies-all_of_lane k [] true = refl
+  copies-all_of_lane k (n ∷ ns) b = ap (λ l. n ∷ l) (copies-all_of_lane k ns b)
 
-  pub ended-append : (k : ℕ) (xs ys : List (Parcel M)) → ended k (xs ++ ys) ≡ (ended k xs || ended k ys)
-  ended-append k [] ys = refl
-  ended-append k (Copy n ∷ xs) ys = ended-append k xs ys
-  ended-append k (Mark j ∷ xs) ys =
-      let more : ended k (xs ++ ys) ≡ (ended k xs || ended k ys) = ended-append k xs ys in
-      elim (j == k) as (λ b. (b || ended k (xs ++ ys)) ≡ ((b || ended k xs) || ended k ys)) [ true ↦ refl | false ↦ more ]
+  pub has_mark-append : (k : ℕ) (xs ys : List (Parcel M)) → has_mark k (xs ++ ys) ≡ (has_mark k xs || has_mark k ys)
+  has_mark-append k [] ys = refl
+  has_mark-append k (Copy n ∷ xs) ys = has_mark-append k xs ys
+  has_mark-append k (Mark j ∷ xs) ys =
+      let more : has_mark k (xs ++ ys) ≡ (has_mark k xs || has_mark k ys) = has_mark-append k xs ys in
+      elim (j == k) as (λ b. (b || has_mark k (xs ++ ys)) ≡ ((b || has_mark k xs) || has_mark k ys)) [ true ↦ refl | false ↦ more ]
 
-  ended_cond : (k j : ℕ) (xs : List (Parcel M)) → ended k (part lane k xs) ≡ ended k xs → (b : Bool) → (j == k) ≡ b → ended k (cond b (Mark j ∷ part lane k xs) (part lane k xs)) ≡ (b || ended k xs)
-  ended_cond k j xs more true e = ap (λ t. t || ended k (part lane k xs)) e
+  ended_cond : (k j : ℕ) (xs : List (Parcel M)) → has_mark k (part lane k xs) ≡ has_mark k xs → (b : Bool) → (j == k) ≡ b → has_mark k (cond b (Mark j ∷ part lane k xs) (part lane k xs)) ≡ (b || has_mark k xs)
+  ended_cond k j xs more true e = ap (λ t. t || has_mark k (part lane k xs)) e
   ended_cond k j xs more false e = more
 
-  pub ended-part : (k : ℕ) (xs : List (Parcel M)) → ended k (part lane k xs) ≡ ended k xs
-  ended-part k [] = refl
-  ended-part k (Copy n ∷ xs) =
-      let more : ended k (part lane k xs) ≡ ended k xs = ended-part k xs in
-      elim (lane n == k) as (λ b. ended k (cond b (Copy n ∷ part lane k xs) (part lane k xs)) ≡ ended k xs) [ true ↦ more | false ↦ more ]
-  ended-part k (Mark j ∷ xs) = ended_cond k j xs (ended-part k xs) (j == k) refl
+  pub has_mark-part : (k : ℕ) (xs : List (Parcel M)) → has_mark k (part lane k xs) ≡ has_mark k xs
+  has_mark-part k [] = refl
+  has_mark-part k (Copy n ∷ xs) =
+      let more : has_mark k (part lane k xs) ≡ has_mark k xs = has_mark-part k xs in
+      elim (lane n == k) as (λ b. has_mark k (cond b (Copy n ∷ part lane k xs) (part lane k xs)) ≡ has_mark k xs) [ true ↦ more | false ↦ more ]
+  has_mark-part k (Mark j ∷ xs) = ended_cond k j xs (has_mark-part k xs) (j == k) refl
 
-  pub whole-put : (k : ℕ) (s : List M) (n : M) → whole k s false ++ Copy n ∷ [] ≡ whole k (s ++ n ∷ []) false
-  whole-put k [] n = refl
-  whole-put k (m ∷ s) n = ap (λ l. Copy m ∷ l) (whole-put k s n)
+  pub all_of_lane-put : (k : ℕ) (s : List M) (n : M) → all_of_lane k s false ++ Copy n ∷ [] ≡ all_of_lane k (s ++ n ∷ []) false
+  all_of_lane-put k [] n = refl
+  all_of_lane-put k (m ∷ s) n = ap (λ l. Copy m ∷ l) (all_of_lane-put k s n)
 
-  pub whole-end : (k : ℕ) (s : List M) → whole k s false ++ Mark k ∷ [] ≡ whole k s true
-  whole-end k [] = refl
-  whole-end k (m ∷ s) = ap (λ l. Copy m ∷ l) (whole-end k s)
+  pub all_of_lane-end : (k : ℕ) (s : List M) → all_of_lane k s false ++ Mark k ∷ [] ≡ all_of_lane k s true
+  all_of_lane-end k [] = refl
+  all_of_lane-end k (m ∷ s) = ap (λ l. Copy m ∷ l) (all_of_lane-end k s)
 
   -- a front of what a lane puts in all is copies, and behind them at most its mark
-  pub front : (k : ℕ) (xs ys : List (Parcel M)) (s : List M) (b : Bool) → xs ++ ys ≡ whole k s b → (t : List M) × (c : Bool) × (xs ≡ whole k t c)
+  pub front : (k : ℕ) (xs ys : List (Parcel M)) (s : List M) (b : Bool) → xs ++ ys ≡ all_of_lane k s b → (t : List M) × (c : Bool) × (xs ≡ all_of_lane k t c)
   front k [] ys s b e = ([], false, refl)
   front k (x ∷ xs) ys [] false e = absurd (cc)
   front k (x ∷ []) ys [] true e = ([], true, cc)
@@ -75,18 +73,18 @@ module _ {M : Type 0} (lane : M → ℕ) where
       (n ∷ more.0, more.1, (λ i. h i ∷ more.2 i))
 
   -- nothing stands behind a lane's mark
-  pub front-ended : (k : ℕ) (xs ys : List (Parcel M)) (s : List M) (b : Bool) → xs ++ ys ≡ whole k s b → ended k xs ≡ true → ys ≡ []
-  front-ended k [] ys s b e h = absurd (true≢false (sym h))
-  front-ended k (x ∷ xs) ys [] false e h = absurd (cc)
-  front-ended k (x ∷ []) ys [] true e h = cc
-  front-ended k (x ∷ y ∷ xs) ys [] true e h = absurd (cc)
-  front-ended k (x ∷ xs) ys (n ∷ ns) b e h =
+  pub front-has_mark : (k : ℕ) (xs ys : List (Parcel M)) (s : List M) (b : Bool) → xs ++ ys ≡ all_of_lane k s b → has_mark k xs ≡ true → ys ≡ []
+  front-has_mark k [] ys s b e h = absurd (true≢false (sym h))
+  front-has_mark k (x ∷ xs) ys [] false e h = absurd (cc)
+  front-has_mark k (x ∷ []) ys [] true e h = cc
+  front-has_mark k (x ∷ y ∷ xs) ys [] true e h = absurd (cc)
+  front-has_mark k (x ∷ xs) ys (n ∷ ns) b e h =
       let i : x ≡ Copy n = cc in
-      let rest : xs ++ ys ≡ whole k ns b = cc in
-      front-ended k xs ys ns b rest (ap (λ y. ended k (y ∷ xs)) (sym i) ∙ h)
+      let rest : xs ++ ys ≡ all_of_lane k ns b = cc in
+      front-has_mark k xs ys ns b rest (ap (λ y. has_mark k (y ∷ xs)) (sym i) ∙ h)
 
   -- all of a lane whose mark is among its steps
-  pub all-there : (k : ℕ) (xs ys : List (Parcel M)) (s : List M) (b : Bool) → xs ++ ys ≡ whole k s b → ended k xs ≡ true → copies xs ≡ s
+  pub all-there : (k : ℕ) (xs ys : List (Parcel M)) (s : List M) (b : Bool) → xs ++ ys ≡ all_of_lane k s b → has_mark k xs ≡ true → copies xs ≡ s
   all-there k xs ys s b e h =
-      let none : ys ≡ [] = front-ended k xs ys s b e h in
-      ap copies (sym (append-nil xs) ∙ ap (λ l. xs ++ l) (sym none) ∙ e) ∙ copies-whole k s b
+      let none : ys ≡ [] = front-has_mark k xs ys s b e h in
+      ap copies (sym (append-nil xs) ∙ ap (λ l. xs ++ l) (sym none) ∙ e) ∙ copies-all_of_lane k s b

@@ -1,7 +1,8 @@
 -- Lanes in threads of their own, once they are joined.
 use Rattle.std.proofs.Common.{◌≡◌, ◌+◌, ◌<◌, ℕ, zero, suc, List, [], ◌∷◌, ◌++◌, length, refl, sym, ap, ◌∙◌, subst, append_assoc, add-zero, arith}
-use Rattle.mail_post.proofs.Senders.{length-fresh}
-use Rattle.mail_post.specs.Line.{Line, Lane, lists, AreLanes, AreLanesFrom, fresh}
+use Rattle.std.proofs.lemmas.List.{map-append}
+use Rattle.mail_post.proofs.Senders.{length-new_lanes}
+use Rattle.mail_post.specs.Line.{Line, Lane, lists, AreLanes, AreLanesFrom, new_lanes}
 use Rattle.mail_post.specs.Relay.{Task, Job, tasks, dues, task_names, lane_names, job_lists, AreOfLane, AreReady, AreJobsFrom}
 
 pub nil_of : {A : Type 0} (xs : List A) → length xs ≡ 0 → xs ≡ []
@@ -10,12 +11,10 @@ nil_of (x ∷ xs) e = absurd (omega arith)
 
 module _ {M : Type 0} where
   lane_names_snoc : (xs : List (Lane M)) (y : Lane M) → lane_names (xs ++ y ∷ []) ≡ lane_names xs ++ (y.line, y.lane) ∷ []
-  lane_names_snoc [] y = refl
-  lane_names_snoc (x ∷ xs) y = ap (λ l. (x.line, x.lane) ∷ l) (lane_names_snoc xs y)
+  lane_names_snoc xs y = map-append (λ x. (x.line, x.lane)) xs (y ∷ [])
 
   lists_snoc : (xs : List (Lane M)) (y : Lane M) → lists (xs ++ y ∷ []) ≡ lists xs ++ y.sent ∷ []
-  lists_snoc [] y = refl
-  lists_snoc (x ∷ xs) y = ap (λ l. x.sent ∷ l) (lists_snoc xs y)
+  lists_snoc xs y = map-append (λ x. x.sent) xs (y ∷ [])
 
   -- one more lane is joined
   pub names_step : (xs ys : List (Lane M)) (y : Lane M) (old new : List (Task M)) (t : Task M) (all : List (Line M × ℕ)) → ys ≡ xs ++ y ∷ [] → old ≡ t ∷ new → y.line ≡ t.line → y.lane ≡ t.lane
@@ -39,9 +38,9 @@ module _ {M : Type 0} where
   fresh_snoc i line [] y h a b e = (a, b ∙ add-zero i, e, tt)
   fresh_snoc i line (x ∷ xs) y h a b e = (h.0, h.1, h.2, fresh_snoc (i + 1) line xs y h.3 a (b ∙ omega arith) e)
 
-  pub are_fresh : (line : Line M) (n : ℕ) → AreFresh 0 line (fresh line n)
+  pub are_fresh : (line : Line M) (n : ℕ) → AreFresh 0 line (new_lanes line n)
   are_fresh line zero = tt
-  are_fresh line (suc n) = fresh_snoc 0 line (fresh line n) (record { line = line; lane = n; sent = [] }) (are_fresh line n) refl (let h = length-fresh line n in omega arith) refl
+  are_fresh line (suc n) = fresh_snoc 0 line (new_lanes line n) (record { line = line; lane = n; sent = [] }) (are_fresh line n) refl (let h = length-new_lanes line n in omega arith) refl
 
   pub are_ready : (lane : M → ℕ) (i : ℕ) (line : Line M) (xs : List (Lane M)) (ps : List (Job M)) → AreFresh i line xs → AreJobsFrom lane i ps → length xs ≡ length ps → AreReady lane xs ps
   are_ready lane i line [] [] h j e = tt
@@ -71,18 +70,18 @@ module _ {M : Type 0} where
   are_lanes line (y ∷ ys) l h = (refl, h.1, subst (λ (a : Line M). AreLanesFrom (0 + 1) a ys) (sym h.0) h.2)
 
   -- what holds of the senders that come back
-  pub back : (line : Line M) (n : ℕ) (xs ys : List (Lane M)) (ps : List (Job M)) (ts : List (Task M)) → xs ≡ fresh line n → n ≡ length ps → ts ≡ tasks xs ps → lane_names ys ≡ task_names ts → AreLanesFrom 0 line ys × (length ys ≡ n)
+  pub back : (line : Line M) (n : ℕ) (xs ys : List (Lane M)) (ps : List (Job M)) (ts : List (Task M)) → xs ≡ new_lanes line n → n ≡ length ps → ts ≡ tasks xs ps → lane_names ys ≡ task_names ts → AreLanesFrom 0 line ys × (length ys ≡ n)
   back line n xs ys ps ts a e b names =
       let f : AreFresh 0 line xs = subst (AreFresh 0 line) (sym a) (are_fresh line n) in
-      let len : length xs ≡ n = ap length a ∙ length-fresh line n in
+      let len : length xs ≡ n = ap length a ∙ length-new_lanes line n in
       let h = back_in_order 0 line xs ys ps f (len ∙ e) (names ∙ ap task_names b) in
       (h.0, h.1 ∙ len)
 
-  pub ready : (lane : M → ℕ) (line : Line M) (n : ℕ) (xs : List (Lane M)) (ps : List (Job M)) → xs ≡ fresh line n → n ≡ length ps → AreJobsFrom lane 0 ps → AreReady lane xs ps
-  ready lane line n xs ps a e j = are_ready lane 0 line xs ps (subst (AreFresh 0 line) (sym a) (are_fresh line n)) j (ap length a ∙ length-fresh line n ∙ e)
+  pub ready : (lane : M → ℕ) (line : Line M) (n : ℕ) (xs : List (Lane M)) (ps : List (Job M)) → xs ≡ new_lanes line n → n ≡ length ps → AreJobsFrom lane 0 ps → AreReady lane xs ps
+  ready lane line n xs ps a e j = are_ready lane 0 line xs ps (subst (AreFresh 0 line) (sym a) (are_fresh line n)) j (ap length a ∙ length-new_lanes line n ∙ e)
 
-  pub due_all : (line : Line M) (n : ℕ) (xs : List (Lane M)) (ps : List (Job M)) → xs ≡ fresh line n → n ≡ length ps → dues (tasks xs ps) ≡ job_lists ps
-  due_all line n xs ps a e = all_due 0 line xs ps (subst (AreFresh 0 line) (sym a) (are_fresh line n)) (ap length a ∙ length-fresh line n ∙ e)
+  pub due_all : (line : Line M) (n : ℕ) (xs : List (Lane M)) (ps : List (Job M)) → xs ≡ new_lanes line n → n ≡ length ps → dues (tasks xs ps) ≡ job_lists ps
+  due_all line n xs ps a e = all_due 0 line xs ps (subst (AreFresh 0 line) (sym a) (are_fresh line n)) (ap length a ∙ length-new_lanes line n ∙ e)
 
   length-tasks : (xs : List (Lane M)) (ps : List (Job M)) → length xs ≡ length ps → length (tasks xs ps) ≡ length ps
   length-tasks [] [] e = refl
@@ -90,5 +89,5 @@ module _ {M : Type 0} where
   length-tasks (x ∷ xs) [] e = refl
   length-tasks (x ∷ xs) (p ∷ ps) e = ap suc (length-tasks xs ps (omega arith))
 
-  pub as_many : (line : Line M) (n : ℕ) (xs : List (Lane M)) (ps : List (Job M)) (ts : List (Task M)) → xs ≡ fresh line n → n ≡ length ps → ts ≡ tasks xs ps → length ts ≡ length ps
-  as_many line n xs ps ts a e b = ap length b ∙ length-tasks xs ps (ap length a ∙ length-fresh line n ∙ e)
+  pub as_many : (line : Line M) (n : ℕ) (xs : List (Lane M)) (ps : List (Job M)) (ts : List (Task M)) → xs ≡ new_lanes line n → n ≡ length ps → ts ≡ tasks xs ps → length ts ≡ length ps
+  as_many line n xs ps ts a e b = ap length b ∙ length-tasks xs ps (ap length a ∙ length-new_lanes line n ∙ e)

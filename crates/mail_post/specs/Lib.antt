@@ -4,5 +4,6 @@ pub mod Rule
 pub mod Line
 pub mod Order
 pub mod Relay
+pub mod Copies
 pub mod Gathering
 pub mod Places

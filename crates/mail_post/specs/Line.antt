@@ -1,5 +1,5 @@
 -- What contracts see of the ends of a channel.
-use Rattle.std.specs.Prelude.{◌≡◌, ◌==◌, ℕ, zero, suc, ◌+◌, ◌<◌, Bool, if◌then◌else◌, slice_index_or, Option, Some, None, Result, Ok, Err, List, [], ◌∷◌, ◌++◌}
+use Rattle.std.specs.Prelude.{◌≡◌, ◌==◌, ℕ, zero, suc, ◌+◌, ◌<◌, Bool, if◌then◌else◌, slice_index_or, Option, Some, None, Result, Ok, Err, List, [], ◌∷◌, ◌++◌, map}
 use Rattle.atomic_table.specs.Seated.{TableId}
 use Rattle.atomic_table.specs.declared.badge.Badge.{Badge}
 use Rattle.crossbeam_channel.specs.declared.flavors.array.Key.{Key}
@@ -9,9 +9,9 @@ use Rattle.mail_post.specs.declared.rule.Parcel.TheVariants.{Copy, Mark}
 use Rattle.mail_post.specs.declared.rule.View.{View}
 use Rattle.mail_post.specs.declared.line.Gone.{Gone}
 use Rattle.mail_post.specs.declared.line.Gone.TheVariants.{Closed}
-use Rattle.mail_post.specs.Parcels.{IsFront, of, copies, ended}
+use Rattle.mail_post.specs.Parcels.{IsStartOf, of, copies, has_mark}
 use Rattle.mail_post.specs.Views.{taker}
-use Rattle.mail_post.specs.Rule.{Fair}
+use Rattle.mail_post.specs.Rule.{IsFair}
 
 -- which channel a token is of: tokens of one channel have one line
 abbrev pub Line : Type 0 → Type 0
@@ -58,44 +58,47 @@ module _ {M : Type 0} where
   taken r = copies r.got
 
   -- the first n lanes, which have sent nothing
-  abbrev pub fresh : Line M → ℕ → List (Lane M)
-  fresh line zero = []
-  fresh line (suc n) = fresh line n ++ record { line = line; lane = n; sent = [] } ∷ []
+  abbrev pub new_lanes : Line M → ℕ → List (Lane M)
+  new_lanes line zero = []
+  new_lanes line (suc n) = new_lanes line n ++ record { line = line; lane = n; sent = [] } ∷ []
+
+  -- the receiver that a channel begins with
+  abbrev pub new_inbox : Line M → ℕ → Inbox M
+  new_inbox line lanes = record { line = line; lanes = lanes; got = []; gone = None }
 
   -- they are of lanes i, i + 1, .. of one channel
   abbrev pub AreLanesFrom : ℕ → Line M → List (Lane M) → Type 0
   AreLanesFrom i line [] = Unit {0}
   AreLanesFrom i line (x ∷ xs) = (x.line ≡ line) × (x.lane ≡ i) × AreLanesFrom (i + 1) line xs
 
+  -- each of the senders is of that channel, and they are in lane order from lane 0 on
+  abbrev pub IsLineOf : Line M → List (Lane M) → Type 0
+  IsLineOf line xs = AreLanesFrom 0 line xs
+
   -- the senders of one channel, in lane order, and at least one
   abbrev pub AreLanes : List (Lane M) → Type 0
   AreLanes [] = ⊥
-  AreLanes (x ∷ xs) = AreLanesFrom 0 x.line (x ∷ xs)
+  AreLanes (x ∷ xs) = IsLineOf x.line (x ∷ xs)
 
   -- what each was told was accepted
   abbrev pub lists : List (Lane M) → List (List M)
-  lists [] = []
-  lists (x ∷ xs) = x.sent ∷ lists xs
+  lists xs = map (λ x. x.sent) xs
 
   module _ (lane : M → ℕ) where
-    -- the list that the mark of lane k names: the messages of k that were put before it
-    abbrev pub named : ℕ → List (Parcel M) → Option (List M)
-    named k [] = None
-    named k (Copy m ∷ xs) = if lane m == k then with m (named k xs) else named k xs
-    named k (Mark j ∷ xs) = if j == k then Some [] else named k xs
+    -- the messages of lane k in front of its mark
+    abbrev pub before_mark : ℕ → List (Parcel M) → Option (List M)
+    before_mark k [] = None
+    before_mark k (Copy m ∷ xs) = if lane m == k then with m (before_mark k xs) else before_mark k xs
+    before_mark k (Mark j ∷ xs) = if j == k then Some [] else before_mark k xs
 
-    -- what a receiver keeps of what its pass knows: the marks taken are counted, and it is closed only with those of all lanes
-    abbrev pub IsInbox : ℕ → ℕ → Option Gone → View M → Type 0
-    IsInbox lanes marks gone v =
-        (v ≡ taker lanes v.got) × Fair lane lanes v.got × (count_lanes (λ k. ended k v.got) lanes ≡ marks) × (gone ≡ Some Closed → marks ≡ lanes)
-
-    -- all lanes' marks were taken, and all that they name
+    -- all lanes' marks were taken, and no message of a lane behind its mark. A mark carries its lane's number alone; that the messages in
+    -- front of it are all that the lane was told was accepted is the law NamesAll
     abbrev pub IsDrained : Inbox M → Type 0
-    IsDrained r = (k : ℕ) → k < r.lanes → named k r.got ≡ Some (of lane k (taken r))
+    IsDrained r = (k : ℕ) → k < r.lanes → before_mark k r.got ≡ Some (of lane k (taken r))
 
-    -- what was taken of each lane is a front of what it was told was accepted
+    -- what was taken of each lane is the start of what it was told was accepted
     abbrev pub TookSome : List M → List (List M) → Type 0
-    TookSome ms sent = (k : ℕ) → IsFront (of lane k ms) (slice_index_or sent k [])
+    TookSome ms sent = (k : ℕ) → IsStartOf (of lane k ms) (slice_index_or sent k [])
 
     -- what was taken of each lane is all that it was told was accepted, and nothing was taken of another
     abbrev pub TookAll : List M → List (List M) → Type 0
@@ -106,3 +109,10 @@ module _ {M : Type 0} where
     IsNext old new None = (new.gone ≡ None) × (taken new ≡ taken old)
     IsNext old new (Some (Ok post)) = (new.gone ≡ None) × (taken new ≡ taken old ++ post ∷ []) × (lane post < old.lanes)
     IsNext old new (Some (Err why)) = (new.gone ≡ Some why) × (taken new ≡ taken old) × (why ≡ Closed → IsDrained new)
+
+-- what a receiver keeps of what its pass knows: the marks taken are counted, and it is closed only with those of all lanes
+pub record IsInbox {M : Type 0} (lane : M → ℕ) (lanes marks : ℕ) (gone : Option Gone) (v : View M) : Type 0 where
+  pub knows : v ≡ taker lanes v.got
+  pub fair : IsFair lane lanes v.got
+  pub counted : count_lanes (λ k. has_mark k v.got) lanes ≡ marks
+  pub all : gone ≡ Some Closed → marks ≡ lanes

@@ -6,7 +6,7 @@ use Rattle.mail_post.specs.declared.rule.Parcel.{Parcel}
 use Rattle.mail_post.specs.declared.rule.View.{View}
 use Rattle.mail_post.specs.Parcels.{of, copies}
 use Rattle.mail_post.specs.Rule.{Carries}
-use Rattle.mail_post.specs.Line.{named}
+use Rattle.mail_post.specs.Line.{before_mark}
 
 module _ {M : Type 0} (lane : M → ℕ) where
   -- of each lane, what was taken and then what waits is what the lane was told was accepted
@@ -19,10 +19,10 @@ module _ {M : Type 0} (lane : M → ℕ) where
   IsNothingElse = (items : List (Parcel M)) (views : List (View M)) (h : Carries lane items views) (k : ℕ)
       → h.lanes ≤ k → of lane k (copies (h.got ++ items)) ≡ []
 
-  -- a mark names all that its lane was told was accepted
+  -- a mark that was put names all that its lane was told was accepted: nothing of the lane stands behind it
   abbrev pub NamesAll : Type 0
   NamesAll = (items : List (Parcel M)) (views : List (View M)) (h : Carries lane items views) (k : ℕ)
-      → h.closed k ≡ true → named lane k (h.got ++ items) ≡ Some (h.sent k)
+      → h.closed k ≡ true → before_mark lane k (h.got ++ items) ≡ Some (h.sent k)
 
   -- each lane's end knows just what the lane was told was accepted, and the receiver's what was taken
   abbrev pub AreTold : Type 0

@@ -1,12 +1,12 @@
 -- The parcels of one lane.
-use Rattle.std.specs.Prelude.{◌≡◌, ◌++◌, ◌==◌, ℕ, Bool, true, false, ◌||◌, List, [], ◌∷◌, filter, if◌then◌else◌}
+use Rattle.std.specs.Prelude.{◌≡◌, ◌++◌, ◌==◌, ℕ, Bool, true, false, ◌||◌, List, [], ◌∷◌, filter}
 use Rattle.mail_post.specs.declared.rule.Parcel.{Parcel}
 use Rattle.mail_post.specs.declared.rule.Parcel.TheVariants.{Copy, Mark}
 
 module _ {M : Type 0} where
   -- the second list begins with the first
-  abbrev pub IsFront : List M → List M → Type 0
-  IsFront xs ys = (rest : List M) × (xs ++ rest ≡ ys)
+  abbrev pub IsStartOf : List M → List M → Type 0
+  IsStartOf xs ys = (rest : List M) × (xs ++ rest ≡ ys)
 
   -- the messages among the parcels
   abbrev pub copies : List (Parcel M) → List M
@@ -15,16 +15,16 @@ module _ {M : Type 0} where
   copies (Mark j ∷ xs) = copies xs
 
   -- whether the closing mark of lane k is among them
-  abbrev pub ended : ℕ → List (Parcel M) → Bool
-  ended k [] = false
-  ended k (Copy m ∷ xs) = ended k xs
-  ended k (Mark j ∷ xs) = (j == k) || ended k xs
+  abbrev pub has_mark : ℕ → List (Parcel M) → Bool
+  has_mark k [] = false
+  has_mark k (Copy m ∷ xs) = has_mark k xs
+  has_mark k (Mark j ∷ xs) = (j == k) || has_mark k xs
 
   -- what lane k puts in all: its messages, and behind them at most its closing mark
-  abbrev pub whole : ℕ → List M → Bool → List (Parcel M)
-  whole k [] false = []
-  whole k [] true = Mark k ∷ []
-  whole k (m ∷ ms) b = Copy m ∷ whole k ms b
+  abbrev pub all_of_lane : ℕ → List M → Bool → List (Parcel M)
+  all_of_lane k [] false = []
+  all_of_lane k [] true = Mark k ∷ []
+  all_of_lane k (m ∷ ms) b = Copy m ∷ all_of_lane k ms b
 
   module _ (lane : M → ℕ) where
     -- the messages of lane k, in their order
@@ -37,5 +37,4 @@ module _ {M : Type 0} where
 
     -- the parcels of lane k, in their order
     abbrev pub part : ℕ → List (Parcel M) → List (Parcel M)
-    part k [] = []
-    part k (x ∷ xs) = if lane_of x == k then x ∷ part k xs else part k xs
+    part k xs = filter (λ x. lane_of x == k) xs

@@ -1,5 +1,5 @@
 -- What lanes in threads of their own are to send. The tests' relay promises by these words; nothing else speaks of them.
-use Rattle.std.specs.Prelude.{◌≡◌, ◌+◌, ◌++◌, ℕ, List, [], ◌∷◌}
+use Rattle.std.specs.Prelude.{◌≡◌, ◌+◌, ◌++◌, ℕ, List, [], ◌∷◌, map}
 use Rattle.std.specs.declared.vec.Vec.{Vec}
 use Rattle.std.specs.declared.alloc.Global.{Global}
 use Rattle.mail_post.specs.Line.{Line, Lane}
@@ -20,20 +20,16 @@ module _ {M : Type 0} where
   tasks (x ∷ xs) (job ∷ jobs) = record { line = x.line; lane = x.lane; due = x.sent ++ job.items } ∷ tasks xs jobs
 
   abbrev pub job_lists : List (Job M) → List (List M)
-  job_lists [] = []
-  job_lists (job ∷ jobs) = job.items ∷ job_lists jobs
+  job_lists jobs = map (λ job. job.items) jobs
 
   abbrev pub dues : List (Task M) → List (List M)
-  dues [] = []
-  dues (t ∷ ts) = t.due ∷ dues ts
+  dues ts = map (λ t. t.due) ts
 
   abbrev pub task_names : List (Task M) → List (Line M × ℕ)
-  task_names [] = []
-  task_names (t ∷ ts) = (t.line, t.lane) ∷ task_names ts
+  task_names ts = map (λ t. (t.line, t.lane)) ts
 
   abbrev pub lane_names : List (Lane M) → List (Line M × ℕ)
-  lane_names [] = []
-  lane_names (x ∷ xs) = (x.line, x.lane) ∷ lane_names xs
+  lane_names xs = map (λ x. (x.line, x.lane)) xs
 
   module _ (lane : M → ℕ) where
     -- each is of lane k

@@ -4,7 +4,7 @@ use mathlib.Core.Option.{Option, some, none}
 use lib.ListN.{get_elem?}
 use Rattle.mail_post.specs.declared.rule.Parcel.{Parcel}
 use Rattle.mail_post.specs.declared.rule.View.{View}
-use Rattle.mail_post.specs.Parcels.{IsFront, of, part, copies, ended, whole}
+use Rattle.mail_post.specs.Parcels.{IsStartOf, of, part, copies, has_mark, all_of_lane}
 
 module _ {M : Type 0} where
   -- the one pass of a lane knows what the lane was told was accepted, and whether it is closed
@@ -24,13 +24,13 @@ module _ {M : Type 0} where
 
   module _ (lane : M → ℕ) where
     -- what was taken of a lane is messages, and behind them at most its mark; of other lanes nothing was taken
-    abbrev pub Fair : ℕ → List (Parcel M) → Type 0
-    Fair lanes got = (k : ℕ) → ((s : List M) × (b : Bool) × (part lane k got ≡ whole k s b)) × (lanes ≤ k → part lane k got ≡ [])
+    abbrev pub IsFair : ℕ → List (Parcel M) → Type 0
+    IsFair lanes got = (k : ℕ) → ((s : List M) × (b : Bool) × (part lane k got ≡ all_of_lane k s b)) × (lanes ≤ k → part lane k got ≡ [])
 
-    -- of a known lane, what was taken is a front of what it sent, and all of it where its mark was taken
+    -- of a known lane, what was taken is the start of what it sent, and all of it where its mark was taken
     abbrev pub Agrees : View M → Type 0
     Agrees v = (k : ℕ) → k < length v.known
-        → IsFront (of lane k (copies v.got)) (slice_index_or v.known k []) × (ended k v.got ≡ true → of lane k (copies v.got) ≡ slice_index_or v.known k [])
+        → IsStartOf (of lane k (copies v.got)) (slice_index_or v.known k []) × (has_mark k v.got ≡ true → of lane k (copies v.got) ≡ slice_index_or v.known k [])
 
 -- the rule: the parcels of each lane, those taken and then those in the channel, are all that the lane was told was accepted, and behind that its mark
 -- where it has put it; and nothing is of another than the lanes
@@ -43,6 +43,6 @@ pub record Carries {M : Type 0} (lane : M → ℕ) (items : List (Parcel M)) (vi
   pub reader : ℕ
   pub lanes : ℕ
   pub got : List (Parcel M)
-  pub order : (k : ℕ) → part lane k (got ++ items) ≡ whole k (sent k) (closed k)
+  pub order : (k : ℕ) → part lane k (got ++ items) ≡ all_of_lane k (sent k) (closed k)
   pub others : (k : ℕ) → lanes ≤ k → (seat k ≡ none) × (sent k ≡ []) × (closed k ≡ false)
   pub fits : (pass : ℕ) (v : View M) → get_elem? views pass ≡ some v → Fits seat sent closed reader lanes got pass v

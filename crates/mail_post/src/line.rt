@@ -1,13 +1,14 @@
 //! A channel from numbered lanes to one receiver. Copies and slips both go through it.
+
 ghost use Rattle.std.specs.Prelude.{◌≡◌, true, false, ◌<◌, [], ◌∷◌, ◌++◌, IfOk, IfErr, IfSome, OnOk, OnErr, length};
 ghost use Rattle.crossbeam_channel.specs.Claims.{IsSeatAt};
 ghost use Rattle.crossbeam_channel.specs.Ends.{sends_on, receives_on};
 ghost use Rattle.mail_post.specs.Views.{sender};
-ghost use Rattle.mail_post.specs.Line.{view_of, taken, IsNext, IsDrained, TookSome, TookAll, fresh, AreLanes, AreLanesFrom, lists};
+ghost use Rattle.mail_post.specs.Line.{view_of, taken, IsNext, IsDrained, TookSome, TookAll, new_lanes, new_inbox, AreLanes, IsLineOf, lists};
 
 use crate::rule::{Ends, LaneOrder, Laned, Lanes, Offers, Opens, Parcel, Settles, Takes, View};
 use crossbeam_channel::{Pass, RuledReceiver, RuledSender, bounded_with};
-use std::alloc::{AllocError, Allocator, Global};
+use std::alloc::{AllocError, Global};
 use std::marker::Model;
 use std::sync::Wait;
 use thiserror::Error;
@@ -19,22 +20,22 @@ pub enum Gone {
     #[error("closed")]
     Closed = 1,
     /// The channel answered that its other end is gone.
-    #[error("lost")]
+    #[error("the other end is gone")]
     Lost,
 }
 
 /// A channel with a sender for each lane, numbered from 0, and its receiver.
-pub fn open_line<M: Laned, A: Allocator + Clone>(
-    alloc: A,
+pub fn open_line<M: Laned>(
+    alloc: Global,
     capacity: usize,
     lanes: u32,
-) -> Result<(Vec<LineSender<M, A>, A>, LineReceiver<M, A>), AllocError>
+) -> Result<(Vec<LineSender<M>>, LineReceiver<M>), AllocError>
     requires { 0 < capacity }
-    ensures senders { IfOk result (λ ends. ends.0.items ≡ fresh ends.1.line lanes) }
-    ensures receiver { IfOk result (λ ends. (ends.1.lanes ≡ lanes) × (ends.1.got ≡ []) × (ends.1.gone ≡ None)) }
+    ensures senders { IfOk result (λ ends. ends.0.items ≡ new_lanes ends.1.line lanes) }
+    ensures receiver { IfOk result (λ ends. ends.1 ≡ new_inbox ends.1.line lanes) }
 {
-    let mut senders = Vec::with_capacity(alloc.clone()?, lanes as usize)?;
-    let (to, from, mut first) = bounded_with::<Parcel<M>, View<M>, LaneOrder<M>, A>(
+    let mut senders = Vec::with_capacity(alloc, lanes as usize)?;
+    let (to, from, mut first) = bounded_with::<Parcel<M>, View<M>, LaneOrder<M>, Global>(
         alloc, capacity,
     )?;
     for lane in 0..lanes {
@@ -56,13 +57,13 @@ pub fn open_line<M: Laned, A: Allocator + Clone>(
 
 /// A lane's end of a channel.
 #[derive(Drop)]
-pub struct LineSender<M: Laned, A: Allocator = Global> {
-    end: RuledSender<Parcel<M>, View<M>, LaneOrder<M>, A>,
+pub struct LineSender<M: Laned> {
+    end: RuledSender<Parcel<M>, View<M>, LaneOrder<M>>,
     pass: Pass<Parcel<M>, View<M>>,
     lane: u32,
 }
 
-impl<M: Laned, A: Allocator> Model for LineSender<M, A> {
+impl<M: Laned> Model for LineSender<M> {
     ghost use Rattle.std.specs.Prelude.{◌≡◌, false};
     ghost use Rattle.crossbeam_channel.specs.Claims.{IsSeatAt};
     ghost use Rattle.crossbeam_channel.specs.Ends.{sends_on};
@@ -76,7 +77,7 @@ impl<M: Laned, A: Allocator> Model for LineSender<M, A> {
     ghost invariant = { λ s. IsSeatAt (sends_on s.end) s.pass × (view_of s.pass ≡ sender s.lane (view_of s.pass).sent false) };
 }
 
-impl<M: Laned, A: Allocator> LineSender<M, A> {
+impl<M: Laned> LineSender<M> {
     /// The lane's number.
     pub fn number(&self) -> u32
         ensures { result ≡ self.now.lane }
@@ -87,8 +88,7 @@ impl<M: Laned, A: Allocator> LineSender<M, A> {
     /// Ok where the channel has accepted the post at its end.
     pub fn offer<R: Wait>(&mut self, rt: &R, post: M) -> Result<(), M>
         requires { M.lane post ≡ self.old.lane }
-        ensures same { (self.new.line ≡ self.old.line) × (self.new.lane ≡ self.old.lane) }
-        ensures accepted { OnOk result (self.new.sent ≡ self.old.sent ++ post ∷ []) }
+        ensures accepted { OnOk result (self.new ≡ record self.old { sent = self.old.sent ++ post ∷ [] }) }
         ensures refused { OnErr result (self.new ≡ self.old) }
         ensures back { IfErr result (λ back. back ≡ post) }
     {
@@ -107,15 +107,15 @@ impl<M: Laned, A: Allocator> LineSender<M, A> {
 
 /// The receiving end of a channel.
 #[derive(Drop)]
-pub struct LineReceiver<M: Laned, A: Allocator = Global> {
-    end: RuledReceiver<Parcel<M>, View<M>, LaneOrder<M>, A>,
+pub struct LineReceiver<M: Laned> {
+    end: RuledReceiver<Parcel<M>, View<M>, LaneOrder<M>>,
     pass: Pass<Parcel<M>, View<M>>,
     lanes: u32,
     marks: u32,
     gone: Option<Gone>,
 }
 
-impl<M: Laned, A: Allocator> Model for LineReceiver<M, A> {
+impl<M: Laned> Model for LineReceiver<M> {
     ghost use Rattle.crossbeam_channel.specs.Claims.{IsSeatAt};
     ghost use Rattle.crossbeam_channel.specs.Ends.{receives_on};
     ghost use Rattle.mail_post.specs.Line.{Inbox, IsInbox, line_of, view_of};
@@ -127,7 +127,7 @@ impl<M: Laned, A: Allocator> Model for LineReceiver<M, A> {
     ghost invariant = { λ r. IsSeatAt (receives_on r.end) r.pass × IsInbox M.lane r.lanes r.marks r.gone (view_of r.pass) };
 }
 
-impl<M: Laned, A: Allocator> LineReceiver<M, A> {
+impl<M: Laned> LineReceiver<M> {
     /// The oldest post. After a `Gone` each later call answers the same, and receives nothing.
     pub fn take<R: Wait>(&mut self, rt: &R) -> Result<M, Gone>
         ensures same { (self.new.line ≡ self.old.line) × (self.new.lanes ≡ self.old.lanes) }
@@ -177,12 +177,13 @@ impl<M: Laned, A: Allocator> LineReceiver<M, A> {
 
 /// The senders of a channel, whose marks are put, but for those from the first on that found the receiver gone.
 #[derive(Drop)]
-pub struct LineClosed<M: Laned, A: Allocator = Global> {
-    end: RuledSender<Parcel<M>, View<M>, LaneOrder<M>, A>,
+pub struct LineClosed<M: Laned> {
+    end: RuledSender<Parcel<M>, View<M>, LaneOrder<M>>,
     pass: Pass<Parcel<M>, View<M>>,
+    is_lost: bool,
 }
 
-impl<M: Laned, A: Allocator> Model for LineClosed<M, A> {
+impl<M: Laned> Model for LineClosed<M> {
     ghost use Rattle.std.specs.Prelude.{◌≡◌};
     ghost use Rattle.crossbeam_channel.specs.Claims.{IsSeatAt};
     ghost use Rattle.crossbeam_channel.specs.Ends.{sends_on};
@@ -197,32 +198,32 @@ impl<M: Laned, A: Allocator> Model for LineClosed<M, A> {
 }
 
 // The lane's mark, unless the receiver is known to be gone. True where it is.
-fn put_mark<M: Laned, A: Allocator, R: Wait>(
+fn put_mark<M: Laned, R: Wait>(
     rt: &R,
-    end: &RuledSender<Parcel<M>, View<M>, LaneOrder<M>, A>,
-    mut pass: Pass<Parcel<M>, View<M>>,
+    end: &RuledSender<Parcel<M>, View<M>, LaneOrder<M>>,
+    pass: &mut Pass<Parcel<M>, View<M>>,
     lane: u32,
     is_lost: bool,
-) -> (Pass<Parcel<M>, View<M>>, bool)
-    requires seat { IsSeatAt (sends_on end.now) pass }
-    requires knows { view_of pass ≡ sender lane (view_of pass).sent false }
-    ensures seat { IsSeatAt (sends_on end.now) result.0 }
-    ensures knows { ((view_of result.0).sends ≡ true) × ((view_of result.0).lane ≡ lane) × ((view_of result.0).sent ≡ (view_of pass).sent) }
+) -> bool
+    requires seat { IsSeatAt (sends_on end.now) pass.old }
+    requires knows { view_of pass.old ≡ sender lane (view_of pass.old).sent false }
+    ensures seat { IsSeatAt (sends_on end.now) pass.new }
+    ensures knows { ((view_of pass.new).sends ≡ true) × ((view_of pass.new).lane ≡ lane) × ((view_of pass.new).sent ≡ (view_of pass.old).sent) }
 {
     if is_lost {
-        return (pass, true);
+        return true;
     }
-    match end.send_as::<Offers, R>(rt, &mut pass, Parcel::Mark(lane)) {
-        Ok(()) => (pass, false),
-        Err(_) => (pass, true),
+    match end.send_as::<Offers, R>(rt, pass, Parcel::Mark(lane)) {
+        Ok(()) => false,
+        Err(_) => true,
     }
 }
 
-impl<M: Laned, A: Allocator> LineClosed<M, A> {
-    // Lane 0's mark. True where the receiver is gone.
-    fn first<R: Wait>(rt: &R, from: LineSender<M, A>) -> (LineClosed<M, A>, bool)
+impl<M: Laned> LineClosed<M> {
+    // Lane 0's mark.
+    fn first<R: Wait>(rt: &R, from: LineSender<M>) -> LineClosed<M>
         requires { from.lane ≡ 0 }
-        ensures { (result.0.line ≡ from.line) × (result.0.sent ≡ from.sent ∷ []) }
+        ensures { (result.line ≡ from.line) × (result.sent ≡ from.sent ∷ []) }
     {
         let LineSender {
             end,
@@ -230,56 +231,57 @@ impl<M: Laned, A: Allocator> LineClosed<M, A> {
             lane,
         } = from;
         let mut pass = end.another::<Opens>(&mut mine);
-        let (mine, is_lost) = put_mark(rt, &end, mine, lane, false);
+        let is_lost = put_mark(rt, &end, &mut mine, lane, false);
         end.absorb::<Ends>(&mut pass, mine);
-        (LineClosed { end, pass }, is_lost)
+        LineClosed { end, pass, is_lost }
     }
 
     // The next lane's mark, unless the receiver is gone.
-    fn join<R: Wait>(&mut self, rt: &R, from: LineSender<M, A>, is_lost: bool) -> bool
+    fn join<R: Wait>(&mut self, rt: &R, from: LineSender<M>)
         requires line { from.line ≡ self.old.line }
         requires next { from.lane ≡ length self.old.sent }
         ensures { (self.new.line ≡ self.old.line) × (self.new.sent ≡ self.old.sent ++ from.sent ∷ []) }
     {
         let LineSender {
             end,
-            pass: mine,
+            pass: mut mine,
             lane,
         } = from;
-        let (mine, is_lost) = put_mark(rt, &end, mine, lane, is_lost);
+        self.is_lost = put_mark(rt, &end, &mut mine, lane, self.is_lost);
         self.end.absorb::<Ends>(&mut self.pass, mine);
-        is_lost
     }
 }
 
 /// Puts one closing mark for each sender, in lane order. Where the receiver is gone it puts no more, and answers the same.
-pub fn close_line<M: Laned, A: Allocator, R: Wait>(
-    senders: Vec<LineSender<M, A>, A>,
-    rt: &R,
-) -> LineClosed<M, A>
+pub fn close_line<M: Laned, R: Wait>(senders: Vec<LineSender<M>>, rt: &R) -> LineClosed<M>
     requires { AreLanes senders.items }
-    ensures line { AreLanesFrom 0 result.line senders.items }
+    ensures line { IsLineOf result.line senders.items }
     ensures sent { result.sent ≡ lists senders.items }
 {
     let mut rest = senders.into_iter();
     let Some(first) = rest.next() else {
         unreachable!();
     };
-    let (mut closed, mut is_lost) = LineClosed::first(rt, first);
+    let mut closed = LineClosed::first(rt, first);
     for sender in rest {
-        is_lost = closed.join(rt, sender, is_lost);
+        closed.join(rt, sender);
     }
     closed
 }
 
-/// Compares what was taken with what the lanes were told was accepted.
-pub fn settle<M: Laned, A: Allocator>(receiver: LineReceiver<M, A>, closed: LineClosed<M, A>)
+/// Both ends of a channel, handed back: what was taken of each lane is the start of what the lane was told was accepted, and all of it once the
+/// receiver answered Closed. It costs nothing when it runs.
+pub fn settle<M: Laned>(receiver: LineReceiver<M>, closed: LineClosed<M>)
     requires line { receiver.line ≡ closed.line }
     requires lanes { length closed.sent ≡ receiver.lanes }
     ensures front { TookSome M.lane (taken receiver) closed.sent }
     ensures all { receiver.gone ≡ Some Gone.Closed → TookAll M.lane (taken receiver) closed.sent }
 {
-    let LineClosed { end, mut pass } = closed;
+    let LineClosed {
+        end,
+        mut pass,
+        is_lost: _,
+    } = closed;
     let LineReceiver {
         end: _from,
         pass: other,

@@ -1,5 +1,7 @@
 //! A copy of a message on its way to a mailbox.
+
 ghost use Rattle.std.specs.Prelude.{◌≡◌};
+ghost use Rattle.mail_post.specs.Copies.{copy_of, envelope_of};
 
 use mail_world::Txn;
 use mbox_rd::Envelope;
@@ -19,18 +21,11 @@ pub struct Post<N: DepotName> {
 impl<N: DepotName> Model for Post<N> {
     ghost use Rattle.std.specs.Prelude.{◌≡◌};
     ghost use Rattle.mail_world.specs.declared.Note.{Note};
+    ghost use Rattle.mail_post.specs.Copies.{copy_of};
 
     ghost Value = { Note };
 
-    ghost view = { λ p. record {
-      txn = p.txn;
-      place = p.place;
-      mailbox = p.mailbox;
-      sender = p.envelope.sender;
-      client = p.envelope.client;
-      moment = p.envelope.moment;
-      message = p.hold.bytes;
-    } };
+    ghost view = { λ p. copy_of p.txn p.place p.mailbox p.envelope p.hold.bytes };
 
     ghost invariant = { λ p. (p.envelope.txn ≡ p.txn) × (p.hold.weight ≡ 1) };
 }
@@ -40,15 +35,7 @@ impl<N: DepotName> Post<N> {
     pub fn new(txn: Txn, place: u32, mailbox: u32, envelope: Envelope, hold: Hold<N>) -> Post<N>
         requires txn { envelope.txn ≡ txn }
         requires weight { hold.weight ≡ 1 }
-        ensures { result ≡ record {
-          txn = txn;
-          place = place;
-          mailbox = mailbox;
-          sender = envelope.sender;
-          client = envelope.client;
-          moment = envelope.moment;
-          message = hold.bytes;
-        } }
+        ensures { result ≡ copy_of txn place mailbox envelope hold.bytes }
     {
         Post {
             txn,
@@ -62,12 +49,7 @@ impl<N: DepotName> Post<N> {
     /// What it was made of.
     pub fn parts(self) -> Parts<N>
         ensures names { (result.txn ≡ self.txn) × (result.place ≡ self.place) × (result.mailbox ≡ self.mailbox) }
-        ensures envelope { result.envelope ≡ record {
-          sender = self.sender;
-          client = self.client;
-          txn = self.txn;
-          moment = self.moment;
-        } }
+        ensures envelope { result.envelope ≡ envelope_of self }
         ensures hold { (result.hold.bytes ≡ self.message) × (result.hold.weight ≡ 1) }
     {
         let Post {

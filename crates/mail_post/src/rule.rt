@@ -1,4 +1,5 @@
 //! The rule of a channel. Its types stand in proofs alone, but for `Parcel`.
+
 ghost use Rattle.std.specs.Prelude.{ℕ};
 
 use crossbeam_channel::protocol::{Join, Lesson, Outcome, Protocol, Split};
@@ -66,9 +67,9 @@ pub struct Takes;
 impl<M: Laned> Outcome<Parcel<M>, View<M>> for Takes {
     ghost use Rattle.std.specs.Prelude.{◌≡◌};
     ghost use Rattle.mail_post.specs.Views.{took};
-    ghost use Rattle.mail_post.specs.Rule.{Fair};
+    ghost use Rattle.mail_post.specs.Rule.{IsFair};
 
-    ghost then = { λ v x w. (w ≡ took v x) × Fair M.lane w.lanes w.got };
+    ghost then = { λ v x w. (w ≡ took v x) × IsFair M.lane w.lanes w.got };
 }
 
 impl<M: Laned> Lesson<Parcel<M>, View<M>> for Takes {

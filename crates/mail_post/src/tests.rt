@@ -1,10 +1,12 @@
 //! Copies and slips through their channels, on one thread and on several.
+
 ghost use Rattle.std.specs.Prelude.{◌≡◌, [], ◌∷◌, IfOk, IfSome};
-ghost use Rattle.mail_post.specs.Line.{fresh};
+ghost use Rattle.mail_post.specs.Line.{new_lanes};
 ghost use Rattle.mail_post.specs.Relay.{AreOfLane};
 
 use super::*;
 use crate::line::close_line;
+use mail_world::limits::RECIPIENT_LIMIT;
 use mail_world::{Outcome, Slip, Txn};
 use mbox_rd::Envelope;
 use msg_depot::{Blank, Depot, DepotName};
@@ -58,7 +60,7 @@ fn script<M: Laned, R: Wait>(
     b: M,
     c: M,
 ) -> Option<(M, M, M, LineClosed<M>)>
-    requires senders { senders.items ≡ fresh receiver.line 2 }
+    requires senders { senders.items ≡ new_lanes receiver.line 2 }
     requires lanes { (M.lane a ≡ 0) × (M.lane b ≡ 1) × (M.lane c ≡ 0) }
     ensures { IfSome result (λ all. all.3.sent ≡ (a ∷ c ∷ []) ∷ (b ∷ []) ∷ []) }
 {
@@ -96,10 +98,10 @@ fn copies_in_their_order(rt: HostRuntime) -> Result<(), Fail> {
 }
 
 fn copies_by<N: DepotName, R: Wait + Abort>(rt: &R, alloc: Global, blank: Blank) -> Result<(), Fail>
-    requires { blank ≡ N.table }
+    requires { blank.table ≡ N.table }
 {
     let depot = blank.open::<N>();
-    let (senders, receiver) = mail_line::<N, Global>(alloc, 4, 2)?;
+    let (senders, receiver) = mail_line::<N>(alloc, 4, 2)?;
     let a = post(rt, alloc, &depot, 0, 1, b"a").ok_or("there is room")?;
     let b = post(rt, alloc, &depot, 1, 1, b"b").ok_or("there is room")?;
     let c = post(rt, alloc, &depot, 0, 2, b"c").ok_or("there is room")?;
@@ -123,7 +125,7 @@ fn copy_there<N, R>(rt: R, alloc: Global, blank: Blank) -> Result<(), Fail>
 where
     N: DepotName + 'static,
     R: Threads + Wait + Abort + Copy + Send + 'static,
-    requires { blank ≡ N.table }
+    requires { blank.table ≡ N.table }
 {
     let depot = blank.open::<N>();
     let copy = post(&rt, alloc, &depot, 0, 1, b"a").ok_or("there is room")?;
@@ -145,14 +147,82 @@ fn seen<N: DepotName, R: Wait>(rt: &R, depot: &Depot<N>, post: Post<N>) -> (u32,
     (txn.lane, txn.number, first)
 }
 
-#[test]
-fn an_offer_without_a_receiver_comes_back(rt: HostRuntime) -> Result<(), Fail> {
-    let (mut senders, receiver) = slip_line(rt.alloc(), 2)?;
+// What the second sender hands back where nothing can be taken.
+fn refused<M: Laned, R: Wait + Abort>(
+    rt: &R,
+    mut senders: Vec<LineSender<M>>,
+    receiver: LineReceiver<M>,
+    message: M,
+) -> Option<M>
+    requires senders { senders.items ≡ new_lanes receiver.line 2 }
+    requires lane { M.lane message ≡ 1 }
+{
     drop(receiver);
     assert_eq!(rt; senders.len(), 2);
     assert_eq!(rt; senders[1].number(), 1);
-    assert_eq!(rt; senders[1].offer(&rt, slip(1, 4)).err(), Some(slip(1, 4)));
+    let back = senders[1].offer(rt, message).err();
+    drop(close_line(senders, rt));
+    back
+}
+
+#[test]
+fn a_slip_without_a_receiver_comes_back(rt: HostRuntime) -> Result<(), Fail> {
+    let (senders, receiver) = slip_line(rt.alloc(), 2)?;
+    assert_eq!(rt;
+        refused(&rt, senders, receiver, slip(1, 4)),
+        Some(slip(1, 4))
+    );
+    Ok(())
+}
+
+#[test]
+fn a_copy_without_a_receiver_comes_back(rt: HostRuntime) -> Result<(), Fail> {
+    let blank = Blank::new(rt.alloc(), 1, 1)?;
+    copy_back::<Brand, _>(&rt, rt.alloc(), blank)
+}
+
+fn copy_back<N: DepotName, R: Wait + Abort>(rt: &R, alloc: Global, blank: Blank) -> Result<(), Fail>
+    requires { blank.table ≡ N.table }
+{
+    let depot = blank.open::<N>();
+    let (senders, receiver) = mail_line::<N>(alloc, 4, 2)?;
+    let copy = post(rt, alloc, &depot, 1, 6, b"a").ok_or("there is room")?;
+    let back = refused(rt, senders, receiver, copy).ok_or("it comes back")?;
+    assert!(rt; seen(rt, &depot, back) == (1, 6, *b"a"));
+    Ok(())
+}
+
+// Offers the worker's slips of as many recipients as a message may have, and says how many were accepted.
+fn fill<R: Wait>(rt: &R, sender: &mut SlipSender) -> u32
+    requires { sender.old.lane ≡ 0 }
+{
+    let mut accepted = 0;
+    for place in 0..RECIPIENT_LIMIT as u32 {
+        if sender.offer(rt, slip(0, place)).is_ok() {
+            accepted = place + 1;
+        }
+    }
+    accepted
+}
+
+#[test]
+fn a_lane_has_room_for_each_recipient(rt: HostRuntime) -> Result<(), Fail> {
+    let (mut senders, mut receiver) = slip_line(rt.alloc(), 1)?;
+    assert_eq!(rt; fill(&rt, &mut senders[0]) as usize, RECIPIENT_LIMIT);
+    for place in 0..RECIPIENT_LIMIT as u32 {
+        assert_eq!(rt; receiver.take(&rt).ok(), Some(slip(0, place)));
+    }
+    Ok(())
+}
+
+#[test]
+fn each_kind_of_sender_closes(rt: HostRuntime) -> Result<(), Fail> {
+    let (senders, mut lane) = slip_line(rt.alloc(), 3)?;
     drop(close_slips(senders, &rt));
+    assert!(rt; is_closed(&lane.take(&rt)));
+    let (senders, mut worker) = mail_line::<Brand>(rt.alloc(), 2, 2)?;
+    drop(close(senders, &rt));
+    assert!(rt; is_closed(&worker.take(&rt)));
     Ok(())
 }
 

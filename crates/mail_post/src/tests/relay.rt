@@ -1,4 +1,5 @@
 //! Lanes and a worker in threads of their own, over one channel. What was taken of each lane is proved to be what it was to send.
+
 ghost use Rattle.std.specs.Prelude.{◌≡◌, ◌<◌, ◌≤◌, ◌++◌, [], Some, length, IfOk, IfSome, IsTrue, ◌^◌, vec_len, vec_capacity};
 ghost use Rattle.mail_post.specs.Line.{lists, taken, TookAll};
 ghost use Rattle.mail_post.specs.Relay.{tasks, dues, task_names, lane_names, job_lists, AreOfLane, AreReady, AreJobsFrom};
@@ -92,7 +93,8 @@ fn run_worker<M: Laned, R: Wait>(
 pub struct LaneKeeps<M: Laned>(Snapshot<LineSender<M>>, Snapshot<Vec<M>>);
 
 impl<M: Laned> Promise<LaneEnd<M>> for LaneKeeps<M> {
-    ghost kept_by = { λ p r. (r.sender.line ≡ p.0.value.line) × (r.sender.lane ≡ p.0.value.lane) × (IsTrue r.is_whole → r.sender.sent ≡ p.0.value.sent ++ p.1.value.items) };
+    ghost kept_by = { λ p r. (r.sender.line ≡ p.0.value.line) × (r.sender.lane ≡ p.0.value.lane)
+        × (IsTrue r.is_whole → r.sender.sent ≡ p.0.value.sent ++ p.1.value.items) };
 }
 
 /// The worker's.
@@ -104,7 +106,8 @@ impl<M: Laned> Promise<WorkerEnd<M>> for WorkerKeeps<M> {
     ghost use Rattle.mail_post.specs.declared.line.Gone.TheVariants.{Closed};
     ghost use Rattle.mail_post.specs.Line.{taken};
 
-    ghost kept_by = { λ p r. (r.receiver.line ≡ p.0.value.line) × (r.receiver.lanes ≡ p.0.value.lanes) × (IsTrue r.is_closed → (r.receiver.gone ≡ Some Closed) × (r.posts.items ≡ taken r.receiver)) };
+    ghost kept_by = { λ p r. (r.receiver.line ≡ p.0.value.line) × (r.receiver.lanes ≡ p.0.value.lanes)
+        × (IsTrue r.is_closed → (r.receiver.gone ≡ Some Closed) × (r.posts.items ≡ taken r.receiver)) };
 }
 
 /// A lane's thread.
@@ -119,7 +122,11 @@ impl<M: Laned> Model for Running<M> {
 
     ghost Value = { Task M };
 
-    ghost view = { λ r. record { line = r.handle.promise.0.value.line; lane = r.handle.promise.0.value.lane; due = r.handle.promise.0.value.sent ++ r.handle.promise.1.value.items } };
+    ghost view = { λ r. record {
+      line = r.handle.promise.0.value.line;
+      lane = r.handle.promise.0.value.lane;
+      due = r.handle.promise.0.value.sent ++ r.handle.promise.1.value.items;
+    } };
 }
 
 impl<M: Laned> Running<M> {

@@ -6,7 +6,7 @@ use Rattle.mail_post.proofs.Closes.{some_taken, all_taken}
 use Rattle.mail_post.proofs.line.settle.Goals as goal
 
 pub absorb-requires-clause-rule : goal.absorb-requires-clause-rule
-absorb-requires-clause-rule g c = settles g.M.Laned.lane _ _ _ _ (ap (λ (v : View _). v.takes) c.receiver.invariant.1.0)
+absorb-requires-clause-rule g c = settles g.M.Laned.lane _ _ _ _ (ap (λ (v : View _). v.takes) c.receiver.invariant.1.knows)
 
 pub absorb-requires-clause-channel : goal.absorb-requires-clause-channel
 absorb-requires-clause-channel g c =

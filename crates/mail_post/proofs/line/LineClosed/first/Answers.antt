@@ -11,4 +11,4 @@ pub absorb-requires-clause-rule : goal.absorb-requires-clause-rule
 absorb-requires-clause-rule g c =
     let none = ap (λ (v : View _). length v.known) c.another-pass.ensures.rule.1 in
     let first = ap (λ (l : Lane _). l.lane) c.from.view_is ∙ c.requires in
-    ends g.M.Laned.lane _ _ _ _ c.put_mark-mine.ensures.knows.0 (none ∙ sym (c.put_mark-mine.ensures.knows.1 ∙ first))
+    ends g.M.Laned.lane _ _ _ _ c.put_mark-is_lost.ensures.knows.0 (none ∙ sym (c.put_mark-is_lost.ensures.knows.1 ∙ first))

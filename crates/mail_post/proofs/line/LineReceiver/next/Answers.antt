@@ -8,7 +8,7 @@ use Rattle.mail_post.proofs.Names.{drained}
 use Rattle.mail_post.proofs.line.LineReceiver.next.Goals as goal
 
 pub recv_as-requires-clause-rule : goal.recv_as-requires-clause-rule
-recv_as-requires-clause-rule g c = (takes g.M.Laned.lane _ _ (ap (λ (v : View _). v.takes) c.self.invariant.1.0), (λ items views h at. tt))
+recv_as-requires-clause-rule g c = (takes g.M.Laned.lane _ _ (ap (λ (v : View _). v.takes) c.self.invariant.1.knows), (λ items views h at. tt))
 
 pub invariant_of-self : goal.invariant_of-self
 invariant_of-self g c = (c.recv_as.ensures.channel.0, inbox_copy g.M.Laned.lane _ _ _ _ _ _ c.self.invariant.1 (rw c.in-Ok-Copy.field-0-is at c.in-Ok-Copy.ensures.rule))
@@ -47,7 +47,7 @@ returns-in-Ok-Copy-clause-next g c =
     let is = c.self.view_is in (
       ap (λ (r : Inbox _). r.gone) is ∙ c.requires,
       taken_copy g.M.Laned.lane (view_of c.self.inside.pass) (view_of c.recv_as.new.pass) c.in-Ok-Copy.post step ∙ ap (λ (r : Inbox _). taken r ++ c.in-Ok-Copy.post ∷ []) is,
-      subst (λ (n : ℕ). g.M.Laned.lane c.in-Ok-Copy.post < n) (ap (λ (r : Inbox _). r.lanes) is) (copy_fits g.M.Laned.lane _ _ _ c.in-Ok-Copy.post c.self.invariant.1.0 step),
+      subst (λ (n : ℕ). g.M.Laned.lane c.in-Ok-Copy.post < n) (ap (λ (r : Inbox _). r.lanes) is) (copy_fits g.M.Laned.lane _ _ _ c.in-Ok-Copy.post c.self.invariant.1.knows step),
     )
 
 pub returns-else-self-lanes-clause-next : goal.returns-else-self-lanes-clause-next

@@ -37,7 +37,7 @@ pub settle-requires-clause-lanes : goal.settle-requires-clause-lanes
 settle-requires-clause-lanes g c =
     let n : c.len-lanes.result ≡ length c.args.jobs.items = search rules in
     let h = back _ _ _ _ _ _ c.in_ok-senders.ensures.senders n c.in_ok-running.ensures c.join_lanes-back.ensures.names in
-    ap length c.close_line-closed.ensures.sent ∙ length-lists c.join_lanes-back.result.0.items ∙ h.1 ∙ sym (c.join-end.ensures.1 ∙ ap (λ (r : Inbox _). r.lanes) c.in_ok-worker.ensures ∙ c.in_ok-senders.ensures.receiver.0)
+    ap length c.close_line-closed.ensures.sent ∙ length-lists c.join_lanes-back.result.0.items ∙ h.1 ∙ sym (c.join-end.ensures.1 ∙ ap (λ (r : Inbox _). r.lanes) c.in_ok-worker.ensures ∙ ap (λ (r : Inbox _). r.lanes) c.in_ok-senders.ensures.receiver)
 
 pub returns-then-is_closed : goal.returns-then-is_closed
 returns-then-is_closed g c k =

@@ -1,0 +1,4 @@
+pub mod Messages
+pub mod Storing
+pub mod Telling
+pub mod Handling

@@ -1,0 +1,145 @@
+-- What a spool holds once its worker took one copy more.
+use Rattle.std.proofs.Common.{◌≡◌, ℕ, ◌+◌, ◌≤◌, List, [], ◌∷◌, ◌++◌, length, take, drop, true, false, Option, Some, None, inl, inr, refl, ap, sym, ◌∙◌, subst, true≢false, arith, length-append}
+use Rattle.std.proofs.lemmas.List.{take_all, take-append-le, drop-append-le, drop_all}
+use Rattle.std.specs.Option.{IfSome}
+use Rattle.std.specs.Io.KnownBytes.{Appends}
+use Rattle.mail_world.specs.declared.Note.{Note}
+use Rattle.mail_world.specs.Failures.{Rises}
+use Rattle.mail_world.specs.Records.{Calendar, record_of, mailbox}
+use Rattle.mail_world.specs.Deliveries.{IsTorn}
+use Rattle.mail_world.proofs.Spools.{mailbox-one_more}
+use Rattle.mbox_rd.specs.Spool.{SpoolState, CoversAll}
+use Rattle.box_worker.specs.Stored.{HasKept, HasNotKept, IsTornAt, HasStored}
+
+one_more : (copies : List Note) (note : Note) → length (copies ++ note ∷ []) ≡ length copies + 1
+one_more copies note = length-append copies (note ∷ [])
+
+-- a copy that isn't lost is none
+not_both : {A : Type 0} → false ≡ true → A
+not_both e = absurd (true≢false (sym e))
+
+module _ (calendar : Calendar) (host : List ℕ) (note : Note) where
+  abbrev text : List ℕ
+  text = record_of calendar host note
+
+  -- what is behind the stored copies, with one copy more behind those
+  torn_more : (rest : List Note) (torn : List ℕ) → IsTorn calendar host rest torn → IsTorn calendar host (rest ++ note ∷ []) torn
+  torn_more [] torn e = record { rest = text; whole = ap (λ (l : List ℕ). l ++ text) (sym e) }
+  torn_more (x ∷ rest) torn h = h
+
+  torn_at_more : (held : List ℕ) (copies : List Note) (n : ℕ) (bytes : List ℕ) → n ≤ length copies
+      → IsTornAt calendar host held copies n bytes → IsTornAt calendar host held (copies ++ note ∷ []) n bytes
+  torn_at_more held copies n bytes within h = elim h [
+    | inl some ↦ inl (
+      some.0,
+      some.1 ∙ ap (λ (front : List Note). mailbox calendar host held front ++ some.0) (sym (take-append-le n copies (note ∷ []) within)),
+      (let P : List Note → Type 0 = λ l. IsTorn calendar host l some.0 in subst P (sym (drop-append-le n copies (note ∷ []) within)) (torn_more (drop n copies) some.0 some.2)),
+    )
+    | inr none ↦ inr none
+  ]
+
+  -- the spool's bytes, where they are known
+  whole_more : (u v w : Option (List ℕ)) (copies : List Note) → IfSome u (λ held. v ≡ Some (mailbox calendar host held copies)) → Appends v w text
+      → IfSome u (λ held. w ≡ Some (mailbox calendar host held (copies ++ note ∷ [])))
+  whole_more None v w copies e a = tt
+  whole_more (Some held) None w copies e a = cc
+  whole_more (Some held) (Some ys) None copies e a = absurd a
+  whole_more (Some held) (Some ys) (Some zs) copies e a =
+      let before : ys ≡ mailbox calendar host held copies = cc in
+      ap (λ bytes. Some bytes) (a ∙ ap (λ (l : List ℕ). l ++ text) before ∙ sym (mailbox-one_more calendar host held copies note))
+
+  covered_all : (u w : Option (List ℕ)) (copies : List Note) (n synced : ℕ) → n ≡ length copies → IfSome u (λ held. w ≡ Some (mailbox calendar host held copies)) → CoversAll w synced
+      → IfSome u (λ held. synced ≡ length (mailbox calendar host held (take n copies)))
+  covered_all None w copies n synced all e c = tt
+  covered_all (Some held) None copies n synced all e c = cc
+  covered_all (Some held) (Some bytes) copies n synced all e c =
+      let same : bytes ≡ mailbox calendar host held copies = cc in
+      c ∙ ap length same ∙ ap (λ (l : List Note). length (mailbox calendar host held l)) (sym (take_all n copies (omega arith)))
+
+  torn_first : (u v w : Option (List ℕ)) (copies : List Note) (n : ℕ) (front rest : List ℕ) → n ≡ length copies → text ≡ front ++ rest
+      → IfSome u (λ held. v ≡ Some (mailbox calendar host held copies)) → Appends v w front
+      → IfSome u (λ held. IfSome w (λ bytes. IsTornAt calendar host held (copies ++ note ∷ []) n bytes))
+  torn_first None v w copies n front rest all is e a = tt
+  torn_first (Some held) None w copies n front rest all is e a = cc
+  torn_first (Some held) (Some ys) None copies n front rest all is e a = absurd a
+  torn_first (Some held) (Some ys) (Some zs) copies n front rest all is e a =
+      let before : ys ≡ mailbox calendar host held copies = cc in
+      let taken : take n (copies ++ note ∷ []) ≡ copies = take-append-le n copies (note ∷ []) (omega arith) ∙ take_all n copies (omega arith) in
+      let left : drop n (copies ++ note ∷ []) ≡ note ∷ [] = drop-append-le n copies (note ∷ []) (omega arith) ∙ ap (λ (l : List Note). l ++ note ∷ []) (drop_all n copies (omega arith)) in
+      let P : List Note → Type 0 = λ l. IsTorn calendar host l front in
+      inl (
+        front,
+        a ∙ ap (λ (l : List ℕ). l ++ front) (before ∙ ap (λ (l : List Note). mailbox calendar host held l) (sym taken)),
+        subst P (sym left) (record { rest = rest; whole = is }),
+      )
+
+  torn_later : (u w : Option (List ℕ)) (copies : List Note) (n : ℕ) → n ≤ length copies
+      → IfSome u (λ held. IfSome w (λ bytes. IsTornAt calendar host held copies n bytes))
+      → IfSome u (λ held. IfSome w (λ bytes. IsTornAt calendar host held (copies ++ note ∷ []) n bytes))
+  torn_later None w copies n within h = tt
+  torn_later (Some held) None copies n within h = tt
+  torn_later (Some held) (Some bytes) copies n within h = torn_at_more held copies n bytes within h
+
+  covered_later : (u : Option (List ℕ)) (copies : List Note) (n synced now : ℕ) → n ≤ length copies → now ≡ synced
+      → IfSome u (λ held. synced ≡ length (mailbox calendar host held (take n copies)))
+      → IfSome u (λ held. now ≡ length (mailbox calendar host held (take n (copies ++ note ∷ []))))
+  covered_later None copies n synced now within e h = tt
+  covered_later (Some held) copies n synced now within e h =
+      e ∙ h ∙ ap (λ (l : List Note). length (mailbox calendar host held l)) (sym (take-append-le n copies (note ∷ []) within))
+
+  module _ (old s t : SpoolState) (copies : List Note) (n : ℕ) where
+    -- the copy is stored
+    pub stored_more : HasStored calendar host old s copies n false → HasKept s t text → HasStored calendar host old t (copies ++ note ∷ []) (n + 1) false
+    stored_more x y =
+        let all : n ≡ length copies = x.all refl in
+        let now : n + 1 ≡ length (copies ++ note ∷ []) = omega (arith, one_more copies note) in
+        let whole = whole_more old.bytes s.bytes t.bytes copies (x.whole refl) y.appended in
+        record {
+          within = omega arith;
+          all = λ sound. now;
+          sound = λ sound. y.sound ∙ x.sound refl;
+          failed = λ e. not_both e;
+          limited = y.limited ∙ x.limited;
+          full = λ e. not_both e;
+          whole = λ sound. whole;
+          torn = λ e. not_both e;
+          covered = λ some. covered_all old.bytes t.bytes (copies ++ note ∷ []) (n + 1) t.synced now whole y.covered;
+          unsynced = λ none. absurd (omega arith);
+        }
+
+    -- the spool failed at the copy
+    pub stored_not : HasStored calendar host old s copies n false → HasNotKept s t text → HasStored calendar host old t (copies ++ note ∷ []) n true
+    stored_not x y =
+        let all : n ≡ length copies = x.all refl in
+        let more = one_more copies note in
+        record {
+          within = omega arith;
+          all = λ e. absurd (true≢false e);
+          sound = λ e. absurd (true≢false e);
+          failed = λ e. let P : ℕ → Type 0 = λ m. Rises m t.failures in subst P (x.sound refl) y.failed;
+          limited = y.limited ∙ x.limited;
+          full = λ e. y.full;
+          whole = λ e. absurd (true≢false e);
+          torn = λ e. torn_first old.bytes s.bytes t.bytes copies n y.front y.rest all y.whole (x.whole refl) y.appended;
+          covered = λ some. covered_later old.bytes copies n s.synced t.synced (omega arith) y.covered (x.covered some);
+          unsynced = λ none. y.covered ∙ x.unsynced none;
+        }
+
+    -- the spool had failed before
+    pub stored_later : HasStored calendar host old s copies n true → t ≡ s → HasStored calendar host old t (copies ++ note ∷ []) n true
+    stored_later x same =
+        let more = one_more copies note in
+        let within : n ≤ length copies = x.within in
+        let P : SpoolState → Type 0 = λ u. HasStored calendar host old u (copies ++ note ∷ []) n true in
+        subst P (sym same) (record {
+          within = omega arith;
+          all = λ e. absurd (true≢false e);
+          sound = λ e. absurd (true≢false e);
+          failed = x.failed;
+          limited = x.limited;
+          full = x.full;
+          whole = λ e. absurd (true≢false e);
+          torn = λ e. torn_later old.bytes s.bytes copies n within (x.torn e);
+          covered = λ some. covered_later old.bytes copies n s.synced s.synced within refl (x.covered some);
+          unsynced = x.unsynced;
+        })

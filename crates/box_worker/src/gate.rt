@@ -1,0 +1,27 @@
+//! Where a test may hold a worker.
+
+use mail_world::Txn;
+
+/// What a worker calls before it begins a copy's record, and once it has let the copy go. Nothing is promised of it: a gate
+/// may wait, and count.
+pub trait Gate {
+    /// Nothing of the copy is in the spool yet.
+    fn before(&mut self, txn: Txn, place: u32);
+
+    /// The copy is stored or lost, and its lane isn't told yet.
+    fn after(&mut self, txn: Txn, place: u32);
+}
+
+/// Lets every copy through.
+#[derive(Clone, Copy, Debug, PartialEq, Eq)]
+pub struct OpenGate;
+
+impl Gate for OpenGate {
+    fn before(&mut self, txn: Txn, place: u32) {
+        let _ = (txn, place);
+    }
+
+    fn after(&mut self, txn: Txn, place: u32) {
+        let _ = (txn, place);
+    }
+}

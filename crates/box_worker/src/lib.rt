@@ -1,0 +1,15 @@
+//! The worker of one mailbox: it takes copies from the lanes, stores each as a record, and tells the lane what became of it.
+#![tactic(auto)]
+
+mod gate;
+mod mailbox;
+mod report;
+mod store;
+mod tell;
+#[cfg(test)]
+mod tests;
+mod worker;
+
+pub use gate::{Gate, OpenGate};
+pub use report::WorkerReport;
+pub use worker::worker_run;

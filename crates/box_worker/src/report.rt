@@ -1,0 +1,22 @@
+//! What a worker hands back.
+
+use crate::gate::Gate;
+use mail_post::{Receiver, SlipSender};
+use mbox_rd::Spool;
+use msg_depot::DepotName;
+
+/// What became of a worker's copies, and all that it was lent.
+#[derive(Drop)]
+pub struct WorkerReport<N: DepotName, S: Spool, G: Gate> {
+    pub spool: S,
+    pub gate: G,
+    /// The copies that it took, and those of them that it stored. A count stays at its largest value.
+    pub taken: u64,
+    pub stored: u64,
+    /// Whether the spool failed.
+    pub faulty: bool,
+    /// Whether a channel was found gone: the mailbox's before its closing mark came, or a lane's of slips.
+    pub lost: bool,
+    pub receiver: Receiver<N>,
+    pub slips: Vec<SlipSender>,
+}

@@ -1,0 +1,29 @@
+//! What a worker tells a lane.
+
+ghost use Rattle.std.specs.Prelude.{◌<◌, length};
+ghost use Rattle.box_worker.specs.Told.{IsTold};
+
+use mail_post::SlipSender;
+use mail_world::{Outcome, Slip, Txn};
+use std::sync::Wait;
+
+/// Gives the copy's lane a slip, and says whether its channel accepted it. A slip that comes back is dropped.
+pub(crate) fn tell<R: Wait>(
+    rt: &R,
+    slips: &mut Vec<SlipSender>,
+    txn: Txn,
+    place: u32,
+    outcome: Outcome,
+) -> bool
+    requires { txn.lane < length slips.old.items }
+    ensures { IsTold slips.old.items slips.new.items txn place outcome result }
+{
+    let sender = &mut slips[txn.lane as usize];
+    let slip = Slip {
+        txn,
+        place,
+        worker: sender.number(),
+        outcome,
+    };
+    sender.offer(rt, slip).is_ok()
+}

@@ -1,0 +1,351 @@
+//! A worker over three copies of a message: two of lane 0, for two recipients of one transaction, and one of lane 1.
+ghost use Rattle.std.specs.Prelude.{◌≡◌, ◌≤◌, IfOk, IfSome, length};
+ghost use Rattle.box_worker.specs.Told.{worker_of, AreOfWorker};
+
+use super::*;
+use mail_post::{Post, SlipReceiver, SlipSender, close, mail_line, slip_line};
+use mail_world::{Outcome, Slip, Txn};
+use mbox_rd::{Envelope, MemorySpool, Spool};
+use msg_depot::{Blank, Depot, DepotName, Hold};
+use std::alloc::{AllocError, Global};
+use std::marker::Brand;
+use std::process::Abort;
+use std::sync::Wait;
+use std::test::Fail;
+
+mod failing;
+
+use failing::FailingSpool;
+
+mod noting;
+
+use noting::{Call, NotingGate};
+
+/// Each record has 189 bytes.
+const STORED: &[u8] = b"From carl@a.example Thu Jan  1 00:00:00 1970
+Return-Path: <carl@a.example>
+Received: from relay.example
+\tby mx.example with LMTP id 0-1;
+\tThu, 1 Jan 1970 00:00:00 +0000
+Subject: hi
+
+hello
+
+From carl@a.example Thu Jan  1 00:00:00 1970
+Return-Path: <carl@a.example>
+Received: from relay.example
+\tby mx.example with LMTP id 0-1;
+\tThu, 1 Jan 1970 00:00:00 +0000
+Subject: hi
+
+hello
+
+From carl@a.example Thu Jan  1 00:00:00 1970
+Return-Path: <carl@a.example>
+Received: from relay.example
+\tby mx.example with LMTP id 1-1;
+\tThu, 1 Jan 1970 00:00:00 +0000
+Subject: hi
+
+hello
+
+";
+
+const RECORD_LEN: usize = 189;
+
+/// Room for the copies and the closing marks.
+const CAPACITY: usize = 5;
+
+const BLOCKS: u32 = 4;
+
+/// How the other ends are before the worker starts.
+#[derive(Clone, Copy)]
+struct Others {
+    /// Whether the copies' senders put their closing marks before they go.
+    close: bool,
+    /// Whether lane 0 listens to its slips.
+    listen: bool,
+}
+
+const ALL_THERE: Others = Others {
+    close: true,
+    listen: true,
+};
+
+/// What came of it.
+#[derive(Drop)]
+struct Ran<S: Spool> {
+    spool: S,
+    taken: u64,
+    stored: u64,
+    faulty: bool,
+    lost: bool,
+    /// What each lane heard.
+    heard: (Vec<Slip>, Vec<Slip>),
+    free_blocks: u32,
+}
+
+impl<S: Spool> Ran<S> {
+    // Whether the lanes were told that so many copies are stored, the first ones.
+    fn tells(&self, stored: u64) -> bool {
+        let first = [slip(0, 0, stored > 0), slip(0, 1, stored > 1)];
+        let second = [slip(1, 0, stored > 2)];
+        self.taken == 3
+            && self.stored == stored
+            && self.heard.0.as_slice() == first.as_slice()
+            && self.heard.1.as_slice() == second.as_slice()
+    }
+}
+
+fn slip(lane: u32, place: u32, is_stored: bool) -> Slip {
+    Slip {
+        txn: Txn { lane, number: 1 },
+        place,
+        worker: 0,
+        outcome: if is_stored {
+            Outcome::Stored
+        } else {
+            Outcome::Failed
+        },
+    }
+}
+
+fn run<S: Spool + Drop, R: Wait>(
+    rt: &R,
+    alloc: Global,
+    spool: S,
+    others: Others,
+) -> Result<Ran<S>, Fail> {
+    let (ran, _) = run_gated(rt, alloc, spool, others, OpenGate)?;
+    Ok(ran)
+}
+
+fn run_gated<S: Spool + Drop, G: Gate + Drop, R: Wait>(
+    rt: &R,
+    alloc: Global,
+    spool: S,
+    others: Others,
+    gate: G,
+) -> Result<(Ran<S>, G), Fail> {
+    let blank = Blank::new(alloc, BLOCKS, 2)?;
+    run_over::<Brand, S, G, R>(rt, alloc, blank, spool, others, gate)
+}
+
+fn run_over<N: DepotName, S: Spool + Drop, G: Gate + Drop, R: Wait>(
+    rt: &R,
+    alloc: Global,
+    blank: Blank,
+    spool: S,
+    others: Others,
+    gate: G,
+) -> Result<(Ran<S>, G), Fail>
+    requires { blank.table ≡ N.table }
+{
+    let depot = blank.open::<N>();
+    let (mut senders, receiver) = mail_line::<N>(alloc, CAPACITY, 2)?;
+    let mut first = sealed(rt, &depot, 2).ok_or("there is room")?;
+    let second = depot.split_one(&mut first);
+    let third = sealed(rt, &depot, 1).ok_or("there is room")?;
+    senders[0]
+        .offer(rt, post(alloc, 0, 0, first))
+        .ok()
+        .ok_or("accepted")?;
+    senders[0]
+        .offer(rt, post(alloc, 0, 1, second))
+        .ok()
+        .ok_or("accepted")?;
+    senders[1]
+        .offer(rt, post(alloc, 1, 0, third))
+        .ok()
+        .ok_or("accepted")?;
+    if others.close {
+        drop(close(senders, rt));
+    } else {
+        drop(senders);
+    }
+    let (slips, a, b) = slip_ends(alloc)?;
+    let a = Some(a).filter(|_| others.listen);
+    let report = worker_run(rt, receiver, slips, spool, &depot, gate, b"mx.example");
+    let WorkerReport {
+        spool,
+        gate,
+        taken,
+        stored,
+        faulty,
+        lost,
+        receiver: _,
+        slips,
+    } = report;
+    drop(slips);
+    let ran = Ran {
+        spool,
+        taken,
+        stored,
+        faulty,
+        lost,
+        heard: (heard(rt, alloc, a)?, heard(rt, alloc, Some(b))?),
+        free_blocks: depot.free_blocks(rt),
+    };
+    Ok((ran, gate))
+}
+
+// The message, in two blocks' pieces.
+fn sealed<N: DepotName, R: Wait>(rt: &R, depot: &Depot<N>, holds: u32) -> Option<Hold<N>>
+    requires { (1 ≤ holds) × (holds ≤ 2) }
+    ensures { IfSome result (λ hold. hold.weight ≡ holds) }
+{
+    let mut draft = depot.draft(rt).ok()?;
+    depot.put(rt, &mut draft, b"Subject: hi\r\n\r").ok()?;
+    depot.put(rt, &mut draft, b"\nhello\r\n").ok()?;
+    Some(depot.seal(rt, draft, holds))
+}
+
+fn post<N: DepotName>(alloc: Global, lane: u32, place: u32, hold: Hold<N>) -> Post<N>
+    requires { hold.weight ≡ 1 }
+    ensures { result.txn.lane ≡ lane }
+{
+    let txn = Txn { lane, number: 1 };
+    let envelope = Envelope::new(alloc, b"carl@a.example", b"relay.example", txn, 0);
+    Post::new(txn, place, 0, envelope, hold)
+}
+
+// A worker's ends of two lanes' slips, and the lanes' ends.
+fn slip_ends(alloc: Global) -> Result<(Vec<SlipSender>, SlipReceiver, SlipReceiver), Fail>
+    ensures lanes { IfOk result (λ ends. length ends.0.items ≡ 2) }
+    ensures worker { IfOk result (λ ends. AreOfWorker (worker_of ends.0.items) ends.0.items) }
+{
+    let (mut first, a) = slip_line(alloc, 1)?;
+    let (mut second, b) = slip_line(alloc, 1)?;
+    let (Some(x), Some(y)) = (first.pop(), second.pop()) else {
+        return Err("one sender each".into());
+    };
+    Ok((vec![in alloc; x, y]?, a, b))
+}
+
+// What a lane heard until its channel was gone.
+fn heard<R: Wait>(
+    rt: &R,
+    alloc: Global,
+    receiver: Option<SlipReceiver>,
+) -> Result<Vec<Slip>, AllocError> {
+    let mut slips = Vec::new(alloc);
+    let Some(mut receiver) = receiver else {
+        return Ok(slips);
+    };
+    for _ in 0..4 {
+        match receiver.take(rt) {
+            Ok(slip) => slips.push(slip)?,
+            Err(_) => return Ok(slips),
+        }
+    }
+    Ok(slips)
+}
+
+#[test]
+fn three_copies_are_stored(rt: HostRuntime) -> Result<(), Fail> {
+    let spool = MemorySpool::new(rt.alloc(), b"", STORED.len())?;
+    let ran = run(&rt, rt.alloc(), spool, ALL_THERE)?;
+    assert!(rt; ran.tells(3) && !ran.faulty && !ran.lost);
+    assert_eq!(rt; ran.spool.bytes(), STORED);
+    assert_eq!(rt; ran.spool.bytes().len(), 3 * RECORD_LEN);
+    assert_eq!(rt; ran.free_blocks, BLOCKS);
+    Ok(())
+}
+
+#[test]
+fn the_gate_is_asked_around_each_copy(rt: HostRuntime) -> Result<(), Fail> {
+    let spool = MemorySpool::new(rt.alloc(), b"", STORED.len())?;
+    let gate = NotingGate::new(rt.alloc());
+    let (_, gate) = run_gated(&rt, rt.alloc(), spool, ALL_THERE, gate)?;
+    let calls = [
+        Call::Before(0, 0),
+        Call::After(0, 0),
+        Call::Before(0, 1),
+        Call::After(0, 1),
+        Call::Before(1, 0),
+        Call::After(1, 0),
+    ];
+    assert_eq!(rt; gate.calls.as_slice(), calls.as_slice());
+    Ok(())
+}
+
+#[test]
+fn a_full_spool_is_left_alone(rt: HostRuntime) -> Result<(), Fail> {
+    // old bytes, room, how many copies are stored, and what the spool holds then
+    let table = [
+        (
+            b"".as_slice(),
+            40,
+            0,
+            b"From carl@a.example Thu Jan  1 00:00:00 ".as_slice(),
+        ),
+        (b"abc", 1, 0, b"abc\n"),
+        (b"", 188, 0, STORED.split_at(188).0),
+        (b"", 189, 1, STORED.split_at(189).0),
+        (b"", 566, 2, STORED.split_at(566).0),
+    ];
+    for (old, room, stored, bytes) in table {
+        let spool = MemorySpool::new(rt.alloc(), old, room)?;
+        let ran = run(&rt, rt.alloc(), spool, ALL_THERE)?;
+        assert!(rt; ran.tells(stored) && ran.faulty && !ran.lost);
+        assert_eq!(rt; ran.spool.bytes(), bytes);
+        assert_eq!(rt; ran.free_blocks, BLOCKS);
+    }
+    Ok(())
+}
+
+#[test]
+fn each_call_may_fail(rt: HostRuntime) -> Result<(), Fail> {
+    let spool = FailingSpool::new(rt.alloc(), u32::MAX)?;
+    let whole = run(&rt, rt.alloc(), spool, ALL_THERE)?;
+    assert!(rt; whole.tells(3) && !whole.faulty);
+    for call in 0..whole.spool.calls {
+        let spool = FailingSpool::new(rt.alloc(), call)?;
+        let ran = run(&rt, rt.alloc(), spool, ALL_THERE)?;
+        assert!(rt; ran.faulty && ran.stored < 3 && ran.tells(ran.stored));
+        assert_eq!(rt; ran.spool.calls, call + 1, "it was left alone");
+        assert!(rt; STORED.starts_with(ran.spool.bytes()));
+        assert_eq!(rt; ran.free_blocks, BLOCKS);
+    }
+    Ok(())
+}
+
+#[test]
+fn a_sync_fails(rt: HostRuntime) -> Result<(), Fail> {
+    let spool = FailingSpool::without_sync(rt.alloc())?;
+    let ran = run(&rt, rt.alloc(), spool, ALL_THERE)?;
+    assert!(rt; ran.tells(0) && ran.faulty);
+    assert_eq!(rt; ran.spool.bytes().len(), RECORD_LEN);
+    assert_eq!(rt; ran.free_blocks, BLOCKS);
+    Ok(())
+}
+
+#[test]
+fn a_lane_is_gone(rt: HostRuntime) -> Result<(), Fail> {
+    let spool = MemorySpool::new(rt.alloc(), b"", STORED.len())?;
+    let others = Others {
+        listen: false,
+        ..ALL_THERE
+    };
+    let ran = run(&rt, rt.alloc(), spool, others)?;
+    assert!(rt; ran.lost && !ran.faulty && ran.stored == 3);
+    assert_eq!(rt; ran.spool.bytes(), STORED);
+    assert!(rt; ran.heard.0.is_empty());
+    assert_eq!(rt; ran.heard.1.as_slice(), [slip(1, 0, true)].as_slice());
+    assert_eq!(rt; ran.free_blocks, BLOCKS);
+    Ok(())
+}
+
+#[test]
+fn the_senders_are_gone(rt: HostRuntime) -> Result<(), Fail> {
+    let spool = MemorySpool::new(rt.alloc(), b"", STORED.len())?;
+    let others = Others {
+        close: false,
+        ..ALL_THERE
+    };
+    let ran = run(&rt, rt.alloc(), spool, others)?;
+    assert!(rt; ran.lost && !ran.faulty && ran.tells(3));
+    assert_eq!(rt; ran.spool.bytes(), STORED);
+    assert_eq!(rt; ran.free_blocks, BLOCKS);
+    Ok(())
+}

@@ -1,0 +1,132 @@
+//! A worker's thread.
+
+ghost use Rattle.std.specs.Prelude.{◌≡◌, ◌<◌, ◌||◌, ℕ, List, [], ◌∷◌, ◌++◌, length};
+ghost use Rattle.lmtp_text.specs.Calendar.{civil_at};
+ghost use Rattle.mail_world.specs.declared.Note.{Note};
+ghost use Rattle.mail_world.specs.declared.Slip.{Slip};
+ghost use Rattle.mbox_rd.specs.Spool.{SpoolState};
+ghost use Rattle.mail_post.specs.Line.{Lane, taken};
+ghost use Rattle.box_worker.specs.Told.{worker_of, AreOfWorker};
+ghost use Rattle.box_worker.specs.Worked.{HasHandled, HasWorked};
+
+use crate::gate::Gate;
+use crate::mailbox::Mailbox;
+use crate::report::WorkerReport;
+use crate::tell::tell;
+use mail_post::{Gone, Parts, Post, Receiver, SlipSender};
+use mbox_rd::Spool;
+use msg_depot::{Depot, DepotName, Hold};
+use std::sync::Wait;
+
+/// Stores the copies that come, one after another, and gives each lane a slip for each of its own, until the channel is closed
+/// or lost. It takes no memory.
+pub fn worker_run<N: DepotName, S: Spool, G: Gate, R: Wait>(
+    rt: &R,
+    receiver: Receiver<N>,
+    slips: Vec<SlipSender>,
+    spool: S,
+    depot: &Depot<N>,
+    gate: G,
+    host: &[u8],
+) -> WorkerReport<N, S, G>
+    requires fresh { taken receiver ≡ [] }
+    requires lanes { length slips.items ≡ receiver.lanes }
+    requires worker { AreOfWorker (worker_of slips.items) slips.items }
+    ensures { HasWorked civil_at host.now (worker_of slips.items) receiver result.receiver slips.items result.slips.items (S.state spool) (S.state result.spool) result.taken result.stored result.faulty result.lost }
+{
+    let mut receiver = receiver;
+    let mut worker = Worker {
+        mailbox: Mailbox::over(spool),
+        gate,
+        slips,
+        taken: 0,
+        lost: false,
+    };
+    for _ in rt.forever() {
+        match receiver.take(rt) {
+            Ok(post) => worker.handle(rt, depot, host, post),
+            Err(Gone::Closed) => return worker.report(receiver, false),
+            Err(Gone::Lost) => return worker.report(receiver, true),
+        }
+    }
+    unreachable!()
+}
+
+/// A worker between two copies.
+#[derive(Drop)]
+pub struct Worker<S: Spool, G: Gate> {
+    mailbox: Mailbox<S>,
+    gate: G,
+    slips: Vec<SlipSender>,
+    taken: u64,
+    lost: bool,
+}
+
+impl<S: Spool, G: Gate> Worker<S, G> {
+    // One copy, from gate to slip. Its lane is told once the message is let go.
+    fn handle<N: DepotName, R: Wait>(
+        &mut self,
+        rt: &R,
+        depot: &Depot<N>,
+        host: &[u8],
+        post: Post<N>,
+    )
+        requires lane { post.txn.lane < length self.old.slips.items }
+        ensures { (worker : ℕ) (copies : List Note) (slips : List (Lane Slip)) (old : SpoolState) → HasHandled civil_at host.now worker copies slips self.old.slips.items old (S.state self.old.mailbox.spool) self.old.taken self.old.mailbox.stored self.old.mailbox.faulty self.old.lost → HasHandled civil_at host.now worker (copies ++ post ∷ []) slips self.new.slips.items old (S.state self.new.mailbox.spool) self.new.taken self.new.mailbox.stored self.new.mailbox.faulty self.new.lost }
+    {
+        let Parts {
+            txn,
+            place,
+            mailbox: _,
+            envelope,
+            mut hold,
+        } = post.parts();
+        self.gate.before(txn, place);
+        let outcome = self.mailbox.take(rt, depot, host, &envelope, &mut hold);
+        let_go(rt, depot, hold);
+        self.gate.after(txn, place);
+        let accepted = tell(rt, &mut self.slips, txn, place, outcome);
+        self.lost |= !accepted;
+        self.taken = self.taken.saturating_add(1);
+    }
+
+    // What it hands back once nothing more comes.
+    fn report<N: DepotName>(self, receiver: Receiver<N>, is_lost: bool) -> WorkerReport<N, S, G>
+        ensures ends { (result.receiver ≡ receiver) × (result.slips.items ≡ self.slips.items) }
+        ensures counts { (result.taken ≡ self.taken) × (result.stored ≡ self.mailbox.stored) }
+        ensures spool { (S.state result.spool ≡ S.state self.mailbox.spool) × (result.faulty ≡ self.mailbox.faulty) }
+        ensures lost { result.lost ≡ (self.lost || is_lost) }
+    {
+        let Worker {
+            mailbox,
+            gate,
+            slips,
+            taken,
+            lost,
+        } = self;
+        let Mailbox {
+            spool,
+            stored,
+            faulty,
+        } = mailbox;
+        WorkerReport {
+            spool,
+            gate,
+            taken,
+            stored,
+            faulty,
+            lost: lost || is_lost,
+            receiver,
+            slips,
+        }
+    }
+}
+
+// Gives the hold up, and the blocks of a message that nobody holds any more.
+fn let_go<N: DepotName, R: Wait>(rt: &R, depot: &Depot<N>, hold: Hold<N>)
+    requires { hold.weight ≡ 1 }
+{
+    if let Some(spent) = depot.release(hold) {
+        depot.reclaim(rt, spent);
+    }
+}
