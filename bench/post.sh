@@ -1,8 +1,10 @@
 #!/usr/bin/env bash
 # How fast copies and slips go through the channels between lanes and workers, beside std::sync::mpsc::sync_channel
-# doing the same (bench/post/channels.rs, by `rustc -O`):
-#   posts L   values as large as a copy, from 1, 2 and 4 lane threads to one receiver, at capacity 16: how many a second
-#   trips     such a value to a worker's thread and its slip back: microseconds a trip
+# doing the same with an Arc of the message in a hold's place (bench/post/channels.rs, by `rustc -O`):
+#   posts L   copies of sealed messages, 100 of each, from 1, 2 and 4 lane threads to one receiver, at capacity 16: how many a
+#             second. A lane seals each message, splits a hold off for each copy and offers it with an envelope of its own;
+#             the receiver releases each hold, and gives the blocks back behind a message's last one
+#   trips     such a copy to a worker's thread, which releases it, and its slip back: microseconds a trip
 # Prints the best of RUNS times of each (9 if it isn't set) and std's time over ours. Fails where the counts differ.
 # Both run by turns, so that a ratio means something on a machine that does other work.
 #
@@ -18,7 +20,7 @@ for crate in mail_world lmtp_text mbox_rd block_arena msg_depot mail_post; do
     cp -a "crates/$crate" "$folder/crates/"
     grep -E "^$crate( |:)" crates.txt
 done > "$folder/crates.txt"
-echo "post: mail_world mail_post anyhow" >> "$folder/crates.txt"
+echo "post: mail_world mbox_rd msg_depot mail_post anyhow" >> "$folder/crates.txt"
 cp HANDLES "$folder/"
 cp -a bench/post "$folder/crates/"
 find "$folder/crates/post" -name '*.in' | while read -r file; do mv "$file" "${file%.in}"; done
