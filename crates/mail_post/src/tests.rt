@@ -115,27 +115,49 @@ fn copies_by<N: DepotName, R: Wait + Abort>(rt: &R, alloc: Global, blank: Blank)
     Ok(())
 }
 
-#[test]
-fn a_copy_in_a_thread(rt: HostRuntime) -> Result<(), Fail> {
-    let blank = Blank::new(rt.alloc(), 1, 1)?;
-    copy_there::<Brand, _>(rt, rt.alloc(), blank)
+// The copies of a lane's thread, each of a message of its own.
+fn copies_of<N: DepotName, R: Wait>(
+    rt: &R,
+    alloc: Global,
+    depot: &Depot<N>,
+    lane: u32,
+) -> Result<Vec<Post<N>>, Fail>
+    ensures { IfOk result (λ copies. AreOfLane (λ post. post.txn.lane) lane copies.items) }
+{
+    let a = post(rt, alloc, depot, lane, 1, b"a").ok_or("there is room")?;
+    let b = post(rt, alloc, depot, lane, 2, b"b").ok_or("there is room")?;
+    let c = post(rt, alloc, depot, lane, 3, b"c").ok_or("there is room")?;
+    Ok(vec![in alloc; a, b, c]?)
 }
 
-fn copy_there<N, R>(rt: R, alloc: Global, blank: Blank) -> Result<(), Fail>
+#[test]
+fn lanes_in_threads(rt: HostRuntime) -> Result<(), Fail> {
+    let blank = Blank::new(rt.alloc(), 9, 9)?;
+    lanes_there::<Brand, _>(rt, rt.alloc(), blank)
+}
+
+fn lanes_there<N, R>(rt: R, alloc: Global, blank: Blank) -> Result<(), Fail>
 where
-    N: DepotName + 'static,
+    N: DepotName + Send + Sync + 'static,
     R: Threads + Wait + Abort + Copy + Send + 'static,
     requires { blank.table ≡ N.table }
 {
     let depot = blank.open::<N>();
-    let copy = post(&rt, alloc, &depot, 0, 1, b"a").ok_or("there is room")?;
-    let copies = vec![in alloc; copy]?;
-    let jobs = vec![in alloc; copies]?;
-    let all = relay(rt, alloc, 1, jobs)?.ok_or("the copy was taken")?;
-    assert_eq!(rt; all.len(), 1);
+    let first = copies_of(&rt, alloc, &depot, 0)?;
+    let second = copies_of(&rt, alloc, &depot, 1)?;
+    let third = copies_of(&rt, alloc, &depot, 2)?;
+    let jobs = vec![in alloc; first, second, third]?;
+    let all = relay(rt, alloc, 2, jobs)?.ok_or("every copy was taken")?;
+    let mut taken = [0; 3];
     for copy in all {
-        assert!(rt; seen(&rt, &depot, copy) == (0, 1, *b"a"));
+        let (lane, number, text) = seen(&rt, &depot, copy);
+        assert!(rt; lane < 3);
+        let before: u32 = taken[lane as usize];
+        assert!(rt; before < 3 && number == before + 1);
+        assert_eq!(rt; text, [b"abc"[before as usize]]);
+        taken[lane as usize] = number;
     }
+    assert_eq!(rt; taken, [3; 3]);
     Ok(())
 }
 
