@@ -123,7 +123,7 @@ fn a_copy_in_a_thread(rt: HostRuntime) -> Result<(), Fail> {
 
 fn copy_there<N, R>(rt: R, alloc: Global, blank: Blank) -> Result<(), Fail>
 where
-    N: DepotName + 'static,
+    N: DepotName + Send + Sync + 'static,
     R: Threads + Wait + Abort + Copy + Send + 'static,
     requires { blank.table ≡ N.table }
 {

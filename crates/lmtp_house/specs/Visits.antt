@@ -1,0 +1,56 @@
+-- The clients that a lane served.
+use Rattle.std.specs.Prelude.{◌≡◌, ⊤, ℕ, List, [], ◌∷◌, ◌++◌, map, Option, Some, None}
+use Rattle.std.specs.List.{AllByRecursion}
+use Rattle.mail_world.specs.Site.{Site}
+use Rattle.mail_world.specs.Conversation.{Conversation, IsAccount, inputs, replies}
+use Rattle.lmtp_house.specs.declared.ending.EndCause.{EndCause}
+use Rattle.lmtp_house.specs.declared.ending.EndCause.TheVariants as ends
+use Rattle.lmtp_house.specs.Peer.{PeerState, HasMoved}
+use Rattle.lmtp_house.specs.Served.{IsWritten, EndsFor}
+
+-- a conversation that has ended: its client, as it was handed back, and the cause
+pub record Finished : Type 0 where
+  pub peer : PeerState
+  pub cause : EndCause
+
+-- one more conversation is told, where they are told
+abbrev pub Finishes : Option (List Finished) → Option (List Finished) → PeerState → EndCause → Type 0
+Finishes None new peer cause = new ≡ None
+Finishes (Some told) new peer cause = new ≡ Some (told ++ record { peer = peer; cause = cause } ∷ [])
+
+-- a client of whom nothing was read, and to whom nothing was written, who tells both where conversations are told
+abbrev pub IsFresh : Option (List Finished) → PeerState → Type 0
+IsFresh None peer = ⊤
+IsFresh (Some told) peer = (peer.read ≡ Some []) × (peer.written ≡ Some [])
+
+-- a client who was served: the client before and behind the conversation, the bytes that were read and what became of their data, and why it ended
+pub record Visit : Type 0 where
+  pub before : PeerState
+  pub after : PeerState
+  pub conversation : Conversation
+  pub cause : EndCause
+
+-- what was read and written is the conversation, whose account has an entry for each data that ended, and it ended for that cause
+pub record IsVisit (site : Site) (tells : Option (List Finished)) (v : Visit) : Type 0 where
+  pub fresh : IsFresh tells v.before
+  pub said : List ℕ
+  pub moved : HasMoved v.before v.after v.conversation.bytes said
+  pub accounted : IsAccount site v.conversation
+  pub says : IsWritten (replies site (inputs site v.conversation)) (v.cause ≡ ends.WriteFault) said
+  pub causes : EndsFor site v.conversation v.before v.after v.cause
+
+abbrev pub finished_of : Visit → Finished
+finished_of v = record { peer = v.after; cause = v.cause }
+
+abbrev pub conversations_of : List Visit → List Conversation
+conversations_of visits = map (λ v. v.conversation) visits
+
+-- these more are told, where conversations are told
+abbrev pub HasFinished : Option (List Finished) → Option (List Finished) → List Visit → Type 0
+HasFinished None new visits = new ≡ None
+HasFinished (Some told) new visits = new ≡ Some (told ++ map finished_of visits)
+
+-- the clients that were served, one after another
+pub record HasVisited (site : Site) (old new : Option (List Finished)) (visits : List Visit) : Type 0 where
+  pub told : HasFinished old new visits
+  pub each : AllByRecursion (IsVisit site old) visits
