@@ -1,5 +1,5 @@
 -- The clients that a lane served.
-use Rattle.std.specs.Prelude.{◌≡◌, ⊤, ℕ, List, [], ◌∷◌, ◌++◌, map, Option, Some, None}
+use Rattle.std.specs.Prelude.{◌≡◌, ℕ, List, [], ◌∷◌, ◌++◌, map, Option, Some, None}
 use Rattle.std.specs.List.{AllByRecursion}
 use Rattle.mail_world.specs.Site.{Site}
 use Rattle.mail_world.specs.Conversation.{Conversation, IsAccount, inputs, replies}
@@ -18,11 +18,6 @@ abbrev pub Finishes : Option (List Finished) → Option (List Finished) → Peer
 Finishes None new peer cause = new ≡ None
 Finishes (Some told) new peer cause = new ≡ Some (told ++ record { peer = peer; cause = cause } ∷ [])
 
--- a client of whom nothing was read, and to whom nothing was written, who tells both where conversations are told
-abbrev pub IsFresh : Option (List Finished) → PeerState → Type 0
-IsFresh None peer = ⊤
-IsFresh (Some told) peer = (peer.read ≡ Some []) × (peer.written ≡ Some [])
-
 -- a client who was served: the client before and behind the conversation, the bytes that were read and what became of their data, and why it ended
 pub record Visit : Type 0 where
   pub before : PeerState
@@ -30,9 +25,9 @@ pub record Visit : Type 0 where
   pub conversation : Conversation
   pub cause : EndCause
 
--- what was read and written is the conversation, whose account has an entry for each data that ended, and it ended for that cause
-pub record IsVisit (site : Site) (tells : Option (List Finished)) (v : Visit) : Type 0 where
-  pub fresh : IsFresh tells v.before
+-- the client is one that may come; what was read and written is the conversation, whose account has an entry for each data that ended; and it ended for that cause
+pub record IsVisit (site : Site) (MayCome : PeerState → Type 0) (v : Visit) : Type 0 where
+  pub client : MayCome v.before
   pub said : List ℕ
   pub moved : HasMoved v.before v.after v.conversation.bytes said
   pub accounted : IsAccount site v.conversation
@@ -51,6 +46,6 @@ HasFinished None new visits = new ≡ None
 HasFinished (Some told) new visits = new ≡ Some (told ++ map finished_of visits)
 
 -- the clients that were served, one after another
-pub record HasVisited (site : Site) (old new : Option (List Finished)) (visits : List Visit) : Type 0 where
+pub record HasVisited (site : Site) (MayCome : PeerState → Type 0) (old new : Option (List Finished)) (visits : List Visit) : Type 0 where
   pub told : HasFinished old new visits
-  pub each : AllByRecursion (IsVisit site old) visits
+  pub each : AllByRecursion (IsVisit site MayCome) visits

@@ -1,7 +1,6 @@
 //! A lane's thread.
 
-ghost use Rattle.std.specs.Prelude.{◌≡◌, ◌^◌, ℕ, List, [], length};
-ghost use Rattle.mail_post.specs.Line.{taken};
+ghost use Rattle.std.specs.Prelude.{◌≡◌, length, false};
 ghost use Rattle.lmtp_house.specs.LaneExchange.{AreOfLane};
 ghost use Rattle.lmtp_house.specs.LaneRun.{HasServed};
 
@@ -30,7 +29,8 @@ pub fn lane_run<N: DepotName, V: Visits, C: Clock, R: Wait>(
     requires site { desk.dialogue.session.site ≡ site.now }
     requires count { length senders.items ≡ length site.now.boxes }
     requires lane { AreOfLane lane senders.items }
-    ensures { HasServed site.now lane (C.May clock.now) (V.finished visits) (V.finished result.visits) (V.over result.visits)
+    requires none_out { V.out visits ≡ false }
+    ensures { HasServed site.now lane (C.May clock.now) (V.MayGive visits) (V.finished visits) (V.finished result.visits) (V.over result.visits)
         senders.items result.senders.items slips result.slips result.conversations result.gone }
 {
     drop(desk);
