@@ -11,3 +11,4 @@ pub mod Exchanging
 pub mod Awaiting
 pub mod Delivering
 pub mod Accounting
+pub mod AnsweredAll

@@ -21,7 +21,11 @@ const READ_SIZE: usize = 4_096;
 
 /// Serves one conversation. All that was read is handled, and its replies are written, before the next read; nothing is
 /// read behind QUIT. Where a write fails the conversation ends once the bytes that were read are handled.
-pub fn serve<P: Peer, D: Delivery>(dialogue: &mut Dialogue, peer: &mut P, delivery: &mut D) -> EndCause
+pub fn serve<P: Peer, D: Delivery>(
+    dialogue: &mut Dialogue,
+    peer: &mut P,
+    delivery: &mut D,
+) -> EndCause
     requires { D.site delivery.old ≡ dialogue.old.session.site }
     ensures serves { IsServed dialogue.old.session.site (P.state peer.old) (P.state peer.new) (D.HasCome delivery.old) (D.HasCome delivery.new) result }
     ensures site { dialogue.new.session.site ≡ dialogue.old.session.site }
@@ -44,7 +48,11 @@ fn greet<P: Peer>(dialogue: &mut Dialogue, peer: &mut P)
 }
 
 // Takes turns until the conversation ends.
-fn take_turns<P: Peer, D: Delivery>(dialogue: &mut Dialogue, peer: &mut P, delivery: &mut D) -> EndCause
+fn take_turns<P: Peer, D: Delivery>(
+    dialogue: &mut Dialogue,
+    peer: &mut P,
+    delivery: &mut D,
+) -> EndCause
     requires may { MayStop dialogue.old.session.session.state }
     requires none { dialogue.old.outbox.pending.items ≡ [] }
     requires here { D.site delivery.old ≡ dialogue.old.session.site }
@@ -112,7 +120,12 @@ fn take_turn<P: Peer, D: Delivery>(
 }
 
 // Handles the bytes, and writes the replies to them.
-fn take_piece<P: Peer, D: Delivery>(dialogue: &mut Dialogue, peer: &mut P, delivery: &mut D, piece: &[u8])
+fn take_piece<P: Peer, D: Delivery>(
+    dialogue: &mut Dialogue,
+    peer: &mut P,
+    delivery: &mut D,
+    piece: &[u8],
+)
     requires { D.site delivery.old ≡ dialogue.old.session.site }
     ensures handles { HandlesPiece D.HasCome D.IsDrafting dialogue.old dialogue.new (P.state peer.old) (P.state peer.new) delivery.old delivery.new piece.now }
     ensures none { dialogue.new.outbox.pending.items ≡ [] }

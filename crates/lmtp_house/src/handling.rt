@@ -17,7 +17,12 @@ use mail_world::{State, Verdict};
 const MADE_SIZE: usize = 512;
 
 /// Handles all that was read, up to QUIT.
-pub fn handle<P: Peer, D: Delivery>(dialogue: &mut Dialogue, peer: &mut P, delivery: &mut D, piece: &[u8])
+pub fn handle<P: Peer, D: Delivery>(
+    dialogue: &mut Dialogue,
+    peer: &mut P,
+    delivery: &mut D,
+    piece: &[u8],
+)
     requires { D.site delivery.old ≡ dialogue.old.session.site }
     ensures stands { Carries D.HasCome D.IsDrafting dialogue.old dialogue.new (P.state peer.old) (P.state peer.new) delivery.old delivery.new piece.now }
     ensures site { dialogue.new.session.site ≡ dialogue.old.session.site }
