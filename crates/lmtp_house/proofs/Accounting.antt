@@ -1,5 +1,5 @@
 -- What a lane's account says once another DATA command came, or another data ended.
-use Rattle.std.proofs.Common.{◌≡◌, ℕ, zero, suc, cond, ◌+◌, ◌-◌, ◌^◌, ◌<◌, ◌≤◌, min, List, [], ◌∷◌, ◌++◌, length, map, Bool, true, false, Option, Some, None, refl, ap, sym, ◌∙◌, subst, append_assoc, append-nil, arith}
+use Rattle.std.proofs.Common.{◌≡◌, ℕ, zero, suc, cond, ◌+◌, ◌<◌, ◌≤◌, List, [], ◌∷◌, ◌++◌, length, map, Bool, true, false, Option, Some, None, refl, ap, sym, ◌∙◌, subst, append_assoc, append-nil, arith}
 use Rattle.std.specs.Prelude.{nat_lt, if◌then◌else◌, flat_map, find, option_map}
 use Rattle.std.specs.List.{AllByRecursion, range_with_len}
 use Rattle.std.specs.Option.{IfSome}
@@ -17,9 +17,9 @@ use Rattle.mail_world.specs.Session.{Session}
 use Rattle.mail_world.specs.Lists.{Transaction, VerdictFits, OutcomesIn, copies, copies_if, copies_from}
 use Rattle.mail_world.proofs.Heard.{all_more}
 use Rattle.msg_depot.specs.declared.view.Claim.{Claim}
-use Rattle.mail_post.specs.Line.{Lane, Inbox}
+use Rattle.mail_post.specs.Line.{Lane, Inbox, taken}
 use Rattle.lmtp_house.specs.LaneExchange.{HasExchanged, sent_as}
-use Rattle.lmtp_house.specs.LaneAccount.{counted, IsAnswered, HasOffered, HoldsDraft, verdict_with, verdict_on, IsDelivered, Delivers}
+use Rattle.lmtp_house.specs.LaneAccount.{counted, IsAnswered, HasOffered, HoldsDraft, verdict_with, verdict_on, Delivers}
 use Rattle.lmtp_house.specs.Delivery.{EndsDraft}
 
 -- another DATA command
@@ -158,21 +158,16 @@ copies_told lane n session moment message told place (r ∷ rs) =
     ap (λ l. record { txn = record { lane = lane; number = n }; place = place; mailbox = r; sender = session.sender; client = session.client; moment = moment; message = message } ∷ l)
     (copies_told lane n session moment message told (place + 1) rs)
 
-moments_stay : (May May' : ℕ → Type 0) (ts : List Transaction) → ((m : ℕ) → May m → May' m) → AllByRecursion (λ (y : Transaction). May y.disposition.moment) ts
-    → AllByRecursion (λ (y : Transaction). May' y.disposition.moment) ts
-moments_stay May May' [] stays h = tt
-moments_stay May May' (t ∷ ts) stays h = (stays t.disposition.moment h.0, moments_stay May May' ts stays h.1)
-
 bytes_are : (draft : Option Claim) (claim : Claim) (message : List ℕ) → draft ≡ Some claim → IfSome draft (λ (x : Claim). x.bytes ≡ message) → claim.bytes ≡ message
 bytes_are draft claim message e h = let P : Option Claim → Type 0 = λ d. IfSome d (λ (x : Claim). x.bytes ≡ message) in subst P e h
 
 -- a message that went to its recipients, where nothing else has changed
-whole_same : (lane : ℕ) (May May' : ℕ → Type 0) (a b b' : List (Lane Note)) (i j j' : Inbox Slip) (gone gone' : Bool) (accepted size : ℕ) (draft : Option Claim) (claim : Claim) (session : Session)
-    (moment : ℕ) (told : List Outcome) → accepted ≤ NUMBER_LIMIT → draft ≡ Some claim → Whole ≡ verdict_on accepted size draft → May moment → ((m : ℕ) → May m → May' m)
+whole_same : (lane : ℕ) (May : ℕ → Type 0) (a b b' : List (Lane Note)) (i j j' : Inbox Slip) (gone gone' : Bool) (accepted size : ℕ) (draft : Option Claim) (claim : Claim) (session : Session)
+    (moment : ℕ) (told : List Outcome) → accepted ≤ NUMBER_LIMIT → draft ≡ Some claim → Whole ≡ verdict_on accepted size draft → May moment
     → Delivers lane accepted session moment claim.bytes told b b' j j' gone gone'
     → (n : ℕ) (ts : List Transaction) (message : List ℕ) → HasOffered lane May a b i j gone accepted n ts × HoldsDraft draft size message
-    → EndsDraft (λ n ts. HasOffered lane May' a b' i j' gone' accepted n ts) moment told session n ts message Whole
-whole_same lane May May' a b b' i j j' gone gone' accepted size draft claim session moment told low there is may stays delivers n ts message h =
+    → EndsDraft (λ n ts. HasOffered lane May a b' i j' gone' accepted n ts) moment told session n ts message Whole
+whole_same lane May a b b' i j j' gone gone' accepted size draft claim session moment told low there is may delivers n ts message h =
     let x = h.0 in
     let t : Transaction = record { number = n; session = session; message = message; disposition = record { verdict = Whole; moment = moment; outcomes = told } } in
     let number : accepted ≡ n = omega (arith, x.count, low) in
@@ -190,18 +185,54 @@ whole_same lane May May' a b b' i j j' gone gone' accepted size draft claim sess
       answered = all_more (IsAnswered lane (x.heard ++ d.since)) ts t (answered_later lane x.heard d.since ts x.answered)
           (record { before = x.heard; since = d.since; whole = refl; outcomes = d.outcomes });
       verdicts = all_more VerdictFits ts t x.verdicts (verdict_fits t accepted size draft x.count h.1.long is);
-      moments = all_more (λ (y : Transaction). May' y.disposition.moment) ts t (moments_stay May May' ts stays x.moments) (stays moment may);
+      moments = all_more (λ (y : Transaction). May y.disposition.moment) ts t x.moments may;
     }
 
-pub ended_whole : (lane lane' : ℕ) (May May' : ℕ → Type 0) (a b b' : List (Lane Note)) (i j j' : Inbox Slip) (gone gone' : Bool) (accepted accepted' size : ℕ) (draft : Option Claim) (claim : Claim)
-    (session : Session) (moment moment' : ℕ) (told : List Outcome) → (lane' ≡ lane) × (accepted' ≡ accepted) × (moment' ≡ moment)
-    → accepted ≤ NUMBER_LIMIT → draft ≡ Some claim → Whole ≡ verdict_on accepted size draft → May moment → ((m : ℕ) → May m → May' m)
-    → Delivers lane accepted session moment claim.bytes told b b' j j' gone gone'
+pub ended_whole : (lane at : ℕ) (May : ℕ → Type 0) (a b b' : List (Lane Note)) (i j j' : Inbox Slip) (gone gone' : Bool) (accepted accepted' size : ℕ) (draft : Option Claim) (claim : Claim)
+    (session : Session) (moment moment' : ℕ) (told : List Outcome) → at ≡ lane → (accepted' ≡ accepted) × (moment' ≡ moment)
+    → accepted ≤ NUMBER_LIMIT → draft ≡ Some claim → Whole ≡ verdict_on accepted size draft → May moment
+    → Delivers at accepted session moment claim.bytes told b b' j j' gone gone'
     → (n : ℕ) (ts : List Transaction) (message : List ℕ) → HasOffered lane May a b i j gone accepted n ts × HoldsDraft draft size message
-    → EndsDraft (λ n ts. HasOffered lane' May' a b' i j' gone' accepted' n ts) moment' told session n ts message Whole
-ended_whole lane lane' May May' a b b' i j j' gone gone' accepted accepted' size draft claim session moment moment' told same low there is may stays delivers n ts message h =
-    let P : ℕ → Type 0 = λ l. EndsDraft (λ n ts. HasOffered l May' a b' i j' gone' accepted' n ts) moment' told session n ts message Whole in
-    let Q : ℕ → Type 0 = λ k. EndsDraft (λ n ts. HasOffered lane May' a b' i j' gone' k n ts) moment' told session n ts message Whole in
-    let R : ℕ → Type 0 = λ m. EndsDraft (λ n ts. HasOffered lane May' a b' i j' gone' accepted n ts) m told session n ts message Whole in
-    subst P (sym same.0) (subst Q (sym same.1) (subst R (sym same.2)
-    (whole_same lane May May' a b b' i j j' gone gone' accepted size draft claim session moment told low there is may stays delivers n ts message h)))
+    → EndsDraft (λ n ts. HasOffered lane May a b' i j' gone' accepted' n ts) moment' told session n ts message Whole
+ended_whole lane at May a b b' i j j' gone gone' accepted accepted' size draft claim session moment moment' told here same low there is may delivers n ts message h =
+    let D : ℕ → Type 0 = λ l. Delivers l accepted session moment claim.bytes told b b' j j' gone gone' in
+    let Q : ℕ → Type 0 = λ k. EndsDraft (λ n ts. HasOffered lane May a b' i j' gone' k n ts) moment' told session n ts message Whole in
+    let R : ℕ → Type 0 = λ m. EndsDraft (λ n ts. HasOffered lane May a b' i j' gone' accepted n ts) m told session n ts message Whole in
+    subst Q (sym same.0) (subst R (sym same.1)
+    (whole_same lane May a b b' i j j' gone gone' accepted size draft claim session moment told low there is may (subst D here delivers) n ts message h))
+
+-- a lane that was given nothing to do
+offered_none : (lane : ℕ) (May : ℕ → Type 0) (senders : List (Lane Note)) (inbox : Inbox Slip) → HasOffered lane May senders senders inbox inbox false 0 0 []
+offered_none lane May senders inbox = record {
+  count = refl;
+  own = [];
+  heard = [];
+  exchanged = record {
+    as_many = refl;
+    offered = λ box old new was is. let same : new ≡ old = cc in record {
+      line = ap (λ (s : Lane Note). s.line) same;
+      lane = ap (λ (s : Lane Note). s.lane) same;
+      accepted = [];
+      sent = ap (λ (s : Lane Note). s.sent) same ∙ sym (append-nil old.sent);
+      all = λ none. refl;
+      some = tt;
+    };
+    line = refl;
+    lanes = refl;
+    came = [];
+    took = sym (append-nil (taken inbox));
+    merged = (refl, refl);
+    made = tt;
+    sound = λ none. refl;
+  };
+  answered = tt;
+  verdicts = tt;
+  moments = tt;
+}
+
+pub offered_start : (lane : ℕ) (May : ℕ → Type 0) (a b : List (Lane Note)) (i j : Inbox Slip) (gone : Bool) → b ≡ a → j ≡ i → gone ≡ false → HasOffered lane May a b i j gone 0 0 []
+offered_start lane May a b i j gone same same_inbox sound =
+    let P : List (Lane Note) → Type 0 = λ l. HasOffered lane May a l i i false 0 0 [] in
+    let Q : Inbox Slip → Type 0 = λ k. HasOffered lane May a b i k false 0 0 [] in
+    let R : Bool → Type 0 = λ t. HasOffered lane May a b i j t 0 0 [] in
+    subst R (sym sound) (subst Q (sym same_inbox) (subst P (sym same) (offered_none lane May a i)))

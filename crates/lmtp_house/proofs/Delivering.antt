@@ -1,5 +1,5 @@
 -- What became of a whole message.
-use Rattle.std.proofs.Common.{◌≡◌, ℕ, ◌≤◌, List, [], ◌∷◌, ◌++◌, length, map, Bool, Some, refl, ap, sym, ◌∙◌, subst, append-nil, arith}
+use Rattle.std.proofs.Common.{◌≡◌, ℕ, List, [], ◌∷◌, ◌++◌, length, map, Bool, Some, refl, ap, sym, ◌∙◌, subst, append-nil, arith}
 use Rattle.mail_world.specs.declared.Outcome.{Outcome}
 use Rattle.mail_world.specs.declared.Txn.{Txn}
 use Rattle.mail_world.specs.declared.Note.{Note}
@@ -12,7 +12,7 @@ use Rattle.mail_world.specs.Lists.{copies_from}
 use Rattle.mail_post.specs.Line.{Lane, Inbox}
 use Rattle.mail_post.specs.Gathering.{HasGathered}
 use Rattle.lmtp_house.specs.LaneExchange.{HasExchanged, IsUnderWay, sent_as}
-use Rattle.lmtp_house.specs.LaneAccount.{IsDelivered, Delivers}
+use Rattle.lmtp_house.specs.LaneAccount.{Delivers}
 
 -- the answers of the gatherer are those of the slips that were heard
 abbrev pub Answers : Gather → List Outcome → Type 0

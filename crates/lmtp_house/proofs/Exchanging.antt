@@ -1,13 +1,13 @@
 -- One copy more, or one slip more, between a lane and the channels.
-use Rattle.std.proofs.Common.{◌≡◌, ◌≢◌, ℕ, zero, suc, ◌+◌, List, [], ◌∷◌, ◌++◌, length, Bool, true, false, not, ◌||◌, cond, Some, inl, inr, refl, ap, sym, ◌∙◌, subst, append_assoc, append-nil, length-set, arith}
-use Rattle.std.specs.Prelude.{slice_get, slice_set, filter, ◌==◌, ◌⊎◌}
+use Rattle.std.proofs.Common.{◌≡◌, ◌≢◌, ℕ, zero, suc, List, [], ◌∷◌, ◌++◌, length, Bool, true, false, cond, Some, inl, inr, refl, ap, sym, ◌∙◌, subst, append_assoc, append-nil, length-set}
+use Rattle.std.specs.Prelude.{slice_get, slice_set, ◌==◌}
 use Rattle.std.specs.List.{AllByRecursion}
-use Rattle.std.proofs.lemmas.Bool.{eq-eqb, or_parts}
+use Rattle.std.proofs.lemmas.Bool.{eq-eqb}
 use Rattle.std.proofs.lemmas.List.Elements.{filter-append}
 use Rattle.mail_world.specs.declared.Txn.{Txn}
 use Rattle.mail_world.specs.declared.Note.{Note}
 use Rattle.mail_world.specs.declared.Slip.{Slip}
-use Rattle.mail_world.specs.House.{Gather, gathered}
+use Rattle.mail_world.specs.House.{Gather}
 use Rattle.mail_world.specs.Events.{own_slip}
 use Rattle.mail_world.specs.Runs.{IsMerged}
 use Rattle.mail_world.proofs.Accepted.{get_set}

@@ -12,3 +12,4 @@ pub mod Awaiting
 pub mod Delivering
 pub mod Accounting
 pub mod AnsweredAll
+pub mod Visiting

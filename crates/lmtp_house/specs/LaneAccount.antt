@@ -1,5 +1,5 @@
 -- What the delivery of a lane has come to.
-use Rattle.std.specs.Prelude.{◌≡◌, ◌^◌, ◌-◌, min, ℕ, Bool, true, false, nat_lt, if◌then◌else◌, List, ◌++◌, length, map, flat_map, Option, Some, None}
+use Rattle.std.specs.Prelude.{◌≡◌, ◌^◌, ◌-◌, min, ℕ, Bool, nat_lt, if◌then◌else◌, List, ◌++◌, length, map, flat_map, Option, Some, None}
 use Rattle.std.specs.Option.{IfSome}
 use Rattle.std.specs.List.{AllByRecursion}
 use Rattle.mail_world.specs.declared.Note.{Note}
@@ -26,6 +26,10 @@ pub record IsAnswered (lane : ℕ) (heard : List Slip) (t : Transaction) : Type 
   pub since : List Slip
   pub whole : heard ≡ before ++ since
   pub outcomes : OutcomesIn lane since t t.disposition.verdict
+
+-- the moments that a clock may answer are such
+abbrev pub AgreesWith : (ℕ → Type 0) → (ℕ → Type 0) → Type 0
+AgreesWith May Known = (moment : ℕ) → May moment → Known moment
 
 -- Where n DATA commands were accepted, and this became of the data that ended: the senders gave what is owed, the outcomes are those
 -- of the slips, and each moment is one that the clock may answer.

@@ -3,10 +3,11 @@ use Rattle.std.specs.Prelude.{◌≡◌, ℕ, List, [], ◌∷◌, ◌++◌, map
 use Rattle.std.specs.List.{AllByRecursion}
 use Rattle.mail_world.specs.Site.{Site}
 use Rattle.mail_world.specs.Conversation.{Conversation, IsAccount, inputs, replies}
+use Rattle.mail_world.specs.Lists.{Transaction}
 use Rattle.lmtp_house.specs.declared.ending.EndCause.{EndCause}
 use Rattle.lmtp_house.specs.declared.ending.EndCause.TheVariants as ends
 use Rattle.lmtp_house.specs.Peer.{PeerState, HasMoved}
-use Rattle.lmtp_house.specs.Served.{IsWritten, EndsFor}
+use Rattle.lmtp_house.specs.Served.{IsWritten, EndsFor, transactions_in, accepted_behind_all}
 
 -- a conversation that has ended: its client, as it was handed back, and the cause
 pub record Finished : Type 0 where
@@ -49,3 +50,11 @@ HasFinished (Some told) new visits = new ≡ Some (told ++ map finished_of visit
 pub record HasVisited (site : Site) (MayCome : PeerState → Type 0) (old new : Option (List Finished)) (visits : List Visit) : Type 0 where
   pub told : HasFinished old new visits
   pub each : AllByRecursion (IsVisit site MayCome) visits
+
+-- this client was served, and handed back; a delivery that had come to so much before has come to its messages more
+pub record HasConversed (site : Site) (peer : PeerState) (old new : Option (List Finished)) (Before After : ℕ → List Transaction → Type 0) : Type 0 where
+  pub visit : Visit
+  pub is : IsVisit site (λ client. client ≡ peer) visit
+  pub told : Finishes old new visit.after visit.cause
+  pub delivered : (n : ℕ) (ts : List Transaction) → Before n ts
+      → After (accepted_behind_all site n visit.conversation) (ts ++ transactions_in site n visit.conversation)

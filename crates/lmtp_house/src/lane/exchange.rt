@@ -51,6 +51,29 @@ fn offer_to<N: DepotName, R: Wait>(
 }
 
 impl<N: DepotName> Exchange<N> {
+    /// The ends of the lane of that number.
+    pub fn new(
+        alloc: Global,
+        lane: u32,
+        senders: Vec<Sender<N>>,
+        slips: SlipReceiver,
+        gather: Gather,
+    ) -> Exchange<N>
+        requires lane { AreOfLane lane senders.items }
+        requires room { MOST ≤ gather.limit }
+        ensures { (result.lane ≡ lane) × (result.senders ≡ senders) × (result.slips ≡ slips) × (result.gone ≡ false) }
+    {
+        Exchange {
+            alloc,
+            lane,
+            senders,
+            slips,
+            gather,
+            refused: false,
+            gone: false,
+        }
+    }
+
     // Offers a copy, whose answer is still to come where a channel accepts it.
     fn offer<R: Wait>(
         &mut self,

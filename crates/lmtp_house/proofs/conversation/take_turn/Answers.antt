@@ -1,4 +1,4 @@
-use Rattle.std.proofs.Common.{◌≡◌, ◌<◌, Option, take, length, refl, ◌∙◌, sym, subst, arith, length-take-le}
+use Rattle.std.proofs.Common.{◌≡◌, ◌<◌, Option, take, length, refl, sym, subst, arith, length-take-le}
 use Rattle.std.specs.Prelude.{MatchOption}
 use Rattle.lmtp_house.specs.declared.ending.EndCause.{EndCause}
 use Rattle.lmtp_house.specs.declared.ending.EndCause.TheVariants as ends

@@ -1,4 +1,4 @@
-use Rattle.std.proofs.Common.{◌≡◌, ◌∙◌, List, sym, subst, arith}
+use Rattle.std.proofs.Common.{List, sym, subst, arith}
 use Rattle.mail_world.specs.declared.Outcome.{Outcome}
 use Rattle.lmtp_house.proofs.Delivering.{Answers, delivered, delivered_none}
 use Rattle.lmtp_house.proofs.lane.delivery.LaneDelivery.deliver.Goals as goal

@@ -1,4 +1,4 @@
-use Rattle.std.proofs.Common.{◌≡◌, ◌∙◌, refl, sym, arith}
+use Rattle.std.proofs.Common.{arith}
 use Rattle.lmtp_house.proofs.Awaiting.{answered_next}
 use Rattle.lmtp_house.proofs.lane.exchange.Exchange.answer_next.Goals as goal
 

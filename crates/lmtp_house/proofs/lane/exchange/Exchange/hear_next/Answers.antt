@@ -1,4 +1,4 @@
-use Rattle.std.proofs.Common.{◌≡◌, ap}
+use Rattle.std.proofs.Common.{ap}
 use Rattle.mail_post.specs.Gathering.{Gathering}
 use Rattle.lmtp_house.proofs.Awaiting.{heard_next, nothing_then, same_places}
 use Rattle.lmtp_house.proofs.lane.exchange.Exchange.hear_next.Goals as goal

@@ -1,4 +1,4 @@
-use Rattle.std.proofs.Common.{◌≡◌, ◌∙◌, refl, sym, true, false}
+use Rattle.std.proofs.Common.{◌≡◌, ◌∙◌, true, false}
 use Rattle.lmtp_house.proofs.Exchanging.{still_of_lane, refused_same, refused_way, offered_way}
 use Rattle.lmtp_house.proofs.lane.exchange.Exchange.offer.Goals as goal
 

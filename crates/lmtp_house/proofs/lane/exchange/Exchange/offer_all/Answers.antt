@@ -1,4 +1,4 @@
-use Rattle.std.proofs.Common.{◌≡◌, ◌∙◌, ◌+◌, ◌-◌, ◌<◌, length, sym, arith}
+use Rattle.std.proofs.Common.{◌≡◌, ◌∙◌, ◌+◌, ◌-◌, ◌<◌, length, arith}
 use Rattle.lmtp_house.proofs.Awaiting.{offered_next, offered_last}
 use Rattle.lmtp_house.proofs.lane.exchange.Exchange.offer_all.Goals as goal
 

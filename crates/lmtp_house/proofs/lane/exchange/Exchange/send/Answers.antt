@@ -1,4 +1,4 @@
-use Rattle.std.proofs.Common.{◌≡◌, ◌∙◌, [], sym}
+use Rattle.std.proofs.Common.{[]}
 use Rattle.lmtp_house.proofs.Awaiting.{sent_way}
 use Rattle.lmtp_house.proofs.lane.exchange.Exchange.send.Goals as goal
 
