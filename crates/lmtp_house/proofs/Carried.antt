@@ -20,7 +20,7 @@ use Rattle.mail_world.proofs.Handled.{inputs-snoc, session_behind-snoc, replies_
 use Rattle.mail_world.proofs.Owed.{accepted_behind, accepted-append, transactions-append}
 use Rattle.lmtp_session.specs.Steps.{TakesLines}
 use Rattle.lmtp_wire.specs.Wire.{WireView, IsBehind, GoesOn as LineGoesOn, EndsLine}
-use Rattle.lmtp_house.specs.declared.desk.Desk.{Desk}
+use Rattle.lmtp_house.specs.declared.dialogue.Dialogue.{Dialogue}
 use Rattle.lmtp_house.specs.Peer.{PeerState}
 use Rattle.lmtp_house.specs.Saying.{HasSaid}
 use Rattle.lmtp_house.specs.Standing.{QuitsWith, InLine, InData, IsInside, Stands}
@@ -29,37 +29,37 @@ use Rattle.lmtp_house.proofs.CutUp.{cut_line}
 use Rattle.lmtp_house.proofs.Quits.{GoesOn, line_goes_on, long_goes_on, quits_line, quits_long}
 
 -- the state says what is inside
-in_line : (state : State) (desk : Desk) (rest : List ℕ) (come : Type 0) (drafts : List ℕ → Type 0) → TakesLines state → IsInside state desk rest come drafts → InLine desk rest come
-in_line Fresh desk rest come drafts h x = x
-in_line Greeted desk rest come drafts h x = x
-in_line Sender desk rest come drafts h x = x
-in_line Recipients desk rest come drafts h x = x
-in_line Content desk rest come drafts h x = cc
-in_line Waiting desk rest come drafts h x = cc
-in_line Ended desk rest come drafts h x = cc
+in_line : (state : State) (dialogue : Dialogue) (rest : List ℕ) (come : Type 0) (drafts : List ℕ → Type 0) → TakesLines state → IsInside state dialogue rest come drafts → InLine dialogue rest come
+in_line Fresh dialogue rest come drafts h x = x
+in_line Greeted dialogue rest come drafts h x = x
+in_line Sender dialogue rest come drafts h x = x
+in_line Recipients dialogue rest come drafts h x = x
+in_line Content dialogue rest come drafts h x = cc
+in_line Waiting dialogue rest come drafts h x = cc
+in_line Ended dialogue rest come drafts h x = cc
 
-as_line : (state : State) (desk : Desk) (rest : List ℕ) (come : Type 0) (drafts : List ℕ → Type 0) → TakesLines state → InLine desk rest come → IsInside state desk rest come drafts
-as_line Fresh desk rest come drafts h x = x
-as_line Greeted desk rest come drafts h x = x
-as_line Sender desk rest come drafts h x = x
-as_line Recipients desk rest come drafts h x = x
-as_line Content desk rest come drafts h x = cc
-as_line Waiting desk rest come drafts h x = cc
-as_line Ended desk rest come drafts h x = cc
+as_line : (state : State) (dialogue : Dialogue) (rest : List ℕ) (come : Type 0) (drafts : List ℕ → Type 0) → TakesLines state → InLine dialogue rest come → IsInside state dialogue rest come drafts
+as_line Fresh dialogue rest come drafts h x = x
+as_line Greeted dialogue rest come drafts h x = x
+as_line Sender dialogue rest come drafts h x = x
+as_line Recipients dialogue rest come drafts h x = x
+as_line Content dialogue rest come drafts h x = cc
+as_line Waiting dialogue rest come drafts h x = cc
+as_line Ended dialogue rest come drafts h x = cc
 
 -- behind a line: at the front of the next, or inside data, or at the end
-behind_line : (state : State) (desk : Desk) (come : Type 0) (drafts : List ℕ → Type 0) → GoesOn state → IsBehind desk.wire []
-    → (is_content state ≡ true → InData desk [] drafts) → (is_content state ≡ false → come) → IsInside state desk [] come drafts
-behind_line Fresh desk come drafts g w h k = record { behind = w; comes = k refl }
-behind_line Greeted desk come drafts g w h k = record { behind = w; comes = k refl }
-behind_line Sender desk come drafts g w h k = record { behind = w; comes = k refl }
-behind_line Recipients desk come drafts g w h k = record { behind = w; comes = k refl }
-behind_line Content desk come drafts g w h k = h refl
-behind_line Waiting desk come drafts g w h k = absurd g
-behind_line Ended desk come drafts g w h k = k refl
+behind_line : (state : State) (dialogue : Dialogue) (come : Type 0) (drafts : List ℕ → Type 0) → GoesOn state → IsBehind dialogue.wire []
+    → (is_content state ≡ true → InData dialogue [] drafts) → (is_content state ≡ false → come) → IsInside state dialogue [] come drafts
+behind_line Fresh dialogue come drafts g w h k = record { behind = w; comes = k refl }
+behind_line Greeted dialogue come drafts g w h k = record { behind = w; comes = k refl }
+behind_line Sender dialogue come drafts g w h k = record { behind = w; comes = k refl }
+behind_line Recipients dialogue come drafts g w h k = record { behind = w; comes = k refl }
+behind_line Content dialogue come drafts g w h k = h refl
+behind_line Waiting dialogue come drafts g w h k = absurd g
+behind_line Ended dialogue come drafts g w h k = k refl
 
 -- one part more: the session, what is said, the transactions
-pub session_more : (site : Site) (ps : List Part) (p : Part) (old new : Desk) (before after : PeerState)
+pub session_more : (site : Site) (ps : List Part) (p : Part) (old new : Dialogue) (before after : PeerState)
     → TakesInputs (inputs_of p) old new before after → old.session.site ≡ site → old.session.session ≡ session_behind site fresh ps
     → new.session.session ≡ session_behind site fresh (ps ++ p ∷ [])
 session_more site ps p old new before after takes site_is session_is =
@@ -79,7 +79,7 @@ texts_more site ps p view s site_is session_is =
     ∙ ap (λ l. greeted ++ reply_texts site l) (sym (replies_to-append site fresh (flat_map inputs_of ps) (inputs_of p)))
     ∙ ap (λ l. greeted ++ reply_texts site (replies_to site fresh l)) (sym (inputs-snoc ps p))
 
-pub says_part : (site : Site) (ps : List Part) (p : Part) (start before after : PeerState) (old new : Desk) (came : List ℕ)
+pub says_part : (site : Site) (ps : List Part) (p : Part) (start before after : PeerState) (old new : Dialogue) (came : List ℕ)
     → TakesInputs (inputs_of p) old new before after → old.session.site ≡ site → old.session.session ≡ session_behind site fresh ps
     → HasSaid start before old.outbox.broken old.outbox.pending.items came (reply_text site Greeting ++ reply_texts site (replies_to site fresh (flat_map inputs_of ps)))
     → HasSaid start after new.outbox.broken new.outbox.pending.items came (reply_text site Greeting ++ reply_texts site (replies_to site fresh (flat_map inputs_of (ps ++ p ∷ []))))
@@ -99,7 +99,7 @@ pub transactions-data : (site : Site) (n : ℕ) (ps : List Part) (text : List �
 transactions-data site n ps text d = transactions-append site n fresh ps (MailData text d ∷ [])
 
 -- no line ends in the bytes
-pub more_of_line : (site : Site) (start : PeerState) (Before Come : ℕ → List Transaction → Type 0) (Drafting : ℕ → List Transaction → List ℕ → Type 0) (old : Desk) (wire : WireView) (peer : PeerState)
+pub more_of_line : (site : Site) (start : PeerState) (Before Come : ℕ → List Transaction → Type 0) (Drafting : ℕ → List Transaction → List ℕ → Type 0) (old : Dialogue) (wire : WireView) (peer : PeerState)
     (handled came piece : List ℕ) (used : ℕ) → TakesLines old.session.session.state
     → ((taken : List ℕ) → IsBehind old.wire taken → LineGoesOn wire (taken ++ piece) (length piece) used)
     → Stands site start Before old peer Come Drafting handled came
@@ -127,7 +127,7 @@ taken_is rest piece used k e = ap (λ n. take n (rest ++ piece)) (sym e) ∙ tak
 
 -- a line that ends leads on by its input
 ended_line : (site : Site) (start : PeerState) (Before : ℕ → List Transaction → Type 0) {D : Type 0} (HasCome : D → ℕ → List Transaction → Type 0) (IsDrafting : D → ℕ → List Transaction → List ℕ → Type 0)
-    (old new : Desk) (wire : WireView) (before after : PeerState) (delivery later : D) (handled came piece : List ℕ) (used end : ℕ) (input : Input)
+    (old new : Dialogue) (wire : WireView) (before after : PeerState) (delivery later : D) (handled came piece : List ℕ) (used end : ℕ) (input : Input)
     → TakesLines old.session.session.state
     → (h : Stands site start Before old before (HasCome delivery) (IsDrafting delivery) handled came)
     → EndsLine wire (h.rest ++ piece) (length h.rest) used end
@@ -139,7 +139,7 @@ ended_line : (site : Site) (start : PeerState) (Before : ℕ → List Transactio
 ended_line site start Before {D} HasCome IsDrafting old new wire before after delivery later handled came piece used end input lines h ends input_is t goes quits =
     let bytes : List ℕ = h.rest ++ piece in
     let p : Part = CommandLine (take end bytes) in
-    let mid : Desk = record old { wire = wire } in
+    let mid : Dialogue = record old { wire = wire } in
     let line = in_line old.session.session.state old h.rest _ _ lines h.inside in
     let takes : TakesInputs (inputs_of p) mid new before after = subst (λ l. TakesInputs l mid new before after) (sym input_is) t.takes in
     let behind_lines : TakesLines (session_behind site fresh h.done).state = subst (λ (s : Session). TakesLines s.state) h.session lines in
@@ -187,7 +187,7 @@ size_is : (bytes : List ℕ) (end : ℕ) → place_of crlf bytes ≡ Some end �
 size_is bytes end e = let within : end + 2 ≤ length bytes = line_within bytes end e in length-take-le end bytes (omega arith)
 
 pub line_of : (site : Site) (start : PeerState) (Before : ℕ → List Transaction → Type 0) {D : Type 0} (HasCome : D → ℕ → List Transaction → Type 0) (IsDrafting : D → ℕ → List Transaction → List ℕ → Type 0)
-    (old new : Desk) (wire : WireView) (before after : PeerState) (delivery later : D) (handled came piece : List ℕ) (used : ℕ)
+    (old new : Dialogue) (wire : WireView) (before after : PeerState) (delivery later : D) (handled came piece : List ℕ) (used : ℕ)
     → TakesLines old.session.session.state
     → ((taken : List ℕ) → IsBehind old.wire taken → (end : ℕ) × EndsLine wire (taken ++ piece) (length taken) used end × (end + 2 ≤ LINE_LIMIT) × (wire.line ≡ take end (taken ++ piece)))
     → TakesLine HasCome IsDrafting (Line wire.line) (record old { wire = wire }) new before after delivery later
@@ -204,7 +204,7 @@ line_of site start Before {D} HasCome IsDrafting old new wire before after deliv
     t (line_goes_on old.session.site old.session.session wire.line lines) (quits_line old.session.site old.session.session (flat_map inputs_of h.done) wire.line lines h.quits)
 
 pub long_line_of : (site : Site) (start : PeerState) (Before : ℕ → List Transaction → Type 0) {D : Type 0} (HasCome : D → ℕ → List Transaction → Type 0) (IsDrafting : D → ℕ → List Transaction → List ℕ → Type 0)
-    (old new : Desk) (wire : WireView) (before after : PeerState) (delivery : D) (handled came piece : List ℕ) (used : ℕ)
+    (old new : Dialogue) (wire : WireView) (before after : PeerState) (delivery : D) (handled came piece : List ℕ) (used : ℕ)
     → TakesLines old.session.session.state
     → ((taken : List ℕ) → IsBehind old.wire taken → (end : ℕ) × EndsLine wire (taken ++ piece) (length taken) used end × (LINE_LIMIT < end + 2) × (wire.line ≡ []))
     → TakesInputs (LongLine ∷ []) (record old { wire = wire }) new before after
@@ -222,7 +222,7 @@ long_line_of site start Before {D} HasCome IsDrafting old new wire before after 
     (record { takes = t; begins = subst (λ (s : State). BeginsIf HasCome IsDrafting (is_content s) new delivery delivery) (sym same) (no_content old.session.session.state lines HasCome IsDrafting new delivery) })
     (long_goes_on old.session.site old.session.session lines) (quits_long old.session.site old.session.session (flat_map inputs_of h.done) lines h.quits)
   where
-    no_content : (state : State) → TakesLines state → {D : Type 0} (HasCome : D → ℕ → List Transaction → Type 0) (IsDrafting : D → ℕ → List Transaction → List ℕ → Type 0) (new : Desk) (delivery : D)
+    no_content : (state : State) → TakesLines state → {D : Type 0} (HasCome : D → ℕ → List Transaction → Type 0) (IsDrafting : D → ℕ → List Transaction → List ℕ → Type 0) (new : Dialogue) (delivery : D)
         → BeginsIf HasCome IsDrafting (is_content state) new delivery delivery
     no_content Fresh h HasCome IsDrafting new delivery = refl
     no_content Greeted h HasCome IsDrafting new delivery = refl

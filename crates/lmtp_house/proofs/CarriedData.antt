@@ -15,7 +15,7 @@ use Rattle.lmtp_wire.specs.declared.dot.Fed.{Fed}
 use Rattle.lmtp_wire.specs.declared.dot.Dot.{Dot}
 use Rattle.lmtp_wire.specs.Dot.{HasMade, GoesOn}
 use Rattle.lmtp_wire.specs.Place.{Ends}
-use Rattle.lmtp_house.specs.declared.desk.Desk.{Desk}
+use Rattle.lmtp_house.specs.declared.dialogue.Dialogue.{Dialogue}
 use Rattle.lmtp_house.specs.Peer.{PeerState}
 use Rattle.lmtp_house.specs.Delivery.{ended_so}
 use Rattle.lmtp_house.specs.Standing.{QuitsWith, Comes, InLine, InData, IsInside, Stands}
@@ -24,12 +24,12 @@ use Rattle.lmtp_house.proofs.CutUp.{cut_data}
 use Rattle.lmtp_house.proofs.Quits.{quits_data, data_greets}
 use Rattle.lmtp_house.proofs.Carried.{session_more, says_part, accepted-snoc, transactions-data}
 
-in_data : (state : State) (desk : Desk) (rest : List ℕ) (come : Type 0) (drafts : List ℕ → Type 0) → state ≡ Content → IsInside state desk rest come drafts → InData desk rest drafts
-in_data state desk rest come drafts e x = subst (λ (s : State). IsInside s desk rest come drafts) e x
+in_data : (state : State) (dialogue : Dialogue) (rest : List ℕ) (come : Type 0) (drafts : List ℕ → Type 0) → state ≡ Content → IsInside state dialogue rest come drafts → InData dialogue rest drafts
+in_data state dialogue rest come drafts e x = subst (λ (s : State). IsInside s dialogue rest come drafts) e x
 
 -- the data goes on
 pub more_of_data : (site : Site) (start : PeerState) (Before : ℕ → List Transaction → Type 0) {D : Type 0} (HasCome : D → ℕ → List Transaction → Type 0) (IsDrafting : D → ℕ → List Transaction → List ℕ → Type 0)
-    (old : Desk) (dot : Dot) (peer : PeerState) (delivery later : D) (handled came piece bytes : List ℕ) (size room : ℕ) (fed : Fed)
+    (old : Dialogue) (dot : Dot) (peer : PeerState) (delivery later : D) (handled came piece bytes : List ℕ) (size room : ℕ) (fed : Fed)
     → old.session.session.state ≡ Content
     → ((taken made : List ℕ) → HasMade old.dot taken made → GoesOn dot (taken ++ take fed.used piece) (made ++ bytes) size room fed)
     → ((n : ℕ) (ts : List Transaction) (draft : List ℕ) → IsDrafting delivery n ts draft → IsDrafting later n ts (draft ++ bytes))
@@ -38,7 +38,7 @@ pub more_of_data : (site : Site) (start : PeerState) (Before : ℕ → List Tran
 more_of_data site start Before {D} HasCome IsDrafting old dot peer delivery later handled came piece bytes size room fed content feeds grows h =
     let inside = in_data old.session.session.state old h.rest _ _ content h.inside in
     let text : List ℕ = h.rest ++ take fed.used piece in
-    let new : Desk = record old { dot = dot } in
+    let new : Dialogue = record old { dot = dot } in
     let now : InData new text (λ made. Comes site h.done Before (λ n ts. IsDrafting later n ts made)) = record {
       made = inside.made ++ bytes;
       next = inside.next;
@@ -61,7 +61,7 @@ more_of_data site start Before {D} HasCome IsDrafting old dot peer delivery late
 
 -- the data has ended
 pub end_of_data : (site : Site) (start : PeerState) (Before : ℕ → List Transaction → Type 0) {D : Type 0} (HasCome : D → ℕ → List Transaction → Type 0) (IsDrafting : D → ℕ → List Transaction → List ℕ → Type 0)
-    (old new : Desk) (dot : Dot) (before after : PeerState) (delivery mid later : D) (handled came piece bytes : List ℕ) (used : ℕ)
+    (old new : Dialogue) (dot : Dot) (before after : PeerState) (delivery mid later : D) (handled came piece bytes : List ℕ) (used : ℕ)
     → old.session.session.state ≡ Content
     → ((taken made : List ℕ) → HasMade old.dot taken made → Ends (taken ++ take used piece) (made ++ bytes))
     → ((n : ℕ) (ts : List Transaction) (draft : List ℕ) → IsDrafting delivery n ts draft → IsDrafting mid n ts (draft ++ bytes))
@@ -71,7 +71,7 @@ pub end_of_data : (site : Site) (start : PeerState) (Before : ℕ → List Trans
 end_of_data site start Before {D} HasCome IsDrafting old new dot before after delivery mid later handled came piece bytes used content feeds grows e h =
     let inside = in_data old.session.session.state old h.rest _ _ content h.inside in
     let text : List ℕ = h.rest ++ take used piece in
-    let between : Desk = record old { dot = dot } in
+    let between : Dialogue = record old { dot = dot } in
     let ends = feeds h.rest inside.made inside.behind in
     let d : Disposition = ended_so e.verdict e.moment e.told in
     let p : Part = MailData text d in

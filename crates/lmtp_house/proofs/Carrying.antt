@@ -3,13 +3,13 @@ use Rattle.std.proofs.Common.{◌≡◌, ℕ, ◌+◌, ◌-◌, ◌≤◌, List,
 use Rattle.std.proofs.Math.Seq.{take-append-add}
 use Rattle.std.proofs.lemmas.List.{take_all}
 use Rattle.mail_world.specs.Lists.{Transaction}
-use Rattle.lmtp_house.specs.declared.desk.Desk.{Desk}
+use Rattle.lmtp_house.specs.declared.dialogue.Dialogue.{Dialogue}
 use Rattle.lmtp_house.specs.Peer.{PeerState}
 use Rattle.lmtp_house.specs.Standing.{Stands}
 use Rattle.lmtp_house.specs.Steps.{Carries}
 
 module _ {D : Type 0} (HasCome : D → ℕ → List Transaction → Type 0) (IsDrafting : D → ℕ → List Transaction → List ℕ → Type 0) where
-  pub carries_then : (a b c : Desk) (p q r : PeerState) (d e f : D) (x y : List ℕ) → Carries HasCome IsDrafting a b p q d e x → Carries HasCome IsDrafting b c q r e f y
+  pub carries_then : (a b c : Dialogue) (p q r : PeerState) (d e f : D) (x y : List ℕ) → Carries HasCome IsDrafting a b p q d e x → Carries HasCome IsDrafting b c q r e f y
       → Carries HasCome IsDrafting a c p r d f (x ++ y)
   carries_then a b c p q r d e f x y one two site start first handled came h =
       subst (λ l. Stands site start (HasCome first) c r (HasCome f) (IsDrafting f) l came) (append_assoc handled x y)

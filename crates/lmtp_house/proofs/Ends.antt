@@ -16,7 +16,7 @@ use Rattle.mail_world.specs.Dispositions.{dispositions_of, HasNoPart}
 use Rattle.mail_world.specs.Lists.{Transaction, is_content, accepted_after, transactions_of}
 use Rattle.mail_world.proofs.Handled.{replies_to-append}
 use Rattle.lmtp_session.specs.Steps.{MayStop}
-use Rattle.lmtp_house.specs.declared.desk.Desk.{Desk}
+use Rattle.lmtp_house.specs.declared.dialogue.Dialogue.{Dialogue}
 use Rattle.lmtp_house.specs.declared.ending.EndCause.{EndCause}
 use Rattle.lmtp_house.specs.declared.ending.EndCause.TheVariants as ends
 use Rattle.lmtp_house.specs.Peer.{PeerState, HasMoved, HasFailed, HasStopped}
@@ -29,14 +29,14 @@ use Rattle.lmtp_house.proofs.Written.{moved_writing, said_on}
 use Rattle.lmtp_house.proofs.CutUp.{all_cut, all_accounted, all_inputs}
 
 -- nothing is left but what is inside
-nothing_ended : (state : State) (desk : Desk) (rest : List ℕ) (come : Type 0) (drafts : List ℕ → Type 0) → IsInside state desk rest come drafts → HasNoPart state rest
-nothing_ended Fresh desk rest come drafts x = x.behind.goes_on
-nothing_ended Greeted desk rest come drafts x = x.behind.goes_on
-nothing_ended Sender desk rest come drafts x = x.behind.goes_on
-nothing_ended Recipients desk rest come drafts x = x.behind.goes_on
-nothing_ended Content desk rest come drafts x = x.behind.goes_on
-nothing_ended Waiting desk rest come drafts x = tt
-nothing_ended Ended desk rest come drafts x = tt
+nothing_ended : (state : State) (dialogue : Dialogue) (rest : List ℕ) (come : Type 0) (drafts : List ℕ → Type 0) → IsInside state dialogue rest come drafts → HasNoPart state rest
+nothing_ended Fresh dialogue rest come drafts x = x.behind.goes_on
+nothing_ended Greeted dialogue rest come drafts x = x.behind.goes_on
+nothing_ended Sender dialogue rest come drafts x = x.behind.goes_on
+nothing_ended Recipients dialogue rest come drafts x = x.behind.goes_on
+nothing_ended Content dialogue rest come drafts x = x.behind.goes_on
+nothing_ended Waiting dialogue rest come drafts x = tt
+nothing_ended Ended dialogue rest come drafts x = tt
 
 pub leave_draft : (state : State) (Come Last : ℕ → List Transaction → Type 0) (Drafting : ℕ → List Transaction → List ℕ → Type 0) → state ≡ Content
     → ((n : ℕ) (ts : List Transaction) (message : List ℕ) → Drafting n ts message → Last n ts) → Leaves (is_content state) Come Drafting Last
@@ -51,25 +51,25 @@ leave_none Content Come Drafting other = absurd (other refl)
 leave_none Waiting Come Drafting other = λ n ts h. h
 leave_none Ended Come Drafting other = λ n ts h. h
 
-leaves_by : (state : State) (site : Site) (ps : List Part) (Before Come Last : ℕ → List Transaction → Type 0) (Drafting : ℕ → List Transaction → List ℕ → Type 0) (desk : Desk) (rest : List ℕ)
-    → IsInside state desk rest (Comes site ps Before Come) (λ made. Comes site ps Before (λ n ts. Drafting n ts made)) → Leaves (is_content state) Come Drafting Last → Comes site ps Before Last
-leaves_by Fresh site ps Before Come Last Drafting desk rest x l = λ n ts b. l _ _ (x.comes n ts b)
-leaves_by Greeted site ps Before Come Last Drafting desk rest x l = λ n ts b. l _ _ (x.comes n ts b)
-leaves_by Sender site ps Before Come Last Drafting desk rest x l = λ n ts b. l _ _ (x.comes n ts b)
-leaves_by Recipients site ps Before Come Last Drafting desk rest x l = λ n ts b. l _ _ (x.comes n ts b)
-leaves_by Content site ps Before Come Last Drafting desk rest x l = λ n ts b. l _ _ x.made (x.drafting n ts b)
-leaves_by Waiting site ps Before Come Last Drafting desk rest x l = absurd x
-leaves_by Ended site ps Before Come Last Drafting desk rest x l = λ n ts b. l _ _ (x n ts b)
+leaves_by : (state : State) (site : Site) (ps : List Part) (Before Come Last : ℕ → List Transaction → Type 0) (Drafting : ℕ → List Transaction → List ℕ → Type 0) (dialogue : Dialogue) (rest : List ℕ)
+    → IsInside state dialogue rest (Comes site ps Before Come) (λ made. Comes site ps Before (λ n ts. Drafting n ts made)) → Leaves (is_content state) Come Drafting Last → Comes site ps Before Last
+leaves_by Fresh site ps Before Come Last Drafting dialogue rest x l = λ n ts b. l _ _ (x.comes n ts b)
+leaves_by Greeted site ps Before Come Last Drafting dialogue rest x l = λ n ts b. l _ _ (x.comes n ts b)
+leaves_by Sender site ps Before Come Last Drafting dialogue rest x l = λ n ts b. l _ _ (x.comes n ts b)
+leaves_by Recipients site ps Before Come Last Drafting dialogue rest x l = λ n ts b. l _ _ (x.comes n ts b)
+leaves_by Content site ps Before Come Last Drafting dialogue rest x l = λ n ts b. l _ _ x.made (x.drafting n ts b)
+leaves_by Waiting site ps Before Come Last Drafting dialogue rest x l = absurd x
+leaves_by Ended site ps Before Come Last Drafting dialogue rest x l = λ n ts b. l _ _ (x n ts b)
 
 -- the session may stop wherever bytes are read
-may_stop_by : (state : State) (desk : Desk) (rest : List ℕ) (come : Type 0) (drafts : List ℕ → Type 0) → IsInside state desk rest come drafts → (state ≡ Ended → ⊥) → MayStop state
-may_stop_by Fresh desk rest come drafts x open' = refl
-may_stop_by Greeted desk rest come drafts x open' = refl
-may_stop_by Sender desk rest come drafts x open' = refl
-may_stop_by Recipients desk rest come drafts x open' = refl
-may_stop_by Content desk rest come drafts x open' = refl
-may_stop_by Waiting desk rest come drafts x open' = absurd x
-may_stop_by Ended desk rest come drafts x open' = absurd (open' refl)
+may_stop_by : (state : State) (dialogue : Dialogue) (rest : List ℕ) (come : Type 0) (drafts : List ℕ → Type 0) → IsInside state dialogue rest come drafts → (state ≡ Ended → ⊥) → MayStop state
+may_stop_by Fresh dialogue rest come drafts x open' = refl
+may_stop_by Greeted dialogue rest come drafts x open' = refl
+may_stop_by Sender dialogue rest come drafts x open' = refl
+may_stop_by Recipients dialogue rest come drafts x open' = refl
+may_stop_by Content dialogue rest come drafts x open' = refl
+may_stop_by Waiting dialogue rest come drafts x open' = absurd x
+may_stop_by Ended dialogue rest come drafts x open' = absurd (open' refl)
 
 stop_is : (state : State) → MayStop state → stop_at state true ≡ Stop ∷ []
 stop_is Fresh h = refl
@@ -173,14 +173,14 @@ record Finishes (site : Site) (start now : PeerState) (stopped : Bool) (ps : Lis
   pub causes : EndsBy state stopped handled start now end
 
 finished : (site : Site) (start before now : PeerState) (Before Come Last : ℕ → List Transaction → Type 0) (Drafting : ℕ → List Transaction → List ℕ → Type 0)
-    (desk : Desk) (handled : List ℕ) (stopped : Bool) (end : EndCause)
-    → (h : Stands site start Before desk before Come Drafting handled handled) → Comes site h.done Before Last
-    → Finishes site start now stopped h.done desk.session.session.state handled end → IsServed site start now Before Last end
-finished site start before now Before Come Last Drafting desk handled stopped end h comes f =
+    (dialogue : Dialogue) (handled : List ℕ) (stopped : Bool) (end : EndCause)
+    → (h : Stands site start Before dialogue before Come Drafting handled handled) → Comes site h.done Before Last
+    → Finishes site start now stopped h.done dialogue.session.session.state handled end → IsServed site start now Before Last end
+finished site start before now Before Come Last Drafting dialogue handled stopped end h comes f =
     let c : Conversation = record { bytes = handled; dispositions = dispositions_of h.done; stopped = stopped } in
     let at : List ℕ → Conversation = λ l. record { bytes = l; dispositions = dispositions_of h.done; stopped = stopped } in
     let none : HasNoPart (session_behind site fresh h.done).state h.rest =
-    subst (λ (s : Session). HasNoPart s.state h.rest) h.session (nothing_ended desk.session.session.state desk h.rest _ _ h.inside) in
+    subst (λ (s : Session). HasNoPart s.state h.rest) h.session (nothing_ended dialogue.session.session.state dialogue h.rest _ _ h.inside) in
     let parts_are : parts site fresh handled (dispositions_of h.done) ≡ h.done =
     ap (λ l. parts site fresh l (dispositions_of h.done)) h.whole ∙ all_cut site h.front h.rest h.done h.cut none in
     let inputs_are : inputs site c ≡ last_inputs site h.done stopped =
@@ -210,42 +210,42 @@ finished site start before now Before Come Last Drafting desk handled stopped en
     }
 
 -- a draft that is dropped, or none
-comes_in_the_end : (site : Site) (start before : PeerState) (Before Come Last : ℕ → List Transaction → Type 0) (Drafting : ℕ → List Transaction → List ℕ → Type 0) (desk : Desk) (handled came : List ℕ)
-    → (h : Stands site start Before desk before Come Drafting handled came) → Leaves (is_content desk.session.session.state) Come Drafting Last → Comes site h.done Before Last
-comes_in_the_end site start before Before Come Last Drafting desk handled came h l = leaves_by desk.session.session.state site h.done Before Come Last Drafting desk h.rest h.inside l
+comes_in_the_end : (site : Site) (start before : PeerState) (Before Come Last : ℕ → List Transaction → Type 0) (Drafting : ℕ → List Transaction → List ℕ → Type 0) (dialogue : Dialogue) (handled came : List ℕ)
+    → (h : Stands site start Before dialogue before Come Drafting handled came) → Leaves (is_content dialogue.session.session.state) Come Drafting Last → Comes site h.done Before Last
+comes_in_the_end site start before Before Come Last Drafting dialogue handled came h l = leaves_by dialogue.session.session.state site h.done Before Come Last Drafting dialogue h.rest h.inside l
 
-pub may_stop : (site : Site) (start before : PeerState) (Before Come : ℕ → List Transaction → Type 0) (Drafting : ℕ → List Transaction → List ℕ → Type 0) (desk : Desk) (handled came : List ℕ)
-    → Stands site start Before desk before Come Drafting handled came → (desk.session.session.state ≡ Ended → ⊥) → MayStop desk.session.session.state
-may_stop site start before Before Come Drafting desk handled came h open' = may_stop_by desk.session.session.state desk h.rest _ _ h.inside open'
+pub may_stop : (site : Site) (start before : PeerState) (Before Come : ℕ → List Transaction → Type 0) (Drafting : ℕ → List Transaction → List ℕ → Type 0) (dialogue : Dialogue) (handled came : List ℕ)
+    → Stands site start Before dialogue before Come Drafting handled came → (dialogue.session.session.state ≡ Ended → ⊥) → MayStop dialogue.session.session.state
+may_stop site start before Before Come Drafting dialogue handled came h open' = may_stop_by dialogue.session.session.state dialogue h.rest _ _ h.inside open'
 
 -- no write failed, and nothing waits
-pub record IsQuiet (desk : Desk) : Type 0 where
-  pub whole : desk.outbox.broken ≡ false
-  pub none : desk.outbox.pending.items ≡ []
+pub record IsQuiet (dialogue : Dialogue) : Type 0 where
+  pub whole : dialogue.outbox.broken ≡ false
+  pub none : dialogue.outbox.pending.items ≡ []
 
 -- why a conversation ends in which nobody said to stop, and no read failed
-abbrev pub EndsAs : EndCause → Desk → PeerState → List ℕ → Type 0
-EndsAs ends.Quit desk now handled = IsQuiet desk × (desk.session.session.state ≡ Ended)
-EndsAs ends.EndOfInput desk now handled = IsQuiet desk × (desk.session.session.state ≡ Ended → ⊥) × IsAtEnd now.unread
-EndsAs ends.ReadBound desk now handled = IsQuiet desk × (desk.session.session.state ≡ Ended → ⊥) × (READ_LIMIT ≤ length handled)
-EndsAs ends.WriteFault desk now handled = desk.outbox.broken ≡ true
-EndsAs ends.ReadFault desk now handled = ⊥
-EndsAs ends.Stopped desk now handled = ⊥
+abbrev pub EndsAs : EndCause → Dialogue → PeerState → List ℕ → Type 0
+EndsAs ends.Quit dialogue now handled = IsQuiet dialogue × (dialogue.session.session.state ≡ Ended)
+EndsAs ends.EndOfInput dialogue now handled = IsQuiet dialogue × (dialogue.session.session.state ≡ Ended → ⊥) × IsAtEnd now.unread
+EndsAs ends.ReadBound dialogue now handled = IsQuiet dialogue × (dialogue.session.session.state ≡ Ended → ⊥) × (READ_LIMIT ≤ length handled)
+EndsAs ends.WriteFault dialogue now handled = dialogue.outbox.broken ≡ true
+EndsAs ends.ReadFault dialogue now handled = ⊥
+EndsAs ends.Stopped dialogue now handled = ⊥
 
 -- what the outbox tells
-said_whole : (start now : PeerState) (desk : Desk) (came text : List ℕ) → IsQuiet desk → HasSaid start now desk.outbox.broken desk.outbox.pending.items came text → HasSaid start now false [] came text
-said_whole start now desk came text q h = subst (λ b. HasSaid start now b [] came text) q.whole (subst (λ l. HasSaid start now desk.outbox.broken l came text) q.none h)
+said_whole : (start now : PeerState) (dialogue : Dialogue) (came text : List ℕ) → IsQuiet dialogue → HasSaid start now dialogue.outbox.broken dialogue.outbox.pending.items came text → HasSaid start now false [] came text
+said_whole start now dialogue came text q h = subst (λ b. HasSaid start now b [] came text) q.whole (subst (λ l. HasSaid start now dialogue.outbox.broken l came text) q.none h)
 
 said_broken : (start now : PeerState) (broken : Bool) (pending came text : List ℕ) → broken ≡ true → HasSaid start now broken pending came text → HasSaid start now true pending came text
 said_broken start now broken pending came text e h = subst (λ b. HasSaid start now b pending came text) e h
 
-finishes_quiet : (site : Site) (start now : PeerState) (desk : Desk) (ps : List Part) (handled : List ℕ) (end : EndCause) → IsQuiet desk
-    → HasSaid start now desk.outbox.broken desk.outbox.pending.items handled (last_text site (flat_map inputs_of ps))
-    → (now.failures ≡ start.failures → EndsBy desk.session.session.state false handled start now end)
-    → Finishes site start now false ps desk.session.session.state handled end
-finishes_quiet site start now desk ps handled end q h causes =
+finishes_quiet : (site : Site) (start now : PeerState) (dialogue : Dialogue) (ps : List Part) (handled : List ℕ) (end : EndCause) → IsQuiet dialogue
+    → HasSaid start now dialogue.outbox.broken dialogue.outbox.pending.items handled (last_text site (flat_map inputs_of ps))
+    → (now.failures ≡ start.failures → EndsBy dialogue.session.session.state false handled start now end)
+    → Finishes site start now false ps dialogue.session.session.state handled end
+finishes_quiet site start now dialogue ps handled end q h causes =
     let s : HasSaid start now false [] handled (last_text site (last_inputs site ps false)) =
-    subst (λ l. HasSaid start now false [] handled l) (text_not_stopped site ps) (said_whole start now desk handled (last_text site (flat_map inputs_of ps)) q h) in
+    subst (λ l. HasSaid start now false [] handled l) (text_not_stopped site ps) (said_whole start now dialogue handled (last_text site (flat_map inputs_of ps)) q h) in
     record { written = s.written; moved = s.moved; says = written_whole start now [] handled (last_text site (last_inputs site ps false)) (end ≡ ends.WriteFault) s refl; causes = causes s.is.sound }
 
 finishes_broken : (site : Site) (start now : PeerState) (broken : Bool) (pending : List ℕ) (state : State) (stopped : Bool) (ps : List Part) (handled text : List ℕ) → broken ≡ true
@@ -350,46 +350,46 @@ stop_ends state handled start now open' may sound = record {
 }
 
 -- all that came is handled, and it ends so
-pub served : (site : Site) (start now : PeerState) (Before Come Last : ℕ → List Transaction → Type 0) (Drafting : ℕ → List Transaction → List ℕ → Type 0) (desk : Desk) (handled : List ℕ) (end : EndCause)
-    → Stands site start Before desk now Come Drafting handled handled → Leaves (is_content desk.session.session.state) Come Drafting Last
-    → EndsAs end desk now handled → IsServed site start now Before Last end
-served site start now Before Come Last Drafting desk handled ends.Quit h l e =
-    finished site start now now Before Come Last Drafting desk handled false ends.Quit h (comes_in_the_end site start now Before Come Last Drafting desk handled handled h l)
-    (finishes_quiet site start now desk h.done handled ends.Quit e.0 h.said (λ sound. quit_ends desk.session.session.state handled start now e.1 sound h.goes))
-served site start now Before Come Last Drafting desk handled ends.EndOfInput h l e =
-    finished site start now now Before Come Last Drafting desk handled false ends.EndOfInput h (comes_in_the_end site start now Before Come Last Drafting desk handled handled h l)
-    (finishes_quiet site start now desk h.done handled ends.EndOfInput e.0 h.said (λ sound. input_ends desk.session.session.state handled start now e.1 e.2 sound h.goes))
-served site start now Before Come Last Drafting desk handled ends.ReadBound h l e =
-    finished site start now now Before Come Last Drafting desk handled false ends.ReadBound h (comes_in_the_end site start now Before Come Last Drafting desk handled handled h l)
-    (finishes_quiet site start now desk h.done handled ends.ReadBound e.0 h.said (λ sound. bound_ends desk.session.session.state handled start now e.1 e.2 sound h.goes))
-served site start now Before Come Last Drafting desk handled ends.WriteFault h l e =
-    finished site start now now Before Come Last Drafting desk handled false ends.WriteFault h (comes_in_the_end site start now Before Come Last Drafting desk handled handled h l)
-    (finishes_broken site start now desk.outbox.broken desk.outbox.pending.items desk.session.session.state false h.done handled _ e (text_not_stopped site h.done) (λ f. cc) (λ f. h.goes) h.said)
-served site start now Before Come Last Drafting desk handled ends.ReadFault h l e = absurd e
-served site start now Before Come Last Drafting desk handled ends.Stopped h l e = absurd e
+pub served : (site : Site) (start now : PeerState) (Before Come Last : ℕ → List Transaction → Type 0) (Drafting : ℕ → List Transaction → List ℕ → Type 0) (dialogue : Dialogue) (handled : List ℕ) (end : EndCause)
+    → Stands site start Before dialogue now Come Drafting handled handled → Leaves (is_content dialogue.session.session.state) Come Drafting Last
+    → EndsAs end dialogue now handled → IsServed site start now Before Last end
+served site start now Before Come Last Drafting dialogue handled ends.Quit h l e =
+    finished site start now now Before Come Last Drafting dialogue handled false ends.Quit h (comes_in_the_end site start now Before Come Last Drafting dialogue handled handled h l)
+    (finishes_quiet site start now dialogue h.done handled ends.Quit e.0 h.said (λ sound. quit_ends dialogue.session.session.state handled start now e.1 sound h.goes))
+served site start now Before Come Last Drafting dialogue handled ends.EndOfInput h l e =
+    finished site start now now Before Come Last Drafting dialogue handled false ends.EndOfInput h (comes_in_the_end site start now Before Come Last Drafting dialogue handled handled h l)
+    (finishes_quiet site start now dialogue h.done handled ends.EndOfInput e.0 h.said (λ sound. input_ends dialogue.session.session.state handled start now e.1 e.2 sound h.goes))
+served site start now Before Come Last Drafting dialogue handled ends.ReadBound h l e =
+    finished site start now now Before Come Last Drafting dialogue handled false ends.ReadBound h (comes_in_the_end site start now Before Come Last Drafting dialogue handled handled h l)
+    (finishes_quiet site start now dialogue h.done handled ends.ReadBound e.0 h.said (λ sound. bound_ends dialogue.session.session.state handled start now e.1 e.2 sound h.goes))
+served site start now Before Come Last Drafting dialogue handled ends.WriteFault h l e =
+    finished site start now now Before Come Last Drafting dialogue handled false ends.WriteFault h (comes_in_the_end site start now Before Come Last Drafting dialogue handled handled h l)
+    (finishes_broken site start now dialogue.outbox.broken dialogue.outbox.pending.items dialogue.session.session.state false h.done handled _ e (text_not_stopped site h.done) (λ f. cc) (λ f. h.goes) h.said)
+served site start now Before Come Last Drafting dialogue handled ends.ReadFault h l e = absurd e
+served site start now Before Come Last Drafting dialogue handled ends.Stopped h l e = absurd e
 
 -- the read after it failed
-pub served_read_fault : (site : Site) (start before now : PeerState) (Before Come Last : ℕ → List Transaction → Type 0) (Drafting : ℕ → List Transaction → List ℕ → Type 0) (desk : Desk) (handled : List ℕ)
-    → Stands site start Before desk before Come Drafting handled handled → Leaves (is_content desk.session.session.state) Come Drafting Last
-    → IsQuiet desk → (desk.session.session.state ≡ Ended → ⊥) → HasFailed before now → IsServed site start now Before Last ends.ReadFault
-served_read_fault site start before now Before Come Last Drafting desk handled h l q open' f =
+pub served_read_fault : (site : Site) (start before now : PeerState) (Before Come Last : ℕ → List Transaction → Type 0) (Drafting : ℕ → List Transaction → List ℕ → Type 0) (dialogue : Dialogue) (handled : List ℕ)
+    → Stands site start Before dialogue before Come Drafting handled handled → Leaves (is_content dialogue.session.session.state) Come Drafting Last
+    → IsQuiet dialogue → (dialogue.session.session.state ≡ Ended → ⊥) → HasFailed before now → IsServed site start now Before Last ends.ReadFault
+served_read_fault site start before now Before Come Last Drafting dialogue handled h l q open' f =
     let s : HasSaid start before false [] handled (last_text site (last_inputs site h.done false)) =
-    subst (λ l. HasSaid start before false [] handled l) (text_not_stopped site h.done) (said_whole start before desk handled (last_text site (flat_map inputs_of h.done)) q h.said) in
+    subst (λ l. HasSaid start before false [] handled l) (text_not_stopped site h.done) (said_whole start before dialogue handled (last_text site (flat_map inputs_of h.done)) q h.said) in
     let moved : HasMoved start now handled s.written = subst (λ l. HasMoved start now handled l) (append-nil s.written) (moved_writing start before now handled s.written [] s.moved f.moved) in
     let failed : Rises start.failures now.failures = subst (λ k. Rises k now.failures) s.is.sound f.failed in
-    finished site start before now Before Come Last Drafting desk handled false ends.ReadFault h (comes_in_the_end site start before Before Come Last Drafting desk handled handled h l)
+    finished site start before now Before Come Last Drafting dialogue handled false ends.ReadFault h (comes_in_the_end site start before Before Come Last Drafting dialogue handled handled h l)
     (record {
       written = s.written;
       moved = moved;
       says = written_whole start before [] handled (last_text site (last_inputs site h.done false)) (ends.ReadFault ≡ ends.WriteFault) s refl;
-      causes = fault_ends desk.session.session.state handled start now open' failed (f.same ∙ h.goes);
+      causes = fault_ends dialogue.session.session.state handled start now open' failed (f.same ∙ h.goes);
     })
 
 -- the session was told to stop, and what it said to that was written as far as it could be
-text_in_the_end : (site : Site) (start before : PeerState) (Before Come : ℕ → List Transaction → Type 0) (Drafting : ℕ → List Transaction → List ℕ → Type 0) (desk : Desk) (handled came : List ℕ)
-    → (h : Stands site start Before desk before Come Drafting handled came) → MayStop desk.session.session.state
-    → last_text site (flat_map inputs_of h.done) ++ reply_texts desk.session.site (replies_to desk.session.site desk.session.session (Stop ∷ [])) ≡ last_text site (last_inputs site h.done true)
-text_in_the_end site start before Before Come Drafting desk handled came h may = text_stopped site h.done desk.session.site desk.session.session h.same_site h.session may
+text_in_the_end : (site : Site) (start before : PeerState) (Before Come : ℕ → List Transaction → Type 0) (Drafting : ℕ → List Transaction → List ℕ → Type 0) (dialogue : Dialogue) (handled came : List ℕ)
+    → (h : Stands site start Before dialogue before Come Drafting handled came) → MayStop dialogue.session.session.state
+    → last_text site (flat_map inputs_of h.done) ++ reply_texts dialogue.session.site (replies_to dialogue.session.site dialogue.session.session (Stop ∷ [])) ≡ last_text site (last_inputs site h.done true)
+text_in_the_end site start before Before Come Drafting dialogue handled came h may = text_stopped site h.done dialogue.session.site dialogue.session.session h.same_site h.session may
 
 -- whether the outbox broke decides
 
@@ -406,16 +406,16 @@ stopped_by false site start now pending state ps handled text open' may is none 
       causes = stop_ends state handled start now open' may s.is.sound;
     }
 
-pub served_stopped : (site : Site) (start earlier before now : PeerState) (Before Come Last : ℕ → List Transaction → Type 0) (Drafting : ℕ → List Transaction → List ℕ → Type 0) (desk new : Desk) (handled : List ℕ)
-    → Stands site start Before desk earlier Come Drafting handled handled → Leaves (is_content desk.session.session.state) Come Drafting Last
-    → (desk.session.session.state ≡ Ended → ⊥) → HasStopped earlier before → TakesInputs (Stop ∷ []) desk new before now → new.outbox.pending.items ≡ []
+pub served_stopped : (site : Site) (start earlier before now : PeerState) (Before Come Last : ℕ → List Transaction → Type 0) (Drafting : ℕ → List Transaction → List ℕ → Type 0) (dialogue new : Dialogue) (handled : List ℕ)
+    → Stands site start Before dialogue earlier Come Drafting handled handled → Leaves (is_content dialogue.session.session.state) Come Drafting Last
+    → (dialogue.session.session.state ≡ Ended → ⊥) → HasStopped earlier before → TakesInputs (Stop ∷ []) dialogue new before now → new.outbox.pending.items ≡ []
     → IsServed site start now Before Last (stopped_or new.outbox.broken)
-served_stopped site start earlier before now Before Come Last Drafting desk new handled h l open' stops t none =
-    let may : MayStop desk.session.session.state = may_stop site start earlier Before Come Drafting desk handled handled h open' in
-    let said : HasSaid start before desk.outbox.broken desk.outbox.pending.items handled (last_text site (flat_map inputs_of h.done)) =
-    subst (λ l. HasSaid start before desk.outbox.broken desk.outbox.pending.items l (last_text site (flat_map inputs_of h.done))) (append-nil handled)
-    (said_on desk.outbox.broken start earlier before desk.outbox.pending.items handled [] (last_text site (flat_map inputs_of h.done)) h.said stops.moved stops.sound) in
+served_stopped site start earlier before now Before Come Last Drafting dialogue new handled h l open' stops t none =
+    let may : MayStop dialogue.session.session.state = may_stop site start earlier Before Come Drafting dialogue handled handled h open' in
+    let said : HasSaid start before dialogue.outbox.broken dialogue.outbox.pending.items handled (last_text site (flat_map inputs_of h.done)) =
+    subst (λ l. HasSaid start before dialogue.outbox.broken dialogue.outbox.pending.items l (last_text site (flat_map inputs_of h.done))) (append-nil handled)
+    (said_on dialogue.outbox.broken start earlier before dialogue.outbox.pending.items handled [] (last_text site (flat_map inputs_of h.done)) h.said stops.moved stops.sound) in
     let rose : Rises start.stops now.stops = subst (λ k. Rises start.stops k) (sym t.same) (subst (λ k. Rises k before.stops) h.goes stops.stopped) in
-    finished site start earlier now Before Come Last Drafting desk handled true (stopped_or new.outbox.broken) h (comes_in_the_end site start earlier Before Come Last Drafting desk handled handled h l)
-    (stopped_by new.outbox.broken site start now new.outbox.pending.items desk.session.session.state h.done handled _ open' rose
-    (text_in_the_end site start earlier Before Come Drafting desk handled handled h may) none (t.says start handled _ said))
+    finished site start earlier now Before Come Last Drafting dialogue handled true (stopped_or new.outbox.broken) h (comes_in_the_end site start earlier Before Come Last Drafting dialogue handled handled h l)
+    (stopped_by new.outbox.broken site start now new.outbox.pending.items dialogue.session.session.state h.done handled _ open' rose
+    (text_in_the_end site start earlier Before Come Drafting dialogue handled handled h may) none (t.says start handled _ said))

@@ -7,3 +7,9 @@ pub mod Messages
 pub mod Carrying
 pub mod Ends
 pub mod Turning
+pub mod Exchanging
+pub mod Awaiting
+pub mod Delivering
+pub mod Accounting
+pub mod AnsweredAll
+pub mod Visiting

@@ -13,7 +13,7 @@ use Rattle.lmtp_session.specs.declared.act.Act.{Act}
 use Rattle.lmtp_session.specs.declared.act.Act.TheVariants.{Say, ReadData, Deliver, Answer, Quit}
 use Rattle.lmtp_session.specs.View.{View}
 use Rattle.lmtp_session.specs.Steps.{IsAct, IsTaken, IsStep}
-use Rattle.lmtp_house.specs.declared.desk.Desk.{Desk}
+use Rattle.lmtp_house.specs.declared.dialogue.Dialogue.{Dialogue}
 use Rattle.lmtp_house.specs.Peer.{PeerState}
 use Rattle.lmtp_house.specs.Saying.{HasSaid, said}
 use Rattle.lmtp_house.specs.Delivery.{EndsDraft}
@@ -32,7 +32,7 @@ texts_are : (site : Site) (act : Act) (st : Step) (old : View) (new : View) → 
 texts_are site act st old new t e = ap (λ (x : Site). reply_texts x (said act new.answers)) (t.site ∙ e) ∙ ap (λ rs. reply_texts site rs) (said_is act st new.answers t.fits)
 
 pub whole_message : {D : Type 0} (HasCome : D → ℕ → List Transaction → Type 0) (IsDrafting : D → ℕ → List Transaction → List ℕ → Type 0)
-    (old new : Desk) (mid : View) (before after : PeerState) (delivery later : D) (verdict : Verdict) (moment : ℕ) (told : List Outcome) (first second : Act)
+    (old new : Dialogue) (mid : View) (before after : PeerState) (delivery later : D) (verdict : Verdict) (moment : ℕ) (told : List Outcome) (first second : Act)
     → verdict ≡ Whole
     → ((n : ℕ) (ts : List Transaction) (message : List ℕ) → IsDrafting delivery n ts message → EndsDraft (HasCome later) moment told old.session.session n ts message verdict)
     → length told ≡ length old.session.session.recipients
@@ -67,7 +67,7 @@ whole_message {D} HasCome IsDrafting old new mid before after delivery later ver
     }
 
 pub refused_message : {D : Type 0} (HasCome : D → ℕ → List Transaction → Type 0) (IsDrafting : D → ℕ → List Transaction → List ℕ → Type 0)
-    (old new : Desk) (before after : PeerState) (delivery later : D) (verdict : Verdict) (moment : ℕ) (told : List Outcome) (act : Act)
+    (old new : Dialogue) (before after : PeerState) (delivery later : D) (verdict : Verdict) (moment : ℕ) (told : List Outcome) (act : Act)
     → (verdict ≡ Whole → ⊥)
     → ((n : ℕ) (ts : List Transaction) (message : List ℕ) → IsDrafting delivery n ts message → EndsDraft (HasCome later) moment told old.session.session n ts message verdict)
     → IsStep old.session (DataEnded verdict) act new.session → new.wire ≡ old.wire → after.stops ≡ before.stops

@@ -9,7 +9,7 @@ use Rattle.mail_world.specs.Session.{Session}
 use Rattle.mail_world.specs.Replies.{reply_text}
 use Rattle.mail_world.specs.Lists.{Transaction}
 use Rattle.lmtp_session.specs.Steps.{MayStop}
-use Rattle.lmtp_house.specs.declared.desk.Desk.{Desk}
+use Rattle.lmtp_house.specs.declared.dialogue.Dialogue.{Dialogue}
 use Rattle.lmtp_house.specs.declared.outbox.Outbox.{Outbox}
 use Rattle.lmtp_house.specs.declared.ending.EndCause.TheVariants as ends
 use Rattle.lmtp_house.specs.Peer.{PeerState, HasWorked}
@@ -26,9 +26,9 @@ said_none s broken pending b p =
     subst (λ x. HasSaid s s x pending [] []) (sym b) (subst (λ l. HasSaid s s false l [] []) (sym p) (record { written = []; moved = moved_none s; is = record { whole = refl; sound = refl } }))
 
 -- a peer gave more bytes
-pub stands_reading : (site : Site) (start peer later : PeerState) (Before Come : ℕ → List Transaction → Type 0) (Drafting : ℕ → List Transaction → List ℕ → Type 0) (desk : Desk) (handled came more : List ℕ)
-    → Stands site start Before desk peer Come Drafting handled came → HasWorked peer later more [] → Stands site start Before desk later Come Drafting handled (came ++ more)
-stands_reading site start peer later Before Come Drafting desk handled came more h w = record {
+pub stands_reading : (site : Site) (start peer later : PeerState) (Before Come : ℕ → List Transaction → Type 0) (Drafting : ℕ → List Transaction → List ℕ → Type 0) (dialogue : Dialogue) (handled came more : List ℕ)
+    → Stands site start Before dialogue peer Come Drafting handled came → HasWorked peer later more [] → Stands site start Before dialogue later Come Drafting handled (came ++ more)
+stands_reading site start peer later Before Come Drafting dialogue handled came more h w = record {
   done = h.done;
   front = h.front;
   rest = h.rest;
@@ -37,31 +37,31 @@ stands_reading site start peer later Before Come Drafting desk handled came more
   same_site = h.same_site;
   session = h.session;
   quits = h.quits;
-  said = said_reading desk.outbox.broken start peer later desk.outbox.pending.items came more _ h.said w;
+  said = said_reading dialogue.outbox.broken start peer later dialogue.outbox.pending.items came more _ h.said w;
   goes = w.same ∙ h.goes;
   inside = h.inside;
 }
 
 -- a peer gave nothing more
-pub stands_still : (site : Site) (start peer later : PeerState) (Before Come : ℕ → List Transaction → Type 0) (Drafting : ℕ → List Transaction → List ℕ → Type 0) (desk : Desk) (handled came : List ℕ)
-    → Stands site start Before desk peer Come Drafting handled came → HasWorked peer later [] [] → Stands site start Before desk later Come Drafting handled came
-stands_still site start peer later Before Come Drafting desk handled came h w =
-    subst (λ l. Stands site start Before desk later Come Drafting handled l) (append-nil came) (stands_reading site start peer later Before Come Drafting desk handled came [] h w)
+pub stands_still : (site : Site) (start peer later : PeerState) (Before Come : ℕ → List Transaction → Type 0) (Drafting : ℕ → List Transaction → List ℕ → Type 0) (dialogue : Dialogue) (handled came : List ℕ)
+    → Stands site start Before dialogue peer Come Drafting handled came → HasWorked peer later [] [] → Stands site start Before dialogue later Come Drafting handled came
+stands_still site start peer later Before Come Drafting dialogue handled came h w =
+    subst (λ l. Stands site start Before dialogue later Come Drafting handled l) (append-nil came) (stands_reading site start peer later Before Come Drafting dialogue handled came [] h w)
 
-inside_same : (state : State) (desk : Desk) (outbox : Outbox) (rest : List ℕ) (come : Type 0) (drafts : List ℕ → Type 0) → IsInside state desk rest come drafts → IsInside state (record desk { outbox = outbox }) rest come drafts
-inside_same Fresh desk outbox rest come drafts x = record { behind = x.behind; comes = x.comes }
-inside_same Greeted desk outbox rest come drafts x = record { behind = x.behind; comes = x.comes }
-inside_same Sender desk outbox rest come drafts x = record { behind = x.behind; comes = x.comes }
-inside_same Recipients desk outbox rest come drafts x = record { behind = x.behind; comes = x.comes }
-inside_same Content desk outbox rest come drafts x = record { made = x.made; next = x.next; behind = x.behind; drafting = x.drafting }
-inside_same Waiting desk outbox rest come drafts x = absurd x
-inside_same Ended desk outbox rest come drafts x = x
+inside_same : (state : State) (dialogue : Dialogue) (outbox : Outbox) (rest : List ℕ) (come : Type 0) (drafts : List ℕ → Type 0) → IsInside state dialogue rest come drafts → IsInside state (record dialogue { outbox = outbox }) rest come drafts
+inside_same Fresh dialogue outbox rest come drafts x = record { behind = x.behind; comes = x.comes }
+inside_same Greeted dialogue outbox rest come drafts x = record { behind = x.behind; comes = x.comes }
+inside_same Sender dialogue outbox rest come drafts x = record { behind = x.behind; comes = x.comes }
+inside_same Recipients dialogue outbox rest come drafts x = record { behind = x.behind; comes = x.comes }
+inside_same Content dialogue outbox rest come drafts x = record { made = x.made; next = x.next; behind = x.behind; drafting = x.drafting }
+inside_same Waiting dialogue outbox rest come drafts x = absurd x
+inside_same Ended dialogue outbox rest come drafts x = x
 
 -- what waited was written
-pub stands_flushed : (site : Site) (start peer later : PeerState) (Before Come : ℕ → List Transaction → Type 0) (Drafting : ℕ → List Transaction → List ℕ → Type 0) (desk : Desk) (outbox : Outbox) (handled came : List ℕ)
-    → ((text : List ℕ) → HasSaid start peer desk.outbox.broken desk.outbox.pending.items came text → HasSaid start later outbox.broken outbox.pending.items came text)
-    → later.stops ≡ peer.stops → Stands site start Before desk peer Come Drafting handled came → Stands site start Before (record desk { outbox = outbox }) later Come Drafting handled came
-stands_flushed site start peer later Before Come Drafting desk outbox handled came says same h = record {
+pub stands_flushed : (site : Site) (start peer later : PeerState) (Before Come : ℕ → List Transaction → Type 0) (Drafting : ℕ → List Transaction → List ℕ → Type 0) (dialogue : Dialogue) (outbox : Outbox) (handled came : List ℕ)
+    → ((text : List ℕ) → HasSaid start peer dialogue.outbox.broken dialogue.outbox.pending.items came text → HasSaid start later outbox.broken outbox.pending.items came text)
+    → later.stops ≡ peer.stops → Stands site start Before dialogue peer Come Drafting handled came → Stands site start Before (record dialogue { outbox = outbox }) later Come Drafting handled came
+stands_flushed site start peer later Before Come Drafting dialogue outbox handled came says same h = record {
   done = h.done;
   front = h.front;
   rest = h.rest;
@@ -72,7 +72,7 @@ stands_flushed site start peer later Before Come Drafting desk outbox handled ca
   quits = h.quits;
   said = says _ h.said;
   goes = same ∙ h.goes;
-  inside = inside_same desk.session.session.state desk outbox h.rest _ _ h.inside;
+  inside = inside_same dialogue.session.session.state dialogue outbox h.rest _ _ h.inside;
 }
 
 pub may_not_ended : (state : State) → MayStop state → state ≡ Ended → ⊥
@@ -85,7 +85,7 @@ may_not_ended Waiting h e = cc
 may_not_ended Ended h e = cc
 
 -- the beginning of a conversation
-pub begins : (site : Site) (before after : PeerState) (Come : ℕ → List Transaction → Type 0) (Drafting : ℕ → List Transaction → List ℕ → Type 0) (old new : Desk)
+pub begins : (site : Site) (before after : PeerState) (Come : ℕ → List Transaction → Type 0) (Drafting : ℕ → List Transaction → List ℕ → Type 0) (old new : Dialogue)
     → old.session.site ≡ site → Greets old new before after → Stands site before Come new after Come Drafting [] []
 begins site before after Come Drafting old new here h = record {
   done = [];
@@ -103,7 +103,7 @@ begins site before after Come Drafting old new here h = record {
 }
 
 -- bytes came and are handled: the conversation has ended with them, or goes on
-module _ {D : Type 0} (HasCome : D → ℕ → List Transaction → Type 0) (IsDrafting : D → ℕ → List Transaction → List ℕ → Type 0) (old new : Desk) (before read after : PeerState) (delivery later : D) (piece : List ℕ) where
+module _ {D : Type 0} (HasCome : D → ℕ → List Transaction → Type 0) (IsDrafting : D → ℕ → List Transaction → List ℕ → Type 0) (old new : Dialogue) (before read after : PeerState) (delivery later : D) (piece : List ℕ) where
   handled_all : HasWorked before read piece [] → HandlesPiece HasCome IsDrafting old new read after delivery later piece
       → (site : Site) (start : PeerState) (first : D) (handled : List ℕ) → Stands site start (HasCome first) old before (HasCome delivery) (IsDrafting delivery) handled handled
       → Stands site start (HasCome first) new after (HasCome later) (IsDrafting later) (handled ++ piece) (handled ++ piece)

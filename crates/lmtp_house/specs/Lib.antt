@@ -5,3 +5,8 @@ pub mod Served
 pub mod Standing
 pub mod Steps
 pub mod Turns
+pub mod LaneExchange
+pub mod LaneAccount
+pub mod Visits
+pub mod LaneRun
+pub mod LaneStart

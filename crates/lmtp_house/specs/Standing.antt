@@ -11,7 +11,7 @@ use Rattle.mail_world.specs.Dispositions.{dispositions_of}
 use Rattle.mail_world.specs.Lists.{Transaction, accepted_after, transactions_of}
 use Rattle.lmtp_wire.specs.Wire.{IsBehind}
 use Rattle.lmtp_wire.specs.Dot.{HasMade}
-use Rattle.lmtp_house.specs.declared.desk.Desk.{Desk}
+use Rattle.lmtp_house.specs.declared.dialogue.Dialogue.{Dialogue}
 use Rattle.lmtp_house.specs.Peer.{PeerState}
 use Rattle.lmtp_house.specs.Saying.{HasSaid}
 use Rattle.lmtp_house.specs.Served.{has_quit}
@@ -32,34 +32,34 @@ abbrev pub Comes : Site → List Part → (ℕ → List Transaction → Type 0) 
 Comes site ps Before Now = (n : ℕ) (ts : List Transaction) → Before n ts → Now (accepted_after site n fresh ps) (ts ++ transactions_of site n fresh ps)
 
 -- inside a line, of which these bytes were taken
-pub record InLine (desk : Desk) (rest : List ℕ) (come : Type 0) : Type 0 where
-  pub behind : IsBehind desk.wire rest
+pub record InLine (dialogue : Dialogue) (rest : List ℕ) (come : Type 0) : Type 0 where
+  pub behind : IsBehind dialogue.wire rest
   pub comes : come
 
 -- inside data, of which these bytes were taken, with a draft of what was made of them
-pub record InData (desk : Desk) (rest : List ℕ) (drafts : List ℕ → Type 0) : Type 0 where
+pub record InData (dialogue : Dialogue) (rest : List ℕ) (drafts : List ℕ → Type 0) : Type 0 where
   pub made : List ℕ
-  pub next : IsBehind desk.wire []
-  pub behind : HasMade desk.dot rest made
+  pub next : IsBehind dialogue.wire []
+  pub behind : HasMade dialogue.dot rest made
   pub drafting : drafts made
 
-abbrev pub IsInside : State → Desk → List ℕ → Type 0 → (List ℕ → Type 0) → Type 0
-IsInside Content desk rest come drafts = InData desk rest drafts
-IsInside Waiting desk rest come drafts = ⊥
-IsInside Ended desk rest come drafts = come
-IsInside _ desk rest come drafts = InLine desk rest come
+abbrev pub IsInside : State → Dialogue → List ℕ → Type 0 → (List ℕ → Type 0) → Type 0
+IsInside Content dialogue rest come drafts = InData dialogue rest drafts
+IsInside Waiting dialogue rest come drafts = ⊥
+IsInside Ended dialogue rest come drafts = come
+IsInside _ dialogue rest come drafts = InLine dialogue rest come
 
 -- Of the bytes that came since the start of the conversation, these are handled.
-pub record Stands (site : Site) (start : PeerState) (Before : ℕ → List Transaction → Type 0) (desk : Desk) (peer : PeerState)
+pub record Stands (site : Site) (start : PeerState) (Before : ℕ → List Transaction → Type 0) (dialogue : Dialogue) (peer : PeerState)
     (Come : ℕ → List Transaction → Type 0) (Drafting : ℕ → List Transaction → List ℕ → Type 0) (handled came : List ℕ) : Type 0 where
   pub done : List Part
   pub front : List ℕ
   pub rest : List ℕ
   pub whole : handled ≡ front ++ rest
   pub cut : IsCutUp site front done
-  pub same_site : desk.session.site ≡ site
-  pub session : desk.session.session ≡ session_behind site fresh done
-  pub quits : QuitsWith desk.session.session.state (flat_map inputs_of done)
-  pub said : HasSaid start peer desk.outbox.broken desk.outbox.pending.items came (reply_text site Greeting ++ reply_texts site (replies_to site fresh (flat_map inputs_of done)))
+  pub same_site : dialogue.session.site ≡ site
+  pub session : dialogue.session.session ≡ session_behind site fresh done
+  pub quits : QuitsWith dialogue.session.session.state (flat_map inputs_of done)
+  pub said : HasSaid start peer dialogue.outbox.broken dialogue.outbox.pending.items came (reply_text site Greeting ++ reply_texts site (replies_to site fresh (flat_map inputs_of done)))
   pub goes : peer.stops ≡ start.stops
-  pub inside : IsInside desk.session.session.state desk rest (Comes site done Before Come) (λ made. Comes site done Before (λ n ts. Drafting n ts made))
+  pub inside : IsInside dialogue.session.session.state dialogue rest (Comes site done Before Come) (λ made. Comes site done Before (λ n ts. Drafting n ts made))

@@ -8,14 +8,14 @@ use Rattle.mail_world.specs.Conversation.{session_after, replies_to, outcomes_of
 use Rattle.mail_world.specs.Lists.{Transaction, is_content}
 use Rattle.mail_world.specs.Site.{Site}
 use Rattle.lmtp_wire.specs.Dot.{HasMade}
-use Rattle.lmtp_house.specs.declared.desk.Desk.{Desk}
+use Rattle.lmtp_house.specs.declared.dialogue.Dialogue.{Dialogue}
 use Rattle.lmtp_house.specs.Peer.{PeerState}
 use Rattle.lmtp_house.specs.Saying.{HasSaid}
 use Rattle.lmtp_house.specs.Delivery.{ended_so, EndsDraft}
 use Rattle.lmtp_house.specs.Standing.{Stands}
 
 -- the session takes the inputs, and their replies are said
-pub record TakesInputs (inputs : List Input) (old new : Desk) (before after : PeerState) : Type 0 where
+pub record TakesInputs (inputs : List Input) (old new : Dialogue) (before after : PeerState) : Type 0 where
   pub site : new.session.site ≡ old.session.site
   pub session : new.session.session ≡ session_after old.session.site old.session.session inputs
   pub says : (start : PeerState) (came text : List ℕ) → HasSaid start before old.outbox.broken old.outbox.pending.items came text
@@ -24,19 +24,19 @@ pub record TakesInputs (inputs : List Input) (old new : Desk) (before after : Pe
   pub same : after.stops ≡ before.stops
 
 -- a draft begins where the data is asked for, and else the delivery stays as it was
-abbrev pub BeginsIf : {D : Type 0} → (D → ℕ → List Transaction → Type 0) → (D → ℕ → List Transaction → List ℕ → Type 0) → Bool → Desk → D → D → Type 0
+abbrev pub BeginsIf : {D : Type 0} → (D → ℕ → List Transaction → Type 0) → (D → ℕ → List Transaction → List ℕ → Type 0) → Bool → Dialogue → D → D → Type 0
 BeginsIf HasCome IsDrafting true new before after = HasMade new.dot [] [] × ((n : ℕ) (ts : List Transaction) → HasCome before n ts → IsDrafting after (n + 1) ts [])
 BeginsIf HasCome IsDrafting false new before after = after ≡ before
 
 -- a line is taken
 pub record TakesLine {D : Type 0} (HasCome : D → ℕ → List Transaction → Type 0) (IsDrafting : D → ℕ → List Transaction → List ℕ → Type 0)
-    (input : Input) (old new : Desk) (before after : PeerState) (delivery later : D) : Type 0 where
+    (input : Input) (old new : Dialogue) (before after : PeerState) (delivery later : D) : Type 0 where
   pub takes : TakesInputs (input ∷ []) old new before after
   pub begins : BeginsIf HasCome IsDrafting (is_content new.session.session.state) new delivery later
 
 -- the data ends
 pub record EndsData {D : Type 0} (HasCome : D → ℕ → List Transaction → Type 0) (IsDrafting : D → ℕ → List Transaction → List ℕ → Type 0)
-    (old new : Desk) (before after : PeerState) (delivery later : D) : Type 0 where
+    (old new : Dialogue) (before after : PeerState) (delivery later : D) : Type 0 where
   pub verdict : Verdict
   pub moment : ℕ
   pub told : List Outcome
@@ -47,7 +47,7 @@ pub record EndsData {D : Type 0} (HasCome : D → ℕ → List Transaction → T
 
 -- wherever the conversation stood before, it stands with these bytes more
 abbrev pub Carries : {D : Type 0} → (D → ℕ → List Transaction → Type 0) → (D → ℕ → List Transaction → List ℕ → Type 0)
-    → Desk → Desk → PeerState → PeerState → D → D → List ℕ → Type 0
+    → Dialogue → Dialogue → PeerState → PeerState → D → D → List ℕ → Type 0
 Carries {D} HasCome IsDrafting old new before after delivery later more = (site : Site) (start : PeerState) (first : D) (handled came : List ℕ)
     → Stands site start (HasCome first) old before (HasCome delivery) (IsDrafting delivery) handled came
     → Stands site start (HasCome first) new after (HasCome later) (IsDrafting later) (handled ++ more) came

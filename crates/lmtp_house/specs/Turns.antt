@@ -6,7 +6,7 @@ use Rattle.mail_world.specs.Session.{fresh}
 use Rattle.mail_world.specs.Replies.{reply_text}
 use Rattle.mail_world.specs.Lists.{Transaction}
 use Rattle.lmtp_wire.specs.Wire.{IsBehind}
-use Rattle.lmtp_house.specs.declared.desk.Desk.{Desk}
+use Rattle.lmtp_house.specs.declared.dialogue.Dialogue.{Dialogue}
 use Rattle.lmtp_house.specs.declared.ending.EndCause.{EndCause}
 use Rattle.lmtp_house.specs.declared.ending.EndCause.TheVariants as ends
 use Rattle.mail_world.specs.declared.State.{State}
@@ -17,7 +17,7 @@ use Rattle.lmtp_house.specs.Served.{IsServed}
 use Rattle.lmtp_house.specs.Standing.{Stands}
 
 -- a conversation has begun, and its greeting was said
-pub record Greets (old new : Desk) (before after : PeerState) : Type 0 where
+pub record Greets (old new : Dialogue) (before after : PeerState) : Type 0 where
   pub site : new.session.site ≡ old.session.site
   pub session : new.session.session ≡ fresh
   pub wire : IsBehind new.wire []
@@ -30,29 +30,29 @@ Leaves true Come Drafting Last = (n : ℕ) (ts : List Transaction) (message : Li
 Leaves false Come Drafting Last = (n : ℕ) (ts : List Transaction) → Come n ts → Last n ts
 
 -- more bytes have come and are handled
-pub record StandsFurther (site : Site) (start : PeerState) (Before : ℕ → List Transaction → Type 0) (desk : Desk) (peer : PeerState)
+pub record StandsFurther (site : Site) (start : PeerState) (Before : ℕ → List Transaction → Type 0) (dialogue : Dialogue) (peer : PeerState)
     (Come : ℕ → List Transaction → Type 0) (Drafting : ℕ → List Transaction → List ℕ → Type 0) (handled : List ℕ) : Type 0 where
   pub more : List ℕ
   pub some : 0 < length more
-  pub stands : Stands site start Before desk peer Come Drafting (handled ++ more) (handled ++ more)
+  pub stands : Stands site start Before dialogue peer Come Drafting (handled ++ more) (handled ++ more)
 
 -- a turn after which the conversation goes on
 abbrev pub TakesTurn : {D : Type 0} → (D → ℕ → List Transaction → Type 0) → (D → ℕ → List Transaction → List ℕ → Type 0)
-    → Desk → Desk → PeerState → PeerState → D → D → Type 0
+    → Dialogue → Dialogue → PeerState → PeerState → D → D → Type 0
 TakesTurn {D} HasCome IsDrafting old new before after delivery later = (site : Site) (start : PeerState) (first : D) (handled : List ℕ)
     → Stands site start (HasCome first) old before (HasCome delivery) (IsDrafting delivery) handled handled
     → StandsFurther site start (HasCome first) new after (HasCome later) (IsDrafting later) handled
 
 -- what is behind the last turn
 abbrev pub EndsTurn : {D : Type 0} → (D → ℕ → List Transaction → Type 0) → (D → ℕ → List Transaction → List ℕ → Type 0)
-    → Desk → PeerState → PeerState → D → D → EndCause → Type 0
+    → Dialogue → PeerState → PeerState → D → D → EndCause → Type 0
 EndsTurn {D} HasCome IsDrafting old before after delivery later end = (site : Site) (start : PeerState) (first : D) (handled : List ℕ)
     → Stands site start (HasCome first) old before (HasCome delivery) (IsDrafting delivery) handled handled
     → IsServed site start after (HasCome first) (HasCome later) end
 
 -- the bytes that have come are handled, and the conversation goes on, or it has ended with them
 abbrev pub HandlesPiece : {D : Type 0} → (D → ℕ → List Transaction → Type 0) → (D → ℕ → List Transaction → List ℕ → Type 0)
-    → Desk → Desk → PeerState → PeerState → D → D → List ℕ → Type 0
+    → Dialogue → Dialogue → PeerState → PeerState → D → D → List ℕ → Type 0
 HandlesPiece {D} HasCome IsDrafting old new before after delivery later piece = (site : Site) (start : PeerState) (first : D) (handled : List ℕ)
     → Stands site start (HasCome first) old before (HasCome delivery) (IsDrafting delivery) handled (handled ++ piece)
     → Stands site start (HasCome first) new after (HasCome later) (IsDrafting later) (handled ++ piece) (handled ++ piece)

@@ -4,8 +4,10 @@
 mod conversation;
 mod delivery;
 mod desk;
+mod dialogue;
 mod ending;
 mod handling;
+mod lane;
 mod outbox;
 mod peer;
 #[cfg(test)]
@@ -14,6 +16,8 @@ mod tests;
 pub use conversation::serve;
 pub use delivery::Delivery;
 pub use desk::Desk;
+pub use dialogue::Dialogue;
 pub use ending::EndCause;
+pub use lane::{Clock, LaneReport, Visits, lane_run};
 pub use outbox::Outbox;
 pub use peer::{Came, Peer, PeerFault};

@@ -2,7 +2,7 @@
 
 mod fakes;
 
-use crate::{Desk, EndCause, serve};
+use crate::{Dialogue, EndCause, serve};
 use fakes::Then::{Ends, Fails, Says, Stops};
 use fakes::{Script, Shelf, Turn};
 use lmtp_text::Site;
@@ -85,10 +85,10 @@ fn conversations_keep_to_their_scripts(rt: HostRuntime) -> Result<(), Fail> {
     ];
     let site = site(&rt, rt.alloc())?;
     for (turns, end, message, cancelled) in table {
-        let mut desk = Desk::new(rt.alloc(), site.clone()?)?;
+        let mut dialogue = Dialogue::new(rt.alloc(), site.clone()?)?;
         let mut peer = Script::new(rt.alloc(), turns, usize::MAX);
         let mut shelf = Shelf::new(rt.alloc(), site.clone()?);
-        assert_eq!(rt; serve(&mut desk, &mut peer, &mut shelf), end);
+        assert_eq!(rt; serve(&mut dialogue, &mut peer, &mut shelf), end);
         assert!(rt; peer.has_heard_all());
         assert_eq!(rt; shelf.bytes(), message);
         assert_eq!(rt; shelf.cancelled(), cancelled);

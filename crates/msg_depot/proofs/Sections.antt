@@ -1,5 +1,7 @@
 -- What a critical section makes of what the keeper's type keeps: its seat joins a token, steps, and splits off what is left.
-use Rattle.std.proofs.Common.{◌≡◌, ◌≢◌, ℕ, ◌<◌, ◌≤◌, List, [], ◌++◌, length, sym, ap, ◌∙◌, subst, refl}
+use Rattle.std.proofs.Common.{◌≡◌, ◌≢◌, ℕ, ◌<◌, ◌≤◌, List, [], ◌++◌, length, sym, ap, ◌∙◌, subst, refl, arith}
+use Rattle.std.proofs.lemmas.List.{length-map}
+use Rattle.std.proofs.lemmas.Option.{slice_get_within}
 use Rattle.atomic_table.specs.Table.{Me}
 use Rattle.atomic_table.specs.Seated.{TableId}
 use Rattle.mail_world.specs.Depot.{Depot, Key, Begins, Puts, Seals}
@@ -9,7 +11,7 @@ use Rattle.msg_depot.specs.declared.view.Entry.{Entry}
 use Rattle.msg_depot.specs.declared.view.Claim.{Claim}
 use Rattle.msg_depot.specs.declared.view.Kind.{Kind}
 use Rattle.msg_depot.specs.declared.view.Kind.TheVariants.{Nothing, Draft}
-use Rattle.msg_depot.specs.declared.view.Phase.TheVariants.{Drafted, Sealed}
+use Rattle.msg_depot.specs.declared.view.Phase.TheVariants.{Free, Drafted, Sealed}
 use Rattle.msg_depot.specs.Rules.{token, keeping, resting, entry, phase_of}
 use Rattle.msg_depot.specs.Moves.{entry_at, generation_at, entered, begun, put, sealed}
 use Rattle.msg_depot.specs.Entries.{entry_of, entries_of, slot_behind, IsKeeper}
@@ -31,6 +33,12 @@ module _ (named t0 : TableId) (m0 : Seen) (old : Depot) (keeper : IsKeeper named
 
   pub generation_there : (new : Depot) → Begins old key new → generation_at m0.0.book key.slot ≡ key.generation
   generation_there new b = ap (λ (x : Entry). x.generation) ((λ n. entry_at (knows n) key.slot) ∙ entry_there old key.slot _ b.0)
+
+  pub slot_there : (new : Depot) → Begins old key new → (key.slot < named.words) × (key.slot < length m0.0.book) × ((entry_at m0.0.book key.slot).phase ≡ Free)
+  slot_there new b =
+      let within : key.slot < length old.slots = slice_get_within old.slots key.slot _ b.0 in
+      let size : length m0.0.book ≡ length old.slots = ap length knows ∙ length-map old.slots entry_of in
+      (omega (arith, within, keeper.long), omega (arith, within, size), ap (λ (x : Entry). x.phase) ((λ n. entry_at (knows n) key.slot) ∙ entry_there old key.slot _ b.0))
 
   pub draft_kept : (new : Depot) → Begins old key new → (t1 t2 : TableId) (m1 m2 : Seen) → t1 ≡ t0 → m1 ≡ (begun m0.0 key.slot, []) → t2 ≡ t1 → m2 ≡ (resting m1.0.book, []) → IsKeeper named t2 m2 new
   draft_kept new b t1 t2 m1 m2 same1 is1 same2 is2 =

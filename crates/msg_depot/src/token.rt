@@ -12,7 +12,7 @@ use std::alloc::Global;
 use std::marker::{Brand, Model, PhantomData};
 
 /// Names one table, so that tokens, keeper and depot of one name are of one table.
-pub trait DepotName: Send + Sync {
+pub trait DepotName {
     ghost use Rattle.atomic_table.specs.Seated.{TableId};
 
     ghost table: { TableId };

@@ -13,7 +13,7 @@ use super::output::write_mailboxes;
 use super::peer::StreamPeer;
 use super::rehearsal::Rehearsal;
 use super::setting::Setting;
-use lmtp_house::{Delivery, Desk, EndCause, serve};
+use lmtp_house::{Delivery, Dialogue, EndCause, serve};
 use lmtp_text::Site;
 use std::alloc::Global;
 use std::io::{Read, Write};
@@ -52,29 +52,29 @@ fn rehearse_at<S: Setting, R: Read, W: Write>(
     ensures memory { OnErr result (Keeps (W.contents writer.old) (W.contents writer.new)) }
 {
     let mut rehearsal: Rehearsal<S> = Rehearsal::new(alloc, site.box_count(), moment)?;
-    let mut desk = Desk::new(alloc, site)?;
-    let end = hold(&mut desk, &mut rehearsal, reader, writer);
-    Ok(write_out(desk.session.site(), &rehearsal.mailboxes, end, writer))
+    let mut dialogue = Dialogue::new(alloc, site)?;
+    let end = hold(&mut dialogue, &mut rehearsal, reader, writer);
+    Ok(write_out(dialogue.session.site(), &rehearsal.mailboxes, end, writer))
 }
 
 // Serves one conversation with the reader and the writer.
 fn hold<D: Delivery, R: Read, W: Write>(
-    desk: &mut Desk,
+    dialogue: &mut Dialogue,
     delivery: &mut D,
     reader: &mut R,
     writer: &mut W,
 ) -> EndCause
-    requires { D.site delivery.old ≡ desk.old.session.site }
-    ensures held { IsHeld desk.old.session.site (R.remaining reader.old) (R.remaining reader.new) (W.contents writer.old) (W.contents writer.new)
+    requires { D.site delivery.old ≡ dialogue.old.session.site }
+    ensures held { IsHeld dialogue.old.session.site (R.remaining reader.old) (R.remaining reader.new) (W.contents writer.old) (W.contents writer.new)
         (D.HasCome delivery.old) (D.HasCome delivery.new) result }
-    ensures same { desk.new.session.site ≡ desk.old.session.site }
+    ensures same { dialogue.new.session.site ≡ dialogue.old.session.site }
 {
     let mut peer = StreamPeer {
         reader,
         writer,
         failures: 0,
     };
-    serve(desk, &mut peer, delivery)
+    serve(dialogue, &mut peer, delivery)
 }
 
 // Writes the mailboxes, also where a write of the replies has failed.

@@ -16,6 +16,6 @@ returns-clause-greets g c =
       wire = c.clear.ensures.behind;
       same = c.flush.ensures.goes ∙ c.say.ensures.goes;
       said = subst said
-          (ap (λ (x : Site). reply_text x c.greeting-greeting.result) (c.site.ensures ∙ c.greeting-greeting.ensures.site) ∙ ap (λ (r : Reply). reply_text c.args.desk.now.session.site r) c.greeting-greeting.ensures.reply)
+          (ap (λ (x : Site). reply_text x c.greeting-greeting.result) (c.site.ensures ∙ c.greeting-greeting.ensures.site) ∙ ap (λ (r : Reply). reply_text c.args.dialogue.now.session.site r) c.greeting-greeting.ensures.reply)
           (c.flush.ensures.said start [] _ (c.say.ensures.says start [] [] (said_none start c.clear-2.new.self.broken c.clear-2.new.self.pending.items c.clear-2.ensures.1 c.clear-2.ensures.0)));
     }

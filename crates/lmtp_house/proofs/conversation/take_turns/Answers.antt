@@ -25,17 +25,17 @@ loop-made-preserved g c = record {
       (w.0 ++ t.more, omega (arith, made, some, length-append w.0 t.more), t.stands);
 }
 
-pub returns-then-desk-clause-ends : goal.returns-then-desk-clause-ends
-returns-then-desk-clause-ends g c site start first handled h =
+pub returns-then-dialogue-clause-ends : goal.returns-then-dialogue-clause-ends
+returns-then-dialogue-clause-ends g c site start first handled h =
     let w = c.loop-made.invariant.stands site start first handled h in
     served site start (g.P.Peer.state c.loop-made.peer) (g.D.Delivery.HasCome first) (g.D.Delivery.HasCome c.loop-made.delivery) (g.D.Delivery.HasCome c.leave.new.delivery) (g.D.Delivery.IsDrafting c.loop-made.delivery)
-    c.loop-made.desk w.0 ends.WriteFault w.2 c.leave.ensures.leaves c.if-desk.true
+    c.loop-made.dialogue w.0 ends.WriteFault w.2 c.leave.ensures.leaves c.if-dialogue.true
 
-pub returns-else-desk-clause-ends : goal.returns-else-desk-clause-ends
-returns-else-desk-clause-ends g c site start first handled h =
+pub returns-else-dialogue-clause-ends : goal.returns-else-dialogue-clause-ends
+returns-else-dialogue-clause-ends g c site start first handled h =
     let w = c.loop-made.invariant.stands site start first handled h in
     let made : c.loop-made._made ≤ length w.0 = w.1 in
     let bound : READ_LIMIT ≤ length w.0 = omega (arith, made, c.loop-made-test.false) in
     served site start (g.P.Peer.state c.loop-made.peer) (g.D.Delivery.HasCome first) (g.D.Delivery.HasCome c.loop-made.delivery) (g.D.Delivery.HasCome c.leave.new.delivery) (g.D.Delivery.IsDrafting c.loop-made.delivery)
-    c.loop-made.desk w.0 ends.ReadBound w.2 c.leave.ensures.leaves
-    (record { whole = c.if-desk.false; none = c.loop-made.invariant.none }, may_not_ended c.loop-made.desk.session.session.state c.loop-made.invariant.may, bound)
+    c.loop-made.dialogue w.0 ends.ReadBound w.2 c.leave.ensures.leaves
+    (record { whole = c.if-dialogue.false; none = c.loop-made.invariant.none }, may_not_ended c.loop-made.dialogue.session.session.state c.loop-made.invariant.may, bound)

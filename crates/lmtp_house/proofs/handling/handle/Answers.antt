@@ -18,9 +18,9 @@ loop-at-preserved g c =
       within = fits;
       site = step.site ∙ c.loop-at.invariant.site;
       same = step.same ∙ c.loop-at.invariant.same;
-      stands = subst (λ l. Carries HasCome IsDrafting c.args.desk.now c.take_front.new.desk (g.P.Peer.state c.args.peer.now) (g.P.Peer.state c.take_front.new.peer) c.args.delivery.now c.take_front.new.delivery l)
+      stands = subst (λ l. Carries HasCome IsDrafting c.args.dialogue.now c.take_front.new.dialogue (g.P.Peer.state c.args.peer.now) (g.P.Peer.state c.take_front.new.peer) c.args.delivery.now c.take_front.new.delivery l)
           (take_more at used piece c.loop-at.invariant.within)
-          (subst (λ l. Carries HasCome IsDrafting c.args.desk.now c.take_front.new.desk (g.P.Peer.state c.args.peer.now) (g.P.Peer.state c.take_front.new.peer) c.args.delivery.now c.take_front.new.delivery (take at piece ++ take used l)) rest
-          (carries_then HasCome IsDrafting c.args.desk.now c.loop-at.desk c.take_front.new.desk (g.P.Peer.state c.args.peer.now) (g.P.Peer.state c.loop-at.peer) (g.P.Peer.state c.take_front.new.peer)
+          (subst (λ l. Carries HasCome IsDrafting c.args.dialogue.now c.take_front.new.dialogue (g.P.Peer.state c.args.peer.now) (g.P.Peer.state c.take_front.new.peer) c.args.delivery.now c.take_front.new.delivery (take at piece ++ take used l)) rest
+          (carries_then HasCome IsDrafting c.args.dialogue.now c.loop-at.dialogue c.take_front.new.dialogue (g.P.Peer.state c.args.peer.now) (g.P.Peer.state c.loop-at.peer) (g.P.Peer.state c.take_front.new.peer)
           c.args.delivery.now c.loop-at.delivery c.take_front.new.delivery (take at piece) (take used (take (length piece - at) (drop at piece))) c.loop-at.invariant.stands step.stands));
     }

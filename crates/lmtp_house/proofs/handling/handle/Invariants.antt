@@ -6,9 +6,9 @@ use Rattle.lmtp_house.proofs.handling.handle.Given as goal
 abbrev pub invariant-loop-at : goal.invariant-loop-at
 invariant-loop-at g l = record {
   within : l.at ≤ length l.piece;
-  site : l.desk.session.site ≡ l.initial.desk.session.site;
+  site : l.dialogue.session.site ≡ l.initial.dialogue.session.site;
   same : g.D.Delivery.site l.delivery ≡ g.D.Delivery.site l.initial.delivery;
-  stands : Carries g.D.Delivery.HasCome g.D.Delivery.IsDrafting l.initial.desk l.desk (g.P.Peer.state l.initial.peer) (g.P.Peer.state l.peer) l.initial.delivery l.delivery (take l.at l.piece);
+  stands : Carries g.D.Delivery.HasCome g.D.Delivery.IsDrafting l.initial.dialogue l.dialogue (g.P.Peer.state l.initial.peer) (g.P.Peer.state l.peer) l.initial.delivery l.delivery (take l.at l.piece);
 }
 
 abbrev pub decreases-loop-at : goal.decreases-loop-at

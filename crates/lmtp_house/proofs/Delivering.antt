@@ -1,0 +1,56 @@
+-- What became of a whole message.
+use Rattle.std.proofs.Common.{◌≡◌, ℕ, List, [], ◌∷◌, ◌++◌, length, map, Bool, Some, refl, ap, sym, ◌∙◌, subst, append-nil, arith}
+use Rattle.mail_world.specs.declared.Outcome.{Outcome}
+use Rattle.mail_world.specs.declared.Txn.{Txn}
+use Rattle.mail_world.specs.declared.Note.{Note}
+use Rattle.mail_world.specs.declared.Slip.{Slip}
+use Rattle.mail_world.specs.House.{Gather}
+use Rattle.mail_world.specs.Session.{Session}
+use Rattle.mail_world.specs.Events.{txn_of}
+use Rattle.mail_world.specs.Slips.{answers}
+use Rattle.mail_world.specs.Lists.{copies_from}
+use Rattle.mail_post.specs.Line.{Lane, Inbox}
+use Rattle.mail_post.specs.Gathering.{HasGathered}
+use Rattle.lmtp_house.specs.LaneExchange.{HasExchanged, IsUnderWay, sent_as}
+use Rattle.lmtp_house.specs.LaneAccount.{Delivers}
+
+-- the answers of the gatherer are those of the slips that were heard
+abbrev pub Answers : Gather → List Outcome → Type 0
+Answers gather told = (txn : Txn) (n : ℕ) (heard : List Slip) → HasGathered txn n heard gather → map (λ o. Some o) told ≡ answers txn n heard
+
+pub delivered : (lane number : ℕ) (session : Session) (moment : ℕ) (message message' : List ℕ) (told : List Outcome) (now next : List (Lane Note)) (inbox inbox' : Inbox Slip)
+    (gather : Gather) (gone gone' : Bool) → message' ≡ message → Answers gather told
+    → ((notes : List Note) (own heard : List Slip) (before : List (Lane Note)) (old_inbox : Inbox Slip) → HasExchanged lane notes before now old_inbox inbox own heard gone
+    → IsUnderWay lane (notes ++ copies_from lane (sent_as number session moment message') 0 session.recipients) (txn_of lane number) (length session.recipients) heard before next old_inbox inbox' gather gone')
+    → Delivers lane number session moment message told now next inbox inbox' gone gone'
+delivered lane number session moment message message' told now next inbox inbox' gather gone gone' same says way notes own heard before old_inbox x =
+    let u = way notes own heard before old_inbox x in
+    let P : List ℕ → Type 0 = λ m. HasExchanged lane (notes ++ copies_from lane (sent_as number session moment m) 0 session.recipients) before next old_inbox inbox' u.own (heard ++ u.since) gone' in
+    record {
+      own = u.own;
+      since = u.since;
+      exchanged = subst P same u.exchanged;
+      outcomes = says (txn_of lane number) (length session.recipients) u.since u.gathered;
+    }
+
+-- a message without recipients has no copy
+none_by : (lane number : ℕ) (session : Session) (moment : ℕ) (message : List ℕ) (rs : List ℕ) → length rs ≡ 0 → copies_from lane (sent_as number session moment message) 0 rs ≡ []
+none_by lane number session moment message [] e = refl
+none_by lane number session moment message (r ∷ rs) e = absurd (omega (arith, e))
+
+no_answer : (txn : Txn) (n : ℕ) → n ≡ 0 → [] ≡ answers txn n []
+no_answer txn n e = ap (λ k. answers txn k []) (sym e)
+
+pub delivered_none : (lane number : ℕ) (session : Session) (moment : ℕ) (message : List ℕ) (told : List Outcome) (now : List (Lane Note)) (inbox : Inbox Slip) (gone : Bool)
+    → length session.recipients ≡ 0 → told ≡ [] → Delivers lane number session moment message told now now inbox inbox gone gone
+delivered_none lane number session moment message told now inbox gone none empty notes own heard before old_inbox x =
+    let same : notes ++ copies_from lane (sent_as number session moment message) 0 session.recipients ≡ notes =
+    ap (λ l. notes ++ l) (none_by lane number session moment message session.recipients none) ∙ append-nil notes in
+    let P : List Note → Type 0 = λ l. HasExchanged lane l before now old_inbox inbox own (heard ++ []) gone in
+    let Q : List Slip → Type 0 = λ l. HasExchanged lane notes before now old_inbox inbox own l gone in
+    record {
+      own = own;
+      since = [];
+      exchanged = subst P (sym same) (subst Q (sym (append-nil heard)) x);
+      outcomes = ap (λ (l : List Outcome). map (λ o. Some o) l) empty ∙ no_answer (txn_of lane number) (length session.recipients) none;
+    }

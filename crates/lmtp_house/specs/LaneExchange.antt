@@ -1,0 +1,122 @@
+-- What a lane gave to the mailboxes' channels, and what it heard of the copies.
+use Rattle.std.specs.Prelude.{◌≡◌, ◌⊎◌, ⊤, ℕ, ◌==◌, Bool, true, false, List, [], ◌∷◌, ◌++◌, length, filter, slice_get, slice_set, Some, Result, Ok, Err}
+use Rattle.std.specs.List.{AllByRecursion}
+use Rattle.mail_world.specs.declared.Txn.{Txn}
+use Rattle.mail_world.specs.declared.Note.{Note}
+use Rattle.mail_world.specs.declared.Slip.{Slip}
+use Rattle.mail_world.specs.declared.Verdict.TheVariants.{Whole}
+use Rattle.mail_world.specs.House.{Gather}
+use Rattle.mail_world.specs.Session.{Session}
+use Rattle.mail_world.specs.Lists.{Transaction, copies_from}
+use Rattle.mail_world.specs.Events.{own_slip, txn_of}
+use Rattle.mail_world.specs.Runs.{IsMerged}
+use Rattle.mail_post.specs.Line.{Lane, Inbox, taken}
+use Rattle.mail_post.specs.Gathering.{HasGathered}
+
+-- a whole message, before its outcomes are known
+abbrev pub sent_as : ℕ → Session → ℕ → List ℕ → Transaction
+sent_as number session moment message = record {
+  number = number;
+  session = session;
+  message = message;
+  disposition = record { verdict = Whole; moment = moment; outcomes = [] };
+}
+
+-- its copy for the recipient at a place
+abbrev pub copy_at : ℕ → ℕ → Session → ℕ → List ℕ → ℕ → ℕ → Note
+copy_at lane number session moment message place box = record {
+  txn = txn_of lane number;
+  place = place;
+  mailbox = box;
+  sender = session.sender;
+  client = session.client;
+  moment = moment;
+  message = message;
+}
+
+-- the first list's copies stand among the second's in this order
+abbrev pub IsPart : List Note → List Note → Type 0
+IsPart [] all = ⊤
+IsPart (x ∷ xs) [] = ⊥
+IsPart (x ∷ xs) (y ∷ all) = ((x ≡ y) × IsPart xs all) ⊎ IsPart (x ∷ xs) all
+
+-- the copy is one of these
+abbrev pub IsAmong : Note → List Note → Type 0
+IsAmong note [] = ⊥
+IsAmong note (x ∷ xs) = (note ≡ x) ⊎ IsAmong note xs
+
+-- the copies for a mailbox
+abbrev pub for_box : ℕ → List Note → List Note
+for_box box notes = filter (λ note. note.mailbox == box) notes
+
+-- the slip that a lane makes itself of a copy
+abbrev pub own_slip_of : ℕ → Note → Slip
+own_slip_of lane note = own_slip lane note.txn.number note.place note.mailbox
+
+-- a slip that a lane made itself, of one of these copies
+pub record IsOwnSlip (lane : ℕ) (notes : List Note) (slip : Slip) : Type 0 where
+  pub note : Note
+  pub owed : IsAmong note notes
+  pub made : slip ≡ own_slip_of lane note
+
+-- each of the senders has the lane's number
+abbrev pub AreOfLane : ℕ → List (Lane Note) → Type 0
+AreOfLane lane senders = (box : ℕ) (sender : Lane Note) → slice_get senders box ≡ Some sender → sender.lane ≡ lane
+
+-- a sender behind a copy that its channel accepted, or handed back
+abbrev pub given : Lane Note → Note → Bool → Lane Note
+given sender note true = record { line = sender.line; lane = sender.lane; sent = sender.sent ++ note ∷ [] }
+given sender note false = sender
+
+-- whether a channel took what was offered
+abbrev pub is_ok : {A E : Type 0} → Result A E → Bool
+is_ok (Ok x) = true
+is_ok (Err e) = false
+
+-- the copy went to the mailbox's channel
+pub record IsOffered (old new : List (Lane Note)) (box : ℕ) (note : Note) (accepted : Bool) : Type 0 where
+  pub sender : Lane Note
+  pub is : slice_get old box ≡ Some sender
+  pub after : new ≡ slice_set old box (given sender note accepted)
+
+-- the mailbox's channel accepted its copies, in order; where a channel was found gone, some of them
+pub record HasGrown (box : ℕ) (notes : List Note) (gone : Bool) (old new : Lane Note) : Type 0 where
+  pub line : new.line ≡ old.line
+  pub lane : new.lane ≡ old.lane
+  pub accepted : List Note
+  pub sent : new.sent ≡ old.sent ++ accepted
+  pub all : gone ≡ false → accepted ≡ for_box box notes
+  pub some : IsPart accepted (for_box box notes)
+
+-- What a lane that owed these copies gave to the channels, and what it heard: slips that its channel gave, in their order, and
+-- between them its own, of which there is none unless a channel was found gone.
+pub record HasExchanged (lane : ℕ) (notes : List Note) (old_senders new_senders : List (Lane Note)) (old_inbox new_inbox : Inbox Slip)
+    (own heard : List Slip) (gone : Bool) : Type 0 where
+  pub as_many : length new_senders ≡ length old_senders
+  pub offered : (box : ℕ) (old new : Lane Note) → slice_get old_senders box ≡ Some old → slice_get new_senders box ≡ Some new → HasGrown box notes gone old new
+  pub line : new_inbox.line ≡ old_inbox.line
+  pub lanes : new_inbox.lanes ≡ old_inbox.lanes
+  pub came : List Slip
+  pub took : taken new_inbox ≡ taken old_inbox ++ came
+  pub merged : IsMerged came own heard
+  pub made : AllByRecursion (IsOwnSlip lane notes) own
+  pub sound : gone ≡ false → own ≡ []
+
+-- the same within a message of n recipients, before which these slips were heard: its gatherer has the answers of those heard since
+pub record IsUnderWay (lane : ℕ) (notes : List Note) (txn : Txn) (n : ℕ) (before : List Slip) (old_senders new_senders : List (Lane Note))
+    (old_inbox new_inbox : Inbox Slip) (gather : Gather) (gone : Bool) : Type 0 where
+  pub own : List Slip
+  pub since : List Slip
+  pub exchanged : HasExchanged lane notes old_senders new_senders old_inbox new_inbox own (before ++ since) gone
+  pub gathered : HasGathered txn n since gather
+
+-- what was under way is so with these copies more
+abbrev pub Continues : ℕ → Txn → List Note → List (Lane Note) → List (Lane Note) → Inbox Slip → Inbox Slip → Gather → Gather → Bool → Bool → Type 0
+Continues lane txn more now next inbox inbox' gather gather' gone gone' = (notes : List Note) (n : ℕ) (heard : List Slip) (before : List (Lane Note)) (old_inbox : Inbox Slip)
+    → IsUnderWay lane notes txn n heard before now old_inbox inbox gather gone → IsUnderWay lane (notes ++ more) txn n heard before next old_inbox inbox' gather' gone'
+
+-- what was under way with the copies of a transaction is so, whatever was heard since
+abbrev pub Awaits : ℕ → ℕ → Session → List (Lane Note) → List (Lane Note) → Inbox Slip → Inbox Slip → Gather → Gather → Bool → Bool → Type 0
+Awaits lane number session now next inbox inbox' gather gather' gone gone' = (moment : ℕ) (message : List ℕ) (notes : List Note) (n : ℕ) (heard : List Slip) (before : List (Lane Note)) (old_inbox : Inbox Slip)
+    → IsUnderWay lane (notes ++ copies_from lane (sent_as number session moment message) 0 session.recipients) (txn_of lane number) n heard before now old_inbox inbox gather gone
+    → IsUnderWay lane (notes ++ copies_from lane (sent_as number session moment message) 0 session.recipients) (txn_of lane number) n heard before next old_inbox inbox' gather' gone'

@@ -1,0 +1,15 @@
+//! Where a lane asks for the time.
+
+ghost use Rattle.std.specs.Prelude.{ℕ};
+
+use std::sync::Wait;
+
+/// Tells the time. A clock says which moments it may answer, and a lane's account says that its moments are such.
+pub trait Clock {
+    // the moments that it may answer
+    ghost May: { Self → ℕ → Type 0 };
+
+    /// The seconds since 1970.
+    fn unix<R: Wait>(&self, rt: &R) -> u32
+        ensures { May self.now result };
+}
