@@ -1,18 +1,9 @@
 -- A message that a writer gets piece by piece.
-use Rattle.std.proofs.Common.{◌≡◌, ℕ, ◌+◌, List, ◌++◌, take, drop, Result, Ok, Err, sym, ap, ◌∙◌, subst, append_assoc, take-append-drop}
+use Rattle.std.proofs.Common.{◌≡◌, ℕ, ◌+◌, List, ◌++◌, take, drop, sym, ap, ◌∙◌, subst, append_assoc, take-append-drop}
 use Rattle.std.proofs.Math.Seq.{take-add}
-use Rattle.std.specs.Result.{OnOk, OnErr}
 use Rattle.mbox_rd.specs.Spool.{SpoolState}
 use Rattle.mbox_rd.specs.Writing.{Pending, owed, WritesPiece, FailsPiece}
 use Rattle.mbox_rd.proofs.Wholes.{WritesPiece-then, FailsPiece-then}
-
-pub OnOk-map : {T E A B : Type 0} (r : Result T E) → (A → B) → OnOk r A → OnOk r B
-OnOk-map (Ok x) f a = f a
-OnOk-map (Err e) f a = tt
-
-pub OnErr-map : {T E A B : Type 0} (r : Result T E) → (A → B) → OnErr r A → OnErr r B
-OnErr-map (Ok x) f a = tt
-OnErr-map (Err e) f a = f a
 
 -- a failure in the front of a text is one in the text
 FailsPiece-more : (s t : SpoolState) (a : Pending) (p q : List ℕ) → FailsPiece s t a p → FailsPiece s t a (p ++ q)

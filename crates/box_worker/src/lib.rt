@@ -3,6 +3,7 @@
 
 mod gate;
 mod mailbox;
+mod release;
 mod report;
 mod store;
 mod tell;

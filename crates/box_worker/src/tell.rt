@@ -3,21 +3,22 @@
 ghost use Rattle.std.specs.Prelude.{◌<◌, length};
 ghost use Rattle.box_worker.specs.Told.{IsTold};
 
+use crate::release::Released;
 use mail_post::SlipSender;
-use mail_world::{Outcome, Slip, Txn};
+use mail_world::{Outcome, Slip};
 use std::sync::Wait;
 
 /// Gives the copy's lane a slip, and says whether its channel accepted it. A slip that comes back is dropped.
 pub(crate) fn tell<R: Wait>(
     rt: &R,
     slips: &mut Vec<SlipSender>,
-    txn: Txn,
-    place: u32,
+    copy: Released,
     outcome: Outcome,
 ) -> bool
-    requires { txn.lane < length slips.old.items }
-    ensures { IsTold slips.old.items slips.new.items txn place outcome result }
+    requires { copy.txn.lane < length slips.old.items }
+    ensures { IsTold slips.old.items slips.new.items copy.txn copy.place outcome result }
 {
+    let (txn, place) = copy.into_names();
     let sender = &mut slips[txn.lane as usize];
     let slip = Slip {
         txn,

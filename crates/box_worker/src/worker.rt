@@ -11,11 +11,12 @@ ghost use Rattle.box_worker.specs.Worked.{HasHandled, HasWorked};
 
 use crate::gate::Gate;
 use crate::mailbox::Mailbox;
+use crate::release::release;
 use crate::report::WorkerReport;
 use crate::tell::tell;
 use mail_post::{Gone, Parts, Post, Receiver, SlipSender};
 use mbox_rd::Spool;
-use msg_depot::{Depot, DepotName, Hold};
+use msg_depot::{Depot, DepotName};
 use std::sync::Wait;
 
 /// Stores the copies that come, one after another, and gives each lane a slip for each of its own, until the channel is closed
@@ -63,7 +64,7 @@ pub struct Worker<S: Spool, G: Gate> {
 }
 
 impl<S: Spool, G: Gate> Worker<S, G> {
-    // One copy, from gate to slip. Its lane is told once the message is let go.
+    // One copy, from gate to slip. `tell` takes what `release` makes of the hold, so that no lane is told before.
     fn handle<N: DepotName, R: Wait>(
         &mut self,
         rt: &R,
@@ -83,9 +84,9 @@ impl<S: Spool, G: Gate> Worker<S, G> {
         } = post.parts();
         self.gate.before(txn, place);
         let outcome = self.mailbox.take(rt, depot, host, &envelope, &mut hold);
-        let_go(rt, depot, hold);
+        let released = release(rt, depot, txn, place, hold);
         self.gate.after(txn, place);
-        let accepted = tell(rt, &mut self.slips, txn, place, outcome);
+        let accepted = tell(rt, &mut self.slips, released, outcome);
         self.lost |= !accepted;
         self.taken = self.taken.saturating_add(1);
     }
@@ -119,14 +120,5 @@ impl<S: Spool, G: Gate> Worker<S, G> {
             receiver,
             slips,
         }
-    }
-}
-
-// Gives the hold up, and the blocks of a message that nobody holds any more.
-fn let_go<N: DepotName, R: Wait>(rt: &R, depot: &Depot<N>, hold: Hold<N>)
-    requires { hold.weight ≡ 1 }
-{
-    if let Some(spent) = depot.release(hold) {
-        depot.reclaim(rt, spent);
     }
 }

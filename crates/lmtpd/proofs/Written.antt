@@ -1,8 +1,7 @@
 -- Texts that a writer takes one after another.
-use Rattle.std.proofs.Common.{◌≡◌, ℕ, ◌+◌, ◌-◌, ◌<◌, List, [], ◌++◌, length, Option, Some, None, Result, Ok, Err, take, drop, get_or, sym, ap, ◌∙◌, refl, subst, append_assoc, append-nil}
+use Rattle.std.proofs.Common.{◌≡◌, ℕ, ◌+◌, ◌-◌, ◌<◌, List, [], ◌++◌, length, Option, Some, None, take, drop, get_or, sym, ap, ◌∙◌, refl, subst, append_assoc, append-nil}
 use Rattle.std.proofs.lemmas.List.{take-append-drop, take_rest, drop_more}
 use Rattle.std.specs.List.{flat_map}
-use Rattle.std.specs.Result.{OnOk, OnErr}
 use Rattle.std.specs.Io.KnownBytes.{Appends, Keeps}
 use Rattle.lmtpd.specs.Output.{Breaks}
 
@@ -31,18 +30,6 @@ Keeps-appends (Some xs) (Some ys) x = x ∙ append-nil xs
 pub Keeps-same : (u : Option (List ℕ)) → Keeps u u
 Keeps-same None = tt
 Keeps-same (Some xs) = refl
-
-pub OnErr-any : {T E Q : Type 0} (r : Result T E) → Q → OnErr r Q
-OnErr-any (Ok x) q = tt
-OnErr-any (Err e) q = q
-
-pub OnOk-map : {T E A B : Type 0} (r : Result T E) → (A → B) → OnOk r A → OnOk r B
-OnOk-map (Ok x) f a = f a
-OnOk-map (Err e) f a = tt
-
-pub OnErr-map : {T E A B : Type 0} (r : Result T E) → (A → B) → OnErr r A → OnErr r B
-OnErr-map (Ok x) f a = tt
-OnErr-map (Err e) f a = f a
 
 -- the writer took the text up to the rest
 pub record WritesUpTo (old new : Option (List ℕ)) (text rest : List ℕ) : Type 0 where

@@ -22,6 +22,15 @@ pub OnErr-any : {T E Q : Type 0} (r : Result T E) → Q → OnErr r Q
 OnErr-any (Ok x) q = tt
 OnErr-any (Err e) q = q
 
+-- what a result says of its Ok or of its Err, in other words
+pub OnOk-map : {T E A B : Type 0} (r : Result T E) → (A → B) → OnOk r A → OnOk r B
+OnOk-map (Ok x) f a = f a
+OnOk-map (Err e) f a = tt
+
+pub OnErr-map : {T E A B : Type 0} (r : Result T E) → (A → B) → OnErr r A → OnErr r B
+OnErr-map (Ok x) f a = tt
+OnErr-map (Err e) f a = f a
+
 pieces-split : {X : Type 0} (f : X → List ℕ) (xs : List X) (k : ℕ) (d : X) → k < length xs
     → flat_map f xs ≡ flat_map f (take k xs) ++ (f (get_or xs k d) ++ flat_map f (drop (k + 1) xs))
 pieces-split f xs k d h =

@@ -72,7 +72,7 @@ fn two_threads_release(rt: HostRuntime) -> Result<(), Fail> {
     release_in_rounds::<Brand, _>(&rt, blank)
 }
 
-fn release_in_rounds<N: DepotName, R: Threads + Wait + Abort + Sync>(
+fn release_in_rounds<N: DepotName + Send + Sync, R: Threads + Wait + Abort + Sync>(
     rt: &R,
     blank: Blank,
 ) -> Result<(), Fail>
@@ -87,7 +87,7 @@ fn release_in_rounds<N: DepotName, R: Threads + Wait + Abort + Sync>(
 }
 
 // How many of the two releases gave what gives the blocks back.
-fn one_round<N: DepotName, R: Threads + Wait + Abort + Sync>(
+fn one_round<N: DepotName + Send + Sync, R: Threads + Wait + Abort + Sync>(
     rt: &R,
     depot: &Depot<N>,
 ) -> Result<u32, Fail> {
@@ -124,7 +124,7 @@ fn sealed_here_and_read_there(rt: HostRuntime) -> Result<(), Fail> {
 }
 
 // One thread seals, and another reads, once the slot has its second message.
-fn second_use<N: DepotName, R: Threads + Wait + Abort + Sync>(
+fn second_use<N: DepotName + Send + Sync, R: Threads + Wait + Abort + Sync>(
     rt: &R,
     blank: Blank,
 ) -> Result<(), Fail>

@@ -2,9 +2,8 @@ use Rattle.std.proofs.Common.{List, ℕ, [], subst, append-nil}
 use Rattle.lmtp_text.specs.Calendar.{civil_at}
 use Rattle.mbox_rd.specs.Envelope.{record_text}
 use Rattle.mbox_rd.specs.Spool.{HasFailed}
-use Rattle.mbox_rd.proofs.Taken.{OnErr-any}
+use Rattle.mbox_rd.proofs.Taken.{OnErr-any, OnOk-map, OnErr-map}
 use Rattle.mbox_rd.proofs.Wholes.{record_taken, head_failed, piece_failed, end_failed}
-use Rattle.box_worker.proofs.Messages.{OnOk-map, OnErr-map}
 use Rattle.box_worker.proofs.store.append_record.Goals as goal
 
 pub returns-in_err-begun-clause-err : goal.returns-in_err-begun-clause-err

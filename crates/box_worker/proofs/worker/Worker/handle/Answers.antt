@@ -19,7 +19,8 @@ returns g c worker copies slips old x =
     let P : List ℕ → Type 0 = λ t. TakesCopy t c.take-outcome.result
     (kept (g.S.Spool.state c.args.self.now.mailbox.spool) c.args.self.now.mailbox.stored c.args.self.now.mailbox.faulty)
     (kept (g.S.Spool.state c.take-outcome.new.self.spool) c.take-outcome.new.self.stored c.take-outcome.new.self.faulty) in
-    let Q : Txn → Type 0 = λ t. IsTold c.args.self.now.slips.items c.tell-accepted.new.slips.items t parts.result.place c.take-outcome.result c.tell-accepted.result in
+    let gone = c.release-released.ensures in
+    let Q : Txn → Type 0 = λ t. IsTold c.args.self.now.slips.items c.tell-accepted.new.slips.items t c.release-released.result.place c.take-outcome.result c.tell-accepted.result in
     let R : ℕ → Type 0 = λ p. IsTold c.args.self.now.slips.items c.tell-accepted.new.slips.items c.args.post.txn p c.take-outcome.result c.tell-accepted.result in
     let H : ℕ → Type 0 = λ n. HasHandled civil_at host worker (copies ++ c.args.post ∷ []) slips c.tell-accepted.new.slips.items old (g.S.Spool.state c.take-outcome.new.self.spool) n
     c.take-outcome.new.self.stored c.take-outcome.new.self.faulty (c.args.self.now.lost || not c.tell-accepted.result) in
@@ -27,4 +28,4 @@ returns g c worker copies slips old x =
     (handled_more civil_at host worker copies slips c.args.self.now.slips.items c.tell-accepted.new.slips.items old
     (g.S.Spool.state c.args.self.now.mailbox.spool) (g.S.Spool.state c.take-outcome.new.self.spool) c.args.self.now.taken c.args.self.now.mailbox.stored c.args.post
     c.args.self.now.mailbox.faulty c.args.self.now.lost c.tell-accepted.result x c.take-outcome.result c.take-outcome.new.self.stored c.take-outcome.new.self.faulty
-    (subst P text c.take-outcome.ensures.takes) (subst R parts.ensures.names.1 (subst Q parts.ensures.names.0 c.tell-accepted.ensures)))
+    (subst P text c.take-outcome.ensures.takes) (subst R (gone.1 ∙ parts.ensures.names.1) (subst Q (gone.0 ∙ parts.ensures.names.0) c.tell-accepted.ensures)))

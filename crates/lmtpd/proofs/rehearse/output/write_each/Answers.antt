@@ -1,4 +1,5 @@
-use Rattle.lmtpd.proofs.Written.{OnErr-any, writes_text, breaks_text}
+use Rattle.mbox_rd.proofs.Taken.{OnErr-any}
+use Rattle.lmtpd.proofs.Written.{writes_text, breaks_text}
 use Rattle.lmtpd.proofs.rehearse.output.write_each.Goals as goal
 
 pub returns-in_err-write_bytes-clause-err : goal.returns-in_err-write_bytes-clause-err

@@ -1,5 +1,5 @@
 use Rattle.std.proofs.Common.{◌<◌, length, arith}
-use Rattle.lmtpd.proofs.Written.{OnErr-any}
+use Rattle.mbox_rd.proofs.Taken.{OnErr-any}
 use Rattle.lmtpd.proofs.Listed.{is_mailbox_at, mailbox_written, mailbox_broken}
 use Rattle.lmtpd.proofs.rehearse.output.write_mailboxes.Goals as goal
 
