@@ -14,7 +14,7 @@ use Rattle.block_arena.specs.Calls.{ReleasesAll, IsGivenBack}
 use Rattle.msg_depot.specs.declared.view.View.{View}
 use Rattle.msg_depot.specs.declared.view.Entry.{Entry}
 use Rattle.msg_depot.specs.declared.view.Phase.TheVariants.{Free, Sealed}
-use Rattle.msg_depot.specs.Rules.{entry, free_slots, resting}
+use Rattle.msg_depot.specs.Rules.{entry, free_slots, resting, word_of}
 use Rattle.msg_depot.specs.Moves.{entry_at, empty_entry, entered}
 use Rattle.msg_depot.specs.Entries.{entry_of, entries_of, phase_held, slot_behind, HasCount, IsKeeper}
 
@@ -71,7 +71,7 @@ pub kept_on : (named t0 table : TableId) (m0 me : Me (Unit {0}) View) (old new :
 kept_on named t0 table m0 me old new i next book j e k t same is has place this = record {
   same_table = same ∙ k.same_table;
   knows = is ∙ ap (λ (l : List Entry). (resting l, [])) ((λ n. entered ((has ∙ ap (λ (m : Me (Unit {0}) View). m.0.book) k.knows) n) (place n) (this n)) ∙ sym (map-set entry_of old.slots i next) ∙ ap (λ (l : List Slot). map entry_of l) (sym t.slots));
-  long = ap (λ (l : List Slot). length l) t.slots ∙ length-set old.slots i next ∙ k.long;
+  long = k.long ∙ ap word_of (sym (ap (λ (l : List Slot). length l) t.slots ∙ length-set old.slots i next));
   blocks = k.blocks;
   once = t.once k.blocks k.once;
   counts = λ n slot at. counts_on old.slots i next t.count k.counts n slot (subst (λ (l : List Slot). slice_get l n ≡ Some slot) t.slots at);

@@ -17,7 +17,7 @@ use Rattle.msg_depot.specs.declared.view.Kind.{Kind}
 use Rattle.msg_depot.specs.declared.view.Kind.TheVariants.{Nothing, Draft, Spent}
 use Rattle.msg_depot.specs.declared.view.Phase.{Phase}
 use Rattle.msg_depot.specs.declared.view.Phase.TheVariants.{Free, Drafted, Sealed, Retired}
-use Rattle.msg_depot.specs.Rules.{Kept, Fits, Stands, Used, weight, drafts, spents, draft_of, spent_of, at, when, total, positive, token, keeping, resting, nobody, entry, phase_of, free_slots}
+use Rattle.msg_depot.specs.Rules.{Kept, Fits, Stands, Used, weight, drafts, spents, draft_of, spent_of, at, when, total, positive, token, keeping, resting, nobody, entry, phase_of, free_slots, word_of}
 use Rattle.msg_depot.specs.Moves.{emptied, handed, Checked, entry_at, begun, Begun, put, Put, sealed, SealedBy, freed, Freed, RetiredNow, IsOver}
 use Rattle.msg_depot.proofs.Totals.{total_set, within, elem_at, elem_is, when_zero, positive_one, total_has, at_here}
 use Rattle.msg_depot.proofs.Keeps.{off, splits, viewed}
@@ -73,7 +73,7 @@ checks slots id i v s r _ here small = (
 
 -- a draft is begun
 pub begins : (slots id : ℕ) (es : List Entry) (i : ℕ) → i < length es → (entry_at es i).phase ≡ Free
-    → Allows Rule slots id (resting es, []) i (λ n. n) (Begun (step slots i 0 0 none) (resting es, []))
+    → Allows Rule slots id (resting es, []) (word_of i) (λ n. n) (Begun (step slots (word_of i) 0 0 none) (resting es, []))
 begins slots id es i inside free s r _ here small =
     let v : View = resting es in
     let w : View = begun v i in
@@ -87,11 +87,11 @@ begins slots id es i inside free s r _ here small =
       w,
       keeps,
       tt,
-      keeper_turns s.words s.views r id v w here refl i (get_or s.words i 0) e e' there refl (λ a. absurd (a refl)) (λ _. refl)
+      keeper_turns s.words s.views r id v w here refl i (get_or s.words (word_of i) 0) e e' there refl (λ a. absurd (a refl)) (λ _. refl)
           (alone_free s.words s.views r id i e there free)
           ((λ _. set_here es i e' inside), refl)
           (omega arith, omega arith, st.2, (refl, refl, refl)),
-      refl,
+      λ j at_j. let same : i ≡ j = omega arith in ap (λ (k : ℕ). (begun v k, [])) same,
     )
 
 -- the entry of a joined token
@@ -100,7 +100,7 @@ of_token k c = entry (phase_of k) c.generation c.bytes
 
 -- a joined draft gets bytes
 pub puts : (slots id : ℕ) (es : List Entry) (c : Claim) (bs : List ℕ)
-    → Allows Rule slots id (keeping es Draft c, []) c.slot (λ n. n) (Put bs (step slots c.slot 0 0 none) (keeping es Draft c, []))
+    → Allows Rule slots id (keeping es Draft c, []) (word_of c.slot) (λ n. n) (Put bs (step slots (word_of c.slot) 0 0 none) (keeping es Draft c, []))
 puts slots id es c bs s r _ here small =
     let v : View = keeping es Draft c in
     let w : View = put v bs in
@@ -116,7 +116,7 @@ puts slots id es c bs s r _ here small =
       w,
       keeps,
       tt,
-      keeper_turns s.words s.views r id v w here refl c.slot (get_or s.words c.slot 0) e e' there refl (λ _. refl) (λ _. refl)
+      keeper_turns s.words s.views r id v w here refl c.slot (get_or s.words (word_of c.slot) 0) e e' there refl (λ _. refl) (λ _. refl)
           (alone_draft s.words s.views r id v c.slot e here refl refl there refl)
           ((λ _. set_here es c.slot e' inside), light)
           (omega arith, omega arith, st.2, (light, refl, refl)),
@@ -128,7 +128,7 @@ seal_word g n k a b e = omega arith
 
 -- a joined draft is sealed
 pub seals : (slots id : ℕ) (es : List Entry) (c : Claim) (k : ℕ) → 0 < k → k ≤ RECIPIENT_LIMIT
-    → Allows Rule slots id (keeping es Draft c, []) c.slot (λ n. (n + k) % 2 ^ 64) (SealedBy (step slots c.slot k 0 none) (keeping es Draft c, []))
+    → Allows Rule slots id (keeping es Draft c, []) (word_of c.slot) (λ n. (n + k) % 2 ^ 64) (SealedBy (step slots (word_of c.slot) k 0 none) (keeping es Draft c, []))
 seals slots id es c k more few s r _ here small =
     let v : View = keeping es Draft c in
     let w : View = sealed v k in
@@ -141,8 +141,8 @@ seals slots id es c k more few s r _ here small =
     let st = r.stands c.slot e there in
     let empty = st.3.0 in
     let one : positive k ≡ 1 = positive_one k more in
-    let n : ℕ = (get_or s.words c.slot 0 + k) % 2 ^ 64 in
-    let word : n ≡ c.generation * GENERATION_UNIT + k = seal_word c.generation (get_or s.words c.slot 0) k st.2 few (st.0 ∙ ap (λ (x : ℕ). c.generation * GENERATION_UNIT + x) empty) in (
+    let n : ℕ = (get_or s.words (word_of c.slot) 0 + k) % 2 ^ 64 in
+    let word : n ≡ c.generation * GENERATION_UNIT + k = seal_word c.generation (get_or s.words (word_of c.slot) 0) k st.2 few (st.0 ∙ ap (λ (x : ℕ). c.generation * GENERATION_UNIT + x) empty) in (
       w,
       keeps,
       tt,
@@ -159,14 +159,14 @@ free_word g n a e = omega arith
 -- the slot of a joined token ends, where no other seat claims it and its weight is 0
 module _ (s : State (Unit {0}) View) (r : Rule s) (id : ℕ) (es : List Entry) (k : Kind) (c : Claim) (here : get_elem? s.views id ≡ some (keeping es k c)) where
   ends : (p : Phase) (up n : ℕ) → ((w d t : ℕ) → w ≡ 0 → d ≡ 0 → t ≡ 0 → Used p w d t) → k ≢ Nothing → get_elem? r.book c.slot ≡ some (of_token k c) → Alone s.views id c.slot → n ≡ (c.generation + up) * GENERATION_UNIT + 0 → c.generation + up ≤ last_generation
-      → Kept (set s.words c.slot n) (set s.views id (freed (keeping es k c) p up))
+      → Kept (set s.words (word_of c.slot) n) (set s.views id (freed (keeping es k c) p up))
   ends p up n unused some_kind there alone word few = keeper_turns s.words s.views r id (keeping es k c) (freed (keeping es k c) p up) here refl c.slot n (of_token k c) (entry p (c.generation + up) []) there refl (λ _. refl) (λ q. absurd (q refl))
       alone
       ((λ q. absurd (q refl)), refl)
       (word, omega arith, few, unused 0 0 0 refl refl refl)
 
 over : (s : State (Unit {0}) View) (r : Rule s) (id : ℕ) (es : List Entry) (k : Kind) (c : Claim) → get_elem? s.views id ≡ some (keeping es k c) → IsOver k
-    → (k ≢ Nothing) × (get_elem? r.book c.slot ≡ some (of_token k c)) × Alone s.views id c.slot × (get_or s.words c.slot 0 ≡ c.generation * GENERATION_UNIT + 0) × (c.generation ≤ last_generation)
+    → (k ≢ Nothing) × (get_elem? r.book c.slot ≡ some (of_token k c)) × Alone s.views id c.slot × (get_or s.words (word_of c.slot) 0 ≡ c.generation * GENERATION_UNIT + 0) × (c.generation ≤ last_generation)
 over s r id es k c here which = ⊎_elim draft spent which
   where
     some_draft : k ≡ Draft → k ≢ Nothing
@@ -175,14 +175,14 @@ over s r id es k c here which = ⊎_elim draft spent which
     some_spent : k ≡ Spent → k ≢ Nothing
     some_spent d q = let x : Spent ≡ Nothing = sym d ∙ q in absurd (cc)
 
-    draft : k ≡ Draft → (k ≢ Nothing) × (get_elem? r.book c.slot ≡ some (of_token k c)) × Alone s.views id c.slot × (get_or s.words c.slot 0 ≡ c.generation * GENERATION_UNIT + 0) × (c.generation ≤ last_generation)
+    draft : k ≡ Draft → (k ≢ Nothing) × (get_elem? r.book c.slot ≡ some (of_token k c)) × Alone s.views id c.slot × (get_or s.words (word_of c.slot) 0 ≡ c.generation * GENERATION_UNIT + 0) × (c.generation ≤ last_generation)
     draft d =
         let there : get_elem? r.book c.slot ≡ some (of_token k c) = (r.fits id (keeping es k c) here).0 (some_draft d) in
         let st = r.stands c.slot (of_token k c) there in
         let used = subst (λ (p : Phase). Used p (total (at c.slot weight) s.views) (total (at c.slot drafts) s.views) (total (at c.slot spents) s.views)) (ap phase_of d) st.3 in
         (some_draft d, there, alone_draft s.words s.views r id (keeping es k c) c.slot (of_token k c) here d refl there (ap phase_of d), st.0 ∙ ap (λ (x : ℕ). c.generation * GENERATION_UNIT + x) used.0, st.2)
 
-    spent : k ≡ Spent → (k ≢ Nothing) × (get_elem? r.book c.slot ≡ some (of_token k c)) × Alone s.views id c.slot × (get_or s.words c.slot 0 ≡ c.generation * GENERATION_UNIT + 0) × (c.generation ≤ last_generation)
+    spent : k ≡ Spent → (k ≢ Nothing) × (get_elem? r.book c.slot ≡ some (of_token k c)) × Alone s.views id c.slot × (get_or s.words (word_of c.slot) 0 ≡ c.generation * GENERATION_UNIT + 0) × (c.generation ≤ last_generation)
     spent d =
         let there : get_elem? r.book c.slot ≡ some (of_token k c) = (r.fits id (keeping es k c) here).0 (some_spent d) in
         let st = r.stands c.slot (of_token k c) there in
@@ -195,34 +195,34 @@ over s r id es k c here which = ⊎_elim draft spent which
 
 -- the slot is free, with the next generation
 pub frees : (slots id : ℕ) (es : List Entry) (k : Kind) (c : Claim) → IsOver k → c.generation < last_generation
-    → Allows Rule slots id (keeping es k c, []) c.slot (λ n. (n + GENERATION_UNIT) % 2 ^ 64) (Freed (step slots c.slot GENERATION_UNIT 0 none) (keeping es k c, []))
+    → Allows Rule slots id (keeping es k c, []) (word_of c.slot) (λ n. (n + GENERATION_UNIT) % 2 ^ 64) (Freed (step slots (word_of c.slot) GENERATION_UNIT 0 none) (keeping es k c, []))
 frees slots id es k c which few s r _ here small =
     let o = over s r id es k c here which in
-    (freed (keeping es k c) Free 1, keeps, tt, ends s r id es k c here Free 1 ((get_or s.words c.slot 0 + GENERATION_UNIT) % 2 ^ 64) (λ _ _ _ a b d. (a, b, d)) o.0 o.1 o.2 (free_word c.generation (get_or s.words c.slot 0) few o.3) (omega (arith, few)), refl)
+    (freed (keeping es k c) Free 1, keeps, tt, ends s r id es k c here Free 1 ((get_or s.words (word_of c.slot) 0 + GENERATION_UNIT) % 2 ^ 64) (λ _ _ _ a b d. (a, b, d)) o.0 o.1 o.2 (free_word c.generation (get_or s.words (word_of c.slot) 0) few o.3) (omega (arith, few)), refl)
 
 -- the same, with the generation that it had
 pub retires : (slots id : ℕ) (es : List Entry) (k : Kind) (c : Claim) → IsOver k
-    → Allows Rule slots id (keeping es k c, []) c.slot (λ n. n) (RetiredNow (step slots c.slot 0 0 none) (keeping es k c, []))
+    → Allows Rule slots id (keeping es k c, []) (word_of c.slot) (λ n. n) (RetiredNow (step slots (word_of c.slot) 0 0 none) (keeping es k c, []))
 retires slots id es k c which s r _ here small =
     let o = over s r id es k c here which in
-    (freed (keeping es k c) Retired 0, keeps, tt, ends s r id es k c here Retired 0 (get_or s.words c.slot 0) (λ _ _ _ a b d. (a, b, d)) o.0 o.1 o.2 (omega (arith, o.3)) (omega (arith, o.4)), refl)
+    (freed (keeping es k c) Retired 0, keeps, tt, ends s r id es k c here Retired 0 (get_or s.words (word_of c.slot) 0) (λ _ _ _ a b d. (a, b, d)) o.0 o.1 o.2 (omega (arith, o.3)) (omega (arith, o.4)), refl)
 
 -- the rule at the start
-pub opens : (words : List ℕ) (n g : ℕ) → words ≡ replicate n (g * GENERATION_UNIT) → g ≤ last_generation → Kept words (resting (free_slots n g) ∷ [])
+pub opens : (words : List ℕ) (n g : ℕ) → words ≡ replicate (word_of n) (g * GENERATION_UNIT) → g ≤ last_generation → Kept words (resting (free_slots n g) ∷ [])
 opens words n g is few = record {
   seat = 0;
   book = free_slots n g;
-  long = ap length is ∙ length-replicate n (g * GENERATION_UNIT) ∙ sym (length-replicate n (entry Free g []));
+  long = ap length is ∙ length-replicate (word_of n) (g * GENERATION_UNIT) ∙ ap word_of (sym (length-replicate n (entry Free g [])));
   keeper = λ j v at_j k. (only j v at_j (λ m x. (m ≡ 0) × (x.book ≡ free_slots n g)) (refl, refl));
   fits = λ j v at_j. only j v at_j (λ _ x. Fits (free_slots n g) x) ((λ q. absurd (q refl)), refl);
   stands = λ i e at_i.
       let d : Entry = entry Free g [] in
       let inside : i < n = omega (arith, within (free_slots n g) i e at_i, length-replicate n d) in
       let same : e ≡ d = sym (elem_is (free_slots n g) i d e at_i) ∙ get_or-replicate n i d d inside in
-      let word : get_or words i 0 ≡ g * GENERATION_UNIT = ap (λ (l : List ℕ). get_or l i 0) is ∙ get_or-replicate n i (g * GENERATION_UNIT) 0 inside in
+      let word : get_or words (word_of i) 0 ≡ g * GENERATION_UNIT = ap (λ (l : List ℕ). get_or l (word_of i) 0) is ∙ get_or-replicate (word_of n) (word_of i) (g * GENERATION_UNIT) 0 (omega arith) in
       let z : at i weight (resting (free_slots n g)) ≡ 0 = when_zero (eqb 0 i) in
       let w : total (at i weight) (resting (free_slots n g) ∷ []) ≡ 0 = omega arith in
-      subst (λ (x : Entry). Stands x (get_or words i 0) (total (at i weight) (resting (free_slots n g) ∷ [])) (total (at i drafts) (resting (free_slots n g) ∷ [])) (total (at i spents) (resting (free_slots n g) ∷ []))) (sym same)
+      subst (λ (x : Entry). Stands x (get_or words (word_of i) 0) (total (at i weight) (resting (free_slots n g) ∷ [])) (total (at i drafts) (resting (free_slots n g) ∷ [])) (total (at i spents) (resting (free_slots n g) ∷ []))) (sym same)
       (omega arith, omega arith, omega arith, (w, w, w));
 }
   where

@@ -9,7 +9,7 @@ use Rattle.msg_depot.specs.declared.view.Kind.{Kind}
 use Rattle.msg_depot.specs.declared.view.Kind.TheVariants.{Nothing, Draft, Hold, Spent}
 use Rattle.msg_depot.specs.declared.view.Phase.{Phase}
 use Rattle.msg_depot.specs.declared.view.Phase.TheVariants.{Free, Drafted, Sealed}
-use Rattle.msg_depot.specs.Rules.{Kept, Fits, Stands, Weighs, Used, weight, drafts, spents, draft_of, spent_of, at, total, entry, phase_of}
+use Rattle.msg_depot.specs.Rules.{Kept, Fits, Stands, Weighs, Used, weight, drafts, spents, draft_of, spent_of, at, total, entry, phase_of, word_of}
 use Rattle.msg_depot.proofs.Totals.{total_has, total_two, total_alone, at_here, at_else, at_none, within, positive_one}
 use Rattle.msg_depot.proofs.Keeps.{turns}
 
@@ -60,7 +60,7 @@ pub keeper_turns : (words : List ℕ) (views : List View) (r : Kept words views)
     → v.keeps ≡ true → (i n : ℕ) (e e' : Entry) → get_elem? r.book i ≡ some e → w.book ≡ set v.book i e'
     → (v.kind ≢ Nothing → v.claim.slot ≡ i) → (w.kind ≢ Nothing → w.claim.slot ≡ i)
     → Alone views id i → Fits (set v.book i e') w → Stands e' n (weight w) (drafts w) (spents w)
-    → Kept (set words i n) (set views id w)
+    → Kept (set words (word_of i) n) (set views id w)
 keeper_turns words views r id v w here keeps i n e e' there book mine mine' alone fit stands =
     let m = r.keeper id v here keeps in
     let old = r.fits id v here in

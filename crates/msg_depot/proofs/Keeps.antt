@@ -1,11 +1,11 @@
 -- What a change of views, of one word and of one entry has to show to keep the rule.
-use Rattle.std.proofs.Common.{◌≡◌, ◌≢◌, ℕ, ◌+◌, ◌<◌, List, [], ◌∷◌, ◌++◌, length, set, get_or, true, false, sym, ◌∙◌, subst, ⊎_elim, arith, length-set, get_or-set_same, get_or-set_other}
+use Rattle.std.proofs.Common.{◌≡◌, ◌≢◌, ℕ, ◌+◌, ◌<◌, List, [], ◌∷◌, ◌++◌, length, set, get_or, true, false, sym, ap, ◌∙◌, subst, ⊎_elim, arith, length-set, get_or-set_same, get_or-set_other}
 use mathlib.Core.Option.{some}
 use lib.ListN.{get_elem?}
 use Rattle.atomic_table.proofs.Lists.{at_set, at_snoc}
 use Rattle.msg_depot.specs.declared.view.View.{View}
 use Rattle.msg_depot.specs.declared.view.Entry.{Entry}
-use Rattle.msg_depot.specs.Rules.{weight, drafts, spents, at, total, Fits, Stands, Kept}
+use Rattle.msg_depot.specs.Rules.{weight, drafts, spents, at, total, word_of, Fits, Stands, Kept}
 use Rattle.msg_depot.proofs.Totals.{total_set, total_snoc, within}
 
 pub off : false ≡ true → ⊥
@@ -32,7 +32,7 @@ viewed words views views' r k f t = record {
   long = r.long;
   keeper = k;
   fits = f;
-  stands = λ i e there. stands_as e (get_or words i 0) _ _ _ _ _ _ (t i) (r.stands i e there);
+  stands = λ i e there. stands_as e (get_or words (word_of i) 0) _ _ _ _ _ _ (t i) (r.stands i e there);
 }
 
 -- two views of a slot have together what one had
@@ -72,6 +72,9 @@ splits words views id v left right r here same_keeps same_book outside fit parts
     fitting : (j : ℕ) (u : View) → get_elem? (set views id left ++ right ∷ []) j ≡ some u → Fits r.book u
     fitting j u e = cases j u e (λ _ x. Fits r.book x) (fit r.book (r.fits id v here)).0 (λ _. (fit r.book (r.fits id v here)).1) r.fits
 
+words_apart : (i k : ℕ) → k ≢ i → word_of k ≢ word_of i
+words_apart i k apart e = apart (omega arith)
+
 -- one seat steps: the word of a slot, its entry and the seat's view change
 pub turns : (words : List ℕ) (views : List View) (r : Kept words views) (id : ℕ) (v w : View) → get_elem? views id ≡ some v
     → (i n : ℕ) (e e' : Entry) → get_elem? r.book i ≡ some e
@@ -81,20 +84,20 @@ pub turns : (words : List ℕ) (views : List View) (r : Kept words views) (id : 
     → ((j : ℕ) (u : View) → j ≢ id → get_elem? views j ≡ some u → Fits (set r.book i e') u)
     → ((k : ℕ) → k ≢ i → Same (at k weight v) (at k drafts v) (at k spents v) (at k weight w) (at k drafts w) (at k spents w))
     → Stands e' n (total (at i weight) (set views id w)) (total (at i drafts) (set views id w)) (total (at i spents) (set views id w))
-    → Kept (set words i n) (set views id w)
+    → Kept (set words (word_of i) n) (set views id w)
 turns words views r id v w here i n e e' there mine others fit fits elsewhere now = record {
   seat = r.seat;
   book = set r.book i e';
-  long = length-set words i n ∙ r.long ∙ sym (length-set r.book i e');
+  long = length-set words (word_of i) n ∙ r.long ∙ ap word_of (sym (length-set r.book i e'));
   keeper = λ j u at_j. cases j u at_j (λ k x. x.keeps ≡ true → (k ≡ r.seat) × (x.book ≡ set r.book i e')) mine
       (λ k x apart was keeps. let m = r.keeper k x was keeps in (m.0, m.1 ∙ sym (others k x apart was keeps)));
   fits = λ j u at_j. cases j u at_j (λ _ x. Fits (set r.book i e') x) fit fits;
   stands = λ k d at_k. ⊎_elim
-      (λ (t : (k ≡ i) × (e' ≡ d)). subst (λ (z : ℕ × Entry). Stands z.1 (get_or (set words i n) z.0 0) (total (at z.0 weight) (set views id w)) (total (at z.0 drafts) (set views id w)) (total (at z.0 spents) (set views id w))) (λ q. (sym t.0 q, t.1 q))
-      (subst (λ (z : ℕ). Stands e' z (total (at i weight) (set views id w)) (total (at i drafts) (set views id w)) (total (at i spents) (set views id w))) (sym (get_or-set_same words i n 0 inside)) now))
+      (λ (t : (k ≡ i) × (e' ≡ d)). subst (λ (z : ℕ × Entry). Stands z.1 (get_or (set words (word_of i) n) (word_of z.0) 0) (total (at z.0 weight) (set views id w)) (total (at z.0 drafts) (set views id w)) (total (at z.0 spents) (set views id w))) (λ q. (sym t.0 q, t.1 q))
+      (subst (λ (z : ℕ). Stands e' z (total (at i weight) (set views id w)) (total (at i drafts) (set views id w)) (total (at i spents) (set views id w))) (sym (get_or-set_same words (word_of i) n 0 inside)) now))
       (λ (t : (k ≢ i) × (get_elem? r.book k ≡ some d)).
-      subst (λ (z : ℕ). Stands d z (total (at k weight) (set views id w)) (total (at k drafts) (set views id w)) (total (at k spents) (set views id w))) (sym (get_or-set_other words i k n 0 t.0))
-      (stands_as d (get_or words k 0) _ _ _ _ _ _
+      subst (λ (z : ℕ). Stands d z (total (at k weight) (set views id w)) (total (at k drafts) (set views id w)) (total (at k spents) (set views id w))) (sym (get_or-set_other words (word_of i) (word_of k) n 0 (words_apart i k t.0)))
+      (stands_as d (get_or words (word_of k) 0) _ _ _ _ _ _
       (record { weights = still (at k weight) (elsewhere k t.0).weights; drafted = still (at k drafts) (elsewhere k t.0).drafted; spent = still (at k spents) (elsewhere k t.0).spent })
       (r.stands k d t.1)))
       (at_set r.book i k e' d at_k);
@@ -106,5 +109,5 @@ turns words views r id v w here i n e e' there mine others fit fits elsewhere no
     still : (f : View → ℕ) → f v ≡ f w → total f views ≡ total f (set views id w)
     still f q = let s = total_set f views id v w here in omega arith
 
-    inside : i < length words
+    inside : word_of i < length words
     inside = let a = within r.book i e there in let b = r.long in omega arith

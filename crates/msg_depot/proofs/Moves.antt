@@ -13,7 +13,7 @@ use Rattle.msg_depot.specs.declared.view.View.{View}
 use Rattle.msg_depot.specs.declared.view.Claim.{Claim}
 use Rattle.msg_depot.specs.declared.view.Entry.{Entry}
 use Rattle.msg_depot.specs.declared.view.Phase.TheVariants.{Sealed}
-use Rattle.msg_depot.specs.Rules.{Kept, Fits, weight, drafts, spents, at, when, total, positive, entry}
+use Rattle.msg_depot.specs.Rules.{Kept, Fits, weight, drafts, spents, at, when, total, positive, entry, word_of}
 use Rattle.msg_depot.specs.Moves.{one_less, one, holding, released, Released}
 use Rattle.msg_depot.proofs.Totals.{total_set, total_has, at_here, at_else, at_none, positive_one}
 use Rattle.msg_depot.proofs.Keeps.{splits, turns}
@@ -48,8 +48,8 @@ low_bits g w n b e = omega arith
 
 -- a hold of weight 1 is given up, and it was the last
 release_last : (words : List ℕ) (views : List View) (r : Kept words views) (id : ℕ) (q : Bool) (es : List Entry) (c : Claim) → get_elem? views id ≡ some (holding q es c) → c.weight ≡ 1
-    → get_or words c.slot 0 % GENERATION_UNIT ≡ 1
-    → Kept (set words c.slot ((get_or words c.slot 0 + (2 ^ 64 - 1)) % 2 ^ 64)) (set views id (released true (holding q es c)))
+    → get_or words (word_of c.slot) 0 % GENERATION_UNIT ≡ 1
+    → Kept (set words (word_of c.slot) ((get_or words (word_of c.slot) 0 + (2 ^ 64 - 1)) % 2 ^ 64)) (set views id (released true (holding q es c)))
 release_last words views r id q es c here is_one low =
     let v : View = holding q es c in
     let w : View = released true v in
@@ -57,7 +57,7 @@ release_last words views r id q es c here is_one low =
     let there : get_elem? r.book c.slot ≡ some e = (r.fits id v here).0 (λ q. absurd (cc)) in
     let st = r.stands c.slot e there in
     let W : ℕ = total (at c.slot weight) views in
-    let is : W ≡ 1 = sym (low_bits c.generation W (get_or words c.slot 0) st.1 st.0) ∙ low in
+    let is : W ≡ 1 = sym (low_bits c.generation W (get_or words (word_of c.slot) 0) st.1 st.0) ∙ low in
     let same : set r.book c.slot e ≡ r.book = set_again r.book c.slot e there in
     let a = kept_here weight views id v w c.slot here refl 0 (at_here c.slot weight w refl) in
     let b = kept_here drafts views id v w c.slot here refl 0 (at_here c.slot drafts w refl) in
@@ -65,10 +65,10 @@ release_last words views r id q es c here is_one low =
     let none_left : total (at c.slot weight) (set views id w) ≡ 0 = omega arith in
     let some_now : positive W ≡ 1 = ap positive is in
     let none_now : positive (total (at c.slot weight) (set views id w)) ≡ 0 = ap positive none_left in
-    let word = sub_word c.generation W (get_or words c.slot 0) st.2 st.1 (omega arith) st.0 in
+    let word = sub_word c.generation W (get_or words (word_of c.slot) 0) st.2 st.1 (omega arith) st.0 in
     let drafted = st.3.0 in
     let spent = st.3.1 in
-    turns words views r id v w here c.slot ((get_or words c.slot 0 + (2 ^ 64 - 1)) % 2 ^ 64) e e there
+    turns words views r id v w here c.slot ((get_or words (word_of c.slot) 0 + (2 ^ 64 - 1)) % 2 ^ 64) e e there
     (λ k. let m = r.keeper id v here k in (m.0, m.1 ∙ sym same))
     (λ j u apart at_j keeps. same)
     (subst (λ (l : List Entry). Fits l w) (sym same) ((λ _. there), refl))
@@ -82,8 +82,8 @@ release_last words views r id q es c here is_one low =
 
 -- the same, where it was not the last
 release_more : (words : List ℕ) (views : List View) (r : Kept words views) (id : ℕ) (q : Bool) (es : List Entry) (c : Claim) → get_elem? views id ≡ some (holding q es c) → c.weight ≡ 1
-    → get_or words c.slot 0 % GENERATION_UNIT ≢ 1
-    → Kept (set words c.slot ((get_or words c.slot 0 + (2 ^ 64 - 1)) % 2 ^ 64)) (set views id (released false (holding q es c)))
+    → get_or words (word_of c.slot) 0 % GENERATION_UNIT ≢ 1
+    → Kept (set words (word_of c.slot) ((get_or words (word_of c.slot) 0 + (2 ^ 64 - 1)) % 2 ^ 64)) (set views id (released false (holding q es c)))
 release_more words views r id q es c here is_one low =
     let v : View = holding q es c in
     let w : View = released false v in
@@ -91,7 +91,7 @@ release_more words views r id q es c here is_one low =
     let there : get_elem? r.book c.slot ≡ some e = (r.fits id v here).0 (λ q. absurd (cc)) in
     let st = r.stands c.slot e there in
     let W : ℕ = total (at c.slot weight) views in
-    let not_one : W ≢ 1 = λ q. low (low_bits c.generation W (get_or words c.slot 0) st.1 st.0 ∙ q) in
+    let not_one : W ≢ 1 = λ q. low (low_bits c.generation W (get_or words (word_of c.slot) 0) st.1 st.0 ∙ q) in
     let same : set r.book c.slot e ≡ r.book = set_again r.book c.slot e there in
     let a = kept_here weight views id v w c.slot here refl 0 (at_none c.slot weight w refl) in
     let b = kept_here drafts views id v w c.slot here refl 0 (at_none c.slot drafts w refl) in
@@ -101,10 +101,10 @@ release_more words views r id q es c here is_one low =
     let some_left : 0 < total (at c.slot weight) (set views id w) = omega arith in
     let some_now : positive W ≡ 1 = positive_one W (omega arith) in
     let some_then : positive (total (at c.slot weight) (set views id w)) ≡ 1 = positive_one (total (at c.slot weight) (set views id w)) some_left in
-    let word = sub_word c.generation W (get_or words c.slot 0) st.2 st.1 (omega arith) st.0 in
+    let word = sub_word c.generation W (get_or words (word_of c.slot) 0) st.2 st.1 (omega arith) st.0 in
     let drafted = st.3.0 in
     let spent = st.3.1 in
-    turns words views r id v w here c.slot ((get_or words c.slot 0 + (2 ^ 64 - 1)) % 2 ^ 64) e e there
+    turns words views r id v w here c.slot ((get_or words (word_of c.slot) 0 + (2 ^ 64 - 1)) % 2 ^ 64) e e there
     (λ k. let m = r.keeper id v here k in (m.0, m.1 ∙ sym same))
     (λ j u apart at_j keeps. same)
     ((λ k. absurd (k refl)), refl)
@@ -117,9 +117,9 @@ release_more words views r id q es c here is_one low =
     (omega arith, omega arith, st.2, (omega arith, omega arith))
 
 pub releases : (slots id : ℕ) (q : Bool) (es : List Entry) (c : Claim) → c.weight ≡ 1
-    → Allows Rule slots id (holding q es c, []) c.slot (λ n. (n + (2 ^ 64 - 1)) % 2 ^ 64) (Released (step slots c.slot 1 0 none) (holding q es c, []))
+    → Allows Rule slots id (holding q es c, []) (word_of c.slot) (λ n. (n + (2 ^ 64 - 1)) % 2 ^ 64) (Released (step slots (word_of c.slot) 1 0 none) (holding q es c, []))
 releases slots id q es c is_one s r _ here small =
-    let n : ℕ = get_or s.words c.slot 0 in
+    let n : ℕ = get_or s.words (word_of c.slot) 0 in
     dite (ℕ_discrete (n % GENERATION_UNIT) 1)
     (λ last. (released true (holding q es c), keeps, tt, release_last s.words s.views r id q es c here is_one last, ap (λ (b : Bool). (released b (holding q es c), [])) (sym (eq-eqb (n % GENERATION_UNIT) 1 last))))
     (λ more. (released false (holding q es c), keeps, tt, release_more s.words s.views r id q es c here is_one more, ap (λ (b : Bool). (released b (holding q es c), [])) (sym (ne_eqb (n % GENERATION_UNIT) 1 more))))

@@ -12,7 +12,7 @@ use Rattle.msg_depot.specs.declared.view.Claim.{Claim}
 use Rattle.msg_depot.specs.declared.view.Kind.{Kind}
 use Rattle.msg_depot.specs.declared.view.Kind.TheVariants.{Nothing, Draft}
 use Rattle.msg_depot.specs.declared.view.Phase.TheVariants.{Free, Drafted, Sealed}
-use Rattle.msg_depot.specs.Rules.{token, keeping, resting, entry, phase_of}
+use Rattle.msg_depot.specs.Rules.{token, keeping, resting, entry, phase_of, word_of}
 use Rattle.msg_depot.specs.Moves.{entry_at, generation_at, entered, begun, put, sealed}
 use Rattle.msg_depot.specs.Entries.{entry_of, entries_of, slot_behind, IsKeeper}
 use Rattle.msg_depot.proofs.Entries.{entry_there, agreed, kept_on, Turned, begins_turned, puts_turned, seals_turned, IsSealed, sealed_under}
@@ -34,7 +34,7 @@ module _ (named t0 : TableId) (m0 : Seen) (old : Depot) (keeper : IsKeeper named
   pub generation_there : (new : Depot) → Begins old key new → generation_at m0.0.book key.slot ≡ key.generation
   generation_there new b = ap (λ (x : Entry). x.generation) ((λ n. entry_at (knows n) key.slot) ∙ entry_there old key.slot _ b.0)
 
-  pub slot_there : (new : Depot) → Begins old key new → (key.slot < named.words) × (key.slot < length m0.0.book) × ((entry_at m0.0.book key.slot).phase ≡ Free)
+  pub slot_there : (new : Depot) → Begins old key new → (word_of key.slot < named.words) × (key.slot < length m0.0.book) × ((entry_at m0.0.book key.slot).phase ≡ Free)
   slot_there new b =
       let within : key.slot < length old.slots = slice_get_within old.slots key.slot _ b.0 in
       let size : length m0.0.book ≡ length old.slots = ap length knows ∙ length-map old.slots entry_of in

@@ -8,7 +8,7 @@ use Rattle.msg_depot.specs.declared.view.Claim.{Claim}
 use Rattle.msg_depot.specs.declared.view.Entry.{Entry}
 use Rattle.msg_depot.specs.declared.view.Phase.{Phase}
 use Rattle.msg_depot.specs.declared.view.Phase.TheVariants.{Free, Drafted, Sealed, Retired}
-use Rattle.msg_depot.specs.Rules.{entry, resting}
+use Rattle.msg_depot.specs.Rules.{entry, resting, word_of}
 
 -- the key of a token's message
 abbrev pub key_of : Claim → d.Key
@@ -45,12 +45,12 @@ pub record Unnamed : Type 0 where
   pub table : TableId
   pub depot : d.Depot
 
--- The keeper's seat is of the named table and knows the arena's messages, one for each word. Each block is in one message
--- or free, and stands there once.
+-- The keeper's seat is of the named table and knows the arena's messages, in as many slots as there are words for. Each block is
+-- in one message or free, and stands there once.
 pub record IsKeeper (named table : TableId) (me : Me (Unit {0}) View) (depot : d.Depot) : Type 0 where
   pub same_table : table ≡ named
   pub knows : me ≡ (resting (entries_of depot), [])
-  pub long : length depot.slots ≡ named.words
+  pub long : named.words ≡ word_of (length depot.slots)
   pub blocks : ℕ
   pub once : d.HasEachBlockOnce blocks depot
   pub counts : (i : ℕ) (slot : d.Slot) → slice_get depot.slots i ≡ Some slot → HasCount slot.held

@@ -9,7 +9,7 @@ use Rattle.msg_depot.specs.declared.view.Kind.{Kind}
 use Rattle.msg_depot.specs.declared.view.Kind.TheVariants.{Nothing, Draft, Hold, Spent}
 use Rattle.msg_depot.specs.declared.view.Phase.{Phase}
 use Rattle.msg_depot.specs.declared.view.Phase.TheVariants.{Free, Drafted, Sealed, Retired}
-use Rattle.msg_depot.specs.Rules.{entry, no_claim, weighing, token, keeping, resting, Fits}
+use Rattle.msg_depot.specs.Rules.{entry, no_claim, weighing, token, keeping, resting, word_of, Fits}
 
 -- a view that has a hold: a token's, or the keeper's with what it has joined
 abbrev pub holding : Bool → List Entry → Claim → View
@@ -74,7 +74,7 @@ begun v i = keeping (entered v.book i (entry Drafted (generation_at v.book i) []
 
 -- a step that begins one in the slot of its word
 abbrev pub Begun : Step (Unit {0}) → Me (Unit {0}) View → ℕ → Me (Unit {0}) View → Type 0
-Begun st me n me' = me' ≡ (begun me.0 st.word, me.1)
+Begun st me n me' = (i : ℕ) → st.word ≡ word_of i → me' ≡ (begun me.0 i, me.1)
 
 -- the claim with more bytes
 abbrev pub longer : Claim → List ℕ → Claim

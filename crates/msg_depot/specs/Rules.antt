@@ -6,6 +6,7 @@ use Rattle.atomic_table.specs.Seated.{TableId}
 use Rattle.mail_world.specs.declared.limits.TheConstants.{RECIPIENT_LIMIT}
 use Rattle.mail_world.specs.Depot.{last_generation}
 use Rattle.msg_depot.specs.declared.view.TheConstants.{GENERATION_UNIT}
+use Rattle.msg_depot.specs.declared.words.TheConstants.{WORDS_PER_SLOT}
 use Rattle.msg_depot.specs.declared.view.View.{View}
 use Rattle.msg_depot.specs.declared.view.Claim.{Claim}
 use Rattle.msg_depot.specs.declared.view.Entry.{Entry}
@@ -112,19 +113,23 @@ Used Drafted w d s = (w ≡ 0) × (d ≡ 1) × (s ≡ 0)
 Used Sealed w d s = (d ≡ 0) × (s + positive w ≡ 1)
 Used Retired w d s = (w ≡ 0) × (d ≡ 0) × (s ≡ 0)
 
+-- where a slot's word stands: behind words that are nobody's, and those of the slots before it
+abbrev pub word_of : ℕ → ℕ
+word_of i = (i + 1) * WORDS_PER_SLOT
+
 -- a slot's word is its generation and its weight
 abbrev pub Stands : Entry → ℕ → ℕ → ℕ → ℕ → Type 0
 Stands e n w d s = (n ≡ e.generation * GENERATION_UNIT + w) × (w ≤ RECIPIENT_LIMIT) × (e.generation ≤ last_generation) × Used e.phase w d s
 
--- The rule. One seat at most is the keeper's, and what it knows is the book, which has an entry for each word; what any
+-- The rule. One seat at most is the keeper's, and what it knows is the book, which has an entry for each slot; what any
 -- seat claims is an entry of the book; and each slot's word, entry and claims go together.
 pub record Kept (words : List ℕ) (views : List View) : Type 0 where
   pub seat : ℕ
   pub book : List Entry
-  pub long : length words ≡ length book
+  pub long : length words ≡ word_of (length book)
   pub keeper : (j : ℕ) (v : View) → get_elem? views j ≡ some v → v.keeps ≡ true → (j ≡ seat) × (v.book ≡ book)
   pub fits : (j : ℕ) (v : View) → get_elem? views j ≡ some v → Fits book v
-  pub stands : (i : ℕ) (e : Entry) → get_elem? book i ≡ some e → Stands e (slice_index words i) (total (at i weight) views) (total (at i drafts) views) (total (at i spents) views)
+  pub stands : (i : ℕ) (e : Entry) → get_elem? book i ≡ some e → Stands e (slice_index words (word_of i)) (total (at i weight) views) (total (at i drafts) views) (total (at i spents) views)
 
 -- the entries of slots that have had no message
 abbrev pub free_slots : ℕ → ℕ → List Entry

@@ -2,11 +2,13 @@
 
 ghost use Rattle.std.specs.Prelude.{◌≡◌, ◌+◌, ◌-◌, ◌^◌, ◌*◌, ◌<◌, ◌≤◌, ◌++◌, [], length, take, drop, min, replicate, IfOk, IfErr, IfSome};
 ghost use Rattle.mail_world.specs.Depot.{last_generation, Free};
+ghost use Rattle.msg_depot.specs.Rules.{word_of};
 
 use crate::hold;
 use crate::keeper::{Keeper, NoRoom};
 use crate::token::{Board, DepotName, Draft, Hold, Place, Spent};
-use crate::view::{GENERATION_UNIT, Opening};
+use crate::view::Opening;
+use crate::words::words_for;
 use block_arena::Arena;
 use mail_world::limits::{BLOCK_LIMIT, RECIPIENT_LIMIT, SLOT_LIMIT};
 use std::alloc::{AllocError, Global};
@@ -38,7 +40,7 @@ impl Blank {
         requires slots { (1 ≤ slots) × (slots ≤ SLOT_LIMIT) }
         ensures slots { IfOk result (λ b. b.depot.slots ≡ replicate slots (record { generation = 0; held = Free })) }
         ensures free { IfOk result (λ b. length b.depot.free ≡ blocks) }
-        ensures words { IfOk result (λ b. b.table.words ≡ slots) }
+        ensures words { IfOk result (λ b. b.table.words ≡ word_of slots) }
     {
         Blank::new_at(alloc, blocks, slots, 0)
     }
@@ -55,10 +57,10 @@ impl Blank {
         requires generation { generation ≤ last_generation }
         ensures slots { IfOk result (λ b. b.depot.slots ≡ replicate slots (record { generation = generation; held = Free })) }
         ensures free { IfOk result (λ b. length b.depot.free ≡ blocks) }
-        ensures words { IfOk result (λ b. b.table.words ≡ slots) }
+        ensures words { IfOk result (λ b. b.table.words ≡ word_of slots) }
     {
         let arena = Arena::new_at(alloc, blocks, slots, generation)?;
-        let words = words_of(alloc, slots, generation)?;
+        let words = words_for(alloc, slots, generation)?;
         let opening = Opening { slots, generation };
         let (board, seat) = Board::of_words(alloc, words.as_slice(), &opening)?;
         Ok(Blank { board, arena, seat })
@@ -74,18 +76,6 @@ impl Blank {
             keeper: Mutex::new(Keeper::new(arena, seat)),
         }
     }
-}
-
-// The words of slots without messages, all of one generation.
-fn words_of(alloc: Global, slots: u32, generation: u64) -> Result<Vec<u64>, AllocError>
-    requires { generation ≤ last_generation }
-    ensures { IfOk result (λ words. words.items ≡ replicate slots (generation * GENERATION_UNIT)) }
-{
-    let mut words = Vec::with_capacity(alloc, slots as usize)?;
-    for _ in 0..slots {
-        words.push(generation * GENERATION_UNIT)?;
-    }
-    Ok(words)
 }
 
 /// Messages that threads write, hold and read. A token that is dropped keeps its message in use for good.

@@ -6,6 +6,7 @@ ghost use Rattle.msg_depot.specs.Rules.{weighing};
 use crate::rule::{One, Releases};
 use crate::token::{Board, DepotName, Hold, Spent, seat_of};
 use crate::view::GENERATION_UNIT;
+use crate::words::word_at;
 use atomic_table::Badge;
 use std::marker::PhantomData;
 use std::mem;
@@ -35,8 +36,8 @@ pub fn release<N: DepotName>(board: &Board, hold: Hold<N>) -> Option<Spent<N>>
 {
     let Hold { key, badge, of } = hold;
     let mut seat = seat_of(badge);
-    let slot = key.slot as usize;
-    let found = board.shared.fetch_sub::<Releases>(&mut seat, slot, 1);
+    let word = word_at(key.slot);
+    let found = board.shared.fetch_sub::<Releases>(&mut seat, word, 1);
     if found % GENERATION_UNIT == 1 {
         Some(Spent {
             key,

@@ -5,7 +5,7 @@ ghost use Rattle.std.specs.List.{AllByRecursion};
 ghost use Rattle.mail_world.specs.Depot.{weight_under, HasRoom, Begins, Puts, Seals, Cancels};
 ghost use Rattle.mail_world.specs.Depot as depot;
 ghost use Rattle.block_arena.specs.Calls.{IsTaken, IsGivenBack};
-ghost use Rattle.msg_depot.specs.Rules.{weighing, resting, keeping};
+ghost use Rattle.msg_depot.specs.Rules.{weighing, resting, keeping, word_of};
 ghost use Rattle.msg_depot.specs.Moves.{longer, entered, IsOver};
 ghost use Rattle.msg_depot.specs.Entries.{entry_of, key_of, slot_behind, IsKeeper};
 
@@ -76,7 +76,7 @@ impl<N: DepotName> Keeper<N> {
         let Some(key) = self.arena.begin() else {
             return Err(NoRoom { of: () });
         };
-        let slot = key.slot as usize;
+        let slot = key.slot;
         steps::begin(board, &mut self.seat, slot);
         let badge = steps::hand_out(board, &mut self.seat, slot).into_badge();
         Ok(Draft {
@@ -95,7 +95,7 @@ impl<N: DepotName> Keeper<N> {
         ensures same { IfErr result (λ _. (draft.new ≡ draft.old) × (self.new ≡ self.old)) }
     {
         let key = draft.key;
-        let slot = key.slot as usize;
+        let slot = key.slot;
         let seat = seat_of(mem::replace(&mut draft.badge, Badge::blank()));
         steps::take_in(board, &mut self.seat, seat, slot);
         match self.arena.put(key, piece) {
@@ -119,7 +119,7 @@ impl<N: DepotName> Keeper<N> {
         ensures hold { result ≡ weighing draft n }
     {
         let Draft { key, badge, of } = draft;
-        let slot = key.slot as usize;
+        let slot = key.slot;
         steps::take_in(board, &mut self.seat, seat_of(badge), slot);
         let Ok(()) = self.arena.seal(key, n) else {
             unreachable!()
@@ -135,7 +135,7 @@ impl<N: DepotName> Keeper<N> {
         ensures { Cancels self.old (key_of draft) self.new }
     {
         let Draft { key, badge, of: _ } = draft;
-        let slot = key.slot as usize;
+        let slot = key.slot;
         steps::take_in(board, &mut self.seat, seat_of(badge), slot);
         let Ok(()) = self.arena.drop_draft(key) else {
             unreachable!()
@@ -154,7 +154,7 @@ impl<N: DepotName> Keeper<N> {
         ensures same { (hold.new ≡ hold.old) × (self.new ≡ self.old) }
     {
         let key = hold.key;
-        let slot = key.slot as usize;
+        let slot = key.slot;
         let seat = seat_of(mem::replace(&mut hold.badge, Badge::blank()));
         steps::take_in(board, &mut self.seat, seat, slot);
         let Ok(count) = self.arena.copy_out(key, at, out) else {
@@ -170,7 +170,7 @@ impl<N: DepotName> Keeper<N> {
         ensures { IsGivenBack (weight_under self.old (key_of spent)) self.old (key_of spent) self.new true }
     {
         let Spent { key, badge, of: _ } = spent;
-        let slot = key.slot as usize;
+        let slot = key.slot;
         steps::take_in(board, &mut self.seat, seat_of(badge), slot);
         let all = self.arena.holds(key);
         match self.arena.give_back(key, all) {
@@ -184,11 +184,11 @@ impl<N: DepotName> Keeper<N> {
 // The slot of a joined draft, or of a joined message that nobody holds, is free with the next generation, or retired.
 fn free(board: &Board, seat: &mut Place, key: Key)
     requires seat { (seat.old.table_id ≡ board.now.shared.table_id) × (seat.old.me ≡ (keeping seat.old.me.0.book seat.old.me.0.kind seat.old.me.0.claim, [])) }
-    requires slot { (key.slot < board.now.shared.table_id.words) × (key.slot ≡ seat.old.me.0.claim.slot) × (key.generation ≡ seat.old.me.0.claim.generation) }
+    requires slot { (word_of key.slot < board.now.shared.table_id.words) × (key.slot ≡ seat.old.me.0.claim.slot) × (key.generation ≡ seat.old.me.0.claim.generation) }
     requires over { IsOver seat.old.me.0.kind }
     ensures { (seat.new.table_id ≡ seat.old.table_id) × (seat.new.me ≡ (resting (entered seat.old.me.0.book key.slot (entry_of (slot_behind key.generation))), [])) }
 {
-    let slot = key.slot as usize;
+    let slot = key.slot;
     if key.generation < LAST_GENERATION {
         steps::free(board, seat, slot);
     } else {

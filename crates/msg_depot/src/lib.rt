@@ -8,6 +8,7 @@ mod rule;
 mod steps;
 mod token;
 mod view;
+mod words;
 
 pub use depot::{Blank, Depot};
 pub use keeper::{Keeper, NoRoom};

@@ -1,4 +1,4 @@
-use Rattle.std.proofs.Common.{sym, subst}
+use Rattle.std.proofs.Common.{ℕ, ◌<◌, sym, subst}
 use mathlib.Core.Option.{none}
 use Rattle.atomic_table.specs.Table.{Allows, Me, step}
 use Rattle.msg_depot.specs.declared.view.View.{View}
@@ -12,6 +12,6 @@ load-requires c =
     let slots = c.args.board.now.shared.table_id.slots in
     let id = c.args.seat.now.id in (
       c.requires.seat.0,
-      c.requires.slot,
-      subst (λ (m : Me (Unit {0}) View). Allows Rule slots id m c.args.slot (λ n. n) (Begun (step slots c.args.slot 0 0 none) m)) (sym c.requires.seat.1) (begins slots id c.args.seat.now.me.0.book c.args.slot c.requires.free.0 c.requires.free.1),
+      subst (λ (w : ℕ). w < c.args.board.now.shared.table_id.words) (sym c.word_at.ensures) c.requires.slot,
+      subst (λ (x : Me (Unit {0}) View × ℕ). Allows Rule slots id x.0 x.1 (λ n. n) (Begun (step slots x.1 0 0 none) x.0)) (λ k. (sym c.requires.seat.1 k, sym c.word_at.ensures k)) (begins slots id c.args.seat.now.me.0.book c.args.slot c.requires.free.0 c.requires.free.1),
     )

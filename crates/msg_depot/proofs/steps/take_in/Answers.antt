@@ -1,4 +1,4 @@
-use Rattle.std.proofs.Common.{◌≡◌, [], sym, ap, ◌∙◌, subst, arith, refl}
+use Rattle.std.proofs.Common.{◌≡◌, ℕ, ◌<◌, [], sym, ap, ◌∙◌, subst, arith, refl}
 use mathlib.Core.Option.{none}
 use Rattle.atomic_table.specs.Table.{Allows, Joins, Me, step}
 use Rattle.msg_depot.specs.declared.view.View.{View}
@@ -28,9 +28,9 @@ load-requires c =
     let j = c.join_seat.ensures in
     let me : c.join_seat.new.seat.me ≡ (keeping c.args.seat.now.me.0.book c.args.other.me.0.kind c.args.other.me.0.claim, []) = j.2 ∙ (λ k. (taking (c.requires.seat.1 k).0 (c.requires.other.1 k).0, (c.requires.seat.1 k).1)) in (
       j.0 ∙ c.requires.seat.0,
-      c.requires.slot,
-      subst (λ (m : Me (Unit {0}) View). Allows Rule slots id m c.args.slot (λ n. n) (Checked (step slots c.args.slot 0 0 none) m)) (sym me)
-          (checks slots id c.args.slot (keeping c.args.seat.now.me.0.book c.args.other.me.0.kind c.args.other.me.0.claim)),
+      subst (λ (w : ℕ). w < c.args.board.now.shared.table_id.words) (sym c.word_at.ensures) c.requires.slot,
+      subst (λ (m : Me (Unit {0}) View). Allows Rule slots id m c.word_at.result (λ n. n) (Checked (step slots c.word_at.result 0 0 none) m)) (sym me)
+          (checks slots id c.word_at.result (keeping c.args.seat.now.me.0.book c.args.other.me.0.kind c.args.other.me.0.claim)),
     )
 
 pub returns-clause-agrees : goal.returns-clause-agrees
