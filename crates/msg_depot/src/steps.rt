@@ -73,7 +73,9 @@ pub fn free(board: &Board, seat: &mut Place, slot: u32)
     requires generation { seat.old.me.0.claim.generation < last_generation }
     ensures { (seat.new.table_id ≡ seat.old.table_id) × (seat.new.me ≡ (freed seat.old.me.0 Free 1, [])) }
 {
-    board.shared.fetch_add::<Frees>(seat, word_at(slot), GENERATION_UNIT);
+    board
+        .shared
+        .fetch_add::<Frees>(seat, word_at(slot), GENERATION_UNIT);
 }
 
 /// The same, and the slot is retired.
