@@ -1,6 +1,6 @@
 //! Clients that keep to scripts, handed out one after another.
 
-ghost use Rattle.std.specs.Prelude.{◌≡◌, ◌≤◌, ◌+◌, ⊤, map, Some, None, cond, length, vec_capacity, IfOk, false};
+ghost use Rattle.std.specs.Prelude.{◌≡◌, ◌≤◌, ◌+◌, ⊤, [], map, Some, None, cond, length, vec_capacity, IfOk, false};
 
 use super::fakes::Script;
 use crate::{EndCause, Visits};

@@ -10,7 +10,7 @@ use super::fakes::{Script, Turn};
 use super::guests::Guests;
 use super::{GREETING, OFFER, STOPPING, site};
 use crate::{Clock, Desk, EndCause, LaneReport, lane_run};
-use mail_post::{Parts, Receiver, Sender, mail_line, slip_line};
+use mail_post::{Parts, Receiver, Sender, SlipSender, mail_line, slip_line};
 use mail_world::{Outcome, Slip, Txn};
 use msg_depot::{Blank, Depot, DepotName};
 use std::alloc::Global;
@@ -115,9 +115,7 @@ fn run_over<'a, N: DepotName, R: Wait + Abort>(
     let (senders, anna, ben) = ends::<N>(alloc)?;
     let anna = Some(anna).filter(|_| others.listen);
     let (mut workers, slips) = slip_line(alloc, 1)?;
-    for number in 1..=others.slips {
-        let _ = workers[0].offer(rt, stored(number));
-    }
+    tell(rt, &mut workers[0], others.slips);
     let workers = Some(workers).filter(|_| others.answer);
     let desk = Desk::new(alloc, site.clone()?)?;
     let guests = Guests::new(alloc, clients)?;
@@ -154,6 +152,15 @@ fn ends<N: DepotName>(alloc: Global) -> Result<(Vec<Sender<N>>, Receiver<N>, Rec
         return Err("one sender each".into());
     };
     Ok((vec![in alloc; x, y]?, anna, ben))
+}
+
+// Puts the slips of the first copies of so many transactions into a lane's channel.
+fn tell<R: Wait>(rt: &R, worker: &mut SlipSender, count: u32)
+    requires { worker.old.lane ≡ 0 }
+{
+    for number in 0..count {
+        let _ = worker.offer(rt, stored(number + 1));
+    }
 }
 
 // What the worker of the first mailbox says of the first copy of a transaction.
