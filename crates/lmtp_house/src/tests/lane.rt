@@ -120,7 +120,17 @@ fn run_over<'a, N: DepotName, R: Wait + Abort>(
     let desk = Desk::new(alloc, site.clone()?)?;
     let guests = Guests::new(alloc, clients)?;
     assert_eq!(rt; senders.len(), site.box_count() as usize);
-    let report = lane_run(rt, 0, &site, desk, guests, &depot, senders, slips, &Still(7));
+    let report = lane_run(
+        rt,
+        0,
+        &site,
+        desk,
+        guests,
+        &depot,
+        senders,
+        slips,
+        &Still(7),
+    );
     let LaneReport {
         visits,
         senders,
