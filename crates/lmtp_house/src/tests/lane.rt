@@ -334,8 +334,9 @@ const STOPPED: [Turn; 3] = [
 
 #[test]
 fn two_clients_share_the_numbers(rt: HostRuntime) -> Result<(), Fail> {
-    let first = Script::new(rt.alloc(), &ONE_MESSAGE, usize::MAX);
-    let second = Script::new(rt.alloc(), &ONE_MESSAGE, usize::MAX);
+    let turns: &[Turn] = &ONE_MESSAGE;
+    let first = Script::new(rt.alloc(), turns, usize::MAX);
+    let second = Script::new(rt.alloc(), turns, usize::MAX);
     let clients = vec![in rt.alloc(); second, first]?;
     let ran = run(&rt, rt.alloc(), clients, ALL_THERE)?;
     assert!(rt; ran.served(2, EndCause::Quit) && !ran.gone);
@@ -347,8 +348,9 @@ fn two_clients_share_the_numbers(rt: HostRuntime) -> Result<(), Fail> {
 
 #[test]
 fn without_a_worker_nothing_is_stored(rt: HostRuntime) -> Result<(), Fail> {
-    let first = Script::new(rt.alloc(), &NOT_STORED, usize::MAX);
-    let second = Script::new(rt.alloc(), &NOT_STORED, usize::MAX);
+    let turns: &[Turn] = &NOT_STORED;
+    let first = Script::new(rt.alloc(), turns, usize::MAX);
+    let second = Script::new(rt.alloc(), turns, usize::MAX);
     let clients = vec![in rt.alloc(); second, first]?;
     let others = Others {
         listen: false,
