@@ -14,12 +14,13 @@ use Rattle.mail_world.specs.declared.Verdict.{Verdict}
 use Rattle.mail_world.specs.declared.Verdict.TheVariants.{Whole, TooLarge, NoRoom}
 use Rattle.mail_world.specs.declared.limits.TheConstants.{MESSAGE_LIMIT, NUMBER_LIMIT}
 use Rattle.mail_world.specs.Session.{Session}
+use Rattle.mail_world.specs.Events.{txn_of}
 use Rattle.mail_world.specs.Lists.{Transaction, VerdictFits, OutcomesIn, copies, copies_if, copies_from}
 use Rattle.mail_world.proofs.Heard.{all_more}
 use Rattle.msg_depot.specs.declared.view.Claim.{Claim}
 use Rattle.mail_post.specs.Line.{Lane, Inbox, taken}
-use Rattle.lmtp_house.specs.LaneExchange.{HasExchanged, sent_as}
-use Rattle.lmtp_house.specs.LaneAccount.{counted, IsAnswered, HasOffered, HoldsDraft, verdict_with, verdict_on, Delivers}
+use Rattle.lmtp_house.specs.LaneExchange.{HasExchanged, Episode, IsEpisode, sent_as}
+use Rattle.lmtp_house.specs.LaneAccount.{counted, IsAnswered, AreEpisodes, IsHeardInTurn, HasOffered, HoldsDraft, verdict_with, verdict_on, Delivers}
 use Rattle.lmtp_house.specs.Delivery.{EndsDraft}
 
 -- another DATA command
@@ -30,6 +31,7 @@ offered_counted lane May a b i j gone accepted accepted' n ts e x = record {
   own = x.own;
   heard = x.heard;
   exchanged = x.exchanged;
+  turns = x.turns;
   answered = x.answered;
   verdicts = x.verdicts;
   moments = x.moments;
@@ -128,6 +130,38 @@ no_outcome lane since t NoRoom f = tt
 copies-snoc : (lane : ℕ) (ts : List Transaction) (t : Transaction) → flat_map (copies lane) (ts ++ t ∷ []) ≡ flat_map (copies lane) ts ++ copies lane t
 copies-snoc lane ts t = flat_map-append (copies lane) ts (t ∷ []) ∙ ap (λ l. flat_map (copies lane) ts ++ l) (append-nil (copies lane t))
 
+-- one transaction more, with its episode
+episodes_more : (lane : ℕ) (ts : List Transaction) (es : List Episode) (t : Transaction) (e : Episode) → AreEpisodes lane ts es → IsEpisode (txn_of lane t.number) e
+    → AreEpisodes lane (ts ++ t ∷ []) (es ++ e ∷ [])
+episodes_more lane [] [] t e h is = (is, tt)
+episodes_more lane [] (f ∷ es) t e h is = absurd h
+episodes_more lane (u ∷ ts) [] t e h is = absurd h
+episodes_more lane (u ∷ ts) (f ∷ es) t e h is = (h.0, episodes_more lane ts es t e h.1 is)
+
+slips-snoc : (f : Episode → List Slip) (es : List Episode) (e : Episode) → flat_map f (es ++ e ∷ []) ≡ flat_map f es ++ f e
+slips-snoc f es e = flat_map-append f es (e ∷ []) ∙ ap (λ l. flat_map f es ++ l) (append-nil (f e))
+
+turns_more : (lane : ℕ) (i j j' : Inbox Slip) (own heard : List Slip) (ts : List Transaction) (t : Transaction) (e : Episode) → IsEpisode (txn_of lane t.number) e
+    → (x : IsHeardInTurn lane i j own heard ts) → taken j' ≡ taken i ++ (flat_map (λ (e : Episode). e.came) x.episodes ++ e.came)
+    → IsHeardInTurn lane i j' (own ++ e.own) (heard ++ e.heard) (ts ++ t ∷ [])
+turns_more lane i j j' own heard ts t e is x took = record {
+  episodes = x.episodes ++ e ∷ [];
+  each = episodes_more lane ts x.episodes t e x.each is;
+  took = took ∙ ap (λ l. taken i ++ l) (sym (slips-snoc (λ (e : Episode). e.came) x.episodes e));
+  own_is = ap (λ l. l ++ e.own) x.own_is ∙ sym (slips-snoc (λ (e : Episode). e.own) x.episodes e);
+  heard_is = ap (λ l. l ++ e.heard) x.heard_is ∙ sym (slips-snoc (λ (e : Episode). e.heard) x.episodes e);
+}
+
+-- one more of which nothing was heard
+turns_none : (lane : ℕ) (i j : Inbox Slip) (own heard : List Slip) (ts : List Transaction) (t : Transaction) → IsHeardInTurn lane i j own heard ts → IsHeardInTurn lane i j own heard (ts ++ t ∷ [])
+turns_none lane i j own heard ts t x =
+    let e : Episode = record { came = []; own = []; heard = [] } in
+    let O : List Slip → Type 0 = λ l. IsHeardInTurn lane i j l heard (ts ++ t ∷ []) in
+    let H : List Slip → Type 0 = λ l. IsHeardInTurn lane i j (own ++ []) l (ts ++ t ∷ []) in
+    subst O (append-nil own) (subst H (append-nil heard)
+    (turns_more lane i j j own heard ts t e (record { timely = (refl, refl); named = tt }) x
+    (x.took ∙ ap (λ l. taken i ++ l) (sym (append-nil (flat_map (λ (e : Episode). e.came) x.episodes))))))
+
 -- a message that is refused
 pub ended_refused : (lane : ℕ) (May : ℕ → Type 0) (a b : List (Lane Note)) (i j : Inbox Slip) (gone : Bool) (accepted size : ℕ) (draft : Option Claim) (session : Session) (moment : ℕ)
     (told : List Outcome) (v : Verdict) → v ≡ verdict_on accepted size draft → (v ≡ Whole → ⊥) → May moment
@@ -144,6 +178,7 @@ ended_refused lane May a b i j gone accepted size draft session moment told v is
       own = x.own;
       heard = x.heard;
       exchanged = subst P (sym same) x.exchanged;
+      turns = turns_none lane i j x.own x.heard ts t x.turns;
       answered = all_more (IsAnswered lane x.heard) ts t x.answered (record { before = x.heard; since = []; whole = sym (append-nil x.heard); outcomes = no_outcome lane [] t v other });
       verdicts = all_more VerdictFits ts t x.verdicts (verdict_fits t accepted size draft x.count h.1.long is);
       moments = all_more (λ (y : Transaction). May y.disposition.moment) ts t x.moments may;
@@ -173,17 +208,19 @@ whole_same lane May a b b' i j j' gone gone' accepted size draft claim session m
     let number : accepted ≡ n = omega (arith, x.count, low) in
     let bytes : claim.bytes ≡ message = bytes_are draft claim message there h.1.bytes in
     let D : ℕ → List ℕ → Type 0 = λ k m. Delivers lane k session moment m told b b' j j' gone gone' in
-    let d = subst (λ m. D n m) bytes (subst (λ k. D k claim.bytes) number delivers) (flat_map (copies lane) ts) x.own x.heard a i x.exchanged in
+    let past : Episode = record { came = flat_map (λ (e : Episode). e.came) x.turns.episodes; own = x.own; heard = x.heard } in
+    let d = subst (λ m. D n m) bytes (subst (λ k. D k claim.bytes) number delivers) (flat_map (copies lane) ts) past a i x.exchanged x.turns.took in
     let same : flat_map (copies lane) ts ++ copies_from lane (sent_as n session moment message) 0 session.recipients ≡ flat_map (copies lane) (ts ++ t ∷ []) =
     ap (λ l. flat_map (copies lane) ts ++ l) (copies_told lane n session moment message told 0 session.recipients) ∙ sym (copies-snoc lane ts t) in
-    let P : List Note → Type 0 = λ l. HasExchanged lane l a b' i j' d.own (x.heard ++ d.since) gone' in
+    let P : List Note → Type 0 = λ l. HasExchanged lane l a b' i j' (x.own ++ d.now.own) (x.heard ++ d.now.heard) gone' in
     record {
       count = x.count;
-      own = d.own;
-      heard = x.heard ++ d.since;
+      own = x.own ++ d.now.own;
+      heard = x.heard ++ d.now.heard;
       exchanged = subst P same d.exchanged;
-      answered = all_more (IsAnswered lane (x.heard ++ d.since)) ts t (answered_later lane x.heard d.since ts x.answered)
-          (record { before = x.heard; since = d.since; whole = refl; outcomes = d.outcomes });
+      turns = turns_more lane i j j' x.own x.heard ts t d.now d.is x.turns d.took;
+      answered = all_more (IsAnswered lane (x.heard ++ d.now.heard)) ts t (answered_later lane x.heard d.now.heard ts x.answered)
+          (record { before = x.heard; since = d.now.heard; whole = refl; outcomes = d.outcomes });
       verdicts = all_more VerdictFits ts t x.verdicts (verdict_fits t accepted size draft x.count h.1.long is);
       moments = all_more (λ (y : Transaction). May y.disposition.moment) ts t x.moments may;
     }
@@ -225,6 +262,7 @@ offered_none lane May senders inbox = record {
     made = tt;
     sound = λ none. refl;
   };
+  turns = record { episodes = []; each = tt; took = sym (append-nil (taken inbox)); own_is = refl; heard_is = refl };
   answered = tt;
   verdicts = tt;
   moments = tt;

@@ -8,13 +8,15 @@ use Rattle.mail_world.specs.declared.Txn.{Txn}
 use Rattle.mail_world.specs.declared.Note.{Note}
 use Rattle.mail_world.specs.declared.Slip.{Slip}
 use Rattle.mail_world.specs.House.{Gather}
-use Rattle.mail_world.specs.Events.{own_slip}
+use Rattle.mail_world.specs.Events.{own_slip, txn_of}
 use Rattle.mail_world.specs.Runs.{IsMerged}
+use Rattle.mail_world.specs.Slips.{times_named}
 use Rattle.mail_world.proofs.Accepted.{get_set}
+use Rattle.mail_world.proofs.Heard.{all_more}
 use Rattle.mail_world.proofs.OneLine.{other_byte}
 use Rattle.mail_post.specs.Line.{Lane, Inbox, taken}
 use Rattle.mail_post.specs.Gathering.{HasGathered}
-use Rattle.lmtp_house.specs.LaneExchange.{IsPart, IsAmong, for_box, own_slip_of, IsOwnSlip, AreOfLane, given, IsOffered, HasGrown, HasExchanged, IsUnderWay}
+use Rattle.lmtp_house.specs.LaneExchange.{IsPart, IsAmong, for_box, own_slip_of, IsOwnSlip, AreOfLane, given, IsOffered, HasGrown, HasExchanged, IsTimely, Episode, IsEpisode, IsUnderWay, TakesOne}
 
 -- one more at the end of a merged list
 merged_front : (front own heard : List Slip) (x : Slip) → IsMerged front own heard → IsMerged (front ++ x ∷ []) own (heard ++ x ∷ [])
@@ -30,6 +32,38 @@ merged_own front own (y ∷ heard) x m = elim m [
   | inl first ↦ inl (first.0, first.1, merged_own first.0 own heard x first.2)
   | inr mine ↦ inr (mine.0 ++ x ∷ [], ap (λ l. l ++ x ∷ []) mine.1, merged_own front mine.0 heard x mine.2)
 ]
+
+-- the same where a lane's own slip stands only where none before it names its place
+timely_front : (before came own heard : List Slip) (x : Slip) → IsTimely before came own heard → IsTimely before (came ++ x ∷ []) own (heard ++ x ∷ [])
+timely_front before came own [] x m = inl ([], ap (λ l. l ++ x ∷ []) m.0, (refl, m.1))
+timely_front before came own (y ∷ heard) x m = elim m [
+  | inl first ↦ inl (first.0 ++ x ∷ [], ap (λ l. l ++ x ∷ []) first.1, timely_front (before ++ y ∷ []) first.0 own heard x first.2)
+  | inr mine ↦ inr (mine.0, mine.1, mine.2, timely_front (before ++ y ∷ []) came mine.0 heard x mine.3)
+]
+
+timely_own : (before came own heard : List Slip) (x : Slip) → times_named x.txn x.place (before ++ heard) ≡ 0 → IsTimely before came own heard
+    → IsTimely before came (own ++ x ∷ []) (heard ++ x ∷ [])
+timely_own before came own [] x none m =
+    let P : List Slip → Type 0 = λ l. times_named x.txn x.place l ≡ 0 in
+    inr ([], ap (λ l. l ++ x ∷ []) m.1, subst P (append-nil before) none, (m.0, refl))
+timely_own before came own (y ∷ heard) x none m =
+    let P : List Slip → Type 0 = λ l. times_named x.txn x.place l ≡ 0 in
+    let rest : times_named x.txn x.place ((before ++ y ∷ []) ++ heard) ≡ 0 = subst P (sym (append_assoc before (y ∷ []) heard)) none in
+    elim m [
+      | inl first ↦ inl (first.0, first.1, timely_own (before ++ y ∷ []) first.0 own heard x rest first.2)
+      | inr mine ↦ inr (mine.0 ++ x ∷ [], ap (λ l. l ++ x ∷ []) mine.1, mine.2, timely_own (before ++ y ∷ []) came mine.0 heard x rest mine.3)
+    ]
+
+-- one slip more in an episode
+episode_own : (txn : Txn) (e : Episode) (x : Slip) → x.txn ≡ txn → times_named x.txn x.place e.heard ≡ 0 → IsEpisode txn e
+    → IsEpisode txn (record { came = e.came; own = e.own ++ x ∷ []; heard = e.heard ++ x ∷ [] })
+episode_own txn e x same none is = record {
+  timely = timely_own [] e.came e.own e.heard x none is.timely;
+  named = all_more (λ (slip : Slip). slip.txn ≡ txn) e.own x is.named same;
+}
+
+episode_came : (txn : Txn) (e : Episode) (x : Slip) → IsEpisode txn e → IsEpisode txn (record { came = e.came ++ x ∷ []; own = e.own; heard = e.heard ++ x ∷ [] })
+episode_came txn e x is = record { timely = timely_front [] e.came e.own e.heard x is.timely; named = is.named }
 
 -- one element more of the whole, and of both
 part_more : (xs all : List Note) (note : Note) → IsPart xs all → IsPart xs (all ++ note ∷ [])
@@ -168,6 +202,20 @@ module _ (lane : ℕ) (notes : List Note) (before now : List (Lane Note)) (old_i
     sound = λ none. cc;
   }
 
+  -- a copy more that no channel accepted, whose place had a slip
+  pub unanswered_more : (note : Note) → HasExchanged lane (notes ++ note ∷ []) before now old_inbox inbox own heard true
+  unanswered_more note = record {
+    as_many = x.as_many;
+    offered = λ box first after was is. grown_refused box notes note gone first after (x.offered box first after was is);
+    line = x.line;
+    lanes = x.lanes;
+    came = x.came;
+    took = x.took;
+    merged = x.merged;
+    made = own_more lane notes note own x.made;
+    sound = λ none. cc;
+  }
+
   -- a slip that the lane made for a copy that a channel accepted
   pub failed_more : (note : Note) → IsAmong note notes → HasExchanged lane notes before now old_inbox inbox (own ++ own_slip_of lane note ∷ []) (heard ++ own_slip_of lane note ∷ []) true
   failed_more note among = record {
@@ -234,59 +282,83 @@ pub refused_same : (old new : List (Lane Note)) (box : ℕ) (note : Note) → Is
 refused_same old new box note o = o.after ∙ set_same old box o.sender o.is
 
 -- the same steps within a message
-module _ (lane : ℕ) (notes : List Note) (txn : Txn) (n : ℕ) (heard : List Slip) (before now : List (Lane Note)) (old_inbox inbox : Inbox Slip) (gather : Gather) (gone : Bool)
-    (x : IsUnderWay lane notes txn n heard before now old_inbox inbox gather gone) where
+module _ (lane : ℕ) (notes : List Note) (txn : Txn) (n : ℕ) (past : Episode) (before now : List (Lane Note)) (old_inbox inbox : Inbox Slip) (gather : Gather) (gone : Bool)
+    (x : IsUnderWay lane notes txn n past before now old_inbox inbox gather gone) where
   pub way_offered : (note : Note) (next : List (Lane Note)) → IsOffered now next note.mailbox note true
-      → IsUnderWay lane (notes ++ note ∷ []) txn n heard before next old_inbox inbox gather gone
+      → IsUnderWay lane (notes ++ note ∷ []) txn n past before next old_inbox inbox gather gone
   way_offered note next o = record {
-    own = x.own;
-    since = x.since;
-    exchanged = offered_more lane notes before now old_inbox inbox x.own (heard ++ x.since) gone x.exchanged note next o;
+    now = x.now;
+    is = x.is;
+    exchanged = offered_more lane notes before now old_inbox inbox (past.own ++ x.now.own) (past.heard ++ x.now.heard) gone x.exchanged note next o;
+    took = x.took;
     gathered = x.gathered;
   }
 
-  pub way_refused : (note : Note) (next : Gather) → HasGathered txn n (x.since ++ own_slip_of lane note ∷ []) next
-      → IsUnderWay lane (notes ++ note ∷ []) txn n heard before now old_inbox inbox next true
-  way_refused note next g =
+  -- the lane's own slip more
+  with_own : (more : List Note) (slip : Slip) → HasExchanged lane more before now old_inbox inbox ((past.own ++ x.now.own) ++ slip ∷ []) ((past.heard ++ x.now.heard) ++ slip ∷ []) true
+      → HasExchanged lane more before now old_inbox inbox (past.own ++ (x.now.own ++ slip ∷ [])) (past.heard ++ (x.now.heard ++ slip ∷ [])) true
+  with_own more slip h =
+      let P : List Slip → Type 0 = λ l. HasExchanged lane more before now old_inbox inbox l ((past.heard ++ x.now.heard) ++ slip ∷ []) true in
+      let Q : List Slip → Type 0 = λ l. HasExchanged lane more before now old_inbox inbox (past.own ++ (x.now.own ++ slip ∷ [])) l true in
+      subst Q (append_assoc past.heard x.now.heard (slip ∷ [])) (subst P (append_assoc past.own x.now.own (slip ∷ [])) h)
+
+  pub way_refused : (note : Note) (next : Gather) → (own_slip_of lane note).txn ≡ txn
+      → (times_named (own_slip_of lane note).txn (own_slip_of lane note).place x.now.heard ≡ 0) × HasGathered txn n (x.now.heard ++ own_slip_of lane note ∷ []) next
+      → IsUnderWay lane (notes ++ note ∷ []) txn n past before now old_inbox inbox next true
+  way_refused note next same g =
       let slip : Slip = own_slip_of lane note in
-      let P : List Slip → Type 0 = λ l. HasExchanged lane (notes ++ note ∷ []) before now old_inbox inbox (x.own ++ slip ∷ []) l true in
       record {
-        own = x.own ++ slip ∷ [];
-        since = x.since ++ slip ∷ [];
-        exchanged = subst P (append_assoc heard x.since (slip ∷ [])) (refused_more lane notes before now old_inbox inbox x.own (heard ++ x.since) gone x.exchanged note);
-        gathered = g;
+        now = record { came = x.now.came; own = x.now.own ++ slip ∷ []; heard = x.now.heard ++ slip ∷ [] };
+        is = episode_own txn x.now slip same g.0 x.is;
+        exchanged = with_own (notes ++ note ∷ []) slip (refused_more lane notes before now old_inbox inbox (past.own ++ x.now.own) (past.heard ++ x.now.heard) gone x.exchanged note);
+        took = x.took;
+        gathered = g.1;
       }
 
-  pub way_failed : (note : Note) (next : Gather) → IsAmong note notes → HasGathered txn n (x.since ++ own_slip_of lane note ∷ []) next
-      → IsUnderWay lane notes txn n heard before now old_inbox inbox next true
-  way_failed note next among g =
+  pub way_kept : (note : Note) → IsUnderWay lane (notes ++ note ∷ []) txn n past before now old_inbox inbox gather true
+  way_kept note = record {
+    now = x.now;
+    is = x.is;
+    exchanged = unanswered_more lane notes before now old_inbox inbox (past.own ++ x.now.own) (past.heard ++ x.now.heard) gone x.exchanged note;
+    took = x.took;
+    gathered = x.gathered;
+  }
+
+  pub way_failed : (note : Note) (next : Gather) → IsAmong note notes → (own_slip_of lane note).txn ≡ txn
+      → (times_named (own_slip_of lane note).txn (own_slip_of lane note).place x.now.heard ≡ 0) × HasGathered txn n (x.now.heard ++ own_slip_of lane note ∷ []) next
+      → IsUnderWay lane notes txn n past before now old_inbox inbox next true
+  way_failed note next among same g =
       let slip : Slip = own_slip_of lane note in
-      let P : List Slip → Type 0 = λ l. HasExchanged lane notes before now old_inbox inbox (x.own ++ slip ∷ []) l true in
       record {
-        own = x.own ++ slip ∷ [];
-        since = x.since ++ slip ∷ [];
-        exchanged = subst P (append_assoc heard x.since (slip ∷ [])) (failed_more lane notes before now old_inbox inbox x.own (heard ++ x.since) gone x.exchanged note among);
-        gathered = g;
+        now = record { came = x.now.came; own = x.now.own ++ slip ∷ []; heard = x.now.heard ++ slip ∷ [] };
+        is = episode_own txn x.now slip same g.0 x.is;
+        exchanged = with_own notes slip (failed_more lane notes before now old_inbox inbox (past.own ++ x.now.own) (past.heard ++ x.now.heard) gone x.exchanged note among);
+        took = x.took;
+        gathered = g.1;
       }
 
   pub way_heard : (slip : Slip) (after : Inbox Slip) (next : Gather) → after.line ≡ inbox.line → after.lanes ≡ inbox.lanes → taken after ≡ taken inbox ++ slip ∷ []
-      → HasGathered txn n (x.since ++ slip ∷ []) next
-      → IsUnderWay lane notes txn n heard before now old_inbox after next gone
+      → HasGathered txn n (x.now.heard ++ slip ∷ []) next
+      → IsUnderWay lane notes txn n past before now old_inbox after next gone
   way_heard slip after next line lanes took g =
-      let P : List Slip → Type 0 = λ l. HasExchanged lane notes before now old_inbox after x.own l gone in
+      let P : List Slip → Type 0 = λ l. HasExchanged lane notes before now old_inbox after (past.own ++ x.now.own) l gone in
       record {
-        own = x.own;
-        since = x.since ++ slip ∷ [];
-        exchanged = subst P (append_assoc heard x.since (slip ∷ [])) (heard_more lane notes before now old_inbox inbox x.own (heard ++ x.since) gone x.exchanged slip after line lanes took);
+        now = record { came = x.now.came ++ slip ∷ []; own = x.now.own; heard = x.now.heard ++ slip ∷ [] };
+        is = episode_came txn x.now slip x.is;
+        exchanged = subst P (append_assoc past.heard x.now.heard (slip ∷ []))
+            (heard_more lane notes before now old_inbox inbox (past.own ++ x.now.own) (past.heard ++ x.now.heard) gone x.exchanged slip after line lanes took);
+        took = took ∙ ap (λ l. l ++ slip ∷ []) x.took ∙ append_assoc (taken old_inbox) (past.came ++ x.now.came) (slip ∷ [])
+            ∙ ap (λ l. taken old_inbox ++ l) (append_assoc past.came x.now.came (slip ∷ []));
         gathered = g;
       }
 
   pub way_gone : (after : Inbox Slip) → after.line ≡ inbox.line → after.lanes ≡ inbox.lanes → taken after ≡ taken inbox
-      → IsUnderWay lane notes txn n heard before now old_inbox after gather true
+      → IsUnderWay lane notes txn n past before now old_inbox after gather true
   way_gone after line lanes took = record {
-    own = x.own;
-    since = x.since;
-    exchanged = found_gone lane notes before now old_inbox inbox x.own (heard ++ x.since) gone x.exchanged after line lanes took;
+    now = x.now;
+    is = x.is;
+    exchanged = found_gone lane notes before now old_inbox inbox (past.own ++ x.now.own) (past.heard ++ x.now.heard) gone x.exchanged after line lanes took;
+    took = took ∙ x.took;
     gathered = x.gathered;
   }
 
@@ -303,22 +375,29 @@ own_is note lane number place mailbox h =
 abbrev pub HearsSlip : Slip → Gather → Gather → Type 0
 HearsSlip slip old new = (txn : Txn) (n : ℕ) (heard : List Slip) → HasGathered txn n heard old → HasGathered txn n (heard ++ slip ∷ []) new
 
-pub refused_way : (lane number place mailbox : ℕ) (note : Note) (now next : List (Lane Note)) (inbox inbox' : Inbox Slip) (gather gather' : Gather) (gone gone' : Bool)
-    → IsCopyOf note lane number place mailbox → next ≡ now → inbox' ≡ inbox → gone' ≡ true → HearsSlip (own_slip lane number place mailbox) gather gather'
-    → (notes : List Note) (n : ℕ) (heard : List Slip) (before : List (Lane Note)) (old_inbox : Inbox Slip)
-    → IsUnderWay lane notes note.txn n heard before now old_inbox inbox gather gone → IsUnderWay lane (notes ++ note ∷ []) note.txn n heard before next old_inbox inbox' gather' gone'
-refused_way lane number place mailbox note now next inbox inbox' gather gather' gone gone' is same same_inbox went hears notes n heard before old_inbox x =
-    let P : Slip → Type 0 = λ s. HasGathered note.txn n (x.since ++ s ∷ []) gather' in
-    let g : P (own_slip_of lane note) = subst P (own_is note lane number place mailbox is) (hears note.txn n x.since x.gathered) in
-    let Q : List (Lane Note) → Type 0 = λ l. IsUnderWay lane (notes ++ note ∷ []) note.txn n heard before l old_inbox inbox gather' true in
-    let R : Inbox Slip → Type 0 = λ i. IsUnderWay lane (notes ++ note ∷ []) note.txn n heard before next old_inbox i gather' true in
-    let S : Bool → Type 0 = λ b. IsUnderWay lane (notes ++ note ∷ []) note.txn n heard before next old_inbox inbox' gather' b in
-    subst S (sym went) (subst R (sym same_inbox) (subst Q (sym same) (way_refused lane notes note.txn n heard before now old_inbox inbox gather gone x note gather' g)))
+pub refused_way : (lane number place mailbox : ℕ) (note : Note) (now next : List (Lane Note)) (inbox inbox' : Inbox Slip) (gather gather' : Gather) (gone gone' taken_so : Bool)
+    → IsCopyOf note lane number place mailbox → next ≡ now → inbox' ≡ inbox → gone' ≡ true → TakesOne (own_slip lane number place mailbox) gather gather' taken_so
+    → (notes : List Note) (n : ℕ) (past : Episode) (before : List (Lane Note)) (old_inbox : Inbox Slip)
+    → IsUnderWay lane notes note.txn n past before now old_inbox inbox gather gone → IsUnderWay lane (notes ++ note ∷ []) note.txn n past before next old_inbox inbox' gather' gone'
+refused_way lane number place mailbox note now next inbox inbox' gather gather' gone gone' true is same same_inbox went takes notes n past before old_inbox x =
+    let T : Slip → Type 0 = λ s. (times_named s.txn s.place x.now.heard ≡ 0) × HasGathered note.txn n (x.now.heard ++ s ∷ []) gather' in
+    let g : T (own_slip_of lane note) = subst T (own_is note lane number place mailbox is) (takes note.txn n x.now.heard x.gathered) in
+    let named : (own_slip_of lane note).txn ≡ note.txn = ap (λ k. txn_of lane k) (ap (λ (t : Txn). t.number) is.0) ∙ sym is.0 in
+    let Q : List (Lane Note) → Type 0 = λ l. IsUnderWay lane (notes ++ note ∷ []) note.txn n past before l old_inbox inbox gather' true in
+    let R : Inbox Slip → Type 0 = λ i. IsUnderWay lane (notes ++ note ∷ []) note.txn n past before next old_inbox i gather' true in
+    let S : Bool → Type 0 = λ b. IsUnderWay lane (notes ++ note ∷ []) note.txn n past before next old_inbox inbox' gather' b in
+    subst S (sym went) (subst R (sym same_inbox) (subst Q (sym same) (way_refused lane notes note.txn n past before now old_inbox inbox gather gone x note gather' named g)))
+refused_way lane number place mailbox note now next inbox inbox' gather gather' gone gone' false is same same_inbox went kept notes n past before old_inbox x =
+    let G : Gather → Type 0 = λ g. IsUnderWay lane (notes ++ note ∷ []) note.txn n past before now old_inbox inbox g true in
+    let Q : List (Lane Note) → Type 0 = λ l. IsUnderWay lane (notes ++ note ∷ []) note.txn n past before l old_inbox inbox gather' true in
+    let R : Inbox Slip → Type 0 = λ i. IsUnderWay lane (notes ++ note ∷ []) note.txn n past before next old_inbox i gather' true in
+    let S : Bool → Type 0 = λ b. IsUnderWay lane (notes ++ note ∷ []) note.txn n past before next old_inbox inbox' gather' b in
+    subst S (sym went) (subst R (sym same_inbox) (subst Q (sym same) (subst G (sym kept) (way_kept lane notes note.txn n past before now old_inbox inbox gather gone x note))))
 
 pub offered_way : (lane mailbox : ℕ) (note : Note) (now next : List (Lane Note)) (inbox : Inbox Slip) (gather : Gather) (gone : Bool)
     → note.mailbox ≡ mailbox → IsOffered now next mailbox note true
-    → (notes : List Note) (n : ℕ) (heard : List Slip) (before : List (Lane Note)) (old_inbox : Inbox Slip)
-    → IsUnderWay lane notes note.txn n heard before now old_inbox inbox gather gone → IsUnderWay lane (notes ++ note ∷ []) note.txn n heard before next old_inbox inbox gather gone
-offered_way lane mailbox note now next inbox gather gone is o notes n heard before old_inbox x =
+    → (notes : List Note) (n : ℕ) (past : Episode) (before : List (Lane Note)) (old_inbox : Inbox Slip)
+    → IsUnderWay lane notes note.txn n past before now old_inbox inbox gather gone → IsUnderWay lane (notes ++ note ∷ []) note.txn n past before next old_inbox inbox gather gone
+offered_way lane mailbox note now next inbox gather gone is o notes n past before old_inbox x =
     let P : ℕ → Type 0 = λ b. IsOffered now next b note true in
-    way_offered lane notes note.txn n heard before now old_inbox inbox gather gone x note next (subst P (sym is) o)
+    way_offered lane notes note.txn n past before now old_inbox inbox gather gone x note next (subst P (sym is) o)

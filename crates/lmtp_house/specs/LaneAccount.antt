@@ -1,5 +1,5 @@
 -- What the delivery of a lane has come to.
-use Rattle.std.specs.Prelude.{◌≡◌, ◌^◌, ◌-◌, min, ℕ, Bool, nat_lt, if◌then◌else◌, List, ◌++◌, length, map, flat_map, Option, Some, None}
+use Rattle.std.specs.Prelude.{◌≡◌, ⊤, ◌^◌, ◌-◌, min, ℕ, Bool, nat_lt, if◌then◌else◌, List, [], ◌∷◌, ◌++◌, length, map, flat_map, Option, Some, None}
 use Rattle.std.specs.Option.{IfSome}
 use Rattle.std.specs.List.{AllByRecursion}
 use Rattle.mail_world.specs.declared.Note.{Note}
@@ -12,9 +12,9 @@ use Rattle.mail_world.specs.Session.{Session}
 use Rattle.mail_world.specs.Slips.{answers}
 use Rattle.mail_world.specs.Events.{txn_of}
 use Rattle.mail_world.specs.Lists.{Transaction, VerdictFits, OutcomesIn, copies, copies_from}
-use Rattle.mail_post.specs.Line.{Lane, Inbox}
+use Rattle.mail_post.specs.Line.{Lane, Inbox, taken}
 use Rattle.msg_depot.specs.declared.view.Claim.{Claim}
-use Rattle.lmtp_house.specs.LaneExchange.{HasExchanged, sent_as}
+use Rattle.lmtp_house.specs.LaneExchange.{HasExchanged, Episode, IsEpisode, sent_as}
 
 -- a count that stays at its largest value
 abbrev pub counted : ℕ → ℕ
@@ -26,6 +26,21 @@ pub record IsAnswered (lane : ℕ) (heard : List Slip) (t : Transaction) : Type 
   pub since : List Slip
   pub whole : heard ≡ before ++ since
   pub outcomes : OutcomesIn lane since t t.disposition.verdict
+
+-- an episode for each transaction, one after the other
+abbrev pub AreEpisodes : ℕ → List Transaction → List Episode → Type 0
+AreEpisodes lane [] [] = ⊤
+AreEpisodes lane [] (e ∷ es) = ⊥
+AreEpisodes lane (t ∷ ts) [] = ⊥
+AreEpisodes lane (t ∷ ts) (e ∷ es) = IsEpisode (txn_of lane t.number) e × AreEpisodes lane ts es
+
+-- All was heard transaction by transaction. So a lane's own slips of a transaction name each place once, and none that its channel had given a slip for.
+pub record IsHeardInTurn (lane : ℕ) (old_inbox new_inbox : Inbox Slip) (own heard : List Slip) (ts : List Transaction) : Type 0 where
+  pub episodes : List Episode
+  pub each : AreEpisodes lane ts episodes
+  pub took : taken new_inbox ≡ taken old_inbox ++ flat_map (λ e. e.came) episodes
+  pub own_is : own ≡ flat_map (λ e. e.own) episodes
+  pub heard_is : heard ≡ flat_map (λ e. e.heard) episodes
 
 -- the moments that a clock may answer are such
 abbrev pub AgreesWith : (ℕ → Type 0) → (ℕ → Type 0) → Type 0
@@ -39,6 +54,7 @@ pub record HasOffered (lane : ℕ) (May : ℕ → Type 0) (old_senders new_sende
   pub own : List Slip
   pub heard : List Slip
   pub exchanged : HasExchanged lane (flat_map (copies lane) ts) old_senders new_senders old_inbox new_inbox own heard gone
+  pub turns : IsHeardInTurn lane old_inbox new_inbox own heard ts
   pub answered : AllByRecursion (IsAnswered lane heard) ts
   pub verdicts : AllByRecursion VerdictFits ts
   pub moments : AllByRecursion (λ t. May t.disposition.moment) ts
@@ -58,14 +74,16 @@ abbrev pub verdict_on : ℕ → ℕ → Option Claim → Verdict
 verdict_on accepted size draft = if nat_lt NUMBER_LIMIT accepted then NoRoom else if nat_lt MESSAGE_LIMIT size then TooLarge else verdict_with draft
 
 -- A whole message went to its recipients: its copies more are owed, and its outcomes are those of slips that were heard since.
-pub record IsDelivered (lane number : ℕ) (session : Session) (moment : ℕ) (message : List ℕ) (told : List Outcome) (notes : List Note) (heard : List Slip)
+pub record IsDelivered (lane number : ℕ) (session : Session) (moment : ℕ) (message : List ℕ) (told : List Outcome) (notes : List Note) (past : Episode)
     (old_senders new_senders : List (Lane Note)) (old_inbox new_inbox : Inbox Slip) (gone : Bool) : Type 0 where
-  pub own : List Slip
-  pub since : List Slip
-  pub exchanged : HasExchanged lane (notes ++ copies_from lane (sent_as number session moment message) 0 session.recipients) old_senders new_senders old_inbox new_inbox own (heard ++ since) gone
-  pub outcomes : map (λ o. Some o) told ≡ answers (txn_of lane number) (length session.recipients) since
+  pub now : Episode
+  pub is : IsEpisode (txn_of lane number) now
+  pub exchanged : HasExchanged lane (notes ++ copies_from lane (sent_as number session moment message) 0 session.recipients) old_senders new_senders old_inbox new_inbox
+      (past.own ++ now.own) (past.heard ++ now.heard) gone
+  pub took : taken new_inbox ≡ taken old_inbox ++ (past.came ++ now.came)
+  pub outcomes : map (λ o. Some o) told ≡ answers (txn_of lane number) (length session.recipients) now.heard
 
 abbrev pub Delivers : ℕ → ℕ → Session → ℕ → List ℕ → List Outcome → List (Lane Note) → List (Lane Note) → Inbox Slip → Inbox Slip → Bool → Bool → Type 0
-Delivers lane number session moment message told now next inbox inbox' gone gone' = (notes : List Note) (own heard : List Slip) (before : List (Lane Note)) (old_inbox : Inbox Slip)
-    → HasExchanged lane notes before now old_inbox inbox own heard gone
-    → IsDelivered lane number session moment message told notes heard before next old_inbox inbox' gone'
+Delivers lane number session moment message told now next inbox inbox' gone gone' = (notes : List Note) (past : Episode) (before : List (Lane Note)) (old_inbox : Inbox Slip)
+    → HasExchanged lane notes before now old_inbox inbox past.own past.heard gone → taken inbox ≡ taken old_inbox ++ past.came
+    → IsDelivered lane number session moment message told notes past before next old_inbox inbox' gone'

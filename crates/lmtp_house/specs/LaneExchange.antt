@@ -10,6 +10,7 @@ use Rattle.mail_world.specs.Session.{Session}
 use Rattle.mail_world.specs.Lists.{Transaction, copies_from}
 use Rattle.mail_world.specs.Events.{own_slip, txn_of}
 use Rattle.mail_world.specs.Runs.{IsMerged}
+use Rattle.mail_world.specs.Slips.{times_named}
 use Rattle.mail_post.specs.Line.{Lane, Inbox, taken}
 use Rattle.mail_post.specs.Gathering.{HasGathered}
 
@@ -102,21 +103,46 @@ pub record HasExchanged (lane : ℕ) (notes : List Note) (old_senders new_sender
   pub made : AllByRecursion (IsOwnSlip lane notes) own
   pub sound : gone ≡ false → own ≡ []
 
--- the same within a message of n recipients, before which these slips were heard: its gatherer has the answers of those heard since
-pub record IsUnderWay (lane : ℕ) (notes : List Note) (txn : Txn) (n : ℕ) (before : List Slip) (old_senders new_senders : List (Lane Note))
-    (old_inbox new_inbox : Inbox Slip) (gather : Gather) (gone : Bool) : Type 0 where
+-- What was heard is merged of what came and of a lane's own slips, and one of its own stands only where none of these before it names its place.
+abbrev pub IsTimely : List Slip → List Slip → List Slip → List Slip → Type 0
+IsTimely before came own [] = (came ≡ []) × (own ≡ [])
+IsTimely before came own (slip ∷ heard) =
+    ((rest : List Slip) × (came ≡ slip ∷ rest) × IsTimely (before ++ slip ∷ []) rest own heard)
+    ⊎ ((rest : List Slip) × (own ≡ slip ∷ rest) × (times_named slip.txn slip.place before ≡ 0) × IsTimely (before ++ slip ∷ []) came rest heard)
+
+-- what a lane heard in a stretch of time, and of it what its channel gave and its own slips
+pub record Episode : Type 0 where
+  pub came : List Slip
   pub own : List Slip
-  pub since : List Slip
-  pub exchanged : HasExchanged lane notes old_senders new_senders old_inbox new_inbox own (before ++ since) gone
-  pub gathered : HasGathered txn n since gather
+  pub heard : List Slip
+
+-- an episode of that transaction: the lane's own slips are of it, each for a place that had no slip
+pub record IsEpisode (txn : Txn) (e : Episode) : Type 0 where
+  pub timely : IsTimely [] e.came e.own e.heard
+  pub named : AllByRecursion (λ slip. slip.txn ≡ txn) e.own
+
+-- the same within a message of n recipients, before which this was heard: its gatherer has the answers of the slips heard since
+pub record IsUnderWay (lane : ℕ) (notes : List Note) (txn : Txn) (n : ℕ) (past : Episode) (old_senders new_senders : List (Lane Note))
+    (old_inbox new_inbox : Inbox Slip) (gather : Gather) (gone : Bool) : Type 0 where
+  pub now : Episode
+  pub is : IsEpisode txn now
+  pub exchanged : HasExchanged lane notes old_senders new_senders old_inbox new_inbox (past.own ++ now.own) (past.heard ++ now.heard) gone
+  pub took : taken new_inbox ≡ taken old_inbox ++ (past.came ++ now.came)
+  pub gathered : HasGathered txn n now.heard gather
+
+-- a gatherer that was given a slip for a place that had none, or for one that keeps what it has
+abbrev pub TakesOne : Slip → Gather → Gather → Bool → Type 0
+TakesOne slip old new true = (txn : Txn) (n : ℕ) (heard : List Slip) → HasGathered txn n heard old
+    → (times_named slip.txn slip.place heard ≡ 0) × HasGathered txn n (heard ++ slip ∷ []) new
+TakesOne slip old new false = new ≡ old
 
 -- what was under way is so with these copies more
 abbrev pub Continues : ℕ → Txn → List Note → List (Lane Note) → List (Lane Note) → Inbox Slip → Inbox Slip → Gather → Gather → Bool → Bool → Type 0
-Continues lane txn more now next inbox inbox' gather gather' gone gone' = (notes : List Note) (n : ℕ) (heard : List Slip) (before : List (Lane Note)) (old_inbox : Inbox Slip)
-    → IsUnderWay lane notes txn n heard before now old_inbox inbox gather gone → IsUnderWay lane (notes ++ more) txn n heard before next old_inbox inbox' gather' gone'
+Continues lane txn more now next inbox inbox' gather gather' gone gone' = (notes : List Note) (n : ℕ) (past : Episode) (before : List (Lane Note)) (old_inbox : Inbox Slip)
+    → IsUnderWay lane notes txn n past before now old_inbox inbox gather gone → IsUnderWay lane (notes ++ more) txn n past before next old_inbox inbox' gather' gone'
 
 -- what was under way with the copies of a transaction is so, whatever was heard since
 abbrev pub Awaits : ℕ → ℕ → Session → List (Lane Note) → List (Lane Note) → Inbox Slip → Inbox Slip → Gather → Gather → Bool → Bool → Type 0
-Awaits lane number session now next inbox inbox' gather gather' gone gone' = (moment : ℕ) (message : List ℕ) (notes : List Note) (n : ℕ) (heard : List Slip) (before : List (Lane Note)) (old_inbox : Inbox Slip)
-    → IsUnderWay lane (notes ++ copies_from lane (sent_as number session moment message) 0 session.recipients) (txn_of lane number) n heard before now old_inbox inbox gather gone
-    → IsUnderWay lane (notes ++ copies_from lane (sent_as number session moment message) 0 session.recipients) (txn_of lane number) n heard before next old_inbox inbox' gather' gone'
+Awaits lane number session now next inbox inbox' gather gather' gone gone' = (moment : ℕ) (message : List ℕ) (notes : List Note) (n : ℕ) (past : Episode) (before : List (Lane Note)) (old_inbox : Inbox Slip)
+    → IsUnderWay lane (notes ++ copies_from lane (sent_as number session moment message) 0 session.recipients) (txn_of lane number) n past before now old_inbox inbox gather gone
+    → IsUnderWay lane (notes ++ copies_from lane (sent_as number session moment message) 0 session.recipients) (txn_of lane number) n past before next old_inbox inbox' gather' gone'

@@ -8,7 +8,7 @@ use Rattle.mail_world.specs.Lists.{transactions, VerdictsFit, copies}
 use Rattle.mail_post.specs.Line.{Lane, Inbox}
 use Rattle.lmtp_house.specs.Peer.{PeerState}
 use Rattle.lmtp_house.specs.LaneExchange.{HasExchanged}
-use Rattle.lmtp_house.specs.LaneAccount.{counted, IsAnswered}
+use Rattle.lmtp_house.specs.LaneAccount.{counted, IsAnswered, IsHeardInTurn}
 use Rattle.lmtp_house.specs.Visits.{Finished, Visit, HasVisited, conversations_of}
 
 -- A lane served these clients: each conversation's replies are those to its inputs, the senders gave the mailboxes what the conversations
@@ -23,6 +23,7 @@ pub record HasServed (site : Site) (lane : ℕ) (May : ℕ → Type 0) (MayCome 
   pub own : List Slip
   pub heard : List Slip
   pub exchanged : HasExchanged lane (flat_map (copies lane) (transactions site 0 (conversations_of visits))) old_senders new_senders old_inbox new_inbox own heard gone
+  pub turns : IsHeardInTurn lane old_inbox new_inbox own heard (transactions site 0 (conversations_of visits))
   pub answered : AllByRecursion (IsAnswered lane heard) (transactions site 0 (conversations_of visits))
   pub verdicts : VerdictsFit site (conversations_of visits)
   pub moments : AllByRecursion (λ t. May t.disposition.moment) (transactions site 0 (conversations_of visits))

@@ -1,6 +1,8 @@
 //! Conversations with a peer that keeps to a script.
 
 mod fakes;
+mod guests;
+mod lane;
 
 use crate::{Dialogue, EndCause, serve};
 use fakes::Then::{Ends, Fails, Says, Stops};

@@ -8,8 +8,8 @@ ghost use Rattle.mail_world.specs.declared.Txn.{Txn as TxnValue};
 ghost use Rattle.mail_world.specs.Events.{own_slip, txn_of};
 ghost use Rattle.mail_world.specs.Lists.{copies_from};
 ghost use Rattle.mail_post.specs.Gathering.{IsDone, HasGathered};
-ghost use Rattle.mail_post.specs.Line.{Lane, Inbox};
-ghost use Rattle.lmtp_house.specs.LaneExchange.{AreOfLane, IsOffered, HasExchanged, IsUnderWay, Continues, Awaits, sent_as, copy_at, is_ok};
+ghost use Rattle.mail_post.specs.Line.{Lane, Inbox, taken};
+ghost use Rattle.lmtp_house.specs.LaneExchange.{AreOfLane, IsOffered, HasExchanged, Episode, IsUnderWay, Continues, Awaits, TakesOne, sent_as, copy_at, is_ok};
 
 use lmtp_session::Session;
 use mail_post::{Gather, Post, Sender, SlipReceiver};
@@ -112,9 +112,7 @@ impl<N: DepotName> Exchange<N> {
         ensures same { (self.new.lane ≡ self.old.lane) × (self.new.senders.items ≡ self.old.senders.items) × (self.new.slips ≡ self.old.slips) }
         ensures places { length self.new.gather.gather.places ≡ length self.old.gather.gather.places }
         ensures gone { self.new.gone ≡ true }
-        ensures heard { (txn : TxnValue) (n : ℕ) (heard : List SlipValue) → HasGathered txn n heard self.old.gather.gather
-            → HasGathered txn n (heard ++ own_slip self.old.lane number place mailbox ∷ []) self.new.gather.gather }
-        ensures kept { result ≡ false → self.new.gather ≡ self.old.gather }
+        ensures takes { TakesOne (own_slip self.old.lane number place mailbox) self.old.gather.gather self.new.gather.gather result }
     {
         self.gone = true;
         let slip = Slip {
@@ -126,7 +124,10 @@ impl<N: DepotName> Exchange<N> {
             worker: mailbox,
             outcome: Outcome::Failed,
         };
-        self.gather.put(slip).is_ok()
+        match self.gather.put(slip) {
+            Ok(()) => true,
+            Err(_) => false,
+        }
     }
 
     // Offers the recipient at that place its copy.
@@ -259,10 +260,10 @@ impl<N: DepotName> Exchange<N> {
         ensures same { self.new.lane ≡ self.old.lane }
         ensures places { length self.new.gather.gather.places ≡ length session.now.session.recipients }
         ensures size { length self.new.senders.items ≡ length self.old.senders.items }
-        ensures way { (notes : List Note) (own heard : List SlipValue) (before : List (Lane Note)) (inbox : Inbox SlipValue)
-            → HasExchanged self.old.lane notes before self.old.senders.items inbox self.old.slips own heard self.old.gone
-            → IsUnderWay self.old.lane (notes ++ copies_from self.old.lane (sent_as number session.now.session moment hold.bytes) 0 session.now.session.recipients)
-            (txn_of self.old.lane number) (length session.now.session.recipients) heard before self.new.senders.items inbox self.new.slips self.new.gather.gather self.new.gone }
+        ensures way { (notes : List Note) (past : Episode) (before : List (Lane Note)) (inbox : Inbox SlipValue)
+            → HasExchanged self.old.lane notes before self.old.senders.items inbox self.old.slips past.own past.heard self.old.gone
+            → taken self.old.slips ≡ taken inbox ++ past.came → IsUnderWay self.old.lane (notes ++ copies_from self.old.lane (sent_as number session.now.session moment hold.bytes) 0 session.now.session.recipients)
+            (txn_of self.old.lane number) (length session.now.session.recipients) past before self.new.senders.items inbox self.new.slips self.new.gather.gather self.new.gone }
         ensures done { IsDone self.new.gather.gather }
     {
         let txn = Txn {

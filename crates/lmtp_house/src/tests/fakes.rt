@@ -1,6 +1,6 @@
 //! A peer that keeps to a script, and a delivery that keeps all bytes.
 
-ghost use Rattle.std.specs.Prelude.{◌≡◌, [], None, ⊤};
+ghost use Rattle.std.specs.Prelude.{◌≡◌, ◌≤◌, [], None, ⊤, length};
 ghost use Rattle.std.specs.Arc.{arc_value};
 ghost use Rattle.mail_world.specs.Failures.{Rises};
 
@@ -18,6 +18,8 @@ pub type Turn<'a> = (&'a [u8], Then<'a>);
 #[derive(Clone, Copy)]
 pub enum Then<'a> {
     Says(&'a [u8]),
+    /// Says the same in so many reads.
+    Repeats(&'a [u8], usize),
     Ends,
     Stops,
     Fails,
@@ -28,6 +30,8 @@ pub enum Then<'a> {
 pub struct Script<'a> {
     turns: &'a [Turn<'a>],
     at: usize,
+    /// How often it said what it repeats.
+    said: usize,
     heard: Vec<u8>,
     misheard: bool,
     /// How many bytes it still takes before a write fails.
@@ -41,6 +45,7 @@ impl<'a> Script<'a> {
         Script {
             turns,
             at: 0,
+            said: 0,
             heard: Vec::new(alloc),
             misheard: false,
             room,
@@ -60,6 +65,18 @@ impl<'a> Script<'a> {
             && self.heard.as_slice() == last
     }
 
+    // The turn comes again until it was had so often.
+    fn repeat(&mut self, times: usize)
+        ensures same { (self.new.failures ≡ self.old.failures) × (self.new.stops ≡ self.old.stops) }
+    {
+        self.said = self.said.saturating_add(1);
+        if self.said < times {
+            self.at = self.at.saturating_sub(1);
+        } else {
+            self.said = 0;
+        }
+    }
+
     fn stop(&mut self) -> Came
         ensures came { result ≡ Came.Stop }
         ensures same { self.new.failures ≡ self.old.failures }
@@ -76,6 +93,15 @@ impl<'a> Script<'a> {
         self.failures = self.failures.saturating_add(1);
         PeerFault
     }
+}
+
+// Puts bytes to the front of the buffer, as many as go, and says how many.
+fn say(bytes: &[u8], buffer: &mut [u8]) -> usize
+    ensures { result ≤ length buffer.new }
+{
+    let n = bytes.len().min(buffer.len());
+    buffer[..n].copy_from_slice(&bytes[..n]);
+    n
 }
 
 fn is_same(heard: &[u8], awaited: &[u8]) -> bool {
@@ -97,11 +123,18 @@ impl Peer for Script<'_> {
         self.at = self.at.saturating_add(1);
         match then {
             Then::Says(bytes) => {
-                let n = bytes.len().min(buffer.len());
+                let n = say(bytes, buffer);
                 if n == 0 {
                     return Ok(Came::End);
                 }
-                buffer[..n].copy_from_slice(&bytes[..n]);
+                Ok(Came::Bytes(n))
+            }
+            Then::Repeats(bytes, times) => {
+                self.repeat(times);
+                let n = say(bytes, buffer);
+                if n == 0 {
+                    return Ok(Came::End);
+                }
                 Ok(Came::Bytes(n))
             }
             Then::Ends => Ok(Came::End),

@@ -8,7 +8,7 @@ returns-then-self-clause-way g c =
     let new = c.answer_failed.new.self in
     let failed = c.answer_failed.ensures in
     refused_way self.lane c.args.number c.args.place c.args.mailbox c.args.post self.senders.items new.senders.items self.slips new.slips self.gather.gather new.gather.gather
-    self.gone new.gone c.requires.copy failed.same.1 failed.same.2 failed.gone failed.heard
+    self.gone new.gone c.answer_failed.result c.requires.copy failed.same.1 failed.same.2 failed.gone failed.takes
 
 pub invariant_of-self : goal.invariant_of-self
 invariant_of-self g c =
@@ -38,4 +38,4 @@ returns-in-Err-clause-way g c =
     let failed = c.answer_failed-in-Err.ensures in
     let same : new.senders.items ≡ self.senders.items = failed.same.1 ∙ refused_same self.senders.items c.offer_to.new.senders.items c.args.mailbox c.args.post c.in-Err.ensures in
     refused_way self.lane c.args.number c.args.place c.args.mailbox c.args.post self.senders.items new.senders.items self.slips new.slips self.gather.gather new.gather.gather
-    self.gone new.gone c.requires.copy same failed.same.2 failed.gone failed.heard
+    self.gone new.gone c.answer_failed-in-Err.result c.requires.copy same failed.same.2 failed.gone failed.takes
