@@ -9,3 +9,4 @@ pub mod LaneExchange
 pub mod LaneAccount
 pub mod Visits
 pub mod LaneRun
+pub mod House

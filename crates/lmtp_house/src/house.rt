@@ -1,0 +1,11 @@
+//! A server: its lanes and its workers, each in a thread.
+
+pub mod fault;
+pub mod report;
+pub mod run;
+pub mod sizes;
+
+pub use fault::HouseFault;
+pub use report::{HouseReport, Tally};
+pub use run::run_house;
+pub use sizes::Sizes;
