@@ -12,3 +12,6 @@ pub mod Awaiting
 pub mod Delivering
 pub mod Accounting
 pub mod AnsweredAll
+pub mod HouseGrids
+pub mod HouseLists
+pub mod HousePairs

@@ -10,3 +10,5 @@ pub mod LaneAccount
 pub mod Visits
 pub mod LaneRun
 pub mod House
+pub mod HouseCrew
+pub mod HouseGrid

@@ -1,6 +1,8 @@
 //! A server: its lanes and its workers, each in a thread.
 
+mod crew;
 pub mod fault;
+mod grid;
 pub mod report;
 pub mod run;
 pub mod sizes;
