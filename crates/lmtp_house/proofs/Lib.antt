@@ -15,3 +15,9 @@ pub mod AnsweredAll
 pub mod HouseGrids
 pub mod HouseLists
 pub mod HousePairs
+pub mod HouseLines
+pub mod HouseServed
+pub mod HouseWorked
+pub mod HousePlan
+pub mod NamedOnce
+pub mod HouseSettled

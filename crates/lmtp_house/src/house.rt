@@ -3,6 +3,10 @@
 mod crew;
 pub mod fault;
 mod grid;
+mod lanes;
+mod lines;
+mod plan;
+mod workers;
 pub mod report;
 pub mod run;
 pub mod sizes;

@@ -1,5 +1,11 @@
 //! How large a server is made.
 
+ghost use Rattle.std.specs.Prelude.{◌↔◌, IsTrue};
+ghost use Rattle.lmtp_house.specs.House.{IsSize};
+
+use lmtp_text::Site;
+use mail_world::limits::{BLOCK_LIMIT, CAPACITY_LIMIT, LANE_LIMIT, SLOT_LIMIT};
+
 /// The sizes that are chosen when a server starts.
 #[derive(Clone, Copy, Debug, PartialEq, Eq)]
 pub struct Sizes {
@@ -9,4 +15,17 @@ pub struct Sizes {
     pub slots: u32,
     /// Copies that wait for a mailbox's worker, 1 to 1,024.
     pub capacity: u32,
+}
+
+/// Whether a server may be made so.
+pub fn is_size(site: &Site, sizes: Sizes, lanes: usize, spools: usize, gates: usize) -> bool
+    ensures { IsTrue result ↔ IsSize site.now sizes lanes spools gates }
+{
+    let boxes = site.box_count() as usize;
+    (1..=BLOCK_LIMIT).contains(&sizes.blocks)
+        && (1..=SLOT_LIMIT).contains(&sizes.slots)
+        && (1..=CAPACITY_LIMIT).contains(&sizes.capacity)
+        && (1..=LANE_LIMIT as usize).contains(&lanes)
+        && spools == boxes
+        && gates == boxes
 }
