@@ -21,3 +21,4 @@ pub mod HouseWorked
 pub mod HousePlan
 pub mod NamedOnce
 pub mod HouseSettled
+pub mod HouseEnd

@@ -266,9 +266,12 @@ where
             mut crew,
             ends,
         } = self;
-        let started = crew.start_all(rt, jobs);
-        let reports = crew.join(&rt);
-        started?;
-        Ok(ends.take_all(reports))
+        match crew.start_all(rt, jobs) {
+            Ok(()) => Ok(ends.take_all(crew.join(&rt))),
+            Err(refused) => {
+                drop(crew.join(&rt));
+                Err(refused)
+            }
+        }
     }
 }

@@ -66,10 +66,11 @@ where
         requires gates { length gates.items ≡ length spools.items }
         ensures { IfOk result (λ plan. IsPlanned (arc_value site.now) (arc_value clock.now) visits.items spools.items plan.lanes plan.workers plan.mail plan.slips) }
     {
-        let (lanes, boxes) = (visits.len(), spools.len());
+        let lanes = visits.len();
+        let box_count = site.box_count();
+        let boxes = box_count as usize;
         let (rows, receivers) = open_lines::<Post<N>>(alloc, capacity, lanes as u32, boxes)?;
-        let (slip_rows, takers) =
-            open_lines::<Slip>(alloc, RECIPIENT_LIMIT, boxes as u32, lanes)?;
+        let (slip_rows, takers) = open_lines::<Slip>(alloc, RECIPIENT_LIMIT, box_count, lanes)?;
         let lane_jobs = lane_jobs(alloc, site, clock, depot, visits, rows, takers)?;
         let worker_jobs = worker_jobs(alloc, site, depot, receivers, slip_rows, spools, gates)?;
         Ok(Plan {
@@ -134,8 +135,9 @@ where
         if lost {
             return Err(HouseFault::ChannelGone);
         }
+        let slips_closed = slip_closing.close(&rt, slips);
         settle_all(receivers, closed);
-        settle_all(takers, slip_closing.close(&rt, slips));
+        settle_all(takers, slips_closed);
         Ok(HouseReport {
             visits,
             spools,

@@ -1,6 +1,6 @@
 //! How large a server is made.
 
-ghost use Rattle.std.specs.Prelude.{◌↔◌, IsTrue};
+ghost use Rattle.std.specs.Prelude.{◌↔◌, ◌<◌, IsTrue};
 ghost use Rattle.lmtp_house.specs.House.{IsSize};
 
 use lmtp_text::Site;
@@ -19,7 +19,8 @@ pub struct Sizes {
 
 /// Whether a server may be made so.
 pub fn is_size(site: &Site, sizes: Sizes, lanes: usize, spools: usize, gates: usize) -> bool
-    ensures { IsTrue result ↔ IsSize site.now sizes lanes spools gates }
+    ensures size { IsTrue result ↔ IsSize site.now sizes lanes spools gates }
+    ensures some { IsTrue result → 0 < spools }
 {
     let boxes = site.box_count() as usize;
     (1..=BLOCK_LIMIT).contains(&sizes.blocks)

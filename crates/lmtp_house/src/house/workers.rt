@@ -297,7 +297,6 @@ where
         ensures { result.lost ≡ false → HaveWorkedAll S.state self result.spools.items (lists result.slips.items) result.receivers.items result.tallies.items }
     {
         let Working { crew, ends } = self;
-        let reports = crew.join(rt);
-        ends.take_all(reports)
+        ends.take_all(crew.join(rt))
     }
 }
