@@ -1,6 +1,7 @@
 -- A planned server's run, once its threads have ended: its channels may be closed and settled, and what it comes to.
 use Rattle.std.proofs.Common.{◌≡◌, ℕ, ◌<◌, Bool, List, length, sym, ap, ◌∙◌, subst, arith, Option}
 use Rattle.std.specs.List.{AllZip}
+use Rattle.std.specs.Prelude.{Result, Ok, Err, IfOk}
 use Rattle.std.proofs.lemmas.List.{length-map}
 use Rattle.mail_world.specs.declared.Note.{Note}
 use Rattle.mail_world.specs.declared.Slip.{Slip}
@@ -18,6 +19,11 @@ use Rattle.lmtp_house.specs.HouseTasks.{LaneTask, BoxTask, HaveServed, HaveServe
 use Rattle.lmtp_house.specs.HousePlan.{IsPlanned}
 use Rattle.lmtp_house.proofs.HousePlan.{may_close}
 use Rattle.lmtp_house.proofs.HouseSettled.{can_settle, has_run}
+
+-- what follows from an Ok
+pub if_ok : {A E : Type 0} (P Q : A → Type 0) (r : Result A E) → IfOk r P → ((x : A) → P x → Q x) → IfOk r Q
+if_ok P Q (Ok x) h f = f x h
+if_ok P Q (Err e) h f = h
 
 -- closing gives this
 abbrev pub Closes : {M : Type 0} → Shape → List (List (Lane M)) → List (Sent M) → Type 0

@@ -75,7 +75,7 @@ no_more_below : {X Y : Type 0} (f : X → Bool) (g : Y → Bool) (key : X → �
 no_more_below f g key mark boxes xs ys each zero within = omega (arith, none_below f key xs)
 no_more_below f g key mark boxes xs ys each (suc n) within =
     let was = no_more_below f g key mark boxes xs ys each n (omega arith) in
-    subst (λ m. count_by f (filter (λ x. nat_lt (key x) m) xs) ≤ count_by g (filter (λ y. nat_lt (mark y) m) ys)) add-one
+    subst (λ m. count_by f (filter (λ x. nat_lt (key x) m) xs) ≤ count_by g (filter (λ y. nat_lt (mark y) m) ys)) (add-one n)
     (omega (arith, was, each n (omega arith), split f key n xs, split g mark n ys))
 
 -- key by key no more, so no more in all
