@@ -13,3 +13,13 @@ pub mod Delivering
 pub mod Accounting
 pub mod AnsweredAll
 pub mod Visiting
+pub mod HouseGrids
+pub mod HouseLists
+pub mod HousePairs
+pub mod HouseLines
+pub mod HouseServed
+pub mod HouseWorked
+pub mod HousePlan
+pub mod NamedOnce
+pub mod HouseSettled
+pub mod HouseEnd

@@ -10,3 +10,9 @@ pub mod LaneAccount
 pub mod Visits
 pub mod LaneRun
 pub mod LaneStart
+pub mod House
+pub mod HouseTasks
+pub mod HousePlan
+pub mod HouseCrew
+pub mod HouseGrid
+pub mod HouseLines

@@ -5,7 +5,7 @@ ghost use Rattle.std.specs.Prelude.{ℕ};
 use std::sync::Wait;
 
 /// Tells the time. A clock says which moments it may answer, and a lane's account says that its moments are such.
-pub trait Clock {
+pub trait Clock: Drop {
     // the moments that it may answer
     ghost May: { Self → ℕ → Type 0 };
 

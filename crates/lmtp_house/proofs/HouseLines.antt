@@ -1,0 +1,222 @@
+-- Channels of one kind, from their opening to what is settled.
+use Rattle.std.proofs.Common.{◌≡◌, ℕ, zero, suc, ◌+◌, ◌<◌, ◌≤◌, Bool, true, false, cond, List, [], ◌∷◌, ◌++◌, length, get_or, map, refl, sym, ap, ◌∙◌, subst, arith, length-append, Option, Some, None, inl, inr}
+use Rattle.std.proofs.lemmas.Bool.{cases_lt}
+use Rattle.std.specs.Prelude.{slice_get, option_map, filter, ◌==◌}
+use Rattle.std.specs.List.{All, AllZip, AllByRecursion}
+use Rattle.std.proofs.lemmas.List.{length-map, get_or_default}
+use Rattle.std.proofs.lemmas.Option.{slice_get-map, slice_get-get_or, slice_get_within, get_or_from_slice_get}
+use Rattle.mail_post.specs.Line.{Line, Lane, Inbox, Sent, taken, new_lanes, new_inbox, AreLanesFrom, IsLineOf, AreLanes, TookSome, TookAll, lists as sent_by}
+use Rattle.mail_post.specs.Parcels.{of}
+use Rattle.lmtp_house.specs.HouseGrid.{IsTransposed, cell}
+use Rattle.lmtp_house.specs.HouseLines.{Shape, lane_at, none, lines_of, IsNewLine, AreRows, AreColumns, AreNewLines, IsClosedWith, AreClosed, CanSettle, IsSettled, IsShut, MayClose, HasGiven}
+use Rattle.lmtp_house.proofs.HousePairs.{AllZip-length}
+
+module _ {X : Type 0} where
+  -- the element at a place, and what follows from it
+  pub same_at : (xs : List X) (k : ℕ) (x y : X) → slice_get xs k ≡ Some x → slice_get xs k ≡ Some y → x ≡ y
+  same_at xs k x y a b = let e : Some x ≡ Some y = sym a ∙ b in cc
+
+  pub at_left : (xs ys : List X) (k : ℕ) (x : X) → slice_get xs k ≡ Some x → slice_get (xs ++ ys) k ≡ Some x
+  at_left [] ys k x e = let bad : ◌≡◌ {A = Option X} None (Some x) = e in cc
+  at_left (z ∷ xs) ys zero x e = e
+  at_left (z ∷ xs) ys (suc k) x e = at_left xs ys k x e
+
+  pub at_seam : (xs ys : List X) (y : X) (k : ℕ) → length xs ≡ k → slice_get (xs ++ y ∷ ys) k ≡ Some y
+  at_seam [] ys y zero e = refl
+  at_seam [] ys y (suc k) e = absurd (omega arith)
+  at_seam (z ∷ xs) ys y zero e = absurd (omega arith)
+  at_seam (z ∷ xs) ys y (suc k) e = at_seam xs ys y k (omega arith)
+
+  -- each place within has its element
+  pub record At (xs : List X) (k : ℕ) : Type 0 where
+    pub value : X
+    pub is : slice_get xs k ≡ Some value
+
+  pub at : (xs : List X) (k : ℕ) → k < length xs → At xs k
+  at [] k below = absurd (omega arith)
+  at (x ∷ xs) zero below = record { value = x; is = refl }
+  at (x ∷ xs) (suc k) below = let p = at xs k (omega arith) in record { value = p.value; is = p.is }
+
+  pub All-at : (P : X → Type 0) (xs : List X) → ((k : ℕ) (x : X) → slice_get xs k ≡ Some x → P x) → All P xs
+  All-at P xs h k d below = h k (get_or xs k d) (slice_get-get_or xs k d below)
+
+  pub at_All : (P : X → Type 0) (xs : List X) → All P xs → (k : ℕ) (x : X) → slice_get xs k ≡ Some x → P x
+  at_All P xs all k x e = subst P (get_or_from_slice_get xs k x x e) (all k x (slice_get_within xs k x e))
+
+  pub at_each : (P : X → Type 0) (xs : List X) → AllByRecursion P xs → (k : ℕ) (x : X) → slice_get xs k ≡ Some x → P x
+  at_each P [] all k x e = let bad : ◌≡◌ {A = Option X} None (Some x) = e in absurd (cc)
+  at_each P (y ∷ ys) all zero x e = subst P (let s : ◌≡◌ {A = Option X} (Some y) (Some x) = e in cc) all.0
+  at_each P (y ∷ ys) all (suc k) x e = at_each P ys all.1 k x e
+
+  pub each_at : (P : X → Type 0) (xs : List X) → ((k : ℕ) (x : X) → slice_get xs k ≡ Some x → P x) → AllByRecursion P xs
+  each_at P [] h = tt
+  each_at P (y ∷ ys) h = (h 0 y refl, each_at P ys (λ k x e. h (suc k) x e))
+
+module _ {X Y : Type 0} where
+  pub at_map : (f : X → Y) (xs : List X) (k : ℕ) (x : X) → slice_get xs k ≡ Some x → slice_get (map f xs) k ≡ Some (f x)
+  at_map f xs k x e = slice_get-map f xs k ∙ ap (option_map f) e
+
+  -- the element that was mapped
+  pub record Source (f : X → Y) (xs : List X) (k : ℕ) (y : Y) : Type 0 where
+    pub value : X
+    pub is : slice_get xs k ≡ Some value
+    pub gives : y ≡ f value
+
+  pub source : (f : X → Y) (xs : List X) (k : ℕ) (y : Y) → slice_get (map f xs) k ≡ Some y → Source f xs k y
+  source f [] k y e = let bad : ◌≡◌ {A = Option Y} None (Some y) = e in absurd (cc)
+  source f (x ∷ xs) zero y e = record { value = x; is = refl; gives = let s : ◌≡◌ {A = Option Y} (Some (f x)) (Some y) = e in cc }
+  source f (x ∷ xs) (suc k) y e = let p = source f xs k y e in record { value = p.value; is = p.is; gives = p.gives }
+
+  pub zip_at : (R : X → Y → Type 0) (xs : List X) (ys : List Y) → AllZip R xs ys → (k : ℕ) (x : X) (y : Y) → slice_get xs k ≡ Some x → slice_get ys k ≡ Some y → R x y
+  zip_at R [] ys all k x y a b = let bad : ◌≡◌ {A = Option X} None (Some x) = a in absurd (cc)
+  zip_at R (z ∷ xs) [] all k x y a b = absurd all
+  zip_at R (z ∷ xs) (w ∷ ys) all zero x y a b =
+      let s : z ≡ x = (let e : ◌≡◌ {A = Option X} (Some z) (Some x) = a in cc) in
+      let t : w ≡ y = (let e : ◌≡◌ {A = Option Y} (Some w) (Some y) = b in cc) in
+      subst (λ v. R v y) s (subst (λ v. R z v) t all.0)
+  zip_at R (z ∷ xs) (w ∷ ys) all (suc k) x y a b = zip_at R xs ys all.1 k x y a b
+
+  pub at_zip : (R : X → Y → Type 0) (xs : List X) (ys : List Y) → length xs ≡ length ys → ((k : ℕ) (x : X) (y : Y) → slice_get xs k ≡ Some x → slice_get ys k ≡ Some y → R x y) → AllZip R xs ys
+  at_zip R [] [] same h = tt
+  at_zip R [] (y ∷ ys) same h = absurd (omega arith)
+  at_zip R (x ∷ xs) [] same h = absurd (omega arith)
+  at_zip R (x ∷ xs) (y ∷ ys) same h = (h 0 x y refl refl, at_zip R xs ys (omega arith) (λ k a b p q. h (suc k) a b p q))
+
+module _ {T : Type 0} where
+  -- an element of a turned grid
+  pub turned_at : (g h : List (List T)) (i j : ℕ) (col row : List T) (x : T) → IsTransposed g h → slice_get g i ≡ Some col → slice_get h j ≡ Some row → slice_get col j ≡ Some x → slice_get row i ≡ Some x
+  turned_at g h i j col row x turn a b e =
+      let i_in = slice_get_within g i col a in
+      let j_in = slice_get_within h j row b in
+      let row_is : get_or h j [] ≡ row = get_or_from_slice_get h j row [] b in
+      let col_is : get_or g i [] ≡ col = get_or_from_slice_get g i col [] a in
+      let wide : length row ≡ length g = ap length (sym row_is) ∙ turn.widths j j_in in
+      let same : get_or row i x ≡ x = ap (λ l. get_or l i x) (sym row_is) ∙ (turn.cells i j x i_in j_in ∙ (ap (λ l. get_or l j x) col_is ∙ get_or_from_slice_get col j x x e)) in
+      slice_get-get_or row i x (omega (arith, wide, i_in)) ∙ ap (λ v. Some v) same
+
+  pub turned_width : (g h : List (List T)) (j : ℕ) (row : List T) → IsTransposed g h → slice_get h j ≡ Some row → length row ≡ length g
+  turned_width g h j row turn b = ap length (sym (get_or_from_slice_get h j row [] b)) ∙ turn.widths j (slice_get_within h j row b)
+
+module _ {M : Type 0} where
+  -- new senders
+  pub new_count : (line : Line M) (n : ℕ) → length (new_lanes line n) ≡ n
+  new_count line zero = refl
+  new_count line (suc n) = length-append (new_lanes line n) _ ∙ omega (arith, new_count line n)
+
+  new_by : (line : Line M) (n k : ℕ) → k < suc n → (k < n → slice_get (new_lanes line n) k ≡ Some (lane_at line k [])) → slice_get (new_lanes line n ++ lane_at line n [] ∷ []) k ≡ Some (lane_at line k [])
+  new_by line n k below before =
+      elim (cases_lt k n) [
+        | inl low ↦ at_left (new_lanes line n) (lane_at line n [] ∷ []) k (lane_at line k []) (before low)
+        | inr high ↦
+            let same : n ≡ k = omega (arith, below, high) in at_seam (new_lanes line n) [] (lane_at line n []) k (new_count line n ∙ same) ∙ ap (λ j. Some (lane_at line j [])) same
+      ]
+
+  new_at : (line : Line M) (n k : ℕ) → k < n → slice_get (new_lanes line n) k ≡ Some (lane_at line k [])
+  new_at line zero k below = absurd (omega arith)
+  new_at line (suc n) k below = new_by line n k below (new_at line n k)
+
+  pub columns_new : (n : ℕ) (columns : List (List (Lane M))) (inboxes : List (Inbox M)) → AllZip (IsNewLine n) columns inboxes → AreColumns n (lines_of inboxes) none columns
+  columns_new n columns inboxes all = record {
+    count = AllZip-length (IsNewLine n) columns inboxes all ∙ sym (length-map inboxes (λ (i : Inbox M). i.line));
+    widths = λ b column e.
+        let p = at inboxes b (omega (arith, AllZip-length (IsNewLine n) columns inboxes all, slice_get_within columns b column e)) in
+        let new = zip_at (IsNewLine n) columns inboxes all b column p.value e p.is in
+        ap length new.senders_are ∙ new_count p.value.line n;
+    cells = λ b k column line e f below.
+        let p = source (λ (i : Inbox M). i.line) inboxes b line f in
+        let new = zip_at (IsNewLine n) columns inboxes all b column p.value e p.is in
+        ap (λ l. slice_get l k) new.senders_are ∙ (new_at p.value.line n k below ∙ ap (λ (l : Line M). Some (lane_at l k [])) (sym p.gives));
+  }
+
+  pub rows_new : (n count : ℕ) (columns rows : List (List (Lane M))) (inboxes : List (Inbox M)) → AllZip (IsNewLine n) columns inboxes → IsTransposed columns rows → length rows ≡ n → length inboxes ≡ count
+      → AreNewLines n count rows inboxes
+  rows_new n count columns rows inboxes all turn rows_count inboxes_count =
+      let cols = columns_new n columns inboxes all in record {
+        counts = inboxes_count;
+        rows_are = record {
+          count = rows_count;
+          widths = λ k row e. turned_width columns rows k row turn e ∙ cols.count;
+          cells = λ k b row line e f.
+              let c = at columns b (omega (arith, cols.count, slice_get_within (lines_of inboxes) b line f)) in
+              turned_at columns rows b k c.value row (lane_at line k []) turn c.is e (cols.cells b k c.value line c.is f (omega (arith, rows_count, slice_get_within rows k row e)));
+        };
+        inboxes_are = λ b inbox e.
+            let c = at columns b (omega (arith, AllZip-length (IsNewLine n) columns inboxes all, slice_get_within inboxes b inbox e)) in
+            (zip_at (IsNewLine n) columns inboxes all b c.value inbox c.is e).inbox_is;
+      }
+
+  -- the senders stand by their channels again
+  pub turned_back : (n : ℕ) (lines : List (Line M)) (sent : ℕ → ℕ → List M) (rows columns : List (List (Lane M))) → AreRows n lines sent rows → IsTransposed rows columns → length columns ≡ length lines
+      → AreColumns n lines sent columns
+  turned_back n lines sent rows columns are turn columns_count = record {
+    count = columns_count;
+    widths = λ b column e. turned_width rows columns b column turn e ∙ are.count;
+    cells = λ b k column line e f below.
+        let r = at rows k (omega (arith, are.count, below)) in
+        turned_at rows columns k b r.value column (lane_at line k (sent k b)) turn r.is e (are.cells k b r.value line r.is f);
+  }
+
+  lanes_from : (i : ℕ) (line : Line M) (xs : List (Lane M)) → ((k : ℕ) (x : Lane M) → slice_get xs k ≡ Some x → (x.line ≡ line) × (x.lane ≡ i + k)) → AreLanesFrom i line xs
+  lanes_from i line [] h = tt
+  lanes_from i line (x ∷ xs) h = ((h 0 x refl).0, omega (arith, (h 0 x refl).1), lanes_from (i + 1) line xs (λ k y e. ((h (suc k) y e).0, omega (arith, (h (suc k) y e).1))))
+
+  lanes_by : (xs : List (Lane M)) (line : Line M) → 0 < length xs → ((k : ℕ) (x : Lane M) → slice_get xs k ≡ Some x → (x.line ≡ line) × (x.lane ≡ k)) → AreLanes xs
+  lanes_by [] line some h = absurd (omega arith)
+  lanes_by (x ∷ xs) line some h = lanes_from 0 x.line (x ∷ xs) (λ k y e. ((h k y e).0 ∙ sym (h 0 x refl).0, omega (arith, (h k y e).1)))
+
+  column_at : (n : ℕ) (lines : List (Line M)) (sent : ℕ → ℕ → List M) (columns : List (List (Lane M))) → AreColumns n lines sent columns → (b : ℕ) (column : List (Lane M)) (line : Line M)
+      → slice_get columns b ≡ Some column → slice_get lines b ≡ Some line → (k : ℕ) (x : Lane M) → slice_get column k ≡ Some x → x ≡ lane_at line k (sent k b)
+  column_at n lines sent columns are b column line e f k x g =
+      same_at column k x (lane_at line k (sent k b)) g (are.cells b k column line e f (omega (arith, are.widths b column e, slice_get_within column k x g)))
+
+  -- each channel may be closed
+  pub all_lanes : (n : ℕ) (lines : List (Line M)) (sent : ℕ → ℕ → List M) (columns : List (List (Lane M))) → 0 < n → AreColumns n lines sent columns → All AreLanes columns
+  all_lanes n lines sent columns some are = All-at AreLanes columns (λ b column e.
+      let l = at lines b (omega (arith, are.count, slice_get_within columns b column e)) in
+      lanes_by column l.value (omega (arith, are.widths b column e, some)) (λ k x g.
+      let same = column_at n lines sent columns are b column l.value e l.is k x g in (ap (λ (v : Lane M). v.line) same, ap (λ (v : Lane M). v.lane) same)))
+
+  first_line : (line other : Line M) (column : List (Lane M)) (x : Lane M) → IsLineOf line column → slice_get column 0 ≡ Some x → line ≡ x.line
+  first_line line other [] x is e = let bad : ◌≡◌ {A = Option (Lane M)} None (Some x) = e in absurd (cc)
+  first_line line other (y ∷ ys) x is e = let s : ◌≡◌ {A = Option (Lane M)} (Some y) (Some x) = e in let t : y ≡ x = cc in sym is.0 ∙ ap (λ (v : Lane M). v.line) t
+
+  pub all_closed : (n : ℕ) (lines : List (Line M)) (sent : ℕ → ℕ → List M) (columns : List (List (Lane M))) (closed : List (Sent M)) → 0 < n → AreColumns n lines sent columns → AllZip IsShut columns closed
+      → AreClosed n lines sent closed
+  all_closed n lines sent columns closed some are shut = record {
+    count = sym (AllZip-length IsShut columns closed shut) ∙ are.count;
+    each = λ b line c f e.
+        let col = at columns b (omega (arith, are.count, slice_get_within lines b line f)) in
+        let one = zip_at IsShut columns closed shut b col.value c col.is e in record {
+          line_is = first_line c.line line col.value (lane_at line 0 (sent 0 b)) one.line (are.cells b 0 col.value line col.is f some);
+          count = ap length one.sent ∙ (length-map col.value (λ (x : Lane M). x.sent) ∙ are.widths b col.value col.is);
+          each = λ k below. ap (λ l. slice_get l k) one.sent ∙ at_map (λ (x : Lane M). x.sent) col.value k (lane_at line k (sent k b)) (are.cells b k col.value line col.is f below);
+        };
+  }
+
+  grown_cell : (old new : Lane M) (line : Line M) (k : ℕ) (more : List M) → old ≡ lane_at line k [] → new.line ≡ old.line → new.lane ≡ old.lane → new.sent ≡ old.sent ++ more → new ≡ lane_at line k more
+  grown_cell old new line k more is a b c =
+      let l : new.line ≡ line = a ∙ ap (λ (o : Lane M). o.line) is in
+      let n : new.lane ≡ k = b ∙ ap (λ (o : Lane M). o.lane) is in
+      let s : new.sent ≡ more = c ∙ ap (λ (o : Lane M). o.sent ++ more) is in
+      ap (λ x. lane_at x new.lane new.sent) l ∙ (ap (λ x. lane_at line x new.sent) n ∙ ap (λ x. lane_at line k x) s)
+
+  -- the lanes have given
+  pub rows_given : (n : ℕ) (lines : List (Line M)) (sent : ℕ → ℕ → List M) (rows rows_after : List (List (Lane M))) → AreRows n lines none rows → length rows_after ≡ n
+      → ((k : ℕ) (row row' : List (Lane M)) → slice_get rows k ≡ Some row → slice_get rows_after k ≡ Some row' → HasGiven (sent k) row row') → AreRows n lines sent rows_after
+  rows_given n lines sent rows rows_after are count given = record {
+    count = count;
+    widths = λ k row' e.
+        let r = at rows k (omega (arith, are.count, count, slice_get_within rows_after k row' e)) in (given k r.value row' r.is e).as_many ∙ are.widths k r.value r.is;
+    cells = λ k b row' line e f.
+        let r = at rows k (omega (arith, are.count, count, slice_get_within rows_after k row' e)) in
+        let g = given k r.value row' r.is e in
+        let old = are.cells k b r.value line r.is f in
+        let new = at row' b (omega (arith, g.as_many, slice_get_within r.value b (lane_at line k []) old)) in
+        let one = g.each b (lane_at line k []) new.value old new.is in
+        new.is ∙ ap (λ v. Some v) (grown_cell (lane_at line k []) new.value line k (sent k b) refl one.0 one.1 one.2);
+  }
+
+  -- two accounts of the same rows are of as many channels
+  pub lines_count : (n : ℕ) (lines others : List (Line M)) (sent given : ℕ → ℕ → List M) (rows : List (List (Lane M))) → 0 < n → AreRows n lines sent rows → AreRows n others given rows → length lines ≡ length others
+  lines_count n lines others sent given rows some are were =
+      let r = at rows 0 (omega (arith, are.count, some)) in sym (are.widths 0 r.value r.is) ∙ were.widths 0 r.value r.is

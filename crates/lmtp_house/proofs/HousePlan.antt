@@ -1,0 +1,64 @@
+-- Lanes and workers that are planned may run, and their channels may be closed and settled.
+use Rattle.std.proofs.Common.{◌≡◌, ℕ, zero, suc, ◌+◌, ◌<◌, Bool, true, false, List, [], ◌∷◌, ◌++◌, length, map, refl, sym, ap, ◌∙◌, subst, arith, Option, Some, None}
+use Rattle.std.specs.Prelude.{slice_get}
+use Rattle.std.specs.List.{AllZip, AllByRecursion}
+use Rattle.std.proofs.lemmas.List.{length-map}
+use Rattle.std.proofs.lemmas.Option.{slice_get_within}
+use Rattle.mail_post.specs.Line.{Line, Lane, Inbox, taken}
+use Rattle.box_worker.specs.Told.{AreOfWorker, worker_of}
+use Rattle.lmtp_house.specs.LaneExchange.{AreOfLane}
+use Rattle.lmtp_house.specs.HouseLines.{Shape, lines_of, none, lane_at, AreRows, AreNewLines, MayClose}
+use Rattle.lmtp_house.specs.HouseTasks.{LaneTask, lane_tasks, BoxTask, box_tasks, IsLaneReady, IsBoxReady}
+use Rattle.lmtp_house.specs.HousePlan.{IsPlanned, MayRun}
+use Rattle.lmtp_house.proofs.HouseLines.{At, at, same_at, at_each, each_at}
+use Rattle.lmtp_house.proofs.HouseServed.{task_at}
+use Rattle.lmtp_house.proofs.HouseWorked.{task_at as box_task_at, numbered}
+
+module _ {M : Type 0} where
+  -- as many senders in a row as channels
+  row_width : (n count : ℕ) (rows : List (List (Lane M))) (inboxes : List (Inbox M)) → AreNewLines n count rows inboxes → (k : ℕ) (row : List (Lane M)) → slice_get rows k ≡ Some row → length row ≡ count
+  row_width n count rows inboxes new k row e = new.rows_are.widths k row e ∙ (length-map inboxes (λ (i : Inbox M). i.line) ∙ new.counts)
+
+  -- each is of the row's lane
+  row_lane : (n count : ℕ) (rows : List (List (Lane M))) (inboxes : List (Inbox M)) → AreNewLines n count rows inboxes → (k : ℕ) (row : List (Lane M)) → slice_get rows k ≡ Some row
+      → (b : ℕ) (sender : Lane M) → slice_get row b ≡ Some sender → sender.lane ≡ k
+  row_lane n count rows inboxes new k row e b sender f =
+      let l = at (lines_of inboxes) b (omega (arith, new.rows_are.widths k row e, slice_get_within row b sender f)) in
+      ap (λ (v : Lane M). v.lane) (same_at row b sender (lane_at l.value k []) f (new.rows_are.cells k b row l.value e l.is))
+
+  pub may_close : (n count : ℕ) (shape : Shape) (rows : List (List (Lane M))) (inboxes : List (Inbox M)) (sent : ℕ → ℕ → List M) (rows_after : List (List (Lane M))) → AreNewLines n count rows inboxes
+      → shape ≡ record { lanes = n; count = count } → 0 < n → AreRows n (lines_of inboxes) sent rows_after → MayClose shape rows_after
+  may_close n count shape rows inboxes sent rows_after new is some are = record {
+    lines = lines_of inboxes;
+    sent = sent;
+    some = omega (arith, some, ap (λ (s : Shape). s.lanes) is);
+    count = length-map inboxes (λ (i : Inbox M). i.line) ∙ (new.counts ∙ sym (ap (λ (s : Shape). s.count) is));
+    rows_are = subst (λ m. AreRows m (lines_of inboxes) sent rows_after) (sym (ap (λ (s : Shape). s.lanes) is)) are;
+  }
+
+module _ {V S C : Type 0} (out : V → Bool) (lanes : List (LaneTask V C)) (workers : List (BoxTask S)) (mail_shape slip_shape : Shape) (may : MayRun out lanes workers mail_shape slip_shape) where
+  pub lanes_ready : AllByRecursion (IsLaneReady out) lanes
+  lanes_ready =
+      let p = may.planned in
+      subst (λ l. AllByRecursion (IsLaneReady out) l) (sym p.lanes_are) (each_at (IsLaneReady out) (lane_tasks may.site may.clock 0 may.visits p.mail_rows p.slips) (λ k task e.
+      let t = task_at may.site may.clock 0 may.visits p.mail_rows p.slips k task e in
+      subst (λ j. IsLaneReady out j) (sym t.is) (record {
+        site = refl;
+        count = row_width (length may.visits) (length may.spools) p.mail_rows p.mail p.mail_new k t.row t.row_is ∙ p.each_box;
+        lane = λ b sender f. row_lane (length may.visits) (length may.spools) p.mail_rows p.mail p.mail_new k t.row t.row_is b sender f ∙ omega arith;
+        none_out = at_each (λ v. out v ≡ false) may.visits may.none_out k t.visit t.visit_is;
+      })))
+
+  pub boxes_ready : AllByRecursion IsBoxReady workers
+  boxes_ready =
+      let p = may.planned in
+      subst (λ l. AllByRecursion IsBoxReady l) (sym p.workers_are) (each_at IsBoxReady (box_tasks may.site.host p.mail p.slip_rows may.spools) (λ k task e.
+      let t = box_task_at may.site.host p.mail p.slip_rows may.spools k task e in
+      let fresh = p.mail_new.inboxes_are k t.inbox t.inbox_is in
+      let first = at (lines_of p.slips) 0 (omega (arith, length-map p.slips (λ (i : Inbox _). i.line), p.slips_new.counts, p.some_lanes)) in
+      let number : worker_of t.row ≡ k = numbered k first.value t.row (p.slips_new.rows_are.cells k 0 t.row first.value t.row_is first.is) in
+      subst (λ j. IsBoxReady j) (sym t.is) (record {
+        fresh = ap (λ (i : Inbox _). taken i) fresh;
+        lanes = row_width (length may.spools) (length may.visits) p.slip_rows p.slips p.slips_new k t.row t.row_is ∙ sym (ap (λ (i : Inbox _). i.lanes) fresh);
+        worker = λ b lane f. row_lane (length may.spools) (length may.visits) p.slip_rows p.slips p.slips_new k t.row t.row_is b lane f ∙ sym number;
+      })))

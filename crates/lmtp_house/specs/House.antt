@@ -1,0 +1,76 @@
+-- What a server's run comes to: its lanes and its workers taken together.
+use Rattle.std.specs.Prelude.{◌≡◌, ◌<◌, ◌≤◌, ℕ, Bool, true, List, ◌++◌, length, slice_get, Option, Some}
+use Rattle.std.specs.List.{AllByRecursion}
+use Rattle.mail_world.specs.declared.Note.{Note}
+use Rattle.mail_world.specs.declared.Slip.{Slip}
+use Rattle.mail_world.specs.declared.limits.TheConstants.{LANE_LIMIT, BLOCK_LIMIT, SLOT_LIMIT, CAPACITY_LIMIT}
+use Rattle.mail_world.specs.Site.{Site}
+use Rattle.mail_world.specs.Slips.{of_worker}
+use Rattle.mail_world.specs.Lists.{of_lane, due, transactions, VerdictsFit, OutcomesAreAnswers}
+use Rattle.lmtp_text.specs.Calendar.{civil_at}
+use Rattle.mbox_rd.specs.Spool.{SpoolState}
+use Rattle.box_worker.specs.Stored.{HasStored}
+use Rattle.box_worker.specs.Told.{owed_to}
+use Rattle.lmtp_house.specs.declared.house.report.Tally.{Tally}
+use Rattle.lmtp_house.specs.declared.house.sizes.Sizes.{Sizes}
+use Rattle.lmtp_house.specs.LaneAccount.{counted}
+use Rattle.lmtp_house.specs.Peer.{PeerState}
+use Rattle.lmtp_house.specs.Visits.{Finished, Visit, HasVisited, conversations_of}
+
+-- the sizes that a server may have
+pub record IsSize (site : Site) (sizes : Sizes) (lanes spools gates : ℕ) : Type 0 where
+  pub blocks : (1 ≤ sizes.blocks) × (sizes.blocks ≤ BLOCK_LIMIT)
+  pub slots : (1 ≤ sizes.slots) × (sizes.slots ≤ SLOT_LIMIT)
+  pub capacity : (1 ≤ sizes.capacity) × (sizes.capacity ≤ CAPACITY_LIMIT)
+  pub some_lanes : (1 ≤ lanes) × (lanes ≤ LANE_LIMIT)
+  pub each_spool : spools ≡ length site.boxes
+  pub each_gate : gates ≡ length site.boxes
+
+-- what a lane did: the clients that it served, and the slips that it heard
+pub record LaneWork : Type 0 where
+  pub visits : List Visit
+  pub heard : List Slip
+
+-- what a worker did: the copies that it took, and how many of them it stored
+pub record BoxWork : Type 0 where
+  pub taken : List Note
+  pub stored : ℕ
+
+-- Lane k served these clients until there were no more: its verdicts fit, each moment is one that the clock may answer, and each
+-- outcome is that of the slip that it heard.
+pub record IsLaneWork (site : Site) (May : ℕ → Type 0) (MayCome : PeerState → Type 0) (k : ℕ) (work : LaneWork)
+    (old new : Option (List Finished)) (over : Bool) (count : ℕ) : Type 0 where
+  pub visited : HasVisited site MayCome old new work.visits
+  pub ended : over ≡ true
+  pub counts : count ≡ counted (length work.visits)
+  pub verdicts : VerdictsFit site (conversations_of work.visits)
+  pub moments : AllByRecursion (λ t. May t.disposition.moment) (transactions site 0 (conversations_of work.visits))
+  pub answered : OutcomesAreAnswers site k work.heard (conversations_of work.visits)
+
+-- a mailbox's worker took these copies, and its spool holds the records of those that it stored
+pub record IsBoxWork (site : Site) (work : BoxWork) (old new : SpoolState) (tally : Tally) : Type 0 where
+  pub spool : HasStored civil_at site.host old new work.taken work.stored tally.faulty
+  pub taken : tally.taken ≡ counted (length work.taken)
+  pub stored : tally.stored ≡ counted work.stored
+
+-- the first list begins the second
+pub record IsBegun (front all : List Slip) : Type 0 where
+  pub rest : List Slip
+  pub whole : front ++ rest ≡ all
+
+-- However lanes and workers interleaved: each worker took of each lane just the copies that the lane's conversations owe its mailbox, in
+-- their order, and nothing else; and each lane heard of its copies the slips that their workers gave, and nothing else.
+pub record HasRun {V S : Type 0} (site : Site) (May : ℕ → Type 0) (MayGive : V → PeerState → Type 0) (finished : V → Option (List Finished)) (over : V → Bool) (state : S → SpoolState)
+    (visits visits_after : List V) (spools spools_after : List S) (conversations : List ℕ) (tallies : List Tally) : Type 0 where
+  pub lanes : ℕ → LaneWork
+  pub boxes : ℕ → BoxWork
+  pub as_many_lanes : (length visits_after ≡ length visits) × (length conversations ≡ length visits)
+  pub as_many_boxes : (length spools_after ≡ length spools) × (length tallies ≡ length spools)
+  pub served : (k count : ℕ) (old new : V) → slice_get visits k ≡ Some old → slice_get visits_after k ≡ Some new → slice_get conversations k ≡ Some count
+      → IsLaneWork site May (MayGive old) k (lanes k) (finished old) (finished new) (over new) count
+  pub stored : (b : ℕ) (old new : S) (tally : Tally) → slice_get spools b ≡ Some old → slice_get spools_after b ≡ Some new → slice_get tallies b ≡ Some tally
+      → IsBoxWork site (boxes b) (state old) (state new) tally
+  pub owed : (k b : ℕ) → k < length visits → b < length spools → of_lane k (boxes b).taken ≡ due site k b (conversations_of (lanes k).visits)
+  pub owed_only : (b : ℕ) → b < length spools → AllByRecursion (λ note. note.txn.lane < length visits) (boxes b).taken
+  pub told : (k b : ℕ) → k < length visits → b < length spools → IsBegun (of_worker b (lanes k).heard) (owed_to b (boxes b).stored k (boxes b).taken)
+  pub told_only : (k : ℕ) → k < length visits → AllByRecursion (λ slip. slip.worker < length spools) (lanes k).heard

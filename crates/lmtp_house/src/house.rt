@@ -1,0 +1,17 @@
+//! A server: its lanes and its workers, each in a thread.
+
+mod crew;
+pub mod fault;
+mod grid;
+mod lanes;
+mod lines;
+mod plan;
+mod workers;
+pub mod report;
+pub mod run;
+pub mod sizes;
+
+pub use fault::HouseFault;
+pub use report::{HouseReport, Tally};
+pub use run::run_house;
+pub use sizes::Sizes;

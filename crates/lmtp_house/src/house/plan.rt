@@ -1,0 +1,150 @@
+//! A server with all its memory, before its threads start.
+
+ghost use Rattle.std.specs.Prelude.{◌≡◌, ◌≢◌, ◌<◌, ◌≤◌, length, IfOk, Err, false};
+ghost use Rattle.std.specs.Arc.{arc_value};
+ghost use Rattle.mail_world.specs.declared.limits.TheConstants.{LANE_LIMIT};
+ghost use Rattle.lmtp_house.specs.HousePlan.{IsPlanned, MayRun, HasRunAll};
+
+use crate::house::fault::HouseFault;
+use crate::house::lanes::{LaneEnds, Lanes, lane_jobs};
+use crate::house::lines::{Closing, open_lines, settle_all};
+use crate::house::report::HouseReport;
+use crate::house::workers::{WorkerEnds, Workers, worker_jobs};
+use crate::lane::clock::Clock;
+use crate::lane::visits::Visits;
+use box_worker::Gate;
+use lmtp_text::Site;
+use mail_post::Post;
+use mail_world::Slip;
+use mail_world::limits::RECIPIENT_LIMIT;
+use mbox_rd::Spool;
+use msg_depot::{Depot, DepotName};
+use std::alloc::{AllocError, Global};
+use std::sync::{Arc, Wait};
+use std::thread::Threads;
+
+/// The lanes and workers of a server, and what closes their channels.
+#[derive(Drop)]
+pub struct Plan<N, V, S, G, C>
+where
+    N: DepotName + Send + Sync + 'static,
+    V: Visits + Send + 'static,
+    V::P: Send + 'static,
+    S: Spool + Drop + Send + 'static,
+    G: Gate + Drop + Send + 'static,
+    C: Clock + Send + Sync + 'static,
+{
+    lanes: Lanes<N, V, C>,
+    workers: Workers<N, S, G>,
+    mail: Closing<Post<N>>,
+    slips: Closing<Slip>,
+}
+
+impl<N, V, S, G, C> Plan<N, V, S, G, C>
+where
+    N: DepotName + Send + Sync + 'static,
+    V: Visits + Send + 'static,
+    V::P: Send + 'static,
+    S: Spool + Drop + Send + 'static,
+    G: Gate + Drop + Send + 'static,
+    C: Clock + Send + Sync + 'static,
+{
+    /// Takes all the memory that lanes and workers need.
+    pub fn new(
+        alloc: Global,
+        depot: &Arc<Depot<N>>,
+        site: &Arc<Site>,
+        clock: &Arc<C>,
+        capacity: usize,
+        visits: Vec<V>,
+        spools: Vec<S>,
+        gates: Vec<G>,
+    ) -> Result<Plan<N, V, S, G, C>, AllocError>
+        requires capacity { 0 < capacity }
+        requires lanes { (0 < length visits.items) × (length visits.items ≤ LANE_LIMIT) }
+        requires spools { (0 < length spools.items) × (length spools.items ≡ length (arc_value site.now).boxes) }
+        requires gates { length gates.items ≡ length spools.items }
+        ensures { IfOk result (λ plan. IsPlanned (arc_value site.now) (arc_value clock.now) visits.items spools.items plan.lanes plan.workers plan.mail plan.slips) }
+    {
+        let lanes = visits.len();
+        let box_count = site.box_count();
+        let boxes = box_count as usize;
+        let (rows, receivers) = open_lines::<Post<N>>(alloc, capacity, lanes as u32, boxes)?;
+        let (slip_rows, takers) = open_lines::<Slip>(alloc, RECIPIENT_LIMIT, box_count, lanes)?;
+        let lane_jobs = lane_jobs(alloc, site, clock, depot, visits, rows, takers)?;
+        let worker_jobs = worker_jobs(alloc, site, depot, receivers, slip_rows, spools, gates)?;
+        Ok(Plan {
+            lanes: Lanes::new(alloc, lane_jobs)?,
+            workers: Workers::new(alloc, worker_jobs)?,
+            mail: Closing::new(alloc, lanes, boxes)?,
+            slips: Closing::new(alloc, boxes, lanes)?,
+        })
+    }
+
+    /// Runs the workers and the lanes, until the lanes have no more clients.
+    pub fn run<R: Threads + Wait + Copy + Send + 'static>(
+        self,
+        rt: R,
+        depot: &Depot<N>,
+    ) -> Result<HouseReport<V, S, G>, HouseFault>
+        requires { MayRun V.out self.lanes self.workers self.mail self.slips }
+        ensures ran { IfOk result (λ report. HasRunAll C.May V.MayGive V.finished V.over S.state self.lanes self.workers self.mail self.slips
+            report.visits.items report.spools.items report.conversations.items report.tallies.items) }
+        ensures not_size { result ≢ Err HouseFault.Size }
+    {
+        let Plan {
+            lanes,
+            workers,
+            mail,
+            slips: slip_closing,
+        } = self;
+        let working = match workers.start(rt) {
+            Ok(working) => working,
+            Err(started) => {
+                drop(lanes);
+                drop(started.join(&rt));
+                return Err(HouseFault::NoThread);
+            }
+        };
+        let Ok(ends) = lanes.run(rt) else {
+            drop(working.finish(&rt));
+            return Err(HouseFault::NoThread);
+        };
+        let LaneEnds {
+            visits,
+            senders,
+            slips: takers,
+            conversations,
+            gone,
+        } = ends;
+        if gone {
+            drop(senders);
+            drop(takers);
+            drop(working.finish(&rt));
+            return Err(HouseFault::ChannelGone);
+        }
+        let closed = mail.close(&rt, senders);
+        let WorkerEnds {
+            receivers,
+            slips,
+            spools,
+            gates,
+            tallies,
+            lost,
+        } = working.finish(&rt);
+        if lost {
+            return Err(HouseFault::ChannelGone);
+        }
+        let slips_closed = slip_closing.close(&rt, slips);
+        settle_all(receivers, closed);
+        settle_all(takers, slips_closed);
+        Ok(HouseReport {
+            visits,
+            spools,
+            gates,
+            conversations,
+            tallies,
+            free_blocks: depot.free_blocks(&rt),
+        })
+    }
+}

@@ -1,0 +1,92 @@
+//! A server's run, from its parts to its report.
+
+ghost use Rattle.std.specs.Prelude.{◌≡◌, ◌≢◌, ◌<◌, ◌≤◌, ◌↔◌, length, vec_len, IfOk, Err, false};
+ghost use Rattle.std.specs.List.{AllByRecursion};
+ghost use Rattle.std.specs.Arc.{arc_value};
+ghost use Rattle.mail_world.specs.declared.limits.TheConstants.{LANE_LIMIT};
+ghost use Rattle.lmtp_house.specs.House.{HasRun, IsSize};
+
+use crate::house::fault::HouseFault;
+use crate::house::plan::Plan;
+use crate::house::report::HouseReport;
+use crate::house::sizes::{Sizes, is_size};
+use crate::lane::clock::Clock;
+use crate::lane::visits::Visits;
+use box_worker::Gate;
+use lmtp_text::Site;
+use mbox_rd::Spool;
+use msg_depot::{Blank, DepotName};
+use std::alloc::Global;
+use std::marker::Brand;
+use std::sync::{Arc, Wait};
+use std::thread::Threads;
+
+/// Runs a server until its lanes have no more clients: a lane for each of the visits, and for each mailbox of the site a worker with its spool and its
+/// gate, each in a thread of its own. All memory is taken first.
+pub fn run_house<V, S, G, C, R>(
+    rt: R,
+    alloc: Global,
+    site: Arc<Site>,
+    sizes: Sizes,
+    visits: Vec<V>,
+    spools: Vec<S>,
+    gates: Vec<G>,
+    clock: C,
+) -> Result<HouseReport<V, S, G>, HouseFault>
+where
+    V: Visits + Send + 'static,
+    V::P: Send + 'static,
+    S: Spool + Drop + Send + 'static,
+    G: Gate + Drop + Send + 'static,
+    C: Clock + Send + Sync + 'static,
+    R: Threads + Wait + Copy + Send + 'static,
+    requires none_out { AllByRecursion (λ v. V.out v ≡ false) visits.items }
+    ensures ran { IfOk result (λ report. HasRun (arc_value site) (C.May clock) V.MayGive V.finished V.over S.state
+        visits.items report.visits.items spools.items report.spools.items report.conversations.items report.tallies.items) }
+    ensures size { result ≡ Err HouseFault.Size ↔ ¬ IsSize (arc_value site) sizes (length visits.items) (length spools.items) (length gates.items) }
+{
+    if !is_size(&site, sizes, visits.len(), spools.len(), gates.len()) {
+        return Err(HouseFault::Size);
+    }
+    let clock = Arc::new(alloc, clock)?;
+    let blank = Blank::new(alloc, sizes.blocks, sizes.slots)?;
+    let capacity = sizes.capacity as usize;
+    run_at::<Brand, V, S, G, C, R>(rt, alloc, blank, site, capacity, visits, spools, gates, clock)
+}
+
+// Runs a server over the depot of this name.
+fn run_at<N, V, S, G, C, R>(
+    rt: R,
+    alloc: Global,
+    blank: Blank,
+    site: Arc<Site>,
+    capacity: usize,
+    visits: Vec<V>,
+    spools: Vec<S>,
+    gates: Vec<G>,
+    clock: Arc<C>,
+) -> Result<HouseReport<V, S, G>, HouseFault>
+where
+    N: DepotName + Send + Sync + 'static,
+    V: Visits + Send + 'static,
+    V::P: Send + 'static,
+    S: Spool + Drop + Send + 'static,
+    G: Gate + Drop + Send + 'static,
+    C: Clock + Send + Sync + 'static,
+    R: Threads + Wait + Copy + Send + 'static,
+    requires name { blank.table ≡ N.table }
+    requires capacity { 0 < capacity }
+    requires lanes { (0 < length visits.items) × (length visits.items ≤ LANE_LIMIT) }
+    requires spools { (0 < length spools.items) × (length spools.items ≡ length (arc_value site).boxes) }
+    requires gates { length gates.items ≡ length spools.items }
+    requires none_out { AllByRecursion (λ v. V.out v ≡ false) visits.items }
+    ensures ran { IfOk result (λ report. HasRun (arc_value site) (C.May (arc_value clock)) V.MayGive V.finished V.over S.state
+        visits.items report.visits.items spools.items report.spools.items report.conversations.items report.tallies.items) }
+    ensures not_size { result ≢ Err HouseFault.Size }
+{
+    let depot = Arc::new(alloc, blank.open::<N>())?;
+    let plan = Plan::new(
+        alloc, &depot, &site, &clock, capacity, visits, spools, gates,
+    )?;
+    plan.run(rt, &depot)
+}
