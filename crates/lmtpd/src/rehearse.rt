@@ -12,3 +12,5 @@ pub use ending::{Ending, Rehearsed};
 pub use lmtp_house::{EndCause, HouseFault};
 pub use run::rehearse_run;
 
+#[cfg(test)]
+mod tests;
