@@ -1,16 +1,16 @@
 -- The mailboxes of a server that has run, by their spools and what their workers say of them.
-use Rattle.std.proofs.Common.{◌≡◌, ℕ, zero, suc, ◌+◌, ◌<◌, List, [], ◌∷◌, ◌++◌, length, map, take, drop, replicate, Bool, true, false, Option, Some, None, inl, inr, refl, ap, sym, ◌∙◌, subst, true≢false, arith}
-use Rattle.std.specs.Prelude.{not, slice_get, ◌||◌, ◌↔◌}
+use Rattle.std.proofs.Common.{◌≡◌, ℕ, zero, suc, ◌+◌, ◌<◌, List, [], ◌∷◌, ◌++◌, length, map, take, drop, replicate, Bool, true, false, Option, Some, inl, inr, refl, ap, sym, ◌∙◌, subst, arith}
+use Rattle.std.specs.Prelude.{not, slice_get, ◌||◌}
 use Rattle.std.specs.List.{list_any}
 use Rattle.std.proofs.lemmas.List.{append-nil, take-append-drop, take_all, drop_all}
 use Rattle.mail_world.specs.declared.Note.{Note}
 use Rattle.mail_world.specs.declared.Outcome.{Outcome}
 use Rattle.mail_world.specs.declared.Outcome.TheVariants.{Stored, Failed}
 use Rattle.mail_world.specs.Records.{Calendar, mailbox}
-use Rattle.mail_world.specs.Deliveries.{IsFront, IsTorn, is_none, HoldsCopies}
+use Rattle.mail_world.specs.Deliveries.{is_none, HoldsCopies}
 use Rattle.mbox_rd.specs.MemorySpool.{MemorySpool}
 use Rattle.mbox_rd.specs.Spool.{SpoolState, IsFull}
-use Rattle.box_worker.specs.Stored.{HasStored, IsTornAt}
+use Rattle.box_worker.specs.Stored.{HasStored}
 use Rattle.lmtp_house.specs.declared.house.report.Tally.{Tally}
 use Rattle.lmtpd.specs.declared.rehearse.parts.TheConstants.{MAILBOX_ROOM}
 use Rattle.lmtpd.specs.Mailboxes.{Kept, kept_all, kept_at, bytes_of_all, empty_spool, IsCalm}
@@ -130,9 +130,9 @@ holds_stored calendar host spool notes n true h = elim (h.torn refl) [
     fails = some_lost n notes some.1;
   }
   | inr none ↦ (
-    let full = is_full calendar host spool notes n true h refl in
-    let nothing : none.0 ≡ [] = no_front none.0 none.3.rest none.3.whole in
-    let empty : length spool.bytes ≡ 0 = ap length (none.2 ∙ nothing) in
-    absurd (omega (arith, full, empty))
-  )
+      let full = is_full calendar host spool notes n true h refl in
+      let nothing : none.0 ≡ [] = no_front none.0 none.3.rest none.3.whole in
+      let empty : length spool.bytes ≡ 0 = ap length (none.2 ∙ nothing) in
+      absurd (omega (arith, full, empty))
+      )
 ]

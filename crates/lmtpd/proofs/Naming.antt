@@ -1,8 +1,7 @@
 -- The slips that are owed for all copies of a conversation: each names its copy, and no other names the same.
-use Rattle.std.proofs.Common.{◌≡◌, ℕ, ◌+◌, ◌<◌, List, [], ◌∷◌, ◌++◌, Bool, true, false, cond, inl, inr, refl, ap, sym, ◌∙◌, subst, arith}
+use Rattle.std.proofs.Common.{◌≡◌, ℕ, ◌+◌, List, [], ◌∷◌, ◌++◌, Bool, true, false, cond, inl, inr, refl, ap, sym, ◌∙◌, arith}
 use Rattle.std.specs.Prelude.{filter, ◌==◌, ◌&&◌, nat_lt, if◌then◌else◌}
 use Rattle.std.specs.List.{AllByRecursion}
-use Rattle.std.proofs.lemmas.Bool.{eq-eqb}
 use Rattle.std.proofs.lemmas.Bool.Decides.{nat_tests}
 use Rattle.mail_world.specs.declared.Note.{Note}
 use Rattle.mail_world.specs.declared.Slip.{Slip}
@@ -65,7 +64,7 @@ names_as txn place slip e =
     (same_number slip.txn.number txn.number both.0, same_number slip.place place both.1)
 
 not_from : (n p number place : ℕ) → IsFrom n (p + 1) number place → number ≡ n → place ≡ p → ⊥
-not_from n p number place h e f = elim h [ | inl a ↦ omega arith | inr a ↦ (let low = a.1 in omega arith) ]
+not_from n p number place h e f = elim h [ inl a ↦ omega arith | inr a ↦ (let low = a.1 in omega arith) ]
 
 agrees_later : (slip other : Slip) → IsFrom slip.txn.number (slip.place + 1) other.txn.number other.place → Agrees slip other
 agrees_later slip other from e =
@@ -123,7 +122,7 @@ module _ (stored : ℕ → ℕ) where
       let here = from_then n p m q x.txn.number x.place from rise.0 in (
         here,
         slips_rise xs (λ b. one_more count x.mailbox b) n p x.txn.number (x.place + 1) rise.1
-        (from_then n p x.txn.number x.place x.txn.number (x.place + 1) here (inr (refl, omega arith))),
+            (from_then n p x.txn.number x.place x.txn.number (x.place + 1) here (inr (refl, omega arith))),
       )
 
   -- each of them agrees with all
@@ -132,10 +131,9 @@ module _ (stored : ℕ → ℕ) where
   all_agree (x ∷ xs) count n p rise =
       let slip : Slip = slip_of x.mailbox x (nat_lt (count x.mailbox) (stored x.mailbox)) in
       let rest : List Slip = slips_all (λ b. one_more count x.mailbox b) xs in
-      let later : AllByRecursion (IsSlipFrom x.txn.number (x.place + 1)) rest = slips_rise xs (λ b. one_more count x.mailbox b) x.txn.number (x.place + 1) x.txn.number (x.place + 1) rise.1 (inr (refl, omega arith)) in
-      (
+      let later : AllByRecursion (IsSlipFrom x.txn.number (x.place + 1)) rest = slips_rise xs (λ b. one_more count x.mailbox b) x.txn.number (x.place + 1) x.txn.number (x.place + 1) rise.1 (inr (refl, omega arith)) in (
         ((λ e. refl), all_map (IsSlipFrom x.txn.number (x.place + 1)) (λ other. Agrees other slip) rest (λ other from. agrees_earlier slip other from) later),
         all_both (λ other. Agrees slip other) (λ other. AllByRecursion (λ third. Agrees third other) rest) rest
-        (all_map (IsSlipFrom x.txn.number (x.place + 1)) (λ other. Agrees slip other) rest (λ other from. agrees_later slip other from) later)
-        (all_agree xs (λ b. one_more count x.mailbox b) x.txn.number (x.place + 1) rise.1),
+            (all_map (IsSlipFrom x.txn.number (x.place + 1)) (λ other. Agrees slip other) rest (λ other from. agrees_later slip other from) later)
+            (all_agree xs (λ b. one_more count x.mailbox b) x.txn.number (x.place + 1) rise.1),
       )

@@ -1,6 +1,6 @@
 -- A rehearsal from its parts: the run of the server, and how the mailboxes were written.
-use Rattle.std.proofs.Common.{◌≡◌, ℕ, cond, ◌<◌, ◌+◌, ◌-◌, List, [], ◌∷◌, ◌++◌, length, map, take, drop, replicate, Bool, true, false, Option, Some, None, inl, inr, refl, ap, sym, ◌∙◌, subst, append-nil, arith}
-use Rattle.std.specs.Prelude.{filter, ◌==◌, ◌^◌, ◌↔◌, slice_get, IfOk}
+use Rattle.std.proofs.Common.{◌≡◌, ℕ, cond, ◌<◌, ◌-◌, List, [], ◌∷◌, ◌++◌, length, map, take, drop, replicate, Bool, true, false, Option, Some, inl, inr, refl, ap, sym, ◌∙◌, subst, append-nil, arith}
+use Rattle.std.specs.Prelude.{filter, ◌==◌, ◌^◌, slice_get}
 use Rattle.std.specs.List.{AllByRecursion, list_any}
 use Rattle.std.specs.Io.KnownBytes.{Appends, Consumes}
 use Rattle.std.proofs.lemmas.List.{length-map, length-replicate}
@@ -24,7 +24,7 @@ use Rattle.mbox_rd.specs.MemorySpool.{MemorySpool}
 use Rattle.lmtp_house.specs.declared.ending.EndCause.{EndCause}
 use Rattle.lmtp_house.specs.declared.ending.EndCause.TheVariants.{WriteFault}
 use Rattle.lmtp_house.specs.declared.house.report.Tally.{Tally}
-use Rattle.lmtp_house.specs.House.{HasRun, IsLaneWork, IsBoxWork, LaneWork, BoxWork}
+use Rattle.lmtp_house.specs.House.{HasRun, IsBoxWork, LaneWork, BoxWork}
 use Rattle.lmtp_house.specs.Peer.{PeerState}
 use Rattle.lmtp_house.specs.Served.{IsWritten, has_quit, transactions_in}
 use Rattle.lmtp_house.specs.Visits.{Finished, Visit, IsVisit, conversations_of, finished_of}
@@ -33,7 +33,7 @@ use Rattle.lmtpd.specs.declared.rehearse.client.OnlyClient.TheVariants.{Waiting,
 use Rattle.lmtpd.specs.Account.{conversation, IsAllStored}
 use Rattle.lmtpd.specs.Client.{MayGive, told as told_by, is_over, IsOnlyOver}
 use Rattle.lmtpd.specs.Mailboxes.{Kept, kept_all, kept_at, bytes_of_all, empty_spool, texts_of_mailboxes, IsCalm}
-use Rattle.lmtpd.specs.Rehearsal.{IsAccountAt, AreMailboxes, EndsFor, IsHeld, IsListed, IsRehearsed}
+use Rattle.lmtpd.specs.Rehearsal.{AreMailboxes, EndsFor, IsHeld, IsListed, IsRehearsed}
 use Rattle.lmtpd.proofs.Boxes.{state_of, get_some, get_same, kept_is, length-kept, bytes_are, none_failed, all_calm, is_full, holds_stored}
 use Rattle.lmtpd.proofs.Rising.{NumbersRise, numbers_rise}
 use Rattle.lmtpd.proofs.Written.{Appends-then}

@@ -98,8 +98,8 @@ IsFrom n p number place = (n < number) ⊎ ((n ≡ number) × (p ≤ place))
 
 pub from_then : (n p m q k r : ℕ) → IsFrom n p m q → IsFrom m q k r → IsFrom n p k r
 from_then n p m q k r h g = elim h [
-  | inl a ↦ elim g [ | inl b ↦ inl (omega arith) | inr b ↦ inl (let e = b.0 in omega arith) ]
-  | inr a ↦ elim g [ | inl b ↦ inl (let e = a.0 in omega arith) | inr b ↦ inr (let e = a.0 in let f = b.0 in let u = a.1 in let v = b.1 in (omega arith, omega arith)) ]
+  | inl a ↦ elim g [ inl b ↦ inl (omega arith) | inr b ↦ inl (let e = b.0 in omega arith) ]
+  | inr a ↦ elim g [ inl b ↦ inl (let e = a.0 in omega arith) | inr b ↦ inr (let e = a.0 in let f = b.0 in let u = a.1 in let v = b.1 in (omega arith, omega arith)) ]
 ]
 
 -- the copies rise from that number and place on
@@ -108,7 +108,7 @@ CopiesRise n p [] = ⊤
 CopiesRise n p (x ∷ xs) = IsFrom n p x.txn.number x.place × CopiesRise x.txn.number (x.place + 1) xs
 
 below : (n p number place : ℕ) → IsFrom n p number place → n ≤ number
-below n p number place h = elim h [ | inl a ↦ omega arith | inr a ↦ (let e = a.0 in omega arith) ]
+below n p number place h = elim h [ inl a ↦ omega arith | inr a ↦ (let e = a.0 in omega arith) ]
 
 transaction_rises : (t : Transaction) (place : ℕ) (boxes : List ℕ) (n p : ℕ) (rest : List Note) → IsFrom n p t.number place
     → ((m q : ℕ) → m ≤ t.number → CopiesRise m q rest) → CopiesRise n p (copies_from 0 t place boxes ++ rest)

@@ -39,11 +39,7 @@ impl Fault {
         ensures { result ≡ status_of self }
     {
         match self {
-            Fault::Memory
-            | Fault::Size
-            | Fault::NoThread
-            | Fault::ChannelGone
-            | Fault::Device => 1,
+            Fault::Memory | Fault::Size | Fault::NoThread | Fault::ChannelGone | Fault::Device => 1,
             Fault::Host | Fault::Domain | Fault::Box | Fault::TooManyBoxes | Fault::BoxTwice => 2,
         }
     }

@@ -50,7 +50,9 @@ where
     };
     let held = hold(rt, alloc, site.clone()?, blocks, moment, peer)?;
     let StreamPeer {
-        reader, mut writer, ..
+        reader,
+        mut writer,
+        ..
     } = held.peer;
     let cut = is_cut(&site, &held.spools, &mut writer);
     let ending = Ending {
