@@ -32,8 +32,9 @@ module _ (calendar : Calendar) (host : List ℕ) (note : Note) where
   torn_at_more held copies n bytes within h = elim h [
     | inl some ↦ inl (
       some.0,
-      some.1 ∙ ap (λ (front : List Note). mailbox calendar host held front ++ some.0) (sym (take-append-le n copies (note ∷ []) within)),
-      (let P : List Note → Type 0 = λ l. IsTorn calendar host l some.0 in subst P (sym (drop-append-le n copies (note ∷ []) within)) (torn_more (drop n copies) some.0 some.2)),
+      omega (arith, some.1, one_more copies note),
+      some.2 ∙ ap (λ (front : List Note). mailbox calendar host held front ++ some.0) (sym (take-append-le n copies (note ∷ []) within)),
+      (let P : List Note → Type 0 = λ l. IsTorn calendar host l some.0 in subst P (sym (drop-append-le n copies (note ∷ []) within)) (torn_more (drop n copies) some.0 some.3)),
     )
     | inr none ↦ inr none
   ]
@@ -69,6 +70,7 @@ module _ (calendar : Calendar) (host : List ℕ) (note : Note) where
       let P : List Note → Type 0 = λ l. IsTorn calendar host l front in
       inl (
         front,
+        omega (arith, all, one_more copies note),
         a ∙ ap (λ (l : List ℕ). l ++ front) (before ∙ ap (λ (l : List Note). mailbox calendar host held l) (sym taken)),
         subst P (sym left) (record { rest = rest; whole = is }),
       )

@@ -48,10 +48,10 @@ TakesCopy text Failed old new = (new.faulty ≡ true) × (new.stored ≡ old.sto
     × (((old.faulty ≡ true) × (new.state ≡ old.state)) ⊎ ((old.faulty ≡ false) × HasNotKept old.state new.state text))
 TakesCopy text _ old new = ⊥
 
--- What a spool that held these bytes holds once its worker failed: its first copies' records and a front of the next one, or a front of what mending wants.
+-- What a spool that held these bytes holds once its worker failed: the first copies' records and a front of that of the next one, which is lost, or a front of what mending wants.
 abbrev pub IsTornAt : Calendar → List ℕ → List ℕ → List Note → ℕ → List ℕ → Type 0
 IsTornAt calendar host old copies stored bytes =
-    ((torn : List ℕ) × (bytes ≡ mailbox calendar host old (take stored copies) ++ torn) × IsTorn calendar host (drop stored copies) torn)
+    ((torn : List ℕ) × (stored < length copies) × (bytes ≡ mailbox calendar host old (take stored copies) ++ torn) × IsTorn calendar host (drop stored copies) torn)
     ⊎ ((front : List ℕ) × (stored ≡ 0) × (bytes ≡ old ++ front) × IsFront front (mended old))
 
 -- The first copies are stored: all of them unless the worker is faulty, which it is only where the spool failed, and one with a limit is full.

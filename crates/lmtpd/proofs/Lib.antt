@@ -1,8 +1,9 @@
-pub mod Delivered
-pub mod Copies
-pub mod Keeping
 pub mod Written
 pub mod Listed
+pub mod Rising
+pub mod Naming
+pub mod Telling
+pub mod Boxes
 pub mod Ran
 pub mod Calls
 pub mod Numbers

@@ -7,6 +7,8 @@ use Rattle.lmtp_text.specs.declared.site.SiteFault.{SiteFault}
 use Rattle.lmtp_text.specs.declared.site.SiteFault.TheVariants as cause
 use Rattle.lmtpd.specs.declared.rehearse.ending.Ending.{Ending}
 use Rattle.lmtp_house.specs.declared.ending.EndCause.{EndCause}
+use Rattle.lmtp_house.specs.declared.house.fault.HouseFault.{HouseFault}
+use Rattle.lmtp_house.specs.declared.house.fault.HouseFault.TheVariants as house
 use Rattle.lmtp_house.specs.declared.ending.EndCause.TheVariants.{ReadFault, WriteFault}
 use Rattle.lmtpd.specs.declared.fault.Fault.{Fault}
 use Rattle.lmtpd.specs.declared.fault.Fault.TheVariants as fault
@@ -20,6 +22,9 @@ use Rattle.clap.specs.declared.error.kind.ErrorKind.TheVariants.{DisplayHelp, Di
 -- the program's exit status
 abbrev pub status_of : Fault → ℕ
 status_of fault.Memory = 1
+status_of fault.Size = 1
+status_of fault.NoThread = 1
+status_of fault.ChannelGone = 1
 status_of fault.Device = 1
 status_of _ = 2
 
@@ -31,6 +36,13 @@ refusal cause.Domain = fault.Domain
 refusal cause.Box = fault.Box
 refusal cause.Count = fault.TooManyBoxes
 refusal cause.Twice = fault.BoxTwice
+
+-- the fault for a server that didn't run
+abbrev pub house_refusal : HouseFault → Fault
+house_refusal house.Memory = fault.Memory
+house_refusal house.Size = fault.Size
+house_refusal house.ChannelGone = fault.ChannelGone
+house_refusal house.NoThread = fault.NoThread
 
 abbrev pub is_memory : ErrorKind → Bool
 is_memory OutOfMemory = true

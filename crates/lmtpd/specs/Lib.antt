@@ -1,7 +1,5 @@
-pub mod Storing
 pub mod Mailboxes
-pub mod Delivery
-pub mod Drafts
+pub mod Client
 pub mod Account
 pub mod Output
 pub mod Rehearsal

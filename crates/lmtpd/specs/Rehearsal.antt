@@ -1,21 +1,22 @@
 -- What a rehearsal comes to: its replies and its mailboxes, for an account of what became of the data.
-use Rattle.std.specs.Prelude.{◌≡◌, ◌↔◌, ◌⊎◌, ◌<◌, ◌≤◌, ℕ, Bool, true, false, List, [], ◌∷◌, ◌++◌, length, Option}
+use Rattle.std.specs.Prelude.{◌≡◌, ◌↔◌, ◌⊎◌, ◌<◌, ◌≤◌, ℕ, Bool, true, false, List, [], ◌∷◌, ◌++◌, length, map, Option}
 use Rattle.std.specs.List.{AllByRecursion}
 use Rattle.std.specs.Io.KnownBytes.{Consumes, Appends, IsAtEnd}
-use Rattle.mail_world.specs.declared.limits.TheConstants.{READ_LIMIT}
-use Rattle.lmtpd.specs.declared.rehearse.mailbox.TheConstants.{MAILBOX_ROOM}
+use Rattle.mail_world.specs.declared.limits.TheConstants.{READ_LIMIT, BLOCK_LIMIT}
+use Rattle.lmtpd.specs.declared.rehearse.parts.TheConstants.{MAILBOX_ROOM}
 use Rattle.mail_world.specs.Site.{Site}
+use Rattle.mbox_rd.specs.MemorySpool.{MemorySpool}
 use Rattle.mail_world.specs.Conversation.{Disposition, IsAccount, inputs, replies}
-use Rattle.mail_world.specs.Lists.{Transaction, VerdictFits, transactions, due}
+use Rattle.mail_world.specs.Lists.{VerdictFits, transactions, due}
 use Rattle.mail_world.specs.Records.{mailbox}
 use Rattle.mail_world.specs.Deliveries.{HoldsCopies, told}
 use Rattle.lmtp_text.specs.Calendar.{civil_at}
 use Rattle.lmtp_house.specs.declared.ending.EndCause.{EndCause}
 use Rattle.lmtp_house.specs.declared.ending.EndCause.TheVariants.{Quit, EndOfInput, WriteFault, Stopped, ReadBound}
-use Rattle.lmtp_house.specs.Served.{IsWritten, has_quit, accepted_behind_all, transactions_in}
+use Rattle.lmtp_house.specs.Served.{IsWritten, has_quit}
 use Rattle.lmtpd.specs.declared.rehearse.ending.Ending.{Ending}
-use Rattle.lmtpd.specs.Mailboxes.{Kept, kept_at, mailboxes_text, IsCalm}
-use Rattle.lmtpd.specs.Account.{conversation, RoomFits, IsAllStored}
+use Rattle.lmtpd.specs.Mailboxes.{Kept, kept_at, mailboxes_text, bytes_of_all, IsCalm}
+use Rattle.lmtpd.specs.Account.{conversation, IsAllStored}
 
 -- the account of a conversation whose bytes were read: what became of its data, each at that moment
 pub record IsAccountAt (site : Site) (moment : ℕ) (read : List ℕ) (account : List Disposition) : Type 0 where
@@ -23,8 +24,6 @@ pub record IsAccountAt (site : Site) (moment : ℕ) (read : List ℕ) (account :
   pub moments : AllByRecursion (λ d. d.moment ≡ moment) account
   -- too large exactly where the message is above the limit and a number is left
   pub verdicts : AllByRecursion VerdictFits (transactions site 0 (conversation read account ∷ []))
-  -- no room only where no number is left
-  pub room : AllByRecursion RoomFits (transactions site 0 (conversation read account ∷ []))
 
 -- the mailboxes, in the order of the site, by that account
 pub record AreMailboxes (site : Site) (read : List ℕ) (account : List Disposition) (mailboxes : List Kept) (faulty : Bool) : Type 0 where
@@ -64,22 +63,26 @@ pub record IsRehearsed (site : Site) (moment : ℕ) (unread left before after : 
   pub lists : IsWritten (mailboxes_text site.boxes mailboxes) (ending.cut ≡ true) listed
   pub ends : EndsFor site read account left ending.end
 
--- From a reader and a writer that stood so to ones that stand so: one conversation, which nobody stopped, and from what the delivery had come to, to what it has come to.
-pub record IsHeld (site : Site) (unread left before after : Option (List ℕ)) (Before After : ℕ → List Transaction → Type 0) (end : EndCause) : Type 0 where
+-- A conversation that was held, from a reader and a writer that stood so to ones that stand so, and the spools behind it.
+pub record IsHeld (site : Site) (moment : ℕ) (unread left before after : Option (List ℕ)) (spools : List MemorySpool) (faulty : Bool) (end : EndCause) : Type 0 where
   pub read : List ℕ
   pub input : Consumes unread left read
   pub account : List Disposition
-  pub accounted : IsAccount site (conversation read account)
+  pub accounted : IsAccountAt site moment read account
+  pub mailboxes : List Kept
+  pub delivered : AreMailboxes site read account mailboxes faulty
+  pub holds : map (λ k. k.bytes) mailboxes ≡ bytes_of_all spools
   pub said : List ℕ
   pub output : Appends before after said
   pub says : IsWritten (replies site (inputs site (conversation read account))) (end ≡ WriteFault) said
-  pub delivered : (n : ℕ) (ts : List Transaction) → Before n ts → After (accepted_behind_all site n (conversation read account)) (ts ++ transactions_in site n (conversation read account))
   pub ends : EndsFor site read account left end
 
--- behind a conversation that ended so the mailboxes are written
-pub record IsListed (names : List (List ℕ)) (mailboxes : List Kept) (end : EndCause) (before after : Option (List ℕ)) (ending : Ending) : Type 0 where
-  pub same : ending.end ≡ end
+-- a text was written behind that, or a front of it where it was cut
+pub record IsListed (text : List ℕ) (before after : Option (List ℕ)) (cut : Bool) : Type 0 where
   pub listed : List ℕ
   pub output : Appends before after listed
-  pub lists : IsWritten (mailboxes_text names mailboxes) (ending.cut ≡ true) listed
-  pub sound : (ending.faulty ≡ false) ↔ IsCalm mailboxes
+  pub lists : IsWritten text (cut ≡ true) listed
+
+-- how many blocks there may be
+abbrev pub IsBlockCount : ℕ → Type 0
+IsBlockCount blocks = (1 ≤ blocks) × (blocks ≤ BLOCK_LIMIT)

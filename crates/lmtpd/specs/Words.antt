@@ -1,5 +1,5 @@
 -- What the program's words ask for.
-use Rattle.std.specs.Prelude.{◌≡◌, ◌⊎◌, ◌<◌, ◌^◌, ◌==◌, ℕ, List, [], ◌∷◌, Some, None, option_map, map, true, codes, pos, String, string_bytes}
+use Rattle.std.specs.Prelude.{◌≡◌, ◌⊎◌, ◌<◌, ◌^◌, ◌==◌, ℕ, List, [], ◌∷◌, Option, Some, None, option_map, map, true, codes, pos, String, string_bytes}
 use Rattle.std.specs.declared.alloc.Global.{Global}
 use Rattle.std.specs.Option.{option_map_or}
 use Rattle.std.specs.List.{slice_split}
@@ -10,6 +10,7 @@ use Rattle.clap.specs.Words.{App, Row, Rule, Text, all_of, first_of, new_app, ne
 use Rattle.clap.specs.declared.builder.value_parser.ValueParser.TheVariants as value
 use Rattle.mail_world.specs.Site.{Site}
 use Rattle.lmtp_text.specs.Sites.{site_of, texts}
+use Rattle.lmtpd.specs.declared.words.TheConstants.{DEFAULT_BLOCKS}
 use Rattle.lmtpd.specs.declared.words.Words.{Words}
 
 -- `--host HOST`, which must be given
@@ -29,6 +30,14 @@ time_rule = record (new_rule (codes "time")) {
 abbrev pub domains_rule : Rule
 domains_rule = record (new_rule (codes "domains")) { long = Some (codes "domains"); value_names = 1 }
 
+-- `--blocks BLOCKS`, a number below 2^32
+abbrev pub blocks_rule : Rule
+blocks_rule = record (new_rule (codes "blocks")) {
+  long = Some (codes "blocks");
+  value_names = 1;
+  parser = Some (value.Signed (pos 0) (pos 4294967295));
+}
+
 -- one `BOX` or more
 abbrev pub box_rule : Rule
 box_rule = record (new_rule (codes "box")) {
@@ -38,7 +47,7 @@ box_rule = record (new_rule (codes "box")) {
 }
 
 abbrev pub rehearse_app : App
-rehearse_app = with_rule (with_rule (with_rule (with_rule (new_app (codes "rehearse")) host_rule) time_rule) domains_rule) box_rule
+rehearse_app = with_rule (with_rule (with_rule (with_rule (with_rule (new_app (codes "rehearse")) host_rule) time_rule) domains_rule) blocks_rule) box_rule
 
 abbrev pub bare_app : App
 bare_app = record (new_app (codes "lmtpd")) { top = record (new_app (codes "lmtpd")).top { subcommand_required = true } }
@@ -67,11 +76,17 @@ IsNumber text = IsNumeral 10 (without_leading_plus text) × (number text < 2 ^ 3
 abbrev pub parts : Text → List Text
 parts text = slice_split (λ b. b == 44) text
 
+-- the number of blocks: that of the text that is given, and else the usual one
+abbrev pub IsBlocksRead : Option Text → ℕ → Type 0
+IsBlocksRead None blocks = blocks ≡ DEFAULT_BLOCKS
+IsBlocksRead (Some text) blocks = IsNumber text → blocks ≡ number text
+
 -- what the values of a rehearsal's arguments ask for
 abbrev pub IsRead : List Row → Words → Type 0
 IsRead rows words = (first_of (codes "host") rows ≡ Some words.host.now)
     × (option_map number (one_of (codes "time") rows) ≡ Some words.time)
     × (texts words.domains.items ≡ option_map_or parts (first_of (codes "domains") rows) [])
+    × IsBlocksRead (one_of (codes "blocks") rows) words.blocks
     × (all_of (codes "box") rows ≡ Some (texts words.boxes.items))
 
 -- an argument that must be given has no value, or no number

@@ -1,7 +1,7 @@
 //! What the program says on standard error, and the status that it then ends with.
 
 ghost use Rattle.std.specs.Prelude.{◌≡◌, ◌∷◌, IsOk, if◌then◌else◌, Err, Ok};
-ghost use Rattle.lmtpd.specs.Faults.{is_device_fault, refusal, status_of};
+ghost use Rattle.lmtpd.specs.Faults.{house_refusal, is_device_fault, refusal, status_of};
 
 use crate::rehearse::{EndCause, Ending, HouseFault};
 use lmtp_text::SiteFault;
@@ -23,6 +23,12 @@ pub enum Fault {
     BoxTwice,
     #[error("memory")]
     Memory,
+    #[error("size")]
+    Size,
+    #[error("no thread")]
+    NoThread,
+    #[error("channel gone")]
+    ChannelGone,
     #[error("device fault")]
     Device,
 }
@@ -33,7 +39,7 @@ impl Fault {
         ensures { result ≡ status_of self }
     {
         match self {
-            Fault::Memory | Fault::Device => 1,
+            Fault::Memory | Fault::Size | Fault::NoThread | Fault::ChannelGone | Fault::Device => 1,
             Fault::Host | Fault::Domain | Fault::Box | Fault::TooManyBoxes | Fault::BoxTwice => 2,
         }
     }
@@ -75,13 +81,14 @@ impl From<SiteFault> for Fault {
 }
 
 impl From<HouseFault> for Fault {
-    ghost use Rattle.lmtpd.specs.declared.fault.Fault.TheVariants.{Memory};
-
-    ghost from_gives = { λ _ fault. fault ≡ Memory };
+    ghost from_gives = { λ cause fault. fault ≡ house_refusal cause };
 
     fn from(cause: HouseFault) -> Fault {
         match cause {
             HouseFault::Memory => Fault::Memory,
+            HouseFault::Size => Fault::Size,
+            HouseFault::ChannelGone => Fault::ChannelGone,
+            HouseFault::NoThread => Fault::NoThread,
         }
     }
 }

@@ -1,18 +1,15 @@
 //! A rehearsal: one conversation from a reader, its replies and then its mailboxes to a writer.
 
-mod delivery;
-mod draft;
+mod client;
+mod clock;
 mod ending;
-mod mailbox;
 mod output;
+mod parts;
 mod peer;
-mod rehearsal;
 mod run;
-mod setting;
-mod storing;
 
-pub use ending::{Ending, HouseFault};
-pub use lmtp_house::EndCause;
+pub use ending::{Ending, Rehearsed};
+pub use lmtp_house::{EndCause, HouseFault};
 pub use run::rehearse_run;
 
 #[cfg(test)]

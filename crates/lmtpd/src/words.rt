@@ -6,11 +6,14 @@ ghost use Rattle.std.specs.Option.{option_map, option_map_or};
 ghost use Rattle.lmtp_text.specs.Sites.{texts};
 ghost use Rattle.clap.specs.Words.{fault_of as kinds_for};
 ghost use Rattle.clap.specs.declared.builder.command.Command.TheViews.{out-Command as fields_of};
-ghost use Rattle.lmtpd.specs.Words.{IsNumber, IsRead, IsRehearsal, Lacks, given, number, parts, box_rule, domains_rule, host_rule, program_app, rehearse_app, time_rule};
+ghost use Rattle.lmtpd.specs.Words.{IsBlocksRead, IsNumber, IsRead, IsRehearsal, Lacks, given, number, parts, blocks_rule, box_rule, domains_rule, host_rule, program_app, rehearse_app, time_rule};
 
 use clap::error::ErrorKind;
 use clap::{Arg, ArgMatches, Command, Error, value_parser};
 use std::alloc::{AllocError, Global};
+
+/// The blocks for messages on their way where the words name no number of them.
+pub const DEFAULT_BLOCKS: u32 = 8_192;
 
 /// What a rehearsal is asked to do.
 #[derive(Debug, Drop)]
@@ -19,6 +22,8 @@ pub struct Words<'a> {
     /// The moment of each delivery, in seconds since 1970.
     pub time: u32,
     pub domains: Vec<&'a str>,
+    /// The blocks for messages on their way.
+    pub blocks: u32,
     pub boxes: Vec<&'a str>,
 }
 
@@ -83,6 +88,7 @@ fn words_of<'a>(alloc: Global, matches: &ArgMatches<'a>) -> Result<Option<Words<
         host,
         time,
         domains,
+        blocks: blocks_of(matches),
         boxes,
     }))
 }
@@ -92,6 +98,12 @@ fn time_of(matches: &ArgMatches<'_>) -> Option<u32>
         MatchOption result ((t : Text) → text ≡ Some t → IsNumber t → ⊥) (λ time. option_map number text ≡ Some time) }
 {
     matches.get_one::<u32>("time")
+}
+
+fn blocks_of(matches: &ArgMatches<'_>) -> u32
+    ensures { IsBlocksRead (one_of (codes "blocks") (rows_of (found_of matches.now))) result }
+{
+    matches.get_one::<u32>("blocks").unwrap_or(DEFAULT_BLOCKS)
 }
 
 fn domains_of<'a>(alloc: Global, matches: &ArgMatches<'a>) -> Result<Vec<&'a str>, AllocError>
@@ -129,6 +141,7 @@ fn rehearse<'a>(alloc: Global) -> Result<Command<'a>, AllocError>
         .arg(host(alloc))?
         .arg(time(alloc))?
         .arg(domains(alloc))?
+        .arg(blocks(alloc))?
         .arg(boxes(alloc))?;
     Ok(rehearse)
 }
@@ -164,6 +177,17 @@ fn domains<'a>(alloc: Global) -> Arg<'a>
         .long("domains")
         .value_name("DOMAIN,..")
         .help("Further domains that are served here")
+}
+
+fn blocks<'a>(alloc: Global) -> Arg<'a>
+    ensures rule { rule_of result ≡ blocks_rule }
+    ensures local { result.global ≡ false }
+{
+    Arg::new(alloc, "blocks")
+        .long("blocks")
+        .value_name("BLOCKS")
+        .help("Blocks of 512 bytes for messages on their way, 1 to 65536 [default: 8192]")
+        .value_parser(value_parser!(u32))
 }
 
 fn boxes<'a>(alloc: Global) -> Arg<'a>

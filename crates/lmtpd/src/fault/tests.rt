@@ -11,6 +11,9 @@ fn each_fault_has_its_text_and_status(rt: HostRuntime) -> Result<(), Fail> {
         (Fault::TooManyBoxes, "too many boxes", 2),
         (Fault::BoxTwice, "box named twice", 2),
         (Fault::Memory, "memory", 1),
+        (Fault::Size, "size", 1),
+        (Fault::NoThread, "no thread", 1),
+        (Fault::ChannelGone, "channel gone", 1),
         (Fault::Device, "device fault", 1),
     ];
     for (fault, text, status) in table {

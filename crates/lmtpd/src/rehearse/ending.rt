@@ -1,8 +1,6 @@
 //! How a rehearsal ends.
 
 use lmtp_house::EndCause;
-use std::alloc::AllocError;
-use thiserror::Error;
 
 /// What a rehearsal came to.
 #[derive(Clone, Copy, Debug, PartialEq, Eq)]
@@ -14,21 +12,10 @@ pub struct Ending {
     pub cut: bool,
 }
 
-/// Why there was no rehearsal, or none to its end.
-#[derive(Clone, Copy, Debug, PartialEq, Eq, Error)]
-pub enum HouseFault {
-    /// A growth of memory was refused; nothing was written.
-    #[error("memory")]
-    Memory = 1,
-}
-
-impl From<AllocError> for HouseFault {
-    ghost use Rattle.std.specs.Prelude.{◌≡◌};
-    ghost use Rattle.lmtpd.specs.declared.rehearse.ending.HouseFault.{HouseFault};
-
-    ghost from_gives = { λ _ fault. fault ≡ HouseFault.Memory };
-
-    fn from(_error: AllocError) -> HouseFault {
-        HouseFault::Memory
-    }
+/// A rehearsal's ending, with its reader and its writer handed back.
+#[derive(Drop)]
+pub struct Rehearsed<R, W> {
+    pub ending: Ending,
+    pub reader: R,
+    pub writer: W,
 }

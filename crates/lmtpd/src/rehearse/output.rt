@@ -3,11 +3,11 @@
 ghost use Rattle.std.specs.Prelude.{◌≡◌, ◌++◌, length, flat_map, OnOk, OnErr};
 ghost use Rattle.std.specs.Io.KnownBytes.{Appends};
 ghost use Rattle.lmtpd.specs.Output.{Breaks};
-ghost use Rattle.lmtpd.specs.Mailboxes.{kept_all, mailbox_line, mailboxes_text};
+ghost use Rattle.lmtpd.specs.Mailboxes.{bytes_of_all, mailbox_line, texts_of_mailboxes};
 
-use super::mailbox::Mailbox;
 use itoa::Buffer;
 use lmtp_text::Site;
+use mbox_rd::MemorySpool;
 use std::io::Write;
 use thiserror::Error;
 
@@ -60,15 +60,15 @@ fn write_mailbox<W: Write>(writer: &mut W, name: &[u8], bytes: &[u8]) -> Result<
 pub fn write_mailboxes<W: Write>(
     writer: &mut W,
     site: &Site,
-    mailboxes: &[Mailbox],
+    spools: &[MemorySpool],
 ) -> Result<(), WriteFault>
-    requires { length mailboxes.now ≡ length site.now.boxes }
-    ensures ok { OnOk result (Appends (W.contents writer.old) (W.contents writer.new) (mailboxes_text site.now.boxes (kept_all mailboxes.now))) }
-    ensures err { OnErr result (Breaks (W.contents writer.old) (W.contents writer.new) (mailboxes_text site.now.boxes (kept_all mailboxes.now))) }
+    requires { length spools.now ≡ length site.now.boxes }
+    ensures ok { OnOk result (Appends (W.contents writer.old) (W.contents writer.new) (texts_of_mailboxes site.now.boxes (bytes_of_all spools.now))) }
+    ensures err { OnErr result (Breaks (W.contents writer.old) (W.contents writer.new) (texts_of_mailboxes site.now.boxes (bytes_of_all spools.now))) }
 {
     for number in 0..site.box_count() {
-        let mailbox = &mailboxes[number as usize];
-        write_mailbox(writer, site.box_name(number), mailbox.spool.bytes())?;
+        let spool = &spools[number as usize];
+        write_mailbox(writer, site.box_name(number), spool.bytes())?;
     }
     Ok(())
 }

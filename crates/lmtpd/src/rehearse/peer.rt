@@ -1,27 +1,27 @@
 //! A reader and a writer as the one peer of a conversation.
 
-ghost use Rattle.std.specs.Prelude.{[], ◌∷◌, None};
+ghost use Rattle.std.specs.Prelude.{[], None};
 
 use lmtp_house::{Came, Peer, PeerFault};
 use std::io::{Read, Write};
 
 /// A client whose bytes come from a reader, and whose replies go to a writer. It never says that the server is to stop.
 #[derive(Drop)]
-pub struct StreamPeer<'a, R: Read, W: Write> {
-    pub reader: &'a mut R,
-    pub writer: &'a mut W,
+pub struct StreamPeer<R, W> {
+    pub reader: R,
+    pub writer: W,
     /// How many reads and writes failed; it stays at its largest value.
     pub failures: u64,
 }
 
-impl<R: Read, W: Write> Peer for StreamPeer<'_, R, W> {
+impl<R: Read, W: Write> Peer for StreamPeer<R, W> {
     ghost state = { λ p. record {
       read = None;
-      unread = R.remaining p.reader.now;
-      written = W.contents p.writer.now;
+      unread = R.remaining p.reader;
+      written = W.contents p.writer;
       failures = p.failures;
       stops = 0;
-      holds = p.reader.ghost_name ∷ p.writer.ghost_name ∷ [];
+      holds = [];
     } };
 
     fn read(&mut self, buffer: &mut [u8]) -> Result<Came, PeerFault> {

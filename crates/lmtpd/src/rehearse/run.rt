@@ -1,97 +1,138 @@
 //! A rehearsal, from its reader to its writer.
 
-ghost use Rattle.std.specs.Prelude.{◌≡◌, IfOk, OnErr, length};
+ghost use Rattle.std.specs.Prelude.{◌≡◌, ◌⊎◌, [], ◌∷◌, length, IfOk, Err};
 ghost use Rattle.std.specs.List.{list_any};
 ghost use Rattle.std.specs.Arc.{arc_value};
-ghost use Rattle.std.specs.Io.KnownBytes.{Keeps};
-ghost use Rattle.lmtpd.specs.Mailboxes.{kept_all};
-ghost use Rattle.lmtpd.specs.Rehearsal.{IsRehearsed, IsHeld, IsListed};
+ghost use Rattle.lmtpd.specs.Mailboxes.{bytes_of_all, texts_of_mailboxes};
+ghost use Rattle.lmtpd.specs.Client.{IsOnlyOver};
+ghost use Rattle.lmtpd.specs.declared.rehearse.client.OnlyClient.TheVariants as OnlyClient;
+ghost use Rattle.lmtpd.specs.Rehearsal.{IsRehearsed, IsBlockCount, IsHeld, IsListed};
 
-use super::ending::{Ending, HouseFault};
-use super::mailbox::Mailbox;
+use super::client::OnlyClient;
+use super::clock::FixedClock;
+use super::ending::{Ending, Rehearsed};
 use super::output::write_mailboxes;
+use super::parts::{empty_spools, open_gates, sizes};
 use super::peer::StreamPeer;
-use super::rehearsal::Rehearsal;
-use super::setting::Setting;
-use lmtp_house::{Delivery, Dialogue, EndCause, serve};
+use lmtp_house::{EndCause, HouseFault, Tally, run_house};
 use lmtp_text::Site;
+use mbox_rd::MemorySpool;
 use std::alloc::Global;
 use std::io::{Read, Write};
-use std::marker::Brand;
-use std::sync::Arc;
+use std::sync::{Arc, Wait};
+use std::thread::Threads;
 
-/// Serves one conversation at the site, and then writes the mailboxes, each behind the line `mailbox NAME LENGTH`. The replies
-/// to what was read are written before more is read. The mailboxes are empty at the start and lie in memory; every message is
-/// of the given moment, in seconds since 1970. All memory is taken first: where it is wanting nothing is read or written.
-pub fn rehearse_run<R: Read, W: Write>(
+/// Runs a server of one lane at the site for one conversation, and then writes the mailboxes, each behind the line
+/// `mailbox NAME LENGTH`. The mailboxes are empty at the start and lie in memory; every message is of the given moment, in seconds
+/// since 1970. All memory is taken first.
+pub fn rehearse_run<R, W, H>(
+    rt: H,
     alloc: Global,
     site: Arc<Site>,
+    blocks: u32,
     moment: u32,
-    reader: &mut R,
-    writer: &mut W,
-) -> Result<Ending, HouseFault>
-    ensures rehearses { IfOk result (IsRehearsed (arc_value site) moment (R.remaining reader.old) (R.remaining reader.new)
-        (W.contents writer.old) (W.contents writer.new)) }
-    ensures memory { OnErr result (Keeps (W.contents writer.old) (W.contents writer.new)) }
+    reader: R,
+    writer: W,
+) -> Result<Rehearsed<R, W>, HouseFault>
+where
+    R: Read + Drop + Send + 'static,
+    W: Write + Drop + Send + 'static,
+    H: Threads + Wait + Copy + Send + 'static,
+    ensures rehearses { IfOk result (λ rehearsed. IsRehearsed (arc_value site) moment (R.remaining reader) (R.remaining rehearsed.reader)
+        (W.contents writer) (W.contents rehearsed.writer) rehearsed.ending) }
+    ensures only_size { result ≡ Err HouseFault.Size → ¬ IsBlockCount blocks }
+    ensures size { ¬ IsBlockCount blocks → (result ≡ Err HouseFault.Size) ⊎ (result ≡ Err HouseFault.Memory) }
 {
-    rehearse_at::<Brand, R, W>(alloc, site, moment, reader, writer)
-}
-
-// The same, at a type that stands for the site and the moment.
-fn rehearse_at<S: Setting, R: Read, W: Write>(
-    alloc: Global,
-    site: Arc<Site>,
-    moment: u32,
-    reader: &mut R,
-    writer: &mut W,
-) -> Result<Ending, HouseFault>
-    requires here { arc_value site ≡ S.site }
-    requires now { moment ≡ S.moment }
-    ensures rehearses { IfOk result (IsRehearsed S.site S.moment (R.remaining reader.old) (R.remaining reader.new)
-        (W.contents writer.old) (W.contents writer.new)) }
-    ensures memory { OnErr result (Keeps (W.contents writer.old) (W.contents writer.new)) }
-{
-    let mut rehearsal: Rehearsal<S> = Rehearsal::new(alloc, site.box_count(), moment)?;
-    let mut dialogue = Dialogue::new(alloc, site)?;
-    let end = hold(&mut dialogue, &mut rehearsal, reader, writer);
-    Ok(write_out(dialogue.session.site(), &rehearsal.mailboxes, end, writer))
-}
-
-// Serves one conversation with the reader and the writer.
-fn hold<D: Delivery, R: Read, W: Write>(
-    dialogue: &mut Dialogue,
-    delivery: &mut D,
-    reader: &mut R,
-    writer: &mut W,
-) -> EndCause
-    requires { D.site delivery.old ≡ dialogue.old.session.site }
-    ensures held { IsHeld dialogue.old.session.site (R.remaining reader.old) (R.remaining reader.new) (W.contents writer.old) (W.contents writer.new)
-        (D.HasCome delivery.old) (D.HasCome delivery.new) result }
-    ensures same { dialogue.new.session.site ≡ dialogue.old.session.site }
-{
-    let mut peer = StreamPeer {
+    let peer = StreamPeer {
         reader,
         writer,
         failures: 0,
     };
-    serve(dialogue, &mut peer, delivery)
+    let held = hold(rt, alloc, site.clone()?, blocks, moment, peer)?;
+    let StreamPeer {
+        reader,
+        mut writer,
+        ..
+    } = held.peer;
+    let cut = is_cut(&site, &held.spools, &mut writer);
+    let ending = Ending {
+        end: held.end,
+        faulty: held.faulty,
+        cut,
+    };
+    Ok(Rehearsed {
+        ending,
+        reader,
+        writer,
+    })
 }
 
-// Writes the mailboxes, also where a write of the replies has failed.
-fn write_out<W: Write>(site: &Site, mailboxes: &[Mailbox], end: EndCause, writer: &mut W) -> Ending
-    requires { length mailboxes.now ≡ length site.now.boxes }
-    ensures { IsListed site.now.boxes (kept_all mailboxes.now) end (W.contents writer.old) (W.contents writer.new) result }
+/// A conversation that has ended, and the mailboxes behind it.
+#[derive(Drop)]
+struct Held<P> {
+    peer: P,
+    end: EndCause,
+    spools: Vec<MemorySpool>,
+    /// Whether one of them failed.
+    faulty: bool,
+}
+
+// Runs the server until its only client has left.
+fn hold<R, W, H>(
+    rt: H,
+    alloc: Global,
+    site: Arc<Site>,
+    blocks: u32,
+    moment: u32,
+    peer: StreamPeer<R, W>,
+) -> Result<Held<StreamPeer<R, W>>, HouseFault>
+where
+    R: Read + Drop + Send + 'static,
+    W: Write + Drop + Send + 'static,
+    H: Threads + Wait + Copy + Send + 'static,
+    ensures held { IfOk result (λ held. IsHeld (arc_value site) moment (R.remaining peer.reader) (R.remaining held.peer.reader)
+        (W.contents peer.writer) (W.contents held.peer.writer) held.spools.items held.faulty held.end) }
+    ensures only_size { result ≡ Err HouseFault.Size → ¬ IsBlockCount blocks }
+    ensures size { ¬ IsBlockCount blocks → (result ≡ Err HouseFault.Size) ⊎ (result ≡ Err HouseFault.Memory) }
 {
-    let listed = write_mailboxes(writer, site, mailboxes);
-    Ending {
+    let count = site.box_count();
+    let spools = empty_spools(alloc, count)?;
+    let gates = open_gates(alloc, count)?;
+    let mut visits = Vec::with_capacity(alloc, 1)?;
+    visits.push_reserved(OnlyClient::Waiting(peer));
+    let clock = FixedClock { moment };
+    let report = run_house(rt, alloc, site, sizes(blocks), visits, spools, gates, clock)?;
+    let faulty = has_failed(&report.tallies);
+    let (peer, end) = only_client(report.visits);
+    Ok(Held {
+        peer,
         end,
-        faulty: has_failed(mailboxes),
-        cut: listed.is_err(),
+        spools: report.spools,
+        faulty,
+    })
+}
+
+// Takes the client out of the list where it is the only one, and has left.
+fn only_client<P: Drop>(mut clients: Vec<OnlyClient<P>>) -> (P, EndCause)
+    requires { IsOnlyOver clients.items }
+    ensures { clients.items ≡ OnlyClient.Over result.0 result.1 ∷ [] }
+{
+    match clients.pop() {
+        Some(OnlyClient::Over(peer, end)) => (peer, end),
+        _ => unreachable!(),
     }
 }
 
-fn has_failed(mailboxes: &[Mailbox]) -> bool
-    ensures { result ≡ list_any (λ mailbox. mailbox.failed) mailboxes.now }
+fn has_failed(tallies: &[Tally]) -> bool
+    ensures { result ≡ list_any (λ tally. tally.faulty) tallies.now }
 {
-    mailboxes.iter().any(|mailbox| mailbox.failed)
+    tallies.iter().any(|tally| tally.faulty)
+}
+
+// Writes the mailboxes, also where a write of the replies has failed, and says whether a write fails.
+fn is_cut<W: Write>(site: &Site, spools: &[MemorySpool], writer: &mut W) -> bool
+    requires { length spools.now ≡ length site.now.boxes }
+    ensures { IsListed (texts_of_mailboxes site.now.boxes (bytes_of_all spools.now)) (W.contents writer.old) (W.contents writer.new) result }
+{
+    write_mailboxes(writer, site, spools).is_err()
 }

@@ -5,13 +5,15 @@ mod faults;
 mod sizes;
 mod turns;
 
-use super::{EndCause, Ending, HouseFault, rehearse_run};
+use super::{EndCause, Ending, HouseFault, Rehearsed, rehearse_run};
+use crate::words::DEFAULT_BLOCKS;
 use lmtp_text::Site;
 use std::alloc::{AllocError, Global};
 use std::io;
 use std::io::{ErrorKind, Read, Write};
-use std::sync::Arc;
+use std::sync::{Arc, Wait};
 use std::test::Fail;
+use std::thread::Threads;
 
 const GREETING: &str = "220 mx.example LMTP ready";
 
@@ -80,17 +82,38 @@ fn add_times(text: &mut Vec<u8>, piece: &str, times: u32) -> Result<(), AllocErr
     Ok(())
 }
 
-/// A rehearsal at the first moment of 1970.
-fn rehearse<R: Read, W: Write>(
+/// A rehearsal at the first moment of 1970, with so many blocks.
+fn rehearse_in<R, W, H>(
+    rt: H,
     alloc: Global,
     boxes: &[&[u8]],
-    reader: &mut R,
-    writer: &mut W,
-) -> Result<Ending, Fail> {
+    blocks: u32,
+    reader: R,
+    writer: W,
+) -> Result<Result<Rehearsed<R, W>, HouseFault>, Fail>
+where
+    R: Read + Drop + Send + 'static,
+    W: Write + Drop + Send + 'static,
+    H: Threads + Wait + Copy + Send + 'static,
+{
     let site = Site::new(alloc, b"mx.example", &[], boxes)?;
     let site = Arc::new(alloc, site).ok().ok_or(HouseFault::Memory)?;
-    let ending = rehearse_run(alloc, site, 0, reader, writer)?;
-    Ok(ending)
+    Ok(rehearse_run(rt, alloc, site, blocks, 0, reader, writer))
+}
+
+fn rehearse<R, W, H>(
+    rt: H,
+    alloc: Global,
+    boxes: &[&[u8]],
+    reader: R,
+    writer: W,
+) -> Result<Rehearsed<R, W>, Fail>
+where
+    R: Read + Drop + Send + 'static,
+    W: Write + Drop + Send + 'static,
+    H: Threads + Wait + Copy + Send + 'static,
+{
+    Ok(rehearse_in(rt, alloc, boxes, DEFAULT_BLOCKS, reader, writer)??)
 }
 
 /// How a rehearsal ends in which no spool and no write fails.
@@ -102,27 +125,49 @@ fn good(end: EndCause) -> Ending {
     }
 }
 
-/// Gives one byte a read, and then ends or fails.
+/// Gives its bytes, at most so many a read, and then ends or fails.
 #[derive(Drop)]
-struct DripReader<'a> {
-    rest: &'a [u8],
+struct MemoryReader {
+    bytes: Vec<u8>,
+    at: usize,
+    most: usize,
     fails: bool,
 }
 
-impl Read for DripReader<'_> {
+impl MemoryReader {
+    /// Gives as much as there is room for, and then ends.
+    fn new(bytes: Vec<u8>) -> MemoryReader {
+        MemoryReader {
+            bytes,
+            at: 0,
+            most: usize::MAX,
+            fails: false,
+        }
+    }
+
+    /// Gives one byte a read.
+    fn drips(bytes: Vec<u8>, fails: bool) -> MemoryReader {
+        MemoryReader {
+            bytes,
+            at: 0,
+            most: 1,
+            fails,
+        }
+    }
+}
+
+impl Read for MemoryReader {
     fn read(&mut self, buf: &mut [u8]) -> io::Result<usize> {
-        if buf.is_empty() {
+        let Some(rest) = self.bytes.get(self.at..) else {
             return Ok(0);
+        };
+        if rest.is_empty() && self.fails {
+            return Err(ErrorKind::Other.into());
         }
-        match self.rest.split_first() {
-            Some((first, rest)) => {
-                buf[0] = *first;
-                self.rest = rest;
-                Ok(1)
-            }
-            None if self.fails => Err(ErrorKind::Other.into()),
-            None => Ok(0),
-        }
+        let size = rest.len().min(buf.len()).min(self.most);
+        buf[..size].copy_from_slice(&rest[..size]);
+        self.at = self.at.saturating_add(size);
+        Ok(size)
     }
 }
 

@@ -62,6 +62,7 @@ fn refusal(alloc: Global, case: Case) -> Result<Option<Fault>, AllocError> {
         host: case.host,
         time: 0,
         domains: case.domains.to_vec(alloc)?,
+        blocks: 1,
         boxes: case.boxes.to_vec(alloc)?,
     };
     Ok(site_of(alloc, &words).err())
@@ -81,6 +82,7 @@ fn too_many_boxes_are_refused(rt: HostRuntime) -> Result<(), Fail> {
         host: "mx.example",
         time: 0,
         domains: Vec::new(rt.alloc()),
+        blocks: 1,
         boxes: [&MANY[..64], &["h0"]].concat(rt.alloc())?,
     };
     let made = site_of(rt.alloc(), &words);

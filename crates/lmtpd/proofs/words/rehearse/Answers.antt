@@ -8,4 +8,5 @@ returns-clause-shape c =
     let host = c.in_ok-arg.ensures.shape c.host.ensures.local ∙ ap₂ with_rule bare c.host.ensures.rule in
     let time = c.in_ok-arg-2.ensures.shape c.time.ensures.local ∙ ap₂ with_rule host c.time.ensures.rule in
     let domains = c.in_ok-arg-3.ensures.shape c.domains.ensures.local ∙ ap₂ with_rule time c.domains.ensures.rule in
-    c.in_ok-rehearse.ensures.shape c.boxes.ensures.local ∙ ap₂ with_rule domains c.boxes.ensures.rule
+    let blocks = c.in_ok-arg-4.ensures.shape c.blocks-2.ensures.local ∙ ap₂ with_rule domains c.blocks-2.ensures.rule in
+    c.in_ok-rehearse.ensures.shape c.boxes.ensures.local ∙ ap₂ with_rule blocks c.boxes.ensures.rule

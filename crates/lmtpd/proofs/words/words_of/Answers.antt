@@ -17,5 +17,6 @@ returns c =
       sym (first_value-rows f (codes "host")) ∙ sym c.in-Some.ensures,
       c.in-Some-time_of.ensures,
       c.in_ok-domains.ensures,
+      c.blocks_of.ensures,
       sym (raw_values-rows f (codes "box")) ∙ (sym c.in-Some-get_strs.ensures ∙ ap Some (ap texts (sym boxes))),
     )

@@ -379,13 +379,16 @@ pub const CASES: [Case; 17] = [
 #[test]
 fn all_in_one_read(rt: HostRuntime) -> Result<(), Fail> {
     for case in &CASES {
-        let input = said(rt.alloc(), case.input)?;
-        let mut reader = input.as_slice();
-        let mut output = Vec::new(rt.alloc());
-        let ending = rehearse(rt.alloc(), case.boxes, &mut reader, &mut output)?;
+        let reader = MemoryReader::new(said(rt.alloc(), case.input)?);
+        let rehearsed = rehearse(rt, rt.alloc(), case.boxes, reader, Vec::new(rt.alloc()))?;
         let expected = expected_of(rt.alloc(), case)?;
-        assert_eq!(rt; output.as_slice(), expected.as_slice(), "{}", case.name);
-        assert_eq!(rt; ending, good(case.end), "{}", case.name);
+        assert_eq!(rt;
+            rehearsed.writer.as_slice(),
+            expected.as_slice(),
+            "{}",
+            case.name
+        );
+        assert_eq!(rt; rehearsed.ending, good(case.end), "{}", case.name);
     }
     Ok(())
 }
@@ -393,24 +396,20 @@ fn all_in_one_read(rt: HostRuntime) -> Result<(), Fail> {
 #[test]
 fn one_byte_at_once(rt: HostRuntime) -> Result<(), Fail> {
     for case in &CASES {
-        let input = said(rt.alloc(), case.input)?;
-        let mut reader = DripReader {
-            rest: input.as_slice(),
-            fails: false,
-        };
-        let mut writer = DripWriter {
+        let reader = MemoryReader::drips(said(rt.alloc(), case.input)?, false);
+        let writer = DripWriter {
             bytes: Vec::new(rt.alloc()),
             room: usize::MAX,
         };
-        let ending = rehearse(rt.alloc(), case.boxes, &mut reader, &mut writer)?;
+        let rehearsed = rehearse(rt, rt.alloc(), case.boxes, reader, writer)?;
         let expected = expected_of(rt.alloc(), case)?;
         assert_eq!(rt;
-            writer.bytes.as_slice(),
+            rehearsed.writer.bytes.as_slice(),
             expected.as_slice(),
             "{}",
             case.name
         );
-        assert_eq!(rt; ending, good(case.end), "{}", case.name);
+        assert_eq!(rt; rehearsed.ending, good(case.end), "{}", case.name);
     }
     Ok(())
 }

@@ -53,47 +53,43 @@ fn a_read_fails(rt: HostRuntime) -> Result<(), Fail> {
             add_lines(&mut expected, &[*reply])?;
         }
         add_pieces(&mut expected, mailbox)?;
-        let mut reader = DripReader {
-            rest: input.as_slice(),
-            fails: true,
-        };
-        let mut output = Vec::new(rt.alloc());
-        let ending = rehearse(rt.alloc(), ANNA, &mut reader, &mut output)?;
+        let reader = MemoryReader::drips(input, true);
+        let rehearsed = rehearse(rt, rt.alloc(), ANNA, reader, Vec::new(rt.alloc()))?;
         assert_eq!(rt;
-            output.as_slice(),
+            rehearsed.writer.as_slice(),
             expected.as_slice(),
             "after {lines} lines"
         );
-        assert_eq!(rt; ending, good(end), "after {lines} lines");
+        assert_eq!(rt; rehearsed.ending, good(end), "after {lines} lines");
     }
     Ok(())
 }
 
 #[test]
 fn a_write_fails(rt: HostRuntime) -> Result<(), Fail> {
-    let input = said(rt.alloc(), &INPUT)?;
     let mut expected = said(rt.alloc(), REPLIES)?;
     let replies_end = expected.len();
     add_pieces(&mut expected, MAILBOX)?;
     for room in 0..expected.len() {
-        let mut reader = input.as_slice();
-        let mut writer = DripWriter {
+        let reader = MemoryReader::new(said(rt.alloc(), &INPUT)?);
+        let writer = DripWriter {
             bytes: Vec::new(rt.alloc()),
             room,
         };
-        let ending = rehearse(rt.alloc(), ANNA, &mut reader, &mut writer)?;
+        let rehearsed = rehearse(rt, rt.alloc(), ANNA, reader, writer)?;
+        let written = rehearsed.writer.bytes;
         let end = if room < replies_end {
             EndCause::WriteFault
         } else {
             EndCause::Quit
         };
-        assert_eq!(rt; writer.bytes.len(), room);
+        assert_eq!(rt; written.len(), room);
         assert!(rt;
-            expected.starts_with(writer.bytes.as_slice()),
+            expected.starts_with(written.as_slice()),
             "after {room} bytes"
         );
         assert_eq!(rt;
-            ending,
+            rehearsed.ending,
             Ending {
                 end,
                 faulty: false,
@@ -117,13 +113,12 @@ fn a_mailbox_is_full(rt: HostRuntime) -> Result<(), Fail> {
         add_lines(&mut input, &["."])?;
     }
     add_lines(&mut input, &[MAIL, TO_ANNA, TO_BEN, "DATA", ".", "QUIT"])?;
-    let mut reader = input.as_slice();
-    let mut output = Vec::new(rt.alloc());
-    let ending = rehearse(rt.alloc(), ANNA_AND_BEN, &mut reader, &mut output)?;
+    let reader = MemoryReader::new(input);
+    let rehearsed = rehearse(rt, rt.alloc(), ANNA_AND_BEN, reader, Vec::new(rt.alloc()))?;
     let expected = output_of_full_mailbox(rt.alloc())?;
-    assert!(rt; output.as_slice() == expected.as_slice());
+    assert!(rt; rehearsed.writer.as_slice() == expected.as_slice());
     assert_eq!(rt;
-        ending,
+        rehearsed.ending,
         Ending {
             end: EndCause::Quit,
             faulty: true,

@@ -2,7 +2,7 @@
 
 use super::conversations::{CASES, expected_of};
 use super::*;
-use std::cell::Cell;
+use std::sync::atomic::{AtomicBool, Ordering};
 
 /// The first conversation, in the pieces that a client sends one after the other.
 const TURNS: [&str; 6] = [
@@ -14,38 +14,45 @@ const TURNS: [&str; 6] = [
     "QUIT\r\n",
 ];
 
-/// Gives what is left of the first piece, and then the second.
+/// Gives the bytes in two pieces, cut at a place.
 #[derive(Drop)]
-struct TwoPieces<'a> {
-    first: &'a [u8],
-    second: &'a [u8],
+struct TwoPieces {
+    bytes: Vec<u8>,
+    cut: usize,
+    at: usize,
 }
 
-impl Read for TwoPieces<'_> {
+impl Read for TwoPieces {
     fn read(&mut self, buf: &mut [u8]) -> io::Result<usize> {
-        if self.first.is_empty() {
-            self.first = self.second;
-            self.second = b"";
-        }
-        let size = self.first.len().min(buf.len());
-        buf[..size].copy_from_slice(&self.first[..size]);
-        self.first = &self.first[size..];
+        let end = if self.at < self.cut {
+            self.cut
+        } else {
+            self.bytes.len()
+        };
+        let Some(rest) = self.bytes.get(self.at..end) else {
+            return Ok(0);
+        };
+        let size = rest.len().min(buf.len());
+        buf[..size].copy_from_slice(&rest[..size]);
+        self.at = self.at.saturating_add(size);
         Ok(size)
     }
 }
 
 /// Goes on only once something was written since it last did, and ends where it was not.
 #[derive(Drop)]
-struct PatientReader<'a> {
+struct PatientReader {
     next: usize,
-    is_answered: &'a Cell<bool>,
+    is_answered: Arc<AtomicBool>,
 }
 
-impl Read for PatientReader<'_> {
+impl Read for PatientReader {
     fn read(&mut self, buf: &mut [u8]) -> io::Result<usize> {
         match TURNS.get(self.next) {
-            Some(turn) if self.is_answered.get() && turn.len() <= buf.len() => {
-                self.is_answered.set(false);
+            Some(turn) if turn.len() <= buf.len() => {
+                if !self.is_answered.swap(false, Ordering::SeqCst) {
+                    return Ok(0);
+                }
                 self.next += 1;
                 buf[..turn.len()].copy_from_slice(turn.as_bytes());
                 Ok(turn.len())
@@ -56,15 +63,15 @@ impl Read for PatientReader<'_> {
 }
 
 #[derive(Drop)]
-struct NotingWriter<'a> {
+struct NotingWriter {
     bytes: Vec<u8>,
-    is_answered: &'a Cell<bool>,
+    is_answered: Arc<AtomicBool>,
 }
 
-impl Write for NotingWriter<'_> {
+impl Write for NotingWriter {
     fn write(&mut self, buf: &[u8]) -> io::Result<usize> {
-        self.is_answered.set(true);
         self.bytes.extend_from_slice(buf)?;
+        self.is_answered.store(true, Ordering::SeqCst);
         Ok(buf.len())
     }
 
@@ -76,22 +83,21 @@ impl Write for NotingWriter<'_> {
 #[test]
 fn cut_at_every_place(rt: HostRuntime) -> Result<(), Fail> {
     for case in CASES.iter().take(2) {
-        let input = said(rt.alloc(), case.input)?;
         let expected = expected_of(rt.alloc(), case)?;
-        for place in 0..=input.len() {
-            let mut reader = TwoPieces {
-                first: &input[..place],
-                second: &input[place..],
+        for cut in 0..=said(rt.alloc(), case.input)?.len() {
+            let reader = TwoPieces {
+                bytes: said(rt.alloc(), case.input)?,
+                cut,
+                at: 0,
             };
-            let mut output = Vec::new(rt.alloc());
-            let ending = rehearse(rt.alloc(), case.boxes, &mut reader, &mut output)?;
+            let rehearsed = rehearse(rt, rt.alloc(), case.boxes, reader, Vec::new(rt.alloc()))?;
             assert_eq!(rt;
-                output.as_slice(),
+                rehearsed.writer.as_slice(),
                 expected.as_slice(),
-                "{} cut behind {place} bytes",
+                "{} cut behind {cut} bytes",
                 case.name
             );
-            assert_eq!(rt; ending, good(case.end));
+            assert_eq!(rt; rehearsed.ending, good(case.end));
         }
     }
     Ok(())
@@ -99,18 +105,20 @@ fn cut_at_every_place(rt: HostRuntime) -> Result<(), Fail> {
 
 #[test]
 fn each_reply_comes_before_the_next_read(rt: HostRuntime) -> Result<(), Fail> {
-    let is_answered = Cell::new(false);
-    let mut reader = PatientReader {
+    let is_answered = Arc::new(rt.alloc(), AtomicBool::new(false))
+        .ok()
+        .ok_or(HouseFault::Memory)?;
+    let reader = PatientReader {
         next: 0,
-        is_answered: &is_answered,
+        is_answered: is_answered.clone()?,
     };
-    let mut writer = NotingWriter {
+    let writer = NotingWriter {
         bytes: Vec::new(rt.alloc()),
-        is_answered: &is_answered,
+        is_answered,
     };
-    let ending = rehearse(rt.alloc(), ANNA, &mut reader, &mut writer)?;
+    let rehearsed = rehearse(rt, rt.alloc(), ANNA, reader, writer)?;
     let expected = expected_of(rt.alloc(), &CASES[0])?;
-    assert_eq!(rt; writer.bytes.as_slice(), expected.as_slice());
-    assert_eq!(rt; ending, good(EndCause::Quit));
+    assert_eq!(rt; rehearsed.writer.bytes.as_slice(), expected.as_slice());
+    assert_eq!(rt; rehearsed.ending, good(EndCause::Quit));
     Ok(())
 }

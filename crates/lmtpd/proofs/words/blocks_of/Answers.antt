@@ -1,0 +1,15 @@
+use Rattle.std.proofs.Common.{◌∙◌, codes}
+use Rattle.std.specs.Str.Parse.{ParsesUnsigned, ExplainsUnsignedError, HasUnsignedDigitsIfOk}
+use Rattle.clap.specs.Words.{found_of, one_of, rows_of}
+use Rattle.clap.proofs.WalkLemmas.{one_text-rows}
+use Rattle.lmtpd.proofs.Numbers.{blocks_read, number_read}
+use Rattle.lmtpd.proofs.words.blocks_of.Goals as goal
+
+pub returns : goal.returns
+returns c =
+    let f = found_of c.args.matches.now in
+    let e = one_text-rows f (codes "blocks") in
+    let given = one_of (codes "blocks") (rows_of f) in
+    blocks_read given c.get_one.result c.unwrap_or.result
+    (number_read (λ bs r. ParsesUnsigned 32 10 bs r × ExplainsUnsignedError 10 bs r × HasUnsignedDigitsIfOk bs r) (λ text r h. h.0)
+    given c.get_one.result (λ no. c.get_one.ensures.none (e ∙ no)) (λ text is. c.get_one.ensures.value text (e ∙ is))) c.unwrap_or.ensures
