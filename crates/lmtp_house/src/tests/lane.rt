@@ -79,6 +79,7 @@ impl Ran<'_> {
     }
 }
 
+#[derive(Drop)]
 struct Still(u32);
 
 impl Clock for Still {
