@@ -94,8 +94,12 @@ slips_copy : (txn : Txn) (place b stored k i : ℕ) (notes : List Note)
     → count_by (names txn place) (filter (λ slip. slip.txn.lane == k) (slips_from b stored i notes)) ≡ count_by (is_copy txn place) (filter (λ note. note.txn.lane == k) notes)
 slips_copy txn place b stored k i [] = refl
 slips_copy txn place b stored k i (note ∷ notes) =
-    omega (arith, filter_cons (names txn place) (λ slip. slip.txn.lane == k) (slip_of b note (nat_lt i stored)) (slips_from b stored (i + 1) notes), filter_cons (is_copy txn place) (λ note. note.txn.lane == k) note notes,
-    slips_copy txn place b stored k (i + 1) notes)
+    omega (
+      arith,
+      filter_cons (names txn place) (λ slip. slip.txn.lane == k) (slip_of b note (nat_lt i stored)) (slips_from b stored (i + 1) notes),
+      filter_cons (is_copy txn place) (λ note. note.txn.lane == k) note notes,
+      slips_copy txn place b stored k (i + 1) notes,
+    )
 
 -- a transaction has one copy for a place
 place_by : (a b : Bool) (p place : ℕ) → cond (a && b && (p == place)) 1 0 + cond b (cond (nat_lt place (p + 1)) 0 1) 0 ≤ cond b (cond (nat_lt place p) 0 1) 0
@@ -230,8 +234,11 @@ numbers_rise site n m (c ∷ cs) =
     let ps = parts site fresh c.bytes c.dispositions in
     let last = accepted_after site n fresh ps in
     let h = numbered site n c in
-    omega (arith, count-append (λ (t : Transaction). t.number == m) (transactions_of site n fresh ps) (transactions site last cs),
-    after_by n last m (times m (transactions_of site n fresh ps)) (times m (transactions site last cs)) h.grows (h.once m) (numbers_rise site last m cs))
+    omega (
+      arith,
+      count-append (λ (t : Transaction). t.number == m) (transactions_of site n fresh ps) (transactions site last cs),
+      after_by n last m (times m (transactions_of site n fresh ps)) (times m (transactions site last cs)) h.grows (h.once m) (numbers_rise site last m cs),
+    )
 
 at_most_one : (t : Bool) (n : ℕ) → n ≤ cond t 1 0 → n ≤ 1
 at_most_one true n le = le
@@ -251,8 +258,14 @@ named_once site k boxes cs heard works only each owed txn place =
     let by_box : (b : ℕ) → b < boxes → count_by (names txn place) (filter (λ slip. slip.worker == b) heard) ≤ count_by (is_copy txn place) (filter (λ note. note.mailbox == b) notes) =
     λ b low.
     let begun = each b low in
-    omega (arith, count-append (names txn place) (of_worker b heard) begun.rest, ap (count_by (names txn place)) begun.whole, slips_copy txn place b (works b).stored k 0 (works b).taken,
-    ap (count_by (is_copy txn place)) (owed b low), due_counts site k b cs (is_copy txn place)) in
+    omega (
+      arith,
+      count-append (names txn place) (of_worker b heard) begun.rest,
+      ap (count_by (names txn place)) begun.whole,
+      slips_copy txn place b (works b).stored k 0 (works b).taken,
+      ap (count_by (is_copy txn place)) (owed b low),
+      due_counts site k b cs (is_copy txn place),
+    ) in
     let all = no_more (names txn place) (is_copy txn place) (λ slip. slip.worker) (λ note. note.mailbox) boxes heard notes only by_box in
     let one = at_most_one (nat_lt 0 txn.number) (times txn.number (transactions site 0 cs)) (numbers_rise site 0 txn.number cs) in
     omega (arith, all, copies_once txn place k (transactions site 0 cs), one)

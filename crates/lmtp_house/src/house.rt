@@ -6,12 +6,15 @@ mod grid;
 mod lanes;
 mod lines;
 mod plan;
-mod workers;
 pub mod report;
 pub mod run;
 pub mod sizes;
+mod workers;
 
 pub use fault::HouseFault;
 pub use report::{HouseReport, Tally};
 pub use run::run_house;
 pub use sizes::Sizes;
+
+#[cfg(test)]
+mod tests;

@@ -6,10 +6,10 @@ ghost use Rattle.mail_world.specs.declared.limits.TheConstants.{LANE_LIMIT};
 ghost use Rattle.lmtp_house.specs.HousePlan.{IsPlanned, MayRun, HasRunAll};
 
 use crate::house::fault::HouseFault;
-use crate::house::lanes::{LaneEnds, Lanes, lane_jobs};
+use crate::house::lanes::{Lanes, lane_jobs};
 use crate::house::lines::{Closing, open_lines, settle_all};
 use crate::house::report::HouseReport;
-use crate::house::workers::{WorkerEnds, Workers, worker_jobs};
+use crate::house::workers::{Workers, worker_jobs};
 use crate::lane::clock::Clock;
 use crate::lane::visits::Visits;
 use box_worker::Gate;
@@ -110,40 +110,25 @@ where
             drop(working.finish(&rt));
             return Err(HouseFault::NoThread);
         };
-        let LaneEnds {
-            visits,
-            senders,
-            slips: takers,
-            conversations,
-            gone,
-        } = ends;
-        if gone {
-            drop(senders);
-            drop(takers);
+        if ends.gone {
+            drop(ends);
             drop(working.finish(&rt));
             return Err(HouseFault::ChannelGone);
         }
-        let closed = mail.close(&rt, senders);
-        let WorkerEnds {
-            receivers,
-            slips,
-            spools,
-            gates,
-            tallies,
-            lost,
-        } = working.finish(&rt);
-        if lost {
+        let closed = mail.close(&rt, ends.senders);
+        let done = working.finish(&rt);
+        if done.lost {
             return Err(HouseFault::ChannelGone);
         }
-        let slips_closed = slip_closing.close(&rt, slips);
-        settle_all(receivers, closed);
-        settle_all(takers, slips_closed);
+        let slips_closed = slip_closing.close(&rt, done.slips);
+        settle_all(done.receivers, closed);
+        settle_all(ends.slips, slips_closed);
         Ok(HouseReport {
-            visits,
-            spools,
-            gates,
-            conversations,
-            tallies,
+            visits: ends.visits,
+            spools: done.spools,
+            gates: done.gates,
+            conversations: ends.conversations,
+            tallies: done.tallies,
             free_blocks: depot.free_blocks(&rt),
         })
     }

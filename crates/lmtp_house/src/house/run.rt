@@ -51,7 +51,9 @@ where
     let clock = Arc::new(alloc, clock)?;
     let blank = Blank::new(alloc, sizes.blocks, sizes.slots)?;
     let capacity = sizes.capacity as usize;
-    run_at::<Brand, V, S, G, C, R>(rt, alloc, blank, site, capacity, visits, spools, gates, clock)
+    run_at::<Brand, V, S, G, C, R>(
+        rt, alloc, blank, site, capacity, visits, spools, gates, clock,
+    )
 }
 
 // Runs a server over the depot of this name.

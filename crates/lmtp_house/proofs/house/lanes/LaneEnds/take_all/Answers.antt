@@ -1,4 +1,4 @@
-use Rattle.std.proofs.Common.{arith, rules, ◌≡◌, [], ◌∷◌, ap, sym, ◌∙◌, false, vec_items, vec_len}
+use Rattle.std.proofs.Common.{arith, rules, vec_items}
 use Rattle.std.proofs.lemmas.List.{nil_from_length}
 use Rattle.std.specs.Vec.Iter.{into_iter_items}
 use Rattle.lmtp_house.specs.HouseGrid.{lists}

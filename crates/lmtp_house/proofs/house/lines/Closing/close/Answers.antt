@@ -1,6 +1,5 @@
-use Rattle.std.proofs.Common.{arith, ◌≡◌, ◌<◌, List, ℕ, length, ap, sym, ◌∙◌, vec_items, vec_len}
+use Rattle.std.proofs.Common.{arith, ◌≡◌, ◌<◌, List, ℕ, length, ap, sym, ◌∙◌, vec_items}
 use Rattle.std.proofs.lemmas.List.{length-map}
-use Rattle.std.proofs.lemmas.Option.{slice_get-get_or}
 use Rattle.mail_post.specs.Line.{Line}
 use Rattle.lmtp_house.specs.HouseGrid.{lists}
 use Rattle.lmtp_house.specs.HouseLines.{AreRows, AreColumns}

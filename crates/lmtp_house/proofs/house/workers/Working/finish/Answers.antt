@@ -1,4 +1,4 @@
-use Rattle.std.proofs.Common.{arith, ◌≡◌, length, ap, sym, ◌∙◌, subst, vec_items, vec_len}
+use Rattle.std.proofs.Common.{arith, ◌≡◌, length, ◌∙◌, subst, vec_items, vec_len}
 use Rattle.std.specs.List.{AllZip}
 use Rattle.lmtp_house.specs.HouseTasks.{box_tasks, tally_of}
 use Rattle.lmtp_house.proofs.HousePairs.{AllZip-length}
