@@ -13,3 +13,4 @@ pub mod Delivering
 pub mod Accounting
 pub mod AnsweredAll
 pub mod Visiting
+pub mod Timely
