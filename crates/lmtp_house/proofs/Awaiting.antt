@@ -16,7 +16,7 @@ use Rattle.mail_world.specs.Events.{own_slip, txn_of}
 use Rattle.mail_world.specs.Lists.{Transaction, copies_from}
 use Rattle.mail_post.specs.Line.{Lane, Inbox, taken}
 use Rattle.mail_post.specs.Gathering.{HasGathered, IsAwaited}
-use Rattle.lmtp_house.specs.LaneExchange.{IsAmong, HasExchanged, Episode, IsEpisode, IsUnderWay, Continues, Awaits, TakesOne, sent_as, copy_at}
+use Rattle.lmtp_house.specs.LaneExchange.{IsAmong, HasExchanged, Episode, IsUnderWay, Continues, Awaits, TakesOne, sent_as, copy_at}
 use Rattle.lmtp_house.proofs.Exchanging.{HearsSlip, way_failed, way_heard, way_gone}
 
 -- a copy of a transaction is among its copies

@@ -11,7 +11,7 @@ use Rattle.mail_world.specs.Slips.{answers}
 use Rattle.mail_world.specs.Lists.{copies_from}
 use Rattle.mail_post.specs.Line.{Lane, Inbox, taken}
 use Rattle.mail_post.specs.Gathering.{HasGathered}
-use Rattle.lmtp_house.specs.LaneExchange.{HasExchanged, Episode, IsEpisode, IsUnderWay, sent_as}
+use Rattle.lmtp_house.specs.LaneExchange.{HasExchanged, Episode, IsUnderWay, sent_as}
 use Rattle.lmtp_house.specs.LaneAccount.{Delivers}
 
 -- the answers of the gatherer are those of the slips that were heard

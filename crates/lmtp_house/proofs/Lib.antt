@@ -23,3 +23,4 @@ pub mod HousePlan
 pub mod NamedOnce
 pub mod HouseSettled
 pub mod HouseEnd
+pub mod Timely

@@ -1,4 +1,4 @@
-use Rattle.std.proofs.Common.{◌≡◌, refl, ap}
+use Rattle.std.proofs.Common.{refl, ap}
 use Rattle.mail_world.specs.Events.{own_slip}
 use Rattle.mail_post.specs.Gathering.{Gathering}
 use Rattle.lmtp_house.proofs.Awaiting.{same_places, takes_open}
