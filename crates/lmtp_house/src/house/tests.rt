@@ -4,7 +4,10 @@ ghost use Rattle.std.specs.Prelude.{◌≡◌, false, IfOk};
 ghost use Rattle.std.specs.List.{AllByRecursion};
 ghost use Rattle.lmtp_house.specs.declared.house.tests.client.Clients.{Clients};
 
+mod busy;
 mod client;
+mod meeting;
+mod side_by_side;
 
 use crate::{HouseFault, Sizes, run_house};
 use box_worker::OpenGate;

@@ -3,6 +3,7 @@
 ghost use Rattle.std.specs.Prelude.{◌≡◌, None, [], ⊤, false};
 ghost use Rattle.mail_world.specs.Failures.{Rises};
 
+use super::meeting::Meeting;
 use crate::{Came, Clock, EndCause, Peer, PeerFault, Visits};
 use std::alloc::{AllocError, Global};
 use std::sync::Wait;
@@ -14,6 +15,7 @@ pub struct Relay {
     at: usize,
     heard: Vec<u8>,
     failures: u64,
+    meeting: Option<Meeting>,
 }
 
 impl Relay {
@@ -23,7 +25,23 @@ impl Relay {
             at: 0,
             heard: Vec::new(alloc),
             failures: 0,
+            meeting: None,
         })
+    }
+
+    /// One that waits for the other of the meeting when it is first read.
+    pub fn with_meeting(self, meeting: Meeting) -> Relay {
+        Relay {
+            meeting: Some(meeting),
+            ..self
+        }
+    }
+
+    /// Whether it met the other.
+    pub fn has_met(&self) -> bool {
+        self.meeting
+            .as_ref()
+            .is_some_and(|meeting| meeting.has_met())
     }
 
     /// All that it was told.
@@ -43,6 +61,9 @@ impl Peer for Relay {
     ghost state = { λ r. record { read = None; unread = None; written = None; failures = r.failures; stops = 0; holds = [] } };
 
     fn read(&mut self, buffer: &mut [u8]) -> Result<Came, PeerFault> {
+        if let Some(meeting) = &mut self.meeting {
+            meeting.attend();
+        }
         let at = self.at.min(self.says.len());
         let rest = &self.says[at..];
         let n = rest.len().min(buffer.len());
@@ -89,6 +110,11 @@ impl Clients {
             Some(client) => client.heard(),
             None => b"",
         }
+    }
+
+    /// Whether its client met the other.
+    pub fn has_met(&self) -> bool {
+        self.ended.as_ref().is_some_and(|client| client.has_met())
     }
 }
 
