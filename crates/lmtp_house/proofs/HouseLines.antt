@@ -1,14 +1,13 @@
 -- Channels of one kind, from their opening to what is settled.
-use Rattle.std.proofs.Common.{◌≡◌, ℕ, zero, suc, ◌+◌, ◌<◌, ◌≤◌, Bool, true, false, cond, List, [], ◌∷◌, ◌++◌, length, get_or, map, refl, sym, ap, ◌∙◌, subst, arith, length-append, Option, Some, None, inl, inr}
+use Rattle.std.proofs.Common.{◌≡◌, ℕ, zero, suc, ◌+◌, ◌<◌, List, [], ◌∷◌, ◌++◌, length, get_or, map, refl, sym, ap, ◌∙◌, subst, arith, length-append, Option, Some, None, inl, inr}
 use Rattle.std.proofs.lemmas.Bool.{cases_lt}
-use Rattle.std.specs.Prelude.{slice_get, option_map, filter, ◌==◌}
+use Rattle.std.specs.Prelude.{slice_get, option_map}
 use Rattle.std.specs.List.{All, AllZip, AllByRecursion}
-use Rattle.std.proofs.lemmas.List.{length-map, get_or_default}
+use Rattle.std.proofs.lemmas.List.{length-map}
 use Rattle.std.proofs.lemmas.Option.{slice_get-map, slice_get-get_or, slice_get_within, get_or_from_slice_get}
-use Rattle.mail_post.specs.Line.{Line, Lane, Inbox, Sent, taken, new_lanes, new_inbox, AreLanesFrom, IsLineOf, AreLanes, TookSome, TookAll, lists as sent_by}
-use Rattle.mail_post.specs.Parcels.{of}
-use Rattle.lmtp_house.specs.HouseGrid.{IsTransposed, cell}
-use Rattle.lmtp_house.specs.HouseLines.{Shape, lane_at, none, lines_of, IsNewLine, AreRows, AreColumns, AreNewLines, IsClosedWith, AreClosed, CanSettle, IsSettled, IsShut, MayClose, HasGiven}
+use Rattle.mail_post.specs.Line.{Line, Lane, Inbox, Sent, new_lanes, AreLanesFrom, IsLineOf, AreLanes}
+use Rattle.lmtp_house.specs.HouseGrid.{IsTransposed}
+use Rattle.lmtp_house.specs.HouseLines.{lane_at, none, lines_of, IsNewLine, AreRows, AreColumns, AreNewLines, AreClosed, IsShut, HasGiven}
 use Rattle.lmtp_house.proofs.HousePairs.{AllZip-length}
 
 module _ {X : Type 0} where

@@ -1,16 +1,15 @@
 -- Lanes and workers that are planned may run, and their channels may be closed and settled.
-use Rattle.std.proofs.Common.{◌≡◌, ℕ, zero, suc, ◌+◌, ◌<◌, Bool, true, false, List, [], ◌∷◌, ◌++◌, length, map, refl, sym, ap, ◌∙◌, subst, arith, Option, Some, None}
+use Rattle.std.proofs.Common.{◌≡◌, ℕ, ◌<◌, Bool, false, List, [], length, refl, sym, ap, ◌∙◌, subst, arith, Some}
 use Rattle.std.specs.Prelude.{slice_get}
-use Rattle.std.specs.List.{AllZip, AllByRecursion}
+use Rattle.std.specs.List.{AllByRecursion}
 use Rattle.std.proofs.lemmas.List.{length-map}
 use Rattle.std.proofs.lemmas.Option.{slice_get_within}
-use Rattle.mail_post.specs.Line.{Line, Lane, Inbox, taken}
-use Rattle.box_worker.specs.Told.{AreOfWorker, worker_of}
-use Rattle.lmtp_house.specs.LaneExchange.{AreOfLane}
-use Rattle.lmtp_house.specs.HouseLines.{Shape, lines_of, none, lane_at, AreRows, AreNewLines, MayClose}
+use Rattle.mail_post.specs.Line.{Lane, Inbox, taken}
+use Rattle.box_worker.specs.Told.{worker_of}
+use Rattle.lmtp_house.specs.HouseLines.{Shape, lines_of, lane_at, AreRows, AreNewLines, MayClose}
 use Rattle.lmtp_house.specs.HouseTasks.{LaneTask, lane_tasks, BoxTask, box_tasks, IsLaneReady, IsBoxReady}
-use Rattle.lmtp_house.specs.HousePlan.{IsPlanned, MayRun}
-use Rattle.lmtp_house.proofs.HouseLines.{At, at, same_at, at_each, each_at}
+use Rattle.lmtp_house.specs.HousePlan.{MayRun}
+use Rattle.lmtp_house.proofs.HouseLines.{at, same_at, at_each, each_at}
 use Rattle.lmtp_house.proofs.HouseServed.{task_at}
 use Rattle.lmtp_house.proofs.HouseWorked.{task_at as box_task_at, numbered}
 

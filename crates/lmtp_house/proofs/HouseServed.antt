@@ -1,5 +1,5 @@
 -- The lanes' reports, taken together.
-use Rattle.std.proofs.Common.{◌≡◌, ℕ, zero, suc, ◌+◌, ◌<◌, Bool, true, false, List, [], ◌∷◌, ◌++◌, length, map, refl, sym, ap, ◌∙◌, subst, arith, Option, Some, None, inl, inr}
+use Rattle.std.proofs.Common.{◌≡◌, ℕ, zero, suc, ◌+◌, ◌<◌, Bool, false, List, [], ◌∷◌, ◌++◌, length, map, refl, sym, ap, ◌∙◌, subst, arith, Option, Some, None, inl, inr}
 use Rattle.std.specs.Prelude.{slice_get, flat_map}
 use Rattle.std.specs.List.{AllZip, AllByRecursion}
 use Rattle.std.proofs.lemmas.List.{length-map}
@@ -12,14 +12,14 @@ use Rattle.mail_world.specs.Lists.{due, copies, transactions}
 use Rattle.mail_world.specs.Runs.{IsMerged}
 use Rattle.mail_post.specs.Line.{Line, Lane, Inbox, taken}
 use Rattle.lmtp_house.specs.Peer.{PeerState}
-use Rattle.lmtp_house.specs.LaneExchange.{for_box, HasExchanged}
+use Rattle.lmtp_house.specs.LaneExchange.{for_box}
 use Rattle.lmtp_house.specs.LaneRun.{HasServed}
 use Rattle.lmtp_house.specs.Visits.{Finished, conversations_of}
 use Rattle.lmtp_house.specs.House.{LaneWork}
 use Rattle.lmtp_house.specs.HouseLines.{AreRows, none, HasGiven}
 use Rattle.lmtp_house.specs.HouseTasks.{LaneTask, lane_task, lane_tasks, IsServedLane, HaveServed, HasHeard}
-use Rattle.lmtp_house.proofs.HousePairs.{AllZip-length, picks, Picked, picked}
-use Rattle.lmtp_house.proofs.HouseLines.{at, same_at, at_each, source, rows_given}
+use Rattle.lmtp_house.proofs.HousePairs.{AllZip-length, picks, picked}
+use Rattle.lmtp_house.proofs.HouseLines.{same_at, at_each, source, rows_given}
 
 module _ {V C : Type 0} where
   -- the task of lane i + k, and what it was made of

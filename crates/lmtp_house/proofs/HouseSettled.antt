@@ -1,29 +1,28 @@
 -- What was settled of the channels, and the run that follows from it.
-use Rattle.std.proofs.Common.{◌≡◌, ℕ, zero, suc, ◌+◌, ◌<◌, ◌≤◌, Bool, true, false, cond, List, [], ◌∷◌, ◌++◌, length, get_or, map, refl, sym, ap, ◌∙◌, subst, arith, eq-eqb, Option, Some, None, inl, inr}
-use Rattle.std.specs.Prelude.{slice_get, filter, ◌==◌}
+use Rattle.std.proofs.Common.{◌≡◌, ℕ, ◌<◌, ◌≤◌, Bool, true, false, cond, List, [], ◌∷◌, ◌++◌, length, get_or, refl, sym, ap, ◌∙◌, subst, arith, eq-eqb, Option, Some, inl, inr}
+use Rattle.std.specs.Prelude.{slice_get, ◌==◌}
 use Rattle.std.specs.List.{AllZip, AllByRecursion}
 use Rattle.std.proofs.lemmas.Bool.{cases_lt}
 use Rattle.std.proofs.lemmas.List.{length-map, get_or_past}
 use Rattle.std.proofs.lemmas.Option.{slice_get_within, get_or_from_slice_get}
 use Rattle.mail_world.specs.declared.Note.{Note}
 use Rattle.mail_world.specs.declared.Slip.{Slip}
-use Rattle.mail_world.specs.declared.Txn.{Txn}
 use Rattle.mail_world.specs.Site.{Site}
-use Rattle.mail_world.specs.Slips.{of_worker, times_named}
+use Rattle.mail_world.specs.Slips.{of_worker}
 use Rattle.mail_world.specs.Lists.{of_lane, due}
-use Rattle.mail_post.specs.Line.{Line, Lane, Inbox, Sent, taken, new_inbox, TookSome, TookAll}
+use Rattle.mail_post.specs.Line.{Line, Lane, Inbox, Sent, taken, TookSome, TookAll}
 use Rattle.mail_post.specs.Parcels.{of, IsStartOf}
 use Rattle.mbox_rd.specs.Spool.{SpoolState}
 use Rattle.box_worker.specs.Told.{owed_to}
 use Rattle.lmtp_house.specs.declared.house.report.Tally.{Tally}
 use Rattle.lmtp_house.specs.Peer.{PeerState}
 use Rattle.lmtp_house.specs.Visits.{Finished, conversations_of}
-use Rattle.lmtp_house.specs.House.{LaneWork, BoxWork, IsLaneWork, IsBoxWork, IsBegun, HasRun}
+use Rattle.lmtp_house.specs.House.{IsBegun, HasRun}
 use Rattle.lmtp_house.specs.HouseLines.{lines_of, AreNewLines, IsClosedWith, AreClosed, CanSettle, IsSettled}
-use Rattle.lmtp_house.specs.HouseTasks.{IsServedLane, HaveServed, HaveWorked, HasHeard, HasTaken}
+use Rattle.lmtp_house.specs.HouseTasks.{HaveServed, HaveWorked}
 use Rattle.lmtp_house.proofs.AnsweredAll.{outcomes_are_answers}
 use Rattle.lmtp_house.proofs.NamedOnce.{named_once}
-use Rattle.lmtp_house.proofs.HouseLines.{At, at, at_map, zip_at, at_zip, same_at}
+use Rattle.lmtp_house.proofs.HouseLines.{at, at_map, zip_at, at_zip}
 
 module _ {M : Type 0} (lane : M → ℕ) where
   -- where nothing is of a lane from n on, all is of lanes below n

@@ -1,5 +1,5 @@
 -- The workers' reports, taken together.
-use Rattle.std.proofs.Common.{◌≡◌, ℕ, zero, suc, ◌+◌, ◌<◌, Bool, true, false, List, [], ◌∷◌, ◌++◌, length, map, refl, sym, ap, ◌∙◌, subst, arith, Option, Some, None}
+use Rattle.std.proofs.Common.{◌≡◌, ℕ, zero, suc, ◌<◌, Bool, false, List, [], ◌∷◌, ◌++◌, length, map, refl, sym, ap, ◌∙◌, subst, arith, Option, Some, None}
 use Rattle.std.specs.Prelude.{slice_get}
 use Rattle.std.specs.List.{AllZip, AllByRecursion}
 use Rattle.std.proofs.lemmas.List.{length-map}
@@ -16,8 +16,8 @@ use Rattle.lmtp_house.specs.declared.house.report.Tally.{Tally}
 use Rattle.lmtp_house.specs.House.{BoxWork, IsBoxWork}
 use Rattle.lmtp_house.specs.HouseLines.{AreRows, none, lane_at, HasGiven}
 use Rattle.lmtp_house.specs.HouseTasks.{BoxTask, box_task, box_tasks, HaveWorked, HasTaken}
-use Rattle.lmtp_house.proofs.HousePairs.{AllZip-length, picks, Picked, picked}
-use Rattle.lmtp_house.proofs.HouseLines.{At, at, same_at, at_each, source, rows_given}
+use Rattle.lmtp_house.proofs.HousePairs.{AllZip-length, picks, picked}
+use Rattle.lmtp_house.proofs.HouseLines.{at, same_at, at_each, source, rows_given}
 
 module _ {S : Type 0} where
   -- the task of worker k, and what it was made of

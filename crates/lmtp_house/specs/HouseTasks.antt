@@ -1,21 +1,18 @@
 -- What the threads of a server are given, and what their reports say.
-use Rattle.std.specs.Prelude.{◌≡◌, ℕ, ◌+◌, ◌<◌, Bool, true, false, List, [], ◌∷◌, ◌++◌, length, map, slice_get, Option, Some}
+use Rattle.std.specs.Prelude.{◌≡◌, ℕ, ◌+◌, ◌<◌, Bool, true, false, List, [], ◌∷◌, ◌++◌, length, slice_get, Option, Some}
 use Rattle.std.specs.List.{AllByRecursion}
 use Rattle.mail_world.specs.declared.Note.{Note}
 use Rattle.mail_world.specs.declared.Slip.{Slip}
 use Rattle.mail_world.specs.Site.{Site}
 use Rattle.mail_world.specs.Lists.{due, transactions, VerdictsFit}
-use Rattle.lmtp_text.specs.Calendar.{civil_at}
 use Rattle.mbox_rd.specs.Spool.{SpoolState}
 use Rattle.mail_post.specs.Line.{Line, Lane, Inbox, taken}
 use Rattle.mail_post.specs.declared.line.Gone.TheVariants.{Closed}
 use Rattle.box_worker.specs.Told.{AreOfWorker, worker_of, owed_to}
-use Rattle.box_worker.specs.Worked.{HasWorked}
 use Rattle.lmtp_house.specs.declared.house.report.Tally.{Tally}
 use Rattle.lmtp_house.specs.Peer.{PeerState}
 use Rattle.lmtp_house.specs.LaneExchange.{AreOfLane}
 use Rattle.lmtp_house.specs.LaneAccount.{counted, IsAnswered}
-use Rattle.lmtp_house.specs.LaneRun.{HasServed}
 use Rattle.lmtp_house.specs.Visits.{Finished, HasVisited, conversations_of}
 use Rattle.lmtp_house.specs.HouseLines.{AreRows, none}
 use Rattle.lmtp_house.specs.House.{LaneWork, BoxWork, IsBoxWork}

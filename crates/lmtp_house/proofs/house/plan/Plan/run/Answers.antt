@@ -1,4 +1,4 @@
-use Rattle.std.proofs.Common.{subst, sym, vec_items}
+use Rattle.std.proofs.Common.{subst, vec_items}
 use Rattle.lmtp_house.specs.HouseGrid.{lists}
 use Rattle.lmtp_house.specs.HouseTasks.{HaveWorkedAll}
 use Rattle.lmtp_house.proofs.HousePlan.{lanes_ready, boxes_ready}
