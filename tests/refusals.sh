@@ -14,7 +14,7 @@ failed=0
 try() {
     local wanted=$1 line=$2 status=0 said verdict=ok
     shift 2
-    said=$(printf 'QUIT\r\n' | "$LMTPD" "$@" 2>&1 >/dev/null) || status=$?
+    said=$("$LMTPD" "$@" 2>&1 >/dev/null < <(printf 'QUIT\r\n')) || status=$?
     [ "$status" = "$wanted" ] || verdict=FAILED
     case $line in
     none) [ -z "$said" ] || verdict=FAILED ;;
@@ -39,6 +39,10 @@ try 2 'lmtpd: bad box' "${good[@]}" "${many[@]:1}" Anna
 try 2 'lmtpd: too many boxes' "${good[@]}" "${many[@]}"
 try 2 'lmtpd: too many boxes' "${good[@]}" "${many[@]}" box1
 try 2 'lmtpd: box named twice' "${good[@]}" anna anna
+try 1 'lmtpd: size' "${good[@]}" --blocks 0 anna
+try 1 'lmtpd: size' "${good[@]}" --blocks 65537 anna
+try 2 clap "${good[@]}" --blocks 4294967296 anna
+try 2 clap "${good[@]}" --blocks x anna
 try 2 clap rehearse --host mx.example anna
 try 2 clap rehearse --host mx.example --time 4294967296 anna
 try 2 clap rehearse --host mx.example --time x anna
