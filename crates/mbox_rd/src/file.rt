@@ -223,12 +223,12 @@ impl<F: Write + OpenFile + Drop> Spool for FileSpool<F> {
         ensures err { OnErr result (HasFailed (⟦<FileSpool<F> as Spool>⟧.state self.old)
             (⟦<FileSpool<F> as Spool>⟧.state self.new) piece.now) }
     {
-        match &mut self.sink {
-            Sink::Broken(_) => Err(self.fail()),
-            Sink::Sound(writer) => match writer.write(piece) {
-                Ok(0) | Err(_) => Err(self.fail()),
-                Ok(n) => Ok(n),
-            },
+        let Sink::Sound(writer) = &mut self.sink else {
+            return Err(self.fail());
+        };
+        match writer.write(piece) {
+            Ok(0) | Err(_) => Err(self.fail()),
+            Ok(n) => Ok(n),
         }
     }
 
