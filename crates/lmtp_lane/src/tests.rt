@@ -5,19 +5,28 @@ ghost use Rattle.mail_world.specs.declared.limits.TheConstants.{BLOCK_LIMIT as M
 ghost use Rattle.mail_post.specs.Line.{new_lanes};
 ghost use Rattle.lmtp_lane.specs.LaneExchange.{AreOfLane};
 
-use super::fakes::Then::{Ends, Repeats, Says, Stops};
-use super::fakes::{Script, Turn};
-use super::guests::Guests;
-use super::{GREETING, OFFER, STOPPING, site};
-use crate::{Clock, Desk, EndCause, LaneReport, lane_run};
+mod guests;
+
+use crate::{Clock, Desk, LaneReport, lane_run};
+use guests::Guests;
+use lmtp_talk::Then::{Ends, Repeats, Says, Stops};
+use lmtp_talk::{EndCause, Script, Turn};
+use lmtp_text::Site;
 use mail_post::{Parts, Receiver, Sender, SlipSender, mail_line, slip_line};
 use mail_world::{Outcome, Slip, Txn};
 use msg_depot::{Blank, Depot, DepotName};
 use std::alloc::Global;
 use std::marker::Brand;
 use std::process::Abort;
-use std::sync::Wait;
+use std::sync::{Arc, Wait};
 use std::test::Fail;
+
+const GREETING: &[u8] = b"220 mx.example LMTP ready\r\n";
+
+const OFFER: &[u8] =
+    b"250-mx.example\r\n250-PIPELINING\r\n250-ENHANCEDSTATUSCODES\r\n250-8BITMIME\r\n250 SIZE 1048576\r\n";
+
+const STOPPING: &[u8] = b"421 4.3.2 mx.example stopping\r\n";
 
 const DATA_FOR_ONE: &[u8] =
     b"250 2.1.0 Sender ok\r\n250 2.1.5 Recipient ok\r\n354 End with a lone dot\r\n";
@@ -88,6 +97,11 @@ impl Clock for Still {
     fn unix<R: Wait>(&self, _rt: &R) -> u32 {
         self.0
     }
+}
+
+fn site(rt: &impl Abort, alloc: Global) -> Result<Arc<Site>, Fail> {
+    let site = Site::new(alloc, b"mx.example", &[], &[b"anna", b"ben"])?;
+    Ok(Arc::new(alloc, site).ok().expect(rt, "memory"))
 }
 
 fn run<'a, R: Wait + Abort>(

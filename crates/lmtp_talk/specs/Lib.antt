@@ -5,3 +5,4 @@ pub mod Served
 pub mod Standing
 pub mod Steps
 pub mod Turns
+pub mod Script

@@ -1,15 +1,11 @@
-//! A peer that keeps to a script, and a delivery that keeps all bytes.
+//! A peer that keeps to a script, for tests.
 
-ghost use Rattle.std.specs.Prelude.{◌≡◌, ◌≤◌, [], None, ⊤, length};
-ghost use Rattle.std.specs.Arc.{arc_value};
+ghost use Rattle.std.specs.Prelude.{◌≡◌, ◌≤◌, ◌+◌, ◌↔◌, [], None, IsTrue, false, length};
 ghost use Rattle.mail_world.specs.Failures.{Rises};
+ghost use Rattle.lmtp_talk.specs.Script.{awaited};
 
-use crate::{Came, Delivery, Peer, PeerFault};
-use lmtp_session::Session;
-use lmtp_text::Site;
-use mail_world::{Outcome, Verdict};
+use crate::peer::{Came, Peer, PeerFault};
 use std::alloc::Global;
-use std::sync::Arc;
 
 /// What the peer has heard since its last turn, and what it does then.
 pub type Turn<'a> = (&'a [u8], Then<'a>);
@@ -28,20 +24,30 @@ pub enum Then<'a> {
 /// A peer that says its next line only once it has heard what it waits for.
 #[derive(Drop)]
 pub struct Script<'a> {
-    turns: &'a [Turn<'a>],
-    at: usize,
+    pub turns: &'a [Turn<'a>],
+    /// The place of its next turn.
+    pub at: usize,
     /// How often it said what it repeats.
-    said: usize,
-    heard: Vec<u8>,
-    misheard: bool,
+    pub said: usize,
+    /// What it heard since its last turn.
+    pub heard: Vec<u8>,
+    /// A turn came, and it had not heard just what that waits for.
+    pub misheard: bool,
     /// How many bytes it still takes before a write fails.
-    room: usize,
-    failures: u64,
-    stops: u64,
+    pub room: usize,
+    /// How often a read or a write failed; it stays at its largest value.
+    pub failures: u64,
+    /// How often it said that the server is to stop; it stays at its largest value.
+    pub stops: u64,
 }
 
 impl<'a> Script<'a> {
-    pub fn new(alloc: Global, turns: &'a [Turn<'a>], room: usize) -> Script<'a> {
+    /// A peer before its first turn.
+    pub fn new(alloc: Global, turns: &'a [Turn<'a>], room: usize) -> Script<'a>
+        ensures script { (result.turns.now ≡ turns.now) × (result.room ≡ room) }
+        ensures start { (result.at ≡ 0) × (result.said ≡ 0) × (result.heard.items ≡ []) × (result.misheard ≡ false) }
+        ensures sound { (result.failures ≡ 0) × (result.stops ≡ 0) }
+    {
         Script {
             turns,
             at: 0,
@@ -55,14 +61,23 @@ impl<'a> Script<'a> {
     }
 
     /// Whether it heard all that stands in its script, the last replies among them.
-    pub fn has_heard_all(&self) -> bool {
-        let last: &[u8] = match self.turns.get(self.at) {
-            Some(turn) => turn.0,
-            None => b"",
-        };
+    pub fn has_heard_all(&self) -> bool
+        ensures all { IsTrue result → (self.now.misheard ≡ false) × (length self.now.turns.now ≤ self.now.at + 1) × (self.now.heard.items ≡ awaited self.now.turns.now self.now.at) }
+        ensures only { self.now.misheard ≡ false → length self.now.turns.now ≤ self.now.at + 1 → self.now.heard.items ≡ awaited self.now.turns.now self.now.at → IsTrue result }
+    {
         !self.misheard
             && self.turns.len() <= self.at.saturating_add(1)
-            && self.heard.as_slice() == last
+            && is_same(self.heard.as_slice(), self.awaited())
+    }
+
+    // What its next turn waits for.
+    fn awaited(&self) -> &[u8]
+        ensures { result.now ≡ awaited self.now.turns.now self.now.at }
+    {
+        match self.turns.get(self.at) {
+            Some(turn) => turn.0,
+            None => b"",
+        }
     }
 
     // The turn comes again until it was had so often.
@@ -104,7 +119,9 @@ fn say(bytes: &[u8], buffer: &mut [u8]) -> usize
     n
 }
 
-fn is_same(heard: &[u8], awaited: &[u8]) -> bool {
+fn is_same(heard: &[u8], awaited: &[u8]) -> bool
+    ensures { IsTrue result ↔ (heard.now ≡ awaited.now) }
+{
     heard == awaited
 }
 
@@ -150,72 +167,5 @@ impl Peer for Script<'_> {
         }
         self.room -= n;
         Ok(n)
-    }
-}
-
-/// A delivery that keeps the bytes of all messages, and stores only the copy of the first recipient.
-#[derive(Drop)]
-pub struct Shelf {
-    site: Arc<Site>,
-    bytes: Vec<u8>,
-    outcomes: Vec<Outcome>,
-    cancelled: u32,
-}
-
-impl Shelf {
-    pub fn new(alloc: Global, site: Arc<Site>) -> Shelf
-        ensures { arc_value result.site ≡ arc_value site }
-    {
-        Shelf {
-            site,
-            bytes: Vec::new(alloc),
-            outcomes: Vec::new(alloc),
-            cancelled: 0,
-        }
-    }
-
-    pub fn bytes(&self) -> &[u8] {
-        self.bytes.as_slice()
-    }
-
-    pub fn cancelled(&self) -> u32 {
-        self.cancelled
-    }
-}
-
-impl Delivery for Shelf {
-    ghost site = { λ s. arc_value s.site };
-
-    ghost HasCome = { λ s n ts. ⊤ };
-
-    ghost IsDrafting = { λ s n ts message. ⊤ };
-
-    ghost outcomes = { λ s. s.outcomes.items };
-
-    ghost moment = { λ s. 0 };
-
-    fn begin(&mut self) {}
-
-    fn piece(&mut self, bytes: &[u8]) {
-        let _ = self.bytes.extend_from_slice(bytes);
-    }
-
-    fn cancel(&mut self) {
-        self.cancelled = self.cancelled.saturating_add(1);
-    }
-
-    fn end(&mut self, session: &Session) -> Verdict {
-        let count = session.recipient_count() as usize;
-        if self.outcomes.resize(count, Outcome::Stored).is_err() {
-            return Verdict::NoRoom;
-        }
-        for outcome in self.outcomes.iter_mut().skip(1) {
-            *outcome = Outcome::Failed;
-        }
-        Verdict::Whole
-    }
-
-    fn outcomes(&self) -> &[Outcome] {
-        self.outcomes.as_slice()
     }
 }

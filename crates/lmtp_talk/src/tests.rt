@@ -1,13 +1,11 @@
 //! Conversations with a peer that keeps to a script.
 
-mod fakes;
-mod guests;
-mod lane;
+mod shelf;
 
-use crate::{Dialogue, EndCause, serve};
-use fakes::Then::{Ends, Fails, Says, Stops};
-use fakes::{Script, Shelf, Turn};
+use crate::Then::{Ends, Fails, Says, Stops};
+use crate::{Dialogue, EndCause, Script, Turn, serve};
 use lmtp_text::Site;
+use shelf::Shelf;
 use std::alloc::Global;
 use std::process::Abort;
 use std::sync::Arc;

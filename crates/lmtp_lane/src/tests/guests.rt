@@ -2,8 +2,8 @@
 
 ghost use Rattle.std.specs.Prelude.{◌≡◌, ◌≤◌, ◌+◌, ⊤, [], map, Some, None, cond, length, vec_capacity, IfOk, false};
 
-use super::fakes::Script;
-use crate::{EndCause, Visits};
+use crate::Visits;
+use lmtp_talk::{EndCause, Script};
 use std::alloc::{AllocError, Global};
 use std::sync::Wait;
 
