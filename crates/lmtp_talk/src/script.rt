@@ -10,18 +10,23 @@ use std::alloc::Global;
 /// What the peer has heard since its last turn, and what it does then.
 pub type Turn<'a> = (&'a [u8], Then<'a>);
 
-/// What the peer does.
+/// What the peer does when it is read.
 #[derive(Clone, Copy)]
 pub enum Then<'a> {
+    /// Says these bytes, as many as there is room for; no bytes are the end.
     Says(&'a [u8]),
-    /// Says the same in so many reads.
+    /// Says the same in so many reads, once at least.
     Repeats(&'a [u8], usize),
+    /// Has no more bytes.
     Ends,
+    /// Says that the server is to stop.
     Stops,
+    /// Fails.
     Fails,
 }
 
-/// A peer that says its next line only once it has heard what it waits for.
+/// A peer that takes a turn at each read, and notes whether it had heard just what the turn waits for. It tells how often it
+/// failed and said that the server is to stop, and not what was read and written.
 #[derive(Drop)]
 pub struct Script<'a> {
     pub turns: &'a [Turn<'a>],
