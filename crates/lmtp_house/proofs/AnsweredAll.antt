@@ -12,7 +12,7 @@ use Rattle.mail_world.specs.Lists.{Transaction, OutcomesIn, transactions, Outcom
 use Rattle.mail_world.specs.Site.{Site}
 use Rattle.mail_world.specs.Slips.{names, answer, times_named}
 use Rattle.mail_world.proofs.GivenAway.{count-cons}
-use Rattle.lmtp_house.specs.LaneAccount.{IsAnswered}
+use Rattle.lmtp_lane.specs.LaneAccount.{IsAnswered}
 
 -- the outcome of the slip that was found
 abbrev outcome_found : (Slip → Bool) → List Slip → Option Outcome

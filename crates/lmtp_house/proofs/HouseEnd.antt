@@ -11,8 +11,8 @@ use Rattle.mbox_rd.specs.Spool.{SpoolState}
 use Rattle.mail_post.specs.Line.{Line, Lane, Inbox, Sent}
 use Rattle.box_worker.specs.Told.{owed_to}
 use Rattle.lmtp_house.specs.declared.house.report.Tally.{Tally}
-use Rattle.lmtp_house.specs.Peer.{PeerState}
-use Rattle.lmtp_house.specs.Visits.{Finished, conversations_of}
+use Rattle.lmtp_talk.specs.Peer.{PeerState}
+use Rattle.lmtp_lane.specs.Visits.{Finished, conversations_of}
 use Rattle.lmtp_house.specs.House.{HasRun}
 use Rattle.lmtp_house.specs.HouseLines.{Shape, lines_of, AreRows, AreClosed, MayClose, CanSettle, IsSettled}
 use Rattle.lmtp_house.specs.HouseTasks.{LaneTask, BoxTask, HaveServed, HaveServedAll, HaveWorked, HaveWorkedAll}

@@ -11,10 +11,10 @@ use Rattle.mail_world.specs.Conversation.{Conversation}
 use Rattle.mail_world.specs.Lists.{due, copies, transactions}
 use Rattle.mail_world.specs.Runs.{IsMerged}
 use Rattle.mail_post.specs.Line.{Line, Lane, Inbox, taken}
-use Rattle.lmtp_house.specs.Peer.{PeerState}
-use Rattle.lmtp_house.specs.LaneExchange.{for_box}
-use Rattle.lmtp_house.specs.LaneRun.{HasServed}
-use Rattle.lmtp_house.specs.Visits.{Finished, conversations_of}
+use Rattle.lmtp_talk.specs.Peer.{PeerState}
+use Rattle.lmtp_lane.specs.LaneExchange.{for_box}
+use Rattle.lmtp_lane.specs.LaneRun.{HasServed}
+use Rattle.lmtp_lane.specs.Visits.{Finished, conversations_of}
 use Rattle.lmtp_house.specs.House.{LaneWork}
 use Rattle.lmtp_house.specs.HouseLines.{AreRows, none, HasGiven}
 use Rattle.lmtp_house.specs.HouseTasks.{LaneTask, lane_task, lane_tasks, IsServedLane, HaveServed, HasHeard}

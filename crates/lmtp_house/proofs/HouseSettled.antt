@@ -15,8 +15,8 @@ use Rattle.mail_post.specs.Parcels.{of, IsStartOf}
 use Rattle.mbox_rd.specs.Spool.{SpoolState}
 use Rattle.box_worker.specs.Told.{owed_to}
 use Rattle.lmtp_house.specs.declared.house.report.Tally.{Tally}
-use Rattle.lmtp_house.specs.Peer.{PeerState}
-use Rattle.lmtp_house.specs.Visits.{Finished, conversations_of}
+use Rattle.lmtp_talk.specs.Peer.{PeerState}
+use Rattle.lmtp_lane.specs.Visits.{Finished, conversations_of}
 use Rattle.lmtp_house.specs.House.{IsBegun, HasRun}
 use Rattle.lmtp_house.specs.HouseLines.{lines_of, AreNewLines, IsClosedWith, AreClosed, CanSettle, IsSettled}
 use Rattle.lmtp_house.specs.HouseTasks.{HaveServed, HaveWorked}

@@ -1,18 +1,4 @@
-pub mod Written
-pub mod Quits
-pub mod CutUp
-pub mod Carried
-pub mod CarriedData
-pub mod Messages
-pub mod Carrying
-pub mod Ends
-pub mod Turning
-pub mod Exchanging
-pub mod Awaiting
-pub mod Delivering
-pub mod Accounting
 pub mod AnsweredAll
-pub mod Visiting
 pub mod HouseGrids
 pub mod HouseLists
 pub mod HousePairs
@@ -23,4 +9,3 @@ pub mod HousePlan
 pub mod NamedOnce
 pub mod HouseSettled
 pub mod HouseEnd
-pub mod Timely

@@ -13,9 +13,9 @@ use Rattle.box_worker.specs.Stored.{HasStored}
 use Rattle.box_worker.specs.Told.{owed_to}
 use Rattle.lmtp_house.specs.declared.house.report.Tally.{Tally}
 use Rattle.lmtp_house.specs.declared.house.sizes.Sizes.{Sizes}
-use Rattle.lmtp_house.specs.LaneAccount.{counted}
-use Rattle.lmtp_house.specs.Peer.{PeerState}
-use Rattle.lmtp_house.specs.Visits.{Finished, Visit, HasVisited, conversations_of}
+use Rattle.lmtp_lane.specs.LaneAccount.{counted}
+use Rattle.lmtp_talk.specs.Peer.{PeerState}
+use Rattle.lmtp_lane.specs.Visits.{Finished, Visit, HasVisited, conversations_of}
 
 -- the sizes that a server may have
 pub record IsSize (site : Site) (sizes : Sizes) (lanes spools gates : ℕ) : Type 0 where

@@ -7,8 +7,8 @@ use Rattle.mail_world.specs.Site.{Site}
 use Rattle.mbox_rd.specs.Spool.{SpoolState}
 use Rattle.mail_post.specs.Line.{Lane, Inbox}
 use Rattle.lmtp_house.specs.declared.house.report.Tally.{Tally}
-use Rattle.lmtp_house.specs.Peer.{PeerState}
-use Rattle.lmtp_house.specs.Visits.{Finished}
+use Rattle.lmtp_talk.specs.Peer.{PeerState}
+use Rattle.lmtp_lane.specs.Visits.{Finished}
 use Rattle.lmtp_house.specs.House.{HasRun}
 use Rattle.lmtp_house.specs.HouseLines.{Shape, AreNewLines}
 use Rattle.lmtp_house.specs.HouseTasks.{LaneTask, lane_tasks, BoxTask, box_tasks}

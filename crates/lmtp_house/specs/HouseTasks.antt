@@ -10,10 +10,10 @@ use Rattle.mail_post.specs.Line.{Line, Lane, Inbox, taken}
 use Rattle.mail_post.specs.declared.line.Gone.TheVariants.{Closed}
 use Rattle.box_worker.specs.Told.{AreOfWorker, worker_of, owed_to}
 use Rattle.lmtp_house.specs.declared.house.report.Tally.{Tally}
-use Rattle.lmtp_house.specs.Peer.{PeerState}
-use Rattle.lmtp_house.specs.LaneExchange.{AreOfLane}
-use Rattle.lmtp_house.specs.LaneAccount.{counted, IsAnswered}
-use Rattle.lmtp_house.specs.Visits.{Finished, HasVisited, conversations_of}
+use Rattle.lmtp_talk.specs.Peer.{PeerState}
+use Rattle.lmtp_lane.specs.LaneExchange.{AreOfLane}
+use Rattle.lmtp_lane.specs.LaneAccount.{counted, IsAnswered}
+use Rattle.lmtp_lane.specs.Visits.{Finished, HasVisited, conversations_of}
 use Rattle.lmtp_house.specs.HouseLines.{AreRows, none}
 use Rattle.lmtp_house.specs.House.{LaneWork, BoxWork, IsBoxWork}
 

@@ -1,15 +1,3 @@
-pub mod Peer
-pub mod Delivery
-pub mod Saying
-pub mod Served
-pub mod Standing
-pub mod Steps
-pub mod Turns
-pub mod LaneExchange
-pub mod LaneAccount
-pub mod Visits
-pub mod LaneRun
-pub mod LaneStart
 pub mod House
 pub mod HouseTasks
 pub mod HousePlan

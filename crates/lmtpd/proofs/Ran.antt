@@ -21,13 +21,13 @@ use Rattle.mail_world.proofs.Accounts.{account_told}
 use Rattle.mail_world.proofs.Deliveries.{holds_all}
 use Rattle.lmtp_text.specs.Calendar.{civil_at}
 use Rattle.mbox_rd.specs.MemorySpool.{MemorySpool}
-use Rattle.lmtp_house.specs.declared.ending.EndCause.{EndCause}
-use Rattle.lmtp_house.specs.declared.ending.EndCause.TheVariants.{WriteFault}
+use Rattle.lmtp_talk.specs.declared.ending.EndCause.{EndCause}
+use Rattle.lmtp_talk.specs.declared.ending.EndCause.TheVariants.{WriteFault}
 use Rattle.lmtp_house.specs.declared.house.report.Tally.{Tally}
 use Rattle.lmtp_house.specs.House.{HasRun, IsBoxWork, LaneWork, BoxWork}
-use Rattle.lmtp_house.specs.Peer.{PeerState}
-use Rattle.lmtp_house.specs.Served.{IsWritten, has_quit, transactions_in}
-use Rattle.lmtp_house.specs.Visits.{Finished, Visit, IsVisit, conversations_of, finished_of}
+use Rattle.lmtp_talk.specs.Peer.{PeerState}
+use Rattle.lmtp_talk.specs.Served.{IsWritten, has_quit, transactions_in}
+use Rattle.lmtp_lane.specs.Visits.{Finished, Visit, IsVisit, conversations_of, finished_of}
 use Rattle.lmtpd.specs.declared.rehearse.client.OnlyClient.{OnlyClient}
 use Rattle.lmtpd.specs.declared.rehearse.client.OnlyClient.TheVariants.{Waiting, Over}
 use Rattle.lmtpd.specs.Account.{conversation, IsAllStored}

@@ -1,7 +1,7 @@
 -- What a lane sees of its only client.
 use Rattle.std.specs.Prelude.{◌≡◌, Bool, true, false, List, [], ◌∷◌, Option, Some}
-use Rattle.lmtp_house.specs.Peer.{PeerState}
-use Rattle.lmtp_house.specs.Visits.{Finished}
+use Rattle.lmtp_talk.specs.Peer.{PeerState}
+use Rattle.lmtp_lane.specs.Visits.{Finished}
 use Rattle.lmtpd.specs.declared.rehearse.client.OnlyClient.{OnlyClient}
 use Rattle.lmtpd.specs.declared.rehearse.client.OnlyClient.TheVariants.{Waiting, Out, Back, Over}
 

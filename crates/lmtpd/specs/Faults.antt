@@ -6,10 +6,10 @@ use Rattle.mail_world.specs.Site.{Site, is_host_name, is_box_name, has_twice}
 use Rattle.lmtp_text.specs.declared.site.SiteFault.{SiteFault}
 use Rattle.lmtp_text.specs.declared.site.SiteFault.TheVariants as cause
 use Rattle.lmtpd.specs.declared.rehearse.ending.Ending.{Ending}
-use Rattle.lmtp_house.specs.declared.ending.EndCause.{EndCause}
+use Rattle.lmtp_talk.specs.declared.ending.EndCause.{EndCause}
 use Rattle.lmtp_house.specs.declared.house.fault.HouseFault.{HouseFault}
 use Rattle.lmtp_house.specs.declared.house.fault.HouseFault.TheVariants as house
-use Rattle.lmtp_house.specs.declared.ending.EndCause.TheVariants.{ReadFault, WriteFault}
+use Rattle.lmtp_talk.specs.declared.ending.EndCause.TheVariants.{ReadFault, WriteFault}
 use Rattle.lmtpd.specs.declared.fault.Fault.{Fault}
 use Rattle.lmtpd.specs.declared.fault.Fault.TheVariants as fault
 use Rattle.lmtpd.specs.declared.stop.Stop.{Stop}

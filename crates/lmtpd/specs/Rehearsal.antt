@@ -11,9 +11,9 @@ use Rattle.mail_world.specs.Lists.{VerdictFits, transactions, due}
 use Rattle.mail_world.specs.Records.{mailbox}
 use Rattle.mail_world.specs.Deliveries.{HoldsCopies, told}
 use Rattle.lmtp_text.specs.Calendar.{civil_at}
-use Rattle.lmtp_house.specs.declared.ending.EndCause.{EndCause}
-use Rattle.lmtp_house.specs.declared.ending.EndCause.TheVariants.{Quit, EndOfInput, WriteFault, Stopped, ReadBound}
-use Rattle.lmtp_house.specs.Served.{IsWritten, has_quit}
+use Rattle.lmtp_talk.specs.declared.ending.EndCause.{EndCause}
+use Rattle.lmtp_talk.specs.declared.ending.EndCause.TheVariants.{Quit, EndOfInput, WriteFault, Stopped, ReadBound}
+use Rattle.lmtp_talk.specs.Served.{IsWritten, has_quit}
 use Rattle.lmtpd.specs.declared.rehearse.ending.Ending.{Ending}
 use Rattle.lmtpd.specs.Mailboxes.{Kept, kept_at, mailboxes_text, bytes_of_all, IsCalm}
 use Rattle.lmtpd.specs.Account.{conversation, IsAllStored}

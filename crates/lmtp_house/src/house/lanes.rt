@@ -6,14 +6,10 @@ ghost use Rattle.std.specs.Arc.{arc_value};
 ghost use Rattle.lmtp_house.specs.HouseGrid.{lists, IsRoom};
 ghost use Rattle.lmtp_house.specs.HouseTasks.{lane_task, lane_tasks, IsLaneReady, HaveServedAll};
 ghost use Rattle.mail_world.specs.declared.limits.TheConstants.{LANE_LIMIT};
-ghost use Rattle.lmtp_house.specs.LaneRun.{HasServed};
+ghost use Rattle.lmtp_lane.specs.LaneRun.{HasServed};
 
-use crate::desk::Desk;
 use crate::house::crew::{Crew, Refused, Task};
-use crate::lane::clock::Clock;
-use crate::lane::report::LaneReport;
-use crate::lane::run::lane_run;
-use crate::lane::visits::Visits;
+use lmtp_lane::{Clock, Desk, LaneReport, Visits, lane_run};
 use lmtp_text::Site;
 use mail_post::{Sender, SlipReceiver};
 use msg_depot::{Depot, DepotName};

@@ -1,6 +1,6 @@
 use Rattle.std.proofs.Common.{subst, sym}
 use Rattle.lmtp_house.specs.HouseTasks.{LaneTask}
-use Rattle.lmtp_house.specs.LaneExchange.{AreOfLane}
+use Rattle.lmtp_lane.specs.LaneExchange.{AreOfLane}
 use Rattle.lmtp_house.proofs.house.lanes.LaneJobTask.run.Goals as goal
 
 pub lane_run-requires-clause-lane : goal.lane_run-requires-clause-lane

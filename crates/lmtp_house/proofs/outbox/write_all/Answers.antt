@@ -1,5 +1,0 @@
-use Rattle.lmtp_house.proofs.Written.{given_more}
-use Rattle.lmtp_house.proofs.outbox.write_all.Goals as goal
-
-pub loop-rest-preserved : goal.loop-rest-preserved
-loop-rest-preserved g c = given_more _ _ _ _ c.loop-rest.rest.now c.in_ok-n.n c.loop-rest.invariant c.in_ok-n.ensures.ok.2

@@ -1,0 +1,276 @@
+-- What a lane's account says once another DATA command came, or another data ended.
+use Rattle.std.proofs.Common.{◌≡◌, ℕ, zero, suc, cond, ◌+◌, ◌<◌, ◌≤◌, List, [], ◌∷◌, ◌++◌, length, map, Bool, true, false, Option, Some, None, refl, ap, sym, ◌∙◌, subst, append_assoc, append-nil, arith}
+use Rattle.std.specs.Prelude.{nat_lt, if◌then◌else◌, flat_map, find, option_map}
+use Rattle.std.specs.List.{AllByRecursion, range_with_len}
+use Rattle.std.specs.Option.{IfSome}
+use Rattle.std.proofs.lemmas.Grind.{flat_map-append}
+use Rattle.std.proofs.lemmas.Bool.Decides.{nat_tests}
+use Rattle.mail_world.specs.declared.Txn.{Txn}
+use Rattle.mail_world.specs.Slips.{names, answer}
+use Rattle.mail_world.specs.declared.Note.{Note}
+use Rattle.mail_world.specs.declared.Outcome.{Outcome}
+use Rattle.mail_world.specs.declared.Slip.{Slip}
+use Rattle.mail_world.specs.declared.Verdict.{Verdict}
+use Rattle.mail_world.specs.declared.Verdict.TheVariants.{Whole, TooLarge, NoRoom}
+use Rattle.mail_world.specs.declared.limits.TheConstants.{MESSAGE_LIMIT, NUMBER_LIMIT}
+use Rattle.mail_world.specs.Session.{Session}
+use Rattle.mail_world.specs.Events.{txn_of}
+use Rattle.mail_world.specs.Lists.{Transaction, VerdictFits, OutcomesIn, copies, copies_if, copies_from}
+use Rattle.mail_world.proofs.Heard.{all_more}
+use Rattle.msg_depot.specs.declared.view.Claim.{Claim}
+use Rattle.mail_post.specs.Line.{Lane, Inbox, taken}
+use Rattle.lmtp_lane.specs.LaneExchange.{HasExchanged, Episode, IsEpisode, sent_as}
+use Rattle.lmtp_lane.specs.LaneAccount.{counted, IsAnswered, AreEpisodes, IsHeardInTurn, HasOffered, HoldsDraft, verdict_with, verdict_on, Delivers}
+use Rattle.lmtp_talk.specs.Delivery.{EndsDraft}
+
+-- another DATA command
+pub offered_counted : (lane : ℕ) (May : ℕ → Type 0) (a b : List (Lane Note)) (i j : Inbox Slip) (gone : Bool) (accepted accepted' n : ℕ) (ts : List Transaction)
+    → accepted' ≡ counted (accepted + 1) → HasOffered lane May a b i j gone accepted n ts → HasOffered lane May a b i j gone accepted' (n + 1) ts
+offered_counted lane May a b i j gone accepted accepted' n ts e x = record {
+  count = omega (arith, e, x.count);
+  own = x.own;
+  heard = x.heard;
+  exchanged = x.exchanged;
+  turns = x.turns;
+  answered = x.answered;
+  verdicts = x.verdicts;
+  moments = x.moments;
+}
+
+-- a slip that was found is found where more are heard
+front_by : (p : Slip → Bool) (x : Slip) (xs more : List Slip) (o : Outcome) (t : Bool)
+    → (option_map (λ s. s.outcome) (find p xs) ≡ Some o → option_map (λ s. s.outcome) (find p (xs ++ more)) ≡ Some o)
+    → option_map (λ s. s.outcome) (cond t (Some x) (find p xs)) ≡ Some o → option_map (λ s. s.outcome) (cond t (Some x) (find p (xs ++ more))) ≡ Some o
+front_by p x xs more o true later e = e
+front_by p x xs more o false later e = later e
+
+find_front : (p : Slip → Bool) (xs more : List Slip) (o : Outcome) → option_map (λ s. s.outcome) (find p xs) ≡ Some o → option_map (λ s. s.outcome) (find p (xs ++ more)) ≡ Some o
+find_front p [] more o e = let bad : ◌≡◌ {A = Option Outcome} None (Some o) = e in cc
+find_front p (x ∷ xs) more o e = front_by p x xs more o (p x) (find_front p xs more o) e
+
+stays_range : (txn : Txn) (since more : List Slip) (a n : ℕ) (os : List Outcome) → map (λ o. Some o) os ≡ map (answer txn since) (range_with_len a n)
+    → map (λ o. Some o) os ≡ map (answer txn (since ++ more)) (range_with_len a n)
+stays_range txn since more a zero os e = e
+stays_range txn since more a (suc n) [] e = cc
+stays_range txn since more a (suc n) (o ∷ os) e =
+    let first : Some o ≡ answer txn since a = cc in
+    let rest : map (λ o. Some o) os ≡ map (answer txn since) (range_with_len (a + 1) n) = cc in
+    ap (λ x. x ∷ map (λ o. Some o) os) (sym (find_front (names txn a) since more o (sym first)))
+    ∙ ap (λ l. answer txn (since ++ more) a ∷ l) (stays_range txn since more (a + 1) n os rest)
+
+stays_by : (lane : ℕ) (more since : List Slip) (t : Transaction) (v : Verdict) → OutcomesIn lane since t v → OutcomesIn lane (since ++ more) t v
+stays_by lane more since t Whole h = stays_range (record { lane = lane; number = t.number }) since more 0 (length t.session.recipients) t.disposition.outcomes h
+stays_by lane more since t TooLarge h = tt
+stays_by lane more since t NoRoom h = tt
+
+-- what was answered stays so, whatever is heard later
+answered_later : (lane : ℕ) (heard more : List Slip) (ts : List Transaction)
+    → AllByRecursion (IsAnswered lane heard) ts → AllByRecursion (IsAnswered lane (heard ++ more)) ts
+answered_later lane heard more [] h = tt
+answered_later lane heard more (t ∷ ts) h = (
+  record {
+    before = h.0.before;
+    since = h.0.since ++ more;
+    whole = ap (λ l. l ++ more) h.0.whole ∙ append_assoc h.0.before h.0.since more;
+    outcomes = stays_by lane more h.0.since t t.disposition.verdict h.0.outcomes;
+  },
+  answered_later lane heard more ts h.1,
+)
+
+-- the verdict fits the number and the length
+fits_by : (a b : Bool) (d : Option Claim) (k size : ℕ) → nat_lt NUMBER_LIMIT k ≡ a → nat_lt MESSAGE_LIMIT size ≡ b → (t : Transaction) → t.number ≡ k → length t.message ≡ size
+    → t.disposition.verdict ≡ (if a then NoRoom else if b then TooLarge else verdict_with d) → VerdictFits t
+fits_by true b d k size ea eb t number long v =
+    let over : NUMBER_LIMIT < k = grind (arith, nat_tests, ea) in record {
+      too_large = (λ e. let wrong : NoRoom ≡ TooLarge = sym v ∙ e in cc, λ h. absurd (omega (arith, h.1, over, number)));
+      no_number = λ h. v;
+    }
+fits_by false true d k size ea eb t number long v =
+    let under : k ≤ NUMBER_LIMIT = grind (arith, nat_tests, ea) in
+    let over : MESSAGE_LIMIT < size = grind (arith, nat_tests, eb) in record {
+      too_large = (λ e. (omega (arith, over, long), omega (arith, under, number)), λ h. v);
+      no_number = λ h. absurd (omega (arith, h, under, number));
+    }
+fits_by false false (Some claim) k size ea eb t number long v =
+    let under : k ≤ NUMBER_LIMIT = grind (arith, nat_tests, ea) in
+    let small : size ≤ MESSAGE_LIMIT = grind (arith, nat_tests, eb) in record {
+      too_large = (λ e. let wrong : Whole ≡ TooLarge = sym v ∙ e in cc, λ h. absurd (omega (arith, h.0, small, long)));
+      no_number = λ h. absurd (omega (arith, h, under, number));
+    }
+fits_by false false None k size ea eb t number long v =
+    let under : k ≤ NUMBER_LIMIT = grind (arith, nat_tests, ea) in
+    let small : size ≤ MESSAGE_LIMIT = grind (arith, nat_tests, eb) in record {
+      too_large = (λ e. let wrong : NoRoom ≡ TooLarge = sym v ∙ e in cc, λ h. absurd (omega (arith, h.0, small, long)));
+      no_number = λ h. absurd (omega (arith, h, under, number));
+    }
+
+over_number : (k n : ℕ) → k ≡ counted n → nat_lt NUMBER_LIMIT k ≡ nat_lt NUMBER_LIMIT n
+over_number k n e = grind (arith, nat_tests, e)
+
+over_size : (k n : ℕ) → k ≡ counted n → nat_lt MESSAGE_LIMIT k ≡ nat_lt MESSAGE_LIMIT n
+over_size k n e = grind (arith, nat_tests, e)
+
+verdict_fits : (t : Transaction) (accepted size : ℕ) (d : Option Claim) → accepted ≡ counted t.number → size ≡ counted (length t.message) → t.disposition.verdict ≡ verdict_on accepted size d → VerdictFits t
+verdict_fits t accepted size d number long v =
+    fits_by (nat_lt NUMBER_LIMIT t.number) (nat_lt MESSAGE_LIMIT (length t.message)) d t.number (length t.message) refl refl t refl refl
+    (v ∙ ap (λ b. if b then NoRoom else if nat_lt MESSAGE_LIMIT size then TooLarge else verdict_with d) (over_number accepted t.number number)
+    ∙ ap (λ b. if nat_lt NUMBER_LIMIT t.number then NoRoom else if b then TooLarge else verdict_with d) (over_size size (length t.message) long))
+
+-- a refused message owes no copy, and has no outcome of its own
+no_copy : (lane : ℕ) (t : Transaction) (v : Verdict) → (v ≡ Whole → ⊥) → copies_if lane t v ≡ []
+no_copy lane t Whole f = absurd (f refl)
+no_copy lane t TooLarge f = refl
+no_copy lane t NoRoom f = refl
+
+no_outcome : (lane : ℕ) (since : List Slip) (t : Transaction) (v : Verdict) → (v ≡ Whole → ⊥) → OutcomesIn lane since t v
+no_outcome lane since t Whole f = absurd (f refl)
+no_outcome lane since t TooLarge f = tt
+no_outcome lane since t NoRoom f = tt
+
+copies-snoc : (lane : ℕ) (ts : List Transaction) (t : Transaction) → flat_map (copies lane) (ts ++ t ∷ []) ≡ flat_map (copies lane) ts ++ copies lane t
+copies-snoc lane ts t = flat_map-append (copies lane) ts (t ∷ []) ∙ ap (λ l. flat_map (copies lane) ts ++ l) (append-nil (copies lane t))
+
+-- one transaction more, with its episode
+episodes_more : (lane : ℕ) (ts : List Transaction) (es : List Episode) (t : Transaction) (e : Episode) → AreEpisodes lane ts es → IsEpisode (txn_of lane t.number) e
+    → AreEpisodes lane (ts ++ t ∷ []) (es ++ e ∷ [])
+episodes_more lane [] [] t e h is = (is, tt)
+episodes_more lane [] (f ∷ es) t e h is = absurd h
+episodes_more lane (u ∷ ts) [] t e h is = absurd h
+episodes_more lane (u ∷ ts) (f ∷ es) t e h is = (h.0, episodes_more lane ts es t e h.1 is)
+
+slips-snoc : (f : Episode → List Slip) (es : List Episode) (e : Episode) → flat_map f (es ++ e ∷ []) ≡ flat_map f es ++ f e
+slips-snoc f es e = flat_map-append f es (e ∷ []) ∙ ap (λ l. flat_map f es ++ l) (append-nil (f e))
+
+turns_more : (lane : ℕ) (i j j' : Inbox Slip) (own heard : List Slip) (ts : List Transaction) (t : Transaction) (e : Episode) → IsEpisode (txn_of lane t.number) e
+    → (x : IsHeardInTurn lane i j own heard ts) → taken j' ≡ taken i ++ (flat_map (λ (e : Episode). e.came) x.episodes ++ e.came)
+    → IsHeardInTurn lane i j' (own ++ e.own) (heard ++ e.heard) (ts ++ t ∷ [])
+turns_more lane i j j' own heard ts t e is x took = record {
+  episodes = x.episodes ++ e ∷ [];
+  each = episodes_more lane ts x.episodes t e x.each is;
+  took = took ∙ ap (λ l. taken i ++ l) (sym (slips-snoc (λ (e : Episode). e.came) x.episodes e));
+  own_is = ap (λ l. l ++ e.own) x.own_is ∙ sym (slips-snoc (λ (e : Episode). e.own) x.episodes e);
+  heard_is = ap (λ l. l ++ e.heard) x.heard_is ∙ sym (slips-snoc (λ (e : Episode). e.heard) x.episodes e);
+}
+
+-- one more of which nothing was heard
+turns_none : (lane : ℕ) (i j : Inbox Slip) (own heard : List Slip) (ts : List Transaction) (t : Transaction) → IsHeardInTurn lane i j own heard ts → IsHeardInTurn lane i j own heard (ts ++ t ∷ [])
+turns_none lane i j own heard ts t x =
+    let e : Episode = record { came = []; own = []; heard = [] } in
+    let O : List Slip → Type 0 = λ l. IsHeardInTurn lane i j l heard (ts ++ t ∷ []) in
+    let H : List Slip → Type 0 = λ l. IsHeardInTurn lane i j (own ++ []) l (ts ++ t ∷ []) in
+    subst O (append-nil own) (subst H (append-nil heard)
+    (turns_more lane i j j own heard ts t e (record { timely = (refl, refl); named = tt }) x
+    (x.took ∙ ap (λ l. taken i ++ l) (sym (append-nil (flat_map (λ (e : Episode). e.came) x.episodes))))))
+
+-- a message that is refused
+pub ended_refused : (lane : ℕ) (May : ℕ → Type 0) (a b : List (Lane Note)) (i j : Inbox Slip) (gone : Bool) (accepted size : ℕ) (draft : Option Claim) (session : Session) (moment : ℕ)
+    (told : List Outcome) (v : Verdict) → v ≡ verdict_on accepted size draft → (v ≡ Whole → ⊥) → May moment
+    → (n : ℕ) (ts : List Transaction) (message : List ℕ) → HasOffered lane May a b i j gone accepted n ts × HoldsDraft draft size message
+    → EndsDraft (λ n ts. HasOffered lane May a b i j gone accepted n ts) moment told session n ts message v
+ended_refused lane May a b i j gone accepted size draft session moment told v is other may n ts message h =
+    let x = h.0 in
+    let t : Transaction = record { number = n; session = session; message = message; disposition = record { verdict = v; moment = moment; outcomes = told } } in
+    let same : flat_map (copies lane) (ts ++ t ∷ []) ≡ flat_map (copies lane) ts =
+    copies-snoc lane ts t ∙ ap (λ l. flat_map (copies lane) ts ++ l) (no_copy lane t v other) ∙ append-nil (flat_map (copies lane) ts) in
+    let P : List Note → Type 0 = λ l. HasExchanged lane l a b i j x.own x.heard gone in
+    record {
+      count = x.count;
+      own = x.own;
+      heard = x.heard;
+      exchanged = subst P (sym same) x.exchanged;
+      turns = turns_none lane i j x.own x.heard ts t x.turns;
+      answered = all_more (IsAnswered lane x.heard) ts t x.answered (record { before = x.heard; since = []; whole = sym (append-nil x.heard); outcomes = no_outcome lane [] t v other });
+      verdicts = all_more VerdictFits ts t x.verdicts (verdict_fits t accepted size draft x.count h.1.long is);
+      moments = all_more (λ (y : Transaction). May y.disposition.moment) ts t x.moments may;
+    }
+
+-- a copy doesn't tell the outcomes
+copies_told : (lane n : ℕ) (session : Session) (moment : ℕ) (message : List ℕ) (told : List Outcome) (place : ℕ) (rs : List ℕ)
+    → copies_from lane (sent_as n session moment message) place rs
+    ≡ copies_from lane (record { number = n; session = session; message = message; disposition = record { verdict = Whole; moment = moment; outcomes = told } }) place rs
+copies_told lane n session moment message told place [] = refl
+copies_told lane n session moment message told place (r ∷ rs) =
+    ap (λ l. record { txn = record { lane = lane; number = n }; place = place; mailbox = r; sender = session.sender; client = session.client; moment = moment; message = message } ∷ l)
+    (copies_told lane n session moment message told (place + 1) rs)
+
+bytes_are : (draft : Option Claim) (claim : Claim) (message : List ℕ) → draft ≡ Some claim → IfSome draft (λ (x : Claim). x.bytes ≡ message) → claim.bytes ≡ message
+bytes_are draft claim message e h = let P : Option Claim → Type 0 = λ d. IfSome d (λ (x : Claim). x.bytes ≡ message) in subst P e h
+
+-- a message that went to its recipients, where nothing else has changed
+whole_same : (lane : ℕ) (May : ℕ → Type 0) (a b b' : List (Lane Note)) (i j j' : Inbox Slip) (gone gone' : Bool) (accepted size : ℕ) (draft : Option Claim) (claim : Claim) (session : Session)
+    (moment : ℕ) (told : List Outcome) → accepted ≤ NUMBER_LIMIT → draft ≡ Some claim → Whole ≡ verdict_on accepted size draft → May moment
+    → Delivers lane accepted session moment claim.bytes told b b' j j' gone gone'
+    → (n : ℕ) (ts : List Transaction) (message : List ℕ) → HasOffered lane May a b i j gone accepted n ts × HoldsDraft draft size message
+    → EndsDraft (λ n ts. HasOffered lane May a b' i j' gone' accepted n ts) moment told session n ts message Whole
+whole_same lane May a b b' i j j' gone gone' accepted size draft claim session moment told low there is may delivers n ts message h =
+    let x = h.0 in
+    let t : Transaction = record { number = n; session = session; message = message; disposition = record { verdict = Whole; moment = moment; outcomes = told } } in
+    let number : accepted ≡ n = omega (arith, x.count, low) in
+    let bytes : claim.bytes ≡ message = bytes_are draft claim message there h.1.bytes in
+    let D : ℕ → List ℕ → Type 0 = λ k m. Delivers lane k session moment m told b b' j j' gone gone' in
+    let past : Episode = record { came = flat_map (λ (e : Episode). e.came) x.turns.episodes; own = x.own; heard = x.heard } in
+    let d = subst (λ m. D n m) bytes (subst (λ k. D k claim.bytes) number delivers) (flat_map (copies lane) ts) past a i x.exchanged x.turns.took in
+    let same : flat_map (copies lane) ts ++ copies_from lane (sent_as n session moment message) 0 session.recipients ≡ flat_map (copies lane) (ts ++ t ∷ []) =
+    ap (λ l. flat_map (copies lane) ts ++ l) (copies_told lane n session moment message told 0 session.recipients) ∙ sym (copies-snoc lane ts t) in
+    let P : List Note → Type 0 = λ l. HasExchanged lane l a b' i j' (x.own ++ d.now.own) (x.heard ++ d.now.heard) gone' in
+    record {
+      count = x.count;
+      own = x.own ++ d.now.own;
+      heard = x.heard ++ d.now.heard;
+      exchanged = subst P same d.exchanged;
+      turns = turns_more lane i j j' x.own x.heard ts t d.now d.is x.turns d.took;
+      answered = all_more (IsAnswered lane (x.heard ++ d.now.heard)) ts t (answered_later lane x.heard d.now.heard ts x.answered)
+          (record { before = x.heard; since = d.now.heard; whole = refl; outcomes = d.outcomes });
+      verdicts = all_more VerdictFits ts t x.verdicts (verdict_fits t accepted size draft x.count h.1.long is);
+      moments = all_more (λ (y : Transaction). May y.disposition.moment) ts t x.moments may;
+    }
+
+pub ended_whole : (lane at : ℕ) (May : ℕ → Type 0) (a b b' : List (Lane Note)) (i j j' : Inbox Slip) (gone gone' : Bool) (accepted accepted' size : ℕ) (draft : Option Claim) (claim : Claim)
+    (session : Session) (moment moment' : ℕ) (told : List Outcome) → at ≡ lane → (accepted' ≡ accepted) × (moment' ≡ moment)
+    → accepted ≤ NUMBER_LIMIT → draft ≡ Some claim → Whole ≡ verdict_on accepted size draft → May moment
+    → Delivers at accepted session moment claim.bytes told b b' j j' gone gone'
+    → (n : ℕ) (ts : List Transaction) (message : List ℕ) → HasOffered lane May a b i j gone accepted n ts × HoldsDraft draft size message
+    → EndsDraft (λ n ts. HasOffered lane May a b' i j' gone' accepted' n ts) moment' told session n ts message Whole
+ended_whole lane at May a b b' i j j' gone gone' accepted accepted' size draft claim session moment moment' told here same low there is may delivers n ts message h =
+    let D : ℕ → Type 0 = λ l. Delivers l accepted session moment claim.bytes told b b' j j' gone gone' in
+    let Q : ℕ → Type 0 = λ k. EndsDraft (λ n ts. HasOffered lane May a b' i j' gone' k n ts) moment' told session n ts message Whole in
+    let R : ℕ → Type 0 = λ m. EndsDraft (λ n ts. HasOffered lane May a b' i j' gone' accepted n ts) m told session n ts message Whole in
+    subst Q (sym same.0) (subst R (sym same.1)
+    (whole_same lane May a b b' i j j' gone gone' accepted size draft claim session moment told low there is may (subst D here delivers) n ts message h))
+
+-- a lane that was given nothing to do
+offered_none : (lane : ℕ) (May : ℕ → Type 0) (senders : List (Lane Note)) (inbox : Inbox Slip) → HasOffered lane May senders senders inbox inbox false 0 0 []
+offered_none lane May senders inbox = record {
+  count = refl;
+  own = [];
+  heard = [];
+  exchanged = record {
+    as_many = refl;
+    offered = λ box old new was is. let same : new ≡ old = cc in record {
+      line = ap (λ (s : Lane Note). s.line) same;
+      lane = ap (λ (s : Lane Note). s.lane) same;
+      accepted = [];
+      sent = ap (λ (s : Lane Note). s.sent) same ∙ sym (append-nil old.sent);
+      all = λ none. refl;
+      some = tt;
+    };
+    line = refl;
+    lanes = refl;
+    came = [];
+    took = sym (append-nil (taken inbox));
+    merged = (refl, refl);
+    made = tt;
+    sound = λ none. refl;
+  };
+  turns = record { episodes = []; each = tt; took = sym (append-nil (taken inbox)); own_is = refl; heard_is = refl };
+  answered = tt;
+  verdicts = tt;
+  moments = tt;
+}
+
+pub offered_start : (lane : ℕ) (May : ℕ → Type 0) (a b : List (Lane Note)) (i j : Inbox Slip) (gone : Bool) → b ≡ a → j ≡ i → gone ≡ false → HasOffered lane May a b i j gone 0 0 []
+offered_start lane May a b i j gone same same_inbox sound =
+    let P : List (Lane Note) → Type 0 = λ l. HasOffered lane May a l i i false 0 0 [] in
+    let Q : Inbox Slip → Type 0 = λ k. HasOffered lane May a b i k false 0 0 [] in
+    let R : Bool → Type 0 = λ t. HasOffered lane May a b i j t 0 0 [] in
+    subst R (sym sound) (subst Q (sym same_inbox) (subst P (sym same) (offered_none lane May a i)))

@@ -1,0 +1,6 @@
+pub mod Exchanging
+pub mod Awaiting
+pub mod Delivering
+pub mod Accounting
+pub mod Visiting
+pub mod Timely

@@ -1,0 +1,119 @@
+-- The clients of a lane, one after another.
+use Rattle.std.proofs.Common.{◌≡◌, ℕ, ◌+◌, List, [], ◌∷◌, ◌++◌, length, map, Option, Some, None, refl, ap, sym, ◌∙◌, subst, append_assoc, append-nil, length-append, arith}
+use Rattle.std.specs.List.{AllByRecursion}
+use Rattle.mail_world.specs.Site.{Site}
+use Rattle.mail_world.specs.Conversation.{Conversation}
+use Rattle.mail_world.specs.Lists.{Transaction, transactions}
+use Rattle.lmtp_talk.specs.declared.ending.EndCause.{EndCause}
+use Rattle.lmtp_talk.specs.Peer.{PeerState}
+use Rattle.lmtp_talk.specs.Served.{IsServed, transactions_in, accepted_behind_all}
+use Rattle.lmtp_lane.specs.Visits.{Finished, Finishes, Visit, IsVisit, finished_of, conversations_of, HasFinished, HasVisited, HasConversed}
+use Rattle.lmtp_lane.specs.LaneAccount.{counted}
+
+-- a client that was served, and is handed back
+pub conversed : (site : Site) (old new : Option (List Finished)) (before after : PeerState) (Before After : ℕ → List Transaction → Type 0) (cause : EndCause)
+    → IsServed site before after Before After cause → Finishes old new after cause → HasConversed site before old new Before After
+conversed site old new before after Before After cause x finishes = record {
+  visit = record { before = before; after = after; conversation = x.conversation; cause = cause };
+  is = record { client = refl; said = x.said; moved = x.moved; accounted = x.accounted; says = x.says; causes = x.causes };
+  told = finishes;
+  delivered = x.delivered;
+}
+
+-- how many DATA commands were accepted behind these conversations
+abbrev pub accepted_all : Site → ℕ → List Conversation → ℕ
+accepted_all site n [] = n
+accepted_all site n (c ∷ cs) = accepted_all site (accepted_behind_all site n c) cs
+
+accepted_last : (site : Site) (n : ℕ) (cs : List Conversation) (c : Conversation) → accepted_all site n (cs ++ c ∷ []) ≡ accepted_behind_all site (accepted_all site n cs) c
+accepted_last site n [] c = refl
+accepted_last site n (x ∷ cs) c = accepted_last site (accepted_behind_all site n x) cs c
+
+transactions_last : (site : Site) (n : ℕ) (cs : List Conversation) (c : Conversation)
+    → transactions site n (cs ++ c ∷ []) ≡ transactions site n cs ++ transactions_in site (accepted_all site n cs) c
+unfolding transactions
+transactions_last site n [] c = append-nil (transactions_in site n c)
+transactions_last site n (x ∷ cs) c =
+    ap (λ l. transactions_in site n x ++ l) (transactions_last site (accepted_behind_all site n x) cs c)
+    ∙ sym (append_assoc (transactions_in site n x) (transactions site (accepted_behind_all site n x) cs) (transactions_in site (accepted_all site (accepted_behind_all site n x) cs) c))
+
+transactions_first : (site : Site) (n : ℕ) → transactions site n [] ≡ []
+unfolding transactions
+transactions_first site n = refl
+
+conversations_last : (vs : List Visit) (v : Visit) → conversations_of (vs ++ v ∷ []) ≡ conversations_of vs ++ v.conversation ∷ []
+conversations_last [] v = refl
+conversations_last (x ∷ vs) v = ap (λ l. x.conversation ∷ l) (conversations_last vs v)
+
+-- the clients that were served so far, and what the delivery has come to with them
+pub record HasCalled (site : Site) (MayCome : PeerState → Type 0) (old now : Option (List Finished)) (Come : ℕ → List Transaction → Type 0) (count : ℕ) : Type 0 where
+  pub visits : List Visit
+  pub visited : HasVisited site MayCome old now visits
+  pub counts : count ≡ counted (length visits)
+  pub come : Come (accepted_all site 0 (conversations_of visits)) (transactions site 0 (conversations_of visits))
+
+-- none yet
+told_none : (old : Option (List Finished)) → HasFinished old old []
+told_none None = refl
+told_none (Some told) = ap (λ l. Some l) (sym (append-nil told))
+
+pub called_none : (site : Site) (MayCome : PeerState → Type 0) (old : Option (List Finished)) (Come : ℕ → List Transaction → Type 0) → Come 0 [] → HasCalled site MayCome old old Come 0
+called_none site MayCome old Come come = record {
+  visits = [];
+  visited = record { told = told_none old; each = tt };
+  counts = refl;
+  come = subst (λ ts. Come 0 ts) (sym (transactions_first site 0)) come;
+}
+
+-- one client more
+finished_last : (vs : List Visit) (v : Visit) → map finished_of (vs ++ v ∷ []) ≡ map finished_of vs ++ finished_of v ∷ []
+finished_last [] v = refl
+finished_last (x ∷ vs) v = ap (λ l. finished_of x ∷ l) (finished_last vs v)
+
+told_more : (old now next : Option (List Finished)) (vs : List Visit) (v : Visit) → HasFinished old now vs → Finishes now next v.after v.cause → HasFinished old next (vs ++ v ∷ [])
+told_more None None next vs v h f = f
+told_more None (Some now) next vs v h f = let bad : ◌≡◌ {A = Option (List Finished)} (Some now) None = h in cc
+told_more (Some told) None next vs v h f = let bad : ◌≡◌ {A = Option (List Finished)} None (Some (told ++ map finished_of vs)) = h in cc
+told_more (Some told) (Some now) next vs v h f =
+    let same : now ≡ told ++ map finished_of vs = cc in
+    f ∙ ap (λ l. Some l) (ap (λ l. l ++ finished_of v ∷ []) same ∙ append_assoc told (map finished_of vs) (finished_of v ∷ []) ∙ ap (λ l. told ++ l) (sym (finished_last vs v)))
+
+each_more : (P : Visit → Type 0) (vs : List Visit) (v : Visit) → AllByRecursion P vs → P v → AllByRecursion P (vs ++ v ∷ [])
+each_more P [] v h p = (p, tt)
+each_more P (x ∷ vs) v h p = (h.0, each_more P vs v h.1 p)
+
+more_called : (site : Site) (MayCome : PeerState → Type 0) (peer : PeerState) (old now next : Option (List Finished)) (Come Come' : ℕ → List Transaction → Type 0) (count count' : ℕ)
+    → count' ≡ counted (count + 1) → MayCome peer → HasCalled site MayCome old now Come count → HasConversed site peer now next Come Come' → HasCalled site MayCome old next Come' count'
+more_called site MayCome peer old now next Come Come' count count' e may x y =
+    let v : Visit = y.visit in
+    let cs : List Conversation = conversations_of x.visits in
+    let is : IsVisit site MayCome v = record {
+      client = subst MayCome (sym y.is.client) may;
+      said = y.is.said;
+      moved = y.is.moved;
+      accounted = y.is.accounted;
+      says = y.is.says;
+      causes = y.is.causes;
+    } in
+    let all : conversations_of (x.visits ++ v ∷ []) ≡ cs ++ v.conversation ∷ [] = conversations_last x.visits v in
+    let size : length (x.visits ++ v ∷ []) ≡ length x.visits + 1 = length-append x.visits (v ∷ []) in
+    let behind : Come' (accepted_behind_all site (accepted_all site 0 cs) v.conversation) (transactions site 0 cs ++ transactions_in site (accepted_all site 0 cs) v.conversation)
+    = y.delivered (accepted_all site 0 cs) (transactions site 0 cs) x.come in
+    let counted_so : Come' (accepted_all site 0 (cs ++ v.conversation ∷ [])) (transactions site 0 cs ++ transactions_in site (accepted_all site 0 cs) v.conversation)
+    = subst (λ n. Come' n (transactions site 0 cs ++ transactions_in site (accepted_all site 0 cs) v.conversation)) (sym (accepted_last site 0 cs v.conversation)) behind in
+    let come : Come' (accepted_all site 0 (cs ++ v.conversation ∷ [])) (transactions site 0 (cs ++ v.conversation ∷ []))
+    = subst (λ ts. Come' (accepted_all site 0 (cs ++ v.conversation ∷ [])) ts) (sym (transactions_last site 0 cs v.conversation)) counted_so in
+    record {
+      visits = x.visits ++ v ∷ [];
+      visited = record { told = told_more old now next x.visits v x.visited.told y.told; each = each_more (IsVisit site MayCome) x.visits v x.visited.each is };
+      counts = omega (arith, e, x.counts, size);
+      come = subst (λ l. Come' (accepted_all site 0 l) (transactions site 0 l)) (sym all) come;
+    }
+
+pub called_more : (site site' : Site) (MayCome : PeerState → Type 0) (peer : PeerState) (old now now' next : Option (List Finished)) (Come Come' : ℕ → List Transaction → Type 0) (count count' : ℕ)
+    → site' ≡ site → now' ≡ now → count' ≡ counted (count + 1) → MayCome peer → HasCalled site MayCome old now Come count → HasConversed site' peer now' next Come Come'
+    → HasCalled site MayCome old next Come' count'
+called_more site site' MayCome peer old now now' next Come Come' count count' here same e may x y =
+    let P : Site → Type 0 = λ s. HasConversed s peer now' next Come Come' in
+    let Q : Option (List Finished) → Type 0 = λ f. HasConversed site peer f next Come Come' in
+    more_called site MayCome peer old now next Come Come' count count' e may x (subst Q same (subst P here y))

@@ -1,0 +1,5 @@
+pub mod LaneExchange
+pub mod LaneAccount
+pub mod Visits
+pub mod LaneRun
+pub mod LaneStart

@@ -1,0 +1,154 @@
+//! What a lane does with the messages of its conversations.
+
+ghost use Rattle.std.specs.Prelude.{◌≡◌, ◌≤◌, ◌<◌, ℕ, List, [], length, vec_capacity, false};
+ghost use Rattle.mail_world.specs.declared.limits.TheConstants.{RECIPIENT_LIMIT as MOST, NUMBER_LIMIT as LAST};
+ghost use Rattle.mail_world.specs.Lists.{Transaction};
+ghost use Rattle.msg_depot.specs.declared.view.Claim.{Claim};
+ghost use Rattle.lmtp_lane.specs.LaneAccount.{AgreesWith, HasOffered, HoldsDraft, Delivers};
+
+use crate::clock::Clock;
+use crate::exchange::Exchange;
+use crate::incoming::Incoming;
+use crate::setting::LaneStart;
+use lmtp_session::Session;
+use lmtp_talk::Delivery;
+use mail_world::limits::RECIPIENT_LIMIT;
+use mail_world::{Outcome, Verdict};
+use msg_depot::{Depot, DepotName, Draft};
+use std::marker::PhantomData;
+use std::sync::Wait;
+
+/// The delivery of a lane: a message goes into the depot as it comes, and once it is whole its copies go out to the
+/// mailboxes.
+#[derive(Drop)]
+pub struct LaneDelivery<'a, N: DepotName, C: Clock, R: Wait, S: LaneStart> {
+    rt: &'a R,
+    depot: &'a Depot<N>,
+    clock: &'a C,
+    pub exchange: Exchange<N>,
+    pub incoming: Incoming<N>,
+    /// How many DATA commands were accepted; it stays at its largest value.
+    pub accepted: u64,
+    /// The moment of the last data that ended, in seconds since 1970.
+    pub moment: u32,
+    /// What became of the copies of the last message; none where it was refused.
+    pub outcomes: Vec<Outcome>,
+    start: PhantomData<S>,
+    ghost of_lane: { exchange.lane ≡ S.lane },
+    ghost count: { length exchange.senders.items ≡ length S.site.boxes },
+    ghost reserved: { MOST ≤ vec_capacity outcomes },
+}
+
+impl<'a, N: DepotName, C: Clock, R: Wait, S: LaneStart> LaneDelivery<'a, N, C, R, S> {
+    /// A lane's delivery before its first conversation.
+    pub fn new(
+        rt: &'a R,
+        depot: &'a Depot<N>,
+        clock: &'a C,
+        exchange: Exchange<N>,
+        outcomes: Vec<Outcome>,
+    ) -> LaneDelivery<'a, N, C, R, S>
+        requires lane { exchange.lane ≡ S.lane }
+        requires count { length exchange.senders.items ≡ length S.site.boxes }
+        requires room { MOST ≤ vec_capacity outcomes }
+        requires start { (exchange.senders.items ≡ S.senders) × (exchange.slips ≡ S.inbox) × (exchange.gone ≡ false) }
+        ensures begun { HasOffered S.lane S.May S.senders result.exchange.senders.items S.inbox result.exchange.slips result.exchange.gone result.accepted 0 [] }
+        ensures clock { AgreesWith (C.May result.clock.now) (C.May clock.now) }
+    {
+        LaneDelivery {
+            rt,
+            depot,
+            clock,
+            exchange,
+            incoming: Incoming::new(),
+            accepted: 0,
+            moment: 0,
+            outcomes,
+            start: PhantomData,
+        }
+    }
+
+    // Sends a whole message to its recipients, and keeps what became of the copies.
+    fn deliver(&mut self, session: &Session, draft: Draft<N>)
+        requires here { session.now.site ≡ S.site }
+        requires number { self.old.accepted ≤ LAST }
+        requires none { self.old.outcomes.items ≡ [] }
+        ensures same { (self.new.accepted ≡ self.old.accepted) × (self.new.moment ≡ self.old.moment) }
+        ensures clock { AgreesWith (C.May self.new.clock.now) (C.May self.old.clock.now) }
+        ensures count { length self.new.outcomes.items ≡ length session.now.session.recipients }
+        ensures delivers { Delivers self.old.exchange.lane self.old.accepted session.now.session self.old.moment draft.bytes self.new.outcomes.items
+            self.old.exchange.senders.items self.new.exchange.senders.items self.old.exchange.slips self.new.exchange.slips self.old.exchange.gone self.new.exchange.gone }
+    {
+        let count = session.recipient_count();
+        if count == 0 {
+            self.depot.cancel(self.rt, draft);
+            return;
+        }
+        let hold = self.depot.seal(self.rt, draft, count);
+        self.exchange.send(
+            self.rt,
+            self.depot,
+            session,
+            self.accepted as u32,
+            self.moment,
+            hold,
+        );
+        keep(&mut self.outcomes, self.exchange.gather.answers());
+    }
+}
+
+// Keeps the answers to a message.
+fn keep(outcomes: &mut Vec<Outcome>, answers: &[Outcome])
+    requires none { outcomes.old.items ≡ [] }
+    requires room { length answers.now ≤ vec_capacity outcomes.old }
+    ensures all { outcomes.new.items ≡ answers.now }
+    ensures room { vec_capacity outcomes.old ≤ vec_capacity outcomes.new }
+{
+    if outcomes.extend_from_slice(answers).is_err() {
+        unreachable!();
+    }
+}
+
+impl<'a, N: DepotName, C: Clock, R: Wait, S: LaneStart> Delivery for LaneDelivery<'a, N, C, R, S> {
+    ghost site = { λ d. S.site };
+
+    ghost HasCome = { λ d n ts. HasOffered S.lane S.May S.senders d.exchange.senders.items S.inbox d.exchange.slips d.exchange.gone d.accepted n ts
+        × AgreesWith (C.May d.clock.now) S.May };
+
+    ghost IsDrafting = { λ d n ts message. HasOffered S.lane S.May S.senders d.exchange.senders.items S.inbox d.exchange.slips d.exchange.gone d.accepted n ts
+        × AgreesWith (C.May d.clock.now) S.May × HoldsDraft d.incoming.draft d.incoming.size message };
+
+    ghost outcomes = { λ d. d.outcomes.items };
+
+    ghost moment = { λ d. d.moment };
+
+    fn begin(&mut self) {
+        self.accepted = self.accepted.saturating_add(1);
+        self.incoming.begin(self.rt, self.depot);
+    }
+
+    fn piece(&mut self, bytes: &[u8]) {
+        self.incoming.add(self.rt, self.depot, bytes);
+    }
+
+    fn cancel(&mut self) {
+        self.incoming.cancel(self.rt, self.depot);
+    }
+
+    /// The moment is asked of the clock, also of a message that is refused.
+    fn end(&mut self, session: &Session) -> Verdict {
+        self.outcomes.clear();
+        self.moment = self.clock.unix(self.rt);
+        match self.incoming.end(self.rt, self.depot, self.accepted) {
+            Err(verdict) => verdict,
+            Ok(draft) => {
+                self.deliver(session, draft);
+                Verdict::Whole
+            }
+        }
+    }
+
+    fn outcomes(&self) -> &[Outcome] {
+        &self.outcomes
+    }
+}

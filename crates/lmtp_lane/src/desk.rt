@@ -1,0 +1,36 @@
+//! What a lane works with.
+
+ghost use Rattle.std.specs.Prelude.{◌≡◌, ◌≤◌, ℕ, [], IfOk, vec_capacity};
+ghost use Rattle.std.specs.Arc.{arc_value};
+ghost use Rattle.mail_world.specs.declared.limits.TheConstants.{RECIPIENT_LIMIT as MOST};
+
+use lmtp_talk::Dialogue;
+use lmtp_text::Site;
+use mail_post::Gather;
+use mail_world::Outcome;
+use mail_world::limits::RECIPIENT_LIMIT;
+use std::alloc::{AllocError, Global};
+use std::sync::Arc;
+
+/// The parts of a lane, in memory that is taken once.
+#[derive(Drop)]
+pub struct Desk {
+    pub dialogue: Dialogue,
+    pub gather: Gather,
+    pub outcomes: Vec<Outcome>,
+    ghost room: { MOST ≤ gather.limit },
+    ghost reserved: { MOST ≤ vec_capacity outcomes },
+}
+
+impl Desk {
+    /// A desk at that site, before its lane's first conversation.
+    pub fn new(alloc: Global, site: Arc<Site>) -> Result<Desk, AllocError>
+        ensures { IfOk result (λ desk. (desk.dialogue.session.site ≡ arc_value site) × (desk.outcomes.items ≡ [])) }
+    {
+        Ok(Desk {
+            dialogue: Dialogue::new(alloc, site)?,
+            gather: Gather::new(alloc, RECIPIENT_LIMIT)?,
+            outcomes: Vec::with_capacity(alloc, RECIPIENT_LIMIT)?,
+        })
+    }
+}

@@ -1,0 +1,20 @@
+//! A lane of an LMTP server: it serves clients, one after another, and delivers what they send.
+#![tactic(auto)]
+
+mod clock;
+mod delivery;
+mod desk;
+mod exchange;
+mod incoming;
+mod report;
+mod run;
+mod setting;
+#[cfg(test)]
+mod tests;
+mod visits;
+
+pub use clock::Clock;
+pub use desk::Desk;
+pub use report::LaneReport;
+pub use run::lane_run;
+pub use visits::Visits;

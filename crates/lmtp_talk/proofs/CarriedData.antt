@@ -1,0 +1,111 @@
+-- Where a conversation stands with more bytes of data handled.
+use Rattle.std.proofs.Common.{◌≡◌, ℕ, List, [], ◌∷◌, ◌++◌, take, sym, ap, ◌∙◌, subst, append_assoc, append-nil}
+use Rattle.std.specs.Prelude.{flat_map}
+use Rattle.mail_world.specs.declared.State.{State}
+use Rattle.mail_world.specs.declared.State.TheVariants.{Greeted, Content}
+use Rattle.mail_world.specs.Data.{message}
+use Rattle.mail_world.specs.Site.{Site}
+use Rattle.mail_world.specs.Session.{Session, fresh, DataEnded}
+use Rattle.mail_world.specs.Conversation.{Disposition, Part, MailData, inputs_of, outcomes_of, session_after, session_behind, OutcomesFit}
+use Rattle.mail_world.specs.Lists.{Transaction, accepted_after, transactions_of}
+use Rattle.mail_world.proofs.Handled.{inputs-snoc}
+use Rattle.mail_world.proofs.Owed.{same_behind_data}
+use Rattle.lmtp_wire.specs.Wire.{IsBehind}
+use Rattle.lmtp_wire.specs.declared.dot.Fed.{Fed}
+use Rattle.lmtp_wire.specs.declared.dot.Dot.{Dot}
+use Rattle.lmtp_wire.specs.Dot.{HasMade, GoesOn}
+use Rattle.lmtp_wire.specs.Place.{Ends}
+use Rattle.lmtp_talk.specs.declared.dialogue.Dialogue.{Dialogue}
+use Rattle.lmtp_talk.specs.Peer.{PeerState}
+use Rattle.lmtp_talk.specs.Delivery.{ended_so}
+use Rattle.lmtp_talk.specs.Standing.{QuitsWith, Comes, InLine, InData, IsInside, Stands}
+use Rattle.lmtp_talk.specs.Steps.{EndsData}
+use Rattle.lmtp_talk.proofs.CutUp.{cut_data}
+use Rattle.lmtp_talk.proofs.Quits.{quits_data, data_greets}
+use Rattle.lmtp_talk.proofs.Carried.{session_more, says_part, accepted-snoc, transactions-data}
+
+in_data : (state : State) (dialogue : Dialogue) (rest : List ℕ) (come : Type 0) (drafts : List ℕ → Type 0) → state ≡ Content → IsInside state dialogue rest come drafts → InData dialogue rest drafts
+in_data state dialogue rest come drafts e x = subst (λ (s : State). IsInside s dialogue rest come drafts) e x
+
+-- the data goes on
+pub more_of_data : (site : Site) (start : PeerState) (Before : ℕ → List Transaction → Type 0) {D : Type 0} (HasCome : D → ℕ → List Transaction → Type 0) (IsDrafting : D → ℕ → List Transaction → List ℕ → Type 0)
+    (old : Dialogue) (dot : Dot) (peer : PeerState) (delivery later : D) (handled came piece bytes : List ℕ) (size room : ℕ) (fed : Fed)
+    → old.session.session.state ≡ Content
+    → ((taken made : List ℕ) → HasMade old.dot taken made → GoesOn dot (taken ++ take fed.used piece) (made ++ bytes) size room fed)
+    → ((n : ℕ) (ts : List Transaction) (draft : List ℕ) → IsDrafting delivery n ts draft → IsDrafting later n ts (draft ++ bytes))
+    → Stands site start Before old peer (HasCome delivery) (IsDrafting delivery) handled came
+    → Stands site start Before (record old { dot = dot }) peer (HasCome later) (IsDrafting later) (handled ++ take fed.used piece) came
+more_of_data site start Before {D} HasCome IsDrafting old dot peer delivery later handled came piece bytes size room fed content feeds grows h =
+    let inside = in_data old.session.session.state old h.rest _ _ content h.inside in
+    let text : List ℕ = h.rest ++ take fed.used piece in
+    let new : Dialogue = record old { dot = dot } in
+    let now : InData new text (λ made. Comes site h.done Before (λ n ts. IsDrafting later n ts made)) = record {
+      made = inside.made ++ bytes;
+      next = inside.next;
+      behind = (feeds h.rest inside.made inside.behind).behind;
+      drafting = λ n ts first. grows _ _ inside.made (inside.drafting n ts first);
+    } in
+    record {
+      done = h.done;
+      front = h.front;
+      rest = text;
+      whole = ap (λ l. l ++ take fed.used piece) h.whole ∙ append_assoc h.front h.rest (take fed.used piece);
+      cut = h.cut;
+      same_site = h.same_site;
+      session = h.session;
+      quits = h.quits;
+      said = h.said;
+      goes = h.goes;
+      inside = subst (λ (s : State). IsInside s new text (Comes site h.done Before (HasCome later)) (λ made. Comes site h.done Before (λ n ts. IsDrafting later n ts made))) (sym content) now;
+    }
+
+-- the data has ended
+pub end_of_data : (site : Site) (start : PeerState) (Before : ℕ → List Transaction → Type 0) {D : Type 0} (HasCome : D → ℕ → List Transaction → Type 0) (IsDrafting : D → ℕ → List Transaction → List ℕ → Type 0)
+    (old new : Dialogue) (dot : Dot) (before after : PeerState) (delivery mid later : D) (handled came piece bytes : List ℕ) (used : ℕ)
+    → old.session.session.state ≡ Content
+    → ((taken made : List ℕ) → HasMade old.dot taken made → Ends (taken ++ take used piece) (made ++ bytes))
+    → ((n : ℕ) (ts : List Transaction) (draft : List ℕ) → IsDrafting delivery n ts draft → IsDrafting mid n ts (draft ++ bytes))
+    → EndsData HasCome IsDrafting (record old { dot = dot }) new before after mid later
+    → Stands site start Before old before (HasCome delivery) (IsDrafting delivery) handled came
+    → Stands site start Before new after (HasCome later) (IsDrafting later) (handled ++ take used piece) came
+end_of_data site start Before {D} HasCome IsDrafting old new dot before after delivery mid later handled came piece bytes used content feeds grows e h =
+    let inside = in_data old.session.session.state old h.rest _ _ content h.inside in
+    let text : List ℕ = h.rest ++ take used piece in
+    let between : Dialogue = record old { dot = dot } in
+    let ends = feeds h.rest inside.made inside.behind in
+    let d : Disposition = ended_so e.verdict e.moment e.told in
+    let p : Part = MailData text d in
+    let session_is : new.session.session ≡ session_behind site fresh (h.done ++ p ∷ []) = session_more site h.done p between new before after e.takes h.same_site h.session in
+    let greets : new.session.session.state ≡ Greeted = ap (λ (s : Session). s.state) e.takes.session ∙ data_greets e.verdict old.session.site old.session.session d in
+    let now : InLine new [] (Comes site (h.done ++ p ∷ []) Before (HasCome later)) = record {
+      behind = subst (λ w. IsBehind w []) (sym e.takes.wire) inside.next;
+      comes = λ n ts first.
+          let t : Transaction = record { number = accepted_after site n fresh h.done; session = old.session.session; message = inside.made ++ bytes; disposition = d } in
+          let t' : Transaction = record { number = accepted_after site n fresh h.done; session = session_behind site fresh h.done; message = message text; disposition = d } in
+          let same : t ≡ t' =
+          ap (λ (s : Session). record { number = accepted_after site n fresh h.done; session = s; message = inside.made ++ bytes; disposition = d }) h.session
+          ∙ ap (λ (m : List ℕ). record { number = accepted_after site n fresh h.done; session = session_behind site fresh h.done; message = m; disposition = d }) ends.message in
+          let count : accepted_after site n fresh h.done ≡ accepted_after site n fresh (h.done ++ p ∷ []) =
+          sym (accepted-snoc site n h.done p ∙ same_behind_data site (accepted_after site n fresh h.done) (session_behind site fresh h.done) text d) in
+          let list : (ts ++ transactions_of site n fresh h.done) ++ t ∷ [] ≡ ts ++ transactions_of site n fresh (h.done ++ p ∷ []) =
+          append_assoc ts (transactions_of site n fresh h.done) (t ∷ []) ∙ ap (λ (x : Transaction). ts ++ (transactions_of site n fresh h.done ++ x ∷ [])) same ∙ ap (λ l. ts ++ l) (sym (transactions-data site n h.done text d)) in
+          subst (λ k. HasCome later k (ts ++ transactions_of site n fresh (h.done ++ p ∷ []))) count
+          (subst (λ l. HasCome later (accepted_after site n fresh h.done) l) list
+          (e.ended _ _ (inside.made ++ bytes) (grows _ _ inside.made (inside.drafting n ts first))));
+    } in
+    record {
+      done = h.done ++ p ∷ [];
+      front = h.front ++ text;
+      rest = [];
+      whole = ap (λ l. l ++ take used piece) h.whole ∙ append_assoc h.front h.rest (take used piece) ∙ sym (append-nil (h.front ++ text));
+      cut = cut_data site h.front text h.done ends.end d h.cut (ap (λ (s : Session). s.state) (sym h.session) ∙ content) ends.ends ends.last
+          (subst (λ (s : Session). OutcomesFit s.recipients d d.verdict) h.session e.fits);
+      same_site = e.takes.site ∙ h.same_site;
+      session = session_is;
+      quits = subst (λ (s : Session). QuitsWith s.state (flat_map inputs_of (h.done ++ p ∷ []))) (sym e.takes.session)
+          (subst (λ l. QuitsWith (session_after old.session.site old.session.session (DataEnded e.verdict ∷ outcomes_of d e.verdict)).state l) (sym (inputs-snoc h.done p))
+          (quits_data e.verdict old.session.site old.session.session (flat_map inputs_of h.done) d content h.quits));
+      said = says_part site h.done p start before after between new came e.takes h.same_site h.session h.said;
+      goes = e.takes.same ∙ h.goes;
+      inside = subst (λ (s : State). IsInside s new [] (Comes site (h.done ++ p ∷ []) Before (HasCome later)) (λ made. Comes site (h.done ++ p ∷ []) Before (λ n ts. IsDrafting later n ts made))) (sym greets) now;
+    }

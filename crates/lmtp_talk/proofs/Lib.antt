@@ -1,0 +1,9 @@
+pub mod Written
+pub mod Quits
+pub mod CutUp
+pub mod Carried
+pub mod CarriedData
+pub mod Messages
+pub mod Carrying
+pub mod Ends
+pub mod Turning

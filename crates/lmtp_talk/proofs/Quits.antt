@@ -1,0 +1,181 @@
+-- Where the steps of a session lead, and that only QUIT ends it.
+use Rattle.std.proofs.Common.{◌≡◌, ℕ, Bool, true, false, List, [], ◌∷◌, ◌++◌, length, Option, Some, None, refl, sym, ap, ◌∙◌}
+use Rattle.std.specs.Prelude.{nat_lt, if◌then◌else◌, ◌||◌, ⊤, Ok, Err}
+use Rattle.mail_world.specs.declared.Verdict.{Verdict}
+use Rattle.mail_world.specs.declared.Verdict.TheVariants.{Whole, TooLarge, NoRoom}
+use Rattle.mail_world.specs.declared.State.{State}
+use Rattle.mail_world.specs.declared.State.TheVariants.{Fresh, Greeted, Sender, Recipients, Content, Waiting, Ended}
+use Rattle.mail_world.specs.declared.Reply.TheVariants as replies
+use Rattle.mail_world.specs.declared.limits.TheConstants.{RECIPIENT_LIMIT}
+use Rattle.mail_world.specs.Site.{Site}
+use Rattle.mail_world.specs.Commands.{Answer, Lhlo, Mail, Rcpt, StartData, Rset, Noop, Quit, Vrfy, Help, command}
+use Rattle.mail_world.specs.Targets.{box_of}
+use Rattle.mail_world.specs.Session.{Session, Input, Line, LongLine, DataEnded, says, on_mail, add_recipient, on_rcpt, on_data, on_rset, on_command, step}
+use Rattle.mail_world.specs.Conversation.{Disposition, outcomes_of, session_after}
+use Rattle.lmtp_session.specs.Steps.{TakesLines}
+use Rattle.lmtp_talk.specs.Served.{is_quit, is_quit_answer, has_quit}
+use Rattle.lmtp_talk.specs.Standing.{QuitsWith}
+
+-- where a command leads from a state: there, or to one of these
+module _ (P : State → Type 0) where
+  mail_leads : (state : State) (s : Session) (sender : List ℕ) → P s.state → P Sender → P (on_mail state s sender).next.state
+  mail_leads Fresh s sender same sends = same
+  mail_leads Greeted s sender same sends = sends
+  mail_leads Sender s sender same sends = same
+  mail_leads Recipients s sender same sends = same
+  mail_leads Content s sender same sends = same
+  mail_leads Waiting s sender same sends = same
+  mail_leads Ended s sender same sends = same
+
+  room_leads : (b : Bool) (s : Session) (box : ℕ) → P s.state → P Recipients
+      → P (if b then says replies.RecipientOk (record { state = Recipients; client = s.client; sender = s.sender; recipients = s.recipients ++ box ∷ [] }) else says replies.TooMany s).next.state
+  room_leads true s box same receives = receives
+  room_leads false s box same receives = same
+
+  box_leads : (s : Session) (box : Option ℕ) → P s.state → P Recipients → P (add_recipient s box).next.state
+  box_leads s None same receives = same
+  box_leads s (Some box) same receives = room_leads (nat_lt (length s.recipients) RECIPIENT_LIMIT) s box same receives
+
+  rcpt_leads : (state : State) (s : Session) (box : Option ℕ) → P s.state → P Recipients → P (on_rcpt state s box).next.state
+  rcpt_leads Fresh s box same receives = same
+  rcpt_leads Greeted s box same receives = same
+  rcpt_leads Sender s box same receives = box_leads s box same receives
+  rcpt_leads Recipients s box same receives = box_leads s box same receives
+  rcpt_leads Content s box same receives = same
+  rcpt_leads Waiting s box same receives = same
+  rcpt_leads Ended s box same receives = same
+
+  data_leads : (state : State) (s : Session) → P s.state → P Content → P (on_data state s).next.state
+  data_leads Fresh s same content = same
+  data_leads Greeted s same content = same
+  data_leads Sender s same content = same
+  data_leads Recipients s same content = content
+  data_leads Content s same content = same
+  data_leads Waiting s same content = same
+  data_leads Ended s same content = same
+
+  rset_leads : (state : State) (s : Session) → P s.state → P Greeted → P (on_rset state s).next.state
+  rset_leads Fresh s same greeted = same
+  rset_leads Greeted s same greeted = greeted
+  rset_leads Sender s same greeted = greeted
+  rset_leads Recipients s same greeted = greeted
+  rset_leads Content s same greeted = greeted
+  rset_leads Waiting s same greeted = greeted
+  rset_leads Ended s same greeted = greeted
+
+  answer_leads : (site : Site) (s : Session) (a : Answer) → P s.state → P Greeted → P Sender → P Recipients → P Content → (is_quit_answer a ≡ true → P Ended)
+      → P (on_command site s a).next.state
+  answer_leads site s (Err why) same greeted sends receives content ended = same
+  answer_leads site s (Ok (Lhlo client)) same greeted sends receives content ended = greeted
+  answer_leads site s (Ok (Mail sender)) same greeted sends receives content ended = mail_leads s.state s sender same sends
+  answer_leads site s (Ok (Rcpt target)) same greeted sends receives content ended = rcpt_leads s.state s (box_of site target) same receives
+  answer_leads site s (Ok StartData) same greeted sends receives content ended = data_leads s.state s same content
+  answer_leads site s (Ok Rset) same greeted sends receives content ended = rset_leads s.state s same greeted
+  answer_leads site s (Ok Noop) same greeted sends receives content ended = same
+  answer_leads site s (Ok Quit) same greeted sends receives content ended = ended refl
+  answer_leads site s (Ok Vrfy) same greeted sends receives content ended = same
+  answer_leads site s (Ok Help) same greeted sends receives content ended = same
+
+not_ended : (state : State) → TakesLines state → state ≡ Ended → ⊥
+not_ended Fresh h e = cc
+not_ended Greeted h e = cc
+not_ended Sender h e = cc
+not_ended Recipients h e = cc
+not_ended Content h e = cc
+not_ended Waiting h e = cc
+not_ended Ended h e = cc
+
+-- a line never makes the session wait for outcomes
+abbrev pub GoesOn : State → Type 0
+GoesOn Waiting = ⊥
+GoesOn _ = ⊤
+
+goes_on : (state : State) → TakesLines state → GoesOn state
+goes_on Fresh h = tt
+goes_on Greeted h = tt
+goes_on Sender h = tt
+goes_on Recipients h = tt
+goes_on Content h = cc
+goes_on Waiting h = cc
+goes_on Ended h = cc
+
+pub line_goes_on : (site : Site) (s : Session) (text : List ℕ) → TakesLines s.state → GoesOn (step site s (Line text)).next.state
+line_goes_on site s text h = answer_leads GoesOn site s (command text) (goes_on s.state h) tt tt tt tt (λ e. tt)
+
+pub long_goes_on : (site : Site) (s : Session) → TakesLines s.state → GoesOn (step site s LongLine).next.state
+long_goes_on site s h = goes_on s.state h
+
+-- the session ends exactly with QUIT
+line_ends : (site : Site) (s : Session) (text : List ℕ) → TakesLines s.state → (step site s (Line text)).next.state ≡ Ended → is_quit (Line text) ≡ true
+line_ends site s text h = answer_leads (λ x. x ≡ Ended → is_quit_answer (command text) ≡ true) site s (command text)
+    (λ e. absurd (not_ended s.state h e)) (λ e. cc) (λ e. cc) (λ e. cc) (λ e. cc) (λ q e. q)
+
+quit_ends : (site : Site) (s : Session) (a : Answer) → is_quit_answer a ≡ true → (on_command site s a).next.state ≡ Ended
+quit_ends site s (Err why) e = cc
+quit_ends site s (Ok (Lhlo client)) e = cc
+quit_ends site s (Ok (Mail sender)) e = cc
+quit_ends site s (Ok (Rcpt target)) e = cc
+quit_ends site s (Ok StartData) e = cc
+quit_ends site s (Ok Rset) e = cc
+quit_ends site s (Ok Noop) e = cc
+quit_ends site s (Ok Quit) e = refl
+quit_ends site s (Ok Vrfy) e = cc
+quit_ends site s (Ok Help) e = cc
+
+or_assoc : (a b c : Bool) → a || (b || c) ≡ (a || b) || c
+or_assoc true b c = refl
+or_assoc false b c = refl
+
+or_right : (a b : Bool) → b ≡ true → a || b ≡ true
+or_right true b e = refl
+or_right false b e = e
+
+or_first : (b c : Bool) → b || c ≡ true → (b ≡ true → ⊥) → c ≡ true
+or_first true c e f = absurd (f refl)
+or_first false c e f = e
+
+pub has_quit-append : (xs ys : List Input) → has_quit (xs ++ ys) ≡ has_quit xs || has_quit ys
+has_quit-append [] ys = refl
+has_quit-append (x ∷ xs) ys = ap (λ b. is_quit x || b) (has_quit-append xs ys) ∙ or_assoc (is_quit x) (has_quit xs) (has_quit ys)
+
+-- inputs more, of which QUIT ends the session exactly where it is among them
+quits_more : (xs ys : List Input) (before after : State) → (before ≡ Ended → ⊥) → QuitsWith before xs
+    → (after ≡ Ended → has_quit ys ≡ true) → (has_quit ys ≡ true → after ≡ Ended) → QuitsWith after (xs ++ ys)
+quits_more xs ys before after open' q to from = record {
+  ends = λ e. has_quit-append xs ys ∙ or_right (has_quit xs) (has_quit ys) (to e);
+  quit = λ e. from (or_first (has_quit xs) (has_quit ys) (sym (has_quit-append xs ys) ∙ e) (λ f. open' (q.quit f)));
+}
+
+or_last : (b : Bool) → b ≡ true → b || false ≡ true
+or_last true e = refl
+or_last false e = cc
+
+or_one : (b : Bool) → b || false ≡ true → b ≡ true
+or_one true e = refl
+or_one false e = cc
+
+pub quits_line : (site : Site) (s : Session) (xs : List Input) (text : List ℕ) → TakesLines s.state → QuitsWith s.state xs
+    → QuitsWith (session_after site s (Line text ∷ [])).state (xs ++ Line text ∷ [])
+quits_line site s xs text h q = quits_more xs (Line text ∷ []) s.state _ (not_ended s.state h) q
+    (λ e. or_last (is_quit (Line text)) (line_ends site s text h e)) (λ e. quit_ends site s (command text) (or_one (is_quit (Line text)) e))
+
+pub quits_long : (site : Site) (s : Session) (xs : List Input) → TakesLines s.state → QuitsWith s.state xs
+    → QuitsWith (session_after site s (LongLine ∷ [])).state (xs ++ LongLine ∷ [])
+quits_long site s xs h q = quits_more xs (LongLine ∷ []) s.state _ (not_ended s.state h) q
+    (λ e. absurd (not_ended s.state h e)) (λ e. cc)
+
+-- behind data the session takes lines again
+pub data_greets : (v : Verdict) (site : Site) (s : Session) (d : Disposition) → (session_after site s (DataEnded v ∷ outcomes_of d v)).state ≡ Greeted
+data_greets Whole site s d = refl
+data_greets TooLarge site s d = refl
+data_greets NoRoom site s d = refl
+
+no_quit : (v : Verdict) (d : Disposition) → has_quit (DataEnded v ∷ outcomes_of d v) ≡ false
+no_quit Whole d = refl
+no_quit TooLarge d = refl
+no_quit NoRoom d = refl
+
+pub quits_data : (v : Verdict) (site : Site) (s : Session) (xs : List Input) (d : Disposition) → s.state ≡ Content → QuitsWith s.state xs
+    → QuitsWith (session_after site s (DataEnded v ∷ outcomes_of d v)).state (xs ++ (DataEnded v ∷ outcomes_of d v))
+quits_data v site s xs d content q = quits_more xs (DataEnded v ∷ outcomes_of d v) s.state _ (λ e. let wrong : Content ≡ Ended = sym content ∙ e in cc) q
+    (λ e. let wrong : Greeted ≡ Ended = sym (data_greets v site s d) ∙ e in cc) (λ e. let wrong : false ≡ true = sym (no_quit v d) ∙ e in cc)

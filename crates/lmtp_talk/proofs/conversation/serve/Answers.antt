@@ -1,0 +1,10 @@
+use Rattle.std.proofs.Common.{[], refl}
+use Rattle.lmtp_talk.proofs.Turning.{begins}
+use Rattle.lmtp_talk.proofs.conversation.serve.Goals as goal
+
+pub returns-clause-serves : goal.returns-clause-serves
+returns-clause-serves g c =
+    let site = c.args.dialogue.now.session.site in
+    let start = g.P.Peer.state c.args.peer.now in
+    c.take_turns.ensures.ends site start c.args.delivery.now []
+    (begins site start (g.P.Peer.state c.greet.new.peer) (g.D.Delivery.HasCome c.args.delivery.now) (g.D.Delivery.IsDrafting c.args.delivery.now) c.args.dialogue.now c.greet.new.dialogue refl c.greet.ensures.greets)

@@ -1,0 +1,41 @@
+use Rattle.std.proofs.Common.{◌<◌, ◌≤◌, ◌++◌, length, ◌∙◌, arith, length-append}
+use Rattle.mail_world.specs.declared.limits.TheConstants.{READ_LIMIT}
+use Rattle.lmtp_talk.specs.declared.ending.EndCause.TheVariants as ends
+use Rattle.lmtp_talk.proofs.Ends.{served}
+use Rattle.lmtp_talk.proofs.Turning.{may_not_ended}
+use Rattle.lmtp_talk.proofs.conversation.take_turns.Goals as goal
+
+pub returns-in-Some-clause-ends : goal.returns-in-Some-clause-ends
+returns-in-Some-clause-ends g c site start first handled h =
+    let w = c.loop-made.invariant.stands site start first handled h in
+    c.in-Some.ensures.turn site start first w.0 w.2
+
+pub loop-made-preserved : goal.loop-made-preserved
+loop-made-preserved g c = record {
+  may = c.in_default.ensures.may;
+  none = c.in_default.ensures.none;
+  room = c.in_default.ensures.size ∙ c.loop-made.invariant.room;
+  site = c.in_default.ensures.site ∙ c.loop-made.invariant.site;
+  same = c.in_default.ensures.same ∙ c.loop-made.invariant.same;
+  stands = λ site start first handled h.
+      let w = c.loop-made.invariant.stands site start first handled h in
+      let t = c.in_default.ensures.turn site start first w.0 w.2 in
+      let made : c.loop-made._made ≤ length w.0 = w.1 in
+      let some : 0 < length t.more = t.some in
+      (w.0 ++ t.more, omega (arith, made, some, length-append w.0 t.more), t.stands);
+}
+
+pub returns-then-dialogue-clause-ends : goal.returns-then-dialogue-clause-ends
+returns-then-dialogue-clause-ends g c site start first handled h =
+    let w = c.loop-made.invariant.stands site start first handled h in
+    served site start (g.P.Peer.state c.loop-made.peer) (g.D.Delivery.HasCome first) (g.D.Delivery.HasCome c.loop-made.delivery) (g.D.Delivery.HasCome c.leave.new.delivery) (g.D.Delivery.IsDrafting c.loop-made.delivery)
+    c.loop-made.dialogue w.0 ends.WriteFault w.2 c.leave.ensures.leaves c.if-dialogue.true
+
+pub returns-else-dialogue-clause-ends : goal.returns-else-dialogue-clause-ends
+returns-else-dialogue-clause-ends g c site start first handled h =
+    let w = c.loop-made.invariant.stands site start first handled h in
+    let made : c.loop-made._made ≤ length w.0 = w.1 in
+    let bound : READ_LIMIT ≤ length w.0 = omega (arith, made, c.loop-made-test.false) in
+    served site start (g.P.Peer.state c.loop-made.peer) (g.D.Delivery.HasCome first) (g.D.Delivery.HasCome c.loop-made.delivery) (g.D.Delivery.HasCome c.leave.new.delivery) (g.D.Delivery.IsDrafting c.loop-made.delivery)
+    c.loop-made.dialogue w.0 ends.ReadBound w.2 c.leave.ensures.leaves
+    (record { whole = c.if-dialogue.false; none = c.loop-made.invariant.none }, may_not_ended c.loop-made.dialogue.session.session.state c.loop-made.invariant.may, bound)

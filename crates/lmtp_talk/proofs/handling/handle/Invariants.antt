@@ -1,0 +1,15 @@
+use Rattle.std.proofs.Common.{◌≡◌, ◌≤◌, ◌-◌, length, take}
+use Rattle.lmtp_talk.specs.Steps.{Carries}
+use Rattle.lmtp_talk.proofs.handling.handle.Given as goal
+
+-- the bytes up to there are handled
+abbrev pub invariant-loop-at : goal.invariant-loop-at
+invariant-loop-at g l = record {
+  within : l.at ≤ length l.piece;
+  site : l.dialogue.session.site ≡ l.initial.dialogue.session.site;
+  same : g.D.Delivery.site l.delivery ≡ g.D.Delivery.site l.initial.delivery;
+  stands : Carries g.D.Delivery.HasCome g.D.Delivery.IsDrafting l.initial.dialogue l.dialogue (g.P.Peer.state l.initial.peer) (g.P.Peer.state l.peer) l.initial.delivery l.delivery (take l.at l.piece);
+}
+
+abbrev pub decreases-loop-at : goal.decreases-loop-at
+decreases-loop-at g l = length l.piece - l.at

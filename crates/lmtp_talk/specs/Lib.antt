@@ -1,0 +1,8 @@
+pub mod Peer
+pub mod Delivery
+pub mod Saying
+pub mod Served
+pub mod Standing
+pub mod Steps
+pub mod Turns
+pub mod Script

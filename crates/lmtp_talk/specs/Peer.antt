@@ -1,0 +1,50 @@
+-- What contracts see of a peer, and what a read and a write do.
+use Rattle.std.specs.Prelude.{◌≡◌, ◌≤◌, ℕ, List, [], length, take, Option}
+use Rattle.std.specs.Io.KnownBytes.{Appends, Consumes, IsAtEnd}
+use Rattle.mail_world.specs.Failures.{Rises}
+use Rattle.lmtp_talk.specs.declared.peer.Came.{Came}
+use Rattle.lmtp_talk.specs.declared.peer.Came.TheVariants.{Bytes, End, Stop}
+
+-- the bytes that were read of it, those that are still to come and those that it was given, each where it tells; how often it failed; how often it said that the server is to stop; the names of the borrows that it holds
+pub record PeerState : Type 0 where
+  pub read : Option (List ℕ)
+  pub unread : Option (List ℕ)
+  pub written : Option (List ℕ)
+  pub failures : ℕ
+  pub stops : ℕ
+  pub holds : List ℕ
+
+-- these bytes were read and those were written
+pub record HasMoved (old new : PeerState) (came said : List ℕ) : Type 0 where
+  pub read : Appends old.read new.read came
+  pub unread : Consumes old.unread new.unread came
+  pub written : Appends old.written new.written said
+  pub still : new.holds ≡ old.holds
+
+-- the same, and nothing failed
+pub record HasWorked (old new : PeerState) (came said : List ℕ) : Type 0 where
+  pub moved : HasMoved old new came said
+  pub sound : new.failures ≡ old.failures
+  pub same : new.stops ≡ old.stops
+
+-- nothing was read or written, and it failed
+pub record HasFailed (old new : PeerState) : Type 0 where
+  pub moved : HasMoved old new [] []
+  pub failed : Rises old.failures new.failures
+  pub same : new.stops ≡ old.stops
+
+-- nothing was read or written, and it said that the server is to stop
+pub record HasStopped (old new : PeerState) : Type 0 where
+  pub moved : HasMoved old new [] []
+  pub sound : new.failures ≡ old.failures
+  pub stopped : Rises old.stops new.stops
+
+-- what a read answered is so
+abbrev pub HasCome : PeerState → PeerState → List ℕ → Came → Type 0
+HasCome old new buffer (Bytes n) = (1 ≤ n) × (n ≤ length buffer) × HasWorked old new (take n buffer) []
+HasCome old new buffer End = HasWorked old new [] [] × IsAtEnd new.unread
+HasCome old new buffer Stop = HasStopped old new
+
+-- so many bytes of the front were written
+abbrev pub HasGiven : PeerState → PeerState → List ℕ → ℕ → Type 0
+HasGiven old new bytes n = (1 ≤ n) × (n ≤ length bytes) × HasWorked old new [] (take n bytes)

@@ -1,0 +1,65 @@
+-- Where a conversation stands between two of its bytes.
+use Rattle.std.specs.Prelude.{◌≡◌, ℕ, true, List, [], ◌++◌, length, flat_map, sum_by}
+use Rattle.mail_world.specs.declared.State.{State}
+use Rattle.mail_world.specs.declared.State.TheVariants.{Content, Waiting, Ended}
+use Rattle.mail_world.specs.declared.Reply.TheVariants.{Greeting}
+use Rattle.mail_world.specs.Site.{Site}
+use Rattle.mail_world.specs.Session.{fresh, Input}
+use Rattle.mail_world.specs.Replies.{reply_text, reply_texts}
+use Rattle.mail_world.specs.Conversation.{Disposition, Part, inputs_of, session_behind, replies_to, parts, size_of, AllFit}
+use Rattle.mail_world.specs.Dispositions.{dispositions_of}
+use Rattle.mail_world.specs.Lists.{Transaction, accepted_after, transactions_of}
+use Rattle.lmtp_wire.specs.Wire.{IsBehind}
+use Rattle.lmtp_wire.specs.Dot.{HasMade}
+use Rattle.lmtp_talk.specs.declared.dialogue.Dialogue.{Dialogue}
+use Rattle.lmtp_talk.specs.Peer.{PeerState}
+use Rattle.lmtp_talk.specs.Saying.{HasSaid}
+use Rattle.lmtp_talk.specs.Served.{has_quit}
+
+-- these parts stand at the front, whatever follows them
+pub record IsCutUp (site : Site) (done : List ℕ) (ps : List Part) : Type 0 where
+  pub goes : (more : List ℕ) (ds : List Disposition) → parts site fresh (done ++ more) (dispositions_of ps ++ ds) ≡ ps ++ parts site (session_behind site fresh ps) more ds
+  pub size : sum_by size_of ps ≡ length done
+  pub fit : AllFit site fresh ps
+
+-- the session has ended exactly where QUIT was an input
+pub record QuitsWith (state : State) (xs : List Input) : Type 0 where
+  pub ends : state ≡ Ended → has_quit xs ≡ true
+  pub quit : has_quit xs ≡ true → state ≡ Ended
+
+-- what a delivery has come to behind the parts, from what it had come to before them
+abbrev pub Comes : Site → List Part → (ℕ → List Transaction → Type 0) → (ℕ → List Transaction → Type 0) → Type 0
+Comes site ps Before Now = (n : ℕ) (ts : List Transaction) → Before n ts → Now (accepted_after site n fresh ps) (ts ++ transactions_of site n fresh ps)
+
+-- inside a line, of which these bytes were taken
+pub record InLine (dialogue : Dialogue) (rest : List ℕ) (come : Type 0) : Type 0 where
+  pub behind : IsBehind dialogue.wire rest
+  pub comes : come
+
+-- inside data, of which these bytes were taken, with a draft of what was made of them
+pub record InData (dialogue : Dialogue) (rest : List ℕ) (drafts : List ℕ → Type 0) : Type 0 where
+  pub made : List ℕ
+  pub next : IsBehind dialogue.wire []
+  pub behind : HasMade dialogue.dot rest made
+  pub drafting : drafts made
+
+abbrev pub IsInside : State → Dialogue → List ℕ → Type 0 → (List ℕ → Type 0) → Type 0
+IsInside Content dialogue rest come drafts = InData dialogue rest drafts
+IsInside Waiting dialogue rest come drafts = ⊥
+IsInside Ended dialogue rest come drafts = come
+IsInside _ dialogue rest come drafts = InLine dialogue rest come
+
+-- Of the bytes that came since the start of the conversation, these are handled.
+pub record Stands (site : Site) (start : PeerState) (Before : ℕ → List Transaction → Type 0) (dialogue : Dialogue) (peer : PeerState)
+    (Come : ℕ → List Transaction → Type 0) (Drafting : ℕ → List Transaction → List ℕ → Type 0) (handled came : List ℕ) : Type 0 where
+  pub done : List Part
+  pub front : List ℕ
+  pub rest : List ℕ
+  pub whole : handled ≡ front ++ rest
+  pub cut : IsCutUp site front done
+  pub same_site : dialogue.session.site ≡ site
+  pub session : dialogue.session.session ≡ session_behind site fresh done
+  pub quits : QuitsWith dialogue.session.session.state (flat_map inputs_of done)
+  pub said : HasSaid start peer dialogue.outbox.broken dialogue.outbox.pending.items came (reply_text site Greeting ++ reply_texts site (replies_to site fresh (flat_map inputs_of done)))
+  pub goes : peer.stops ≡ start.stops
+  pub inside : IsInside dialogue.session.session.state dialogue rest (Comes site done Before Come) (λ made. Comes site done Before (λ n ts. Drafting n ts made))

@@ -1,0 +1,183 @@
+//! One conversation, from its greeting to its end.
+
+ghost use Rattle.std.specs.Prelude.{◌≡◌, ◌<◌, [], ◌∷◌, length, IfSome, MatchOption};
+ghost use Rattle.mail_world.specs.Session.{Stop};
+ghost use Rattle.mail_world.specs.Lists.{is_content};
+ghost use Rattle.lmtp_session.specs.Steps.{MayStop};
+ghost use Rattle.lmtp_talk.specs.Steps.{TakesInputs};
+ghost use Rattle.lmtp_talk.specs.Turns.{Greets, Leaves, TakesTurn, EndsTurn, HandlesPiece, end_behind, stopped_or};
+ghost use Rattle.lmtp_talk.specs.Served.{IsServed};
+
+use crate::delivery::Delivery;
+use crate::dialogue::Dialogue;
+use crate::ending::EndCause;
+use crate::handling::handle;
+use crate::peer::{Came, Peer};
+use mail_world::State;
+use mail_world::limits::READ_LIMIT;
+
+/// The bytes that one read asks for.
+const READ_SIZE: usize = 4_096;
+
+/// Serves one conversation. All that was read is handled, and its replies are written, before the next read; nothing is
+/// read behind QUIT. Where a write fails the conversation ends once the bytes that were read are handled.
+pub fn serve<P: Peer, D: Delivery>(
+    dialogue: &mut Dialogue,
+    peer: &mut P,
+    delivery: &mut D,
+) -> EndCause
+    requires { D.site delivery.old ≡ dialogue.old.session.site }
+    ensures serves { IsServed dialogue.old.session.site (P.state peer.old) (P.state peer.new) (D.HasCome delivery.old) (D.HasCome delivery.new) result }
+    ensures site { dialogue.new.session.site ≡ dialogue.old.session.site }
+    ensures same { D.site delivery.new ≡ D.site delivery.old }
+{
+    greet(dialogue, peer);
+    take_turns(dialogue, peer, delivery)
+}
+
+// The first reply (RFC 5321, 4.3.1).
+fn greet<P: Peer>(dialogue: &mut Dialogue, peer: &mut P)
+    ensures greets { Greets dialogue.old dialogue.new (P.state peer.old) (P.state peer.new) }
+    ensures none { dialogue.new.outbox.pending.items ≡ [] }
+{
+    dialogue.wire.clear();
+    dialogue.outbox.clear();
+    let greeting = dialogue.session.greeting();
+    dialogue.outbox.say(peer, dialogue.session.site(), greeting);
+    dialogue.outbox.flush(peer);
+}
+
+// Takes turns until the conversation ends.
+fn take_turns<P: Peer, D: Delivery>(
+    dialogue: &mut Dialogue,
+    peer: &mut P,
+    delivery: &mut D,
+) -> EndCause
+    requires may { MayStop dialogue.old.session.session.state }
+    requires none { dialogue.old.outbox.pending.items ≡ [] }
+    requires here { D.site delivery.old ≡ dialogue.old.session.site }
+    ensures ends { EndsTurn D.HasCome D.IsDrafting dialogue.old (P.state peer.old) (P.state peer.new) delivery.old delivery.new result }
+    ensures site { dialogue.new.session.site ≡ dialogue.old.session.site }
+    ensures same { D.site delivery.new ≡ D.site delivery.old }
+{
+    let mut buffer = [0; READ_SIZE];
+    for _made in 0..READ_LIMIT {
+        if let Some(end) = take_turn(dialogue, peer, delivery, &mut buffer) {
+            return end;
+        }
+    }
+    leave(dialogue, delivery);
+    if dialogue.outbox.broken {
+        EndCause::WriteFault
+    } else {
+        EndCause::ReadBound
+    }
+}
+
+// One read and all that it brings; the cause where the conversation ends with it.
+fn take_turn<P: Peer, D: Delivery>(
+    dialogue: &mut Dialogue,
+    peer: &mut P,
+    delivery: &mut D,
+    buffer: &mut [u8],
+) -> Option<EndCause>
+    requires some { 0 < length buffer.old }
+    requires may { MayStop dialogue.old.session.session.state }
+    requires none { dialogue.old.outbox.pending.items ≡ [] }
+    requires here { D.site delivery.old ≡ dialogue.old.session.site }
+    ensures turn { MatchOption result
+        (TakesTurn D.HasCome D.IsDrafting dialogue.old dialogue.new (P.state peer.old) (P.state peer.new) delivery.old delivery.new)
+        (EndsTurn D.HasCome D.IsDrafting dialogue.old (P.state peer.old) (P.state peer.new) delivery.old delivery.new) }
+    ensures may { MatchOption result (MayStop dialogue.new.session.session.state) (λ _. Unit {0}) }
+    ensures none { MatchOption result (dialogue.new.outbox.pending.items ≡ []) (λ _. Unit {0}) }
+    ensures size { length buffer.new ≡ length buffer.old }
+    ensures site { dialogue.new.session.site ≡ dialogue.old.session.site }
+    ensures same { D.site delivery.new ≡ D.site delivery.old }
+{
+    if dialogue.outbox.broken {
+        leave(dialogue, delivery);
+        return Some(EndCause::WriteFault);
+    }
+    match peer.read(buffer) {
+        Ok(Came::Bytes(size)) => {
+            take_piece(dialogue, peer, delivery, &buffer[..size]);
+            end_or_go_on(dialogue)
+        }
+        Ok(Came::End) => {
+            leave(dialogue, delivery);
+            Some(EndCause::EndOfInput)
+        }
+        Ok(Came::Stop) => {
+            leave(dialogue, delivery);
+            stop(dialogue, peer);
+            Some(stopped_or_fault(dialogue.outbox.broken))
+        }
+        Err(_) => {
+            leave(dialogue, delivery);
+            Some(EndCause::ReadFault)
+        }
+    }
+}
+
+// Handles the bytes, and writes the replies to them.
+fn take_piece<P: Peer, D: Delivery>(
+    dialogue: &mut Dialogue,
+    peer: &mut P,
+    delivery: &mut D,
+    piece: &[u8],
+)
+    requires { D.site delivery.old ≡ dialogue.old.session.site }
+    ensures handles { HandlesPiece D.HasCome D.IsDrafting dialogue.old dialogue.new (P.state peer.old) (P.state peer.new) delivery.old delivery.new piece.now }
+    ensures none { dialogue.new.outbox.pending.items ≡ [] }
+    ensures site { dialogue.new.session.site ≡ dialogue.old.session.site }
+    ensures same { D.site delivery.new ≡ D.site delivery.old }
+{
+    handle(dialogue, peer, delivery, piece);
+    dialogue.outbox.flush(peer);
+}
+
+// Behind QUIT the conversation has ended. A write that failed before it is noticed now, and else in the next turn.
+fn end_or_go_on(dialogue: &Dialogue) -> Option<EndCause>
+    ensures { result ≡ end_behind dialogue.now.session.session.state dialogue.now.outbox.broken }
+{
+    match dialogue.session.state() {
+        State::Ended | State::Waiting => Some(if dialogue.outbox.broken {
+            EndCause::WriteFault
+        } else {
+            EndCause::Quit
+        }),
+        _ => None,
+    }
+}
+
+fn stopped_or_fault(broken: bool) -> EndCause
+    ensures { result ≡ stopped_or broken }
+{
+    if broken {
+        EndCause::WriteFault
+    } else {
+        EndCause::Stopped
+    }
+}
+
+// The draft of a conversation that ends inside data is dropped.
+fn leave<D: Delivery>(dialogue: &Dialogue, delivery: &mut D)
+    ensures leaves { Leaves (is_content dialogue.now.session.session.state) (D.HasCome delivery.old) (D.IsDrafting delivery.old) (D.HasCome delivery.new) }
+    ensures same { D.site delivery.new ≡ D.site delivery.old }
+{
+    match dialogue.session.state() {
+        State::Content => delivery.cancel(),
+        _ => {}
+    }
+}
+
+// The last reply where the server stops (RFC 5321, 3.8).
+fn stop<P: Peer>(dialogue: &mut Dialogue, peer: &mut P)
+    requires { MayStop dialogue.old.session.session.state }
+    ensures takes { TakesInputs (Stop ∷ []) dialogue.old dialogue.new (P.state peer.old) (P.state peer.new) }
+    ensures none { dialogue.new.outbox.pending.items ≡ [] }
+{
+    let act = dialogue.session.stop();
+    dialogue.outbox.say_all(peer, &dialogue.session, act);
+    dialogue.outbox.flush(peer);
+}

@@ -1,0 +1,56 @@
+//! What is done with the messages of a conversation.
+
+ghost use Rattle.std.specs.Prelude.{◌≡◌, ℕ, ◌+◌, List, [], ◌++◌, length};
+ghost use Rattle.mail_world.specs.declared.Outcome.{Outcome as Told};
+ghost use Rattle.mail_world.specs.Lists.{Transaction};
+ghost use Rattle.mail_world.specs.Site.{Site};
+ghost use Rattle.lmtp_talk.specs.Delivery.{EndsDraft};
+
+use lmtp_session::Session;
+use mail_world::{Outcome, State, Verdict};
+
+/// Takes the messages of conversations, one after the other, and says what became of each.
+pub trait Delivery {
+    // the site whose mailboxes it delivers to
+    ghost site: { Self → Site };
+
+    // so many DATA commands were accepted, and this became of the data that ended
+    ghost HasCome: { Self → ℕ → List Transaction → Type 0 };
+
+    // the same, with a draft of these message bytes in hand
+    ghost IsDrafting: { Self → ℕ → List Transaction → List ℕ → Type 0 };
+
+    // what became of the copies of the last whole message
+    ghost outcomes: { Self → List Told };
+
+    // the moment of the last data that ended, in seconds since 1970
+    ghost moment: { Self → ℕ };
+
+    /// A DATA command was accepted.
+    fn begin(&mut self)
+        ensures same { site self.new ≡ site self.old }
+        ensures begins { (n : ℕ) (ts : List Transaction) → HasCome self.old n ts → IsDrafting self.new (n + 1) ts [] };
+
+    /// Bytes of the message have come.
+    fn piece(&mut self, bytes: &[u8])
+        ensures same { site self.new ≡ site self.old }
+        ensures grows { (n : ℕ) (ts : List Transaction) (message : List ℕ) → IsDrafting self.old n ts message → IsDrafting self.new n ts (message ++ bytes.now) };
+
+    /// The conversation has ended inside the data.
+    fn cancel(&mut self)
+        ensures same { site self.new ≡ site self.old }
+        ensures drops { (n : ℕ) (ts : List Transaction) (message : List ℕ) → IsDrafting self.old n ts message → HasCome self.new n ts };
+
+    /// The data has ended. A whole message is delivered to the recipients of the session, in their order.
+    fn end(&mut self, session: &Session) -> Verdict
+        requires content { session.now.session.state ≡ State.Content }
+        requires here { session.now.site ≡ site self.old }
+        ensures same { site self.new ≡ site self.old }
+        ensures ended { (n : ℕ) (ts : List Transaction) (message : List ℕ) → IsDrafting self.old n ts message
+            → EndsDraft (HasCome self.new) (moment self.new) (outcomes self.new) session.now.session n ts message result }
+        ensures count { result ≡ Verdict.Whole → length (outcomes self.new) ≡ length session.now.session.recipients };
+
+    /// What became of the copies of the last whole message, in the order of its recipients.
+    fn outcomes(&self) -> &[Outcome]
+        ensures { result.now ≡ outcomes self.now };
+}

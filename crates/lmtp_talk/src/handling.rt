@@ -1,0 +1,152 @@
+//! One conversation, from its greeting to its end.
+
+ghost use Rattle.std.specs.Prelude.{◌≡◌, ◌≤◌, ◌<◌, ℕ, List, [], ◌∷◌, ◌++◌, length, take, IfSome, MatchOption};
+ghost use Rattle.mail_world.specs.Session.{Line, LongLine};
+ghost use Rattle.lmtp_session.specs.Steps.{TakesLines};
+ghost use Rattle.lmtp_talk.specs.Peer.{PeerState};
+ghost use Rattle.lmtp_talk.specs.Steps.{TakesInputs, TakesLine, EndsData, Carries};
+
+use crate::delivery::Delivery;
+use crate::dialogue::Dialogue;
+use crate::peer::Peer;
+use lmtp_session::Act;
+use lmtp_wire::{Dot, Got};
+use mail_world::{State, Verdict};
+
+/// The bytes of a message that a delivery is given at once.
+const MADE_SIZE: usize = 512;
+
+/// Handles all that was read, up to QUIT.
+pub fn handle<P: Peer, D: Delivery>(
+    dialogue: &mut Dialogue,
+    peer: &mut P,
+    delivery: &mut D,
+    piece: &[u8],
+)
+    requires { D.site delivery.old ≡ dialogue.old.session.site }
+    ensures stands { Carries D.HasCome D.IsDrafting dialogue.old dialogue.new (P.state peer.old) (P.state peer.new) delivery.old delivery.new piece.now }
+    ensures site { dialogue.new.session.site ≡ dialogue.old.session.site }
+    ensures same { D.site delivery.new ≡ D.site delivery.old }
+{
+    let mut at = 0;
+    while at < piece.len() {
+        let Some(used) = take_front(dialogue, peer, delivery, &piece[at..]) else {
+            return;
+        };
+        at += used;
+    }
+}
+
+// Handles a front of the bytes, and says how many; `None` behind QUIT.
+fn take_front<P: Peer, D: Delivery>(
+    dialogue: &mut Dialogue,
+    peer: &mut P,
+    delivery: &mut D,
+    rest: &[u8],
+) -> Option<usize>
+    requires some { 0 < length rest.now }
+    requires here { D.site delivery.old ≡ dialogue.old.session.site }
+    ensures used { IfSome result (λ used. (0 < used) × (used ≤ length rest.now)) }
+    ensures stands { MatchOption result
+        (Carries D.HasCome D.IsDrafting dialogue.old dialogue.new (P.state peer.old) (P.state peer.new) delivery.old delivery.new rest.now)
+        (λ used. Carries D.HasCome D.IsDrafting dialogue.old dialogue.new (P.state peer.old) (P.state peer.new) delivery.old delivery.new (take used rest.now)) }
+    ensures site { dialogue.new.session.site ≡ dialogue.old.session.site }
+    ensures same { D.site delivery.new ≡ D.site delivery.old }
+{
+    match dialogue.session.state() {
+        State::Content => Some(take_data(dialogue, peer, delivery, rest)),
+        State::Fresh | State::Greeted | State::Sender | State::Recipients => Some(take_line(
+            dialogue, peer, delivery, rest,
+        )),
+        State::Waiting | State::Ended => None,
+    }
+}
+
+// Takes bytes of a line, and handles it if they end it.
+fn take_line<P: Peer, D: Delivery>(
+    dialogue: &mut Dialogue,
+    peer: &mut P,
+    delivery: &mut D,
+    rest: &[u8],
+) -> usize
+    requires state { TakesLines dialogue.old.session.session.state }
+    requires some { 0 < length rest.now }
+    requires here { D.site delivery.old ≡ dialogue.old.session.site }
+    ensures used { (0 < result) × (result ≤ length rest.now) }
+    ensures stands { Carries D.HasCome D.IsDrafting dialogue.old dialogue.new (P.state peer.old) (P.state peer.new) delivery.old delivery.new (take result rest.now) }
+    ensures site { dialogue.new.session.site ≡ dialogue.old.session.site }
+    ensures same { D.site delivery.new ≡ D.site delivery.old }
+{
+    let took = dialogue.wire.command(rest);
+    match took.got {
+        Got::More => {}
+        Got::Line => handle_line(dialogue, peer, delivery),
+        Got::TooLong => refuse_line(dialogue, peer),
+    }
+    took.used
+}
+
+// Handles the line that has ended.
+fn handle_line<P: Peer, D: Delivery>(dialogue: &mut Dialogue, peer: &mut P, delivery: &mut D)
+    requires { TakesLines dialogue.old.session.session.state }
+    ensures takes { TakesLine D.HasCome D.IsDrafting (Line dialogue.old.wire.line) dialogue.old dialogue.new (P.state peer.old) (P.state peer.new) delivery.old delivery.new }
+    ensures same { D.site delivery.new ≡ D.site delivery.old }
+{
+    let act = dialogue.session.line(dialogue.wire.line());
+    dialogue.outbox.say_all(peer, &dialogue.session, act);
+    if act == Act::ReadData {
+        dialogue.dot = Dot::new();
+        delivery.begin();
+    }
+}
+
+// Answers a line that was too long.
+fn refuse_line<P: Peer>(dialogue: &mut Dialogue, peer: &mut P)
+    requires { TakesLines dialogue.old.session.session.state }
+    ensures { TakesInputs (LongLine ∷ []) dialogue.old dialogue.new (P.state peer.old) (P.state peer.new) }
+{
+    let act = dialogue.session.too_long();
+    dialogue.outbox.say_all(peer, &dialogue.session, act);
+}
+
+// Takes bytes of data, and handles the message if they end it.
+fn take_data<P: Peer, D: Delivery>(
+    dialogue: &mut Dialogue,
+    peer: &mut P,
+    delivery: &mut D,
+    rest: &[u8],
+) -> usize
+    requires state { dialogue.old.session.session.state ≡ State.Content }
+    requires some { 0 < length rest.now }
+    requires here { D.site delivery.old ≡ dialogue.old.session.site }
+    ensures used { (0 < result) × (result ≤ length rest.now) }
+    ensures stands { Carries D.HasCome D.IsDrafting dialogue.old dialogue.new (P.state peer.old) (P.state peer.new) delivery.old delivery.new (take result rest.now) }
+    ensures site { dialogue.new.session.site ≡ dialogue.old.session.site }
+    ensures same { D.site delivery.new ≡ D.site delivery.old }
+{
+    let mut message = [0; MADE_SIZE];
+    let fed = dialogue.dot.feed(rest, &mut message);
+    delivery.piece(&message[..fed.made]);
+    if fed.ended {
+        handle_message(dialogue, peer, delivery);
+    }
+    fed.used
+}
+
+// The message whose data has ended goes to its recipients, or is refused.
+fn handle_message<P: Peer, D: Delivery>(dialogue: &mut Dialogue, peer: &mut P, delivery: &mut D)
+    requires state { dialogue.old.session.session.state ≡ State.Content }
+    requires here { D.site delivery.old ≡ dialogue.old.session.site }
+    ensures ends { EndsData D.HasCome D.IsDrafting dialogue.old dialogue.new (P.state peer.old) (P.state peer.new) delivery.old delivery.new }
+    ensures same { D.site delivery.new ≡ D.site delivery.old }
+{
+    let verdict = delivery.end(&dialogue.session);
+    let refused = dialogue.session.data_done(verdict);
+    match verdict {
+        Verdict::Whole => {
+            let answered = dialogue.session.outcomes(delivery.outcomes());
+            dialogue.outbox.say_all(peer, &dialogue.session, answered);
+        }
+        _ => dialogue.outbox.say_all(peer, &dialogue.session, refused),
+    }
+}

@@ -1,0 +1,21 @@
+//! The conversation of an LMTP server with one client, over any peer and any delivery (RFC 2033, RFC 5321).
+#![tactic(auto)]
+
+mod conversation;
+mod delivery;
+mod dialogue;
+mod ending;
+mod handling;
+mod outbox;
+mod peer;
+mod script;
+#[cfg(test)]
+mod tests;
+
+pub use conversation::serve;
+pub use delivery::Delivery;
+pub use dialogue::Dialogue;
+pub use ending::EndCause;
+pub use outbox::Outbox;
+pub use peer::{Came, Peer, PeerFault};
+pub use script::{Script, Then, Turn};

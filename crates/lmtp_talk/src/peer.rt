@@ -1,0 +1,40 @@
+//! The other end of a conversation: bytes come from it and go to it, and it may fail.
+
+ghost use Rattle.std.specs.Prelude.{◌<◌, length, take, IfOk, OnErr};
+ghost use Rattle.lmtp_talk.specs.Peer.{PeerState, HasCome, HasGiven, HasFailed};
+
+use thiserror::Error;
+
+/// A read or a write failed, for a reason that the peer keeps to itself.
+#[derive(Clone, Copy, Debug, PartialEq, Eq, Error)]
+#[error("the peer failed")]
+pub struct PeerFault;
+
+/// What a read came to.
+#[derive(Clone, Copy, Debug, PartialEq, Eq)]
+pub enum Came {
+    /// So many bytes came, one at least.
+    Bytes(usize),
+    /// There are no more.
+    End,
+    /// The server is to stop.
+    Stop,
+}
+
+/// A client, as the server sees it.
+pub trait Peer {
+    // what was read of it, what is still to come, what it was given, and how often it failed
+    ghost state: { Self → PeerState };
+
+    /// Reads bytes to the front of the buffer.
+    fn read(&mut self, buffer: &mut [u8]) -> Result<Came, PeerFault>
+        requires { 0 < length buffer.old }
+        ensures ok { IfOk result (λ came. HasCome (state self.old) (state self.new) buffer.new came) }
+        ensures err { OnErr result (HasFailed (state self.old) (state self.new)) };
+
+    /// Writes bytes of the front, one at least, and says how many.
+    fn write(&mut self, bytes: &[u8]) -> Result<usize, PeerFault>
+        requires { 0 < length bytes.now }
+        ensures ok { IfOk result (λ n. HasGiven (state self.old) (state self.new) bytes.now n) }
+        ensures err { OnErr result (HasFailed (state self.old) (state self.new)) };
+}
