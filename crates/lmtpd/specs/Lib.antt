@@ -1,7 +1,8 @@
+pub mod Output
 pub mod Mailboxes
 pub mod Client
 pub mod Account
-pub mod Output
 pub mod Rehearsal
 pub mod Faults
+pub mod CommandLine
 pub mod Words

@@ -2,6 +2,7 @@
 #![tactic(auto)]
 
 mod fault;
+mod output;
 mod rehearse;
 mod site;
 mod stop;
@@ -14,36 +15,49 @@ use std::alloc::AllocError;
 use std::process::ExitCode;
 use std::sync::{Arc, Wait};
 use std::thread::Threads;
+use std::time::Clock;
 use std::{env, io};
 use stop::Stop;
-use words::{Words, not_text, read_words};
+use words::{RehearseWords, Words, not_text, read_words};
 
 fn main(rt: HostRuntime) -> ExitCode {
-    match run(&rt, rt) {
+    let given = match given_words(&rt) {
+        Ok(given) => given,
+        Err(refused) => return ExitCode::from(Stop::from(refused).report(&rt)),
+    };
+    match run(&rt, rt, given.as_slice()) {
         Ok(()) => ExitCode::SUCCESS,
         Err(stop) => ExitCode::from(stop.report(&rt)),
     }
 }
 
-// The lanes and workers start by a handle of their own, which threads may take.
-fn run<H>(rt: &HostRuntime, threads: H) -> Result<(), Stop>
-where
-    H: Threads + Wait + Copy + Send + 'static,
-{
+fn given_words(rt: &HostRuntime) -> Result<Vec<String>, clap::Error> {
     let alloc = rt.alloc();
-    let given = given_words(rt)?;
-    let words = read_words(alloc, given.as_slice())?;
-    hold(rt, threads, &words)?;
-    Ok(())
+    match env::args(rt) {
+        Ok(given) => Ok(given.collect(alloc)?),
+        Err(error) if error.kind() == io::ErrorKind::OutOfMemory => Err(AllocError.into()),
+        Err(_) => Err(not_text(alloc)?),
+    }
+}
+
+// The lanes and workers start by a handle of their own, which threads may take.
+fn run<'a, H>(rt: &HostRuntime, threads: H, given: &'a [String]) -> Result<(), Stop<'a>>
+where
+    H: Threads + Wait + Clock + Copy + Drop + Send + Sync + 'static,
+{
+    match read_words(rt.alloc(), given)? {
+        Words::Rehearse(words) => Ok(hold_rehearsal(rt, threads, &words)?),
+        Words::Serve(_words) => Err(Stop::Fault(Fault::Listen)),
+    }
 }
 
 /// Holds the rehearsal that the words ask for.
-fn hold<H>(rt: &HostRuntime, threads: H, words: &Words) -> Result<(), Fault>
+fn hold_rehearsal<H>(rt: &HostRuntime, threads: H, words: &RehearseWords) -> Result<(), Fault>
 where
     H: Threads + Wait + Copy + Send + 'static,
 {
     let alloc = rt.alloc();
-    let site = Arc::new(alloc, site_of(alloc, words)?)?;
+    let site = Arc::new(alloc, site_of(alloc, &words.site)?)?;
     let rehearsed = rehearse_run(
         threads,
         alloc,
@@ -56,11 +70,3 @@ where
     outcome(rehearsed.ending)
 }
 
-fn given_words(rt: &HostRuntime) -> Result<Vec<String>, clap::Error> {
-    let alloc = rt.alloc();
-    match env::args(rt) {
-        Ok(given) => Ok(given.collect(alloc)?),
-        Err(error) if error.kind() == io::ErrorKind::OutOfMemory => Err(AllocError.into()),
-        Err(_) => Err(not_text(alloc)?),
-    }
-}

@@ -1,6 +1,6 @@
 use Rattle.std.proofs.lemmas.Iterator.Consumers.{map_from_collect}
 use Rattle.std.proofs.lemmas.Iterator.Splits.{YieldsList-from_str_split}
-use Rattle.lmtpd.proofs.words.domains_in.Goals as goal
+use Rattle.lmtpd.proofs.words.values.domains_in.Goals as goal
 use Rattle.std.proofs.Common.{arith}
 
 pub returns : goal.returns

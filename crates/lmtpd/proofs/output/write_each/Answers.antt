@@ -1,6 +1,6 @@
 use Rattle.mbox_rd.proofs.Taken.{OnErr-any}
 use Rattle.lmtpd.proofs.Written.{writes_text, breaks_text}
-use Rattle.lmtpd.proofs.rehearse.output.write_each.Goals as goal
+use Rattle.lmtpd.proofs.output.write_each.Goals as goal
 
 pub returns-in_err-write_bytes-clause-err : goal.returns-in_err-write_bytes-clause-err
 returns-in_err-write_bytes-clause-err g c = OnErr-any c.from_residual.result (

@@ -1,6 +1,6 @@
 use Rattle.std.proofs.Common.{◌∙◌, ap, ap₂}
 use Rattle.clap.specs.Simple.{app_of_fields, with_rule}
-use Rattle.lmtpd.proofs.words.rehearse.Goals as goal
+use Rattle.lmtpd.proofs.words.command.rehearse.Goals as goal
 
 pub returns-clause-shape : goal.returns-clause-shape
 returns-clause-shape c =

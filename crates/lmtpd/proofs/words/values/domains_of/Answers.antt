@@ -2,7 +2,7 @@ use Rattle.std.proofs.Common.{◌∙◌, ◌≡◌, ap, sym, codes, Some, None}
 use Rattle.clap.specs.Words.{first_of, found_of, rows_of}
 use Rattle.clap.proofs.WalkLemmas.{first_value-rows}
 use Rattle.lmtp_text.specs.Sites.{texts}
-use Rattle.lmtpd.proofs.words.domains_of.Goals as goal
+use Rattle.lmtpd.proofs.words.values.domains_of.Goals as goal
 
 pub returns-in-Some : goal.returns-in-Some
 returns-in-Some c =
