@@ -1,6 +1,7 @@
 pub mod Envelope
 pub mod Spool
 pub mod MemorySpool
+pub mod FileSpool
 pub mod Mending
 pub mod Parts
 pub mod Writing

@@ -3,6 +3,7 @@
 
 mod append;
 mod envelope;
+mod file;
 mod head;
 mod letter;
 mod memory;
@@ -15,6 +16,7 @@ mod spool;
 mod tests;
 
 pub use envelope::Envelope;
+pub use file::{FileLock, FileSpool, OpenFault};
 pub use letter::Letter;
 pub use memory::MemorySpool;
 pub use mending::mend;

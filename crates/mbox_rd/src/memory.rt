@@ -3,7 +3,7 @@ ghost use Rattle.std.specs.Prelude.{◌≡◌, ◌↔◌, ◌+◌, ◌-◌, ◌^
 ghost use Rattle.std.specs.Option.{IfSome};
 ghost use Rattle.mbox_rd.specs.Spool.{HasTaken, HasFailed, HasSynced, HasNotSynced, tail_of};
 
-use crate::spool::{Spool, SpoolFault, Tail};
+use crate::spool::{Spool, SpoolFault, Tail, tail_of};
 use std::alloc::{AllocError, Global};
 use std::marker::Model;
 
@@ -119,19 +119,5 @@ impl Spool for MemorySpool {
         ensures known { IfSome (⟦<MemorySpool as Spool>⟧.state self.now).bytes (λ held. result ≡ tail_of held) }
     {
         tail_of(&self.bytes)
-    }
-}
-
-fn tail_of(bytes: &[u8]) -> Tail
-    ensures { result ≡ tail_of bytes.now }
-{
-    if bytes.is_empty() {
-        Tail::Empty
-    } else if bytes.ends_with(b"\n\n") {
-        Tail::TwoLf
-    } else if bytes.ends_with(b"\n") {
-        Tail::OneLf
-    } else {
-        Tail::NoLf
     }
 }

@@ -44,3 +44,18 @@ pub trait Spool {
     fn tail(&self) -> Tail
         ensures { IfSome (state self.now).bytes (λ held. result ≡ tail_of held) };
 }
+
+// How these bytes end. The last two are enough.
+pub(crate) fn tail_of(bytes: &[u8]) -> Tail
+    ensures { result ≡ tail_of bytes.now }
+{
+    if bytes.is_empty() {
+        Tail::Empty
+    } else if bytes.ends_with(b"\n\n") {
+        Tail::TwoLf
+    } else if bytes.ends_with(b"\n") {
+        Tail::OneLf
+    } else {
+        Tail::NoLf
+    }
+}

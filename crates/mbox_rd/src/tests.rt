@@ -15,7 +15,7 @@ Received: from relay.example
 \tThu, 1 Jan 1970 00:00:00 +0000
 ";
 
-const HELLO: &[u8] = b"Subject: hi\r\n\r\nhello\r\n";
+pub(crate) const HELLO: &[u8] = b"Subject: hi\r\n\r\nhello\r\n";
 
 // Messages, and what stands behind the head for each.
 const TABLE: [(&[u8], &[u8]); 6] = [
@@ -37,7 +37,11 @@ fn first_from(alloc: Global, sender: &[u8]) -> Envelope
     Envelope::new(alloc, sender, b"relay.example", txn, 0)
 }
 
-fn deliver<S: Spool>(alloc: Global, spool: &mut S, pieces: &[&[u8]]) -> Result<(), SpoolFault> {
+pub(crate) fn deliver<S: Spool>(
+    alloc: Global,
+    spool: &mut S,
+    pieces: &[&[u8]],
+) -> Result<(), SpoolFault> {
     let envelope = first_from(alloc, b"carl@a.example");
     let mut writer = RecordWriter::begin(spool, b"mx.example", &envelope)?;
     for piece in pieces {

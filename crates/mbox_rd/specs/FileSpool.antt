@@ -1,0 +1,65 @@
+-- What contracts see of a spool over a file: the file, what waits to be written to it, and whether it is broken.
+use Rattle.std.specs.Prelude.{◌≡◌, ℕ, ◌+◌, ◌-◌, ◌^◌, min, Bool, true, false, List, [], Option, Some, None, ⊤}
+use Rattle.std.specs.Io.KnownBytes.{append_known, Appends, Keeps}
+use Rattle.std.specs.Io.Buffered.{writer_inner, writer_buffer}
+use Rattle.mail_world.specs.Deliveries.{IsFront}
+use Rattle.mbox_rd.specs.declared.spool.Tail.{Tail}
+use Rattle.mbox_rd.specs.declared.file.Sink.{Sink}
+use Rattle.mbox_rd.specs.declared.file.Sink.TheVariants.{Sound, Broken}
+
+pub record FileSpool (F : Type 0) : Type 0 where
+  pub file : F
+  -- the bytes that were taken and aren't written yet
+  pub waiting : List ℕ
+  -- a write or a sync failed, and nothing more goes to the file
+  pub is_broken : Bool
+  -- how the file ended when it was opened
+  pub tail : Tail
+  pub failures : ℕ
+
+-- the file's bytes and then what waits, where the file's are known
+abbrev pub contents_of : {F : Type 0} → (F → Option (List ℕ)) → FileSpool F → Option (List ℕ)
+contents_of contents spool = append_known (contents spool.file) spool.waiting
+
+-- of known bytes a front is left
+abbrev pub KeepsFront : Option (List ℕ) → Option (List ℕ) → Type 0
+KeepsFront None new = ⊤
+KeepsFront (Some held) None = ⊥
+KeepsFront (Some held) (Some left) = IsFront left held
+
+-- just opened: nothing waits, and nothing failed
+pub record IsOpened {F : Type 0} (spool : FileSpool F) : Type 0 where
+  pub empty : spool.waiting ≡ []
+  pub sound : spool.is_broken ≡ false
+  pub failures : spool.failures ≡ 0
+
+-- a sound spool stayed one, and nothing failed
+pub record StaysSound {F : Type 0} (old new : FileSpool F) : Type 0 where
+  pub was : old.is_broken ≡ false
+  pub is : new.is_broken ≡ false
+  pub tail : new.tail ≡ old.tail
+  pub failures : new.failures ≡ old.failures
+
+-- it failed: the file has a front of what it had and what waited, and what isn't in it is thrown away
+pub record Breaks {F : Type 0} (contents : F → Option (List ℕ)) (old new : FileSpool F) : Type 0 where
+  pub front : KeepsFront (contents_of contents old) (contents new.file)
+  pub empty : new.waiting ≡ []
+  pub broken : new.is_broken ≡ true
+  pub tail : new.tail ≡ old.tail
+  pub failed : new.failures ≡ min (old.failures + 1) (2 ^ 64 - 1)
+
+-- it only counts one failure more
+abbrev pub failed_again : {F : Type 0} → FileSpool F → FileSpool F
+failed_again spool = record spool { failures = min (spool.failures + 1) (2 ^ 64 - 1) }
+
+abbrev pub file_of : {F : Type 0} → Sink F → F
+file_of (Sound writer) = writer_inner writer
+file_of (Broken file) = file
+
+abbrev pub waiting_of : {F : Type 0} → Sink F → List ℕ
+waiting_of (Sound writer) = writer_buffer writer
+waiting_of (Broken file) = []
+
+abbrev pub is_broken : {F : Type 0} → Sink F → Bool
+is_broken (Sound writer) = false
+is_broken (Broken file) = true

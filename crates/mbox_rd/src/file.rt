@@ -1,0 +1,264 @@
+//! A mailbox in a file: what it takes waits in a buffer, and a sync writes it and has it kept.
+ghost use Rattle.std.specs.Prelude.{◌≡◌, ◌↔◌, ◌+◌, ◌-◌, ◌^◌, ◌<◌, ◌≤◌, [], true, min, length, take, None, IsErr, IfOk, OnOk, OnErr};
+ghost use Rattle.std.specs.Io.Buffered.{writer_buffer, writer_contents};
+ghost use Rattle.std.specs.Io.KnownBytes.{Appends, Keeps};
+ghost use Rattle.std.specs.IoError.{error_kind};
+ghost use Rattle.mail_world.specs.Failures.{Rises};
+ghost use Rattle.mbox_rd.specs.Spool.{HasTaken, HasFailed, HasSynced, HasNotSynced};
+
+#[cfg(test)]
+mod tests;
+
+use crate::spool::{Spool, SpoolFault, Tail, tail_of};
+use core::mem::replace_with;
+use std::alloc::Global;
+use std::fs::{File, Files, OpenFile, OpenOptions};
+use std::io;
+use std::io::{BufWriter, ErrorKind, Read, Seek, SeekFrom, Write};
+use std::marker::Model;
+use std::os::unix::fs::OpenOptionsExt;
+use thiserror::Error;
+
+/// The bytes that wait at most before they are written.
+const BUFFER_SIZE: usize = 65_536;
+
+/// The permission bits of a file that is made: its owner reads and writes it, and nobody else.
+const OWNER_ONLY: u32 = 0o600;
+
+/// Why a mailbox's file can't be used.
+#[derive(Clone, Copy, Debug, PartialEq, Eq, Error)]
+pub enum OpenFault {
+    /// Memory is wanting, the system's or that of the buffer.
+    #[error("memory")]
+    Memory = 1,
+    /// The file can't be made or opened, another holder has it locked, its end can't be read, or its folder
+    /// can't be synced.
+    #[error("cannot open")]
+    Open,
+}
+
+/// The lock on an open file as a trait, so that a test can stand in for it.
+pub trait FileLock {
+    /// Locks the whole file until it is closed. It fails at once, with `ErrorKind::WouldBlock`, where
+    /// another open of the same file has it locked.
+    fn try_lock(&self) -> io::Result<()>;
+}
+
+impl FileLock for File {
+    fn try_lock(&self) -> io::Result<()> {
+        Ok(File::try_lock(self)?)
+    }
+}
+
+/// A spool over a file that takes bytes at its end. They wait in a buffer of 65,536 bytes until that is
+/// full, until a sync, or until the spool is dropped. Behind its first fault it is broken: what waited is
+/// thrown away, nothing more goes to the file, also when it is dropped, and each append and each sync is a
+/// fault. The file stays open, and so locked, until the drop.
+#[derive(Drop)]
+pub struct FileSpool<F: Write + Drop> {
+    sink: Sink<F>,
+    tail: Tail,
+    failures: u64,
+}
+
+#[derive(Drop)]
+enum Sink<F: Write + Drop> {
+    Sound(BufWriter<F>),
+    Broken(F),
+}
+
+impl<F: Write + Drop> Model for FileSpool<F> {
+    ghost use Rattle.mbox_rd.specs.FileSpool.{FileSpool as Held, file_of, waiting_of, is_broken};
+
+    ghost Value = { Held F };
+
+    ghost view = { λ s. record {
+      file = file_of s.sink;
+      waiting = waiting_of s.sink;
+      is_broken = is_broken s.sink;
+      tail = s.tail;
+      failures = s.failures;
+    } };
+}
+
+impl<F: Read + Write + Seek + OpenFile + FileLock + Drop> FileSpool<F> {
+    ghost use Rattle.mbox_rd.specs.FileSpool.{IsOpened};
+
+    /// Opens the file at that path and locks it. Where it is missing it is made, for its owner alone, and
+    /// the folder that holds it is synced, so that it is still there after a crash. Nothing is written: a
+    /// file that was there stays as it was, also where it is refused.
+    pub fn at<R: Files<File = F>>(
+        rt: &R,
+        alloc: Global,
+        path: &str,
+    ) -> Result<FileSpool<F>, OpenFault>
+        ensures { IfOk result IsOpened }
+    {
+        FileSpool::open(rt, alloc, path).map_err(fault_of)
+    }
+
+    fn open<R: Files<File = F>>(rt: &R, alloc: Global, path: &str) -> io::Result<FileSpool<F>>
+        ensures { IfOk result IsOpened }
+    {
+        let mut file = open_or_make(rt, path)?;
+        file.try_lock()?;
+        let tail = tail_of_file(&mut file)?;
+        let writer = BufWriter::with_capacity(alloc, BUFFER_SIZE, file)?;
+        Ok(FileSpool {
+            sink: Sink::Sound(writer),
+            tail,
+            failures: 0,
+        })
+    }
+}
+
+fn open_or_make<R: Files>(rt: &R, path: &str) -> io::Result<R::File> {
+    let made = OpenOptions::new()
+        .read(true)
+        .append(true)
+        .create_new(true)
+        .mode(OWNER_ONLY)
+        .open(rt, path);
+    match made {
+        Ok(file) => {
+            File::open(rt, folder_of(path))?.sync_all()?;
+            Ok(file)
+        }
+        Err(error) if error.kind() == ErrorKind::AlreadyExists => {
+            OpenOptions::new().read(true).append(true).open(rt, path)
+        }
+        Err(error) => Err(error),
+    }
+}
+
+fn folder_of(path: &str) -> &str {
+    match path.rsplit_once('/') {
+        None => ".",
+        Some(("", _)) => "/",
+        Some((folder, _)) => folder,
+    }
+}
+
+// A file's last two bytes tell how it ends.
+fn tail_of_file<F: Read + Seek>(file: &mut F) -> io::Result<Tail> {
+    let len = file.seek(SeekFrom::End(0))?;
+    let count = len.min(2);
+    file.seek(SeekFrom::Start(len - count))?;
+    let mut last = [0; 2];
+    let last = &mut last[..count as usize];
+    file.read_exact(last)?;
+    Ok(tail_of(last))
+}
+
+fn fault_of(error: io::Error) -> OpenFault
+    ensures { (result ≡ OpenFault.Memory) ↔ (error_kind error ≡ ErrorKind.OutOfMemory) }
+{
+    match error.kind() {
+        ErrorKind::OutOfMemory => OpenFault::Memory,
+        _ => OpenFault::Open,
+    }
+}
+
+impl<F: Write + Drop> Sink<F> {
+    ghost use Rattle.mbox_rd.specs.FileSpool.{file_of};
+    ghost use Rattle.mbox_rd.specs.declared.file.Sink.TheVariants.{Broken};
+
+    // Nothing is written: what waits is dropped with the buffer.
+    fn broken(self, _: ()) -> (Sink<F>, ())
+        ensures { result.0 ≡ Broken (file_of self) }
+    {
+        match self {
+            Sink::Sound(writer) => {
+                let (file, _waiting) = writer.into_parts();
+                (Sink::Broken(file), ())
+            }
+            Sink::Broken(file) => (Sink::Broken(file), ()),
+        }
+    }
+}
+
+impl<F: Write + Drop> FileSpool<F> {
+    // Counts a failure, and throws away what waits.
+    fn fail(&mut self) -> SpoolFault
+        ensures new { self.new ≡ record self.old {
+          waiting = [];
+          is_broken = true;
+          failures = min (self.old.failures + 1) (2 ^ 64 - 1);
+        } }
+        ensures counted { Rises self.old.failures self.new.failures }
+    {
+        self.failures = self.failures.saturating_add(1);
+        replace_with(&mut self.sink, (), Sink::broken);
+        SpoolFault
+    }
+}
+
+fn write_and_keep<F: Write + OpenFile + Drop>(writer: &mut BufWriter<F>) -> io::Result<()>
+    ensures same { Keeps (writer_contents F.contents writer.old) (writer_contents F.contents writer.new) }
+    ensures written { OnOk result (writer_buffer writer.new ≡ []) }
+{
+    writer.flush()?;
+    writer.get_ref().sync_data()
+}
+
+impl<F: Write + OpenFile + Drop> Spool for FileSpool<F> {
+    ghost use Rattle.std.specs.Prelude.{None};
+    ghost use Rattle.mbox_rd.specs.FileSpool.{StaysSound, Breaks, contents_of, failed_again};
+
+    ghost state = { λ s. record { bytes = None; failures = s.failures; limit = None; synced = 0 } };
+
+    /// Fills the buffer, and writes it where it is full.
+    fn append(&mut self, piece: &[u8]) -> Result<usize, SpoolFault>
+        requires { 0 < length piece.now }
+        ensures taken { IfOk result (λ n. Appends (contents_of F.contents self.old)
+            (contents_of F.contents self.new) (take n piece.now)) }
+        ensures sound { OnOk result (StaysSound self.old self.new) }
+        ensures broken { OnErr result (Breaks F.contents self.old self.new) }
+        ensures stays_broken { self.old.is_broken ≡ true → self.new ≡ failed_again self.old }
+
+        // what every spool ensures
+        ensures within { IfOk result (λ n. (1 ≤ n) × (n ≤ length piece.now)) }
+        ensures ok { IfOk result (λ n. HasTaken (⟦<FileSpool<F> as Spool>⟧.state self.old)
+            (⟦<FileSpool<F> as Spool>⟧.state self.new) (take n piece.now)) }
+        ensures err { OnErr result (HasFailed (⟦<FileSpool<F> as Spool>⟧.state self.old)
+            (⟦<FileSpool<F> as Spool>⟧.state self.new) piece.now) }
+    {
+        let Sink::Sound(writer) = &mut self.sink else {
+            return Err(self.fail());
+        };
+        match writer.write(piece) {
+            Ok(0) | Err(_) => Err(self.fail()),
+            Ok(n) => Ok(n),
+        }
+    }
+
+    /// Writes what waits, and has the file's bytes kept by the system.
+    fn sync(&mut self) -> Result<(), SpoolFault>
+        ensures same { OnOk result (Keeps (contents_of F.contents self.old)
+            (contents_of F.contents self.new)) }
+        ensures written { OnOk result (self.new.waiting ≡ []) }
+        ensures sound { OnOk result (StaysSound self.old self.new) }
+        ensures broken { OnErr result (Breaks F.contents self.old self.new) }
+        ensures stays_broken { self.old.is_broken ≡ true → self.new ≡ failed_again self.old }
+
+        // what every spool ensures
+        ensures ok { OnOk result (HasSynced (⟦<FileSpool<F> as Spool>⟧.state self.old)
+            (⟦<FileSpool<F> as Spool>⟧.state self.new)) }
+        ensures err { OnErr result (HasNotSynced (⟦<FileSpool<F> as Spool>⟧.state self.old)
+            (⟦<FileSpool<F> as Spool>⟧.state self.new)) }
+    {
+        match &mut self.sink {
+            Sink::Broken(_) => Err(self.fail()),
+            Sink::Sound(writer) => match write_and_keep(writer) {
+                Ok(()) => Ok(()),
+                Err(_) => Err(self.fail()),
+            },
+        }
+    }
+
+    fn tail(&self) -> Tail
+        ensures { result ≡ self.now.tail }
+    {
+        self.tail
+    }
+}
