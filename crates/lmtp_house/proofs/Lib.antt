@@ -24,3 +24,5 @@ pub mod NamedOnce
 pub mod HouseSettled
 pub mod HouseEnd
 pub mod Timely
+pub mod HandedOut
+pub mod SharedOut

@@ -16,3 +16,6 @@ pub mod HousePlan
 pub mod HouseCrew
 pub mod HouseGrid
 pub mod HouseLines
+pub mod ReadBuffer
+pub mod TcpPeer
+pub mod TcpVisits

@@ -11,6 +11,7 @@ mod house;
 mod lane;
 mod outbox;
 mod peer;
+mod tcp;
 #[cfg(test)]
 mod tests;
 
@@ -19,7 +20,8 @@ pub use delivery::Delivery;
 pub use desk::Desk;
 pub use dialogue::Dialogue;
 pub use ending::EndCause;
-pub use house::{HouseFault, HouseReport, Sizes, Tally, run_house};
+pub use house::{HouseFault, HouseReport, Sizes, Tally, is_size, run_house};
 pub use lane::{Clock, LaneReport, Visits, lane_run};
 pub use outbox::Outbox;
 pub use peer::{Came, Peer, PeerFault};
+pub use tcp::{ReadBuffer, SystemClock, TcpPeer, TcpVisits, TimedListener, tcp_visits};

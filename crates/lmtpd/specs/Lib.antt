@@ -3,6 +3,9 @@ pub mod Mailboxes
 pub mod Client
 pub mod Account
 pub mod Rehearsal
+pub mod Address
 pub mod Faults
 pub mod CommandLine
 pub mod Words
+pub mod Served
+pub mod Unopened

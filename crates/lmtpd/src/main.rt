@@ -4,21 +4,26 @@
 mod fault;
 mod output;
 mod rehearse;
+mod serve;
 mod site;
 mod stop;
+mod tally;
 mod words;
 
 use fault::{Fault, outcome};
+use lmtp_house::{Sizes, TimedListener};
 use rehearse::rehearse_run;
+use serve::{address_of, open_mailboxes, serve_run};
 use site::site_of;
 use std::alloc::AllocError;
+use std::net::TcpListener;
 use std::process::ExitCode;
 use std::sync::{Arc, Wait};
 use std::thread::Threads;
 use std::time::Clock;
 use std::{env, io};
 use stop::Stop;
-use words::{RehearseWords, Words, not_text, read_words};
+use words::{RehearseWords, ServeWords, Words, not_text, read_words};
 
 fn main(rt: HostRuntime) -> ExitCode {
     let given = match given_words(&rt) {
@@ -47,7 +52,7 @@ where
 {
     match read_words(rt.alloc(), given)? {
         Words::Rehearse(words) => Ok(hold_rehearsal(rt, threads, &words)?),
-        Words::Serve(_words) => Err(Stop::Fault(Fault::Listen)),
+        Words::Serve(words) => run_server(rt, threads, &words),
     }
 }
 
@@ -70,3 +75,39 @@ where
     outcome(rehearsed.ending)
 }
 
+/// Runs the server that the words ask for.
+fn run_server<'a, H>(rt: &HostRuntime, threads: H, words: &ServeWords<'a>) -> Result<(), Stop<'a>>
+where
+    H: Threads + Wait + Clock + Copy + Drop + Send + Sync + 'static,
+{
+    let alloc = rt.alloc();
+    let address = address_of(words.listen)?;
+    let site = Arc::new(alloc, site_of(alloc, &words.site)?).map_err(Fault::from)?;
+    let spools = open_mailboxes(rt, alloc, words.dir, &words.site.boxes)?;
+    let Ok(listener) = TcpListener::bind(rt, address) else {
+        return Err(Stop::Fault(Fault::Listen));
+    };
+    let served = serve_run(
+        threads,
+        alloc,
+        site,
+        sizes(words),
+        words.lanes,
+        u64::from(words.connections),
+        u64::from(words.reads),
+        TimedListener::new(listener, words.timeout),
+        spools,
+        rt.stdout(),
+    )
+    .map_err(Fault::from)?;
+    Ok(served.outcome()?)
+}
+
+// A slot for each lane.
+fn sizes(words: &ServeWords<'_>) -> Sizes {
+    Sizes {
+        blocks: words.blocks,
+        slots: words.lanes,
+        capacity: words.capacity,
+    }
+}
