@@ -14,7 +14,7 @@ mod workers;
 pub use fault::HouseFault;
 pub use report::{HouseReport, Tally};
 pub use run::run_house;
-pub use sizes::Sizes;
+pub use sizes::{Sizes, is_size};
 
 #[cfg(test)]
 mod tests;

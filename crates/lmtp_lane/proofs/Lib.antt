@@ -4,3 +4,5 @@ pub mod Delivering
 pub mod Accounting
 pub mod Visiting
 pub mod Timely
+pub mod HandedOut
+pub mod SharedOut

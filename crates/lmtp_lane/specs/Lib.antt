@@ -3,3 +3,6 @@ pub mod LaneAccount
 pub mod Visits
 pub mod LaneRun
 pub mod LaneStart
+pub mod ReadBuffer
+pub mod TcpPeer
+pub mod TcpVisits

@@ -9,6 +9,7 @@ mod incoming;
 mod report;
 mod run;
 mod setting;
+mod tcp;
 #[cfg(test)]
 mod tests;
 mod visits;
@@ -17,4 +18,5 @@ pub use clock::Clock;
 pub use desk::Desk;
 pub use report::LaneReport;
 pub use run::lane_run;
+pub use tcp::{ReadBuffer, SystemClock, TcpPeer, TcpVisits, TimedListener, tcp_visits};
 pub use visits::Visits;

@@ -1,57 +1,58 @@
--- The mailboxes as they are written, one by one.
+-- Texts that belong to names, written one behind the other.
 use Rattle.std.proofs.Common.{◌≡◌, ℕ, ◌+◌, ◌<◌, List, [], ◌∷◌, ◌++◌, length, Option, drop, get_or, sym, ap, ◌∙◌, subst, arith}
 use Rattle.std.proofs.lemmas.List.{drop_more, length-map, get_or-map}
 use Rattle.std.proofs.lemmas.Option.{unwrap_or-slice_get}
 use Rattle.std.specs.Io.KnownBytes.{Appends}
 use Rattle.mail_world.specs.Site.{Site, box_name}
 use Rattle.mbox_rd.specs.MemorySpool.{MemorySpool}
-use Rattle.lmtpd.specs.Mailboxes.{bytes_of_all, mailbox_line, texts_of_mailboxes}
-use Rattle.lmtpd.specs.Output.{Breaks}
+use Rattle.lmtpd.specs.Mailboxes.{bytes_of_all}
+use Rattle.lmtpd.specs.Output.{Breaks, pair_texts}
 use Rattle.lmtpd.proofs.Written.{WritesUpTo, writes_next, breaks_next}
 
--- the line of a mailbox and its bytes
-abbrev one_text : List ℕ → List ℕ → List ℕ
-one_text name bytes = mailbox_line name (length bytes) ++ bytes
-
-mailboxes_split : (names texts : List (List ℕ)) (k : ℕ) → k < length names → length texts ≡ length names
-    → texts_of_mailboxes (drop k names) (drop k texts) ≡ one_text (get_or names k []) (get_or texts k []) ++ texts_of_mailboxes (drop (k + 1) names) (drop (k + 1) texts)
-mailboxes_split names texts k h e =
-    ap (λ l. texts_of_mailboxes l (drop k texts)) (drop_more names k [] h)
-    ∙ ap (λ l. texts_of_mailboxes (get_or names k [] ∷ drop (k + 1) names) l) (drop_more texts k [] (omega arith))
-
-pub record IsMailboxAt (site : Site) (spools : List MemorySpool) (k : ℕ) (name bytes : List ℕ) : Type 0 where
+-- the name at this place of the site's mailboxes, and what belongs to it
+pub record IsPairAt {X : Type 0} (site : Site) (xs : List X) (k : ℕ) (name : List ℕ) (x : X) : Type 0 where
   pub within : k < length site.boxes
-  pub count : length spools ≡ length site.boxes
+  pub count : length xs ≡ length site.boxes
   pub named : name ≡ box_name site k
-  pub holds : bytes ≡ get_or (bytes_of_all spools) k []
+  pub other : X
+  pub is : x ≡ get_or xs k other
 
-pub is_mailbox_at : (site : Site) (spools : List MemorySpool) (k : ℕ) (name bytes : List ℕ) (m d : MemorySpool) → k < length site.boxes → length spools ≡ length site.boxes
-    → name ≡ box_name site k → m ≡ get_or spools k d → bytes ≡ m.bytes → IsMailboxAt site spools k name bytes
-is_mailbox_at site spools k name bytes m d within count named is holds = record {
+-- a mailbox with the bytes of its spool
+pub mailbox_at : (site : Site) (spools : List MemorySpool) (k : ℕ) (name bytes : List ℕ) (m d : MemorySpool) → k < length site.boxes → length spools ≡ length site.boxes
+    → name ≡ box_name site k → m ≡ get_or spools k d → bytes ≡ m.bytes → IsPairAt site (bytes_of_all spools) k name bytes
+mailbox_at site spools k name bytes m d within count named is holds = record {
   within = within;
-  count = count;
+  count = length-map spools (λ (x : MemorySpool). x.bytes) ∙ count;
   named = named;
-  holds = holds ∙ ap (λ (x : MemorySpool). x.bytes) is ∙ sym (get_or-map (λ (x : MemorySpool). x.bytes) spools k d [] (omega arith));
+  other = [];
+  is = holds ∙ ap (λ (x : MemorySpool). x.bytes) is ∙ sym (get_or-map (λ (x : MemorySpool). x.bytes) spools k d [] (omega arith));
 }
 
-text_is : (site : Site) (spools : List MemorySpool) (k : ℕ) (name bytes : List ℕ) → IsMailboxAt site spools k name bytes
-    → texts_of_mailboxes (drop k site.boxes) (drop k (bytes_of_all spools)) ≡ one_text name bytes ++ texts_of_mailboxes (drop (k + 1) site.boxes) (drop (k + 1) (bytes_of_all spools))
-text_is site spools k name bytes h =
-    let rest = texts_of_mailboxes (drop (k + 1) site.boxes) (drop (k + 1) (bytes_of_all spools)) in
-    mailboxes_split site.boxes (bytes_of_all spools) k h.within (length-map spools (λ (x : MemorySpool). x.bytes) ∙ h.count)
-    ∙ ap (λ n. one_text n (get_or (bytes_of_all spools) k []) ++ rest) (sym (h.named ∙ unwrap_or-slice_get site.boxes k []))
-    ∙ ap (λ b. one_text name b ++ rest) (sym h.holds)
+module _ {X : Type 0} (f : List ℕ → X → List ℕ) where
+  pairs_split : (names : List (List ℕ)) (xs : List X) (k : ℕ) (d : X) → k < length names → length xs ≡ length names
+      → pair_texts f (drop k names) (drop k xs) ≡ f (get_or names k []) (get_or xs k d) ++ pair_texts f (drop (k + 1) names) (drop (k + 1) xs)
+  pairs_split names xs k d h e =
+      ap (λ l. pair_texts f l (drop k xs)) (drop_more names k [] h)
+      ∙ ap (λ l. pair_texts f (get_or names k [] ∷ drop (k + 1) names) l) (drop_more xs k d (omega arith))
 
-pub mailbox_written : (site : Site) (spools : List MemorySpool) (k : ℕ) (name bytes : List ℕ) (u v w : Option (List ℕ)) (text : List ℕ) → IsMailboxAt site spools k name bytes
-    → WritesUpTo u v text (texts_of_mailboxes (drop k site.boxes) (drop k (bytes_of_all spools))) → Appends v w (mailbox_line name (length bytes) ++ bytes)
-    → WritesUpTo u w text (texts_of_mailboxes (drop (k + 1) site.boxes) (drop (k + 1) (bytes_of_all spools)))
-mailbox_written site spools k name bytes u v w text h x y =
-    let P : List ℕ → Type 0 = λ l. WritesUpTo u v text l in
-    writes_next u v w text (one_text name bytes) _ (subst P (text_is site spools k name bytes h) x) y
+  text_is : (site : Site) (xs : List X) (k : ℕ) (name : List ℕ) (x : X) → IsPairAt site xs k name x
+      → pair_texts f (drop k site.boxes) (drop k xs) ≡ f name x ++ pair_texts f (drop (k + 1) site.boxes) (drop (k + 1) xs)
+  text_is site xs k name x h =
+      let rest = pair_texts f (drop (k + 1) site.boxes) (drop (k + 1) xs) in
+      pairs_split site.boxes xs k h.other h.within h.count
+      ∙ ap (λ n. f n (get_or xs k h.other) ++ rest) (sym (h.named ∙ unwrap_or-slice_get site.boxes k []))
+      ∙ ap (λ y. f name y ++ rest) (sym h.is)
 
-pub mailbox_broken : (site : Site) (spools : List MemorySpool) (k : ℕ) (name bytes : List ℕ) (u v w : Option (List ℕ)) (text : List ℕ) → IsMailboxAt site spools k name bytes
-    → WritesUpTo u v text (texts_of_mailboxes (drop k site.boxes) (drop k (bytes_of_all spools))) → Breaks v w (mailbox_line name (length bytes) ++ bytes)
-    → Breaks u w text
-mailbox_broken site spools k name bytes u v w text h x y =
-    let P : List ℕ → Type 0 = λ l. WritesUpTo u v text l in
-    breaks_next u v w text (one_text name bytes) _ (subst P (text_is site spools k name bytes h) x) y
+  pub pair_written : (site : Site) (xs : List X) (k : ℕ) (name : List ℕ) (x : X) (u v w : Option (List ℕ)) (text : List ℕ) → IsPairAt site xs k name x
+      → WritesUpTo u v text (pair_texts f (drop k site.boxes) (drop k xs)) → Appends v w (f name x)
+      → WritesUpTo u w text (pair_texts f (drop (k + 1) site.boxes) (drop (k + 1) xs))
+  pair_written site xs k name x u v w text h before taken =
+      let P : List ℕ → Type 0 = λ l. WritesUpTo u v text l in
+      writes_next u v w text (f name x) _ (subst P (text_is site xs k name x h) before) taken
+
+  pub pair_broken : (site : Site) (xs : List X) (k : ℕ) (name : List ℕ) (x : X) (u v w : Option (List ℕ)) (text : List ℕ) → IsPairAt site xs k name x
+      → WritesUpTo u v text (pair_texts f (drop k site.boxes) (drop k xs)) → Breaks v w (f name x)
+      → Breaks u w text
+  pair_broken site xs k name x u v w text h before broken =
+      let P : List ℕ → Type 0 = λ l. WritesUpTo u v text l in
+      breaks_next u v w text (f name x) _ (subst P (text_is site xs k name x h) before) broken

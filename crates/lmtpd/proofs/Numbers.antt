@@ -5,8 +5,7 @@ use Rattle.std.specs.Str.Parse.{ParsesUnsigned}
 use Rattle.std.proofs.lemmas.Result.{OkIff-at_err, OkIff-at_ok}
 use Rattle.clap.specs.Words.{ReadsOne, Text}
 use Rattle.std.specs.Option.{unwrap_or}
-use Rattle.lmtpd.specs.declared.words.TheConstants.{DEFAULT_BLOCKS}
-use Rattle.lmtpd.specs.Words.{IsBlocksRead, IsNumber, number}
+use Rattle.lmtpd.specs.Words.{IsNumber, IsNumberOr, number}
 
 -- the number of a text, and none where it writes none
 pub number_read : {E : Type 0} (gives : Text → Result ℕ E → Type 0) → ((text : Text) (r : Result ℕ E) → gives text r → ParsesUnsigned 32 10 text r)
@@ -25,10 +24,11 @@ number_read {E} gives parses (Some t) (Some n) none value =
     let r : Result ℕ E = Ok n in
     ap Some (sym (OkIff-at_ok r (IsNumber t) (number t) n (parses t r (value t refl)) refl).1)
 
--- the number of blocks, where none is given the usual one
-pub blocks_read : (given : Option Text) (r : Option ℕ) (n : ℕ) → MatchOption r ((text : Text) → given ≡ Some text → IsNumber text → ⊥) (λ blocks. option_map number given ≡ Some blocks)
-    → n ≡ unwrap_or r DEFAULT_BLOCKS → IsBlocksRead given n
-blocks_read None None n h e = e
-blocks_read None (Some m) n h e = cc
-blocks_read (Some text) None n h e = λ is. absurd (h text refl is)
-blocks_read (Some text) (Some m) n h e = λ is. cc
+-- the number that was given, and else the usual one
+pub number_or_usual : (usual : ℕ) (given : Option Text) (r : Option ℕ) (n : ℕ)
+    → MatchOption r ((text : Text) → given ≡ Some text → IsNumber text → ⊥) (λ m. option_map number given ≡ Some m)
+    → n ≡ unwrap_or r usual → IsNumberOr usual given n
+number_or_usual usual None None n h e = e
+number_or_usual usual None (Some m) n h e = cc
+number_or_usual usual (Some text) None n h e = λ is. absurd (h text refl is)
+number_or_usual usual (Some text) (Some m) n h e = λ is. cc

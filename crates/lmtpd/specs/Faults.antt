@@ -22,6 +22,7 @@ use Rattle.clap.specs.declared.error.kind.ErrorKind.TheVariants.{DisplayHelp, Di
 -- the program's exit status
 abbrev pub status_of : Fault → ℕ
 status_of fault.Memory = 1
+status_of fault.Listen = 1
 status_of fault.Size = 1
 status_of fault.NoThread = 1
 status_of fault.ChannelGone = 1
@@ -76,6 +77,7 @@ words_status kind = if is_shown kind then 0 else 2
 abbrev pub stop_status : Stop → ℕ
 stop_status (stop.Words error) = words_status (kind_of error)
 stop_status (stop.Fault f) = status_of f
+stop_status (stop.Unopened name) = 1
 
 -- a read or a write failed
 abbrev pub is_broken : EndCause → Bool

@@ -1,7 +1,11 @@
+pub mod Output
 pub mod Mailboxes
 pub mod Client
 pub mod Account
-pub mod Output
 pub mod Rehearsal
+pub mod Address
 pub mod Faults
+pub mod CommandLine
 pub mod Words
+pub mod Served
+pub mod Unopened

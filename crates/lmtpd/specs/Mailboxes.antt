@@ -3,6 +3,7 @@ use Rattle.std.specs.Prelude.{◌≡◌, ◌<◌, ℕ, Bool, false, List, [], �
 use Rattle.mail_world.specs.Text.{lf}
 use Rattle.mbox_rd.specs.MemorySpool.{MemorySpool}
 use Rattle.lmtp_house.specs.declared.house.report.Tally.{Tally}
+use Rattle.lmtpd.specs.Output.{pair_texts}
 use Rattle.lmtpd.specs.declared.rehearse.parts.TheConstants.{MAILBOX_ROOM}
 
 -- what a mailbox holds, and whether it failed
@@ -22,9 +23,11 @@ mailbox_line name size = codes "mailbox " ++ name ++ codes " " ++ decimal size +
 abbrev pub bytes_of_all : List MemorySpool → List (List ℕ)
 bytes_of_all spools = map (λ spool. spool.bytes) spools
 
+abbrev pub mailbox_text : List ℕ → List ℕ → List ℕ
+mailbox_text name bytes = mailbox_line name (length bytes) ++ bytes
+
 abbrev pub texts_of_mailboxes : List (List ℕ) → List (List ℕ) → List ℕ
-texts_of_mailboxes (name ∷ names) (bytes ∷ texts) = mailbox_line name (length bytes) ++ bytes ++ texts_of_mailboxes names texts
-texts_of_mailboxes _ _ = []
+texts_of_mailboxes names texts = pair_texts mailbox_text names texts
 
 abbrev pub mailboxes_text : List (List ℕ) → List Kept → List ℕ
 mailboxes_text names ks = texts_of_mailboxes names (map (λ k. k.bytes) ks)

@@ -1,5 +1,5 @@
--- What a writer holds where a write failed.
-use Rattle.std.specs.Prelude.{ℕ, List, Option}
+-- What a writer holds where a write failed, and texts that are written one behind the other.
+use Rattle.std.specs.Prelude.{ℕ, List, [], ◌∷◌, ◌++◌, Option}
 use Rattle.std.specs.Io.KnownBytes.{Appends}
 use Rattle.mail_world.specs.Deliveries.{IsFront}
 
@@ -8,3 +8,8 @@ pub record Breaks (old new : Option (List ℕ)) (text : List ℕ) : Type 0 where
   pub front : List ℕ
   pub begins : IsFront front text
   pub appended : Appends old new front
+
+-- the text of each name with what belongs to it
+abbrev pub pair_texts : {X : Type 0} → (List ℕ → X → List ℕ) → List (List ℕ) → List X → List ℕ
+pair_texts f (name ∷ names) (x ∷ xs) = f name x ++ pair_texts f names xs
+pair_texts f _ _ = []

@@ -11,6 +11,10 @@ use thiserror::Error;
 /// Why the program did not do what its words ask for, in the order in which it looks for a cause.
 #[derive(Clone, Copy, Debug, PartialEq, Eq, Error)]
 pub enum Fault {
+    #[error("bad address")]
+    Address,
+    #[error("port 25")]
+    Port,
     #[error("bad host")]
     Host,
     #[error("bad domain")]
@@ -23,6 +27,8 @@ pub enum Fault {
     BoxTwice,
     #[error("memory")]
     Memory,
+    #[error("cannot listen")]
+    Listen,
     #[error("size")]
     Size,
     #[error("no thread")]
@@ -34,13 +40,15 @@ pub enum Fault {
 }
 
 impl Fault {
-    /// The status that the program ends with: 2 for words that name no site, 1 for what the machine lacks.
+    /// The status that the program ends with: 2 for words that can't be used, 1 for what the machine lacks.
     pub fn status(self) -> u8
         ensures { result ≡ status_of self }
     {
         match self {
-            Fault::Memory | Fault::Size | Fault::NoThread | Fault::ChannelGone | Fault::Device => 1,
-            Fault::Host | Fault::Domain | Fault::Box | Fault::TooManyBoxes | Fault::BoxTwice => 2,
+            Fault::Address | Fault::Port | Fault::Host | Fault::Domain => 2,
+            Fault::Box | Fault::TooManyBoxes | Fault::BoxTwice => 2,
+            Fault::Memory | Fault::Listen | Fault::Size => 1,
+            Fault::NoThread | Fault::ChannelGone | Fault::Device => 1,
         }
     }
 }

@@ -8,12 +8,12 @@ ghost use Rattle.lmtpd.specs.Faults.{first_fault};
 ghost use Rattle.lmtpd.specs.Words.{named_site, with_box};
 
 use crate::fault::Fault;
-use crate::words::Words;
+use crate::words::SiteWords;
 use lmtp_text::Site;
 use std::alloc::{AllocError, Global};
 
 /// The site of these words. Each mailbox is tried alone first, so that a bad name comes before too many.
-pub fn site_of(alloc: Global, words: &Words) -> Result<Site, Fault>
+pub fn site_of(alloc: Global, words: &SiteWords) -> Result<Site, Fault>
     ensures made { IfOk result (λ site. site ≡ named_site words.now) }
     ensures sound { IfOk result IsSite }
     ensures order { MatchResult result (λ _. first_fault (named_site words.now) ≡ None)

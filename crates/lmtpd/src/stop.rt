@@ -7,17 +7,19 @@ use crate::fault::Fault;
 use clap::Error;
 use clap::error::ErrorKind;
 
-/// Words that `clap` refuses or answers with help, or a fault.
+/// Words that `clap` refuses or answers with help, a fault, or a mailbox whose file can't be opened.
 #[derive(Debug, Drop)]
-pub enum Stop {
+pub enum Stop<'a> {
     Words(Error),
     Fault(Fault),
+    /// The mailbox of this name.
+    Unopened(&'a str),
 }
 
-impl From<Error> for Stop {
+impl From<Error> for Stop<'_> {
     ghost from_gives = { λ refused stop. stop ≡ stop_for refused };
 
-    fn from(refused: Error) -> Stop {
+    fn from(refused: Error) -> Self {
         if refused.kind() == ErrorKind::OutOfMemory {
             Stop::Fault(Fault::Memory)
         } else {
@@ -26,20 +28,20 @@ impl From<Error> for Stop {
     }
 }
 
-impl From<Fault> for Stop {
+impl From<Fault> for Stop<'_> {
     ghost use Rattle.lmtpd.specs.declared.stop.Stop.TheVariants as variant;
 
     ghost from_gives = { λ fault stop. stop ≡ variant.Fault fault };
 
-    fn from(fault: Fault) -> Stop {
+    fn from(fault: Fault) -> Self {
         Stop::Fault(fault)
     }
 }
 
-impl Stop {
+impl Stop<'_> {
     /// Says it, and gives the program's exit status. Text that can't be written is dropped.
     pub fn report<R: Print + Eprint>(self, rt: &R) -> u8
-        ensures { result ≡ stop_status self }
+        ensures { result ≡ stop_status self.entry }
     {
         match self {
             Stop::Words(refused) => {
@@ -49,6 +51,10 @@ impl Stop {
             Stop::Fault(fault) => {
                 let _ = eprintln!(rt; "lmtpd: {fault}");
                 fault.status()
+            }
+            Stop::Unopened(name) => {
+                let _ = eprintln!(rt; "lmtpd: cannot open {name}.mbox");
+                1
             }
         }
     }

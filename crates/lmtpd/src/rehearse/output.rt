@@ -1,47 +1,15 @@
-//! Bytes to a writer: all of them, or a front and a failure.
+//! The mailboxes of a rehearsal, to its writer.
 
-ghost use Rattle.std.specs.Prelude.{◌≡◌, ◌++◌, length, flat_map, OnOk, OnErr};
+ghost use Rattle.std.specs.Prelude.{◌≡◌, ◌++◌, length, OnOk, OnErr};
 ghost use Rattle.std.specs.Io.KnownBytes.{Appends};
 ghost use Rattle.lmtpd.specs.Output.{Breaks};
 ghost use Rattle.lmtpd.specs.Mailboxes.{bytes_of_all, mailbox_line, texts_of_mailboxes};
 
+use crate::output::{WriteFault, write_each};
 use itoa::Buffer;
 use lmtp_text::Site;
 use mbox_rd::MemorySpool;
 use std::io::Write;
-use thiserror::Error;
-
-/// A write failed, or took nothing.
-#[derive(Clone, Copy, Debug, PartialEq, Eq, Error)]
-#[error("a write failed")]
-pub struct WriteFault;
-
-/// Writes all of the bytes. After a fault the writer holds a front of them more.
-pub fn write_bytes<W: Write>(writer: &mut W, bytes: &[u8]) -> Result<(), WriteFault>
-    ensures ok { OnOk result (Appends (W.contents writer.old) (W.contents writer.new) bytes.now) }
-    ensures err { OnErr result (Breaks (W.contents writer.old) (W.contents writer.new) bytes.now) }
-{
-    let mut rest = bytes;
-    while !rest.is_empty() {
-        match writer.write(rest) {
-            Ok(0) => return Err(WriteFault),
-            Ok(size) => rest = &rest[size..],
-            Err(_) => return Err(WriteFault),
-        }
-    }
-    Ok(())
-}
-
-// Writes the pieces one behind the other.
-fn write_each<W: Write>(writer: &mut W, pieces: &[&[u8]]) -> Result<(), WriteFault>
-    ensures ok { OnOk result (Appends (W.contents writer.old) (W.contents writer.new) (flat_map (λ piece. piece.now) pieces.now)) }
-    ensures err { OnErr result (Breaks (W.contents writer.old) (W.contents writer.new) (flat_map (λ piece. piece.now) pieces.now)) }
-{
-    for piece in pieces {
-        write_bytes(writer, piece)?;
-    }
-    Ok(())
-}
 
 // Writes the line of a mailbox, and what it holds.
 fn write_mailbox<W: Write>(writer: &mut W, name: &[u8], bytes: &[u8]) -> Result<(), WriteFault>

@@ -1,7 +1,6 @@
 //! A rehearsal, from its reader to its writer.
 
 ghost use Rattle.std.specs.Prelude.{◌≡◌, ◌⊎◌, [], ◌∷◌, length, IfOk, Err};
-ghost use Rattle.std.specs.List.{list_any};
 ghost use Rattle.std.specs.Arc.{arc_value};
 ghost use Rattle.lmtpd.specs.Mailboxes.{bytes_of_all, texts_of_mailboxes};
 ghost use Rattle.lmtpd.specs.Client.{IsOnlyOver};
@@ -14,7 +13,8 @@ use super::ending::{Ending, Rehearsed};
 use super::output::write_mailboxes;
 use super::parts::{empty_spools, open_gates, sizes};
 use super::peer::StreamPeer;
-use lmtp_house::{EndCause, HouseFault, Tally, run_house};
+use crate::tally::has_failed;
+use lmtp_house::{EndCause, HouseFault, run_house};
 use lmtp_text::Site;
 use mbox_rd::MemorySpool;
 use std::alloc::Global;
@@ -121,12 +121,6 @@ fn only_client<P: Drop>(mut clients: Vec<OnlyClient<P>>) -> (P, EndCause)
         Some(OnlyClient::Over(peer, end)) => (peer, end),
         _ => unreachable!(),
     }
-}
-
-fn has_failed(tallies: &[Tally]) -> bool
-    ensures { result ≡ list_any (λ tally. tally.faulty) tallies.now }
-{
-    tallies.iter().any(|tally| tally.faulty)
 }
 
 // Writes the mailboxes, also where a write of the replies has failed, and says whether a write fails.

@@ -1,0 +1,50 @@
+-- What contracts see of the clients that connect to a listener, and how they are shared out among lanes.
+use Rattle.std.specs.Prelude.{◌≡◌, ◌+◌, ◌/◌, ◌%◌, ◌⊎◌, ◌↔◌, ℕ, Bool, true, false, List, map, nat_lt, if◌then◌else◌, Option, is_none, is_some, IsNone, IfSome}
+use Rattle.std.specs.List.{range_with_len}
+use Rattle.lmtp_lane.specs.declared.tcp.peer.TcpPeer.{TcpPeer}
+use Rattle.lmtp_lane.specs.declared.tcp.visits.TcpVisits.{TcpVisits}
+use Rattle.lmtp_lane.specs.TcpPeer.{IsNew}
+
+-- how many conversations may still be held
+abbrev pub connections_left : {L : Type 0} → TcpVisits L → ℕ
+connections_left v = v.connections
+
+-- how many reads each of them may make
+abbrev pub reads_each : {L : Type 0} → TcpVisits L → ℕ
+reads_each v = v.reads
+
+-- a client was handed out, and with it the buffer
+abbrev pub is_out : {L : Type 0} → TcpVisits L → Bool
+is_out v = is_none v.buffer
+
+-- the last that was asked for was none
+abbrev pub is_over : {L : Type 0} → TcpVisits L → Bool
+is_over v = v.over
+
+-- an accept failed
+abbrev pub has_failed : {L : Type 0} → TcpVisits L → Bool
+has_failed v = v.failed
+
+-- Where there is a client it is a new one, and counts as a conversation; there is none exactly where no conversation is left, or an accept failed.
+pub record TakesClient {L T : Type 0} (old new : TcpVisits L) (client : Option (TcpPeer T)) : Type 0 where
+  pub fresh : IfSome client (IsNew old.reads)
+  pub out : is_out new ≡ is_some client
+  pub counts : new.connections + (if is_some client then 1 else 0) ≡ old.connections
+  pub none : IsNone client ↔ ((old.connections ≡ 0) ⊎ (new.failed ≡ true))
+  pub same : new.reads ≡ old.reads
+
+-- the client is back, and all else stays
+pub record TakesBack {L : Type 0} (old new : TcpVisits L) : Type 0 where
+  pub back : is_out new ≡ false
+  pub connections : new.connections ≡ old.connections
+  pub reads : new.reads ≡ old.reads
+  pub over : new.over ≡ old.over
+  pub failed : new.failed ≡ old.failed
+
+-- a lane's share of the connections: the first lanes have one more where they don't go out even
+abbrev pub share : ℕ → ℕ → ℕ → ℕ
+share connections lanes lane = connections / lanes + (if nat_lt lane (connections % lanes) then 1 else 0)
+
+-- the shares of all lanes
+abbrev pub shares : ℕ → ℕ → List ℕ
+shares connections lanes = map (share connections lanes) (range_with_len 0 lanes)

@@ -1,0 +1,49 @@
+//! The clients of one listener, shared out among lanes.
+
+ghost use Rattle.std.specs.Prelude.{◌≡◌, ◌<◌, false, IfOk, length, map, sum};
+ghost use Rattle.std.specs.List.{AllByRecursion};
+ghost use Rattle.lmtp_lane.specs.TcpVisits.{connections_left, reads_each, is_out, share, shares};
+
+use crate::tcp::read_buffer::ReadBuffer;
+use crate::tcp::visits::TcpVisits;
+use std::alloc::{AllocError, Global};
+use std::sync::Arc;
+
+/// The visits of so many lanes: the connections are shared out among them, the first lanes have one more where they
+/// don't go out even, and each conversation may make so many reads. All memory of the lanes' clients is taken here.
+pub fn tcp_visits<L: Drop>(
+    alloc: Global,
+    listener: L,
+    lanes: u32,
+    connections: u64,
+    reads: u64,
+) -> Result<Vec<TcpVisits<L>>, AllocError>
+    ensures count { IfOk result (λ visits. length visits.items ≡ lanes) }
+    ensures none_out { IfOk result (λ visits. AllByRecursion (λ v. is_out v ≡ false) visits.items) }
+    ensures shares { IfOk result (λ visits. map connections_left visits.items ≡ shares connections lanes) }
+    ensures all { IfOk result (λ visits. 0 < lanes → sum (map connections_left visits.items) ≡ connections) }
+    ensures reads { IfOk result (λ visits. AllByRecursion (λ v. reads_each v ≡ reads) visits.items) }
+{
+    let listener = Arc::new(alloc, listener)?;
+    let mut visits = Vec::new(alloc);
+    for lane in 0..lanes {
+        let buffer = ReadBuffer::new(alloc)?;
+        let listener = Arc::try_clone(&listener)?;
+        visits.push(TcpVisits::new(listener, share_of(connections, lanes, lane), reads, buffer))?;
+    }
+    Ok(visits)
+}
+
+// How many conversations a lane may hold.
+fn share_of(connections: u64, lanes: u32, lane: u32) -> u64
+    requires { 0 < lanes }
+    ensures { result ≡ share connections lanes lane }
+{
+    let lanes = lanes as u64;
+    let each = connections / lanes;
+    if (lane as u64) < connections % lanes {
+        each + 1
+    } else {
+        each
+    }
+}

@@ -1,0 +1,80 @@
+-- The program's command line, as `clap` reads it.
+use Rattle.std.specs.Prelude.{◌≡◌, Some, true, codes, pos, ℕ, List}
+use Rattle.clap.specs.Lexer.{usize_max}
+use Rattle.clap.specs.Words.{App, Rule, new_app, new_rule, with_rule, with_subcommand}
+use Rattle.clap.specs.declared.builder.value_parser.ValueParser.TheVariants as value
+
+-- an argument `--NAME TEXT`
+abbrev pub text_rule : List ℕ → Rule
+text_rule name = record (new_rule name) { long = Some name; value_names = 1 }
+
+-- an argument `--NAME NUMBER` whose number is one of these
+abbrev pub number_rule : List ℕ → ℕ → ℕ → Rule
+number_rule name least most = record (new_rule name) {
+  long = Some name;
+  value_names = 1;
+  parser = Some (value.Signed (pos least) (pos most));
+}
+
+-- an argument that must be given
+abbrev pub must : Rule → Rule
+must rule = record rule { required = true }
+
+-- one `BOX` or more
+abbrev pub box_rule : Rule
+box_rule = record (new_rule (codes "box")) {
+  value_names = 1;
+  required = true;
+  range = Some (record { start_inclusive = 1; end_inclusive = usize_max });
+}
+
+abbrev pub host_rule : Rule
+host_rule = must (text_rule (codes "host"))
+
+abbrev pub domains_rule : Rule
+domains_rule = text_rule (codes "domains")
+
+abbrev pub blocks_rule : Rule
+blocks_rule = number_rule (codes "blocks") 0 4294967295
+
+abbrev pub time_rule : Rule
+time_rule = must (number_rule (codes "time") 0 4294967295)
+
+abbrev pub listen_rule : Rule
+listen_rule = must (text_rule (codes "listen"))
+
+abbrev pub dir_rule : Rule
+dir_rule = must (text_rule (codes "dir"))
+
+abbrev pub connections_rule : Rule
+connections_rule = must (number_rule (codes "connections") 1 1000000)
+
+abbrev pub lanes_rule : Rule
+lanes_rule = number_rule (codes "lanes") 0 4294967295
+
+abbrev pub capacity_rule : Rule
+capacity_rule = number_rule (codes "capacity") 0 4294967295
+
+abbrev pub reads_rule : Rule
+reads_rule = number_rule (codes "reads") 1 4294967294
+
+-- seconds: a day at most
+abbrev pub timeout_rule : Rule
+timeout_rule = number_rule (codes "timeout") 1 86400
+
+abbrev pub rehearse_app : App
+rehearse_app = with_rule (with_rule (with_rule (with_rule (with_rule (new_app (codes "rehearse")) host_rule) time_rule) domains_rule) blocks_rule) box_rule
+
+-- what must be given, and then what may be
+abbrev pub required_app : App
+required_app = with_rule (with_rule (with_rule (with_rule (new_app (codes "serve")) host_rule) listen_rule) dir_rule) connections_rule
+
+abbrev pub serve_app : App
+serve_app = with_rule (with_rule (with_rule (with_rule (with_rule (with_rule (with_rule required_app domains_rule) lanes_rule) blocks_rule) capacity_rule) reads_rule) timeout_rule) box_rule
+
+abbrev pub bare_app : App
+bare_app = record (new_app (codes "lmtpd")) { top = record (new_app (codes "lmtpd")).top { subcommand_required = true } }
+
+-- the whole command line
+abbrev pub program_app : App
+program_app = with_subcommand (with_subcommand bare_app rehearse_app.top) serve_app.top
