@@ -7,6 +7,8 @@ mod peer;
 mod read_buffer;
 mod retry;
 mod share;
+#[cfg(test)]
+mod tests;
 mod visits;
 
 pub use clock::SystemClock;

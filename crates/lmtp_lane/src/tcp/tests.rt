@@ -1,0 +1,7 @@
+//! Clients over streams in memory: what comes of each, and how each is left.
+
+mod clients;
+mod clocks;
+mod closing;
+mod fakes;
+mod peers;
