@@ -1,6 +1,6 @@
 -- Where a server may listen.
 use Rattle.std.specs.Prelude.{◌≡◌, List, ℕ}
-use Rattle.std.specs.Net.Addr.{socket_port}
+use Rattle.std.specs.Net.Socket.{socket_port}
 use Rattle.std.specs.Net.Grammar.{IsSocketText}
 use Rattle.std.specs.declared.net.SocketAddr.{SocketAddr}
 use Rattle.lmtpd.specs.declared.fault.Fault.{Fault}

@@ -1,7 +1,7 @@
 //! Where a server listens.
 
 ghost use Rattle.std.specs.Prelude.{◌≡◌, ◌≢◌, MatchResult};
-ghost use Rattle.std.specs.Net.Addr.{socket_port};
+ghost use Rattle.std.specs.Net.Socket.{socket_port};
 ghost use Rattle.std.specs.Net.Grammar.{IsSocketText};
 ghost use Rattle.lmtpd.specs.Address.{IsRefused};
 

@@ -39,7 +39,7 @@ fn open_mailbox<'a, R: Files>(
 ) -> Result<FileSpool<R::File>, Stop<'a>>
 where
     R::File: FileLock,
-    ensures { IfErr result (IsUnopenedOf name) }
+    ensures { IfErr result (IsUnopenedOf name.entry) }
 {
     let path = match format!(in alloc; "{folder}/{name}.mbox") {
         Ok(path) => path,
