@@ -1,6 +1,8 @@
 //! `lmtpd`, the last hop of a mail site: it speaks LMTP (RFC 2033) and delivers into mboxrd mailboxes.
 #![tactic(auto)]
 
+ghost use Rattle.std.specs.Prelude.{◌≡◌};
+
 mod fault;
 mod output;
 mod rehearse;
@@ -104,7 +106,9 @@ where
 }
 
 // A slot for each lane.
-fn sizes(words: &ServeWords<'_>) -> Sizes {
+fn sizes(words: &ServeWords<'_>) -> Sizes
+    ensures { result ≡ record { blocks = words.now.blocks; slots = words.now.lanes; capacity = words.now.capacity } }
+{
     Sizes {
         blocks: words.blocks,
         slots: words.lanes,

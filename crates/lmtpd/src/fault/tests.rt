@@ -5,12 +5,15 @@ use std::test::Fail;
 #[test]
 fn each_fault_has_its_text_and_status(rt: HostRuntime) -> Result<(), Fail> {
     let table = [
+        (Fault::Address, "bad address", 2),
+        (Fault::Port, "port 25", 2),
         (Fault::Host, "bad host", 2),
         (Fault::Domain, "bad domain", 2),
         (Fault::Box, "bad box", 2),
         (Fault::TooManyBoxes, "too many boxes", 2),
         (Fault::BoxTwice, "box named twice", 2),
         (Fault::Memory, "memory", 1),
+        (Fault::Listen, "cannot listen", 1),
         (Fault::Size, "size", 1),
         (Fault::NoThread, "no thread", 1),
         (Fault::ChannelGone, "channel gone", 1),

@@ -21,9 +21,9 @@ pub fn address_line(alloc: Global, address: SocketAddr) -> Result<String, AllocE
 }
 
 // Says of a mailbox how many copies it stored.
-fn write_count<W: Write>(writer: &mut W, name: &[u8], tally: Tally) -> Result<(), WriteFault>
-    ensures ok { OnOk result (Appends (W.contents writer.old) (W.contents writer.new) (count_line name.now tally)) }
-    ensures err { OnErr result (Breaks (W.contents writer.old) (W.contents writer.new) (count_line name.now tally)) }
+fn write_count<W: Write>(writer: &mut W, name: &[u8], tally: &Tally) -> Result<(), WriteFault>
+    ensures ok { OnOk result (Appends (W.contents writer.old) (W.contents writer.new) (count_line name.now tally.now)) }
+    ensures err { OnErr result (Breaks (W.contents writer.old) (W.contents writer.new) (count_line name.now tally.now)) }
 {
     let mut digits = Buffer::new();
     let stored = digits.format(tally.stored);
@@ -42,7 +42,7 @@ pub fn write_counts<W: Write>(
     ensures err { OnErr result (Breaks (W.contents writer.old) (W.contents writer.new) (counts_text site.now.boxes tallies.now)) }
 {
     for number in 0..site.box_count() {
-        let tally = tallies[number as usize];
+        let tally = &tallies[number as usize];
         write_count(writer, site.box_name(number), tally)?;
     }
     Ok(())

@@ -1,6 +1,6 @@
 //! The files of a server's mailboxes.
 
-ghost use Rattle.std.specs.Prelude.{◌≡◌, length, IfOk, IfErr};
+ghost use Rattle.std.specs.Prelude.{◌≡◌, length, vec_len, IfOk, IfErr};
 ghost use Rattle.lmtpd.specs.Unopened.{IsUnopened, IsUnopenedOf};
 
 use crate::fault::Fault;
@@ -18,7 +18,7 @@ pub fn open_mailboxes<'a, R: Files>(
 ) -> Result<Vec<FileSpool<R::File>>, Stop<'a>>
 where
     R::File: FileLock,
-    ensures count { IfOk result (λ spools. length spools.items ≡ length names.now) }
+    ensures count { IfOk result (λ spools. vec_len spools ≡ length names.now) }
     ensures refused { IfErr result (IsUnopened names.now) }
 {
     let mut spools = match Vec::with_capacity(alloc, names.len()) {

@@ -58,11 +58,9 @@ const CASES: [Case; 6] = [
 ];
 
 fn refusal(alloc: Global, case: Case) -> Result<Option<Fault>, AllocError> {
-    let words = Words {
+    let words = SiteWords {
         host: case.host,
-        time: 0,
         domains: case.domains.to_vec(alloc)?,
-        blocks: 1,
         boxes: case.boxes.to_vec(alloc)?,
     };
     Ok(site_of(alloc, &words).err())
@@ -78,11 +76,9 @@ fn words_are_refused_in_order(rt: HostRuntime) -> Result<(), Fail> {
 
 #[test]
 fn too_many_boxes_are_refused(rt: HostRuntime) -> Result<(), Fail> {
-    let words = Words {
+    let words = SiteWords {
         host: "mx.example",
-        time: 0,
         domains: Vec::new(rt.alloc()),
-        blocks: 1,
         boxes: [&MANY[..64], &["h0"]].concat(rt.alloc())?,
     };
     let made = site_of(rt.alloc(), &words);

@@ -1,6 +1,8 @@
-use Rattle.std.proofs.Common.{◌∙◌, sym, inl, inr, codes}
-use Rattle.clap.specs.Words.{found_of}
+use Rattle.std.proofs.Common.{◌∙◌, subst, sym, inl, inr, codes}
+use Rattle.std.specs.Prelude.{MatchOption}
+use Rattle.clap.specs.Words.{found_of, rows_of}
 use Rattle.clap.proofs.WalkLemmas.{first_value-rows}
+use Rattle.lmtpd.specs.Words.{IsSiteRead, LacksSite}
 use Rattle.lmtpd.proofs.words.values.serve_words.Goals as goal
 
 pub returns-in_default : goal.returns-in_default
@@ -12,7 +14,7 @@ returns-in_default-get_str c = inr (inl (sym (first_value-rows (found_of c.args.
 pub returns : goal.returns
 returns c =
     let f = found_of c.args.matches.now in record {
-      site = c.in-Some-2.ensures;
+      site = subst (λ read. MatchOption read (LacksSite (rows_of f)) (IsSiteRead (rows_of f))) c.in-Some-2.is c.in_ok-site.ensures;
       listen = sym (first_value-rows f (codes "listen")) ∙ sym c.in-Some.ensures;
       dir = sym (first_value-rows f (codes "dir")) ∙ sym c.in-Some-get_str.ensures;
       connections = c.in-Some-number_of.ensures;
