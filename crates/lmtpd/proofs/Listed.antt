@@ -1,5 +1,5 @@
 -- Texts that belong to names, written one behind the other.
-use Rattle.std.proofs.Common.{◌≡◌, ℕ, ◌+◌, ◌<◌, List, [], ◌∷◌, ◌++◌, length, Option, drop, get_or, sym, ap, ◌∙◌, subst, arith}
+use Rattle.std.proofs.Common.{◌≡◌, ℕ, ◌+◌, ◌<◌, List, [], ◌∷◌, ◌++◌, length, Option, drop, get_or, sym, ap, ◌∙◌, refl, subst, arith}
 use Rattle.std.proofs.lemmas.List.{drop_more, length-map, get_or-map}
 use Rattle.std.proofs.lemmas.Option.{unwrap_or-slice_get}
 use Rattle.std.specs.Io.KnownBytes.{Appends}
@@ -16,6 +16,10 @@ pub record IsPairAt {X : Type 0} (site : Site) (xs : List X) (k : ℕ) (name : L
   pub named : name ≡ box_name site k
   pub other : X
   pub is : x ≡ get_or xs k other
+
+pub pair_at : {X : Type 0} → (site : Site) (xs : List X) (k : ℕ) (name : List ℕ) (d : X) → k < length site.boxes → length xs ≡ length site.boxes → name ≡ box_name site k
+    → IsPairAt site xs k name (get_or xs k d)
+pair_at site xs k name d within count named = record { within = within; count = count; named = named; other = d; is = refl }
 
 -- a mailbox with the bytes of its spool
 pub mailbox_at : (site : Site) (spools : List MemorySpool) (k : ℕ) (name bytes : List ℕ) (m d : MemorySpool) → k < length site.boxes → length spools ≡ length site.boxes

@@ -1,3 +1,5 @@
+use Rattle.std.proofs.Common.{◌∙◌, ap}
+use Rattle.std.specs.List.{list_any}
 use Rattle.lmtpd.proofs.serve.run.serve_run.Goals as goal
 
 pub returns-clause-ran : goal.returns-clause-ran
@@ -9,5 +11,5 @@ returns-clause-ran g c = record {
   tallies = c.in-Ok.report.tallies.items;
   each_lane = c.in_ok-visits.ensures.count;
   ran = c.in-Ok.ensures.ran;
-  faulty = c.has_failed.ensures;
+  faulty = c.has_failed.ensures ∙ ap (λ ts. list_any (λ t. t.faulty) ts) c.deref-2.ensures.value;
 }
