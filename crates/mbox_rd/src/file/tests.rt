@@ -178,13 +178,18 @@ fn nothing_goes_to_the_file_behind_a_fault(rt: HostRuntime) -> Result<(), Fail> 
 }
 
 #[test]
-fn what_waits_is_written_at_the_drop(rt: HostRuntime) -> Result<(), Fail> {
+fn a_full_buffer_waits_for_more_or_for_the_drop(rt: HostRuntime) -> Result<(), Fail> {
     let disk = Disk::new("a.mbox", ".", None);
     let mut spool = FileSpool::at(&DiskFiles(&disk), rt.alloc(), "a.mbox")?;
-    assert_eq!(rt; spool.append(b"abc"), Ok(3));
+    for _ in 0..128 {
+        assert_eq!(rt; spool.append(&[b'x'; 512]), Ok(512));
+    }
     assert_eq!(rt; disk.written(), 0);
+    assert_eq!(rt; spool.append(b"x"), Ok(1));
+    assert_eq!(rt; disk.written(), 65_536);
     drop(spool);
-    assert_eq!(rt; (disk.written(), disk.syncs()), (3, 0));
+    assert_eq!(rt; disk.written(), 65_537);
+    assert_eq!(rt; disk.syncs(), 0);
     Ok(())
 }
 
