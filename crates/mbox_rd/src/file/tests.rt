@@ -193,9 +193,9 @@ fn a_full_buffer_waits_for_more_or_for_the_drop(rt: HostRuntime) -> Result<(), F
     Ok(())
 }
 
-// With the first allocation refused, by `rt try --test --fail-alloc 1`, it is the fault Memory.
+// `rt try --test --fail-alloc 1` refuses the buffer.
 #[test]
-fn only_the_buffer_takes_memory(rt: HostRuntime) {
+fn want_of_memory_is_told(rt: HostRuntime) {
     let disk = Disk::new("a.mbox", ".", None);
     let spool = FileSpool::at(&DiskFiles(&disk), rt.alloc(), "a.mbox");
     assert_eq!(rt; disk.is_locked(), spool.is_ok());
