@@ -160,7 +160,9 @@ fn nothing_goes_to_the_file_behind_a_fault(rt: HostRuntime) -> Result<(), Fail> 
                 drop(spool);
                 assert!(rt; !disk.is_locked(), "{k}");
                 assert_eq!(rt; (disk.calls(), disk.written()), (calls, written), "{k}");
-                if !disk.has_failed() {
+                if disk.has_failed() {
+                    assert_eq!(rt; disk.calls(), k, "the call that failed is the last");
+                } else {
                     assert_eq!(rt;
                         (written, disk.synced(), disk.syncs()),
                         (taken, taken, 2),
