@@ -1,6 +1,6 @@
 -- What contracts see of a spool over a file: the file, what waits to be written to it, and whether it is broken.
 use Rattle.std.specs.Prelude.{◌≡◌, ℕ, ◌+◌, ◌-◌, ◌^◌, min, Bool, true, false, List, [], Option, Some, None, ⊤}
-use Rattle.std.specs.Io.KnownBytes.{append_known, Appends, Keeps}
+use Rattle.std.specs.Io.KnownBytes.{append_known}
 use Rattle.std.specs.Io.Buffered.{writer_inner, writer_buffer}
 use Rattle.mail_world.specs.Deliveries.{IsFront}
 use Rattle.mbox_rd.specs.declared.spool.Tail.{Tail}

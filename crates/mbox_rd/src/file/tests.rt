@@ -160,7 +160,9 @@ fn nothing_goes_to_the_file_behind_a_fault(rt: HostRuntime) -> Result<(), Fail> 
                 drop(spool);
                 assert!(rt; !disk.is_locked(), "{k}");
                 assert_eq!(rt; (disk.calls(), disk.written()), (calls, written), "{k}");
-                if !disk.has_failed() {
+                if disk.has_failed() {
+                    assert_eq!(rt; disk.calls(), k, "the call that failed is the last");
+                } else {
                     assert_eq!(rt;
                         (written, disk.synced(), disk.syncs()),
                         (taken, taken, 2),
@@ -178,19 +180,24 @@ fn nothing_goes_to_the_file_behind_a_fault(rt: HostRuntime) -> Result<(), Fail> 
 }
 
 #[test]
-fn what_waits_is_written_at_the_drop(rt: HostRuntime) -> Result<(), Fail> {
+fn a_full_buffer_waits_for_more_or_for_the_drop(rt: HostRuntime) -> Result<(), Fail> {
     let disk = Disk::new("a.mbox", ".", None);
     let mut spool = FileSpool::at(&DiskFiles(&disk), rt.alloc(), "a.mbox")?;
-    assert_eq!(rt; spool.append(b"abc"), Ok(3));
+    for _ in 0..128 {
+        assert_eq!(rt; spool.append(&[b'x'; 512]), Ok(512));
+    }
     assert_eq!(rt; disk.written(), 0);
+    assert_eq!(rt; spool.append(b"x"), Ok(1));
+    assert_eq!(rt; disk.written(), 65_536);
     drop(spool);
-    assert_eq!(rt; (disk.written(), disk.syncs()), (3, 0));
+    assert_eq!(rt; disk.written(), 65_537);
+    assert_eq!(rt; disk.syncs(), 0);
     Ok(())
 }
 
-// With the first allocation refused, by `rt try --test --fail-alloc 1`, it is the fault Memory.
+// `rt try --test --fail-alloc 1` refuses the buffer.
 #[test]
-fn only_the_buffer_takes_memory(rt: HostRuntime) {
+fn want_of_memory_is_told(rt: HostRuntime) {
     let disk = Disk::new("a.mbox", ".", None);
     let spool = FileSpool::at(&DiskFiles(&disk), rt.alloc(), "a.mbox");
     assert_eq!(rt; disk.is_locked(), spool.is_ok());
