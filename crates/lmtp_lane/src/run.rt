@@ -7,9 +7,9 @@ ghost use Rattle.lmtp_lane.specs.LaneAccount.{AgreesWith, HasOffered};
 ghost use Rattle.lmtp_lane.specs.LaneRun.{HasServed};
 ghost use Rattle.lmtp_lane.specs.Visits.{HasConversed};
 
-use crate::desk::Desk;
 use crate::clock::Clock;
 use crate::delivery::LaneDelivery;
+use crate::desk::Desk;
 use crate::exchange::Exchange;
 use crate::report::LaneReport;
 use crate::setting::LaneStart;
