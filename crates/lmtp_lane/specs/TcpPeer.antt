@@ -1,8 +1,8 @@
 -- What contracts see of a client over a stream.
-use Rattle.std.specs.Prelude.{◌≡◌, ◌-◌, ◌<◌, ℕ, List, [], Result, length, Option, None, Some, Ok}
+use Rattle.std.specs.Prelude.{◌≡◌, ◌-◌, ◌<◌, ◌⊎◌, ℕ, List, [], Result, length, Option, None, Some, Ok}
 use Rattle.std.specs.Io.KnownBytes.{prepend_known}
 use Rattle.lmtp_talk.specs.declared.peer.Came.{Came}
-use Rattle.lmtp_talk.specs.declared.peer.Came.TheVariants.{Stop}
+use Rattle.lmtp_talk.specs.declared.peer.Came.TheVariants.{Bytes, Stop}
 use Rattle.lmtp_lane.specs.declared.tcp.peer.TcpPeer.{TcpPeer}
 use Rattle.lmtp_talk.specs.Peer.{PeerState, HasCome, HasWorked}
 use Rattle.lmtp_lane.specs.ReadBuffer.{waiting}
@@ -16,11 +16,12 @@ abbrev pub Fills : {T : Type 0} → (T → Option (List ℕ)) → TcpPeer T → 
 Fills remaining old new None = (0 < length (waiting new.buffer)) × HasWorked (reading remaining old) (reading remaining new) [] []
 Fills remaining old new (Some came) = HasCome (reading remaining old) (reading remaining new) [] came
 
--- one read fewer is left; where none was left, it says stop, and the stream isn't touched
+-- one read fewer is left; where none was left, it says stop; what waits is handed out first; in neither case is the stream touched
 pub record TakesRead {T E : Type 0} (old new : TcpPeer T) (result : Result Came E) : Type 0 where
   pub counts : new.reads_left ≡ old.reads_left - 1
   pub stops : old.reads_left ≡ 0 → result ≡ Ok Stop
-  pub untouched : old.reads_left ≡ 0 → new.stream ≡ old.stream
+  pub waits : 0 < old.reads_left → 0 < length (waiting old.buffer) → (n : ℕ) × (result ≡ Ok (Bytes n))
+  pub untouched : (old.reads_left ≡ 0) ⊎ (0 < length (waiting old.buffer)) → new.stream ≡ old.stream
 
 -- nothing was read of it, and so many reads may be made
 pub record IsNew {T : Type 0} (reads : ℕ) (peer : TcpPeer T) : Type 0 where

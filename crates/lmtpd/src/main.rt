@@ -18,6 +18,7 @@ use rehearse::rehearse_run;
 use serve::{address_of, open_mailboxes, serve_run};
 use site::site_of;
 use std::alloc::AllocError;
+use std::fs::{File, OpenOptions};
 use std::net::TcpListener;
 use std::process::ExitCode;
 use std::sync::{Arc, Wait};
@@ -83,6 +84,7 @@ where
     H: Threads + Wait + Clock + Copy + Drop + Send + Sync + 'static,
 {
     let alloc = rt.alloc();
+    let _standard = [null(rt), null(rt), null(rt)];
     let address = address_of(words.listen)?;
     let site = Arc::new(alloc, site_of(alloc, &words.site)?).map_err(Fault::from)?;
     let spools = open_mailboxes(rt, alloc, words.dir, &words.site.boxes)?;
@@ -103,6 +105,16 @@ where
     )
     .map_err(Fault::from)?;
     Ok(served.outcome()?)
+}
+
+// Held three times, it stands where a standard stream is closed: else a mailbox would be opened there, and take what is
+// said.
+fn null(rt: &HostRuntime) -> Option<File> {
+    OpenOptions::new()
+        .read(true)
+        .write(true)
+        .open(rt, "/dev/null")
+        .ok()
 }
 
 // A slot for each lane.

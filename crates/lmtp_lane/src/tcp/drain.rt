@@ -1,5 +1,5 @@
-//! The end of a connection whose client may still send: closed at once, it would be reset, and the last reply could be
-//! lost with it (RFC 1122, 4.2.2.13).
+//! The end of a connection whose client may still send: closed at once, it would be reset, and the last reply
+//! could be lost with it (RFC 1122, 4.2.2.13).
 
 ghost use Rattle.std.specs.Prelude.{◌≡◌, length};
 
@@ -14,9 +14,10 @@ const READS: u32 = 10;
 /// Milliseconds that each of them waits at most.
 const WAIT: u64 = 100;
 
-/// Before a connection is closed: behind a conversation that the server ended, and behind QUIT where bytes are unread,
-/// it is shut down for writing, and what the client still sends is read, at most as much as the buffer has room for, and
-/// for one second. `waits` says that bytes of the stream were read which the conversation didn't ask for.
+/// Before a connection is closed: behind a conversation that the server ended, and behind QUIT where bytes
+/// are unread, it is shut down for writing, and what the client still sends is read, at most as much as the
+/// buffer has room for, and for one second. `waits` says that bytes of the stream were read which the
+/// conversation didn't ask for.
 pub fn close<T: Read + OpenStream>(stream: &mut T, buffer: &mut [u8], waits: bool, end: EndCause)
     ensures { length buffer.new ≡ length buffer.old }
 {
@@ -32,7 +33,8 @@ pub fn close<T: Read + OpenStream>(stream: &mut T, buffer: &mut [u8], waits: boo
     }
 }
 
-// Reads at once what is unread, and says how much; none where nothing is, or where that can't be asked without waiting.
+// Reads at once what is unread, and says how much; none where nothing is, or where that can't be asked
+// without waiting.
 fn unread<T: Read + OpenStream>(stream: &mut T, buffer: &mut [u8]) -> Option<usize>
     ensures { length buffer.new ≡ length buffer.old }
 {

@@ -2,14 +2,14 @@
 
 ghost use Rattle.std.specs.Prelude.{◌≡◌, ◌<◌, length, IfOk, OnErr};
 
-use lmtp_talk::{Came, Peer, PeerFault};
 use crate::tcp::read_buffer::ReadBuffer;
 use crate::tcp::retry::write_some;
+use lmtp_talk::{Came, Peer, PeerFault};
 use std::io::{Error, ErrorKind, Read, Write};
 
-/// A client whose bytes come and go over a stream. What the system has for it is read at once, as far as the buffer
-/// goes, and handed out in pieces. It says that the server is to stop once so many pieces were handed out, and once the
-/// stream gave a read up for time (RFC 5321, 4.5.3.2).
+/// A client whose bytes come and go over a stream. What the system has for it is read at once, as far as the
+/// buffer goes, and handed out in pieces. It says that the server is to stop once so many pieces were handed
+/// out, and once the stream gave a read up for time (RFC 5321, 4.5.3.2).
 #[derive(Drop)]
 pub struct TcpPeer<T> {
     pub(super) stream: T,
@@ -62,12 +62,14 @@ impl<T> TcpPeer<T> {
 
 impl<T: Read> TcpPeer<T> {
     ghost use Rattle.lmtp_talk.specs.Peer.{HasFailed};
+    ghost use Rattle.lmtp_lane.specs.ReadBuffer.{waiting};
     ghost use Rattle.lmtp_lane.specs.TcpPeer.{Fills, reading};
 
     // Reads on where nothing waits, and says what the client did where it said nothing.
     fn fill(&mut self) -> Result<Option<Came>, PeerFault>
         ensures ok { IfOk result (Fills T.remaining self.old self.new) }
         ensures err { OnErr result (HasFailed (reading T.remaining self.old) (reading T.remaining self.new)) }
+        ensures waits { 0 < length (waiting self.old.buffer) → (result ≡ Ok None) × (self.new ≡ self.old) }
         ensures same { self.new.reads_left ≡ self.old.reads_left }
     {
         if !self.buffer.is_empty() {
@@ -89,7 +91,8 @@ impl<T: Read + Write> Peer for TcpPeer<T> {
 
     ghost state = { λ p. record { read = None; unread = None; written = None; failures = p.failures; stops = p.stops; holds = [] } };
 
-    /// What it handed out, what its buffer has and what the stream has left are, together, what buffer and stream had.
+    /// What it handed out, what its buffer has and what the stream has left are, together, what buffer and
+    /// stream had.
     fn read(&mut self, buffer: &mut [u8]) -> Result<Came, PeerFault>
         requires { 0 < length buffer.old }
         ensures come { IfOk result (λ came. HasCome (reading T.remaining self.old) (reading T.remaining self.new) buffer.new came) }

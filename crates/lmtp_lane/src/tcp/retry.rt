@@ -7,7 +7,8 @@ ghost use Rattle.std.specs.Io.KnownBytes.{Keeps, ReadConsumes};
 use std::io;
 use std::io::{Error, ErrorKind, Read, Write};
 
-// How often a call is made. A socket with a timeout is interrupted too where the process is stopped and goes on.
+// How often a call is made. A socket with a timeout is interrupted too where the process is stopped and goes
+// on.
 const TRIES: u32 = 1_000;
 
 /// One read; its error is `Interrupted` only where each of a thousand tries was interrupted.

@@ -9,8 +9,9 @@ use crate::tcp::visits::TcpVisits;
 use std::alloc::{AllocError, Global};
 use std::sync::Arc;
 
-/// The visits of so many lanes: the connections are shared out among them, the first lanes have one more where they
-/// don't go out even, and each conversation may make so many reads. All memory of the lanes' clients is taken here.
+/// The visits of so many lanes: the connections are shared out among them, the first lanes have one more
+/// where they don't go out even, and each conversation may make so many reads. All memory of the lanes'
+/// clients is taken here.
 pub fn tcp_visits<L: Drop>(
     alloc: Global,
     listener: L,

@@ -2,18 +2,18 @@
 
 ghost use Rattle.std.specs.Prelude.{◌≡◌};
 
-use lmtp_talk::EndCause;
-use crate::visits::Visits;
 use crate::tcp::drain::close;
 use crate::tcp::peer::TcpPeer;
 use crate::tcp::read_buffer::ReadBuffer;
+use crate::visits::Visits;
+use lmtp_talk::EndCause;
 use std::io;
 use std::io::{ErrorKind, Read, Write};
 use std::net::{OpenListener, OpenStream};
 use std::sync::{Arc, Wait};
 
-/// So many clients of a listener that other lanes may share. The buffer is lent to one after the other, so that none of
-/// them takes memory.
+/// So many clients of a listener that other lanes may share. The buffer is lent to one after the other, so
+/// that none of them takes memory.
 #[derive(Drop)]
 pub struct TcpVisits<L: Drop> {
     listener: Arc<L>,
@@ -115,8 +115,8 @@ where
 
     ghost over = { λ visits. is_over visits };
 
-    /// Waits for the next client; one that had gone before it was taken is passed over. Behind an accept that failed
-    /// there are no more.
+    /// Waits for the next client; one that had gone before it was taken is passed over. Behind an accept that
+    /// failed there are no more.
     fn next<R: Wait>(&mut self, rt: &R) -> Option<TcpPeer<L::Stream>>
         requires { is_out self.old ≡ false }
         ensures takes { TakesClient self.old self.new result }
@@ -127,8 +127,8 @@ where
         client
     }
 
-    /// Takes the buffer back, and closes the connection; a client who may still send has up to a second to hear the last
-    /// reply.
+    /// Takes the buffer back, and closes the connection; a client who may still send has up to a second to
+    /// hear the last reply.
     fn done(&mut self, peer: TcpPeer<L::Stream>, end: EndCause)
         requires { is_out self.old ≡ true }
         ensures { TakesBack self.old self.new }

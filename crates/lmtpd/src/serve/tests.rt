@@ -77,7 +77,11 @@ const CASES: [Case; 5] = [
         connections: 3,
         room: 1_000,
         output: "listening on 127.0.0.1:2003\nanna stored 3\n",
-        served: Served { faulty: false, failed: false, cut: false },
+        served: Served {
+            faulty: false,
+            failed: false,
+            cut: false,
+        },
     },
     // Clients that nobody is served for stay behind.
     Case {
@@ -86,7 +90,11 @@ const CASES: [Case; 5] = [
         connections: 2,
         room: 1_000,
         output: "listening on 127.0.0.1:2003\nanna stored 2\n",
-        served: Served { faulty: false, failed: false, cut: false },
+        served: Served {
+            faulty: false,
+            failed: false,
+            cut: false,
+        },
     },
     // Both lanes find the listener broken, after one client.
     Case {
@@ -95,7 +103,11 @@ const CASES: [Case; 5] = [
         connections: 4,
         room: 1_000,
         output: "listening on 127.0.0.1:2003\nanna stored 1\n",
-        served: Served { faulty: false, failed: true, cut: false },
+        served: Served {
+            faulty: false,
+            failed: true,
+            cut: false,
+        },
     },
     Case {
         clients: 2,
@@ -103,7 +115,11 @@ const CASES: [Case; 5] = [
         connections: 2,
         room: 1_000,
         output: "anna stored 2\n",
-        served: Served { faulty: false, failed: true, cut: false },
+        served: Served {
+            faulty: false,
+            failed: true,
+            cut: false,
+        },
     },
     Case {
         clients: 1,
@@ -111,7 +127,11 @@ const CASES: [Case; 5] = [
         connections: 2,
         room: 100,
         output: "listening on 127.0.0.1:2003\nanna stored 0\n",
-        served: Served { faulty: true, failed: true, cut: false },
+        served: Served {
+            faulty: true,
+            failed: true,
+            cut: false,
+        },
     },
 ];
 
@@ -120,7 +140,14 @@ fn each_failure_is_told_and_the_others_are_served(rt: HostRuntime) -> Result<(),
     for case in CASES {
         let listener = MemoryListener::new(case.clients, case.tells);
         let mut output = Vec::new(rt.alloc());
-        let served = serve_in_memory(rt, rt.alloc(), listener, case.connections, case.room, &mut output)?;
+        let served = serve_in_memory(
+            rt,
+            rt.alloc(),
+            listener,
+            case.connections,
+            case.room,
+            &mut output,
+        )?;
         assert_eq!(rt; output.as_slice(), case.output.as_bytes());
         assert_eq!(rt; served, case.served);
     }
@@ -134,8 +161,26 @@ fn a_writer_that_fails_is_written_to_once(rt: HostRuntime) -> Result<(), Fail> {
     let site = site_of_anna(alloc)?;
     let mut writer = BrokenWriter { writes: 0 };
     let listener = MemoryListener::new(2, true);
-    let served = serve_run(rt, alloc, site, TWO_LANES, 2, 2, 1_000, listener, spools, &mut writer)?;
-    assert_eq!(rt; served, Served { faulty: false, failed: false, cut: true });
+    let served = serve_run(
+        rt,
+        alloc,
+        site,
+        TWO_LANES,
+        2,
+        2,
+        1_000,
+        listener,
+        spools,
+        &mut writer,
+    )?;
+    assert_eq!(rt;
+        served,
+        Served {
+            faulty: false,
+            failed: false,
+            cut: true
+        }
+    );
     assert_eq!(rt; writer.writes, 1);
     Ok(())
 }
@@ -143,13 +188,34 @@ fn a_writer_that_fails_is_written_to_once(rt: HostRuntime) -> Result<(), Fail> {
 #[test]
 fn a_size_is_told_before_anything_is_said(rt: HostRuntime) -> Result<(), Fail> {
     let alloc = rt.alloc();
-    for (blocks, slots, capacity, lanes) in [(0, 2, 4, 2), (64, 65, 4, 2), (64, 2, 1_025, 2), (64, 2, 4, 17), (64, 2, 4, 0)] {
+    for (blocks, slots, capacity, lanes) in [
+        (0, 2, 4, 2),
+        (64, 65, 4, 2),
+        (64, 2, 1_025, 2),
+        (64, 2, 4, 17),
+        (64, 2, 4, 0),
+    ] {
         let spools = vec![in alloc; MemorySpool::new(alloc, b"", 1_000)?]?;
         let site = site_of_anna(alloc)?;
         let mut output = Vec::new(alloc);
-        let sizes = Sizes { blocks, slots, capacity };
+        let sizes = Sizes {
+            blocks,
+            slots,
+            capacity,
+        };
         let listener = MemoryListener::new(2, true);
-        let served = serve_run(rt, alloc, site, sizes, lanes, 2, 1_000, listener, spools, &mut output);
+        let served = serve_run(
+            rt,
+            alloc,
+            site,
+            sizes,
+            lanes,
+            2,
+            1_000,
+            listener,
+            spools,
+            &mut output,
+        );
         assert_eq!(rt; served.err(), Some(HouseFault::Size));
         assert!(rt; output.is_empty());
     }
@@ -167,7 +233,11 @@ fn a_device_fault_comes_before_a_listener_that_failed(rt: HostRuntime) {
         (false, true, true, Err(Fault::Device)),
     ];
     for (faulty, failed, cut, outcome) in table {
-        let served = Served { faulty, failed, cut };
+        let served = Served {
+            faulty,
+            failed,
+            cut,
+        };
         assert_eq!(rt; served.outcome(), outcome);
     }
 }

@@ -4,11 +4,11 @@ ghost use Rattle.std.specs.Prelude.{◌≡◌, false};
 ghost use Rattle.lmtp_lane.specs.TcpVisits.{is_out};
 
 use super::fakes::{Door, Guest, Log};
+use crate::Visits;
 use crate::tcp::listener::TimedListener;
 use crate::tcp::read_buffer::ReadBuffer;
 use crate::tcp::share::tcp_visits;
 use crate::tcp::visits::TcpVisits;
-use crate::Visits;
 use lmtp_talk::EndCause;
 use std::io::ErrorKind;
 use std::net::OpenListener;

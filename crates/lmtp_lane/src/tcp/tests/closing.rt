@@ -1,9 +1,9 @@
 //! How connections are closed.
 
 use super::fakes::{Act, Log, Wire};
-use lmtp_talk::EndCause;
 use crate::tcp::drain::close;
 use crate::tcp::read_buffer::ReadBuffer;
+use lmtp_talk::EndCause;
 use std::io::ErrorKind;
 use std::sync::Arc;
 use std::test::Fail;
@@ -12,8 +12,8 @@ const SILENT: Act = Act::Fails(ErrorKind::WouldBlock);
 
 const SAYS_ONE: Act = Act::Says(b"x");
 
-/// Why the conversation ended, whether bytes wait in the buffer, what the client does, and then: how often the stream is
-/// shut down for writing, how often it is read, and how many bytes come.
+/// Why the conversation ended, whether bytes wait in the buffer, what the client does, and then: how often
+/// the stream is shut down for writing, how often it is read, and how many bytes come.
 type Closing = (EndCause, bool, &'static [Act], (u64, u64, u64));
 
 const CLOSINGS: [Closing; 13] = [

@@ -6,7 +6,8 @@ use std::net::{Ipv4Addr, OpenListener, OpenStream, SocketAddr, SocketAddrV4};
 use std::sync::atomic::{AtomicU64, Ordering};
 
 /// What each client says.
-const SAYS: &[u8] = b"LHLO relay.example\r\nMAIL FROM:<carl@a.example>\r\nRCPT TO:<anna@mx.example>\r\nDATA\r\n\
+const SAYS: &[u8] =
+    b"LHLO relay.example\r\nMAIL FROM:<carl@a.example>\r\nRCPT TO:<anna@mx.example>\r\nDATA\r\n\
 Subject: hi\r\n\r\nhello\r\n.\r\nQUIT\r\n";
 
 /// Hands out so many clients, and then fails. It may not know its address.

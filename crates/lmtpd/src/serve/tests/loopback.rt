@@ -19,8 +19,10 @@ const TOLD: &str = "220 mx.example LMTP ready\r\n\
 // What a client hears who sends the message to anna.
 fn deliver(rt: &HostRuntime, address: SocketAddr) -> io::Result<Vec<u8>> {
     let alloc = rt.alloc();
-    let mut said = b"LHLO relay.example\r\nMAIL FROM:<carl@a.example>\r\nRCPT TO:<anna@mx.example>\r\nDATA\r\n"
-        .to_vec(alloc)?;
+    let mut said =
+        b"LHLO relay.example\r\nMAIL FROM:<carl@a.example>\r\nRCPT TO:<anna@mx.example>\r\nDATA\r\n".to_vec(
+            alloc,
+        )?;
     stuff(MESSAGE, &mut said)?;
     said.extend_from_slice(b"QUIT\r\n")?;
     let mut stream = TcpStream::connect(rt, address)?;
@@ -32,21 +34,38 @@ fn deliver(rt: &HostRuntime, address: SocketAddr) -> io::Result<Vec<u8>> {
 
 // A folder of this test's own.
 fn folder_of(rt: &HostRuntime, name: &str) -> Result<String, Fail> {
-    let folder = format!(in rt.alloc(); "{}/lmtpd-{}-{name}", env::temp_dir(rt)?.as_path().display(), process::id(rt.process()))?;
+    let folder = format!(in rt.alloc();
+        "{}/lmtpd-{}-{name}",
+        env::temp_dir(rt)?.as_path().display(),
+        process::id(rt.process())
+    )?;
     fs::create_dir(rt, folder.as_str())?;
     Ok(folder)
 }
 
 // Serves two clients on the folder's mailbox; what each of them heard.
-fn serve_two(rt: HostRuntime, folder: &str, writer: impl Write + Drop) -> Result<(Served, [Vec<u8>; 2]), Fail> {
+fn serve_two<H>(
+    rt: HostRuntime,
+    threads: H,
+    folder: &str,
+    writer: impl Write + Drop,
+) -> Result<(Served, [Vec<u8>; 2]), Fail>
+where
+    H: Threads + Wait + Clock + Copy + Drop + Send + Sync + 'static,
+{
     let alloc = rt.alloc();
     let listener = TcpListener::bind(&rt, "127.0.0.1:0")?;
     let address = listener.local_addr()?;
-    let one = thread::spawn(&rt, move || deliver(&rt, address))?;
-    let other = thread::spawn(&rt, move || deliver(&rt, address))?;
-    let spools = open_mailboxes(&rt, alloc, folder, &["anna"]).ok().ok_or("a mailbox")?;
-    let served = serve_run(rt, alloc, site_of_anna(alloc)?, TWO_LANES, 2, 2, 1_000, listener, spools, writer)?;
-    Ok((served, [one.join(&rt)?, other.join(&rt)?]))
+    let one = thread::spawn(&threads, move || deliver(&rt, address))?;
+    let other = thread::spawn(&threads, move || deliver(&rt, address))?;
+    let spools = open_mailboxes(&rt, alloc, folder, &["anna"])
+        .ok()
+        .ok_or("a mailbox")?;
+    let site = site_of_anna(alloc)?;
+    let served = serve_run(
+        threads, alloc, site, TWO_LANES, 2, 2, 1_000, listener, spools, writer,
+    )?;
+    Ok((served, [one.join(&threads)?, other.join(&threads)?]))
 }
 
 #[test]
@@ -54,8 +73,15 @@ fn two_clients_store_two_letters_and_two_more(rt: HostRuntime) -> Result<(), Fai
     let folder = folder_of(&rt, "letters")?;
     for letters in [2, 4] {
         let mut output = Vec::new(rt.alloc());
-        let (served, heard) = serve_two(rt, folder.as_str(), &mut output)?;
-        assert_eq!(rt; served, Served { faulty: false, failed: false, cut: false });
+        let (served, heard) = serve_two(rt, rt, folder.as_str(), &mut output)?;
+        assert_eq!(rt;
+            served,
+            Served {
+                faulty: false,
+                failed: false,
+                cut: false
+            }
+        );
         for told in &heard {
             assert_eq!(rt; told.as_slice(), TOLD.as_bytes());
         }
@@ -73,8 +99,15 @@ fn two_clients_store_two_letters_and_two_more(rt: HostRuntime) -> Result<(), Fai
 fn clients_are_served_where_the_first_write_fails(rt: HostRuntime) -> Result<(), Fail> {
     let folder = folder_of(&rt, "cut")?;
     let mut writer = BrokenWriter { writes: 0 };
-    let (served, heard) = serve_two(rt, folder.as_str(), &mut writer)?;
-    assert_eq!(rt; served, Served { faulty: false, failed: false, cut: true });
+    let (served, heard) = serve_two(rt, rt, folder.as_str(), &mut writer)?;
+    assert_eq!(rt;
+        served,
+        Served {
+            faulty: false,
+            failed: false,
+            cut: true
+        }
+    );
     for told in &heard {
         assert_eq!(rt; told.as_slice(), TOLD.as_bytes());
     }
