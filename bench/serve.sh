@@ -9,11 +9,12 @@
 #   b, b10     4 connections, 20 KiB, ten recipients: of 40 mailboxes, and the same ten for all
 #   c, c4      1 and 4 connections of 1 MiB, one recipient: a mailbox each
 # usage: bench/serve.sh [--rounds N] [--works a,b,..] [--peers floor,ours,..] [--slow-sync]
-# 3 rounds, all works and all peers without the words. In each round each peer does each work with a fresh store. With
-# --slow-sync each fsync and fdatasync takes 2 ms more (bench/serve/slowsync.c). Peers that aren't installed are left out, and
-# that is said; Dovecot wants root. Prints the medians, and of ours the medians of the ratios within a round, beside those that
-# are wanted; fails where a reply is wrong, a copy isn't in its mailbox, or a ratio is below. LMTPD names a program that is
-# built already. The stores are in a folder of mktemp, so TMPDIR says on which disk.
+# 3 rounds, all works and all peers without the words. In each round each peer does each work with a fresh
+# store. With --slow-sync each fsync and fdatasync takes 2 ms more (bench/serve/slowsync.c). Peers that aren't
+# installed are left out, and that is said; Dovecot wants root. Prints the medians, and of ours the medians of
+# the ratios within a round, beside those that are wanted; fails where a reply is wrong, a copy isn't in its
+# mailbox, or a ratio is below. LMTPD names a program that is built already. The stores are in a folder of
+# mktemp, so TMPDIR says on which disk.
 set -euo pipefail
 cd "$(dirname "$0")/.."
 if [ -z "${LMTPD:-}" ]; then

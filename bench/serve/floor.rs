@@ -3,8 +3,8 @@
 //!
 //! usage: floor FOLDER THREADS MESSAGES RECIPIENTS SIZE BOXES
 //!
-//! Each thread does what a connection of `load` with the same numbers asks for: its copies go to the same files.
-//! Prints the line of report.rs.
+//! Each thread does what a connection of `load` with the same numbers asks for: its copies go to the same
+//! files. Prints the line of report.rs.
 
 mod report;
 

@@ -2,13 +2,13 @@
 //!
 //! usage: load ADDRESS:PORT TAG CONNECTIONS CONVERSATIONS MESSAGES RECIPIENTS SIZE BOXES
 //!
-//! Each connection has a thread, which holds CONVERSATIONS one behind the other and sends MESSAGES in each, of SIZE
-//! bytes with header and CRLFs, without pipelining. Recipient j of a message on connection c is the mailbox with number
-//! (c * RECIPIENTS + j) mod BOXES, `u0` and so on. A message's id is <TAG.c.i@load>, i counted over the thread's
-//! conversations.
+//! Each connection has a thread, which holds CONVERSATIONS one behind the other and sends MESSAGES in each,
+//! of SIZE bytes with header and CRLFs, without pipelining. Recipient j of a message on connection c is the
+//! mailbox with number (c * RECIPIENTS + j) mod BOXES, `u0` and so on. A message's id is <TAG.c.i@load>, i
+//! counted over the thread's conversations.
 //!
-//! Prints the line of report.rs; a message's time is from MAIL to its last reply. Ends with status 1 where a reply
-//! isn't the one that is due.
+//! Prints the line of report.rs; a message's time is from MAIL to its last reply. Ends with status 1 where a
+//! reply isn't the one that is due.
 
 mod client;
 mod report;

@@ -1,4 +1,4 @@
-"""The servers that bench/serve.sh compares: each is started with an empty store, and ended by the object that stands for it."""
+"""The servers that bench/serve.sh compares: each is started with an empty store, and ended again."""
 
 import os
 import pathlib
@@ -75,12 +75,12 @@ class Server:
         self.store.mkdir(parents=True)
         self.log = folder / "output"
         self.port = 0 if name == "ours" else free_port()
-        words = {"ours": self.ours, "smtp-sink": self.smtp_sink, "dovecot": self.dovecot}[name](folder, preload)
+        words_of = {"ours": self.ours, "smtp-sink": self.smtp_sink, "dovecot": self.dovecot}
         environment = dict(os.environ)
         if preload and name != "dovecot":
             environment["LD_PRELOAD"] = preload
         self.process = subprocess.Popen(
-            words,
+            words_of[name](folder, preload),
             stdout=self.log.open("wb"),
             stderr=subprocess.STDOUT,
             stdin=subprocess.DEVNULL,

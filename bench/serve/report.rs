@@ -1,5 +1,5 @@
-//! What `load` and `floor` print: the seconds, the deliveries, and of the times of a message in milliseconds the
-//! median, the one that 99 of 100 don't exceed, and the longest.
+//! What `load` and `floor` print: the seconds, the deliveries, and of the times of a message in milliseconds
+//! the median, the one that 99 of 100 don't exceed, and the longest.
 
 pub fn print(seconds: f64, deliveries: usize, mut milliseconds: Vec<f64>) {
     milliseconds.sort_unstable_by(f64::total_cmp);

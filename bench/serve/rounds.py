@@ -26,8 +26,8 @@ class Work:
     recipients: int
     size: int
     boxes: int
-    # Of all but Dovecot so many times as many messages, so that no run is too short to tell. A mailbox that grows costs Dovecot
-    # time, so the smaller number is in its favour.
+    # Of all but Dovecot so many times as many messages, so that no run is too short to tell. A mailbox that
+    # grows costs Dovecot time, so the smaller number is in its favour.
     times: int
     wanted: dict = field(default_factory=dict)  # the least ratio of ours to a peer
 
@@ -87,15 +87,16 @@ def say_absent(name):
 
 
 def say_machine(given):
-    filesystem = subprocess.run(["stat", "-f", "-c", "%T", given.folder], capture_output=True, text=True).stdout.strip()
+    stat = subprocess.run(["stat", "-f", "-c", "%T", given.folder], capture_output=True, text=True)
     date = time.strftime("%Y-%m-%d %H:%M UTC", time.gmtime())
     slow = ", each sync 2 ms slower" if given.slow_sync else ""
-    print(f"{date}, {os.cpu_count()} cores, load {os.getloadavg()[0]:.1f}, {filesystem}, {given.rounds} rounds{slow}")
+    machine = f"{os.cpu_count()} cores, load {os.getloadavg()[0]:.1f}, {stat.stdout.strip()}"
+    print(f"{date}, {machine}, {given.rounds} rounds{slow}", flush=True)
 
 
 def say_run(number, work, name, run):
-    load = os.getloadavg()[0]
-    print(f"round {number + 1} {work} {name}: {run.rate:,.0f}/s, p99 {run.p99:.2f} ms, load {load:.1f}", file=sys.stderr)
+    text = f"{run.rate:,.0f}/s, 99 of 100 in {run.p99:.2f} ms, load {os.getloadavg()[0]:.1f}"
+    print(f"round {number + 1}, {work}, {name}: {text}", file=sys.stderr)
 
 
 class Bench:
@@ -127,8 +128,8 @@ class Bench:
         server = peers.Server(peer, folder, self.preload)
         try:
             # a message to all mailboxes, so that each is made, and some on as many connections
-            for tag, connections, count, recipients in [("w", 1, 1, work.boxes), ("w", work.connections, 2, work.recipients)]:
-                self.load(server, tag, work, connections, count, recipients)
+            self.load(server, "w", work, 1, 1, work.boxes)
+            self.load(server, "w", work, work.connections, 2, work.recipients)
             run = self.load(server, "m", work, work.connections, messages, work.recipients)
         finally:
             server.end()
@@ -190,7 +191,8 @@ def print_ratio(work, name, ratios, wanted):
     ratio = statistics.median(ratios)
     is_missed = wanted is not None and ratio < wanted
     verdict = "" if wanted is None else "missed" if is_missed else "reached"
-    print(f"| {work} | {name} | {ratio:.2f} ({min(ratios):.2f} to {max(ratios):.2f}) | {wanted or ''} | {verdict} |")
+    found = f"{ratio:.2f} ({min(ratios):.2f} to {max(ratios):.2f})"
+    print(f"| {work} | {name} | {found} | {wanted or ''} | {verdict} |")
     return is_missed
 
 

@@ -1,4 +1,4 @@
-/* By LD_PRELOAD: each fsync and fdatasync takes 2 ms more, as on a disk that is slower to keep what it was given. */
+/* By LD_PRELOAD: each fsync and fdatasync takes 2 ms more, as on a slower disk. */
 #define _GNU_SOURCE
 #include <dlfcn.h>
 #include <time.h>
