@@ -46,7 +46,7 @@ all_wait() {
 
 # deliver CONVERSATIONS MESSAGES RECIPIENTS SIZE: on each of 4 connections so many conversations.
 deliver() {
-    timeout 120 "$folder/load" "$address" m 4 "$1" "$2" "$3" "$4" "$BOXES" > "$folder/said" || fail "a reply is wrong"
+    timeout 120 "$folder/load" "$address" m 4 "$@" "$BOXES" > /dev/null || fail "a reply is wrong"
     conversations=$((conversations + 4 * $1))
     copies=$((copies + 4 * $1 * $2 * $3))
 }
@@ -68,7 +68,8 @@ address=$(sed -n 's/^listening on //p' "$folder/output")
 until_holds 10 all_wait
 
 if command -v strace > /dev/null; then
-    strace -f -qq -e trace=mmap,brk,munmap,mremap,clone,clone3 -e signal=none -o "$folder/trace" -p "$server" &
+    calls=mmap,brk,munmap,mremap,clone,clone3
+    strace -f -qq -e trace=$calls -e signal=none -o "$folder/trace" -p "$server" &
     tracer=$!
     until_holds 10 grep -q "^TracerPid:	$tracer$" "/proc/$server/status"
 else

@@ -64,15 +64,15 @@ def swaks_delivers(folder):
 
 @case
 def smtp_source_delivers(folder):
-    """smtp-source -L delivers twenty messages to two mailboxes each, four at once; both readers find the letters"""
+    """smtp-source -L delivers twenty messages to two mailboxes each; both readers find the letters"""
     path = installed("smtp-source")
-    with Server(folder, ["1anna", "2anna"], 20, "--lanes", 4) as server:
+    with Server(folder, ["anna", "2anna"], 20, "--lanes", 4) as server:
         given = ["-L", "-m", "20", "-s", "4", "-r", "2", "-l", "2048"]
         given += ["-M", "relay.example", "-f", "carl@a.example"]
         status, said = tool(path, *given, "-t", "anna@mx.example", server.text)
         equal((status, said), (0, ""))
-        equal(vars(server.end()), {"status": 0, "said": ["1anna stored 20", "2anna stored 20"], "errors": []})
-        for name in ["1anna", "2anna"]:
+        equal(vars(server.end()), {"status": 0, "said": ["anna stored 20", "2anna stored 20"], "errors": []})
+        for name in ["anna", "2anna"]:
             found = letters.read(server.mailbox(name))
             equal({(letter.sender, letter.client) for letter in found}, {("carl@a.example", "relay.example")})
             equal([letter.message.count(b"X") > 1000 for letter in found], [True] * 20)
