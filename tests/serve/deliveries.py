@@ -23,7 +23,7 @@ def installed(name):
 
 def tool(*given, text=None):
     both = {"stdout": subprocess.PIPE, "stderr": subprocess.STDOUT}
-    said = subprocess.run(given, input=text, text=True, timeout=30, **both)
+    said = subprocess.run(given, input=text or "", text=True, timeout=30, **both)
     return said.returncode, said.stdout
 
 
