@@ -34,6 +34,13 @@ class Client:
             if line[3:4] != b"-":
                 return line.removesuffix(b"\r\n").decode()
 
+    def hear_or_end(self):
+        """As `hear`, but an empty text also where the server was killed."""
+        try:
+            return self.hear()
+        except (OSError, AssertionError):
+            return ""
+
     def send(self, *lines):
         self.socket.sendall(b"".join(line.encode() + b"\r\n" for line in lines))
 
@@ -48,6 +55,12 @@ class Client:
         answer = self.ask("LHLO relay.example")
         assert answer.startswith("250 "), answer
         return self
+
+    def start_message(self, recipient, *lines):
+        """Comes to the end of the data of one message, but for the dot."""
+        for line in ["MAIL FROM:<carl@a.example>", f"RCPT TO:<{recipient}@mx.example>", "DATA"]:
+            assert self.ask(line)[:3] in ["250", "354"]
+        self.send(*lines)
 
     def deliver(self, recipients, *lines):
         """Sends one message, waiting for each reply, and gives those to the recipients and the final ones."""

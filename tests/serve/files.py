@@ -1,9 +1,14 @@
 """What the server does where a mailbox's file is held, fails, or was left torn."""
 
+import time
+
 import letters
 from cases import case, equal
 from clients import Client, deliver_one
 from server import Server, run, words
+
+# Almost 1 MiB.
+LONG_LINES = ["x" * 900] * 1000
 
 
 @case
@@ -46,6 +51,42 @@ def a_torn_tail(folder):
         equal(found[: len(closed) + 5], closed + b"From ")
         server.mailbox("anna").write_bytes(found.removeprefix(closed))
         equal(letters.messages(server.mailbox("anna")), [b"hello\n"])
+
+
+@case
+def killed_in_the_midst(folder):
+    """killed ten times while it stores: what was told 250 is whole in the mailbox, and the next start goes on"""
+    told, untold = [], []
+    for number in range(10):
+        with Server(folder, ["anna"], 1, "--lanes", 1) as server, Client(server.address).greet() as client:
+            equal(client.deliver(["anna"], f"short {number}")[1], ["250 2.0.0 Stored for anna"])
+            told.append(b"short %d\n" % number)
+            lines = [f"long {number}", *LONG_LINES]
+            client.start_message("anna", *lines)
+            client.send(".")
+            # about 64 KiB are written at a time
+            kill_at(server, server.mailbox("anna").stat().st_size + 65_536 * number + 1)
+            is_told = client.hear_or_end() == "250 2.0.0 Stored for anna"
+            (told if is_told else untold).append("\n".join([*lines, ""]).encode())
+    with Server(folder, ["anna"], 1, "--lanes", 1) as server:
+        equal(deliver_one(server.address, ["anna"], "last"), ["250 2.0.0 Stored for anna"])
+        equal(server.end().said, ["anna stored 1"])
+    records = server.mailbox("anna").read_bytes().removesuffix(b"\n\n").split(b"\n\nFrom ")
+    found = [record.partition(b" +0000\n")[2] + b"\n" for record in records]
+    rest = [letter for letter in found if letter not in told]
+    equal([letter[:20] for letter in told if letter not in found], [])
+    # what wasn't told is a front of its letter, or all of it
+    equal([letter[:20] for letter in rest[:-1] if not any(one.startswith(letter[:-1]) for one in untold)], [])
+    equal((rest[-1], len(rest) - 1 <= len(untold)), (b"last\n", True))
+
+
+def kill_at(server, size):
+    """Kills the server once anna's mailbox has that size, or three seconds later."""
+    until = time.monotonic() + 3
+    while server.mailbox("anna").stat().st_size < size and time.monotonic() < until:
+        pass
+    server.process.kill()
+    server.process.wait(20)
 
 
 @case
