@@ -4,16 +4,14 @@
 //! usage: floor FOLDER THREADS MESSAGES RECIPIENTS SIZE BOXES
 //!
 //! Each thread does what a connection of `load` with the same numbers asks for: its copies go to the same
-//! files. Prints the line of report.rs.
+//! files. Prints the line of timing.rs.
 
-mod report;
+mod timing;
 
 use std::fs::{File, OpenOptions};
 use std::io::{self, Write};
 use std::path::Path;
 use std::process::ExitCode;
-use std::sync::Barrier;
-use std::thread;
 use std::time::Instant;
 
 struct Work {
@@ -33,42 +31,15 @@ fn main() -> ExitCode {
         return ExitCode::from(2);
     };
     let work = Work { threads, messages, recipients, size, boxes };
-    match run(&work, Path::new(&words[0])) {
-        Ok((seconds, times)) => {
-            report::print(seconds, times.len() * work.recipients, times);
-            ExitCode::SUCCESS
-        }
+    let folder = Path::new(&words[0]);
+    let append = |number| append(&work, folder, number).map_err(|fault| fault.to_string());
+    match timing::print_times(work.threads, work.recipients, append) {
+        Ok(()) => ExitCode::SUCCESS,
         Err(fault) => {
             eprintln!("floor: {fault}");
             ExitCode::FAILURE
         }
     }
-}
-
-/// The seconds that all threads took, and the milliseconds of each message.
-fn run(work: &Work, folder: &Path) -> io::Result<(f64, Vec<f64>)> {
-    let gate = Barrier::new(work.threads + 1);
-    let files: Vec<Vec<File>> =
-        (0..work.threads).map(|number| open(work, folder, number)).collect::<Result<_, _>>()?;
-    thread::scope(|scope| {
-        let threads: Vec<_> = files
-            .into_iter()
-            .map(|files| {
-                let gate = &gate;
-                scope.spawn(move || {
-                    gate.wait();
-                    append(work, files)
-                })
-            })
-            .collect();
-        gate.wait();
-        let begun = Instant::now();
-        let mut times = Vec::new();
-        for thread in threads {
-            times.extend(thread.join().map_err(|_| io::Error::other("a thread panicked"))??);
-        }
-        Ok((begun.elapsed().as_secs_f64(), times))
-    })
 }
 
 fn open(work: &Work, folder: &Path, thread: usize) -> io::Result<Vec<File>> {
@@ -79,7 +50,9 @@ fn open(work: &Work, folder: &Path, thread: usize) -> io::Result<Vec<File>> {
         .collect()
 }
 
-fn append(work: &Work, mut files: Vec<File>) -> io::Result<Vec<f64>> {
+/// All that one thread appends, and the milliseconds of each message.
+fn append(work: &Work, folder: &Path, thread: usize) -> io::Result<Vec<f64>> {
+    let mut files = open(work, folder, thread)?;
     let record: Vec<u8> = (1..=work.size).map(|at| if at % 64 == 0 { b'\n' } else { b'x' }).collect();
     let mut times = Vec::with_capacity(work.messages);
     for _ in 0..work.messages {

@@ -7,17 +7,15 @@
 //! mailbox with number (c * RECIPIENTS + j) mod BOXES, `u0` and so on. A message's id is <TAG.c.i@load>, i
 //! counted over the thread's conversations.
 //!
-//! Prints the line of report.rs; a message's time is from MAIL to its last reply. Ends with status 1 where a
+//! Prints the line of timing.rs; a message's time is from MAIL to its last reply. Ends with status 1 where a
 //! reply isn't the one that is due.
 
 mod client;
-mod report;
+mod timing;
 
 use client::Client;
 use std::net::SocketAddr;
 use std::process::ExitCode;
-use std::sync::Barrier;
-use std::thread;
 use std::time::Instant;
 
 struct Work {
@@ -36,11 +34,8 @@ fn main() -> ExitCode {
         eprintln!("usage: load ADDRESS:PORT TAG CONNECTIONS CONVERSATIONS MESSAGES RECIPIENTS SIZE BOXES");
         return ExitCode::from(2);
     };
-    match run(&work) {
-        Ok((seconds, times)) => {
-            report::print(seconds, times.len() * work.recipients, times);
-            ExitCode::SUCCESS
-        }
+    match timing::print_times(work.connections, work.recipients, |number| deliver(&work, number)) {
+        Ok(()) => ExitCode::SUCCESS,
         Err(fault) => {
             eprintln!("load: {fault}");
             ExitCode::FAILURE
@@ -62,29 +57,7 @@ fn read_words() -> Option<Work> {
     (address.ip().is_loopback() && size >= header(&work, 0, 0).len() + 2).then_some(work)
 }
 
-/// The seconds from the first connection to the last end, and the milliseconds of each message.
-fn run(work: &Work) -> Result<(f64, Vec<f64>), String> {
-    let gate = Barrier::new(work.connections + 1);
-    thread::scope(|scope| {
-        let threads: Vec<_> = (0..work.connections)
-            .map(|connection| {
-                let gate = &gate;
-                scope.spawn(move || {
-                    gate.wait();
-                    deliver(work, connection).map_err(|fault| format!("connection {connection}: {fault}"))
-                })
-            })
-            .collect();
-        gate.wait();
-        let begun = Instant::now();
-        let mut times = Vec::new();
-        for thread in threads {
-            times.extend(thread.join().map_err(|_| "a thread panicked".to_string())??);
-        }
-        Ok((begun.elapsed().as_secs_f64(), times))
-    })
-}
-
+/// All conversations of a connection, and the milliseconds of each message.
 fn deliver(work: &Work, connection: usize) -> Result<Vec<f64>, String> {
     let recipients: Vec<String> = (0..work.recipients)
         .map(|place| (connection * work.recipients + place) % work.boxes)

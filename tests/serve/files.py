@@ -55,7 +55,7 @@ def a_torn_tail(folder):
 
 @case
 def killed_in_the_midst(folder):
-    """killed ten times while it stores: what was told 250 is whole in the mailbox, and the next start goes on"""
+    """killed ten times while it stores: what was told 250 is whole, and the next start goes on"""
     told, untold = [], []
     for number in range(10):
         with Server(folder, ["anna"], 1, "--lanes", 1) as server, Client(server.address).greet() as client:
