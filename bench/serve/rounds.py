@@ -46,6 +46,7 @@ WANTED_SLOW = {"a": {"floor": 0.9}}
 @dataclass
 class Run:
     rate: float  # deliveries a second
+    uneven: float  # the slowest connection's time over the quickest's
     p50: float
     p99: float
 
@@ -95,8 +96,9 @@ def say_machine(given):
 
 
 def say_run(number, work, name, run):
-    text = f"{run.rate:,.0f}/s, 99 of 100 in {run.p99:.2f} ms, load {os.getloadavg()[0]:.1f}"
-    print(f"round {number + 1}, {work}, {name}: {text}", file=sys.stderr)
+    text = f"{run.rate:,.0f}/s, 99 of 100 in {run.p99:.2f} ms, slowest connection {run.uneven:.2f}"
+    load = os.getloadavg()[0]
+    print(f"round {number + 1}, {work}, {name}: {text} of the quickest, load {load:.1f}", file=sys.stderr)
 
 
 class Bench:
@@ -150,7 +152,8 @@ class Bench:
         if said.returncode != 0:
             raise Fault(f"{' '.join(words)}: {said.stderr.strip()}")
         found = {name: float(value) for name, value in (part.split("=") for part in said.stdout.split())}
-        return Run(found["deliveries"] / found["seconds"], found["p50_ms"], found["p99_ms"])
+        rate = found["deliveries"] / found["seconds"]
+        return Run(rate, found["uneven"], found["p50_ms"], found["p99_ms"])
 
 
 def count_copies(store):
@@ -164,15 +167,17 @@ def count_copies(store):
 
 
 def print_tables(works, names, given, runs):
-    print("\n| work | peer | deliveries a second (least to most) | median message, ms | 99 of 100, ms |")
-    print("|---|---|---|---|---|")
+    columns = "deliveries a second (least to most) | median message, ms | 99 of 100, ms | uneven, most"
+    print(f"\n| work | peer | {columns} |")
+    print("|---|---|---|---|---|---|")
     for work in works:
         for name in names:
             all_of = [runs[work, name, number] for number in range(given.rounds)]
             rates = [run.rate for run in all_of]
             p50, p99 = (statistics.median(getattr(run, key) for run in all_of) for key in ("p50", "p99"))
             rate = f"{statistics.median(rates):,.0f} ({min(rates):,.0f} to {max(rates):,.0f})"
-            print(f"| {work} | {name} | {rate} | {p50:.2f} | {p99:.2f} |")
+            uneven = max(run.uneven for run in all_of)
+            print(f"| {work} | {name} | {rate} | {p50:.2f} | {p99:.2f} | {uneven:.2f} |")
     if "ours" not in names:
         return 0
     print("\n| work | ours to | ratio (least to most) | wanted | |")

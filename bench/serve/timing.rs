@@ -11,9 +11,17 @@ struct Part {
     milliseconds: Vec<f64>,
 }
 
-/// Gives each thread its number, and prints the seconds from the first that began to the last that ended, the
-/// deliveries, and of the times of a message in milliseconds the median, the one that 99 of 100 don't exceed,
-/// and the longest.
+impl Part {
+    fn seconds(&self) -> f64 {
+        (self.ended - self.begun).as_secs_f64()
+    }
+}
+
+/// Gives each thread its number, and prints
+/// - the seconds from the first that began to the last that ended, and the deliveries;
+/// - the slowest thread's time over the quickest's: all have the same to do, so this is far above 1 where one of
+///   them had to wait;
+/// - of the times of a message in milliseconds the median, the one that 99 of 100 don't exceed, and the longest.
 pub fn print_times<W>(threads: usize, recipients: usize, work: W) -> Result<(), String>
 where
     W: Fn(usize) -> Result<Vec<f64>, String> + Sync,
@@ -22,12 +30,16 @@ where
     let begun = parts.iter().map(|part| part.begun).min().ok_or("no thread")?;
     let ended = parts.iter().map(|part| part.ended).max().ok_or("no thread")?;
     let seconds = (ended - begun).as_secs_f64();
+    let slowest = parts.iter().map(Part::seconds).fold(0.0, f64::max);
+    let quickest = parts.iter().map(Part::seconds).fold(slowest, f64::min);
     let mut times: Vec<f64> = parts.into_iter().flat_map(|part| part.milliseconds).collect();
     times.sort_unstable_by(f64::total_cmp);
     let share = |percent: usize| times[(times.len() * percent).div_ceil(100) - 1];
     let (p50, p99, max) = (share(50), share(99), share(100));
     let deliveries = times.len() * recipients;
-    println!("seconds={seconds:.4} deliveries={deliveries} p50_ms={p50:.3} p99_ms={p99:.3} max_ms={max:.3}");
+    let uneven = slowest / quickest;
+    print!("seconds={seconds:.4} deliveries={deliveries} uneven={uneven:.2} ");
+    println!("p50_ms={p50:.3} p99_ms={p99:.3} max_ms={max:.3}");
     Ok(())
 }
 
