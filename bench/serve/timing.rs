@@ -19,9 +19,9 @@ impl Part {
 
 /// Gives each thread its number, and prints
 /// - the seconds from the first that began to the last that ended, and the deliveries;
-/// - the slowest thread's time over the quickest's: all have the same to do, so this is far above 1 where one of
-///   them had to wait;
-/// - of the times of a message in milliseconds the median, the one that 99 of 100 don't exceed, and the longest.
+/// - the slowest thread's time over the quickest's: all have the same to do, so this is far above 1 where one
+///   of them had to wait;
+/// - of the times of a message in milliseconds the median, the one that 99 of 100 don't exceed, the longest.
 pub fn print_times<W>(threads: usize, recipients: usize, work: W) -> Result<(), String>
 where
     W: Fn(usize) -> Result<Vec<f64>, String> + Sync,
