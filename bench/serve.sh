@@ -1,0 +1,34 @@
+#!/usr/bin/env bash
+# How fast `serve` delivers, beside others on the same work, all in one run on one machine, over loopback:
+#   floor      an append and an fdatasync for each delivery, with no protocol (bench/serve/floor.rs)
+#   smtp-sink  Postfix's `smtp-sink -L`: the protocol, and nothing is stored
+#   dovecot    Dovecot's LMTP over mbox, mail_fsync=optimized, with a process for each connection
+#   ours       `serve` with 4 lanes and 8,192 blocks
+# The works, by bench/serve/load.rs, which checks each reply:
+#   a, a1      4 connections, 2 KiB, one recipient: a mailbox each, and one for all
+#   b, b10     4 connections, 20 KiB, ten recipients: of 40 mailboxes, and the same ten for all
+#   c, c4      1 and 4 connections of 1 MiB, one recipient: a mailbox each
+# usage: bench/serve.sh [--rounds N] [--works a,b,..] [--peers floor,ours,..] [--slow-sync]
+# 3 rounds, all works and all peers without the words. In each round each peer does each work with a fresh
+# store. With --slow-sync each fsync and fdatasync takes 2 ms more (bench/serve/slowsync.c). Peers that aren't
+# installed are left out, and that is said; Dovecot wants root. Prints the medians, and of ours the medians of
+# the ratios within a round, beside those that are wanted. "Uneven" is the slowest connection's time over the
+# quickest's: all have the same to do, so where it is far above 1 one of them waited, on a busy machine for a
+# core. It fails where a reply is wrong, a copy isn't in its mailbox, or a ratio is below. LMTPD names a
+# program that is built already. The stores are in a folder of mktemp, so TMPDIR says on which disk.
+set -euo pipefail
+cd "$(dirname "$0")/.."
+if [ -z "${LMTPD:-}" ]; then
+    make -s build
+    LMTPD=$PWD/crates/lmtpd/out/lmtpd
+fi
+export LMTPD
+folder=$(mktemp -d)
+trap 'rm -rf "$folder"' EXIT
+
+rustc -O -o "$folder/load" bench/serve/load.rs
+rustc -O -o "$folder/floor" bench/serve/floor.rs
+if command -v cc > /dev/null; then
+    cc -O2 -shared -fPIC -o "$folder/slowsync.so" bench/serve/slowsync.c
+fi
+python3 -B bench/serve/rounds.py "$folder" "$@"

@@ -1,0 +1,208 @@
+"""usage: rounds.py FOLDER [--rounds N] [--works a,b,..] [--peers floor,ours,..] [--slow-sync]
+
+The rounds and the table of bench/serve.sh, which built `load`, `floor` and slowsync.so in FOLDER.
+"""
+
+import argparse
+import os
+import pathlib
+import shutil
+import signal
+import statistics
+import subprocess
+import sys
+import time
+from dataclasses import dataclass, field
+
+import peers
+
+PEERS = ["floor", "smtp-sink", "dovecot", "ours"]
+
+
+@dataclass
+class Work:
+    connections: int
+    messages: int  # on each connection
+    recipients: int
+    size: int
+    boxes: int
+    # Of all but Dovecot so many times as many messages, so that no run is too short to tell. A mailbox that
+    # grows costs Dovecot time, so the smaller number is in its favour.
+    times: int
+    wanted: dict = field(default_factory=dict)  # the least ratio of ours to a peer
+
+
+WORKS = {
+    "a": Work(4, 500, 1, 2048, 4, 5, {"dovecot": 5, "smtp-sink": 0.8}),
+    "a1": Work(4, 500, 1, 2048, 1, 5, {"dovecot": 10}),
+    "b": Work(4, 100, 10, 20480, 40, 3, {"dovecot": 5}),
+    "b10": Work(4, 100, 10, 20480, 10, 3, {"dovecot": 10}),
+    "c": Work(1, 20, 1, 1048576, 1, 5, {"dovecot": 2.5}),
+    "c4": Work(4, 10, 1, 1048576, 4, 3),
+}
+WANTED_SLOW = {"a": {"floor": 0.9}}
+
+
+@dataclass
+class Run:
+    rate: float  # deliveries a second
+    uneven: float  # the slowest connection's time over the quickest's
+    p50: float
+    p99: float
+
+
+class Fault(Exception):
+    pass
+
+
+def main():
+    options = argparse.ArgumentParser()
+    options.add_argument("folder", type=pathlib.Path)
+    options.add_argument("--rounds", type=int, default=3)
+    options.add_argument("--works", default=",".join(WORKS))
+    options.add_argument("--peers", default=",".join(PEERS))
+    options.add_argument("--slow-sync", action="store_true")
+    given = options.parse_args()
+    signal.signal(signal.SIGTERM, lambda *_: sys.exit(143))
+    # Dovecot's processes and smtp-sink aren't root's, and pass through the folder.
+    given.folder.chmod(0o711)
+    bench = Bench(given.folder, given.slow_sync)
+    works, names = given.works.split(","), given.peers.split(",")
+    there = [name for name in names if name == "floor" or not say_absent(name)]
+    say_machine(given)
+    runs = {}
+    for number in range(given.rounds):
+        for work in works:
+            # each round begins with another peer
+            for name in there[number % len(there) :] + there[: number % len(there)]:
+                runs[work, name, number] = bench.run(work, name)
+                say_run(number, work, name, runs[work, name, number])
+    return print_tables(works, there, given, runs)
+
+
+def say_absent(name):
+    why = peers.absent(name)
+    if why:
+        print(f"left out: {name}, {why}")
+    return why
+
+
+def say_machine(given):
+    stat = subprocess.run(["stat", "-f", "-c", "%T", given.folder], capture_output=True, text=True)
+    date = time.strftime("%Y-%m-%d %H:%M UTC", time.gmtime())
+    slow = ", each sync 2 ms slower" if given.slow_sync else ""
+    machine = f"{os.cpu_count()} cores, load {os.getloadavg()[0]:.1f}, {stat.stdout.strip()}"
+    print(f"{date}, {machine}, {given.rounds} rounds{slow}", flush=True)
+
+
+def say_run(number, work, name, run):
+    text = f"{run.rate:,.0f}/s, 99 of 100 in {run.p99:.2f} ms, slowest connection {run.uneven:.2f}"
+    load = os.getloadavg()[0]
+    print(f"round {number + 1}, {work}, {name}: {text} of the quickest, load {load:.1f}", file=sys.stderr)
+
+
+class Bench:
+    def __init__(self, folder, is_slow):
+        self.folder = folder
+        self.preload = str(folder / "slowsync.so") if is_slow else None
+        self.is_slow = is_slow
+        if is_slow and not (folder / "slowsync.so").exists():
+            sys.exit("--slow-sync wants a C compiler (cc)")
+
+    def run(self, name, peer):
+        """One run of a work with a fresh store, which is gone afterwards."""
+        folder = self.folder / "peer"
+        folder.mkdir(mode=0o755)
+        try:
+            work = WORKS[name]
+            more = 1 if peer == "dovecot" or self.is_slow else work.times
+            if peer == "floor":
+                return self.floor(work, work.messages * more, folder)
+            return self.server(work, work.messages * more, peer, folder)
+        finally:
+            shutil.rmtree(folder)
+
+    def floor(self, work, messages, folder):
+        words = [work.connections, messages, work.recipients, work.size, work.boxes]
+        return self.measure([self.folder / "floor", folder, *words], preload=self.preload)
+
+    def server(self, work, messages, peer, folder):
+        server = peers.Server(peer, folder, self.preload)
+        try:
+            # a message to all mailboxes, so that each is made, and some on as many connections
+            self.load(server, "w", work, 1, 1, work.boxes)
+            self.load(server, "w", work, work.connections, 2, work.recipients)
+            run = self.load(server, "m", work, work.connections, messages, work.recipients)
+        finally:
+            server.end()
+        wanted = work.connections * messages * work.recipients
+        stored = count_copies(server.store)
+        if peer != "smtp-sink" and stored != wanted:
+            raise Fault(f"{peer}: {stored} of {wanted} copies are in the mailboxes")
+        return run
+
+    def load(self, server, tag, work, connections, messages, recipients):
+        words = [server.address, tag, connections, 1, messages, recipients, work.size, work.boxes]
+        return self.measure([self.folder / "load", *words])
+
+    def measure(self, words, preload=None):
+        environment = dict(os.environ, LD_PRELOAD=preload) if preload else None
+        words = [str(word) for word in words]
+        said = subprocess.run(words, capture_output=True, text=True, timeout=300, env=environment)
+        if said.returncode != 0:
+            raise Fault(f"{' '.join(words)}: {said.stderr.strip()}")
+        found = {name: float(value) for name, value in (part.split("=") for part in said.stdout.split())}
+        rate = found["deliveries"] / found["seconds"]
+        return Run(rate, found["uneven"], found["p50_ms"], found["p99_ms"])
+
+
+def count_copies(store):
+    """The copies of the measured messages in all mailboxes of the store."""
+    paths = list(store.rglob("*.mbox"))
+    if not paths:
+        return 0
+    words = ["grep", "-hac", "^Message-ID: <m[.]", *paths]
+    said = subprocess.run(words, capture_output=True, text=True, env=dict(os.environ, LC_ALL="C"))
+    return sum(int(line) for line in said.stdout.split())
+
+
+def print_tables(works, names, given, runs):
+    columns = "deliveries a second (least to most) | median message, ms | 99 of 100, ms | uneven, most"
+    print(f"\n| work | peer | {columns} |")
+    print("|---|---|---|---|---|---|")
+    for work in works:
+        for name in names:
+            all_of = [runs[work, name, number] for number in range(given.rounds)]
+            rates = [run.rate for run in all_of]
+            p50, p99 = (statistics.median(getattr(run, key) for run in all_of) for key in ("p50", "p99"))
+            rate = f"{statistics.median(rates):,.0f} ({min(rates):,.0f} to {max(rates):,.0f})"
+            uneven = max(run.uneven for run in all_of)
+            print(f"| {work} | {name} | {rate} | {p50:.2f} | {p99:.2f} | {uneven:.2f} |")
+    if "ours" not in names:
+        return 0
+    print("\n| work | ours to | ratio (least to most) | wanted | |")
+    print("|---|---|---|---|---|")
+    missed = 0
+    for work in works:
+        wanted = WANTED_SLOW.get(work, {}) if given.slow_sync else WORKS[work].wanted
+        for name in (name for name in names if name != "ours"):
+            ratios = [runs[work, "ours", n].rate / runs[work, name, n].rate for n in range(given.rounds)]
+            missed += print_ratio(work, name, ratios, wanted.get(name))
+    return 1 if missed else 0
+
+
+def print_ratio(work, name, ratios, wanted):
+    """Whether the median is less than it is to be."""
+    ratio = statistics.median(ratios)
+    is_missed = wanted is not None and ratio < wanted
+    verdict = "" if wanted is None else "missed" if is_missed else "reached"
+    found = f"{ratio:.2f} ({min(ratios):.2f} to {max(ratios):.2f})"
+    print(f"| {work} | {name} | {found} | {wanted or ''} | {verdict} |")
+    return is_missed
+
+
+if __name__ == "__main__":
+    try:
+        sys.exit(main())
+    except (Fault, RuntimeError, subprocess.TimeoutExpired) as fault:
+        sys.exit(f"bench/serve.sh: {fault}")

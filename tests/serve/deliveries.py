@@ -1,0 +1,126 @@
+"""Real clients deliver, and other programs read what is in the mailboxes."""
+
+import shutil
+import smtplib
+import socket
+import subprocess
+import stat
+
+import letters
+from cases import Absent, case, equal
+from clients import deliver_one
+from server import Server
+
+HARD_LINES = ["Subject: hard lines", "", "From here on", ">From there", "..a dot", "", "\ta tab", "end", ""]
+
+
+def installed(name):
+    path = shutil.which(name, path=f"{shutil.os.environ['PATH']}:/usr/sbin")
+    if path is None:
+        raise Absent(f"{name} isn't installed")
+    return path
+
+
+def tool(*given, text=None):
+    both = {"stdout": subprocess.PIPE, "stderr": subprocess.STDOUT}
+    said = subprocess.run(given, input=text or "", text=True, timeout=30, **both)
+    return said.returncode, said.stdout
+
+
+@case
+def smtplib_delivers(folder):
+    """Python's smtplib.LMTP delivers to a known and an unknown mailbox; both readers find the letter"""
+    with Server(folder, ["anna", "ben"], 1, "--lanes", 1) as server:
+        with smtplib.LMTP(*server.address, local_hostname="relay.example", timeout=20) as client:
+            for name in ["anna", "ben"]:
+                recipients = [f"{name}@mx.example", "nobody@mx.example"]
+                # it stuffs the dots of the message itself
+                refused = client.sendmail("carl@a.example", recipients, "\r\n".join([*HARD_LINES, name, ""]))
+                code, text = refused.pop("nobody@mx.example")
+                equal((code, refused), (550, {}))
+        equal(vars(server.end()), {"status": 0, "said": ["anna stored 1", "ben stored 1"], "errors": []})
+        for name in ["anna", "ben"]:
+            sent = "\n".join([*HARD_LINES, name, ""]).encode()
+            equal(letters.read(server.mailbox(name)), [("carl@a.example", "relay.example", sent)])
+
+
+@case
+def swaks_delivers(folder):
+    """swaks delivers to two mailboxes beside an unknown one; both readers find the letters"""
+    path = installed("swaks")
+    message = "\n".join(HARD_LINES)
+    with Server(folder, ["anna", "ben"], 1, "--lanes", 1) as server:
+        given = ["--protocol", "LMTP", "--server", server.text, "--from", "carl@a.example"]
+        given += ["--helo", "relay.example"]
+        to = "anna@mx.example,nobody@mx.example,ben@mx.example"
+        _, said = tool(path, *given, "--to", to, "--data", "-", text=message)
+        assert "<** 550 " in said and "250 2.0.0 Stored for ben" in said, said
+        equal(vars(server.end()), {"status": 0, "said": ["anna stored 1", "ben stored 1"], "errors": []})
+        for name in ["anna", "ben"]:
+            [letter] = letters.read(server.mailbox(name))
+            equal((letter.sender, letter.client), ("carl@a.example", "relay.example"))
+            equal(letter.message.strip(b"\n"), message.strip("\n").encode())
+
+
+@case
+def smtp_source_delivers(folder):
+    """smtp-source -L delivers twenty messages to two mailboxes each; both readers find the letters"""
+    path = installed("smtp-source")
+    with Server(folder, ["anna", "2anna"], 20, "--lanes", 4) as server:
+        given = ["-L", "-m", "20", "-s", "4", "-r", "2", "-l", "2048"]
+        given += ["-M", "relay.example", "-f", "carl@a.example"]
+        status, said = tool(path, *given, "-t", "anna@mx.example", server.text)
+        equal((status, said), (0, ""))
+        equal(vars(server.end()), {"status": 0, "said": ["anna stored 20", "2anna stored 20"], "errors": []})
+        for name in ["anna", "2anna"]:
+            found = letters.read(server.mailbox(name))
+            equal({(letter.sender, letter.client) for letter in found}, {("carl@a.example", "relay.example")})
+            equal([letter.message.count(b"X") > 1000 for letter in found], [True] * 20)
+
+
+@case
+def the_port_that_it_got(folder):
+    """port 0: the line tells the port that it got, and a client is served there"""
+    with Server(folder, ["anna"], 1, "--lanes", 1) as server:
+        host, port = server.address
+        equal((host, server.first, port > 0), ("127.0.0.1", f"listening on 127.0.0.1:{port}\n", True))
+        equal(deliver_one(server.address, ["anna"], "hello"), ["250 2.0.0 Stored for anna"])
+
+
+@case
+def an_ipv6_address(folder):
+    """an IPv6 address in brackets"""
+    try:
+        socket.create_server(("::1", 0), family=socket.AF_INET6).close()
+    except OSError:
+        raise Absent("loopback has no ::1") from None
+    with Server(folder, ["anna"], 1, "--lanes", 1, listen="[::1]:0") as server:
+        host, port = server.address
+        equal((host, server.first), ("::1", f"listening on [::1]:{port}\n"))
+        equal(deliver_one(server.address, ["anna"], "hello"), ["250 2.0.0 Stored for anna"])
+
+
+@case
+def a_second_run(folder):
+    """two letters, and a second run on the same folder leaves four; a mailbox's file has mode 0600"""
+    for count in [2, 4]:
+        with Server(folder, ["anna"], 2, "--lanes", 2) as server:
+            for number in [1, 2]:
+                finals = deliver_one(server.address, ["anna"], f"{count} {number}")
+                equal(finals, ["250 2.0.0 Stored for anna"])
+            equal(vars(server.end()), {"status": 0, "said": ["anna stored 2"], "errors": []})
+            equal(len(letters.read(server.mailbox("anna"))), count)
+    equal(letters.messages(server.mailbox("anna")), [b"2 1\n", b"2 2\n", b"4 1\n", b"4 2\n"])
+    equal(oct(stat.S_IMODE(server.mailbox("anna").stat().st_mode)), oct(0o600))
+
+
+@case
+def more_domains(folder):
+    """further domains are served, and no others"""
+    with Server(folder, ["anna"], 1, "--lanes", 1, "--domains", "a.example,b.example") as server:
+        with smtplib.LMTP(*server.address, local_hostname="relay.example", timeout=20) as client:
+            served = [("a.example", 250), ("b.example", 250), ("mx.example", 250), ("c.example", 550)]
+            for domain, code in served:
+                client.mail("carl@a.example")
+                equal((domain, client.rcpt(f"anna@{domain}")[0]), (domain, code))
+                client.rset()

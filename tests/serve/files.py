@@ -1,0 +1,100 @@
+"""What the server does where a mailbox's file is held, fails, or was left torn."""
+
+import time
+
+import letters
+from cases import case, equal
+from clients import Client, deliver_one
+from server import Server, run, words
+
+# Almost 1 MiB.
+LONG_LINES = ["x" * 900] * 1000
+
+
+@case
+def a_second_server(folder):
+    """a second server on the same folder: cannot open anna.mbox, status 1, and the first one goes on"""
+    with Server(folder, ["anna"], 2, "--lanes", 1) as server:
+        equal(deliver_one(server.address, ["anna"], "one"), ["250 2.0.0 Stored for anna"])
+        ended = run(words(folder, ["anna"], 1))
+        equal(vars(ended), {"status": 1, "said": [], "errors": ["lmtpd: cannot open anna.mbox"]})
+        equal(deliver_one(server.address, ["anna"], "two"), ["250 2.0.0 Stored for anna"])
+        equal(vars(server.end()), {"status": 0, "said": ["anna stored 2"], "errors": []})
+        equal(letters.messages(server.mailbox("anna")), [b"one\n", b"two\n"])
+
+
+@case
+def a_device_that_is_full(folder):
+    """a mailbox on /dev/full: 451 for it, 250 for the other, then device fault and status 1"""
+    (folder / "anna.mbox").symlink_to("/dev/full")
+    with Server(folder, ["anna", "ben"], 2, "--lanes", 1) as server:
+        for number in [1, 2]:
+            finals = deliver_one(server.address, ["anna", "ben"], f"letter {number}")
+            equal(finals, ["451 4.3.0 Not stored for anna", "250 2.0.0 Stored for ben"])
+        said = ["anna stored 0", "ben stored 2"]
+        equal(vars(server.end()), {"status": 1, "said": said, "errors": ["lmtpd: device fault"]})
+        equal(letters.messages(server.mailbox("ben")), [b"letter 1\n", b"letter 2\n"])
+
+
+@case
+def a_torn_tail(folder):
+    """a tail that is torn is closed by the fewest LFs before the next letter"""
+    closed_as = {b"abc": b"abc\n\n", b"abc\n": b"abc\n\n", b"abc\n\n": b"abc\n\n", b"x": b"x\n\n"}
+    for old, closed in closed_as.items():
+        with Server(folder, ["anna"], 1, "--lanes", 1) as server:
+            pass
+        server.mailbox("anna").write_bytes(old)
+        with Server(folder, ["anna"], 1, "--lanes", 1) as server:
+            equal(deliver_one(server.address, ["anna"], "hello"), ["250 2.0.0 Stored for anna"])
+            equal(vars(server.end()), {"status": 0, "said": ["anna stored 1"], "errors": []})
+        found = server.mailbox("anna").read_bytes()
+        equal(found[: len(closed) + 5], closed + b"From ")
+        server.mailbox("anna").write_bytes(found.removeprefix(closed))
+        equal(letters.messages(server.mailbox("anna")), [b"hello\n"])
+
+
+@case
+def killed_in_the_midst(folder):
+    """killed ten times while it stores: what was told 250 is whole, and the next start goes on"""
+    told, untold = [], []
+    for number in range(10):
+        with Server(folder, ["anna"], 1, "--lanes", 1) as server, Client(server.address).greet() as client:
+            equal(client.deliver(["anna"], f"short {number}")[1], ["250 2.0.0 Stored for anna"])
+            told.append(b"short %d\n" % number)
+            lines = [f"long {number}", *LONG_LINES]
+            client.start_message("anna", *lines)
+            client.send(".")
+            # about 64 KiB are written at a time
+            kill_at(server, server.mailbox("anna").stat().st_size + 65_536 * number + 1)
+            is_told = client.hear_or_end() == "250 2.0.0 Stored for anna"
+            (told if is_told else untold).append("\n".join([*lines, ""]).encode())
+    with Server(folder, ["anna"], 1, "--lanes", 1) as server:
+        equal(deliver_one(server.address, ["anna"], "last"), ["250 2.0.0 Stored for anna"])
+        equal(server.end().said, ["anna stored 1"])
+    records = server.mailbox("anna").read_bytes().removesuffix(b"\n\n").split(b"\n\nFrom ")
+    found = [record.partition(b" +0000\n")[2] + b"\n" for record in records]
+    rest = [letter for letter in found if letter not in told]
+    equal([letter[:20] for letter in told if letter not in found], [])
+    # what wasn't told is a front of its letter, or all of it
+    equal([letter[:20] for letter in rest[:-1] if not any(one.startswith(letter[:-1]) for one in untold)], [])
+    equal((rest[-1], len(rest) - 1 <= len(untold)), (b"last\n", True))
+
+
+def kill_at(server, size):
+    """Kills the server once anna's mailbox has that size, or three seconds later."""
+    until = time.monotonic() + 3
+    while server.mailbox("anna").stat().st_size < size and time.monotonic() < until:
+        pass
+    server.process.kill()
+    server.process.wait(20)
+
+
+@case
+def no_room_in_the_depot(folder):
+    """a message for which the blocks don't do: 452, and the next one is stored"""
+    with Server(folder, ["anna"], 1, "--lanes", 1, "--blocks", 2) as server:
+        with Client(server.address).greet() as client:
+            equal(client.deliver(["anna"], "x" * 1500)[1], ["452 4.3.1 No room for anna"])
+            equal(client.deliver(["anna"], "hello")[1], ["250 2.0.0 Stored for anna"])
+            equal(client.quit(), "221 2.0.0 mx.example closing")
+        equal(vars(server.end()), {"status": 0, "said": ["anna stored 1"], "errors": []})

@@ -1,0 +1,101 @@
+"""What the program says to words that it can't use, and the status that it ends with."""
+
+from cases import case, equal
+from server import run, taken_port, words
+
+MANY = [f"box{number}" for number in range(65)]
+GOOD, BAD = "127.0.0.1:0", "127.0.0.1"
+# Each row breaks the rule that is named, keeps those above it, and where it can breaks some below it:
+# the status, the line, the host, what to listen on, further words, the mailboxes.
+ROWS = [
+    (2, "bad address", "mx_example", BAD, [], ["Anna"]),
+    (2, "bad address", "mx.example", "localhost:24", [], ["anna"]),
+    (2, "bad address", "mx.example", "127.0.0.1:65536", [], ["anna"]),
+    (2, "bad address", "mx.example", "::1:24", [], ["anna"]),
+    (2, "port 25", "mx_example", "127.0.0.1:25", [], ["Anna"]),
+    (2, "port 25", "mx.example", "[::1]:25", [], ["anna"]),
+    (2, "bad host", "mx_example", GOOD, ["--domains", "a_b"], ["Anna"]),
+    (2, "bad domain", "mx.example", GOOD, ["--domains", "a.example,b_c"], ["Anna"]),
+    (2, "bad box", "mx.example", GOOD, [], ["anna", "anna", ".ben"]),
+    (2, "bad box", "mx.example", GOOD, [], [*MANY[1:], "Anna"]),
+    (2, "too many boxes", "mx.example", GOOD, [], MANY),
+    (2, "too many boxes", "mx.example", GOOD, [], [*MANY, "box1"]),
+    (2, "box named twice", "mx.example", GOOD, ["--lanes", 17], ["anna", "ben", "anna"]),
+]
+# Where the folder has a folder in anna's place, and PORT is taken.
+LATER_ROWS = [
+    ("cannot open anna.mbox", "PORT", ["--lanes", 17], ["ben", "anna", "carl"]),
+    ("cannot listen", "PORT", ["--lanes", 17], ["ben"]),
+    ("size", GOOD, ["--lanes", 17], ["ben"]),
+    ("size", GOOD, ["--lanes", 0], ["ben"]),
+    ("size", GOOD, ["--blocks", 0], ["ben"]),
+    ("size", GOOD, ["--blocks", 65537], ["ben"]),
+    ("size", GOOD, ["--capacity", 0], ["ben"]),
+    ("size", GOOD, ["--capacity", 1025], ["ben"]),
+]
+# Numbers, and words that are missing or unknown: clap has texts of its own.
+NUMBERS = [
+    ("--connections", 0),
+    ("--connections", 1_000_001),
+    ("--connections", "x"),
+    ("--reads", 0),
+    ("--reads", 4_294_967_295),
+    ("--timeout", 0),
+    ("--timeout", 86_401),
+    ("--lanes", "-1"),
+    ("--shout", 1),
+]
+
+
+def wants(given, status, line):
+    ended = run(given)
+    equal((ended.status, ended.errors, ended.said), (status, [f"lmtpd: {line}"], []))
+
+
+@case
+def the_words_in_order(folder):
+    """words that can't be used: one line, in the order of the tests, status 2, and no mailbox is made"""
+    for status, line, host, listen, more, boxes in ROWS:
+        wants(words(folder, boxes, 1, *more, listen=listen, host=host), status, line)
+    equal(list(folder.iterdir()), [])
+
+
+@case
+def what_the_machine_refuses(folder):
+    """a file, then the port, then a size that can't be used: one line, status 1"""
+    (folder / "anna.mbox").mkdir()
+    listener, port = taken_port()
+    with listener:
+        for line, listen, more, boxes in LATER_ROWS:
+            wants(words(folder, boxes, 1, *more, listen=listen.replace("PORT", f"127.0.0.1:{port}")), 1, line)
+    equal(sorted(path.name for path in folder.iterdir()), ["anna.mbox", "ben.mbox"])
+
+
+@case
+def no_folder(folder):
+    """a folder that isn't there: the first mailbox can't be opened, status 1"""
+    wants(words(folder / "none", ["anna"], 1), 1, "cannot open anna.mbox")
+
+
+@case
+def numbers_out_of_range(folder):
+    """numbers and words that clap refuses: a text of clap's, status 2"""
+    good = words(folder, ["anna"], 1)
+    for name, value in NUMBERS:
+        given = good + [name, str(value)]
+        if name == "--connections":
+            given = words(folder, ["anna"], value)
+        ended = run(given)
+        equal((name, value, ended.status, ended.said), (name, value, 2, []))
+        assert ended.errors[0].startswith("error:"), ended.errors
+    for missing in ["--host", "--listen", "--dir", "--connections"]:
+        at = good.index(missing)
+        equal((missing, run(good[:at] + good[at + 2 :]).status), (missing, 2))
+    equal(run(good[:-1]).status, 2)
+
+
+@case
+def help_is_no_refusal(_folder):
+    """--help: status 0, and nothing on standard error"""
+    ended = run(["serve", "--help"])
+    equal((ended.status, ended.errors), (0, []))

@@ -1,0 +1,11 @@
+"""All cases of this folder, for tests/serve.sh."""
+
+import sys
+
+import conversations  # noqa: F401  (each adds its cases)
+import deliveries  # noqa: F401
+import files  # noqa: F401
+import refusals  # noqa: F401
+from cases import run_all
+
+sys.exit(0 if run_all(sys.argv[1:]) else 1)

@@ -1,0 +1,99 @@
+#!/usr/bin/env bash
+# From the first client taken until the last has left the process takes no memory. Starts `serve` with 4
+# lanes, waits until all its threads wait, attaches `strace` for the calls that take memory, give it back or
+# start a thread, and has bench/serve/load.rs deliver over 10,000 copies in about a thousand conversations, 4
+# at once: 2 KiB to one mailbox, 20 KiB to ten, 1 MiB to one. strace may see none of these calls, and the size
+# of the process must stay the same. What is resident grows where pages that were taken at the start are used
+# for the first time: that may come to 256 KiB at most behind the first copies of all sizes. Says what it
+# counted. Where strace isn't there that is said, and sizes alone are compared. LMTPD names a program that is
+# built already.
+# usage: tests/serve_memory.sh
+set -euo pipefail
+cd "$(dirname "$0")/.."
+if [ -z "${LMTPD:-}" ]; then
+    make -s build
+    LMTPD=$PWD/crates/lmtpd/out/lmtpd
+fi
+folder=$(mktemp -d)
+server='' tracer=''
+trap 'kill $tracer $server 2> /dev/null || true; wait; rm -rf "$folder"' EXIT
+LANES=4 BOXES=10
+
+fail() {
+    echo "FAIL: $1" >&2
+    exit 1
+}
+
+# until SECONDS COMMAND..: the command holds within so many seconds.
+until_holds() {
+    local tries=$(($1 * 20))
+    shift
+    until "$@"; do
+        ((tries-- > 0)) || fail "$* doesn't hold"
+        sleep 0.05
+    done
+}
+
+# kilobytes NAME: what the system says of the server's memory.
+kilobytes() { awk -v name="$1:" '$1 == name { print $2 }' "/proc/$server/status"; }
+
+# All threads wait: the main one, the lanes, and a worker for each mailbox.
+all_wait() {
+    local states
+    states=$(cat /proc/"$server"/task/*/status | awk '$1 == "State:" { print $2 }')
+    [ "$(wc -l <<< "$states")" = $((1 + LANES + BOXES)) ] && ! grep -qv S <<< "$states"
+}
+
+# deliver CONVERSATIONS MESSAGES RECIPIENTS SIZE: on each of 4 connections so many conversations.
+deliver() {
+    timeout 120 "$folder/load" "$address" m 4 "$@" "$BOXES" > /dev/null || fail "a reply is wrong"
+    conversations=$((conversations + 4 * $1))
+    copies=$((copies + 4 * $1 * $2 * $3))
+}
+
+# take_turns SHARE: all sizes, so many times as often.
+take_turns() {
+    deliver $((8 * $1)) 5 1 2048
+    deliver $((2 * $1)) 3 10 20480
+}
+
+rustc -O -o "$folder/load" bench/serve/load.rs
+conversations=0 copies=0
+mapfile -t boxes < <(seq -f 'u%g' 0 $((BOXES - 1)))
+"$LMTPD" serve --host mx.example --listen 127.0.0.1:0 --dir "$folder" --connections 1000000 --lanes $LANES \
+    "${boxes[@]}" > "$folder/output" &
+server=$!
+until_holds 10 grep -qs '^listening on ' "$folder/output"
+address=$(sed -n 's/^listening on //p' "$folder/output")
+until_holds 10 all_wait
+
+if command -v strace > /dev/null; then
+    calls=mmap,brk,munmap,mremap,clone,clone3
+    strace -f -qq -e trace=$calls -e signal=none -o "$folder/trace" -p "$server" &
+    tracer=$!
+    until_holds 10 grep -q "^TracerPid:	$tracer$" "/proc/$server/status"
+else
+    echo "strace isn't installed: sizes alone are compared"
+fi
+size=$(kilobytes VmSize) before=$(kilobytes VmRSS)
+take_turns 1
+deliver 1 3 1 1048576
+early=$(kilobytes VmRSS) early_copies=$copies
+take_turns 24
+late=$(kilobytes VmRSS)
+if [ -n "$tracer" ]; then
+    # It writes what it saw when it leaves.
+    kill "$tracer"
+    wait "$tracer" || true
+    tracer=''
+    calls=$(wc -l < "$folder/trace")
+    echo "calls that take or give back memory, or start a thread: $calls"
+    [ "$calls" = 0 ] || fail "$(head -3 "$folder/trace")"
+fi
+stored=$(grep -hac '^Message-ID: <m[.]' "$folder"/*.mbox | awk '{ count += $1 } END { print count + 0 }')
+echo "$conversations conversations, $copies copies, $stored in the mailboxes"
+echo "size of the process: $size KiB before the first client, $(kilobytes VmSize) KiB at the end"
+echo "resident: $before KiB before the first client, $early behind $early_copies copies, $late at the end"
+[ "$stored" = "$copies" ] || fail 'copies are missing'
+[ "$(kilobytes VmSize)" = "$size" ] || fail 'the size of the process changed'
+[ $((late - early)) -le 256 ] || fail 'what is resident grows'
