@@ -4,6 +4,8 @@
 mod house;
 
 pub use house::{HouseFault, HouseReport, Sizes, Tally, is_size, run_house};
-pub use lmtp_lane::{Clock, Desk, LaneReport, Visits, lane_run};
-pub use lmtp_lane::{ReadBuffer, SystemClock, TcpPeer, TcpVisits, TimedListener, tcp_visits};
+pub use lmtp_lane::{
+    Clock, Desk, LaneReport, ReadBuffer, SystemClock, TcpPeer, TcpVisits, TimedListener, Visits,
+    lane_run, tcp_visits,
+};
 pub use lmtp_talk::{Came, Delivery, Dialogue, EndCause, Outbox, Peer, PeerFault, serve};

@@ -1,6 +1,6 @@
 -- What follows from the program's command line.
 use Rattle.std.proofs.Common.{◌≡◌, ◌∙◌, ap, ap₂, sym, subst, refl, true, codes, List, Option, Some, None}
-use Rattle.std.specs.Prelude.{Box, option_map, MatchOption}
+use Rattle.std.specs.Prelude.{Box, option_map}
 use Rattle.std.specs.Box.{box_value}
 use Rattle.clap.specs.Words.{Row, Text, is_simple, subcommand_rows}
 use Rattle.clap.specs.Faults.{is_simple_and_free}
@@ -9,7 +9,6 @@ use Rattle.clap.specs.declared.parser.matches.SubCommand.{SubCommand}
 use Rattle.clap.proofs.OnLiterals.{clap_on_literals}
 use Rattle.lmtpd.specs.CommandLine.{program_app}
 use Rattle.lmtpd.specs.Words.{IsAsked, IsLacking, IsRehearseRead, IsServeRead, LacksRehearse, LacksServe}
-use Rattle.lmtpd.specs.declared.words.Words.{Words}
 use Rattle.lmtpd.specs.declared.words.Words.TheVariants.{Rehearse, Serve}
 use Rattle.lmtpd.specs.declared.words.RehearseWords.{RehearseWords}
 use Rattle.lmtpd.specs.declared.words.ServeWords.{ServeWords}
