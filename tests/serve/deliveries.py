@@ -119,6 +119,7 @@ def more_domains(folder):
     """further domains are served, and no others"""
     with Server(folder, ["anna"], 1, "--lanes", 1, "--domains", "a.example,b.example") as server:
         with smtplib.LMTP(*server.address, local_hostname="relay.example", timeout=20) as client:
+            client.ehlo()
             served = [("a.example", 250), ("b.example", 250), ("mx.example", 250), ("c.example", 550)]
             for domain, code in served:
                 client.mail("carl@a.example")
