@@ -1,10 +1,11 @@
 """Real clients deliver, and other programs read what is in the mailboxes."""
 
+import os
 import shutil
 import smtplib
 import socket
-import subprocess
 import stat
+import subprocess
 
 import letters
 from cases import Absent, case, equal
@@ -15,7 +16,7 @@ HARD_LINES = ["Subject: hard lines", "", "From here on", ">From there", "..a dot
 
 
 def installed(name):
-    path = shutil.which(name, path=f"{shutil.os.environ['PATH']}:/usr/sbin")
+    path = shutil.which(name, path=f"{os.environ['PATH']}:/usr/sbin")
     if path is None:
         raise Absent(f"{name} isn't installed")
     return path
