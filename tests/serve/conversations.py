@@ -1,5 +1,6 @@
 """Clients at once, clients that go away, and clients that say nothing or too much."""
 
+import select
 import socket
 import time
 
@@ -185,21 +186,14 @@ def one_client_more(folder):
 def more_clients_than_lanes(folder):
     """clients beyond the lanes wait for one: of 12 at once on 2 lanes each is served"""
     with Server(folder, ["anna"], 12, "--lanes", 2) as server:
-        clients = [Client(server.address) for _ in range(12)]
-        waiting = clients
+        waiting = [Client(server.address) for _ in range(12)]
         while waiting:
-            # whoever is greeted
-            for client in list(waiting):
-                client.socket.setblocking(True)
-                client.socket.settimeout(0.05)
-                try:
-                    client.socket.recv(1, socket.MSG_PEEK)
-                except TimeoutError:
-                    continue
-                client.socket.settimeout(20)
+            greeted, _, _ = select.select([client.socket for client in waiting], [], [], 20)
+            assert greeted, f"{len(waiting)} wait for a lane"
+            for client in [one for one in waiting if one.socket in greeted]:
                 client.greet()
                 equal(client.deliver(["anna"], "x")[1], ["250 2.0.0 Stored for anna"])
                 equal(client.quit(), CLOSING)
-                client.leave()
                 waiting.remove(client)
+                client.leave()
         equal(vars(server.end()), {"status": 0, "said": ["anna stored 12"], "errors": []})

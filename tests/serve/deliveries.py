@@ -1,10 +1,11 @@
 """Real clients deliver, and other programs read what is in the mailboxes."""
 
+import os
 import shutil
 import smtplib
 import socket
-import subprocess
 import stat
+import subprocess
 
 import letters
 from cases import Absent, case, equal
@@ -15,7 +16,7 @@ HARD_LINES = ["Subject: hard lines", "", "From here on", ">From there", "..a dot
 
 
 def installed(name):
-    path = shutil.which(name, path=f"{shutil.os.environ['PATH']}:/usr/sbin")
+    path = shutil.which(name, path=f"{os.environ['PATH']}:/usr/sbin")
     if path is None:
         raise Absent(f"{name} isn't installed")
     return path
@@ -119,6 +120,7 @@ def more_domains(folder):
     """further domains are served, and no others"""
     with Server(folder, ["anna"], 1, "--lanes", 1, "--domains", "a.example,b.example") as server:
         with smtplib.LMTP(*server.address, local_hostname="relay.example", timeout=20) as client:
+            client.ehlo()
             served = [("a.example", 250), ("b.example", 250), ("mx.example", 250), ("c.example", 550)]
             for domain, code in served:
                 client.mail("carl@a.example")

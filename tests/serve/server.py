@@ -19,7 +19,11 @@ class Server:
     def __init__(self, folder, boxes, connections, *more, listen="127.0.0.1:0"):
         self.folder = folder
         self.process = start(words(folder, boxes, connections, *more, listen=listen))
-        self.first = self.process.stdout.readline()
+        try:
+            self.first = self.process.stdout.readline()
+        except BaseException:
+            self.__exit__()
+            raise
 
     def __enter__(self):
         return self
