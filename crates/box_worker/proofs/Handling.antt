@@ -6,7 +6,7 @@ use Rattle.mail_world.specs.declared.Note.{Note}
 use Rattle.mail_world.specs.declared.Slip.{Slip}
 use Rattle.mail_world.specs.declared.Outcome.{Outcome}
 use Rattle.mail_world.specs.declared.Outcome.TheVariants.{Stored, Failed, NoRoom, TooLarge}
-use Rattle.mail_world.specs.Events.{slip_of}
+use Rattle.mail_world.specs.Slips.{slip_of}
 use Rattle.mail_world.specs.Records.{Calendar, record_of}
 use Rattle.mail_world.proofs.Accepted.{get_set}
 use Rattle.mail_post.specs.Line.{Lane}

@@ -33,16 +33,16 @@ pub record HasNotKept (old new : SpoolState) (text : List ℕ) : Type 0 where
   pub covered : new.synced ≡ old.synced
 
 -- a mailbox: its spool, how many copies were stored, and whether the spool failed
-pub record Kept : Type 0 where
+pub record MailboxState : Type 0 where
   pub state : SpoolState
   pub stored : ℕ
   pub faulty : Bool
 
-abbrev pub kept : SpoolState → ℕ → Bool → Kept
+abbrev pub kept : SpoolState → ℕ → Bool → MailboxState
 kept state stored faulty = record { state = state; stored = stored; faulty = faulty }
 
 -- what a copy with that record makes of a mailbox, by what its lane is told: a mailbox whose spool failed is left alone
-abbrev pub TakesCopy : List ℕ → Outcome → Kept → Kept → Type 0
+abbrev pub TakesCopy : List ℕ → Outcome → MailboxState → MailboxState → Type 0
 TakesCopy text Stored old new = (old.faulty ≡ false) × (new.faulty ≡ false) × (new.stored ≡ counted (old.stored + 1)) × HasKept old.state new.state text
 TakesCopy text Failed old new = (new.faulty ≡ true) × (new.stored ≡ old.stored)
     × (((old.faulty ≡ true) × (new.state ≡ old.state)) ⊎ ((old.faulty ≡ false) × HasNotKept old.state new.state text))

@@ -4,7 +4,7 @@ use Rattle.mail_world.specs.declared.Txn.{Txn}
 use Rattle.mail_world.specs.declared.Note.{Note}
 use Rattle.mail_world.specs.declared.Outcome.{Outcome}
 use Rattle.mail_world.specs.declared.Slip.{Slip}
-use Rattle.mail_world.specs.Runs.{slips_from}
+use Rattle.mail_world.specs.Slips.{slips_from}
 use Rattle.mail_post.specs.Line.{Lane}
 
 -- the number of the worker whose senders these are

@@ -7,7 +7,7 @@ ghost use Rattle.mbox_rd.specs.Spool.{HasTaken, HasFailed};
 ghost use Rattle.mbox_rd.specs.Writing.{WritesPiece, FailsPiece};
 ghost use Rattle.box_worker.specs.Stored.{HasKept, HasNotKept};
 
-use mail_world::limits::BLOCK_SIZE;
+use mail_world::limits::WORKER_BUFFER_SIZE;
 use mbox_rd::{Envelope, RecordWriter, Spool, SpoolFault};
 use msg_depot::{Depot, DepotName, Hold};
 use std::sync::Wait;
@@ -47,7 +47,7 @@ fn append_record<N: DepotName, S: Spool, R: Wait>(
     written.end(spool)
 }
 
-// Gives the writer the whole message, at most a block's bytes at a time.
+// Gives the writer the whole message, a buffer of it at a time.
 fn append_message<N: DepotName, S: Spool, R: Wait>(
     rt: &R,
     spool: &mut S,
@@ -60,7 +60,7 @@ fn append_message<N: DepotName, S: Spool, R: Wait>(
     ensures hold { hold.new ≡ hold.old }
 {
     let mut writer = begun;
-    let mut bytes = [0; BLOCK_SIZE];
+    let mut bytes = [0; WORKER_BUFFER_SIZE];
     let mut at = 0;
     let mut n = depot.read(rt, hold, at, &mut bytes);
     while n > 0 {

@@ -9,7 +9,7 @@ use Rattle.mail_world.specs.declared.Slip.{Slip}
 use Rattle.mail_world.specs.Site.{Site}
 use Rattle.mail_world.specs.Conversation.{Conversation}
 use Rattle.mail_world.specs.Lists.{due, copies, transactions}
-use Rattle.mail_world.specs.Runs.{IsMerged}
+use Rattle.mail_world.specs.Slips.{IsMerged}
 use Rattle.mail_post.specs.Line.{Line, Lane, Inbox, taken}
 use Rattle.lmtp_talk.specs.Peer.{PeerState}
 use Rattle.lmtp_lane.specs.LaneExchange.{for_box}

@@ -6,7 +6,7 @@ use Rattle.std.specs.Option.{IfSome}
 use Rattle.std.proofs.lemmas.Grind.{flat_map-append}
 use Rattle.std.proofs.lemmas.Bool.Decides.{nat_tests}
 use Rattle.mail_world.specs.declared.Txn.{Txn}
-use Rattle.mail_world.specs.Slips.{names, answer}
+use Rattle.mail_world.specs.Slips.{names, answer, txn_of}
 use Rattle.mail_world.specs.declared.Note.{Note}
 use Rattle.mail_world.specs.declared.Outcome.{Outcome}
 use Rattle.mail_world.specs.declared.Slip.{Slip}
@@ -14,7 +14,6 @@ use Rattle.mail_world.specs.declared.Verdict.{Verdict}
 use Rattle.mail_world.specs.declared.Verdict.TheVariants.{Whole, TooLarge, NoRoom}
 use Rattle.mail_world.specs.declared.limits.TheConstants.{MESSAGE_LIMIT, NUMBER_LIMIT}
 use Rattle.mail_world.specs.Session.{Session}
-use Rattle.mail_world.specs.Events.{txn_of}
 use Rattle.mail_world.specs.Lists.{Transaction, VerdictFits, OutcomesIn, copies, copies_if, copies_from}
 use Rattle.mail_world.proofs.Heard.{all_more}
 use Rattle.msg_depot.specs.declared.view.Claim.{Claim}

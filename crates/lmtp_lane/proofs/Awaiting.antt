@@ -7,12 +7,10 @@ use Rattle.mail_world.specs.declared.Note.{Note}
 use Rattle.mail_world.specs.declared.Slip.{Slip}
 use Rattle.std.specs.Prelude.{slice_get, find, option_map, count_by}
 use Rattle.std.specs.List.{range_with_len}
-use Rattle.mail_world.specs.Slips.{names, times_named, answer, answers}
+use Rattle.mail_world.specs.Slips.{names, times_named, answer, answers, Gather, gathered, place_outcome, is_same_txn, own_slip, txn_of}
 use Rattle.mail_world.proofs.GivenAway.{count-cons}
 use Rattle.mail_world.specs.declared.Outcome.{Outcome}
-use Rattle.mail_world.specs.House.{Gather, gathered, place_outcome, is_same_txn}
 use Rattle.mail_world.specs.Session.{Session}
-use Rattle.mail_world.specs.Events.{own_slip, txn_of}
 use Rattle.mail_world.specs.Lists.{Transaction, copies_from}
 use Rattle.mail_post.specs.Line.{Lane, Inbox, taken}
 use Rattle.mail_post.specs.Gathering.{HasGathered, IsAwaited}

@@ -4,10 +4,8 @@ use Rattle.mail_world.specs.declared.Outcome.{Outcome}
 use Rattle.mail_world.specs.declared.Txn.{Txn}
 use Rattle.mail_world.specs.declared.Note.{Note}
 use Rattle.mail_world.specs.declared.Slip.{Slip}
-use Rattle.mail_world.specs.House.{Gather}
 use Rattle.mail_world.specs.Session.{Session}
-use Rattle.mail_world.specs.Events.{txn_of}
-use Rattle.mail_world.specs.Slips.{answers}
+use Rattle.mail_world.specs.Slips.{answers, Gather, txn_of}
 use Rattle.mail_world.specs.Lists.{copies_from}
 use Rattle.mail_post.specs.Line.{Lane, Inbox, taken}
 use Rattle.mail_post.specs.Gathering.{HasGathered}

@@ -7,9 +7,7 @@ use Rattle.std.proofs.lemmas.List.Elements.{filter-append}
 use Rattle.mail_world.specs.declared.Txn.{Txn}
 use Rattle.mail_world.specs.declared.Note.{Note}
 use Rattle.mail_world.specs.declared.Slip.{Slip}
-use Rattle.mail_world.specs.House.{Gather}
-use Rattle.mail_world.specs.Events.{own_slip, txn_of}
-use Rattle.mail_world.specs.Runs.{IsMerged}
+use Rattle.mail_world.specs.Slips.{Gather, own_slip, txn_of, IsMerged}
 use Rattle.mail_world.specs.Slips.{times_named}
 use Rattle.mail_world.proofs.Accepted.{get_set}
 use Rattle.mail_world.proofs.Heard.{all_more}

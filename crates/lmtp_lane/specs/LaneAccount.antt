@@ -9,8 +9,7 @@ use Rattle.mail_world.specs.declared.Verdict.{Verdict}
 use Rattle.mail_world.specs.declared.Verdict.TheVariants.{Whole, TooLarge, NoRoom}
 use Rattle.mail_world.specs.declared.limits.TheConstants.{MESSAGE_LIMIT, NUMBER_LIMIT}
 use Rattle.mail_world.specs.Session.{Session}
-use Rattle.mail_world.specs.Slips.{answers}
-use Rattle.mail_world.specs.Events.{txn_of}
+use Rattle.mail_world.specs.Slips.{answers, txn_of}
 use Rattle.mail_world.specs.Lists.{Transaction, VerdictFits, OutcomesIn, copies, copies_from}
 use Rattle.mail_post.specs.Line.{Lane, Inbox, taken}
 use Rattle.msg_depot.specs.declared.view.Claim.{Claim}

@@ -5,12 +5,9 @@ use Rattle.mail_world.specs.declared.Txn.{Txn}
 use Rattle.mail_world.specs.declared.Note.{Note}
 use Rattle.mail_world.specs.declared.Slip.{Slip}
 use Rattle.mail_world.specs.declared.Verdict.TheVariants.{Whole}
-use Rattle.mail_world.specs.House.{Gather}
 use Rattle.mail_world.specs.Session.{Session}
 use Rattle.mail_world.specs.Lists.{Transaction, copies_from}
-use Rattle.mail_world.specs.Events.{own_slip, txn_of}
-use Rattle.mail_world.specs.Runs.{IsMerged}
-use Rattle.mail_world.specs.Slips.{times_named}
+use Rattle.mail_world.specs.Slips.{times_named, Gather, own_slip, txn_of, IsMerged}
 use Rattle.mail_post.specs.Line.{Lane, Inbox, taken}
 use Rattle.mail_post.specs.Gathering.{HasGathered}
 

@@ -1,11 +1,10 @@
 //! A lane's ends of the channels: copies go out to the mailboxes, and slips come back.
 
 ghost use Rattle.std.specs.Prelude.{◌≡◌, ◌≤◌, ◌<◌, ℕ, List, [], ◌∷◌, ◌++◌, length, map, slice_index, Some, IsOk, IsTrue, true, false};
-ghost use Rattle.mail_world.specs.declared.limits.TheConstants.{RECIPIENT_LIMIT as MOST};
 ghost use Rattle.mail_world.specs.declared.Note.{Note};
 ghost use Rattle.mail_world.specs.declared.Slip.{Slip as SlipValue};
 ghost use Rattle.mail_world.specs.declared.Txn.{Txn as TxnValue};
-ghost use Rattle.mail_world.specs.Events.{own_slip, txn_of};
+ghost use Rattle.mail_world.specs.Slips.{own_slip, txn_of};
 ghost use Rattle.mail_world.specs.Lists.{copies_from};
 ghost use Rattle.mail_post.specs.Gathering.{IsDone, HasGathered};
 ghost use Rattle.mail_post.specs.Line.{Lane, Inbox, taken};
@@ -33,7 +32,7 @@ pub struct Exchange<N: DepotName> {
     /// A channel was found gone.
     pub gone: bool,
     ghost of_lane: { AreOfLane lane senders.items },
-    ghost room: { MOST ≤ gather.limit },
+    ghost room: { RECIPIENT_LIMIT ≤ gather.limit },
 }
 
 // Offers the mailbox's channel a copy.
@@ -60,7 +59,7 @@ impl<N: DepotName> Exchange<N> {
         gather: Gather,
     ) -> Exchange<N>
         requires lane { AreOfLane lane senders.items }
-        requires room { MOST ≤ gather.limit }
+        requires room { RECIPIENT_LIMIT ≤ gather.limit }
         ensures { (result.lane ≡ lane) × (result.senders ≡ senders) × (result.slips ≡ slips) × (result.gone ≡ false) }
     {
         Exchange {

@@ -1,7 +1,6 @@
 //! A message on its way into the depot.
 
 ghost use Rattle.std.specs.Prelude.{◌≡◌, ◌≤◌, ◌++◌, ℕ, List, [], None, Some, IfOk, IfErr, IfSome};
-ghost use Rattle.mail_world.specs.declared.limits.TheConstants.{NUMBER_LIMIT as MOST};
 ghost use Rattle.mail_world.specs.declared.Verdict.TheVariants.{Whole};
 ghost use Rattle.lmtp_lane.specs.LaneAccount.{HoldsDraft, verdict_on};
 
@@ -70,7 +69,7 @@ impl<N: DepotName> Incoming<N> {
         number: u64,
     ) -> Result<Draft<N>, Verdict>
         ensures whole { IfOk result (λ draft. (self.old.draft ≡ Some draft) × (Whole ≡ verdict_on number self.old.size self.old.draft)) }
-        ensures number { IfOk result (λ _. number ≤ MOST) }
+        ensures number { IfOk result (λ _. number ≤ NUMBER_LIMIT) }
         ensures refused { IfErr result (λ verdict. verdict ≡ verdict_on number self.old.size self.old.draft) }
         ensures other { IfErr result (λ verdict. verdict ≡ Whole → ⊥) }
     {

@@ -1,7 +1,7 @@
 //! Lanes over a depot and channels of their own.
 
 ghost use Rattle.std.specs.Prelude.{◌≡◌, ◌≤◌, IfOk, [], ◌∷◌};
-ghost use Rattle.mail_world.specs.declared.limits.TheConstants.{BLOCK_LIMIT as MOST};
+ghost use Rattle.mail_world.specs.declared.limits.TheConstants.{BLOCK_LIMIT};
 ghost use Rattle.mail_post.specs.Line.{new_lanes};
 ghost use Rattle.lmtp_lane.specs.LaneExchange.{AreOfLane};
 
@@ -110,7 +110,7 @@ fn run<'a, R: Wait + Abort>(
     clients: Vec<Script<'a>>,
     others: Others,
 ) -> Result<Ran<'a>, Fail>
-    requires { (1 ≤ others.blocks) × (others.blocks ≤ MOST) }
+    requires { (1 ≤ others.blocks) × (others.blocks ≤ BLOCK_LIMIT) }
 {
     let blank = Blank::new(alloc, others.blocks, 2)?;
     run_over::<Brand, R>(rt, alloc, blank, clients, others)

@@ -12,7 +12,8 @@ use Rattle.mail_world.specs.Site.{Site}
 use Rattle.mail_world.specs.Session.{Session, fresh, Input, Stop}
 use Rattle.mail_world.specs.Replies.{reply_text, reply_texts}
 use Rattle.mail_world.specs.Conversation.{Conversation, Part, inputs_of, session_behind, replies_to, parts, stop_at, inputs, replies, IsAccount}
-use Rattle.mail_world.specs.Dispositions.{dispositions_of, HasNoPart}
+use Rattle.mail_world.specs.Dispositions.{dispositions_of}
+use Rattle.mail_world.proofs.Handled.{HasNoPart}
 use Rattle.mail_world.specs.Lists.{Transaction, is_content, accepted_after, transactions_of}
 use Rattle.mail_world.proofs.Handled.{replies_to-append}
 use Rattle.lmtp_session.specs.Steps.{MayStop}

@@ -6,7 +6,7 @@ use Rattle.mail_world.specs.declared.Verdict.TheVariants.{Whole, TooLarge, NoRoo
 use Rattle.mail_world.specs.declared.Reply.{Reply}
 use Rattle.mail_world.specs.Site.{Site}
 use Rattle.mail_world.specs.Replies.{reply_texts}
-use Rattle.mail_world.specs.Session.{Session, Step, DataEnded, Outcomes, step}
+use Rattle.mail_world.specs.Session.{Session, Transition, DataEnded, Outcomes, step}
 use Rattle.mail_world.specs.Conversation.{session_after, replies_to}
 use Rattle.mail_world.specs.Lists.{Transaction}
 use Rattle.lmtp_session.specs.declared.act.Act.{Act}
@@ -20,7 +20,7 @@ use Rattle.lmtp_talk.specs.Delivery.{EndsDraft}
 use Rattle.lmtp_talk.specs.Steps.{EndsData}
 
 -- an act says the replies of its step
-said_is : (act : Act) (st : Step) (kept : List Reply) → IsAct act st kept → said act kept ≡ st.replies
+said_is : (act : Act) (st : Transition) (kept : List Reply) → IsAct act st kept → said act kept ≡ st.replies
 said_is (Say reply) st kept h = sym h.says
 said_is ReadData st kept h = sym h.says
 said_is (Deliver n) st kept h = sym h.says
@@ -28,7 +28,7 @@ said_is (Answer n) st kept h = sym h.says
 said_is (Quit reply) st kept h = sym h.says
 
 -- the texts that were said are those of the step, at the site
-texts_are : (site : Site) (act : Act) (st : Step) (old : View) (new : View) → IsTaken old st act new → old.site ≡ site → reply_texts new.site (said act new.answers) ≡ reply_texts site st.replies
+texts_are : (site : Site) (act : Act) (st : Transition) (old : View) (new : View) → IsTaken old st act new → old.site ≡ site → reply_texts new.site (said act new.answers) ≡ reply_texts site st.replies
 texts_are site act st old new t e = ap (λ (x : Site). reply_texts x (said act new.answers)) (t.site ∙ e) ∙ ap (λ rs. reply_texts site rs) (said_is act st new.answers t.fits)
 
 pub whole_message : {D : Type 0} (HasCome : D → ℕ → List Transaction → Type 0) (IsDrafting : D → ℕ → List Transaction → List ℕ → Type 0)

@@ -11,10 +11,8 @@ use crate::dialogue::Dialogue;
 use crate::peer::Peer;
 use lmtp_session::Act;
 use lmtp_wire::{Dot, Got};
+use mail_world::limits::DATA_BUFFER_SIZE;
 use mail_world::{State, Verdict};
-
-/// The bytes of a message that a delivery is given at once.
-const MADE_SIZE: usize = 512;
 
 /// Handles all that was read, up to QUIT.
 pub fn handle<P: Peer, D: Delivery>(
@@ -124,7 +122,7 @@ fn take_data<P: Peer, D: Delivery>(
     ensures site { dialogue.new.session.site ≡ dialogue.old.session.site }
     ensures same { D.site delivery.new ≡ D.site delivery.old }
 {
-    let mut message = [0; MADE_SIZE];
+    let mut message = [0; DATA_BUFFER_SIZE];
     let fed = dialogue.dot.feed(rest, &mut message);
     delivery.piece(&message[..fed.made]);
     if fed.ended {

@@ -8,9 +8,7 @@ use Rattle.std.proofs.lemmas.Bool.{eq-eqb}
 use Rattle.std.proofs.lemmas.Bool.Decides.{eqb_tells}
 use Rattle.mail_world.specs.Text.{cr, lf, ends_in}
 use Rattle.mail_world.specs.Data.{without_dots}
-
-pub other_byte : (a b : ℕ) → a ≢ b → (a == b) ≡ false
-other_byte a b ne = elim (eqb_tells a b) [ inl same ↦ absurd (ne same.1) | inr other ↦ other.0 ]
+use Rattle.mail_world.proofs.OneLine.{other_byte}
 
 pub eqb_comm : (a b : ℕ) → (a == b) ≡ (b == a)
 eqb_comm a b = elim (eqb_tells a b) [

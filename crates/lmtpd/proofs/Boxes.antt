@@ -13,7 +13,7 @@ use Rattle.mbox_rd.specs.Spool.{SpoolState, IsFull}
 use Rattle.box_worker.specs.Stored.{HasStored}
 use Rattle.lmtp_house.specs.declared.house.report.Tally.{Tally}
 use Rattle.lmtpd.specs.declared.rehearse.parts.TheConstants.{MAILBOX_ROOM}
-use Rattle.lmtpd.specs.Mailboxes.{Kept, kept_all, kept_at, bytes_of_all, empty_spool, IsCalm}
+use Rattle.lmtpd.specs.Mailboxes.{MailboxContent, kept_all, kept_at, bytes_of_all, empty_spool, IsCalm}
 
 -- a spool in memory as every spool is seen
 abbrev pub state_of : MemorySpool → SpoolState
@@ -45,16 +45,16 @@ length-kept [] tallies e = refl
 length-kept (s ∷ spools) [] e = absurd (omega (arith, e))
 length-kept (s ∷ spools) (t ∷ tallies) e = ap suc (length-kept spools tallies (omega arith))
 
-pub bytes_are : (spools : List MemorySpool) (tallies : List Tally) → length tallies ≡ length spools → map (λ (k : Kept). k.bytes) (kept_all spools tallies) ≡ bytes_of_all spools
+pub bytes_are : (spools : List MemorySpool) (tallies : List Tally) → length tallies ≡ length spools → map (λ (k : MailboxContent). k.bytes) (kept_all spools tallies) ≡ bytes_of_all spools
 bytes_are [] tallies e = refl
 bytes_are (s ∷ spools) [] e = absurd (omega (arith, e))
 bytes_are (s ∷ spools) (t ∷ tallies) e = ap (λ l. s.bytes ∷ l) (bytes_are spools tallies (omega arith))
 
 -- none failed
-calm_behind : (k : Kept) (ks : List Kept) → IsCalm (k ∷ ks) → IsCalm ks
+calm_behind : (k : MailboxContent) (ks : List MailboxContent) → IsCalm (k ∷ ks) → IsCalm ks
 calm_behind k ks calm n h = calm (suc n) (omega arith)
 
-calm_front : (k : Kept) (ks : List Kept) → k.failed ≡ false → IsCalm ks → IsCalm (k ∷ ks)
+calm_front : (k : MailboxContent) (ks : List MailboxContent) → k.failed ≡ false → IsCalm ks → IsCalm (k ∷ ks)
 calm_front k ks e calm zero h = e
 calm_front k ks e calm (suc n) h = calm n (omega arith)
 

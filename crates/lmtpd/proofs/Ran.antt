@@ -8,15 +8,15 @@ use Rattle.std.proofs.lemmas.Bool.Decides.{nat_tests}
 use Rattle.mail_world.specs.declared.Note.{Note}
 use Rattle.mail_world.specs.declared.Outcome.{Outcome}
 use Rattle.mail_world.specs.declared.Slip.{Slip}
-use Rattle.mail_world.specs.Runs.{slips_from}
+use Rattle.mail_world.specs.Slips.{slips_from}
 use Rattle.mail_world.specs.Slips.{of_worker}
 use Rattle.mail_world.specs.declared.Outcome.TheVariants.{Stored, Failed}
 use Rattle.mail_world.specs.Failures.{Rises}
 use Rattle.mail_world.specs.Site.{Site}
 use Rattle.mail_world.specs.Session.{fresh}
 use Rattle.mail_world.specs.Conversation.{Disposition, Conversation, IsAccount, inputs, parts, replies}
-use Rattle.mail_world.specs.Lists.{Transaction, VerdictFits, OutcomesIn, of_lane, owed, due, transactions}
-use Rattle.mail_world.specs.Deliveries.{HoldsCopies, told, told_all}
+use Rattle.mail_world.specs.Lists.{Transaction, VerdictFits, OutcomesIn, of_lane, copies_owed, due, transactions}
+use Rattle.mail_world.specs.Deliveries.{HoldsCopies, outcomes_told, told_all}
 use Rattle.mail_world.proofs.Accounts.{account_told}
 use Rattle.mail_world.proofs.Deliveries.{holds_all}
 use Rattle.lmtp_text.specs.Calendar.{civil_at}
@@ -32,7 +32,7 @@ use Rattle.lmtpd.specs.declared.rehearse.client.OnlyClient.{OnlyClient}
 use Rattle.lmtpd.specs.declared.rehearse.client.OnlyClient.TheVariants.{Waiting, Over}
 use Rattle.lmtpd.specs.Account.{conversation, IsAllStored}
 use Rattle.lmtpd.specs.Client.{MayGive, told as told_by, is_over, IsOnlyOver}
-use Rattle.lmtpd.specs.Mailboxes.{Kept, kept_all, kept_at, bytes_of_all, empty_spool, texts_of_mailboxes, IsCalm}
+use Rattle.lmtpd.specs.Mailboxes.{MailboxContent, kept_all, kept_at, bytes_of_all, empty_spool, texts_of_mailboxes, IsCalm}
 use Rattle.lmtpd.specs.Rehearsal.{AreMailboxes, EndsFor, IsHeld, IsListed, IsRehearsed}
 use Rattle.lmtpd.proofs.Boxes.{state_of, get_some, get_same, kept_is, length-kept, bytes_are, none_failed, all_calm, is_full, holds_stored}
 use Rattle.lmtpd.proofs.Rising.{NumbersRise, numbers_rise}
@@ -53,12 +53,12 @@ only_one : (site : Site) (c : Conversation) → transactions site 0 (c ∷ []) �
 unfolding transactions
 only_one site c = append-nil (transactions_in site 0 c)
 
-due_is : (site : Site) (box : ℕ) (c : Conversation) → due site 0 box (c ∷ []) ≡ owed 0 box (transactions_in site 0 c)
+due_is : (site : Site) (box : ℕ) (c : Conversation) → due site 0 box (c ∷ []) ≡ copies_owed 0 box (transactions_in site 0 c)
 unfolding due
-due_is site box c = ap (λ ts. owed 0 box ts) (only_one site c)
+due_is site box c = ap (λ ts. copies_owed 0 box ts) (only_one site c)
 
-told_is : (site : Site) (box : ℕ) (c : Conversation) → told site box (c ∷ []) ≡ told_all box (transactions_in site 0 c)
-unfolding told
+told_is : (site : Site) (box : ℕ) (c : Conversation) → outcomes_told site box (c ∷ []) ≡ told_all box (transactions_in site 0 c)
+unfolding outcomes_told
 told_is site box c = ap (λ ts. told_all box ts) (only_one site c)
 
 rising : (site : Site) (c : Conversation) → NumbersRise 1 (transactions_in site 0 c)
@@ -147,7 +147,7 @@ record HaveWorked (site : Site) (ts : List Transaction) (heard : List Slip) (box
   answered : AllByRecursion (λ t. OutcomesIn 0 heard t t.disposition.verdict) ts
   known : AllByRecursion (λ slip. slip.worker < count) heard
   begun : (b : ℕ) → b < count → IsBegunBy (λ k. (boxes k).stored) heard ts b
-  taken : (b : ℕ) → b < count → (boxes b).taken ≡ owed 0 b ts
+  taken : (b : ℕ) → b < count → (boxes b).taken ≡ copies_owed 0 b ts
   each : (b : ℕ) → b < count → BoxAt site (boxes b) spools tallies b
   as_many : (length spools ≡ count) × (length tallies ≡ count)
 
@@ -157,24 +157,24 @@ delivered : (site : Site) (c : Conversation) (heard : List Slip) (boxes : ℕ �
     → AreMailboxes site c.bytes c.dispositions (kept_all spools tallies) faulty
 delivered site c heard boxes count spools tallies faulty is accounted h size faulty_is =
     let ts : List Transaction = transactions_in site 0 c in
-    let ks : List Kept = kept_all spools tallies in
+    let ks : List MailboxContent = kept_all spools tallies in
     let stored : ℕ → ℕ = λ k. (boxes k).stored in
     let some : 0 < 1 = omega arith in
     let as_many : length tallies ≡ length spools = h.as_many.1 ∙ sym h.as_many.0 in
     let told_it : map (λ t. t.disposition) ts ≡ c.dispositions = account_told site 0 c accounted in
     let calm : faulty ≡ false → IsCalm ks = λ f. none_failed spools tallies as_many (sym faulty_is ∙ f) in
     let many : length ks ≡ count = length-kept spools tallies as_many ∙ h.as_many.0 in
-    let H : Conversation → ℕ → List ℕ → Bool → Type 0 = λ x box bytes failed. HoldsCopies civil_at site.host (due site 0 box (x ∷ [])) (told site box (x ∷ [])) bytes failed in
+    let H : Conversation → ℕ → List ℕ → Bool → Type 0 = λ x box bytes failed. HoldsCopies civil_at site.host (due site 0 box (x ∷ [])) (outcomes_told site box (x ∷ [])) bytes failed in
     let each : (box : ℕ) → box < length site.boxes → H (conversation c.bytes c.dispositions) box (kept_at ks box).bytes (kept_at ks box).failed = λ box within.
     let low : box < count = omega (arith, size, within) in
     let at = h.each box low in
     let P : List Note → Type 0 = λ notes. HoldsCopies civil_at site.host notes (map (λ (note : Note). Stored) (take (stored box) notes) ++ map (λ (note : Note). Failed) (drop (stored box) notes)) at.spool.bytes at.tally.faulty in
-    let Q : List Outcome → Type 0 = λ os. HoldsCopies civil_at site.host (owed 0 box ts) os at.spool.bytes at.tally.faulty in
+    let Q : List Outcome → Type 0 = λ os. HoldsCopies civil_at site.host (copies_owed 0 box ts) os at.spool.bytes at.tally.faulty in
     let D : List Note → Type 0 = λ notes. HoldsCopies civil_at site.host notes (told_all box ts) at.spool.bytes at.tally.faulty in
     let T : List Outcome → Type 0 = λ os. HoldsCopies civil_at site.host (due site 0 box (c ∷ [])) os at.spool.bytes at.tally.faulty in
-    let K : Kept → Type 0 = λ k. H c box k.bytes k.failed in
+    let K : MailboxContent → Type 0 = λ k. H c box k.bytes k.failed in
     let C : Conversation → Type 0 = λ x. H x box (kept_at ks box).bytes (kept_at ks box).failed in
-    let first : P (owed 0 box ts) = subst P (h.taken box low) (holds_stored civil_at site.host at.spool (boxes box).taken (stored box) at.tally.faulty at.did.spool) in
+    let first : P (copies_owed 0 box ts) = subst P (h.taken box low) (holds_stored civil_at site.host at.spool (boxes box).taken (stored box) at.tally.faulty at.did.spool) in
     let told_so : Q (told_all box ts) = subst Q (sym (told_stored stored heard count 1 ts some (rising site c) h.answered h.known h.begun box)) first in
     subst C is (subst K (sym at.is) (subst T (sym (told_is site box c)) (subst D (sym (due_is site box c)) told_so))) in
     record {
@@ -183,14 +183,14 @@ delivered site c heard boxes count spools tallies faulty is accounted h size fau
       full = λ box within failed.
           let low : box < count = omega (arith, size, within) in
           let at = h.each box low in
-          ap (λ (k : Kept). length k.bytes) at.is
-          ∙ is_full civil_at site.host at.spool (boxes box).taken (stored box) at.tally.faulty at.did.spool (sym (ap (λ (k : Kept). k.failed) at.is) ∙ failed);
+          ap (λ (k : MailboxContent). length k.bytes) at.is
+          ∙ is_full civil_at site.host at.spool (boxes box).taken (stored box) at.tally.faulty at.did.spool (sym (ap (λ (k : MailboxContent). k.failed) at.is) ∙ failed);
       sound = (calm, λ quiet. faulty_is ∙ all_calm spools tallies as_many quiet);
       stored = λ f.
           let S : List Disposition → Type 0 = λ ds. AllByRecursion IsAllStored ds in
           subst S told_it (all_stored stored heard count ts h.answered h.known h.begun (λ b low.
           let at = h.each b low in
-          let sound : at.tally.faulty ≡ false = sym (ap (λ (k : Kept). k.failed) at.is) ∙ calm f b (omega (arith, many, low)) in
+          let sound : at.tally.faulty ≡ false = sym (ap (λ (k : MailboxContent). k.failed) at.is) ∙ calm f b (omega (arith, many, low)) in
           at.did.spool.all sound ∙ ap length (h.taken b low)));
       held = λ f box within.
           let failed : (kept_at ks box).failed ≡ false = calm f box (omega (arith, within, many, size)) in
@@ -221,7 +221,7 @@ module _ (site : Site) (moment : ℕ) {P : Type 0} (state : P → PeerState) (pe
       let many : length (replicate count empty_spool) ≡ count = length-replicate count empty_spool in
       let one : 0 < 1 = omega arith in
       let low_in : (b : ℕ) → b < count → b < length (replicate count empty_spool) = λ b low. omega (arith, many, low) in
-      let taken : (b : ℕ) → b < count → (h.boxes b).taken ≡ owed 0 b ts = λ b low.
+      let taken : (b : ℕ) → b < count → (h.boxes b).taken ≡ copies_owed 0 b ts = λ b low.
       sym (all_of_lane (h.boxes b).taken (h.owed_only b (low_in b low))) ∙ h.owed 0 b one (low_in b low) ∙ ap (λ l. due site 0 b l) is ∙ due_is site b c in
       let K : ℕ → Type 0 = λ n. AllByRecursion (λ slip. slip.worker < n) heard in
       record {
@@ -311,4 +311,4 @@ rehearsed site moment unread left before between after spools faulty cut end h w
 pub as_many_spools : (site : Site) (moment : ℕ) (unread left before between : Option (List ℕ)) (spools : List MemorySpool) (faulty : Bool) (end : EndCause)
     → IsHeld site moment unread left before between spools faulty end → length spools ≡ length site.boxes
 as_many_spools site moment unread left before between spools faulty end h =
-    sym (length-map spools (λ (x : MemorySpool). x.bytes)) ∙ ap length (sym h.holds) ∙ length-map h.mailboxes (λ (k : Kept). k.bytes) ∙ h.delivered.count
+    sym (length-map spools (λ (x : MemorySpool). x.bytes)) ∙ ap length (sym h.holds) ∙ length-map h.mailboxes (λ (k : MailboxContent). k.bytes) ∙ h.delivered.count

@@ -9,13 +9,13 @@ use Rattle.mbox_rd.specs.MemorySpool.{MemorySpool}
 use Rattle.mail_world.specs.Conversation.{Disposition, IsAccount, inputs, replies}
 use Rattle.mail_world.specs.Lists.{VerdictFits, transactions, due}
 use Rattle.mail_world.specs.Records.{mailbox}
-use Rattle.mail_world.specs.Deliveries.{HoldsCopies, told}
+use Rattle.mail_world.specs.Deliveries.{HoldsCopies, outcomes_told}
 use Rattle.lmtp_text.specs.Calendar.{civil_at}
 use Rattle.lmtp_talk.specs.declared.ending.EndCause.{EndCause}
 use Rattle.lmtp_talk.specs.declared.ending.EndCause.TheVariants.{Quit, EndOfInput, WriteFault, Stopped, ReadBound}
 use Rattle.lmtp_talk.specs.Served.{IsWritten, has_quit}
 use Rattle.lmtpd.specs.declared.rehearse.ending.Ending.{Ending}
-use Rattle.lmtpd.specs.Mailboxes.{Kept, kept_at, mailboxes_text, bytes_of_all, IsCalm}
+use Rattle.lmtpd.specs.Mailboxes.{MailboxContent, kept_at, mailboxes_text, bytes_of_all, IsCalm}
 use Rattle.lmtpd.specs.Account.{conversation, IsAllStored}
 
 -- the account of a conversation whose bytes were read: what became of its data, each at that moment
@@ -26,11 +26,11 @@ pub record IsAccountAt (site : Site) (moment : ℕ) (read : List ℕ) (account :
   pub verdicts : AllByRecursion VerdictFits (transactions site 0 (conversation read account ∷ []))
 
 -- the mailboxes, in the order of the site, by that account
-pub record AreMailboxes (site : Site) (read : List ℕ) (account : List Disposition) (mailboxes : List Kept) (faulty : Bool) : Type 0 where
+pub record AreMailboxes (site : Site) (read : List ℕ) (account : List Disposition) (mailboxes : List MailboxContent) (faulty : Bool) : Type 0 where
   pub count : length mailboxes ≡ length site.boxes
   -- each holds the records of its first copies, which were told Stored; once its spool failed, the others were told Failed
   pub each : (box : ℕ) → box < length site.boxes
-      → HoldsCopies civil_at site.host (due site 0 box (conversation read account ∷ [])) (told site box (conversation read account ∷ [])) (kept_at mailboxes box).bytes (kept_at mailboxes box).failed
+      → HoldsCopies civil_at site.host (due site 0 box (conversation read account ∷ [])) (outcomes_told site box (conversation read account ∷ [])) (kept_at mailboxes box).bytes (kept_at mailboxes box).failed
   -- a spool failed only once its room was used up
   pub full : (box : ℕ) → box < length site.boxes → (kept_at mailboxes box).failed ≡ true → length (kept_at mailboxes box).bytes ≡ MAILBOX_ROOM
   -- a rehearsal is faulty exactly where a spool failed
@@ -53,7 +53,7 @@ pub record IsRehearsed (site : Site) (moment : ℕ) (unread left before after : 
   pub input : Consumes unread left read
   pub account : List Disposition
   pub accounted : IsAccountAt site moment read account
-  pub mailboxes : List Kept
+  pub mailboxes : List MailboxContent
   pub delivered : AreMailboxes site read account mailboxes ending.faulty
   -- what was written of the replies, and then of the mailboxes
   pub said : List ℕ
@@ -69,7 +69,7 @@ pub record IsHeld (site : Site) (moment : ℕ) (unread left before after : Optio
   pub input : Consumes unread left read
   pub account : List Disposition
   pub accounted : IsAccountAt site moment read account
-  pub mailboxes : List Kept
+  pub mailboxes : List MailboxContent
   pub delivered : AreMailboxes site read account mailboxes faulty
   pub holds : map (λ k. k.bytes) mailboxes ≡ bytes_of_all spools
   pub said : List ℕ

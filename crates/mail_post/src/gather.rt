@@ -1,8 +1,7 @@
 //! The gatherer of a lane: the slips of one transaction come in any order, and its answers are in the order of the recipients.
 
 ghost use Rattle.std.specs.Prelude.{◌≡◌, ◌≤◌, ◌↔◌, List, [], ◌∷◌, ◌++◌, map, Some, ℕ, false, IsTrue, IsOk, IfOk, OnErr};
-ghost use Rattle.mail_world.specs.Slips.{answers};
-ghost use Rattle.mail_world.specs.House.{gather_for, gathered};
+ghost use Rattle.mail_world.specs.Slips.{answers, gather_for, gathered};
 ghost use Rattle.mail_post.specs.Gathering.{IsDone, IsStranger, IsOwn, IsDouble, IsAwaited, HasGathered, NoneNames};
 
 use mail_world::{Outcome, Slip, Txn};

@@ -27,8 +27,8 @@ abbrev pub told_all : ℕ → List Transaction → List Outcome
 told_all box ts = flat_map (told_of box) ts
 
 -- beside `due`: an outcome for each copy that the conversations owe the mailbox
-unfoldable pub told : Site → ℕ → List Conversation → List Outcome
-told site box cs = told_all box (transactions site 0 cs)
+unfoldable pub outcomes_told : Site → ℕ → List Conversation → List Outcome
+outcomes_told site box cs = told_all box (transactions site 0 cs)
 
 -- the text begins so
 pub record IsFront (front text : List ℕ) : Type 0 where

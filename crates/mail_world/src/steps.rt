@@ -8,8 +8,9 @@ ghost use Rattle.mail_world.specs.declared.Outcome.TheVariants.{Stored, Failed};
 ghost use Rattle.mail_world.specs.Records.{record_of};
 ghost use Rattle.mail_world.specs.Depot.{Key, Slot, Free, Sealed, HasRoom, held_under};
 ghost use Rattle.mail_world.specs.Depot as depot;
-ghost use Rattle.mail_world.specs.House.{House, Box, Lane, Copy, Hold, Transaction};
-ghost use Rattle.mail_world.specs.Events.{Step, MayHappen, HasCopy, BoxIs, LaneIs, slip_of};
+ghost use Rattle.mail_world.specs.House.{House, Box, Lane, Copy, Hold, SealedMessage};
+ghost use Rattle.mail_world.specs.Events.{Step, MayHappen, HasCopy, BoxIs, LaneIs};
+ghost use Rattle.mail_world.specs.Slips.{slip_of};
 ghost use Rattle.mail_world.specs.Runs.{InEveryRun};
 
 /// A lane that has a draft may add bytes to it where enough blocks are free, seal it and drop it, a hold of weight 1 may be released, and what became of a
@@ -47,8 +48,8 @@ pub fn wrong_steps_of_lanes_have_no_result()
     ensures seal_for_none { (h new : House) (k : ℕ) → Step h (Seal k 0) new → ⊥ }
     ensures split_of_one { (h new : House) (k i : ℕ) (lane : Lane) (hold : Hold) → LaneIs h k lane → slice_get lane.holds i ≡ Some hold → hold.weight ≤ 1 → Step h (Split k i) new → ⊥ }
     ensures offer_without_hold { (h new : House) (k : ℕ) (note : Note) (lane : Lane) → LaneIs h k lane → ((i : ℕ) (hold : Hold) → slice_get lane.holds i ≡ Some hold → hold.weight ≢ 1) → Step h (Offer k note) new → ⊥ }
-    ensures offer_of_other_bytes { (h new : House) (k : ℕ) (note : Note) (lane : Lane) → LaneIs h k lane → ((t : ℕ) (x : Transaction) → slice_get lane.transactions t ≡ Some x → x.number ≡ note.txn.number → x.message ≢ note.message) → Step h (Offer k note) new → ⊥ }
-    ensures offer_out_of_place { (h new : House) (k : ℕ) (note : Note) (lane : Lane) → LaneIs h k lane → ((t : ℕ) (x : Transaction) → slice_get lane.transactions t ≡ Some x → x.number ≡ note.txn.number → x.offered ≢ note.place) → Step h (Offer k note) new → ⊥ }
+    ensures offer_of_other_bytes { (h new : House) (k : ℕ) (note : Note) (lane : Lane) → LaneIs h k lane → ((t : ℕ) (x : SealedMessage) → slice_get lane.messages t ≡ Some x → x.number ≡ note.txn.number → x.message ≢ note.message) → Step h (Offer k note) new → ⊥ }
+    ensures offer_out_of_place { (h new : House) (k : ℕ) (note : Note) (lane : Lane) → LaneIs h k lane → ((t : ℕ) (x : SealedMessage) → slice_get lane.messages t ≡ Some x → x.number ≡ note.txn.number → x.offered ≢ note.place) → Step h (Offer k note) new → ⊥ }
     ensures offer_for_other_lane { (h new : House) (k : ℕ) (note : Note) → note.txn.lane ≢ k → Step h (Offer k note) new → ⊥ }
     ensures offer_when_closed { (h new : House) (k : ℕ) (note : Note) (box : Box) → BoxIs h note.mailbox box → box.closed ≡ true → Step h (Offer k note) new → ⊥ }
     ensures offer_when_full { (h new : House) (k : ℕ) (note : Note) (box : Box) → BoxIs h note.mailbox box → box.taken + h.capacity ≤ length box.accepted → Step h (Offer k note) new → ⊥ }

@@ -6,7 +6,7 @@ ghost use Rattle.lmtp_text.specs.Calendar.{civil_at};
 ghost use Rattle.mbox_rd.specs.Envelope.{head_text};
 ghost use Rattle.mbox_rd.specs.Spool.{HasTaken, HasFailed};
 ghost use Rattle.mbox_rd.specs.Steps.{written};
-ghost use Rattle.mbox_rd.specs.Writing.{owed, WritesPiece, FailsPiece};
+ghost use Rattle.mbox_rd.specs.Writing.{bytes_owed, WritesPiece, FailsPiece};
 
 use crate::append::{append_all, append_each};
 use crate::envelope::Envelope;
@@ -39,7 +39,7 @@ impl RecordWriter {
         envelope: &Envelope,
     ) -> Result<RecordWriter, SpoolFault>
         ensures ok { OnOk result (HasTaken (S.state spool.old) (S.state spool.new) (head_text civil_at host.now envelope.now)) }
-        ensures new { IfOk result (λ writer. (text : List ℕ) → owed writer text ≡ quoted_text (unix text)) }
+        ensures new { IfOk result (λ writer. (text : List ℕ) → bytes_owed writer text ≡ quoted_text (unix text)) }
         ensures err { OnErr result (HasFailed (S.state spool.old) (S.state spool.new) (head_text civil_at host.now envelope.now)) }
     {
         write_head(spool, host, envelope)?;
@@ -66,8 +66,8 @@ impl RecordWriter {
 
     /// Writes what is left of the message, with LF behind a last line that has none, and the empty line that ends a record.
     pub fn end<S: Spool>(self, spool: &mut S) -> Result<(), SpoolFault>
-        ensures ok { OnOk result (HasTaken (S.state spool.old) (S.state spool.new) (owed self [] ++ lf ∷ [])) }
-        ensures err { OnErr result (HasFailed (S.state spool.old) (S.state spool.new) (owed self [] ++ lf ∷ [])) }
+        ensures ok { OnOk result (HasTaken (S.state spool.old) (S.state spool.new) (bytes_owed self [] ++ lf ∷ [])) }
+        ensures err { OnErr result (HasFailed (S.state spool.old) (S.state spool.new) (bytes_owed self [] ++ lf ∷ [])) }
     {
         match self.pending {
             Pending::Start => append_all(spool, b"\n"),

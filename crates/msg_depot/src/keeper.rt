@@ -11,7 +11,7 @@ ghost use Rattle.msg_depot.specs.Entries.{entry_of, key_of, slot_behind, IsKeepe
 
 use crate::steps;
 use crate::token::{Board, DepotName, Draft, Hold, Place, Spent, seat_of};
-use crate::view::LAST_GENERATION;
+use mail_world::limits::LAST_GENERATION;
 use atomic_table::Badge;
 use block_arena::{Arena, ArenaFault, Key};
 use mail_world::limits::RECIPIENT_LIMIT;

@@ -5,7 +5,7 @@ ghost use Rattle.mail_world.specs.Session.{on_command, on_mail, on_rcpt, on_data
 ghost use Rattle.mail_world.specs.Targets.{box_of};
 ghost use Rattle.lmtp_text.specs.Seen.{seen_answer, seen_target};
 ghost use Rattle.lmtp_session.specs.Steps.{TakesLines, IsTaken};
-ghost use Rattle.lmtp_session.specs.Fits.{IsWithinLimits};
+ghost use Rattle.lmtp_session.specs.CommandLimits.{IsWithinLimits};
 
 use crate::act::Act;
 use crate::session::{Session, lists};

@@ -1,5 +1,5 @@
 use Rattle.std.proofs.Common.{refl, ap}
-use Rattle.mail_world.specs.Events.{own_slip}
+use Rattle.mail_world.specs.Slips.{own_slip}
 use Rattle.mail_post.specs.Gathering.{Gathering}
 use Rattle.lmtp_lane.proofs.Awaiting.{same_places, takes_open}
 use Rattle.lmtp_lane.proofs.exchange.Exchange.answer_failed.Goals as goal
