@@ -69,7 +69,8 @@ impl Arena {
         requires some_slot { 1 ≤ slots }
         requires few_slots { slots ≤ SLOT_LIMIT }
         requires generation { generation ≤ last_generation }
-        ensures slots { IfOk result (λ d. d.slots ≡ replicate slots (record { generation = generation; held = depot.Free })) }
+        ensures slots { IfOk result
+            (λ d. d.slots ≡ replicate slots (record { generation = generation; held = depot.Free })) }
         ensures free { IfOk result (λ d. length d.free ≡ blocks) }
         ensures once { IfOk result (λ d. HasEachBlockOnce blocks d) }
     {

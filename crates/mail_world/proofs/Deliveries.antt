@@ -1,15 +1,14 @@
 -- A mailbox takes one more copy, or is told that it is lost.
-use Rattle.std.proofs.Common.{◌≡◌, ℕ, suc, ◌+◌, List, [], ◌∷◌, ◌++◌, length, Bool, subst, true, false, cond, refl, sym, ap, ◌∙◌, arith, append_assoc}
-use Rattle.std.specs.Prelude.{not, map, filter, ◌==◌}
+use Rattle.std.proofs.Common.{◌≡◌, ℕ, List, [], ◌∷◌, ◌++◌, subst, false, refl, sym, ap, ◌∙◌}
+use Rattle.std.specs.Prelude.{not, map}
 use Rattle.std.proofs.lemmas.List.{append-nil, map-append}
 use Rattle.std.proofs.lemmas.Grind.{flat_map-append}
-use Rattle.std.proofs.lemmas.List.Elements.{filter-append}
 use Rattle.mail_world.specs.declared.Outcome.{Outcome}
 use Rattle.mail_world.specs.declared.Outcome.TheVariants.{Stored, Failed}
 use Rattle.mail_world.specs.declared.Note.{Note}
 use Rattle.mail_world.specs.Records.{Calendar, record_of, mailbox}
-use Rattle.mail_world.specs.Lists.{Transaction, copies_from}
-use Rattle.mail_world.specs.Deliveries.{outcomes_for, IsFront, is_none, IsTorn, HoldsCopies}
+use Rattle.mail_world.specs.Lists.{Transaction}
+use Rattle.mail_world.specs.Deliveries.{is_none, IsTorn, HoldsCopies}
 
 abbrev stored_all : List Note → List Outcome
 stored_all notes = map (λ note. Stored) notes

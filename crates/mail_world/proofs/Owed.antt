@@ -1,17 +1,14 @@
 -- The transactions of parts, one part at a time; what they owe a mailbox, and what was told of it.
 use Rattle.std.proofs.Common.{◌≡◌, ℕ, ◌+◌, List, [], ◌∷◌, ◌++◌, false, cond, refl, sym, ap, ◌∙◌}
-use Rattle.std.specs.Prelude.{filter, flat_map, ◌==◌, if◌then◌else◌}
+use Rattle.std.specs.Prelude.{flat_map, if◌then◌else◌}
 use Rattle.std.proofs.lemmas.List.{append-nil}
-use Rattle.std.proofs.lemmas.Grind.{flat_map-append}
-use Rattle.std.proofs.lemmas.List.Elements.{filter-append}
 use Rattle.mail_world.specs.Data.{message}
 use Rattle.mail_world.specs.Site.{Site}
 use Rattle.mail_world.specs.declared.Verdict.{Verdict}
 use Rattle.mail_world.specs.declared.Verdict.TheVariants as verdicts
 use Rattle.mail_world.specs.Session.{Session, fresh, DataEnded}
 use Rattle.mail_world.specs.Conversation.{Disposition, Part, CommandLine, MailData, inputs_of, outcomes_of, session_after, session_behind, parts}
-use Rattle.mail_world.specs.Lists.{Transaction, is_content, accepted_after, transactions_of, transactions, copies, copies_owed, due}
-use Rattle.mail_world.specs.Deliveries.{told_of, told_all, outcomes_told}
+use Rattle.mail_world.specs.Lists.{Transaction, is_content, accepted_after, transactions_of, transactions, copies_owed, due}
 use Rattle.mail_world.specs.Dispositions.{dispositions_of}
 use Rattle.mail_world.proofs.Handled.{session_after-append, account_of}
 

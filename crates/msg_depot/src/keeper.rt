@@ -183,10 +183,13 @@ impl<N: DepotName> Keeper<N> {
 
 // The slot of a joined draft, or of a joined message that nobody holds, is free with the next generation, or retired.
 fn free(board: &Board, seat: &mut Place, key: Key)
-    requires seat { (seat.old.table_id ≡ board.now.shared.table_id) × (seat.old.me ≡ (keeping seat.old.me.0.book seat.old.me.0.kind seat.old.me.0.claim, [])) }
-    requires slot { (word_of key.slot < board.now.shared.table_id.words) × (key.slot ≡ seat.old.me.0.claim.slot) × (key.generation ≡ seat.old.me.0.claim.generation) }
+    requires seat { (seat.old.table_id ≡ board.now.shared.table_id)
+        × (seat.old.me ≡ (keeping seat.old.me.0.book seat.old.me.0.kind seat.old.me.0.claim, [])) }
+    requires slot { (word_of key.slot < board.now.shared.table_id.words) × (key.slot ≡ seat.old.me.0.claim.slot)
+        × (key.generation ≡ seat.old.me.0.claim.generation) }
     requires over { IsOver seat.old.me.0.kind }
-    ensures { (seat.new.table_id ≡ seat.old.table_id) × (seat.new.me ≡ (resting (entered seat.old.me.0.book key.slot (entry_of (slot_behind key.generation))), [])) }
+    ensures { (seat.new.table_id ≡ seat.old.table_id)
+        × (seat.new.me ≡ (resting (entered seat.old.me.0.book key.slot (entry_of (slot_behind key.generation))), [])) }
 {
     let slot = key.slot;
     if key.generation < LAST_GENERATION {

@@ -18,7 +18,8 @@ impl Session {
     pub(crate) fn on_command(&mut self, answer: Result<Command, BadCommand>) -> Act
         requires state { TakesLines self.old.session.state }
         requires limits { IsWithinLimits (seen_answer answer) }
-        ensures step { IsTaken self.old (on_command self.old.site self.old.session (seen_answer answer.entry)) result self.new }
+        ensures step { IsTaken self.old
+            (on_command self.old.site self.old.session (seen_answer answer.entry)) result self.new }
         ensures no_memory { self.new.room ≡ self.old.room }
     {
         self.answers.clear();
@@ -68,7 +69,9 @@ impl Session {
     fn on_rcpt(&mut self, target: &Target) -> Act
         requires state { TakesLines self.old.session.state }
         requires no_answer { self.old.answers ≡ [] }
-        ensures step { IsTaken self.old (on_rcpt self.old.session.state self.old.session (box_of self.old.site (seen_target target.now))) result self.new }
+        ensures step { IsTaken self.old
+            (on_rcpt self.old.session.state self.old.session
+                (box_of self.old.site (seen_target target.now))) result self.new }
         ensures no_memory { self.new.room ≡ self.old.room }
     {
         match self.state {
