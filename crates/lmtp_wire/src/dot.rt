@@ -82,7 +82,7 @@ impl Dot {
         ensures rest { drop result.made out.new ≡ drop result.made out.old }
         ensures feeds { (taken made : List ℕ) → HasMade self.old taken made
             → Feeds self.new (taken ++ take result.used piece.now) (made ++ take result.made out.new) (length piece.now)
-                (length out.new) result }
+            (length out.new) result }
     {
         let mut fed = Fed {
             used: 0,

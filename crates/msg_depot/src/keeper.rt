@@ -11,10 +11,9 @@ ghost use Rattle.msg_depot.specs.Entries.{entry_of, key_of, slot_behind, IsKeepe
 
 use crate::steps;
 use crate::token::{Board, DepotName, Draft, Hold, Place, Spent, seat_of};
-use mail_world::limits::LAST_GENERATION;
 use atomic_table::Badge;
 use block_arena::{Arena, ArenaFault, Key};
-use mail_world::limits::RECIPIENT_LIMIT;
+use mail_world::limits::{LAST_GENERATION, RECIPIENT_LIMIT};
 use std::marker::{Brand, Model, PhantomData};
 use std::mem;
 use thiserror::Error;

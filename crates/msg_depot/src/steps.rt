@@ -23,8 +23,8 @@ pub fn take_in(board: &Board, seat: &mut Place, other: Place, slot: u32)
         × (seat.new.me ≡ (keeping seat.old.me.0.book other.me.0.kind other.me.0.claim, [])) }
     ensures agrees { other.me.0.kind ≢ Nothing
         → (other.me.0.claim.slot < length seat.old.me.0.book)
-            × (entry_at seat.old.me.0.book other.me.0.claim.slot
-                ≡ entry (phase_of other.me.0.kind) other.me.0.claim.generation other.me.0.claim.bytes) }
+        × (entry_at seat.old.me.0.book other.me.0.claim.slot
+        ≡ entry (phase_of other.me.0.kind) other.me.0.claim.generation other.me.0.claim.bytes) }
 {
     board.shared.join_seat::<In>(seat, other);
     board.shared.load::<Checks>(seat, word_at(slot));
