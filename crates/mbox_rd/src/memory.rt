@@ -87,7 +87,7 @@ impl Spool for MemorySpool {
         ensures within { IfOk result (λ n. (1 ≤ n) × (n ≤ length piece.now)) }
         ensures ok { IfOk result
             (λ n. HasTaken (⟦<MemorySpool as Spool>⟧.state self.old) (⟦<MemorySpool as Spool>⟧.state self.new)
-                (take n piece.now)) }
+            (take n piece.now)) }
         ensures err { OnErr result
             (HasFailed (⟦<MemorySpool as Spool>⟧.state self.old) (⟦<MemorySpool as Spool>⟧.state self.new) piece.now) }
     {

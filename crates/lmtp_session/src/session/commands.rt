@@ -71,7 +71,7 @@ impl Session {
         requires no_answer { self.old.answers ≡ [] }
         ensures step { IsTaken self.old
             (on_rcpt self.old.session.state self.old.session
-                (box_of self.old.site (seen_target target.now))) result self.new }
+            (box_of self.old.site (seen_target target.now))) result self.new }
         ensures no_memory { self.new.room ≡ self.old.room }
     {
         match self.state {

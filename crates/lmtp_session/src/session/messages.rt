@@ -24,8 +24,10 @@ impl Session {
     pub(crate) fn answer_all(&mut self, outcome: Outcome) -> Act
         requires no_answer { self.old.answers ≡ [] }
         ensures step { IsTaken self.old
-            (record { replies = result_for_all outcome self.old.session.recipients;
-                next = greeted self.old.session.client }) result self.new }
+            (record {
+              replies = result_for_all outcome self.old.session.recipients;
+              next = greeted self.old.session.client;
+            }) result self.new }
         ensures no_memory { self.new.room ≡ self.old.room }
     {
         lists::push_result_for_all(&mut self.answers, outcome, &self.recipients);
