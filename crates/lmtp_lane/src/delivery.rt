@@ -1,7 +1,7 @@
 //! What a lane does with the messages of its conversations.
 
 ghost use Rattle.std.specs.Prelude.{◌≡◌, ◌≤◌, ◌<◌, ℕ, List, [], length, vec_capacity, false};
-ghost use Rattle.mail_world.specs.declared.limits.TheConstants.{NUMBER_LIMIT};
+ghost use Rattle.mail_world.specs.declared.limits.TheConstants.{RECIPIENT_LIMIT, NUMBER_LIMIT};
 ghost use Rattle.mail_world.specs.Lists.{Transaction};
 ghost use Rattle.msg_depot.specs.declared.view.Claim.{Claim};
 ghost use Rattle.lmtp_lane.specs.LaneAccount.{AgreesWith, HasOffered, HoldsDraft, Delivers};

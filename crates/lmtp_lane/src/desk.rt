@@ -2,6 +2,7 @@
 
 ghost use Rattle.std.specs.Prelude.{◌≡◌, ◌≤◌, ℕ, [], IfOk, vec_capacity};
 ghost use Rattle.std.specs.Arc.{arc_value};
+ghost use Rattle.mail_world.specs.declared.limits.TheConstants.{RECIPIENT_LIMIT};
 
 use lmtp_talk::Dialogue;
 use lmtp_text::Site;

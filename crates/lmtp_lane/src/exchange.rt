@@ -1,6 +1,7 @@
 //! A lane's ends of the channels: copies go out to the mailboxes, and slips come back.
 
 ghost use Rattle.std.specs.Prelude.{◌≡◌, ◌≤◌, ◌<◌, ℕ, List, [], ◌∷◌, ◌++◌, length, map, slice_index, Some, IsOk, IsTrue, true, false};
+ghost use Rattle.mail_world.specs.declared.limits.TheConstants.{RECIPIENT_LIMIT};
 ghost use Rattle.mail_world.specs.declared.Note.{Note};
 ghost use Rattle.mail_world.specs.declared.Slip.{Slip as SlipValue};
 ghost use Rattle.mail_world.specs.declared.Txn.{Txn as TxnValue};

@@ -1,6 +1,7 @@
 //! A message on its way into the depot.
 
 ghost use Rattle.std.specs.Prelude.{◌≡◌, ◌≤◌, ◌++◌, ℕ, List, [], None, Some, IfOk, IfErr, IfSome};
+ghost use Rattle.mail_world.specs.declared.limits.TheConstants.{NUMBER_LIMIT};
 ghost use Rattle.mail_world.specs.declared.Verdict.TheVariants.{Whole};
 ghost use Rattle.lmtp_lane.specs.LaneAccount.{HoldsDraft, verdict_on};
 

@@ -102,7 +102,13 @@ fn every_slot_and_block_is_used_again(rt: HostRuntime) -> Result<(), Fail> {
 
 const MEBIBYTE: usize = 1_048_576;
 
-const PUT: [usize; 5] = [1, BLOCK_SIZE - 1, BLOCK_SIZE, BLOCK_SIZE + 1, 8 * BLOCK_SIZE];
+const PUT: [usize; 5] = [
+    1,
+    BLOCK_SIZE - 1,
+    BLOCK_SIZE,
+    BLOCK_SIZE + 1,
+    8 * BLOCK_SIZE,
+];
 
 const COPIED: [usize; 4] = [700, 3, 8192, 512];
 
