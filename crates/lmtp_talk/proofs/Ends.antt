@@ -13,9 +13,8 @@ use Rattle.mail_world.specs.Session.{Session, fresh, Input, Stop}
 use Rattle.mail_world.specs.Replies.{reply_text, reply_texts}
 use Rattle.mail_world.specs.Conversation.{Conversation, Part, inputs_of, session_behind, replies_to, parts, stop_at, inputs, replies, IsAccount}
 use Rattle.mail_world.specs.Dispositions.{dispositions_of}
-use Rattle.mail_world.proofs.Handled.{HasNoPart}
 use Rattle.mail_world.specs.Lists.{Transaction, is_content, accepted_after, transactions_of}
-use Rattle.mail_world.proofs.Handled.{replies_to-append}
+use Rattle.mail_world.proofs.Handled.{HasNoPart, replies_to-append}
 use Rattle.lmtp_session.specs.Steps.{MayStop}
 use Rattle.lmtp_talk.specs.declared.dialogue.Dialogue.{Dialogue}
 use Rattle.lmtp_talk.specs.declared.ending.EndCause.{EndCause}
