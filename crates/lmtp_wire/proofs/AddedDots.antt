@@ -1,8 +1,8 @@
 -- A message with its dots doubled, run by run.
-use Rattle.std.proofs.Common.{◌≡◌, ℕ, suc, ◌+◌, List, [], ◌∷◌, ◌++◌, take, drop, Bool, true, false, cond, ◌&&◌, ◌==◌, Option, Some, None, length, subst, length-append, append_assoc, append-nil, take_all, length-drop, ◌-◌, ◌≤◌, refl, sym, ap, ◌∙◌, arith}
+use Rattle.std.proofs.Common.{◌≡◌, ℕ, suc, ◌+◌, List, [], ◌∷◌, ◌++◌, take, drop, Bool, true, false, cond, ◌&&◌, ◌==◌, Option, Some, None, length, subst, length-append, append_assoc, take_all, length-drop, ◌-◌, ◌≤◌, refl, sym, ap, ◌∙◌, arith}
 use Rattle.std.specs.Prelude.{option_map}
 use Rattle.std.proofs.lemmas.Bool.Decides.{nat_tests}
-use Rattle.lmtp_wire.specs.Runs.{CutsRun, GoesOnFrom}
+use Rattle.lmtp_wire.specs.Runs.{CutsRun}
 use Rattle.mail_world.specs.Text.{cr, lf, crlf, place_of, begins_with}
 use Rattle.mail_world.specs.Data.{dot, with_dots, stuffed}
 use Rattle.mail_world.proofs.Places.{place_of_stands, begins_with-front}

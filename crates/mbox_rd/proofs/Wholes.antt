@@ -1,12 +1,12 @@
 -- A message in pieces is the message, and its record is what a writer writes.
-use Rattle.std.proofs.Common.{◌≡◌, ℕ, List, [], ◌∷◌, ◌++◌, sym, ap, ◌∙◌, refl, append_assoc, append-nil}
+use Rattle.std.proofs.Common.{◌≡◌, ℕ, List, [], ◌∷◌, ◌++◌, sym, ap, ◌∙◌, append_assoc, append-nil}
 use Rattle.mail_world.specs.Text.{lf, unix}
 use Rattle.mail_world.specs.Records.{Calendar, quoted_text}
 use Rattle.mbox_rd.specs.Envelope.{Envelope, record_text, head_text}
 use Rattle.mbox_rd.specs.Spool.{SpoolState, HasTaken, HasFailed}
 use Rattle.mbox_rd.specs.Writing.{Pending, bytes_owed, WritesPiece, FailsPiece}
 use Rattle.mbox_rd.proofs.Parts.{record_split}
-use Rattle.mbox_rd.proofs.Taken.{HasTaken-none, HasTaken-then, HasTaken-as, HasFailed-first, HasFailed-later, HasFailed-as}
+use Rattle.mbox_rd.proofs.Taken.{HasTaken-then, HasTaken-as, HasFailed-first, HasFailed-later, HasFailed-as}
 
 pub WritesPiece-then : (s t u : SpoolState) (a b c : Pending) (p q : List ℕ) → WritesPiece s t a b p → WritesPiece t u b c q → WritesPiece s u a c (p ++ q)
 WritesPiece-then s t u a b c p q x y = record {
