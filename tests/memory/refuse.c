@@ -1,10 +1,12 @@
-// Refuses allocations of a program that is started with this library preloaded: of the calls of malloc and realloc
-// that the program itself makes, counted from 1, the one of number REFUSE, and with REFUSE_ALL set all later ones
-// too. The allocations of the C library's own calls are left alone. At the end the descriptor REFUSE_TOLD, where it
-// is set, is told with one byte that a call was refused.
+// Refuses allocations of a program that is started with this library preloaded: of the calls of malloc, realloc and
+// pthread_create that the program itself makes, counted from 1, the one of number REFUSE, and with REFUSE_ALL set all
+// later ones too. The allocations of the C library's own calls are left alone. The descriptor REFUSE_TOLD, where it is
+// set, is told with one byte that a call was refused: 'r' for memory, 't' for a thread.
 #define _GNU_SOURCE
+#include <dlfcn.h>
 #include <errno.h>
 #include <link.h>
+#include <pthread.h>
 #include <stdatomic.h>
 #include <stdint.h>
 #include <stdlib.h>
@@ -40,7 +42,7 @@ __attribute__((constructor)) static void begin(void) {
     dl_iterate_phdr(note_program, NULL);
 }
 
-static int is_refused(void *caller) {
+static int is_refused(void *caller, const char *what) {
     if ((uintptr_t)caller < low || (uintptr_t)caller >= high || refused == 0) {
         return 0;
     }
@@ -48,7 +50,7 @@ static int is_refused(void *caller) {
     if (number != refused && !(all && number > refused)) {
         return 0;
     }
-    if (number == refused && told >= 0 && write(told, "r", 1) < 0) {
+    if (number == refused && told >= 0 && write(told, what, 1) < 0) {
         _exit(125);
     }
     errno = ENOMEM;
@@ -56,9 +58,17 @@ static int is_refused(void *caller) {
 }
 
 void *malloc(size_t size) {
-    return is_refused(__builtin_return_address(0)) ? NULL : __libc_malloc(size);
+    return is_refused(__builtin_return_address(0), "r") ? NULL : __libc_malloc(size);
 }
 
 void *realloc(void *old, size_t size) {
-    return is_refused(__builtin_return_address(0)) ? NULL : __libc_realloc(old, size);
+    return is_refused(__builtin_return_address(0), "r") ? NULL : __libc_realloc(old, size);
+}
+
+int pthread_create(pthread_t *thread, const pthread_attr_t *attributes, void *(*start)(void *), void *argument) {
+    static int (*_Atomic next)(pthread_t *, const pthread_attr_t *, void *(*)(void *), void *);
+    if (!next) {
+        next = (int (*)(pthread_t *, const pthread_attr_t *, void *(*)(void *), void *))dlsym(RTLD_NEXT, "pthread_create");
+    }
+    return is_refused(__builtin_return_address(0), "t") ? EAGAIN : next(thread, attributes, start, argument);
 }
