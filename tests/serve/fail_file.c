@@ -1,5 +1,5 @@
 // Has calls on one file fail in a program that is started with this library preloaded. FAIL_FILE is how the file's path ends. Of
-// the calls on it (opening, locking, seeking, reading, writing, syncing), counted from 1, the one of number FAIL_CALL fails with
+// the calls on it (opening, its mode, locking, seeking, reading, writing, syncing), counted from 1, the one of number FAIL_CALL fails with
 // EIO, and with FAIL_ALL set all later ones too. The file FAIL_TOLD, where it is named, is made once a call failed.
 #define _GNU_SOURCE
 #include <dlfcn.h>
@@ -10,6 +10,7 @@
 #include <stdlib.h>
 #include <string.h>
 #include <sys/file.h>
+#include <sys/stat.h>
 #include <sys/types.h>
 #include <unistd.h>
 
@@ -18,7 +19,7 @@ enum { MOST = 1024 };
 static atomic_int is_watched[MOST];
 static atomic_ulong calls;
 
-static int (*next_openat)(int, const char *, int, ...);
+static int (*next_open)(const char *, int, ...);
 
 // This call is one on the file: whether it fails.
 static int fails(void) {
@@ -29,7 +30,7 @@ static int fails(void) {
         return 0;
     }
     if (told) {
-        close(next_openat(AT_FDCWD, told, O_CREAT | O_WRONLY, 0600));
+        close(next_open(told, O_CREAT | O_WRONLY, 0600));
     }
     errno = EIO;
     return 1;
@@ -40,10 +41,10 @@ static int fails_on(int descriptor) {
 }
 
 __attribute__((constructor)) static void begin(void) {
-    next_openat = (int (*)(int, const char *, int, ...))dlsym(RTLD_NEXT, "openat");
+    next_open = (int (*)(const char *, int, ...))dlsym(RTLD_NEXT, "open");
 }
 
-int openat(int folder, const char *path, int flags, ...) {
+int open(const char *path, int flags, ...) {
     const char *name = getenv("FAIL_FILE");
     size_t length = strlen(path), end = name ? strlen(name) : 0;
     int is_file = end > 0 && length >= end && strcmp(path + length - end, name) == 0;
@@ -54,7 +55,7 @@ int openat(int folder, const char *path, int flags, ...) {
     if (is_file && fails()) {
         return -1;
     }
-    int descriptor = next_openat(folder, path, flags, mode);
+    int descriptor = next_open(path, flags, mode);
     if (descriptor >= 0 && descriptor < MOST) {
         is_watched[descriptor] = is_file;
     }
@@ -71,6 +72,7 @@ int openat(int folder, const char *path, int flags, ...) {
     }
 
 FAILING(int, flock, (int file, int how), (file, how), file)
+FAILING(int, fchmod, (int file, mode_t mode), (file, mode), file)
 FAILING(int, fsync, (int file), (file), file)
 FAILING(int, fdatasync, (int file), (file), file)
 FAILING(off_t, lseek, (int file, off_t at, int from), (file, at, from), file)
