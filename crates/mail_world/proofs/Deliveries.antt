@@ -9,7 +9,8 @@ use Rattle.mail_world.specs.declared.Outcome.TheVariants.{Stored, Failed}
 use Rattle.mail_world.specs.declared.Note.{Note}
 use Rattle.mail_world.specs.Records.{Calendar, record_of, mailbox}
 use Rattle.mail_world.specs.Lists.{Transaction, copies_from}
-use Rattle.mail_world.specs.Deliveries.{outcomes_for, IsFront, is_none, IsTorn, HoldsCopies}
+use Rattle.mail_world.specs.Fronts.{IsFront}
+use Rattle.mail_world.specs.Deliveries.{outcomes_for, is_none, IsTorn, HoldsCopies}
 
 pub holds_none : (calendar : Calendar) (host : List ℕ) → HoldsCopies calendar host [] [] [] false
 holds_none calendar host = record { stored = []; lost = []; torn = []; all = refl; told = refl; held = refl; tears = refl; fails = refl }

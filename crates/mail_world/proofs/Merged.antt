@@ -24,14 +24,14 @@ use Rattle.mail_world.proofs.Once.{accepted_in, is_copy, times_same, times_offer
 use Rattle.mail_world.proofs.GivenAway.{count-append, count_some, AreGiven, given_fewer, given_none, given_seal, given_back, given_offer, given_elsewhere, given_once}
 
 -- one more at the end of a merged list
-merged_front : (front own heard : List Slip) (x : Slip) → IsMerged front own heard → IsMerged (front ++ x ∷ []) own (heard ++ x ∷ [])
+pub merged_front : (front own heard : List Slip) (x : Slip) → IsMerged front own heard → IsMerged (front ++ x ∷ []) own (heard ++ x ∷ [])
 merged_front front own [] x m = inl ([], ap (λ l. l ++ x ∷ []) m.0, (refl, m.1))
 merged_front front own (y ∷ heard) x m = elim m [
   | inl first ↦ inl (first.0 ++ x ∷ [], ap (λ l. l ++ x ∷ []) first.1, merged_front first.0 own heard x first.2)
   | inr mine ↦ inr (mine.0, mine.1, merged_front front mine.0 heard x mine.2)
 ]
 
-merged_own : (front own heard : List Slip) (x : Slip) → IsMerged front own heard → IsMerged front (own ++ x ∷ []) (heard ++ x ∷ [])
+pub merged_own : (front own heard : List Slip) (x : Slip) → IsMerged front own heard → IsMerged front (own ++ x ∷ []) (heard ++ x ∷ [])
 merged_own front own [] x m = inr ([], ap (λ l. l ++ x ∷ []) m.1, (m.0, refl))
 merged_own front own (y ∷ heard) x m = elim m [
   | inl first ↦ inl (first.0, first.1, merged_own first.0 own heard x first.2)
