@@ -13,7 +13,7 @@ use Rattle.box_worker.specs.Stored.{HasStored}
 use Rattle.box_worker.specs.Told.{owed_to}
 use Rattle.lmtp_house.specs.declared.house.report.Tally.{Tally}
 use Rattle.lmtp_house.specs.declared.house.sizes.Sizes.{Sizes}
-use Rattle.lmtp_lane.specs.LaneAccount.{counted}
+use Rattle.mail_world.specs.Counts.{counted}
 use Rattle.lmtp_talk.specs.Peer.{PeerState}
 use Rattle.lmtp_lane.specs.Visits.{Finished, Visit, HasVisited, conversations_of}
 

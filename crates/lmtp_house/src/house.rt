@@ -4,7 +4,7 @@ mod crew;
 pub mod fault;
 mod grid;
 mod lanes;
-mod lines;
+mod channels;
 mod plan;
 pub mod report;
 pub mod run;

@@ -8,8 +8,9 @@ ghost use Rattle.mail_world.specs.declared.Txn.{Txn as TxnValue};
 ghost use Rattle.mail_world.specs.Events.{own_slip, txn_of};
 ghost use Rattle.mail_world.specs.Lists.{copies_from};
 ghost use Rattle.mail_post.specs.Gathering.{IsDone, HasGathered};
-ghost use Rattle.mail_post.specs.Line.{Lane, Inbox, taken};
-ghost use Rattle.lmtp_lane.specs.LaneExchange.{AreOfLane, IsOffered, HasExchanged, Episode, IsUnderWay, Continues, Awaits, TakesOne, sent_as, copy_at, is_ok};
+ghost use Rattle.mail_post.specs.Channel.{Sender as SenderValue, Inbox, taken};
+ghost use Rattle.mail_post.specs.Offered.{HaveNumber, IsOffered};
+ghost use Rattle.lmtp_lane.specs.LaneExchange.{HasExchanged, Episode, IsUnderWay, Continues, Awaits, TakesOne, sent_as, copy_at, is_ok};
 
 use lmtp_session::Session;
 use mail_post::{Gather, Post, Sender, SlipReceiver};
@@ -32,7 +33,7 @@ pub struct Exchange<N: DepotName> {
     pub refused: bool,
     /// A channel was found gone.
     pub gone: bool,
-    ghost of_lane: { AreOfLane lane senders.items },
+    ghost of_lane: { HaveNumber lane senders.items },
     ghost room: { MOST ≤ gather.limit },
 }
 
@@ -44,8 +45,8 @@ fn offer_to<N: DepotName, R: Wait>(
     post: Post<N>,
 ) -> Result<(), Post<N>>
     requires mailbox { mailbox < length senders.old.items }
-    requires lane { AreOfLane post.txn.lane senders.old.items }
-    ensures { IsOffered senders.old.items senders.new.items mailbox post (is_ok result) }
+    requires lane { HaveNumber post.txn.lane senders.old.items }
+    ensures { IsOffered mailbox (λ sender. post) (is_ok result) senders.old.items senders.new.items }
 {
     senders[mailbox as usize].offer(rt, post)
 }
@@ -59,7 +60,7 @@ impl<N: DepotName> Exchange<N> {
         slips: SlipReceiver,
         gather: Gather,
     ) -> Exchange<N>
-        requires lane { AreOfLane lane senders.items }
+        requires lane { HaveNumber lane senders.items }
         requires room { MOST ≤ gather.limit }
         ensures { (result.lane ≡ lane) × (result.senders ≡ senders) × (result.slips ≡ slips) × (result.gone ≡ false) }
     {
@@ -260,7 +261,7 @@ impl<N: DepotName> Exchange<N> {
         ensures same { self.new.lane ≡ self.old.lane }
         ensures places { length self.new.gather.gather.places ≡ length session.now.session.recipients }
         ensures size { length self.new.senders.items ≡ length self.old.senders.items }
-        ensures way { (notes : List Note) (past : Episode) (before : List (Lane Note)) (inbox : Inbox SlipValue)
+        ensures way { (notes : List Note) (past : Episode) (before : List (SenderValue Note)) (inbox : Inbox SlipValue)
             → HasExchanged self.old.lane notes before self.old.senders.items inbox self.old.slips past.own past.heard self.old.gone
             → taken self.old.slips ≡ taken inbox ++ past.came → IsUnderWay self.old.lane (notes ++ copies_from self.old.lane (sent_as number session.now.session moment hold.bytes) 0 session.now.session.recipients)
             (txn_of self.old.lane number) (length session.now.session.recipients) past before self.new.senders.items inbox self.new.slips self.new.gather.gather self.new.gone }

@@ -2,7 +2,7 @@
 
 ghost use Rattle.std.specs.Prelude.{◌≡◌, [], length, true, false};
 ghost use Rattle.lmtp_talk.specs.Peer.{PeerState};
-ghost use Rattle.lmtp_lane.specs.LaneExchange.{AreOfLane};
+ghost use Rattle.mail_post.specs.Offered.{HaveNumber};
 ghost use Rattle.lmtp_lane.specs.LaneAccount.{AgreesWith, HasOffered};
 ghost use Rattle.lmtp_lane.specs.LaneRun.{HasServed};
 ghost use Rattle.lmtp_lane.specs.Visits.{HasConversed};
@@ -36,7 +36,7 @@ pub fn lane_run<N: DepotName, V: Visits, C: Clock, R: Wait>(
 ) -> LaneReport<N, V>
     requires site { desk.dialogue.session.site ≡ site.now }
     requires count { length senders.items ≡ length site.now.boxes }
-    requires lane { AreOfLane lane senders.items }
+    requires lane { HaveNumber lane senders.items }
     requires none_out { V.out visits ≡ false }
     ensures { HasServed site.now lane (C.May clock.now) (V.MayGive visits) (V.finished visits) (V.finished result.visits) (V.over result.visits)
         senders.items result.senders.items slips result.slips result.conversations result.gone }
@@ -58,7 +58,7 @@ fn lane_at<S: LaneStart, N: DepotName, V: Visits, C: Clock, R: Wait>(
     requires here { desk.dialogue.session.site ≡ S.site }
     requires number { lane ≡ S.lane }
     requires count { length senders.items ≡ length S.site.boxes }
-    requires lane { AreOfLane lane senders.items }
+    requires lane { HaveNumber lane senders.items }
     requires start { (senders.items ≡ S.senders) × (slips ≡ S.inbox) }
     requires clock { AgreesWith (C.May clock.now) S.May }
     requires none_out { V.out visits ≡ false }

@@ -10,7 +10,7 @@ pub trait LaneStart {
     ghost use Rattle.mail_world.specs.Site.{Site};
     ghost use Rattle.mail_world.specs.declared.Note.{Note};
     ghost use Rattle.mail_world.specs.declared.Slip.{Slip};
-    ghost use Rattle.mail_post.specs.Line.{Lane, Inbox};
+    ghost use Rattle.mail_post.specs.Channel.{Sender, Inbox};
 
     ghost lane: { ℕ };
 
@@ -19,7 +19,7 @@ pub trait LaneStart {
     // the moments that the clock may answer
     ghost May: { ℕ → Type 0 };
 
-    ghost senders: { List (Lane Note) };
+    ghost senders: { List (Sender Note) };
 
     ghost inbox: { Inbox Slip };
 }

@@ -3,7 +3,7 @@ use Rattle.std.specs.Prelude.{◌≡◌, ℕ, ⊤, Bool, true, false, List, [], 
 use Rattle.mail_world.specs.declared.Reply.{Reply}
 use Rattle.mail_world.specs.declared.Reply.TheVariants.{GoAhead}
 use Rattle.mail_world.specs.Failures.{Rises}
-use Rattle.mail_world.specs.Deliveries.{IsFront}
+use Rattle.mail_world.specs.Fronts.{IsFront}
 use Rattle.lmtp_session.specs.declared.act.Act.{Act}
 use Rattle.lmtp_session.specs.declared.act.Act.TheVariants.{Say, ReadData, Deliver, Answer, Quit}
 use Rattle.lmtp_talk.specs.Peer.{PeerState, HasMoved}

@@ -2,7 +2,7 @@
 use Rattle.std.specs.Prelude.{◌≡◌, ℕ, ◌≤◌, ◌==◌, List, [], ◌∷◌, ◌++◌, take, if◌then◌else◌, codes, ⊤}
 use Rattle.mail_world.specs.Text.{cr, lf, unix}
 use Rattle.mail_world.specs.Records.{quoted_text}
-use Rattle.mail_world.specs.Deliveries.{IsFront}
+use Rattle.mail_world.specs.Fronts.{IsFront}
 use Rattle.mbox_rd.specs.Spool.{SpoolState, HasTaken, HasFailed}
 use Rattle.mbox_rd.specs.declared.pending.Pending.{Pending as Declared}
 use Rattle.mbox_rd.specs.declared.pending.Pending.TheVariants.{Start, Marks, Word, Inside, Cr}

@@ -7,7 +7,7 @@ ghost use Rattle.lmtp_house.specs.HousePlan.{IsPlanned, MayRun, HasRunAll};
 
 use crate::house::fault::HouseFault;
 use crate::house::lanes::{Lanes, lane_jobs};
-use crate::house::lines::{Closing, open_lines, settle_all};
+use crate::house::channels::{Closing, open_channels, settle_all};
 use crate::house::report::HouseReport;
 use crate::house::workers::{Workers, worker_jobs};
 use box_worker::Gate;
@@ -68,8 +68,8 @@ where
         let lanes = visits.len();
         let box_count = site.box_count();
         let boxes = box_count as usize;
-        let (rows, receivers) = open_lines::<Post<N>>(alloc, capacity, lanes as u32, boxes)?;
-        let (slip_rows, takers) = open_lines::<Slip>(alloc, RECIPIENT_LIMIT, box_count, lanes)?;
+        let (rows, receivers) = open_channels::<Post<N>>(alloc, capacity, lanes as u32, boxes)?;
+        let (slip_rows, takers) = open_channels::<Slip>(alloc, RECIPIENT_LIMIT, box_count, lanes)?;
         let lane_jobs = lane_jobs(alloc, site, clock, depot, visits, rows, takers)?;
         let worker_jobs = worker_jobs(alloc, site, depot, receivers, slip_rows, spools, gates)?;
         Ok(Plan {
