@@ -21,8 +21,10 @@ pub(crate) fn store<N: DepotName, S: Spool, R: Wait>(
     envelope: &Envelope,
     hold: &mut Hold<N>,
 ) -> Result<(), SpoolFault>
-    ensures ok { OnOk result (HasKept (S.state spool.old) (S.state spool.new) (record_text civil_at host.now envelope.now hold.old.bytes)) }
-    ensures err { OnErr result (HasNotKept (S.state spool.old) (S.state spool.new) (record_text civil_at host.now envelope.now hold.old.bytes)) }
+    ensures ok { OnOk result (HasKept (S.state spool.old) (S.state spool.new)
+        (record_text civil_at host.now envelope.now hold.old.bytes)) }
+    ensures err { OnErr result (HasNotKept (S.state spool.old) (S.state spool.new)
+        (record_text civil_at host.now envelope.now hold.old.bytes)) }
     ensures hold { hold.new ≡ hold.old }
 {
     append_record(rt, spool, depot, host, envelope, hold)?;
@@ -38,8 +40,10 @@ fn append_record<N: DepotName, S: Spool, R: Wait>(
     envelope: &Envelope,
     hold: &mut Hold<N>,
 ) -> Result<(), SpoolFault>
-    ensures ok { OnOk result (HasTaken (S.state spool.old) (S.state spool.new) (record_text civil_at host.now envelope.now hold.old.bytes)) }
-    ensures err { OnErr result (HasFailed (S.state spool.old) (S.state spool.new) (record_text civil_at host.now envelope.now hold.old.bytes)) }
+    ensures ok { OnOk result (HasTaken (S.state spool.old) (S.state spool.new)
+        (record_text civil_at host.now envelope.now hold.old.bytes)) }
+    ensures err { OnErr result (HasFailed (S.state spool.old) (S.state spool.new)
+        (record_text civil_at host.now envelope.now hold.old.bytes)) }
     ensures hold { hold.new ≡ hold.old }
 {
     let begun = RecordWriter::begin(spool, host, envelope)?;
@@ -55,7 +59,8 @@ fn append_message<N: DepotName, S: Spool, R: Wait>(
     hold: &mut Hold<N>,
     begun: RecordWriter,
 ) -> Result<RecordWriter, SpoolFault>
-    ensures ok { IfOk result (λ writer. WritesPiece (S.state spool.old) (S.state spool.new) begun writer hold.old.bytes) }
+    ensures ok { IfOk result (λ writer.
+        WritesPiece (S.state spool.old) (S.state spool.new) begun writer hold.old.bytes) }
     ensures err { OnErr result (FailsPiece (S.state spool.old) (S.state spool.new) begun hold.old.bytes) }
     ensures hold { hold.new ≡ hold.old }
 {

@@ -19,8 +19,8 @@ use mbox_rd::Spool;
 use msg_depot::{Depot, DepotName};
 use std::sync::Wait;
 
-/// Stores the copies that come, one after another, and gives each lane a slip for each of its own, until the channel is closed
-/// or lost. It takes no memory.
+/// Stores the copies that come, one after another, and gives each lane a slip for each of its own, until the channel is
+/// closed or lost. It takes no memory.
 pub fn worker_run<N: DepotName, S: Spool, G: Gate, R: Wait>(
     rt: &R,
     receiver: Receiver<N>,
@@ -33,9 +33,14 @@ pub fn worker_run<N: DepotName, S: Spool, G: Gate, R: Wait>(
     requires fresh { taken receiver ≡ [] }
     requires lanes { length slips.items ≡ receiver.lanes }
     requires worker { HaveNumber (worker_of slips.items) slips.items }
-    ensures { HasWorked (record { calendar = civil_at; host = host.now; worker = worker_of slips.items }) receiver result.receiver
-        (idle slips.items (S.state spool))
-        (record { slips = result.slips.items; mailbox = kept (S.state result.spool) result.stored result.faulty; taken = result.taken; lost = result.lost }) }
+    ensures { HasWorked (record { calendar = civil_at; host = host.now; worker = worker_of slips.items })
+        receiver result.receiver (idle slips.items (S.state spool))
+        (record {
+          slips = result.slips.items;
+          mailbox = kept (S.state result.spool) result.stored result.faulty;
+          taken = result.taken;
+          lost = result.lost;
+        }) }
 {
     let mut receiver = receiver;
     let mut worker = Worker {
@@ -77,13 +82,19 @@ impl<S: Spool, G: Gate> Worker<S, G> {
         requires lane { post.txn.lane < length self.old.slips.items }
         ensures { (worker : ℕ) (copies : List Note) (old : WorkerState)
             → HasHandled (record { calendar = civil_at; host = host.now; worker = worker }) copies old
-              (record { slips = self.old.slips.items;
-                mailbox = kept (S.state self.old.mailbox.spool) self.old.mailbox.stored self.old.mailbox.faulty;
-                taken = self.old.taken; lost = self.old.lost })
+            (record {
+              slips = self.old.slips.items;
+              mailbox = kept (S.state self.old.mailbox.spool) self.old.mailbox.stored self.old.mailbox.faulty;
+              taken = self.old.taken;
+              lost = self.old.lost;
+            })
             → HasHandled (record { calendar = civil_at; host = host.now; worker = worker }) (copies ++ post ∷ []) old
-              (record { slips = self.new.slips.items;
-                mailbox = kept (S.state self.new.mailbox.spool) self.new.mailbox.stored self.new.mailbox.faulty;
-                taken = self.new.taken; lost = self.new.lost }) }
+            (record {
+              slips = self.new.slips.items;
+              mailbox = kept (S.state self.new.mailbox.spool) self.new.mailbox.stored self.new.mailbox.faulty;
+              taken = self.new.taken;
+              lost = self.new.lost;
+            }) }
     {
         let Parts {
             txn,

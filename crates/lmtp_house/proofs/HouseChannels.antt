@@ -155,11 +155,11 @@ module _ {M : Type 0} where
         turned_at rows columns k b r.value column (lane_at channel k (sent k b)) turn r.is e (are.cells k b r.value channel r.is f);
   }
 
-  lanes_from : (i : ℕ) (channel : Channel M) (xs : List (Sender M)) → ((k : ℕ) (x : Sender M) → slice_get xs k ≡ Some x → (x.channel ≡ channel) × (x.lane ≡ i + k)) → AreSendersFrom i channel xs
+  lanes_from : (i : ℕ) (channel : Channel M) (xs : List (Sender M)) → ((k : ℕ) (x : Sender M) → slice_get xs k ≡ Some x → (x.channel ≡ channel) × (x.number ≡ i + k)) → AreSendersFrom i channel xs
   lanes_from i channel [] h = tt
   lanes_from i channel (x ∷ xs) h = ((h 0 x refl).0, omega (arith, (h 0 x refl).1), lanes_from (i + 1) channel xs (λ k y e. ((h (suc k) y e).0, omega (arith, (h (suc k) y e).1))))
 
-  lanes_by : (xs : List (Sender M)) (channel : Channel M) → 0 < length xs → ((k : ℕ) (x : Sender M) → slice_get xs k ≡ Some x → (x.channel ≡ channel) × (x.lane ≡ k)) → AreSenders xs
+  lanes_by : (xs : List (Sender M)) (channel : Channel M) → 0 < length xs → ((k : ℕ) (x : Sender M) → slice_get xs k ≡ Some x → (x.channel ≡ channel) × (x.number ≡ k)) → AreSenders xs
   lanes_by [] channel some h = absurd (omega arith)
   lanes_by (x ∷ xs) channel some h = lanes_from 0 x.channel (x ∷ xs) (λ k y e. ((h k y e).0 ∙ sym (h 0 x refl).0, omega (arith, (h k y e).1)))
 
@@ -173,7 +173,7 @@ module _ {M : Type 0} where
   all_lanes n channels sent columns some are = All-at AreSenders columns (λ b column e.
       let l = at channels b (omega (arith, are.count, slice_get_within columns b column e)) in
       lanes_by column l.value (omega (arith, are.widths b column e, some)) (λ k x g.
-      let same = column_at n channels sent columns are b column l.value e l.is k x g in (ap (λ (v : Sender M). v.channel) same, ap (λ (v : Sender M). v.lane) same)))
+      let same = column_at n channels sent columns are b column l.value e l.is k x g in (ap (λ (v : Sender M). v.channel) same, ap (λ (v : Sender M). v.number) same)))
 
   first_channel : (channel other : Channel M) (column : List (Sender M)) (x : Sender M) → AreSendersOf channel column → slice_get column 0 ≡ Some x → channel ≡ x.channel
   first_channel channel other [] x is e = let bad : ◌≡◌ {A = Option (Sender M)} None (Some x) = e in absurd (cc)
@@ -192,12 +192,12 @@ module _ {M : Type 0} where
         };
   }
 
-  grown_cell : (old new : Sender M) (channel : Channel M) (k : ℕ) (more : List M) → old ≡ lane_at channel k [] → new.channel ≡ old.channel → new.lane ≡ old.lane → new.sent ≡ old.sent ++ more → new ≡ lane_at channel k more
+  grown_cell : (old new : Sender M) (channel : Channel M) (k : ℕ) (more : List M) → old ≡ lane_at channel k [] → new.channel ≡ old.channel → new.number ≡ old.number → new.sent ≡ old.sent ++ more → new ≡ lane_at channel k more
   grown_cell old new channel k more is a b c =
       let l : new.channel ≡ channel = a ∙ ap (λ (o : Sender M). o.channel) is in
-      let n : new.lane ≡ k = b ∙ ap (λ (o : Sender M). o.lane) is in
+      let n : new.number ≡ k = b ∙ ap (λ (o : Sender M). o.number) is in
       let s : new.sent ≡ more = c ∙ ap (λ (o : Sender M). o.sent ++ more) is in
-      ap (λ x. lane_at x new.lane new.sent) l ∙ (ap (λ x. lane_at channel x new.sent) n ∙ ap (λ x. lane_at channel k x) s)
+      ap (λ x. lane_at x new.number new.sent) l ∙ (ap (λ x. lane_at channel x new.sent) n ∙ ap (λ x. lane_at channel k x) s)
 
   -- the lanes have given
   pub rows_given : (n : ℕ) (channels : List (Channel M)) (sent : ℕ → ℕ → List M) (rows rows_after : List (List (Sender M))) → AreRows n channels none rows → length rows_after ≡ n

@@ -116,10 +116,10 @@ module _ {V C R : Type 0} (May : C → ℕ → Type 0) (MayGive : V → PeerStat
         let served : IsServedLane p.left.site (May p.left.clock) (MayGive p.left.visits) p.left.lane (lane_work p.left p.right h) (finished p.left.visits) (finished (rv p.right)) (over (rv p.right)) (rc p.right) =
         record { visited = h.visited; ended = h.ended no; counts = h.counts; verdicts = h.verdicts; moments = h.moments; answered = h.answered } in
         let given : HasGiven (λ b. due p.left.site p.left.lane b (conversations_of (lane_work p.left p.right h).visits)) p.left.senders (rs p.right) = record {
-          as_many = h.exchanged.as_many;
+          as_many = h.exchanged.offered.as_many;
           each = λ b before after e f.
-              let o = h.exchanged.offered b before after e f in
-              (o.channel, o.lane, o.sent ∙ ap (λ l. before.sent ++ l) (o.all no ∙ due_is p.left.site p.left.lane b (conversations_of h.visits)));
+              let o = h.exchanged.offered.each b before after e f in
+              (o.channel, o.number, o.sent ∙ ap (λ l. before.sent ++ l) (o.all no ∙ due_is p.left.site p.left.lane b (conversations_of h.visits)));
         } in
         let heard : HasHeard (lane_work p.left p.right h).heard p.left.slips (rt p.right) = record {
           channel = h.exchanged.channel;

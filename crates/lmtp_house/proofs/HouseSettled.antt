@@ -7,17 +7,18 @@ use Rattle.std.proofs.lemmas.List.{length-map, get_or_past}
 use Rattle.std.proofs.lemmas.Option.{slice_get_within, get_or_from_slice_get}
 use Rattle.mail_world.specs.declared.Note.{Note}
 use Rattle.mail_world.specs.declared.Slip.{Slip}
+use Rattle.mail_world.specs.Fronts.{IsFront}
 use Rattle.mail_world.specs.Site.{Site}
 use Rattle.mail_world.specs.Slips.{of_worker}
 use Rattle.mail_world.specs.Lists.{of_lane, due}
 use Rattle.mail_post.specs.Channel.{Channel, Sender, Inbox, Sent, taken, TookSome, TookAll}
-use Rattle.mail_post.specs.Parcels.{of, IsStartOf}
+use Rattle.mail_post.specs.Parcels.{of}
 use Rattle.mbox_rd.specs.Spool.{SpoolState}
 use Rattle.box_worker.specs.Told.{owed_to}
 use Rattle.lmtp_house.specs.declared.house.report.Tally.{Tally}
 use Rattle.lmtp_talk.specs.Peer.{PeerState}
 use Rattle.lmtp_lane.specs.Visits.{Finished, conversations_of}
-use Rattle.lmtp_house.specs.House.{IsBegun, HasRun}
+use Rattle.lmtp_house.specs.House.{HasRun}
 use Rattle.lmtp_house.specs.HouseChannels.{channels_of, AreNewChannels, IsClosedWith, AreClosed, CanSettle, IsSettled}
 use Rattle.lmtp_house.specs.HouseTasks.{HaveServed, HaveWorked}
 use Rattle.lmtp_house.proofs.AnsweredAll.{outcomes_are_answers}
@@ -63,11 +64,11 @@ module _ {M : Type 0} (lane : M → ℕ) where
     took_below ms took = all_below n ms (λ k high. took k ∙ sent_none k high)
 
     -- a front of what was sent was taken, and nothing else
-    pub front_each : (ms : List M) → TookSome lane ms c.sent → (k : ℕ) → k < n → IsStartOf (of lane k ms) (sent k)
-    front_each ms took k below = ((took k).0, (took k).1 ∙ sent_is k below)
+    pub front_each : (ms : List M) → TookSome lane ms c.sent → (k : ℕ) → k < n → IsFront (of lane k ms) (sent k)
+    front_each ms took k below = record { rest = (took k).rest; whole = sym (sent_is k below) ∙ (took k).whole }
 
     pub front_below : (ms : List M) → TookSome lane ms c.sent → AllByRecursion (λ m. lane m < n) ms
-    front_below ms took = all_below n ms (λ k high. none_by (of lane k ms) (took k).0 ((took k).1 ∙ sent_none k high))
+    front_below ms took = all_below n ms (λ k high. none_by (of lane k ms) (took k).rest (sym (took k).whole ∙ sent_none k high))
 
 module _ {M : Type 0} where
   -- receivers that are still those of before may be settled with their closed channels
@@ -119,7 +120,7 @@ module _ {V S : Type 0} (site : Site) (May : ℕ → Type 0) (MayGive : V → Pe
 
   -- what is known of lane k
   record LaneKnown (k : ℕ) : Type 0 where
-    each : (b : ℕ) → b < length spools → IsBegun (of_worker b (lanes.works k).heard) (owed_slips b k)
+    each : (b : ℕ) → b < length spools → IsFront (of_worker b (lanes.works k).heard) (owed_slips b k)
     only : AllByRecursion (λ (slip : Slip). slip.worker < length spools) (lanes.works k).heard
 
   lane_known : (k : ℕ) → k < length visits → LaneKnown k
@@ -133,7 +134,7 @@ module _ {V S : Type 0} (site : Site) (May : ℕ → Type 0) (MayGive : V → Pe
       let fresh : taken x.value ≡ [] = ap (λ (i : Inbox Slip). taken i) (slips_new.inboxes_are k x.value x.is) in
       let took : taken y.value ≡ (lanes.works k).heard = heard.took ∙ ap (λ l. l ++ (lanes.works k).heard) fresh in
       let front : TookSome (λ (s : Slip). s.worker) (lanes.works k).heard c.value.sent = subst (λ l. TookSome (λ (s : Slip). s.worker) l c.value.sent) took s.front in record {
-        each = λ b box. let f = front_each (λ (s : Slip). s.worker) (length spools) x.value.channel (λ b. owed_slips b k) c.value w (lanes.works k).heard front b box in record { rest = f.0; whole = f.1 };
+        each = front_each (λ (s : Slip). s.worker) (length spools) x.value.channel (λ b. owed_slips b k) c.value w (lanes.works k).heard front;
         only = front_below (λ (s : Slip). s.worker) (length spools) x.value.channel (λ b. owed_slips b k) c.value w (lanes.works k).heard front;
       }
 

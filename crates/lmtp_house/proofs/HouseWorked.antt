@@ -11,7 +11,8 @@ use Rattle.lmtp_text.specs.Calendar.{civil_at}
 use Rattle.mbox_rd.specs.Spool.{SpoolState}
 use Rattle.mail_post.specs.Channel.{Channel, Sender, Inbox, taken}
 use Rattle.box_worker.specs.Told.{worker_of, owed_to}
-use Rattle.box_worker.specs.Worked.{HasWorked}
+use Rattle.box_worker.specs.Stored.{kept}
+use Rattle.box_worker.specs.Worked.{idle, HasWorked}
 use Rattle.lmtp_house.specs.declared.house.report.Tally.{Tally}
 use Rattle.lmtp_house.specs.House.{BoxWork, IsBoxWork}
 use Rattle.lmtp_house.specs.HouseChannels.{AreRows, none, lane_at, HasGiven}
@@ -53,17 +54,18 @@ module _ {S : Type 0} where
 -- the number of the worker whose new senders these are
 pub numbered : (b : ℕ) (channel : Channel Slip) (row : List (Sender Slip)) → slice_get row 0 ≡ Some (lane_at channel b []) → worker_of row ≡ b
 numbered b channel [] e = let bad : ◌≡◌ {A = Option (Sender Slip)} None (Some (lane_at channel b [])) = e in absurd (cc)
-numbered b channel (x ∷ xs) e = let s : ◌≡◌ {A = Option (Sender Slip)} (Some x) (Some (lane_at channel b [])) = e in let t : x ≡ lane_at channel b [] = cc in ap (λ (v : Sender Slip). v.lane) t
+numbered b channel (x ∷ xs) e = let s : ◌≡◌ {A = Option (Sender Slip)} (Some x) (Some (lane_at channel b [])) = e in let t : x ≡ lane_at channel b [] = cc in ap (λ (v : Sender Slip). v.number) t
 
 module _ {S R : Type 0} (state : S → SpoolState) (rr : R → Inbox Note) (rs : R → List (Sender Slip)) (rp : R → S) (rt : R → Tally) (rl : R → Bool) where
   abbrev pub BoxOk : BoxTask S → R → Type 0
-  BoxOk j r = HasWorked civil_at j.host (worker_of j.slips) j.receiver (rr r) j.slips (rs r) (state j.spool) (state (rp r)) (rt r).taken (rt r).stored (rt r).faulty (rl r)
+  BoxOk j r = HasWorked (record { calendar = civil_at; host = j.host; worker = worker_of j.slips }) j.receiver (rr r) (idle j.slips (state j.spool))
+      (record { slips = rs r; mailbox = kept (state (rp r)) (rt r).stored (rt r).faulty; taken = (rt r).taken; lost = rl r })
 
   abbrev box_work : (j : BoxTask S) (r : R) → BoxOk j r → BoxWork
   box_work j r h = record { taken = taken (rr r); stored = h.handled.stored }
 
-  abbrev idle : BoxWork
-  idle = record { taken = []; stored = 0 }
+  abbrev no_work : BoxWork
+  no_work = record { taken = []; stored = 0 }
 
   module _ (site : Site) (channels : List (Channel Slip)) (inboxes : List (Inbox Note)) (rows : List (List (Sender Slip))) (spools : List S) (reports : List R)
       (inboxes_count : length inboxes ≡ length spools) (some : 0 < length channels) (are : AreRows (length spools) channels none rows)
@@ -72,7 +74,7 @@ module _ {S R : Type 0} (state : S → SpoolState) (rr : R → Inbox Note) (rs :
     tasks = box_tasks site.host inboxes rows spools
 
     abbrev works : ℕ → BoxWork
-    works = picks BoxOk box_work idle tasks reports all
+    works = picks BoxOk box_work no_work tasks reports all
 
     count : length tasks ≡ length spools
     count = tasks_count site.host inboxes rows spools inboxes_count are.count
@@ -96,7 +98,7 @@ module _ {S R : Type 0} (state : S → SpoolState) (rr : R → Inbox Note) (rs :
 
     box_is : (k : ℕ) → k < length spools → BoxIs k
     box_is k below =
-        let p = picked BoxOk box_work idle tasks reports all k (omega (arith, count, below)) in
+        let p = picked BoxOk box_work no_work tasks reports all k (omega (arith, count, below)) in
         let t = task_at site.host inboxes rows spools k p.left p.left_is in
         let h = p.holds in
         let no = at_each (λ r. rl r ≡ false) reports sound k p.right p.right_is in
@@ -105,11 +107,11 @@ module _ {S R : Type 0} (state : S → SpoolState) (rr : R → Inbox Note) (rs :
         let Stored : List ℕ → S → BoxWork → Type 0 = λ host spool w. IsBoxWork (record site { host = host }) w (state spool) (state (rp p.right)) (rt p.right) in
         let Given : ℕ → List (Sender Slip) → BoxWork → Type 0 = λ b row w. HasGiven (λ j. owed_to b w.stored j w.taken) row (rs p.right) in
         let Took : Inbox Note → BoxWork → Type 0 = λ inbox w. HasTaken w.taken inbox (rr p.right) in
-        let stored : Stored p.left.host p.left.spool (box_work p.left p.right h) = record { spool = h.handled.spool; taken = h.handled.taken_count_is; stored = h.handled.stored_count_is } in
+        let stored : Stored p.left.host p.left.spool (box_work p.left p.right h) = record { spool = h.handled.spool; taken = h.handled.taken_count; stored = h.handled.stored_count } in
         let given : Given (worker_of p.left.slips) p.left.slips (box_work p.left p.right h) = record {
-          as_many = h.handled.as_many;
+          as_many = h.handled.told.as_many;
           each = λ j before after e f.
-              let o = h.handled.told j before after e f in (o.channel, o.lane, o.sent ∙ ap (λ l. before.sent ++ l) (o.all no));
+              let o = h.handled.told.each j before after e f in (o.channel, o.number, o.sent ∙ ap (λ l. before.sent ++ l) (o.all no));
         } in
         let took : Took p.left.receiver (box_work p.left p.right h) = record { channel = h.channel; lanes = h.lanes; took = refl; closed = h.closed no } in
         let given_at : Given (worker_of t.row) t.row (works k) =

@@ -13,6 +13,7 @@ use Rattle.mail_world.specs.declared.Verdict.{Verdict}
 use Rattle.mail_world.specs.declared.Verdict.TheVariants.{Whole, TooLarge, NoRoom}
 use Rattle.mail_world.specs.Text.{crlf, place_of}
 use Rattle.mail_world.specs.Data.{message, data_end}
+use Rattle.mail_world.specs.Fronts.{IsFront}
 use Rattle.mail_world.specs.Site.{Site}
 use Rattle.mail_world.specs.Session.{Session, fresh}
 use Rattle.mail_world.specs.Conversation.{Disposition, Part, CommandLine, MailData, Cut, cut, cut_then, is_data, inputs_of, session_after, parts_within, parts, Conversation}
@@ -23,7 +24,7 @@ use Rattle.mail_world.specs.Runs.{slips_from}
 use Rattle.mail_world.proofs.GivenAway.{count-append, count-cons}
 use Rattle.mail_world.proofs.Owed.{accepted_behind, same_behind_data}
 use Rattle.box_worker.specs.Told.{owed_to}
-use Rattle.lmtp_house.specs.House.{BoxWork, IsBegun}
+use Rattle.lmtp_house.specs.House.{BoxWork}
 
 module _ {X : Type 0} (f : X → Bool) where
   one_by : (x : X) (t : Bool) → count_by f (cond t (x ∷ []) []) ≡ cond t (cond (f x) 1 0) 0
@@ -250,18 +251,18 @@ due_counts site k b cs f = refl
 
 pub named_once : (site : Site) (k boxes : ℕ) (cs : List Conversation) (heard : List Slip) (works : ℕ → BoxWork)
     → AllByRecursion (λ slip. slip.worker < boxes) heard
-    → ((b : ℕ) → b < boxes → IsBegun (of_worker b heard) (owed_to b (works b).stored k (works b).taken))
+    → ((b : ℕ) → b < boxes → IsFront (of_worker b heard) (owed_to b (works b).stored k (works b).taken))
     → ((b : ℕ) → b < boxes → of_lane k (works b).taken ≡ due site k b cs)
     → (txn : Txn) (place : ℕ) → times_named txn place heard ≤ 1
 named_once site k boxes cs heard works only each owed txn place =
     let notes = flat_map (copies k) (transactions site 0 cs) in
     let by_box : (b : ℕ) → b < boxes → count_by (names txn place) (filter (λ slip. slip.worker == b) heard) ≤ count_by (is_copy txn place) (filter (λ note. note.mailbox == b) notes) =
     λ b low.
-    let begun = each b low in
+    let front = each b low in
     omega (
       arith,
-      count-append (names txn place) (of_worker b heard) begun.rest,
-      ap (count_by (names txn place)) begun.whole,
+      count-append (names txn place) (of_worker b heard) front.rest,
+      ap (count_by (names txn place)) front.whole,
       slips_copy txn place b (works b).stored k 0 (works b).taken,
       ap (count_by (is_copy txn place)) (owed b low),
       due_counts site k b cs (is_copy txn place),

@@ -11,7 +11,7 @@ pub record Shape : Type 0 where
 module _ {M : Type 0} where
   -- a sender that was told that these were accepted
   abbrev pub lane_at : Channel M → ℕ → List M → Sender M
-  lane_at channel k sent = record { channel = channel; lane = k; sent = sent }
+  lane_at channel k sent = record { channel = channel; number = k; sent = sent }
 
   -- which channels these are
   abbrev pub channels_of : List (Inbox M) → List (Channel M)
@@ -82,4 +82,4 @@ module _ {M : Type 0} where
   pub record HasGiven (sent : ℕ → List M) (old new : List (Sender M)) : Type 0 where
     pub as_many : length new ≡ length old
     pub each : (b : ℕ) (before after : Sender M) → slice_get old b ≡ Some before → slice_get new b ≡ Some after
-        → (after.channel ≡ before.channel) × (after.lane ≡ before.lane) × (after.sent ≡ before.sent ++ sent b)
+        → (after.channel ≡ before.channel) × (after.number ≡ before.number) × (after.sent ≡ before.sent ++ sent b)

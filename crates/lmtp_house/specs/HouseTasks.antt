@@ -7,11 +7,11 @@ use Rattle.mail_world.specs.Site.{Site}
 use Rattle.mail_world.specs.Lists.{due, transactions, VerdictsFit}
 use Rattle.mbox_rd.specs.Spool.{SpoolState}
 use Rattle.mail_post.specs.Channel.{Channel, Sender, Inbox, taken}
+use Rattle.mail_post.specs.Offered.{HaveNumber}
 use Rattle.mail_post.specs.declared.channel.Gone.TheVariants.{Closed}
-use Rattle.box_worker.specs.Told.{AreOfWorker, worker_of, owed_to}
+use Rattle.box_worker.specs.Told.{worker_of, owed_to}
 use Rattle.lmtp_house.specs.declared.house.report.Tally.{Tally}
 use Rattle.lmtp_talk.specs.Peer.{PeerState}
-use Rattle.lmtp_lane.specs.LaneExchange.{AreOfLane}
 use Rattle.mail_world.specs.Counts.{counted}
 use Rattle.lmtp_lane.specs.LaneAccount.{IsAnswered}
 use Rattle.lmtp_lane.specs.Visits.{Finished, HasVisited, conversations_of}
@@ -43,7 +43,7 @@ module _ {V C : Type 0} where
   pub record IsLaneReady (out : V → Bool) (task : LaneTask V C) : Type 0 where
     pub site : task.desk_site ≡ task.site
     pub count : length task.senders ≡ length task.site.boxes
-    pub lane : AreOfLane task.lane task.senders
+    pub lane : HaveNumber task.lane task.senders
     pub none_out : out task.visits ≡ false
 
 -- what a worker is given
@@ -68,7 +68,7 @@ module _ {S : Type 0} where
   pub record IsBoxReady (task : BoxTask S) : Type 0 where
     pub fresh : taken task.receiver ≡ []
     pub lanes : length task.slips ≡ task.receiver.lanes
-    pub worker : AreOfWorker (worker_of task.slips) task.slips
+    pub worker : HaveNumber (worker_of task.slips) task.slips
 
 -- as IsLaneWork, with the outcomes as they were gathered
 pub record IsServedLane (site : Site) (May : ℕ → Type 0) (MayCome : PeerState → Type 0) (k : ℕ) (work : LaneWork)

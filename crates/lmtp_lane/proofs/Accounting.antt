@@ -25,20 +25,6 @@ use Rattle.mail_world.specs.Counts.{counted}
 use Rattle.lmtp_lane.specs.LaneAccount.{IsAnswered, AreEpisodes, IsHeardInTurn, HasOffered, HoldsDraft, verdict_with, verdict_on, Delivers}
 use Rattle.lmtp_talk.specs.Delivery.{EndsDraft}
 
--- another DATA command
-pub offered_counted : (lane : ℕ) (May : ℕ → Type 0) (a b : List (Sender Note)) (i j : Inbox Slip) (gone : Bool) (accepted accepted' n : ℕ) (ts : List Transaction)
-    → accepted' ≡ counted (accepted + 1) → HasOffered lane May a b i j gone accepted n ts → HasOffered lane May a b i j gone accepted' (n + 1) ts
-offered_counted lane May a b i j gone accepted accepted' n ts e x = record {
-  count = omega (arith, e, x.count);
-  own = x.own;
-  heard = x.heard;
-  exchanged = x.exchanged;
-  turns = x.turns;
-  answered = x.answered;
-  verdicts = x.verdicts;
-  moments = x.moments;
-}
-
 -- a slip that was found is found where more are heard
 front_by : (p : Slip → Bool) (x : Slip) (xs more : List Slip) (o : Outcome) (t : Bool)
     → (option_map (λ s. s.outcome) (find p xs) ≡ Some o → option_map (λ s. s.outcome) (find p (xs ++ more)) ≡ Some o)

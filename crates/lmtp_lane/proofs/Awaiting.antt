@@ -86,21 +86,11 @@ nothing_then lane number session now next inbox inbox' inbox'' gather gather' go
     then moment message notes n heard before old_inbox (way_gone lane all (txn_of lane number) n heard before now old_inbox inbox gather gone x inbox' same.0 same.1 took)
 
 -- one after the other
-pub awaits_then : (lane number : ℕ) (session : Session) (a b c : List (Sender Note)) (i j k : Inbox Slip) (f g h : Gather) (p q r : Bool)
-    → Awaits lane number session a b i j f g p q → Awaits lane number session b c j k g h q r → Awaits lane number session a c i k f h p r
-awaits_then lane number session a b c i j k f g h p q r first second moment message notes n heard before old_inbox x =
-    second moment message notes n heard before old_inbox (first moment message notes n heard before old_inbox x)
-
 pub continues_then : (lane : ℕ) (txn : Txn) (xs ys zs : List Note) (a b c : List (Sender Note)) (i j k : Inbox Slip) (f g h : Gather) (p q r : Bool)
     → xs ++ ys ≡ zs → Continues lane txn xs a b i j f g p q → Continues lane txn ys b c j k g h q r → Continues lane txn zs a c i k f h p r
 continues_then lane txn xs ys zs a b c i j k f g h p q r e first second notes n heard before old_inbox x =
     let P : List Note → Type 0 = λ l. IsUnderWay lane l txn n heard before c old_inbox k h r in
     subst P (append_assoc notes xs ys ∙ ap (λ l. notes ++ l) e) (second (notes ++ xs) n heard before old_inbox (first notes n heard before old_inbox x))
-
-pub continues_none : (lane : ℕ) (txn : Txn) (a : List (Sender Note)) (i : Inbox Slip) (f : Gather) (p : Bool) → Continues lane txn [] a a i i f f p p
-continues_none lane txn a i f p notes n heard before old_inbox x =
-    let P : List Note → Type 0 = λ l. IsUnderWay lane l txn n heard before a old_inbox i f p in
-    subst P (sym (append-nil notes)) x
 
 -- one copy more of a transaction
 copies-snoc : (lane : ℕ) (number : ℕ) (session : Session) (moment : ℕ) (message : List ℕ) (first : ℕ) (boxes : List ℕ) (box : ℕ)
@@ -126,13 +116,6 @@ next_copy lane number session moment message place low =
     let next : take place rs ++ get_or rs place 0 ∷ [] ≡ take (place + 1) rs = sym (take-suc rs place 0 low) ∙ ap (λ k. take k rs) (sym (add-one place)) in
     ap (λ k. copies_from lane t 0 (take place rs) ++ copy_at lane number session moment message k (get_or rs place 0) ∷ []) (sym size)
     ∙ sym (copies-snoc lane number session moment message 0 (take place rs) (get_or rs place 0)) ∙ ap (λ l. copies_from lane t 0 l) next
-
-pub last_copy : (lane number : ℕ) (session : Session) (moment : ℕ) (message : List ℕ) (place : ℕ) → place + 1 ≡ length session.recipients
-    → copies_from lane (sent_as number session moment message) 0 (take place session.recipients) ++ copy_at lane number session moment message place (get_or session.recipients place 0) ∷ []
-    ≡ copies_from lane (sent_as number session moment message) 0 session.recipients
-last_copy lane number session moment message place e =
-    next_copy lane number session moment message place (omega arith)
-    ∙ ap (λ l. copies_from lane (sent_as number session moment message) 0 l) (ap (λ k. take k session.recipients) e ∙ take_all (length session.recipients) session.recipients (omega arith))
 
 -- the loop over the recipients, and its end
 pub offered_next : (lane lane' number : ℕ) (session : Session) (moment : ℕ) (message message' : List ℕ) (place : ℕ) (a b c : List (Sender Note)) (i j k : Inbox Slip) (f g h : Gather) (p q r : Bool)

@@ -8,6 +8,7 @@ use Rattle.std.proofs.lemmas.Bool.Decides.{nat_tests}
 use Rattle.mail_world.specs.declared.Note.{Note}
 use Rattle.mail_world.specs.declared.Outcome.{Outcome}
 use Rattle.mail_world.specs.declared.Slip.{Slip}
+use Rattle.mail_world.specs.Fronts.{IsFront}
 use Rattle.mail_world.specs.Runs.{slips_from}
 use Rattle.mail_world.specs.Slips.{of_worker}
 use Rattle.mail_world.specs.declared.Outcome.TheVariants.{Stored, Failed}
@@ -37,7 +38,7 @@ use Rattle.lmtpd.specs.Rehearsal.{AreMailboxes, EndsFor, IsHeld, IsListed, IsReh
 use Rattle.lmtpd.proofs.Boxes.{state_of, get_some, get_same, kept_is, length-kept, bytes_are, none_failed, all_calm, is_full, holds_stored}
 use Rattle.lmtpd.proofs.Rising.{NumbersRise, numbers_rise}
 use Rattle.lmtpd.proofs.Written.{Appends-then}
-use Rattle.lmtpd.proofs.Telling.{IsBegunBy, told_stored, all_stored}
+use Rattle.lmtpd.proofs.Telling.{IsFrontOfOwed, told_stored, all_stored}
 
 -- a peer that never says to stop
 never_rises : (n : ℕ) → n ≡ 0 → Rises 0 n → ⊥
@@ -146,7 +147,7 @@ record BoxAt (site : Site) (work : BoxWork) (spools : List MemorySpool) (tallies
 record HaveWorked (site : Site) (ts : List Transaction) (heard : List Slip) (boxes : ℕ → BoxWork) (count : ℕ) (spools : List MemorySpool) (tallies : List Tally) : Type 0 where
   answered : AllByRecursion (λ t. OutcomesIn 0 heard t t.disposition.verdict) ts
   known : AllByRecursion (λ slip. slip.worker < count) heard
-  begun : (b : ℕ) → b < count → IsBegunBy (λ k. (boxes k).stored) heard ts b
+  begun : (b : ℕ) → b < count → IsFrontOfOwed (λ k. (boxes k).stored) heard ts b
   taken : (b : ℕ) → b < count → (boxes b).taken ≡ owed 0 b ts
   each : (b : ℕ) → b < count → BoxAt site (boxes b) spools tallies b
   as_many : (length spools ≡ count) × (length tallies ≡ count)
@@ -228,9 +229,8 @@ module _ (site : Site) (moment : ℕ) {P : Type 0} (state : P → PeerState) (pe
         answered = answered;
         known = subst K many (h.told_only 0 one);
         begun = λ b low.
-            let front = h.told 0 b one (low_in b low) in
-            let B : List Note → Type 0 = λ notes. of_worker b heard ++ front.rest ≡ filter (λ slip. slip.txn.lane == 0) (slips_from b (h.boxes b).stored 0 notes) in
-            record { rest = front.rest; whole = subst B (taken b low) front.whole };
+            let B : List Note → Type 0 = λ notes. IsFront (of_worker b heard) (filter (λ slip. slip.txn.lane == 0) (slips_from b (h.boxes b).stored 0 notes)) in
+            subst B (taken b low) (h.told 0 b one (low_in b low));
         taken = taken;
         each = λ b low.
             let spool = get_some spools b (omega (arith, many, low, h.as_many_boxes.0)) in

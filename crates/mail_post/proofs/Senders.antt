@@ -1,11 +1,6 @@
 -- The senders of one channel, for callers.
 use Rattle.std.proofs.Common.{◌≡◌, ◌+◌, ◌<◌, ℕ, zero, suc, List, [], ◌∷◌, ◌++◌, length, get_or, set, refl, sym, ap, ◌∙◌, arith, add-zero, add-one, slice_index_or, ⊎_elim, ◌⊎◌, length-append}
 use Rattle.std.proofs.lemmas.List.{get_or_append_left, length-map}
-use Rattle.mail_world.specs.declared.Note.{Note}
-use Rattle.mail_world.specs.declared.Slip.{Slip}
-use Rattle.mail_world.specs.Lists.{of_lane}
-use Rattle.mail_world.specs.Slips.{of_worker}
-use Rattle.mail_post.specs.Parcels.{of}
 use Rattle.mail_post.specs.Channel.{Channel, Sender, AreSendersFrom, new_senders, lists}
 
 below_or_last : (k n : ℕ) → k < suc n → (k < n) ⊎ (k ≡ n)
@@ -14,13 +9,6 @@ below_or_last k n l = grind arith
 at_last : {A : Type 0} (xs : List A) (x d : A) → slice_index_or (xs ++ x ∷ []) (length xs) d ≡ x
 at_last [] x d = refl
 at_last (y ∷ xs) x d = at_last xs x d
-
--- the words of the definitions are those of the channels
-pub of_notes : (k : ℕ) (notes : List Note) → of (λ (note : Note). note.txn.lane) k notes ≡ of_lane k notes
-of_notes k notes = refl
-
-pub of_slips : (worker : ℕ) (slips : List Slip) → of (λ (slip : Slip). slip.worker) worker slips ≡ of_worker worker slips
-of_slips worker slips = refl
 
 module _ {M : Type 0} where
   -- lane j of those of one channel

@@ -4,9 +4,12 @@ ghost use Rattle.std.specs.Prelude.{◌≡◌, true, false, ◌<◌, [], ◌∷�
 ghost use Rattle.crossbeam_channel.specs.Claims.{IsSeatAt};
 ghost use Rattle.crossbeam_channel.specs.Ends.{sends_on, receives_on};
 ghost use Rattle.mail_post.specs.Views.{sender};
-ghost use Rattle.mail_post.specs.Channel.{view_of, taken, IsNext, IsDrained, TookSome, TookAll, new_senders, new_inbox, AreSenders, AreSendersOf, lists};
+ghost use Rattle.mail_post.specs.Channel.{view_of, taken, IsNext, IsDrained, TookSome, TookAll};
+ghost use Rattle.mail_post.specs.Channel.{new_senders, new_inbox, AreSenders, AreSendersOf, lists};
 
-use crate::rule::{Ends, LaneOrder, FromSender, Lanes, Offers, Opens, Parcel, Settles, Takes, View};
+use crate::rule::{
+    Ends, FromSender, LaneOrder, Lanes, Offers, Opens, Parcel, Settles, Takes, View,
+};
 use crossbeam_channel::{Pass, RuledReceiver, RuledSender, bounded_with};
 use std::alloc::{AllocError, Global};
 use std::marker::Model;
@@ -41,7 +44,11 @@ pub fn open_channel<M: FromSender>(
     for lane in 0..lanes {
         let pass = to.another::<Lanes>(&mut first);
         let end = to.try_clone()?;
-        senders.push(ChannelSender { end, pass, number: lane })?;
+        senders.push(ChannelSender {
+            end,
+            pass,
+            number: lane,
+        })?;
     }
     Ok((
         senders,
@@ -74,7 +81,8 @@ impl<M: FromSender> Model for ChannelSender<M> {
 
     ghost view = { λ s. record { channel = channel_of s.pass; number = s.number; sent = (view_of s.pass).sent } };
 
-    ghost invariant = { λ s. IsSeatAt (sends_on s.end) s.pass × (view_of s.pass ≡ sender s.number (view_of s.pass).sent false) };
+    ghost invariant = { λ s. IsSeatAt (sends_on s.end) s.pass
+        × (view_of s.pass ≡ sender s.number (view_of s.pass).sent false) };
 }
 
 impl<M: FromSender> ChannelSender<M> {
@@ -122,9 +130,15 @@ impl<M: FromSender> Model for ChannelReceiver<M> {
 
     ghost Value = { Inbox M };
 
-    ghost view = { λ r. record { channel = channel_of r.pass; lanes = r.lanes; got = (view_of r.pass).got; gone = r.gone } };
+    ghost view = { λ r. record {
+      channel = channel_of r.pass;
+      lanes = r.lanes;
+      got = (view_of r.pass).got;
+      gone = r.gone;
+    } };
 
-    ghost invariant = { λ r. IsSeatAt (receives_on r.end) r.pass × IsInbox M.sender r.lanes r.marks r.gone (view_of r.pass) };
+    ghost invariant = { λ r. IsSeatAt (receives_on r.end) r.pass
+        × IsInbox M.sender r.lanes r.marks r.gone (view_of r.pass) };
 }
 
 impl<M: FromSender> ChannelReceiver<M> {
@@ -208,7 +222,8 @@ fn put_mark<M: FromSender, R: Wait>(
     requires seat { IsSeatAt (sends_on end.now) pass.old }
     requires knows { view_of pass.old ≡ sender lane (view_of pass.old).sent false }
     ensures seat { IsSeatAt (sends_on end.now) pass.new }
-    ensures knows { ((view_of pass.new).sends ≡ true) × ((view_of pass.new).lane ≡ lane) × ((view_of pass.new).sent ≡ (view_of pass.old).sent) }
+    ensures knows { ((view_of pass.new).sends ≡ true) × ((view_of pass.new).lane ≡ lane)
+        × ((view_of pass.new).sent ≡ (view_of pass.old).sent) }
 {
     if is_lost {
         return true;
@@ -252,8 +267,12 @@ impl<M: FromSender> ChannelClosed<M> {
     }
 }
 
-/// Puts one closing mark for each sender, in lane order. Where the receiver is gone it puts no more, and answers the same.
-pub fn close_channel<M: FromSender, R: Wait>(senders: Vec<ChannelSender<M>>, rt: &R) -> ChannelClosed<M>
+/// Puts one closing mark for each sender, in lane order. Where the receiver is gone it puts no more, and answers the
+/// same.
+pub fn close_channel<M: FromSender, R: Wait>(
+    senders: Vec<ChannelSender<M>>,
+    rt: &R,
+) -> ChannelClosed<M>
     requires { AreSenders senders.items }
     ensures channel { AreSendersOf result.channel senders.items }
     ensures sent { result.sent ≡ lists senders.items }
@@ -269,8 +288,8 @@ pub fn close_channel<M: FromSender, R: Wait>(senders: Vec<ChannelSender<M>>, rt:
     closed
 }
 
-/// Both ends of a channel, handed back: what was taken of each lane is the start of what the lane was told was accepted, and all of it once the
-/// receiver answered Closed. It costs nothing when it runs.
+/// Both ends of a channel, handed back: what was taken of each lane is the start of what the lane was told was
+/// accepted, and all of it once the receiver answered Closed. It costs nothing when it runs.
 pub fn settle<M: FromSender>(receiver: ChannelReceiver<M>, closed: ChannelClosed<M>)
     requires channel { receiver.channel ≡ closed.channel }
     requires lanes { length closed.sent ≡ receiver.lanes }

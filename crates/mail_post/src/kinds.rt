@@ -1,4 +1,5 @@
-//! The two kinds of channel: a mailbox's, from the lanes to its worker, and a lane's, from the workers that give it slips.
+//! The two kinds of channel: a mailbox's, from the lanes to its worker, and a lane's, from the workers that give it
+//! slips.
 
 ghost use Rattle.std.specs.Prelude.{◌≡◌, ◌<◌, [], IfOk};
 ghost use Rattle.mail_post.specs.Channel.{new_senders, new_inbox, AreSenders, AreSendersOf, lists};
@@ -54,7 +55,8 @@ pub fn mail_line<N: DepotName>(
     open_channel(alloc, capacity, lanes)
 }
 
-/// Puts one closing mark for each sender, in lane order. Where the receiver is gone it puts no more, and answers the same.
+/// Puts one closing mark for each sender, in lane order. Where the receiver is gone it puts no more, and answers the
+/// same.
 pub fn close<N: DepotName, R: Wait>(senders: Vec<Sender<N>>, rt: &R) -> Closed<N>
     requires { AreSenders senders.items }
     ensures channel { AreSendersOf result.channel senders.items }
@@ -63,7 +65,8 @@ pub fn close<N: DepotName, R: Wait>(senders: Vec<Sender<N>>, rt: &R) -> Closed<N
     close_channel::<Post<N>, R>(senders, rt)
 }
 
-/// The channel of one lane's slips: a sender for each worker, and the receiver. It has room for a slip of each recipient of a message.
+/// The channel of one lane's slips: a sender for each worker, and the receiver. It has room for a slip of each
+/// recipient of a message.
 pub fn slip_line(alloc: Global, workers: u32) -> Result<(Vec<SlipSender>, SlipReceiver), AllocError>
     requires { 0 < workers }
     ensures senders { IfOk result (λ ends. ends.0.items ≡ new_senders ends.1.channel workers) }

@@ -7,7 +7,9 @@ ghost use Rattle.lmtp_house.specs.HouseGrid.{lists, IsRoom};
 ghost use Rattle.lmtp_house.specs.HouseChannels.{IsNewChannel, AreRows, AreNewChannels, AreClosed, CanSettle, IsSettled, IsShut, MayClose};
 
 use crate::house::grid::{empty_rows, transpose};
-use mail_post::{FromSender, ChannelClosed, ChannelReceiver, ChannelSender, close_channel, open_channel, settle};
+use mail_post::{
+    ChannelClosed, ChannelReceiver, ChannelSender, FromSender, close_channel, open_channel, settle,
+};
 use std::alloc::{AllocError, Global};
 use std::marker::Model;
 use std::sync::Wait;

@@ -5,9 +5,9 @@ ghost use Rattle.std.specs.Arc.{arc_value};
 ghost use Rattle.mail_world.specs.declared.limits.TheConstants.{LANE_LIMIT};
 ghost use Rattle.lmtp_house.specs.HousePlan.{IsPlanned, MayRun, HasRunAll};
 
+use crate::house::channels::{Closing, open_channels, settle_all};
 use crate::house::fault::HouseFault;
 use crate::house::lanes::{Lanes, lane_jobs};
-use crate::house::channels::{Closing, open_channels, settle_all};
 use crate::house::report::HouseReport;
 use crate::house::workers::{Workers, worker_jobs};
 use box_worker::Gate;

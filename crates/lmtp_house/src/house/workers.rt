@@ -5,7 +5,8 @@ ghost use Rattle.std.specs.List.{AllByRecursion};
 ghost use Rattle.std.specs.Arc.{arc_value};
 ghost use Rattle.lmtp_text.specs.Calendar.{civil_at};
 ghost use Rattle.box_worker.specs.Told.{worker_of};
-ghost use Rattle.box_worker.specs.Worked.{HasWorked};
+ghost use Rattle.box_worker.specs.Stored.{kept};
+ghost use Rattle.box_worker.specs.Worked.{idle, HasWorked};
 ghost use Rattle.lmtp_house.specs.HouseGrid.{lists, IsRoom};
 ghost use Rattle.lmtp_house.specs.HouseTasks.{box_task, box_tasks, tally_of, IsBoxReady, HaveWorkedAll};
 
@@ -51,7 +52,9 @@ where
 
     ghost ready = { λ job. IsBoxReady job };
 
-    ghost done = { λ job r. HasWorked civil_at job.host (worker_of job.slips) job.receiver r.receiver job.slips r.slips.items (S.state job.spool) (S.state r.spool) r.taken r.stored r.faulty r.lost };
+    ghost done = { λ job r. HasWorked (record { calendar = civil_at; host = job.host; worker = worker_of job.slips }) job.receiver r.receiver
+        (idle job.slips (S.state job.spool))
+        (record { slips = r.slips.items; mailbox = kept (S.state r.spool) r.stored r.faulty; taken = r.taken; lost = r.lost }) };
 
     fn run<R: Wait>(self, rt: &R) -> WorkerReport<N, S, G> {
         let WorkerJob {

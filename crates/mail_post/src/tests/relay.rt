@@ -1,10 +1,13 @@
-//! Lanes and a worker in threads of their own, over one channel. What was taken of each lane is proved to be what it was to send.
+//! Lanes and a worker in threads of their own, over one channel. What was taken of each lane is proved to be what it
+//! was to send.
 
-ghost use Rattle.std.specs.Prelude.{◌≡◌, ◌<◌, ◌≤◌, ◌++◌, [], Some, length, IfOk, IfSome, IsTrue, ◌^◌, vec_len, vec_capacity};
+ghost use Rattle.std.specs.Prelude.{◌≡◌, ◌<◌, ◌≤◌, ◌++◌, ◌^◌, [], Some, length, IfOk, IfSome, IsTrue};
+ghost use Rattle.std.specs.Prelude.{vec_len, vec_capacity};
 ghost use Rattle.mail_post.specs.Channel.{lists, taken, TookAll};
-ghost use Rattle.mail_post.specs.Relay.{tasks, dues, task_names, sender_names, job_lists, AreOfLane, AreReady, AreJobsFrom};
+ghost use Rattle.mail_post.specs.Relay.{tasks, dues, task_names, sender_names, job_lists};
+ghost use Rattle.mail_post.specs.Relay.{AreOfLane, AreReady, AreJobsFrom};
 
-use crate::channel::{Gone, ChannelReceiver, ChannelSender, close_channel, open_channel, settle};
+use crate::channel::{ChannelReceiver, ChannelSender, Gone, close_channel, open_channel, settle};
 use crate::rule::FromSender;
 use std::alloc::{AllocError, Global};
 use std::marker::Model;
@@ -29,7 +32,11 @@ pub struct WorkerEnd<M: FromSender> {
 }
 
 // Offers the posts in order.
-fn run_lane<M: FromSender, R: Wait>(rt: &R, mut sender: ChannelSender<M>, posts: Vec<M>) -> LaneEnd<M>
+fn run_lane<M: FromSender, R: Wait>(
+    rt: &R,
+    mut sender: ChannelSender<M>,
+    posts: Vec<M>,
+) -> LaneEnd<M>
     requires { AreOfLane M.sender sender.number posts.items }
     ensures same { (result.sender.channel ≡ sender.channel) × (result.sender.number ≡ sender.number) }
     ensures sent { IsTrue result.is_whole → result.sender.sent ≡ sender.sent ++ posts.items }
@@ -56,7 +63,8 @@ fn run_worker<M: FromSender, R: Wait>(
 ) -> WorkerEnd<M>
     requires { (receiver.got ≡ []) × (posts.items ≡ []) }
     ensures same { (result.receiver.channel ≡ receiver.channel) × (result.receiver.lanes ≡ receiver.lanes) }
-    ensures closed { IsTrue result.is_closed → (result.receiver.gone ≡ Some Gone.Closed) × (result.posts.items ≡ taken result.receiver) }
+    ensures closed { IsTrue result.is_closed
+        → (result.receiver.gone ≡ Some Gone.Closed) × (result.posts.items ≡ taken result.receiver) }
 {
     for _ in rt.forever() {
         match receiver.take(rt) {
@@ -135,7 +143,8 @@ impl<M: FromSender> Running<M> {
         M: Send + 'static,
         R: Threads + Wait + Copy + Send + 'static,
         requires { AreOfLane M.sender sender.number posts.items }
-        ensures { IfOk result (λ r. (r.channel ≡ sender.channel) × (r.number ≡ sender.number) × (r.due ≡ sender.sent ++ posts.items)) }
+        ensures { IfOk result (λ r. (r.channel ≡ sender.channel) × (r.number ≡ sender.number)
+            × (r.due ≡ sender.sent ++ posts.items)) }
     {
         let keeps = LaneKeeps(Snapshot::of(&sender), Snapshot::of(&posts));
         let handle = thread::spawn_with(&rt, keeps, move || run_lane(&rt, sender, posts))?;
@@ -217,7 +226,8 @@ fn join_lanes<M: FromSender, R: Threads>(
     (senders, is_whole)
 }
 
-/// What the worker took, where every lane sent its whole job and the channel was closed: of each lane its job, in order.
+/// What the worker took, where every lane sent its whole job and the channel was closed: of each lane its job, in
+/// order.
 pub fn relay<M, R>(
     rt: R,
     alloc: Global,
