@@ -3,6 +3,7 @@
 
 ghost use Rattle.std.specs.Prelude.{◌≡◌, length};
 
+use crate::tcp::retry::is_silence;
 use lmtp_talk::EndCause;
 use std::io::Read;
 use std::net::{OpenStream, Shutdown};
@@ -16,8 +17,8 @@ const WAIT: u64 = 100;
 
 /// Before a connection is closed: behind a conversation that the server ended, and behind QUIT where bytes
 /// are unread, it is shut down for writing, and what the client still sends is read, at most as much as the
-/// buffer has room for, and for one second. `waits` says that bytes of the stream were read which the
-/// conversation didn't ask for.
+/// buffer has room for, and for one second at most, however it comes. `waits` says that bytes of the stream
+/// were read which the conversation didn't ask for.
 pub fn close<T: Read + OpenStream>(stream: &mut T, buffer: &mut [u8], waits: bool, end: EndCause)
     ensures { length buffer.new ≡ length buffer.old }
 {
@@ -47,7 +48,8 @@ fn unread<T: Read + OpenStream>(stream: &mut T, buffer: &mut [u8]) -> Option<usi
     Some(size)
 }
 
-// Reads on into the buffer, until it is full, nothing more comes, or the time is over.
+// Reads on into the buffer, until it is full, the client has closed its end, or the reads are used up; one that
+// timed out counts as one of them, since the bytes of a far client may still be on their way.
 fn drain<T: Read + OpenStream>(stream: &mut T, buffer: &mut [u8], seen: usize)
     ensures { length buffer.new ≡ length buffer.old }
 {
@@ -63,8 +65,10 @@ fn drain<T: Read + OpenStream>(stream: &mut T, buffer: &mut [u8], seen: usize)
             return;
         }
         match stream.read(&mut buffer[filled..]) {
-            Ok(0) | Err(_) => return,
+            Ok(0) => return,
             Ok(size) => filled += size,
+            Err(error) if is_silence(&error) => {}
+            Err(_) => return,
         }
     }
 }

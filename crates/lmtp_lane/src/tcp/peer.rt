@@ -3,9 +3,9 @@
 ghost use Rattle.std.specs.Prelude.{◌≡◌, ◌<◌, length, IfOk, OnErr};
 
 use crate::tcp::read_buffer::ReadBuffer;
-use crate::tcp::retry::write_some;
+use crate::tcp::retry::{is_silence, write_some};
 use lmtp_talk::{Came, Peer, PeerFault};
-use std::io::{Error, ErrorKind, Read, Write};
+use std::io::{Read, Write};
 
 /// A client whose bytes come and go over a stream. What the system has for it is read at once, as far as the
 /// buffer goes, and handed out in pieces. It says that the server is to stop once so many pieces were handed
@@ -115,9 +115,4 @@ impl<T: Read + Write> Peer for TcpPeer<T> {
             Ok(size) => Ok(size),
         }
     }
-}
-
-// Nothing came within the stream's time.
-fn is_silence(error: &Error) -> bool {
-    matches!(error.kind(), ErrorKind::WouldBlock | ErrorKind::TimedOut)
 }

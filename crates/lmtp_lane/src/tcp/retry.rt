@@ -39,3 +39,8 @@ pub fn write_some<T: Write>(stream: &mut T, bytes: &[u8]) -> io::Result<usize>
     }
     Err(Error::from(ErrorKind::Interrupted))
 }
+
+/// Whether a call was given up because nothing happened within the stream's time.
+pub fn is_silence(error: &Error) -> bool {
+    matches!(error.kind(), ErrorKind::WouldBlock | ErrorKind::TimedOut)
+}

@@ -10,13 +10,17 @@ use std::test::Fail;
 
 const SILENT: Act = Act::Fails(ErrorKind::WouldBlock);
 
+const TIMED_OUT: Act = Act::Fails(ErrorKind::TimedOut);
+
+const RESET: Act = Act::Fails(ErrorKind::ConnectionReset);
+
 const SAYS_ONE: Act = Act::Says(b"x");
 
 /// Why the conversation ended, whether bytes wait in the buffer, what the client does, and then: how often
 /// the stream is shut down for writing, how often it is read, and how many bytes come.
 type Closing = (EndCause, bool, &'static [Act], (u64, u64, u64));
 
-const CLOSINGS: [Closing; 13] = [
+const CLOSINGS: [Closing; 15] = [
     (
         EndCause::Stopped,
         false,
@@ -24,7 +28,10 @@ const CLOSINGS: [Closing; 13] = [
         (1, 1, 65_536),
     ),
     (EndCause::Stopped, false, &[SAYS_ONE; 20], (1, 10, 10)),
-    (EndCause::Stopped, false, &[SILENT, SAYS_ONE], (1, 1, 0)),
+    // a far client's bytes come late
+    (EndCause::Stopped, false, &[SILENT, SAYS_ONE], (1, 3, 1)),
+    (EndCause::Stopped, false, &[SILENT; 20], (1, 10, 0)),
+    (EndCause::Stopped, false, &[RESET, SAYS_ONE], (1, 1, 0)),
     (
         EndCause::ReadBound,
         false,
@@ -39,8 +46,8 @@ const CLOSINGS: [Closing; 13] = [
     (
         EndCause::Quit,
         false,
-        &[SAYS_ONE, SAYS_ONE, SILENT],
-        (1, 3, 2),
+        &[SAYS_ONE, SAYS_ONE, TIMED_OUT],
+        (1, 4, 2),
     ),
     (
         EndCause::Quit,
