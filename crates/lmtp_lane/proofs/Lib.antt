@@ -4,5 +4,4 @@ pub mod Delivering
 pub mod Accounting
 pub mod Visiting
 pub mod Timely
-pub mod HandedOut
 pub mod SharedOut

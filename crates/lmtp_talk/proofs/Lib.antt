@@ -7,3 +7,4 @@ pub mod Messages
 pub mod Carrying
 pub mod Ends
 pub mod Turning
+pub mod HandedOut

@@ -1,8 +1,8 @@
 use Rattle.std.proofs.Common.{ℕ, arith}
 use Rattle.std.proofs.lemmas.Grind.{common_steps}
 use Rattle.std.proofs.lemmas.List.{length-take, length-drop}
-use Rattle.lmtp_lane.proofs.HandedOut.{waiting_parts}
-use Rattle.lmtp_lane.proofs.tcp.read_buffer.ReadBuffer.hand_out.Goals as goal
+use Rattle.lmtp_talk.proofs.HandedOut.{waiting_parts}
+use Rattle.lmtp_talk.proofs.tcp.read_buffer.ReadBuffer.hand_out.Goals as goal
 
 pub returns : goal.returns
 returns c =

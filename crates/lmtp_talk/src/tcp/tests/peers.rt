@@ -1,9 +1,7 @@
 //! What a client over a stream answers.
 
 use super::fakes::{Act, Log, Wire};
-use crate::tcp::peer::TcpPeer;
-use crate::tcp::read_buffer::ReadBuffer;
-use lmtp_talk::{Came, Peer, PeerFault};
+use crate::{Came, Peer, PeerFault, ReadBuffer, TcpPeer};
 use std::io::ErrorKind;
 use std::test::Fail;
 

@@ -2,8 +2,7 @@
 
 use super::fakes::{Act, Log, Wire};
 use crate::tcp::drain::close;
-use crate::tcp::read_buffer::ReadBuffer;
-use lmtp_talk::EndCause;
+use crate::{EndCause, ReadBuffer, TcpPeer};
 use std::io::ErrorKind;
 use std::sync::Arc;
 use std::test::Fail;
@@ -69,7 +68,7 @@ fn the_last_bytes_are_drained(rt: HostRuntime) -> Result<(), Fail> {
         close(&mut wire, &mut buffer.bytes, waits, end);
         assert_eq!(rt; log.counts(), counts, "behind {end:?}");
         if counts.0 == 1 {
-            assert_eq!(rt; log.timeouts().0, 100);
+            assert_eq!(rt; log.timeout(), 100);
         }
     }
     Ok(())
@@ -84,5 +83,18 @@ fn nothing_is_read_that_could_wait_for_ever(rt: HostRuntime) -> Result<(), Fail>
         close(&mut wire, &mut buffer.bytes, false, end);
         assert_eq!(rt; log.counts(), (shutdowns, 0, 0));
     }
+    Ok(())
+}
+
+#[test]
+fn a_closed_peer_gives_its_buffer_back(rt: HostRuntime) -> Result<(), Fail> {
+    let buffer = ReadBuffer::new(rt.alloc())?;
+    let capacity = buffer.bytes.capacity();
+    let log = Log::new(rt.alloc())?;
+    let wire = Wire::new(&[SAYS_ONE], Arc::try_clone(&log)?, false);
+    let peer = TcpPeer::new(wire, buffer, 1);
+    let buffer = peer.close(EndCause::Stopped);
+    assert_eq!(rt; buffer.bytes.capacity(), capacity);
+    assert_eq!(rt; log.counts(), (1, 2, 1));
     Ok(())
 }

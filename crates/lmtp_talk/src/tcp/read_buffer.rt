@@ -24,7 +24,7 @@ pub struct ReadBuffer {
 impl ReadBuffer {
     ghost use Rattle.std.specs.Prelude.{[], take, drop, min, IsTrue, ◌≡◌, ◌↔◌, ◌++◌, ◌-◌, Ok, OnErr};
     ghost use Rattle.std.specs.Io.KnownBytes.{ReadConsumes};
-    ghost use Rattle.lmtp_lane.specs.ReadBuffer.{waiting, Refills, HandsOut};
+    ghost use Rattle.lmtp_talk.specs.ReadBuffer.{waiting, Refills, HandsOut};
 
     /// A buffer of 64 KiB.
     pub fn new(alloc: Global) -> Result<ReadBuffer, AllocError>

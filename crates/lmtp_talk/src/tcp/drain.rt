@@ -3,8 +3,8 @@
 
 ghost use Rattle.std.specs.Prelude.{◌≡◌, length};
 
+use crate::ending::EndCause;
 use crate::tcp::retry::is_silence;
-use lmtp_talk::EndCause;
 use std::io::Read;
 use std::net::{OpenStream, Shutdown};
 use std::time::Duration;

@@ -1,7 +1,7 @@
 -- What a buffer before a stream has and hands out.
 use Rattle.std.specs.Prelude.{◌≡◌, ◌-◌, ◌++◌, ◌≤◌, ◌<◌, ℕ, List, [], length, take, drop, Result, MatchResult, Option}
 use Rattle.std.specs.Io.KnownBytes.{Consumes, Keeps, IsAtEnd}
-use Rattle.lmtp_lane.specs.declared.tcp.read_buffer.ReadBuffer.{ReadBuffer}
+use Rattle.lmtp_talk.specs.declared.tcp.read_buffer.ReadBuffer.{ReadBuffer}
 
 -- the bytes that were read and are still to be handed out
 abbrev pub waiting : ReadBuffer → List ℕ

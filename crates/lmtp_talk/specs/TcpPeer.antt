@@ -3,9 +3,9 @@ use Rattle.std.specs.Prelude.{◌≡◌, ◌-◌, ◌<◌, ◌⊎◌, ℕ, List,
 use Rattle.std.specs.Io.KnownBytes.{prepend_known}
 use Rattle.lmtp_talk.specs.declared.peer.Came.{Came}
 use Rattle.lmtp_talk.specs.declared.peer.Came.TheVariants.{Bytes, Stop}
-use Rattle.lmtp_lane.specs.declared.tcp.peer.TcpPeer.{TcpPeer}
+use Rattle.lmtp_talk.specs.declared.tcp.peer.TcpPeer.{TcpPeer}
 use Rattle.lmtp_talk.specs.Peer.{PeerState, HasCome, HasWorked}
-use Rattle.lmtp_lane.specs.ReadBuffer.{waiting}
+use Rattle.lmtp_talk.specs.ReadBuffer.{waiting}
 
 -- what its buffer has and then what the stream has left, where the stream tells it; how often it failed and said stop
 abbrev pub reading : {T : Type 0} → (T → Option (List ℕ)) → TcpPeer T → PeerState

@@ -2,28 +2,31 @@
 
 ghost use Rattle.std.specs.Prelude.{◌≡◌, ◌<◌, length, IfOk, OnErr};
 
+use crate::ending::EndCause;
+use crate::peer::{Came, Peer, PeerFault};
+use crate::tcp::drain::close;
 use crate::tcp::read_buffer::ReadBuffer;
 use crate::tcp::retry::{is_silence, write_some};
-use lmtp_talk::{Came, Peer, PeerFault};
 use std::io::{Read, Write};
+use std::net::OpenStream;
 
 /// A client whose bytes come and go over a stream. What the system has for it is read at once, as far as the
 /// buffer goes, and handed out in pieces. It says that the server is to stop once so many pieces were handed
 /// out, and once the stream gave a read up for time (RFC 5321, 4.5.3.2).
 #[derive(Drop)]
 pub struct TcpPeer<T> {
-    pub(super) stream: T,
-    pub(super) buffer: ReadBuffer,
+    stream: T,
+    buffer: ReadBuffer,
     // how many reads may still be made
-    pub(super) reads_left: u64,
+    reads_left: u64,
     // each stays at its largest value
-    pub(super) failures: u64,
-    pub(super) stops: u64,
+    failures: u64,
+    stops: u64,
 }
 
 impl<T> TcpPeer<T> {
     ghost use Rattle.mail_world.specs.Failures.{Rises};
-    ghost use Rattle.lmtp_lane.specs.TcpPeer.{IsNew};
+    ghost use Rattle.lmtp_talk.specs.TcpPeer.{IsNew};
 
     /// A client of whom so many reads may be made.
     pub fn new(stream: T, mut buffer: ReadBuffer, reads: u64) -> TcpPeer<T>
@@ -62,8 +65,8 @@ impl<T> TcpPeer<T> {
 
 impl<T: Read> TcpPeer<T> {
     ghost use Rattle.lmtp_talk.specs.Peer.{HasFailed};
-    ghost use Rattle.lmtp_lane.specs.ReadBuffer.{waiting};
-    ghost use Rattle.lmtp_lane.specs.TcpPeer.{Fills, reading};
+    ghost use Rattle.lmtp_talk.specs.ReadBuffer.{waiting};
+    ghost use Rattle.lmtp_talk.specs.TcpPeer.{Fills, reading};
 
     // Reads on where nothing waits, and says what the client did where it said nothing.
     fn fill(&mut self) -> Result<Option<Came>, PeerFault>
@@ -84,10 +87,25 @@ impl<T: Read> TcpPeer<T> {
     }
 }
 
+impl<T: Read + OpenStream + Drop> TcpPeer<T> {
+    /// Closes the connection of a conversation that ended so, and gives the buffer back; a client who may still
+    /// send has up to a second to hear the last reply.
+    pub fn close(self, end: EndCause) -> ReadBuffer {
+        let TcpPeer {
+            mut stream,
+            mut buffer,
+            ..
+        } = self;
+        let waits = !buffer.is_empty();
+        close(&mut stream, &mut buffer.bytes, waits, end);
+        buffer
+    }
+}
+
 impl<T: Read + Write> Peer for TcpPeer<T> {
     ghost use Rattle.std.specs.Prelude.{[], None};
     ghost use Rattle.lmtp_talk.specs.Peer.{HasCome, HasFailed, HasGiven};
-    ghost use Rattle.lmtp_lane.specs.TcpPeer.{TakesRead, reading};
+    ghost use Rattle.lmtp_talk.specs.TcpPeer.{TakesRead, reading};
 
     ghost state = { λ p. record { read = None; unread = None; written = None; failures = p.failures; stops = p.stops; holds = [] } };
 
