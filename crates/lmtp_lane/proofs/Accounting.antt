@@ -21,7 +21,7 @@ use Rattle.msg_depot.specs.declared.view.Claim.{Claim}
 use Rattle.mail_post.specs.Line.{Lane, Inbox, taken}
 use Rattle.lmtp_lane.specs.LaneExchange.{HasExchanged, Episode, IsEpisode, sent_as}
 use Rattle.lmtp_lane.specs.LaneAccount.{counted, IsAnswered, AreEpisodes, IsHeardInTurn, HasOffered, HoldsDraft, verdict_with, verdict_on, Delivers}
-use Rattle.lmtp_talk.specs.Delivery.{EndsDraft}
+use Rattle.lmtp_talk.specs.Delivery.{ended_so, EndsDraft}
 
 -- another DATA command
 pub offered_counted : (lane : ℕ) (May : ℕ → Type 0) (a b : List (Lane Note)) (i j : Inbox Slip) (gone : Bool) (accepted accepted' n : ℕ) (ts : List Transaction)
@@ -166,7 +166,7 @@ turns_none lane i j own heard ts t x =
 pub ended_refused : (lane : ℕ) (May : ℕ → Type 0) (a b : List (Lane Note)) (i j : Inbox Slip) (gone : Bool) (accepted size : ℕ) (draft : Option Claim) (session : Session) (moment : ℕ)
     (told : List Outcome) (v : Verdict) → v ≡ verdict_on accepted size draft → (v ≡ Whole → ⊥) → May moment
     → (n : ℕ) (ts : List Transaction) (message : List ℕ) → HasOffered lane May a b i j gone accepted n ts × HoldsDraft draft size message
-    → EndsDraft (λ n ts. HasOffered lane May a b i j gone accepted n ts) moment told session n ts message v
+    → EndsDraft (λ n ts. HasOffered lane May a b i j gone accepted n ts) n ts session message (ended_so v moment told)
 ended_refused lane May a b i j gone accepted size draft session moment told v is other may n ts message h =
     let x = h.0 in
     let t : Transaction = record { number = n; session = session; message = message; disposition = record { verdict = v; moment = moment; outcomes = told } } in
@@ -201,7 +201,7 @@ whole_same : (lane : ℕ) (May : ℕ → Type 0) (a b b' : List (Lane Note)) (i 
     (moment : ℕ) (told : List Outcome) → accepted ≤ NUMBER_LIMIT → draft ≡ Some claim → Whole ≡ verdict_on accepted size draft → May moment
     → Delivers lane accepted session moment claim.bytes told b b' j j' gone gone'
     → (n : ℕ) (ts : List Transaction) (message : List ℕ) → HasOffered lane May a b i j gone accepted n ts × HoldsDraft draft size message
-    → EndsDraft (λ n ts. HasOffered lane May a b' i j' gone' accepted n ts) moment told session n ts message Whole
+    → EndsDraft (λ n ts. HasOffered lane May a b' i j' gone' accepted n ts) n ts session message (ended_so Whole moment told)
 whole_same lane May a b b' i j j' gone gone' accepted size draft claim session moment told low there is may delivers n ts message h =
     let x = h.0 in
     let t : Transaction = record { number = n; session = session; message = message; disposition = record { verdict = Whole; moment = moment; outcomes = told } } in
@@ -230,11 +230,11 @@ pub ended_whole : (lane at : ℕ) (May : ℕ → Type 0) (a b b' : List (Lane No
     → accepted ≤ NUMBER_LIMIT → draft ≡ Some claim → Whole ≡ verdict_on accepted size draft → May moment
     → Delivers at accepted session moment claim.bytes told b b' j j' gone gone'
     → (n : ℕ) (ts : List Transaction) (message : List ℕ) → HasOffered lane May a b i j gone accepted n ts × HoldsDraft draft size message
-    → EndsDraft (λ n ts. HasOffered lane May a b' i j' gone' accepted' n ts) moment' told session n ts message Whole
+    → EndsDraft (λ n ts. HasOffered lane May a b' i j' gone' accepted' n ts) n ts session message (ended_so Whole moment' told)
 ended_whole lane at May a b b' i j j' gone gone' accepted accepted' size draft claim session moment moment' told here same low there is may delivers n ts message h =
     let D : ℕ → Type 0 = λ l. Delivers l accepted session moment claim.bytes told b b' j j' gone gone' in
-    let Q : ℕ → Type 0 = λ k. EndsDraft (λ n ts. HasOffered lane May a b' i j' gone' k n ts) moment' told session n ts message Whole in
-    let R : ℕ → Type 0 = λ m. EndsDraft (λ n ts. HasOffered lane May a b' i j' gone' accepted n ts) m told session n ts message Whole in
+    let Q : ℕ → Type 0 = λ k. EndsDraft (λ n ts. HasOffered lane May a b' i j' gone' k n ts) n ts session message (ended_so Whole moment' told) in
+    let R : ℕ → Type 0 = λ m. EndsDraft (λ n ts. HasOffered lane May a b' i j' gone' accepted n ts) n ts session message (ended_so Whole m told) in
     subst Q (sym same.0) (subst R (sym same.1)
     (whole_same lane May a b b' i j j' gone gone' accepted size draft claim session moment told low there is may (subst D here delivers) n ts message h))
 

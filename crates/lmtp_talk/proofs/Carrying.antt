@@ -5,14 +5,14 @@ use Rattle.std.proofs.lemmas.List.{take_all}
 use Rattle.mail_world.specs.Lists.{Transaction}
 use Rattle.lmtp_talk.specs.declared.dialogue.Dialogue.{Dialogue}
 use Rattle.lmtp_talk.specs.Peer.{PeerState}
-use Rattle.lmtp_talk.specs.Standing.{Stands}
-use Rattle.lmtp_talk.specs.Steps.{Carries}
+use Rattle.lmtp_talk.specs.Standing.{IsSoFar, standing, beginning}
+use Rattle.lmtp_talk.specs.Steps.{Advances, talk}
 
 module _ {D : Type 0} (HasCome : D → ℕ → List Transaction → Type 0) (IsDrafting : D → ℕ → List Transaction → List ℕ → Type 0) where
-  pub carries_then : (a b c : Dialogue) (p q r : PeerState) (d e f : D) (x y : List ℕ) → Carries HasCome IsDrafting a b p q d e x → Carries HasCome IsDrafting b c q r e f y
-      → Carries HasCome IsDrafting a c p r d f (x ++ y)
+  pub carries_then : (a b c : Dialogue) (p q r : PeerState) (d e f : D) (x y : List ℕ) → Advances HasCome IsDrafting (talk a p d) (talk b q e) x → Advances HasCome IsDrafting (talk b q e) (talk c r f) y
+      → Advances HasCome IsDrafting (talk a p d) (talk c r f) (x ++ y)
   carries_then a b c p q r d e f x y one two site start first handled came h =
-      subst (λ l. Stands site start (HasCome first) c r (HasCome f) (IsDrafting f) l came) (append_assoc handled x y)
+      subst (λ l. IsSoFar (beginning site start (HasCome first)) (standing c r (HasCome f) (IsDrafting f)) l came) (append_assoc handled x y)
       (two site start first (handled ++ x) came (one site start first handled came h))
 
 pub rest_of : (at : ℕ) (s : List ℕ) → take (length s - at) (drop at s) ≡ drop at s

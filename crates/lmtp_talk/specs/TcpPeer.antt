@@ -4,7 +4,7 @@ use Rattle.std.specs.Io.KnownBytes.{prepend_known}
 use Rattle.lmtp_talk.specs.declared.peer.Came.{Came}
 use Rattle.lmtp_talk.specs.declared.peer.Came.TheVariants.{Bytes, Stop}
 use Rattle.lmtp_talk.specs.declared.tcp.peer.TcpPeer.{TcpPeer}
-use Rattle.lmtp_talk.specs.Peer.{PeerState, HasCome, HasWorked}
+use Rattle.lmtp_talk.specs.Peer.{PeerState, HasBrought, HasTransferred}
 use Rattle.lmtp_talk.specs.ReadBuffer.{waiting}
 
 -- what its buffer has and then what the stream has left, where the stream tells it; how often it failed and said stop
@@ -13,8 +13,8 @@ reading remaining p = record { read = None; unread = prepend_known (waiting p.bu
 
 -- something waits, and nothing was handed out; or nothing came, and what the client did is so
 abbrev pub Fills : {T : Type 0} → (T → Option (List ℕ)) → TcpPeer T → TcpPeer T → Option Came → Type 0
-Fills remaining old new None = (0 < length (waiting new.buffer)) × HasWorked (reading remaining old) (reading remaining new) [] []
-Fills remaining old new (Some came) = HasCome (reading remaining old) (reading remaining new) [] came
+Fills remaining old new None = (0 < length (waiting new.buffer)) × HasTransferred (reading remaining old) (reading remaining new) [] []
+Fills remaining old new (Some came) = HasBrought (reading remaining old) (reading remaining new) [] came
 
 -- one read fewer is left; where none was left, it says stop; what waits is handed out first; in neither case is the stream touched
 pub record TakesRead {T E : Type 0} (old new : TcpPeer T) (result : Result Came E) : Type 0 where

@@ -104,16 +104,18 @@ impl<T: Read + OpenStream + Drop> TcpPeer<T> {
 
 impl<T: Read + Write> Peer for TcpPeer<T> {
     ghost use Rattle.std.specs.Prelude.{[], None};
-    ghost use Rattle.lmtp_talk.specs.Peer.{HasCome, HasFailed, HasGiven};
+    ghost use Rattle.lmtp_talk.specs.Peer.{HasBrought, HasFailed, HasAccepted};
     ghost use Rattle.lmtp_talk.specs.TcpPeer.{TakesRead, reading};
 
-    ghost state = { λ p. record { read = None; unread = None; written = None; failures = p.failures; stops = p.stops; holds = [] } };
+    ghost state = { λ p.
+        record { read = None; unread = None; written = None; failures = p.failures; stops = p.stops; holds = [] } };
 
     /// What it handed out, what its buffer has and what the stream has left are, together, what buffer and
     /// stream had.
     fn read(&mut self, buffer: &mut [u8]) -> Result<Came, PeerFault>
         requires { 0 < length buffer.old }
-        ensures come { IfOk result (λ came. HasCome (reading T.remaining self.old) (reading T.remaining self.new) buffer.new came) }
+        ensures come { IfOk result
+            (λ came. HasBrought (reading T.remaining self.old) (reading T.remaining self.new) buffer.new came) }
         ensures failed { OnErr result (HasFailed (reading T.remaining self.old) (reading T.remaining self.new)) }
         ensures bound { TakesRead self.old self.new result }
     {
