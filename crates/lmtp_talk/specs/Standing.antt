@@ -81,4 +81,4 @@ pub record IsSoFar (first : Beginning) (now : Standing) (handled came : List ℕ
   pub said : HasSaid first.peer now.peer now.dialogue.outbox came (reply_text first.site Greeting ++ reply_texts first.site (replies_to first.site fresh (flat_map inputs_of done)))
   pub goes : now.peer.stops ≡ first.peer.stops
   pub inside : IsInside now.dialogue.session.session.state now.dialogue rest (Comes first.site done first.come now.come)
-    (λ made. Comes first.site done first.come (λ n ts. now.drafting n ts made))
+      (λ made. Comes first.site done first.come (λ n ts. now.drafting n ts made))

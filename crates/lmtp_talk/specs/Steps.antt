@@ -12,7 +12,7 @@ use Rattle.lmtp_talk.specs.declared.dialogue.Dialogue.{Dialogue}
 use Rattle.lmtp_talk.specs.Peer.{PeerState}
 use Rattle.lmtp_talk.specs.Saying.{Says}
 use Rattle.lmtp_talk.specs.Delivery.{ended_so, EndsDraft}
-use Rattle.lmtp_talk.specs.Standing.{beginning, standing, IsSoFar}
+use Rattle.lmtp_talk.specs.Standing.{beginning, Standing, standing, IsSoFar}
 
 -- the session takes the inputs, and their replies are said
 pub record TakesInputs (inputs : List Input) (old new : Dialogue) (before after : PeerState) : Type 0 where
@@ -30,6 +30,9 @@ pub record Talk (D : Type 0) : Type 0 where
 
 abbrev pub talk : {D : Type 0} → Dialogue → PeerState → D → Talk D
 talk dialogue peer delivery = record { dialogue = dialogue; peer = peer; delivery = delivery }
+
+abbrev pub standing_of : {D : Type 0} → (D → ℕ → List Transaction → Type 0) → (D → ℕ → List Transaction → List ℕ → Type 0) → Talk D → Standing
+standing_of HasCome IsDrafting now = standing now.dialogue now.peer (HasCome now.delivery) (IsDrafting now.delivery)
 
 -- a draft begins where the data is asked for, and else the delivery stays as it was
 abbrev pub BeginsIf : {D : Type 0} → (D → ℕ → List Transaction → Type 0) → (D → ℕ → List Transaction → List ℕ → Type 0) → Bool → D → Talk D → Type 0
@@ -54,5 +57,5 @@ pub record EndsData {D : Type 0} (HasCome : D → ℕ → List Transaction → T
 -- wherever the conversation stood before, it stands with these bytes more
 abbrev pub Advances : {D : Type 0} → (D → ℕ → List Transaction → Type 0) → (D → ℕ → List Transaction → List ℕ → Type 0) → Talk D → Talk D → List ℕ → Type 0
 Advances {D} HasCome IsDrafting old new more = (site : Site) (start : PeerState) (first : D) (handled came : List ℕ)
-    → IsSoFar (beginning site start (HasCome first)) (standing old.dialogue old.peer (HasCome old.delivery) (IsDrafting old.delivery)) handled came
-    → IsSoFar (beginning site start (HasCome first)) (standing new.dialogue new.peer (HasCome new.delivery) (IsDrafting new.delivery)) (handled ++ more) came
+    → IsSoFar (beginning site start (HasCome first)) (standing_of HasCome IsDrafting old) handled came
+    → IsSoFar (beginning site start (HasCome first)) (standing_of HasCome IsDrafting new) (handled ++ more) came

@@ -14,8 +14,8 @@ use Rattle.mail_world.specs.declared.State.TheVariants.{Waiting, Ended}
 use Rattle.lmtp_talk.specs.Peer.{PeerState}
 use Rattle.lmtp_talk.specs.Saying.{HasSaid}
 use Rattle.lmtp_talk.specs.Served.{IsServed}
-use Rattle.lmtp_talk.specs.Standing.{Beginning, beginning, Standing, standing, IsSoFar}
-use Rattle.lmtp_talk.specs.Steps.{Talk}
+use Rattle.lmtp_talk.specs.Standing.{Beginning, beginning, Standing, IsSoFar}
+use Rattle.lmtp_talk.specs.Steps.{Talk, standing_of}
 
 -- a conversation has begun, and its greeting was said
 pub record Greets (old new : Dialogue) (before after : PeerState) : Type 0 where
@@ -39,20 +39,20 @@ pub record IsFurther (first : Beginning) (now : Standing) (handled : List ℕ) :
 -- a turn after which the conversation goes on
 abbrev pub TakesTurn : {D : Type 0} → (D → ℕ → List Transaction → Type 0) → (D → ℕ → List Transaction → List ℕ → Type 0) → Talk D → Talk D → Type 0
 TakesTurn {D} HasCome IsDrafting old new = (site : Site) (start : PeerState) (first : D) (handled : List ℕ)
-    → IsSoFar (beginning site start (HasCome first)) (standing old.dialogue old.peer (HasCome old.delivery) (IsDrafting old.delivery)) handled handled
-    → IsFurther (beginning site start (HasCome first)) (standing new.dialogue new.peer (HasCome new.delivery) (IsDrafting new.delivery)) handled
+    → IsSoFar (beginning site start (HasCome first)) (standing_of HasCome IsDrafting old) handled handled
+    → IsFurther (beginning site start (HasCome first)) (standing_of HasCome IsDrafting new) handled
 
 -- what is behind the last turn
 abbrev pub EndsTurn : {D : Type 0} → (D → ℕ → List Transaction → Type 0) → (D → ℕ → List Transaction → List ℕ → Type 0) → Talk D → Talk D → EndCause → Type 0
 EndsTurn {D} HasCome IsDrafting old new end = (site : Site) (start : PeerState) (first : D) (handled : List ℕ)
-    → IsSoFar (beginning site start (HasCome first)) (standing old.dialogue old.peer (HasCome old.delivery) (IsDrafting old.delivery)) handled handled
+    → IsSoFar (beginning site start (HasCome first)) (standing_of HasCome IsDrafting old) handled handled
     → IsServed site start new.peer (HasCome first) (HasCome new.delivery) end
 
 -- the bytes that have come are handled, and the conversation goes on, or it has ended with them
 abbrev pub HandlesPiece : {D : Type 0} → (D → ℕ → List Transaction → Type 0) → (D → ℕ → List Transaction → List ℕ → Type 0) → Talk D → Talk D → List ℕ → Type 0
 HandlesPiece {D} HasCome IsDrafting old new piece = (site : Site) (start : PeerState) (first : D) (handled : List ℕ)
-    → IsSoFar (beginning site start (HasCome first)) (standing old.dialogue old.peer (HasCome old.delivery) (IsDrafting old.delivery)) handled (handled ++ piece)
-    → IsSoFar (beginning site start (HasCome first)) (standing new.dialogue new.peer (HasCome new.delivery) (IsDrafting new.delivery)) (handled ++ piece) (handled ++ piece)
+    → IsSoFar (beginning site start (HasCome first)) (standing_of HasCome IsDrafting old) handled (handled ++ piece)
+    → IsSoFar (beginning site start (HasCome first)) (standing_of HasCome IsDrafting new) (handled ++ piece) (handled ++ piece)
 
 -- where a turn ends with QUIT; a write that failed comes before it
 abbrev pub quit_or : Bool → EndCause

@@ -89,9 +89,9 @@ fn take_turn<P: Peer, D: Delivery>(
     requires here { D.site delivery.old ≡ dialogue.old.session.site }
     ensures turn { MatchOption result
         (TakesTurn D.HasCome D.IsDrafting (talk dialogue.old (P.state peer.old) delivery.old)
-            (talk dialogue.new (P.state peer.new) delivery.new))
+        (talk dialogue.new (P.state peer.new) delivery.new))
         (EndsTurn D.HasCome D.IsDrafting (talk dialogue.old (P.state peer.old) delivery.old)
-            (talk dialogue.new (P.state peer.new) delivery.new)) }
+        (talk dialogue.new (P.state peer.new) delivery.new)) }
     ensures may { MatchOption result (MayStop dialogue.new.session.session.state) (λ _. Unit {0}) }
     ensures none { MatchOption result (dialogue.new.outbox.pending ≡ []) (λ _. Unit {0}) }
     ensures size { length buffer.new ≡ length buffer.old }

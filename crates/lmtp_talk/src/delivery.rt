@@ -51,7 +51,7 @@ pub trait Delivery {
         ensures same { site self.new ≡ site self.old }
         ensures ended { (n : ℕ) (ts : List Transaction) (message : List ℕ) → IsDrafting self.old n ts message
             → EndsDraft (HasCome self.new) n ts session.now.session message
-                (ended_so result (moment self.new) (outcomes self.new)) }
+            (ended_so result (moment self.new) (outcomes self.new)) }
         ensures count { result ≡ Verdict.Whole → length (outcomes self.new) ≡ length session.now.session.recipients };
 
     /// What became of the copies of the last whole message, in the order of its recipients.

@@ -51,9 +51,9 @@ fn take_front<P: Peer, D: Delivery>(
     ensures used { IfSome result (λ used. (0 < used) × (used ≤ length rest.now)) }
     ensures stands { MatchOption result
         (Advances D.HasCome D.IsDrafting (talk dialogue.old (P.state peer.old) delivery.old)
-            (talk dialogue.new (P.state peer.new) delivery.new) rest.now)
+        (talk dialogue.new (P.state peer.new) delivery.new) rest.now)
         (λ used. Advances D.HasCome D.IsDrafting (talk dialogue.old (P.state peer.old) delivery.old)
-            (talk dialogue.new (P.state peer.new) delivery.new) (take used rest.now)) }
+        (talk dialogue.new (P.state peer.new) delivery.new) (take used rest.now)) }
     ensures site { dialogue.new.session.site ≡ dialogue.old.session.site }
     ensures same { D.site delivery.new ≡ D.site delivery.old }
 {
