@@ -38,10 +38,6 @@ nothing_ended Content dialogue rest come drafts x = x.behind.goes_on
 nothing_ended Waiting dialogue rest come drafts x = tt
 nothing_ended Ended dialogue rest come drafts x = tt
 
-pub leave_draft : (state : State) (Come Last : ℕ → List Transaction → Type 0) (Drafting : ℕ → List Transaction → List ℕ → Type 0) → state ≡ Content
-    → ((n : ℕ) (ts : List Transaction) (message : List ℕ) → Drafting n ts message → Last n ts) → Leaves (is_content state) Come Drafting Last
-leave_draft state Come Last Drafting content drops = subst (λ s. Leaves (is_content s) Come Drafting Last) (sym content) drops
-
 pub leave_none : (state : State) (Come : ℕ → List Transaction → Type 0) (Drafting : ℕ → List Transaction → List ℕ → Type 0) → (state ≡ Content → ⊥) → Leaves (is_content state) Come Drafting Come
 leave_none Fresh Come Drafting other = λ n ts h. h
 leave_none Greeted Come Drafting other = λ n ts h. h
@@ -88,15 +84,6 @@ no_stop Recipients = refl
 no_stop Content = refl
 no_stop Waiting = refl
 no_stop Ended = refl
-
-still_open : (state : State) → MayStop state → state ≡ Ended → ⊥
-still_open Fresh h e = cc
-still_open Greeted h e = cc
-still_open Sender h e = cc
-still_open Recipients h e = cc
-still_open Content h e = cc
-still_open Waiting h e = cc
-still_open Ended h e = cc
 
 -- the order to stop is no QUIT
 stop_no_quit : (b : Bool) → has_quit (if b then Stop ∷ [] else []) ≡ false

@@ -44,9 +44,6 @@ pub record GivenUpTo (old new : PeerState) (text rest : List ℕ) : Type 0 where
   pub whole : text ≡ front ++ rest
   pub worked : HasTransferred old new [] front
 
-pub given_none : (s : PeerState) (text : List ℕ) → GivenUpTo s s text text
-given_none s text = record { front = []; whole = refl; worked = record { moved = moved_none s; sound = refl; same = refl } }
-
 pub given_next : (s t u : PeerState) (text a b : List ℕ) → GivenUpTo s t text (a ++ b) → HasTransferred t u [] a → GivenUpTo s u text b
 given_next s t u text a b x y = record {
   front = x.front ++ a;
@@ -59,20 +56,8 @@ pub given_more : (s t u : PeerState) (text rest : List ℕ) (n : ℕ) → GivenU
 given_more s t u text rest n x y = rw (take_rest rest n)
     (given_next s t u text (take n rest) (drop n rest) (subst (λ l. GivenUpTo s t text l) (sym (take-append-drop n rest)) x) y)
 
-pub given_all : (s t : PeerState) (text rest : List ℕ) → GivenUpTo s t text rest → rest ≡ [] → HasTransferred s t [] text
-given_all s t text rest x e = subst (λ l. HasTransferred s t [] l) (sym (x.whole ∙ ap (λ l. x.front ++ l) e ∙ append-nil x.front)) x.worked
-
 rises_from : (a b c : ℕ) → b ≡ a → Rises b c → Rises a c
 rises_from a b c e r = subst (λ k. Rises k c) e r
-
-pub given_broken : (s t u : PeerState) (text rest : List ℕ) → GivenUpTo s t text rest → HasFailed t u → BreaksOff s u text
-given_broken s t u text rest x y = record {
-  front = x.front;
-  begins = record { rest = rest; whole = x.whole };
-  moved = subst (λ l. HasMoved s u [] l) (append-nil x.front) (moved_writing s t u [] x.front [] x.worked.moved y.moved);
-  failed = rises_from s.failures t.failures u.failures x.worked.sound y.failed;
-  same = y.same ∙ x.worked.same;
-}
 
 -- what waits is written, or a write failed
 pub flushed : {E : Type 0} (start s t : PeerState) (r : Result (Unit {0}) E) (pending came text : List ℕ) → HasSaid start s (record { pending = pending; broken = false }) came text
@@ -91,27 +76,6 @@ flushed start s t (Err e) pending came text h ok err = record {
       whole = h.is.whole ∙ ap (λ l. h.written ++ l) err.begins.whole ∙ sym (append_assoc h.written err.front err.begins.rest);
     };
     failed = rises_from start.failures s.failures t.failures h.is.sound err.failed;
-  };
-}
-
--- nothing more is written
-pub dropped : (start s : PeerState) (pending other came text : List ℕ) → HasSaid start s (record { pending = pending; broken = true }) came text → HasSaid start s (record { pending = other; broken = true }) came text
-dropped start s pending other came text h = record { written = h.written; moved = h.moved; is = h.is }
-
--- a reply waits behind the others
-pub says_more : (broken : Bool) (start s : PeerState) (pending reply came text : List ℕ) → HasSaid start s (record { pending = pending; broken = broken }) came text
-    → HasSaid start s (record { pending = (pending ++ reply); broken = broken }) came (text ++ reply)
-says_more false start s pending reply came text h = record {
-  written = h.written;
-  moved = h.moved;
-  is = record { whole = ap (λ l. l ++ reply) h.is.whole ∙ append_assoc h.written pending reply; sound = h.is.sound };
-}
-says_more true start s pending reply came text h = record {
-  written = h.written;
-  moved = h.moved;
-  is = record {
-    begins = record { rest = h.is.begins.rest ++ reply; whole = ap (λ l. l ++ reply) h.is.begins.whole ∙ append_assoc h.written h.is.begins.rest reply };
-    failed = h.is.failed;
   };
 }
 
@@ -146,8 +110,3 @@ one_more site rs i r text within is =
 
 pub all_said : (site : Site) (rs : List Reply) (n : ℕ) (text : List ℕ) → n ≡ length rs → text ++ reply_texts site (take n rs) ≡ text ++ reply_texts site rs
 all_said site rs n text e = ap (λ l. text ++ reply_texts site l) (ap (λ k. take k rs) e ∙ take-length rs)
-
--- a write never says that the server is to stop
-pub still_goes : {E : Type 0} (s t : PeerState) (r : Result (Unit {0}) E) (bytes : List ℕ) → OnOk r (HasTransferred s t [] bytes) → OnErr r (BreaksOff s t bytes) → t.stops ≡ s.stops
-still_goes s t (Ok x) bytes ok err = ok.same
-still_goes s t (Err e) bytes ok err = err.same
