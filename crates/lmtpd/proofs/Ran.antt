@@ -33,7 +33,7 @@ use Rattle.lmtpd.specs.declared.rehearse.client.OnlyClient.TheVariants.{Waiting,
 use Rattle.lmtpd.specs.Account.{conversation, IsAllStored}
 use Rattle.lmtpd.specs.Client.{MayGive, told as told_by, is_over, IsOnlyOver}
 use Rattle.lmtpd.specs.Mailboxes.{Kept, kept_all, kept_at, bytes_of_all, empty_spool, texts_of_mailboxes, IsCalm}
-use Rattle.lmtpd.specs.Rehearsal.{AreMailboxes, EndsFor, IsHeld, IsListed, IsRehearsed}
+use Rattle.lmtpd.specs.Rehearsal.{AreMailboxes, EndsFor, HeldState, IsHeld, IsListed, IsRehearsed, Streams}
 use Rattle.lmtpd.proofs.Boxes.{state_of, get_some, get_same, kept_is, length-kept, bytes_are, none_failed, all_calm, is_full, holds_stored}
 use Rattle.lmtpd.proofs.Rising.{NumbersRise, numbers_rise}
 use Rattle.lmtpd.proofs.Written.{Appends-then}
@@ -95,6 +95,10 @@ one_visit (v ∷ []) finished e =
     let is : finished ≡ finished_of v = cc in
     record { visit = v; only = refl; after = sym (ap (λ (f : Finished). f.peer) is); cause = sym (ap (λ (f : Finished). f.cause) is) }
 one_visit (v ∷ w ∷ visits) finished e = cc
+
+-- the bytes that a peer says
+abbrev pub streams_of : PeerState → Streams
+streams_of peer = record { unread = peer.unread; written = peer.written }
 
 -- a conversation of which this is known
 record IsHeldBy (site : Site) (moment : ℕ) (old new : PeerState) (end : EndCause) (c : Conversation) : Type 0 where
@@ -246,7 +250,7 @@ module _ (site : Site) (moment : ℕ) {P : Type 0} (state : P → PeerState) (pe
 
   pub held : (last : P) (end : EndCause) (faulty : Bool) → HasRunAlone site moment state peer clients count spools conversations tallies → clients ≡ Over last end ∷ [] → ((p : P) → (state p).stops ≡ 0)
       → count ≡ length site.boxes → faulty ≡ list_any (λ t. t.faulty) tallies
-      → IsHeld site moment (state peer).unread (state last).unread (state peer).written (state last).written spools faulty end
+      → IsHeld site moment (streams_of (state peer)) (streams_of (state last)) (record { spools = spools; faulty = faulty; end = end })
   held last end faulty h after never size faulty_is =
       let lane : LaneWork = h.lanes 0 in
       let number = one_alone conversations h.as_many_lanes.1 in
@@ -287,10 +291,10 @@ module _ (site : Site) (moment : ℕ) {P : Type 0} (state : P → PeerState) (pe
       }
 
 -- the mailboxes behind the replies
-pub rehearsed : (site : Site) (moment : ℕ) (unread left before between after : Option (List ℕ)) (spools : List MemorySpool) (faulty cut : Bool) (end : EndCause)
-    → IsHeld site moment unread left before between spools faulty end → IsListed (texts_of_mailboxes site.boxes (bytes_of_all spools)) between after cut
-    → IsRehearsed site moment unread left before after (record { end = end; faulty = faulty; cut = cut })
-rehearsed site moment unread left before between after spools faulty cut end h w =
+pub rehearsed : (site : Site) (moment : ℕ) (old between : Streams) (left : HeldState) (after : Option (List ℕ)) (cut : Bool)
+    → IsHeld site moment old between left → IsListed (texts_of_mailboxes site.boxes (bytes_of_all left.spools)) between.written after cut
+    → IsRehearsed site moment old (record { unread = between.unread; written = after }) (record { end = left.end; faulty = left.faulty; cut = cut })
+rehearsed site moment old between left after cut h w =
     let L : List (List ℕ) → Type 0 = λ texts. IsWritten (texts_of_mailboxes site.boxes texts) (cut ≡ true) w.listed in
     record {
       read = h.read;
@@ -301,14 +305,13 @@ rehearsed site moment unread left before between after spools faulty cut end h w
       delivered = h.delivered;
       said = h.said;
       listed = w.listed;
-      output = Appends-then before between after h.said w.listed h.output w.output;
+      output = Appends-then old.written between.written after h.said w.listed h.output w.output;
       says = h.says;
       lists = subst L (sym h.holds) w.lists;
       ends = h.ends;
     }
 
 -- there is a spool for each mailbox
-pub as_many_spools : (site : Site) (moment : ℕ) (unread left before between : Option (List ℕ)) (spools : List MemorySpool) (faulty : Bool) (end : EndCause)
-    → IsHeld site moment unread left before between spools faulty end → length spools ≡ length site.boxes
-as_many_spools site moment unread left before between spools faulty end h =
-    sym (length-map spools (λ (x : MemorySpool). x.bytes)) ∙ ap length (sym h.holds) ∙ length-map h.mailboxes (λ (k : Kept). k.bytes) ∙ h.delivered.count
+pub as_many_spools : (site : Site) (moment : ℕ) (old new : Streams) (left : HeldState) → IsHeld site moment old new left → length left.spools ≡ length site.boxes
+as_many_spools site moment old new left h =
+    sym (length-map left.spools (λ (x : MemorySpool). x.bytes)) ∙ ap length (sym h.holds) ∙ length-map h.mailboxes (λ (k : Kept). k.bytes) ∙ h.delivered.count

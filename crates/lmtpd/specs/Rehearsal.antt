@@ -47,10 +47,15 @@ pub record EndsFor (site : Site) (read : List ℕ) (account : List Disposition) 
   pub read_bound : end ≡ ReadBound → READ_LIMIT ≤ length read
   pub not_stopped : end ≡ Stopped → ⊥
 
--- From a reader that had `unread` and has `left`, to a writer that held `before` and holds `after`.
-pub record IsRehearsed (site : Site) (moment : ℕ) (unread left before after : Option (List ℕ)) (ending : Ending) : Type 0 where
+-- what contracts see of a reader and a writer: the bytes that are left to be read, and those that were written
+pub record Streams : Type 0 where
+  pub unread : Option (List ℕ)
+  pub written : Option (List ℕ)
+
+-- From a reader and a writer that stood so to ones that stand so.
+pub record IsRehearsed (site : Site) (moment : ℕ) (old new : Streams) (ending : Ending) : Type 0 where
   pub read : List ℕ
-  pub input : Consumes unread left read
+  pub input : Consumes old.unread new.unread read
   pub account : List Disposition
   pub accounted : IsAccountAt site moment read account
   pub mailboxes : List Kept
@@ -58,24 +63,30 @@ pub record IsRehearsed (site : Site) (moment : ℕ) (unread left before after : 
   -- what was written of the replies, and then of the mailboxes
   pub said : List ℕ
   pub listed : List ℕ
-  pub output : Appends before after (said ++ listed)
+  pub output : Appends old.written new.written (said ++ listed)
   pub says : IsWritten (replies site (inputs site (conversation read account))) (ending.end ≡ WriteFault) said
   pub lists : IsWritten (mailboxes_text site.boxes mailboxes) (ending.cut ≡ true) listed
-  pub ends : EndsFor site read account left ending.end
+  pub ends : EndsFor site read account new.unread ending.end
 
--- A conversation that was held, from a reader and a writer that stood so to ones that stand so, and the spools behind it.
-pub record IsHeld (site : Site) (moment : ℕ) (unread left before after : Option (List ℕ)) (spools : List MemorySpool) (faulty : Bool) (end : EndCause) : Type 0 where
+-- what a conversation leaves: the spools, whether one failed, and why it ended
+pub record HeldState : Type 0 where
+  pub spools : List MemorySpool
+  pub faulty : Bool
+  pub end : EndCause
+
+-- A conversation that was held, from a reader and a writer that stood so to ones that stand so, and what it left.
+pub record IsHeld (site : Site) (moment : ℕ) (old new : Streams) (held : HeldState) : Type 0 where
   pub read : List ℕ
-  pub input : Consumes unread left read
+  pub input : Consumes old.unread new.unread read
   pub account : List Disposition
   pub accounted : IsAccountAt site moment read account
   pub mailboxes : List Kept
-  pub delivered : AreMailboxes site read account mailboxes faulty
-  pub holds : map (λ k. k.bytes) mailboxes ≡ bytes_of_all spools
+  pub delivered : AreMailboxes site read account mailboxes held.faulty
+  pub holds : map (λ k. k.bytes) mailboxes ≡ bytes_of_all held.spools
   pub said : List ℕ
-  pub output : Appends before after said
-  pub says : IsWritten (replies site (inputs site (conversation read account))) (end ≡ WriteFault) said
-  pub ends : EndsFor site read account left end
+  pub output : Appends old.written new.written said
+  pub says : IsWritten (replies site (inputs site (conversation read account))) (held.end ≡ WriteFault) said
+  pub ends : EndsFor site read account new.unread held.end
 
 -- a text was written behind that, or a front of it where it was cut
 pub record IsListed (text : List ℕ) (before after : Option (List ℕ)) (cut : Bool) : Type 0 where
