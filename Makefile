@@ -21,6 +21,7 @@ build:
 check:
 	rt all check
 
-# Proves everything from nothing, tries the must-fail edits, runs the tests and the program.
+# Proves everything from nothing, tries the must-fail edits, runs the program, the tests and the scripts of tests/, and builds
+# the benchmarks.
 test:
-	rt ci
+	@tests/gate.sh

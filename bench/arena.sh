@@ -8,8 +8,10 @@
 # The program of bench/arena stands in no crates.txt, so that the gate doesn't prove it each time; and since the gate
 # stops at a .rt or .antt file of no crate, the names of its files end in `.in`. It is proved and built here by `rt run`, by
 # LLVM as any program is, in a copy of the crates that it needs, over what their checks kept.
+# usage: bench/arena.sh [--build]: with the word it only proves and builds what it measures
 set -euo pipefail
 cd "$(dirname "$0")/.."
+. tests/needs python3
 folder=$(mktemp -d)
 trap 'rm -rf "$folder"' EXIT
 
@@ -23,6 +25,7 @@ cp -a bench/arena "$folder/crates/"
 find "$folder/crates/arena" -name '*.in' | while read -r file; do mv "$file" "${file%.in}"; done
 cd "$folder/crates/arena"
 rt run > "$folder/build.log" 2>&1 || { cat "$folder/build.log" >&2; exit 1; }
+[ "${1:-}" != --build ] || exit 0
 
 python3 - out/arena "${RUNS:-9}" <<'PYTHON'
 import subprocess

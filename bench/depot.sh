@@ -10,8 +10,10 @@
 #
 # As bench/streams.sh, it proves and builds the program of bench/depot in a copy of the crates that it needs, over what their
 # checks kept: it stands in no crates.txt, and the names of its files end in `.in`.
+# usage: bench/depot.sh [--build]: with the word it only proves and builds what it measures
 set -euo pipefail
 cd "$(dirname "$0")/.."
+. tests/needs rustc python3
 folder=$(mktemp -d)
 trap 'rm -rf "$folder"' EXIT
 
@@ -27,6 +29,7 @@ find "$folder/crates/depot_bench" -name '*.in' | while read -r file; do mv "$fil
 rustc -O -o "$folder/loops" bench/depot/loops.rs
 cd "$folder/crates/depot_bench"
 rt run > "$folder/build.log" 2>&1 || { cat "$folder/build.log" >&2; exit 1; }
+[ "${1:-}" != --build ] || exit 0
 
 python3 - out/depot_bench "$folder/loops" "${RUNS:-9}" <<'PYTHON'
 import subprocess

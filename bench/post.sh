@@ -10,8 +10,10 @@
 #
 # As in bench/streams.sh, the program of bench/post stands in no crates.txt and its files end in `.in`; it is proved and
 # built here by `rt run` in a copy of the crates that it needs, over what their checks kept.
+# usage: bench/post.sh [--build]: with the word it only proves and builds what it measures
 set -euo pipefail
 cd "$(dirname "$0")/.."
+. tests/needs rustc python3
 folder=$(mktemp -d)
 trap 'rm -rf "$folder"' EXIT
 
@@ -27,6 +29,7 @@ find "$folder/crates/post" -name '*.in' | while read -r file; do mv "$file" "${f
 rustc -O -o "$folder/channels" bench/post/channels.rs
 cd "$folder/crates/post"
 rt run > "$folder/build.log" 2>&1 || { cat "$folder/build.log" >&2; exit 1; }
+[ "${1:-}" != --build ] || exit 0
 
 python3 - out/post "$folder/channels" "${RUNS:-9}" <<'PYTHON'
 import subprocess

@@ -8,7 +8,8 @@
 #   a, a1      4 connections, 2 KiB, one recipient: a mailbox each, and one for all
 #   b, b10     4 connections, 20 KiB, ten recipients: of 40 mailboxes, and the same ten for all
 #   c, c4      1 and 4 connections of 1 MiB, one recipient: a mailbox each
-# usage: bench/serve.sh [--rounds N] [--works a,b,..] [--peers floor,ours,..] [--slow-sync]
+# usage: bench/serve.sh --build, which only builds what it measures with, or
+#        bench/serve.sh [--rounds N] [--works a,b,..] [--peers floor,ours,..] [--slow-sync]
 # 3 rounds, all works and all peers without the words. In each round each peer does each work with a fresh
 # store. With --slow-sync each fsync and fdatasync takes 2 ms more (bench/serve/slowsync.c). Peers that aren't
 # installed are left out, and that is said; Dovecot wants root. Prints the medians, and of ours the medians of
@@ -18,6 +19,7 @@
 # program that is built already. The stores are in a folder of mktemp, so TMPDIR says on which disk.
 set -euo pipefail
 cd "$(dirname "$0")/.."
+. tests/needs rustc python3
 if [ -z "${LMTPD:-}" ]; then
     make -s build
     LMTPD=$PWD/crates/lmtpd/out/lmtpd
@@ -31,4 +33,5 @@ rustc -O -o "$folder/floor" bench/serve/floor.rs
 if command -v cc > /dev/null; then
     cc -O2 -shared -fPIC -o "$folder/slowsync.so" bench/serve/slowsync.c
 fi
+[ "${1:-}" != --build ] || exit 0
 python3 -B bench/serve/rounds.py "$folder" "$@"

@@ -11,8 +11,10 @@
 # The program of bench/streams stands in no crates.txt, so that the gate doesn't prove it each time; and since the gate
 # stops at a .rt or .antt file of no crate, the names of its files end in `.in`. It is proved and built here by `rt run`, by
 # LLVM as any program is, in a copy of the crates that it needs, over what their checks kept.
+# usage: bench/streams.sh [--build]: with the word it only proves and builds what it measures
 set -euo pipefail
 cd "$(dirname "$0")/.."
+. tests/needs rustc python3
 folder=$(mktemp -d)
 trap 'rm -rf "$folder"' EXIT
 
@@ -27,6 +29,7 @@ find "$folder/crates/streams" -name '*.in' | while read -r file; do mv "$file" "
 rustc -O -o "$folder/loops" bench/streams/loops.rs
 cd "$folder/crates/streams"
 rt run > "$folder/build.log" 2>&1 || { cat "$folder/build.log" >&2; exit 1; }
+[ "${1:-}" != --build ] || exit 0
 
 python3 - out/streams "$folder/loops" "${RUNS:-9}" <<'PYTHON'
 import subprocess

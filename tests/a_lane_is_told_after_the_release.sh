@@ -3,6 +3,7 @@
 # one that doesn't tell, don't compile. Tries both on a copy of the crate, and wants the compiler's refusals.
 set -euo pipefail
 cd "$(dirname "$0")/.."
+. tests/needs python3
 folder=$(mktemp -d)
 trap 'rm -rf "$folder"' EXIT
 

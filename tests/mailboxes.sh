@@ -5,6 +5,7 @@
 # It prints one line a case, and fails where a case does. LMTPD names a program that is built already.
 set -euo pipefail
 cd "$(dirname "$0")/.."
+. tests/needs git python3
 if [ -z "${LMTPD:-}" ]; then
     make -s build
     LMTPD=$PWD/crates/lmtpd/out/lmtpd

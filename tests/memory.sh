@@ -1,26 +1,40 @@
 #!/usr/bin/env bash
-# Only makers take memory: no call of an arena, a depot, a channel or a worker does once it is made. For each of these crates, refuses
-# one allocation of its tests after another: a maker's is answered AllocError, and once these are past all tests end well. A call that
-# has no such answer would fail in another way. Left out are tests with threads of their own, since a thread's start takes memory too,
-# and one whose gate notes what it is asked.
+# Only makers take memory: no call of an arena, a depot, a channel or a worker does once it is made. For each test of these
+# crates, refuses one allocation after another (tests/memory/refuse.c, preloaded): a maker's is answered AllocError, and once
+# these are past the test ends well and asks for no more. A call that has no such answer would fail in another way. Left out are
+# tests with threads of their own, since a thread's start takes memory too, and one whose gate notes what it is asked.
 set -euo pipefail
-cd "$(dirname "$0")/../crates"
+cd "$(dirname "$0")/.."
+. tests/needs cc
+folder=$(mktemp -d)
+trap 'rm -rf "$folder"' EXIT
+cc -O2 -shared -fPIC -o "$folder/refuse.so" tests/memory/refuse.c
 
-# Of the tests that failed, those that failed for another cause than memory.
-others() {
-    awk '/^test .* FAILED$/ { name = $2; getline; if (name !~ /in_threads$|the_gate_is_asked/ && !/error: AllocError/) print name ": " $0 }'
+# refuses PROGRAM TEST NUMBER: runs the test with that allocation refused, and holds where one was.
+refuses() {
+    local status=0 said
+    : > "$folder/told"
+    said=$(REFUSE=$3 REFUSE_TOLD=9 LD_PRELOAD="$folder/refuse.so" timeout 60 "$1" "$2" 2>&1 9> "$folder/told") || status=$?
+    if [ "$status" != 0 ] && ! [[ $said == *'error: AllocError'* && -s $folder/told ]]; then
+        echo "FAILED: $2, allocation $3 refused: status $status, $said"
+        exit 1
+    fi
+    [ -s "$folder/told" ]
 }
 
 for crate in block_arena msg_depot mail_post box_worker; do
-    cd "$crate"
-    for n in {1..99}; do
-        said=$(rt try --test --fail-alloc "$n" 2>&1) || true
-        grep -q '^test result' <<< "$said" || { echo "$said" >&2; exit 1; }
-        other=$(others <<< "$said")
-        [ -z "$other" ] || { echo "$crate: allocation $n refused: $other" >&2; exit 1; }
-        failed=$(grep -c '^test .* FAILED$' <<< "$(grep -vE 'in_threads|the_gate_is_asked' <<< "$said")") || true
-        [ "$failed" != 0 ] || { echo "$crate: the makers take memory $((n - 1)) times at most in a test, and no other call does"; break; }
-    done
-    [ "$failed" = 0 ] || { echo "$crate: no end after $n allocations" >&2; exit 1; }
-    cd ..
+    program=crates/$crate/out/${crate}_tests
+    [ -x "$program" ] || (cd "crates/$crate" && rt test) > "$folder/log" 2>&1 || { cat "$folder/log"; exit 1; }
+    tests=0 most=0
+    while read -r test; do
+        number=1
+        while refuses "$program" "$test" "$number"; do
+            number=$((number + 1))
+            [ "$number" -le 999 ] || { echo "FAILED: $test: no end of allocations"; exit 1; }
+        done
+        tests=$((tests + 1))
+        most=$((number - 1 > most ? number - 1 : most))
+    done < <("$program" --list | sed -n 's/: test$//p' | grep -vE 'in_threads$|the_gate_is_asked')
+    [ "$tests" != 0 ] || { echo "FAILED: $crate has no such tests"; exit 1; }
+    echo "ok: $crate: makers take memory $most times at most in each of $tests tests, and no other call does"
 done

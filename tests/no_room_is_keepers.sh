@@ -3,6 +3,7 @@
 # the crate, a Depot::draft and a Depot::put that answer a NoRoom that they made, and wants the compiler's refusal of its private field.
 set -euo pipefail
 cd "$(dirname "$0")/.."
+. tests/needs python3
 folder=$(mktemp -d)
 trap 'rm -rf "$folder"' EXIT
 

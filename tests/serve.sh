@@ -8,6 +8,7 @@
 # usage: tests/serve.sh [NAME..]: the cases whose text has one of these words, or all
 set -euo pipefail
 cd "$(dirname "$0")/.."
+. tests/needs git python3
 if [ -z "${LMTPD:-}" ]; then
     make -s build
     LMTPD=$PWD/crates/lmtpd/out/lmtpd

@@ -10,6 +10,7 @@
 # usage: tests/serve_memory.sh
 set -euo pipefail
 cd "$(dirname "$0")/.."
+. tests/needs rustc
 if [ -z "${LMTPD:-}" ]; then
     make -s build
     LMTPD=$PWD/crates/lmtpd/out/lmtpd

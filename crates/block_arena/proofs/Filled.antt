@@ -4,7 +4,7 @@ use Rattle.std.specs.Prelude.{slice_get, slice_set}
 use Rattle.std.specs.List.{AllByRecursion}
 use Rattle.std.proofs.lemmas.List.Elements.{All-set}
 use Rattle.mail_world.specs.Depot as d
-use Rattle.mail_world.specs.Depot.{times}
+use Rattle.mail_world.specs.Depot.{occurrences}
 use Rattle.mail_world.specs.declared.limits.TheConstants.{BLOCK_SIZE}
 use Rattle.block_arena.specs.declared.key.Key.{Key}
 use Rattle.block_arena.specs.declared.slot.Run.{Run}
@@ -30,11 +30,11 @@ draft_is store next Retired h = absurd h
 pub draft_owns : (store : List (List ℕ)) (next : List ℕ) (run : Run) → Owns store next (Draft run) run
 draft_owns store next run = record { filled = λ e. cc; blocks = refl; count = refl; is = λ x. x }
 
-some_block : (n blocks : ℕ) → blocks ≡ d.blocks_for n → 0 < n % 512 → 0 < blocks
+some_block : (n blocks : ℕ) → blocks ≡ d.blocks_for n → 0 < n % BLOCK_SIZE → 0 < blocks
 some_block n blocks e h = omega (arith, e, h)
 
 pub draft_last : (key : Key) (depot : d.Depot) (store : List (List ℕ)) (next : List ℕ) (slots : List Slot) (free free_count : ℕ) (run : Run)
-    → Sees key depot store next slots free free_count (Draft run) → 0 < run.length % 512 → (0 < run.blocks) × IsLast next free free_count (run.blocks - 1) run.first run.last
+    → Sees key depot store next slots free free_count (Draft run) → 0 < run.length % BLOCK_SIZE → (0 < run.blocks) × IsLast next free free_count (run.blocks - 1) run.first run.last
 draft_last key depot store next slots free free_count run s some =
     let was : slice_get slots key.slot ≡ Some (slot_at key.generation (Draft run)) = stands key depot store next slots free free_count (Draft run) s (λ e. cc) in
     let is : IsRun next run = all_at (λ (slot : Slot). IsContent next slot.content) slots key.slot (slot_at key.generation (Draft run)) s.arena.runs was in
@@ -42,7 +42,7 @@ draft_last key depot store next slots free free_count run s some =
     (there, last_in key depot store next slots free free_count (Draft run) run s (draft_owns store next run) there)
 
 pub fill_turn : (key : Key) (depot : d.Depot) (store : List (List ℕ)) (next : List ℕ) (slots : List Slot) (free free_count : ℕ) (run : Run) (n : ℕ) (row : List ℕ)
-    → Sees key depot store next slots free free_count (Draft run) → 0 < run.length % 512 → n ≤ 512 - run.length % 512 → length row ≡ 512
+    → Sees key depot store next slots free free_count (Draft run) → 0 < run.length % BLOCK_SIZE → n ≤ BLOCK_SIZE - run.length % BLOCK_SIZE → length row ≡ BLOCK_SIZE
     → Turn store next slots free free_count key.slot (slot_at key.generation (Draft run)) (slot_at key.generation (Draft (longer run n))) (set store run.last row) next free free_count
 fill_turn key depot store next slots free free_count run n row s some fits size =
     let was : slice_get slots key.slot ≡ Some (slot_at key.generation (Draft run)) = stands key depot store next slots free free_count (Draft run) s (λ e. cc) in
@@ -50,7 +50,7 @@ fill_turn key depot store next slots free free_count run n row s some fits size 
     let l : (0 < run.blocks) × IsLast next free free_count (run.blocks - 1) run.first run.last = draft_last key depot store next slots free free_count run s some in
     let has : 0 < run.blocks = l.0 in
     let one : suc (run.blocks - 1) ≡ run.blocks = omega (arith, has) in
-    let there : times run.last (chain run.blocks next run.first) ≡ 1 = ap (λ k. times run.last (chain k next run.first)) (sym one) ∙ l.1.there in
+    let there : occurrences run.last (chain run.blocks next run.first) ≡ 1 = ap (λ k. occurrences run.last (chain k next run.first)) (sym one) ∙ l.1.there in
     let else' : AllByRecursion (Without store next run.last) (slice_set slots key.slot (slot_at 0 Free)) = none_else store next slots free free_count key.slot (slot_at key.generation (Draft run)) run.last s.arena was (omega (arith, there)) in
     record {
       arena = s.arena;
@@ -69,13 +69,13 @@ all_front : (P : ℕ → Type 0) (xs ys : List ℕ) → AllByRecursion P (xs ++ 
 all_front P [] ys h = tt
 all_front P (x ∷ xs) ys h = (h.0, all_front P xs ys h.1)
 
-len_parts : (n blocks : ℕ) → blocks ≡ d.blocks_for n → 0 < n % 512 → n ≡ 512 * (blocks - 1) + n % 512
+len_parts : (n blocks : ℕ) → blocks ≡ d.blocks_for n → 0 < n % BLOCK_SIZE → n ≡ BLOCK_SIZE * (blocks - 1) + n % BLOCK_SIZE
 len_parts n blocks e some = omega (arith, e, some)
 
 -- the bytes behind a piece that went into the last block
 pub filled_bytes : (key : Key) (depot : d.Depot) (store : List (List ℕ)) (next : List ℕ) (slots : List Slot) (free free_count : ℕ) (run : Run) (n : ℕ) (piece : List ℕ)
-    → Sees key depot store next slots free free_count (Draft run) → 0 < run.length % 512 → n ≤ 512 - run.length % 512 → length piece ≡ n
-    → bytes_in (set store run.last (take (run.length % 512) (get_or store run.last []) ++ piece ++ drop (run.length % 512 + n) (get_or store run.last []))) next (longer run n) ≡ bytes_in store next run ++ piece
+    → Sees key depot store next slots free free_count (Draft run) → 0 < run.length % BLOCK_SIZE → n ≤ BLOCK_SIZE - run.length % BLOCK_SIZE → length piece ≡ n
+    → bytes_in (set store run.last (take (run.length % BLOCK_SIZE) (get_or store run.last []) ++ piece ++ drop (run.length % BLOCK_SIZE + n) (get_or store run.last []))) next (longer run n) ≡ bytes_in store next run ++ piece
 filled_bytes key depot store next slots free free_count run n piece s some fits size =
     let was : slice_get slots key.slot ≡ Some (slot_at key.generation (Draft run)) = stands key depot store next slots free free_count (Draft run) s (λ e. cc) in
     let is : IsRun next run = all_at (λ (slot : Slot). IsContent next slot.content) slots key.slot (slot_at key.generation (Draft run)) s.arena.runs was in
@@ -86,11 +86,11 @@ filled_bytes key depot store next slots free free_count run n piece s some fits 
     ap (λ k. chain k next run.first) one ∙ chain_last (run.blocks - 1) next run.first ∙ ap (λ b. chain (run.blocks - 1) next run.first ++ b ∷ []) l.1.is in
     let low : AllByRecursion (λ b. b < length next) (chain (run.blocks - 1) next run.first ++ run.last ∷ []) =
     subst (λ bs. AllByRecursion (λ b. b < length next) bs) parts (run_low store next slots free free_count key.slot (slot_at key.generation (Draft run)) s.arena was) in
-    let front : length (flat store (chain (run.blocks - 1) next run.first)) ≡ 512 * (run.blocks - 1) =
-    full_length store (length next) (chain (run.blocks - 1) next run.first) s.arena.count s.arena.sizes (all_front (λ b. b < length next) (chain (run.blocks - 1) next run.first) (run.last ∷ []) low) ∙ ap (λ k. 512 * k) (chain_length (run.blocks - 1) next run.first) in
+    let front : length (flat store (chain (run.blocks - 1) next run.first)) ≡ BLOCK_SIZE * (run.blocks - 1) =
+    full_length store (length next) (chain (run.blocks - 1) next run.first) s.arena.count s.arena.sizes (all_front (λ b. b < length next) (chain (run.blocks - 1) next run.first) (run.last ∷ []) low) ∙ ap (λ k. BLOCK_SIZE * k) (chain_length (run.blocks - 1) next run.first) in
     let there : run.last < length store = omega (arith, l.1.low, s.arena.count) in
-    ap (λ bs. take (run.length + n) (flat (set store run.last (take (run.length % 512) (get_or store run.last []) ++ piece ++ drop (run.length % 512 + n) (get_or store run.last []))) bs)) parts
-    ∙ written store (chain (run.blocks - 1) next run.first) run.last (512 * (run.blocks - 1)) (run.length % 512) n run.length piece l.1.once there front (s.arena.sizes run.last [] there)
+    ap (λ bs. take (run.length + n) (flat (set store run.last (take (run.length % BLOCK_SIZE) (get_or store run.last []) ++ piece ++ drop (run.length % BLOCK_SIZE + n) (get_or store run.last []))) bs)) parts
+    ∙ written store (chain (run.blocks - 1) next run.first) run.last (BLOCK_SIZE * (run.blocks - 1)) (run.length % BLOCK_SIZE) n run.length piece l.1.once there front (s.arena.sizes run.last [] there)
     (len_parts run.length run.blocks is.enough some) size (omega (arith, fits))
     ∙ ap (λ bs. take run.length (flat store bs) ++ piece) (sym parts)
 
@@ -101,17 +101,17 @@ get_any (x ∷ xs) (suc i) a b h = get_any xs i a b (omega (arith, h))
 
 -- what the code wrote into the last block
 pub record IsFilled (store : List (List ℕ)) (run : Run) (n : ℕ) (piece old row : List ℕ) : Type 0 where
-  pub some : 0 < run.length % 512
-  pub fits : n ≤ 512 - run.length % 512
+  pub some : 0 < run.length % BLOCK_SIZE
+  pub fits : n ≤ BLOCK_SIZE - run.length % BLOCK_SIZE
   pub size : length piece ≡ n
   pub was : old ≡ get_or store run.last []
-  pub is : row ≡ take (run.length % 512) old ++ piece ++ drop (run.length % 512 + length piece) old
+  pub is : row ≡ take (run.length % BLOCK_SIZE) old ++ piece ++ drop (run.length % BLOCK_SIZE + length piece) old
 
 row_is : (store : List (List ℕ)) (run : Run) (n : ℕ) (piece old row : List ℕ) → IsFilled store run n piece old row
-    → row ≡ take (run.length % 512) (get_or store run.last []) ++ piece ++ drop (run.length % 512 + n) (get_or store run.last [])
-row_is store run n piece old row f = f.is ∙ ap (λ o. take (run.length % 512) o ++ piece ++ drop (run.length % 512 + length piece) o) f.was ∙ ap (λ k. take (run.length % 512) (get_or store run.last []) ++ piece ++ drop (run.length % 512 + k) (get_or store run.last [])) f.size
+    → row ≡ take (run.length % BLOCK_SIZE) (get_or store run.last []) ++ piece ++ drop (run.length % BLOCK_SIZE + n) (get_or store run.last [])
+row_is store run n piece old row f = f.is ∙ ap (λ o. take (run.length % BLOCK_SIZE) o ++ piece ++ drop (run.length % BLOCK_SIZE + length piece) o) f.was ∙ ap (λ k. take (run.length % BLOCK_SIZE) (get_or store run.last []) ++ piece ++ drop (run.length % BLOCK_SIZE + k) (get_or store run.last [])) f.size
 
-row_size : (row old piece : List ℕ) (at n : ℕ) → row ≡ take at old ++ piece ++ drop (at + n) old → length old ≡ 512 → length piece ≡ n → at + n ≤ 512 → length row ≡ 512
+row_size : (row old piece : List ℕ) (at n : ℕ) → row ≡ take at old ++ piece ++ drop (at + n) old → length old ≡ BLOCK_SIZE → length piece ≡ n → at + n ≤ BLOCK_SIZE → length row ≡ BLOCK_SIZE
 row_size row old piece at n e size long fits =
     ap length e ∙ omega (arith, size, long, fits, length-append (take at old ++ piece) (drop (at + n) old), length-append (take at old) piece, length-take at old, length-drop (at + n) old)
 
@@ -122,7 +122,7 @@ filled_turn key depot store next slots free free_count run n piece old row s f =
     let l : (0 < run.blocks) × IsLast next free free_count (run.blocks - 1) run.first run.last = draft_last key depot store next slots free free_count run s f.some in
     let there : run.last < length store = omega (arith, l.1.low, s.arena.count) in
     fill_turn key depot store next slots free free_count run n row s f.some f.fits
-    (row_size row (get_or store run.last []) piece (run.length % 512) n (row_is store run n piece old row f) (s.arena.sizes run.last [] there) f.size (omega (arith, f.fits, f.some)))
+    (row_size row (get_or store run.last []) piece (run.length % BLOCK_SIZE) n (row_is store run n piece old row f) (s.arena.sizes run.last [] there) f.size (omega (arith, f.fits, f.some)))
 
 pub filled_gains : (key : Key) (depot : d.Depot) (store : List (List ℕ)) (next : List ℕ) (slots : List Slot) (free free_count : ℕ) (run : Run) (n : ℕ) (piece old row : List ℕ)
     → Sees key depot store next slots free free_count (Draft run) → IsFilled store run n piece old row
@@ -136,8 +136,8 @@ filled_gains key depot store next slots free free_count run n piece old row s f 
 }
 
 pub filled_by : (key : Key) (depot : d.Depot) (store : List (List ℕ)) (next : List ℕ) (slots : List Slot) (free free_count : ℕ) (run : Run) (n : ℕ) (bytes old row other : List ℕ)
-    → Sees key depot store next slots free free_count (Draft run) → 0 < run.length % 512 → n ≤ length bytes → n ≤ 512 - run.length % 512 → old ≡ get_or store run.last other
-    → row ≡ take (run.length % 512) old ++ take n bytes ++ drop (run.length % 512 + length (take n bytes)) old → IsFilled store run n (take n bytes) old row
+    → Sees key depot store next slots free free_count (Draft run) → 0 < run.length % BLOCK_SIZE → n ≤ length bytes → n ≤ BLOCK_SIZE - run.length % BLOCK_SIZE → old ≡ get_or store run.last other
+    → row ≡ take (run.length % BLOCK_SIZE) old ++ take n bytes ++ drop (run.length % BLOCK_SIZE + length (take n bytes)) old → IsFilled store run n (take n bytes) old row
 filled_by key depot store next slots free free_count run n bytes old row other s some short fits was is =
     let l : (0 < run.blocks) × IsLast next free free_count (run.blocks - 1) run.first run.last = draft_last key depot store next slots free free_count run s some in
     record {

@@ -3,7 +3,7 @@ use Rattle.std.proofs.Common.{◌≡◌, ℕ, zero, suc, ◌+◌, ◌-◌, ◌<�
 use Rattle.std.specs.Prelude.{slice_get, slice_set, flat_map, nat_lt}
 use Rattle.std.specs.List.{AllByRecursion}
 use Rattle.mail_world.specs.Depot as d
-use Rattle.mail_world.specs.Depot.{times}
+use Rattle.mail_world.specs.Depot.{occurrences}
 use Rattle.mail_world.proofs.Depots.{times-append, total_set}
 use Rattle.block_arena.specs.declared.slot.Run.{Run}
 use Rattle.block_arena.specs.declared.slot.Content.{Content}
@@ -14,12 +14,12 @@ use Rattle.block_arena.proofs.Chains.{times_cons, chain_keeps, node_keeps, times
 use Rattle.block_arena.proofs.Slots.{slot_at, get_map, map_set}
 
 abbrev pub Without : List (List ℕ) → List ℕ → ℕ → Slot → Type 0
-Without store next b slot = times b (d.blocks_of (held store next slot.content)) ≡ 0
+Without store next b slot = occurrences b (d.blocks_of (held store next slot.content)) ≡ 0
 
-pub none_by : (store : List (List ℕ)) (next : List ℕ) (b : ℕ) (xs : List Slot) → times b (flat_map (λ (slot : d.Slot). d.blocks_of slot.held) (map (slot_of store next) xs)) ≡ 0 → AllByRecursion (Without store next b) xs
+pub none_by : (store : List (List ℕ)) (next : List ℕ) (b : ℕ) (xs : List Slot) → occurrences b (flat_map (λ (slot : d.Slot). d.blocks_of slot.held) (map (slot_of store next) xs)) ≡ 0 → AllByRecursion (Without store next b) xs
 none_by store next b [] h = tt
 none_by store next b (x ∷ xs) h =
-    let sum : times b (d.blocks_of (held store next x.content) ++ flat_map (λ (slot : d.Slot). d.blocks_of slot.held) (map (slot_of store next) xs)) ≡ times b (d.blocks_of (held store next x.content)) + times b (flat_map (λ (slot : d.Slot). d.blocks_of slot.held) (map (slot_of store next) xs)) =
+    let sum : occurrences b (d.blocks_of (held store next x.content) ++ flat_map (λ (slot : d.Slot). d.blocks_of slot.held) (map (slot_of store next) xs)) ≡ occurrences b (d.blocks_of (held store next x.content)) + occurrences b (flat_map (λ (slot : d.Slot). d.blocks_of slot.held) (map (slot_of store next) xs)) =
     times-append b (d.blocks_of (held store next x.content)) (flat_map (λ (slot : d.Slot). d.blocks_of slot.held) (map (slot_of store next) xs)) in
     (omega (arith, sum, h), none_by store next b xs (omega (arith, sum, h)))
 
@@ -28,14 +28,14 @@ at_most true = omega arith
 at_most false = omega arith
 
 pub none_else : (store : List (List ℕ)) (next : List ℕ) (slots : List Slot) (free free_count i : ℕ) (old : Slot) (b : ℕ) → IsArena store next slots free free_count → slice_get slots i ≡ Some old
-    → 1 ≤ times b (chain free_count next free) + times b (d.blocks_of (held store next old.content)) → AllByRecursion (Without store next b) (slice_set slots i (slot_at 0 Free))
+    → 1 ≤ occurrences b (chain free_count next free) + occurrences b (d.blocks_of (held store next old.content)) → AllByRecursion (Without store next b) (slice_set slots i (slot_at 0 Free))
 none_else store next slots free free_count i old b arena was here =
-    let total : times b (flat_map (λ (slot : d.Slot). d.blocks_of slot.held) (slice_set (map (slot_of store next) slots) i (record { generation = 0; held = d.Free }))) + times b (d.blocks_of (held store next old.content)) ≡ times b (flat_map (λ (slot : d.Slot). d.blocks_of slot.held) (map (slot_of store next) slots)) + 0 =
+    let total : occurrences b (flat_map (λ (slot : d.Slot). d.blocks_of slot.held) (slice_set (map (slot_of store next) slots) i (record { generation = 0; held = d.Free }))) + occurrences b (d.blocks_of (held store next old.content)) ≡ occurrences b (flat_map (λ (slot : d.Slot). d.blocks_of slot.held) (map (slot_of store next) slots)) + 0 =
     total_set (λ y. cond (y == b) 1 0) (λ (slot : d.Slot). d.blocks_of slot.held) (map (slot_of store next) slots) i (slot_of store next old) (record { generation = 0; held = d.Free }) (get_map (slot_of store next) slots i old was) in
-    let once : times b (chain free_count next free ++ flat_map (λ (slot : d.Slot). d.blocks_of slot.held) (map (slot_of store next) slots)) ≡ cond (nat_lt b (length next)) 1 0 = arena.once b in
-    let none : times b (flat_map (λ (slot : d.Slot). d.blocks_of slot.held) (slice_set (map (slot_of store next) slots) i (record { generation = 0; held = d.Free }))) ≡ 0 =
+    let once : occurrences b (chain free_count next free ++ flat_map (λ (slot : d.Slot). d.blocks_of slot.held) (map (slot_of store next) slots)) ≡ cond (nat_lt b (length next)) 1 0 = arena.once b in
+    let none : occurrences b (flat_map (λ (slot : d.Slot). d.blocks_of slot.held) (slice_set (map (slot_of store next) slots) i (record { generation = 0; held = d.Free }))) ≡ 0 =
     omega (arith, total, once, at_most (nat_lt b (length next)), here, times-append b (chain free_count next free) (flat_map (λ (slot : d.Slot). d.blocks_of slot.held) (map (slot_of store next) slots))) in
-    none_by store next b (slice_set slots i (slot_at 0 Free)) (ap (λ (ss : List d.Slot). times b (flat_map (λ (slot : d.Slot). d.blocks_of slot.held) ss)) (map_set (slot_of store next) slots i (slot_at 0 Free)) ∙ none)
+    none_by store next b (slice_set slots i (slot_at 0 Free)) (ap (λ (ss : List d.Slot). occurrences b (flat_map (λ (slot : d.Slot). d.blocks_of slot.held) ss)) (map_set (slot_of store next) slots i (slot_at 0 Free)) ∙ none)
 
 pub map_same : {A B : Type 0} (f f' : A → B) (P : A → Type 0) (xs : List A) → AllByRecursion P xs → ((x : A) → P x → f' x ≡ f x) → map f' xs ≡ map f xs
 map_same f f' P [] h e = refl
@@ -55,7 +55,7 @@ all_kept P Q Q' [] i s dummy h q e new = tt
 all_kept P Q Q' (x ∷ xs) zero s dummy h q e new = (new, all_same P Q Q' xs h.1 q.1 e)
 all_kept P Q Q' (x ∷ xs) (suc i) s dummy h q e new = (e x h.0 q.0, all_kept P Q Q' xs i s dummy h.1 q.1 e new)
 
-pub held_keeps : (store : List (List ℕ)) (next : List ℕ) (b v : ℕ) (c : Content) → times b (d.blocks_of (held store next c)) ≡ 0 → held store (set next b v) c ≡ held store next c
+pub held_keeps : (store : List (List ℕ)) (next : List ℕ) (b v : ℕ) (c : Content) → occurrences b (d.blocks_of (held store next c)) ≡ 0 → held store (set next b v) c ≡ held store next c
 held_keeps store next b v Free h = refl
 held_keeps store next b v (Draft run) h = ap (λ bs. d.Draft (take run.length (flat_map (λ block. get_or store block []) bs)) bs) (chain_keeps run.blocks next b v run.first h)
 held_keeps store next b v (Sealed run holds) h = ap (λ bs. d.Sealed (take run.length (flat_map (λ block. get_or store block []) bs)) bs holds) (chain_keeps run.blocks next b v run.first h)
@@ -64,20 +64,20 @@ held_keeps store next b v Retired h = refl
 pub slot_keeps : (store : List (List ℕ)) (next : List ℕ) (b v : ℕ) (slot : Slot) → Without store next b slot → slot_of store (set next b v) slot ≡ slot_of store next slot
 slot_keeps store next b v slot h = ap (λ (x : d.Held). record { generation = slot.generation; held = x }) (held_keeps store next b v slot.content h)
 
-chain_less : (n : ℕ) (next : List ℕ) (b f : ℕ) → 0 < n → times b (chain (n - 1) next f) ≤ times b (chain n next f)
+chain_less : (n : ℕ) (next : List ℕ) (b f : ℕ) → 0 < n → occurrences b (chain (n - 1) next f) ≤ occurrences b (chain n next f)
 chain_less zero next b f h = absurd (omega (arith, h))
 chain_less (suc n) next b f h =
     let e : suc n - 1 ≡ n = omega arith in
-    let same : times b (chain (suc n - 1) next f) ≡ times b (chain n next f) = ap (λ k. times b (chain k next f)) e in
+    let same : occurrences b (chain (suc n - 1) next f) ≡ occurrences b (chain n next f) = ap (λ k. occurrences b (chain k next f)) e in
     omega (arith, same, times_less n next b f)
 
-times_part : (i n : ℕ) (next : List ℕ) (b f : ℕ) → i ≤ n → times b (chain i next f) ≤ times b (chain n next f)
+times_part : (i n : ℕ) (next : List ℕ) (b f : ℕ) → i ≤ n → occurrences b (chain i next f) ≤ occurrences b (chain n next f)
 times_part zero n next b f h = omega arith
 times_part (suc i) zero next b f h = absurd (omega (arith, h))
 times_part (suc i) (suc n) next b f h =
     omega (arith, times_part i n next b (get_or next f 0) (omega (arith, h)), times_cons b f (chain i next (get_or next f 0)), times_cons b f (chain n next (get_or next f 0)))
 
-run_keeps : (next : List ℕ) (b v : ℕ) (run : Run) → times b (chain run.blocks next run.first) ≡ 0 → IsRun next run → IsRun (set next b v) run
+run_keeps : (next : List ℕ) (b v : ℕ) (run : Run) → occurrences b (chain run.blocks next run.first) ≡ 0 → IsRun next run → IsRun (set next b v) run
 run_keeps next b v run h is = record {
   enough = is.enough;
   last = λ some. node_keeps (run.blocks - 1) next b v run.first (omega (arith, h, chain_less run.blocks next b run.first some)) ∙ is.last some;
@@ -87,7 +87,7 @@ run_keeps next b v run h is = record {
   };
 }
 
-pub content_keeps : (store : List (List ℕ)) (next : List ℕ) (b v : ℕ) (c : Content) → times b (d.blocks_of (held store next c)) ≡ 0 → IsContent next c → IsContent (set next b v) c
+pub content_keeps : (store : List (List ℕ)) (next : List ℕ) (b v : ℕ) (c : Content) → occurrences b (d.blocks_of (held store next c)) ≡ 0 → IsContent next c → IsContent (set next b v) c
 content_keeps store next b v Free h is = tt
 content_keeps store next b v (Draft run) h is = run_keeps next b v run h is
 content_keeps store next b v (Sealed run holds) h is = run_keeps next b v run h is

@@ -4,7 +4,7 @@ use Rattle.std.specs.Prelude.{slice_get, slice_set, nat_lt}
 use Rattle.std.specs.List.{AllByRecursion}
 use Rattle.std.proofs.lemmas.Bool.{eq-eqb, ltb-true}
 use Rattle.mail_world.specs.Depot as d
-use Rattle.mail_world.specs.Depot.{times}
+use Rattle.mail_world.specs.Depot.{occurrences}
 use Rattle.mail_world.proofs.Depots.{times-append}
 use Rattle.block_arena.specs.declared.key.Key.{Key}
 use Rattle.block_arena.specs.declared.slot.Run.{Run}
@@ -17,6 +17,7 @@ use Rattle.block_arena.proofs.Chains.{chain_last, splice}
 use Rattle.block_arena.proofs.Slots.{slot_at, Turn, turned, map_set, all_set, all_at, sum_set, get_within}
 use Rattle.block_arena.proofs.Seen.{Sees, under, stands, run_times}
 use Rattle.block_arena.proofs.Frames.{Without, none_else, map_kept, all_kept, slot_keeps, content_keeps}
+use Rattle.mail_world.specs.declared.limits.TheConstants.{BLOCK_LIMIT}
 
 -- a slot in use, and its run
 pub record Owns (store : List (List ℕ)) (next : List ℕ) (content : Content) (run : Run) : Type 0 where
@@ -77,17 +78,17 @@ empty_turn key depot store next slots free free_count content run s o none =
       count = omega (arith, behind_count (nat_lt key.generation d.last_generation) (key.generation + 1) key.generation, o.count, none);
       others = map_set (slot_of store next) slots key.slot (slot_behind key.generation);
       runs = all_set (λ (slot : Slot). IsContent next slot.content) slots key.slot (slot_behind key.generation) s.arena.runs (behind_content (nat_lt key.generation d.last_generation) next (key.generation + 1) key.generation);
-      split = λ x. ap (λ bs. times x (chain free_count next free) + times x bs)
+      split = λ x. ap (λ bs. occurrences x (chain free_count next free) + occurrences x bs)
           (behind_blocks (nat_lt key.generation d.last_generation) store next (key.generation + 1) key.generation ∙ sym (ap (λ k. chain k next run.first) none) ∙ sym o.blocks);
     }
 
 -- what holds of the last block of a run
 pub record IsLast (next : List ℕ) (free free_count n first last : ℕ) : Type 0 where
   pub is : node n next first ≡ last
-  pub once : times last (chain n next first) ≡ 0
+  pub once : occurrences last (chain n next first) ≡ 0
   pub low : last < length next
-  pub apart : times last (chain free_count next free) ≡ 0
-  pub there : times last (chain (suc n) next first) ≡ 1
+  pub apart : occurrences last (chain free_count next free) ≡ 0
+  pub there : occurrences last (chain (suc n) next first) ≡ 1
 
 one_of : (t : Bool) (m f : ℕ) → m + 1 + f ≤ cond t 1 0 → (m ≡ 0) × (f ≡ 0) × (t ≡ true)
 one_of true m f h = (omega (arith, h), omega (arith, h), refl)
@@ -97,22 +98,22 @@ one_self : (x : ℕ) (t : Bool) → (x == x) ≡ t → 0 + cond t 1 0 ≡ 1
 one_self x true e = refl
 one_self x false e = let yes' : (x == x) ≡ true = eq-eqb x x refl in cc
 
-last_times : (n : ℕ) (next : List ℕ) (first last : ℕ) → node n next first ≡ last → times last (chain (suc n) next first) ≡ times last (chain n next first) + 1
+last_times : (n : ℕ) (next : List ℕ) (first last : ℕ) → node n next first ≡ last → occurrences last (chain (suc n) next first) ≡ occurrences last (chain n next first) + 1
 last_times n next first last e =
-    ap (times last) (chain_last n next first) ∙ times-append last (chain n next first) (node n next first ∷ []) ∙ ap (λ b. times last (chain n next first) + times last (b ∷ [])) e
-    ∙ ap (λ k. times last (chain n next first) + k) (one_self last (last == last) refl)
+    ap (occurrences last) (chain_last n next first) ∙ times-append last (chain n next first) (node n next first ∷ []) ∙ ap (λ b. occurrences last (chain n next first) + occurrences last (b ∷ [])) e
+    ∙ ap (λ k. occurrences last (chain n next first) + k) (one_self last (last == last) refl)
 
 pub last_of : (next : List ℕ) (free free_count n first last : ℕ) → node n next first ≡ last
-    → times last (chain free_count next free) + times last (chain (suc n) next first) ≤ cond (nat_lt last (length next)) 1 0 → IsLast next free free_count n first last
+    → occurrences last (chain free_count next free) + occurrences last (chain (suc n) next first) ≤ cond (nat_lt last (length next)) 1 0 → IsLast next free free_count n first last
 last_of next free free_count n first last is within =
-    let count : times last (chain (suc n) next first) ≡ times last (chain n next first) + 1 = last_times n next first last is in
-    let p : (times last (chain n next first) ≡ 0) × (times last (chain free_count next free) ≡ 0) × (nat_lt last (length next) ≡ true) = one_of (nat_lt last (length next)) (times last (chain n next first)) (times last (chain free_count next free)) (omega (arith, within, count)) in
+    let count : occurrences last (chain (suc n) next first) ≡ occurrences last (chain n next first) + 1 = last_times n next first last is in
+    let p : (occurrences last (chain n next first) ≡ 0) × (occurrences last (chain free_count next free) ≡ 0) × (nat_lt last (length next) ≡ true) = one_of (nat_lt last (length next)) (occurrences last (chain n next first)) (occurrences last (chain free_count next free)) (omega (arith, within, count)) in
     record {
       is = is;
       once = p.0;
       low = ltb-true last (length next) p.2;
       apart = p.1;
-      there = (let here : times last (chain n next first) ≡ 0 = p.0 in omega (arith, count, here));
+      there = (let here : occurrences last (chain n next first) ≡ 0 = p.0 in omega (arith, count, here));
     }
 
 -- the blocks of a run go to the front of the free ones
@@ -129,7 +130,7 @@ last_in key depot store next slots free free_count content run s o some =
     let was : slice_get slots key.slot ≡ Some (slot_at key.generation content) = stands key depot store next slots free free_count content s o.filled in
     let is : IsRun next run = o.is (all_at (λ (slot : Slot). IsContent next slot.content) slots key.slot (slot_at key.generation content) s.arena.runs was) in
     let one : suc (run.blocks - 1) ≡ run.blocks = omega (arith, some) in
-    let same : times run.last (d.blocks_of (held store next content)) ≡ times run.last (chain (suc (run.blocks - 1)) next run.first) = ap (times run.last) o.blocks ∙ ap (λ k. times run.last (chain k next run.first)) (sym one) in
+    let same : occurrences run.last (d.blocks_of (held store next content)) ≡ occurrences run.last (chain (suc (run.blocks - 1)) next run.first) = ap (occurrences run.last) o.blocks ∙ ap (λ k. occurrences run.last (chain k next run.first)) (sym one) in
     last_of next free free_count (run.blocks - 1) run.first run.last (is.last some) (omega (arith, same, run_times store next slots free free_count key.slot (slot_at key.generation content) s.arena was run.last))
 
 pub freed_turn : (key : Key) (depot : d.Depot) (store : List (List ℕ)) (next : List ℕ) (slots : List Slot) (free free_count : ℕ) (content : Content) (run : Run)
@@ -139,7 +140,7 @@ freed_turn key depot store next slots free free_count content run s o some =
     let was : slice_get slots key.slot ≡ Some (slot_at key.generation content) = stands key depot store next slots free free_count content s o.filled in
     let l : IsLast next free free_count (run.blocks - 1) run.first run.last = last_in key depot store next slots free free_count content run s o some in
     let one : suc (run.blocks - 1) ≡ run.blocks = omega (arith, some) in
-    let there : times run.last (d.blocks_of (held store next content)) ≡ 1 = ap (times run.last) o.blocks ∙ ap (λ k. times run.last (chain k next run.first)) (sym one) ∙ l.there in
+    let there : occurrences run.last (d.blocks_of (held store next content)) ≡ 1 = ap (occurrences run.last) o.blocks ∙ ap (λ k. occurrences run.last (chain k next run.first)) (sym one) ∙ l.there in
     let else' : AllByRecursion (Without store next run.last) (slice_set slots key.slot (slot_at 0 Free)) = none_else store next slots free free_count key.slot (slot_at key.generation content) run.last s.arena was (omega (arith, there)) in
     record {
       arena = s.arena;
@@ -153,13 +154,13 @@ freed_turn key depot store next slots free free_count content run s o some =
       runs = all_kept (Without store next run.last) (λ (slot : Slot). IsContent next slot.content) (λ (slot : Slot). IsContent (set next run.last free) slot.content) slots key.slot (slot_behind key.generation) (slot_at 0 Free) else' s.arena.runs
           (λ (x : Slot) without is. content_keeps store next run.last free x.content without is) (behind_content (nat_lt key.generation d.last_generation) (set next run.last free) (key.generation + 1) key.generation);
       split = λ x.
-          ap (λ bs. times x (chain (free_count + run.blocks) (set next run.last free) run.first) + times x bs) (behind_blocks (nat_lt key.generation d.last_generation) store (set next run.last free) (key.generation + 1) key.generation)
+          ap (λ bs. occurrences x (chain (free_count + run.blocks) (set next run.last free) run.first) + occurrences x bs) (behind_blocks (nat_lt key.generation d.last_generation) store (set next run.last free) (key.generation + 1) key.generation)
           ∙ split_by x (chain (free_count + run.blocks) (set next run.last free) run.first) (chain run.blocks next run.first) (chain free_count next free) (d.blocks_of (held store next content)) (splice_free next free free_count run l some) o.blocks;
     } where
-      split_by : (x : ℕ) (new these those held : List ℕ) → new ≡ these ++ those → held ≡ these → times x new + 0 ≡ times x those + times x held
+      split_by : (x : ℕ) (new these those held : List ℕ) → new ≡ these ++ those → held ≡ these → occurrences x new + 0 ≡ occurrences x those + occurrences x held
       split_by x new these those held e h =
-          let a : times x new ≡ times x (these ++ those) = ap (times x) e in
-          let b : times x held ≡ times x these = ap (times x) h in
+          let a : occurrences x new ≡ occurrences x (these ++ those) = ap (occurrences x) e in
+          let b : occurrences x held ≡ occurrences x these = ap (occurrences x) h in
           omega (arith, a, b, times-append x these those)
 
 -- what a turn of the slot behind its generation frees
@@ -170,10 +171,10 @@ pub frees : (key : Key) (depot : d.Depot) (store : List (List ℕ)) (next : List
 frees key depot store next slots free free_count content next' free' free_count' s t = record {
   free = chain free_count' next' free';
   given = λ x.
-      let split : times x (chain free_count' next' free') + times x (d.blocks_of (held store next' ((slot_behind key.generation).content))) ≡ times x (chain free_count next free) + times x (d.blocks_of (held store next content)) = t.split x in
-      let none : times x (d.blocks_of (held store next' ((slot_behind key.generation).content))) ≡ 0 = ap (times x) (behind_blocks (nat_lt key.generation d.last_generation) store next' (key.generation + 1) key.generation) in
-      let here : times x (d.blocks_of (d.held_under depot (depot_key key))) ≡ times x (d.blocks_of (held store next content)) = ap (λ h. times x (d.blocks_of h)) (under key depot store next slots free free_count content s) in
-      let spare : times x depot.free ≡ times x (chain free_count next free) = ap (λ (e : d.Depot). times x e.free) (sym s.view) in
+      let split : occurrences x (chain free_count' next' free') + occurrences x (d.blocks_of (held store next' ((slot_behind key.generation).content))) ≡ occurrences x (chain free_count next free) + occurrences x (d.blocks_of (held store next content)) = t.split x in
+      let none : occurrences x (d.blocks_of (held store next' ((slot_behind key.generation).content))) ≡ 0 = ap (occurrences x) (behind_blocks (nat_lt key.generation d.last_generation) store next' (key.generation + 1) key.generation) in
+      let here : occurrences x (d.blocks_of (d.held_under depot (depot_key key))) ≡ occurrences x (d.blocks_of (held store next content)) = ap (λ h. occurrences x (d.blocks_of h)) (under key depot store next slots free free_count content s) in
+      let spare : occurrences x depot.free ≡ occurrences x (chain free_count next free) = ap (λ (e : d.Depot). occurrences x e.free) (sym s.view) in
       omega (arith, split, none, here, spare);
   after =
       ap (λ (ss : List d.Slot). depot_with ss (chain free_count' next' free')) t.others
@@ -214,5 +215,5 @@ pub generation_within : (key : Key) (depot : d.Depot) (store : List (List ℕ)) 
 generation_within key depot store next slots free free_count content run s o = all_at (λ (slot : Slot). slot.generation ≤ d.last_generation) slots key.slot (slot_at key.generation content) s.arena.generations (stands key depot store next slots free free_count content s o.filled)
 
 pub sum_within : (key : Key) (depot : d.Depot) (store : List (List ℕ)) (next : List ℕ) (slots : List Slot) (free free_count : ℕ) (content : Content) (run : Run)
-    → Sees key depot store next slots free free_count content → Owns store next content run → free_count + run.blocks ≤ 65536
+    → Sees key depot store next slots free free_count content → Owns store next content run → free_count + run.blocks ≤ BLOCK_LIMIT
 sum_within key depot store next slots free free_count content run s o = omega (arith, o.count, s.arena.limit, free_within store next slots free free_count key.slot (slot_at key.generation content) s.arena (stands key depot store next slots free free_count content s o.filled))

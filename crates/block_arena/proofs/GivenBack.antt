@@ -20,7 +20,7 @@ cancels old key new bytes blocks e f = record {
   blocks = blocks;
   free = f.free;
   message = e;
-  given = λ x. f.given x ∙ ap (λ h. d.times x (d.blocks_of h) + d.times x old.free) e;
+  given = λ x. f.given x ∙ ap (λ h. d.occurrences x (d.blocks_of h) + d.occurrences x old.free) e;
   after = f.after;
 }
 
@@ -39,25 +39,25 @@ given_last k old key new bytes blocks was f =
     let all : zero + k ≡ k = omega arith in
     let there : slice_get old.slots key.slot ≡ Some (depot_slot key.generation (d.Sealed bytes blocks (zero + k))) = was ∙ ap (λ (x : d.Slot). Some x) (ap (λ n. depot_slot key.generation (d.Sealed bytes blocks n)) (sym all)) in
     let here : d.held_under old key ≡ d.Sealed bytes blocks k = held_there old key (d.Sealed bytes blocks k) was in (
-      d.holding old key (d.Sealed bytes blocks zero) old.free,
+      d.with_held old key (d.Sealed bytes blocks zero) old.free,
       releases k zero old key bytes blocks there,
       record {
         bytes = bytes;
         blocks = blocks;
         free = f.free;
-        message = held_there (d.holding old key (d.Sealed bytes blocks zero) old.free) key (d.Sealed bytes blocks zero)
+        message = held_there (d.with_held old key (d.Sealed bytes blocks zero) old.free) key (d.Sealed bytes blocks zero)
             (set_at old.slots key.slot (depot_slot key.generation (d.Sealed bytes blocks zero)) (depot_slot key.generation (d.Sealed bytes blocks k)) was);
-        given = λ x. f.given x ∙ ap (λ h. d.times x (d.blocks_of h) + d.times x old.free) here;
+        given = λ x. f.given x ∙ ap (λ h. d.occurrences x (d.blocks_of h) + d.occurrences x old.free) here;
         after = f.after ∙ again_by (nat_lt key.generation d.last_generation) old.slots key.slot key.generation (d.Sealed bytes blocks zero) f.free;
       },
     )
 
 pub given_some : (k w : ℕ) (old : d.Depot) (key : d.Key) (new : d.Depot) (bytes blocks : List ℕ) → slice_get old.slots key.slot ≡ Some (depot_slot key.generation (d.Sealed bytes blocks (w + k))) → 0 < w
-    → new ≡ d.holding old key (d.Sealed bytes blocks w) old.free → IsGivenBack k old key new false
+    → new ≡ d.with_held old key (d.Sealed bytes blocks w) old.free → IsGivenBack k old key new false
 given_some k w old key new bytes blocks was some e =
-    let here : d.held_under (d.holding old key (d.Sealed bytes blocks w) old.free) key ≡ d.Sealed bytes blocks w = held_there (d.holding old key (d.Sealed bytes blocks w) old.free) key (d.Sealed bytes blocks w)
+    let here : d.held_under (d.with_held old key (d.Sealed bytes blocks w) old.free) key ≡ d.Sealed bytes blocks w = held_there (d.with_held old key (d.Sealed bytes blocks w) old.free) key (d.Sealed bytes blocks w)
     (set_at old.slots key.slot (depot_slot key.generation (d.Sealed bytes blocks w)) (depot_slot key.generation (d.Sealed bytes blocks (w + k))) was) in
-    let weight : d.weight_under (d.holding old key (d.Sealed bytes blocks w) old.free) key ≡ w = ap d.weight_held here in
+    let weight : d.weight_under (d.with_held old key (d.Sealed bytes blocks w) old.free) key ≡ w = ap d.weight_held here in
     subst (λ (x : d.Depot). IsGivenBack k old key x false) (sym e) (releases k w old key bytes blocks was, omega (arith, weight, some))
 
 pub depot_there : (key : Key) (depot : d.Depot) (store : List (List ℕ)) (next : List ℕ) (slots : List Slot) (free free_count : ℕ) (content : Content)

@@ -16,10 +16,10 @@ use Rattle.block_arena.proofs.Seen.{Sees, under, stands}
 
 -- the depot behind such a call
 pub held_behind : (key : Key) (depot : d.Depot) (store : List (List ℕ)) (next : List ℕ) (slots : List Slot) (free free_count : ℕ) (old content : Content) → Sees key depot store next slots free free_count old
-    → depot_of store next (slice_set slots key.slot (slot_at key.generation content)) free free_count ≡ d.holding depot (depot_key key) (held store next content) depot.free
+    → depot_of store next (slice_set slots key.slot (slot_at key.generation content)) free free_count ≡ d.with_held depot (depot_key key) (held store next content) depot.free
 held_behind key depot store next slots free free_count old content s =
     ap (λ (ss : List d.Slot). record { slots = ss; free = (depot_of store next slots free free_count).free }) (map_set (slot_of store next) slots key.slot (slot_at key.generation content))
-    ∙ ap (λ (e : d.Depot). d.holding e (depot_key key) (held store next content) e.free) s.view
+    ∙ ap (λ (e : d.Depot). d.with_held e (depot_key key) (held store next content) e.free) s.view
 
 pub sealed_arena : (key : Key) (depot : d.Depot) (store : List (List ℕ)) (next : List ℕ) (slots : List Slot) (free free_count : ℕ) (run : Run) (n : ℕ) → Sees key depot store next slots free free_count (Draft run) → IsArena store next (slice_set slots key.slot (slot_at key.generation (Sealed run n))) free free_count
 sealed_arena key depot store next slots free free_count run n s =
@@ -63,18 +63,18 @@ pub held_there : (depot : d.Depot) (key : d.Key) (held : d.Held) → slice_get d
 held_there depot key held e = ap (d.held_at key) e ∙ held_if_so (key.generation == key.generation) held (eq-eqb key.generation key.generation refl)
 
 pub releases : (k w : ℕ) (depot : d.Depot) (key : d.Key) (bytes blocks : List ℕ) → slice_get depot.slots key.slot ≡ Some (record { generation = key.generation; held = d.Sealed bytes blocks (w + k) })
-    → ReleasesAll k depot key (d.holding depot key (d.Sealed bytes blocks w) depot.free)
+    → ReleasesAll k depot key (d.with_held depot key (d.Sealed bytes blocks w) depot.free)
 releases zero w depot key bytes blocks was =
     let same : w + zero ≡ w = omega arith in
     let there : slice_get depot.slots key.slot ≡ Some (record { generation = key.generation; held = d.Sealed bytes blocks w }) = was ∙ ap (λ (x : d.Slot). Some x) (ap (λ n. depot_slot key.generation (d.Sealed bytes blocks n)) same) in
     ap (λ (ss : List d.Slot). record { slots = ss; free = depot.free }) (set_same depot.slots key.slot (record { generation = key.generation; held = d.Sealed bytes blocks w }) there)
 releases (suc k) w depot key bytes blocks was =
     let one : w + suc k ≡ (w + k) + 1 = omega arith in
-    let between : d.Depot = d.holding depot key (d.Sealed bytes blocks (w + k)) depot.free in
+    let between : d.Depot = d.with_held depot key (d.Sealed bytes blocks (w + k)) depot.free in
     let there : slice_get (slice_set depot.slots key.slot (record { generation = key.generation; held = d.Sealed bytes blocks (w + k) })) key.slot ≡ Some (record { generation = key.generation; held = d.Sealed bytes blocks (w + k) }) =
     set_at depot.slots key.slot (record { generation = key.generation; held = d.Sealed bytes blocks (w + k) }) (record { generation = key.generation; held = d.Sealed bytes blocks (w + suc k) }) was in
-    let rest : ReleasesAll k (d.holding depot key (d.Sealed bytes blocks (w + k)) depot.free) key (d.holding (d.holding depot key (d.Sealed bytes blocks (w + k)) depot.free) key (d.Sealed bytes blocks w) depot.free) = releases k w (d.holding depot key (d.Sealed bytes blocks (w + k)) depot.free) key bytes blocks there in (
-      d.holding depot key (d.Sealed bytes blocks (w + k)) depot.free,
+    let rest : ReleasesAll k (d.with_held depot key (d.Sealed bytes blocks (w + k)) depot.free) key (d.with_held (d.with_held depot key (d.Sealed bytes blocks (w + k)) depot.free) key (d.Sealed bytes blocks w) depot.free) = releases k w (d.with_held depot key (d.Sealed bytes blocks (w + k)) depot.free) key bytes blocks there in (
+      d.with_held depot key (d.Sealed bytes blocks (w + k)) depot.free,
       record {
         bytes = bytes;
         blocks = blocks;
@@ -82,6 +82,6 @@ releases (suc k) w depot key bytes blocks was =
         message = held_there depot key (d.Sealed bytes blocks (w + suc k)) was ∙ ap (d.Sealed bytes blocks) one;
         after = refl;
       },
-      subst (λ (ss : List d.Slot). ReleasesAll k (d.holding depot key (d.Sealed bytes blocks (w + k)) depot.free) key (record { slots = ss; free = depot.free }))
+      subst (λ (ss : List d.Slot). ReleasesAll k (d.with_held depot key (d.Sealed bytes blocks (w + k)) depot.free) key (record { slots = ss; free = depot.free }))
           (set_twice depot.slots key.slot (record { generation = key.generation; held = d.Sealed bytes blocks (w + k) }) (record { generation = key.generation; held = d.Sealed bytes blocks w })) rest,
     )

@@ -5,7 +5,7 @@ use Rattle.std.specs.List.{AllByRecursion}
 use Rattle.std.proofs.lemmas.Bool.{eqb-true, eqb-false}
 use Rattle.std.proofs.lemmas.List.Elements.{All-set}
 use Rattle.mail_world.specs.Depot as d
-use Rattle.mail_world.specs.Depot.{times}
+use Rattle.mail_world.specs.Depot.{occurrences}
 use Rattle.mail_world.specs.declared.limits.TheConstants.{BLOCK_SIZE}
 use Rattle.mail_world.proofs.Depots.{times-append}
 use Rattle.block_arena.specs.declared.key.Key.{Key}
@@ -30,13 +30,13 @@ free_front next free free_count some =
     let one : free_count ≡ suc (free_count - 1) = omega (arith, some) in
     ap (λ k. chain k next free) one
 
-self_in : (b : ℕ) (xs : List ℕ) (t : Bool) → (b == b) ≡ t → 1 ≤ cond t 1 0 + times b xs
+self_in : (b : ℕ) (xs : List ℕ) (t : Bool) → (b == b) ≡ t → 1 ≤ cond t 1 0 + occurrences b xs
 self_in b xs true e = omega arith
 self_in b xs false e = absurd (eqb-false b b e refl)
 
-free_once : (next : List ℕ) (free free_count : ℕ) → 1 ≤ free_count → 1 ≤ times free (chain free_count next free)
+free_once : (next : List ℕ) (free free_count : ℕ) → 1 ≤ free_count → 1 ≤ occurrences free (chain free_count next free)
 free_once next free free_count some =
-    let count : times free (chain free_count next free) ≡ times free (free ∷ chain (free_count - 1) next (get_or next free 0)) = ap (times free) (free_front next free free_count some) in
+    let count : occurrences free (chain free_count next free) ≡ occurrences free (free ∷ chain (free_count - 1) next (get_or next free 0)) = ap (occurrences free) (free_front next free free_count some) in
     omega (arith, count, times_cons free free (chain (free_count - 1) next (get_or next free 0)), self_in free (chain (free_count - 1) next (get_or next free 0)) (free == free) refl)
 
 free_within : (next : List ℕ) (free free_count : ℕ) → AllByRecursion (λ b. b < length next) (chain free_count next free) → 1 ≤ free_count → free < length next
@@ -46,8 +46,8 @@ free_within next free free_count low some = (subst (λ bs. AllByRecursion (λ b.
 spare_others : (store : List (List ℕ)) (next : List ℕ) (slots : List Slot) (free free_count : ℕ) (row : List ℕ) → IsArena store next slots free free_count → 1 ≤ free_count
     → map (slot_of (set store free row) next) slots ≡ map (slot_of store next) slots
 spare_others store next slots free free_count row arena some =
-    let once : times free (chain free_count next free ++ flat_map (λ (slot : d.Slot). d.blocks_of slot.held) (map (slot_of store next) slots)) ≡ cond (nat_lt free (length next)) 1 0 = arena.once free in
-    let none : times free (flat_map (λ (slot : d.Slot). d.blocks_of slot.held) (map (slot_of store next) slots)) ≡ 0 =
+    let once : occurrences free (chain free_count next free ++ flat_map (λ (slot : d.Slot). d.blocks_of slot.held) (map (slot_of store next) slots)) ≡ cond (nat_lt free (length next)) 1 0 = arena.once free in
+    let none : occurrences free (flat_map (λ (slot : d.Slot). d.blocks_of slot.held) (map (slot_of store next) slots)) ≡ 0 =
     omega (arith, once, at_most (nat_lt free (length next)), free_once next free free_count some, times-append free (chain free_count next free) (flat_map (λ (slot : d.Slot). d.blocks_of slot.held) (map (slot_of store next) slots))) in
     map_same (slot_of store next) (slot_of (set store free row) next) (Without store next free) slots (none_by store next free slots none) (slot_stays store next free row)
 
@@ -56,7 +56,7 @@ spare_view : (store : List (List ℕ)) (next : List ℕ) (slots : List Slot) (fr
 spare_view store next slots free free_count row arena some = ap (λ (ss : List d.Slot). record { slots = ss; free = chain free_count next free }) (spare_others store next slots free free_count row arena some)
 
 pub spare : (key : Key) (depot : d.Depot) (store : List (List ℕ)) (next : List ℕ) (slots : List Slot) (free free_count : ℕ) (content : Content) (row : List ℕ)
-    → Sees key depot store next slots free free_count content → 1 ≤ free_count → length row ≡ 512 → Sees key depot (set store free row) next slots free free_count content
+    → Sees key depot store next slots free free_count content → 1 ≤ free_count → length row ≡ BLOCK_SIZE → Sees key depot (set store free row) next slots free free_count content
 spare key depot store next slots free free_count content row s some size =
     let same : depot_of (set store free row) next slots free free_count ≡ depot_of store next slots free free_count = spare_view store next slots free free_count row s.arena some in
     record {
@@ -100,9 +100,9 @@ links_some key depot store next slots free free_count run s has some =
     let l : IsLast next free free_count (run.blocks - 1) run.first run.last = last_in key depot store next slots free free_count (Draft run) run s (draft_owns store next run) has in
     let one : suc (run.blocks - 1) ≡ run.blocks = omega (arith, has) in
     let more : suc (run.blocks - 1) + 1 ≡ run.blocks + 1 = omega (arith, has) in
-    let there : times run.last (chain run.blocks next run.first) ≡ 1 = ap (λ k. times run.last (chain k next run.first)) (sym one) ∙ l.there in
+    let there : occurrences run.last (chain run.blocks next run.first) ≡ 1 = ap (λ k. occurrences run.last (chain k next run.first)) (sym one) ∙ l.there in
     let else' : AllByRecursion (Without store next run.last) (slice_set slots key.slot (slot_at 0 Free)) = none_else store next slots free free_count key.slot (slot_at key.generation (Draft run)) run.last s.arena was (omega (arith, there)) in
-    let p : ((free ≡ run.last) → ⊥) × (times run.last (chain (free_count - 1) next (get_or next free 0)) ≡ 0) = apart run.last free (chain (free_count - 1) next (get_or next free 0)) (ap (times run.last) (sym (free_front next free free_count some)) ∙ l.apart) in
+    let p : ((free ≡ run.last) → ⊥) × (occurrences run.last (chain (free_count - 1) next (get_or next free 0)) ≡ 0) = apart run.last free (chain (free_count - 1) next (get_or next free 0)) (ap (occurrences run.last) (sym (free_front next free free_count some)) ∙ l.apart) in
     record {
       stay = length-set next run.last free;
       others = λ new. map_kept (slot_of store next) (slot_of store (set next run.last free)) (Without store next run.last) slots key.slot new (slot_at 0 Free) else' (slot_keeps store next run.last free);
@@ -116,7 +116,7 @@ links_some key depot store next slots free free_count run s has some =
       alone_by b f true e h = absurd (h (eqb-true f b e))
       alone_by b f false e h = refl
 
-      alone : (b f : ℕ) → ((f ≡ b) → ⊥) → times b (f ∷ []) ≡ 0
+      alone : (b f : ℕ) → ((f ≡ b) → ⊥) → occurrences b (f ∷ []) ≡ 0
       alone b f h = times_cons b f [] ∙ alone_by b f (f == b) refl h
 
 links_by : (t : Bool) (key : Key) (depot : d.Depot) (store : List (List ℕ)) (next : List ℕ) (slots : List Slot) (free free_count : ℕ) (run : Run) → Sees key depot store next slots free free_count (Draft run) → 1 ≤ free_count → (run.blocks == 0) ≡ t
@@ -132,12 +132,12 @@ links key depot store next slots free free_count run s some = links_by (run.bloc
 
 -- what the code knows of the piece that goes into a free block
 pub record IsNext (free_count : ℕ) (run : Run) (n : ℕ) (piece row : List ℕ) : Type 0 where
-  pub full : run.length % 512 ≡ 0
+  pub full : run.length % BLOCK_SIZE ≡ 0
   pub free : 1 ≤ free_count
   pub some : 0 < n
-  pub fits : n ≤ 512
+  pub fits : n ≤ BLOCK_SIZE
   pub size : length piece ≡ n
-  pub row_size : length row ≡ 512
+  pub row_size : length row ≡ BLOCK_SIZE
   pub front : take n row ≡ piece
 
 linked_is : (key : Key) (depot : d.Depot) (store : List (List ℕ)) (next : List ℕ) (slots : List Slot) (free free_count : ℕ) (run : Run) (n : ℕ) (piece row : List ℕ) → Sees key depot store next slots free free_count (Draft run) → IsNext free_count run n piece row
@@ -169,9 +169,9 @@ linked_turn key depot store next slots free free_count run n piece row s f =
       others = l.others (slot_at key.generation (Draft (longer (linked_run run free) n)));
       runs = l.runs (slot_at key.generation (Draft (longer (linked_run run free) n))) (linked_is key depot store next slots free free_count run n piece row s f);
       split = λ x.
-          let old : times x (chain free_count next free) ≡ times x (free ∷ chain (free_count - 1) next (get_or next free 0)) = ap (times x) (free_front next free free_count f.free) in
-          let rest : times x (chain (free_count - 1) (linked_next next run free) (get_or next free 0)) ≡ times x (chain (free_count - 1) next (get_or next free 0)) = ap (times x) l.rest in
-          let new : times x (chain (run.blocks + 1) (linked_next next run free) ((linked_run run free).first)) ≡ times x (chain run.blocks next run.first ++ free ∷ []) = ap (times x) l.blocks in
+          let old : occurrences x (chain free_count next free) ≡ occurrences x (free ∷ chain (free_count - 1) next (get_or next free 0)) = ap (occurrences x) (free_front next free free_count f.free) in
+          let rest : occurrences x (chain (free_count - 1) (linked_next next run free) (get_or next free 0)) ≡ occurrences x (chain (free_count - 1) next (get_or next free 0)) = ap (occurrences x) l.rest in
+          let new : occurrences x (chain (run.blocks + 1) (linked_next next run free) ((linked_run run free).first)) ≡ occurrences x (chain run.blocks next run.first ++ free ∷ []) = ap (occurrences x) l.blocks in
           omega (arith, old, rest, new, times_cons x free (chain (free_count - 1) next (get_or next free 0)), times_cons x free [], times-append x (chain run.blocks next run.first) (free ∷ []));
     }
 
@@ -188,7 +188,7 @@ linked_bytes key depot store next slots free free_count run n piece row s f ther
     let l : Links store next slots free free_count key.slot run (linked_next next run free) ((linked_run run free).first) = links key depot store next slots free free_count run s f.free in
     let size : length (flat store (chain run.blocks next run.first)) ≡ run.length =
     full_length store (length next) (chain run.blocks next run.first) s.arena.count s.arena.sizes (run_low store next slots free free_count key.slot (slot_at key.generation (Draft run)) s.arena was)
-    ∙ ap (λ k. 512 * k) (chain_length run.blocks next run.first) ∙ sym (full_run run.blocks run.length is.enough f.full) in
+    ∙ ap (λ k. BLOCK_SIZE * k) (chain_length run.blocks next run.first) ∙ sym (full_run run.blocks run.length is.enough f.full) in
     ap (λ bs. take (run.length + n) (flat store bs)) l.blocks
     ∙ ap (take (run.length + n)) (flat_append store (chain run.blocks next run.first) (free ∷ []) ∙ ap (λ t. flat store (chain run.blocks next run.first) ++ t) (append-nil (get_or store free []) ∙ there))
     ∙ take_behind run.length n (flat store (chain run.blocks next run.first)) row size
@@ -204,17 +204,17 @@ linked_gains key depot store next slots free free_count run n piece row s f ther
   bytes = linked_bytes key depot store next slots free free_count run n piece row s f there;
   blocks = (links key depot store next slots free free_count run s f.free).blocks;
   taken = λ x.
-      let old : times x (chain free_count next free) ≡ times x (free ∷ chain (free_count - 1) next (get_or next free 0)) = ap (times x) (free_front next free free_count f.free) in
-      let rest : times x (chain (free_count - 1) (linked_next next run free) (get_or next free 0)) ≡ times x (chain (free_count - 1) next (get_or next free 0)) = ap (times x) ((links key depot store next slots free free_count run s f.free).rest) in
+      let old : occurrences x (chain free_count next free) ≡ occurrences x (free ∷ chain (free_count - 1) next (get_or next free 0)) = ap (occurrences x) (free_front next free free_count f.free) in
+      let rest : occurrences x (chain (free_count - 1) (linked_next next run free) (get_or next free 0)) ≡ occurrences x (chain (free_count - 1) next (get_or next free 0)) = ap (occurrences x) ((links key depot store next slots free free_count run s f.free).rest) in
       omega (arith, old, rest, times_cons x free (chain (free_count - 1) next (get_or next free 0)), times_cons x free []);
 }
 
-room_left : (blocks k n count : ℕ) → blocks ≡ d.blocks_for k → k % 512 ≡ 0 → 0 < n → d.blocks_for (k + n) ≤ blocks + count → 1 ≤ count
+room_left : (blocks k n count : ℕ) → blocks ≡ d.blocks_for k → k % BLOCK_SIZE ≡ 0 → 0 < n → d.blocks_for (k + n) ≤ blocks + count → 1 ≤ count
 room_left blocks k n count e full some h = omega (arith, e, full, some, h)
 
 -- where there is room for a byte behind full blocks, a block is free
 pub some_free : (key : Key) (depot : d.Depot) (store : List (List ℕ)) (next : List ℕ) (slots : List Slot) (free free_count : ℕ) (run : Run) (bytes : List ℕ) → Sees key depot store next slots free free_count (Draft run)
-    → d.HasRoom depot (depot_key key) bytes → 0 < length bytes → run.length % 512 ≡ 0 → 1 ≤ free_count
+    → d.HasRoom depot (depot_key key) bytes → 0 < length bytes → run.length % BLOCK_SIZE ≡ 0 → 1 ≤ free_count
 some_free key depot store next slots free free_count run bytes s room some full =
     let was : slice_get slots key.slot ≡ Some (slot_at key.generation (Draft run)) = stands key depot store next slots free free_count (Draft run) s (λ e. cc) in
     let is : IsRun next run = all_at (λ (slot : Slot). IsContent next slot.content) slots key.slot (slot_at key.generation (Draft run)) s.arena.runs was in
@@ -225,12 +225,12 @@ free_there key depot store next slots free free_count content s some = free_with
 
 -- what the code wrote into the first free block
 pub next_by : (key : Key) (depot : d.Depot) (store : List (List ℕ)) (next : List ℕ) (slots : List Slot) (free free_count : ℕ) (run : Run) (n : ℕ) (bytes old row other : List ℕ)
-    → Sees key depot store next slots free free_count (Draft run) → d.HasRoom depot (depot_key key) bytes → 0 < length bytes → run.length % 512 ≡ 0 → n ≡ min (length bytes) (512 - run.length % 512) → old ≡ get_or store free other
+    → Sees key depot store next slots free free_count (Draft run) → d.HasRoom depot (depot_key key) bytes → 0 < length bytes → run.length % BLOCK_SIZE ≡ 0 → n ≡ min (length bytes) (BLOCK_SIZE - run.length % BLOCK_SIZE) → old ≡ get_or store free other
     → row ≡ take 0 old ++ take n bytes ++ drop (0 + length (take n bytes)) old → IsNext free_count run n (take n bytes) row
 next_by key depot store next slots free free_count run n bytes old row other s room some full least was is =
     let free_some : 1 ≤ free_count = some_free key depot store next slots free free_count run bytes s room some full in
     let low : free < length next = free_there key depot store next slots free free_count (Draft run) s free_some in
-    let size : length (get_or store free other) ≡ 512 = s.arena.sizes free other (omega (arith, low, s.arena.count)) in
+    let size : length (get_or store free other) ≡ BLOCK_SIZE = s.arena.sizes free other (omega (arith, low, s.arena.count)) in
     let same : length old ≡ length (get_or store free other) = ap length was in
     let piece : length (take n bytes) ≡ n = omega (arith, least, length-take n bytes) in
     let all : length row ≡ length (take n bytes ++ drop (0 + length (take n bytes)) old) = ap length is in

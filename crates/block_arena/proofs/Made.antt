@@ -5,7 +5,7 @@ use Rattle.std.specs.List.{AllByRecursion}
 use Rattle.std.proofs.lemmas.Bool.{eqb-true, eq-eqb, lt-ltb, le-ltb}
 use Rattle.std.proofs.lemmas.List.Sums.{sum_by-cons}
 use Rattle.mail_world.specs.Depot as d
-use Rattle.mail_world.specs.Depot.{times}
+use Rattle.mail_world.specs.Depot.{occurrences}
 use Rattle.mail_world.specs.declared.limits.TheConstants.{BLOCK_SIZE, BLOCK_LIMIT, SLOT_LIMIT}
 use Rattle.mail_world.proofs.Depots.{times-append}
 use Rattle.block_arena.specs.declared.slot.Content.TheVariants.{Free}
@@ -39,26 +39,26 @@ chain_links zero m k h = refl
 chain_links (suc n) m k h =
     ap (λ g. k ∷ chain n (links 1 m) g) (get_links m 1 k (k + 1) (omega (arith, h)) (omega arith)) ∙ ap (λ t. k ∷ t) (chain_links n m (k + 1) (omega (arith, h)))
 
-below_by : (x k n : ℕ) (xs : List ℕ) (t : Bool) → x < k → times x xs ≡ 0 → (k == x) ≡ t → times x (k ∷ xs) ≡ 0
+below_by : (x k n : ℕ) (xs : List ℕ) (t : Bool) → x < k → occurrences x xs ≡ 0 → (k == x) ≡ t → occurrences x (k ∷ xs) ≡ 0
 below_by x k n xs true h rest e = let same : k ≡ x = eqb-true k x e in absurd (omega (arith, same, h))
-below_by x k n xs false h rest e = times_cons x k xs ∙ ap (λ b. cond b 1 0 + times x xs) e ∙ (let sum : 0 + times x xs ≡ 0 = omega (arith, rest) in sum)
+below_by x k n xs false h rest e = times_cons x k xs ∙ ap (λ b. cond b 1 0 + occurrences x xs) e ∙ (let sum : 0 + occurrences x xs ≡ 0 = omega (arith, rest) in sum)
 
-times_below : (x k n : ℕ) → x < k → times x (links k n) ≡ 0
+times_below : (x k n : ℕ) → x < k → occurrences x (links k n) ≡ 0
 times_below x k zero h = refl
 times_below x k (suc n) h = below_by x k n (links (k + 1) n) (k == x) h (times_below x (k + 1) n (omega (arith, h))) refl
 
-from_by : (x k n end : ℕ) (t : Bool) → k ≤ x → k + suc n ≡ end → (k + 1 ≤ x → times x (links (k + 1) n) ≡ cond (nat_lt x end) 1 0) → (k == x) ≡ t → times x (links k (suc n)) ≡ cond (nat_lt x end) 1 0
+from_by : (x k n end : ℕ) (t : Bool) → k ≤ x → k + suc n ≡ end → (k + 1 ≤ x → occurrences x (links (k + 1) n) ≡ cond (nat_lt x end) 1 0) → (k == x) ≡ t → occurrences x (links k (suc n)) ≡ cond (nat_lt x end) 1 0
 from_by x k n end true h e rest e' =
     let same : k ≡ x = eqb-true k x e' in
     let on : nat_lt x end ≡ true = lt-ltb x end (omega (arith, same, e)) in
-    let none : times x (links (k + 1) n) ≡ 0 = times_below x (k + 1) n (omega (arith, same)) in
-    times_cons x k (links (k + 1) n) ∙ ap (λ b. cond b 1 0 + times x (links (k + 1) n)) e' ∙ (let one : 1 + times x (links (k + 1) n) ≡ 1 = omega (arith, none) in one) ∙ sym (ap (λ b. cond b 1 0) on)
+    let none : occurrences x (links (k + 1) n) ≡ 0 = times_below x (k + 1) n (omega (arith, same)) in
+    times_cons x k (links (k + 1) n) ∙ ap (λ b. cond b 1 0 + occurrences x (links (k + 1) n)) e' ∙ (let one : 1 + occurrences x (links (k + 1) n) ≡ 1 = omega (arith, none) in one) ∙ sym (ap (λ b. cond b 1 0) on)
 from_by x k n end false h e rest e' =
     let other : (k ≡ x) → ⊥ = λ same. (let yes' : (k == x) ≡ true = eq-eqb k x same in cc) in
-    let later : times x (links (k + 1) n) ≡ cond (nat_lt x end) 1 0 = rest (omega (arith, h, other)) in
-    times_cons x k (links (k + 1) n) ∙ ap (λ b. cond b 1 0 + times x (links (k + 1) n)) e' ∙ (let drop0 : 0 + times x (links (k + 1) n) ≡ times x (links (k + 1) n) = omega arith in drop0) ∙ later
+    let later : occurrences x (links (k + 1) n) ≡ cond (nat_lt x end) 1 0 = rest (omega (arith, h, other)) in
+    times_cons x k (links (k + 1) n) ∙ ap (λ b. cond b 1 0 + occurrences x (links (k + 1) n)) e' ∙ (let drop0 : 0 + occurrences x (links (k + 1) n) ≡ occurrences x (links (k + 1) n) = omega arith in drop0) ∙ later
 
-times_from : (x k n end : ℕ) → k ≤ x → k + n ≡ end → times x (links k n) ≡ cond (nat_lt x end) 1 0
+times_from : (x k n end : ℕ) → k ≤ x → k + n ≡ end → occurrences x (links k n) ≡ cond (nat_lt x end) 1 0
 times_from x k zero end h e =
     let off : nat_lt x end ≡ false = le-ltb x end (omega (arith, h, e)) in
     sym (ap (λ b. cond b 1 0) off)
@@ -89,9 +89,9 @@ once_made store blocks n g x =
     let none : flat_map (λ (slot : d.Slot). d.blocks_of slot.held) (map (slot_of store (links 1 blocks)) (replicate n (slot_at g Free))) ≡ [] = none_used store (links 1 blocks) n g in
     let free : chain blocks (links 1 blocks) 0 ≡ links 0 blocks = chain_links blocks blocks 0 (omega arith) in
     times-append x (chain blocks (links 1 blocks) 0) (flat_map (λ (slot : d.Slot). d.blocks_of slot.held) (map (slot_of store (links 1 blocks)) (replicate n (slot_at g Free))))
-    ∙ ap (λ t. times x (chain blocks (links 1 blocks) 0) + times x t) none
-    ∙ (let plain : times x (chain blocks (links 1 blocks) 0) + 0 ≡ times x (chain blocks (links 1 blocks) 0) = omega arith in plain)
-    ∙ ap (times x) free
+    ∙ ap (λ t. occurrences x (chain blocks (links 1 blocks) 0) + occurrences x t) none
+    ∙ (let plain : occurrences x (chain blocks (links 1 blocks) 0) + 0 ≡ occurrences x (chain blocks (links 1 blocks) 0) = omega arith in plain)
+    ∙ ap (occurrences x) free
     ∙ times_from x 0 blocks blocks (omega arith) (omega arith)
 
 get_same : {A : Type 0} (n : ℕ) (x : A) (k : ℕ) (e : A) → k < length (replicate n x) → get_or (replicate n x) k e ≡ x
@@ -124,5 +124,5 @@ pub made_once : (blocks n g : ℕ) (store : List (List ℕ)) (next : List ℕ) (
     → d.HasEachBlockOnce blocks (depot_of store next slots 0 blocks)
 made_once blocks n g store next slots e2 e3 = rw (e2, e3) (once_made store blocks n g)
 
-pub row_size : length {A = ℕ} (replicate 512 0) ≡ 512
-row_size = length_same {A = ℕ} 512 0
+pub row_size : length {A = ℕ} (replicate BLOCK_SIZE 0) ≡ BLOCK_SIZE
+row_size = length_same {A = ℕ} BLOCK_SIZE 0

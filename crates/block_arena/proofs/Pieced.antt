@@ -16,17 +16,18 @@ use Rattle.block_arena.proofs.Freed.{last_in, slot_within, sum_within}
 use Rattle.block_arena.proofs.Filled.{draft_is, draft_owns, draft_last, filled_by, filled_gains, get_any, IsFilled}
 use Rattle.block_arena.proofs.Linked.{IsNext, linked_gains, next_by, some_free, free_there, spare}
 use Rattle.block_arena.proofs.Puts.{Gains, gained_puts, gained_room, sees_new, room_to, room_from}
+use Rattle.mail_world.specs.declared.limits.TheConstants.{BLOCK_SIZE, BLOCK_LIMIT}
 
 -- what the code knows once it looked the draft's run up
 pub record Knows (key : Key) (depot : d.Depot) (store : List (List ℕ)) (next : List ℕ) (slots : List Slot) (free free_count : ℕ) (run : Run) (n : ℕ) (bytes : List ℕ) : Type 0 where
   pub sees : Sees key depot store next slots free free_count (Draft run)
   pub some : 0 < length bytes
   pub room : d.HasRoom depot (depot_key key) bytes
-  pub least : n ≡ min (length bytes) (512 - run.length % 512)
+  pub least : n ≡ min (length bytes) (BLOCK_SIZE - run.length % BLOCK_SIZE)
 
 pub knows : (key : Key) (depot : d.Depot) (store : List (List ℕ)) (next : List ℕ) (slots : List Slot) (free free_count : ℕ) (items : List Slot) (content : Content) (run : Run) (n : ℕ) (bytes : List ℕ)
     → IsArena store next slots free free_count → depot_of store next slots free free_count ≡ depot → items ≡ slots → content ≡ content_at (slice_get items key.slot) key.generation → IsDraft (d.held_under depot (depot_key key)) → run ≡ run_of content
-    → 0 < length bytes → d.HasRoom depot (depot_key key) bytes → n ≡ min (length bytes) (512 - run.length % 512)
+    → 0 < length bytes → d.HasRoom depot (depot_key key) bytes → n ≡ min (length bytes) (BLOCK_SIZE - run.length % BLOCK_SIZE)
     → Knows key depot store next slots free free_count run n bytes
 knows key depot store next slots free free_count items content run n bytes arena view same is draft e some room least =
     let s : Sees key depot store next slots free free_count content = sees key depot store next slots free free_count items content content arena view same is refl in
@@ -60,7 +61,7 @@ gained key depot store next slots free free_count run run' n bytes picked store'
 }
 
 pub put_last : (key : Key) (depot : d.Depot) (store : List (List ℕ)) (next : List ℕ) (slots : List Slot) (free free_count : ℕ) (run : Run) (n : ℕ) (bytes old row other : List ℕ) (slot : Slot)
-    → Knows key depot store next slots free free_count run n bytes → 0 < run.length % 512 → old ≡ get_or store run.last other → row ≡ take (run.length % 512) old ++ take n bytes ++ drop (run.length % 512 + length (take n bytes)) old
+    → Knows key depot store next slots free free_count run n bytes → 0 < run.length % BLOCK_SIZE → old ≡ get_or store run.last other → row ≡ take (run.length % BLOCK_SIZE) old ++ take n bytes ++ drop (run.length % BLOCK_SIZE + length (take n bytes)) old
     → slot ≡ slot_at key.generation (Draft (longer run n))
     → IsPut key depot n bytes (set store run.last row) next (slice_set slots key.slot slot) free free_count
 put_last key depot store next slots free free_count run n bytes old row other slot k some was is e =
@@ -70,7 +71,7 @@ put_last key depot store next slots free free_count run n bytes old row other sl
     (filled_gains key depot store next slots free free_count run n (take n bytes) old row k.sees f) (omega (arith, k.least)) k.room)
 
 pub put_next : (key : Key) (depot : d.Depot) (store : List (List ℕ)) (next : List ℕ) (slots : List Slot) (free free_count : ℕ) (run : Run) (n : ℕ) (bytes old row other : List ℕ) (rest spare' : ℕ) (run' : Run) (next' : List ℕ) (slot : Slot)
-    → Knows key depot store next slots free free_count run n bytes → run.length % 512 ≡ 0 → old ≡ get_or store free other → row ≡ take 0 old ++ take n bytes ++ drop (0 + length (take n bytes)) old
+    → Knows key depot store next slots free free_count run n bytes → run.length % BLOCK_SIZE ≡ 0 → old ≡ get_or store free other → row ≡ take 0 old ++ take n bytes ++ drop (0 + length (take n bytes)) old
     → rest ≡ get_or next free spare' → run' ≡ linked_run run free → next' ≡ linked_next next run free → slot ≡ slot_at key.generation (Draft (longer run' n))
     → IsPut key depot n bytes (set store free row) next' (slice_set slots key.slot slot) rest (free_count - 1)
 put_next key depot store next slots free free_count run n bytes old row other rest spare' run' next' slot k full was is behind runs links e =
@@ -86,30 +87,30 @@ put_next key depot store next slots free free_count run n bytes old row other re
     (linked_gains key depot (set store free row) next slots free free_count run n (take n bytes) row s f there) (omega (arith, k.least)) k.room)))
 
 -- bounds that the code needs
-pub last_low : (key : Key) (depot : d.Depot) (store : List (List ℕ)) (next : List ℕ) (slots : List Slot) (free free_count : ℕ) (run : Run) (n : ℕ) (bytes : List ℕ) → Knows key depot store next slots free free_count run n bytes → 0 < run.length % 512 → run.last < length store
+pub last_low : (key : Key) (depot : d.Depot) (store : List (List ℕ)) (next : List ℕ) (slots : List Slot) (free free_count : ℕ) (run : Run) (n : ℕ) (bytes : List ℕ) → Knows key depot store next slots free free_count run n bytes → 0 < run.length % BLOCK_SIZE → run.last < length store
 last_low key depot store next slots free free_count run n bytes k some =
     let low : run.last < length next = (draft_last key depot store next slots free free_count run k.sees some).1.low in
     omega (arith, low, k.sees.arena.count)
 
-pub last_fits : (key : Key) (depot : d.Depot) (store : List (List ℕ)) (next : List ℕ) (slots : List Slot) (free free_count : ℕ) (run : Run) (n : ℕ) (bytes old other : List ℕ) → Knows key depot store next slots free free_count run n bytes → 0 < run.length % 512
-    → old ≡ get_or store run.last other → run.length % 512 + length (take n bytes) ≤ length old
+pub last_fits : (key : Key) (depot : d.Depot) (store : List (List ℕ)) (next : List ℕ) (slots : List Slot) (free free_count : ℕ) (run : Run) (n : ℕ) (bytes old other : List ℕ) → Knows key depot store next slots free free_count run n bytes → 0 < run.length % BLOCK_SIZE
+    → old ≡ get_or store run.last other → run.length % BLOCK_SIZE + length (take n bytes) ≤ length old
 last_fits key depot store next slots free free_count run n bytes old other k some was =
-    let size : length (get_or store run.last other) ≡ 512 = k.sees.arena.sizes run.last other (last_low key depot store next slots free free_count run n bytes k some) in
+    let size : length (get_or store run.last other) ≡ BLOCK_SIZE = k.sees.arena.sizes run.last other (last_low key depot store next slots free free_count run n bytes k some) in
     let same : length old ≡ length (get_or store run.last other) = ap length was in
     omega (arith, size, same, k.least, some, length-take n bytes)
 
-pub free_some : (key : Key) (depot : d.Depot) (store : List (List ℕ)) (next : List ℕ) (slots : List Slot) (free free_count : ℕ) (run : Run) (n : ℕ) (bytes : List ℕ) → Knows key depot store next slots free free_count run n bytes → run.length % 512 ≡ 0 → 1 ≤ free_count
+pub free_some : (key : Key) (depot : d.Depot) (store : List (List ℕ)) (next : List ℕ) (slots : List Slot) (free free_count : ℕ) (run : Run) (n : ℕ) (bytes : List ℕ) → Knows key depot store next slots free free_count run n bytes → run.length % BLOCK_SIZE ≡ 0 → 1 ≤ free_count
 free_some key depot store next slots free free_count run n bytes k full = some_free key depot store next slots free free_count run bytes k.sees k.room k.some full
 
-pub free_low : (key : Key) (depot : d.Depot) (store : List (List ℕ)) (next : List ℕ) (slots : List Slot) (free free_count : ℕ) (run : Run) (n : ℕ) (bytes : List ℕ) → Knows key depot store next slots free free_count run n bytes → run.length % 512 ≡ 0 → (free < length next) × (free < length store)
+pub free_low : (key : Key) (depot : d.Depot) (store : List (List ℕ)) (next : List ℕ) (slots : List Slot) (free free_count : ℕ) (run : Run) (n : ℕ) (bytes : List ℕ) → Knows key depot store next slots free free_count run n bytes → run.length % BLOCK_SIZE ≡ 0 → (free < length next) × (free < length store)
 free_low key depot store next slots free free_count run n bytes k full =
     let low : free < length next = free_there key depot store next slots free free_count (Draft run) k.sees (free_some key depot store next slots free free_count run n bytes k full) in
     (low, omega (arith, low, k.sees.arena.count))
 
-pub free_fits : (key : Key) (depot : d.Depot) (store : List (List ℕ)) (next : List ℕ) (slots : List Slot) (free free_count : ℕ) (run : Run) (n : ℕ) (bytes old other : List ℕ) → Knows key depot store next slots free free_count run n bytes → run.length % 512 ≡ 0
+pub free_fits : (key : Key) (depot : d.Depot) (store : List (List ℕ)) (next : List ℕ) (slots : List Slot) (free free_count : ℕ) (run : Run) (n : ℕ) (bytes old other : List ℕ) → Knows key depot store next slots free free_count run n bytes → run.length % BLOCK_SIZE ≡ 0
     → old ≡ get_or store free other → 0 + length (take n bytes) ≤ length old
 free_fits key depot store next slots free free_count run n bytes old other k full was =
-    let size : length (get_or store free other) ≡ 512 = k.sees.arena.sizes free other ((free_low key depot store next slots free free_count run n bytes k full).1) in
+    let size : length (get_or store free other) ≡ BLOCK_SIZE = k.sees.arena.sizes free other ((free_low key depot store next slots free free_count run n bytes k full).1) in
     let same : length old ≡ length (get_or store free other) = ap length was in
     omega (arith, size, same, k.least, length-take n bytes)
 
@@ -117,20 +118,20 @@ pub link_low : (key : Key) (depot : d.Depot) (store : List (List ℕ)) (next : L
 link_low key depot store next slots free free_count run n bytes k some = (last_in key depot store next slots free free_count (Draft run) run k.sees (draft_owns store next run) some).low
 
 -- a draft is no longer than the blocks that there may be
-pub run_few : (key : Key) (depot : d.Depot) (store : List (List ℕ)) (next : List ℕ) (slots : List Slot) (free free_count : ℕ) (run : Run) → Sees key depot store next slots free free_count (Draft run) → (free_count + run.blocks ≤ 65536) × (run.length ≤ 512 * run.blocks)
+pub run_few : (key : Key) (depot : d.Depot) (store : List (List ℕ)) (next : List ℕ) (slots : List Slot) (free free_count : ℕ) (run : Run) → Sees key depot store next slots free free_count (Draft run) → (free_count + run.blocks ≤ BLOCK_LIMIT) × (run.length ≤ BLOCK_SIZE * run.blocks)
 run_few key depot store next slots free free_count run s =
     let was : slice_get slots key.slot ≡ Some (slot_at key.generation (Draft run)) = stands key depot store next slots free free_count (Draft run) s (λ e. cc) in
     let is : IsRun next run = all_at (λ (slot : Slot). IsContent next slot.content) slots key.slot (slot_at key.generation (Draft run)) s.arena.runs was in
     (sum_within key depot store next slots free free_count (Draft run) run s (draft_owns store next run), enough_room run.length run.blocks is.enough)
 
-pub few : (key : Key) (depot : d.Depot) (store : List (List ℕ)) (next : List ℕ) (slots : List Slot) (free free_count : ℕ) (run : Run) (n : ℕ) (bytes : List ℕ) → Knows key depot store next slots free free_count run n bytes → (free_count + run.blocks ≤ 65536) × (run.length ≤ 512 * run.blocks) × (n ≤ 512)
+pub few : (key : Key) (depot : d.Depot) (store : List (List ℕ)) (next : List ℕ) (slots : List Slot) (free free_count : ℕ) (run : Run) (n : ℕ) (bytes : List ℕ) → Knows key depot store next slots free free_count run n bytes → (free_count + run.blocks ≤ BLOCK_LIMIT) × (run.length ≤ BLOCK_SIZE * run.blocks) × (n ≤ BLOCK_SIZE)
 few key depot store next slots free free_count run n bytes k =
-    let p : (free_count + run.blocks ≤ 65536) × (run.length ≤ 512 * run.blocks) = run_few key depot store next slots free free_count run k.sees in
+    let p : (free_count + run.blocks ≤ BLOCK_LIMIT) × (run.length ≤ BLOCK_SIZE * run.blocks) = run_few key depot store next slots free free_count run k.sees in
     (p.0, p.1, omega (arith, k.least))
 
 -- room for so many bytes, as the code counts it
 pub room_is : (key : Key) (depot : d.Depot) (store : List (List ℕ)) (next : List ℕ) (slots : List Slot) (free free_count : ℕ) (run : Run) (bytes : List ℕ) → Sees key depot store next slots free free_count (Draft run)
-    → (d.HasRoom depot (depot_key key) bytes → length bytes ≤ 512 * (run.blocks + free_count) - run.length) × (length bytes ≤ 512 * (run.blocks + free_count) - run.length → d.HasRoom depot (depot_key key) bytes)
+    → (d.HasRoom depot (depot_key key) bytes → length bytes ≤ BLOCK_SIZE * (run.blocks + free_count) - run.length) × (length bytes ≤ BLOCK_SIZE * (run.blocks + free_count) - run.length → d.HasRoom depot (depot_key key) bytes)
 room_is key depot store next slots free free_count run bytes s = (
   λ h. let all : d.blocks_for (run.length + length bytes) ≤ run.blocks + free_count = room_to key depot store next slots free free_count run bytes s h in omega (arith, all),
   λ h. room_from key depot store next slots free free_count run bytes s (omega (arith, h, within)),
@@ -141,5 +142,5 @@ room_is key depot store next slots free free_count run bytes s = (
   is : IsRun next run
   is = all_at (λ (slot : Slot). IsContent next slot.content) slots key.slot (slot_at key.generation (Draft run)) s.arena.runs was
 
-  within : run.length ≤ 512 * run.blocks
+  within : run.length ≤ BLOCK_SIZE * run.blocks
   within = enough_room run.length run.blocks is.enough

@@ -14,6 +14,7 @@ use Rattle.block_arena.proofs.Seen.{Sees, stands}
 use Rattle.block_arena.proofs.Labels.{held_behind, set_same}
 use Rattle.block_arena.proofs.GivenBack.{depot_there}
 use Rattle.block_arena.proofs.Freed.{Owns, sum_within}
+use Rattle.mail_world.specs.declared.limits.TheConstants.{BLOCK_SIZE, BLOCK_LIMIT}
 
 node_add : (i k : ℕ) (next : List ℕ) (first : ℕ) → node (i + k) next first ≡ node k next (node i next first)
 node_add zero k next first = let same : 0 + k ≡ k = omega arith in ap (λ n. node n next first) same
@@ -38,9 +39,6 @@ pub part_low : (next : List ℕ) (run : Run) (n : ℕ) → AllByRecursion (λ b.
 part_low next run n low p h within =
     subst (λ b. AllByRecursion (λ x. x < length next) (chain (n - run.read.index) next b)) p.is
     (chain_part (λ x. x < length next) run.read.index (n - run.read.index) run.blocks next run.first low (omega (arith, h, within)))
-
-pub from_front : (next : List ℕ) (run : Run) (n block : ℕ) → n ≤ run.blocks → block ≡ node n next run.first → IsPlace next run (record { index = n; block = block })
-from_front next run n block h e = record { is = sym e; within = h }
 
 pub from_read : (next : List ℕ) (run : Run) (n block : ℕ) → IsPlace next run run.read → run.read.index ≤ n → n ≤ run.blocks → block ≡ node (n - run.read.index) next run.read.block → IsPlace next run (record { index = n; block = block })
 from_read next run n block p h within e =
@@ -78,11 +76,11 @@ place_read key depot store next slots free free_count run holds s =
 pub read_on : (store : List (List ℕ)) (next : List ℕ) (run : Run) (place : Place) → IsReadable store next run → IsReadable store next (reading run place)
 read_on store next run place r = record { sizes = r.sizes; count = r.count; low = r.low; enough = r.enough }
 
-pub block_at_byte : (run : Run) (at : ℕ) → run.length ≤ 512 * run.blocks → at < run.length → at / 512 < run.blocks
+pub block_at_byte : (run : Run) (at : ℕ) → run.length ≤ BLOCK_SIZE * run.blocks → at < run.length → at / BLOCK_SIZE < run.blocks
 block_at_byte run at e h = omega (arith, e, h)
 
 pub message_owns : (store : List (List ℕ)) (next : List ℕ) (run : Run) (holds : ℕ) → Owns store next (Sealed run holds) run
 message_owns store next run holds = record { filled = λ e. cc; blocks = refl; count = refl; is = λ x. x }
 
-pub message_few : (key : Key) (depot : d.Depot) (store : List (List ℕ)) (next : List ℕ) (slots : List Slot) (free free_count : ℕ) (run : Run) (holds : ℕ) → Sees key depot store next slots free free_count (Sealed run holds) → run.blocks ≤ 65536
+pub message_few : (key : Key) (depot : d.Depot) (store : List (List ℕ)) (next : List ℕ) (slots : List Slot) (free free_count : ℕ) (run : Run) (holds : ℕ) → Sees key depot store next slots free free_count (Sealed run holds) → run.blocks ≤ BLOCK_LIMIT
 message_few key depot store next slots free free_count run holds s = omega (arith, sum_within key depot store next slots free free_count (Sealed run holds) run s (message_owns store next run holds))

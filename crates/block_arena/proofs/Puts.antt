@@ -3,7 +3,7 @@ use Rattle.std.proofs.Common.{◌≡◌, ℕ, ◌+◌, ◌≤◌, List, [], ◌+
 use Rattle.std.specs.Prelude.{slice_get, slice_set}
 use Rattle.std.proofs.lemmas.Bool.{eq-eqb}
 use Rattle.mail_world.specs.Depot as d
-use Rattle.mail_world.specs.Depot.{times}
+use Rattle.mail_world.specs.Depot.{occurrences}
 use Rattle.mail_world.proofs.Depots.{set_at, times-append, used}
 use Rattle.block_arena.specs.declared.key.Key.{Key}
 use Rattle.block_arena.specs.declared.slot.Run.{Run}
@@ -54,7 +54,7 @@ pub record Gains (key : Key) (store : List (List ℕ)) (next : List ℕ) (slots 
   pub long : run'.length ≡ run.length + length piece
   pub bytes : bytes_in store' next' run' ≡ bytes_in store next run ++ piece
   pub blocks : blocks_in next' run' ≡ blocks_in next run ++ picked
-  pub taken : (x : ℕ) → times x (chain free_count next free) ≡ times x picked + times x (chain free_count' next' free')
+  pub taken : (x : ℕ) → occurrences x (chain free_count next free) ≡ occurrences x picked + occurrences x (chain free_count' next' free')
 
 pub gained_puts : (key : Key) (depot : d.Depot) (store : List (List ℕ)) (next : List ℕ) (slots : List Slot) (free free_count : ℕ) (run run' : Run) (piece picked : List ℕ) (store' : List (List ℕ)) (next' : List ℕ) (free' free_count' : ℕ)
     → Sees key depot store next slots free free_count (Draft run) → Gains key store next slots free free_count run run' piece picked store' next' free' free_count'
@@ -70,12 +70,12 @@ gained_puts key depot store next slots free free_count run run' piece picked sto
       rest = chain free_count' next' free';
       draft = under key depot store next slots free free_count (Draft run) s;
       enough = ap length (sym g.blocks) ∙ chain_length run'.blocks next' run'.first ∙ is.enough ∙ ap (λ k. d.blocks_for k) (long ∙ ap length g.bytes);
-      taken = λ x. ap (λ (e : d.Depot). times x e.free) (sym s.view) ∙ g.taken x;
+      taken = λ x. ap (λ (e : d.Depot). occurrences x e.free) (sym s.view) ∙ g.taken x;
       after =
           ap (λ (ss : List d.Slot). record { slots = ss; free = chain free_count' next' free' }) g.turn.others
-          ∙ ap (λ bs. d.holding (depot_of store next slots free free_count) (depot_key key) (d.Draft bs (blocks_in next' run')) (chain free_count' next' free')) g.bytes
-          ∙ ap (λ bs. d.holding (depot_of store next slots free free_count) (depot_key key) (d.Draft (bytes_in store next run ++ piece) bs) (chain free_count' next' free')) g.blocks
-          ∙ ap (λ (e : d.Depot). d.holding e (depot_key key) (d.Draft (bytes_in store next run ++ piece) (blocks_in next run ++ picked)) (chain free_count' next' free')) s.view;
+          ∙ ap (λ bs. d.with_held (depot_of store next slots free free_count) (depot_key key) (d.Draft bs (blocks_in next' run')) (chain free_count' next' free')) g.bytes
+          ∙ ap (λ bs. d.with_held (depot_of store next slots free free_count) (depot_key key) (d.Draft (bytes_in store next run ++ piece) bs) (chain free_count' next' free')) g.blocks
+          ∙ ap (λ (e : d.Depot). d.with_held e (depot_key key) (d.Draft (bytes_in store next run ++ piece) (blocks_in next run ++ picked)) (chain free_count' next' free')) s.view;
     }
 
 pub gained_room : (key : Key) (depot : d.Depot) (store : List (List ℕ)) (next : List ℕ) (slots : List Slot) (free free_count : ℕ) (run run' : Run) (n : ℕ) (bytes picked : List ℕ) (store' : List (List ℕ)) (next' : List ℕ) (free' free_count' : ℕ)
@@ -105,8 +105,8 @@ puts_none key depot store next slots free free_count run s =
       enough = ap length (append-nil (blocks_in next run)) ∙ chain_length run.blocks next run.first ∙ is.enough ∙ ap (λ k. d.blocks_for k) (long ∙ ap length (sym (append-nil (bytes_in store next run))));
       taken = λ x. omega arith;
       after = sym (
-          ap (λ bs. d.holding depot (depot_key key) (d.Draft bs (blocks_in next run ++ [])) depot.free) (append-nil (bytes_in store next run))
-          ∙ ap (λ bs. d.holding depot (depot_key key) (d.Draft (bytes_in store next run) bs) depot.free) (append-nil (blocks_in next run))
+          ap (λ bs. d.with_held depot (depot_key key) (d.Draft bs (blocks_in next run ++ [])) depot.free) (append-nil (bytes_in store next run))
+          ∙ ap (λ bs. d.with_held depot (depot_key key) (d.Draft (bytes_in store next run) bs) depot.free) (append-nil (blocks_in next run))
           ∙ ap (λ (ss : List d.Slot). record { slots = ss; free = depot.free }) (set_same depot.slots key.slot (record { generation = key.generation; held = d.Draft (bytes_in store next run) (blocks_in next run) }) (used depot (depot_key key) (d.Draft (bytes_in store next run) (blocks_in next run)) here (λ e. cc)))
           );
     }
@@ -117,7 +117,7 @@ puts_then a b c key xs ys p q =
     let was : slice_get a.slots key.slot ≡ Some (record { generation = key.generation; held = d.Draft p.bytes p.blocks }) = used a key (d.Draft p.bytes p.blocks) p.draft (λ e. cc) in
     let there : slice_get (slice_set a.slots key.slot (record { generation = key.generation; held = d.Draft (p.bytes ++ xs) (p.blocks ++ p.picked) })) key.slot ≡ Some (record { generation = key.generation; held = d.Draft (p.bytes ++ xs) (p.blocks ++ p.picked) }) =
     set_at a.slots key.slot (record { generation = key.generation; held = d.Draft (p.bytes ++ xs) (p.blocks ++ p.picked) }) (record { generation = key.generation; held = d.Draft p.bytes p.blocks }) was in
-    let between : d.held_under b key ≡ d.Draft (p.bytes ++ xs) (p.blocks ++ p.picked) = ap (λ (e : d.Depot). d.held_under e key) p.after ∙ held_there (d.holding a key (d.Draft (p.bytes ++ xs) (p.blocks ++ p.picked)) p.rest) key (d.Draft (p.bytes ++ xs) (p.blocks ++ p.picked)) there in
+    let between : d.held_under b key ≡ d.Draft (p.bytes ++ xs) (p.blocks ++ p.picked) = ap (λ (e : d.Depot). d.held_under e key) p.after ∙ held_there (d.with_held a key (d.Draft (p.bytes ++ xs) (p.blocks ++ p.picked)) p.rest) key (d.Draft (p.bytes ++ xs) (p.blocks ++ p.picked)) there in
     let same : d.Draft q.bytes q.blocks ≡ d.Draft (p.bytes ++ xs) (p.blocks ++ p.picked) = sym q.draft ∙ between in
     let bytes : q.bytes ≡ p.bytes ++ xs = ap d.bytes_of same in
     let blocks : q.blocks ≡ p.blocks ++ p.picked = ap d.blocks_of same in
@@ -131,15 +131,15 @@ puts_then a b c key xs ys p q =
       draft = p.draft;
       enough = ap length (sym every) ∙ q.enough ∙ ap (λ t. d.blocks_for (length t)) all;
       taken = λ x.
-          let first : times x a.free ≡ times x p.picked + times x p.rest = p.taken x in
-          let second : times x b.free ≡ times x q.picked + times x q.rest = q.taken x in
-          let free : times x b.free ≡ times x p.rest = ap (λ (e : d.Depot). times x e.free) p.after in
+          let first : occurrences x a.free ≡ occurrences x p.picked + occurrences x p.rest = p.taken x in
+          let second : occurrences x b.free ≡ occurrences x q.picked + occurrences x q.rest = q.taken x in
+          let free : occurrences x b.free ≡ occurrences x p.rest = ap (λ (e : d.Depot). occurrences x e.free) p.after in
           omega (arith, first, second, free, times-append x p.picked q.picked);
       after =
           q.after
-          ∙ ap (λ t. d.holding b key (d.Draft t (q.blocks ++ q.picked)) q.rest) all
-          ∙ ap (λ t. d.holding b key (d.Draft (p.bytes ++ (xs ++ ys)) t) q.rest) every
-          ∙ ap (λ (e : d.Depot). d.holding e key (d.Draft (p.bytes ++ (xs ++ ys)) (p.blocks ++ (p.picked ++ q.picked))) q.rest) p.after
+          ∙ ap (λ t. d.with_held b key (d.Draft t (q.blocks ++ q.picked)) q.rest) all
+          ∙ ap (λ t. d.with_held b key (d.Draft (p.bytes ++ (xs ++ ys)) t) q.rest) every
+          ∙ ap (λ (e : d.Depot). d.with_held e key (d.Draft (p.bytes ++ (xs ++ ys)) (p.blocks ++ (p.picked ++ q.picked))) q.rest) p.after
           ∙ ap (λ (ss : List d.Slot). record { slots = ss; free = q.rest }) (set_twice a.slots key.slot (record { generation = key.generation; held = d.Draft (p.bytes ++ xs) (p.blocks ++ p.picked) }) (record { generation = key.generation; held = d.Draft (p.bytes ++ (xs ++ ys)) (p.blocks ++ (p.picked ++ q.picked)) }));
     }
 

@@ -45,18 +45,18 @@ drop_in (suc n) (x ∷ xs) ys h = drop_in n xs ys (omega (arith, h))
 
 -- behind so many whole blocks the rest of the chain stands
 walk : (store : List (List ℕ)) (next : List ℕ) (q m n first : ℕ) → n ≡ q + m → All (λ (bytes : List ℕ). length bytes ≡ BLOCK_SIZE) store → length store ≡ length next → AllByRecursion (λ b. b < length next) (chain n next first)
-    → (drop (512 * q) (whole store next n first) ≡ whole store next m (node q next first)) × AllByRecursion (λ b. b < length next) (chain m next (node q next first))
+    → (drop (BLOCK_SIZE * q) (whole store next n first) ≡ whole store next m (node q next first)) × AllByRecursion (λ b. b < length next) (chain m next (node q next first))
 walk store next zero m n first e sizes count low =
     let same : n ≡ m = omega (arith, e) in
-    (ap (λ k. drop k (whole store next n first)) (let z : 512 * zero ≡ 0 = omega arith in z) ∙ ap (λ k. whole store next k first) same, subst (λ k. AllByRecursion (λ b. b < length next) (chain k next first)) same low)
+    (ap (λ k. drop k (whole store next n first)) (let z : BLOCK_SIZE * zero ≡ 0 = omega arith in z) ∙ ap (λ k. whole store next k first) same, subst (λ k. AllByRecursion (λ b. b < length next) (chain k next first)) same low)
 walk store next (suc q) m zero first e sizes count low = absurd (omega (arith, e))
 walk store next (suc q) m (suc n) first e sizes count low =
-    let here : length (get_or store first []) ≡ 512 = sizes first [] (omega (arith, low.0, count)) in
-    let rest : (drop (512 * q) (whole store next n (get_or next first 0)) ≡ whole store next m (node q next (get_or next first 0))) × AllByRecursion (λ b. b < length next) (chain m next (node q next (get_or next first 0))) =
+    let here : length (get_or store first []) ≡ BLOCK_SIZE = sizes first [] (omega (arith, low.0, count)) in
+    let rest : (drop (BLOCK_SIZE * q) (whole store next n (get_or next first 0)) ≡ whole store next m (node q next (get_or next first 0))) × AllByRecursion (λ b. b < length next) (chain m next (node q next (get_or next first 0))) =
     walk store next q m n (get_or next first 0) (omega (arith, e)) sizes count low.1 in (
-      ap (λ k. drop k (get_or store first [] ++ whole store next n (get_or next first 0))) (let z : 512 * suc q ≡ 512 + 512 * q = omega arith in z)
-          ∙ sym (drop-drop (512 * q) 512 (get_or store first [] ++ whole store next n (get_or next first 0)))
-          ∙ ap (drop (512 * q)) (drop_front 512 (get_or store first []) (whole store next n (get_or next first 0)) here)
+      ap (λ k. drop k (get_or store first [] ++ whole store next n (get_or next first 0))) (let z : BLOCK_SIZE * suc q ≡ BLOCK_SIZE + BLOCK_SIZE * q = omega arith in z)
+          ∙ sym (drop-drop (BLOCK_SIZE * q) BLOCK_SIZE (get_or store first [] ++ whole store next n (get_or next first 0)))
+          ∙ ap (drop (BLOCK_SIZE * q)) (drop_front BLOCK_SIZE (get_or store first []) (whole store next n (get_or next first 0)) here)
           ∙ rest.0,
       rest.1,
     )
@@ -66,27 +66,27 @@ pub record Reads (store : List (List ℕ)) (next : List ℕ) (all : List ℕ) (t
   pub m : ℕ
   pub low : AllByRecursion (λ b. b < length next) (chain m next block)
   pub left : done < total → drop (at + done) all ≡ drop from (whole store next m block)
-  pub enough : total ≤ done + (512 * m - from)
+  pub enough : total ≤ done + (BLOCK_SIZE * m - from)
   pub within : done ≤ total
-  pub from_in : from < 512
+  pub from_in : from < BLOCK_SIZE
   pub long : total ≤ length (drop at all)
   pub room : total ≤ length start
   pub is : out ≡ take done (drop at all) ++ drop done start
 
 pub reads_in : (store : List (List ℕ)) (next : List ℕ) (run : Run) (total at : ℕ) (out : List ℕ) (block : ℕ) → IsReadable store next run → at < run.length → total ≤ length out → total ≤ run.length - at
-    → block ≡ node (at / 512) next run.first → Reads store next (whole store next run.blocks run.first) total at out out 0 (at % 512) block
+    → block ≡ node (at / BLOCK_SIZE) next run.first → Reads store next (whole store next run.blocks run.first) total at out out 0 (at % BLOCK_SIZE) block
 reads_in store next run total at out block r inside room short e =
-    let q : at / 512 ≤ run.blocks = omega (arith, inside, r.enough) in
-    let w : (drop (512 * (at / 512)) (whole store next run.blocks run.first) ≡ whole store next (run.blocks - at / 512) (node (at / 512) next run.first)) × AllByRecursion (λ b. b < length next) (chain (run.blocks - at / 512) next (node (at / 512) next run.first)) =
-    walk store next (at / 512) (run.blocks - at / 512) run.blocks run.first (omega (arith, q)) r.sizes r.count r.low in
-    let size : length (whole store next run.blocks run.first) ≡ 512 * run.blocks = full_length store (length next) (blocks_in next run) r.count r.sizes r.low ∙ ap (λ k. 512 * k) (chain_length run.blocks next run.first) in
+    let q : at / BLOCK_SIZE ≤ run.blocks = omega (arith, inside, r.enough) in
+    let w : (drop (BLOCK_SIZE * (at / BLOCK_SIZE)) (whole store next run.blocks run.first) ≡ whole store next (run.blocks - at / BLOCK_SIZE) (node (at / BLOCK_SIZE) next run.first)) × AllByRecursion (λ b. b < length next) (chain (run.blocks - at / BLOCK_SIZE) next (node (at / BLOCK_SIZE) next run.first)) =
+    walk store next (at / BLOCK_SIZE) (run.blocks - at / BLOCK_SIZE) run.blocks run.first (omega (arith, q)) r.sizes r.count r.low in
+    let size : length (whole store next run.blocks run.first) ≡ BLOCK_SIZE * run.blocks = full_length store (length next) (blocks_in next run) r.count r.sizes r.low ∙ ap (λ k. BLOCK_SIZE * k) (chain_length run.blocks next run.first) in
     record {
-      m = run.blocks - at / 512;
-      low = subst (λ b. AllByRecursion (λ x. x < length next) (chain (run.blocks - at / 512) next b)) (sym e) w.1;
+      m = run.blocks - at / BLOCK_SIZE;
+      low = subst (λ b. AllByRecursion (λ x. x < length next) (chain (run.blocks - at / BLOCK_SIZE) next b)) (sym e) w.1;
       left = λ some.
-          ap (λ k. drop k (whole store next run.blocks run.first)) (let z : at + 0 ≡ 512 * (at / 512) + at % 512 = omega arith in z)
-          ∙ sym (drop-drop (at % 512) (512 * (at / 512)) (whole store next run.blocks run.first))
-          ∙ ap (drop (at % 512)) (w.0 ∙ ap (λ b. whole store next (run.blocks - at / 512) b) (sym e));
+          ap (λ k. drop k (whole store next run.blocks run.first)) (let z : at + 0 ≡ BLOCK_SIZE * (at / BLOCK_SIZE) + at % BLOCK_SIZE = omega arith in z)
+          ∙ sym (drop-drop (at % BLOCK_SIZE) (BLOCK_SIZE * (at / BLOCK_SIZE)) (whole store next run.blocks run.first))
+          ∙ ap (drop (at % BLOCK_SIZE)) (w.0 ∙ ap (λ b. whole store next (run.blocks - at / BLOCK_SIZE) b) (sym e));
       enough = omega (arith, short, inside, r.enough, q);
       within = omega arith;
       from_in = omega arith;
@@ -103,17 +103,17 @@ joined out P S start piece w done n e size s =
 
 step_by : (store : List (List ℕ)) (next : List ℕ) (all : List ℕ) (total at : ℕ) (start out : List ℕ) (done from block n : ℕ) (row out' : List ℕ) (m : ℕ)
     → All (λ (bytes : List ℕ). length bytes ≡ BLOCK_SIZE) store → length store ≡ length next
-    → AllByRecursion (λ b. b < length next) (chain m next block) → drop (at + done) all ≡ drop from (whole store next m block) → total ≤ done + (512 * m - from)
-    → done < total → from < 512 → total ≤ length (drop at all) → total ≤ length start → out ≡ take done (drop at all) ++ drop done start
-    → n ≡ min (total - done) (512 - from) → row ≡ get_or store block [] → out' ≡ take done out ++ take n (drop from row) ++ drop (done + n) out
+    → AllByRecursion (λ b. b < length next) (chain m next block) → drop (at + done) all ≡ drop from (whole store next m block) → total ≤ done + (BLOCK_SIZE * m - from)
+    → done < total → from < BLOCK_SIZE → total ≤ length (drop at all) → total ≤ length start → out ≡ take done (drop at all) ++ drop done start
+    → n ≡ min (total - done) (BLOCK_SIZE - from) → row ≡ get_or store block [] → out' ≡ take done out ++ take n (drop from row) ++ drop (done + n) out
     → Reads store next all total at start out' (done + n) 0 (get_or next block 0)
 step_by store next all total at start out done from block n row out' zero sizes count low left enough some from_in long room is en er eo = absurd (omega (arith, enough, some))
 step_by store next all total at start out done from block n row out' (suc m) sizes count low left enough some from_in long room is en er eo =
-    let here : length (get_or store block []) ≡ 512 = sizes block [] (omega (arith, low.0, count)) in
-    let size : length row ≡ 512 = ap length er ∙ here in
+    let here : length (get_or store block []) ≡ BLOCK_SIZE = sizes block [] (omega (arith, low.0, count)) in
+    let size : length row ≡ BLOCK_SIZE = ap length er ∙ here in
     let rest : List ℕ = whole store next m (get_or next block 0) in
     let same : drop (at + done) all ≡ drop from (row ++ whole store next m (get_or next block 0)) = left ∙ ap (λ r. drop from (r ++ whole store next m (get_or next block 0))) (sym er) in
-    let fits : from + n ≤ 512 = omega (arith, en, from_in) in
+    let fits : from + n ≤ BLOCK_SIZE = omega (arith, en, from_in) in
     let piece : take n (drop done (drop at all)) ≡ take n (drop from row) =
     ap (take n) (drop-drop done at all ∙ same ∙ drop_in from row (whole store next m (get_or next block 0)) (omega (arith, size, from_in)))
     ∙ take_front n (drop from row) (whole store next m (get_or next block 0)) (omega (arith, length-drop from row, size, fits)) in
@@ -122,7 +122,7 @@ step_by store next all total at start out done from block n row out' (suc m) siz
       m = m;
       low = low.1;
       left = λ more.
-          let full : from + n ≡ 512 = omega (arith, en, more, some, from_in) in
+          let full : from + n ≡ BLOCK_SIZE = omega (arith, en, more, some, from_in) in
           ap (λ k. drop k all) (let z : at + (done + n) ≡ (at + done) + n = omega arith in z)
           ∙ sym (drop-drop n (at + done) all)
           ∙ ap (drop n) same
@@ -141,7 +141,7 @@ step_by store next all total at start out done from block n row out' (suc m) siz
 
 pub reads_step : (store : List (List ℕ)) (next : List ℕ) (all : List ℕ) (total at : ℕ) (start out : List ℕ) (done from block n : ℕ) (row out' : List ℕ)
     → All (λ (bytes : List ℕ). length bytes ≡ BLOCK_SIZE) store → length store ≡ length next → Reads store next all total at start out done from block → done < total
-    → n ≡ min (total - done) (512 - from) → row ≡ get_or store block [] → out' ≡ take done out ++ take n (drop from row) ++ drop (done + n) out
+    → n ≡ min (total - done) (BLOCK_SIZE - from) → row ≡ get_or store block [] → out' ≡ take done out ++ take n (drop from row) ++ drop (done + n) out
     → Reads store next all total at start out' (done + n) 0 (get_or next block 0)
 reads_step store next all total at start out done from block n row out' sizes count r some en er eo =
     step_by store next all total at start out done from block n row out' r.m sizes count r.low (r.left some) r.enough some r.from_in r.long r.room r.is en er eo

@@ -4,7 +4,7 @@ use Rattle.std.specs.Prelude.{slice_get, slice_set, flat_map, nat_lt, option_map
 use Rattle.std.specs.List.{All, AllByRecursion}
 use Rattle.std.proofs.lemmas.Bool.{eq-eqb, ltb-true}
 use Rattle.mail_world.specs.Depot as d
-use Rattle.mail_world.specs.Depot.{times}
+use Rattle.mail_world.specs.Depot.{occurrences}
 use Rattle.mail_world.specs.declared.limits.TheConstants.{BLOCK_SIZE}
 use Rattle.mail_world.proofs.Depots.{times-append, total_set}
 use Rattle.block_arena.specs.declared.fault.ArenaFault.TheVariants as fault
@@ -67,18 +67,18 @@ self_once : (x n : ℕ) (t : Bool) → (x == x) ≡ t → cond t 1 0 + n ≡ suc
 self_once x n true e = omega arith
 self_once x n false e = let yes' : (x == x) ≡ true = eq-eqb x x refl in cc
 
-pub low_by : (k : ℕ) (xs : List ℕ) → ((x : ℕ) → times x xs ≤ cond (nat_lt x k) 1 0) → AllByRecursion (λ b. b < k) xs
+pub low_by : (k : ℕ) (xs : List ℕ) → ((x : ℕ) → occurrences x xs ≤ cond (nat_lt x k) 1 0) → AllByRecursion (λ b. b < k) xs
 low_by k [] h = tt
 low_by k (x ∷ xs) h =
-    let one : suc (times x xs) ≤ cond (nat_lt x k) 1 0 = omega (arith, h x, times_cons x x xs, self_once x (times x xs) (x == x) refl) in
-    (once_low k x (times x xs) (nat_lt x k) refl one, low_by k xs (λ y. omega (arith, h y, times_cons y x xs)))
+    let one : suc (occurrences x xs) ≤ cond (nat_lt x k) 1 0 = omega (arith, h x, times_cons x x xs, self_once x (occurrences x xs) (x == x) refl) in
+    (once_low k x (occurrences x xs) (nat_lt x k) refl one, low_by k xs (λ y. omega (arith, h y, times_cons y x xs)))
 
 pub run_times : (store : List (List ℕ)) (next : List ℕ) (slots : List Slot) (free free_count i : ℕ) (s : Slot) → IsArena store next slots free free_count → slice_get slots i ≡ Some s
-    → (x : ℕ) → times x (chain free_count next free) + times x (d.blocks_of (held store next s.content)) ≤ cond (nat_lt x (length next)) 1 0
+    → (x : ℕ) → occurrences x (chain free_count next free) + occurrences x (d.blocks_of (held store next s.content)) ≤ cond (nat_lt x (length next)) 1 0
 run_times store next slots free free_count i s arena was x =
-    let total : times x (flat_map (λ (slot : d.Slot). d.blocks_of slot.held) (slice_set (map (slot_of store next) slots) i (record { generation = 0; held = d.Free }))) + times x (d.blocks_of (held store next s.content)) ≡ times x (flat_map (λ (slot : d.Slot). d.blocks_of slot.held) (map (slot_of store next) slots)) + 0 =
+    let total : occurrences x (flat_map (λ (slot : d.Slot). d.blocks_of slot.held) (slice_set (map (slot_of store next) slots) i (record { generation = 0; held = d.Free }))) + occurrences x (d.blocks_of (held store next s.content)) ≡ occurrences x (flat_map (λ (slot : d.Slot). d.blocks_of slot.held) (map (slot_of store next) slots)) + 0 =
     total_set (λ y. cond (y == x) 1 0) (λ (slot : d.Slot). d.blocks_of slot.held) (map (slot_of store next) slots) i (slot_of store next s) (record { generation = 0; held = d.Free }) (get_map (slot_of store next) slots i s was) in
-    let once : times x (chain free_count next free ++ flat_map (λ (slot : d.Slot). d.blocks_of slot.held) (map (slot_of store next) slots)) ≡ cond (nat_lt x (length next)) 1 0 = arena.once x in
+    let once : occurrences x (chain free_count next free ++ flat_map (λ (slot : d.Slot). d.blocks_of slot.held) (map (slot_of store next) slots)) ≡ cond (nat_lt x (length next)) 1 0 = arena.once x in
     omega (arith, total, once, times-append x (chain free_count next free) (flat_map (λ (slot : d.Slot). d.blocks_of slot.held) (map (slot_of store next) slots)))
 
 pub run_low : (store : List (List ℕ)) (next : List ℕ) (slots : List Slot) (free free_count i : ℕ) (s : Slot) → IsArena store next slots free free_count → slice_get slots i ≡ Some s
@@ -87,17 +87,17 @@ run_low store next slots free free_count i s arena was = low_by (length next) (d
 
 pub free_low : (store : List (List ℕ)) (next : List ℕ) (slots : List Slot) (free free_count : ℕ) → IsArena store next slots free free_count → AllByRecursion (λ b. b < length next) (chain free_count next free)
 free_low store next slots free free_count arena = low_by (length next) (chain free_count next free) (λ x.
-    let once : times x (chain free_count next free ++ flat_map (λ (slot : d.Slot). d.blocks_of slot.held) (map (slot_of store next) slots)) ≡ cond (nat_lt x (length next)) 1 0 = arena.once x in
+    let once : occurrences x (chain free_count next free ++ flat_map (λ (slot : d.Slot). d.blocks_of slot.held) (map (slot_of store next) slots)) ≡ cond (nat_lt x (length next)) 1 0 = arena.once x in
     omega (arith, once, times-append x (chain free_count next free) (flat_map (λ (slot : d.Slot). d.blocks_of slot.held) (map (slot_of store next) slots))))
 
 pub full_length : (store : List (List ℕ)) (k : ℕ) (bs : List ℕ) → length store ≡ k → All (λ (bytes : List ℕ). length bytes ≡ BLOCK_SIZE) store → AllByRecursion (λ b. b < k) bs
-    → length (flat_map (λ b. get_or store b []) bs) ≡ 512 * length bs
+    → length (flat_map (λ b. get_or store b []) bs) ≡ BLOCK_SIZE * length bs
 full_length store k [] same sizes low = omega arith
 full_length store k (b ∷ bs) same sizes low =
-    let here : length (get_or store b []) ≡ 512 = sizes b [] (omega (arith, low.0, same)) in
+    let here : length (get_or store b []) ≡ BLOCK_SIZE = sizes b [] (omega (arith, low.0, same)) in
     omega (arith, here, full_length store k bs same sizes low.1, length-append (get_or store b []) (flat_map (λ b. get_or store b []) bs))
 
-pub enough_room : (n blocks : ℕ) → blocks ≡ d.blocks_for n → n ≤ 512 * blocks
+pub enough_room : (n blocks : ℕ) → blocks ≡ d.blocks_for n → n ≤ BLOCK_SIZE * blocks
 enough_room n blocks e = omega (arith, e)
 
 pub run_length : (store : List (List ℕ)) (next : List ℕ) (run : Run) → length store ≡ length next → All (λ (bytes : List ℕ). length bytes ≡ BLOCK_SIZE) store → IsRun next run

@@ -5,7 +5,7 @@ use Rattle.std.specs.List.{All, AllByRecursion}
 use Rattle.std.proofs.lemmas.Bool.{eqb-true}
 use Rattle.std.proofs.lemmas.List.Sums.{sum_by-cons}
 use Rattle.mail_world.specs.Depot as d
-use Rattle.mail_world.specs.Depot.{times}
+use Rattle.mail_world.specs.Depot.{occurrences}
 use Rattle.mail_world.specs.declared.limits.TheConstants.{BLOCK_SIZE}
 use Rattle.mail_world.proofs.Depots.{times-append, total_set}
 use Rattle.block_arena.specs.declared.slot.Content.{Content}
@@ -80,7 +80,7 @@ pub record Turn (blocks : List (List ℕ)) (next : List ℕ) (slots : List Slot)
   pub count : free_count' + block_count s.content ≡ free_count + block_count old.content
   pub others : map (slot_of blocks' next') (slice_set slots i s) ≡ slice_set (map (slot_of blocks next) slots) i (slot_of blocks' next' s)
   pub runs : AllByRecursion (λ (slot : Slot). IsContent next' slot.content) (slice_set slots i s)
-  pub split : (x : ℕ) → times x (chain free_count' next' free') + times x (d.blocks_of (held blocks' next' s.content)) ≡ times x (chain free_count next free) + times x (d.blocks_of (held blocks next old.content))
+  pub split : (x : ℕ) → occurrences x (chain free_count' next' free') + occurrences x (d.blocks_of (held blocks' next' s.content)) ≡ occurrences x (chain free_count next free) + occurrences x (d.blocks_of (held blocks next old.content))
 
 pub turned : (blocks : List (List ℕ)) (next : List ℕ) (slots : List Slot) (free free_count i : ℕ) (old s : Slot) (blocks' : List (List ℕ)) (next' : List ℕ) (free' free_count' : ℕ)
     → Turn blocks next slots free free_count i old s blocks' next' free' free_count' → IsArena blocks' next' (slice_set slots i s) free' free_count'
@@ -100,13 +100,13 @@ turned blocks next slots free free_count i old s blocks' next' free' free_count'
   in_use : List d.Slot → List ℕ
   in_use ss = flat_map (λ (slot : d.Slot). d.blocks_of slot.held) ss
 
-  once_by : (x : ℕ) → times x (chain free_count' next' free' ++ flat_map (λ (slot : d.Slot). d.blocks_of slot.held) (map (slot_of blocks' next') (slice_set slots i s))) ≡ cond (nat_lt x (length next')) 1 0
+  once_by : (x : ℕ) → occurrences x (chain free_count' next' free' ++ flat_map (λ (slot : d.Slot). d.blocks_of slot.held) (map (slot_of blocks' next') (slice_set slots i s))) ≡ cond (nat_lt x (length next')) 1 0
   once_by x =
-      let used : times x (flat_map (λ (slot : d.Slot). d.blocks_of slot.held) (map (slot_of blocks' next') (slice_set slots i s))) ≡ times x (flat_map (λ (slot : d.Slot). d.blocks_of slot.held) (slice_set (map (slot_of blocks next) slots) i (slot_of blocks' next' s))) = ap (λ ss. times x (flat_map (λ (slot : d.Slot). d.blocks_of slot.held) ss)) t.others in
-      let total : times x (flat_map (λ (slot : d.Slot). d.blocks_of slot.held) (slice_set (map (slot_of blocks next) slots) i (slot_of blocks' next' s))) + times x (d.blocks_of (held blocks next old.content)) ≡ times x (flat_map (λ (slot : d.Slot). d.blocks_of slot.held) (map (slot_of blocks next) slots)) + times x (d.blocks_of (held blocks' next' s.content)) =
+      let used : occurrences x (flat_map (λ (slot : d.Slot). d.blocks_of slot.held) (map (slot_of blocks' next') (slice_set slots i s))) ≡ occurrences x (flat_map (λ (slot : d.Slot). d.blocks_of slot.held) (slice_set (map (slot_of blocks next) slots) i (slot_of blocks' next' s))) = ap (λ ss. occurrences x (flat_map (λ (slot : d.Slot). d.blocks_of slot.held) ss)) t.others in
+      let total : occurrences x (flat_map (λ (slot : d.Slot). d.blocks_of slot.held) (slice_set (map (slot_of blocks next) slots) i (slot_of blocks' next' s))) + occurrences x (d.blocks_of (held blocks next old.content)) ≡ occurrences x (flat_map (λ (slot : d.Slot). d.blocks_of slot.held) (map (slot_of blocks next) slots)) + occurrences x (d.blocks_of (held blocks' next' s.content)) =
       total_set (λ y. cond (y == x) 1 0) (λ (slot : d.Slot). d.blocks_of slot.held) (map (slot_of blocks next) slots) i (slot_of blocks next old) (slot_of blocks' next' s) (get_map (slot_of blocks next) slots i old t.was) in
-      let split : times x (chain free_count' next' free') + times x (d.blocks_of (held blocks' next' s.content)) ≡ times x (chain free_count next free) + times x (d.blocks_of (held blocks next old.content)) = t.split x in
-      let moved : times x (chain free_count' next' free' ++ flat_map (λ (slot : d.Slot). d.blocks_of slot.held) (map (slot_of blocks' next') (slice_set slots i s))) ≡ times x (chain free_count next free ++ flat_map (λ (slot : d.Slot). d.blocks_of slot.held) (map (slot_of blocks next) slots)) =
+      let split : occurrences x (chain free_count' next' free') + occurrences x (d.blocks_of (held blocks' next' s.content)) ≡ occurrences x (chain free_count next free) + occurrences x (d.blocks_of (held blocks next old.content)) = t.split x in
+      let moved : occurrences x (chain free_count' next' free' ++ flat_map (λ (slot : d.Slot). d.blocks_of slot.held) (map (slot_of blocks' next') (slice_set slots i s))) ≡ occurrences x (chain free_count next free ++ flat_map (λ (slot : d.Slot). d.blocks_of slot.held) (map (slot_of blocks next) slots)) =
       omega (arith, split, total, used, times-append x (chain free_count' next' free') (flat_map (λ (slot : d.Slot). d.blocks_of slot.held) (map (slot_of blocks' next') (slice_set slots i s))), times-append x (chain free_count next free) (flat_map (λ (slot : d.Slot). d.blocks_of slot.held) (map (slot_of blocks next) slots))) in
       moved ∙ t.arena.once x ∙ ap (λ n. cond (nat_lt x n) 1 0) (sym t.next_stay)
 
@@ -124,5 +124,5 @@ relabelled blocks next slots free free_count i old s arena was generation conten
   count = ap (λ n. free_count + n) count;
   others = map_set (slot_of blocks next) slots i s;
   runs = all_set (λ (slot : Slot). IsContent next slot.content) slots i s arena.runs content;
-  split = λ x. ap (λ b. times x (chain free_count next free) + times x b) same;
+  split = λ x. ap (λ b. occurrences x (chain free_count next free) + occurrences x b) same;
 })

@@ -12,7 +12,7 @@ ghost use Rattle.block_arena.specs.Calls.{depot_key, IsTaken, IsInUse, Frees};
 use crate::fault::ArenaFault;
 use crate::key::Key;
 use crate::slot::{Content, EMPTY, Place, Run, Slot, content_under, run_in};
-use mail_world::limits::{BLOCK_LIMIT, BLOCK_SIZE, SLOT_LIMIT};
+use mail_world::limits::{BLOCK_LIMIT, BLOCK_SIZE, LAST_GENERATION, SLOT_LIMIT};
 use std::alloc::{AllocError, Global};
 use std::marker::Model;
 
@@ -20,9 +20,6 @@ mod drafts;
 mod messages;
 #[cfg(test)]
 mod tests;
-
-/// The last generation of a slot, which is retired behind it.
-const LAST_GENERATION: u64 = 281_474_976_710_655;
 
 /// Messages in blocks. Contracts see the depot of the definitions: what each slot holds, and the blocks that are free.
 #[derive(Drop)]
@@ -72,7 +69,8 @@ impl Arena {
         requires some_slot { 1 ≤ slots }
         requires few_slots { slots ≤ SLOT_LIMIT }
         requires generation { generation ≤ last_generation }
-        ensures slots { IfOk result (λ d. d.slots ≡ replicate slots (record { generation = generation; held = depot.Free })) }
+        ensures slots { IfOk result
+            (λ d. d.slots ≡ replicate slots (record { generation = generation; held = depot.Free })) }
         ensures free { IfOk result (λ d. length d.free ≡ blocks) }
         ensures once { IfOk result (λ d. HasEachBlockOnce blocks d) }
     {

@@ -2,7 +2,7 @@
 use Rattle.std.proofs.Common.{◌≡◌, ℕ, ◌+◌, List, ◌++◌, take, drop, sym, ap, ◌∙◌, subst, append_assoc, take-append-drop}
 use Rattle.std.proofs.Math.Seq.{take-add}
 use Rattle.mbox_rd.specs.Spool.{SpoolState}
-use Rattle.mbox_rd.specs.Writing.{Pending, owed, WritesPiece, FailsPiece}
+use Rattle.mbox_rd.specs.Writing.{Pending, bytes_owed, WritesPiece, FailsPiece}
 use Rattle.mbox_rd.proofs.Wholes.{WritesPiece-then, FailsPiece-then}
 
 -- a failure in the front of a text is one in the text
@@ -10,7 +10,7 @@ FailsPiece-more : (s t : SpoolState) (a : Pending) (p q : List ℕ) → FailsPie
 FailsPiece-more s t a p q x = record {
   text = x.text;
   failed = x.failed;
-  sure = λ rest. let front = x.sure (q ++ rest) in record { rest = front.rest; whole = ap (owed a) (append_assoc p q rest) ∙ front.whole };
+  sure = λ rest. let front = x.sure (q ++ rest) in record { rest = front.rest; whole = ap (bytes_owed a) (append_assoc p q rest) ∙ front.whole };
 }
 
 -- the next bytes of the message

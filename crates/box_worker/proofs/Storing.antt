@@ -9,7 +9,7 @@ use Rattle.mail_world.specs.Records.{Calendar, record_of, mailbox}
 use Rattle.mail_world.specs.Deliveries.{IsTorn}
 use Rattle.mail_world.proofs.Spools.{mailbox-one_more}
 use Rattle.mbox_rd.specs.Spool.{SpoolState, CoversAll}
-use Rattle.box_worker.specs.Stored.{HasKept, HasNotKept, IsTornAt, HasStored}
+use Rattle.box_worker.specs.Stored.{HasKept, HasNotKept, IsTornAt, kept, HasStored}
 
 one_more : (copies : List Note) (note : Note) → length (copies ++ note ∷ []) ≡ length copies + 1
 one_more copies note = length-append copies (note ∷ [])
@@ -91,7 +91,7 @@ module _ (calendar : Calendar) (host : List ℕ) (note : Note) where
 
   module _ (old s t : SpoolState) (copies : List Note) (n : ℕ) where
     -- the copy is stored
-    pub stored_more : HasStored calendar host old s copies n false → HasKept s t text → HasStored calendar host old t (copies ++ note ∷ []) (n + 1) false
+    pub stored_more : HasStored calendar host copies old (kept s n false) → HasKept s t text → HasStored calendar host (copies ++ note ∷ []) old (kept t (n + 1) false)
     stored_more x y =
         let all : n ≡ length copies = x.all refl in
         let now : n + 1 ≡ length (copies ++ note ∷ []) = omega (arith, one_more copies note) in
@@ -110,7 +110,7 @@ module _ (calendar : Calendar) (host : List ℕ) (note : Note) where
         }
 
     -- the spool failed at the copy
-    pub stored_not : HasStored calendar host old s copies n false → HasNotKept s t text → HasStored calendar host old t (copies ++ note ∷ []) n true
+    pub stored_not : HasStored calendar host copies old (kept s n false) → HasNotKept s t text → HasStored calendar host (copies ++ note ∷ []) old (kept t n true)
     stored_not x y =
         let all : n ≡ length copies = x.all refl in
         let more = one_more copies note in
@@ -128,11 +128,11 @@ module _ (calendar : Calendar) (host : List ℕ) (note : Note) where
         }
 
     -- the spool had failed before
-    pub stored_later : HasStored calendar host old s copies n true → t ≡ s → HasStored calendar host old t (copies ++ note ∷ []) n true
+    pub stored_later : HasStored calendar host copies old (kept s n true) → t ≡ s → HasStored calendar host (copies ++ note ∷ []) old (kept t n true)
     stored_later x same =
         let more = one_more copies note in
         let within : n ≤ length copies = x.within in
-        let P : SpoolState → Type 0 = λ u. HasStored calendar host old u (copies ++ note ∷ []) n true in
+        let P : SpoolState → Type 0 = λ u. HasStored calendar host (copies ++ note ∷ []) old (kept u n true) in
         subst P (sym same) (record {
           within = omega arith;
           all = λ e. absurd (true≢false e);

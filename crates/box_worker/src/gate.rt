@@ -2,8 +2,8 @@
 
 use mail_world::Txn;
 
-/// What a worker calls before it begins a copy's record, and once it has let the copy go. Nothing is promised of it: a gate
-/// may wait, and count.
+/// What a worker calls before it begins a copy's record, and once it has let the copy go. Nothing is promised of it: a
+/// gate may wait, and count.
 pub trait Gate {
     /// Nothing of the copy is in the spool yet.
     fn before(&mut self, txn: Txn, place: u32);

@@ -1,4 +1,5 @@
-//! The worker of one mailbox: it takes copies from the lanes, stores each as a record, and tells the lane what became of it.
+//! The worker of one mailbox: it takes copies from the lanes, stores each as a record, and tells the lane what became
+//! of it.
 #![tactic(auto)]
 
 mod gate;

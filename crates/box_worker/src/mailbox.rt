@@ -22,7 +22,8 @@ pub struct Mailbox<S: Spool> {
 impl<S: Spool> Mailbox<S> {
     /// Ends what the spool holds, so that a record may follow.
     pub fn over(spool: S) -> Mailbox<S>
-        ensures mended { (host : List ℕ) → HasStored civil_at host (S.state spool) (S.state result.spool) [] 0 result.faulty }
+        ensures mended { (host : List ℕ)
+            → HasStored civil_at host [] (S.state spool) (kept (S.state result.spool) 0 result.faulty) }
         ensures stored { result.stored ≡ 0 }
     {
         let mut spool = spool;
@@ -43,7 +44,9 @@ impl<S: Spool> Mailbox<S> {
         envelope: &Envelope,
         hold: &mut Hold<N>,
     ) -> Outcome
-        ensures takes { TakesCopy (record_text civil_at host.now envelope.now hold.old.bytes) result (kept (S.state self.old.spool) self.old.stored self.old.faulty) (kept (S.state self.new.spool) self.new.stored self.new.faulty) }
+        ensures takes { TakesCopy (record_text civil_at host.now envelope.now hold.old.bytes) result
+            (kept (S.state self.old.spool) self.old.stored self.old.faulty)
+            (kept (S.state self.new.spool) self.new.stored self.new.faulty) }
         ensures hold { hold.new ≡ hold.old }
     {
         if self.faulty {

@@ -6,8 +6,8 @@ use mail_world::Txn;
 use msg_depot::{Depot, DepotName, Hold};
 use std::sync::Wait;
 
-/// A copy whose hold was given back, and whose lane isn't told yet. Its fields are private to this module, so that it comes from
-/// `release` alone, which takes the hold; and nothing drops it.
+/// A copy whose hold was given back, and whose lane isn't told yet. Its fields are private to this module, so that it
+/// comes from `release` alone, which takes the hold; and nothing drops it.
 pub(crate) struct Released {
     txn: Txn,
     place: u32,

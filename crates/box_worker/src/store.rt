@@ -7,7 +7,7 @@ ghost use Rattle.mbox_rd.specs.Spool.{HasTaken, HasFailed};
 ghost use Rattle.mbox_rd.specs.Writing.{WritesPiece, FailsPiece};
 ghost use Rattle.box_worker.specs.Stored.{HasKept, HasNotKept};
 
-use mail_world::limits::BLOCK_SIZE;
+use mail_world::limits::WORKER_BUFFER_SIZE;
 use mbox_rd::{Envelope, RecordWriter, Spool, SpoolFault};
 use msg_depot::{Depot, DepotName, Hold};
 use std::sync::Wait;
@@ -21,8 +21,10 @@ pub(crate) fn store<N: DepotName, S: Spool, R: Wait>(
     envelope: &Envelope,
     hold: &mut Hold<N>,
 ) -> Result<(), SpoolFault>
-    ensures ok { OnOk result (HasKept (S.state spool.old) (S.state spool.new) (record_text civil_at host.now envelope.now hold.old.bytes)) }
-    ensures err { OnErr result (HasNotKept (S.state spool.old) (S.state spool.new) (record_text civil_at host.now envelope.now hold.old.bytes)) }
+    ensures ok { OnOk result (HasKept (S.state spool.old) (S.state spool.new)
+        (record_text civil_at host.now envelope.now hold.old.bytes)) }
+    ensures err { OnErr result (HasNotKept (S.state spool.old) (S.state spool.new)
+        (record_text civil_at host.now envelope.now hold.old.bytes)) }
     ensures hold { hold.new ≡ hold.old }
 {
     append_record(rt, spool, depot, host, envelope, hold)?;
@@ -38,8 +40,10 @@ fn append_record<N: DepotName, S: Spool, R: Wait>(
     envelope: &Envelope,
     hold: &mut Hold<N>,
 ) -> Result<(), SpoolFault>
-    ensures ok { OnOk result (HasTaken (S.state spool.old) (S.state spool.new) (record_text civil_at host.now envelope.now hold.old.bytes)) }
-    ensures err { OnErr result (HasFailed (S.state spool.old) (S.state spool.new) (record_text civil_at host.now envelope.now hold.old.bytes)) }
+    ensures ok { OnOk result (HasTaken (S.state spool.old) (S.state spool.new)
+        (record_text civil_at host.now envelope.now hold.old.bytes)) }
+    ensures err { OnErr result (HasFailed (S.state spool.old) (S.state spool.new)
+        (record_text civil_at host.now envelope.now hold.old.bytes)) }
     ensures hold { hold.new ≡ hold.old }
 {
     let begun = RecordWriter::begin(spool, host, envelope)?;
@@ -47,7 +51,7 @@ fn append_record<N: DepotName, S: Spool, R: Wait>(
     written.end(spool)
 }
 
-// Gives the writer the whole message, at most a block's bytes at a time.
+// Gives the writer the whole message, a buffer of it at a time.
 fn append_message<N: DepotName, S: Spool, R: Wait>(
     rt: &R,
     spool: &mut S,
@@ -55,12 +59,13 @@ fn append_message<N: DepotName, S: Spool, R: Wait>(
     hold: &mut Hold<N>,
     begun: RecordWriter,
 ) -> Result<RecordWriter, SpoolFault>
-    ensures ok { IfOk result (λ writer. WritesPiece (S.state spool.old) (S.state spool.new) begun writer hold.old.bytes) }
+    ensures ok { IfOk result (λ writer.
+        WritesPiece (S.state spool.old) (S.state spool.new) begun writer hold.old.bytes) }
     ensures err { OnErr result (FailsPiece (S.state spool.old) (S.state spool.new) begun hold.old.bytes) }
     ensures hold { hold.new ≡ hold.old }
 {
     let mut writer = begun;
-    let mut bytes = [0; BLOCK_SIZE];
+    let mut bytes = [0; WORKER_BUFFER_SIZE];
     let mut at = 0;
     let mut n = depot.read(rt, hold, at, &mut bytes);
     while n > 0 {

@@ -1,7 +1,8 @@
 //! What a worker tells a lane.
 
 ghost use Rattle.std.specs.Prelude.{◌<◌, length};
-ghost use Rattle.box_worker.specs.Told.{IsTold};
+ghost use Rattle.mail_post.specs.Offered.{IsOffered};
+ghost use Rattle.box_worker.specs.Told.{slip_by};
 
 use crate::release::Released;
 use mail_post::SlipSender;
@@ -16,7 +17,7 @@ pub(crate) fn tell<R: Wait>(
     outcome: Outcome,
 ) -> bool
     requires { copy.txn.lane < length slips.old.items }
-    ensures { IsTold slips.old.items slips.new.items copy.txn copy.place outcome result }
+    ensures { IsOffered copy.txn.lane (slip_by copy.txn copy.place outcome) result slips.old.items slips.new.items }
 {
     let (txn, place) = copy.into_names();
     let sender = &mut slips[txn.lane as usize];

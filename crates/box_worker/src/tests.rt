@@ -1,6 +1,7 @@
 //! A worker over three copies of a message: two of lane 0, for two recipients of one transaction, and one of lane 1.
 ghost use Rattle.std.specs.Prelude.{◌≡◌, ◌≤◌, IfOk, IfSome, length};
-ghost use Rattle.box_worker.specs.Told.{worker_of, AreOfWorker};
+ghost use Rattle.mail_post.specs.Offered.{HaveNumber};
+ghost use Rattle.box_worker.specs.Told.{worker_of};
 
 use super::*;
 use mail_post::{Post, SlipReceiver, SlipSender, close, mail_line, slip_line};
@@ -212,7 +213,7 @@ fn post<N: DepotName>(alloc: Global, lane: u32, place: u32, hold: Hold<N>) -> Po
 // A worker's ends of two lanes' slips, and the lanes' ends.
 fn slip_ends(alloc: Global) -> Result<(Vec<SlipSender>, SlipReceiver, SlipReceiver), Fail>
     ensures lanes { IfOk result (λ ends. length ends.0.items ≡ 2) }
-    ensures worker { IfOk result (λ ends. AreOfWorker (worker_of ends.0.items) ends.0.items) }
+    ensures worker { IfOk result (λ ends. HaveNumber (worker_of ends.0.items) ends.0.items) }
 {
     let (mut first, a) = slip_line(alloc, 1)?;
     let (mut second, b) = slip_line(alloc, 1)?;

@@ -3,11 +3,11 @@
 ghost use Rattle.std.specs.Prelude.{◌≡◌, ◌<◌, ◌||◌, ℕ, List, [], ◌∷◌, ◌++◌, length};
 ghost use Rattle.lmtp_text.specs.Calendar.{civil_at};
 ghost use Rattle.mail_world.specs.declared.Note.{Note};
-ghost use Rattle.mail_world.specs.declared.Slip.{Slip};
-ghost use Rattle.mbox_rd.specs.Spool.{SpoolState};
-ghost use Rattle.mail_post.specs.Line.{Lane, taken};
-ghost use Rattle.box_worker.specs.Told.{worker_of, AreOfWorker};
-ghost use Rattle.box_worker.specs.Worked.{HasHandled, HasWorked};
+ghost use Rattle.mail_post.specs.Channel.{taken};
+ghost use Rattle.mail_post.specs.Offered.{HaveNumber};
+ghost use Rattle.box_worker.specs.Stored.{kept};
+ghost use Rattle.box_worker.specs.Told.{worker_of};
+ghost use Rattle.box_worker.specs.Worked.{WorkerState, idle, HasHandled, HasWorked};
 
 use crate::gate::Gate;
 use crate::mailbox::Mailbox;
@@ -19,8 +19,8 @@ use mbox_rd::Spool;
 use msg_depot::{Depot, DepotName};
 use std::sync::Wait;
 
-/// Stores the copies that come, one after another, and gives each lane a slip for each of its own, until the channel is closed
-/// or lost. It takes no memory.
+/// Stores the copies that come, one after another, and gives each lane a slip for each of its own, until the channel is
+/// closed or lost. It takes no memory.
 pub fn worker_run<N: DepotName, S: Spool, G: Gate, R: Wait>(
     rt: &R,
     receiver: Receiver<N>,
@@ -32,8 +32,15 @@ pub fn worker_run<N: DepotName, S: Spool, G: Gate, R: Wait>(
 ) -> WorkerReport<N, S, G>
     requires fresh { taken receiver ≡ [] }
     requires lanes { length slips.items ≡ receiver.lanes }
-    requires worker { AreOfWorker (worker_of slips.items) slips.items }
-    ensures { HasWorked civil_at host.now (worker_of slips.items) receiver result.receiver slips.items result.slips.items (S.state spool) (S.state result.spool) result.taken result.stored result.faulty result.lost }
+    requires worker { HaveNumber (worker_of slips.items) slips.items }
+    ensures { HasWorked (record { calendar = civil_at; host = host.now; worker = worker_of slips.items })
+        receiver result.receiver (idle slips.items (S.state spool))
+        (record {
+          slips = result.slips.items;
+          mailbox = kept (S.state result.spool) result.stored result.faulty;
+          taken = result.taken;
+          lost = result.lost;
+        }) }
 {
     let mut receiver = receiver;
     let mut worker = Worker {
@@ -73,7 +80,21 @@ impl<S: Spool, G: Gate> Worker<S, G> {
         post: Post<N>,
     )
         requires lane { post.txn.lane < length self.old.slips.items }
-        ensures { (worker : ℕ) (copies : List Note) (slips : List (Lane Slip)) (old : SpoolState) → HasHandled civil_at host.now worker copies slips self.old.slips.items old (S.state self.old.mailbox.spool) self.old.taken self.old.mailbox.stored self.old.mailbox.faulty self.old.lost → HasHandled civil_at host.now worker (copies ++ post ∷ []) slips self.new.slips.items old (S.state self.new.mailbox.spool) self.new.taken self.new.mailbox.stored self.new.mailbox.faulty self.new.lost }
+        ensures { (worker : ℕ) (copies : List Note) (old : WorkerState)
+            → HasHandled (record { calendar = civil_at; host = host.now; worker = worker }) copies old
+            (record {
+              slips = self.old.slips.items;
+              mailbox = kept (S.state self.old.mailbox.spool) self.old.mailbox.stored self.old.mailbox.faulty;
+              taken = self.old.taken;
+              lost = self.old.lost;
+            })
+            → HasHandled (record { calendar = civil_at; host = host.now; worker = worker }) (copies ++ post ∷ []) old
+            (record {
+              slips = self.new.slips.items;
+              mailbox = kept (S.state self.new.mailbox.spool) self.new.mailbox.stored self.new.mailbox.faulty;
+              taken = self.new.taken;
+              lost = self.new.lost;
+            }) }
     {
         let Parts {
             txn,

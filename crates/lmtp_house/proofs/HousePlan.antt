@@ -4,35 +4,35 @@ use Rattle.std.specs.Prelude.{slice_get}
 use Rattle.std.specs.List.{AllByRecursion}
 use Rattle.std.proofs.lemmas.List.{length-map}
 use Rattle.std.proofs.lemmas.Option.{slice_get_within}
-use Rattle.mail_post.specs.Line.{Lane, Inbox, taken}
+use Rattle.mail_post.specs.Channel.{Sender, Inbox, taken}
 use Rattle.box_worker.specs.Told.{worker_of}
-use Rattle.lmtp_house.specs.HouseLines.{Shape, lines_of, lane_at, AreRows, AreNewLines, MayClose}
+use Rattle.lmtp_house.specs.HouseChannels.{Shape, channels_of, lane_at, AreRows, AreNewChannels, MayClose}
 use Rattle.lmtp_house.specs.HouseTasks.{LaneTask, lane_tasks, BoxTask, box_tasks, IsLaneReady, IsBoxReady}
 use Rattle.lmtp_house.specs.HousePlan.{MayRun}
-use Rattle.lmtp_house.proofs.HouseLines.{at, same_at, at_each, each_at}
+use Rattle.lmtp_house.proofs.HouseChannels.{at, same_at, at_each, each_at}
 use Rattle.lmtp_house.proofs.HouseServed.{task_at}
 use Rattle.lmtp_house.proofs.HouseWorked.{task_at as box_task_at, numbered}
 
 module _ {M : Type 0} where
   -- as many senders in a row as channels
-  row_width : (n count : ℕ) (rows : List (List (Lane M))) (inboxes : List (Inbox M)) → AreNewLines n count rows inboxes → (k : ℕ) (row : List (Lane M)) → slice_get rows k ≡ Some row → length row ≡ count
-  row_width n count rows inboxes new k row e = new.rows_are.widths k row e ∙ (length-map inboxes (λ (i : Inbox M). i.line) ∙ new.counts)
+  row_width : (n count : ℕ) (rows : List (List (Sender M))) (inboxes : List (Inbox M)) → AreNewChannels n count rows inboxes → (k : ℕ) (row : List (Sender M)) → slice_get rows k ≡ Some row → length row ≡ count
+  row_width n count rows inboxes new k row e = new.rows_are.widths k row e ∙ (length-map inboxes (λ (i : Inbox M). i.channel) ∙ new.counts)
 
   -- each is of the row's lane
-  row_lane : (n count : ℕ) (rows : List (List (Lane M))) (inboxes : List (Inbox M)) → AreNewLines n count rows inboxes → (k : ℕ) (row : List (Lane M)) → slice_get rows k ≡ Some row
-      → (b : ℕ) (sender : Lane M) → slice_get row b ≡ Some sender → sender.lane ≡ k
+  row_lane : (n count : ℕ) (rows : List (List (Sender M))) (inboxes : List (Inbox M)) → AreNewChannels n count rows inboxes → (k : ℕ) (row : List (Sender M)) → slice_get rows k ≡ Some row
+      → (b : ℕ) (sender : Sender M) → slice_get row b ≡ Some sender → sender.number ≡ k
   row_lane n count rows inboxes new k row e b sender f =
-      let l = at (lines_of inboxes) b (omega (arith, new.rows_are.widths k row e, slice_get_within row b sender f)) in
-      ap (λ (v : Lane M). v.lane) (same_at row b sender (lane_at l.value k []) f (new.rows_are.cells k b row l.value e l.is))
+      let l = at (channels_of inboxes) b (omega (arith, new.rows_are.widths k row e, slice_get_within row b sender f)) in
+      ap (λ (v : Sender M). v.number) (same_at row b sender (lane_at l.value k []) f (new.rows_are.cells k b row l.value e l.is))
 
-  pub may_close : (n count : ℕ) (shape : Shape) (rows : List (List (Lane M))) (inboxes : List (Inbox M)) (sent : ℕ → ℕ → List M) (rows_after : List (List (Lane M))) → AreNewLines n count rows inboxes
-      → shape ≡ record { lanes = n; count = count } → 0 < n → AreRows n (lines_of inboxes) sent rows_after → MayClose shape rows_after
+  pub may_close : (n count : ℕ) (shape : Shape) (rows : List (List (Sender M))) (inboxes : List (Inbox M)) (sent : ℕ → ℕ → List M) (rows_after : List (List (Sender M))) → AreNewChannels n count rows inboxes
+      → shape ≡ record { lanes = n; count = count } → 0 < n → AreRows n (channels_of inboxes) sent rows_after → MayClose shape rows_after
   may_close n count shape rows inboxes sent rows_after new is some are = record {
-    lines = lines_of inboxes;
+    channels = channels_of inboxes;
     sent = sent;
     some = omega (arith, some, ap (λ (s : Shape). s.lanes) is);
-    count = length-map inboxes (λ (i : Inbox M). i.line) ∙ (new.counts ∙ sym (ap (λ (s : Shape). s.count) is));
-    rows_are = subst (λ m. AreRows m (lines_of inboxes) sent rows_after) (sym (ap (λ (s : Shape). s.lanes) is)) are;
+    count = length-map inboxes (λ (i : Inbox M). i.channel) ∙ (new.counts ∙ sym (ap (λ (s : Shape). s.count) is));
+    rows_are = subst (λ m. AreRows m (channels_of inboxes) sent rows_after) (sym (ap (λ (s : Shape). s.lanes) is)) are;
   }
 
 module _ {V S C : Type 0} (out : V → Bool) (lanes : List (LaneTask V C)) (workers : List (BoxTask S)) (mail_shape slip_shape : Shape) (may : MayRun out lanes workers mail_shape slip_shape) where
@@ -54,7 +54,7 @@ module _ {V S C : Type 0} (out : V → Bool) (lanes : List (LaneTask V C)) (work
       subst (λ l. AllByRecursion IsBoxReady l) (sym p.workers_are) (each_at IsBoxReady (box_tasks may.site.host p.mail p.slip_rows may.spools) (λ k task e.
       let t = box_task_at may.site.host p.mail p.slip_rows may.spools k task e in
       let fresh = p.mail_new.inboxes_are k t.inbox t.inbox_is in
-      let first = at (lines_of p.slips) 0 (omega (arith, length-map p.slips (λ (i : Inbox _). i.line), p.slips_new.counts, p.some_lanes)) in
+      let first = at (channels_of p.slips) 0 (omega (arith, length-map p.slips (λ (i : Inbox _). i.channel), p.slips_new.counts, p.some_lanes)) in
       let number : worker_of t.row ≡ k = numbered k first.value t.row (p.slips_new.rows_are.cells k 0 t.row first.value t.row_is first.is) in
       subst (λ j. IsBoxReady j) (sym t.is) (record {
         fresh = ap (λ (i : Inbox _). taken i) fresh;

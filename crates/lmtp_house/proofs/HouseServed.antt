@@ -9,30 +9,30 @@ use Rattle.mail_world.specs.declared.Slip.{Slip}
 use Rattle.mail_world.specs.Site.{Site}
 use Rattle.mail_world.specs.Conversation.{Conversation}
 use Rattle.mail_world.specs.Lists.{due, copies, transactions}
-use Rattle.mail_world.specs.Runs.{IsMerged}
-use Rattle.mail_post.specs.Line.{Line, Lane, Inbox, taken}
+use Rattle.mail_world.specs.Slips.{IsMerged}
+use Rattle.mail_post.specs.Channel.{Channel, Sender, Inbox, taken}
 use Rattle.lmtp_talk.specs.Peer.{PeerState}
 use Rattle.lmtp_lane.specs.LaneExchange.{for_box}
 use Rattle.lmtp_lane.specs.LaneRun.{HasServed}
 use Rattle.lmtp_lane.specs.Visits.{Finished, conversations_of}
 use Rattle.lmtp_house.specs.House.{LaneWork}
-use Rattle.lmtp_house.specs.HouseLines.{AreRows, none, HasGiven}
+use Rattle.lmtp_house.specs.HouseChannels.{AreRows, none, HasGiven}
 use Rattle.lmtp_house.specs.HouseTasks.{LaneTask, lane_task, lane_tasks, IsServedLane, HaveServed, HasHeard}
 use Rattle.lmtp_house.proofs.HousePairs.{AllZip-length, picks, picked}
-use Rattle.lmtp_house.proofs.HouseLines.{same_at, at_each, source, rows_given}
+use Rattle.lmtp_house.proofs.HouseChannels.{same_at, at_each, source, rows_given}
 
 module _ {V C : Type 0} where
   -- the task of lane i + k, and what it was made of
-  pub record TaskAt (site : Site) (clock : C) (i : ℕ) (visits : List V) (rows : List (List (Lane Note))) (inboxes : List (Inbox Slip)) (k : ℕ) (task : LaneTask V C) : Type 0 where
+  pub record TaskAt (site : Site) (clock : C) (i : ℕ) (visits : List V) (rows : List (List (Sender Note))) (inboxes : List (Inbox Slip)) (k : ℕ) (task : LaneTask V C) : Type 0 where
     pub visit : V
-    pub row : List (Lane Note)
+    pub row : List (Sender Note)
     pub inbox : Inbox Slip
     pub visit_is : slice_get visits k ≡ Some visit
     pub row_is : slice_get rows k ≡ Some row
     pub inbox_is : slice_get inboxes k ≡ Some inbox
     pub is : task ≡ lane_task site clock (i + k) visit row inbox
 
-  pub task_at : (site : Site) (clock : C) (i : ℕ) (visits : List V) (rows : List (List (Lane Note))) (inboxes : List (Inbox Slip)) (k : ℕ) (task : LaneTask V C)
+  pub task_at : (site : Site) (clock : C) (i : ℕ) (visits : List V) (rows : List (List (Sender Note))) (inboxes : List (Inbox Slip)) (k : ℕ) (task : LaneTask V C)
       → slice_get (lane_tasks site clock i visits rows inboxes) k ≡ Some task → TaskAt site clock i visits rows inboxes k task
   task_at site clock i [] rows inboxes k task e = let bad : ◌≡◌ {A = Option (LaneTask V C)} None (Some task) = e in absurd (cc)
   task_at site clock i (v ∷ vs) [] inboxes k task e = let bad : ◌≡◌ {A = Option (LaneTask V C)} None (Some task) = e in absurd (cc)
@@ -47,7 +47,7 @@ module _ {V C : Type 0} where
       let n : i + 1 + k ≡ i + suc k = omega arith in
       record { visit = p.visit; row = p.row; inbox = p.inbox; visit_is = p.visit_is; row_is = p.row_is; inbox_is = p.inbox_is; is = p.is ∙ ap (λ j. lane_task site clock j p.visit p.row p.inbox) n }
 
-  pub tasks_count : (site : Site) (clock : C) (i : ℕ) (visits : List V) (rows : List (List (Lane Note))) (inboxes : List (Inbox Slip)) → length rows ≡ length visits → length inboxes ≡ length visits
+  pub tasks_count : (site : Site) (clock : C) (i : ℕ) (visits : List V) (rows : List (List (Sender Note))) (inboxes : List (Inbox Slip)) → length rows ≡ length visits → length inboxes ≡ length visits
       → length (lane_tasks site clock i visits rows inboxes) ≡ length visits
   tasks_count site clock i [] rows inboxes a b = refl
   tasks_count site clock i (v ∷ vs) [] inboxes a b = absurd (omega arith)
@@ -65,7 +65,7 @@ unfolding due
 due_is site lane b cs = refl
 
 module _ {V C R : Type 0} (May : C → ℕ → Type 0) (MayGive : V → PeerState → Type 0) (finished : V → Option (List Finished)) (over : V → Bool)
-    (rv : R → V) (rs : R → List (Lane Note)) (rt : R → Inbox Slip) (rc : R → ℕ) (rg : R → Bool) where
+    (rv : R → V) (rs : R → List (Sender Note)) (rt : R → Inbox Slip) (rc : R → ℕ) (rg : R → Bool) where
   abbrev pub LaneOk : LaneTask V C → R → Type 0
   LaneOk j r = HasServed j.site j.lane (May j.clock) (MayGive j.visits) (finished j.visits) (finished (rv r)) (over (rv r)) j.senders (rs r) j.slips (rt r) (rc r) (rg r)
 
@@ -75,8 +75,8 @@ module _ {V C R : Type 0} (May : C → ℕ → Type 0) (MayGive : V → PeerStat
   abbrev idle : LaneWork
   idle = record { visits = []; heard = [] }
 
-  module _ (site : Site) (clock : C) (lines : List (Line Note)) (visits : List V) (rows : List (List (Lane Note))) (inboxes : List (Inbox Slip)) (reports : List R)
-      (inboxes_count : length inboxes ≡ length visits) (are : AreRows (length visits) lines none rows)
+  module _ (site : Site) (clock : C) (channels : List (Channel Note)) (visits : List V) (rows : List (List (Sender Note))) (inboxes : List (Inbox Slip)) (reports : List R)
+      (inboxes_count : length inboxes ≡ length visits) (are : AreRows (length visits) channels none rows)
       (all : AllZip LaneOk (lane_tasks site clock 0 visits rows inboxes) reports) (sound : AllByRecursion (λ r. rg r ≡ false) reports) where
     abbrev tasks : List (LaneTask V C)
     tasks = lane_tasks site clock 0 visits rows inboxes
@@ -93,7 +93,7 @@ module _ {V C R : Type 0} (May : C → ℕ → Type 0) (MayGive : V → PeerStat
     -- what is known of lane k
     record LaneIs (k : ℕ) : Type 0 where
       visit : V
-      row : List (Lane Note)
+      row : List (Sender Note)
       inbox : Inbox Slip
       report : R
       visit_is : slice_get visits k ≡ Some visit
@@ -116,13 +116,13 @@ module _ {V C R : Type 0} (May : C → ℕ → Type 0) (MayGive : V → PeerStat
         let served : IsServedLane p.left.site (May p.left.clock) (MayGive p.left.visits) p.left.lane (lane_work p.left p.right h) (finished p.left.visits) (finished (rv p.right)) (over (rv p.right)) (rc p.right) =
         record { visited = h.visited; ended = h.ended no; counts = h.counts; verdicts = h.verdicts; moments = h.moments; answered = h.answered } in
         let given : HasGiven (λ b. due p.left.site p.left.lane b (conversations_of (lane_work p.left p.right h).visits)) p.left.senders (rs p.right) = record {
-          as_many = h.exchanged.as_many;
+          as_many = h.exchanged.offered.as_many;
           each = λ b before after e f.
-              let o = h.exchanged.offered b before after e f in
-              (o.line, o.lane, o.sent ∙ ap (λ l. before.sent ++ l) (o.all no ∙ due_is p.left.site p.left.lane b (conversations_of h.visits)));
+              let o = h.exchanged.offered.each b before after e f in
+              (o.channel, o.number, o.sent ∙ ap (λ l. before.sent ++ l) (o.all no ∙ due_is p.left.site p.left.lane b (conversations_of h.visits)));
         } in
         let heard : HasHeard (lane_work p.left p.right h).heard p.left.slips (rt p.right) = record {
-          line = h.exchanged.line;
+          channel = h.exchanged.channel;
           lanes = h.exchanged.lanes;
           took = h.exchanged.took ∙ ap (λ l. taken p.left.slips ++ l) (merged_none h.exchanged.came h.heard (subst (λ l. IsMerged h.exchanged.came l h.heard) none_own h.exchanged.merged));
         } in
@@ -142,7 +142,7 @@ module _ {V C R : Type 0} (May : C → ℕ → Type 0) (MayGive : V → PeerStat
           heard = subst (λ j. Heard j (works k)) is (subst (λ w. Heard p.left w) (sym p.picked) heard);
         }
 
-    pub have_served : HaveServed site (May clock) MayGive finished over lines visits (map rv reports) (map rs reports) inboxes (map rt reports) (map rc reports)
+    pub have_served : HaveServed site (May clock) MayGive finished over channels visits (map rv reports) (map rs reports) inboxes (map rt reports) (map rc reports)
     have_served = record {
       works = works;
       as_many = (length-map reports rv ∙ reports_count, length-map reports rc ∙ reports_count, length-map reports rt ∙ reports_count);
@@ -158,7 +158,7 @@ module _ {V C R : Type 0} (May : C → ℕ → Type 0) (MayGive : V → PeerStat
           subst (λ x. IsServedLane site (May clock) (MayGive old) k (works k) (finished old) (finished new) (over new) x) count_is
           (subst (λ x. IsServedLane site (May clock) (MayGive old) k (works k) (finished old) (finished x) (over x) (rc l.report)) new_is
           (subst (λ x. IsServedLane site (May clock) (MayGive x) k (works k) (finished x) (finished (rv l.report)) (over (rv l.report)) (rc l.report)) old_is l.served));
-      rows_are = rows_given (length visits) lines (λ k b. due site k b (conversations_of (works k).visits)) rows (map rs reports) are (length-map reports rs ∙ reports_count)
+      rows_are = rows_given (length visits) channels (λ k b. due site k b (conversations_of (works k).visits)) rows (map rs reports) are (length-map reports rs ∙ reports_count)
           (λ k row row' a b.
           let r = source rs reports k row' b in
           let l = lane_is k (omega (arith, are.count, slice_get_within rows k row a)) in

@@ -7,22 +7,23 @@ use Rattle.std.proofs.lemmas.List.{length-map, get_or_past}
 use Rattle.std.proofs.lemmas.Option.{slice_get_within, get_or_from_slice_get}
 use Rattle.mail_world.specs.declared.Note.{Note}
 use Rattle.mail_world.specs.declared.Slip.{Slip}
+use Rattle.mail_world.specs.Fronts.{IsFront}
 use Rattle.mail_world.specs.Site.{Site}
 use Rattle.mail_world.specs.Slips.{of_worker}
 use Rattle.mail_world.specs.Lists.{of_lane, due}
-use Rattle.mail_post.specs.Line.{Line, Lane, Inbox, Sent, taken, TookSome, TookAll}
-use Rattle.mail_post.specs.Parcels.{of, IsStartOf}
+use Rattle.mail_post.specs.Channel.{Channel, Sender, Inbox, Sent, taken, TookSome, TookAll}
+use Rattle.mail_post.specs.Parcels.{of}
 use Rattle.mbox_rd.specs.Spool.{SpoolState}
 use Rattle.box_worker.specs.Told.{owed_to}
 use Rattle.lmtp_house.specs.declared.house.report.Tally.{Tally}
 use Rattle.lmtp_talk.specs.Peer.{PeerState}
 use Rattle.lmtp_lane.specs.Visits.{Finished, conversations_of}
-use Rattle.lmtp_house.specs.House.{IsBegun, HasRun}
-use Rattle.lmtp_house.specs.HouseLines.{lines_of, AreNewLines, IsClosedWith, AreClosed, CanSettle, IsSettled}
+use Rattle.lmtp_house.specs.House.{HasRun}
+use Rattle.lmtp_house.specs.HouseChannels.{channels_of, AreNewChannels, IsClosedWith, AreClosed, CanSettle, IsSettled}
 use Rattle.lmtp_house.specs.HouseTasks.{HaveServed, HaveWorked}
 use Rattle.lmtp_house.proofs.AnsweredAll.{outcomes_are_answers}
 use Rattle.lmtp_house.proofs.NamedOnce.{named_once}
-use Rattle.lmtp_house.proofs.HouseLines.{at, at_map, zip_at, at_zip}
+use Rattle.lmtp_house.proofs.HouseChannels.{at, at_map, zip_at, at_zip}
 
 module _ {M : Type 0} (lane : M → ℕ) where
   -- where nothing is of a lane from n on, all is of lanes below n
@@ -48,7 +49,7 @@ module _ {M : Type 0} (lane : M → ℕ) where
   none_by [] rest e = refl
   none_by (x ∷ xs) rest e = absurd (cc)
 
-  module _ (n : ℕ) (line : Line M) (sent : ℕ → List M) (c : Sent M) (closed : IsClosedWith n line sent c) where
+  module _ (n : ℕ) (channel : Channel M) (sent : ℕ → List M) (c : Sent M) (closed : IsClosedWith n channel sent c) where
     sent_is : (k : ℕ) → k < n → get_or c.sent k [] ≡ sent k
     sent_is k below = get_or_from_slice_get c.sent k (sent k) [] (closed.each k below)
 
@@ -63,35 +64,35 @@ module _ {M : Type 0} (lane : M → ℕ) where
     took_below ms took = all_below n ms (λ k high. took k ∙ sent_none k high)
 
     -- a front of what was sent was taken, and nothing else
-    pub front_each : (ms : List M) → TookSome lane ms c.sent → (k : ℕ) → k < n → IsStartOf (of lane k ms) (sent k)
-    front_each ms took k below = ((took k).0, (took k).1 ∙ sent_is k below)
+    pub front_each : (ms : List M) → TookSome lane ms c.sent → (k : ℕ) → k < n → IsFront (of lane k ms) (sent k)
+    front_each ms took k below = record { rest = (took k).rest; whole = sym (sent_is k below) ∙ (took k).whole }
 
     pub front_below : (ms : List M) → TookSome lane ms c.sent → AllByRecursion (λ m. lane m < n) ms
-    front_below ms took = all_below n ms (λ k high. none_by (of lane k ms) (took k).0 ((took k).1 ∙ sent_none k high))
+    front_below ms took = all_below n ms (λ k high. none_by (of lane k ms) (took k).rest (sym (took k).whole ∙ sent_none k high))
 
 module _ {M : Type 0} where
   -- receivers that are still those of before may be settled with their closed channels
-  pub can_settle : (n count : ℕ) (sent : ℕ → ℕ → List M) (rows : List (List (Lane M))) (inboxes after : List (Inbox M)) (closed : List (Sent M)) → AreNewLines n count rows inboxes → length after ≡ count
-      → ((b : ℕ) (x y : Inbox M) → slice_get inboxes b ≡ Some x → slice_get after b ≡ Some y → (y.line ≡ x.line) × (y.lanes ≡ x.lanes)) → AreClosed n (lines_of inboxes) sent closed → AllZip CanSettle after closed
+  pub can_settle : (n count : ℕ) (sent : ℕ → ℕ → List M) (rows : List (List (Sender M))) (inboxes after : List (Inbox M)) (closed : List (Sent M)) → AreNewChannels n count rows inboxes → length after ≡ count
+      → ((b : ℕ) (x y : Inbox M) → slice_get inboxes b ≡ Some x → slice_get after b ≡ Some y → (y.channel ≡ x.channel) × (y.lanes ≡ x.lanes)) → AreClosed n (channels_of inboxes) sent closed → AllZip CanSettle after closed
   can_settle n count sent rows inboxes after closed new after_count same are =
-      at_zip CanSettle after closed (after_count ∙ (sym new.counts ∙ (sym (length-map inboxes (λ (i : Inbox M). i.line)) ∙ sym are.count))) (λ b y c e f.
+      at_zip CanSettle after closed (after_count ∙ (sym new.counts ∙ (sym (length-map inboxes (λ (i : Inbox M). i.channel)) ∙ sym are.count))) (λ b y c e f.
       let x = at inboxes b (omega (arith, new.counts, after_count, slice_get_within after b y e)) in
       let s = same b x.value y x.is e in
-      let w = are.each b x.value.line c (at_map (λ (i : Inbox M). i.line) inboxes b x.value x.is) f in
+      let w = are.each b x.value.channel c (at_map (λ (i : Inbox M). i.channel) inboxes b x.value x.is) f in
       let fresh = new.inboxes_are b x.value x.is in record {
-        line = s.0 ∙ sym w.line_is;
+        channel = s.0 ∙ sym w.channel_is;
         lanes = w.count ∙ sym (s.1 ∙ ap (λ (i : Inbox M). i.lanes) fresh);
       })
 
 module _ {V S : Type 0} (site : Site) (May : ℕ → Type 0) (MayGive : V → PeerState → Type 0) (finished : V → Option (List Finished)) (over : V → Bool) (state : S → SpoolState)
     (visits visits_after : List V) (spools spools_after : List S) (conversations : List ℕ) (tallies : List Tally)
-    (mail_rows : List (List (Lane Note))) (mail mail_after : List (Inbox Note)) (mail_rows_after : List (List (Lane Note))) (mail_closed : List (Sent Note))
-    (slip_rows : List (List (Lane Slip))) (slips slips_after : List (Inbox Slip)) (slip_rows_after : List (List (Lane Slip))) (slips_closed : List (Sent Slip))
-    (mail_new : AreNewLines (length visits) (length spools) mail_rows mail) (slips_new : AreNewLines (length spools) (length visits) slip_rows slips)
-    (lanes : HaveServed site May MayGive finished over (lines_of mail) visits visits_after mail_rows_after slips slips_after conversations)
-    (boxes : HaveWorked site state (lines_of slips) mail mail_after slip_rows_after spools spools_after tallies)
-    (mail_shut : AreClosed (length visits) (lines_of mail) (λ k b. due site k b (conversations_of (lanes.works k).visits)) mail_closed)
-    (slips_shut : AreClosed (length spools) (lines_of slips) (λ b k. owed_to b (boxes.works b).stored k (boxes.works b).taken) slips_closed)
+    (mail_rows : List (List (Sender Note))) (mail mail_after : List (Inbox Note)) (mail_rows_after : List (List (Sender Note))) (mail_closed : List (Sent Note))
+    (slip_rows : List (List (Sender Slip))) (slips slips_after : List (Inbox Slip)) (slip_rows_after : List (List (Sender Slip))) (slips_closed : List (Sent Slip))
+    (mail_new : AreNewChannels (length visits) (length spools) mail_rows mail) (slips_new : AreNewChannels (length spools) (length visits) slip_rows slips)
+    (lanes : HaveServed site May MayGive finished over (channels_of mail) visits visits_after mail_rows_after slips slips_after conversations)
+    (boxes : HaveWorked site state (channels_of slips) mail mail_after slip_rows_after spools spools_after tallies)
+    (mail_shut : AreClosed (length visits) (channels_of mail) (λ k b. due site k b (conversations_of (lanes.works k).visits)) mail_closed)
+    (slips_shut : AreClosed (length spools) (channels_of slips) (λ b k. owed_to b (boxes.works b).stored k (boxes.works b).taken) slips_closed)
     (mail_settled : AllZip (IsSettled (λ (n : Note). n.txn.lane)) mail_after mail_closed) (slips_settled : AllZip (IsSettled (λ (s : Slip). s.worker)) slips_after slips_closed) where
   abbrev owed_by : ℕ → ℕ → List Note
   owed_by k b = due site k b (conversations_of (lanes.works k).visits)
@@ -108,33 +109,33 @@ module _ {V S : Type 0} (site : Site) (May : ℕ → Type 0) (MayGive : V → Pe
   box_known b below =
       let x = at mail b (omega (arith, mail_new.counts, below)) in
       let y = at mail_after b (omega (arith, boxes.as_many.2, below)) in
-      let c = at mail_closed b (omega (arith, mail_shut.count, length-map mail (λ (i : Inbox Note). i.line), mail_new.counts, below)) in
+      let c = at mail_closed b (omega (arith, mail_shut.count, length-map mail (λ (i : Inbox Note). i.channel), mail_new.counts, below)) in
       let took = boxes.took b x.value y.value x.is y.is in
-      let w = mail_shut.each b x.value.line c.value (at_map (λ (i : Inbox Note). i.line) mail b x.value x.is) c.is in
+      let w = mail_shut.each b x.value.channel c.value (at_map (λ (i : Inbox Note). i.channel) mail b x.value x.is) c.is in
       let s = zip_at (IsSettled (λ (n : Note). n.txn.lane)) mail_after mail_closed mail_settled b y.value c.value y.is c.is in
       let all : TookAll (λ (n : Note). n.txn.lane) (boxes.works b).taken c.value.sent = subst (λ l. TookAll (λ (n : Note). n.txn.lane) l c.value.sent) took.took (s.all took.closed) in record {
-        each = took_each (λ (n : Note). n.txn.lane) (length visits) x.value.line (λ k. owed_by k b) c.value w (boxes.works b).taken all;
-        only = took_below (λ (n : Note). n.txn.lane) (length visits) x.value.line (λ k. owed_by k b) c.value w (boxes.works b).taken all;
+        each = took_each (λ (n : Note). n.txn.lane) (length visits) x.value.channel (λ k. owed_by k b) c.value w (boxes.works b).taken all;
+        only = took_below (λ (n : Note). n.txn.lane) (length visits) x.value.channel (λ k. owed_by k b) c.value w (boxes.works b).taken all;
       }
 
   -- what is known of lane k
   record LaneKnown (k : ℕ) : Type 0 where
-    each : (b : ℕ) → b < length spools → IsBegun (of_worker b (lanes.works k).heard) (owed_slips b k)
+    each : (b : ℕ) → b < length spools → IsFront (of_worker b (lanes.works k).heard) (owed_slips b k)
     only : AllByRecursion (λ (slip : Slip). slip.worker < length spools) (lanes.works k).heard
 
   lane_known : (k : ℕ) → k < length visits → LaneKnown k
   lane_known k below =
       let x = at slips k (omega (arith, slips_new.counts, below)) in
       let y = at slips_after k (omega (arith, lanes.as_many.2, below)) in
-      let c = at slips_closed k (omega (arith, slips_shut.count, length-map slips (λ (i : Inbox Slip). i.line), slips_new.counts, below)) in
+      let c = at slips_closed k (omega (arith, slips_shut.count, length-map slips (λ (i : Inbox Slip). i.channel), slips_new.counts, below)) in
       let heard = lanes.heard k x.value y.value x.is y.is in
-      let w = slips_shut.each k x.value.line c.value (at_map (λ (i : Inbox Slip). i.line) slips k x.value x.is) c.is in
+      let w = slips_shut.each k x.value.channel c.value (at_map (λ (i : Inbox Slip). i.channel) slips k x.value x.is) c.is in
       let s = zip_at (IsSettled (λ (s : Slip). s.worker)) slips_after slips_closed slips_settled k y.value c.value y.is c.is in
       let fresh : taken x.value ≡ [] = ap (λ (i : Inbox Slip). taken i) (slips_new.inboxes_are k x.value x.is) in
       let took : taken y.value ≡ (lanes.works k).heard = heard.took ∙ ap (λ l. l ++ (lanes.works k).heard) fresh in
       let front : TookSome (λ (s : Slip). s.worker) (lanes.works k).heard c.value.sent = subst (λ l. TookSome (λ (s : Slip). s.worker) l c.value.sent) took s.front in record {
-        each = λ b box. let f = front_each (λ (s : Slip). s.worker) (length spools) x.value.line (λ b. owed_slips b k) c.value w (lanes.works k).heard front b box in record { rest = f.0; whole = f.1 };
-        only = front_below (λ (s : Slip). s.worker) (length spools) x.value.line (λ b. owed_slips b k) c.value w (lanes.works k).heard front;
+        each = front_each (λ (s : Slip). s.worker) (length spools) x.value.channel (λ b. owed_slips b k) c.value w (lanes.works k).heard front;
+        only = front_below (λ (s : Slip). s.worker) (length spools) x.value.channel (λ b. owed_slips b k) c.value w (lanes.works k).heard front;
       }
 
   pub has_run : HasRun site May MayGive finished over state visits visits_after spools spools_after conversations tallies

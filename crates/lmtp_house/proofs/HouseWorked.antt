@@ -9,28 +9,29 @@ use Rattle.mail_world.specs.declared.Slip.{Slip}
 use Rattle.mail_world.specs.Site.{Site}
 use Rattle.lmtp_text.specs.Calendar.{civil_at}
 use Rattle.mbox_rd.specs.Spool.{SpoolState}
-use Rattle.mail_post.specs.Line.{Line, Lane, Inbox, taken}
+use Rattle.mail_post.specs.Channel.{Channel, Sender, Inbox, taken}
 use Rattle.box_worker.specs.Told.{worker_of, owed_to}
-use Rattle.box_worker.specs.Worked.{HasWorked}
+use Rattle.box_worker.specs.Stored.{kept}
+use Rattle.box_worker.specs.Worked.{idle, HasWorked}
 use Rattle.lmtp_house.specs.declared.house.report.Tally.{Tally}
 use Rattle.lmtp_house.specs.House.{BoxWork, IsBoxWork}
-use Rattle.lmtp_house.specs.HouseLines.{AreRows, none, lane_at, HasGiven}
+use Rattle.lmtp_house.specs.HouseChannels.{AreRows, none, lane_at, HasGiven}
 use Rattle.lmtp_house.specs.HouseTasks.{BoxTask, box_task, box_tasks, HaveWorked, HasTaken}
 use Rattle.lmtp_house.proofs.HousePairs.{AllZip-length, picks, picked}
-use Rattle.lmtp_house.proofs.HouseLines.{at, same_at, at_each, source, rows_given}
+use Rattle.lmtp_house.proofs.HouseChannels.{at, same_at, at_each, source, rows_given}
 
 module _ {S : Type 0} where
   -- the task of worker k, and what it was made of
-  pub record TaskAt (host : List ℕ) (inboxes : List (Inbox Note)) (rows : List (List (Lane Slip))) (spools : List S) (k : ℕ) (task : BoxTask S) : Type 0 where
+  pub record TaskAt (host : List ℕ) (inboxes : List (Inbox Note)) (rows : List (List (Sender Slip))) (spools : List S) (k : ℕ) (task : BoxTask S) : Type 0 where
     pub inbox : Inbox Note
-    pub row : List (Lane Slip)
+    pub row : List (Sender Slip)
     pub spool : S
     pub inbox_is : slice_get inboxes k ≡ Some inbox
     pub row_is : slice_get rows k ≡ Some row
     pub spool_is : slice_get spools k ≡ Some spool
     pub is : task ≡ box_task host inbox row spool
 
-  pub task_at : (host : List ℕ) (inboxes : List (Inbox Note)) (rows : List (List (Lane Slip))) (spools : List S) (k : ℕ) (task : BoxTask S)
+  pub task_at : (host : List ℕ) (inboxes : List (Inbox Note)) (rows : List (List (Sender Slip))) (spools : List S) (k : ℕ) (task : BoxTask S)
       → slice_get (box_tasks host inboxes rows spools) k ≡ Some task → TaskAt host inboxes rows spools k task
   task_at host [] rows spools k task e = let bad : ◌≡◌ {A = Option (BoxTask S)} None (Some task) = e in absurd (cc)
   task_at host (inbox ∷ inboxes) [] spools k task e = let bad : ◌≡◌ {A = Option (BoxTask S)} None (Some task) = e in absurd (cc)
@@ -43,7 +44,7 @@ module _ {S : Type 0} where
       let p = task_at host inboxes rows spools k task e in
       record { inbox = p.inbox; row = p.row; spool = p.spool; inbox_is = p.inbox_is; row_is = p.row_is; spool_is = p.spool_is; is = p.is }
 
-  pub tasks_count : (host : List ℕ) (inboxes : List (Inbox Note)) (rows : List (List (Lane Slip))) (spools : List S) → length inboxes ≡ length spools → length rows ≡ length spools
+  pub tasks_count : (host : List ℕ) (inboxes : List (Inbox Note)) (rows : List (List (Sender Slip))) (spools : List S) → length inboxes ≡ length spools → length rows ≡ length spools
       → length (box_tasks host inboxes rows spools) ≡ length spools
   tasks_count host [] rows spools a b = a
   tasks_count host (inbox ∷ inboxes) [] spools a b = b
@@ -51,28 +52,29 @@ module _ {S : Type 0} where
   tasks_count host (inbox ∷ inboxes) (row ∷ rows) (spool ∷ spools) a b = ap suc (tasks_count host inboxes rows spools (omega arith) (omega arith))
 
 -- the number of the worker whose new senders these are
-pub numbered : (b : ℕ) (line : Line Slip) (row : List (Lane Slip)) → slice_get row 0 ≡ Some (lane_at line b []) → worker_of row ≡ b
-numbered b line [] e = let bad : ◌≡◌ {A = Option (Lane Slip)} None (Some (lane_at line b [])) = e in absurd (cc)
-numbered b line (x ∷ xs) e = let s : ◌≡◌ {A = Option (Lane Slip)} (Some x) (Some (lane_at line b [])) = e in let t : x ≡ lane_at line b [] = cc in ap (λ (v : Lane Slip). v.lane) t
+pub numbered : (b : ℕ) (channel : Channel Slip) (row : List (Sender Slip)) → slice_get row 0 ≡ Some (lane_at channel b []) → worker_of row ≡ b
+numbered b channel [] e = let bad : ◌≡◌ {A = Option (Sender Slip)} None (Some (lane_at channel b [])) = e in absurd (cc)
+numbered b channel (x ∷ xs) e = let s : ◌≡◌ {A = Option (Sender Slip)} (Some x) (Some (lane_at channel b [])) = e in let t : x ≡ lane_at channel b [] = cc in ap (λ (v : Sender Slip). v.number) t
 
-module _ {S R : Type 0} (state : S → SpoolState) (rr : R → Inbox Note) (rs : R → List (Lane Slip)) (rp : R → S) (rt : R → Tally) (rl : R → Bool) where
+module _ {S R : Type 0} (state : S → SpoolState) (rr : R → Inbox Note) (rs : R → List (Sender Slip)) (rp : R → S) (rt : R → Tally) (rl : R → Bool) where
   abbrev pub BoxOk : BoxTask S → R → Type 0
-  BoxOk j r = HasWorked civil_at j.host (worker_of j.slips) j.receiver (rr r) j.slips (rs r) (state j.spool) (state (rp r)) (rt r).taken (rt r).stored (rt r).faulty (rl r)
+  BoxOk j r = HasWorked (record { calendar = civil_at; host = j.host; worker = worker_of j.slips }) j.receiver (rr r) (idle j.slips (state j.spool))
+      (record { slips = rs r; mailbox = kept (state (rp r)) (rt r).stored (rt r).faulty; taken = (rt r).taken; lost = rl r })
 
   abbrev box_work : (j : BoxTask S) (r : R) → BoxOk j r → BoxWork
   box_work j r h = record { taken = taken (rr r); stored = h.handled.stored }
 
-  abbrev idle : BoxWork
-  idle = record { taken = []; stored = 0 }
+  abbrev no_work : BoxWork
+  no_work = record { taken = []; stored = 0 }
 
-  module _ (site : Site) (lines : List (Line Slip)) (inboxes : List (Inbox Note)) (rows : List (List (Lane Slip))) (spools : List S) (reports : List R)
-      (inboxes_count : length inboxes ≡ length spools) (some : 0 < length lines) (are : AreRows (length spools) lines none rows)
+  module _ (site : Site) (channels : List (Channel Slip)) (inboxes : List (Inbox Note)) (rows : List (List (Sender Slip))) (spools : List S) (reports : List R)
+      (inboxes_count : length inboxes ≡ length spools) (some : 0 < length channels) (are : AreRows (length spools) channels none rows)
       (all : AllZip BoxOk (box_tasks site.host inboxes rows spools) reports) (sound : AllByRecursion (λ r. rl r ≡ false) reports) where
     abbrev tasks : List (BoxTask S)
     tasks = box_tasks site.host inboxes rows spools
 
     abbrev works : ℕ → BoxWork
-    works = picks BoxOk box_work idle tasks reports all
+    works = picks BoxOk box_work no_work tasks reports all
 
     count : length tasks ≡ length spools
     count = tasks_count site.host inboxes rows spools inboxes_count are.count
@@ -83,7 +85,7 @@ module _ {S R : Type 0} (state : S → SpoolState) (rr : R → Inbox Note) (rs :
     -- what is known of worker k
     record BoxIs (k : ℕ) : Type 0 where
       inbox : Inbox Note
-      row : List (Lane Slip)
+      row : List (Sender Slip)
       spool : S
       report : R
       inbox_is : slice_get inboxes k ≡ Some inbox
@@ -96,22 +98,22 @@ module _ {S R : Type 0} (state : S → SpoolState) (rr : R → Inbox Note) (rs :
 
     box_is : (k : ℕ) → k < length spools → BoxIs k
     box_is k below =
-        let p = picked BoxOk box_work idle tasks reports all k (omega (arith, count, below)) in
+        let p = picked BoxOk box_work no_work tasks reports all k (omega (arith, count, below)) in
         let t = task_at site.host inboxes rows spools k p.left p.left_is in
         let h = p.holds in
         let no = at_each (λ r. rl r ≡ false) reports sound k p.right p.right_is in
-        let first = at lines 0 some in
+        let first = at channels 0 some in
         let worker_is : worker_of t.row ≡ k = numbered k first.value t.row (are.cells k 0 t.row first.value t.row_is first.is) in
         let Stored : List ℕ → S → BoxWork → Type 0 = λ host spool w. IsBoxWork (record site { host = host }) w (state spool) (state (rp p.right)) (rt p.right) in
-        let Given : ℕ → List (Lane Slip) → BoxWork → Type 0 = λ b row w. HasGiven (λ j. owed_to b w.stored j w.taken) row (rs p.right) in
+        let Given : ℕ → List (Sender Slip) → BoxWork → Type 0 = λ b row w. HasGiven (λ j. owed_to b w.stored j w.taken) row (rs p.right) in
         let Took : Inbox Note → BoxWork → Type 0 = λ inbox w. HasTaken w.taken inbox (rr p.right) in
-        let stored : Stored p.left.host p.left.spool (box_work p.left p.right h) = record { spool = h.handled.spool; taken = h.handled.taken_count_is; stored = h.handled.stored_count_is } in
+        let stored : Stored p.left.host p.left.spool (box_work p.left p.right h) = record { spool = h.handled.spool; taken = h.handled.taken_count; stored = h.handled.stored_count } in
         let given : Given (worker_of p.left.slips) p.left.slips (box_work p.left p.right h) = record {
-          as_many = h.handled.as_many;
+          as_many = h.handled.told.as_many;
           each = λ j before after e f.
-              let o = h.handled.told j before after e f in (o.line, o.lane, o.sent ∙ ap (λ l. before.sent ++ l) (o.all no));
+              let o = h.handled.told.each j before after e f in (o.channel, o.number, o.sent ∙ ap (λ l. before.sent ++ l) (o.all no));
         } in
-        let took : Took p.left.receiver (box_work p.left p.right h) = record { line = h.line; lanes = h.lanes; took = refl; closed = h.closed no } in
+        let took : Took p.left.receiver (box_work p.left p.right h) = record { channel = h.channel; lanes = h.lanes; took = refl; closed = h.closed no } in
         let given_at : Given (worker_of t.row) t.row (works k) =
         subst (λ (j : BoxTask S). Given (worker_of j.slips) j.slips (works k)) t.is (subst (λ w. Given (worker_of p.left.slips) p.left.slips w) (sym p.picked) given) in record {
           inbox = t.inbox;
@@ -127,7 +129,7 @@ module _ {S R : Type 0} (state : S → SpoolState) (rr : R → Inbox Note) (rs :
           took = subst (λ (j : BoxTask S). Took j.receiver (works k)) t.is (subst (λ w. Took p.left.receiver w) (sym p.picked) took);
         }
 
-    pub have_worked : HaveWorked site state lines inboxes (map rr reports) (map rs reports) spools (map rp reports) (map rt reports)
+    pub have_worked : HaveWorked site state channels inboxes (map rr reports) (map rs reports) spools (map rp reports) (map rt reports)
     have_worked = record {
       works = works;
       as_many = (length-map reports rp ∙ reports_count, length-map reports rt ∙ reports_count, length-map reports rr ∙ reports_count);
@@ -141,13 +143,13 @@ module _ {S R : Type 0} (state : S → SpoolState) (rr : R → Inbox Note) (rs :
           subst (λ x. IsBoxWork site (works k) (state old) (state new) x) tally_is
           (subst (λ x. IsBoxWork site (works k) (state old) (state x) (rt l.report)) new_is
           (subst (λ x. IsBoxWork site (works k) (state x) (state (rp l.report)) (rt l.report)) old_is l.stored));
-      rows_are = rows_given (length spools) lines (λ b k. owed_to b (works b).stored k (works b).taken) rows (map rs reports) are (length-map reports rs ∙ reports_count)
+      rows_are = rows_given (length spools) channels (λ b k. owed_to b (works b).stored k (works b).taken) rows (map rs reports) are (length-map reports rs ∙ reports_count)
           (λ k row row' a b.
           let r = source rs reports k row' b in
           let l = box_is k (omega (arith, are.count, slice_get_within rows k row a)) in
           let new_is : rs l.report ≡ row' = sym (r.gives ∙ ap rs (same_at reports k r.value l.report r.is l.report_is)) in
           let old_is : l.row ≡ row = same_at rows k l.row row l.row_is a in
-          let Given : List (Lane Slip) → List (Lane Slip) → Type 0 = λ x y. HasGiven (λ j. owed_to k (works k).stored j (works k).taken) x y in
+          let Given : List (Sender Slip) → List (Sender Slip) → Type 0 = λ x y. HasGiven (λ j. owed_to k (works k).stored j (works k).taken) x y in
           subst (λ x. Given row x) new_is (subst (λ x. Given x (rs l.report)) old_is l.given));
       took = λ k old new a b.
           let r = source rr reports k new b in

@@ -2,7 +2,7 @@ pub mod AnsweredAll
 pub mod HouseGrids
 pub mod HouseLists
 pub mod HousePairs
-pub mod HouseLines
+pub mod HouseChannels
 pub mod HouseServed
 pub mod HouseWorked
 pub mod HousePlan

@@ -13,17 +13,16 @@ use Rattle.mail_world.specs.declared.Verdict.{Verdict}
 use Rattle.mail_world.specs.declared.Verdict.TheVariants.{Whole, TooLarge, NoRoom}
 use Rattle.mail_world.specs.Text.{crlf, place_of}
 use Rattle.mail_world.specs.Data.{message, data_end}
+use Rattle.mail_world.specs.Fronts.{IsFront}
 use Rattle.mail_world.specs.Site.{Site}
 use Rattle.mail_world.specs.Session.{Session, fresh}
 use Rattle.mail_world.specs.Conversation.{Disposition, Part, CommandLine, MailData, Cut, cut, cut_then, is_data, inputs_of, session_after, parts_within, parts, Conversation}
-use Rattle.mail_world.specs.Slips.{of_worker, names, times_named}
+use Rattle.mail_world.specs.Slips.{of_worker, names, times_named, slip_of, slips_from}
 use Rattle.mail_world.specs.Lists.{Transaction, is_content, accepted_after, transactions_of, transactions, copies_from, copies_if, copies, of_lane, due}
-use Rattle.mail_world.specs.Events.{slip_of}
-use Rattle.mail_world.specs.Runs.{slips_from}
 use Rattle.mail_world.proofs.GivenAway.{count-append, count-cons}
 use Rattle.mail_world.proofs.Owed.{accepted_behind, same_behind_data}
 use Rattle.box_worker.specs.Told.{owed_to}
-use Rattle.lmtp_house.specs.House.{BoxWork, IsBegun}
+use Rattle.lmtp_house.specs.House.{BoxWork}
 
 module _ {X : Type 0} (f : X → Bool) where
   one_by : (x : X) (t : Bool) → count_by f (cond t (x ∷ []) []) ≡ cond t (cond (f x) 1 0) 0
@@ -133,13 +132,13 @@ copies_once txn place k (t ∷ ts) =
 abbrev inside : ℕ → ℕ → ℕ → ℕ
 inside first last m = cond (nat_lt m first) 0 (cond (nat_lt last m) 0 1)
 
-abbrev times : ℕ → List Transaction → ℕ
-times m ts = count_by (λ t. t.number == m) ts
+abbrev times_numbered : ℕ → List Transaction → ℕ
+times_numbered m ts = count_by (λ t. t.number == m) ts
 
 -- the numbers of parts before which n DATA commands were accepted
 record AreNumbered (site : Site) (n : ℕ) (session : Session) (ps : List Part) : Type 0 where
   grows : n ≤ accepted_after site n session ps
-  once : (m : ℕ) → times m (transactions_of site n session ps) ≤ inside (if is_content session.state then n else n + 1) (accepted_after site n session ps) m
+  once : (m : ℕ) → times_numbered m (transactions_of site n session ps) ≤ inside (if is_content session.state then n else n + 1) (accepted_after site n session ps) m
 
 -- data is cut where it may stand
 cut_by : (size : ℕ → ℕ) (o : Option ℕ) (p : ℕ → Part) (ds : List Disposition) (t : Bool) (c : Cut) → ((n : ℕ) → is_data (p n) ≡ t)
@@ -186,7 +185,7 @@ one_more site n session (CommandLine text) ps e h =
     let last = accepted_after site n session (CommandLine text ∷ ps) in record {
       grows = grows_by (is_content next.state) n last h.grows;
       once = λ m.
-          let w = times m (transactions_of site n session (CommandLine text ∷ ps)) in line_by (is_content session.state) n m last w (later_first (is_content next.state) n m last w (h.once m));
+          let w = times_numbered m (transactions_of site n session (CommandLine text ∷ ps)) in line_by (is_content session.state) n m last w (later_first (is_content next.state) n m last w (h.once m));
     }
 one_more site n session (MailData text d) ps e h =
     let p : Part = MailData text d in
@@ -197,11 +196,11 @@ one_more site n session (MailData text d) ps e h =
       once = λ m.
           let rest = transactions_of site n next ps in
           let t : Transaction = record { number = n; session = session; message = message text; disposition = d } in
-          let behind : times m (transactions_of site (accepted_behind site n session p) next ps) ≤ inside (n + 1) last m =
-          later_first (is_content next.state) n m last (times m (transactions_of site (accepted_behind site n session p) next ps)) (h.once m) in
-          let same : times m rest ≤ inside (n + 1) last m = subst (λ j. times m (transactions_of site j next ps) ≤ inside (n + 1) last m) (same_behind_data site n session text d) behind in
-          let all : times m (t ∷ rest) ≤ inside n last m = omega (arith, count-cons (λ (x : Transaction). x.number == m) t rest, data_by n m last (times m rest) grows same) in
-          subst (λ b. times m (t ∷ rest) ≤ inside (if b then n else n + 1) last m) e all;
+          let behind : times_numbered m (transactions_of site (accepted_behind site n session p) next ps) ≤ inside (n + 1) last m =
+          later_first (is_content next.state) n m last (times_numbered m (transactions_of site (accepted_behind site n session p) next ps)) (h.once m) in
+          let same : times_numbered m rest ≤ inside (n + 1) last m = subst (λ j. times_numbered m (transactions_of site j next ps) ≤ inside (n + 1) last m) (same_behind_data site n session text d) behind in
+          let all : times_numbered m (t ∷ rest) ≤ inside n last m = omega (arith, count-cons (λ (x : Transaction). x.number == m) t rest, data_by n m last (times_numbered m rest) grows same) in
+          subst (λ b. times_numbered m (t ∷ rest) ≤ inside (if b then n else n + 1) last m) e all;
     }
 
 none_yet : (site : Site) (n : ℕ) (session : Session) → AreNumbered site n session []
@@ -227,7 +226,7 @@ after_by : (n last m w v : ℕ) → n ≤ last → w ≤ inside (n + 1) last m �
 after_by n last m w v grows a b = grind (arith, nat_tests, grows, a, b)
 
 -- a lane's transactions have each a number of their own
-numbers_rise : (site : Site) (n m : ℕ) (cs : List Conversation) → times m (transactions site n cs) ≤ cond (nat_lt n m) 1 0
+numbers_rise : (site : Site) (n m : ℕ) (cs : List Conversation) → times_numbered m (transactions site n cs) ≤ cond (nat_lt n m) 1 0
 unfolding transactions
 numbers_rise site n m [] = omega arith
 numbers_rise site n m (c ∷ cs) =
@@ -237,7 +236,7 @@ numbers_rise site n m (c ∷ cs) =
     omega (
       arith,
       count-append (λ (t : Transaction). t.number == m) (transactions_of site n fresh ps) (transactions site last cs),
-      after_by n last m (times m (transactions_of site n fresh ps)) (times m (transactions site last cs)) h.grows (h.once m) (numbers_rise site last m cs),
+      after_by n last m (times_numbered m (transactions_of site n fresh ps)) (times_numbered m (transactions site last cs)) h.grows (h.once m) (numbers_rise site last m cs),
     )
 
 at_most_one : (t : Bool) (n : ℕ) → n ≤ cond t 1 0 → n ≤ 1
@@ -250,22 +249,22 @@ due_counts site k b cs f = refl
 
 pub named_once : (site : Site) (k boxes : ℕ) (cs : List Conversation) (heard : List Slip) (works : ℕ → BoxWork)
     → AllByRecursion (λ slip. slip.worker < boxes) heard
-    → ((b : ℕ) → b < boxes → IsBegun (of_worker b heard) (owed_to b (works b).stored k (works b).taken))
+    → ((b : ℕ) → b < boxes → IsFront (of_worker b heard) (owed_to b (works b).stored k (works b).taken))
     → ((b : ℕ) → b < boxes → of_lane k (works b).taken ≡ due site k b cs)
     → (txn : Txn) (place : ℕ) → times_named txn place heard ≤ 1
 named_once site k boxes cs heard works only each owed txn place =
     let notes = flat_map (copies k) (transactions site 0 cs) in
     let by_box : (b : ℕ) → b < boxes → count_by (names txn place) (filter (λ slip. slip.worker == b) heard) ≤ count_by (is_copy txn place) (filter (λ note. note.mailbox == b) notes) =
     λ b low.
-    let begun = each b low in
+    let front = each b low in
     omega (
       arith,
-      count-append (names txn place) (of_worker b heard) begun.rest,
-      ap (count_by (names txn place)) begun.whole,
+      count-append (names txn place) (of_worker b heard) front.rest,
+      ap (count_by (names txn place)) front.whole,
       slips_copy txn place b (works b).stored k 0 (works b).taken,
       ap (count_by (is_copy txn place)) (owed b low),
       due_counts site k b cs (is_copy txn place),
     ) in
     let all = no_more (names txn place) (is_copy txn place) (λ slip. slip.worker) (λ note. note.mailbox) boxes heard notes only by_box in
-    let one = at_most_one (nat_lt 0 txn.number) (times txn.number (transactions site 0 cs)) (numbers_rise site 0 txn.number cs) in
+    let one = at_most_one (nat_lt 0 txn.number) (times_numbered txn.number (transactions site 0 cs)) (numbers_rise site 0 txn.number cs) in
     omega (arith, all, copies_once txn place k (transactions site 0 cs), one)

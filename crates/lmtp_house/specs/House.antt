@@ -4,16 +4,17 @@ use Rattle.std.specs.List.{AllByRecursion}
 use Rattle.mail_world.specs.declared.Note.{Note}
 use Rattle.mail_world.specs.declared.Slip.{Slip}
 use Rattle.mail_world.specs.declared.limits.TheConstants.{LANE_LIMIT, BLOCK_LIMIT, SLOT_LIMIT, CAPACITY_LIMIT}
+use Rattle.mail_world.specs.Fronts.{IsFront}
 use Rattle.mail_world.specs.Site.{Site}
 use Rattle.mail_world.specs.Slips.{of_worker}
 use Rattle.mail_world.specs.Lists.{of_lane, due, transactions, VerdictsFit, OutcomesAreAnswers}
 use Rattle.lmtp_text.specs.Calendar.{civil_at}
 use Rattle.mbox_rd.specs.Spool.{SpoolState}
-use Rattle.box_worker.specs.Stored.{HasStored}
+use Rattle.box_worker.specs.Stored.{kept, HasStored}
 use Rattle.box_worker.specs.Told.{owed_to}
 use Rattle.lmtp_house.specs.declared.house.report.Tally.{Tally}
 use Rattle.lmtp_house.specs.declared.house.sizes.Sizes.{Sizes}
-use Rattle.lmtp_lane.specs.LaneAccount.{counted}
+use Rattle.mail_world.specs.Counts.{counted}
 use Rattle.lmtp_talk.specs.Peer.{PeerState}
 use Rattle.lmtp_lane.specs.Visits.{Finished, Visit, HasVisited, conversations_of}
 
@@ -49,14 +50,9 @@ pub record IsLaneWork (site : Site) (May : ℕ → Type 0) (MayCome : PeerState 
 
 -- a mailbox's worker took these copies, and its spool holds the records of those that it stored
 pub record IsBoxWork (site : Site) (work : BoxWork) (old new : SpoolState) (tally : Tally) : Type 0 where
-  pub spool : HasStored civil_at site.host old new work.taken work.stored tally.faulty
+  pub spool : HasStored civil_at site.host work.taken old (kept new work.stored tally.faulty)
   pub taken : tally.taken ≡ counted (length work.taken)
   pub stored : tally.stored ≡ counted work.stored
-
--- the first list begins the second
-pub record IsBegun (front all : List Slip) : Type 0 where
-  pub rest : List Slip
-  pub whole : front ++ rest ≡ all
 
 -- However lanes and workers interleaved: each worker took of each lane just the copies that the lane's conversations owe its mailbox, in
 -- their order, and nothing else; and each lane heard of its copies the slips that their workers gave, and nothing else.
@@ -72,5 +68,5 @@ pub record HasRun {V S : Type 0} (site : Site) (May : ℕ → Type 0) (MayGive :
       → IsBoxWork site (boxes b) (state old) (state new) tally
   pub owed : (k b : ℕ) → k < length visits → b < length spools → of_lane k (boxes b).taken ≡ due site k b (conversations_of (lanes k).visits)
   pub owed_only : (b : ℕ) → b < length spools → AllByRecursion (λ note. note.txn.lane < length visits) (boxes b).taken
-  pub told : (k b : ℕ) → k < length visits → b < length spools → IsBegun (of_worker b (lanes k).heard) (owed_to b (boxes b).stored k (boxes b).taken)
+  pub told : (k b : ℕ) → k < length visits → b < length spools → IsFront (of_worker b (lanes k).heard) (owed_to b (boxes b).stored k (boxes b).taken)
   pub told_only : (k : ℕ) → k < length visits → AllByRecursion (λ slip. slip.worker < length spools) (lanes k).heard

@@ -6,15 +6,16 @@ use Rattle.mail_world.specs.declared.Slip.{Slip}
 use Rattle.mail_world.specs.Site.{Site}
 use Rattle.mail_world.specs.Lists.{due, transactions, VerdictsFit}
 use Rattle.mbox_rd.specs.Spool.{SpoolState}
-use Rattle.mail_post.specs.Line.{Line, Lane, Inbox, taken}
-use Rattle.mail_post.specs.declared.line.Gone.TheVariants.{Closed}
-use Rattle.box_worker.specs.Told.{AreOfWorker, worker_of, owed_to}
+use Rattle.mail_post.specs.Channel.{Channel, Sender, Inbox, taken}
+use Rattle.mail_post.specs.Offered.{HaveNumber}
+use Rattle.mail_post.specs.declared.channel.Gone.TheVariants.{Closed}
+use Rattle.box_worker.specs.Told.{worker_of, owed_to}
 use Rattle.lmtp_house.specs.declared.house.report.Tally.{Tally}
 use Rattle.lmtp_talk.specs.Peer.{PeerState}
-use Rattle.lmtp_lane.specs.LaneExchange.{AreOfLane}
-use Rattle.lmtp_lane.specs.LaneAccount.{counted, IsAnswered}
+use Rattle.mail_world.specs.Counts.{counted}
+use Rattle.lmtp_lane.specs.LaneAccount.{IsAnswered}
 use Rattle.lmtp_lane.specs.Visits.{Finished, HasVisited, conversations_of}
-use Rattle.lmtp_house.specs.HouseLines.{AreRows, none}
+use Rattle.lmtp_house.specs.HouseChannels.{AreRows, none}
 use Rattle.lmtp_house.specs.House.{LaneWork, BoxWork, IsBoxWork}
 
 -- what a lane is given
@@ -24,15 +25,15 @@ pub record LaneTask (V C : Type 0) : Type 0 where
   pub desk_site : Site
   pub clock : C
   pub visits : V
-  pub senders : List (Lane Note)
+  pub senders : List (Sender Note)
   pub slips : Inbox Slip
 
 module _ {V C : Type 0} where
-  abbrev pub lane_task : Site → C → ℕ → V → List (Lane Note) → Inbox Slip → LaneTask V C
+  abbrev pub lane_task : Site → C → ℕ → V → List (Sender Note) → Inbox Slip → LaneTask V C
   lane_task site clock k visits senders slips = record { lane = k; site = site; desk_site = site; clock = clock; visits = visits; senders = senders; slips = slips }
 
   -- the tasks of the lanes from number k on
-  abbrev pub lane_tasks : Site → C → ℕ → List V → List (List (Lane Note)) → List (Inbox Slip) → List (LaneTask V C)
+  abbrev pub lane_tasks : Site → C → ℕ → List V → List (List (Sender Note)) → List (Inbox Slip) → List (LaneTask V C)
   lane_tasks site clock k [] rows inboxes = []
   lane_tasks site clock k (v ∷ vs) [] inboxes = []
   lane_tasks site clock k (v ∷ vs) (row ∷ rows) [] = []
@@ -42,22 +43,22 @@ module _ {V C : Type 0} where
   pub record IsLaneReady (out : V → Bool) (task : LaneTask V C) : Type 0 where
     pub site : task.desk_site ≡ task.site
     pub count : length task.senders ≡ length task.site.boxes
-    pub lane : AreOfLane task.lane task.senders
+    pub lane : HaveNumber task.lane task.senders
     pub none_out : out task.visits ≡ false
 
 -- what a worker is given
 pub record BoxTask (S : Type 0) : Type 0 where
   pub host : List ℕ
   pub receiver : Inbox Note
-  pub slips : List (Lane Slip)
+  pub slips : List (Sender Slip)
   pub spool : S
 
 module _ {S : Type 0} where
-  abbrev pub box_task : List ℕ → Inbox Note → List (Lane Slip) → S → BoxTask S
+  abbrev pub box_task : List ℕ → Inbox Note → List (Sender Slip) → S → BoxTask S
   box_task host receiver slips spool = record { host = host; receiver = receiver; slips = slips; spool = spool }
 
   -- the tasks of the workers, in the mailboxes' order
-  abbrev pub box_tasks : List ℕ → List (Inbox Note) → List (List (Lane Slip)) → List S → List (BoxTask S)
+  abbrev pub box_tasks : List ℕ → List (Inbox Note) → List (List (Sender Slip)) → List S → List (BoxTask S)
   box_tasks host [] rows spools = []
   box_tasks host (inbox ∷ inboxes) [] spools = []
   box_tasks host (inbox ∷ inboxes) (row ∷ rows) [] = []
@@ -67,7 +68,7 @@ module _ {S : Type 0} where
   pub record IsBoxReady (task : BoxTask S) : Type 0 where
     pub fresh : taken task.receiver ≡ []
     pub lanes : length task.slips ≡ task.receiver.lanes
-    pub worker : AreOfWorker (worker_of task.slips) task.slips
+    pub worker : HaveNumber (worker_of task.slips) task.slips
 
 -- as IsLaneWork, with the outcomes as they were gathered
 pub record IsServedLane (site : Site) (May : ℕ → Type 0) (MayCome : PeerState → Type 0) (k : ℕ) (work : LaneWork)
@@ -81,51 +82,51 @@ pub record IsServedLane (site : Site) (May : ℕ → Type 0) (MayCome : PeerStat
 
 -- a receiver took these more
 pub record HasHeard (heard : List Slip) (old new : Inbox Slip) : Type 0 where
-  pub line : new.line ≡ old.line
+  pub channel : new.channel ≡ old.channel
   pub lanes : new.lanes ≡ old.lanes
   pub took : taken new ≡ taken old ++ heard
 
 -- a receiver took all of this up to its closing
 pub record HasTaken (all : List Note) (old new : Inbox Note) : Type 0 where
-  pub line : new.line ≡ old.line
+  pub channel : new.channel ≡ old.channel
   pub lanes : new.lanes ≡ old.lanes
   pub took : taken new ≡ all
   pub closed : new.gone ≡ Some Closed
 
 -- All lanes have ended, and none found a channel gone: what each did, with what its senders gave and its receiver took.
 pub record HaveServed {V : Type 0} (site : Site) (May : ℕ → Type 0) (MayGive : V → PeerState → Type 0) (finished : V → Option (List Finished)) (over : V → Bool)
-    (lines : List (Line Note)) (visits visits_after : List V) (rows_after : List (List (Lane Note))) (inboxes inboxes_after : List (Inbox Slip)) (conversations : List ℕ) : Type 0 where
+    (channels : List (Channel Note)) (visits visits_after : List V) (rows_after : List (List (Sender Note))) (inboxes inboxes_after : List (Inbox Slip)) (conversations : List ℕ) : Type 0 where
   pub works : ℕ → LaneWork
   pub as_many : (length visits_after ≡ length visits) × (length conversations ≡ length visits) × (length inboxes_after ≡ length visits)
   pub served : (k count : ℕ) (old new : V) → slice_get visits k ≡ Some old → slice_get visits_after k ≡ Some new → slice_get conversations k ≡ Some count
       → IsServedLane site May (MayGive old) k (works k) (finished old) (finished new) (over new) count
-  pub rows_are : AreRows (length visits) lines (λ k b. due site k b (conversations_of (works k).visits)) rows_after
+  pub rows_are : AreRows (length visits) channels (λ k b. due site k b (conversations_of (works k).visits)) rows_after
   pub heard : (k : ℕ) (old new : Inbox Slip) → slice_get inboxes k ≡ Some old → slice_get inboxes_after k ≡ Some new → HasHeard (works k).heard old new
 
 -- All workers have ended, and none found a channel gone.
-pub record HaveWorked {S : Type 0} (site : Site) (state : S → SpoolState) (lines : List (Line Slip)) (inboxes inboxes_after : List (Inbox Note))
-    (rows_after : List (List (Lane Slip))) (spools spools_after : List S) (tallies : List Tally) : Type 0 where
+pub record HaveWorked {S : Type 0} (site : Site) (state : S → SpoolState) (channels : List (Channel Slip)) (inboxes inboxes_after : List (Inbox Note))
+    (rows_after : List (List (Sender Slip))) (spools spools_after : List S) (tallies : List Tally) : Type 0 where
   pub works : ℕ → BoxWork
   pub as_many : (length spools_after ≡ length spools) × (length tallies ≡ length spools) × (length inboxes_after ≡ length spools)
   pub stored : (b : ℕ) (old new : S) (tally : Tally) → slice_get spools b ≡ Some old → slice_get spools_after b ≡ Some new → slice_get tallies b ≡ Some tally
       → IsBoxWork site (works b) (state old) (state new) tally
-  pub rows_are : AreRows (length spools) lines (λ b k. owed_to b (works b).stored k (works b).taken) rows_after
+  pub rows_are : AreRows (length spools) channels (λ b k. owed_to b (works b).stored k (works b).taken) rows_after
   pub took : (b : ℕ) (old new : Inbox Note) → slice_get inboxes b ≡ Some old → slice_get inboxes_after b ≡ Some new → HasTaken (works b).taken old new
 
 -- whatever these tasks were made of, all lanes have ended
 abbrev pub HaveServedAll : {V C : Type 0} → (C → ℕ → Type 0) → (V → PeerState → Type 0) → (V → Option (List Finished)) → (V → Bool)
-    → List (LaneTask V C) → List V → List (List (Lane Note)) → List (Inbox Slip) → List ℕ → Type 0
+    → List (LaneTask V C) → List V → List (List (Sender Note)) → List (Inbox Slip) → List ℕ → Type 0
 HaveServedAll {V} {C} May MayGive finished over tasks visits_after rows_after inboxes_after conversations =
-    (site : Site) (clock : C) (lines : List (Line Note)) (visits : List V) (rows : List (List (Lane Note))) (inboxes : List (Inbox Slip))
-    → tasks ≡ lane_tasks site clock 0 visits rows inboxes → length inboxes ≡ length visits → AreRows (length visits) lines none rows
-    → HaveServed site (May clock) MayGive finished over lines visits visits_after rows_after inboxes inboxes_after conversations
+    (site : Site) (clock : C) (channels : List (Channel Note)) (visits : List V) (rows : List (List (Sender Note))) (inboxes : List (Inbox Slip))
+    → tasks ≡ lane_tasks site clock 0 visits rows inboxes → length inboxes ≡ length visits → AreRows (length visits) channels none rows
+    → HaveServed site (May clock) MayGive finished over channels visits visits_after rows_after inboxes inboxes_after conversations
 
 -- whatever these tasks were made of, all workers have ended
-abbrev pub HaveWorkedAll : {S : Type 0} → (S → SpoolState) → List (BoxTask S) → List S → List (List (Lane Slip)) → List (Inbox Note) → List Tally → Type 0
+abbrev pub HaveWorkedAll : {S : Type 0} → (S → SpoolState) → List (BoxTask S) → List S → List (List (Sender Slip)) → List (Inbox Note) → List Tally → Type 0
 HaveWorkedAll {S} state tasks spools_after rows_after inboxes_after tallies =
-    (site : Site) (lines : List (Line Slip)) (inboxes : List (Inbox Note)) (rows : List (List (Lane Slip))) (spools : List S)
-    → tasks ≡ box_tasks site.host inboxes rows spools → length inboxes ≡ length spools → 0 < length lines → AreRows (length spools) lines none rows
-    → HaveWorked site state lines inboxes inboxes_after rows_after spools spools_after tallies
+    (site : Site) (channels : List (Channel Slip)) (inboxes : List (Inbox Note)) (rows : List (List (Sender Slip))) (spools : List S)
+    → tasks ≡ box_tasks site.host inboxes rows spools → length inboxes ≡ length spools → 0 < length channels → AreRows (length spools) channels none rows
+    → HaveWorked site state channels inboxes inboxes_after rows_after spools spools_after tallies
 
 -- a report's counts
 abbrev pub tally_of : ℕ → ℕ → Bool → Tally

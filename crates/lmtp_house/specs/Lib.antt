@@ -3,4 +3,4 @@ pub mod HouseTasks
 pub mod HousePlan
 pub mod HouseCrew
 pub mod HouseGrid
-pub mod HouseLines
+pub mod HouseChannels

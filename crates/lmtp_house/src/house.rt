@@ -1,10 +1,10 @@
 //! A server: its lanes and its workers, each in a thread.
 
+mod channels;
 mod crew;
 pub mod fault;
 mod grid;
 mod lanes;
-mod lines;
 mod plan;
 pub mod report;
 pub mod run;

@@ -6,7 +6,7 @@ use Rattle.std.specs.Option.{IfSome}
 use Rattle.std.proofs.lemmas.Grind.{flat_map-append}
 use Rattle.std.proofs.lemmas.Bool.Decides.{nat_tests}
 use Rattle.mail_world.specs.declared.Txn.{Txn}
-use Rattle.mail_world.specs.Slips.{names, answer}
+use Rattle.mail_world.specs.Slips.{names, answer, txn_of}
 use Rattle.mail_world.specs.declared.Note.{Note}
 use Rattle.mail_world.specs.declared.Outcome.{Outcome}
 use Rattle.mail_world.specs.declared.Slip.{Slip}
@@ -14,28 +14,15 @@ use Rattle.mail_world.specs.declared.Verdict.{Verdict}
 use Rattle.mail_world.specs.declared.Verdict.TheVariants.{Whole, TooLarge, NoRoom}
 use Rattle.mail_world.specs.declared.limits.TheConstants.{MESSAGE_LIMIT, NUMBER_LIMIT}
 use Rattle.mail_world.specs.Session.{Session}
-use Rattle.mail_world.specs.Events.{txn_of}
 use Rattle.mail_world.specs.Lists.{Transaction, VerdictFits, OutcomesIn, copies, copies_if, copies_from}
 use Rattle.mail_world.proofs.Heard.{all_more}
 use Rattle.msg_depot.specs.declared.view.Claim.{Claim}
-use Rattle.mail_post.specs.Line.{Lane, Inbox, taken}
-use Rattle.lmtp_lane.specs.LaneExchange.{HasExchanged, Episode, IsEpisode, sent_as}
-use Rattle.lmtp_lane.specs.LaneAccount.{counted, IsAnswered, AreEpisodes, IsHeardInTurn, HasOffered, HoldsDraft, verdict_with, verdict_on, Delivers}
-use Rattle.lmtp_talk.specs.Delivery.{EndsDraft}
-
--- another DATA command
-pub offered_counted : (lane : ℕ) (May : ℕ → Type 0) (a b : List (Lane Note)) (i j : Inbox Slip) (gone : Bool) (accepted accepted' n : ℕ) (ts : List Transaction)
-    → accepted' ≡ counted (accepted + 1) → HasOffered lane May a b i j gone accepted n ts → HasOffered lane May a b i j gone accepted' (n + 1) ts
-offered_counted lane May a b i j gone accepted accepted' n ts e x = record {
-  count = omega (arith, e, x.count);
-  own = x.own;
-  heard = x.heard;
-  exchanged = x.exchanged;
-  turns = x.turns;
-  answered = x.answered;
-  verdicts = x.verdicts;
-  moments = x.moments;
-}
+use Rattle.mail_post.specs.Channel.{Sender, Inbox, taken}
+use Rattle.mail_post.proofs.Offered.{accepted_nothing}
+use Rattle.lmtp_lane.specs.LaneExchange.{for_box, HasExchanged, Episode, IsEpisode, sent_as}
+use Rattle.mail_world.specs.Counts.{counted}
+use Rattle.lmtp_lane.specs.LaneAccount.{IsAnswered, AreEpisodes, IsHeardInTurn, HasOffered, HoldsDraft, verdict_with, verdict_on, Delivers}
+use Rattle.lmtp_talk.specs.Delivery.{ended_so, EndsDraft}
 
 -- a slip that was found is found where more are heard
 front_by : (p : Slip → Bool) (x : Slip) (xs more : List Slip) (o : Outcome) (t : Bool)
@@ -163,10 +150,10 @@ turns_none lane i j own heard ts t x =
     (x.took ∙ ap (λ l. taken i ++ l) (sym (append-nil (flat_map (λ (e : Episode). e.came) x.episodes))))))
 
 -- a message that is refused
-pub ended_refused : (lane : ℕ) (May : ℕ → Type 0) (a b : List (Lane Note)) (i j : Inbox Slip) (gone : Bool) (accepted size : ℕ) (draft : Option Claim) (session : Session) (moment : ℕ)
+pub ended_refused : (lane : ℕ) (May : ℕ → Type 0) (a b : List (Sender Note)) (i j : Inbox Slip) (gone : Bool) (accepted size : ℕ) (draft : Option Claim) (session : Session) (moment : ℕ)
     (told : List Outcome) (v : Verdict) → v ≡ verdict_on accepted size draft → (v ≡ Whole → ⊥) → May moment
     → (n : ℕ) (ts : List Transaction) (message : List ℕ) → HasOffered lane May a b i j gone accepted n ts × HoldsDraft draft size message
-    → EndsDraft (λ n ts. HasOffered lane May a b i j gone accepted n ts) moment told session n ts message v
+    → EndsDraft (λ n ts. HasOffered lane May a b i j gone accepted n ts) n ts session message (ended_so v moment told)
 ended_refused lane May a b i j gone accepted size draft session moment told v is other may n ts message h =
     let x = h.0 in
     let t : Transaction = record { number = n; session = session; message = message; disposition = record { verdict = v; moment = moment; outcomes = told } } in
@@ -197,11 +184,11 @@ bytes_are : (draft : Option Claim) (claim : Claim) (message : List ℕ) → draf
 bytes_are draft claim message e h = let P : Option Claim → Type 0 = λ d. IfSome d (λ (x : Claim). x.bytes ≡ message) in subst P e h
 
 -- a message that went to its recipients, where nothing else has changed
-whole_same : (lane : ℕ) (May : ℕ → Type 0) (a b b' : List (Lane Note)) (i j j' : Inbox Slip) (gone gone' : Bool) (accepted size : ℕ) (draft : Option Claim) (claim : Claim) (session : Session)
+whole_same : (lane : ℕ) (May : ℕ → Type 0) (a b b' : List (Sender Note)) (i j j' : Inbox Slip) (gone gone' : Bool) (accepted size : ℕ) (draft : Option Claim) (claim : Claim) (session : Session)
     (moment : ℕ) (told : List Outcome) → accepted ≤ NUMBER_LIMIT → draft ≡ Some claim → Whole ≡ verdict_on accepted size draft → May moment
     → Delivers lane accepted session moment claim.bytes told b b' j j' gone gone'
     → (n : ℕ) (ts : List Transaction) (message : List ℕ) → HasOffered lane May a b i j gone accepted n ts × HoldsDraft draft size message
-    → EndsDraft (λ n ts. HasOffered lane May a b' i j' gone' accepted n ts) moment told session n ts message Whole
+    → EndsDraft (λ n ts. HasOffered lane May a b' i j' gone' accepted n ts) n ts session message (ended_so Whole moment told)
 whole_same lane May a b b' i j j' gone gone' accepted size draft claim session moment told low there is may delivers n ts message h =
     let x = h.0 in
     let t : Transaction = record { number = n; session = session; message = message; disposition = record { verdict = Whole; moment = moment; outcomes = told } } in
@@ -225,36 +212,28 @@ whole_same lane May a b b' i j j' gone gone' accepted size draft claim session m
       moments = all_more (λ (y : Transaction). May y.disposition.moment) ts t x.moments may;
     }
 
-pub ended_whole : (lane at : ℕ) (May : ℕ → Type 0) (a b b' : List (Lane Note)) (i j j' : Inbox Slip) (gone gone' : Bool) (accepted accepted' size : ℕ) (draft : Option Claim) (claim : Claim)
+pub ended_whole : (lane at : ℕ) (May : ℕ → Type 0) (a b b' : List (Sender Note)) (i j j' : Inbox Slip) (gone gone' : Bool) (accepted accepted' size : ℕ) (draft : Option Claim) (claim : Claim)
     (session : Session) (moment moment' : ℕ) (told : List Outcome) → at ≡ lane → (accepted' ≡ accepted) × (moment' ≡ moment)
     → accepted ≤ NUMBER_LIMIT → draft ≡ Some claim → Whole ≡ verdict_on accepted size draft → May moment
     → Delivers at accepted session moment claim.bytes told b b' j j' gone gone'
     → (n : ℕ) (ts : List Transaction) (message : List ℕ) → HasOffered lane May a b i j gone accepted n ts × HoldsDraft draft size message
-    → EndsDraft (λ n ts. HasOffered lane May a b' i j' gone' accepted' n ts) moment' told session n ts message Whole
+    → EndsDraft (λ n ts. HasOffered lane May a b' i j' gone' accepted' n ts) n ts session message (ended_so Whole moment' told)
 ended_whole lane at May a b b' i j j' gone gone' accepted accepted' size draft claim session moment moment' told here same low there is may delivers n ts message h =
     let D : ℕ → Type 0 = λ l. Delivers l accepted session moment claim.bytes told b b' j j' gone gone' in
-    let Q : ℕ → Type 0 = λ k. EndsDraft (λ n ts. HasOffered lane May a b' i j' gone' k n ts) moment' told session n ts message Whole in
-    let R : ℕ → Type 0 = λ m. EndsDraft (λ n ts. HasOffered lane May a b' i j' gone' accepted n ts) m told session n ts message Whole in
+    let Q : ℕ → Type 0 = λ k. EndsDraft (λ n ts. HasOffered lane May a b' i j' gone' k n ts) n ts session message (ended_so Whole moment' told) in
+    let R : ℕ → Type 0 = λ m. EndsDraft (λ n ts. HasOffered lane May a b' i j' gone' accepted n ts) n ts session message (ended_so Whole m told) in
     subst Q (sym same.0) (subst R (sym same.1)
     (whole_same lane May a b b' i j j' gone gone' accepted size draft claim session moment told low there is may (subst D here delivers) n ts message h))
 
 -- a lane that was given nothing to do
-offered_none : (lane : ℕ) (May : ℕ → Type 0) (senders : List (Lane Note)) (inbox : Inbox Slip) → HasOffered lane May senders senders inbox inbox false 0 0 []
+offered_none : (lane : ℕ) (May : ℕ → Type 0) (senders : List (Sender Note)) (inbox : Inbox Slip) → HasOffered lane May senders senders inbox inbox false 0 0 []
 offered_none lane May senders inbox = record {
   count = refl;
   own = [];
   heard = [];
   exchanged = record {
-    as_many = refl;
-    offered = λ box old new was is. let same : new ≡ old = cc in record {
-      line = ap (λ (s : Lane Note). s.line) same;
-      lane = ap (λ (s : Lane Note). s.lane) same;
-      accepted = [];
-      sent = ap (λ (s : Lane Note). s.sent) same ∙ sym (append-nil old.sent);
-      all = λ none. refl;
-      some = tt;
-    };
-    line = refl;
+    offered = accepted_nothing (λ box. for_box box []) senders (λ box. refl);
+    channel = refl;
     lanes = refl;
     came = [];
     took = sym (append-nil (taken inbox));
@@ -268,9 +247,9 @@ offered_none lane May senders inbox = record {
   moments = tt;
 }
 
-pub offered_start : (lane : ℕ) (May : ℕ → Type 0) (a b : List (Lane Note)) (i j : Inbox Slip) (gone : Bool) → b ≡ a → j ≡ i → gone ≡ false → HasOffered lane May a b i j gone 0 0 []
+pub offered_start : (lane : ℕ) (May : ℕ → Type 0) (a b : List (Sender Note)) (i j : Inbox Slip) (gone : Bool) → b ≡ a → j ≡ i → gone ≡ false → HasOffered lane May a b i j gone 0 0 []
 offered_start lane May a b i j gone same same_inbox sound =
-    let P : List (Lane Note) → Type 0 = λ l. HasOffered lane May a l i i false 0 0 [] in
+    let P : List (Sender Note) → Type 0 = λ l. HasOffered lane May a l i i false 0 0 [] in
     let Q : Inbox Slip → Type 0 = λ k. HasOffered lane May a b i k false 0 0 [] in
     let R : Bool → Type 0 = λ t. HasOffered lane May a b i j t 0 0 [] in
     subst R (sym sound) (subst Q (sym same_inbox) (subst P (sym same) (offered_none lane May a i)))

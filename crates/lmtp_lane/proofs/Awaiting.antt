@@ -7,14 +7,12 @@ use Rattle.mail_world.specs.declared.Note.{Note}
 use Rattle.mail_world.specs.declared.Slip.{Slip}
 use Rattle.std.specs.Prelude.{slice_get, find, option_map, count_by}
 use Rattle.std.specs.List.{range_with_len}
-use Rattle.mail_world.specs.Slips.{names, times_named, answer, answers}
+use Rattle.mail_world.specs.Slips.{names, times_named, answer, answers, Gather, gathered, place_outcome, is_same_txn, own_slip, txn_of}
 use Rattle.mail_world.proofs.GivenAway.{count-cons}
 use Rattle.mail_world.specs.declared.Outcome.{Outcome}
-use Rattle.mail_world.specs.House.{Gather, gathered, place_outcome, is_same_txn}
 use Rattle.mail_world.specs.Session.{Session}
-use Rattle.mail_world.specs.Events.{own_slip, txn_of}
 use Rattle.mail_world.specs.Lists.{Transaction, copies_from}
-use Rattle.mail_post.specs.Line.{Lane, Inbox, taken}
+use Rattle.mail_post.specs.Channel.{Sender, Inbox, taken}
 use Rattle.mail_post.specs.Gathering.{HasGathered, IsAwaited}
 use Rattle.lmtp_lane.specs.LaneExchange.{IsAmong, HasExchanged, Episode, IsUnderWay, Continues, Awaits, TakesOne, sent_as, copy_at}
 use Rattle.lmtp_lane.proofs.Exchanging.{HearsSlip, way_failed, way_heard, way_gone}
@@ -36,17 +34,17 @@ among_copies lane number session moment message first (box ∷ boxes) (suc p) lo
     inr (subst P e (among_copies lane number session moment message (first + 1) boxes p (omega arith)))
 
 -- only a channel was found gone
-pub gone_on : (lane number : ℕ) (session : Session) (now next : List (Lane Note)) (inbox inbox' : Inbox Slip) (gather : Gather) (gone gone' : Bool)
+pub gone_on : (lane number : ℕ) (session : Session) (now next : List (Sender Note)) (inbox inbox' : Inbox Slip) (gather : Gather) (gone gone' : Bool)
     → next ≡ now → inbox' ≡ inbox → gone' ≡ true → Awaits lane number session now next inbox inbox' gather gather gone gone'
 gone_on lane number session now next inbox inbox' gather gone gone' same same_inbox went moment message notes n heard before old_inbox x =
     let all : List Note = notes ++ copies_from lane (sent_as number session moment message) 0 session.recipients in
-    let Q : List (Lane Note) → Type 0 = λ l. IsUnderWay lane all (txn_of lane number) n heard before l old_inbox inbox gather true in
+    let Q : List (Sender Note) → Type 0 = λ l. IsUnderWay lane all (txn_of lane number) n heard before l old_inbox inbox gather true in
     let R : Inbox Slip → Type 0 = λ i. IsUnderWay lane all (txn_of lane number) n heard before next old_inbox i gather true in
     let S : Bool → Type 0 = λ b. IsUnderWay lane all (txn_of lane number) n heard before next old_inbox inbox' gather b in
     subst S (sym went) (subst R (sym same_inbox) (subst Q (sym same) (way_gone lane all (txn_of lane number) n heard before now old_inbox inbox gather gone x inbox refl refl refl)))
 
 -- a copy that had no slip is answered by the lane; one that had is left
-pub answered_next : (lane number place mailbox : ℕ) (session : Session) (now next : List (Lane Note)) (inbox inbox' : Inbox Slip) (gather gather' : Gather) (gone gone' taken_so : Bool)
+pub answered_next : (lane number place mailbox : ℕ) (session : Session) (now next : List (Sender Note)) (inbox inbox' : Inbox Slip) (gather gather' : Gather) (gone gone' taken_so : Bool)
     → place < length session.recipients → mailbox ≡ get_or session.recipients place 0 → next ≡ now → inbox' ≡ inbox → gone' ≡ true
     → TakesOne (own_slip lane number place mailbox) gather gather' taken_so
     → Awaits lane number session now next inbox inbox' gather gather' gone gone'
@@ -59,7 +57,7 @@ answered_next lane number place mailbox session now next inbox inbox' gather gat
     let among : IsAmong note all = subst P (sym is)
     (among_right (copy_at lane number session moment message place (get_or session.recipients place 0)) notes
     (copies_from lane (sent_as number session moment message) 0 session.recipients) (subst C low_sum (among_copies lane number session moment message 0 session.recipients place low))) in
-    let Q : List (Lane Note) → Type 0 = λ l. IsUnderWay lane all (txn_of lane number) n past before l old_inbox inbox gather' true in
+    let Q : List (Sender Note) → Type 0 = λ l. IsUnderWay lane all (txn_of lane number) n past before l old_inbox inbox gather' true in
     let R : Inbox Slip → Type 0 = λ i. IsUnderWay lane all (txn_of lane number) n past before next old_inbox i gather' true in
     let S : Bool → Type 0 = λ b. IsUnderWay lane all (txn_of lane number) n past before next old_inbox inbox' gather' b in
     subst S (sym went) (subst R (sym same_inbox) (subst Q (sym same)
@@ -69,16 +67,16 @@ answered_next lane number place mailbox session now next inbox inbox' gather gat
     subst G (sym kept) (gone_on lane number session now next inbox inbox' gather gone gone' same same_inbox went) moment message notes n past before old_inbox x
 
 -- a slip came
-pub heard_next : (lane number : ℕ) (session : Session) (now : List (Lane Note)) (inbox inbox' : Inbox Slip) (gather gather' : Gather) (gone : Bool) (slip : Slip)
-    → (inbox'.line ≡ inbox.line) × (inbox'.lanes ≡ inbox.lanes) → taken inbox' ≡ taken inbox ++ slip ∷ [] → HearsSlip slip gather gather'
+pub heard_next : (lane number : ℕ) (session : Session) (now : List (Sender Note)) (inbox inbox' : Inbox Slip) (gather gather' : Gather) (gone : Bool) (slip : Slip)
+    → (inbox'.channel ≡ inbox.channel) × (inbox'.lanes ≡ inbox.lanes) → taken inbox' ≡ taken inbox ++ slip ∷ [] → HearsSlip slip gather gather'
     → Awaits lane number session now now inbox inbox' gather gather' gone gone
 heard_next lane number session now inbox inbox' gather gather' gone slip same took hears moment message notes n heard before old_inbox x =
     way_heard lane (notes ++ copies_from lane (sent_as number session moment message) 0 session.recipients) (txn_of lane number) n heard before now old_inbox inbox gather gone x
     slip inbox' gather' same.0 same.1 took (hears (txn_of lane number) n x.now.heard x.gathered)
 
 -- the channel of slips is gone, and then the lane answered itself
-pub nothing_then : (lane number : ℕ) (session : Session) (now next : List (Lane Note)) (inbox inbox' inbox'' : Inbox Slip) (gather gather' : Gather) (gone gone' : Bool)
-    → (inbox'.line ≡ inbox.line) × (inbox'.lanes ≡ inbox.lanes) → taken inbox' ≡ taken inbox
+pub nothing_then : (lane number : ℕ) (session : Session) (now next : List (Sender Note)) (inbox inbox' inbox'' : Inbox Slip) (gather gather' : Gather) (gone gone' : Bool)
+    → (inbox'.channel ≡ inbox.channel) × (inbox'.lanes ≡ inbox.lanes) → taken inbox' ≡ taken inbox
     → Awaits lane number session now next inbox' inbox'' gather gather' true gone'
     → Awaits lane number session now next inbox inbox'' gather gather' gone gone'
 nothing_then lane number session now next inbox inbox' inbox'' gather gather' gone gone' same took then moment message notes n heard before old_inbox x =
@@ -86,21 +84,11 @@ nothing_then lane number session now next inbox inbox' inbox'' gather gather' go
     then moment message notes n heard before old_inbox (way_gone lane all (txn_of lane number) n heard before now old_inbox inbox gather gone x inbox' same.0 same.1 took)
 
 -- one after the other
-pub awaits_then : (lane number : ℕ) (session : Session) (a b c : List (Lane Note)) (i j k : Inbox Slip) (f g h : Gather) (p q r : Bool)
-    → Awaits lane number session a b i j f g p q → Awaits lane number session b c j k g h q r → Awaits lane number session a c i k f h p r
-awaits_then lane number session a b c i j k f g h p q r first second moment message notes n heard before old_inbox x =
-    second moment message notes n heard before old_inbox (first moment message notes n heard before old_inbox x)
-
-pub continues_then : (lane : ℕ) (txn : Txn) (xs ys zs : List Note) (a b c : List (Lane Note)) (i j k : Inbox Slip) (f g h : Gather) (p q r : Bool)
+pub continues_then : (lane : ℕ) (txn : Txn) (xs ys zs : List Note) (a b c : List (Sender Note)) (i j k : Inbox Slip) (f g h : Gather) (p q r : Bool)
     → xs ++ ys ≡ zs → Continues lane txn xs a b i j f g p q → Continues lane txn ys b c j k g h q r → Continues lane txn zs a c i k f h p r
 continues_then lane txn xs ys zs a b c i j k f g h p q r e first second notes n heard before old_inbox x =
     let P : List Note → Type 0 = λ l. IsUnderWay lane l txn n heard before c old_inbox k h r in
     subst P (append_assoc notes xs ys ∙ ap (λ l. notes ++ l) e) (second (notes ++ xs) n heard before old_inbox (first notes n heard before old_inbox x))
-
-pub continues_none : (lane : ℕ) (txn : Txn) (a : List (Lane Note)) (i : Inbox Slip) (f : Gather) (p : Bool) → Continues lane txn [] a a i i f f p p
-continues_none lane txn a i f p notes n heard before old_inbox x =
-    let P : List Note → Type 0 = λ l. IsUnderWay lane l txn n heard before a old_inbox i f p in
-    subst P (sym (append-nil notes)) x
 
 -- one copy more of a transaction
 copies-snoc : (lane : ℕ) (number : ℕ) (session : Session) (moment : ℕ) (message : List ℕ) (first : ℕ) (boxes : List ℕ) (box : ℕ)
@@ -127,15 +115,8 @@ next_copy lane number session moment message place low =
     ap (λ k. copies_from lane t 0 (take place rs) ++ copy_at lane number session moment message k (get_or rs place 0) ∷ []) (sym size)
     ∙ sym (copies-snoc lane number session moment message 0 (take place rs) (get_or rs place 0)) ∙ ap (λ l. copies_from lane t 0 l) next
 
-pub last_copy : (lane number : ℕ) (session : Session) (moment : ℕ) (message : List ℕ) (place : ℕ) → place + 1 ≡ length session.recipients
-    → copies_from lane (sent_as number session moment message) 0 (take place session.recipients) ++ copy_at lane number session moment message place (get_or session.recipients place 0) ∷ []
-    ≡ copies_from lane (sent_as number session moment message) 0 session.recipients
-last_copy lane number session moment message place e =
-    next_copy lane number session moment message place (omega arith)
-    ∙ ap (λ l. copies_from lane (sent_as number session moment message) 0 l) (ap (λ k. take k session.recipients) e ∙ take_all (length session.recipients) session.recipients (omega arith))
-
 -- the loop over the recipients, and its end
-pub offered_next : (lane lane' number : ℕ) (session : Session) (moment : ℕ) (message message' : List ℕ) (place : ℕ) (a b c : List (Lane Note)) (i j k : Inbox Slip) (f g h : Gather) (p q r : Bool)
+pub offered_next : (lane lane' number : ℕ) (session : Session) (moment : ℕ) (message message' : List ℕ) (place : ℕ) (a b c : List (Sender Note)) (i j k : Inbox Slip) (f g h : Gather) (p q r : Bool)
     → lane' ≡ lane → message' ≡ message → place < length session.recipients
     → Continues lane (txn_of lane number) (copies_from lane (sent_as number session moment message) 0 (take place session.recipients)) a b i j f g p q
     → Continues lane' (txn_of lane' number) (copy_at lane' number session moment message' place (get_or session.recipients place 0) ∷ []) b c j k g h q r
@@ -148,7 +129,7 @@ offered_next lane lane' number session moment message message' place a b c i j k
     (copies_from lane (sent_as number session moment message) 0 (take (place + 1) session.recipients)) a b c i j k f g h p q r
     (next_copy lane number session moment message place low) first (subst Q bytes (subst P same second))
 
-pub offered_last : (lane lane' number : ℕ) (session : Session) (moment : ℕ) (message message' : List ℕ) (place place' : ℕ) (a b c : List (Lane Note)) (i j k : Inbox Slip) (f g h : Gather) (p q r : Bool)
+pub offered_last : (lane lane' number : ℕ) (session : Session) (moment : ℕ) (message message' : List ℕ) (place place' : ℕ) (a b c : List (Sender Note)) (i j k : Inbox Slip) (f g h : Gather) (p q r : Bool)
     → lane' ≡ lane → message' ≡ message → place' ≡ place → place + 1 ≡ length session.recipients
     → Continues lane (txn_of lane number) (copies_from lane (sent_as number session moment message) 0 (take place session.recipients)) a b i j f g p q
     → Continues lane' (txn_of lane' number) (copy_at lane' number session moment message' place' (get_or session.recipients place' 0) ∷ []) b c j k g h q r
@@ -160,11 +141,11 @@ offered_last lane lane' number session moment message message' place place' a b 
     subst P all (offered_next lane lane' number session moment message message' place a b c i j k f g h p q r same bytes (omega (arith, last)) first (subst S at second))
 
 -- a message from its first offer to its last answer
-pub sent_way : (lane lane' number : ℕ) (session : Session) (moment : ℕ) (message : List ℕ) (places : ℕ) (a b c : List (Lane Note)) (i j k : Inbox Slip) (f g h : Gather) (p q r : Bool)
+pub sent_way : (lane lane' number : ℕ) (session : Session) (moment : ℕ) (message : List ℕ) (places : ℕ) (a b c : List (Sender Note)) (i j k : Inbox Slip) (f g h : Gather) (p q r : Bool)
     → lane' ≡ lane → places ≡ length session.recipients → HasGathered (txn_of lane number) places [] f
     → Continues lane (txn_of lane number) (copies_from lane (sent_as number session moment message) 0 session.recipients) a b i j f g p q
     → Awaits lane' number session b c j k g h q r
-    → (notes : List Note) (past : Episode) (before : List (Lane Note)) (inbox : Inbox Slip) → HasExchanged lane notes before a inbox i past.own past.heard p
+    → (notes : List Note) (past : Episode) (before : List (Sender Note)) (inbox : Inbox Slip) → HasExchanged lane notes before a inbox i past.own past.heard p
     → taken i ≡ taken inbox ++ past.came
     → IsUnderWay lane (notes ++ copies_from lane (sent_as number session moment message) 0 session.recipients) (txn_of lane number) (length session.recipients) past before c inbox k h r
 sent_way lane lane' number session moment message places a b c i j k f g h p q r same count begun first second notes past before inbox x took =

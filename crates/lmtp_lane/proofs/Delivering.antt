@@ -4,12 +4,10 @@ use Rattle.mail_world.specs.declared.Outcome.{Outcome}
 use Rattle.mail_world.specs.declared.Txn.{Txn}
 use Rattle.mail_world.specs.declared.Note.{Note}
 use Rattle.mail_world.specs.declared.Slip.{Slip}
-use Rattle.mail_world.specs.House.{Gather}
 use Rattle.mail_world.specs.Session.{Session}
-use Rattle.mail_world.specs.Events.{txn_of}
-use Rattle.mail_world.specs.Slips.{answers}
+use Rattle.mail_world.specs.Slips.{answers, Gather, txn_of}
 use Rattle.mail_world.specs.Lists.{copies_from}
-use Rattle.mail_post.specs.Line.{Lane, Inbox, taken}
+use Rattle.mail_post.specs.Channel.{Sender, Inbox, taken}
 use Rattle.mail_post.specs.Gathering.{HasGathered}
 use Rattle.lmtp_lane.specs.LaneExchange.{HasExchanged, Episode, IsUnderWay, sent_as}
 use Rattle.lmtp_lane.specs.LaneAccount.{Delivers}
@@ -18,9 +16,9 @@ use Rattle.lmtp_lane.specs.LaneAccount.{Delivers}
 abbrev pub Answers : Gather → List Outcome → Type 0
 Answers gather told = (txn : Txn) (n : ℕ) (heard : List Slip) → HasGathered txn n heard gather → map (λ o. Some o) told ≡ answers txn n heard
 
-pub delivered : (lane number : ℕ) (session : Session) (moment : ℕ) (message message' : List ℕ) (told : List Outcome) (now next : List (Lane Note)) (inbox inbox' : Inbox Slip)
+pub delivered : (lane number : ℕ) (session : Session) (moment : ℕ) (message message' : List ℕ) (told : List Outcome) (now next : List (Sender Note)) (inbox inbox' : Inbox Slip)
     (gather : Gather) (gone gone' : Bool) → message' ≡ message → Answers gather told
-    → ((notes : List Note) (past : Episode) (before : List (Lane Note)) (old_inbox : Inbox Slip) → HasExchanged lane notes before now old_inbox inbox past.own past.heard gone
+    → ((notes : List Note) (past : Episode) (before : List (Sender Note)) (old_inbox : Inbox Slip) → HasExchanged lane notes before now old_inbox inbox past.own past.heard gone
     → taken inbox ≡ taken old_inbox ++ past.came
     → IsUnderWay lane (notes ++ copies_from lane (sent_as number session moment message') 0 session.recipients) (txn_of lane number) (length session.recipients) past before next old_inbox inbox' gather gone')
     → Delivers lane number session moment message told now next inbox inbox' gone gone'
@@ -44,7 +42,7 @@ none_by lane number session moment message (r ∷ rs) e = absurd (omega (arith, 
 no_answer : (txn : Txn) (n : ℕ) → n ≡ 0 → [] ≡ answers txn n []
 no_answer txn n e = ap (λ k. answers txn k []) (sym e)
 
-pub delivered_none : (lane number : ℕ) (session : Session) (moment : ℕ) (message : List ℕ) (told : List Outcome) (now : List (Lane Note)) (inbox : Inbox Slip) (gone : Bool)
+pub delivered_none : (lane number : ℕ) (session : Session) (moment : ℕ) (message : List ℕ) (told : List Outcome) (now : List (Sender Note)) (inbox : Inbox Slip) (gone : Bool)
     → length session.recipients ≡ 0 → told ≡ [] → Delivers lane number session moment message told now now inbox inbox gone gone
 delivered_none lane number session moment message told now inbox gone none empty notes past before old_inbox x took =
     let same : notes ++ copies_from lane (sent_as number session moment message) 0 session.recipients ≡ notes =

@@ -1,39 +1,24 @@
 -- One copy more, or one slip more, between a lane and the channels.
-use Rattle.std.proofs.Common.{◌≡◌, ◌≢◌, ℕ, zero, suc, List, [], ◌∷◌, ◌++◌, length, Bool, true, false, cond, Some, inl, inr, refl, ap, sym, ◌∙◌, subst, append_assoc, append-nil, length-set}
-use Rattle.std.specs.Prelude.{slice_get, slice_set, ◌==◌}
+use Rattle.std.proofs.Common.{◌≡◌, ℕ, List, [], ◌∷◌, ◌++◌, Bool, true, false, ◌||◌, cond, inl, inr, refl, ap, sym, ◌∙◌, subst, append_assoc, append-nil}
+use Rattle.std.specs.Prelude.{◌==◌}
 use Rattle.std.specs.List.{AllByRecursion}
 use Rattle.std.proofs.lemmas.Bool.{eq-eqb}
 use Rattle.std.proofs.lemmas.List.Elements.{filter-append}
 use Rattle.mail_world.specs.declared.Txn.{Txn}
 use Rattle.mail_world.specs.declared.Note.{Note}
 use Rattle.mail_world.specs.declared.Slip.{Slip}
-use Rattle.mail_world.specs.House.{Gather}
-use Rattle.mail_world.specs.Events.{own_slip, txn_of}
-use Rattle.mail_world.specs.Runs.{IsMerged}
+use Rattle.mail_world.specs.Slips.{Gather, own_slip, txn_of}
 use Rattle.mail_world.specs.Slips.{times_named}
-use Rattle.mail_world.proofs.Accepted.{get_set}
 use Rattle.mail_world.proofs.Heard.{all_more}
+use Rattle.mail_world.proofs.Merged.{merged_front, merged_own}
 use Rattle.mail_world.proofs.OneLine.{other_byte}
-use Rattle.mail_post.specs.Line.{Lane, Inbox, taken}
+use Rattle.mail_post.specs.Channel.{Sender, Inbox, taken}
 use Rattle.mail_post.specs.Gathering.{HasGathered}
-use Rattle.lmtp_lane.specs.LaneExchange.{IsPart, IsAmong, for_box, own_slip_of, IsOwnSlip, AreOfLane, given, IsOffered, HasGrown, HasExchanged, IsTimely, Episode, IsEpisode, IsUnderWay, TakesOne}
+use Rattle.mail_post.specs.Offered.{IsOffered, HaveAccepted}
+use Rattle.mail_post.proofs.Offered.{OwesOneMore, offered_more as all_offered, refused_more as all_refused, found_gone as all_found_gone}
+use Rattle.lmtp_lane.specs.LaneExchange.{IsAmong, for_box, own_slip_of, IsOwnSlip, HasExchanged, IsTimely, Episode, IsEpisode, IsUnderWay, TakesOne}
 
--- one more at the end of a merged list
-merged_front : (front own heard : List Slip) (x : Slip) → IsMerged front own heard → IsMerged (front ++ x ∷ []) own (heard ++ x ∷ [])
-merged_front front own [] x m = inl ([], ap (λ l. l ++ x ∷ []) m.0, (refl, m.1))
-merged_front front own (y ∷ heard) x m = elim m [
-  | inl first ↦ inl (first.0 ++ x ∷ [], ap (λ l. l ++ x ∷ []) first.1, merged_front first.0 own heard x first.2)
-  | inr mine ↦ inr (mine.0, mine.1, merged_front front mine.0 heard x mine.2)
-]
-
-merged_own : (front own heard : List Slip) (x : Slip) → IsMerged front own heard → IsMerged front (own ++ x ∷ []) (heard ++ x ∷ [])
-merged_own front own [] x m = inr ([], ap (λ l. l ++ x ∷ []) m.1, (m.0, refl))
-merged_own front own (y ∷ heard) x m = elim m [
-  | inl first ↦ inl (first.0, first.1, merged_own first.0 own heard x first.2)
-  | inr mine ↦ inr (mine.0 ++ x ∷ [], ap (λ l. l ++ x ∷ []) mine.1, merged_own front mine.0 heard x mine.2)
-]
-
--- the same where a lane's own slip stands only where none before it names its place
+-- one more at the end of a list that is merged in time
 timely_front : (before came own heard : List Slip) (x : Slip) → IsTimely before came own heard → IsTimely before (came ++ x ∷ []) own (heard ++ x ∷ [])
 timely_front before came own [] x m = inl ([], ap (λ l. l ++ x ∷ []) m.0, (refl, m.1))
 timely_front before came own (y ∷ heard) x m = elim m [
@@ -65,24 +50,6 @@ episode_own txn e x same none is = record {
 episode_came : (txn : Txn) (e : Episode) (x : Slip) → IsEpisode txn e → IsEpisode txn (record { came = e.came ++ x ∷ []; own = e.own; heard = e.heard ++ x ∷ [] })
 episode_came txn e x is = record { timely = timely_front [] e.came e.own e.heard x is.timely; named = is.named }
 
--- one element more of the whole, and of both
-part_more : (xs all : List Note) (note : Note) → IsPart xs all → IsPart xs (all ++ note ∷ [])
-part_more [] all note h = tt
-part_more (x ∷ xs) [] note h = absurd h
-part_more (x ∷ xs) (y ∷ all) note h = elim h [
-  | inl both ↦ inl (both.0, part_more xs all note both.1)
-  | inr rest ↦ inr (part_more (x ∷ xs) all note rest)
-]
-
-part_both : (xs all : List Note) (note : Note) → IsPart xs all → IsPart (xs ++ note ∷ []) (all ++ note ∷ [])
-part_both [] [] note h = inl (refl, tt)
-part_both [] (y ∷ all) note h = inr (part_both [] all note h)
-part_both (x ∷ xs) [] note h = absurd h
-part_both (x ∷ xs) (y ∷ all) note h = elim h [
-  | inl both ↦ inl (both.0, part_both xs all note both.1)
-  | inr rest ↦ inr (part_both (x ∷ xs) all note rest)
-]
-
 among_more : (note x : Note) (xs : List Note) → IsAmong note xs → IsAmong note (xs ++ x ∷ [])
 among_more note x [] h = absurd h
 among_more note x (y ∷ xs) h = elim h [
@@ -104,82 +71,34 @@ own_last : (lane : ℕ) (notes : List Note) (slip : Slip) (own : List Slip) → 
 own_last lane notes slip [] h last = (last, tt)
 own_last lane notes slip (x ∷ own) h last = (h.0, own_last lane notes slip own h.1 last)
 
--- the copies for a mailbox, with one more
-for_box_here : (box : ℕ) (notes : List Note) (note : Note) → note.mailbox ≡ box → for_box box (notes ++ note ∷ []) ≡ for_box box notes ++ note ∷ []
-for_box_here box notes note e =
-    filter-append (λ (x : Note). x.mailbox == box) notes (note ∷ []) ∙ ap (λ t. for_box box notes ++ cond t (note ∷ []) []) (eq-eqb note.mailbox box e)
+-- the copies for each mailbox, with one more
+owed_more : (notes : List Note) (note : Note) → OwesOneMore (λ box. for_box box notes) (λ box. for_box box (notes ++ note ∷ [])) note.mailbox note
+owed_more notes note =
+    let owed : (box : ℕ) → for_box box (notes ++ note ∷ []) ≡ for_box box notes ++ cond (note.mailbox == box) (note ∷ []) [] =
+    λ box. filter-append (λ (x : Note). x.mailbox == box) notes (note ∷ []) in
+    record {
+      here = owed note.mailbox ∙ ap (λ t. for_box note.mailbox notes ++ cond t (note ∷ []) []) (eq-eqb note.mailbox note.mailbox refl);
+      other = λ box away. owed box ∙ ap (λ t. for_box box notes ++ cond t (note ∷ []) []) (other_byte note.mailbox box (λ e. away (sym e))) ∙ append-nil (for_box box notes);
+    }
 
-for_box_other : (box : ℕ) (notes : List Note) (note : Note) → note.mailbox ≢ box → for_box box (notes ++ note ∷ []) ≡ for_box box notes
-for_box_other box notes note e =
-    filter-append (λ (x : Note). x.mailbox == box) notes (note ∷ []) ∙ ap (λ t. for_box box notes ++ cond t (note ∷ []) []) (other_byte note.mailbox box e) ∙ append-nil (for_box box notes)
+or_false : (b : Bool) → (b || false) ≡ b
+or_false true = refl
+or_false false = refl
 
--- a mailbox's sender, where its channel accepted its copy, where the copy is for another, and where the copy was not accepted
-grown_here : (box : ℕ) (notes : List Note) (note : Note) (gone : Bool) (old now : Lane Note) → note.mailbox ≡ box → HasGrown box notes gone old now
-    → HasGrown box (notes ++ note ∷ []) gone old (given now note true)
-grown_here box notes note gone old now e x = record {
-  line = x.line;
-  lane = x.lane;
-  accepted = x.accepted ++ note ∷ [];
-  sent = ap (λ l. l ++ note ∷ []) x.sent ∙ append_assoc old.sent x.accepted (note ∷ []);
-  all = λ none. ap (λ l. l ++ note ∷ []) (x.all none) ∙ sym (for_box_here box notes note e);
-  some = let P : List Note → Type 0 = λ l. IsPart (x.accepted ++ note ∷ []) l in subst P (sym (for_box_here box notes note e)) (part_both x.accepted (for_box box notes) note x.some);
-}
-
-grown_other : (box : ℕ) (notes : List Note) (note : Note) (gone : Bool) (old now : Lane Note) → note.mailbox ≢ box → HasGrown box notes gone old now
-    → HasGrown box (notes ++ note ∷ []) gone old now
-grown_other box notes note gone old now e x = record {
-  line = x.line;
-  lane = x.lane;
-  accepted = x.accepted;
-  sent = x.sent;
-  all = λ none. x.all none ∙ sym (for_box_other box notes note e);
-  some = let P : List Note → Type 0 = λ l. IsPart x.accepted l in subst P (sym (for_box_other box notes note e)) x.some;
-}
-
-some_more : (box : ℕ) (notes : List Note) (note : Note) (xs : List Note) (t : Bool) → (note.mailbox == box) ≡ t → IsPart xs (for_box box notes) → IsPart xs (for_box box (notes ++ note ∷ []))
-some_more box notes note xs true e h =
-    let P : List Note → Type 0 = λ l. IsPart xs l in
-    let is : for_box box (notes ++ note ∷ []) ≡ for_box box notes ++ note ∷ [] =
-    filter-append (λ (x : Note). x.mailbox == box) notes (note ∷ []) ∙ ap (λ t. for_box box notes ++ cond t (note ∷ []) []) e in
-    subst P (sym is) (part_more xs (for_box box notes) note h)
-some_more box notes note xs false e h =
-    let P : List Note → Type 0 = λ l. IsPart xs l in
-    let is : for_box box (notes ++ note ∷ []) ≡ for_box box notes =
-    filter-append (λ (x : Note). x.mailbox == box) notes (note ∷ []) ∙ ap (λ t. for_box box notes ++ cond t (note ∷ []) []) e ∙ append-nil (for_box box notes) in
-    subst P (sym is) h
-
-grown_refused : (box : ℕ) (notes : List Note) (note : Note) (gone : Bool) (old now : Lane Note) → HasGrown box notes gone old now
-    → HasGrown box (notes ++ note ∷ []) true old now
-grown_refused box notes note gone old now x = record {
-  line = x.line;
-  lane = x.lane;
-  accepted = x.accepted;
-  sent = x.sent;
-  all = λ none. cc;
-  some = some_more box notes note x.accepted (note.mailbox == box) refl x.some;
-}
-
-grown_gone : (box : ℕ) (notes : List Note) (gone : Bool) (old now : Lane Note) → HasGrown box notes gone old now → HasGrown box notes true old now
-grown_gone box notes gone old now x = record { line = x.line; lane = x.lane; accepted = x.accepted; sent = x.sent; all = λ none. cc; some = x.some }
-
-module _ (lane : ℕ) (notes : List Note) (before now : List (Lane Note)) (old_inbox inbox : Inbox Slip) (own heard : List Slip) (gone : Bool)
+module _ (lane : ℕ) (notes : List Note) (before now : List (Sender Note)) (old_inbox inbox : Inbox Slip) (own heard : List Slip) (gone : Bool)
     (x : HasExchanged lane notes before now old_inbox inbox own heard gone) where
+  abbrev for_boxes : List Note → ℕ → List Note
+  for_boxes all box = for_box box all
+
   -- a copy more that its channel accepted
-  pub offered_more : (note : Note) (next : List (Lane Note)) → IsOffered now next note.mailbox note true
+  pub offered_more : (note : Note) (next : List (Sender Note)) → IsOffered note.mailbox (λ sender. note) true now next
       → HasExchanged lane (notes ++ note ∷ []) before next old_inbox inbox own heard gone
   offered_more note next o =
-      let changed : Lane Note = given o.sender note true in
-      let is_at : (k : ℕ) (sender : Lane Note) → slice_get next k ≡ Some sender → slice_get (slice_set now note.mailbox changed) k ≡ Some sender =
-      λ k sender is. ap (λ l. slice_get l k) (sym o.after) ∙ is in
+      let P : Bool → Type 0 = λ b. HaveAccepted (for_boxes (notes ++ note ∷ [])) b before next in
       record {
-        as_many = ap length o.after ∙ length-set now note.mailbox changed ∙ x.as_many;
-        offered = λ box first after was is. elim (get_set now note.mailbox box changed after (is_at box after is)) [
-          | inl here ↦
-              let P : Lane Note → Type 0 = λ s. HasGrown box (notes ++ note ∷ []) gone first s in
-              subst P here.1 (grown_here box notes note gone first o.sender (sym here.0) (x.offered box first o.sender was (ap (slice_get now) here.0 ∙ o.is)))
-          | inr other ↦ grown_other box notes note gone first after (λ e. other.0 (sym e)) (x.offered box first after was other.1)
-        ];
-        line = x.line;
+        offered = subst P (or_false gone) (all_offered (for_boxes notes) (for_boxes (notes ++ note ∷ [])) gone true note.mailbox (λ sender. note) note before now next x.offered o refl
+            (owed_more notes note));
+        channel = x.channel;
         lanes = x.lanes;
         came = x.came;
         took = x.took;
@@ -191,9 +110,8 @@ module _ (lane : ℕ) (notes : List Note) (before now : List (Lane Note)) (old_i
   -- a copy more that no channel accepted, for which the lane made a slip
   pub refused_more : (note : Note) → HasExchanged lane (notes ++ note ∷ []) before now old_inbox inbox (own ++ own_slip_of lane note ∷ []) (heard ++ own_slip_of lane note ∷ []) true
   refused_more note = record {
-    as_many = x.as_many;
-    offered = λ box first after was is. grown_refused box notes note gone first after (x.offered box first after was is);
-    line = x.line;
+    offered = all_refused (for_boxes notes) (for_boxes (notes ++ note ∷ [])) gone note.mailbox note before now x.offered (owed_more notes note);
+    channel = x.channel;
     lanes = x.lanes;
     came = x.came;
     took = x.took;
@@ -205,9 +123,8 @@ module _ (lane : ℕ) (notes : List Note) (before now : List (Lane Note)) (old_i
   -- a copy more that no channel accepted, whose place had a slip
   pub unanswered_more : (note : Note) → HasExchanged lane (notes ++ note ∷ []) before now old_inbox inbox own heard true
   unanswered_more note = record {
-    as_many = x.as_many;
-    offered = λ box first after was is. grown_refused box notes note gone first after (x.offered box first after was is);
-    line = x.line;
+    offered = all_refused (for_boxes notes) (for_boxes (notes ++ note ∷ [])) gone note.mailbox note before now x.offered (owed_more notes note);
+    channel = x.channel;
     lanes = x.lanes;
     came = x.came;
     took = x.took;
@@ -219,9 +136,8 @@ module _ (lane : ℕ) (notes : List Note) (before now : List (Lane Note)) (old_i
   -- a slip that the lane made for a copy that a channel accepted
   pub failed_more : (note : Note) → IsAmong note notes → HasExchanged lane notes before now old_inbox inbox (own ++ own_slip_of lane note ∷ []) (heard ++ own_slip_of lane note ∷ []) true
   failed_more note among = record {
-    as_many = x.as_many;
-    offered = λ box first after was is. grown_gone box notes gone first after (x.offered box first after was is);
-    line = x.line;
+    offered = all_found_gone (for_boxes notes) gone before now x.offered;
+    channel = x.channel;
     lanes = x.lanes;
     came = x.came;
     took = x.took;
@@ -231,12 +147,11 @@ module _ (lane : ℕ) (notes : List Note) (before now : List (Lane Note)) (old_i
   }
 
   -- a slip that came
-  pub heard_more : (slip : Slip) (next : Inbox Slip) → next.line ≡ inbox.line → next.lanes ≡ inbox.lanes → taken next ≡ taken inbox ++ slip ∷ []
+  pub heard_more : (slip : Slip) (next : Inbox Slip) → next.channel ≡ inbox.channel → next.lanes ≡ inbox.lanes → taken next ≡ taken inbox ++ slip ∷ []
       → HasExchanged lane notes before now old_inbox next own (heard ++ slip ∷ []) gone
-  heard_more slip next line lanes took = record {
-    as_many = x.as_many;
+  heard_more slip next channel lanes took = record {
     offered = x.offered;
-    line = line ∙ x.line;
+    channel = channel ∙ x.channel;
     lanes = lanes ∙ x.lanes;
     came = x.came ++ slip ∷ [];
     took = took ∙ ap (λ l. l ++ slip ∷ []) x.took ∙ append_assoc (taken old_inbox) x.came (slip ∷ []);
@@ -246,12 +161,11 @@ module _ (lane : ℕ) (notes : List Note) (before now : List (Lane Note)) (old_i
   }
 
   -- a channel was found gone, and nothing came
-  pub found_gone : (next : Inbox Slip) → next.line ≡ inbox.line → next.lanes ≡ inbox.lanes → taken next ≡ taken inbox
+  pub found_gone : (next : Inbox Slip) → next.channel ≡ inbox.channel → next.lanes ≡ inbox.lanes → taken next ≡ taken inbox
       → HasExchanged lane notes before now old_inbox next own heard true
-  found_gone next line lanes took = record {
-    as_many = x.as_many;
-    offered = λ box first after was is. grown_gone box notes gone first after (x.offered box first after was is);
-    line = line ∙ x.line;
+  found_gone next channel lanes took = record {
+    offered = all_found_gone (for_boxes notes) gone before now x.offered;
+    channel = channel ∙ x.channel;
     lanes = lanes ∙ x.lanes;
     came = x.came;
     took = took ∙ x.took;
@@ -260,31 +174,10 @@ module _ (lane : ℕ) (notes : List Note) (before now : List (Lane Note)) (old_i
     sound = λ none. cc;
   }
 
--- the senders stay the lane's
-given_lane : (sender : Lane Note) (note : Note) (accepted : Bool) → (given sender note accepted).lane ≡ sender.lane
-given_lane sender note true = refl
-given_lane sender note false = refl
-
-pub still_of_lane : (lane : ℕ) (old new : List (Lane Note)) (box : ℕ) (note : Note) (accepted : Bool) → AreOfLane lane old → IsOffered old new box note accepted → AreOfLane lane new
-still_of_lane lane old new box note accepted h o = λ k sender is.
-    elim (get_set old box k (given o.sender note accepted) sender (ap (λ l. slice_get l k) (sym o.after) ∙ is)) [
-      | inl here ↦ ap (λ (l : Lane Note). l.lane) (sym here.1) ∙ given_lane o.sender note accepted ∙ h box o.sender o.is
-      | inr other ↦ h k sender other.1
-    ]
-
--- a copy that came back changed nothing
-set_same : {A : Type 0} (xs : List A) (i : ℕ) (x : A) → slice_get xs i ≡ Some x → slice_set xs i x ≡ xs
-set_same [] i x e = refl
-set_same (y ∷ xs) zero x e = let same : x ≡ y = cc in ap (λ z. z ∷ xs) same
-set_same (y ∷ xs) (suc i) x e = ap (λ l. y ∷ l) (set_same xs i x e)
-
-pub refused_same : (old new : List (Lane Note)) (box : ℕ) (note : Note) → IsOffered old new box note false → new ≡ old
-refused_same old new box note o = o.after ∙ set_same old box o.sender o.is
-
 -- the same steps within a message
-module _ (lane : ℕ) (notes : List Note) (txn : Txn) (n : ℕ) (past : Episode) (before now : List (Lane Note)) (old_inbox inbox : Inbox Slip) (gather : Gather) (gone : Bool)
+module _ (lane : ℕ) (notes : List Note) (txn : Txn) (n : ℕ) (past : Episode) (before now : List (Sender Note)) (old_inbox inbox : Inbox Slip) (gather : Gather) (gone : Bool)
     (x : IsUnderWay lane notes txn n past before now old_inbox inbox gather gone) where
-  pub way_offered : (note : Note) (next : List (Lane Note)) → IsOffered now next note.mailbox note true
+  pub way_offered : (note : Note) (next : List (Sender Note)) → IsOffered note.mailbox (λ sender. note) true now next
       → IsUnderWay lane (notes ++ note ∷ []) txn n past before next old_inbox inbox gather gone
   way_offered note next o = record {
     now = x.now;
@@ -337,67 +230,59 @@ module _ (lane : ℕ) (notes : List Note) (txn : Txn) (n : ℕ) (past : Episode)
         gathered = g.1;
       }
 
-  pub way_heard : (slip : Slip) (after : Inbox Slip) (next : Gather) → after.line ≡ inbox.line → after.lanes ≡ inbox.lanes → taken after ≡ taken inbox ++ slip ∷ []
+  pub way_heard : (slip : Slip) (after : Inbox Slip) (next : Gather) → after.channel ≡ inbox.channel → after.lanes ≡ inbox.lanes → taken after ≡ taken inbox ++ slip ∷ []
       → HasGathered txn n (x.now.heard ++ slip ∷ []) next
       → IsUnderWay lane notes txn n past before now old_inbox after next gone
-  way_heard slip after next line lanes took g =
+  way_heard slip after next channel lanes took g =
       let P : List Slip → Type 0 = λ l. HasExchanged lane notes before now old_inbox after (past.own ++ x.now.own) l gone in
       record {
         now = record { came = x.now.came ++ slip ∷ []; own = x.now.own; heard = x.now.heard ++ slip ∷ [] };
         is = episode_came txn x.now slip x.is;
         exchanged = subst P (append_assoc past.heard x.now.heard (slip ∷ []))
-            (heard_more lane notes before now old_inbox inbox (past.own ++ x.now.own) (past.heard ++ x.now.heard) gone x.exchanged slip after line lanes took);
+            (heard_more lane notes before now old_inbox inbox (past.own ++ x.now.own) (past.heard ++ x.now.heard) gone x.exchanged slip after channel lanes took);
         took = took ∙ ap (λ l. l ++ slip ∷ []) x.took ∙ append_assoc (taken old_inbox) (past.came ++ x.now.came) (slip ∷ [])
             ∙ ap (λ l. taken old_inbox ++ l) (append_assoc past.came x.now.came (slip ∷ []));
         gathered = g;
       }
 
-  pub way_gone : (after : Inbox Slip) → after.line ≡ inbox.line → after.lanes ≡ inbox.lanes → taken after ≡ taken inbox
+  pub way_gone : (after : Inbox Slip) → after.channel ≡ inbox.channel → after.lanes ≡ inbox.lanes → taken after ≡ taken inbox
       → IsUnderWay lane notes txn n past before now old_inbox after gather true
-  way_gone after line lanes took = record {
+  way_gone after channel lanes took = record {
     now = x.now;
     is = x.is;
-    exchanged = found_gone lane notes before now old_inbox inbox (past.own ++ x.now.own) (past.heard ++ x.now.heard) gone x.exchanged after line lanes took;
+    exchanged = found_gone lane notes before now old_inbox inbox (past.own ++ x.now.own) (past.heard ++ x.now.heard) gone x.exchanged after channel lanes took;
     took = took ∙ x.took;
     gathered = x.gathered;
   }
-
--- the lane's own slip of a copy
-abbrev pub IsCopyOf : Note → ℕ → ℕ → ℕ → ℕ → Type 0
-IsCopyOf note lane number place mailbox = (note.txn ≡ record { lane = lane; number = number }) × (note.place ≡ place) × (note.mailbox ≡ mailbox)
-
-own_is : (note : Note) (lane number place mailbox : ℕ) → IsCopyOf note lane number place mailbox → own_slip lane number place mailbox ≡ own_slip_of lane note
-own_is note lane number place mailbox h =
-    ap (λ k. own_slip lane k place mailbox) (sym (ap (λ (t : Txn). t.number) h.0))
-    ∙ ap (λ p. own_slip lane note.txn.number p mailbox) (sym h.1) ∙ ap (λ b. own_slip lane note.txn.number note.place b) (sym h.2)
 
 -- a gatherer that was given a slip
 abbrev pub HearsSlip : Slip → Gather → Gather → Type 0
 HearsSlip slip old new = (txn : Txn) (n : ℕ) (heard : List Slip) → HasGathered txn n heard old → HasGathered txn n (heard ++ slip ∷ []) new
 
-pub refused_way : (lane number place mailbox : ℕ) (note : Note) (now next : List (Lane Note)) (inbox inbox' : Inbox Slip) (gather gather' : Gather) (gone gone' taken_so : Bool)
-    → IsCopyOf note lane number place mailbox → next ≡ now → inbox' ≡ inbox → gone' ≡ true → TakesOne (own_slip lane number place mailbox) gather gather' taken_so
-    → (notes : List Note) (n : ℕ) (past : Episode) (before : List (Lane Note)) (old_inbox : Inbox Slip)
+-- a copy was handed back, or offered no more: the lane's own slip of it was given to the gatherer, or its place keeps the slip that it has
+pub refused_way : (lane : ℕ) (slip : Slip) (note : Note) (now next : List (Sender Note)) (inbox inbox' : Inbox Slip) (gather gather' : Gather) (gone gone' taken_so : Bool)
+    → note.txn.lane ≡ lane → slip ≡ own_slip_of lane note → next ≡ now → inbox' ≡ inbox → gone' ≡ true → TakesOne slip gather gather' taken_so
+    → (notes : List Note) (n : ℕ) (past : Episode) (before : List (Sender Note)) (old_inbox : Inbox Slip)
     → IsUnderWay lane notes note.txn n past before now old_inbox inbox gather gone → IsUnderWay lane (notes ++ note ∷ []) note.txn n past before next old_inbox inbox' gather' gone'
-refused_way lane number place mailbox note now next inbox inbox' gather gather' gone gone' true is same same_inbox went takes notes n past before old_inbox x =
+refused_way lane slip note now next inbox inbox' gather gather' gone gone' true here is same same_inbox went takes notes n past before old_inbox x =
     let T : Slip → Type 0 = λ s. (times_named s.txn s.place x.now.heard ≡ 0) × HasGathered note.txn n (x.now.heard ++ s ∷ []) gather' in
-    let g : T (own_slip_of lane note) = subst T (own_is note lane number place mailbox is) (takes note.txn n x.now.heard x.gathered) in
-    let named : (own_slip_of lane note).txn ≡ note.txn = ap (λ k. txn_of lane k) (ap (λ (t : Txn). t.number) is.0) ∙ sym is.0 in
-    let Q : List (Lane Note) → Type 0 = λ l. IsUnderWay lane (notes ++ note ∷ []) note.txn n past before l old_inbox inbox gather' true in
+    let g : T (own_slip_of lane note) = subst T is (takes note.txn n x.now.heard x.gathered) in
+    let named : (own_slip_of lane note).txn ≡ note.txn = ap (λ l. txn_of l note.txn.number) (sym here) in
+    let Q : List (Sender Note) → Type 0 = λ l. IsUnderWay lane (notes ++ note ∷ []) note.txn n past before l old_inbox inbox gather' true in
     let R : Inbox Slip → Type 0 = λ i. IsUnderWay lane (notes ++ note ∷ []) note.txn n past before next old_inbox i gather' true in
     let S : Bool → Type 0 = λ b. IsUnderWay lane (notes ++ note ∷ []) note.txn n past before next old_inbox inbox' gather' b in
     subst S (sym went) (subst R (sym same_inbox) (subst Q (sym same) (way_refused lane notes note.txn n past before now old_inbox inbox gather gone x note gather' named g)))
-refused_way lane number place mailbox note now next inbox inbox' gather gather' gone gone' false is same same_inbox went kept notes n past before old_inbox x =
+refused_way lane slip note now next inbox inbox' gather gather' gone gone' false here is same same_inbox went kept notes n past before old_inbox x =
     let G : Gather → Type 0 = λ g. IsUnderWay lane (notes ++ note ∷ []) note.txn n past before now old_inbox inbox g true in
-    let Q : List (Lane Note) → Type 0 = λ l. IsUnderWay lane (notes ++ note ∷ []) note.txn n past before l old_inbox inbox gather' true in
+    let Q : List (Sender Note) → Type 0 = λ l. IsUnderWay lane (notes ++ note ∷ []) note.txn n past before l old_inbox inbox gather' true in
     let R : Inbox Slip → Type 0 = λ i. IsUnderWay lane (notes ++ note ∷ []) note.txn n past before next old_inbox i gather' true in
     let S : Bool → Type 0 = λ b. IsUnderWay lane (notes ++ note ∷ []) note.txn n past before next old_inbox inbox' gather' b in
     subst S (sym went) (subst R (sym same_inbox) (subst Q (sym same) (subst G (sym kept) (way_kept lane notes note.txn n past before now old_inbox inbox gather gone x note))))
 
-pub offered_way : (lane mailbox : ℕ) (note : Note) (now next : List (Lane Note)) (inbox : Inbox Slip) (gather : Gather) (gone : Bool)
-    → note.mailbox ≡ mailbox → IsOffered now next mailbox note true
-    → (notes : List Note) (n : ℕ) (past : Episode) (before : List (Lane Note)) (old_inbox : Inbox Slip)
+pub offered_way : (lane mailbox : ℕ) (note : Note) (now next : List (Sender Note)) (inbox : Inbox Slip) (gather : Gather) (gone : Bool)
+    → note.mailbox ≡ mailbox → IsOffered mailbox (λ sender. note) true now next
+    → (notes : List Note) (n : ℕ) (past : Episode) (before : List (Sender Note)) (old_inbox : Inbox Slip)
     → IsUnderWay lane notes note.txn n past before now old_inbox inbox gather gone → IsUnderWay lane (notes ++ note ∷ []) note.txn n past before next old_inbox inbox gather gone
 offered_way lane mailbox note now next inbox gather gone is o notes n past before old_inbox x =
-    let P : ℕ → Type 0 = λ b. IsOffered now next b note true in
+    let P : ℕ → Type 0 = λ b. IsOffered b (λ sender. note) true now next in
     way_offered lane notes note.txn n past before now old_inbox inbox gather gone x note next (subst P (sym is) o)

@@ -3,6 +3,4 @@ pub mod Awaiting
 pub mod Delivering
 pub mod Accounting
 pub mod Visiting
-pub mod Timely
-pub mod HandedOut
 pub mod SharedOut

@@ -8,7 +8,7 @@ use Rattle.lmtp_talk.specs.declared.ending.EndCause.{EndCause}
 use Rattle.lmtp_talk.specs.Peer.{PeerState}
 use Rattle.lmtp_talk.specs.Served.{IsServed, transactions_in, accepted_behind_all}
 use Rattle.lmtp_lane.specs.Visits.{Finished, Finishes, Visit, IsVisit, finished_of, conversations_of, HasFinished, HasVisited, HasConversed}
-use Rattle.lmtp_lane.specs.LaneAccount.{counted}
+use Rattle.mail_world.specs.Counts.{counted}
 
 -- a client that was served, and is handed back
 pub conversed : (site : Site) (old new : Option (List Finished)) (before after : PeerState) (Before After : ℕ → List Transaction → Type 0) (cause : EndCause)

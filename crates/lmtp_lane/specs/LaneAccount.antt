@@ -1,5 +1,5 @@
 -- What the delivery of a lane has come to.
-use Rattle.std.specs.Prelude.{◌≡◌, ⊤, ◌^◌, ◌-◌, min, ℕ, Bool, nat_lt, if◌then◌else◌, List, [], ◌∷◌, ◌++◌, length, map, flat_map, Option, Some, None}
+use Rattle.std.specs.Prelude.{◌≡◌, ⊤, ℕ, Bool, nat_lt, if◌then◌else◌, List, [], ◌∷◌, ◌++◌, length, map, flat_map, Option, Some, None}
 use Rattle.std.specs.Option.{IfSome}
 use Rattle.std.specs.List.{AllByRecursion}
 use Rattle.mail_world.specs.declared.Note.{Note}
@@ -9,16 +9,12 @@ use Rattle.mail_world.specs.declared.Verdict.{Verdict}
 use Rattle.mail_world.specs.declared.Verdict.TheVariants.{Whole, TooLarge, NoRoom}
 use Rattle.mail_world.specs.declared.limits.TheConstants.{MESSAGE_LIMIT, NUMBER_LIMIT}
 use Rattle.mail_world.specs.Session.{Session}
-use Rattle.mail_world.specs.Slips.{answers}
-use Rattle.mail_world.specs.Events.{txn_of}
+use Rattle.mail_world.specs.Counts.{counted}
+use Rattle.mail_world.specs.Slips.{answers, txn_of}
 use Rattle.mail_world.specs.Lists.{Transaction, VerdictFits, OutcomesIn, copies, copies_from}
-use Rattle.mail_post.specs.Line.{Lane, Inbox, taken}
+use Rattle.mail_post.specs.Channel.{Sender, Inbox, taken}
 use Rattle.msg_depot.specs.declared.view.Claim.{Claim}
 use Rattle.lmtp_lane.specs.LaneExchange.{HasExchanged, Episode, IsEpisode, sent_as}
-
--- a count that stays at its largest value
-abbrev pub counted : ℕ → ℕ
-counted n = min n (2 ^ 64 - 1)
 
 -- the outcomes of a whole message are those of the slips that were heard since it was sealed
 pub record IsAnswered (lane : ℕ) (heard : List Slip) (t : Transaction) : Type 0 where
@@ -48,7 +44,7 @@ AgreesWith May Known = (moment : ℕ) → May moment → Known moment
 
 -- Where n DATA commands were accepted, and this became of the data that ended: the senders gave what is owed, the outcomes are those
 -- of the slips, and each moment is one that the clock may answer.
-pub record HasOffered (lane : ℕ) (May : ℕ → Type 0) (old_senders new_senders : List (Lane Note)) (old_inbox new_inbox : Inbox Slip)
+pub record HasOffered (lane : ℕ) (May : ℕ → Type 0) (old_senders new_senders : List (Sender Note)) (old_inbox new_inbox : Inbox Slip)
     (gone : Bool) (accepted : ℕ) (n : ℕ) (ts : List Transaction) : Type 0 where
   pub count : accepted ≡ counted n
   pub own : List Slip
@@ -75,7 +71,7 @@ verdict_on accepted size draft = if nat_lt NUMBER_LIMIT accepted then NoRoom els
 
 -- A whole message went to its recipients: its copies more are owed, and its outcomes are those of slips that were heard since.
 pub record IsDelivered (lane number : ℕ) (session : Session) (moment : ℕ) (message : List ℕ) (told : List Outcome) (notes : List Note) (past : Episode)
-    (old_senders new_senders : List (Lane Note)) (old_inbox new_inbox : Inbox Slip) (gone : Bool) : Type 0 where
+    (old_senders new_senders : List (Sender Note)) (old_inbox new_inbox : Inbox Slip) (gone : Bool) : Type 0 where
   pub now : Episode
   pub is : IsEpisode (txn_of lane number) now
   pub exchanged : HasExchanged lane (notes ++ copies_from lane (sent_as number session moment message) 0 session.recipients) old_senders new_senders old_inbox new_inbox
@@ -83,7 +79,7 @@ pub record IsDelivered (lane number : ℕ) (session : Session) (moment : ℕ) (m
   pub took : taken new_inbox ≡ taken old_inbox ++ (past.came ++ now.came)
   pub outcomes : map (λ o. Some o) told ≡ answers (txn_of lane number) (length session.recipients) now.heard
 
-abbrev pub Delivers : ℕ → ℕ → Session → ℕ → List ℕ → List Outcome → List (Lane Note) → List (Lane Note) → Inbox Slip → Inbox Slip → Bool → Bool → Type 0
-Delivers lane number session moment message told now next inbox inbox' gone gone' = (notes : List Note) (past : Episode) (before : List (Lane Note)) (old_inbox : Inbox Slip)
+abbrev pub Delivers : ℕ → ℕ → Session → ℕ → List ℕ → List Outcome → List (Sender Note) → List (Sender Note) → Inbox Slip → Inbox Slip → Bool → Bool → Type 0
+Delivers lane number session moment message told now next inbox inbox' gone gone' = (notes : List Note) (past : Episode) (before : List (Sender Note)) (old_inbox : Inbox Slip)
     → HasExchanged lane notes before now old_inbox inbox past.own past.heard gone → taken inbox ≡ taken old_inbox ++ past.came
     → IsDelivered lane number session moment message told notes past before next old_inbox inbox' gone'

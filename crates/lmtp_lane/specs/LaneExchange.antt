@@ -1,18 +1,16 @@
 -- What a lane gave to the mailboxes' channels, and what it heard of the copies.
-use Rattle.std.specs.Prelude.{◌≡◌, ◌⊎◌, ⊤, ℕ, ◌==◌, Bool, true, false, List, [], ◌∷◌, ◌++◌, length, filter, slice_get, slice_set, Some, Result, Ok, Err}
+use Rattle.std.specs.Prelude.{◌≡◌, ◌⊎◌, ℕ, ◌==◌, Bool, true, false, List, [], ◌∷◌, ◌++◌, filter, Result, Ok, Err}
 use Rattle.std.specs.List.{AllByRecursion}
 use Rattle.mail_world.specs.declared.Txn.{Txn}
 use Rattle.mail_world.specs.declared.Note.{Note}
 use Rattle.mail_world.specs.declared.Slip.{Slip}
 use Rattle.mail_world.specs.declared.Verdict.TheVariants.{Whole}
-use Rattle.mail_world.specs.House.{Gather}
 use Rattle.mail_world.specs.Session.{Session}
 use Rattle.mail_world.specs.Lists.{Transaction, copies_from}
-use Rattle.mail_world.specs.Events.{own_slip, txn_of}
-use Rattle.mail_world.specs.Runs.{IsMerged}
-use Rattle.mail_world.specs.Slips.{times_named}
-use Rattle.mail_post.specs.Line.{Lane, Inbox, taken}
+use Rattle.mail_world.specs.Slips.{times_named, Gather, own_slip, txn_of, IsMerged}
+use Rattle.mail_post.specs.Channel.{Sender, Inbox, taken}
 use Rattle.mail_post.specs.Gathering.{HasGathered}
+use Rattle.mail_post.specs.Offered.{HaveAccepted}
 
 -- a whole message, before its outcomes are known
 abbrev pub sent_as : ℕ → Session → ℕ → List ℕ → Transaction
@@ -35,12 +33,6 @@ copy_at lane number session moment message place box = record {
   message = message;
 }
 
--- the first list's copies stand among the second's in this order
-abbrev pub IsPart : List Note → List Note → Type 0
-IsPart [] all = ⊤
-IsPart (x ∷ xs) [] = ⊥
-IsPart (x ∷ xs) (y ∷ all) = ((x ≡ y) × IsPart xs all) ⊎ IsPart (x ∷ xs) all
-
 -- the copy is one of these
 abbrev pub IsAmong : Note → List Note → Type 0
 IsAmong note [] = ⊥
@@ -60,42 +52,17 @@ pub record IsOwnSlip (lane : ℕ) (notes : List Note) (slip : Slip) : Type 0 whe
   pub owed : IsAmong note notes
   pub made : slip ≡ own_slip_of lane note
 
--- each of the senders has the lane's number
-abbrev pub AreOfLane : ℕ → List (Lane Note) → Type 0
-AreOfLane lane senders = (box : ℕ) (sender : Lane Note) → slice_get senders box ≡ Some sender → sender.lane ≡ lane
-
--- a sender behind a copy that its channel accepted, or handed back
-abbrev pub given : Lane Note → Note → Bool → Lane Note
-given sender note true = record { line = sender.line; lane = sender.lane; sent = sender.sent ++ note ∷ [] }
-given sender note false = sender
-
 -- whether a channel took what was offered
 abbrev pub is_ok : {A E : Type 0} → Result A E → Bool
 is_ok (Ok x) = true
 is_ok (Err e) = false
 
--- the copy went to the mailbox's channel
-pub record IsOffered (old new : List (Lane Note)) (box : ℕ) (note : Note) (accepted : Bool) : Type 0 where
-  pub sender : Lane Note
-  pub is : slice_get old box ≡ Some sender
-  pub after : new ≡ slice_set old box (given sender note accepted)
-
--- the mailbox's channel accepted its copies, in order; where a channel was found gone, some of them
-pub record HasGrown (box : ℕ) (notes : List Note) (gone : Bool) (old new : Lane Note) : Type 0 where
-  pub line : new.line ≡ old.line
-  pub lane : new.lane ≡ old.lane
-  pub accepted : List Note
-  pub sent : new.sent ≡ old.sent ++ accepted
-  pub all : gone ≡ false → accepted ≡ for_box box notes
-  pub some : IsPart accepted (for_box box notes)
-
 -- What a lane that owed these copies gave to the channels, and what it heard: slips that its channel gave, in their order, and
 -- between them its own, of which there is none unless a channel was found gone.
-pub record HasExchanged (lane : ℕ) (notes : List Note) (old_senders new_senders : List (Lane Note)) (old_inbox new_inbox : Inbox Slip)
+pub record HasExchanged (lane : ℕ) (notes : List Note) (old_senders new_senders : List (Sender Note)) (old_inbox new_inbox : Inbox Slip)
     (own heard : List Slip) (gone : Bool) : Type 0 where
-  pub as_many : length new_senders ≡ length old_senders
-  pub offered : (box : ℕ) (old new : Lane Note) → slice_get old_senders box ≡ Some old → slice_get new_senders box ≡ Some new → HasGrown box notes gone old new
-  pub line : new_inbox.line ≡ old_inbox.line
+  pub offered : HaveAccepted (λ box. for_box box notes) gone old_senders new_senders
+  pub channel : new_inbox.channel ≡ old_inbox.channel
   pub lanes : new_inbox.lanes ≡ old_inbox.lanes
   pub came : List Slip
   pub took : taken new_inbox ≡ taken old_inbox ++ came
@@ -122,7 +89,7 @@ pub record IsEpisode (txn : Txn) (e : Episode) : Type 0 where
   pub named : AllByRecursion (λ slip. slip.txn ≡ txn) e.own
 
 -- the same within a message of n recipients, before which this was heard: its gatherer has the answers of the slips heard since
-pub record IsUnderWay (lane : ℕ) (notes : List Note) (txn : Txn) (n : ℕ) (past : Episode) (old_senders new_senders : List (Lane Note))
+pub record IsUnderWay (lane : ℕ) (notes : List Note) (txn : Txn) (n : ℕ) (past : Episode) (old_senders new_senders : List (Sender Note))
     (old_inbox new_inbox : Inbox Slip) (gather : Gather) (gone : Bool) : Type 0 where
   pub now : Episode
   pub is : IsEpisode txn now
@@ -137,12 +104,12 @@ TakesOne slip old new true = (txn : Txn) (n : ℕ) (heard : List Slip) → HasGa
 TakesOne slip old new false = new ≡ old
 
 -- what was under way is so with these copies more
-abbrev pub Continues : ℕ → Txn → List Note → List (Lane Note) → List (Lane Note) → Inbox Slip → Inbox Slip → Gather → Gather → Bool → Bool → Type 0
-Continues lane txn more now next inbox inbox' gather gather' gone gone' = (notes : List Note) (n : ℕ) (past : Episode) (before : List (Lane Note)) (old_inbox : Inbox Slip)
+abbrev pub Continues : ℕ → Txn → List Note → List (Sender Note) → List (Sender Note) → Inbox Slip → Inbox Slip → Gather → Gather → Bool → Bool → Type 0
+Continues lane txn more now next inbox inbox' gather gather' gone gone' = (notes : List Note) (n : ℕ) (past : Episode) (before : List (Sender Note)) (old_inbox : Inbox Slip)
     → IsUnderWay lane notes txn n past before now old_inbox inbox gather gone → IsUnderWay lane (notes ++ more) txn n past before next old_inbox inbox' gather' gone'
 
 -- what was under way with the copies of a transaction is so, whatever was heard since
-abbrev pub Awaits : ℕ → ℕ → Session → List (Lane Note) → List (Lane Note) → Inbox Slip → Inbox Slip → Gather → Gather → Bool → Bool → Type 0
-Awaits lane number session now next inbox inbox' gather gather' gone gone' = (moment : ℕ) (message : List ℕ) (notes : List Note) (n : ℕ) (past : Episode) (before : List (Lane Note)) (old_inbox : Inbox Slip)
+abbrev pub Awaits : ℕ → ℕ → Session → List (Sender Note) → List (Sender Note) → Inbox Slip → Inbox Slip → Gather → Gather → Bool → Bool → Type 0
+Awaits lane number session now next inbox inbox' gather gather' gone gone' = (moment : ℕ) (message : List ℕ) (notes : List Note) (n : ℕ) (past : Episode) (before : List (Sender Note)) (old_inbox : Inbox Slip)
     → IsUnderWay lane (notes ++ copies_from lane (sent_as number session moment message) 0 session.recipients) (txn_of lane number) n past before now old_inbox inbox gather gone
     → IsUnderWay lane (notes ++ copies_from lane (sent_as number session moment message) 0 session.recipients) (txn_of lane number) n past before next old_inbox inbox' gather' gone'

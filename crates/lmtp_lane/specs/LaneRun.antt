@@ -5,17 +5,18 @@ use Rattle.mail_world.specs.declared.Note.{Note}
 use Rattle.mail_world.specs.declared.Slip.{Slip}
 use Rattle.mail_world.specs.Site.{Site}
 use Rattle.mail_world.specs.Lists.{transactions, VerdictsFit, copies}
-use Rattle.mail_post.specs.Line.{Lane, Inbox}
+use Rattle.mail_post.specs.Channel.{Sender, Inbox}
 use Rattle.lmtp_talk.specs.Peer.{PeerState}
 use Rattle.lmtp_lane.specs.LaneExchange.{HasExchanged}
-use Rattle.lmtp_lane.specs.LaneAccount.{counted, IsAnswered, IsHeardInTurn}
+use Rattle.mail_world.specs.Counts.{counted}
+use Rattle.lmtp_lane.specs.LaneAccount.{IsAnswered, IsHeardInTurn}
 use Rattle.lmtp_lane.specs.Visits.{Finished, Visit, HasVisited, conversations_of}
 
 -- A lane served these clients: each conversation's replies are those to its inputs, the senders gave the mailboxes what the conversations
 -- owe them, the outcomes are those of the slips that were heard, and each moment is one that the clock may answer. Without a gone channel it ended because
 -- there was no client more.
 pub record HasServed (site : Site) (lane : ℕ) (May : ℕ → Type 0) (MayCome : PeerState → Type 0) (old_finished new_finished : Option (List Finished)) (over : Bool)
-    (old_senders new_senders : List (Lane Note)) (old_inbox new_inbox : Inbox Slip) (count : ℕ) (gone : Bool) : Type 0 where
+    (old_senders new_senders : List (Sender Note)) (old_inbox new_inbox : Inbox Slip) (count : ℕ) (gone : Bool) : Type 0 where
   pub visits : List Visit
   pub visited : HasVisited site MayCome old_finished new_finished visits
   pub ended : gone ≡ false → over ≡ true

@@ -1,11 +1,11 @@
 -- A channel of slips of which nothing is known.
 use Rattle.std.specs.Prelude.{[], None}
 use Rattle.mail_world.specs.declared.Slip.{Slip}
-use Rattle.mail_post.specs.Line.{Inbox}
+use Rattle.mail_post.specs.Channel.{Inbox}
 
 abbrev pub no_inbox : Inbox Slip
 no_inbox = record {
-  line = (record { words = 0; slots = 0; views_name = 0; atom = 0; block = 0; offset = 0; slot_names = [] }, record { marker = record {}; table_id = record { words = 0; slots = 0; views_name = 0; atom = 0; block = 0; offset = 0; slot_names = [] }; id = 0; views = [] });
+  channel = (record { words = 0; slots = 0; views_name = 0; atom = 0; block = 0; offset = 0; slot_names = [] }, record { marker = record {}; table_id = record { words = 0; slots = 0; views_name = 0; atom = 0; block = 0; offset = 0; slot_names = [] }; id = 0; views = [] });
   lanes = 0;
   got = [];
   gone = None;

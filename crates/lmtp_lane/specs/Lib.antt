@@ -3,6 +3,4 @@ pub mod LaneAccount
 pub mod Visits
 pub mod LaneRun
 pub mod LaneStart
-pub mod ReadBuffer
-pub mod TcpPeer
 pub mod TcpVisits

@@ -1,9 +1,9 @@
 -- What contracts see of the clients that connect to a listener, and how they are shared out among lanes.
 use Rattle.std.specs.Prelude.{◌≡◌, ◌+◌, ◌/◌, ◌%◌, ◌⊎◌, ◌↔◌, ℕ, Bool, true, false, List, map, nat_lt, if◌then◌else◌, Option, is_none, is_some, IsNone, IfSome}
 use Rattle.std.specs.List.{range_with_len}
-use Rattle.lmtp_lane.specs.declared.tcp.peer.TcpPeer.{TcpPeer}
+use Rattle.lmtp_talk.specs.declared.tcp.peer.TcpPeer.{TcpPeer}
 use Rattle.lmtp_lane.specs.declared.tcp.visits.TcpVisits.{TcpVisits}
-use Rattle.lmtp_lane.specs.TcpPeer.{IsNew}
+use Rattle.lmtp_talk.specs.TcpPeer.{IsNew}
 
 -- how many conversations may still be held
 abbrev pub connections_left : {L : Type 0} → TcpVisits L → ℕ

@@ -1,7 +1,7 @@
 //! What a lane does with the messages of its conversations.
 
 ghost use Rattle.std.specs.Prelude.{◌≡◌, ◌≤◌, ◌<◌, ℕ, List, [], length, vec_capacity, false};
-ghost use Rattle.mail_world.specs.declared.limits.TheConstants.{RECIPIENT_LIMIT as MOST, NUMBER_LIMIT as LAST};
+ghost use Rattle.mail_world.specs.declared.limits.TheConstants.{RECIPIENT_LIMIT, NUMBER_LIMIT};
 ghost use Rattle.mail_world.specs.Lists.{Transaction};
 ghost use Rattle.msg_depot.specs.declared.view.Claim.{Claim};
 ghost use Rattle.lmtp_lane.specs.LaneAccount.{AgreesWith, HasOffered, HoldsDraft, Delivers};
@@ -36,7 +36,7 @@ pub struct LaneDelivery<'a, N: DepotName, C: Clock, R: Wait, S: LaneStart> {
     start: PhantomData<S>,
     ghost of_lane: { exchange.lane ≡ S.lane },
     ghost count: { length exchange.senders.items ≡ length S.site.boxes },
-    ghost reserved: { MOST ≤ vec_capacity outcomes },
+    ghost reserved: { RECIPIENT_LIMIT ≤ vec_capacity outcomes },
 }
 
 impl<'a, N: DepotName, C: Clock, R: Wait, S: LaneStart> LaneDelivery<'a, N, C, R, S> {
@@ -50,9 +50,10 @@ impl<'a, N: DepotName, C: Clock, R: Wait, S: LaneStart> LaneDelivery<'a, N, C, R
     ) -> LaneDelivery<'a, N, C, R, S>
         requires lane { exchange.lane ≡ S.lane }
         requires count { length exchange.senders.items ≡ length S.site.boxes }
-        requires room { MOST ≤ vec_capacity outcomes }
+        requires room { RECIPIENT_LIMIT ≤ vec_capacity outcomes }
         requires start { (exchange.senders.items ≡ S.senders) × (exchange.slips ≡ S.inbox) × (exchange.gone ≡ false) }
-        ensures begun { HasOffered S.lane S.May S.senders result.exchange.senders.items S.inbox result.exchange.slips result.exchange.gone result.accepted 0 [] }
+        ensures begun { HasOffered S.lane S.May S.senders result.exchange.senders.items S.inbox result.exchange.slips
+            result.exchange.gone result.accepted 0 [] }
         ensures clock { AgreesWith (C.May result.clock.now) (C.May clock.now) }
     {
         LaneDelivery {
@@ -71,13 +72,15 @@ impl<'a, N: DepotName, C: Clock, R: Wait, S: LaneStart> LaneDelivery<'a, N, C, R
     // Sends a whole message to its recipients, and keeps what became of the copies.
     fn deliver(&mut self, session: &Session, draft: Draft<N>)
         requires here { session.now.site ≡ S.site }
-        requires number { self.old.accepted ≤ LAST }
+        requires number { self.old.accepted ≤ NUMBER_LIMIT }
         requires none { self.old.outcomes.items ≡ [] }
         ensures same { (self.new.accepted ≡ self.old.accepted) × (self.new.moment ≡ self.old.moment) }
         ensures clock { AgreesWith (C.May self.new.clock.now) (C.May self.old.clock.now) }
         ensures count { length self.new.outcomes.items ≡ length session.now.session.recipients }
-        ensures delivers { Delivers self.old.exchange.lane self.old.accepted session.now.session self.old.moment draft.bytes self.new.outcomes.items
-            self.old.exchange.senders.items self.new.exchange.senders.items self.old.exchange.slips self.new.exchange.slips self.old.exchange.gone self.new.exchange.gone }
+        ensures delivers { Delivers self.old.exchange.lane self.old.accepted session.now.session
+            self.old.moment draft.bytes self.new.outcomes.items
+            self.old.exchange.senders.items self.new.exchange.senders.items
+            self.old.exchange.slips self.new.exchange.slips self.old.exchange.gone self.new.exchange.gone }
     {
         let count = session.recipient_count();
         if count == 0 {
@@ -112,10 +115,14 @@ fn keep(outcomes: &mut Vec<Outcome>, answers: &[Outcome])
 impl<'a, N: DepotName, C: Clock, R: Wait, S: LaneStart> Delivery for LaneDelivery<'a, N, C, R, S> {
     ghost site = { λ d. S.site };
 
-    ghost HasCome = { λ d n ts. HasOffered S.lane S.May S.senders d.exchange.senders.items S.inbox d.exchange.slips d.exchange.gone d.accepted n ts
+    ghost HasCome = { λ d n ts.
+        HasOffered S.lane S.May S.senders d.exchange.senders.items S.inbox d.exchange.slips d.exchange.gone
+        d.accepted n ts
         × AgreesWith (C.May d.clock.now) S.May };
 
-    ghost IsDrafting = { λ d n ts message. HasOffered S.lane S.May S.senders d.exchange.senders.items S.inbox d.exchange.slips d.exchange.gone d.accepted n ts
+    ghost IsDrafting = { λ d n ts message.
+        HasOffered S.lane S.May S.senders d.exchange.senders.items S.inbox d.exchange.slips d.exchange.gone
+        d.accepted n ts
         × AgreesWith (C.May d.clock.now) S.May × HoldsDraft d.incoming.draft d.incoming.size message };
 
     ghost outcomes = { λ d. d.outcomes.items };

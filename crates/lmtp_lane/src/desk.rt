@@ -2,7 +2,7 @@
 
 ghost use Rattle.std.specs.Prelude.{◌≡◌, ◌≤◌, ℕ, [], IfOk, vec_capacity};
 ghost use Rattle.std.specs.Arc.{arc_value};
-ghost use Rattle.mail_world.specs.declared.limits.TheConstants.{RECIPIENT_LIMIT as MOST};
+ghost use Rattle.mail_world.specs.declared.limits.TheConstants.{RECIPIENT_LIMIT};
 
 use lmtp_talk::Dialogue;
 use lmtp_text::Site;
@@ -18,8 +18,8 @@ pub struct Desk {
     pub dialogue: Dialogue,
     pub gather: Gather,
     pub outcomes: Vec<Outcome>,
-    ghost room: { MOST ≤ gather.limit },
-    ghost reserved: { MOST ≤ vec_capacity outcomes },
+    ghost room: { RECIPIENT_LIMIT ≤ gather.limit },
+    ghost reserved: { RECIPIENT_LIMIT ≤ vec_capacity outcomes },
 }
 
 impl Desk {

@@ -1,7 +1,7 @@
 //! A message on its way into the depot.
 
 ghost use Rattle.std.specs.Prelude.{◌≡◌, ◌≤◌, ◌++◌, ℕ, List, [], None, Some, IfOk, IfErr, IfSome};
-ghost use Rattle.mail_world.specs.declared.limits.TheConstants.{NUMBER_LIMIT as MOST};
+ghost use Rattle.mail_world.specs.declared.limits.TheConstants.{NUMBER_LIMIT};
 ghost use Rattle.mail_world.specs.declared.Verdict.TheVariants.{Whole};
 ghost use Rattle.lmtp_lane.specs.LaneAccount.{HoldsDraft, verdict_on};
 
@@ -10,8 +10,8 @@ use mail_world::limits::{MESSAGE_LIMIT, NUMBER_LIMIT};
 use msg_depot::{Depot, DepotName, Draft};
 use std::sync::Wait;
 
-/// The draft of a message, and how long the message is so far. There is no draft once room was wanting or the message was
-/// too large.
+/// The draft of a message, and how long the message is so far. There is no draft once room was wanting or the message
+/// was too large.
 #[derive(Drop)]
 pub struct Incoming<N: DepotName> {
     pub draft: Option<Draft<N>>,
@@ -40,7 +40,8 @@ impl<N: DepotName> Incoming<N> {
 
     /// Takes bytes of the message.
     pub fn add<R: Wait>(&mut self, rt: &R, depot: &Depot<N>, bytes: &[u8])
-        ensures { (message : List ℕ) → HoldsDraft self.old.draft self.old.size message → HoldsDraft self.new.draft self.new.size (message ++ bytes.now) }
+        ensures { (message : List ℕ) → HoldsDraft self.old.draft self.old.size message
+            → HoldsDraft self.new.draft self.new.size (message ++ bytes.now) }
     {
         self.size = self.size.saturating_add(bytes.len());
         if let Some(draft) = self.draft.take() {
@@ -69,8 +70,9 @@ impl<N: DepotName> Incoming<N> {
         depot: &Depot<N>,
         number: u64,
     ) -> Result<Draft<N>, Verdict>
-        ensures whole { IfOk result (λ draft. (self.old.draft ≡ Some draft) × (Whole ≡ verdict_on number self.old.size self.old.draft)) }
-        ensures number { IfOk result (λ _. number ≤ MOST) }
+        ensures whole { IfOk result (λ draft. (self.old.draft ≡ Some draft)
+            × (Whole ≡ verdict_on number self.old.size self.old.draft)) }
+        ensures number { IfOk result (λ _. number ≤ NUMBER_LIMIT) }
         ensures refused { IfErr result (λ verdict. verdict ≡ verdict_on number self.old.size self.old.draft) }
         ensures other { IfErr result (λ verdict. verdict ≡ Whole → ⊥) }
     {

@@ -18,5 +18,5 @@ pub use clock::Clock;
 pub use desk::Desk;
 pub use report::LaneReport;
 pub use run::lane_run;
-pub use tcp::{ReadBuffer, SystemClock, TcpPeer, TcpVisits, TimedListener, tcp_visits};
+pub use tcp::{SystemClock, TcpVisits, TimedListener, tcp_visits};
 pub use visits::Visits;

@@ -2,7 +2,7 @@
 
 ghost use Rattle.std.specs.Prelude.{◌≡◌, [], length, true, false};
 ghost use Rattle.lmtp_talk.specs.Peer.{PeerState};
-ghost use Rattle.lmtp_lane.specs.LaneExchange.{AreOfLane};
+ghost use Rattle.mail_post.specs.Offered.{HaveNumber};
 ghost use Rattle.lmtp_lane.specs.LaneAccount.{AgreesWith, HasOffered};
 ghost use Rattle.lmtp_lane.specs.LaneRun.{HasServed};
 ghost use Rattle.lmtp_lane.specs.Visits.{HasConversed};
@@ -21,8 +21,8 @@ use msg_depot::{Depot, DepotName};
 use std::marker::Brand;
 use std::sync::Wait;
 
-/// Serves clients, one after another, until there are no more, or a channel is found gone: then until that conversation ends.
-/// The senders are the lane's, one for each mailbox in the site's order. It takes no memory.
+/// Serves clients, one after another, until there are no more, or a channel is found gone: then until that conversation
+/// ends. The senders are the lane's, one for each mailbox in the site's order. It takes no memory.
 pub fn lane_run<N: DepotName, V: Visits, C: Clock, R: Wait>(
     rt: &R,
     lane: u32,
@@ -36,9 +36,10 @@ pub fn lane_run<N: DepotName, V: Visits, C: Clock, R: Wait>(
 ) -> LaneReport<N, V>
     requires site { desk.dialogue.session.site ≡ site.now }
     requires count { length senders.items ≡ length site.now.boxes }
-    requires lane { AreOfLane lane senders.items }
+    requires lane { HaveNumber lane senders.items }
     requires none_out { V.out visits ≡ false }
-    ensures { HasServed site.now lane (C.May clock.now) (V.MayGive visits) (V.finished visits) (V.finished result.visits) (V.over result.visits)
+    ensures { HasServed site.now lane (C.May clock.now) (V.MayGive visits) (V.finished visits)
+        (V.finished result.visits) (V.over result.visits)
         senders.items result.senders.items slips result.slips result.conversations result.gone }
 {
     lane_at::<Brand, N, V, C, R>(rt, lane, desk, visits, depot, senders, slips, clock)
@@ -58,11 +59,12 @@ fn lane_at<S: LaneStart, N: DepotName, V: Visits, C: Clock, R: Wait>(
     requires here { desk.dialogue.session.site ≡ S.site }
     requires number { lane ≡ S.lane }
     requires count { length senders.items ≡ length S.site.boxes }
-    requires lane { AreOfLane lane senders.items }
+    requires lane { HaveNumber lane senders.items }
     requires start { (senders.items ≡ S.senders) × (slips ≡ S.inbox) }
     requires clock { AgreesWith (C.May clock.now) S.May }
     requires none_out { V.out visits ≡ false }
-    ensures { HasServed S.site S.lane S.May (V.MayGive visits) (V.finished visits) (V.finished result.visits) (V.over result.visits)
+    ensures { HasServed S.site S.lane S.May (V.MayGive visits) (V.finished visits)
+        (V.finished result.visits) (V.over result.visits)
         S.senders result.senders.items S.inbox result.slips result.conversations result.gone }
 {
     let mut visits = visits;
@@ -99,12 +101,13 @@ fn serve_all<'a, N: DepotName, V: Visits, C: Clock, R: Wait, S: LaneStart>(
     delivery: &mut LaneDelivery<'a, N, C, R, S>,
 ) -> u64
     requires here { dialogue.old.session.site ≡ S.site }
-    requires begun { HasOffered S.lane S.May S.senders delivery.old.exchange.senders.items S.inbox delivery.old.exchange.slips
-        delivery.old.exchange.gone delivery.old.accepted 0 [] }
+    requires begun { HasOffered S.lane S.May S.senders delivery.old.exchange.senders.items
+        S.inbox delivery.old.exchange.slips delivery.old.exchange.gone delivery.old.accepted 0 [] }
     requires clock { AgreesWith (C.May delivery.old.clock.now) S.May }
     requires none_out { V.out visits.old ≡ false }
-    ensures { HasServed S.site S.lane S.May (V.MayGive visits.old) (V.finished visits.old) (V.finished visits.new) (V.over visits.new)
-        S.senders delivery.new.exchange.senders.items S.inbox delivery.new.exchange.slips result delivery.new.exchange.gone }
+    ensures { HasServed S.site S.lane S.May (V.MayGive visits.old) (V.finished visits.old)
+        (V.finished visits.new) (V.over visits.new) S.senders delivery.new.exchange.senders.items
+        S.inbox delivery.new.exchange.slips result delivery.new.exchange.gone }
 {
     let mut conversations: u64 = 0;
     for _ in rt.forever() {
@@ -129,7 +132,8 @@ fn converse<V: Visits, D: Delivery>(
 )
     requires here { D.site delivery.old ≡ dialogue.old.session.site }
     requires out { V.out visits.old ≡ true }
-    ensures converses { HasConversed dialogue.old.session.site (V.P.state peer) (V.finished visits.old) (V.finished visits.new) (D.HasCome delivery.old) (D.HasCome delivery.new) }
+    ensures converses { HasConversed dialogue.old.session.site (V.P.state peer) (V.finished visits.old)
+        (V.finished visits.new) (D.HasCome delivery.old) (D.HasCome delivery.new) }
     ensures others { (peer : PeerState) → V.MayGive visits.new peer → V.MayGive visits.old peer }
     ensures back { V.out visits.new ≡ false }
     ensures site { dialogue.new.session.site ≡ dialogue.old.session.site }

@@ -1,9 +1,9 @@
 //! Lanes over a depot and channels of their own.
 
 ghost use Rattle.std.specs.Prelude.{◌≡◌, ◌≤◌, IfOk, [], ◌∷◌};
-ghost use Rattle.mail_world.specs.declared.limits.TheConstants.{BLOCK_LIMIT as MOST};
-ghost use Rattle.mail_post.specs.Line.{new_lanes};
-ghost use Rattle.lmtp_lane.specs.LaneExchange.{AreOfLane};
+ghost use Rattle.mail_world.specs.declared.limits.TheConstants.{BLOCK_LIMIT};
+ghost use Rattle.mail_post.specs.Channel.{new_senders};
+ghost use Rattle.mail_post.specs.Offered.{HaveNumber};
 
 mod guests;
 
@@ -110,7 +110,7 @@ fn run<'a, R: Wait + Abort>(
     clients: Vec<Script<'a>>,
     others: Others,
 ) -> Result<Ran<'a>, Fail>
-    requires { (1 ≤ others.blocks) × (others.blocks ≤ MOST) }
+    requires { (1 ≤ others.blocks) × (others.blocks ≤ BLOCK_LIMIT) }
 {
     let blank = Blank::new(alloc, others.blocks, 2)?;
     run_over::<Brand, R>(rt, alloc, blank, clients, others)
@@ -169,7 +169,7 @@ fn run_over<'a, N: DepotName, R: Wait + Abort>(
 
 // A lane's ends of two mailboxes' channels, and the workers' ends.
 fn ends<N: DepotName>(alloc: Global) -> Result<(Vec<Sender<N>>, Receiver<N>, Receiver<N>), Fail>
-    ensures { IfOk result (λ ends. AreOfLane 0 ends.0.items) }
+    ensures { IfOk result (λ ends. HaveNumber 0 ends.0.items) }
 {
     let (mut first, anna) = mail_line::<N>(alloc, 4, 1)?;
     let (mut second, ben) = mail_line::<N>(alloc, 4, 1)?;
@@ -181,7 +181,7 @@ fn ends<N: DepotName>(alloc: Global) -> Result<(Vec<Sender<N>>, Receiver<N>, Rec
 
 // Puts the slips of the first copies of so many transactions into a lane's channel.
 fn tell<R: Wait>(rt: &R, worker: &mut SlipSender, count: u32)
-    requires { worker.old.lane ≡ 0 }
+    requires { worker.old.number ≡ 0 }
 {
     for number in 0..count {
         let _ = worker.offer(rt, stored(number + 1));

@@ -10,7 +10,7 @@ use Rattle.mail_world.specs.Commands.{Answer, Lhlo, mail_with, mail_path, mail, 
 use Rattle.mail_world.specs.Paths.{Found, Path, reverse_path, forward_path, closed_at, mailbox_at, behind_route}
 use Rattle.mail_world.specs.Text.{begins, space}
 use Rattle.mail_world.specs.Grammar.{Target}
-use Rattle.lmtp_session.specs.Fits.{IsWithinLimits}
+use Rattle.lmtp_session.specs.CommandLimits.{IsWithinLimits}
 
 if_within : (b : Bool) (x y : Answer) → IsWithinLimits x → IsWithinLimits y → IsWithinLimits (if b then x else y)
 if_within true x y hx hy = hx

@@ -12,9 +12,3 @@ results_more (x ∷ os) (b ∷ boxes) zero o h e = refl
 results_more (x ∷ os) (b ∷ boxes) (suc i) o h e =
     let step = results_more os boxes i o (omega arith) (omega arith) in
     rw add-one (ap (λ rs. replies.Result x b ∷ rs) (rw add-one at step))
-
--- as many replies as outcomes
-pub length-results : (os : List Outcome) (boxes : List ℕ) → length os ≡ length boxes → length (results os boxes) ≡ length boxes
-length-results [] boxes e = e
-length-results (x ∷ os) [] e = absurd (omega arith)
-length-results (x ∷ os) (b ∷ boxes) e = ap suc (length-results os boxes (omega arith))

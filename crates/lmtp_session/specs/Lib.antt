@@ -1,4 +1,4 @@
 pub mod View
-pub mod Kept
+pub mod Fields
 pub mod Steps
-pub mod Fits
+pub mod CommandLimits

@@ -4,7 +4,7 @@ use Rattle.mail_world.specs.declared.Reply.{Reply}
 use Rattle.mail_world.specs.declared.Reply.TheVariants.{GoAhead}
 use Rattle.mail_world.specs.declared.State.{State}
 use Rattle.mail_world.specs.declared.State.TheVariants.{Fresh, Greeted, Sender, Recipients, Content, Waiting, Ended}
-use Rattle.mail_world.specs.Session.{Input, Step, step}
+use Rattle.mail_world.specs.Session.{Input, Transition, step}
 use Rattle.lmtp_session.specs.declared.act.Act.{Act}
 use Rattle.lmtp_session.specs.declared.act.Act.TheVariants.{Say, ReadData, Deliver, Answer, Quit}
 use Rattle.lmtp_session.specs.View.{View}
@@ -35,38 +35,38 @@ abbrev pub MayStop : State → Type 0
 MayStop state = IsTrue (may_stop state)
 
 -- one reply is said, and lines go on
-pub record IsSaid (reply : Reply) (st : Step) (kept : List Reply) : Type 0 where
+pub record IsSaid (reply : Reply) (st : Transition) (kept : List Reply) : Type 0 where
   pub says : st.replies ≡ reply ∷ []
   pub state : TakesLines st.next.state
   pub no_answer : kept ≡ []
 
 -- the data of a message is asked for
-pub record IsAskedFor (st : Step) (kept : List Reply) : Type 0 where
+pub record IsAskedFor (st : Transition) (kept : List Reply) : Type 0 where
   pub says : st.replies ≡ GoAhead ∷ []
   pub state : st.next.state ≡ Content
   pub no_answer : kept ≡ []
 
 -- the message goes to its n recipients, and nothing is said yet
-pub record IsDelivered (n : ℕ) (st : Step) (kept : List Reply) : Type 0 where
+pub record IsDelivered (n : ℕ) (st : Transition) (kept : List Reply) : Type 0 where
   pub says : st.replies ≡ []
   pub state : st.next.state ≡ Waiting
   pub count : n ≡ length st.next.recipients
   pub no_answer : kept ≡ []
 
 -- the n replies are kept, from where they are said
-pub record IsAnswered (n : ℕ) (st : Step) (kept : List Reply) : Type 0 where
+pub record IsAnswered (n : ℕ) (st : Transition) (kept : List Reply) : Type 0 where
   pub says : st.replies ≡ kept
   pub state : st.next.state ≡ Greeted
   pub count : n ≡ length kept
 
 -- the last reply is said
-pub record IsQuit (reply : Reply) (st : Step) (kept : List Reply) : Type 0 where
+pub record IsQuit (reply : Reply) (st : Transition) (kept : List Reply) : Type 0 where
   pub says : st.replies ≡ reply ∷ []
   pub state : st.next.state ≡ Ended
   pub no_answer : kept ≡ []
 
 -- the act fits the step, with these replies kept for the recipients
-abbrev pub IsAct : Act → Step → List Reply → Type 0
+abbrev pub IsAct : Act → Transition → List Reply → Type 0
 IsAct (Say reply) st kept = IsSaid reply st kept
 IsAct ReadData st kept = IsAskedFor st kept
 IsAct (Deliver n) st kept = IsDelivered n st kept
@@ -74,7 +74,7 @@ IsAct (Answer n) st kept = IsAnswered n st kept
 IsAct (Quit reply) st kept = IsQuit reply st kept
 
 -- the step is taken: its act fits it, and the session stands where it leads
-pub record IsTaken (old : View) (st : Step) (act : Act) (new : View) : Type 0 where
+pub record IsTaken (old : View) (st : Transition) (act : Act) (new : View) : Type 0 where
   pub site : new.site ≡ old.site
   pub next : new.session ≡ st.next
   pub fits : IsAct act st new.answers

@@ -1,4 +1,5 @@
-//! The session of an LMTP server: which reply each command gets, and where the session stands then (RFC 2033, RFC 5321).
+//! The session of an LMTP server: which reply each command gets, and where the session stands then (RFC 2033, RFC
+//! 5321).
 #![tactic(auto)]
 
 pub mod act;

@@ -38,7 +38,7 @@ impl Model for Session {
 
     ghost Value = { View };
 
-    ghost use Rattle.lmtp_session.specs.Kept.{view_of, IsKept};
+    ghost use Rattle.lmtp_session.specs.Fields.{view_of, IsKept};
 
     ghost view = { view_of };
 

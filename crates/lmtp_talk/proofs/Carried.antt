@@ -23,8 +23,8 @@ use Rattle.lmtp_wire.specs.Wire.{WireView, IsBehind, GoesOn as LineGoesOn, EndsL
 use Rattle.lmtp_talk.specs.declared.dialogue.Dialogue.{Dialogue}
 use Rattle.lmtp_talk.specs.Peer.{PeerState}
 use Rattle.lmtp_talk.specs.Saying.{HasSaid}
-use Rattle.lmtp_talk.specs.Standing.{QuitsWith, InLine, InData, IsInside, Stands}
-use Rattle.lmtp_talk.specs.Steps.{TakesInputs, BeginsIf, TakesLine}
+use Rattle.lmtp_talk.specs.Standing.{QuitsWith, InLine, InData, IsInside, IsSoFar, standing, beginning}
+use Rattle.lmtp_talk.specs.Steps.{TakesInputs, Talk, talk, BeginsIf, TakesLine}
 use Rattle.lmtp_talk.proofs.CutUp.{cut_line}
 use Rattle.lmtp_talk.proofs.Quits.{GoesOn, line_goes_on, long_goes_on, quits_line, quits_long}
 
@@ -81,10 +81,10 @@ texts_more site ps p view s site_is session_is =
 
 pub says_part : (site : Site) (ps : List Part) (p : Part) (start before after : PeerState) (old new : Dialogue) (came : List ℕ)
     → TakesInputs (inputs_of p) old new before after → old.session.site ≡ site → old.session.session ≡ session_behind site fresh ps
-    → HasSaid start before old.outbox.broken old.outbox.pending.items came (reply_text site Greeting ++ reply_texts site (replies_to site fresh (flat_map inputs_of ps)))
-    → HasSaid start after new.outbox.broken new.outbox.pending.items came (reply_text site Greeting ++ reply_texts site (replies_to site fresh (flat_map inputs_of (ps ++ p ∷ []))))
+    → HasSaid start before old.outbox came (reply_text site Greeting ++ reply_texts site (replies_to site fresh (flat_map inputs_of ps)))
+    → HasSaid start after new.outbox came (reply_text site Greeting ++ reply_texts site (replies_to site fresh (flat_map inputs_of (ps ++ p ∷ []))))
 says_part site ps p start before after old new came takes site_is session_is h =
-    let said : List ℕ → Type 0 = λ l. HasSaid start after new.outbox.broken new.outbox.pending.items came l in
+    let said : List ℕ → Type 0 = λ l. HasSaid start after new.outbox came l in
     subst said (texts_more site ps p old.session.site old.session.session site_is session_is) (takes.says start came _ h)
 
 pub accepted-snoc : (site : Site) (n : ℕ) (ps : List Part) (p : Part) → accepted_after site n fresh (ps ++ p ∷ []) ≡ accepted_behind site (accepted_after site n fresh ps) (session_behind site fresh ps) p
@@ -102,8 +102,8 @@ transactions-data site n ps text d = transactions-append site n fresh ps (MailDa
 pub more_of_line : (site : Site) (start : PeerState) (Before Come : ℕ → List Transaction → Type 0) (Drafting : ℕ → List Transaction → List ℕ → Type 0) (old : Dialogue) (wire : WireView) (peer : PeerState)
     (handled came piece : List ℕ) (used : ℕ) → TakesLines old.session.session.state
     → ((taken : List ℕ) → IsBehind old.wire taken → LineGoesOn wire (taken ++ piece) (length piece) used)
-    → Stands site start Before old peer Come Drafting handled came
-    → Stands site start Before (record old { wire = wire }) peer Come Drafting (handled ++ take used piece) came
+    → IsSoFar (beginning site start Before) (standing old peer Come Drafting) handled came
+    → IsSoFar (beginning site start Before) (standing (record old { wire = wire }) peer Come Drafting) (handled ++ take used piece) came
 more_of_line site start Before Come Drafting old wire peer handled came piece used lines takes h =
     let line = in_line old.session.session.state old h.rest _ _ lines h.inside in
     let t = takes h.rest line.behind in
@@ -129,13 +129,13 @@ taken_is rest piece used k e = ap (λ n. take n (rest ++ piece)) (sym e) ∙ tak
 ended_line : (site : Site) (start : PeerState) (Before : ℕ → List Transaction → Type 0) {D : Type 0} (HasCome : D → ℕ → List Transaction → Type 0) (IsDrafting : D → ℕ → List Transaction → List ℕ → Type 0)
     (old new : Dialogue) (wire : WireView) (before after : PeerState) (delivery later : D) (handled came piece : List ℕ) (used end : ℕ) (input : Input)
     → TakesLines old.session.session.state
-    → (h : Stands site start Before old before (HasCome delivery) (IsDrafting delivery) handled came)
+    → (h : IsSoFar (beginning site start Before) (standing old before (HasCome delivery) (IsDrafting delivery)) handled came)
     → EndsLine wire (h.rest ++ piece) (length h.rest) used end
     → inputs_of (CommandLine (take end (h.rest ++ piece))) ≡ input ∷ []
-    → TakesLine HasCome IsDrafting input (record old { wire = wire }) new before after delivery later
+    → TakesLine HasCome IsDrafting input (talk (record old { wire = wire }) before delivery) (talk new after later)
     → GoesOn (step old.session.site old.session.session input).next.state
     → QuitsWith (session_after old.session.site old.session.session (input ∷ [])).state (flat_map inputs_of h.done ++ input ∷ [])
-    → Stands site start Before new after (HasCome later) (IsDrafting later) (handled ++ take used piece) came
+    → IsSoFar (beginning site start Before) (standing new after (HasCome later) (IsDrafting later)) (handled ++ take used piece) came
 ended_line site start Before {D} HasCome IsDrafting old new wire before after delivery later handled came piece used end input lines h ends input_is t goes quits =
     let bytes : List ℕ = h.rest ++ piece in
     let p : Part = CommandLine (take end bytes) in
@@ -161,7 +161,7 @@ ended_line site start Before {D} HasCome IsDrafting old new wire before after de
       goes = takes.same ∙ h.goes;
       inside = behind_line new.session.session.state new _ _ goes' (subst (λ w. IsBehind w []) (sym takes.wire) ends.behind)
           (λ content.
-          let begins : BeginsIf HasCome IsDrafting true new delivery later = subst (λ b. BeginsIf HasCome IsDrafting b new delivery later) content t.begins in
+          let begins : BeginsIf HasCome IsDrafting true delivery (talk new after later) = subst (λ b. BeginsIf HasCome IsDrafting b delivery (talk new after later)) content t.begins in
           record {
             made = [];
             next = subst (λ w. IsBehind w []) (sym takes.wire) ends.behind;
@@ -174,7 +174,7 @@ ended_line site start Before {D} HasCome IsDrafting old new wire before after de
                 (begins.1 _ _ (line.comes n ts first)));
           })
           (λ content.
-          let same : later ≡ delivery = subst (λ b. BeginsIf HasCome IsDrafting b new delivery later) content t.begins in
+          let same : later ≡ delivery = subst (λ b. BeginsIf HasCome IsDrafting b delivery (talk new after later)) content t.begins in
           λ n ts first.
           let count : accepted_after site n fresh h.done ≡ accepted_after site n fresh (h.done ++ p ∷ []) =
           ap (λ b. if b then accepted_after site n fresh h.done + 1 else accepted_after site n fresh h.done) (sym content ∙ state_is) ∙ sym (accepted-snoc site n h.done p) in
@@ -190,9 +190,9 @@ pub line_of : (site : Site) (start : PeerState) (Before : ℕ → List Transacti
     (old new : Dialogue) (wire : WireView) (before after : PeerState) (delivery later : D) (handled came piece : List ℕ) (used : ℕ)
     → TakesLines old.session.session.state
     → ((taken : List ℕ) → IsBehind old.wire taken → (end : ℕ) × EndsLine wire (taken ++ piece) (length taken) used end × (end + 2 ≤ LINE_LIMIT) × (wire.line ≡ take end (taken ++ piece)))
-    → TakesLine HasCome IsDrafting (Line wire.line) (record old { wire = wire }) new before after delivery later
-    → Stands site start Before old before (HasCome delivery) (IsDrafting delivery) handled came
-    → Stands site start Before new after (HasCome later) (IsDrafting later) (handled ++ take used piece) came
+    → TakesLine HasCome IsDrafting (Line wire.line) (talk (record old { wire = wire }) before delivery) (talk new after later)
+    → IsSoFar (beginning site start Before) (standing old before (HasCome delivery) (IsDrafting delivery)) handled came
+    → IsSoFar (beginning site start Before) (standing new after (HasCome later) (IsDrafting later)) (handled ++ take used piece) came
 line_of site start Before {D} HasCome IsDrafting old new wire before after delivery later handled came piece used lines takes t h =
     let line = in_line old.session.session.state old h.rest _ _ lines h.inside in
     let e = takes h.rest line.behind in
@@ -208,8 +208,8 @@ pub long_line_of : (site : Site) (start : PeerState) (Before : ℕ → List Tran
     → TakesLines old.session.session.state
     → ((taken : List ℕ) → IsBehind old.wire taken → (end : ℕ) × EndsLine wire (taken ++ piece) (length taken) used end × (LINE_LIMIT < end + 2) × (wire.line ≡ []))
     → TakesInputs (LongLine ∷ []) (record old { wire = wire }) new before after
-    → Stands site start Before old before (HasCome delivery) (IsDrafting delivery) handled came
-    → Stands site start Before new after (HasCome delivery) (IsDrafting delivery) (handled ++ take used piece) came
+    → IsSoFar (beginning site start Before) (standing old before (HasCome delivery) (IsDrafting delivery)) handled came
+    → IsSoFar (beginning site start Before) (standing new after (HasCome delivery) (IsDrafting delivery)) (handled ++ take used piece) came
 long_line_of site start Before {D} HasCome IsDrafting old new wire before after delivery handled came piece used lines takes t h =
     let line = in_line old.session.session.state old h.rest _ _ lines h.inside in
     let e = takes h.rest line.behind in
@@ -219,15 +219,15 @@ long_line_of site start Before {D} HasCome IsDrafting old new wire before after 
     let same : new.session.session.state ≡ old.session.session.state = ap (λ (s : Session). s.state) t.session in
     ended_line site start Before HasCome IsDrafting old new wire before after delivery delivery handled came piece used e.0 LongLine lines h e.1
     (ap (λ b. (if b then LongLine else Line (take e.0 bytes)) ∷ []) long)
-    (record { takes = t; begins = subst (λ (s : State). BeginsIf HasCome IsDrafting (is_content s) new delivery delivery) (sym same) (no_content old.session.session.state lines HasCome IsDrafting new delivery) })
+    (record { takes = t; begins = subst (λ (s : State). BeginsIf HasCome IsDrafting (is_content s) delivery (talk new after delivery)) (sym same) (no_content old.session.session.state lines HasCome IsDrafting (talk new after delivery)) })
     (long_goes_on old.session.site old.session.session lines) (quits_long old.session.site old.session.session (flat_map inputs_of h.done) lines h.quits)
   where
-    no_content : (state : State) → TakesLines state → {D : Type 0} (HasCome : D → ℕ → List Transaction → Type 0) (IsDrafting : D → ℕ → List Transaction → List ℕ → Type 0) (new : Dialogue) (delivery : D)
-        → BeginsIf HasCome IsDrafting (is_content state) new delivery delivery
-    no_content Fresh h HasCome IsDrafting new delivery = refl
-    no_content Greeted h HasCome IsDrafting new delivery = refl
-    no_content Sender h HasCome IsDrafting new delivery = refl
-    no_content Recipients h HasCome IsDrafting new delivery = refl
-    no_content Content h HasCome IsDrafting new delivery = cc
-    no_content Waiting h HasCome IsDrafting new delivery = cc
-    no_content Ended h HasCome IsDrafting new delivery = cc
+    no_content : (state : State) → TakesLines state → {D : Type 0} (HasCome : D → ℕ → List Transaction → Type 0) (IsDrafting : D → ℕ → List Transaction → List ℕ → Type 0) (new : Talk D)
+        → BeginsIf HasCome IsDrafting (is_content state) new.delivery new
+    no_content Fresh h HasCome IsDrafting new = refl
+    no_content Greeted h HasCome IsDrafting new = refl
+    no_content Sender h HasCome IsDrafting new = refl
+    no_content Recipients h HasCome IsDrafting new = refl
+    no_content Content h HasCome IsDrafting new = cc
+    no_content Waiting h HasCome IsDrafting new = cc
+    no_content Ended h HasCome IsDrafting new = cc

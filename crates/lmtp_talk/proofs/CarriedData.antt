@@ -18,8 +18,8 @@ use Rattle.lmtp_wire.specs.Place.{Ends}
 use Rattle.lmtp_talk.specs.declared.dialogue.Dialogue.{Dialogue}
 use Rattle.lmtp_talk.specs.Peer.{PeerState}
 use Rattle.lmtp_talk.specs.Delivery.{ended_so}
-use Rattle.lmtp_talk.specs.Standing.{QuitsWith, Comes, InLine, InData, IsInside, Stands}
-use Rattle.lmtp_talk.specs.Steps.{EndsData}
+use Rattle.lmtp_talk.specs.Standing.{QuitsWith, Comes, InLine, InData, IsInside, IsSoFar, standing, beginning}
+use Rattle.lmtp_talk.specs.Steps.{EndsData, talk}
 use Rattle.lmtp_talk.proofs.CutUp.{cut_data}
 use Rattle.lmtp_talk.proofs.Quits.{quits_data, data_greets}
 use Rattle.lmtp_talk.proofs.Carried.{session_more, says_part, accepted-snoc, transactions-data}
@@ -33,8 +33,8 @@ pub more_of_data : (site : Site) (start : PeerState) (Before : ℕ → List Tran
     → old.session.session.state ≡ Content
     → ((taken made : List ℕ) → HasMade old.dot taken made → GoesOn dot (taken ++ take fed.used piece) (made ++ bytes) size room fed)
     → ((n : ℕ) (ts : List Transaction) (draft : List ℕ) → IsDrafting delivery n ts draft → IsDrafting later n ts (draft ++ bytes))
-    → Stands site start Before old peer (HasCome delivery) (IsDrafting delivery) handled came
-    → Stands site start Before (record old { dot = dot }) peer (HasCome later) (IsDrafting later) (handled ++ take fed.used piece) came
+    → IsSoFar (beginning site start Before) (standing old peer (HasCome delivery) (IsDrafting delivery)) handled came
+    → IsSoFar (beginning site start Before) (standing (record old { dot = dot }) peer (HasCome later) (IsDrafting later)) (handled ++ take fed.used piece) came
 more_of_data site start Before {D} HasCome IsDrafting old dot peer delivery later handled came piece bytes size room fed content feeds grows h =
     let inside = in_data old.session.session.state old h.rest _ _ content h.inside in
     let text : List ℕ = h.rest ++ take fed.used piece in
@@ -65,9 +65,9 @@ pub end_of_data : (site : Site) (start : PeerState) (Before : ℕ → List Trans
     → old.session.session.state ≡ Content
     → ((taken made : List ℕ) → HasMade old.dot taken made → Ends (taken ++ take used piece) (made ++ bytes))
     → ((n : ℕ) (ts : List Transaction) (draft : List ℕ) → IsDrafting delivery n ts draft → IsDrafting mid n ts (draft ++ bytes))
-    → EndsData HasCome IsDrafting (record old { dot = dot }) new before after mid later
-    → Stands site start Before old before (HasCome delivery) (IsDrafting delivery) handled came
-    → Stands site start Before new after (HasCome later) (IsDrafting later) (handled ++ take used piece) came
+    → EndsData HasCome IsDrafting (talk (record old { dot = dot }) before mid) (talk new after later)
+    → IsSoFar (beginning site start Before) (standing old before (HasCome delivery) (IsDrafting delivery)) handled came
+    → IsSoFar (beginning site start Before) (standing new after (HasCome later) (IsDrafting later)) (handled ++ take used piece) came
 end_of_data site start Before {D} HasCome IsDrafting old new dot before after delivery mid later handled came piece bytes used content feeds grows e h =
     let inside = in_data old.session.session.state old h.rest _ _ content h.inside in
     let text : List ℕ = h.rest ++ take used piece in

@@ -12,9 +12,9 @@ use Rattle.mail_world.specs.Site.{Site}
 use Rattle.mail_world.specs.Session.{Session, fresh, Input, Stop}
 use Rattle.mail_world.specs.Replies.{reply_text, reply_texts}
 use Rattle.mail_world.specs.Conversation.{Conversation, Part, inputs_of, session_behind, replies_to, parts, stop_at, inputs, replies, IsAccount}
-use Rattle.mail_world.specs.Dispositions.{dispositions_of, HasNoPart}
+use Rattle.mail_world.specs.Dispositions.{dispositions_of}
 use Rattle.mail_world.specs.Lists.{Transaction, is_content, accepted_after, transactions_of}
-use Rattle.mail_world.proofs.Handled.{replies_to-append}
+use Rattle.mail_world.proofs.Handled.{HasNoPart, replies_to-append}
 use Rattle.lmtp_session.specs.Steps.{MayStop}
 use Rattle.lmtp_talk.specs.declared.dialogue.Dialogue.{Dialogue}
 use Rattle.lmtp_talk.specs.declared.ending.EndCause.{EndCause}
@@ -22,7 +22,7 @@ use Rattle.lmtp_talk.specs.declared.ending.EndCause.TheVariants as ends
 use Rattle.lmtp_talk.specs.Peer.{PeerState, HasMoved, HasFailed, HasStopped}
 use Rattle.lmtp_talk.specs.Saying.{HasSaid}
 use Rattle.lmtp_talk.specs.Served.{is_quit, has_quit, IsWritten, IsServed}
-use Rattle.lmtp_talk.specs.Standing.{Comes, IsInside, Stands}
+use Rattle.lmtp_talk.specs.Standing.{Comes, IsInside, IsSoFar, standing, beginning}
 use Rattle.lmtp_talk.specs.Steps.{TakesInputs}
 use Rattle.lmtp_talk.specs.Turns.{Leaves, stopped_or}
 use Rattle.lmtp_talk.proofs.Written.{moved_writing, said_on}
@@ -37,10 +37,6 @@ nothing_ended Recipients dialogue rest come drafts x = x.behind.goes_on
 nothing_ended Content dialogue rest come drafts x = x.behind.goes_on
 nothing_ended Waiting dialogue rest come drafts x = tt
 nothing_ended Ended dialogue rest come drafts x = tt
-
-pub leave_draft : (state : State) (Come Last : ℕ → List Transaction → Type 0) (Drafting : ℕ → List Transaction → List ℕ → Type 0) → state ≡ Content
-    → ((n : ℕ) (ts : List Transaction) (message : List ℕ) → Drafting n ts message → Last n ts) → Leaves (is_content state) Come Drafting Last
-leave_draft state Come Last Drafting content drops = subst (λ s. Leaves (is_content s) Come Drafting Last) (sym content) drops
 
 pub leave_none : (state : State) (Come : ℕ → List Transaction → Type 0) (Drafting : ℕ → List Transaction → List ℕ → Type 0) → (state ≡ Content → ⊥) → Leaves (is_content state) Come Drafting Come
 leave_none Fresh Come Drafting other = λ n ts h. h
@@ -89,15 +85,6 @@ no_stop Content = refl
 no_stop Waiting = refl
 no_stop Ended = refl
 
-still_open : (state : State) → MayStop state → state ≡ Ended → ⊥
-still_open Fresh h e = cc
-still_open Greeted h e = cc
-still_open Sender h e = cc
-still_open Recipients h e = cc
-still_open Content h e = cc
-still_open Waiting h e = cc
-still_open Ended h e = cc
-
 -- the order to stop is no QUIT
 stop_no_quit : (b : Bool) → has_quit (if b then Stop ∷ [] else []) ≡ false
 stop_no_quit true = refl
@@ -143,12 +130,12 @@ text_stopped site ps view s site_is session_is may =
     ∙ ap (λ l. last_text site (xs ++ l)) (sym (stop_is (session_behind site fresh ps).state (subst (λ (x : Session). MayStop x.state) session_is may)))
 
 -- what was said is written
-written_whole : (start now : PeerState) (pending came text : List ℕ) (fails : Type 0) (h : HasSaid start now false pending came text) → pending ≡ [] → IsWritten text fails h.written
+written_whole : (start now : PeerState) (pending came text : List ℕ) (fails : Type 0) (h : HasSaid start now (record { pending = pending; broken = false }) came text) → pending ≡ [] → IsWritten text fails h.written
 written_whole start now pending came text fails h none =
     let all : text ≡ h.written = h.is.whole ∙ ap (λ l. h.written ++ l) none ∙ append-nil h.written in
     record { begins = record { rest = pending; whole = h.is.whole }; whole = λ f. sym all }
 
-written_broken : (start now : PeerState) (pending came text : List ℕ) (fails : Type 0) (h : HasSaid start now true pending came text) → fails → IsWritten text fails h.written
+written_broken : (start now : PeerState) (pending came text : List ℕ) (fails : Type 0) (h : HasSaid start now (record { pending = pending; broken = true }) came text) → fails → IsWritten text fails h.written
 written_broken start now pending came text fails h f = record { begins = h.is.begins; whole = λ g. absurd (g f) }
 
 -- why the conversation ends, in the words of the session's state
@@ -174,7 +161,7 @@ record Finishes (site : Site) (start now : PeerState) (stopped : Bool) (ps : Lis
 
 finished : (site : Site) (start before now : PeerState) (Before Come Last : ℕ → List Transaction → Type 0) (Drafting : ℕ → List Transaction → List ℕ → Type 0)
     (dialogue : Dialogue) (handled : List ℕ) (stopped : Bool) (end : EndCause)
-    → (h : Stands site start Before dialogue before Come Drafting handled handled) → Comes site h.done Before Last
+    → (h : IsSoFar (beginning site start Before) (standing dialogue before Come Drafting) handled handled) → Comes site h.done Before Last
     → Finishes site start now stopped h.done dialogue.session.session.state handled end → IsServed site start now Before Last end
 finished site start before now Before Come Last Drafting dialogue handled stopped end h comes f =
     let c : Conversation = record { bytes = handled; dispositions = dispositions_of h.done; stopped = stopped } in
@@ -211,17 +198,17 @@ finished site start before now Before Come Last Drafting dialogue handled stoppe
 
 -- a draft that is dropped, or none
 comes_in_the_end : (site : Site) (start before : PeerState) (Before Come Last : ℕ → List Transaction → Type 0) (Drafting : ℕ → List Transaction → List ℕ → Type 0) (dialogue : Dialogue) (handled came : List ℕ)
-    → (h : Stands site start Before dialogue before Come Drafting handled came) → Leaves (is_content dialogue.session.session.state) Come Drafting Last → Comes site h.done Before Last
+    → (h : IsSoFar (beginning site start Before) (standing dialogue before Come Drafting) handled came) → Leaves (is_content dialogue.session.session.state) Come Drafting Last → Comes site h.done Before Last
 comes_in_the_end site start before Before Come Last Drafting dialogue handled came h l = leaves_by dialogue.session.session.state site h.done Before Come Last Drafting dialogue h.rest h.inside l
 
 pub may_stop : (site : Site) (start before : PeerState) (Before Come : ℕ → List Transaction → Type 0) (Drafting : ℕ → List Transaction → List ℕ → Type 0) (dialogue : Dialogue) (handled came : List ℕ)
-    → Stands site start Before dialogue before Come Drafting handled came → (dialogue.session.session.state ≡ Ended → ⊥) → MayStop dialogue.session.session.state
+    → IsSoFar (beginning site start Before) (standing dialogue before Come Drafting) handled came → (dialogue.session.session.state ≡ Ended → ⊥) → MayStop dialogue.session.session.state
 may_stop site start before Before Come Drafting dialogue handled came h open' = may_stop_by dialogue.session.session.state dialogue h.rest _ _ h.inside open'
 
 -- no write failed, and nothing waits
 pub record IsQuiet (dialogue : Dialogue) : Type 0 where
   pub whole : dialogue.outbox.broken ≡ false
-  pub none : dialogue.outbox.pending.items ≡ []
+  pub none : dialogue.outbox.pending ≡ []
 
 -- why a conversation ends in which nobody said to stop, and no read failed
 abbrev pub EndsAs : EndCause → Dialogue → PeerState → List ℕ → Type 0
@@ -233,27 +220,27 @@ EndsAs ends.ReadFault dialogue now handled = ⊥
 EndsAs ends.Stopped dialogue now handled = ⊥
 
 -- what the outbox tells
-said_whole : (start now : PeerState) (dialogue : Dialogue) (came text : List ℕ) → IsQuiet dialogue → HasSaid start now dialogue.outbox.broken dialogue.outbox.pending.items came text → HasSaid start now false [] came text
-said_whole start now dialogue came text q h = subst (λ b. HasSaid start now b [] came text) q.whole (subst (λ l. HasSaid start now dialogue.outbox.broken l came text) q.none h)
+said_whole : (start now : PeerState) (dialogue : Dialogue) (came text : List ℕ) → IsQuiet dialogue → HasSaid start now dialogue.outbox came text → HasSaid start now (record { pending = []; broken = false }) came text
+said_whole start now dialogue came text q h = subst (λ b. HasSaid start now (record { pending = []; broken = b }) came text) q.whole (subst (λ l. HasSaid start now (record { pending = l; broken = dialogue.outbox.broken }) came text) q.none h)
 
-said_broken : (start now : PeerState) (broken : Bool) (pending came text : List ℕ) → broken ≡ true → HasSaid start now broken pending came text → HasSaid start now true pending came text
-said_broken start now broken pending came text e h = subst (λ b. HasSaid start now b pending came text) e h
+said_broken : (start now : PeerState) (broken : Bool) (pending came text : List ℕ) → broken ≡ true → HasSaid start now (record { pending = pending; broken = broken }) came text → HasSaid start now (record { pending = pending; broken = true }) came text
+said_broken start now broken pending came text e h = subst (λ b. HasSaid start now (record { pending = pending; broken = b }) came text) e h
 
 finishes_quiet : (site : Site) (start now : PeerState) (dialogue : Dialogue) (ps : List Part) (handled : List ℕ) (end : EndCause) → IsQuiet dialogue
-    → HasSaid start now dialogue.outbox.broken dialogue.outbox.pending.items handled (last_text site (flat_map inputs_of ps))
+    → HasSaid start now dialogue.outbox handled (last_text site (flat_map inputs_of ps))
     → (now.failures ≡ start.failures → EndsBy dialogue.session.session.state false handled start now end)
     → Finishes site start now false ps dialogue.session.session.state handled end
 finishes_quiet site start now dialogue ps handled end q h causes =
-    let s : HasSaid start now false [] handled (last_text site (last_inputs site ps false)) =
-    subst (λ l. HasSaid start now false [] handled l) (text_not_stopped site ps) (said_whole start now dialogue handled (last_text site (flat_map inputs_of ps)) q h) in
+    let s : HasSaid start now (record { pending = []; broken = false }) handled (last_text site (last_inputs site ps false)) =
+    subst (λ l. HasSaid start now (record { pending = []; broken = false }) handled l) (text_not_stopped site ps) (said_whole start now dialogue handled (last_text site (flat_map inputs_of ps)) q h) in
     record { written = s.written; moved = s.moved; says = written_whole start now [] handled (last_text site (last_inputs site ps false)) (end ≡ ends.WriteFault) s refl; causes = causes s.is.sound }
 
 finishes_broken : (site : Site) (start now : PeerState) (broken : Bool) (pending : List ℕ) (state : State) (stopped : Bool) (ps : List Part) (handled text : List ℕ) → broken ≡ true
-    → text ≡ last_text site (last_inputs site ps stopped) → (stopped ≡ true → Rises start.stops now.stops) → (stopped ≡ false → now.stops ≡ start.stops) → HasSaid start now broken pending handled text
+    → text ≡ last_text site (last_inputs site ps stopped) → (stopped ≡ true → Rises start.stops now.stops) → (stopped ≡ false → now.stops ≡ start.stops) → HasSaid start now (record { pending = pending; broken = broken }) handled text
     → Finishes site start now stopped ps state handled ends.WriteFault
 finishes_broken site start now broken pending state stopped ps handled text e is rose kept h =
-    let s : HasSaid start now true pending handled (last_text site (last_inputs site ps stopped)) =
-    subst (λ l. HasSaid start now true pending handled l) is (said_broken start now broken pending handled text e h) in
+    let s : HasSaid start now (record { pending = pending; broken = true }) handled (last_text site (last_inputs site ps stopped)) =
+    subst (λ l. HasSaid start now (record { pending = pending; broken = true }) handled l) is (said_broken start now broken pending handled text e h) in
     record {
       written = s.written;
       moved = s.moved;
@@ -351,7 +338,7 @@ stop_ends state handled start now open' may sound = record {
 
 -- all that came is handled, and it ends so
 pub served : (site : Site) (start now : PeerState) (Before Come Last : ℕ → List Transaction → Type 0) (Drafting : ℕ → List Transaction → List ℕ → Type 0) (dialogue : Dialogue) (handled : List ℕ) (end : EndCause)
-    → Stands site start Before dialogue now Come Drafting handled handled → Leaves (is_content dialogue.session.session.state) Come Drafting Last
+    → IsSoFar (beginning site start Before) (standing dialogue now Come Drafting) handled handled → Leaves (is_content dialogue.session.session.state) Come Drafting Last
     → EndsAs end dialogue now handled → IsServed site start now Before Last end
 served site start now Before Come Last Drafting dialogue handled ends.Quit h l e =
     finished site start now now Before Come Last Drafting dialogue handled false ends.Quit h (comes_in_the_end site start now Before Come Last Drafting dialogue handled handled h l)
@@ -364,17 +351,17 @@ served site start now Before Come Last Drafting dialogue handled ends.ReadBound 
     (finishes_quiet site start now dialogue h.done handled ends.ReadBound e.0 h.said (λ sound. bound_ends dialogue.session.session.state handled start now e.1 e.2 sound h.goes))
 served site start now Before Come Last Drafting dialogue handled ends.WriteFault h l e =
     finished site start now now Before Come Last Drafting dialogue handled false ends.WriteFault h (comes_in_the_end site start now Before Come Last Drafting dialogue handled handled h l)
-    (finishes_broken site start now dialogue.outbox.broken dialogue.outbox.pending.items dialogue.session.session.state false h.done handled _ e (text_not_stopped site h.done) (λ f. cc) (λ f. h.goes) h.said)
+    (finishes_broken site start now dialogue.outbox.broken dialogue.outbox.pending dialogue.session.session.state false h.done handled _ e (text_not_stopped site h.done) (λ f. cc) (λ f. h.goes) h.said)
 served site start now Before Come Last Drafting dialogue handled ends.ReadFault h l e = absurd e
 served site start now Before Come Last Drafting dialogue handled ends.Stopped h l e = absurd e
 
 -- the read after it failed
 pub served_read_fault : (site : Site) (start before now : PeerState) (Before Come Last : ℕ → List Transaction → Type 0) (Drafting : ℕ → List Transaction → List ℕ → Type 0) (dialogue : Dialogue) (handled : List ℕ)
-    → Stands site start Before dialogue before Come Drafting handled handled → Leaves (is_content dialogue.session.session.state) Come Drafting Last
+    → IsSoFar (beginning site start Before) (standing dialogue before Come Drafting) handled handled → Leaves (is_content dialogue.session.session.state) Come Drafting Last
     → IsQuiet dialogue → (dialogue.session.session.state ≡ Ended → ⊥) → HasFailed before now → IsServed site start now Before Last ends.ReadFault
 served_read_fault site start before now Before Come Last Drafting dialogue handled h l q open' f =
-    let s : HasSaid start before false [] handled (last_text site (last_inputs site h.done false)) =
-    subst (λ l. HasSaid start before false [] handled l) (text_not_stopped site h.done) (said_whole start before dialogue handled (last_text site (flat_map inputs_of h.done)) q h.said) in
+    let s : HasSaid start before (record { pending = []; broken = false }) handled (last_text site (last_inputs site h.done false)) =
+    subst (λ l. HasSaid start before (record { pending = []; broken = false }) handled l) (text_not_stopped site h.done) (said_whole start before dialogue handled (last_text site (flat_map inputs_of h.done)) q h.said) in
     let moved : HasMoved start now handled s.written = subst (λ l. HasMoved start now handled l) (append-nil s.written) (moved_writing start before now handled s.written [] s.moved f.moved) in
     let failed : Rises start.failures now.failures = subst (λ k. Rises k now.failures) s.is.sound f.failed in
     finished site start before now Before Come Last Drafting dialogue handled false ends.ReadFault h (comes_in_the_end site start before Before Come Last Drafting dialogue handled handled h l)
@@ -387,18 +374,18 @@ served_read_fault site start before now Before Come Last Drafting dialogue handl
 
 -- the session was told to stop, and what it said to that was written as far as it could be
 text_in_the_end : (site : Site) (start before : PeerState) (Before Come : ℕ → List Transaction → Type 0) (Drafting : ℕ → List Transaction → List ℕ → Type 0) (dialogue : Dialogue) (handled came : List ℕ)
-    → (h : Stands site start Before dialogue before Come Drafting handled came) → MayStop dialogue.session.session.state
+    → (h : IsSoFar (beginning site start Before) (standing dialogue before Come Drafting) handled came) → MayStop dialogue.session.session.state
     → last_text site (flat_map inputs_of h.done) ++ reply_texts dialogue.session.site (replies_to dialogue.session.site dialogue.session.session (Stop ∷ [])) ≡ last_text site (last_inputs site h.done true)
 text_in_the_end site start before Before Come Drafting dialogue handled came h may = text_stopped site h.done dialogue.session.site dialogue.session.session h.same_site h.session may
 
 -- whether the outbox broke decides
 
 stopped_by : (broken : Bool) (site : Site) (start now : PeerState) (pending : List ℕ) (state : State) (ps : List Part) (handled text : List ℕ) → (state ≡ Ended → ⊥) → Rises start.stops now.stops
-    → text ≡ last_text site (last_inputs site ps true) → pending ≡ [] → HasSaid start now broken pending handled text
+    → text ≡ last_text site (last_inputs site ps true) → pending ≡ [] → HasSaid start now (record { pending = pending; broken = broken }) handled text
     → Finishes site start now true ps state handled (stopped_or broken)
 stopped_by true site start now pending state ps handled text open' may is none h = finishes_broken site start now true pending state true ps handled text refl is (λ f. may) (λ f. cc) h
 stopped_by false site start now pending state ps handled text open' may is none h =
-    let s : HasSaid start now false pending handled (last_text site (last_inputs site ps true)) = subst (λ l. HasSaid start now false pending handled l) is h in
+    let s : HasSaid start now (record { pending = pending; broken = false }) handled (last_text site (last_inputs site ps true)) = subst (λ l. HasSaid start now (record { pending = pending; broken = false }) handled l) is h in
     record {
       written = s.written;
       moved = s.moved;
@@ -407,15 +394,15 @@ stopped_by false site start now pending state ps handled text open' may is none 
     }
 
 pub served_stopped : (site : Site) (start earlier before now : PeerState) (Before Come Last : ℕ → List Transaction → Type 0) (Drafting : ℕ → List Transaction → List ℕ → Type 0) (dialogue new : Dialogue) (handled : List ℕ)
-    → Stands site start Before dialogue earlier Come Drafting handled handled → Leaves (is_content dialogue.session.session.state) Come Drafting Last
-    → (dialogue.session.session.state ≡ Ended → ⊥) → HasStopped earlier before → TakesInputs (Stop ∷ []) dialogue new before now → new.outbox.pending.items ≡ []
+    → IsSoFar (beginning site start Before) (standing dialogue earlier Come Drafting) handled handled → Leaves (is_content dialogue.session.session.state) Come Drafting Last
+    → (dialogue.session.session.state ≡ Ended → ⊥) → HasStopped earlier before → TakesInputs (Stop ∷ []) dialogue new before now → new.outbox.pending ≡ []
     → IsServed site start now Before Last (stopped_or new.outbox.broken)
 served_stopped site start earlier before now Before Come Last Drafting dialogue new handled h l open' stops t none =
     let may : MayStop dialogue.session.session.state = may_stop site start earlier Before Come Drafting dialogue handled handled h open' in
-    let said : HasSaid start before dialogue.outbox.broken dialogue.outbox.pending.items handled (last_text site (flat_map inputs_of h.done)) =
-    subst (λ l. HasSaid start before dialogue.outbox.broken dialogue.outbox.pending.items l (last_text site (flat_map inputs_of h.done))) (append-nil handled)
-    (said_on dialogue.outbox.broken start earlier before dialogue.outbox.pending.items handled [] (last_text site (flat_map inputs_of h.done)) h.said stops.moved stops.sound) in
+    let said : HasSaid start before dialogue.outbox handled (last_text site (flat_map inputs_of h.done)) =
+    subst (λ l. HasSaid start before dialogue.outbox l (last_text site (flat_map inputs_of h.done))) (append-nil handled)
+    (said_on dialogue.outbox.broken start earlier before dialogue.outbox.pending handled [] (last_text site (flat_map inputs_of h.done)) h.said stops.moved stops.sound) in
     let rose : Rises start.stops now.stops = subst (λ k. Rises start.stops k) (sym t.same) (subst (λ k. Rises k before.stops) h.goes stops.stopped) in
     finished site start earlier now Before Come Last Drafting dialogue handled true (stopped_or new.outbox.broken) h (comes_in_the_end site start earlier Before Come Last Drafting dialogue handled handled h l)
-    (stopped_by new.outbox.broken site start now new.outbox.pending.items dialogue.session.session.state h.done handled _ open' rose
+    (stopped_by new.outbox.broken site start now new.outbox.pending dialogue.session.session.state h.done handled _ open' rose
     (text_in_the_end site start earlier Before Come Drafting dialogue handled handled h may) none (t.says start handled _ said))

@@ -4,6 +4,7 @@ pub mod CutUp
 pub mod Carried
 pub mod CarriedData
 pub mod Messages
-pub mod Carrying
+pub mod Advancing
 pub mod Ends
 pub mod Turning
+pub mod HandedOut

@@ -6,7 +6,7 @@ use Rattle.mail_world.specs.declared.Verdict.TheVariants.{Whole, TooLarge, NoRoo
 use Rattle.mail_world.specs.declared.Reply.{Reply}
 use Rattle.mail_world.specs.Site.{Site}
 use Rattle.mail_world.specs.Replies.{reply_texts}
-use Rattle.mail_world.specs.Session.{Session, Step, DataEnded, Outcomes, step}
+use Rattle.mail_world.specs.Session.{Session, Transition, DataEnded, Outcomes, step}
 use Rattle.mail_world.specs.Conversation.{session_after, replies_to}
 use Rattle.mail_world.specs.Lists.{Transaction}
 use Rattle.lmtp_session.specs.declared.act.Act.{Act}
@@ -15,12 +15,12 @@ use Rattle.lmtp_session.specs.View.{View}
 use Rattle.lmtp_session.specs.Steps.{IsAct, IsTaken, IsStep}
 use Rattle.lmtp_talk.specs.declared.dialogue.Dialogue.{Dialogue}
 use Rattle.lmtp_talk.specs.Peer.{PeerState}
-use Rattle.lmtp_talk.specs.Saying.{HasSaid, said}
-use Rattle.lmtp_talk.specs.Delivery.{EndsDraft}
-use Rattle.lmtp_talk.specs.Steps.{EndsData}
+use Rattle.lmtp_talk.specs.Saying.{HasSaid, Says, said}
+use Rattle.lmtp_talk.specs.Delivery.{ended_so, EndsDraft}
+use Rattle.lmtp_talk.specs.Steps.{EndsData, talk}
 
 -- an act says the replies of its step
-said_is : (act : Act) (st : Step) (kept : List Reply) → IsAct act st kept → said act kept ≡ st.replies
+said_is : (act : Act) (st : Transition) (kept : List Reply) → IsAct act st kept → said act kept ≡ st.replies
 said_is (Say reply) st kept h = sym h.says
 said_is ReadData st kept h = sym h.says
 said_is (Deliver n) st kept h = sym h.says
@@ -28,18 +28,17 @@ said_is (Answer n) st kept h = sym h.says
 said_is (Quit reply) st kept h = sym h.says
 
 -- the texts that were said are those of the step, at the site
-texts_are : (site : Site) (act : Act) (st : Step) (old : View) (new : View) → IsTaken old st act new → old.site ≡ site → reply_texts new.site (said act new.answers) ≡ reply_texts site st.replies
+texts_are : (site : Site) (act : Act) (st : Transition) (old : View) (new : View) → IsTaken old st act new → old.site ≡ site → reply_texts new.site (said act new.answers) ≡ reply_texts site st.replies
 texts_are site act st old new t e = ap (λ (x : Site). reply_texts x (said act new.answers)) (t.site ∙ e) ∙ ap (λ rs. reply_texts site rs) (said_is act st new.answers t.fits)
 
 pub whole_message : {D : Type 0} (HasCome : D → ℕ → List Transaction → Type 0) (IsDrafting : D → ℕ → List Transaction → List ℕ → Type 0)
     (old new : Dialogue) (mid : View) (before after : PeerState) (delivery later : D) (verdict : Verdict) (moment : ℕ) (told : List Outcome) (first second : Act)
     → verdict ≡ Whole
-    → ((n : ℕ) (ts : List Transaction) (message : List ℕ) → IsDrafting delivery n ts message → EndsDraft (HasCome later) moment told old.session.session n ts message verdict)
+    → ((n : ℕ) (ts : List Transaction) (message : List ℕ) → IsDrafting delivery n ts message → EndsDraft (HasCome later) n ts old.session.session message (ended_so verdict moment told))
     → length told ≡ length old.session.session.recipients
     → IsStep old.session (DataEnded verdict) first mid → IsStep mid (Outcomes told) second new.session → new.wire ≡ old.wire → after.stops ≡ before.stops
-    → ((start : PeerState) (came text : List ℕ) → HasSaid start before old.outbox.broken old.outbox.pending.items came text
-    → HasSaid start after new.outbox.broken new.outbox.pending.items came (text ++ reply_texts new.session.site (said second new.session.answers)))
-    → EndsData HasCome IsDrafting old new before after delivery later
+    → Says before after old.outbox new.outbox (reply_texts new.session.site (said second new.session.answers))
+    → EndsData HasCome IsDrafting (talk old before delivery) (talk new after later)
 whole_message {D} HasCome IsDrafting old new mid before after delivery later verdict moment told first second is ended count one two wire same says =
     let site : Site = old.session.site in
     let s : Session = old.session.session in
@@ -58,22 +57,21 @@ whole_message {D} HasCome IsDrafting old new mid before after delivery later ver
       takes = record {
         site = two.site ∙ one'.site;
         session = session;
-        says = λ start came text h. subst (λ l. HasSaid start after new.outbox.broken new.outbox.pending.items came (text ++ l)) texts (says start came text h);
+        says = λ start came text h. subst (λ l. HasSaid start after new.outbox came (text ++ l)) texts (says start came text h);
         wire = wire;
         same = same;
       };
       fits = count;
-      ended = λ n ts message h. subst (λ (v : Verdict). EndsDraft (HasCome later) moment told s n ts message v) is (ended n ts message h);
+      ended = λ n ts message h. subst (λ (v : Verdict). EndsDraft (HasCome later) n ts s message (ended_so v moment told)) is (ended n ts message h);
     }
 
 pub refused_message : {D : Type 0} (HasCome : D → ℕ → List Transaction → Type 0) (IsDrafting : D → ℕ → List Transaction → List ℕ → Type 0)
     (old new : Dialogue) (before after : PeerState) (delivery later : D) (verdict : Verdict) (moment : ℕ) (told : List Outcome) (act : Act)
     → (verdict ≡ Whole → ⊥)
-    → ((n : ℕ) (ts : List Transaction) (message : List ℕ) → IsDrafting delivery n ts message → EndsDraft (HasCome later) moment told old.session.session n ts message verdict)
+    → ((n : ℕ) (ts : List Transaction) (message : List ℕ) → IsDrafting delivery n ts message → EndsDraft (HasCome later) n ts old.session.session message (ended_so verdict moment told))
     → IsStep old.session (DataEnded verdict) act new.session → new.wire ≡ old.wire → after.stops ≡ before.stops
-    → ((start : PeerState) (came text : List ℕ) → HasSaid start before old.outbox.broken old.outbox.pending.items came text
-    → HasSaid start after new.outbox.broken new.outbox.pending.items came (text ++ reply_texts new.session.site (said act new.session.answers)))
-    → EndsData HasCome IsDrafting old new before after delivery later
+    → Says before after old.outbox new.outbox (reply_texts new.session.site (said act new.session.answers))
+    → EndsData HasCome IsDrafting (talk old before delivery) (talk new after later)
 refused_message {D} HasCome IsDrafting old new before after delivery later Whole moment told act other ended one wire same says = absurd (other refl)
 refused_message {D} HasCome IsDrafting old new before after delivery later TooLarge moment told act other ended one wire same says = record {
   verdict = TooLarge;
@@ -82,7 +80,7 @@ refused_message {D} HasCome IsDrafting old new before after delivery later TooLa
   takes = record {
     site = one.site;
     session = one.next;
-    says = λ start came text h. subst (λ l. HasSaid start after new.outbox.broken new.outbox.pending.items came (text ++ l))
+    says = λ start came text h. subst (λ l. HasSaid start after new.outbox came (text ++ l))
         (texts_are old.session.site act (step old.session.site old.session.session (DataEnded TooLarge)) old.session new.session one refl ∙ ap (λ rs. reply_texts old.session.site rs) (sym (append-nil _)))
         (says start came text h);
     wire = wire;
@@ -98,7 +96,7 @@ refused_message {D} HasCome IsDrafting old new before after delivery later NoRoo
   takes = record {
     site = one.site;
     session = one.next;
-    says = λ start came text h. subst (λ l. HasSaid start after new.outbox.broken new.outbox.pending.items came (text ++ l))
+    says = λ start came text h. subst (λ l. HasSaid start after new.outbox came (text ++ l))
         (texts_are old.session.site act (step old.session.site old.session.session (DataEnded NoRoom)) old.session new.session one refl ∙ ap (λ rs. reply_texts old.session.site rs) (sym (append-nil _)))
         (says start came text h);
     wire = wire;

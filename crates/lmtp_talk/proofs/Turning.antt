@@ -10,24 +10,25 @@ use Rattle.mail_world.specs.Replies.{reply_text}
 use Rattle.mail_world.specs.Lists.{Transaction}
 use Rattle.lmtp_session.specs.Steps.{MayStop}
 use Rattle.lmtp_talk.specs.declared.dialogue.Dialogue.{Dialogue}
-use Rattle.lmtp_talk.specs.declared.outbox.Outbox.{Outbox}
 use Rattle.lmtp_talk.specs.declared.ending.EndCause.TheVariants as ends
-use Rattle.lmtp_talk.specs.Peer.{PeerState, HasWorked}
-use Rattle.lmtp_talk.specs.Saying.{HasSaid}
-use Rattle.lmtp_talk.specs.Standing.{Comes, IsInside, Stands}
+use Rattle.lmtp_talk.specs.Peer.{PeerState, HasTransferred}
+use Rattle.lmtp_talk.specs.Saying.{OutboxView, HasSaid}
+use Rattle.lmtp_talk.specs.Standing.{Comes, IsInside, IsSoFar, standing, beginning}
 use Rattle.lmtp_talk.specs.Turns.{Greets, TakesTurn, EndsTurn, HandlesPiece, quit_or, end_behind}
 use Rattle.lmtp_talk.proofs.Written.{moved_none, said_reading}
 use Rattle.lmtp_talk.proofs.CutUp.{cut_none}
 use Rattle.lmtp_talk.proofs.Ends.{leave_none, served}
+use Rattle.lmtp_talk.specs.Steps.{talk}
 
 -- before the first reply nothing was said
-pub said_none : (s : PeerState) (broken : Bool) (pending : List ℕ) → broken ≡ false → pending ≡ [] → HasSaid s s broken pending [] []
-said_none s broken pending b p =
-    subst (λ x. HasSaid s s x pending [] []) (sym b) (subst (λ l. HasSaid s s false l [] []) (sym p) (record { written = []; moved = moved_none s; is = record { whole = refl; sound = refl } }))
+pub said_none : (s : PeerState) (outbox : OutboxView) → (outbox.pending ≡ []) × (outbox.broken ≡ false) → HasSaid s s outbox [] []
+said_none s outbox new =
+    let at : Bool → List ℕ → Type 0 = λ b l. HasSaid s s (record { pending = l; broken = b }) [] [] in
+    subst (λ b. at b outbox.pending) (sym new.1) (subst (λ l. at false l) (sym new.0) (record { written = []; moved = moved_none s; is = record { whole = refl; sound = refl } }))
 
 -- a peer gave more bytes
 pub stands_reading : (site : Site) (start peer later : PeerState) (Before Come : ℕ → List Transaction → Type 0) (Drafting : ℕ → List Transaction → List ℕ → Type 0) (dialogue : Dialogue) (handled came more : List ℕ)
-    → Stands site start Before dialogue peer Come Drafting handled came → HasWorked peer later more [] → Stands site start Before dialogue later Come Drafting handled (came ++ more)
+    → IsSoFar (beginning site start Before) (standing dialogue peer Come Drafting) handled came → HasTransferred peer later more [] → IsSoFar (beginning site start Before) (standing dialogue later Come Drafting) handled (came ++ more)
 stands_reading site start peer later Before Come Drafting dialogue handled came more h w = record {
   done = h.done;
   front = h.front;
@@ -37,18 +38,18 @@ stands_reading site start peer later Before Come Drafting dialogue handled came 
   same_site = h.same_site;
   session = h.session;
   quits = h.quits;
-  said = said_reading dialogue.outbox.broken start peer later dialogue.outbox.pending.items came more _ h.said w;
+  said = said_reading dialogue.outbox.broken start peer later dialogue.outbox.pending came more _ h.said w;
   goes = w.same ∙ h.goes;
   inside = h.inside;
 }
 
 -- a peer gave nothing more
 pub stands_still : (site : Site) (start peer later : PeerState) (Before Come : ℕ → List Transaction → Type 0) (Drafting : ℕ → List Transaction → List ℕ → Type 0) (dialogue : Dialogue) (handled came : List ℕ)
-    → Stands site start Before dialogue peer Come Drafting handled came → HasWorked peer later [] [] → Stands site start Before dialogue later Come Drafting handled came
+    → IsSoFar (beginning site start Before) (standing dialogue peer Come Drafting) handled came → HasTransferred peer later [] [] → IsSoFar (beginning site start Before) (standing dialogue later Come Drafting) handled came
 stands_still site start peer later Before Come Drafting dialogue handled came h w =
-    subst (λ l. Stands site start Before dialogue later Come Drafting handled l) (append-nil came) (stands_reading site start peer later Before Come Drafting dialogue handled came [] h w)
+    subst (λ l. IsSoFar (beginning site start Before) (standing dialogue later Come Drafting) handled l) (append-nil came) (stands_reading site start peer later Before Come Drafting dialogue handled came [] h w)
 
-inside_same : (state : State) (dialogue : Dialogue) (outbox : Outbox) (rest : List ℕ) (come : Type 0) (drafts : List ℕ → Type 0) → IsInside state dialogue rest come drafts → IsInside state (record dialogue { outbox = outbox }) rest come drafts
+inside_same : (state : State) (dialogue : Dialogue) (outbox : OutboxView) (rest : List ℕ) (come : Type 0) (drafts : List ℕ → Type 0) → IsInside state dialogue rest come drafts → IsInside state (record dialogue { outbox = outbox }) rest come drafts
 inside_same Fresh dialogue outbox rest come drafts x = record { behind = x.behind; comes = x.comes }
 inside_same Greeted dialogue outbox rest come drafts x = record { behind = x.behind; comes = x.comes }
 inside_same Sender dialogue outbox rest come drafts x = record { behind = x.behind; comes = x.comes }
@@ -58,9 +59,9 @@ inside_same Waiting dialogue outbox rest come drafts x = absurd x
 inside_same Ended dialogue outbox rest come drafts x = x
 
 -- what waited was written
-pub stands_flushed : (site : Site) (start peer later : PeerState) (Before Come : ℕ → List Transaction → Type 0) (Drafting : ℕ → List Transaction → List ℕ → Type 0) (dialogue : Dialogue) (outbox : Outbox) (handled came : List ℕ)
-    → ((text : List ℕ) → HasSaid start peer dialogue.outbox.broken dialogue.outbox.pending.items came text → HasSaid start later outbox.broken outbox.pending.items came text)
-    → later.stops ≡ peer.stops → Stands site start Before dialogue peer Come Drafting handled came → Stands site start Before (record dialogue { outbox = outbox }) later Come Drafting handled came
+pub stands_flushed : (site : Site) (start peer later : PeerState) (Before Come : ℕ → List Transaction → Type 0) (Drafting : ℕ → List Transaction → List ℕ → Type 0) (dialogue : Dialogue) (outbox : OutboxView) (handled came : List ℕ)
+    → ((text : List ℕ) → HasSaid start peer dialogue.outbox came text → HasSaid start later outbox came text)
+    → later.stops ≡ peer.stops → IsSoFar (beginning site start Before) (standing dialogue peer Come Drafting) handled came → IsSoFar (beginning site start Before) (standing (record dialogue { outbox = outbox }) later Come Drafting) handled came
 stands_flushed site start peer later Before Come Drafting dialogue outbox handled came says same h = record {
   done = h.done;
   front = h.front;
@@ -86,7 +87,7 @@ may_not_ended Ended h e = cc
 
 -- the beginning of a conversation
 pub begins : (site : Site) (before after : PeerState) (Come : ℕ → List Transaction → Type 0) (Drafting : ℕ → List Transaction → List ℕ → Type 0) (old new : Dialogue)
-    → old.session.site ≡ site → Greets old new before after → Stands site before Come new after Come Drafting [] []
+    → old.session.site ≡ site → Greets old new before after → IsSoFar (beginning site before Come) (standing new after Come Drafting) [] []
 begins site before after Come Drafting old new here h = record {
   done = [];
   front = [];
@@ -97,24 +98,24 @@ begins site before after Come Drafting old new here h = record {
   session = h.session;
   quits = record { ends = λ e. let wrong : Fresh ≡ Ended = sym (ap (λ (s : Session). s.state) h.session) ∙ e in cc; quit = λ e. cc };
   goes = h.same;
-  said = subst (λ l. HasSaid before after new.outbox.broken new.outbox.pending.items [] l) (ap (λ (x : Site). reply_text x Greeting) here ∙ sym (append-nil (reply_text site Greeting))) h.said;
+  said = subst (λ l. HasSaid before after new.outbox [] l) (ap (λ (x : Site). reply_text x Greeting) here ∙ sym (append-nil (reply_text site Greeting))) h.said;
   inside = subst (λ (s : State). IsInside s new [] (Comes site [] Come Come) (λ made. Comes site [] Come (λ n ts. Drafting n ts made))) (sym (ap (λ (s : Session). s.state) h.session))
       (record { behind = h.wire; comes = λ n ts c. subst (λ l. Come n l) (sym (append-nil ts)) c });
 }
 
 -- bytes came and are handled: the conversation has ended with them, or goes on
 module _ {D : Type 0} (HasCome : D → ℕ → List Transaction → Type 0) (IsDrafting : D → ℕ → List Transaction → List ℕ → Type 0) (old new : Dialogue) (before read after : PeerState) (delivery later : D) (piece : List ℕ) where
-  handled_all : HasWorked before read piece [] → HandlesPiece HasCome IsDrafting old new read after delivery later piece
-      → (site : Site) (start : PeerState) (first : D) (handled : List ℕ) → Stands site start (HasCome first) old before (HasCome delivery) (IsDrafting delivery) handled handled
-      → Stands site start (HasCome first) new after (HasCome later) (IsDrafting later) (handled ++ piece) (handled ++ piece)
+  handled_all : HasTransferred before read piece [] → HandlesPiece HasCome IsDrafting (talk old read delivery) (talk new after later) piece
+      → (site : Site) (start : PeerState) (first : D) (handled : List ℕ) → IsSoFar (beginning site start (HasCome first)) (standing old before (HasCome delivery) (IsDrafting delivery)) handled handled
+      → IsSoFar (beginning site start (HasCome first)) (standing new after (HasCome later) (IsDrafting later)) (handled ++ piece) (handled ++ piece)
   handled_all w handles site start first handled h =
       handles site start first handled (stands_reading site start before read (HasCome first) (HasCome delivery) (IsDrafting delivery) old handled handled piece h w)
 
-  goes_on : 0 < length piece → HasWorked before read piece [] → HandlesPiece HasCome IsDrafting old new read after delivery later piece → TakesTurn HasCome IsDrafting old new before after delivery later
+  goes_on : 0 < length piece → HasTransferred before read piece [] → HandlesPiece HasCome IsDrafting (talk old read delivery) (talk new after later) piece → TakesTurn HasCome IsDrafting (talk old before delivery) (talk new after later)
   goes_on some w handles site start first handled h = record { more = piece; some = some; stands = handled_all w handles site start first handled h }
 
-  ends_with : (broken : Bool) → new.session.session.state ≡ Ended → new.outbox.broken ≡ broken → new.outbox.pending.items ≡ [] → HasWorked before read piece [] → HandlesPiece HasCome IsDrafting old new read after delivery later piece
-      → EndsTurn HasCome IsDrafting old before after delivery later (quit_or broken)
+  ends_with : (broken : Bool) → new.session.session.state ≡ Ended → new.outbox.broken ≡ broken → new.outbox.pending ≡ [] → HasTransferred before read piece [] → HandlesPiece HasCome IsDrafting (talk old read delivery) (talk new after later) piece
+      → EndsTurn HasCome IsDrafting (talk old before delivery) (talk new after later) (quit_or broken)
   ends_with true ended broken none w handles site start first handled h =
       served site start after (HasCome first) (HasCome later) (HasCome later) (IsDrafting later) new (handled ++ piece) ends.WriteFault (handled_all w handles site start first handled h)
       (leave_none new.session.session.state (HasCome later) (IsDrafting later) (λ e. let wrong : Content ≡ Ended = sym e ∙ ended in cc)) broken
@@ -123,14 +124,14 @@ module _ {D : Type 0} (HasCome : D → ℕ → List Transaction → Type 0) (IsD
       (leave_none new.session.session.state (HasCome later) (IsDrafting later) (λ e. let wrong : Content ≡ Ended = sym e ∙ ended in cc))
       (record { whole = broken; none = none }, ended)
 
-  never_waits : (broken : Bool) → new.session.session.state ≡ Waiting → HasWorked before read piece [] → HandlesPiece HasCome IsDrafting old new read after delivery later piece
-      → EndsTurn HasCome IsDrafting old before after delivery later (quit_or broken)
+  never_waits : (broken : Bool) → new.session.session.state ≡ Waiting → HasTransferred before read piece [] → HandlesPiece HasCome IsDrafting (talk old read delivery) (talk new after later) piece
+      → EndsTurn HasCome IsDrafting (talk old before delivery) (talk new after later) (quit_or broken)
   never_waits broken waits w handles site start first handled h =
       let s = handled_all w handles site start first handled h in
       absurd (subst (λ (x : State). IsInside x new s.rest (Comes site s.done (HasCome first) (HasCome later)) (λ made. Comes site s.done (HasCome first) (λ n ts. IsDrafting later n ts made))) waits s.inside)
 
-  pub turns_by : (state : State) → new.session.session.state ≡ state → new.outbox.pending.items ≡ [] → 0 < length piece → HasWorked before read piece [] → HandlesPiece HasCome IsDrafting old new read after delivery later piece
-      → MatchOption (end_behind state new.outbox.broken) (TakesTurn HasCome IsDrafting old new before after delivery later) (EndsTurn HasCome IsDrafting old before after delivery later)
+  pub turns_by : (state : State) → new.session.session.state ≡ state → new.outbox.pending ≡ [] → 0 < length piece → HasTransferred before read piece [] → HandlesPiece HasCome IsDrafting (talk old read delivery) (talk new after later) piece
+      → MatchOption (end_behind state new.outbox.broken) (TakesTurn HasCome IsDrafting (talk old before delivery) (talk new after later)) (EndsTurn HasCome IsDrafting (talk old before delivery) (talk new after later))
   turns_by Fresh e none some w handles = goes_on some w handles
   turns_by Greeted e none some w handles = goes_on some w handles
   turns_by Sender e none some w handles = goes_on some w handles

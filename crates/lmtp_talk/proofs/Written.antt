@@ -12,7 +12,7 @@ use Rattle.mail_world.specs.Replies.{reply_text, reply_texts}
 use Rattle.std.proofs.lemmas.List.{take-append-drop, take_rest}
 use Rattle.std.proofs.KnownBytes.{Appends-nil, Consumes-nil, Appends-trans, Consumes-trans}
 use Rattle.mail_world.specs.Failures.{Rises}
-use Rattle.lmtp_talk.specs.Peer.{PeerState, HasMoved, HasWorked, HasFailed}
+use Rattle.lmtp_talk.specs.Peer.{PeerState, HasMoved, HasTransferred, HasFailed}
 use Rattle.lmtp_talk.specs.Saying.{BreaksOff, HasSaid}
 
 pub OnErr-any : {T E Q : Type 0} (r : Result T E) → Q → OnErr r Q
@@ -42,41 +42,26 @@ moved_reading s t u a b c x y = subst (λ l. HasMoved s u (a ++ b) l) (append-ni
 pub record GivenUpTo (old new : PeerState) (text rest : List ℕ) : Type 0 where
   pub front : List ℕ
   pub whole : text ≡ front ++ rest
-  pub worked : HasWorked old new [] front
+  pub worked : HasTransferred old new [] front
 
-pub given_none : (s : PeerState) (text : List ℕ) → GivenUpTo s s text text
-given_none s text = record { front = []; whole = refl; worked = record { moved = moved_none s; sound = refl; same = refl } }
-
-pub given_next : (s t u : PeerState) (text a b : List ℕ) → GivenUpTo s t text (a ++ b) → HasWorked t u [] a → GivenUpTo s u text b
+pub given_next : (s t u : PeerState) (text a b : List ℕ) → GivenUpTo s t text (a ++ b) → HasTransferred t u [] a → GivenUpTo s u text b
 given_next s t u text a b x y = record {
   front = x.front ++ a;
   whole = x.whole ∙ sym (append_assoc x.front a b);
   worked = record { moved = moved_writing s t u [] x.front a x.worked.moved y.moved; sound = y.sound ∙ x.worked.sound; same = y.same ∙ x.worked.same };
 }
 
-pub given_more : (s t u : PeerState) (text rest : List ℕ) (n : ℕ) → GivenUpTo s t text rest → HasWorked t u [] (take n rest)
+pub given_more : (s t u : PeerState) (text rest : List ℕ) (n : ℕ) → GivenUpTo s t text rest → HasTransferred t u [] (take n rest)
     → GivenUpTo s u text (take (length rest - n) (drop n rest))
 given_more s t u text rest n x y = rw (take_rest rest n)
     (given_next s t u text (take n rest) (drop n rest) (subst (λ l. GivenUpTo s t text l) (sym (take-append-drop n rest)) x) y)
 
-pub given_all : (s t : PeerState) (text rest : List ℕ) → GivenUpTo s t text rest → rest ≡ [] → HasWorked s t [] text
-given_all s t text rest x e = subst (λ l. HasWorked s t [] l) (sym (x.whole ∙ ap (λ l. x.front ++ l) e ∙ append-nil x.front)) x.worked
-
 rises_from : (a b c : ℕ) → b ≡ a → Rises b c → Rises a c
 rises_from a b c e r = subst (λ k. Rises k c) e r
 
-pub given_broken : (s t u : PeerState) (text rest : List ℕ) → GivenUpTo s t text rest → HasFailed t u → BreaksOff s u text
-given_broken s t u text rest x y = record {
-  front = x.front;
-  begins = record { rest = rest; whole = x.whole };
-  moved = subst (λ l. HasMoved s u [] l) (append-nil x.front) (moved_writing s t u [] x.front [] x.worked.moved y.moved);
-  failed = rises_from s.failures t.failures u.failures x.worked.sound y.failed;
-  same = y.same ∙ x.worked.same;
-}
-
 -- what waits is written, or a write failed
-pub flushed : {E : Type 0} (start s t : PeerState) (r : Result (Unit {0}) E) (pending came text : List ℕ) → HasSaid start s false pending came text
-    → OnOk r (HasWorked s t [] pending) → OnErr r (BreaksOff s t pending) → HasSaid start t (is_err r) [] came text
+pub flushed : {E : Type 0} (start s t : PeerState) (r : Result (Unit {0}) E) (pending came text : List ℕ) → HasSaid start s (record { pending = pending; broken = false }) came text
+    → OnOk r (HasTransferred s t [] pending) → OnErr r (BreaksOff s t pending) → HasSaid start t (record { pending = []; broken = (is_err r) }) came text
 flushed start s t (Ok x) pending came text h ok err = record {
   written = h.written ++ pending;
   moved = moved_writing start s t came h.written pending h.moved ok.moved;
@@ -94,30 +79,9 @@ flushed start s t (Err e) pending came text h ok err = record {
   };
 }
 
--- nothing more is written
-pub dropped : (start s : PeerState) (pending other came text : List ℕ) → HasSaid start s true pending came text → HasSaid start s true other came text
-dropped start s pending other came text h = record { written = h.written; moved = h.moved; is = h.is }
-
--- a reply waits behind the others
-pub says_more : (broken : Bool) (start s : PeerState) (pending reply came text : List ℕ) → HasSaid start s broken pending came text
-    → HasSaid start s broken (pending ++ reply) came (text ++ reply)
-says_more false start s pending reply came text h = record {
-  written = h.written;
-  moved = h.moved;
-  is = record { whole = ap (λ l. l ++ reply) h.is.whole ∙ append_assoc h.written pending reply; sound = h.is.sound };
-}
-says_more true start s pending reply came text h = record {
-  written = h.written;
-  moved = h.moved;
-  is = record {
-    begins = record { rest = h.is.begins.rest ++ reply; whole = ap (λ l. l ++ reply) h.is.begins.whole ∙ append_assoc h.written h.is.begins.rest reply };
-    failed = h.is.failed;
-  };
-}
-
 -- the peer moved on without a failure
-pub said_on : (broken : Bool) (start s t : PeerState) (pending came more text : List ℕ) → HasSaid start s broken pending came text → HasMoved s t more [] → t.failures ≡ s.failures
-    → HasSaid start t broken pending (came ++ more) text
+pub said_on : (broken : Bool) (start s t : PeerState) (pending came more text : List ℕ) → HasSaid start s (record { pending = pending; broken = broken }) came text → HasMoved s t more [] → t.failures ≡ s.failures
+    → HasSaid start t (record { pending = pending; broken = broken }) (came ++ more) text
 said_on false start s t pending came more text h moved sound = record {
   written = h.written;
   moved = moved_reading start s t came more h.written h.moved moved;
@@ -130,8 +94,8 @@ said_on true start s t pending came more text h moved sound = record {
 }
 
 -- more has come
-pub said_reading : (broken : Bool) (start s t : PeerState) (pending came more text : List ℕ) → HasSaid start s broken pending came text → HasWorked s t more []
-    → HasSaid start t broken pending (came ++ more) text
+pub said_reading : (broken : Bool) (start s t : PeerState) (pending came more text : List ℕ) → HasSaid start s (record { pending = pending; broken = broken }) came text → HasTransferred s t more []
+    → HasSaid start t (record { pending = pending; broken = broken }) (came ++ more) text
 said_reading broken start s t pending came more text h w = said_on broken start s t pending came more text h w.moved w.sound
 
 -- replies one after another
@@ -146,8 +110,3 @@ one_more site rs i r text within is =
 
 pub all_said : (site : Site) (rs : List Reply) (n : ℕ) (text : List ℕ) → n ≡ length rs → text ++ reply_texts site (take n rs) ≡ text ++ reply_texts site rs
 all_said site rs n text e = ap (λ l. text ++ reply_texts site l) (ap (λ k. take k rs) e ∙ take-length rs)
-
--- a write never says that the server is to stop
-pub still_goes : {E : Type 0} (s t : PeerState) (r : Result (Unit {0}) E) (bytes : List ℕ) → OnOk r (HasWorked s t [] bytes) → OnErr r (BreaksOff s t bytes) → t.stops ≡ s.stops
-still_goes s t (Ok x) bytes ok err = ok.same
-still_goes s t (Err e) bytes ok err = err.same

@@ -10,7 +10,6 @@ use Rattle.mail_world.specs.Lists.{Transaction}
 abbrev pub ended_so : Verdict → ℕ → List Outcome → Disposition
 ended_so verdict moment told = record { verdict = verdict; moment = moment; outcomes = told }
 
--- the draft is one transaction more
-abbrev pub EndsDraft : (ℕ → List Transaction → Type 0) → ℕ → List Outcome → Session → ℕ → List Transaction → List ℕ → Verdict → Type 0
-EndsDraft HasCome moment told session n ts message verdict =
-    HasCome n (ts ++ record { number = n; session = session; message = message; disposition = ended_so verdict moment told } ∷ [])
+-- the draft is one transaction more: of this session, with this message, and this became of it
+abbrev pub EndsDraft : (ℕ → List Transaction → Type 0) → ℕ → List Transaction → Session → List ℕ → Disposition → Type 0
+EndsDraft HasCome n ts session message disposition = HasCome n (ts ++ record { number = n; session = session; message = message; disposition = disposition } ∷ [])

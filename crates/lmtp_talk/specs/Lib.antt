@@ -6,3 +6,5 @@ pub mod Standing
 pub mod Steps
 pub mod Turns
 pub mod Script
+pub mod ReadBuffer
+pub mod TcpPeer

@@ -22,7 +22,7 @@ pub record HasMoved (old new : PeerState) (came said : List ℕ) : Type 0 where
   pub still : new.holds ≡ old.holds
 
 -- the same, and nothing failed
-pub record HasWorked (old new : PeerState) (came said : List ℕ) : Type 0 where
+pub record HasTransferred (old new : PeerState) (came said : List ℕ) : Type 0 where
   pub moved : HasMoved old new came said
   pub sound : new.failures ≡ old.failures
   pub same : new.stops ≡ old.stops
@@ -39,12 +39,12 @@ pub record HasStopped (old new : PeerState) : Type 0 where
   pub sound : new.failures ≡ old.failures
   pub stopped : Rises old.stops new.stops
 
--- what a read answered is so
-abbrev pub HasCome : PeerState → PeerState → List ℕ → Came → Type 0
-HasCome old new buffer (Bytes n) = (1 ≤ n) × (n ≤ length buffer) × HasWorked old new (take n buffer) []
-HasCome old new buffer End = HasWorked old new [] [] × IsAtEnd new.unread
-HasCome old new buffer Stop = HasStopped old new
+-- a read has brought what it answered
+abbrev pub HasBrought : PeerState → PeerState → List ℕ → Came → Type 0
+HasBrought old new buffer (Bytes n) = (1 ≤ n) × (n ≤ length buffer) × HasTransferred old new (take n buffer) []
+HasBrought old new buffer End = HasTransferred old new [] [] × IsAtEnd new.unread
+HasBrought old new buffer Stop = HasStopped old new
 
--- so many bytes of the front were written
-abbrev pub HasGiven : PeerState → PeerState → List ℕ → ℕ → Type 0
-HasGiven old new bytes n = (1 ≤ n) × (n ≤ length bytes) × HasWorked old new [] (take n bytes)
+-- so many bytes of the front were accepted
+abbrev pub HasWritten : PeerState → PeerState → List ℕ → ℕ → Type 0
+HasWritten old new bytes n = (1 ≤ n) × (n ≤ length bytes) × HasTransferred old new [] (take n bytes)

@@ -3,7 +3,7 @@ use Rattle.std.specs.Prelude.{◌≡◌, ℕ, ⊤, Bool, true, false, List, [], 
 use Rattle.mail_world.specs.declared.Reply.{Reply}
 use Rattle.mail_world.specs.declared.Reply.TheVariants.{GoAhead}
 use Rattle.mail_world.specs.Failures.{Rises}
-use Rattle.mail_world.specs.Deliveries.{IsFront}
+use Rattle.mail_world.specs.Fronts.{IsFront}
 use Rattle.lmtp_session.specs.declared.act.Act.{Act}
 use Rattle.lmtp_session.specs.declared.act.Act.TheVariants.{Say, ReadData, Deliver, Answer, Quit}
 use Rattle.lmtp_talk.specs.Peer.{PeerState, HasMoved}
@@ -30,11 +30,24 @@ abbrev pub IsSaid : Bool → PeerState → PeerState → List ℕ → List ℕ �
 IsSaid false start now written pending text = IsWhole start now written pending text
 IsSaid true start now written pending text = IsBroken start now written text
 
+-- what contracts see of an outbox: the bytes of the replies that wait, and whether a write has failed
+pub record OutboxView : Type 0 where
+  pub pending : List ℕ
+  pub broken : Bool
+
 -- since the start these bytes have come, and this text was said
-pub record HasSaid (start now : PeerState) (broken : Bool) (pending came text : List ℕ) : Type 0 where
+pub record HasSaid (start now : PeerState) (outbox : OutboxView) (came text : List ℕ) : Type 0 where
   pub written : List ℕ
   pub moved : HasMoved start now came written
-  pub is : IsSaid broken start now written pending text
+  pub is : IsSaid outbox.broken start now written outbox.pending text
+
+-- whatever was said before, this text was said behind it
+abbrev pub Says : PeerState → PeerState → OutboxView → OutboxView → List ℕ → Type 0
+Says before after old new more = (start : PeerState) (came text : List ℕ) → HasSaid start before old came text → HasSaid start after new came (text ++ more)
+
+-- whatever was said before, nothing was said behind it
+abbrev pub SaysNoMore : PeerState → PeerState → OutboxView → OutboxView → Type 0
+SaysNoMore before after old new = (start : PeerState) (came text : List ℕ) → HasSaid start before old came text → HasSaid start after new came text
 
 -- the replies that an act says, where these are kept for the recipients
 abbrev pub said : Act → List Reply → List Reply

@@ -8,7 +8,7 @@ use Rattle.mail_world.specs.Commands.{Answer, Quit, command}
 use Rattle.mail_world.specs.Session.{fresh, Input, Line}
 use Rattle.mail_world.specs.Conversation.{Conversation, IsAccount, inputs, replies, parts}
 use Rattle.mail_world.specs.Lists.{Transaction, accepted_after, transactions_of}
-use Rattle.mail_world.specs.Deliveries.{IsFront}
+use Rattle.mail_world.specs.Fronts.{IsFront}
 use Rattle.lmtp_talk.specs.declared.ending.EndCause.{EndCause}
 use Rattle.lmtp_talk.specs.declared.ending.EndCause.TheVariants as ends
 use Rattle.lmtp_talk.specs.Peer.{PeerState, HasMoved}

@@ -49,17 +49,36 @@ IsInside Waiting dialogue rest come drafts = ⊥
 IsInside Ended dialogue rest come drafts = come
 IsInside _ dialogue rest come drafts = InLine dialogue rest come
 
--- Of the bytes that came since the start of the conversation, these are handled.
-pub record Stands (site : Site) (start : PeerState) (Before : ℕ → List Transaction → Type 0) (dialogue : Dialogue) (peer : PeerState)
-    (Come : ℕ → List Transaction → Type 0) (Drafting : ℕ → List Transaction → List ℕ → Type 0) (handled came : List ℕ) : Type 0 where
+-- where a conversation began: at this site, with a peer that stood so, and with a delivery that had come to this
+pub record Beginning : Type 1 where
+  pub site : Site
+  pub peer : PeerState
+  pub come : ℕ → List Transaction → Type 0
+
+abbrev pub beginning : Site → PeerState → (ℕ → List Transaction → Type 0) → Beginning
+beginning site peer come = record { site = site; peer = peer; come = come }
+
+-- where its parts stand now: the delivery has come to this, with this draft in hand where there is one
+pub record Standing : Type 1 where
+  pub dialogue : Dialogue
+  pub peer : PeerState
+  pub come : ℕ → List Transaction → Type 0
+  pub drafting : ℕ → List Transaction → List ℕ → Type 0
+
+abbrev pub standing : Dialogue → PeerState → (ℕ → List Transaction → Type 0) → (ℕ → List Transaction → List ℕ → Type 0) → Standing
+standing dialogue peer come drafting = record { dialogue = dialogue; peer = peer; come = come; drafting = drafting }
+
+-- Of the bytes that came since the beginning of the conversation, these are handled.
+pub record IsSoFar (first : Beginning) (now : Standing) (handled came : List ℕ) : Type 0 where
   pub done : List Part
   pub front : List ℕ
   pub rest : List ℕ
   pub whole : handled ≡ front ++ rest
-  pub cut : IsCutUp site front done
-  pub same_site : dialogue.session.site ≡ site
-  pub session : dialogue.session.session ≡ session_behind site fresh done
-  pub quits : QuitsWith dialogue.session.session.state (flat_map inputs_of done)
-  pub said : HasSaid start peer dialogue.outbox.broken dialogue.outbox.pending.items came (reply_text site Greeting ++ reply_texts site (replies_to site fresh (flat_map inputs_of done)))
-  pub goes : peer.stops ≡ start.stops
-  pub inside : IsInside dialogue.session.session.state dialogue rest (Comes site done Before Come) (λ made. Comes site done Before (λ n ts. Drafting n ts made))
+  pub cut : IsCutUp first.site front done
+  pub same_site : now.dialogue.session.site ≡ first.site
+  pub session : now.dialogue.session.session ≡ session_behind first.site fresh done
+  pub quits : QuitsWith now.dialogue.session.session.state (flat_map inputs_of done)
+  pub said : HasSaid first.peer now.peer now.dialogue.outbox came (reply_text first.site Greeting ++ reply_texts first.site (replies_to first.site fresh (flat_map inputs_of done)))
+  pub goes : now.peer.stops ≡ first.peer.stops
+  pub inside : IsInside now.dialogue.session.session.state now.dialogue rest (Comes first.site done first.come now.come)
+      (λ made. Comes first.site done first.come (λ n ts. now.drafting n ts made))

@@ -14,7 +14,8 @@ use Rattle.mail_world.specs.declared.State.TheVariants.{Waiting, Ended}
 use Rattle.lmtp_talk.specs.Peer.{PeerState}
 use Rattle.lmtp_talk.specs.Saying.{HasSaid}
 use Rattle.lmtp_talk.specs.Served.{IsServed}
-use Rattle.lmtp_talk.specs.Standing.{Stands}
+use Rattle.lmtp_talk.specs.Standing.{Beginning, beginning, Standing, IsSoFar}
+use Rattle.lmtp_talk.specs.Steps.{Talk, standing_of}
 
 -- a conversation has begun, and its greeting was said
 pub record Greets (old new : Dialogue) (before after : PeerState) : Type 0 where
@@ -22,7 +23,7 @@ pub record Greets (old new : Dialogue) (before after : PeerState) : Type 0 where
   pub session : new.session.session ≡ fresh
   pub wire : IsBehind new.wire []
   pub same : after.stops ≡ before.stops
-  pub said : HasSaid before after new.outbox.broken new.outbox.pending.items [] (reply_text old.session.site Greeting)
+  pub said : HasSaid before after new.outbox [] (reply_text old.session.site Greeting)
 
 -- a draft is dropped, and where there is none all stays as it was
 abbrev pub Leaves : Bool → (ℕ → List Transaction → Type 0) → (ℕ → List Transaction → List ℕ → Type 0) → (ℕ → List Transaction → Type 0) → Type 0
@@ -30,32 +31,28 @@ Leaves true Come Drafting Last = (n : ℕ) (ts : List Transaction) (message : Li
 Leaves false Come Drafting Last = (n : ℕ) (ts : List Transaction) → Come n ts → Last n ts
 
 -- more bytes have come and are handled
-pub record StandsFurther (site : Site) (start : PeerState) (Before : ℕ → List Transaction → Type 0) (dialogue : Dialogue) (peer : PeerState)
-    (Come : ℕ → List Transaction → Type 0) (Drafting : ℕ → List Transaction → List ℕ → Type 0) (handled : List ℕ) : Type 0 where
+pub record IsFurther (first : Beginning) (now : Standing) (handled : List ℕ) : Type 0 where
   pub more : List ℕ
   pub some : 0 < length more
-  pub stands : Stands site start Before dialogue peer Come Drafting (handled ++ more) (handled ++ more)
+  pub stands : IsSoFar first now (handled ++ more) (handled ++ more)
 
 -- a turn after which the conversation goes on
-abbrev pub TakesTurn : {D : Type 0} → (D → ℕ → List Transaction → Type 0) → (D → ℕ → List Transaction → List ℕ → Type 0)
-    → Dialogue → Dialogue → PeerState → PeerState → D → D → Type 0
-TakesTurn {D} HasCome IsDrafting old new before after delivery later = (site : Site) (start : PeerState) (first : D) (handled : List ℕ)
-    → Stands site start (HasCome first) old before (HasCome delivery) (IsDrafting delivery) handled handled
-    → StandsFurther site start (HasCome first) new after (HasCome later) (IsDrafting later) handled
+abbrev pub TakesTurn : {D : Type 0} → (D → ℕ → List Transaction → Type 0) → (D → ℕ → List Transaction → List ℕ → Type 0) → Talk D → Talk D → Type 0
+TakesTurn {D} HasCome IsDrafting old new = (site : Site) (start : PeerState) (first : D) (handled : List ℕ)
+    → IsSoFar (beginning site start (HasCome first)) (standing_of HasCome IsDrafting old) handled handled
+    → IsFurther (beginning site start (HasCome first)) (standing_of HasCome IsDrafting new) handled
 
 -- what is behind the last turn
-abbrev pub EndsTurn : {D : Type 0} → (D → ℕ → List Transaction → Type 0) → (D → ℕ → List Transaction → List ℕ → Type 0)
-    → Dialogue → PeerState → PeerState → D → D → EndCause → Type 0
-EndsTurn {D} HasCome IsDrafting old before after delivery later end = (site : Site) (start : PeerState) (first : D) (handled : List ℕ)
-    → Stands site start (HasCome first) old before (HasCome delivery) (IsDrafting delivery) handled handled
-    → IsServed site start after (HasCome first) (HasCome later) end
+abbrev pub EndsTurn : {D : Type 0} → (D → ℕ → List Transaction → Type 0) → (D → ℕ → List Transaction → List ℕ → Type 0) → Talk D → Talk D → EndCause → Type 0
+EndsTurn {D} HasCome IsDrafting old new end = (site : Site) (start : PeerState) (first : D) (handled : List ℕ)
+    → IsSoFar (beginning site start (HasCome first)) (standing_of HasCome IsDrafting old) handled handled
+    → IsServed site start new.peer (HasCome first) (HasCome new.delivery) end
 
 -- the bytes that have come are handled, and the conversation goes on, or it has ended with them
-abbrev pub HandlesPiece : {D : Type 0} → (D → ℕ → List Transaction → Type 0) → (D → ℕ → List Transaction → List ℕ → Type 0)
-    → Dialogue → Dialogue → PeerState → PeerState → D → D → List ℕ → Type 0
-HandlesPiece {D} HasCome IsDrafting old new before after delivery later piece = (site : Site) (start : PeerState) (first : D) (handled : List ℕ)
-    → Stands site start (HasCome first) old before (HasCome delivery) (IsDrafting delivery) handled (handled ++ piece)
-    → Stands site start (HasCome first) new after (HasCome later) (IsDrafting later) (handled ++ piece) (handled ++ piece)
+abbrev pub HandlesPiece : {D : Type 0} → (D → ℕ → List Transaction → Type 0) → (D → ℕ → List Transaction → List ℕ → Type 0) → Talk D → Talk D → List ℕ → Type 0
+HandlesPiece {D} HasCome IsDrafting old new piece = (site : Site) (start : PeerState) (first : D) (handled : List ℕ)
+    → IsSoFar (beginning site start (HasCome first)) (standing_of HasCome IsDrafting old) handled (handled ++ piece)
+    → IsSoFar (beginning site start (HasCome first)) (standing_of HasCome IsDrafting new) (handled ++ piece) (handled ++ piece)
 
 -- where a turn ends with QUIT; a write that failed comes before it
 abbrev pub quit_or : Bool → EndCause

@@ -4,7 +4,7 @@ ghost use Rattle.std.specs.Prelude.{◌≡◌, ◌<◌, [], ◌∷◌, length, I
 ghost use Rattle.mail_world.specs.Session.{Stop};
 ghost use Rattle.mail_world.specs.Lists.{is_content};
 ghost use Rattle.lmtp_session.specs.Steps.{MayStop};
-ghost use Rattle.lmtp_talk.specs.Steps.{TakesInputs};
+ghost use Rattle.lmtp_talk.specs.Steps.{talk, TakesInputs};
 ghost use Rattle.lmtp_talk.specs.Turns.{Greets, Leaves, TakesTurn, EndsTurn, HandlesPiece, end_behind, stopped_or};
 ghost use Rattle.lmtp_talk.specs.Served.{IsServed};
 
@@ -27,7 +27,8 @@ pub fn serve<P: Peer, D: Delivery>(
     delivery: &mut D,
 ) -> EndCause
     requires { D.site delivery.old ≡ dialogue.old.session.site }
-    ensures serves { IsServed dialogue.old.session.site (P.state peer.old) (P.state peer.new) (D.HasCome delivery.old) (D.HasCome delivery.new) result }
+    ensures serves { IsServed dialogue.old.session.site (P.state peer.old) (P.state peer.new)
+        (D.HasCome delivery.old) (D.HasCome delivery.new) result }
     ensures site { dialogue.new.session.site ≡ dialogue.old.session.site }
     ensures same { D.site delivery.new ≡ D.site delivery.old }
 {
@@ -38,7 +39,7 @@ pub fn serve<P: Peer, D: Delivery>(
 // The first reply (RFC 5321, 4.3.1).
 fn greet<P: Peer>(dialogue: &mut Dialogue, peer: &mut P)
     ensures greets { Greets dialogue.old dialogue.new (P.state peer.old) (P.state peer.new) }
-    ensures none { dialogue.new.outbox.pending.items ≡ [] }
+    ensures none { dialogue.new.outbox.pending ≡ [] }
 {
     dialogue.wire.clear();
     dialogue.outbox.clear();
@@ -54,9 +55,10 @@ fn take_turns<P: Peer, D: Delivery>(
     delivery: &mut D,
 ) -> EndCause
     requires may { MayStop dialogue.old.session.session.state }
-    requires none { dialogue.old.outbox.pending.items ≡ [] }
+    requires none { dialogue.old.outbox.pending ≡ [] }
     requires here { D.site delivery.old ≡ dialogue.old.session.site }
-    ensures ends { EndsTurn D.HasCome D.IsDrafting dialogue.old (P.state peer.old) (P.state peer.new) delivery.old delivery.new result }
+    ensures ends { EndsTurn D.HasCome D.IsDrafting (talk dialogue.old (P.state peer.old) delivery.old)
+        (talk dialogue.new (P.state peer.new) delivery.new) result }
     ensures site { dialogue.new.session.site ≡ dialogue.old.session.site }
     ensures same { D.site delivery.new ≡ D.site delivery.old }
 {
@@ -67,7 +69,7 @@ fn take_turns<P: Peer, D: Delivery>(
         }
     }
     leave(dialogue, delivery);
-    if dialogue.outbox.broken {
+    if dialogue.outbox.is_broken() {
         EndCause::WriteFault
     } else {
         EndCause::ReadBound
@@ -83,18 +85,20 @@ fn take_turn<P: Peer, D: Delivery>(
 ) -> Option<EndCause>
     requires some { 0 < length buffer.old }
     requires may { MayStop dialogue.old.session.session.state }
-    requires none { dialogue.old.outbox.pending.items ≡ [] }
+    requires none { dialogue.old.outbox.pending ≡ [] }
     requires here { D.site delivery.old ≡ dialogue.old.session.site }
     ensures turn { MatchOption result
-        (TakesTurn D.HasCome D.IsDrafting dialogue.old dialogue.new (P.state peer.old) (P.state peer.new) delivery.old delivery.new)
-        (EndsTurn D.HasCome D.IsDrafting dialogue.old (P.state peer.old) (P.state peer.new) delivery.old delivery.new) }
+        (TakesTurn D.HasCome D.IsDrafting (talk dialogue.old (P.state peer.old) delivery.old)
+        (talk dialogue.new (P.state peer.new) delivery.new))
+        (EndsTurn D.HasCome D.IsDrafting (talk dialogue.old (P.state peer.old) delivery.old)
+        (talk dialogue.new (P.state peer.new) delivery.new)) }
     ensures may { MatchOption result (MayStop dialogue.new.session.session.state) (λ _. Unit {0}) }
-    ensures none { MatchOption result (dialogue.new.outbox.pending.items ≡ []) (λ _. Unit {0}) }
+    ensures none { MatchOption result (dialogue.new.outbox.pending ≡ []) (λ _. Unit {0}) }
     ensures size { length buffer.new ≡ length buffer.old }
     ensures site { dialogue.new.session.site ≡ dialogue.old.session.site }
     ensures same { D.site delivery.new ≡ D.site delivery.old }
 {
-    if dialogue.outbox.broken {
+    if dialogue.outbox.is_broken() {
         leave(dialogue, delivery);
         return Some(EndCause::WriteFault);
     }
@@ -110,7 +114,7 @@ fn take_turn<P: Peer, D: Delivery>(
         Ok(Came::Stop) => {
             leave(dialogue, delivery);
             stop(dialogue, peer);
-            Some(stopped_or_fault(dialogue.outbox.broken))
+            Some(stopped_or_fault(dialogue.outbox.is_broken()))
         }
         Err(_) => {
             leave(dialogue, delivery);
@@ -127,8 +131,9 @@ fn take_piece<P: Peer, D: Delivery>(
     piece: &[u8],
 )
     requires { D.site delivery.old ≡ dialogue.old.session.site }
-    ensures handles { HandlesPiece D.HasCome D.IsDrafting dialogue.old dialogue.new (P.state peer.old) (P.state peer.new) delivery.old delivery.new piece.now }
-    ensures none { dialogue.new.outbox.pending.items ≡ [] }
+    ensures handles { HandlesPiece D.HasCome D.IsDrafting (talk dialogue.old (P.state peer.old) delivery.old)
+        (talk dialogue.new (P.state peer.new) delivery.new) piece.now }
+    ensures none { dialogue.new.outbox.pending ≡ [] }
     ensures site { dialogue.new.session.site ≡ dialogue.old.session.site }
     ensures same { D.site delivery.new ≡ D.site delivery.old }
 {
@@ -141,7 +146,7 @@ fn end_or_go_on(dialogue: &Dialogue) -> Option<EndCause>
     ensures { result ≡ end_behind dialogue.now.session.session.state dialogue.now.outbox.broken }
 {
     match dialogue.session.state() {
-        State::Ended | State::Waiting => Some(if dialogue.outbox.broken {
+        State::Ended | State::Waiting => Some(if dialogue.outbox.is_broken() {
             EndCause::WriteFault
         } else {
             EndCause::Quit
@@ -162,7 +167,8 @@ fn stopped_or_fault(broken: bool) -> EndCause
 
 // The draft of a conversation that ends inside data is dropped.
 fn leave<D: Delivery>(dialogue: &Dialogue, delivery: &mut D)
-    ensures leaves { Leaves (is_content dialogue.now.session.session.state) (D.HasCome delivery.old) (D.IsDrafting delivery.old) (D.HasCome delivery.new) }
+    ensures leaves { Leaves (is_content dialogue.now.session.session.state)
+        (D.HasCome delivery.old) (D.IsDrafting delivery.old) (D.HasCome delivery.new) }
     ensures same { D.site delivery.new ≡ D.site delivery.old }
 {
     match dialogue.session.state() {
@@ -175,7 +181,7 @@ fn leave<D: Delivery>(dialogue: &Dialogue, delivery: &mut D)
 fn stop<P: Peer>(dialogue: &mut Dialogue, peer: &mut P)
     requires { MayStop dialogue.old.session.session.state }
     ensures takes { TakesInputs (Stop ∷ []) dialogue.old dialogue.new (P.state peer.old) (P.state peer.new) }
-    ensures none { dialogue.new.outbox.pending.items ≡ [] }
+    ensures none { dialogue.new.outbox.pending ≡ [] }
 {
     let act = dialogue.session.stop();
     dialogue.outbox.say_all(peer, &dialogue.session, act);

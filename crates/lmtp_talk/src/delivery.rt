@@ -4,7 +4,7 @@ ghost use Rattle.std.specs.Prelude.{◌≡◌, ℕ, ◌+◌, List, [], ◌++◌,
 ghost use Rattle.mail_world.specs.declared.Outcome.{Outcome as Told};
 ghost use Rattle.mail_world.specs.Lists.{Transaction};
 ghost use Rattle.mail_world.specs.Site.{Site};
-ghost use Rattle.lmtp_talk.specs.Delivery.{EndsDraft};
+ghost use Rattle.lmtp_talk.specs.Delivery.{ended_so, EndsDraft};
 
 use lmtp_session::Session;
 use mail_world::{Outcome, State, Verdict};
@@ -29,17 +29,20 @@ pub trait Delivery {
     /// A DATA command was accepted.
     fn begin(&mut self)
         ensures same { site self.new ≡ site self.old }
-        ensures begins { (n : ℕ) (ts : List Transaction) → HasCome self.old n ts → IsDrafting self.new (n + 1) ts [] };
+        ensures begins { (n : ℕ) (ts : List Transaction) → HasCome self.old n ts
+            → IsDrafting self.new (n + 1) ts [] };
 
     /// Bytes of the message have come.
     fn piece(&mut self, bytes: &[u8])
         ensures same { site self.new ≡ site self.old }
-        ensures grows { (n : ℕ) (ts : List Transaction) (message : List ℕ) → IsDrafting self.old n ts message → IsDrafting self.new n ts (message ++ bytes.now) };
+        ensures grows { (n : ℕ) (ts : List Transaction) (message : List ℕ) → IsDrafting self.old n ts message
+            → IsDrafting self.new n ts (message ++ bytes.now) };
 
     /// The conversation has ended inside the data.
     fn cancel(&mut self)
         ensures same { site self.new ≡ site self.old }
-        ensures drops { (n : ℕ) (ts : List Transaction) (message : List ℕ) → IsDrafting self.old n ts message → HasCome self.new n ts };
+        ensures drops { (n : ℕ) (ts : List Transaction) (message : List ℕ) → IsDrafting self.old n ts message
+            → HasCome self.new n ts };
 
     /// The data has ended. A whole message is delivered to the recipients of the session, in their order.
     fn end(&mut self, session: &Session) -> Verdict
@@ -47,7 +50,8 @@ pub trait Delivery {
         requires here { session.now.site ≡ site self.old }
         ensures same { site self.new ≡ site self.old }
         ensures ended { (n : ℕ) (ts : List Transaction) (message : List ℕ) → IsDrafting self.old n ts message
-            → EndsDraft (HasCome self.new) (moment self.new) (outcomes self.new) session.now.session n ts message result }
+            → EndsDraft (HasCome self.new) n ts session.now.session message
+            (ended_so result (moment self.new) (outcomes self.new)) }
         ensures count { result ≡ Verdict.Whole → length (outcomes self.new) ≡ length session.now.session.recipients };
 
     /// What became of the copies of the last whole message, in the order of its recipients.

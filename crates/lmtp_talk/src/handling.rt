@@ -1,20 +1,19 @@
 //! One conversation, from its greeting to its end.
 
-ghost use Rattle.std.specs.Prelude.{◌≡◌, ◌≤◌, ◌<◌, ℕ, List, [], ◌∷◌, ◌++◌, length, take, IfSome, MatchOption};
+ghost use Rattle.std.specs.Prelude.{◌≡◌, ◌≤◌, ◌<◌, ℕ, List, [], ◌∷◌, ◌++◌, length, take};
+ghost use Rattle.std.specs.Prelude.{IfSome, MatchOption};
 ghost use Rattle.mail_world.specs.Session.{Line, LongLine};
 ghost use Rattle.lmtp_session.specs.Steps.{TakesLines};
 ghost use Rattle.lmtp_talk.specs.Peer.{PeerState};
-ghost use Rattle.lmtp_talk.specs.Steps.{TakesInputs, TakesLine, EndsData, Carries};
+ghost use Rattle.lmtp_talk.specs.Steps.{talk, TakesInputs, TakesLine, EndsData, Advances};
 
 use crate::delivery::Delivery;
 use crate::dialogue::Dialogue;
 use crate::peer::Peer;
 use lmtp_session::Act;
 use lmtp_wire::{Dot, Got};
+use mail_world::limits::DATA_BUFFER_SIZE;
 use mail_world::{State, Verdict};
-
-/// The bytes of a message that a delivery is given at once.
-const MADE_SIZE: usize = 512;
 
 /// Handles all that was read, up to QUIT.
 pub fn handle<P: Peer, D: Delivery>(
@@ -24,7 +23,8 @@ pub fn handle<P: Peer, D: Delivery>(
     piece: &[u8],
 )
     requires { D.site delivery.old ≡ dialogue.old.session.site }
-    ensures stands { Carries D.HasCome D.IsDrafting dialogue.old dialogue.new (P.state peer.old) (P.state peer.new) delivery.old delivery.new piece.now }
+    ensures stands { Advances D.HasCome D.IsDrafting (talk dialogue.old (P.state peer.old) delivery.old)
+        (talk dialogue.new (P.state peer.new) delivery.new) piece.now }
     ensures site { dialogue.new.session.site ≡ dialogue.old.session.site }
     ensures same { D.site delivery.new ≡ D.site delivery.old }
 {
@@ -48,8 +48,10 @@ fn take_front<P: Peer, D: Delivery>(
     requires here { D.site delivery.old ≡ dialogue.old.session.site }
     ensures used { IfSome result (λ used. (0 < used) × (used ≤ length rest.now)) }
     ensures stands { MatchOption result
-        (Carries D.HasCome D.IsDrafting dialogue.old dialogue.new (P.state peer.old) (P.state peer.new) delivery.old delivery.new rest.now)
-        (λ used. Carries D.HasCome D.IsDrafting dialogue.old dialogue.new (P.state peer.old) (P.state peer.new) delivery.old delivery.new (take used rest.now)) }
+        (Advances D.HasCome D.IsDrafting (talk dialogue.old (P.state peer.old) delivery.old)
+        (talk dialogue.new (P.state peer.new) delivery.new) rest.now)
+        (λ used. Advances D.HasCome D.IsDrafting (talk dialogue.old (P.state peer.old) delivery.old)
+        (talk dialogue.new (P.state peer.new) delivery.new) (take used rest.now)) }
     ensures site { dialogue.new.session.site ≡ dialogue.old.session.site }
     ensures same { D.site delivery.new ≡ D.site delivery.old }
 {
@@ -73,7 +75,8 @@ fn take_line<P: Peer, D: Delivery>(
     requires some { 0 < length rest.now }
     requires here { D.site delivery.old ≡ dialogue.old.session.site }
     ensures used { (0 < result) × (result ≤ length rest.now) }
-    ensures stands { Carries D.HasCome D.IsDrafting dialogue.old dialogue.new (P.state peer.old) (P.state peer.new) delivery.old delivery.new (take result rest.now) }
+    ensures stands { Advances D.HasCome D.IsDrafting (talk dialogue.old (P.state peer.old) delivery.old)
+        (talk dialogue.new (P.state peer.new) delivery.new) (take result rest.now) }
     ensures site { dialogue.new.session.site ≡ dialogue.old.session.site }
     ensures same { D.site delivery.new ≡ D.site delivery.old }
 {
@@ -89,7 +92,9 @@ fn take_line<P: Peer, D: Delivery>(
 // Handles the line that has ended.
 fn handle_line<P: Peer, D: Delivery>(dialogue: &mut Dialogue, peer: &mut P, delivery: &mut D)
     requires { TakesLines dialogue.old.session.session.state }
-    ensures takes { TakesLine D.HasCome D.IsDrafting (Line dialogue.old.wire.line) dialogue.old dialogue.new (P.state peer.old) (P.state peer.new) delivery.old delivery.new }
+    ensures takes { TakesLine D.HasCome D.IsDrafting (Line dialogue.old.wire.line)
+        (talk dialogue.old (P.state peer.old) delivery.old)
+        (talk dialogue.new (P.state peer.new) delivery.new) }
     ensures same { D.site delivery.new ≡ D.site delivery.old }
 {
     let act = dialogue.session.line(dialogue.wire.line());
@@ -120,11 +125,12 @@ fn take_data<P: Peer, D: Delivery>(
     requires some { 0 < length rest.now }
     requires here { D.site delivery.old ≡ dialogue.old.session.site }
     ensures used { (0 < result) × (result ≤ length rest.now) }
-    ensures stands { Carries D.HasCome D.IsDrafting dialogue.old dialogue.new (P.state peer.old) (P.state peer.new) delivery.old delivery.new (take result rest.now) }
+    ensures stands { Advances D.HasCome D.IsDrafting (talk dialogue.old (P.state peer.old) delivery.old)
+        (talk dialogue.new (P.state peer.new) delivery.new) (take result rest.now) }
     ensures site { dialogue.new.session.site ≡ dialogue.old.session.site }
     ensures same { D.site delivery.new ≡ D.site delivery.old }
 {
-    let mut message = [0; MADE_SIZE];
+    let mut message = [0; DATA_BUFFER_SIZE];
     let fed = dialogue.dot.feed(rest, &mut message);
     delivery.piece(&message[..fed.made]);
     if fed.ended {
@@ -137,7 +143,8 @@ fn take_data<P: Peer, D: Delivery>(
 fn handle_message<P: Peer, D: Delivery>(dialogue: &mut Dialogue, peer: &mut P, delivery: &mut D)
     requires state { dialogue.old.session.session.state ≡ State.Content }
     requires here { D.site delivery.old ≡ dialogue.old.session.site }
-    ensures ends { EndsData D.HasCome D.IsDrafting dialogue.old dialogue.new (P.state peer.old) (P.state peer.new) delivery.old delivery.new }
+    ensures ends { EndsData D.HasCome D.IsDrafting (talk dialogue.old (P.state peer.old) delivery.old)
+        (talk dialogue.new (P.state peer.new) delivery.new) }
     ensures same { D.site delivery.new ≡ D.site delivery.old }
 {
     let verdict = delivery.end(&dialogue.session);

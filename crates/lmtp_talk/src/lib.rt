@@ -9,6 +9,7 @@ mod handling;
 mod outbox;
 mod peer;
 mod script;
+mod tcp;
 #[cfg(test)]
 mod tests;
 
@@ -19,3 +20,4 @@ pub use ending::EndCause;
 pub use outbox::Outbox;
 pub use peer::{Came, Peer, PeerFault};
 pub use script::{Script, Then, Turn};
+pub use tcp::{ReadBuffer, TcpPeer};

@@ -1,9 +1,9 @@
 //! Replies on their way to the peer.
 
-ghost use Rattle.std.specs.Prelude.{◌≡◌, ◌≤◌, ◌<◌, ◌+◌, ℕ, List, [], ◌++◌, false, length, vec_len, vec_capacity, IfOk, OnOk, OnErr};
+ghost use Rattle.std.specs.Prelude.{◌≡◌, ◌≤◌, ◌<◌, ◌+◌, [], ◌++◌, false, length, IfOk, OnOk, OnErr};
 ghost use Rattle.mail_world.specs.Replies.{reply_text, reply_texts};
-ghost use Rattle.lmtp_talk.specs.Peer.{PeerState, HasWorked};
-ghost use Rattle.lmtp_talk.specs.Saying.{HasSaid, BreaksOff, said, CanSay};
+ghost use Rattle.lmtp_talk.specs.Peer.{HasTransferred};
+ghost use Rattle.lmtp_talk.specs.Saying.{Says, SaysNoMore, BreaksOff, said, CanSay};
 ghost use Rattle.lmtp_talk.specs.declared.outbox.TheConstants.{OUTBOX_SIZE};
 
 use crate::peer::{Peer, PeerFault};
@@ -11,6 +11,7 @@ use lmtp_session::{Act, Session};
 use lmtp_text::{REPLY_LIMIT, Site, write_reply};
 use mail_world::Reply;
 use std::alloc::{AllocError, Global};
+use std::marker::Model;
 
 /// The bytes of replies that wait at most before they are written.
 pub const OUTBOX_SIZE: usize = 8_192;
@@ -18,16 +19,26 @@ pub const OUTBOX_SIZE: usize = 8_192;
 /// Replies that wait to be written, in memory that is taken once. Once a write has failed, replies are dropped.
 #[derive(Drop)]
 pub struct Outbox {
-    pub pending: Vec<u8>,
-    pub broken: bool,
-    ghost reserved: { OUTBOX_SIZE ≤ vec_capacity pending },
-    ghost within: { vec_len pending ≤ OUTBOX_SIZE },
+    pending: Vec<u8>,
+    broken: bool,
+}
+
+impl Model for Outbox {
+    ghost use Rattle.std.specs.Prelude.{◌≤◌, length, vec_capacity};
+    ghost use Rattle.lmtp_talk.specs.declared.outbox.TheConstants.{OUTBOX_SIZE};
+    ghost use Rattle.lmtp_talk.specs.Saying.{OutboxView};
+
+    ghost Value = { OutboxView };
+
+    ghost view = { λ o. record { pending = o.pending.items; broken = o.broken } };
+
+    ghost invariant = { λ o. (length o.pending.items ≤ OUTBOX_SIZE) × (OUTBOX_SIZE ≤ vec_capacity o.pending) };
 }
 
 impl Outbox {
     /// Nothing waits.
     pub fn new(alloc: Global) -> Result<Outbox, AllocError>
-        ensures { IfOk result (λ outbox. (outbox.pending.items ≡ []) × (outbox.broken ≡ false)) }
+        ensures { IfOk result (λ outbox. (outbox.pending ≡ []) × (outbox.broken ≡ false)) }
     {
         let pending = Vec::with_capacity(alloc, OUTBOX_SIZE)?;
         Ok(Outbox {
@@ -38,17 +49,24 @@ impl Outbox {
 
     /// Forgets what waits, for another peer.
     pub fn clear(&mut self)
-        ensures { (self.new.pending.items ≡ []) × (self.new.broken ≡ false) }
+        ensures { (self.new.pending ≡ []) × (self.new.broken ≡ false) }
     {
         self.pending.clear();
         self.broken = false;
     }
 
+    /// Whether a write has failed.
+    pub fn is_broken(&self) -> bool
+        ensures { result ≡ self.now.broken }
+    {
+        self.broken
+    }
+
     /// Says what an act says, for the session that gave it.
     pub fn say_all<P: Peer>(&mut self, peer: &mut P, session: &Session, act: Act)
         requires { CanSay act session.now.answers }
-        ensures says { (start : PeerState) (came text : List ℕ) → HasSaid start (P.state peer.old) self.old.broken self.old.pending.items came text
-            → HasSaid start (P.state peer.new) self.new.broken self.new.pending.items came (text ++ reply_texts session.now.site (said act session.now.answers)) }
+        ensures says { Says (P.state peer.old) (P.state peer.new) self.old self.new
+            (reply_texts session.now.site (said act session.now.answers)) }
         ensures goes { (P.state peer.new).stops ≡ (P.state peer.old).stops }
     {
         match act {
@@ -62,8 +80,8 @@ impl Outbox {
     // The answers to the recipients, in their order (RFC 2033, 4.2).
     fn say_answers<P: Peer>(&mut self, peer: &mut P, session: &Session, count: u32)
         requires { count ≡ length session.now.answers }
-        ensures says { (start : PeerState) (came text : List ℕ) → HasSaid start (P.state peer.old) self.old.broken self.old.pending.items came text
-            → HasSaid start (P.state peer.new) self.new.broken self.new.pending.items came (text ++ reply_texts session.now.site session.now.answers) }
+        ensures says { Says (P.state peer.old) (P.state peer.new) self.old self.new
+            (reply_texts session.now.site session.now.answers) }
         ensures goes { (P.state peer.new).stops ≡ (P.state peer.old).stops }
     {
         for i in 0..count {
@@ -73,8 +91,7 @@ impl Outbox {
 
     /// Says a reply: it waits behind the others, and all are written first where there is no room for it.
     pub fn say<P: Peer>(&mut self, peer: &mut P, site: &Site, reply: Reply)
-        ensures says { (start : PeerState) (came text : List ℕ) → HasSaid start (P.state peer.old) self.old.broken self.old.pending.items came text
-            → HasSaid start (P.state peer.new) self.new.broken self.new.pending.items came (text ++ reply_text site.now reply) }
+        ensures says { Says (P.state peer.old) (P.state peer.new) self.old self.new (reply_text site.now reply) }
         ensures goes { (P.state peer.new).stops ≡ (P.state peer.old).stops }
     {
         if self.pending.len() > OUTBOX_SIZE - REPLY_LIMIT {
@@ -87,8 +104,8 @@ impl Outbox {
 
     // Puts a reply behind the others.
     fn add(&mut self, site: &Site, reply: Reply)
-        requires { length self.old.pending.items + REPLY_LIMIT ≤ OUTBOX_SIZE }
-        ensures text { self.new.pending.items ≡ self.old.pending.items ++ reply_text site.now reply }
+        requires { length self.old.pending + REPLY_LIMIT ≤ OUTBOX_SIZE }
+        ensures text { self.new.pending ≡ self.old.pending ++ reply_text site.now reply }
         ensures same { self.new.broken ≡ self.old.broken }
     {
         let mut text = [0; REPLY_LIMIT];
@@ -100,9 +117,8 @@ impl Outbox {
 
     /// Writes all that waits.
     pub fn flush<P: Peer>(&mut self, peer: &mut P)
-        ensures said { (start : PeerState) (came text : List ℕ) → HasSaid start (P.state peer.old) self.old.broken self.old.pending.items came text
-            → HasSaid start (P.state peer.new) self.new.broken self.new.pending.items came text }
-        ensures none { self.new.pending.items ≡ [] }
+        ensures said { SaysNoMore (P.state peer.old) (P.state peer.new) self.old self.new }
+        ensures none { self.new.pending ≡ [] }
         ensures goes { (P.state peer.new).stops ≡ (P.state peer.old).stops }
     {
         if self.broken {
@@ -117,7 +133,7 @@ impl Outbox {
 
 // Writes all of the bytes. After a fault a front of them was written.
 fn write_all<P: Peer>(peer: &mut P, bytes: &[u8]) -> Result<(), PeerFault>
-    ensures ok { OnOk result (HasWorked (P.state peer.old) (P.state peer.new) [] bytes.now) }
+    ensures ok { OnOk result (HasTransferred (P.state peer.old) (P.state peer.new) [] bytes.now) }
     ensures err { OnErr result (BreaksOff (P.state peer.old) (P.state peer.new) bytes.now) }
 {
     let mut rest = bytes;

@@ -25,8 +25,8 @@ pub enum Then<'a> {
     Fails,
 }
 
-/// A peer that takes a turn at each read, and notes whether it had heard just what the turn waits for. It tells how often it
-/// failed and said that the server is to stop, and not what was read and written.
+/// A peer that takes a turn at each read, and notes whether it had heard just what the turn waits for. It tells how
+/// often it failed and said that the server is to stop, and not what was read and written.
 #[derive(Drop)]
 pub struct Script<'a> {
     pub turns: &'a [Turn<'a>],
@@ -50,7 +50,8 @@ impl<'a> Script<'a> {
     /// A peer before its first turn.
     pub fn new(alloc: Global, turns: &'a [Turn<'a>], room: usize) -> Script<'a>
         ensures script { (result.turns.now ≡ turns.now) × (result.room ≡ room) }
-        ensures start { (result.at ≡ 0) × (result.said ≡ 0) × (result.heard.items ≡ []) × (result.misheard ≡ false) }
+        ensures start { (result.at ≡ 0) × (result.said ≡ 0) × (result.heard.items ≡ [])
+            × (result.misheard ≡ false) }
         ensures sound { (result.failures ≡ 0) × (result.stops ≡ 0) }
     {
         Script {
@@ -67,8 +68,10 @@ impl<'a> Script<'a> {
 
     /// Whether it heard all that stands in its script, the last replies among them.
     pub fn has_heard_all(&self) -> bool
-        ensures all { IsTrue result → (self.now.misheard ≡ false) × (length self.now.turns.now ≤ self.now.at + 1) × (self.now.heard.items ≡ awaited self.now.turns.now self.now.at) }
-        ensures only { self.now.misheard ≡ false → length self.now.turns.now ≤ self.now.at + 1 → self.now.heard.items ≡ awaited self.now.turns.now self.now.at → IsTrue result }
+        ensures all { IsTrue result → (self.now.misheard ≡ false) × (length self.now.turns.now ≤ self.now.at + 1)
+            × (self.now.heard.items ≡ awaited self.now.turns.now self.now.at) }
+        ensures only { self.now.misheard ≡ false → length self.now.turns.now ≤ self.now.at + 1
+            → self.now.heard.items ≡ awaited self.now.turns.now self.now.at → IsTrue result }
     {
         !self.misheard
             && self.turns.len() <= self.at.saturating_add(1)
@@ -131,7 +134,8 @@ fn is_same(heard: &[u8], awaited: &[u8]) -> bool
 }
 
 impl Peer for Script<'_> {
-    ghost state = { λ s. record { read = None; unread = None; written = None; failures = s.failures; stops = s.stops; holds = [] } };
+    ghost state = { λ s.
+        record { read = None; unread = None; written = None; failures = s.failures; stops = s.stops; holds = [] } };
 
     fn read(&mut self, buffer: &mut [u8]) -> Result<Came, PeerFault> {
         let (awaited, then) = match self.turns.get(self.at) {

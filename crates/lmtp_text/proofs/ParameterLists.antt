@@ -3,12 +3,15 @@ use Rattle.std.proofs.Common.{◌≡◌, ℕ, Bool, true, false, not, ◌==◌, 
 use Rattle.std.specs.List.{list_any, slice_split, onto_first, filter_map, cons_option}
 use Rattle.std.specs.Borrow.{Bor}
 use Rattle.std.proofs.lemmas.List.{map-append}
-use Rattle.lmtp_text.specs.Parameters.{parameters_of}
 use Rattle.std.proofs.lemmas.Bool.Decides.{nat_tests}
 use Rattle.mail_world.specs.Text.{space}
 use Rattle.mail_world.specs.Commands.{Parameter, parameter, parameters, is_empty, rcpt_with}
 use Rattle.mail_world.specs.Grammar.{Target}
 use Rattle.mail_world.specs.declared.BadCommand.TheVariants as bad
+
+-- the parameters that these pieces spell
+abbrev pub parameters_of : List (List ℕ) → List Parameter
+parameters_of pieces = filter_map (λ piece. if is_empty piece then None else Some (parameter piece)) pieces
 
 -- a parameter stands in the text where a byte other than a space does
 

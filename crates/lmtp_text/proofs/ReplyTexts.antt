@@ -2,6 +2,7 @@
 use Rattle.std.proofs.Common.{◌≡◌, ◌+◌, ◌-◌, ◌≤◌, ℕ, List, ◌++◌, drop, refl, append_assoc, arith}
 use Rattle.std.proofs.lemmas.List.{drop-drop}
 use Rattle.std.specs.Prelude.{codes}
+use Rattle.std.specs.Fmt.{digits}
 use Rattle.mail_world.specs.declared.Reply.{Reply}
 use Rattle.mail_world.specs.declared.Reply.TheVariants as replies
 use Rattle.mail_world.specs.Site.{Site}
@@ -17,7 +18,7 @@ joined name a b c d f = simp append_assoc
 
 pub offer-is : (site : Site) (reply : Reply) → reply ≡ replies.Offer
     → codes "250-" ++ site.host ++ codes "\r\n250-PIPELINING\r\n250-ENHANCEDSTATUSCODES\r\n250-8BITMIME\r\n250 SIZE 1048576\r\n" ≡ reply_text site reply
-unfolding reply_text
+unfolding reply_text digits
 offer-is site reply e = rw (e, joined site.host) refl
 
 -- what is the same from a place on is the same from each later one

@@ -1,6 +1,6 @@
 -- The parameters of MAIL as they are read one by one, and what they come to.
-use Rattle.std.specs.Prelude.{◌≡◌, ℕ, true, false, not, ◌||◌, nat_lt, List, length, filter, Option, Some, None, if◌then◌else◌, option_map, Result, Ok, Err, codes}
-use Rattle.std.specs.List.{list_any, list_all, filter_map}
+use Rattle.std.specs.Prelude.{◌≡◌, ℕ, true, false, not, ◌||◌, nat_lt, List, length, filter, Option, option_map, Result, Ok, Err, codes}
+use Rattle.std.specs.List.{list_any, list_all}
 use Rattle.std.specs.Borrow.{Bor}
 use Rattle.mail_world.specs.declared.BadCommand.{BadCommand}
 use Rattle.mail_world.specs.Commands as m
@@ -12,10 +12,6 @@ seen_value value = option_map (λ text. text.now) value
 
 abbrev pub seen_parameter : Parameter → m.Parameter
 seen_parameter p = record { keyword = p.keyword.now; value = seen_value p.value }
-
--- the parameters that these pieces spell
-abbrev pub parameters_of : List (List ℕ) → List m.Parameter
-parameters_of pieces = filter_map (λ piece. if m.is_empty piece then None else Some (m.parameter piece)) pieces
 
 -- how many of the parameters have this keyword
 abbrev pub count_of : List ℕ → List m.Parameter → ℕ
@@ -45,6 +41,6 @@ pub record IsWithBody (t : Tally) (value : Option (List ℕ)) (u : Tally) : Type
   pub large : u.large ≡ t.large
 
 -- the answer to MAIL from this sender, where its parameters were accepted or refused
-abbrev pub told : List ℕ → Result (Unit {0}) BadCommand → m.Answer
-told sender (Ok _) = Ok (m.Mail sender)
-told sender (Err refusal) = Err refusal
+abbrev pub mail_answer : List ℕ → Result (Unit {0}) BadCommand → m.Answer
+mail_answer sender (Ok _) = Ok (m.Mail sender)
+mail_answer sender (Err refusal) = Err refusal

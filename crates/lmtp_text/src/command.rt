@@ -16,7 +16,8 @@ use crate::path::{read_forward_path, read_reverse_path};
 use mail_world::BadCommand;
 use mail_world::limits::NAME_LIMIT;
 
-/// A recipient as the line spells it: the local part without its quotes, and the domain or the address in brackets, where one stands.
+/// A recipient as the line spells it: the local part without its quotes, and the domain or the address in brackets,
+/// where one stands.
 #[derive(Clone, Copy, Debug, PartialEq, Eq)]
 pub struct Target<'a> {
     pub local: &'a [u8],

@@ -1,4 +1,5 @@
-//! The texts of LMTP and of a mailbox: what a site is named and serves, commands as they are read, replies and moments as they are written.
+//! The texts of LMTP and of a mailbox: what a site is named and serves, commands as they are read, replies and moments
+//! as they are written.
 #![tactic(auto)]
 
 mod alphabet;

@@ -1,8 +1,9 @@
-//! The parameters behind a path (RFC 5321, 4.1.2): SIZE (RFC 1870) and BODY (RFC 6152), which are checked and then forgotten.
+//! The parameters behind a path (RFC 5321, 4.1.2): SIZE (RFC 1870) and BODY (RFC 6152), which are checked and then
+//! forgotten.
 
 ghost use Rattle.std.specs.Prelude.{◌≡◌, ◌++◌, ◌==◌, [], ◌∷◌, List, ℕ, IfSome, is_some, nat_lt, length, option_map};
 ghost use Rattle.mail_world.specs.Commands as m;
-ghost use Rattle.lmtp_text.specs.Parameters.{seen_value, seen_parameter, Tallies, IsWithSize, IsWithBody, told};
+ghost use Rattle.lmtp_text.specs.Parameters.{seen_value, seen_parameter, Tallies, IsWithSize, IsWithBody, mail_answer};
 
 use crate::cut::{cut_at, is_the_word};
 use mail_world::BadCommand;
@@ -146,10 +147,10 @@ fn tally_of(text: &[u8]) -> Tally
     tally
 }
 
-/// Whether MAIL may have the text's parameters; else Parameter where a keyword is unknown, Arguments where a value is wrong
-/// or a keyword stands twice, TooLarge where the size is above the limit.
+/// Whether MAIL may have the text's parameters; else Parameter where a keyword is unknown, Arguments where a value is
+/// wrong or a keyword stands twice, TooLarge where the size is above the limit.
 pub(crate) fn check_mail_parameters(text: &[u8]) -> Result<(), BadCommand>
-    ensures { (sender : List ℕ) → told sender result ≡ m.mail_with sender (m.parameters text.now) }
+    ensures { (sender : List ℕ) → mail_answer sender result ≡ m.mail_with sender (m.parameters text.now) }
 {
     let tally = tally_of(text);
     if tally.unknown {

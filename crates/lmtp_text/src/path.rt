@@ -1,5 +1,5 @@
-//! Reverse and forward paths (RFC 5321, 4.1.2). Each reader takes what stands at the front of its text, and gives what follows that;
-//! nothing where no such part stands there.
+//! Reverse and forward paths (RFC 5321, 4.1.2). Each reader takes what stands at the front of its text, and gives what
+//! follows that; nothing where no such part stands there.
 
 ghost use Rattle.std.specs.Prelude.{false, ◌≡◌, ◌==◌, ◌<◌, ◌≤◌, length, option_map, IfSome};
 ghost use Rattle.std.specs.List.{list_all, prefix_len, slice_split};

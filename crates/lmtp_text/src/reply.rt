@@ -91,7 +91,8 @@ fn put(out: &mut [u8], at: usize, text: &[u8]) -> usize
     end
 }
 
-/// Writes the reply's lines, each with CRLF, at the front of `out`, and says how many bytes they take. A result that names no mailbox has an empty name.
+/// Writes the reply's lines, each with CRLF, at the front of `out`, and says how many bytes they take. A result that
+/// names no mailbox has an empty name.
 pub fn write_reply(reply: Reply, site: &Site, out: &mut [u8]) -> usize
     requires { REPLY_LIMIT ≤ length out.old }
     ensures text { take result out.new ≡ reply_text site.now reply }

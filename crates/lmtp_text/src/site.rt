@@ -58,7 +58,8 @@ impl Model for Site {
 
     ghost view = { λ s. record { host = s.host.items; domains = owned s.domains.items; boxes = owned s.boxes.items } };
 
-    ghost invariant = { λ s. m.IsSite (record { host = s.host.items; domains = owned s.domains.items; boxes = owned s.boxes.items }) };
+    ghost invariant = { λ s. m.IsSite
+        (record { host = s.host.items; domains = owned s.domains.items; boxes = owned s.boxes.items }) };
 }
 
 fn copied(alloc: Global, names: &[&[u8]]) -> Result<Vec<Vec<u8>>, AllocError>
@@ -81,7 +82,8 @@ fn name_at(names: &[Vec<u8>], i: usize) -> &[u8]
 }
 
 impl Site {
-    /// A site takes memory for its names. Of several broken rules the answer is the first in the order `Host`, `Domain`, `Count`, `Box`, `Twice`.
+    /// A site takes memory for its names. Of several broken rules the answer is the first in the order `Host`,
+    /// `Domain`, `Count`, `Box`, `Twice`.
     pub fn new(
         alloc: Global,
         host: &[u8],
@@ -90,8 +92,10 @@ impl Site {
     ) -> Result<Site, SiteFault>
         ensures made { IfOk result (λ site. site ≡ site_of host.now domains.now boxes.now) }
         ensures sound { IfOk result IsSite }
-        ensures broken { (rule : Fault) → fault_of (site_of host.now domains.now boxes.now) ≡ Some rule → result ≡ Err (cause rule) }
-        ensures whole { fault_of (site_of host.now domains.now boxes.now) ≡ None → IfErr result (λ fault. fault ≡ SiteFault.Memory) }
+        ensures broken { (rule : Fault) → fault_of (site_of host.now domains.now boxes.now) ≡ Some rule
+            → result ≡ Err (cause rule) }
+        ensures whole { fault_of (site_of host.now domains.now boxes.now) ≡ None
+            → IfErr result (λ fault. fault ≡ SiteFault.Memory) }
     {
         if let Some(fault) = first_fault(host, domains, boxes) {
             return Err(fault);
@@ -131,7 +135,8 @@ impl Site {
         name_at(&self.boxes, i as usize)
     }
 
-    /// The number of the mailbox that a recipient's address means, counted from 0 (RFC 5321, 4.5.1 for `postmaster`). It takes no memory.
+    /// The number of the mailbox that a recipient's address means, counted from 0 (RFC 5321, 4.5.1 for `postmaster`).
+    /// It takes no memory.
     #[tactic(auto, unfolding(mail_world::specs::Targets::box_of))]
     pub fn find(&self, target: &Target) -> Option<u32>
         ensures value { result ≡ box_of self.now (seen_target target.now) }

@@ -1,8 +1,8 @@
 -- A message with its dots doubled, run by run.
-use Rattle.std.proofs.Common.{◌≡◌, ℕ, suc, ◌+◌, List, [], ◌∷◌, ◌++◌, take, drop, Bool, true, false, cond, ◌&&◌, ◌==◌, Option, Some, None, length, subst, length-append, append_assoc, append-nil, take_all, length-drop, ◌-◌, ◌≤◌, refl, sym, ap, ◌∙◌, arith}
+use Rattle.std.proofs.Common.{◌≡◌, ℕ, suc, ◌+◌, List, [], ◌∷◌, ◌++◌, take, drop, Bool, true, false, cond, ◌&&◌, ◌==◌, Option, Some, None, length, subst, length-append, append_assoc, take_all, length-drop, ◌-◌, ◌≤◌, refl, sym, ap, ◌∙◌, arith}
 use Rattle.std.specs.Prelude.{option_map}
 use Rattle.std.proofs.lemmas.Bool.Decides.{nat_tests}
-use Rattle.lmtp_wire.specs.Runs.{CutsRun, GoesOnFrom}
+use Rattle.lmtp_wire.specs.Runs.{CutsRun}
 use Rattle.mail_world.specs.Text.{cr, lf, crlf, place_of, begins_with}
 use Rattle.mail_world.specs.Data.{dot, with_dots, stuffed}
 use Rattle.mail_world.proofs.Places.{place_of_stands, begins_with-front}
@@ -121,22 +121,6 @@ other_by false b text e f =
 pub no_dot_first : (text : List ℕ) → begins_with (dot ∷ []) text ≡ false → with_dots cr lf text ≡ with_dots lf dot text
 no_dot_first [] e = refl
 no_dot_first (b ∷ text) e = other_by (dot == b) b text refl e
-
--- what was added, and what is left
-pub run_joined : (done text run behind whole : List ℕ) → with_dots lf dot text ≡ run ++ dot ∷ dot ∷ with_dots lf dot behind → done ++ with_dots lf dot text ≡ whole
-    → ((done ++ run) ++ dot ∷ dot ∷ []) ++ with_dots lf dot behind ≡ whole
-run_joined done text run behind whole e f =
-    append_assoc (done ++ run) (dot ∷ dot ∷ []) (with_dots lf dot behind) ∙ append_assoc done run (dot ∷ dot ∷ with_dots lf dot behind) ∙ ap (λ l. done ++ l) (sym e) ∙ f
-
--- texts that go on
-pub goes_on-more : (front text new more : List ℕ) → GoesOnFrom front text → new ≡ text ++ more → GoesOnFrom front new
-goes_on-more front text new more g e = record { more = g.more ++ more; whole = e ∙ ap (λ l. l ++ more) g.whole ∙ append_assoc front g.more more }
-
-pub goes_on-same : (front text new : List ℕ) → GoesOnFrom front text → new ≡ text → GoesOnFrom front new
-goes_on-same front text new g e = record { more = g.more; whole = e ∙ g.whole }
-
-pub goes_on-none : (front new : List ℕ) → new ≡ front → GoesOnFrom front new
-goes_on-none front new e = record { more = []; whole = e ∙ sym (append-nil front) }
 
 -- the last run, and the end
 pub all_added : (old done message rest new : List ℕ) → done ++ with_dots lf dot rest ≡ old ++ with_dots cr lf message → with_dots lf dot rest ≡ rest

@@ -1,5 +1,5 @@
 -- The end of a text with one byte more; what a dot's place and dots behind a text depend on.
-use Rattle.std.proofs.Common.{◌≡◌, ℕ, ◌-◌, ◌≤◌, List, [], ◌∷◌, ◌++◌, length, drop, Bool, true, false, ◌&&◌, ◌==◌, ◌≢◌, inl, inr, refl, ap, sym, ◌∙◌, arith, length-append}
+use Rattle.std.proofs.Common.{◌≡◌, ℕ, ◌-◌, ◌≤◌, List, [], ◌∷◌, ◌++◌, length, drop, Bool, true, false, ◌&&◌, ◌==◌, inl, inr, refl, ap, sym, ◌∙◌, arith, length-append}
 use Rattle.std.proofs.Math.Bool.{and-false}
 use Rattle.std.proofs.lemmas.List.{drop-append-le}
 use Rattle.std.specs.Cmp.Lexicographic.{pointwise}
@@ -8,9 +8,7 @@ use Rattle.std.proofs.lemmas.Bool.{eq-eqb}
 use Rattle.std.proofs.lemmas.Bool.Decides.{eqb_tells}
 use Rattle.mail_world.specs.Text.{cr, lf, ends_in}
 use Rattle.mail_world.specs.Data.{without_dots}
-
-pub other_byte : (a b : ℕ) → a ≢ b → (a == b) ≡ false
-other_byte a b ne = elim (eqb_tells a b) [ inl same ↦ absurd (ne same.1) | inr other ↦ other.0 ]
+use Rattle.mail_world.proofs.OneLine.{other_byte}
 
 pub eqb_comm : (a b : ℕ) → (a == b) ≡ (b == a)
 eqb_comm a b = elim (eqb_tells a b) [

@@ -11,13 +11,13 @@ use Rattle.lmtp_wire.specs.declared.dot.Place.{Place}
 use Rattle.lmtp_wire.specs.declared.dot.Place.TheVariants.{InText, BehindCr, LineStart, BehindDot, BehindDotCr}
 use Rattle.lmtp_wire.specs.declared.dot.Effect.{Effect}
 use Rattle.lmtp_wire.specs.declared.dot.Effect.TheVariants.{Nothing, Byte, HeldCr, End}
-use Rattle.lmtp_wire.specs.Place.{came, in_doubt, held, is_cr, is_start, is_dot, begun, effect_of, without_dots_at, moved, Stands, Ends}
+use Rattle.lmtp_wire.specs.Place.{came, in_doubt, held, is_cr, is_start, is_dot, begun, effect_of, without_dots_at, moved, IsAtPlace, Ends}
 use Rattle.lmtp_wire.proofs.EndSteps.{end_in, text_other, cr_again, cr_other, start_cr, start_other, dot_other, dot_cr_again, dot_cr_other, moved_more, moved_none, moved_some}
 use Rattle.lmtp_wire.proofs.LastBytes.{eqb_comm, ends_more, fades, fades_cr}
 
 -- with one byte more the data stands there, and more of the message is sure
 pub record Adds (place : Place) (taken : List ℕ) (byte : ℕ) (new : List ℕ) : Type 0 where
-  pub stands : Stands place (taken ++ byte ∷ [])
+  pub stands : IsAtPlace place (taken ++ byte ∷ [])
   pub shows : shown (taken ++ byte ∷ []) ≡ shown taken ++ new
 
 -- what a byte does behind the data that was taken
@@ -35,13 +35,13 @@ came_none LineStart = refl
 came_none BehindDot = refl
 came_none BehindDotCr = refl
 
-pub stands_none : (place : Place) (taken : List ℕ) → Stands place taken → data_end taken ≡ None
+pub stands_none : (place : Place) (taken : List ℕ) → IsAtPlace place taken → data_end taken ≡ None
 unfolding data_end
 stands_none place taken s =
     ap (λ l. end_in (crlf ++ l)) (sym (append-nil taken)) ∙ s.finds [] ∙ ap (λ o. moved s.before o) (came_none place) ∙ moved_none s.before
 
 -- before the first byte
-pub stands_first : Stands LineStart []
+pub stands_first : IsAtPlace LineStart []
 unfolding shown
 stands_first = record {
   before = 0;
@@ -62,7 +62,7 @@ unfolding shown
 shown_first = refl
 
 -- a step of a place: how the end's place moves, what the last bytes are, and what the byte is without dots
-record Step (p q : Place) (b : ℕ) (new : List ℕ) : Type 0 where
+record PlaceStep (p q : Place) (b : ℕ) (new : List ℕ) : Type 0 where
   gone : ℕ
   count : gone + length (came q) ≡ length (came p) + 1
   finds : (t : List ℕ) → end_in (came p ++ b ∷ t) ≡ moved gone (end_in (came q ++ t))
@@ -78,7 +78,7 @@ snoc taken b rest = append_assoc taken (b ∷ []) rest
 step_count : (m g x y n k : ℕ) → m + x ≡ n + 2 → g + y ≡ x + 1 → k ≡ n + 1 → (m + g) + y ≡ k + 2
 step_count m g x y n k e f h = omega arith
 
-step_finds : (p q : Place) (taken : List ℕ) (b : ℕ) (new : List ℕ) (s : Stands p taken) (e : Step p q b new) (rest : List ℕ)
+step_finds : (p q : Place) (taken : List ℕ) (b : ℕ) (new : List ℕ) (s : IsAtPlace p taken) (e : PlaceStep p q b new) (rest : List ℕ)
     → end_in (crlf ++ ((taken ++ b ∷ []) ++ rest)) ≡ moved (s.before + e.gone) (end_in (came q ++ rest))
 step_finds p q taken b new s e rest =
     ap (λ l. end_in (crlf ++ l)) (snoc taken b rest) ∙ s.finds (b ∷ rest) ∙ ap (λ o. moved s.before o) (e.finds rest) ∙ moved_more s.before e.gone (end_in (came q ++ rest))
@@ -90,10 +90,10 @@ nothing_at LineStart = refl
 nothing_at BehindDot = refl
 nothing_at BehindDotCr = refl
 
-step_unstuffed : (p q : Place) (taken : List ℕ) (b : ℕ) (new : List ℕ) → Stands p taken → Step p q b new → unstuffed (taken ++ b ∷ []) ≡ unstuffed taken ++ new
+step_unstuffed : (p q : Place) (taken : List ℕ) (b : ℕ) (new : List ℕ) → IsAtPlace p taken → PlaceStep p q b new → unstuffed (taken ++ b ∷ []) ≡ unstuffed taken ++ new
 step_unstuffed p q taken b new s e = s.behind (b ∷ []) ∙ ap (λ l. unstuffed taken ++ l) (e.behind [] ∙ ap (λ l. new ++ l) (nothing_at q) ∙ append-nil new)
 
-step_behind : (p q : Place) (taken : List ℕ) (b : ℕ) (new : List ℕ) → Stands p taken → Step p q b new → (rest : List ℕ)
+step_behind : (p q : Place) (taken : List ℕ) (b : ℕ) (new : List ℕ) → IsAtPlace p taken → PlaceStep p q b new → (rest : List ℕ)
     → unstuffed ((taken ++ b ∷ []) ++ rest) ≡ unstuffed (taken ++ b ∷ []) ++ without_dots_at q rest
 step_behind p q taken b new s e rest =
     ap unstuffed (snoc taken b rest) ∙ s.behind (b ∷ rest) ∙ ap (λ l. unstuffed taken ++ l) (e.behind rest)
@@ -105,7 +105,7 @@ front_of taken b =
     let n : length (taken ++ b ∷ []) - 1 ≡ length taken = omega (arith, length-append taken (b ∷ [])) in
     ap (λ k. take k (taken ++ b ∷ [])) n ∙ take-append_seam taken (b ∷ [])
 
-shown_next : (p : Place) (taken : List ℕ) (b : ℕ) → Stands p taken → shown (taken ++ b ∷ []) ≡ unstuffed (cond (is_dot p && (cr == b)) taken (taken ++ b ∷ []))
+shown_next : (p : Place) (taken : List ℕ) (b : ℕ) → IsAtPlace p taken → shown (taken ++ b ∷ []) ≡ unstuffed (cond (is_dot p && (cr == b)) taken (taken ++ b ∷ []))
 unfolding shown
 shown_next p taken b s =
     ap (λ t. unstuffed (cond t (take (length (taken ++ b ∷ []) - 1) (taken ++ b ∷ [])) (taken ++ b ∷ [])))
@@ -117,8 +117,8 @@ ends_in_none u =
     let n : length u - 0 ≡ length u = omega arith in
     ap (λ k. pointwise nat_eq [] (drop k u)) n ∙ ap (λ l. pointwise nat_eq [] (drop (length u) l)) (sym (append-nil u)) ∙ ap (λ l. pointwise nat_eq [] l) (drop-append_seam u [])
 
-stands_next : (p q : Place) (taken : List ℕ) (b : ℕ) (new : List ℕ) → Stands p taken → Step p q b new → (lead : List ℕ) → taken ++ b ∷ [] ≡ lead ++ in_doubt q
-    → unstuffed lead ≡ shown (taken ++ b ∷ []) → unstuffed (taken ++ b ∷ []) ≡ shown (taken ++ b ∷ []) ++ held q → Stands q (taken ++ b ∷ [])
+stands_next : (p q : Place) (taken : List ℕ) (b : ℕ) (new : List ℕ) → IsAtPlace p taken → PlaceStep p q b new → (lead : List ℕ) → taken ++ b ∷ [] ≡ lead ++ in_doubt q
+    → unstuffed lead ≡ shown (taken ++ b ∷ []) → unstuffed (taken ++ b ∷ []) ≡ shown (taken ++ b ∷ []) ++ held q → IsAtPlace q (taken ++ b ∷ [])
 stands_next p q taken b new s e lead whole content sure = record {
   before = s.before + e.gone;
   count = step_count s.before e.gone _ _ _ _ s.count e.count (length-append taken (b ∷ []));
@@ -134,7 +134,7 @@ stands_next p q taken b new s e lead whole content sure = record {
 }
 
 -- the byte is content
-adds_byte : (p q : Place) (taken : List ℕ) (b : ℕ) → Stands p taken → Step p q b (b ∷ []) → in_doubt q ≡ [] → held q ≡ [] → is_dot p && (cr == b) ≡ false
+adds_byte : (p q : Place) (taken : List ℕ) (b : ℕ) → IsAtPlace p taken → PlaceStep p q b (b ∷ []) → in_doubt q ≡ [] → held q ≡ [] → is_dot p && (cr == b) ≡ false
     → Adds q taken b (held p ++ b ∷ [])
 adds_byte p q taken b s e doubt holds other =
     let all : shown (taken ++ b ∷ []) ≡ unstuffed (taken ++ b ∷ []) = shown_next p taken b s ∙ ap (λ t. unstuffed (cond t taken (taken ++ b ∷ []))) other in
@@ -147,10 +147,10 @@ adds_byte p q taken b s e doubt holds other =
     }
 
 -- a dot at a line's start is dropped
-step_dot : Step LineStart BehindDot dot []
+step_dot : PlaceStep LineStart BehindDot dot []
 step_dot = record { gone = 0; count = refl; finds = λ t. refl; cr_last = refl; crlf_last = refl; dot_last = refl; behind = λ t. fades lf dot t refl refl }
 
-adds_dot : (taken : List ℕ) → Stands LineStart taken → Adds BehindDot taken dot []
+adds_dot : (taken : List ℕ) → IsAtPlace LineStart taken → Adds BehindDot taken dot []
 adds_dot taken s =
     let all : shown (taken ++ dot ∷ []) ≡ unstuffed (taken ++ dot ∷ []) = shown_next LineStart taken dot s in
     let same : unstuffed (taken ++ dot ∷ []) ≡ unstuffed taken = step_unstuffed LineStart BehindDot taken dot [] s step_dot ∙ append-nil (unstuffed taken) in
@@ -160,10 +160,10 @@ adds_dot taken s =
     }
 
 -- a CR behind such a dot is held back
-step_held : Step BehindDot BehindDotCr cr (cr ∷ [])
+step_held : PlaceStep BehindDot BehindDotCr cr (cr ∷ [])
 step_held = record { gone = 0; count = refl; finds = λ t. refl; cr_last = refl; crlf_last = refl; dot_last = refl; behind = λ t. refl }
 
-adds_held : (taken : List ℕ) → Stands BehindDot taken → Adds BehindDotCr taken cr []
+adds_held : (taken : List ℕ) → IsAtPlace BehindDot taken → Adds BehindDotCr taken cr []
 adds_held taken s =
     let same : shown (taken ++ cr ∷ []) ≡ unstuffed taken = shown_next BehindDot taken cr s in
     let all : unstuffed taken ≡ shown taken = s.sure ∙ append-nil (shown taken) in
@@ -176,7 +176,7 @@ adds_held taken s =
     }
 
 -- LF behind that CR ends the data
-ends_data : (taken : List ℕ) → Stands BehindDotCr taken → Ends (taken ++ lf ∷ []) (shown taken)
+ends_data : (taken : List ℕ) → IsAtPlace BehindDotCr taken → Ends (taken ++ lf ∷ []) (shown taken)
 unfolding data_end message
 ends_data taken s =
     let at : length s.lead ≡ s.before = omega (arith, s.count, ap length s.whole, length-append s.lead (dot ∷ cr ∷ [])) in
@@ -191,7 +191,7 @@ ends_data taken s =
     }
 
 -- bytes that are content, and LF behind CR
-step_text : (b : ℕ) → (b == cr) ≡ false → (cr == b) ≡ false → Step InText InText b (b ∷ [])
+step_text : (b : ℕ) → (b == cr) ≡ false → (cr == b) ≡ false → PlaceStep InText InText b (b ∷ [])
 step_text b e f = record {
   gone = 1;
   count = refl;
@@ -202,10 +202,10 @@ step_text b e f = record {
   behind = λ t. ap (λ l. b ∷ l) (fades 0 b t e refl);
 }
 
-step_text_cr : Step InText BehindCr cr (cr ∷ [])
+step_text_cr : PlaceStep InText BehindCr cr (cr ∷ [])
 step_text_cr = record { gone = 0; count = refl; finds = λ t. refl; cr_last = refl; crlf_last = refl; dot_last = refl; behind = λ t. refl }
 
-step_cr_cr : Step BehindCr BehindCr cr (cr ∷ [])
+step_cr_cr : PlaceStep BehindCr BehindCr cr (cr ∷ [])
 step_cr_cr = record {
   gone = 1;
   count = refl;
@@ -216,10 +216,10 @@ step_cr_cr = record {
   behind = λ t. ap (λ l. cr ∷ l) (fades_cr cr t);
 }
 
-step_cr_lf : Step BehindCr LineStart lf (lf ∷ [])
+step_cr_lf : PlaceStep BehindCr LineStart lf (lf ∷ [])
 step_cr_lf = record { gone = 0; count = refl; finds = λ t. refl; cr_last = refl; crlf_last = refl; dot_last = refl; behind = λ t. refl }
 
-step_cr : (b : ℕ) → (lf == b) ≡ false → (b == lf) ≡ false → (b == cr) ≡ false → (cr == b) ≡ false → Step BehindCr InText b (b ∷ [])
+step_cr : (b : ℕ) → (lf == b) ≡ false → (b == lf) ≡ false → (b == cr) ≡ false → (cr == b) ≡ false → PlaceStep BehindCr InText b (b ∷ [])
 step_cr b g h e f = record {
   gone = 2;
   count = refl;
@@ -230,7 +230,7 @@ step_cr b g h e f = record {
   behind = λ t. ap (λ l. b ∷ l) (fades cr b t e h);
 }
 
-step_start_cr : Step LineStart BehindCr cr (cr ∷ [])
+step_start_cr : PlaceStep LineStart BehindCr cr (cr ∷ [])
 step_start_cr = record {
   gone = 2;
   count = refl;
@@ -241,7 +241,7 @@ step_start_cr = record {
   behind = λ t. ap (λ l. cr ∷ l) (fades_cr lf t);
 }
 
-step_start : (b : ℕ) → (dot == b) ≡ false → (b == dot) ≡ false → (b == cr) ≡ false → (cr == b) ≡ false → Step LineStart InText b (b ∷ [])
+step_start : (b : ℕ) → (dot == b) ≡ false → (b == dot) ≡ false → (b == cr) ≡ false → (cr == b) ≡ false → PlaceStep LineStart InText b (b ∷ [])
 step_start b g h e f = record {
   gone = 3;
   count = refl;
@@ -252,7 +252,7 @@ step_start b g h e f = record {
   behind = λ t. ap (λ x. cond x (without_dots lf b t) (b ∷ without_dots lf b t)) h ∙ ap (λ l. b ∷ l) (fades lf b t e refl);
 }
 
-step_behind_dot : (b : ℕ) → (b == cr) ≡ false → (cr == b) ≡ false → Step BehindDot InText b (b ∷ [])
+step_behind_dot : (b : ℕ) → (b == cr) ≡ false → (cr == b) ≡ false → PlaceStep BehindDot InText b (b ∷ [])
 step_behind_dot b e f = record {
   gone = 4;
   count = refl;
@@ -263,7 +263,7 @@ step_behind_dot b e f = record {
   behind = λ t. ap (λ l. b ∷ l) (fades 0 b t e refl);
 }
 
-step_dot_cr_cr : Step BehindDotCr BehindCr cr (cr ∷ [])
+step_dot_cr_cr : PlaceStep BehindDotCr BehindCr cr (cr ∷ [])
 step_dot_cr_cr = record {
   gone = 4;
   count = refl;
@@ -274,7 +274,7 @@ step_dot_cr_cr = record {
   behind = λ t. ap (λ l. cr ∷ l) (fades_cr cr t);
 }
 
-step_dot_cr : (b : ℕ) → (lf == b) ≡ false → (b == lf) ≡ false → (b == cr) ≡ false → (cr == b) ≡ false → Step BehindDotCr InText b (b ∷ [])
+step_dot_cr : (b : ℕ) → (lf == b) ≡ false → (b == lf) ≡ false → (b == cr) ≡ false → (cr == b) ≡ false → PlaceStep BehindDotCr InText b (b ∷ [])
 step_dot_cr b g h e f = record {
   gone = 5;
   count = refl;
@@ -286,8 +286,8 @@ step_dot_cr b g h e f = record {
 }
 
 -- a byte that doesn't go on with an end begins it at best
-begun_by : (p : Place) (taken : List ℕ) (b : ℕ) (t : Bool) → (b == cr) ≡ t → Stands p taken → Step p BehindCr cr (cr ∷ [])
-    → ((b == cr) ≡ false → (cr == b) ≡ false → Step p InText b (b ∷ [])) → is_dot p ≡ false → Adds (cond t BehindCr InText) taken b (held p ++ b ∷ [])
+begun_by : (p : Place) (taken : List ℕ) (b : ℕ) (t : Bool) → (b == cr) ≡ t → IsAtPlace p taken → PlaceStep p BehindCr cr (cr ∷ [])
+    → ((b == cr) ≡ false → (cr == b) ≡ false → PlaceStep p InText b (b ∷ [])) → is_dot p ≡ false → Adds (cond t BehindCr InText) taken b (held p ++ b ∷ [])
 begun_by p taken b true e s again other none =
     let P : ℕ → Type 0 = λ x. Adds BehindCr taken x (held p ++ x ∷ []) in
     subst P (sym (eqb-true b cr e)) (adds_byte p BehindCr taken cr s again refl refl (ap (λ x. x && true) none))
@@ -295,71 +295,71 @@ begun_by p taken b false e s again other none =
     let f : (cr == b) ≡ false = eqb_comm cr b ∙ e in
     adds_byte p InText taken b s (other e f) refl refl (ap (λ x. x && (cr == b)) none)
 
-adds_text : (taken : List ℕ) (b : ℕ) → Stands InText taken → Adds (begun b) taken b (b ∷ [])
+adds_text : (taken : List ℕ) (b : ℕ) → IsAtPlace InText taken → Adds (begun b) taken b (b ∷ [])
 adds_text taken b s = begun_by InText taken b (b == cr) refl s step_text_cr (step_text b) refl
 
-adds_behind_cr : (taken : List ℕ) (b : ℕ) → (b == lf) ≡ false → Stands BehindCr taken → Adds (begun b) taken b (b ∷ [])
+adds_behind_cr : (taken : List ℕ) (b : ℕ) → (b == lf) ≡ false → IsAtPlace BehindCr taken → Adds (begun b) taken b (b ∷ [])
 adds_behind_cr taken b other s =
     begun_by BehindCr taken b (b == cr) refl s step_cr_cr (step_cr b (eqb_comm lf b ∙ other) other) refl
 
-adds_lf : (taken : List ℕ) → Stands BehindCr taken → Adds LineStart taken lf (lf ∷ [])
+adds_lf : (taken : List ℕ) → IsAtPlace BehindCr taken → Adds LineStart taken lf (lf ∷ [])
 adds_lf taken s = adds_byte BehindCr LineStart taken lf s step_cr_lf refl refl refl
 
-adds_start : (taken : List ℕ) (b : ℕ) → (b == dot) ≡ false → Stands LineStart taken → Adds (begun b) taken b (b ∷ [])
+adds_start : (taken : List ℕ) (b : ℕ) → (b == dot) ≡ false → IsAtPlace LineStart taken → Adds (begun b) taken b (b ∷ [])
 adds_start taken b other s =
     begun_by LineStart taken b (b == cr) refl s step_start_cr (step_start b (eqb_comm dot b ∙ other) other) refl
 
-adds_behind_dot : (taken : List ℕ) (b : ℕ) → (b == cr) ≡ false → Stands BehindDot taken → Adds (begun b) taken b (b ∷ [])
+adds_behind_dot : (taken : List ℕ) (b : ℕ) → (b == cr) ≡ false → IsAtPlace BehindDot taken → Adds (begun b) taken b (b ∷ [])
 adds_behind_dot taken b other s =
     let f : (cr == b) ≡ false = eqb_comm cr b ∙ other in
     let P : Bool → Type 0 = λ x. Adds (cond x BehindCr InText) taken b (b ∷ []) in
     subst P (sym other) (adds_byte BehindDot InText taken b s (step_behind_dot b other f) refl refl f)
 
-adds_behind_dot_cr : (taken : List ℕ) (b : ℕ) → (b == lf) ≡ false → Stands BehindDotCr taken → Adds (begun b) taken b (cr ∷ b ∷ [])
+adds_behind_dot_cr : (taken : List ℕ) (b : ℕ) → (b == lf) ≡ false → IsAtPlace BehindDotCr taken → Adds (begun b) taken b (cr ∷ b ∷ [])
 adds_behind_dot_cr taken b other s =
     begun_by BehindDotCr taken b (b == cr) refl s step_dot_cr_cr (step_dot_cr b (eqb_comm lf b ∙ other) other) refl
 
 -- the tests of a byte
-by_lf : (taken : List ℕ) (b : ℕ) (t : Bool) → (b == lf) ≡ t → Stands BehindCr taken → Brings taken b (cond t (Byte LineStart) (Byte (begun b)))
+by_lf : (taken : List ℕ) (b : ℕ) (t : Bool) → (b == lf) ≡ t → IsAtPlace BehindCr taken → Brings taken b (cond t (Byte LineStart) (Byte (begun b)))
 by_lf taken b true e s = let P : ℕ → Type 0 = λ x. Adds LineStart taken x (x ∷ []) in subst P (sym (eqb-true b lf e)) (adds_lf taken s)
 by_lf taken b false e s = adds_behind_cr taken b e s
 
-by_dot : (taken : List ℕ) (b : ℕ) (t : Bool) → (b == dot) ≡ t → Stands LineStart taken → Brings taken b (cond t (Nothing BehindDot) (Byte (begun b)))
+by_dot : (taken : List ℕ) (b : ℕ) (t : Bool) → (b == dot) ≡ t → IsAtPlace LineStart taken → Brings taken b (cond t (Nothing BehindDot) (Byte (begun b)))
 by_dot taken b true e s = let P : ℕ → Type 0 = λ x. Adds BehindDot taken x [] in subst P (sym (eqb-true b dot e)) (adds_dot taken s)
 by_dot taken b false e s = adds_start taken b e s
 
-by_cr : (taken : List ℕ) (b : ℕ) (t : Bool) → (b == cr) ≡ t → Stands BehindDot taken → Brings taken b (cond t (Nothing BehindDotCr) (Byte (begun b)))
+by_cr : (taken : List ℕ) (b : ℕ) (t : Bool) → (b == cr) ≡ t → IsAtPlace BehindDot taken → Brings taken b (cond t (Nothing BehindDotCr) (Byte (begun b)))
 by_cr taken b true e s = let P : ℕ → Type 0 = λ x. Adds BehindDotCr taken x [] in subst P (sym (eqb-true b cr e)) (adds_held taken s)
 by_cr taken b false e s = adds_behind_dot taken b e s
 
-by_last_lf : (taken : List ℕ) (b : ℕ) (t : Bool) → (b == lf) ≡ t → Stands BehindDotCr taken → Brings taken b (cond t End (HeldCr (begun b)))
+by_last_lf : (taken : List ℕ) (b : ℕ) (t : Bool) → (b == lf) ≡ t → IsAtPlace BehindDotCr taken → Brings taken b (cond t End (HeldCr (begun b)))
 by_last_lf taken b true e s = let P : ℕ → Type 0 = λ x. Ends (taken ++ x ∷ []) (shown taken) in subst P (sym (eqb-true b lf e)) (ends_data taken s)
 by_last_lf taken b false e s = adds_behind_dot_cr taken b e s
 
-brings : (place : Place) (taken : List ℕ) (b : ℕ) → Stands place taken → Brings taken b (effect_of place b)
+brings : (place : Place) (taken : List ℕ) (b : ℕ) → IsAtPlace place taken → Brings taken b (effect_of place b)
 brings InText taken b s = adds_text taken b s
 brings BehindCr taken b s = by_lf taken b (b == lf) refl s
 brings LineStart taken b s = by_dot taken b (b == dot) refl s
 brings BehindDot taken b s = by_cr taken b (b == cr) refl s
 brings BehindDotCr taken b s = by_last_lf taken b (b == lf) refl s
 
-pub brings_as : (place : Place) (b : ℕ) (effect : Effect) → effect ≡ effect_of place b → (taken : List ℕ) → Stands place taken → Brings taken b effect
+pub brings_as : (place : Place) (b : ℕ) (effect : Effect) → effect ≡ effect_of place b → (taken : List ℕ) → IsAtPlace place taken → Brings taken b effect
 brings_as place b effect e taken s = let P : Effect → Type 0 = λ x. Brings taken b x in subst P (sym e) (brings place taken b s)
 
 -- a run of text
 pub record AddsRun (taken run : List ℕ) : Type 0 where
-  pub stands : Stands InText (taken ++ run)
+  pub stands : IsAtPlace InText (taken ++ run)
   pub shows : shown (taken ++ run) ≡ shown taken ++ run
 
-pub adds_run : (taken run : List ℕ) → has_byte run cr ≡ false → Stands InText taken → AddsRun taken run
+pub adds_run : (taken run : List ℕ) → has_byte run cr ≡ false → IsAtPlace InText taken → AddsRun taken run
 adds_run taken [] e s =
-    let P : List ℕ → Type 0 = λ l. Stands InText l in
+    let P : List ℕ → Type 0 = λ l. IsAtPlace InText l in
     record { stands = subst P (sym (append-nil taken)) s; shows = ap shown (append-nil taken) ∙ sym (append-nil (shown taken)) }
 adds_run taken (b ∷ run) e s =
     let parts = or_parts (b == cr) (has_byte run cr) e in
     let one = adds_byte InText InText taken b s (step_text b parts.0 (eqb_comm cr b ∙ parts.0)) refl refl refl in
     let more = adds_run (taken ++ b ∷ []) run parts.1 one.stands in
-    let P : List ℕ → Type 0 = λ l. Stands InText l in
+    let P : List ℕ → Type 0 = λ l. IsAtPlace InText l in
     record {
       stands = subst P (snoc taken b run) more.stands;
       shows = ap shown (sym (snoc taken b run)) ∙ more.shows ∙ ap (λ l. l ++ run) one.shows ∙ append_assoc (shown taken) (b ∷ []) run;

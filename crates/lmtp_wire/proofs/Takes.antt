@@ -10,7 +10,7 @@ use Rattle.mail_world.specs.Data.{shown}
 use Rattle.lmtp_wire.specs.declared.dot.Dot.{Dot}
 use Rattle.lmtp_wire.specs.declared.dot.Place.{Place}
 use Rattle.lmtp_wire.specs.declared.dot.Place.TheVariants.{InText}
-use Rattle.lmtp_wire.specs.Place.{Stands, Ends}
+use Rattle.lmtp_wire.specs.Place.{IsAtPlace, Ends}
 use Rattle.lmtp_wire.specs.Dot.{HasMade, Comes, bytes_of}
 use Rattle.lmtp_wire.proofs.PlaceSteps.{stands_none, Adds, adds_run}
 
@@ -40,7 +40,7 @@ pays (x ∷ out) byte owed h e = sym (ap bytes_of e)
 pub paid : (old new : Dot) (out : List ℕ) (n : ℕ) → new.owed ≡ None → new.place ≡ old.place → take n out ≡ bytes_of old.owed
     → (taken made : List ℕ) → HasMade old taken made → HasMade new taken (made ++ take n out)
 paid old new out n none same bytes taken made h =
-    let P : Place → Type 0 = λ p. Stands p taken in
+    let P : Place → Type 0 = λ p. IsAtPlace p taken in
     record {
       goes_on = h.goes_on;
       shows = h.shows ∙ ap (λ l. made ++ l) (sym bytes) ∙ sym (append-nil (made ++ take n out)) ∙ ap (λ o. (made ++ take n out) ++ bytes_of o) (sym none);
@@ -53,7 +53,7 @@ all_made dot taken made none h = h.shows ∙ ap (λ o. made ++ bytes_of o) none 
 
 -- a byte
 pub takes_byte : (old new : Dot) (piece out out' : List ℕ) (used m m' : ℕ) (add : List ℕ) → old.owed ≡ None → used < length piece
-    → ((taken : List ℕ) → Stands old.place taken → Adds new.place taken (get_or piece used 0) add)
+    → ((taken : List ℕ) → IsAtPlace old.place taken → Adds new.place taken (get_or piece used 0) add)
     → take m' out' ++ bytes_of new.owed ≡ take m out ++ add
     → (taken made : List ℕ) → HasMade old (taken ++ take used piece) (made ++ take m out) → HasMade new (taken ++ take (used + 1) piece) (made ++ take m' out')
 takes_byte old new piece out out' used m m' add none within adds bytes taken made h =
@@ -61,8 +61,8 @@ takes_byte old new piece out out' used m m' add none within adds bytes taken mad
     let one = adds now h.stands in
     let more : now ++ get_or piece used 0 ∷ [] ≡ taken ++ take (used + 1) piece =
     append_assoc taken (take used piece) (get_or piece used 0 ∷ []) ∙ ap (λ l. taken ++ l) (sym (take_more piece used 0 within)) in
-    let P : List ℕ → Type 0 = λ l. Stands new.place l in
-    let stands : Stands new.place (taken ++ take (used + 1) piece) = subst P more one.stands in
+    let P : List ℕ → Type 0 = λ l. IsAtPlace new.place l in
+    let stands : IsAtPlace new.place (taken ++ take (used + 1) piece) = subst P more one.stands in
     record {
       goes_on = stands_none new.place (taken ++ take (used + 1) piece) stands;
       shows = ap shown (sym more) ∙ one.shows ∙ ap (λ l. l ++ add) (all_made old now (made ++ take m out) none h)
@@ -72,7 +72,7 @@ takes_byte old new piece out out' used m m' add none within adds bytes taken mad
 
 -- the last byte
 pub takes_last : (old : Dot) (piece out : List ℕ) (used m : ℕ) → old.owed ≡ None → used < length piece
-    → ((taken : List ℕ) → Stands old.place taken → Ends (taken ++ get_or piece used 0 ∷ []) (shown taken))
+    → ((taken : List ℕ) → IsAtPlace old.place taken → Ends (taken ++ get_or piece used 0 ∷ []) (shown taken))
     → (taken made : List ℕ) → HasMade old (taken ++ take used piece) (made ++ take m out) → Ends (taken ++ take (used + 1) piece) (made ++ take m out)
 takes_last old piece out used m none within ends taken made h =
     let now : List ℕ = taken ++ take used piece in
@@ -88,13 +88,13 @@ pub takes_run : (dot : Dot) (piece out out' : List ℕ) (used n m m' : ℕ) (run
     → (taken made : List ℕ) → HasMade dot (taken ++ take used piece) (made ++ take m out) → HasMade dot (taken ++ take (used + n) piece) (made ++ take m' out')
 takes_run dot piece out out' used n m m' run none place is text bytes taken made h =
     let now : List ℕ = taken ++ take used piece in
-    let P : Place → Type 0 = λ p. Stands p now in
+    let P : Place → Type 0 = λ p. IsAtPlace p now in
     let all = adds_run now run text (subst P place h.stands) in
     let more : now ++ run ≡ taken ++ take (used + n) piece =
     append_assoc taken (take used piece) run ∙ ap (λ l. taken ++ (take used piece ++ l)) is ∙ ap (λ l. taken ++ l) (sym (take-add used n piece)) in
-    let Q : List ℕ → Type 0 = λ l. Stands InText l in
-    let R : Place → Type 0 = λ p. Stands p (taken ++ take (used + n) piece) in
-    let stands : Stands dot.place (taken ++ take (used + n) piece) = subst R (sym place) (subst Q more all.stands) in
+    let Q : List ℕ → Type 0 = λ l. IsAtPlace InText l in
+    let R : Place → Type 0 = λ p. IsAtPlace p (taken ++ take (used + n) piece) in
+    let stands : IsAtPlace dot.place (taken ++ take (used + n) piece) = subst R (sym place) (subst Q more all.stands) in
     record {
       goes_on = stands_none dot.place (taken ++ take (used + n) piece) stands;
       shows = ap shown (sym more) ∙ all.shows ∙ ap (λ l. l ++ run) (all_made dot now (made ++ take m out) none h)

@@ -3,7 +3,7 @@ use Rattle.std.specs.Prelude.{◌≡◌, ◌<◌, ◌⊎◌, ℕ, Bool, true, fa
 use Rattle.mail_world.specs.Data.{data_end, shown}
 use Rattle.lmtp_wire.specs.declared.dot.Dot.{Dot}
 use Rattle.lmtp_wire.specs.declared.dot.Fed.{Fed}
-use Rattle.lmtp_wire.specs.Place.{Stands, Ends}
+use Rattle.lmtp_wire.specs.Place.{IsAtPlace, Ends}
 
 -- a byte, if there is one
 abbrev pub bytes_of : Option ℕ → List ℕ
@@ -14,7 +14,7 @@ bytes_of (Some byte) = byte ∷ []
 pub record HasMade (dot : Dot) (taken made : List ℕ) : Type 0 where
   pub goes_on : data_end taken ≡ None
   pub shows : shown taken ≡ made ++ bytes_of dot.owed
-  pub stands : Stands dot.place taken
+  pub stands : IsAtPlace dot.place taken
 
 -- the data has ended, or goes on
 abbrev pub Comes : Dot → List ℕ → List ℕ → Bool → Type 0

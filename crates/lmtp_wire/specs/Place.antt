@@ -78,7 +78,7 @@ moved zero o = o
 moved (suc k) o = option_map (λ n. suc n) (moved k o)
 
 -- data that hasn't ended, up to that place
-pub record Stands (place : Place) (taken : List ℕ) : Type 0 where
+pub record IsAtPlace (place : Place) (taken : List ℕ) : Type 0 where
   pub before : ℕ
   pub count : before + length (came place) ≡ length taken + 2
   pub finds : (rest : List ℕ) → place_of end_of_data (crlf ++ (taken ++ rest)) ≡ moved before (place_of end_of_data (came place ++ rest))

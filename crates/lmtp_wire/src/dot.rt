@@ -72,8 +72,8 @@ impl Dot {
         }
     }
 
-    /// Takes a front of the piece and puts what it has of the message into `out`, until the piece is used up, `out` is full or the data has ended.
-    /// Nothing after the end of data is taken. It isn't fed again once the data has ended.
+    /// Takes a front of the piece and puts what it has of the message into `out`, until the piece is used up, `out` is
+    /// full or the data has ended. Nothing after the end of data is taken. It isn't fed again once the data has ended.
     pub fn feed(&mut self, piece: &[u8], out: &mut [u8]) -> Fed
         requires { 0 < length out.old }
         ensures used { result.used ≤ length piece.now }
@@ -81,7 +81,8 @@ impl Dot {
         ensures made { result.made ≤ length out.new }
         ensures rest { drop result.made out.new ≡ drop result.made out.old }
         ensures feeds { (taken made : List ℕ) → HasMade self.old taken made
-            → Feeds self.new (taken ++ take result.used piece.now) (made ++ take result.made out.new) (length piece.now) (length out.new) result }
+            → Feeds self.new (taken ++ take result.used piece.now) (made ++ take result.made out.new) (length piece.now)
+            (length out.new) result }
     {
         let mut fed = Fed {
             used: 0,
@@ -125,7 +126,8 @@ impl Dot {
         ensures kept { fed.made ≤ result.made }
         ensures rest { drop result.made out.new ≡ drop result.made out.old }
         ensures owes { result.made < length out.new → self.new.owed ≡ None }
-        ensures comes { (taken made : List ℕ) → HasMade self.old (taken ++ take fed.used piece.now) (made ++ take fed.made out.old)
+        ensures comes { (taken made : List ℕ)
+            → HasMade self.old (taken ++ take fed.used piece.now) (made ++ take fed.made out.old)
             → Comes self.new (taken ++ take result.used piece.now) (made ++ take result.made out.new) result.ended }
     {
         match self.place {
@@ -146,7 +148,8 @@ impl Dot {
         ensures kept { fed.made ≤ result.made }
         ensures rest { drop result.made out.new ≡ drop result.made out.old }
         ensures owes { result.made < length out.new → self.new.owed ≡ None }
-        ensures comes { (taken made : List ℕ) → HasMade self.old (taken ++ take fed.used piece.now) (made ++ take fed.made out.old)
+        ensures comes { (taken made : List ℕ)
+            → HasMade self.old (taken ++ take fed.used piece.now) (made ++ take fed.made out.old)
             → Comes self.new (taken ++ take result.used piece.now) (made ++ take result.made out.new) result.ended }
     {
         let room = (piece.len() - fed.used).min(out.len() - fed.made);
@@ -173,7 +176,8 @@ impl Dot {
         ensures kept { fed.made ≤ result.made }
         ensures rest { drop result.made out.new ≡ drop result.made out.old }
         ensures owes { result.made < length out.new → self.new.owed ≡ None }
-        ensures comes { (taken made : List ℕ) → HasMade self.old (taken ++ take fed.used piece.now) (made ++ take fed.made out.old)
+        ensures comes { (taken made : List ℕ)
+            → HasMade self.old (taken ++ take fed.used piece.now) (made ++ take fed.made out.old)
             → Comes self.new (taken ++ take result.used piece.now) (made ++ take result.made out.new) result.ended }
     {
         let byte = piece[fed.used];

@@ -11,8 +11,8 @@ mod tests;
 use memchr::memmem;
 use std::alloc::AllocError;
 
-/// Adds the message with its dots doubled and the line of the lone dot behind it. Where memory is wanting, nothing is added.
-/// It reserves room for a message without dots of transparency, and more as they come.
+/// Adds the message with its dots doubled and the line of the lone dot behind it. Where memory is wanting, nothing is
+/// added. It reserves room for a message without dots of transparency, and more as they come.
 pub fn stuff(message: &[u8], out: &mut Vec<u8>) -> Result<(), AllocError>
     requires { EmptyOrEndsIn crlf message.now }
     ensures ok { OnOk result (out.new.items ≡ out.old.items ++ stuffed message.now) }
@@ -48,7 +48,8 @@ fn add_stuffed(message: &[u8], out: &mut Vec<u8>) -> Result<(), AllocError>
 
 // A dot before the one that the message begins with. From there on dots are doubled behind a CRLF that is read.
 fn add_first_dot(message: &[u8], out: &mut Vec<u8>) -> Result<(), AllocError>
-    ensures ok { OnOk result (out.new.items ++ with_dots lf dot message.now ≡ out.old.items ++ with_dots cr lf message.now) }
+    ensures ok { OnOk result
+        (out.new.items ++ with_dots lf dot message.now ≡ out.old.items ++ with_dots cr lf message.now) }
     ensures ahead { OnOk result (GoesOnFrom out.old.items out.new.items) }
     ensures memory { OnErr result (out.new.items ≡ out.old.items) }
 {

@@ -41,7 +41,8 @@ enum Stage {
     Beyond { ends_in_cr: bool },
 }
 
-/// A line as it comes in. It keeps as many bytes as a command line may have and no more; those of a longer line are dropped.
+/// A line as it comes in. It keeps as many bytes as a command line may have and no more; those of a longer line are
+/// dropped.
 #[derive(Drop)]
 pub struct Wire {
     kept: Vec<u8>,
@@ -72,7 +73,8 @@ impl Wire {
         })
     }
 
-    /// Forgets the line that goes on, and stands before a first line again. (A server uses one wire for all its conversations.)
+    /// Forgets the line that goes on, and stands before a first line again. (A server uses one wire for all its
+    /// conversations.)
     pub fn clear(&mut self)
         ensures behind { IsBehind self.new [] }
         ensures no_line { self.new.line ≡ [] }
@@ -85,7 +87,8 @@ impl Wire {
     pub fn command(&mut self, piece: &[u8]) -> Took
         ensures within { result.used ≤ length piece.now }
         ensures moves { 1 ≤ length piece.now → 1 ≤ result.used }
-        ensures takes { (taken : List ℕ) → IsBehind self.old taken → Takes self.new (taken ++ piece.now) (length taken) (length piece.now) result }
+        ensures takes { (taken : List ℕ) → IsBehind self.old taken
+            → Takes self.new (taken ++ piece.now) (length taken) (length piece.now) result }
     {
         let Some(used) = self.line_end(piece) else {
             self.keep(piece);
@@ -131,7 +134,8 @@ impl Wire {
 
     // Keeps bytes of a line that doesn't end before them, while all fit.
     fn keep(&mut self, bytes: &[u8])
-        ensures { (taken : List ℕ) → Keeps self.old.stage self.old.line taken → Keeps self.new.stage self.new.line (taken ++ bytes.now) }
+        ensures { (taken : List ℕ) → Keeps self.old.stage self.old.line taken
+            → Keeps self.new.stage self.new.line (taken ++ bytes.now) }
     {
         match self.stage {
             Stage::Between => {
@@ -171,7 +175,8 @@ impl Wire {
 
     // Answers a line that ends with its CRLF.
     fn end_line(&mut self) -> Got
-        ensures { (bytes : List ℕ) → Keeps self.old.stage self.old.line bytes → 2 ≤ length bytes → Ends result self.new bytes }
+        ensures { (bytes : List ℕ) → Keeps self.old.stage self.old.line bytes → 2 ≤ length bytes
+            → Ends result self.new bytes }
     {
         if !matches!(self.stage, Stage::Within) {
             self.clear();

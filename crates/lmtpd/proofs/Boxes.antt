@@ -10,10 +10,10 @@ use Rattle.mail_world.specs.Records.{Calendar, mailbox}
 use Rattle.mail_world.specs.Deliveries.{is_none, HoldsCopies}
 use Rattle.mbox_rd.specs.MemorySpool.{MemorySpool}
 use Rattle.mbox_rd.specs.Spool.{SpoolState, IsFull}
-use Rattle.box_worker.specs.Stored.{HasStored}
+use Rattle.box_worker.specs.Stored.{kept, HasStored}
 use Rattle.lmtp_house.specs.declared.house.report.Tally.{Tally}
 use Rattle.lmtpd.specs.declared.rehearse.parts.TheConstants.{MAILBOX_ROOM}
-use Rattle.lmtpd.specs.Mailboxes.{Kept, kept_all, kept_at, bytes_of_all, empty_spool, IsCalm}
+use Rattle.lmtpd.specs.Mailboxes.{MailboxContent, kept_all, kept_at, bytes_of_all, empty_spool, IsCalm}
 
 -- a spool in memory as every spool is seen
 abbrev pub state_of : MemorySpool → SpoolState
@@ -45,16 +45,16 @@ length-kept [] tallies e = refl
 length-kept (s ∷ spools) [] e = absurd (omega (arith, e))
 length-kept (s ∷ spools) (t ∷ tallies) e = ap suc (length-kept spools tallies (omega arith))
 
-pub bytes_are : (spools : List MemorySpool) (tallies : List Tally) → length tallies ≡ length spools → map (λ (k : Kept). k.bytes) (kept_all spools tallies) ≡ bytes_of_all spools
+pub bytes_are : (spools : List MemorySpool) (tallies : List Tally) → length tallies ≡ length spools → map (λ (k : MailboxContent). k.bytes) (kept_all spools tallies) ≡ bytes_of_all spools
 bytes_are [] tallies e = refl
 bytes_are (s ∷ spools) [] e = absurd (omega (arith, e))
 bytes_are (s ∷ spools) (t ∷ tallies) e = ap (λ l. s.bytes ∷ l) (bytes_are spools tallies (omega arith))
 
 -- none failed
-calm_behind : (k : Kept) (ks : List Kept) → IsCalm (k ∷ ks) → IsCalm ks
+calm_behind : (k : MailboxContent) (ks : List MailboxContent) → IsCalm (k ∷ ks) → IsCalm ks
 calm_behind k ks calm n h = calm (suc n) (omega arith)
 
-calm_front : (k : Kept) (ks : List Kept) → k.failed ≡ false → IsCalm ks → IsCalm (k ∷ ks)
+calm_front : (k : MailboxContent) (ks : List MailboxContent) → k.failed ≡ false → IsCalm ks → IsCalm (k ∷ ks)
 calm_front k ks e calm zero h = e
 calm_front k ks e calm (suc n) h = calm n (omega arith)
 
@@ -94,14 +94,14 @@ no_front [] rest e = refl
 no_front (x ∷ front) rest e = cc
 
 pub is_full : (calendar : Calendar) (host : List ℕ) (spool : MemorySpool) (notes : List Note) (n : ℕ) (faulty : Bool)
-    → HasStored calendar host (state_of empty_spool) (state_of spool) notes n faulty → faulty ≡ true → length spool.bytes ≡ MAILBOX_ROOM
+    → HasStored calendar host notes (state_of empty_spool) (kept (state_of spool) n faulty) → faulty ≡ true → length spool.bytes ≡ MAILBOX_ROOM
 is_full calendar host spool notes n faulty h e =
     let P : Option ℕ → Type 0 = λ limit. IsFull limit (Some spool.bytes) in
     let full : length spool.bytes ≡ 0 + MAILBOX_ROOM = subst P h.limited (h.full e) in
     omega (arith, full)
 
 pub holds_stored : (calendar : Calendar) (host : List ℕ) (spool : MemorySpool) (notes : List Note) (n : ℕ) (faulty : Bool)
-    → HasStored calendar host (state_of empty_spool) (state_of spool) notes n faulty → HoldsCopies calendar host notes (stored_and_not n notes) spool.bytes faulty
+    → HasStored calendar host notes (state_of empty_spool) (kept (state_of spool) n faulty) → HoldsCopies calendar host notes (stored_and_not n notes) spool.bytes faulty
 holds_stored calendar host spool notes n false h =
     let all : n ≡ length notes = h.all refl in
     let whole : ◌≡◌ {A = Option (List ℕ)} (Some spool.bytes) (Some (mailbox calendar host [] notes)) = h.whole refl in

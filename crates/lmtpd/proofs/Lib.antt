@@ -5,6 +5,4 @@ pub mod Naming
 pub mod Telling
 pub mod Boxes
 pub mod Ran
-pub mod Calls
-pub mod Numbers
 pub mod Orders

@@ -6,9 +6,7 @@ use Rattle.std.proofs.lemmas.Bool.Decides.{nat_tests}
 use Rattle.mail_world.specs.declared.Note.{Note}
 use Rattle.mail_world.specs.declared.Slip.{Slip}
 use Rattle.mail_world.specs.declared.Txn.{Txn}
-use Rattle.mail_world.specs.Slips.{names, of_worker}
-use Rattle.mail_world.specs.Events.{slip_of}
-use Rattle.mail_world.specs.Runs.{slips_from}
+use Rattle.mail_world.specs.Slips.{names, of_worker, slip_of, slips_from}
 use Rattle.lmtpd.proofs.Rising.{IsFrom, from_then, CopiesRise}
 
 -- lists of which all elements are such

@@ -10,8 +10,7 @@ use Rattle.lmtp_text.specs.declared.site.SiteFault.{SiteFault}
 use Rattle.lmtp_text.specs.declared.site.SiteFault.TheVariants as faults
 use Rattle.lmtpd.specs.declared.fault.Fault.{Fault}
 use Rattle.lmtpd.specs.declared.fault.Fault.TheVariants as fault
-use Rattle.lmtpd.specs.Faults.{first_fault, refusal}
-use Rattle.lmtpd.specs.Words.{with_box}
+use Rattle.lmtpd.specs.Faults.{first_fault, refusal, with_box}
 
 abbrev has_bad_count : Site → Bool
 has_bad_count site = (length site.boxes == 0) || nat_lt BOX_LIMIT (length site.boxes)

@@ -8,15 +8,16 @@ use Rattle.std.proofs.lemmas.Bool.Decides.{nat_tests}
 use Rattle.mail_world.specs.declared.Note.{Note}
 use Rattle.mail_world.specs.declared.Outcome.{Outcome}
 use Rattle.mail_world.specs.declared.Slip.{Slip}
-use Rattle.mail_world.specs.Runs.{slips_from}
+use Rattle.mail_world.specs.Fronts.{IsFront}
+use Rattle.mail_world.specs.Slips.{slips_from}
 use Rattle.mail_world.specs.Slips.{of_worker}
 use Rattle.mail_world.specs.declared.Outcome.TheVariants.{Stored, Failed}
 use Rattle.mail_world.specs.Failures.{Rises}
 use Rattle.mail_world.specs.Site.{Site}
 use Rattle.mail_world.specs.Session.{fresh}
 use Rattle.mail_world.specs.Conversation.{Disposition, Conversation, IsAccount, inputs, parts, replies}
-use Rattle.mail_world.specs.Lists.{Transaction, VerdictFits, OutcomesIn, of_lane, owed, due, transactions}
-use Rattle.mail_world.specs.Deliveries.{HoldsCopies, told, told_all}
+use Rattle.mail_world.specs.Lists.{Transaction, VerdictFits, OutcomesIn, of_lane, copies_owed, due, transactions}
+use Rattle.mail_world.specs.Deliveries.{HoldsCopies, outcomes_told, told_all}
 use Rattle.mail_world.proofs.Accounts.{account_told}
 use Rattle.mail_world.proofs.Deliveries.{holds_all}
 use Rattle.lmtp_text.specs.Calendar.{civil_at}
@@ -32,12 +33,12 @@ use Rattle.lmtpd.specs.declared.rehearse.client.OnlyClient.{OnlyClient}
 use Rattle.lmtpd.specs.declared.rehearse.client.OnlyClient.TheVariants.{Waiting, Over}
 use Rattle.lmtpd.specs.Account.{conversation, IsAllStored}
 use Rattle.lmtpd.specs.Client.{MayGive, told as told_by, is_over, IsOnlyOver}
-use Rattle.lmtpd.specs.Mailboxes.{Kept, kept_all, kept_at, bytes_of_all, empty_spool, texts_of_mailboxes, IsCalm}
-use Rattle.lmtpd.specs.Rehearsal.{AreMailboxes, EndsFor, IsHeld, IsListed, IsRehearsed}
+use Rattle.lmtpd.specs.Mailboxes.{MailboxContent, kept_all, kept_at, bytes_of_all, empty_spool, texts_of_mailboxes, IsCalm}
+use Rattle.lmtpd.specs.Rehearsal.{AreMailboxes, EndsFor, HeldState, IsHeld, IsListed, IsRehearsed, Streams}
 use Rattle.lmtpd.proofs.Boxes.{state_of, get_some, get_same, kept_is, length-kept, bytes_are, none_failed, all_calm, is_full, holds_stored}
 use Rattle.lmtpd.proofs.Rising.{NumbersRise, numbers_rise}
 use Rattle.lmtpd.proofs.Written.{Appends-then}
-use Rattle.lmtpd.proofs.Telling.{IsBegunBy, told_stored, all_stored}
+use Rattle.lmtpd.proofs.Telling.{IsFrontOfOwed, told_stored, all_stored}
 
 -- a peer that never says to stop
 never_rises : (n : ℕ) → n ≡ 0 → Rises 0 n → ⊥
@@ -53,12 +54,12 @@ only_one : (site : Site) (c : Conversation) → transactions site 0 (c ∷ []) �
 unfolding transactions
 only_one site c = append-nil (transactions_in site 0 c)
 
-due_is : (site : Site) (box : ℕ) (c : Conversation) → due site 0 box (c ∷ []) ≡ owed 0 box (transactions_in site 0 c)
+due_is : (site : Site) (box : ℕ) (c : Conversation) → due site 0 box (c ∷ []) ≡ copies_owed 0 box (transactions_in site 0 c)
 unfolding due
-due_is site box c = ap (λ ts. owed 0 box ts) (only_one site c)
+due_is site box c = ap (λ ts. copies_owed 0 box ts) (only_one site c)
 
-told_is : (site : Site) (box : ℕ) (c : Conversation) → told site box (c ∷ []) ≡ told_all box (transactions_in site 0 c)
-unfolding told
+told_is : (site : Site) (box : ℕ) (c : Conversation) → outcomes_told site box (c ∷ []) ≡ told_all box (transactions_in site 0 c)
+unfolding outcomes_told
 told_is site box c = ap (λ ts. told_all box ts) (only_one site c)
 
 rising : (site : Site) (c : Conversation) → NumbersRise 1 (transactions_in site 0 c)
@@ -95,6 +96,10 @@ one_visit (v ∷ []) finished e =
     let is : finished ≡ finished_of v = cc in
     record { visit = v; only = refl; after = sym (ap (λ (f : Finished). f.peer) is); cause = sym (ap (λ (f : Finished). f.cause) is) }
 one_visit (v ∷ w ∷ visits) finished e = cc
+
+-- the bytes that a peer says
+abbrev pub streams_of : PeerState → Streams
+streams_of peer = record { unread = peer.unread; written = peer.written }
 
 -- a conversation of which this is known
 record IsHeldBy (site : Site) (moment : ℕ) (old new : PeerState) (end : EndCause) (c : Conversation) : Type 0 where
@@ -146,8 +151,8 @@ record BoxAt (site : Site) (work : BoxWork) (spools : List MemorySpool) (tallies
 record HaveWorked (site : Site) (ts : List Transaction) (heard : List Slip) (boxes : ℕ → BoxWork) (count : ℕ) (spools : List MemorySpool) (tallies : List Tally) : Type 0 where
   answered : AllByRecursion (λ t. OutcomesIn 0 heard t t.disposition.verdict) ts
   known : AllByRecursion (λ slip. slip.worker < count) heard
-  begun : (b : ℕ) → b < count → IsBegunBy (λ k. (boxes k).stored) heard ts b
-  taken : (b : ℕ) → b < count → (boxes b).taken ≡ owed 0 b ts
+  begun : (b : ℕ) → b < count → IsFrontOfOwed (λ k. (boxes k).stored) heard ts b
+  taken : (b : ℕ) → b < count → (boxes b).taken ≡ copies_owed 0 b ts
   each : (b : ℕ) → b < count → BoxAt site (boxes b) spools tallies b
   as_many : (length spools ≡ count) × (length tallies ≡ count)
 
@@ -157,24 +162,24 @@ delivered : (site : Site) (c : Conversation) (heard : List Slip) (boxes : ℕ �
     → AreMailboxes site c.bytes c.dispositions (kept_all spools tallies) faulty
 delivered site c heard boxes count spools tallies faulty is accounted h size faulty_is =
     let ts : List Transaction = transactions_in site 0 c in
-    let ks : List Kept = kept_all spools tallies in
+    let ks : List MailboxContent = kept_all spools tallies in
     let stored : ℕ → ℕ = λ k. (boxes k).stored in
     let some : 0 < 1 = omega arith in
     let as_many : length tallies ≡ length spools = h.as_many.1 ∙ sym h.as_many.0 in
     let told_it : map (λ t. t.disposition) ts ≡ c.dispositions = account_told site 0 c accounted in
     let calm : faulty ≡ false → IsCalm ks = λ f. none_failed spools tallies as_many (sym faulty_is ∙ f) in
     let many : length ks ≡ count = length-kept spools tallies as_many ∙ h.as_many.0 in
-    let H : Conversation → ℕ → List ℕ → Bool → Type 0 = λ x box bytes failed. HoldsCopies civil_at site.host (due site 0 box (x ∷ [])) (told site box (x ∷ [])) bytes failed in
+    let H : Conversation → ℕ → List ℕ → Bool → Type 0 = λ x box bytes failed. HoldsCopies civil_at site.host (due site 0 box (x ∷ [])) (outcomes_told site box (x ∷ [])) bytes failed in
     let each : (box : ℕ) → box < length site.boxes → H (conversation c.bytes c.dispositions) box (kept_at ks box).bytes (kept_at ks box).failed = λ box within.
     let low : box < count = omega (arith, size, within) in
     let at = h.each box low in
     let P : List Note → Type 0 = λ notes. HoldsCopies civil_at site.host notes (map (λ (note : Note). Stored) (take (stored box) notes) ++ map (λ (note : Note). Failed) (drop (stored box) notes)) at.spool.bytes at.tally.faulty in
-    let Q : List Outcome → Type 0 = λ os. HoldsCopies civil_at site.host (owed 0 box ts) os at.spool.bytes at.tally.faulty in
+    let Q : List Outcome → Type 0 = λ os. HoldsCopies civil_at site.host (copies_owed 0 box ts) os at.spool.bytes at.tally.faulty in
     let D : List Note → Type 0 = λ notes. HoldsCopies civil_at site.host notes (told_all box ts) at.spool.bytes at.tally.faulty in
     let T : List Outcome → Type 0 = λ os. HoldsCopies civil_at site.host (due site 0 box (c ∷ [])) os at.spool.bytes at.tally.faulty in
-    let K : Kept → Type 0 = λ k. H c box k.bytes k.failed in
+    let K : MailboxContent → Type 0 = λ k. H c box k.bytes k.failed in
     let C : Conversation → Type 0 = λ x. H x box (kept_at ks box).bytes (kept_at ks box).failed in
-    let first : P (owed 0 box ts) = subst P (h.taken box low) (holds_stored civil_at site.host at.spool (boxes box).taken (stored box) at.tally.faulty at.did.spool) in
+    let first : P (copies_owed 0 box ts) = subst P (h.taken box low) (holds_stored civil_at site.host at.spool (boxes box).taken (stored box) at.tally.faulty at.did.spool) in
     let told_so : Q (told_all box ts) = subst Q (sym (told_stored stored heard count 1 ts some (rising site c) h.answered h.known h.begun box)) first in
     subst C is (subst K (sym at.is) (subst T (sym (told_is site box c)) (subst D (sym (due_is site box c)) told_so))) in
     record {
@@ -183,14 +188,14 @@ delivered site c heard boxes count spools tallies faulty is accounted h size fau
       full = λ box within failed.
           let low : box < count = omega (arith, size, within) in
           let at = h.each box low in
-          ap (λ (k : Kept). length k.bytes) at.is
-          ∙ is_full civil_at site.host at.spool (boxes box).taken (stored box) at.tally.faulty at.did.spool (sym (ap (λ (k : Kept). k.failed) at.is) ∙ failed);
+          ap (λ (k : MailboxContent). length k.bytes) at.is
+          ∙ is_full civil_at site.host at.spool (boxes box).taken (stored box) at.tally.faulty at.did.spool (sym (ap (λ (k : MailboxContent). k.failed) at.is) ∙ failed);
       sound = (calm, λ quiet. faulty_is ∙ all_calm spools tallies as_many quiet);
       stored = λ f.
           let S : List Disposition → Type 0 = λ ds. AllByRecursion IsAllStored ds in
           subst S told_it (all_stored stored heard count ts h.answered h.known h.begun (λ b low.
           let at = h.each b low in
-          let sound : at.tally.faulty ≡ false = sym (ap (λ (k : Kept). k.failed) at.is) ∙ calm f b (omega (arith, many, low)) in
+          let sound : at.tally.faulty ≡ false = sym (ap (λ (k : MailboxContent). k.failed) at.is) ∙ calm f b (omega (arith, many, low)) in
           at.did.spool.all sound ∙ ap length (h.taken b low)));
       held = λ f box within.
           let failed : (kept_at ks box).failed ≡ false = calm f box (omega (arith, within, many, size)) in
@@ -221,16 +226,15 @@ module _ (site : Site) (moment : ℕ) {P : Type 0} (state : P → PeerState) (pe
       let many : length (replicate count empty_spool) ≡ count = length-replicate count empty_spool in
       let one : 0 < 1 = omega arith in
       let low_in : (b : ℕ) → b < count → b < length (replicate count empty_spool) = λ b low. omega (arith, many, low) in
-      let taken : (b : ℕ) → b < count → (h.boxes b).taken ≡ owed 0 b ts = λ b low.
+      let taken : (b : ℕ) → b < count → (h.boxes b).taken ≡ copies_owed 0 b ts = λ b low.
       sym (all_of_lane (h.boxes b).taken (h.owed_only b (low_in b low))) ∙ h.owed 0 b one (low_in b low) ∙ ap (λ l. due site 0 b l) is ∙ due_is site b c in
       let K : ℕ → Type 0 = λ n. AllByRecursion (λ slip. slip.worker < n) heard in
       record {
         answered = answered;
         known = subst K many (h.told_only 0 one);
         begun = λ b low.
-            let front = h.told 0 b one (low_in b low) in
-            let B : List Note → Type 0 = λ notes. of_worker b heard ++ front.rest ≡ filter (λ slip. slip.txn.lane == 0) (slips_from b (h.boxes b).stored 0 notes) in
-            record { rest = front.rest; whole = subst B (taken b low) front.whole };
+            let B : List Note → Type 0 = λ notes. IsFront (of_worker b heard) (filter (λ slip. slip.txn.lane == 0) (slips_from b (h.boxes b).stored 0 notes)) in
+            subst B (taken b low) (h.told 0 b one (low_in b low));
         taken = taken;
         each = λ b low.
             let spool = get_some spools b (omega (arith, many, low, h.as_many_boxes.0)) in
@@ -246,7 +250,7 @@ module _ (site : Site) (moment : ℕ) {P : Type 0} (state : P → PeerState) (pe
 
   pub held : (last : P) (end : EndCause) (faulty : Bool) → HasRunAlone site moment state peer clients count spools conversations tallies → clients ≡ Over last end ∷ [] → ((p : P) → (state p).stops ≡ 0)
       → count ≡ length site.boxes → faulty ≡ list_any (λ t. t.faulty) tallies
-      → IsHeld site moment (state peer).unread (state last).unread (state peer).written (state last).written spools faulty end
+      → IsHeld site moment (streams_of (state peer)) (streams_of (state last)) (record { spools = spools; faulty = faulty; end = end })
   held last end faulty h after never size faulty_is =
       let lane : LaneWork = h.lanes 0 in
       let number = one_alone conversations h.as_many_lanes.1 in
@@ -287,10 +291,10 @@ module _ (site : Site) (moment : ℕ) {P : Type 0} (state : P → PeerState) (pe
       }
 
 -- the mailboxes behind the replies
-pub rehearsed : (site : Site) (moment : ℕ) (unread left before between after : Option (List ℕ)) (spools : List MemorySpool) (faulty cut : Bool) (end : EndCause)
-    → IsHeld site moment unread left before between spools faulty end → IsListed (texts_of_mailboxes site.boxes (bytes_of_all spools)) between after cut
-    → IsRehearsed site moment unread left before after (record { end = end; faulty = faulty; cut = cut })
-rehearsed site moment unread left before between after spools faulty cut end h w =
+pub rehearsed : (site : Site) (moment : ℕ) (old between : Streams) (left : HeldState) (after : Option (List ℕ)) (cut : Bool)
+    → IsHeld site moment old between left → IsListed (texts_of_mailboxes site.boxes (bytes_of_all left.spools)) between.written after cut
+    → IsRehearsed site moment old (record { unread = between.unread; written = after }) (record { end = left.end; faulty = left.faulty; cut = cut })
+rehearsed site moment old between left after cut h w =
     let L : List (List ℕ) → Type 0 = λ texts. IsWritten (texts_of_mailboxes site.boxes texts) (cut ≡ true) w.listed in
     record {
       read = h.read;
@@ -301,14 +305,13 @@ rehearsed site moment unread left before between after spools faulty cut end h w
       delivered = h.delivered;
       said = h.said;
       listed = w.listed;
-      output = Appends-then before between after h.said w.listed h.output w.output;
+      output = Appends-then old.written between.written after h.said w.listed h.output w.output;
       says = h.says;
       lists = subst L (sym h.holds) w.lists;
       ends = h.ends;
     }
 
 -- there is a spool for each mailbox
-pub as_many_spools : (site : Site) (moment : ℕ) (unread left before between : Option (List ℕ)) (spools : List MemorySpool) (faulty : Bool) (end : EndCause)
-    → IsHeld site moment unread left before between spools faulty end → length spools ≡ length site.boxes
-as_many_spools site moment unread left before between spools faulty end h =
-    sym (length-map spools (λ (x : MemorySpool). x.bytes)) ∙ ap length (sym h.holds) ∙ length-map h.mailboxes (λ (k : Kept). k.bytes) ∙ h.delivered.count
+pub as_many_spools : (site : Site) (moment : ℕ) (old new : Streams) (left : HeldState) → IsHeld site moment old new left → length left.spools ≡ length site.boxes
+as_many_spools site moment old new left h =
+    sym (length-map left.spools (λ (x : MemorySpool). x.bytes)) ∙ ap length (sym h.holds) ∙ length-map h.mailboxes (λ (k : MailboxContent). k.bytes) ∙ h.delivered.count

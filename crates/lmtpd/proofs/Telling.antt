@@ -14,10 +14,9 @@ use Rattle.mail_world.specs.declared.Txn.{Txn}
 use Rattle.mail_world.specs.declared.Verdict.{Verdict}
 use Rattle.mail_world.specs.declared.Verdict.TheVariants as verdicts
 use Rattle.mail_world.specs.Deliveries.{outcomes_for, told_if, told_all}
-use Rattle.mail_world.specs.Events.{slip_of}
-use Rattle.mail_world.specs.Lists.{Transaction, OutcomesIn, copies, copies_if, copies_from, owed}
-use Rattle.mail_world.specs.Runs.{slips_from}
-use Rattle.mail_world.specs.Slips.{names, answer, of_worker}
+use Rattle.mail_world.specs.Fronts.{IsFront}
+use Rattle.mail_world.specs.Lists.{Transaction, OutcomesIn, copies, copies_if, copies_from, copies_owed}
+use Rattle.mail_world.specs.Slips.{names, answer, of_worker, slip_of, slips_from}
 use Rattle.mail_world.proofs.Deliveries.{copy_at}
 use Rattle.lmtpd.specs.Account.{IsStoredIf, IsAllStored}
 use Rattle.lmtpd.proofs.Rising.{NumbersRise, copies_rise}
@@ -118,9 +117,8 @@ outcomes_all w stored notes =
     subst P e (outcomes_from w stored 0 notes)
 
 -- the slips that one worker gave begin those that it owes
-pub record IsBegunBy (stored : ℕ → ℕ) (heard : List Slip) (ts : List Transaction) (b : ℕ) : Type 0 where
-  pub rest : List Slip
-  pub whole : of_worker b heard ++ rest ≡ filter (λ slip. slip.txn.lane == 0) (slips_from b (stored b) 0 (owed 0 b ts))
+abbrev pub IsFrontOfOwed : (ℕ → ℕ) → List Slip → List Transaction → ℕ → Type 0
+IsFrontOfOwed stored heard ts b = IsFront (of_worker b heard) (filter (λ slip. slip.txn.lane == 0) (slips_from b (stored b) 0 (copies_owed 0 b ts)))
 
 module _ (stored : ℕ → ℕ) (heard : List Slip) where
   told_copies : (b : ℕ) (t : Transaction) (boxes : List ℕ) (place : ℕ) (outcomes : List Outcome) (count : ℕ → ℕ)
@@ -162,17 +160,17 @@ module _ (stored : ℕ → ℕ) (heard : List Slip) where
       ∙ ap (λ l. map (λ (s : Slip). s.outcome) (of_worker b l)) (sym split)
 
   -- each slip that was heard is one that its worker owes
-  heard_owed : (P : Slip → Type 0) (n : ℕ) (ts : List Transaction) → AllByRecursion (λ slip. slip.worker < n) heard → ((b : ℕ) → b < n → IsBegunBy stored heard ts b)
-      → ((b : ℕ) → b < n → AllByRecursion P (slips_from b (stored b) 0 (owed 0 b ts))) → AllByRecursion P heard
+  heard_owed : (P : Slip → Type 0) (n : ℕ) (ts : List Transaction) → AllByRecursion (λ slip. slip.worker < n) heard → ((b : ℕ) → b < n → IsFrontOfOwed stored heard ts b)
+      → ((b : ℕ) → b < n → AllByRecursion P (slips_from b (stored b) 0 (copies_owed 0 b ts))) → AllByRecursion P heard
   heard_owed P n ts known begun each = all_heard P n heard known (λ b low.
       let begins = begun b low in
       let Q : List Slip → Type 0 = λ l. AllByRecursion P l in
-      all_front P (of_worker b heard) begins.rest (subst Q (sym begins.whole) (all_filter P (λ slip. slip.txn.lane == 0) (slips_from b (stored b) 0 (owed 0 b ts)) (each b low))))
+      all_front P (of_worker b heard) begins.rest (subst Q begins.whole (all_filter P (λ slip. slip.txn.lane == 0) (slips_from b (stored b) 0 (copies_owed 0 b ts)) (each b low))))
 
   -- what was told of a mailbox: its first copies are stored, and the others are not
   pub told_stored : (n m : ℕ) (ts : List Transaction) → 0 < m → NumbersRise m ts → AllByRecursion (λ t. OutcomesIn 0 heard t t.disposition.verdict) ts
-      → AllByRecursion (λ slip. slip.worker < n) heard → ((b : ℕ) → b < n → IsBegunBy stored heard ts b) → (b : ℕ)
-      → told_all b ts ≡ map (λ note. Stored) (take (stored b) (owed 0 b ts)) ++ map (λ note. Failed) (drop (stored b) (owed 0 b ts))
+      → AllByRecursion (λ slip. slip.worker < n) heard → ((b : ℕ) → b < n → IsFrontOfOwed stored heard ts b) → (b : ℕ)
+      → told_all b ts ≡ map (λ note. Stored) (take (stored b) (copies_owed 0 b ts)) ++ map (λ note. Failed) (drop (stored b) (copies_owed 0 b ts))
   told_stored n m ts some rise answered known begun b =
       let none : ℕ → ℕ = λ k. 0 in
       let notes : List Note = flat_map (copies 0) ts in
@@ -184,7 +182,7 @@ module _ (stored : ℕ → ℕ) (heard : List Slip) where
       (λ k low. subst Q (slips_of_box stored k notes none) (all_filter AgreesWithAll (λ slip. slip.worker == k) all agree)) in
       told_each b ts none answered (all_turned (λ slip other. Agrees slip other) heard all heard_agree)
       ∙ ap (map (λ (s : Slip). s.outcome)) (slips_of_box stored b notes none)
-      ∙ outcomes_all b (stored b) (owed 0 b ts)
+      ∙ outcomes_all b (stored b) (copies_owed 0 b ts)
 
   verdict_stored : (v : Verdict) (t : Transaction) → OutcomesIn 0 heard t v → AllByRecursion IsStored heard → IsStoredIf t.disposition v
   verdict_stored verdicts.Whole t e h = outcomes_stored heard (record { lane = 0; number = t.number }) t.disposition.outcomes 0 (length t.session.recipients) h e
@@ -198,7 +196,7 @@ module _ (stored : ℕ → ℕ) (heard : List Slip) where
 
   -- where all copies are stored, each outcome says so
   pub all_stored : (n : ℕ) (ts : List Transaction) → AllByRecursion (λ t. OutcomesIn 0 heard t t.disposition.verdict) ts
-      → AllByRecursion (λ slip. slip.worker < n) heard → ((b : ℕ) → b < n → IsBegunBy stored heard ts b)
-      → ((b : ℕ) → b < n → stored b ≡ length (owed 0 b ts)) → AllByRecursion IsAllStored (map (λ t. t.disposition) ts)
+      → AllByRecursion (λ slip. slip.worker < n) heard → ((b : ℕ) → b < n → IsFrontOfOwed stored heard ts b)
+      → ((b : ℕ) → b < n → stored b ≡ length (copies_owed 0 b ts)) → AllByRecursion IsAllStored (map (λ t. t.disposition) ts)
   all_stored n ts answered known begun whole =
-      each_stored ts answered (heard_owed IsStored n ts known begun (λ b low. slips_stored b (stored b) 0 (owed 0 b ts) (let e = whole b low in omega arith)))
+      each_stored ts answered (heard_owed IsStored n ts known begun (λ b low. slips_stored b (stored b) 0 (copies_owed 0 b ts) (let e = whole b low in omega arith)))

@@ -1,8 +1,10 @@
 -- What the program's words may lack, and what the program then answers.
-use Rattle.std.specs.Prelude.{ℕ, Bool, true, false, not, ◌||◌, nat_lt, ◌==◌, length, if◌then◌else◌, Option, Some, None}
+use Rattle.std.specs.Prelude.{ℕ, Bool, true, false, not, ◌||◌, nat_lt, ◌==◌, List, [], ◌∷◌, length, if◌then◌else◌, Option, Some, None}
+use Rattle.std.specs.Borrow.{Bor}
 use Rattle.std.specs.List.{list_all}
 use Rattle.mail_world.specs.declared.limits.TheConstants.{BOX_LIMIT}
 use Rattle.mail_world.specs.Site.{Site, is_host_name, is_box_name, has_twice}
+use Rattle.lmtp_text.specs.Sites.{texts}
 use Rattle.lmtp_text.specs.declared.site.SiteFault.{SiteFault}
 use Rattle.lmtp_text.specs.declared.site.SiteFault.TheVariants as cause
 use Rattle.lmtpd.specs.declared.rehearse.ending.Ending.{Ending}
@@ -58,6 +60,10 @@ first_fault site =
     else if (length site.boxes == 0) || nat_lt BOX_LIMIT (length site.boxes) then Some fault.TooManyBoxes
     else if has_twice site.boxes then Some fault.BoxTwice
     else None
+
+-- the site of that host with those further domains and one mailbox
+abbrev pub with_box : List ℕ → List (Bor (List ℕ)) → List ℕ → Site
+with_box host domains name = record { host = host; domains = texts domains; boxes = name ∷ [] }
 
 -- why the program ends where clap answers so
 abbrev pub stop_for : Error → Stop

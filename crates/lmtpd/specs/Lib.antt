@@ -5,7 +5,5 @@ pub mod Account
 pub mod Rehearsal
 pub mod Address
 pub mod Faults
-pub mod CommandLine
-pub mod Words
 pub mod Served
 pub mod Unopened

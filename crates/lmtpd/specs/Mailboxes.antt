@@ -7,12 +7,12 @@ use Rattle.lmtpd.specs.Output.{pair_texts}
 use Rattle.lmtpd.specs.declared.rehearse.parts.TheConstants.{MAILBOX_ROOM}
 
 -- what a mailbox holds, and whether it failed
-pub record Kept : Type 0 where
+pub record MailboxContent : Type 0 where
   pub bytes : List ℕ
   pub failed : Bool
 
 -- a mailbox's spool, and what its worker says of it
-abbrev pub kept_all : List MemorySpool → List Tally → List Kept
+abbrev pub kept_all : List MemorySpool → List Tally → List MailboxContent
 kept_all (spool ∷ spools) (tally ∷ tallies) = record { bytes = spool.bytes; failed = tally.faulty } ∷ kept_all spools tallies
 kept_all _ _ = []
 
@@ -29,17 +29,17 @@ mailbox_text name bytes = mailbox_line name (length bytes) ++ bytes
 abbrev pub texts_of_mailboxes : List (List ℕ) → List (List ℕ) → List ℕ
 texts_of_mailboxes names texts = pair_texts mailbox_text names texts
 
-abbrev pub mailboxes_text : List (List ℕ) → List Kept → List ℕ
+abbrev pub mailboxes_text : List (List ℕ) → List MailboxContent → List ℕ
 mailboxes_text names ks = texts_of_mailboxes names (map (λ k. k.bytes) ks)
 
-abbrev pub nothing_kept : Kept
+abbrev pub nothing_kept : MailboxContent
 nothing_kept = record { bytes = []; failed = false }
 
-abbrev pub kept_at : List Kept → ℕ → Kept
+abbrev pub kept_at : List MailboxContent → ℕ → MailboxContent
 kept_at ks n = slice_index_or ks n nothing_kept
 
 -- no mailbox failed
-abbrev pub IsCalm : List Kept → Type 0
+abbrev pub IsCalm : List MailboxContent → Type 0
 IsCalm ks = (n : ℕ) → n < length ks → (kept_at ks n).failed ≡ false
 
 -- a spool that holds nothing, with room for a mailbox

@@ -1,7 +1,7 @@
 -- What a writer holds where a write failed, and texts that are written one behind the other.
 use Rattle.std.specs.Prelude.{ℕ, List, [], ◌∷◌, ◌++◌, Option}
 use Rattle.std.specs.Io.KnownBytes.{Appends}
-use Rattle.mail_world.specs.Deliveries.{IsFront}
+use Rattle.mail_world.specs.Fronts.{IsFront}
 
 -- a front of the text more
 pub record Breaks (old new : Option (List ℕ)) (text : List ℕ) : Type 0 where

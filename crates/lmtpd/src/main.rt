@@ -10,10 +10,10 @@ mod serve;
 mod site;
 mod stop;
 mod tally;
-mod words;
 
 use fault::{Fault, outcome};
 use lmtp_house::{Sizes, TimedListener};
+use lmtpd_words::{RehearseWords, ServeWords, Words, not_text, read_words};
 use rehearse::rehearse_run;
 use serve::{address_of, open_mailboxes, serve_run};
 use site::site_of;
@@ -26,7 +26,6 @@ use std::thread::Threads;
 use std::time::Clock;
 use std::{env, io};
 use stop::Stop;
-use words::{RehearseWords, ServeWords, Words, not_text, read_words};
 
 fn main(rt: HostRuntime) -> ExitCode {
     let given = match given_words(&rt) {

@@ -30,8 +30,10 @@ pub fn write_bytes<W: Write>(writer: &mut W, bytes: &[u8]) -> Result<(), WriteFa
 
 /// Writes the pieces one behind the other. After a fault the writer holds a front of them more.
 pub fn write_each<W: Write>(writer: &mut W, pieces: &[&[u8]]) -> Result<(), WriteFault>
-    ensures ok { OnOk result (Appends (W.contents writer.old) (W.contents writer.new) (flat_map (λ piece. piece.now) pieces.now)) }
-    ensures err { OnErr result (Breaks (W.contents writer.old) (W.contents writer.new) (flat_map (λ piece. piece.now) pieces.now)) }
+    ensures ok { OnOk result (Appends (W.contents writer.old) (W.contents writer.new)
+        (flat_map (λ piece. piece.now) pieces.now)) }
+    ensures err { OnErr result (Breaks (W.contents writer.old) (W.contents writer.new)
+        (flat_map (λ piece. piece.now) pieces.now)) }
 {
     for piece in pieces {
         write_bytes(writer, piece)?;

@@ -4,12 +4,12 @@ ghost use Rattle.std.specs.Prelude.{◌≡◌, ◌⊎◌, true, Some, None, IfOk
 ghost use Rattle.mail_world.specs.Site.{IsSite, is_box_name};
 ghost use Rattle.std.specs.List.{list_all};
 ghost use Rattle.lmtp_text.specs.Sites.{site_of, texts};
-ghost use Rattle.lmtpd.specs.Faults.{first_fault};
-ghost use Rattle.lmtpd.specs.Words.{named_site, with_box};
+ghost use Rattle.lmtpd_words.specs.Words.{named_site};
+ghost use Rattle.lmtpd.specs.Faults.{first_fault, with_box};
 
 use crate::fault::Fault;
-use crate::words::SiteWords;
 use lmtp_text::Site;
+use lmtpd_words::SiteWords;
 use std::alloc::{AllocError, Global};
 
 /// The site of these words. Each mailbox is tried alone first, so that a bad name comes before too many.
@@ -38,7 +38,8 @@ fn make_site(alloc: Global, host: &[u8], domains: &[&[u8]], boxes: &[&[u8]]) -> 
     ensures made { IfOk result (λ site. site ≡ site_of host.now domains.now boxes.now) }
     ensures sound { IfOk result IsSite }
     ensures order { let site = site_of host.now domains.now boxes.now in
-        MatchResult result (λ _. first_fault site ≡ None) (λ fault. (fault ≡ Fault.Memory) ⊎ (first_fault site ≡ Some fault)) }
+        MatchResult result (λ _. first_fault site ≡ None)
+        (λ fault. (fault ≡ Fault.Memory) ⊎ (first_fault site ≡ Some fault)) }
 {
     try_each_box(alloc, host, domains, boxes)?;
     let site = Site::new(alloc, host, domains, boxes)?;
@@ -57,7 +58,8 @@ fn try_each_box(alloc: Global, host: &[u8], domains: &[&[u8]], boxes: &[&[u8]]) 
 
 fn try_box(alloc: Global, host: &[u8], domains: &[&[u8]], name: &[u8]) -> Result<(), Fault>
     ensures { let site = with_box host.now domains.now name.now in
-        MatchResult result (λ _. first_fault site ≡ None) (λ fault. (fault ≡ Fault.Memory) ⊎ (first_fault site ≡ Some fault)) }
+        MatchResult result (λ _. first_fault site ≡ None)
+        (λ fault. (fault ≡ Fault.Memory) ⊎ (first_fault site ≡ Some fault)) }
 {
     let _site = Site::new(alloc, host, domains, &[name])?;
     Ok(())

@@ -6,9 +6,9 @@ use Rattle.mail_post.specs.declared.rule.Parcel.TheVariants.{Mark}
 use Rattle.mail_post.specs.Parcels.{of, copies, has_mark}
 use Rattle.mail_post.specs.declared.rule.View.{View}
 use Rattle.mail_post.specs.Views.{sender, put}
-use Rattle.mail_post.specs.declared.line.Gone.{Gone}
-use Rattle.mail_post.specs.declared.line.Gone.TheVariants.{Closed}
-use Rattle.mail_post.specs.Line.{IsInbox, TookSome, TookAll}
+use Rattle.mail_post.specs.declared.channel.Gone.{Gone}
+use Rattle.mail_post.specs.declared.channel.Gone.TheVariants.{Closed}
+use Rattle.mail_post.specs.Channel.{IsInbox, TookSome, TookAll}
 use Rattle.mail_post.proofs.Parcels.{of-copies}
 use Rattle.mail_post.proofs.Counts.{count_all}
 use Rattle.mail_post.specs.Rule.{Carries, Agrees}
@@ -34,8 +34,8 @@ module _ {M : Type 0} (lane : M → ℕ) where
     some_taken k = ⊎_elim
         (λ (low : k < lanes).
         let r = (agrees k (fits k low)).0 in
-        (r.0, (λ i. of lane k (copies (sym got i)) ++ r.0) ∙ r.1 ∙ ap (λ l. slice_index_or l k []) known))
-        (λ (le : lanes ≤ k). ([], append-nil (of lane k (copies v.got)) ∙ of_no_lane k le))
+        record { rest = r.rest; whole = ap (λ l. slice_index_or l k []) (sym known) ∙ r.whole ∙ (λ i. of lane k (copies (got i)) ++ r.rest) })
+        (λ (le : lanes ≤ k). record { rest = []; whole = sym (append-nil (of lane k (copies v.got)) ∙ of_no_lane k le) })
         (below? k lanes)
 
     -- one that has taken every mark

@@ -5,7 +5,7 @@ use Rattle.mail_post.specs.declared.rule.Parcel.{Parcel}
 use Rattle.mail_post.specs.declared.rule.Parcel.TheVariants.{Copy, Mark}
 use Rattle.mail_post.specs.Parcels.{lane_of, part, has_mark}
 use Rattle.mail_post.specs.Rule.{IsFair}
-use Rattle.mail_post.specs.Line.{count_lanes}
+use Rattle.mail_post.specs.Channel.{count_senders}
 use Rattle.mail_post.proofs.Parcels.{part-append, part-here, has_mark-append, has_mark-part, front-has_mark}
 
 or_false : (b : Bool) → (b || false) ≡ b
@@ -22,13 +22,13 @@ same? j k = grind arith
 below? : (k n : ℕ) → (k < n) ⊎ (n ≤ k)
 below? k n = grind arith
 
-count_same : (p q : ℕ → Bool) (n : ℕ) → ((k : ℕ) → q k ≡ p k) → count_lanes q n ≡ count_lanes p n
-count_same p q n e = λ i. count_lanes (λ k. e k i) n
+count_same : (p q : ℕ → Bool) (n : ℕ) → ((k : ℕ) → q k ≡ p k) → count_senders q n ≡ count_senders p n
+count_same p q n e = λ i. count_senders (λ k. e k i) n
 
-count_below : (p q : ℕ → Bool) (n : ℕ) → ((k : ℕ) → k < n → q k ≡ p k) → count_lanes q n ≡ count_lanes p n
+count_below : (p q : ℕ → Bool) (n : ℕ) → ((k : ℕ) → k < n → q k ≡ p k) → count_senders q n ≡ count_senders p n
 count_below p q zero e = refl
 count_below p q (suc n) e =
-    let h : count_lanes q n ≡ count_lanes p n = count_below p q n (λ k l. e k (omega arith)) in
+    let h : count_senders q n ≡ count_senders p n = count_below p q n (λ k l. e k (omega arith)) in
     let t : q n ≡ p n = e n (omega arith) in
     λ i. cond (t i) (h i + 1) (h i)
 
@@ -38,26 +38,26 @@ count_step false false m n e h = h
 count_step true false m n e h = absurd (cc)
 count_step false true m n e h = absurd (cc)
 
-count_more : (p q : ℕ → Bool) (j n : ℕ) → j < n → p j ≡ false → q j ≡ true → ((k : ℕ) → k ≢ j → q k ≡ p k) → count_lanes q n ≡ count_lanes p n + 1
+count_more : (p q : ℕ → Bool) (j n : ℕ) → j < n → p j ≡ false → q j ≡ true → ((k : ℕ) → k ≢ j → q k ≡ p k) → count_senders q n ≡ count_senders p n + 1
 count_more p q j zero l a b e = absurd (omega arith)
 count_more p q j (suc n) l a b e = ⊎_elim
     (λ (is : n ≡ j).
-    let h : count_lanes q n ≡ count_lanes p n = count_below p q n (λ k below. e k (λ t. omega arith)) in
+    let h : count_senders q n ≡ count_senders p n = count_below p q n (λ k below. e k (λ t. omega arith)) in
     let x : q n ≡ true = ap q is ∙ b in
     let y : p n ≡ false = ap p is ∙ a in
-    (λ i. cond (x i) (count_lanes q n + 1) (count_lanes q n)) ∙ (λ i. h i + 1) ∙ (λ i. cond (sym y i) (count_lanes p n + 1) (count_lanes p n) + 1))
-    (λ (other : n ≢ j). count_step (q n) (p n) (count_lanes q n) (count_lanes p n) (e n other) (count_more p q j n (omega arith) a b e))
+    (λ i. cond (x i) (count_senders q n + 1) (count_senders q n)) ∙ (λ i. h i + 1) ∙ (λ i. cond (sym y i) (count_senders p n + 1) (count_senders p n) + 1))
+    (λ (other : n ≢ j). count_step (q n) (p n) (count_senders q n) (count_senders p n) (e n other) (count_more p q j n (omega arith) a b e))
     (same? n j)
 
-pub count_le : (p : ℕ → Bool) (n : ℕ) → count_lanes p n ≤ n
+pub count_le : (p : ℕ → Bool) (n : ℕ) → count_senders p n ≤ n
 count_le p zero = omega arith
-count_le p (suc n) = let h = count_le p n in elim (p n) as (λ b. cond b (count_lanes p n + 1) (count_lanes p n) ≤ suc n) [ true ↦ omega arith | false ↦ omega arith ]
+count_le p (suc n) = let h = count_le p n in elim (p n) as (λ b. cond b (count_senders p n + 1) (count_senders p n) ≤ suc n) [ true ↦ omega arith | false ↦ omega arith ]
 
-all_step : (p : ℕ → Bool) (n : ℕ) (b : Bool) → p n ≡ b → cond b (count_lanes p n + 1) (count_lanes p n) ≡ suc n → (p n ≡ true) × (count_lanes p n ≡ n)
+all_step : (p : ℕ → Bool) (n : ℕ) (b : Bool) → p n ≡ b → cond b (count_senders p n + 1) (count_senders p n) ≡ suc n → (p n ≡ true) × (count_senders p n ≡ n)
 all_step p n true e h = (e, omega arith)
 all_step p n false e h = let l = count_le p n in absurd (omega arith)
 
-pub count_all : (p : ℕ → Bool) (n : ℕ) → count_lanes p n ≡ n → (k : ℕ) → k < n → p k ≡ true
+pub count_all : (p : ℕ → Bool) (n : ℕ) → count_senders p n ≡ n → (k : ℕ) → k < n → p k ≡ true
 count_all p zero e k l = absurd (omega arith)
 count_all p (suc n) e k l =
     let h = all_step p n (p n) refl e in
@@ -70,7 +70,7 @@ module _ {M : Type 0} (lane : M → ℕ) where
 
   -- the marks whose lanes are known
   abbrev pub count_marks : List (Parcel M) → ℕ → ℕ
-  count_marks got n = count_lanes (λ k. has_mark k got) n
+  count_marks got n = count_senders (λ k. has_mark k got) n
 
   pub after_copy : (got : List (Parcel M)) (m : M) (n : ℕ) → count_marks (got ++ Copy m ∷ []) n ≡ count_marks got n
   after_copy got m n = count_same (λ k. has_mark k got) (λ k. has_mark k (got ++ Copy m ∷ [])) n (λ k. has_mark-append lane k got (Copy m ∷ []) ∙ or_false (has_mark k got))

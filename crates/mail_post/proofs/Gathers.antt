@@ -10,8 +10,7 @@ use Rattle.std.proofs.lemmas.Option.{slice_get_past}
 use Rattle.mail_world.specs.declared.Outcome.{Outcome}
 use Rattle.mail_world.specs.declared.Txn.{Txn}
 use Rattle.mail_world.specs.declared.Slip.{Slip}
-use Rattle.mail_world.specs.Slips.{answer, answers}
-use Rattle.mail_world.specs.House.{Gather, place_outcome, is_same_txn, gathered, gather_for}
+use Rattle.mail_world.specs.Slips.{answer, answers, Gather, place_outcome, is_same_txn, gathered, gather_for}
 use Rattle.mail_world.proofs.Answered.{gathered-answers, answers-none, NoneNamed}
 use Rattle.mail_post.specs.Gathering.{Gathering, IsDone, IsStranger, IsOwn, IsDouble, IsAwaited, NoneNames, HasGathered}
 use Rattle.mail_post.specs.Places.{places_of, gathering_of, IsGather}

@@ -4,19 +4,19 @@ use Rattle.crossbeam_channel.specs.Claims.{Pass}
 use Rattle.mail_post.specs.declared.rule.Parcel.{Parcel}
 use Rattle.mail_post.specs.declared.rule.Parcel.TheVariants.{Copy, Mark}
 use Rattle.mail_post.specs.declared.rule.View.{View}
-use Rattle.mail_post.specs.declared.line.Gone.{Gone}
-use Rattle.mail_post.specs.declared.line.Gone.TheVariants.{Closed, Lost}
+use Rattle.mail_post.specs.declared.channel.Gone.{Gone}
+use Rattle.mail_post.specs.declared.channel.Gone.TheVariants.{Closed, Lost}
 use Rattle.mail_post.specs.Parcels.{copies, has_mark}
 use Rattle.mail_post.specs.Views.{taker, took}
 use Rattle.mail_post.specs.Rule.{IsFair}
-use Rattle.mail_post.specs.Line.{IsInbox, line_of}
+use Rattle.mail_post.specs.Channel.{IsInbox, channel_of}
 use Rattle.mail_post.proofs.Parcels.{copies-append}
 use Rattle.mail_post.proofs.Counts.{count_le, count_marks, last_fits, after_copy, after_mark, no_marks}
 
 module _ {M : Type 0} (lane : M → ℕ) where
   -- two passes at one channel
-  pub one_line : (p q : Pass (Parcel M) (View M)) → q.table_id ≡ p.table_id → q.me.0.of ≡ p.me.0.of → line_of q ≡ line_of p
-  one_line p q a b = λ i. (a i, b i)
+  pub same_channel : (p q : Pass (Parcel M) (View M)) → q.table_id ≡ p.table_id → q.me.0.of ≡ p.me.0.of → channel_of q ≡ channel_of p
+  same_channel p q a b = λ i. (a i, b i)
 
   -- what the receiver's pass knows after x
   module _ (lanes : ℕ) (v w : View M) (x : Parcel M) (was : v ≡ taker lanes v.got) (is : w ≡ took v x) where

@@ -276,6 +276,6 @@ module _ {M : Type 0} (lane : M → ℕ) where
       let sent : h.sent k ≡ slice_index_or v.known k [] = sym (f.2 k l).2 in
       let rest : List M = copies (part lane k items) in
       let both : copies (part lane k v.got) ++ rest ≡ h.sent k = sym (copies-append lane (part lane k v.got) (part lane k items)) ∙ ap copies split ∙ copies-all_of_lane lane k (h.sent k) (h.closed k) in (
-        (rest, (λ i. of-copies lane k v.got i ++ rest) ∙ both ∙ sent),
+        record { rest = rest; whole = sym ((λ i. of-copies lane k v.got i ++ rest) ∙ both ∙ sent) },
         (λ mark. of-copies lane k v.got ∙ all-there lane k (part lane k v.got) (part lane k items) (h.sent k) (h.closed k) split (has_mark-part lane k v.got ∙ mark) ∙ sent),
       )

@@ -7,3 +7,4 @@ pub mod Names
 pub mod Senders
 pub mod Relays
 pub mod Gathers
+pub mod Offered

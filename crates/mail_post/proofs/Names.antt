@@ -4,11 +4,11 @@ use Rattle.std.proofs.lemmas.Bool.{eq-eqb, eqb-true}
 use Rattle.mail_post.specs.declared.rule.Parcel.{Parcel}
 use Rattle.mail_post.specs.declared.rule.Parcel.TheVariants.{Copy, Mark}
 use Rattle.mail_post.specs.declared.rule.View.{View}
-use Rattle.mail_post.specs.declared.line.Gone.{Gone}
-use Rattle.mail_post.specs.declared.line.Gone.TheVariants.{Closed}
+use Rattle.mail_post.specs.declared.channel.Gone.{Gone}
+use Rattle.mail_post.specs.declared.channel.Gone.TheVariants.{Closed}
 use Rattle.mail_post.specs.Parcels.{of, part, copies, has_mark, all_of_lane}
 use Rattle.mail_post.specs.Order.{IsInOrder, IsNothingElse, NamesAll}
-use Rattle.mail_post.specs.Line.{IsInbox, with, before_mark}
+use Rattle.mail_post.specs.Channel.{IsInbox, with, before_mark}
 use Rattle.mail_post.proofs.Parcels.{of-copies, copies-all_of_lane, has_mark-part}
 use Rattle.mail_post.proofs.Counts.{count_all}
 

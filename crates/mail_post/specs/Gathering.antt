@@ -3,8 +3,7 @@ use Rattle.std.specs.Prelude.{◌≡◌, ◌≢◌, ◌⊎◌, ◌≤◌, ◌<�
 use Rattle.std.specs.List.{AllByRecursion}
 use Rattle.mail_world.specs.declared.Txn.{Txn}
 use Rattle.mail_world.specs.declared.Slip.{Slip}
-use Rattle.mail_world.specs.Slips.{answers}
-use Rattle.mail_world.specs.House.{Gather}
+use Rattle.mail_world.specs.Slips.{answers, Gather}
 
 -- the definitions' gatherer, and how many places it has room for
 pub record Gathering : Type 0 where

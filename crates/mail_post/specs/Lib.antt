@@ -1,7 +1,8 @@
 pub mod Parcels
 pub mod Views
 pub mod Rule
-pub mod Line
+pub mod Channel
+pub mod Offered
 pub mod Order
 pub mod Relay
 pub mod Copies

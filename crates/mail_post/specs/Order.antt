@@ -6,7 +6,7 @@ use Rattle.mail_post.specs.declared.rule.Parcel.{Parcel}
 use Rattle.mail_post.specs.declared.rule.View.{View}
 use Rattle.mail_post.specs.Parcels.{of, copies}
 use Rattle.mail_post.specs.Rule.{Carries}
-use Rattle.mail_post.specs.Line.{before_mark}
+use Rattle.mail_post.specs.Channel.{before_mark}
 
 module _ {M : Type 0} (lane : M → ℕ) where
   -- of each lane, what was taken and then what waits is what the lane was told was accepted

@@ -1,13 +1,9 @@
 -- The parcels of one lane.
-use Rattle.std.specs.Prelude.{◌≡◌, ◌++◌, ◌==◌, ℕ, Bool, true, false, ◌||◌, List, [], ◌∷◌, filter}
+use Rattle.std.specs.Prelude.{◌==◌, ℕ, Bool, true, false, ◌||◌, List, [], ◌∷◌, filter}
 use Rattle.mail_post.specs.declared.rule.Parcel.{Parcel}
 use Rattle.mail_post.specs.declared.rule.Parcel.TheVariants.{Copy, Mark}
 
 module _ {M : Type 0} where
-  -- the second list begins with the first
-  abbrev pub IsStartOf : List M → List M → Type 0
-  IsStartOf xs ys = (rest : List M) × (xs ++ rest ≡ ys)
-
   -- the messages among the parcels
   abbrev pub copies : List (Parcel M) → List M
   copies [] = []

@@ -2,9 +2,10 @@
 use Rattle.std.specs.Prelude.{◌≡◌, ◌≤◌, ◌<◌, ℕ, Bool, true, false, List, [], ◌++◌, length, slice_index_or}
 use mathlib.Core.Option.{Option, some, none}
 use lib.ListN.{get_elem?}
+use Rattle.mail_world.specs.Fronts.{IsFront}
 use Rattle.mail_post.specs.declared.rule.Parcel.{Parcel}
 use Rattle.mail_post.specs.declared.rule.View.{View}
-use Rattle.mail_post.specs.Parcels.{IsStartOf, of, part, copies, has_mark, all_of_lane}
+use Rattle.mail_post.specs.Parcels.{of, part, copies, has_mark, all_of_lane}
 
 module _ {M : Type 0} where
   -- the one pass of a lane knows what the lane was told was accepted, and whether it is closed
@@ -30,7 +31,7 @@ module _ {M : Type 0} where
     -- of a known lane, what was taken is the start of what it sent, and all of it where its mark was taken
     abbrev pub Agrees : View M → Type 0
     Agrees v = (k : ℕ) → k < length v.known
-        → IsStartOf (of lane k (copies v.got)) (slice_index_or v.known k []) × (has_mark k v.got ≡ true → of lane k (copies v.got) ≡ slice_index_or v.known k [])
+        → IsFront (of lane k (copies v.got)) (slice_index_or v.known k []) × (has_mark k v.got ≡ true → of lane k (copies v.got) ≡ slice_index_or v.known k [])
 
 -- the rule: the parcels of each lane, those taken and then those in the channel, are all that the lane was told was accepted, and behind that its mark
 -- where it has put it; and nothing is of another than the lanes

@@ -1,82 +1,313 @@
-//! The two kinds of channel: a mailbox's, from the lanes to its worker, and a lane's, from the workers that give it slips.
+//! A channel from numbered lanes to one receiver. Copies and slips both go through it.
 
-ghost use Rattle.std.specs.Prelude.{◌≡◌, ◌<◌, [], IfOk};
-ghost use Rattle.mail_post.specs.Line.{new_lanes, new_inbox, AreLanes, IsLineOf, lists};
+ghost use Rattle.std.specs.Prelude.{◌≡◌, true, false, ◌<◌, [], ◌∷◌, ◌++◌, IfOk, IfErr, IfSome, OnOk, OnErr, length};
+ghost use Rattle.crossbeam_channel.specs.Claims.{IsSeatAt};
+ghost use Rattle.crossbeam_channel.specs.Ends.{sends_on, receives_on};
+ghost use Rattle.mail_post.specs.Views.{sender};
+ghost use Rattle.mail_post.specs.Channel.{view_of, taken, IsNext, IsDrained, TookSome, TookAll};
+ghost use Rattle.mail_post.specs.Channel.{new_senders, new_inbox, AreSenders, AreSendersOf, lists};
 
-use crate::line::{LineClosed, LineReceiver, LineSender, close_line, open_line};
-use crate::post::Post;
-use crate::rule::Laned;
-use mail_world::Slip;
-use mail_world::limits::RECIPIENT_LIMIT;
-use msg_depot::DepotName;
+use crate::rule::{
+    Ends, FromSender, LaneOrder, Lanes, Offers, Opens, Parcel, Settles, Takes, View,
+};
+use crossbeam_channel::{Pass, RuledReceiver, RuledSender, bounded_with};
 use std::alloc::{AllocError, Global};
+use std::marker::Model;
 use std::sync::Wait;
+use thiserror::Error;
 
-/// A copy is of the lane that runs its transaction.
-impl<N: DepotName> Laned for Post<N> {
-    ghost lane = { λ post. post.txn.lane };
+/// Why nothing more is taken.
+#[derive(Clone, Copy, Debug, PartialEq, Eq, Error)]
+pub enum Gone {
+    /// Every lane's closing mark was taken, so all that was accepted has been.
+    #[error("closed")]
+    Closed = 1,
+    /// The channel answered that its other end is gone.
+    #[error("the other end is gone")]
+    Lost,
 }
 
-/// A slip is of the worker that gives it.
-impl Laned for Slip {
-    ghost lane = { λ slip. slip.worker };
-}
-
-/// A lane's end of a mailbox's channel.
-pub type Sender<N> = LineSender<Post<N>>;
-
-/// The worker's end of a mailbox's channel.
-pub type Receiver<N> = LineReceiver<Post<N>>;
-
-/// All lanes' ends of a mailbox's channel, once it is closed.
-pub type Closed<N> = LineClosed<Post<N>>;
-
-/// A worker's end of a lane's channel of slips.
-pub type SlipSender = LineSender<Slip>;
-
-/// The lane's end of its channel of slips.
-pub type SlipReceiver = LineReceiver<Slip>;
-
-/// All workers' ends of a lane's channel of slips, once it is closed.
-pub type SlipsClosed = LineClosed<Slip>;
-
-/// The channel of one mailbox, which has room for that many copies: a sender for each lane, and the receiver.
-pub fn mail_line<N: DepotName>(
+/// A channel with a sender for each lane, numbered from 0, and its receiver.
+pub fn open_channel<M: FromSender>(
     alloc: Global,
     capacity: usize,
     lanes: u32,
-) -> Result<(Vec<Sender<N>>, Receiver<N>), AllocError>
-    requires capacity { 0 < capacity }
-    requires lanes { 0 < lanes }
-    ensures senders { IfOk result (λ ends. ends.0.items ≡ new_lanes ends.1.line lanes) }
-    ensures receiver { IfOk result (λ ends. ends.1 ≡ new_inbox ends.1.line lanes) }
+) -> Result<(Vec<ChannelSender<M>>, ChannelReceiver<M>), AllocError>
+    requires { 0 < capacity }
+    ensures senders { IfOk result (λ ends. ends.0.items ≡ new_senders ends.1.channel lanes) }
+    ensures receiver { IfOk result (λ ends. ends.1 ≡ new_inbox ends.1.channel lanes) }
 {
-    open_line(alloc, capacity, lanes)
+    let mut senders = Vec::with_capacity(alloc, lanes as usize)?;
+    let (to, from, mut first) = bounded_with::<Parcel<M>, View<M>, LaneOrder<M>, Global>(
+        alloc, capacity,
+    )?;
+    for lane in 0..lanes {
+        let pass = to.another::<Lanes>(&mut first);
+        let end = to.try_clone()?;
+        senders.push(ChannelSender {
+            end,
+            pass,
+            number: lane,
+        })?;
+    }
+    Ok((
+        senders,
+        ChannelReceiver {
+            end: from,
+            pass: first,
+            lanes,
+            marks: 0,
+            gone: None,
+        },
+    ))
 }
 
-/// Puts one closing mark for each sender, in lane order. Where the receiver is gone it puts no more, and answers the same.
-pub fn close<N: DepotName, R: Wait>(senders: Vec<Sender<N>>, rt: &R) -> Closed<N>
-    requires { AreLanes senders.items }
-    ensures line { IsLineOf result.line senders.items }
+/// A sender of a channel.
+#[derive(Drop)]
+pub struct ChannelSender<M: FromSender> {
+    end: RuledSender<Parcel<M>, View<M>, LaneOrder<M>>,
+    pass: Pass<Parcel<M>, View<M>>,
+    number: u32,
+}
+
+impl<M: FromSender> Model for ChannelSender<M> {
+    ghost use Rattle.std.specs.Prelude.{◌≡◌, false};
+    ghost use Rattle.crossbeam_channel.specs.Claims.{IsSeatAt};
+    ghost use Rattle.crossbeam_channel.specs.Ends.{sends_on};
+    ghost use Rattle.mail_post.specs.Views.{sender};
+    ghost use Rattle.mail_post.specs.Channel.{Sender, channel_of, view_of};
+
+    ghost Value = { Sender M };
+
+    ghost view = { λ s. record { channel = channel_of s.pass; number = s.number; sent = (view_of s.pass).sent } };
+
+    ghost invariant = { λ s. IsSeatAt (sends_on s.end) s.pass
+        × (view_of s.pass ≡ sender s.number (view_of s.pass).sent false) };
+}
+
+impl<M: FromSender> ChannelSender<M> {
+    /// Its number.
+    pub fn number(&self) -> u32
+        ensures { result ≡ self.now.number }
+    {
+        self.number
+    }
+
+    /// Ok where the channel has accepted the post at its end.
+    pub fn offer<R: Wait>(&mut self, rt: &R, post: M) -> Result<(), M>
+        requires { M.sender post ≡ self.old.number }
+        ensures accepted { OnOk result (self.new ≡ record self.old { sent = self.old.sent ++ post ∷ [] }) }
+        ensures refused { OnErr result (self.new ≡ self.old) }
+        ensures back { IfErr result (λ back. back ≡ post) }
+    {
+        match self
+            .end
+            .send_as::<Offers, R>(rt, &mut self.pass, Parcel::Copy(post))
+        {
+            Ok(()) => Ok(()),
+            Err(back) => match back.into_inner() {
+                Parcel::Copy(post) => Err(post),
+                Parcel::Mark(_) => unreachable!(),
+            },
+        }
+    }
+}
+
+/// The receiving end of a channel.
+#[derive(Drop)]
+pub struct ChannelReceiver<M: FromSender> {
+    end: RuledReceiver<Parcel<M>, View<M>, LaneOrder<M>>,
+    pass: Pass<Parcel<M>, View<M>>,
+    lanes: u32,
+    marks: u32,
+    gone: Option<Gone>,
+}
+
+impl<M: FromSender> Model for ChannelReceiver<M> {
+    ghost use Rattle.crossbeam_channel.specs.Claims.{IsSeatAt};
+    ghost use Rattle.crossbeam_channel.specs.Ends.{receives_on};
+    ghost use Rattle.mail_post.specs.Channel.{Inbox, IsInbox, channel_of, view_of};
+
+    ghost Value = { Inbox M };
+
+    ghost view = { λ r. record {
+      channel = channel_of r.pass;
+      lanes = r.lanes;
+      got = (view_of r.pass).got;
+      gone = r.gone;
+    } };
+
+    ghost invariant = { λ r. IsSeatAt (receives_on r.end) r.pass
+        × IsInbox M.sender r.lanes r.marks r.gone (view_of r.pass) };
+}
+
+impl<M: FromSender> ChannelReceiver<M> {
+    /// The oldest post. After a `Gone` each later call answers the same, and receives nothing.
+    pub fn take<R: Wait>(&mut self, rt: &R) -> Result<M, Gone>
+        ensures same { (self.new.channel ≡ self.old.channel) × (self.new.lanes ≡ self.old.lanes) }
+        ensures post { IfOk result (λ post. taken self.new ≡ taken self.old ++ post ∷ []) }
+        ensures lane { IfOk result (λ post. M.sender post < self.old.lanes) }
+        ensures open_still { OnOk result ((self.old.gone ≡ None) × (self.new.gone ≡ None)) }
+        ensures nothing { OnErr result (taken self.new ≡ taken self.old) }
+        ensures gone { IfErr result (λ why. self.new.gone ≡ Some why) }
+        ensures closed { IfErr result (λ why. why ≡ Gone.Closed → IsDrained M.sender self.new) }
+        ensures later { IfSome self.old.gone (λ why. (result ≡ Err why) × (self.new ≡ self.old)) }
+    {
+        if let Some(why) = self.gone {
+            return Err(why);
+        }
+        for _ in rt.forever() {
+            if let Some(answer) = self.next(rt) {
+                return answer;
+            }
+        }
+        unreachable!()
+    }
+
+    // What one parcel answers: None where it was a mark, and another is missing.
+    fn next<R: Wait>(&mut self, rt: &R) -> Option<Result<M, Gone>>
+        requires { self.old.gone ≡ None }
+        ensures same { (self.new.channel ≡ self.old.channel) × (self.new.lanes ≡ self.old.lanes) }
+        ensures next { IsNext M.sender self.old self.new result }
+    {
+        match self.end.recv_as::<Takes, R>(rt, &mut self.pass) {
+            Ok(Parcel::Copy(post)) => Some(Ok(post)),
+            Ok(Parcel::Mark(_)) => {
+                let lanes = self.lanes;
+                self.marks += 1;
+                if self.marks < lanes {
+                    return None;
+                }
+                self.gone = Some(Gone::Closed);
+                Some(Err(Gone::Closed))
+            }
+            Err(_) => {
+                self.gone = Some(Gone::Lost);
+                Some(Err(Gone::Lost))
+            }
+        }
+    }
+}
+
+/// The senders of a channel, whose marks are put, but for those from the first on that found the receiver gone.
+#[derive(Drop)]
+pub struct ChannelClosed<M: FromSender> {
+    end: RuledSender<Parcel<M>, View<M>, LaneOrder<M>>,
+    pass: Pass<Parcel<M>, View<M>>,
+    is_lost: bool,
+}
+
+impl<M: FromSender> Model for ChannelClosed<M> {
+    ghost use Rattle.std.specs.Prelude.{◌≡◌};
+    ghost use Rattle.crossbeam_channel.specs.Claims.{IsSeatAt};
+    ghost use Rattle.crossbeam_channel.specs.Ends.{sends_on};
+    ghost use Rattle.mail_post.specs.Views.{knower};
+    ghost use Rattle.mail_post.specs.Channel.{Sent, channel_of, view_of};
+
+    ghost Value = { Sent M };
+
+    ghost view = { λ c. record { channel = channel_of c.pass; sent = (view_of c.pass).known } };
+
+    ghost invariant = { λ c. IsSeatAt (sends_on c.end) c.pass × (view_of c.pass ≡ knower (view_of c.pass).known) };
+}
+
+// The lane's mark, unless the receiver is known to be gone. True where it is.
+fn put_mark<M: FromSender, R: Wait>(
+    rt: &R,
+    end: &RuledSender<Parcel<M>, View<M>, LaneOrder<M>>,
+    pass: &mut Pass<Parcel<M>, View<M>>,
+    lane: u32,
+    is_lost: bool,
+) -> bool
+    requires seat { IsSeatAt (sends_on end.now) pass.old }
+    requires knows { view_of pass.old ≡ sender lane (view_of pass.old).sent false }
+    ensures seat { IsSeatAt (sends_on end.now) pass.new }
+    ensures knows { ((view_of pass.new).sends ≡ true) × ((view_of pass.new).lane ≡ lane)
+        × ((view_of pass.new).sent ≡ (view_of pass.old).sent) }
+{
+    if is_lost {
+        return true;
+    }
+    match end.send_as::<Offers, R>(rt, pass, Parcel::Mark(lane)) {
+        Ok(()) => false,
+        Err(_) => true,
+    }
+}
+
+impl<M: FromSender> ChannelClosed<M> {
+    // Lane 0's mark.
+    fn first<R: Wait>(rt: &R, from: ChannelSender<M>) -> ChannelClosed<M>
+        requires { from.number ≡ 0 }
+        ensures { (result.channel ≡ from.channel) × (result.sent ≡ from.sent ∷ []) }
+    {
+        let ChannelSender {
+            end,
+            pass: mut mine,
+            number,
+        } = from;
+        let mut pass = end.another::<Opens>(&mut mine);
+        let is_lost = put_mark(rt, &end, &mut mine, number, false);
+        end.absorb::<Ends>(&mut pass, mine);
+        ChannelClosed { end, pass, is_lost }
+    }
+
+    // The next lane's mark, unless the receiver is gone.
+    fn join<R: Wait>(&mut self, rt: &R, from: ChannelSender<M>)
+        requires channel { from.channel ≡ self.old.channel }
+        requires next { from.number ≡ length self.old.sent }
+        ensures { (self.new.channel ≡ self.old.channel) × (self.new.sent ≡ self.old.sent ++ from.sent ∷ []) }
+    {
+        let ChannelSender {
+            end,
+            pass: mut mine,
+            number,
+        } = from;
+        self.is_lost = put_mark(rt, &end, &mut mine, number, self.is_lost);
+        self.end.absorb::<Ends>(&mut self.pass, mine);
+    }
+}
+
+/// Puts one closing mark for each sender, in lane order. Where the receiver is gone it puts no more, and answers the
+/// same.
+pub fn close_channel<M: FromSender, R: Wait>(
+    senders: Vec<ChannelSender<M>>,
+    rt: &R,
+) -> ChannelClosed<M>
+    requires { AreSenders senders.items }
+    ensures channel { AreSendersOf result.channel senders.items }
     ensures sent { result.sent ≡ lists senders.items }
 {
-    close_line::<Post<N>, R>(senders, rt)
+    let mut rest = senders.into_iter();
+    let Some(first) = rest.next() else {
+        unreachable!();
+    };
+    let mut closed = ChannelClosed::first(rt, first);
+    for sender in rest {
+        closed.join(rt, sender);
+    }
+    closed
 }
 
-/// The channel of one lane's slips: a sender for each worker, and the receiver. It has room for a slip of each recipient of a message.
-pub fn slip_line(alloc: Global, workers: u32) -> Result<(Vec<SlipSender>, SlipReceiver), AllocError>
-    requires { 0 < workers }
-    ensures senders { IfOk result (λ ends. ends.0.items ≡ new_lanes ends.1.line workers) }
-    ensures receiver { IfOk result (λ ends. ends.1 ≡ new_inbox ends.1.line workers) }
+/// Both ends of a channel, handed back: what was taken of each lane is the start of what the lane was told was
+/// accepted, and all of it once the receiver answered Closed. It costs nothing when it runs.
+pub fn settle<M: FromSender>(receiver: ChannelReceiver<M>, closed: ChannelClosed<M>)
+    requires channel { receiver.channel ≡ closed.channel }
+    requires lanes { length closed.sent ≡ receiver.lanes }
+    ensures front { TookSome M.sender (taken receiver) closed.sent }
+    ensures all { receiver.gone ≡ Some Gone.Closed → TookAll M.sender (taken receiver) closed.sent }
 {
-    open_line(alloc, RECIPIENT_LIMIT, workers)
-}
-
-/// As `close`, for the senders of one lane's slips, in the workers' order.
-pub fn close_slips<R: Wait>(senders: Vec<SlipSender>, rt: &R) -> SlipsClosed
-    requires { AreLanes senders.items }
-    ensures line { IsLineOf result.line senders.items }
-    ensures sent { result.sent ≡ lists senders.items }
-{
-    close_line::<Slip, R>(senders, rt)
+    let ChannelClosed {
+        end,
+        mut pass,
+        is_lost: _,
+    } = closed;
+    let ChannelReceiver {
+        end: _from,
+        pass: other,
+        lanes: _,
+        marks: _,
+        gone: _,
+    } = receiver;
+    end.absorb::<Settles>(&mut pass, other);
+    end.learn_as::<Settles>(&mut pass);
 }

@@ -1,8 +1,8 @@
-//! The gatherer of a lane: the slips of one transaction come in any order, and its answers are in the order of the recipients.
+//! The gatherer of a lane: the slips of one transaction come in any order, and its answers are in the order of the
+//! recipients.
 
 ghost use Rattle.std.specs.Prelude.{◌≡◌, ◌≤◌, ◌↔◌, List, [], ◌∷◌, ◌++◌, map, Some, ℕ, false, IsTrue, IsOk, IfOk, OnErr};
-ghost use Rattle.mail_world.specs.Slips.{answers};
-ghost use Rattle.mail_world.specs.House.{gather_for, gathered};
+ghost use Rattle.mail_world.specs.Slips.{answers, gather_for, gathered};
 ghost use Rattle.mail_post.specs.Gathering.{IsDone, IsStranger, IsOwn, IsDouble, IsAwaited, HasGathered, NoneNames};
 
 use mail_world::{Outcome, Slip, Txn};
@@ -22,8 +22,8 @@ pub enum GatherFault {
     Stranger = 2,
 }
 
-/// The places of one transaction, each open until its slip comes. Contracts see the gatherer of the definitions, and how many
-/// places there may be.
+/// The places of one transaction, each open until its slip comes. Contracts see the gatherer of the definitions, and
+/// how many places there may be.
 #[derive(Drop)]
 pub struct Gather {
     txn: Txn,
@@ -68,7 +68,8 @@ impl Gather {
         requires { places ≤ self.old.limit }
         ensures begun { self.new ≡ record self.old { gather = gather_for txn places } }
 
-        // The slips that a lane heard go on through its transactions; what counts is that none of them names this one yet.
+        // The slips that a lane heard go on through its transactions; what counts is that none of them names this one
+        // yet.
         ensures heard { (heard : List Slip) → NoneNames txn heard → HasGathered txn places heard self.new.gather }
     {
         self.txn = txn;

@@ -6,9 +6,9 @@ use crossbeam_channel::protocol::{Join, Lesson, Outcome, Protocol, Split};
 use std::collections::LinkedList;
 use std::marker::PhantomData;
 
-/// A message of a numbered lane.
-pub trait Laned: Drop {
-    ghost lane: { Self → ℕ };
+/// A message that says the number of its sender.
+pub trait FromSender: Drop {
+    ghost sender: { Self → ℕ };
 }
 
 /// What goes through the channel: a message, or a lane's closing mark.
@@ -37,12 +37,12 @@ pub struct LaneOrder<M> {
     marker: PhantomData<M>,
 }
 
-impl<M: Laned> Protocol<Parcel<M>, View<M>> for LaneOrder<M> {
+impl<M: FromSender> Protocol<Parcel<M>, View<M>> for LaneOrder<M> {
     ghost use Rattle.std.specs.Prelude.{[]};
     ghost use Rattle.mail_post.specs.Views.{taker};
     ghost use Rattle.mail_post.specs.Rule.{Carries};
 
-    ghost holds = { Carries M.lane };
+    ghost holds = { Carries M.sender };
 
     ghost first = { taker 0 [] };
 }
@@ -50,36 +50,36 @@ impl<M: Laned> Protocol<Parcel<M>, View<M>> for LaneOrder<M> {
 /// A lane's accepted parcel.
 pub struct Offers;
 
-impl<M: Laned> Outcome<Parcel<M>, View<M>> for Offers {
+impl<M: FromSender> Outcome<Parcel<M>, View<M>> for Offers {
     ghost use Rattle.std.specs.Prelude.{◌≡◌};
     ghost use Rattle.mail_post.specs.Views.{put};
 
     ghost then = { λ v x w. w ≡ put v x };
 }
 
-impl<M: Laned> Lesson<Parcel<M>, View<M>> for Offers {
+impl<M: FromSender> Lesson<Parcel<M>, View<M>> for Offers {
     ghost fact = { λ v items. Unit {0} };
 }
 
 /// What the receiver took.
 pub struct Takes;
 
-impl<M: Laned> Outcome<Parcel<M>, View<M>> for Takes {
+impl<M: FromSender> Outcome<Parcel<M>, View<M>> for Takes {
     ghost use Rattle.std.specs.Prelude.{◌≡◌};
     ghost use Rattle.mail_post.specs.Views.{took};
     ghost use Rattle.mail_post.specs.Rule.{IsFair};
 
-    ghost then = { λ v x w. (w ≡ took v x) × IsFair M.lane w.lanes w.got };
+    ghost then = { λ v x w. (w ≡ took v x) × IsFair M.sender w.lanes w.got };
 }
 
-impl<M: Laned> Lesson<Parcel<M>, View<M>> for Takes {
+impl<M: FromSender> Lesson<Parcel<M>, View<M>> for Takes {
     ghost fact = { λ v items. Unit {0} };
 }
 
 /// The receiver's pass makes those of the lanes, by their numbers.
 pub struct Lanes;
 
-impl<M: Laned> Split<View<M>> for Lanes {
+impl<M: FromSender> Split<View<M>> for Lanes {
     ghost use Rattle.std.specs.Prelude.{[], ◌+◌, false};
     ghost use Rattle.mail_post.specs.Views.{taker, sender};
 
@@ -91,7 +91,7 @@ impl<M: Laned> Split<View<M>> for Lanes {
 /// A pass that knows of no lane, beside any other.
 pub struct Opens;
 
-impl<M: Laned> Split<View<M>> for Opens {
+impl<M: FromSender> Split<View<M>> for Opens {
     ghost use Rattle.std.specs.Prelude.{[]};
     ghost use Rattle.mail_post.specs.Views.{knower};
 
@@ -103,7 +103,7 @@ impl<M: Laned> Split<View<M>> for Opens {
 /// One lane more of which all is known.
 pub struct Ends;
 
-impl<M: Laned> Join<View<M>> for Ends {
+impl<M: FromSender> Join<View<M>> for Ends {
     ghost use Rattle.std.specs.Prelude.{[], ◌∷◌, ◌++◌};
     ghost use Rattle.mail_post.specs.Views.{knower};
 
@@ -115,7 +115,7 @@ impl<M: Laned> Join<View<M>> for Ends {
 /// What was sent beside what was taken.
 pub struct Settles;
 
-impl<M: Laned> Join<View<M>> for Settles {
+impl<M: FromSender> Join<View<M>> for Settles {
     ghost use Rattle.std.specs.Prelude.{[]};
     ghost use Rattle.mail_post.specs.Views.{knower, settled};
 
@@ -124,8 +124,8 @@ impl<M: Laned> Join<View<M>> for Settles {
     ghost spent = { knower [] };
 }
 
-impl<M: Laned> Lesson<Parcel<M>, View<M>> for Settles {
+impl<M: FromSender> Lesson<Parcel<M>, View<M>> for Settles {
     ghost use Rattle.mail_post.specs.Rule.{Agrees};
 
-    ghost fact = { λ v items. Agrees M.lane v };
+    ghost fact = { λ v items. Agrees M.sender v };
 }

@@ -1,11 +1,11 @@
 //! Copies and slips through their channels, on one thread and on several.
 
 ghost use Rattle.std.specs.Prelude.{◌≡◌, [], ◌∷◌, IfOk, IfSome};
-ghost use Rattle.mail_post.specs.Line.{new_lanes};
+ghost use Rattle.mail_post.specs.Channel.{new_senders};
 ghost use Rattle.mail_post.specs.Relay.{AreOfLane};
 
 use super::*;
-use crate::line::close_line;
+use crate::channel::close_channel;
 use mail_world::limits::RECIPIENT_LIMIT;
 use mail_world::{Outcome, Slip, Txn};
 use mbox_rd::Envelope;
@@ -52,23 +52,23 @@ fn slip(worker: u32, place: u32) -> Slip
 }
 
 // Offers a and b, takes, offers c, closes, and takes until nothing comes: the three in their order.
-fn script<M: Laned, R: Wait>(
+fn script<M: FromSender, R: Wait>(
     rt: &R,
-    mut senders: Vec<LineSender<M>>,
-    mut receiver: LineReceiver<M>,
+    mut senders: Vec<ChannelSender<M>>,
+    mut receiver: ChannelReceiver<M>,
     a: M,
     b: M,
     c: M,
-) -> Option<(M, M, M, LineClosed<M>)>
-    requires senders { senders.items ≡ new_lanes receiver.line 2 }
-    requires lanes { (M.lane a ≡ 0) × (M.lane b ≡ 1) × (M.lane c ≡ 0) }
+) -> Option<(M, M, M, ChannelClosed<M>)>
+    requires senders { senders.items ≡ new_senders receiver.channel 2 }
+    requires lanes { (M.sender a ≡ 0) × (M.sender b ≡ 1) × (M.sender c ≡ 0) }
     ensures { IfSome result (λ all. all.3.sent ≡ (a ∷ c ∷ []) ∷ (b ∷ []) ∷ []) }
 {
     senders[0].offer(rt, a).ok()?;
     senders[1].offer(rt, b).ok()?;
     let first = receiver.take(rt).ok()?;
     senders[0].offer(rt, c).ok()?;
-    let closed = close_line(senders, rt);
+    let closed = close_channel(senders, rt);
     let second = receiver.take(rt).ok()?;
     let third = receiver.take(rt).ok()?;
     if is_closed(&receiver.take(rt)) && is_closed(&receiver.take(rt)) {
@@ -77,7 +77,7 @@ fn script<M: Laned, R: Wait>(
     None
 }
 
-fn is_closed<M: Laned>(answer: &Result<M, Gone>) -> bool {
+fn is_closed<M: FromSender>(answer: &Result<M, Gone>) -> bool {
     matches!(answer, Err(Gone::Closed))
 }
 
@@ -170,20 +170,20 @@ fn seen<N: DepotName, R: Wait>(rt: &R, depot: &Depot<N>, post: Post<N>) -> (u32,
 }
 
 // What the second sender hands back where nothing can be taken.
-fn refused<M: Laned, R: Wait + Abort>(
+fn refused<M: FromSender, R: Wait + Abort>(
     rt: &R,
-    mut senders: Vec<LineSender<M>>,
-    receiver: LineReceiver<M>,
+    mut senders: Vec<ChannelSender<M>>,
+    receiver: ChannelReceiver<M>,
     message: M,
 ) -> Option<M>
-    requires senders { senders.items ≡ new_lanes receiver.line 2 }
-    requires lane { M.lane message ≡ 1 }
+    requires senders { senders.items ≡ new_senders receiver.channel 2 }
+    requires lane { M.sender message ≡ 1 }
 {
     drop(receiver);
     assert_eq!(rt; senders.len(), 2);
     assert_eq!(rt; senders[1].number(), 1);
     let back = senders[1].offer(rt, message).err();
-    drop(close_line(senders, rt));
+    drop(close_channel(senders, rt));
     back
 }
 
@@ -216,7 +216,7 @@ fn copy_back<N: DepotName, R: Wait + Abort>(rt: &R, alloc: Global, blank: Blank)
 
 // Offers the worker's slips of as many recipients as a message may have, and says how many were accepted.
 fn fill<R: Wait>(rt: &R, sender: &mut SlipSender) -> u32
-    requires { sender.old.lane ≡ 0 }
+    requires { sender.old.number ≡ 0 }
 {
     let mut accepted = 0;
     for place in 0..RECIPIENT_LIMIT as u32 {

@@ -6,10 +6,10 @@ use Rattle.std.proofs.lemmas.Bool.Decides.{nat_tests}
 use Rattle.std.proofs.lemmas.List.Sums.{sum_by-append}
 use Rattle.mail_world.specs.declared.Txn.{Txn}
 use Rattle.mail_world.specs.declared.Note.{Note}
-use Rattle.mail_world.specs.Slips.{names}
+use Rattle.mail_world.specs.Slips.{names, own_slip}
 use Rattle.mail_world.specs.Depot.{Key}
-use Rattle.mail_world.specs.House.{Transaction, Lane, House}
-use Rattle.mail_world.specs.Events.{LaneIs, own_slip}
+use Rattle.mail_world.specs.House.{SealedMessage, Lane, House}
+use Rattle.mail_world.specs.Events.{LaneIs}
 use Rattle.mail_world.proofs.PathsSpelled.{and_parts}
 use Rattle.mail_world.proofs.OneLine.{other_byte}
 use Rattle.mail_world.proofs.Once.{is_copy, IsOnce}
@@ -65,7 +65,7 @@ count_some f (y ∷ xs) zero x at e =
 count_some f (y ∷ xs) (suc i) x at e = omega (arith, count_some f xs i x at e, count-cons f y xs)
 
 -- the copy of the place was given away
-abbrev pub is_given : ℕ → ℕ → Transaction → Bool
+abbrev pub is_given : ℕ → ℕ → SealedMessage → Bool
 is_given number p t = (t.number == number) && nat_lt p t.offered
 
 -- a place more
@@ -80,7 +80,7 @@ one_given key number n p place message = by (number == n)
     by true = lt_more p place
     by false = refl
 
-count_given : (ts : List Transaction) (t : ℕ) (key : Key) (number n p place : ℕ) (message : List ℕ) → slice_get ts t ≡ Some (record { number = number; key = key; message = message; offered = place })
+count_given : (ts : List SealedMessage) (t : ℕ) (key : Key) (number n p place : ℕ) (message : List ℕ) → slice_get ts t ≡ Some (record { number = number; key = key; message = message; offered = place })
     → count_by (is_given n p) (slice_set ts t (record { number = number; key = key; message = message; offered = place + 1 })) ≡ count_by (is_given n p) ts + cond ((number == n) && (place == p)) 1 0
 count_given ts t key number n p place message at =
     omega (
@@ -93,7 +93,7 @@ count_given ts t key number n p place message at =
 none_before_zero : (p : ℕ) → nat_lt p 0 ≡ false
 none_before_zero p = grind (arith, nat_tests)
 
-count_sealed : (ts : List Transaction) (key : Key) (number n p : ℕ) (message : List ℕ) → count_by (is_given n p) (ts ++ record { number = number; key = key; message = message; offered = 0 } ∷ []) ≡ count_by (is_given n p) ts
+count_sealed : (ts : List SealedMessage) (key : Key) (number n p : ℕ) (message : List ℕ) → count_by (is_given n p) (ts ++ record { number = number; key = key; message = message; offered = 0 } ∷ []) ≡ count_by (is_given n p) ts
 count_sealed ts key number n p message =
     let none : ◌≡◌ {A = ℕ} (cond (is_given n p (record { number = number; key = key; message = message; offered = 0 })) 1 0) 0 = by (number == n) in
     omega (arith, count-append (is_given n p) ts (record { number = number; key = key; message = message; offered = 0 } ∷ []))
@@ -103,10 +103,10 @@ count_sealed ts key number n p message =
     by false = refl
 
 -- a lane knows of copies of its own transactions alone; those it was told of and those on their way are no more than it gave away
-abbrev pub AreGiven : ℕ → Txn → ℕ → ℕ → ℕ → List Transaction → Type 0
+abbrev pub AreGiven : ℕ → Txn → ℕ → ℕ → ℕ → List SealedMessage → Type 0
 AreGiven k txn p told way ts = told + cond (k == txn.lane) way 0 ≤ cond (k == txn.lane) (count_by (is_given txn.number p) ts) 0
 
-pub given_fewer : (k : ℕ) (txn : Txn) (p told way way' : ℕ) (ts : List Transaction) → way' ≤ way → AreGiven k txn p told way ts → AreGiven k txn p told way' ts
+pub given_fewer : (k : ℕ) (txn : Txn) (p told way way' : ℕ) (ts : List SealedMessage) → way' ≤ way → AreGiven k txn p told way ts → AreGiven k txn p told way' ts
 given_fewer k txn p told way way' ts le h = by (k == txn.lane) h
   where
     by : (t : Bool) → told + cond t way 0 ≤ cond t (count_by (is_given txn.number p) ts) 0 → told + cond t way' 0 ≤ cond t (count_by (is_given txn.number p) ts) 0
@@ -121,7 +121,7 @@ given_none k txn p = by (k == txn.lane)
     by false = omega arith
 
 -- a message is sealed
-pub given_seal : (k : ℕ) (txn : Txn) (p told way : ℕ) (ts : List Transaction) (key : Key) (number : ℕ) (message : List ℕ)
+pub given_seal : (k : ℕ) (txn : Txn) (p told way : ℕ) (ts : List SealedMessage) (key : Key) (number : ℕ) (message : List ℕ)
     → AreGiven k txn p told way ts → AreGiven k txn p told way (ts ++ record { number = number; key = key; message = message; offered = 0 } ∷ [])
 given_seal k txn p told way ts key number message h = rw (count_sealed ts key number txn.number p message) h
 
@@ -130,7 +130,7 @@ back_by : (t u v : Bool) (told told' way old new : ℕ) → told' ≡ told + con
 back_by true u v told told' way old new a b h = omega arith
 back_by false u v told told' way old new a b h = omega arith
 
-pub given_back : (k : ℕ) (txn : Txn) (p told told' way : ℕ) (ts : List Transaction) (t : ℕ) (key : Key) (number place m : ℕ) (message : List ℕ)
+pub given_back : (k : ℕ) (txn : Txn) (p told told' way : ℕ) (ts : List SealedMessage) (t : ℕ) (key : Key) (number place m : ℕ) (message : List ℕ)
     → slice_get ts t ≡ Some (record { number = number; key = key; message = message; offered = place })
     → told' ≡ told + cond (names txn p (own_slip k number place m)) 1 0
     → AreGiven k txn p told way ts → AreGiven k txn p told' way (slice_set ts t (record { number = number; key = key; message = message; offered = place + 1 }))
@@ -142,7 +142,7 @@ offer_by : (t u v : Bool) (told way way' old new : ℕ) → way' ≤ way + cond 
 offer_by true u v told way way' old new a b h = omega arith
 offer_by false u v told way way' old new a b h = omega arith
 
-pub given_offer : (k : ℕ) (txn : Txn) (p told way way' : ℕ) (ts : List Transaction) (t : ℕ) (key : Key) (note : Note) → note.txn.lane ≡ k
+pub given_offer : (k : ℕ) (txn : Txn) (p told way way' : ℕ) (ts : List SealedMessage) (t : ℕ) (key : Key) (note : Note) → note.txn.lane ≡ k
     → slice_get ts t ≡ Some (record { number = note.txn.number; key = key; message = note.message; offered = note.place })
     → way' ≤ way + cond (is_copy txn p note) 1 0
     → AreGiven k txn p told way ts → AreGiven k txn p told way' (slice_set ts t (record { number = note.txn.number; key = key; message = note.message; offered = note.place + 1 }))
@@ -155,14 +155,14 @@ elsewhere_by true true told way way' old f a h = let bad : true ≡ false = f re
 elsewhere_by true false told way way' old f a h = omega arith
 elsewhere_by false w told way way' old f a h = omega arith
 
-pub given_elsewhere : (k v : ℕ) (txn : Txn) (p told way way' : ℕ) (ts : List Transaction) (note : Note) → note.txn.lane ≡ k → v ≢ k
+pub given_elsewhere : (k v : ℕ) (txn : Txn) (p told way way' : ℕ) (ts : List SealedMessage) (note : Note) → note.txn.lane ≡ k → v ≢ k
     → way' ≤ way + cond (is_copy txn p note) 1 0 → AreGiven v txn p told way ts → AreGiven v txn p told way' ts
 given_elsewhere k v txn p told way way' ts note own ne more h =
     elsewhere_by (v == txn.lane) (is_copy txn p note) told way way' _
     (λ e. rw (other_byte note.txn.lane txn.lane (λ same. ne (eqb-true v txn.lane e ∙ sym same ∙ own))) refl) more h
 
 -- no copy is given away twice
-pub given_once : (k : ℕ) (h : House) (lane : Lane) → LaneIs h k lane → IsOnce h → (number p : ℕ) → count_by (is_given number p) lane.transactions ≤ 1
-given_once k h lane is o number p = count_at_most_one (is_given number p) lane.transactions
+pub given_once : (k : ℕ) (h : House) (lane : Lane) → LaneIs h k lane → IsOnce h → (number p : ℕ) → count_by (is_given number p) lane.messages ≤ 1
+given_once k h lane is o number p = count_at_most_one (is_given number p) lane.messages
     (λ i j t u at here e e'. o.distinct k lane i j t u is at here
     (eqb-true t.number number (and_parts (t.number == number) (nat_lt p t.offered) e).0 ∙ sym (eqb-true u.number number (and_parts (u.number == number) (nat_lt p u.offered) e').0)))

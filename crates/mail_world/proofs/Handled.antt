@@ -12,9 +12,16 @@ use Rattle.mail_world.specs.Data.{data_end, end_of_data}
 use Rattle.mail_world.specs.Site.{Site}
 use Rattle.mail_world.specs.Session.{Session, fresh, Input, step}
 use Rattle.mail_world.specs.Conversation.{Disposition, Part, CommandLine, MailData, cut_line, cut, cut_then, inputs_of, session_after, replies_to, parts, session_behind, size_of, is_data, OutcomesFit, AllFit, NoDataEnded, Conversation, stop_at, inputs, IsAccount}
-use Rattle.mail_world.specs.Dispositions.{disposition_of, dispositions_of, HasNoPart}
+use Rattle.mail_world.specs.Dispositions.{disposition_of, dispositions_of}
 use Rattle.mail_world.proofs.Places.{place_of_stands}
 use Rattle.mail_world.proofs.Cuts.{parts-cut}
+
+-- nothing at the front of the text has ended
+abbrev pub HasNoPart : State → List ℕ → Type 0
+HasNoPart Content s = data_end s ≡ None
+HasNoPart Ended s = ⊤
+HasNoPart Waiting s = ⊤
+HasNoPart _ s = place_of crlf s ≡ None
 
 -- inputs one after another
 pub session_after-append : (site : Site) (session : Session) (xs ys : List Input)

@@ -3,11 +3,11 @@ use Rattle.std.proofs.Common.{◌≡◌, ◌≢◌, ℕ, suc, ◌+◌, ◌-◌, 
 use Rattle.std.specs.Prelude.{slice_get, slice_set, flat_map, count_by}
 use Rattle.mail_world.specs.declared.Txn.{Txn}
 use Rattle.mail_world.specs.declared.Slip.{Slip}
-use Rattle.mail_world.specs.Slips.{names, times_named}
-use Rattle.mail_world.specs.House.{Post, Copy, Box, Lane, House, gather_for, IsFreshBox, IsFreshLane, IsStart}
+use Rattle.mail_world.specs.Slips.{names, times_named, gather_for, txn_of, own_slip, slip_of}
+use Rattle.mail_world.specs.House.{Post, Copy, Box, Lane, House, IsFreshBox, IsFreshLane, IsStart}
 use Rattle.mail_world.specs.declared.Event.{Event}
 use Rattle.mail_world.specs.declared.Event.TheVariants.{Begin, Put, Cancel, Seal, Split, Offer, HandBack, Collect, Take, Write, Sync, Release, GiveSlip, Reclaim, Close}
-use Rattle.mail_world.specs.Events.{Step, LaneIs, BoxIs, txn_of, without_copy, hears, own_slip, slip_of}
+use Rattle.mail_world.specs.Events.{Step, LaneIs, BoxIs, without_copy, with_heard}
 use Rattle.mail_world.specs.Runs.{Happened, Run, last_house, finished_by, HearsOnce}
 use Rattle.mail_world.proofs.Accepted.{get_set, each_at}
 use Rattle.mail_world.proofs.Spools.{AllSound, sound_step, sound_fresh, held}
@@ -26,19 +26,19 @@ is_of txn p post = is_copy txn p post.note
 abbrev times_on_way : Txn → ℕ → List Box → ℕ
 times_on_way txn p bs = count_by (is_of txn p) (flat_map on_way bs)
 
-abbrev told : Txn → ℕ → Lane → ℕ
-told txn p lane = times_named txn p lane.heard + times_named txn p (drop lane.collected lane.slips)
+abbrev times_told : Txn → ℕ → Lane → ℕ
+times_told txn p lane = times_named txn p lane.heard + times_named txn p (drop lane.collected lane.slips)
 
 -- what is kept: the copies on their way, those with a slip in the lane's channel and those that the lane heard of are no more than it gave away
 abbrev IsBounded : ℕ → Lane → List Box → Txn → ℕ → Type 0
-IsBounded k lane bs txn p = AreGiven k txn p (told txn p lane) (times_on_way txn p bs) lane.transactions
+IsBounded k lane bs txn p = AreGiven k txn p (times_told txn p lane) (times_on_way txn p bs) lane.messages
 
 abbrev AllBounded : House → Type 0
 AllBounded h = (k : ℕ) (lane : Lane) → LaneIs h k lane → (txn : Txn) (p : ℕ) → IsBounded k lane h.boxes txn p
 
 -- where fewer copies are on their way, or as many
 fewer : (k : ℕ) (lane : Lane) (bs ms : List Box) (txn : Txn) (p : ℕ) → times_on_way txn p ms ≤ times_on_way txn p bs → IsBounded k lane bs txn p → IsBounded k lane ms txn p
-fewer k lane bs ms txn p le h = given_fewer k txn p (told txn p lane) (times_on_way txn p bs) (times_on_way txn p ms) lane.transactions le h
+fewer k lane bs ms txn p le h = given_fewer k txn p (times_told txn p lane) (times_on_way txn p bs) (times_on_way txn p ms) lane.messages le h
 
 one_lane : (h new : House) (k : ℕ) (old changed : Lane) → new.lanes ≡ slice_set h.lanes k changed → LaneIs h k old
     → ((txn : Txn) (p : ℕ) → IsBounded k old h.boxes txn p → IsBounded k changed new.boxes txn p)
@@ -73,13 +73,13 @@ box_alone h new w old changed boxes lanes was same = no_lane h new lanes (λ txn
 
 -- a slip is collected
 collected : (k : ℕ) (lane next : Lane) (slip : Slip) (bs : List Box) (txn : Txn) (p : ℕ) → slice_get lane.slips lane.collected ≡ Some slip
-    → next.slips ≡ lane.slips → next.collected ≡ lane.collected + 1 → next.heard ≡ lane.heard ++ slip ∷ [] → next.transactions ≡ lane.transactions
+    → next.slips ≡ lane.slips → next.collected ≡ lane.collected + 1 → next.heard ≡ lane.heard ++ slip ∷ [] → next.messages ≡ lane.messages
     → IsBounded k lane bs txn p → IsBounded k next bs txn p
 collected k lane next slip bs txn p front slips count heard ts h =
     let was : times_named txn p (drop lane.collected lane.slips) ≡ cond (names txn p slip) 1 0 + times_named txn p (drop (lane.collected + 1) lane.slips) =
     ap (times_named txn p) (drop_get lane.slips lane.collected slip front ∙ ap (λ n. slip ∷ drop n lane.slips) (sym (add-one lane.collected)))
     ∙ count-cons (names txn p) slip (drop (lane.collected + 1) lane.slips) in
-    let same : told txn p next ≡ told txn p lane = rw (slips, count, heard) (omega (arith, was, count-append (names txn p) lane.heard (slip ∷ []))) in
+    let same : times_told txn p next ≡ times_told txn p lane = rw (slips, count, heard) (omega (arith, was, count-append (names txn p) lane.heard (slip ∷ []))) in
     rw (same, ts) h
 
 way_offered : (txn : Txn) (p : ℕ) (bs : List Box) (b : ℕ) (old new : Box) (post : Post) → slice_get bs b ≡ Some old → new.accepted ≡ old.accepted ++ post ∷ [] → new.taken ≡ old.taken → new.hand ≡ old.hand
@@ -95,14 +95,14 @@ gave_by true told told' way way' old false f a b h = let bad : true ≡ false = 
 gave_by false told told' way way' old false f a b h = omega arith
 
 gave : (lane next : Lane) (w : ℕ) (copy : Copy) (bs ms : List Box) (txn : Txn) (p : ℕ)
-    → next.heard ≡ lane.heard → next.collected ≡ lane.collected → next.transactions ≡ lane.transactions → next.slips ≡ lane.slips ++ slip_of w copy.post.note copy.synced ∷ []
+    → next.heard ≡ lane.heard → next.collected ≡ lane.collected → next.messages ≡ lane.messages → next.slips ≡ lane.slips ++ slip_of w copy.post.note copy.synced ∷ []
     → times_on_way txn p bs ≡ times_on_way txn p ms + cond (is_of txn p copy.post) 1 0
     → IsBounded copy.post.note.txn.lane lane bs txn p → IsBounded copy.post.note.txn.lane next ms txn p
 gave lane next w copy bs ms txn p heard count ts slips way h =
     let slip : Slip = slip_of w copy.post.note copy.synced in
-    let more : told txn p next ≤ told txn p lane + cond (is_of txn p copy.post) 1 0 =
+    let more : times_told txn p next ≤ times_told txn p lane + cond (is_of txn p copy.post) 1 0 =
     rw (heard, count, slips) (omega (arith, count_one_more (names txn p) lane.collected lane.slips slip)) in
-    rw (ts) (gave_by (is_of txn p copy.post) (told txn p lane) (told txn p next) (times_on_way txn p bs) (times_on_way txn p ms) _ (copy.post.note.txn.lane == txn.lane) (λ e. rw e refl) more way h)
+    rw (ts) (gave_by (is_of txn p copy.post) (times_told txn p lane) (times_told txn p next) (times_on_way txn p bs) (times_on_way txn p ms) _ (copy.post.note.txn.lane == txn.lane) (λ e. rw e refl) more way h)
 
 way_gave : (txn : Txn) (p : ℕ) (bs : List Box) (w : ℕ) (box : Box) (copy : Copy) (before : ℕ) → slice_get bs w ≡ Some box → box.hand ≡ Some copy → box.taken ≡ suc before → slice_get box.accepted before ≡ Some copy.post
     → times_on_way txn p bs ≡ times_on_way txn p (slice_set bs w (record box { hand = None })) + cond (is_of txn p copy.post) 1 0
@@ -121,32 +121,32 @@ bounded_step h (Cancel k) new sound all st = lane_alone h new k st.lane _ (ap (�
 bounded_step h (Seal k n) new sound all st =
     let next : Lane = record st.lane {
       draft = None;
-      transactions = st.lane.transactions ++ record { number = st.lane.number; key = st.key; message = st.seals.bytes; offered = 0 } ∷ [];
+      messages = st.lane.messages ++ record { number = st.lane.number; key = st.key; message = st.seals.bytes; offered = 0 } ∷ [];
       holds = st.lane.holds ++ record { key = st.key; weight = n } ∷ [];
       gather = gather_for (txn_of k st.lane.number) n;
     } in
     lane_alone h new k st.lane next (ap (λ (x : House). x.boxes) st.after) (ap (λ (x : House). x.lanes) st.after) st.is
-    (λ txn p b. given_seal k txn p (told txn p st.lane) (times_on_way txn p h.boxes) st.lane.transactions st.key st.lane.number st.seals.bytes b) all
+    (λ txn p b. given_seal k txn p (times_told txn p st.lane) (times_on_way txn p h.boxes) st.lane.messages st.key st.lane.number st.seals.bytes b) all
 bounded_step h (Split k i) new sound all st = lane_alone h new k st.lane _ (ap (λ (x : House). x.boxes) st.after) (ap (λ (x : House). x.lanes) st.after) st.is (λ txn p b. b) all
 bounded_step h (HandBack k i m) new sound all st =
-    let next : Lane = hears (without_copy st.lane i st.t st.key st.number st.message st.place) (own_slip k st.number st.place m) in
+    let next : Lane = with_heard (without_copy st.lane i st.t st.key st.number st.message st.place) (own_slip k st.number st.place m) in
     lane_alone h new k st.lane next (ap (λ (x : House). x.boxes) st.after) (ap (λ (x : House). x.lanes) st.after) st.is
-    (λ txn p b. given_back k txn p (told txn p st.lane) (told txn p next) (times_on_way txn p h.boxes) st.lane.transactions st.t st.key st.number st.place m st.message st.copy.transaction
+    (λ txn p b. given_back k txn p (times_told txn p st.lane) (times_told txn p next) (times_on_way txn p h.boxes) st.lane.messages st.t st.key st.number st.place m st.message st.copy.sealed
     (omega (arith, count-append (names txn p) st.lane.heard (own_slip k st.number st.place m ∷ []))) b) all
 bounded_step h (Collect k) new sound all st =
-    let next : Lane = record (hears st.lane st.slip) { collected = st.lane.collected + 1 } in
+    let next : Lane = record (with_heard st.lane st.slip) { collected = st.lane.collected + 1 } in
     lane_alone h new k st.lane next (ap (λ (x : House). x.boxes) st.after) (ap (λ (x : House). x.lanes) st.after) st.is
     (λ txn p b. collected k st.lane next st.slip h.boxes txn p st.front refl refl refl refl b) all
 bounded_step h (Offer k note) new sound all st =
     let post : Post = record { note = note; key = st.key } in
-    let next : Lane = without_copy st.lane st.hold st.t st.key note.txn.number note.message note.place in
+    let next : Lane = without_copy st.lane st.at st.t st.key note.txn.number note.message note.place in
     let changed : Box = record st.box { accepted = st.box.accepted ++ post ∷ [] } in
     let boxes : new.boxes ≡ slice_set h.boxes note.mailbox changed = ap (λ (x : House). x.boxes) st.after in
     let way : (txn : Txn) (p : ℕ) → times_on_way txn p new.boxes ≤ times_on_way txn p h.boxes + cond (is_of txn p post) 1 0 =
     (λ txn p. rw (boxes) (way_offered txn p h.boxes note.mailbox st.box changed post st.channel refl refl refl)) in
     one_lane h new k st.lane next (ap (λ (x : House). x.lanes) st.after) st.is
-    (λ txn p b. given_offer k txn p (told txn p st.lane) (times_on_way txn p h.boxes) (times_on_way txn p new.boxes) st.lane.transactions st.t st.key note st.own st.copy.transaction (way txn p) b)
-    (λ v lane txn p ne b. given_elsewhere k v txn p (told txn p lane) (times_on_way txn p h.boxes) (times_on_way txn p new.boxes) lane.transactions note st.own ne (way txn p) b) all
+    (λ txn p b. given_offer k txn p (times_told txn p st.lane) (times_on_way txn p h.boxes) (times_on_way txn p new.boxes) st.lane.messages st.t st.key note st.own st.copy.sealed (way txn p) b)
+    (λ v lane txn p ne b. given_elsewhere k v txn p (times_told txn p lane) (times_on_way txn p h.boxes) (times_on_way txn p new.boxes) lane.messages note st.own ne (way txn p) b) all
 bounded_step h (Take w) new sound all st =
     let one : st.box.taken + 1 - 1 ≡ st.box.taken = omega arith in
     box_alone h new w st.box _ (ap (λ (x : House). x.boxes) st.after) (ap (λ (x : House). x.lanes) st.after) st.is
@@ -181,7 +181,7 @@ bounded_start : (blocks : ℕ) (h : House) → IsStart blocks h → AllBounded h
 bounded_start blocks h start k lane is txn p =
     let f = each_at IsFreshLane h.lanes k lane start.lanes is in
     let none : times_on_way txn p h.boxes ≡ 0 = none_on_way txn p h.boxes (λ b box at. let g = each_at IsFreshBox h.boxes b box start.boxes at in rw (g.hand, g.taken, g.accepted) refl) in
-    rw (f.heard, f.slips, f.collected, f.transactions, none) (given_none k txn p)
+    rw (f.heard, f.slips, f.collected, f.messages, none) (given_none k txn p)
 
 once_by : (t : Bool) (a b way old : ℕ) → old ≤ 1 → a + b + cond t way 0 ≤ cond t old 0 → a ≤ 1
 once_by true a b way old le h = omega arith

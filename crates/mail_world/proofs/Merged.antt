@@ -8,13 +8,13 @@ use Rattle.std.proofs.lemmas.Option.{slice_get_within}
 use Rattle.std.proofs.lemmas.Grind.{flat_map-append}
 use Rattle.mail_world.specs.declared.Txn.{Txn}
 use Rattle.mail_world.specs.declared.Slip.{Slip}
-use Rattle.mail_world.specs.Slips.{names, times_named}
+use Rattle.mail_world.specs.Slips.{names, times_named, gather_for, txn_of, own_slip, slip_of, IsMerged}
 use Rattle.mail_world.specs.Depot.{Key}
-use Rattle.mail_world.specs.House.{Post, Box, Lane, House, gather_for, IsFreshBox, IsFreshLane, IsStart}
+use Rattle.mail_world.specs.House.{Post, Box, Lane, House, IsFreshBox, IsFreshLane, IsStart}
 use Rattle.mail_world.specs.declared.Event.{Event}
 use Rattle.mail_world.specs.declared.Event.TheVariants.{Begin, Put, Cancel, Seal, Split, Offer, HandBack, Collect, Take, Write, Sync, Release, GiveSlip, Reclaim, Close}
-use Rattle.mail_world.specs.Events.{Step, LaneIs, BoxIs, txn_of, without_copy, hears, own_slip, slip_of}
-use Rattle.mail_world.specs.Runs.{Happened, Run, last_house, events_of, times_copied, IsMerged, is_collect, handed_back_by, handed_back, IsOwn, HasHeard}
+use Rattle.mail_world.specs.Events.{Step, LaneIs, BoxIs, without_copy, with_heard}
+use Rattle.mail_world.specs.Runs.{Happened, Run, last_house, events_of, times_copied, is_collect, handed_back_by, handed_back, IsHandedBack, HasHeard}
 use Rattle.mail_world.proofs.OneLine.{other_byte}
 use Rattle.mail_world.proofs.Accepted.{get_set, each_at}
 use Rattle.mail_world.proofs.Spools.{take_one_more}
@@ -24,14 +24,14 @@ use Rattle.mail_world.proofs.Once.{accepted_in, is_copy, times_same, times_offer
 use Rattle.mail_world.proofs.GivenAway.{count-append, count_some, AreGiven, given_fewer, given_none, given_seal, given_back, given_offer, given_elsewhere, given_once}
 
 -- one more at the end of a merged list
-merged_front : (front own heard : List Slip) (x : Slip) → IsMerged front own heard → IsMerged (front ++ x ∷ []) own (heard ++ x ∷ [])
+pub merged_front : (front own heard : List Slip) (x : Slip) → IsMerged front own heard → IsMerged (front ++ x ∷ []) own (heard ++ x ∷ [])
 merged_front front own [] x m = inl ([], ap (λ l. l ++ x ∷ []) m.0, (refl, m.1))
 merged_front front own (y ∷ heard) x m = elim m [
   | inl first ↦ inl (first.0 ++ x ∷ [], ap (λ l. l ++ x ∷ []) first.1, merged_front first.0 own heard x first.2)
   | inr mine ↦ inr (mine.0, mine.1, merged_front front mine.0 heard x mine.2)
 ]
 
-merged_own : (front own heard : List Slip) (x : Slip) → IsMerged front own heard → IsMerged front (own ++ x ∷ []) (heard ++ x ∷ [])
+pub merged_own : (front own heard : List Slip) (x : Slip) → IsMerged front own heard → IsMerged front (own ++ x ∷ []) (heard ++ x ∷ [])
 merged_own front own [] x m = inr ([], ap (λ l. l ++ x ∷ []) m.1, (m.0, refl))
 merged_own front own (y ∷ heard) x m = elim m [
   | inl first ↦ inl (first.0, first.1, merged_own first.0 own heard x first.2)
@@ -52,7 +52,7 @@ record IsSoFar (events : List Event) (k : ℕ) (lane : Lane) (bs : List Box) : T
   collected : count_by (is_collect k) events ≡ lane.collected
   handed : handed_back k events ≡ map (λ slip. slip.worker) own
   made : AllByRecursion (IsMade k) own
-  given : (txn : Txn) (p : ℕ) → AreGiven k txn p (times_named txn p own) (copied txn p bs) lane.transactions
+  given : (txn : Txn) (p : ℕ) → AreGiven k txn p (times_named txn p own) (copied txn p bs) lane.messages
 
 abbrev AllSoFar : List Event → House → Type 0
 AllSoFar events h = (k : ℕ) (lane : Lane) → LaneIs h k lane → IsSoFar events k lane h.boxes
@@ -73,7 +73,7 @@ handed_more k events e ms is =
 -- a lane that hears nothing
 quiet_lane : (events : List Event) (e : Event) (k : ℕ) (lane next : Lane) (bs ms : List Box) (more : List Slip) → IsQuiet k e
     → next.heard ≡ lane.heard → next.collected ≡ lane.collected → next.slips ≡ lane.slips ++ more
-    → ((txn : Txn) (p told : ℕ) → AreGiven k txn p told (copied txn p bs) lane.transactions → AreGiven k txn p told (copied txn p ms) next.transactions)
+    → ((txn : Txn) (p told : ℕ) → AreGiven k txn p told (copied txn p bs) lane.messages → AreGiven k txn p told (copied txn p ms) next.messages)
     → IsSoFar events k lane bs → IsSoFar (events ++ e ∷ []) k next ms
 quiet_lane events e k lane next bs ms more q heard count slips given s =
     let front : lane.collected ≤ length lane.slips = s.front in
@@ -91,17 +91,17 @@ quiet_lane events e k lane next bs ms more q heard count slips given s =
     }
 
 same_lane : (events : List Event) (e : Event) (k : ℕ) (lane next : Lane) (bs ms : List Box) → IsQuiet k e
-    → next.heard ≡ lane.heard → next.collected ≡ lane.collected → next.slips ≡ lane.slips → next.transactions ≡ lane.transactions → ((txn : Txn) (p : ℕ) → copied txn p ms ≤ copied txn p bs)
+    → next.heard ≡ lane.heard → next.collected ≡ lane.collected → next.slips ≡ lane.slips → next.messages ≡ lane.messages → ((txn : Txn) (p : ℕ) → copied txn p ms ≤ copied txn p bs)
     → IsSoFar events k lane bs → IsSoFar (events ++ e ∷ []) k next ms
 same_lane events e k lane next bs ms q heard count slips ts le s =
     quiet_lane events e k lane next bs ms [] q heard count (slips ∙ sym (append-nil lane.slips))
-    (λ txn p told g. rw (ts) (given_fewer k txn p told (copied txn p bs) (copied txn p ms) lane.transactions (le txn p) g)) s
+    (λ txn p told g. rw (ts) (given_fewer k txn p told (copied txn p bs) (copied txn p ms) lane.messages (le txn p) g)) s
 
 -- a lane that makes a slip itself
 own_lane : (events : List Event) (k i m : ℕ) (lane next : Lane) (bs : List Box) (t : ℕ) (key : Key) (number place : ℕ) (message : List ℕ)
-    → slice_get lane.transactions t ≡ Some (record { number = number; key = key; message = message; offered = place })
+    → slice_get lane.messages t ≡ Some (record { number = number; key = key; message = message; offered = place })
     → next.slips ≡ lane.slips → next.collected ≡ lane.collected → next.heard ≡ lane.heard ++ own_slip k number place m ∷ []
-    → next.transactions ≡ slice_set lane.transactions t (record { number = number; key = key; message = message; offered = place + 1 })
+    → next.messages ≡ slice_set lane.messages t (record { number = number; key = key; message = message; offered = place + 1 })
     → IsSoFar events k lane bs → IsSoFar (events ++ HandBack k i m ∷ []) k next bs
 own_lane events k i m lane next bs t key number place message at slips count heard ts s =
     let slip : Slip = own_slip k number place m in
@@ -115,13 +115,13 @@ own_lane events k i m lane next bs t key number place message at slips count hea
       collected = let was = s.collected in omega (arith, count_more k events (HandBack k i m) false refl);
       handed = handed_more k events (HandBack k i m) (m ∷ []) (rw (eq-eqb k k refl) refl) ∙ ap (λ l. l ++ m ∷ []) s.handed ∙ sym (map-append (λ x. x.worker) s.own (slip ∷ []));
       made = all_more (IsMade k) s.own slip s.made refl;
-      given = λ txn p. rw (ts) (given_back k txn p (times_named txn p s.own) (times_named txn p (s.own ++ slip ∷ [])) (copied txn p bs) lane.transactions t key number place m message at
+      given = λ txn p. rw (ts) (given_back k txn p (times_named txn p s.own) (times_named txn p (s.own ++ slip ∷ [])) (copied txn p bs) lane.messages t key number place m message at
           (omega (arith, count-append (names txn p) s.own (slip ∷ []))) (s.given txn p));
     }
 
 -- a lane that collects a slip
 collecting_lane : (events : List Event) (k : ℕ) (lane next : Lane) (bs : List Box) (slip : Slip) → slice_get lane.slips lane.collected ≡ Some slip
-    → next.slips ≡ lane.slips → next.collected ≡ lane.collected + 1 → next.heard ≡ lane.heard ++ slip ∷ [] → next.transactions ≡ lane.transactions
+    → next.slips ≡ lane.slips → next.collected ≡ lane.collected + 1 → next.heard ≡ lane.heard ++ slip ∷ [] → next.messages ≡ lane.messages
     → IsSoFar events k lane bs → IsSoFar (events ++ Collect k ∷ []) k next bs
 collecting_lane events k lane next bs slip at slips count heard ts s =
     let P : List Slip → Type 0 = λ l. IsMerged (take next.collected next.slips) s.own l in
@@ -181,39 +181,39 @@ so_far_step events h (Seal k n) new all st =
     let le = no_box h new (ap (λ (x : House). x.boxes) st.after) in
     let next : Lane = record st.lane {
       draft = None;
-      transactions = st.lane.transactions ++ record { number = st.lane.number; key = st.key; message = st.seals.bytes; offered = 0 } ∷ [];
+      messages = st.lane.messages ++ record { number = st.lane.number; key = st.key; message = st.seals.bytes; offered = 0 } ∷ [];
       holds = st.lane.holds ++ record { key = st.key; weight = n } ∷ [];
       gather = gather_for (txn_of k st.lane.number) n;
     } in
     lane_alone events (Seal k n) h new k st.lane next (ap (λ (x : House). x.lanes) st.after) st.is le (λ v ne. (refl, refl))
     (quiet_lane events (Seal k n) k st.lane next h.boxes new.boxes [] (refl, refl) refl refl (sym (append-nil st.lane.slips))
-    (λ txn p told g. given_seal k txn p told (copied txn p new.boxes) st.lane.transactions st.key st.lane.number st.seals.bytes
-    (given_fewer k txn p told (copied txn p h.boxes) (copied txn p new.boxes) st.lane.transactions (le txn p) g))) all
+    (λ txn p told g. given_seal k txn p told (copied txn p new.boxes) st.lane.messages st.key st.lane.number st.seals.bytes
+    (given_fewer k txn p told (copied txn p h.boxes) (copied txn p new.boxes) st.lane.messages (le txn p) g))) all
 so_far_step events h (Split k i) new all st =
     lane_alone events (Split k i) h new k st.lane _ (ap (λ (x : House). x.lanes) st.after) st.is (no_box h new (ap (λ (x : House). x.boxes) st.after)) (λ v ne. (refl, refl))
     (same_lane events (Split k i) k st.lane _ h.boxes new.boxes (refl, refl) refl refl refl refl (no_box h new (ap (λ (x : House). x.boxes) st.after))) all
 so_far_step events h (HandBack k i m) new all st =
     let boxes : new.boxes ≡ h.boxes = ap (λ (x : House). x.boxes) st.after in
-    let next : Lane = hears (without_copy st.lane i st.t st.key st.number st.message st.place) (own_slip k st.number st.place m) in
+    let next : Lane = with_heard (without_copy st.lane i st.t st.key st.number st.message st.place) (own_slip k st.number st.place m) in
     let P : List Box → Type 0 = λ bs. IsSoFar (events ++ HandBack k i m ∷ []) k next bs in
     lane_alone events (HandBack k i m) h new k st.lane next (ap (λ (x : House). x.lanes) st.after) st.is (no_box h new boxes) (λ v ne. (rw (other_byte k v (λ same. ne (sym same))) refl, refl))
-    (λ s. subst P (sym boxes) (own_lane events k i m st.lane next h.boxes st.t st.key st.number st.place st.message st.copy.transaction refl refl refl refl s)) all
+    (λ s. subst P (sym boxes) (own_lane events k i m st.lane next h.boxes st.t st.key st.number st.place st.message st.copy.sealed refl refl refl refl s)) all
 so_far_step events h (Collect k) new all st =
     let boxes : new.boxes ≡ h.boxes = ap (λ (x : House). x.boxes) st.after in
-    let next : Lane = record (hears st.lane st.slip) { collected = st.lane.collected + 1 } in
+    let next : Lane = record (with_heard st.lane st.slip) { collected = st.lane.collected + 1 } in
     let P : List Box → Type 0 = λ bs. IsSoFar (events ++ Collect k ∷ []) k next bs in
     lane_alone events (Collect k) h new k st.lane next (ap (λ (x : House). x.lanes) st.after) st.is (no_box h new boxes) (λ v ne. (refl, other_byte k v (λ same. ne (sym same))))
     (λ s. subst P (sym boxes) (collecting_lane events k st.lane next h.boxes st.slip st.front refl refl refl refl s)) all
 so_far_step events h (Offer k note) new all st =
     let post : Post = record { note = note; key = st.key } in
-    let next : Lane = without_copy st.lane st.hold st.t st.key note.txn.number note.message note.place in
+    let next : Lane = without_copy st.lane st.at st.t st.key note.txn.number note.message note.place in
     let more : (txn : Txn) (p : ℕ) → copied txn p new.boxes ≤ copied txn p h.boxes + cond (is_copy txn p note) 1 0 =
     (λ txn p. rw (ap (λ (x : House). x.boxes) st.after) (omega (arith, times_offer txn p h.boxes note.mailbox st.box (record st.box { accepted = st.box.accepted ++ post ∷ [] }) post st.channel refl))) in
     one_lane events (Offer k note) h new k st.lane next (ap (λ (x : House). x.lanes) st.after) st.is
     (quiet_lane events (Offer k note) k st.lane next h.boxes new.boxes [] (refl, refl) refl refl (sym (append-nil st.lane.slips))
-    (λ txn p told g. given_offer k txn p told (copied txn p h.boxes) (copied txn p new.boxes) st.lane.transactions st.t st.key note st.own st.copy.transaction (more txn p) g))
+    (λ txn p told g. given_offer k txn p told (copied txn p h.boxes) (copied txn p new.boxes) st.lane.messages st.t st.key note st.own st.copy.sealed (more txn p) g))
     (λ v lane ne. quiet_lane events (Offer k note) v lane lane h.boxes new.boxes [] (refl, refl) refl refl (sym (append-nil lane.slips))
-    (λ txn p told g. given_elsewhere k v txn p told (copied txn p h.boxes) (copied txn p new.boxes) lane.transactions note st.own ne (more txn p) g)) all
+    (λ txn p told g. given_elsewhere k v txn p told (copied txn p h.boxes) (copied txn p new.boxes) lane.messages note st.own ne (more txn p) g)) all
 so_far_step events h (Take w) new all st =
     no_lane events (Take w) h new (ap (λ (x : House). x.lanes) st.after) (one_box h new w st.box _ (ap (λ (x : House). x.boxes) st.after) st.is refl) (λ v. (refl, refl)) all
 so_far_step events h (Write w bytes) new all st =
@@ -229,7 +229,7 @@ so_far_step events h (GiveSlip w o) new all st =
     let le : NoCopy h new = one_box h new w st.box (record st.box { hand = None }) (ap (λ (x : House). x.boxes) st.after) st.is refl in
     lane_alone events (GiveSlip w o) h new k st.lane next (ap (λ (x : House). x.lanes) st.after) st.to le (λ v ne. (refl, refl))
     (quiet_lane events (GiveSlip w o) k st.lane next h.boxes new.boxes (slip ∷ []) (refl, refl) refl refl refl
-    (λ txn p told g. given_fewer k txn p told (copied txn p h.boxes) (copied txn p new.boxes) st.lane.transactions (le txn p) g)) all
+    (λ txn p told g. given_fewer k txn p told (copied txn p h.boxes) (copied txn p new.boxes) st.lane.messages (le txn p) g)) all
 so_far_step events h (Reclaim slot generation) new all st =
     no_lane events (Reclaim slot generation) h new (ap (λ (x : House). x.lanes) st.2) (no_box h new (ap (λ (x : House). x.boxes) st.2)) (λ v. (refl, refl)) all
 so_far_step events h (Close m) new all st =
@@ -255,7 +255,7 @@ so_far_start blocks h start k lane is =
       collected = sym f.collected;
       handed = refl;
       made = tt;
-      given = λ txn p. rw (f.transactions, none_copied txn p h.boxes start.boxes) (given_none k txn p);
+      given = λ txn p. rw (f.messages, none_copied txn p h.boxes start.boxes) (given_none k txn p);
     }
 
 -- no channel accepted a copy that was handed back
@@ -266,7 +266,7 @@ never_by false told way old e some most h = cc
 own_named : (slip : Slip) → names slip.txn slip.place slip ≡ true
 own_named slip = rw (eq-eqb slip.txn.lane slip.txn.lane refl, eq-eqb slip.txn.number slip.txn.number refl, eq-eqb slip.place slip.place refl) refl
 
-is_own : (h : House) (k : ℕ) (lane : Lane) (events : List Event) → LaneIs h k lane → IsOnce h → (s : IsSoFar events k lane h.boxes) → (i : ℕ) (slip : Slip) → slice_get s.own i ≡ Some slip → IsOwn k h slip
+is_own : (h : House) (k : ℕ) (lane : Lane) (events : List Event) → LaneIs h k lane → IsOnce h → (s : IsSoFar events k lane h.boxes) → (i : ℕ) (slip : Slip) → slice_get s.own i ≡ Some slip → IsHandedBack k h slip
 is_own h k lane events is once s i slip at =
     let made : IsMade k slip = each_at (IsMade k) s.own i slip s.made at in
     record {
@@ -286,5 +286,5 @@ every_run_hears_each blocks start run is r k lane at =
       front = s.front;
       collected = s.collected;
       handed = s.handed;
-      each = all_of (IsOwn k (last_house start run)) s.own (is_own (last_house start run) k lane (events_of run) at (every_run_is_once blocks start run is r) s);
+      each = all_of (IsHandedBack k (last_house start run)) s.own (is_own (last_house start run) k lane (events_of run) at (every_run_is_once blocks start run is r) s);
     }

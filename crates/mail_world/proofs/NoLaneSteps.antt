@@ -4,8 +4,8 @@ use Rattle.std.specs.Prelude.{slice_get}
 use Rattle.std.proofs.lemmas.Bool.{eqb-true, eq-eqb}
 use Rattle.std.proofs.lemmas.Option.{slice_get_within}
 use Rattle.mail_world.specs.declared.Note.{Note}
-use Rattle.mail_world.specs.Depot.{Key, Held, Free, Slot, Depot, bytes_of, blocks_of, blocks_for, times, HasRoom, Puts}
-use Rattle.mail_world.specs.House.{House, Box, Lane, Hold, Transaction}
+use Rattle.mail_world.specs.Depot.{Key, Held, Free, Slot, Depot, bytes_of, blocks_of, blocks_for, occurrences, HasRoom, Puts}
+use Rattle.mail_world.specs.House.{House, Box, Lane, Hold, SealedMessage}
 use Rattle.mail_world.specs.Events.{BeginStep, PutStep, CancelStep, SealStep, SplitStep, OfferStep, HandBackStep, CollectStep, BoxIs, LaneIs}
 use Rattle.mail_world.proofs.GivenAway.{count-cons}
 use Rattle.mail_world.proofs.WrongSteps.{same_some, not_both, none_some, same_lane, same_box}
@@ -28,30 +28,30 @@ abbrev without : ℕ → List ℕ → List ℕ
 without x [] = []
 without x (y ∷ ys) = cond (y == x) ys (y ∷ without x ys)
 
-length_without : (x : ℕ) (ys : List ℕ) → 1 ≤ times x ys → length (without x ys) + 1 ≡ length ys
+length_without : (x : ℕ) (ys : List ℕ) → 1 ≤ occurrences x ys → length (without x ys) + 1 ≡ length ys
 length_without x [] some = absurd (omega arith)
 length_without x (y ∷ ys) some = by (y == x) (omega (arith, count-cons (λ (z : ℕ). z == x) y ys)) (length_without x ys)
   where
-    by : (t : Bool) → 1 ≤ cond t 1 0 + times x ys → (1 ≤ times x ys → length (without x ys) + 1 ≡ length ys) → length (cond t ys (y ∷ without x ys)) + 1 ≡ suc (length ys)
+    by : (t : Bool) → 1 ≤ cond t 1 0 + occurrences x ys → (1 ≤ occurrences x ys → length (without x ys) + 1 ≡ length ys) → length (cond t ys (y ∷ without x ys)) + 1 ≡ suc (length ys)
     by true one rest = omega arith
     by false one rest = let e = rest (omega arith) in omega arith
 
-times_without : (x z : ℕ) (ys : List ℕ) → times z ys ≤ times z (without x ys) + cond (x == z) 1 0
+times_without : (x z : ℕ) (ys : List ℕ) → occurrences z ys ≤ occurrences z (without x ys) + cond (x == z) 1 0
 times_without x z [] = omega arith
 times_without x z (y ∷ ys) = by (y == x) refl (times_without x z ys)
   where
-    by : (t : Bool) → (y == x) ≡ t → times z ys ≤ times z (without x ys) + cond (x == z) 1 0 → times z (y ∷ ys) ≤ times z (cond t ys (y ∷ without x ys)) + cond (x == z) 1 0
+    by : (t : Bool) → (y == x) ≡ t → occurrences z ys ≤ occurrences z (without x ys) + cond (x == z) 1 0 → occurrences z (y ∷ ys) ≤ occurrences z (cond t ys (y ∷ without x ys)) + cond (x == z) 1 0
     by true e rest =
         let same : ◌≡◌ {A = ℕ} (cond (y == z) 1 0) (cond (x == z) 1 0) = ap (λ (v : ℕ). cond (v == z) 1 0) (eqb-true y x e) in
         omega (arith, count-cons (λ (v : ℕ). v == z) y ys)
     by false e rest = omega (arith, count-cons (λ (v : ℕ). v == z) y ys, count-cons (λ (v : ℕ). v == z) y (without x ys))
 
 -- a list whose elements stand as often in another is no longer than that
-no_longer : (xs ys : List ℕ) → ((z : ℕ) → times z xs ≤ times z ys) → length xs ≤ length ys
+no_longer : (xs ys : List ℕ) → ((z : ℕ) → occurrences z xs ≤ occurrences z ys) → length xs ≤ length ys
 no_longer [] ys all = omega arith
 no_longer (x ∷ xs) ys all =
     let self : ◌≡◌ {A = ℕ} (cond (x == x) 1 0) 1 = own x in
-    let some : 1 ≤ times x ys = omega (arith, all x, count-cons (λ (v : ℕ). v == x) x xs) in
+    let some : 1 ≤ occurrences x ys = omega (arith, all x, count-cons (λ (v : ℕ). v == x) x xs) in
     let rest : length xs ≤ length (without x ys) =
     no_longer xs (without x ys) (λ z. omega (arith, all z, count-cons (λ (v : ℕ). v == z) x xs, times_without x z ys)) in
     omega (arith, length_without x ys some)
@@ -90,19 +90,19 @@ split_of_one h new k i lane hold is at one st =
 
 pub offer_without_hold : (h new : House) (k : ℕ) (note : Note) (lane : Lane) → LaneIs h k lane → ((i : ℕ) (hold : Hold) → slice_get lane.holds i ≡ Some hold → hold.weight ≢ 1) → OfferStep h k note new → ⊥
 offer_without_hold h new k note lane is none st =
-    none st.hold (record { key = st.key; weight = 1 }) (ap (λ (x : Lane). slice_get x.holds st.hold) (same_lane h k lane st.lane is st.is) ∙ st.copy.hold) refl
+    none st.at (record { key = st.key; weight = 1 }) (ap (λ (x : Lane). slice_get x.holds st.at) (same_lane h k lane st.lane is st.is) ∙ st.copy.hold) refl
 
 -- the transaction of an offer's note
 offered_of : (h new : House) (k : ℕ) (note : Note) (lane : Lane) → LaneIs h k lane → (st : OfferStep h k note new)
-    → slice_get lane.transactions st.t ≡ Some (record { number = note.txn.number; key = st.key; message = note.message; offered = note.place })
-offered_of h new k note lane is st = ap (λ (x : Lane). slice_get x.transactions st.t) (same_lane h k lane st.lane is st.is) ∙ st.copy.transaction
+    → slice_get lane.messages st.t ≡ Some (record { number = note.txn.number; key = st.key; message = note.message; offered = note.place })
+offered_of h new k note lane is st = ap (λ (x : Lane). slice_get x.messages st.t) (same_lane h k lane st.lane is st.is) ∙ st.copy.sealed
 
 pub offer_of_other_bytes : (h new : House) (k : ℕ) (note : Note) (lane : Lane) → LaneIs h k lane
-    → ((t : ℕ) (x : Transaction) → slice_get lane.transactions t ≡ Some x → x.number ≡ note.txn.number → x.message ≢ note.message) → OfferStep h k note new → ⊥
+    → ((t : ℕ) (x : SealedMessage) → slice_get lane.messages t ≡ Some x → x.number ≡ note.txn.number → x.message ≢ note.message) → OfferStep h k note new → ⊥
 offer_of_other_bytes h new k note lane is none st = none st.t _ (offered_of h new k note lane is st) refl refl
 
 pub offer_out_of_place : (h new : House) (k : ℕ) (note : Note) (lane : Lane) → LaneIs h k lane
-    → ((t : ℕ) (x : Transaction) → slice_get lane.transactions t ≡ Some x → x.number ≡ note.txn.number → x.offered ≢ note.place) → OfferStep h k note new → ⊥
+    → ((t : ℕ) (x : SealedMessage) → slice_get lane.messages t ≡ Some x → x.number ≡ note.txn.number → x.offered ≢ note.place) → OfferStep h k note new → ⊥
 offer_out_of_place h new k note lane is none st = none st.t _ (offered_of h new k note lane is st) refl refl
 
 pub offer_for_other_lane : (h new : House) (k : ℕ) (note : Note) → note.txn.lane ≢ k → OfferStep h k note new → ⊥

@@ -8,7 +8,8 @@ use Rattle.mail_world.specs.declared.Outcome.TheVariants.{Stored, Failed}
 use Rattle.mail_world.specs.Records.{record_of}
 use Rattle.mail_world.specs.Depot.{Key, Draft, Sealed, held_under, weight_held}
 use Rattle.mail_world.specs.House.{House, Box, Copy}
-use Rattle.mail_world.specs.Events.{TakeStep, WriteStep, SyncStep, ReleaseStep, GiveSlipStep, ReclaimStep, CloseStep, BoxIs, slip_of}
+use Rattle.mail_world.specs.Events.{TakeStep, WriteStep, SyncStep, ReleaseStep, GiveSlipStep, ReclaimStep, CloseStep, BoxIs}
+use Rattle.mail_world.specs.Slips.{slip_of}
 use Rattle.mail_world.proofs.WrongSteps.{not_both, none_some, same_box, same_copy, no_copy}
 
 pub take_with_copy : (h new : House) (w : ℕ) (box : Box) (copy : Copy) → BoxIs h w box → box.hand ≡ Some copy → TakeStep h w new → ⊥

@@ -4,7 +4,7 @@ use Rattle.std.specs.Prelude.{slice_get}
 use Rattle.mail_world.specs.declared.Note.{Note}
 use Rattle.mail_world.specs.declared.Event.TheVariants.{Begin, Split, Offer, Collect, Take, Write, Sync, Reclaim, Close}
 use Rattle.mail_world.specs.Records.{record_of}
-use Rattle.mail_world.specs.Depot.{Key, Held, Free, Draft, Sealed, Slot, held_under, holding, given_back}
+use Rattle.mail_world.specs.Depot.{Key, Held, Free, Draft, Sealed, Slot, held_under, with_held, given_back}
 use Rattle.mail_world.specs.House.{House, Box, Lane, Copy, Hold}
 use Rattle.mail_world.specs.Events.{MayHappen, HasCopy, BoxIs, LaneIs}
 use Rattle.mail_world.proofs.Depots.{times-append}
@@ -20,7 +20,7 @@ begin h k i lane slot is none at empty =
     let key : Key = record { slot = i; generation = slot.generation } in
     let begins : slice_get h.depot.slots i ≡ Some (record { generation = slot.generation; held = Free }) =
     at ∙ ap (λ (held : Held). let x : Slot = record { generation = slot.generation; held = held } in Some x) empty in
-    (_, record { lane = lane; key = key; number = lane.number + 1; depot = holding h.depot key (Draft [] []) h.depot.free; is = is; no_draft = none; later = omega arith; begins = (begins, refl); after = refl })
+    (_, record { lane = lane; key = key; number = lane.number + 1; depot = with_held h.depot key (Draft [] []) h.depot.free; is = is; no_draft = none; later = omega arith; begins = (begins, refl); after = refl })
 
 pub split : (h : House) (k i : ℕ) (lane : Lane) (hold : Hold) → LaneIs h k lane → slice_get lane.holds i ≡ Some hold → 1 < hold.weight → MayHappen h (Split k i)
 split h k i lane hold is at more =
@@ -32,7 +32,7 @@ split h k i lane hold is at more =
 pub offer : (h : House) (k i t : ℕ) (key : Key) (note : Note) (lane : Lane) (box : Box) → LaneIs h k lane → HasCopy lane i t key note.txn.number note.message note.place → note.txn.lane ≡ k
     → BoxIs h note.mailbox box → box.closed ≡ false → length box.accepted < box.taken + h.capacity → MayHappen h (Offer k note)
 offer h k i t key note lane box is copy own channel still_open room =
-    (_, record { lane = lane; box = box; hold = i; t = t; key = key; is = is; copy = copy; own = own; channel = channel; still_open = still_open; room = room; after = refl })
+    (_, record { lane = lane; box = box; at = i; t = t; key = key; is = is; copy = copy; own = own; channel = channel; still_open = still_open; room = room; after = refl })
 
 pub collect : (h : House) (k : ℕ) (lane : Lane) → LaneIs h k lane → lane.collected < length lane.slips → MayHappen h (Collect k)
 collect h k lane is more =

@@ -1,17 +1,14 @@
 -- The transactions of parts, one part at a time; what they owe a mailbox, and what was told of it.
 use Rattle.std.proofs.Common.{◌≡◌, ℕ, ◌+◌, List, [], ◌∷◌, ◌++◌, false, cond, refl, sym, ap, ◌∙◌}
-use Rattle.std.specs.Prelude.{filter, flat_map, ◌==◌, if◌then◌else◌}
+use Rattle.std.specs.Prelude.{flat_map, if◌then◌else◌}
 use Rattle.std.proofs.lemmas.List.{append-nil}
-use Rattle.std.proofs.lemmas.Grind.{flat_map-append}
-use Rattle.std.proofs.lemmas.List.Elements.{filter-append}
 use Rattle.mail_world.specs.Data.{message}
 use Rattle.mail_world.specs.Site.{Site}
 use Rattle.mail_world.specs.declared.Verdict.{Verdict}
 use Rattle.mail_world.specs.declared.Verdict.TheVariants as verdicts
 use Rattle.mail_world.specs.Session.{Session, fresh, DataEnded}
 use Rattle.mail_world.specs.Conversation.{Disposition, Part, CommandLine, MailData, inputs_of, outcomes_of, session_after, session_behind, parts}
-use Rattle.mail_world.specs.Lists.{Transaction, is_content, accepted_after, transactions_of, transactions, copies, owed, due}
-use Rattle.mail_world.specs.Deliveries.{told_of, told_all, told}
+use Rattle.mail_world.specs.Lists.{Transaction, is_content, accepted_after, transactions_of, transactions, copies_owed, due}
 use Rattle.mail_world.specs.Dispositions.{dispositions_of}
 use Rattle.mail_world.proofs.Handled.{session_after-append, account_of}
 
@@ -70,15 +67,6 @@ pub transactions-data : (site : Site) (ps : List Part) (text : List ℕ) (d : Di
     → transactions_of site 0 fresh (ps ++ MailData text d ∷ []) ≡ transactions_of site 0 fresh ps ++ transaction_at site ps text d ∷ []
 transactions-data site ps text d = transactions-append site 0 fresh ps (MailData text d ∷ [])
 
--- what transactions owe a mailbox, and what was told of it
-pub owed-snoc : (lane box : ℕ) (ts : List Transaction) (t : Transaction) → owed lane box (ts ++ t ∷ []) ≡ owed lane box ts ++ filter (λ note. note.mailbox == box) (copies lane t)
-owed-snoc lane box ts t =
-    ap (λ l. filter (λ note. note.mailbox == box) l) (flat_map-append (copies lane) ts (t ∷ []) ∙ ap (λ l. flat_map (copies lane) ts ++ l) (append-nil (copies lane t)))
-    ∙ filter-append (λ note. note.mailbox == box) (flat_map (copies lane) ts) (copies lane t)
-
-pub told-snoc : (box : ℕ) (ts : List Transaction) (t : Transaction) → told_all box (ts ++ t ∷ []) ≡ told_all box ts ++ told_of box t
-told-snoc box ts t = flat_map-append (told_of box) ts (t ∷ []) ∙ ap (λ l. told_all box ts ++ l) (append-nil (told_of box t))
-
 -- all parts of a conversation that is the lane's only one
 pub all_transactions : (site : Site) (s : List ℕ) (ps : List Part) → parts site fresh s (dispositions_of ps) ≡ ps
     → transactions site 0 (account_of s ps ∷ []) ≡ transactions_of site 0 fresh ps
@@ -87,11 +75,6 @@ all_transactions site s ps e =
     ap (λ (l : List Part). transactions_of site 0 fresh l ++ transactions site (accepted_after site 0 fresh l) []) e ∙ append-nil (transactions_of site 0 fresh ps)
 
 pub all_due : (site : Site) (box : ℕ) (s : List ℕ) (ps : List Part) → parts site fresh s (dispositions_of ps) ≡ ps
-    → due site 0 box (account_of s ps ∷ []) ≡ owed 0 box (transactions_of site 0 fresh ps)
+    → due site 0 box (account_of s ps ∷ []) ≡ copies_owed 0 box (transactions_of site 0 fresh ps)
 unfolding due
-all_due site box s ps e = ap (λ ts. owed 0 box ts) (all_transactions site s ps e)
-
-pub all_told : (site : Site) (box : ℕ) (s : List ℕ) (ps : List Part) → parts site fresh s (dispositions_of ps) ≡ ps
-    → told site box (account_of s ps ∷ []) ≡ told_all box (transactions_of site 0 fresh ps)
-unfolding told
-all_told site box s ps e = ap (λ ts. told_all box ts) (all_transactions site s ps e)
+all_due site box s ps e = ap (λ ts. copies_owed 0 box ts) (all_transactions site s ps e)

@@ -105,7 +105,7 @@ NoDataEnded Content s = data_end s ≡ None
 NoDataEnded _ s = ⊤
 
 -- there is one disposition for each data that ended, with an outcome for each recipient of a whole message
-pub record Fits (site : Site) (session : Session) (s : List ℕ) (ds : List Disposition) : Type 0 where
+pub record HasDispositions (site : Site) (session : Session) (s : List ℕ) (ds : List Disposition) : Type 0 where
   pub outcomes : AllFit site session (parts site session s ds)
   pub none_left : count_by is_data (parts site session s ds) ≡ length ds
   pub none_lacks : NoDataEnded (session_behind site session (parts site session s ds)).state (drop (sum_by size_of (parts site session s ds)) s)
@@ -127,7 +127,7 @@ inputs site c =
 
 -- the account of a conversation is complete
 abbrev pub IsAccount : Site → Conversation → Type 0
-IsAccount site c = Fits site fresh c.bytes c.dispositions
+IsAccount site c = HasDispositions site fresh c.bytes c.dispositions
 
 -- what is written: the greeting, and the replies
 unfoldable pub replies : Site → List Input → List ℕ

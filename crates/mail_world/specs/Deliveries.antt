@@ -5,6 +5,7 @@ use Rattle.mail_world.specs.declared.Outcome.TheVariants.{Stored, Failed}
 use Rattle.mail_world.specs.declared.Verdict.{Verdict}
 use Rattle.mail_world.specs.declared.Verdict.TheVariants as verdicts
 use Rattle.mail_world.specs.declared.Note.{Note}
+use Rattle.mail_world.specs.Fronts.{IsFront}
 use Rattle.mail_world.specs.Site.{Site}
 use Rattle.mail_world.specs.Conversation.{Conversation}
 use Rattle.mail_world.specs.Lists.{Transaction, transactions}
@@ -27,13 +28,8 @@ abbrev pub told_all : ℕ → List Transaction → List Outcome
 told_all box ts = flat_map (told_of box) ts
 
 -- beside `due`: an outcome for each copy that the conversations owe the mailbox
-unfoldable pub told : Site → ℕ → List Conversation → List Outcome
-told site box cs = told_all box (transactions site 0 cs)
-
--- the text begins so
-pub record IsFront (front text : List ℕ) : Type 0 where
-  pub rest : List ℕ
-  pub whole : text ≡ front ++ rest
+unfoldable pub outcomes_told : Site → ℕ → List Conversation → List Outcome
+outcomes_told site box cs = told_all box (transactions site 0 cs)
 
 abbrev pub is_none : List Note → Bool
 is_none [] = true

@@ -76,12 +76,12 @@ abbrev pub copies : ℕ → Transaction → List Note
 copies lane t = copies_if lane t t.disposition.verdict
 
 -- what these transactions of a lane owe the mailbox
-abbrev pub owed : ℕ → ℕ → List Transaction → List Note
-owed lane box ts = filter (λ note. note.mailbox == box) (flat_map (copies lane) ts)
+abbrev pub copies_owed : ℕ → ℕ → List Transaction → List Note
+copies_owed lane box ts = filter (λ note. note.mailbox == box) (flat_map (copies lane) ts)
 
 -- what the lane's conversations owe the mailbox
 unfoldable pub due : Site → ℕ → ℕ → List Conversation → List Note
-due site lane box cs = owed lane box (transactions site 0 cs)
+due site lane box cs = copies_owed lane box (transactions site 0 cs)
 
 -- the verdict is TooLarge exactly where the message is above the limit and the lane had a number left for it; once it has none the verdict is NoRoom
 pub record VerdictFits (t : Transaction) : Type 0 where

@@ -33,11 +33,11 @@ pub data Input : Type 0 where
   Stop : Input
 
 -- what a session says, and where it stands then
-pub record Step : Type 0 where
+pub record Transition : Type 0 where
   pub replies : List Reply
   pub next : Session
 
-abbrev pub says : Reply → Session → Step
+abbrev pub says : Reply → Session → Transition
 says r s = record { replies = r ∷ []; next = s }
 
 -- the session in another state
@@ -48,32 +48,32 @@ moved_to state s = record { state = state; client = s.client; sender = s.sender;
 abbrev pub greeted : List ℕ → Session
 greeted client = record { state = Greeted; client = client; sender = []; recipients = [] }
 
-abbrev pub on_mail : State → Session → List ℕ → Step
+abbrev pub on_mail : State → Session → List ℕ → Transition
 on_mail Greeted s sender = says replies.SenderOk (record { state = Sender; client = s.client; sender = sender; recipients = [] })
 on_mail _ s sender = says replies.OutOfOrder s
 
 -- a recipient whose mailbox is known, or isn't
-abbrev pub add_recipient : Session → Option ℕ → Step
+abbrev pub add_recipient : Session → Option ℕ → Transition
 add_recipient s None = says replies.NoSuchBox s
 add_recipient s (Some box) =
     if nat_lt (length s.recipients) RECIPIENT_LIMIT
     then says replies.RecipientOk (record { state = Recipients; client = s.client; sender = s.sender; recipients = s.recipients ++ box ∷ [] })
     else says replies.TooMany s
 
-abbrev pub on_rcpt : State → Session → Option ℕ → Step
+abbrev pub on_rcpt : State → Session → Option ℕ → Transition
 on_rcpt Sender s box = add_recipient s box
 on_rcpt Recipients s box = add_recipient s box
 on_rcpt _ s box = says replies.OutOfOrder s
 
-abbrev pub on_data : State → Session → Step
+abbrev pub on_data : State → Session → Transition
 on_data Recipients s = says replies.GoAhead (moved_to Content s)
 on_data _ s = says replies.OutOfOrder s
 
-abbrev pub on_rset : State → Session → Step
+abbrev pub on_rset : State → Session → Transition
 on_rset Fresh s = says replies.ResetOk s
 on_rset _ s = says replies.ResetOk (greeted s.client)
 
-abbrev pub on_command : Site → Session → Result Command BadCommand → Step
+abbrev pub on_command : Site → Session → Result Command BadCommand → Transition
 on_command site s (Err why) = says (replies.Refused why) s
 on_command site s (Ok (Lhlo client)) = says replies.Offer (greeted client)
 on_command site s (Ok (Mail sender)) = on_mail s.state s sender
@@ -92,13 +92,13 @@ results os boxes = map (λ pair. replies.Result pair.0 pair.1) (zip os boxes)
 abbrev pub result_for_all : Outcome → List ℕ → List Reply
 result_for_all o boxes = map (λ box. replies.Result o box) boxes
 
-abbrev pub on_verdict : Session → Verdict → Step
+abbrev pub on_verdict : Session → Verdict → Transition
 on_verdict s verdicts.Whole = record { replies = []; next = moved_to Waiting s }
 on_verdict s verdicts.TooLarge = record { replies = result_for_all outcomes.TooLarge s.recipients; next = greeted s.client }
 on_verdict s verdicts.NoRoom = record { replies = result_for_all outcomes.NoRoom s.recipients; next = greeted s.client }
 
 -- The table. A line comes in the first four states, a verdict in Content, outcomes in Waiting, one for each recipient, and stop in any of the first five.
-abbrev pub step : Site → Session → Input → Step
+abbrev pub step : Site → Session → Input → Transition
 step site s (Line text) = on_command site s (command text)
 step site s LongLine = says replies.LineTooLong s
 step site s (DataEnded verdict) = on_verdict s verdict

@@ -47,7 +47,8 @@ pub struct Note {
     pub message: LinkedList<u8>,
 }
 
-/// What may happen in a server, one atomic step at a time. A step of a lane or of a worker has its number first; a mailbox has its worker's number.
+/// What may happen in a server, one atomic step at a time. A step of a lane or of a worker has its number first; a
+/// mailbox has its worker's number.
 #[derive(Debug, Drop)]
 pub enum Event {
     /// The lane opens a draft.

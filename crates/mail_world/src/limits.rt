@@ -39,6 +39,15 @@ pub const BLOCK_SIZE: usize = 512;
 /// The blocks of an arena.
 pub const BLOCK_LIMIT: u32 = 65_536;
 
+/// The last generation of a slot, which is retired behind it: 2^48 - 1.
+pub const LAST_GENERATION: u64 = 281_474_976_710_655;
+
+/// The bytes of a message that a worker reads at once.
+pub const WORKER_BUFFER_SIZE: usize = 512;
+
+/// The bytes of a message that a lane takes from its data at once.
+pub const DATA_BUFFER_SIZE: usize = 512;
+
 /// The slots of an arena.
 pub const SLOT_LIMIT: u32 = 64;
 

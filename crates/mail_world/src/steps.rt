@@ -1,79 +1,148 @@
 //! Which steps the house may take, and which have no result.
 
-ghost use Rattle.std.specs.Prelude.{◌≡◌, ◌≢◌, ℕ, ◌+◌, ◌<◌, ◌≤◌, true, false, List, ◌++◌, length, drop, Some, None, slice_get};
+ghost use Rattle.std.specs.Prelude.{◌≡◌, ◌≢◌, ℕ, ◌+◌, ◌<◌, ◌≤◌, true, false, List, ◌++◌, length, drop, Some, None};
+ghost use Rattle.std.specs.Prelude.{slice_get};
 ghost use Rattle.mail_world.specs.declared.Note.{Note};
-ghost use Rattle.mail_world.specs.declared.Event.TheVariants.{Begin, Put, Cancel, Seal, Split, Offer, HandBack, Collect, Take, Write, Sync, Release, GiveSlip, Reclaim, Close};
+ghost use Rattle.mail_world.specs.declared.Event.TheVariants.{Begin, Put, Cancel, Seal, Split, Offer, HandBack};
+ghost use Rattle.mail_world.specs.declared.Event.TheVariants.{Collect, Take, Write, Sync, Release, GiveSlip, Reclaim};
+ghost use Rattle.mail_world.specs.declared.Event.TheVariants.{Close};
 ghost use Rattle.mail_world.specs.declared.Outcome.{Outcome};
 ghost use Rattle.mail_world.specs.declared.Outcome.TheVariants.{Stored, Failed};
 ghost use Rattle.mail_world.specs.Records.{record_of};
 ghost use Rattle.mail_world.specs.Depot.{Key, Slot, Free, Sealed, HasRoom, held_under};
 ghost use Rattle.mail_world.specs.Depot as depot;
-ghost use Rattle.mail_world.specs.House.{House, Box, Lane, Copy, Hold, Transaction};
-ghost use Rattle.mail_world.specs.Events.{Step, MayHappen, HasCopy, BoxIs, LaneIs, slip_of};
+ghost use Rattle.mail_world.specs.House.{House, Box, Lane, Copy, Hold, SealedMessage};
+ghost use Rattle.mail_world.specs.Events.{Step, MayHappen, HasCopy, BoxIs, LaneIs};
+ghost use Rattle.mail_world.specs.Slips.{slip_of};
 ghost use Rattle.mail_world.specs.Runs.{InEveryRun};
 
-/// A lane that has a draft may add bytes to it where enough blocks are free, seal it and drop it, a hold of weight 1 may be released, and what became of a
-/// copy may be told: in each house of each run, the depot and the lanes are as such a step needs them.
+/// A lane that has a draft may add bytes to it where enough blocks are free, seal it and drop it, a hold of weight 1
+/// may be released, and what became of a copy may be told: in each house of each run, the depot and the lanes are as
+/// such a step needs them.
 pub fn steps_of_holders_may_happen()
-    ensures put { InEveryRun (λ blocks events h. (k : ℕ) (bytes : List ℕ) (lane : Lane) (key : Key) → LaneIs h k lane → lane.draft ≡ Some key → HasRoom h.depot key bytes → MayHappen h (Put k bytes)) }
-    ensures cancel { InEveryRun (λ blocks events h. (k : ℕ) (lane : Lane) (key : Key) → LaneIs h k lane → lane.draft ≡ Some key → MayHappen h (Cancel k)) }
-    ensures seal { InEveryRun (λ blocks events h. (k n : ℕ) (lane : Lane) (key : Key) → LaneIs h k lane → lane.draft ≡ Some key → 1 ≤ n → MayHappen h (Seal k n)) }
-    ensures release { InEveryRun (λ blocks events h. (w : ℕ) (box : Box) (copy : Copy) → BoxIs h w box → box.hand ≡ Some copy → copy.released ≡ false → MayHappen h (Release w)) }
-    ensures give_slip { InEveryRun (λ blocks events h. (w : ℕ) (box : Box) (copy : Copy) → BoxIs h w box → box.hand ≡ Some copy → copy.released ≡ true → MayHappen h (GiveSlip w (slip_of w copy.post.note copy.synced).outcome)) }
-    ensures hand_back { InEveryRun (λ blocks events h. (k i m : ℕ) (lane : Lane) (hold : Hold) → LaneIs h k lane → slice_get lane.holds i ≡ Some hold → hold.weight ≡ 1 → MayHappen h (HandBack k i m)) }
+    ensures put { InEveryRun
+        (λ blocks events h. (k : ℕ) (bytes : List ℕ) (lane : Lane) (key : Key) → LaneIs h k lane → lane.draft ≡ Some key
+        → HasRoom h.depot key bytes → MayHappen h (Put k bytes)) }
+    ensures cancel { InEveryRun
+        (λ blocks events h. (k : ℕ) (lane : Lane) (key : Key) → LaneIs h k lane → lane.draft ≡ Some key
+        → MayHappen h (Cancel k)) }
+    ensures seal { InEveryRun
+        (λ blocks events h. (k n : ℕ) (lane : Lane) (key : Key) → LaneIs h k lane → lane.draft ≡ Some key → 1 ≤ n
+        → MayHappen h (Seal k n)) }
+    ensures release { InEveryRun
+        (λ blocks events h. (w : ℕ) (box : Box) (copy : Copy) → BoxIs h w box → box.hand ≡ Some copy
+        → copy.released ≡ false → MayHappen h (Release w)) }
+    ensures give_slip { InEveryRun
+        (λ blocks events h. (w : ℕ) (box : Box) (copy : Copy) → BoxIs h w box → box.hand ≡ Some copy
+        → copy.released ≡ true → MayHappen h (GiveSlip w (slip_of w copy.post.note copy.synced).outcome)) }
+    ensures hand_back { InEveryRun
+        (λ blocks events h. (k i m : ℕ) (lane : Lane) (hold : Hold) → LaneIs h k lane
+        → slice_get lane.holds i ≡ Some hold → hold.weight ≡ 1 → MayHappen h (HandBack k i m)) }
 {}
 
 /// The other steps may happen in any house that is as the event needs it.
 pub fn other_steps_may_happen()
-    ensures begin { (h : House) (k i : ℕ) (lane : Lane) (slot : Slot) → LaneIs h k lane → lane.draft ≡ None → slice_get h.depot.slots i ≡ Some slot → slot.held ≡ Free → MayHappen h (Begin k) }
-    ensures split { (h : House) (k i : ℕ) (lane : Lane) (hold : Hold) → LaneIs h k lane → slice_get lane.holds i ≡ Some hold → 1 < hold.weight → MayHappen h (Split k i) }
-    ensures offer { (h : House) (k i t : ℕ) (key : Key) (note : Note) (lane : Lane) (box : Box) → LaneIs h k lane → HasCopy lane i t key note.txn.number note.message note.place → note.txn.lane ≡ k → BoxIs h note.mailbox box → box.closed ≡ false → length box.accepted < box.taken + h.capacity → MayHappen h (Offer k note) }
-    ensures collect { (h : House) (k : ℕ) (lane : Lane) → LaneIs h k lane → lane.collected < length lane.slips → MayHappen h (Collect k) }
-    ensures take { (h : House) (w : ℕ) (box : Box) → BoxIs h w box → box.hand ≡ None → box.taken < length box.accepted → MayHappen h (Take w) }
-    ensures write { (h : House) (w : ℕ) (bytes more : List ℕ) (box : Box) (copy : Copy) → BoxIs h w box → box.hand ≡ Some copy → copy.released ≡ false → box.faulty ≡ false → drop copy.written (record_of h.calendar h.host copy.post.note) ≡ bytes ++ more → MayHappen h (Write w bytes) }
-    ensures sync { (h : House) (w : ℕ) (box : Box) (copy : Copy) → BoxIs h w box → box.hand ≡ Some copy → copy.released ≡ false → box.faulty ≡ false → copy.synced ≡ false → copy.written ≡ length (record_of h.calendar h.host copy.post.note) → MayHappen h (Sync w) }
-    ensures reclaim { (h : House) (key : Key) (bytes blocks : List ℕ) → held_under h.depot key ≡ Sealed bytes blocks 0 → MayHappen h (Reclaim key.slot key.generation) }
+    ensures begin { (h : House) (k i : ℕ) (lane : Lane) (slot : Slot) → LaneIs h k lane → lane.draft ≡ None
+        → slice_get h.depot.slots i ≡ Some slot → slot.held ≡ Free → MayHappen h (Begin k) }
+    ensures split { (h : House) (k i : ℕ) (lane : Lane) (hold : Hold) → LaneIs h k lane
+        → slice_get lane.holds i ≡ Some hold → 1 < hold.weight → MayHappen h (Split k i) }
+    ensures offer { (h : House) (k i t : ℕ) (key : Key) (note : Note) (lane : Lane) (box : Box) → LaneIs h k lane
+        → HasCopy lane i t key note.txn.number note.message note.place → note.txn.lane ≡ k → BoxIs h note.mailbox box
+        → box.closed ≡ false → length box.accepted < box.taken + h.capacity → MayHappen h (Offer k note) }
+    ensures collect { (h : House) (k : ℕ) (lane : Lane) → LaneIs h k lane → lane.collected < length lane.slips
+        → MayHappen h (Collect k) }
+    ensures take { (h : House) (w : ℕ) (box : Box) → BoxIs h w box → box.hand ≡ None → box.taken < length box.accepted
+        → MayHappen h (Take w) }
+    ensures write { (h : House) (w : ℕ) (bytes more : List ℕ) (box : Box) (copy : Copy) → BoxIs h w box
+        → box.hand ≡ Some copy → copy.released ≡ false → box.faulty ≡ false
+        → drop copy.written (record_of h.calendar h.host copy.post.note) ≡ bytes ++ more → MayHappen h (Write w bytes) }
+    ensures sync { (h : House) (w : ℕ) (box : Box) (copy : Copy) → BoxIs h w box → box.hand ≡ Some copy
+        → copy.released ≡ false → box.faulty ≡ false → copy.synced ≡ false
+        → copy.written ≡ length (record_of h.calendar h.host copy.post.note) → MayHappen h (Sync w) }
+    ensures reclaim { (h : House) (key : Key) (bytes blocks : List ℕ) → held_under h.depot key ≡ Sealed bytes blocks 0
+        → MayHappen h (Reclaim key.slot key.generation) }
     ensures close { (h : House) (b : ℕ) (box : Box) → BoxIs h b box → box.closed ≡ false → MayHappen h (Close b) }
 {}
 
 /// Steps of a lane that have no result, in any house.
 pub fn wrong_steps_of_lanes_have_no_result()
-    ensures begin_with_draft { (h new : House) (k : ℕ) (lane : Lane) (key : Key) → LaneIs h k lane → lane.draft ≡ Some key → Step h (Begin k) new → ⊥ }
-    ensures begin_without_slot { (h new : House) (k : ℕ) → ((i : ℕ) (slot : Slot) → slice_get h.depot.slots i ≡ Some slot → slot.held ≢ Free) → Step h (Begin k) new → ⊥ }
-    ensures put_without_draft { (h new : House) (k : ℕ) (bytes : List ℕ) (lane : Lane) → LaneIs h k lane → lane.draft ≡ None → Step h (Put k bytes) new → ⊥ }
-    ensures put_without_room { (h new : House) (k : ℕ) (bytes : List ℕ) (lane : Lane) (key : Key) → LaneIs h k lane → lane.draft ≡ Some key → (HasRoom h.depot key bytes → ⊥) → Step h (Put k bytes) new → ⊥ }
-    ensures cancel_without_draft { (h new : House) (k : ℕ) (lane : Lane) → LaneIs h k lane → lane.draft ≡ None → Step h (Cancel k) new → ⊥ }
-    ensures seal_without_draft { (h new : House) (k n : ℕ) (lane : Lane) → LaneIs h k lane → lane.draft ≡ None → Step h (Seal k n) new → ⊥ }
+    ensures begin_with_draft { (h new : House) (k : ℕ) (lane : Lane) (key : Key) → LaneIs h k lane
+        → lane.draft ≡ Some key → Step h (Begin k) new → ⊥ }
+    ensures begin_without_slot { (h new : House) (k : ℕ)
+        → ((i : ℕ) (slot : Slot) → slice_get h.depot.slots i ≡ Some slot → slot.held ≢ Free) → Step h (Begin k) new
+        → ⊥ }
+    ensures put_without_draft { (h new : House) (k : ℕ) (bytes : List ℕ) (lane : Lane) → LaneIs h k lane
+        → lane.draft ≡ None → Step h (Put k bytes) new → ⊥ }
+    ensures put_without_room { (h new : House) (k : ℕ) (bytes : List ℕ) (lane : Lane) (key : Key) → LaneIs h k lane
+        → lane.draft ≡ Some key → (HasRoom h.depot key bytes → ⊥) → Step h (Put k bytes) new → ⊥ }
+    ensures cancel_without_draft { (h new : House) (k : ℕ) (lane : Lane) → LaneIs h k lane → lane.draft ≡ None
+        → Step h (Cancel k) new → ⊥ }
+    ensures seal_without_draft { (h new : House) (k n : ℕ) (lane : Lane) → LaneIs h k lane → lane.draft ≡ None
+        → Step h (Seal k n) new → ⊥ }
     ensures seal_for_none { (h new : House) (k : ℕ) → Step h (Seal k 0) new → ⊥ }
-    ensures split_of_one { (h new : House) (k i : ℕ) (lane : Lane) (hold : Hold) → LaneIs h k lane → slice_get lane.holds i ≡ Some hold → hold.weight ≤ 1 → Step h (Split k i) new → ⊥ }
-    ensures offer_without_hold { (h new : House) (k : ℕ) (note : Note) (lane : Lane) → LaneIs h k lane → ((i : ℕ) (hold : Hold) → slice_get lane.holds i ≡ Some hold → hold.weight ≢ 1) → Step h (Offer k note) new → ⊥ }
-    ensures offer_of_other_bytes { (h new : House) (k : ℕ) (note : Note) (lane : Lane) → LaneIs h k lane → ((t : ℕ) (x : Transaction) → slice_get lane.transactions t ≡ Some x → x.number ≡ note.txn.number → x.message ≢ note.message) → Step h (Offer k note) new → ⊥ }
-    ensures offer_out_of_place { (h new : House) (k : ℕ) (note : Note) (lane : Lane) → LaneIs h k lane → ((t : ℕ) (x : Transaction) → slice_get lane.transactions t ≡ Some x → x.number ≡ note.txn.number → x.offered ≢ note.place) → Step h (Offer k note) new → ⊥ }
-    ensures offer_for_other_lane { (h new : House) (k : ℕ) (note : Note) → note.txn.lane ≢ k → Step h (Offer k note) new → ⊥ }
-    ensures offer_when_closed { (h new : House) (k : ℕ) (note : Note) (box : Box) → BoxIs h note.mailbox box → box.closed ≡ true → Step h (Offer k note) new → ⊥ }
-    ensures offer_when_full { (h new : House) (k : ℕ) (note : Note) (box : Box) → BoxIs h note.mailbox box → box.taken + h.capacity ≤ length box.accepted → Step h (Offer k note) new → ⊥ }
-    ensures hand_back_without_hold { (h new : House) (k i b : ℕ) (lane : Lane) → LaneIs h k lane → ((hold : Hold) → slice_get lane.holds i ≡ Some hold → hold.weight ≢ 1) → Step h (HandBack k i b) new → ⊥ }
-    ensures collect_of_none { (h new : House) (k : ℕ) (lane : Lane) → LaneIs h k lane → length lane.slips ≤ lane.collected → Step h (Collect k) new → ⊥ }
+    ensures split_of_one { (h new : House) (k i : ℕ) (lane : Lane) (hold : Hold) → LaneIs h k lane
+        → slice_get lane.holds i ≡ Some hold → hold.weight ≤ 1 → Step h (Split k i) new → ⊥ }
+    ensures offer_without_hold { (h new : House) (k : ℕ) (note : Note) (lane : Lane) → LaneIs h k lane
+        → ((i : ℕ) (hold : Hold) → slice_get lane.holds i ≡ Some hold → hold.weight ≢ 1) → Step h (Offer k note) new
+        → ⊥ }
+    ensures offer_of_other_bytes { (h new : House) (k : ℕ) (note : Note) (lane : Lane) → LaneIs h k lane
+        → ((t : ℕ) (x : SealedMessage) → slice_get lane.messages t ≡ Some x → x.number ≡ note.txn.number
+        → x.message ≢ note.message) → Step h (Offer k note) new → ⊥ }
+    ensures offer_out_of_place { (h new : House) (k : ℕ) (note : Note) (lane : Lane) → LaneIs h k lane
+        → ((t : ℕ) (x : SealedMessage) → slice_get lane.messages t ≡ Some x → x.number ≡ note.txn.number
+        → x.offered ≢ note.place) → Step h (Offer k note) new → ⊥ }
+    ensures offer_for_other_lane { (h new : House) (k : ℕ) (note : Note) → note.txn.lane ≢ k → Step h (Offer k note) new
+        → ⊥ }
+    ensures offer_when_closed { (h new : House) (k : ℕ) (note : Note) (box : Box) → BoxIs h note.mailbox box
+        → box.closed ≡ true → Step h (Offer k note) new → ⊥ }
+    ensures offer_when_full { (h new : House) (k : ℕ) (note : Note) (box : Box) → BoxIs h note.mailbox box
+        → box.taken + h.capacity ≤ length box.accepted → Step h (Offer k note) new → ⊥ }
+    ensures hand_back_without_hold { (h new : House) (k i b : ℕ) (lane : Lane) → LaneIs h k lane
+        → ((hold : Hold) → slice_get lane.holds i ≡ Some hold → hold.weight ≢ 1) → Step h (HandBack k i b) new → ⊥ }
+    ensures collect_of_none { (h new : House) (k : ℕ) (lane : Lane) → LaneIs h k lane
+        → length lane.slips ≤ lane.collected → Step h (Collect k) new → ⊥ }
 {}
 
 /// Steps of a worker or of the house that have no result, in any house.
 pub fn wrong_steps_of_workers_have_no_result()
-    ensures take_with_copy { (h new : House) (w : ℕ) (box : Box) (copy : Copy) → BoxIs h w box → box.hand ≡ Some copy → Step h (Take w) new → ⊥ }
-    ensures take_of_none { (h new : House) (w : ℕ) (box : Box) → BoxIs h w box → length box.accepted ≤ box.taken → Step h (Take w) new → ⊥ }
-    ensures write_without_copy { (h new : House) (w : ℕ) (bytes : List ℕ) (box : Box) → BoxIs h w box → box.hand ≡ None → Step h (Write w bytes) new → ⊥ }
-    ensures write_of_other_bytes { (h new : House) (w : ℕ) (bytes : List ℕ) (box : Box) (copy : Copy) → BoxIs h w box → box.hand ≡ Some copy → ((more : List ℕ) → drop copy.written (record_of h.calendar h.host copy.post.note) ≢ bytes ++ more) → Step h (Write w bytes) new → ⊥ }
-    ensures write_when_faulty { (h new : House) (w : ℕ) (bytes : List ℕ) (box : Box) → BoxIs h w box → box.faulty ≡ true → Step h (Write w bytes) new → ⊥ }
-    ensures sync_without_copy { (h new : House) (w : ℕ) (box : Box) → BoxIs h w box → box.hand ≡ None → Step h (Sync w) new → ⊥ }
-    ensures sync_of_part { (h new : House) (w : ℕ) (box : Box) (copy : Copy) → BoxIs h w box → box.hand ≡ Some copy → copy.written ≢ length (record_of h.calendar h.host copy.post.note) → Step h (Sync w) new → ⊥ }
-    ensures sync_when_faulty { (h new : House) (w : ℕ) (box : Box) → BoxIs h w box → box.faulty ≡ true → Step h (Sync w) new → ⊥ }
-    ensures release_without_copy { (h new : House) (w : ℕ) (box : Box) → BoxIs h w box → box.hand ≡ None → Step h (Release w) new → ⊥ }
-    ensures release_twice { (h new : House) (w : ℕ) (box : Box) (copy : Copy) → BoxIs h w box → box.hand ≡ Some copy → copy.released ≡ true → Step h (Release w) new → ⊥ }
-    ensures slip_without_copy { (h new : House) (w : ℕ) (outcome : Outcome) (box : Box) → BoxIs h w box → box.hand ≡ None → Step h (GiveSlip w outcome) new → ⊥ }
-    ensures slip_before_release { (h new : House) (w : ℕ) (outcome : Outcome) (box : Box) (copy : Copy) → BoxIs h w box → box.hand ≡ Some copy → copy.released ≡ false → Step h (GiveSlip w outcome) new → ⊥ }
-    ensures slip_that_lies { (h new : House) (w : ℕ) (outcome : Outcome) (box : Box) (copy : Copy) → BoxIs h w box → box.hand ≡ Some copy → outcome ≢ (slip_of w copy.post.note copy.synced).outcome → Step h (GiveSlip w outcome) new → ⊥ }
-    ensures stored_without_sync { (h new : House) (w : ℕ) (box : Box) (copy : Copy) → BoxIs h w box → box.hand ≡ Some copy → copy.synced ≡ false → Step h (GiveSlip w Stored) new → ⊥ }
-    ensures failed_after_sync { (h new : House) (w : ℕ) (box : Box) (copy : Copy) → BoxIs h w box → box.hand ≡ Some copy → copy.synced ≡ true → Step h (GiveSlip w Failed) new → ⊥ }
-    ensures reclaim_of_held { (h new : House) (key : Key) (bytes blocks : List ℕ) (weight : ℕ) → held_under h.depot key ≡ Sealed bytes blocks weight → 0 < weight → Step h (Reclaim key.slot key.generation) new → ⊥ }
-    ensures reclaim_of_draft { (h new : House) (key : Key) (bytes blocks : List ℕ) → held_under h.depot key ≡ depot.Draft bytes blocks → Step h (Reclaim key.slot key.generation) new → ⊥ }
-    ensures close_twice { (h new : House) (b : ℕ) (box : Box) → BoxIs h b box → box.closed ≡ true → Step h (Close b) new → ⊥ }
+    ensures take_with_copy { (h new : House) (w : ℕ) (box : Box) (copy : Copy) → BoxIs h w box → box.hand ≡ Some copy
+        → Step h (Take w) new → ⊥ }
+    ensures take_of_none { (h new : House) (w : ℕ) (box : Box) → BoxIs h w box → length box.accepted ≤ box.taken
+        → Step h (Take w) new → ⊥ }
+    ensures write_without_copy { (h new : House) (w : ℕ) (bytes : List ℕ) (box : Box) → BoxIs h w box → box.hand ≡ None
+        → Step h (Write w bytes) new → ⊥ }
+    ensures write_of_other_bytes { (h new : House) (w : ℕ) (bytes : List ℕ) (box : Box) (copy : Copy) → BoxIs h w box
+        → box.hand ≡ Some copy →
+        ((more : List ℕ) → drop copy.written (record_of h.calendar h.host copy.post.note) ≢ bytes ++ more)
+        → Step h (Write w bytes) new → ⊥ }
+    ensures write_when_faulty { (h new : House) (w : ℕ) (bytes : List ℕ) (box : Box) → BoxIs h w box → box.faulty ≡ true
+        → Step h (Write w bytes) new → ⊥ }
+    ensures sync_without_copy { (h new : House) (w : ℕ) (box : Box) → BoxIs h w box → box.hand ≡ None
+        → Step h (Sync w) new → ⊥ }
+    ensures sync_of_part { (h new : House) (w : ℕ) (box : Box) (copy : Copy) → BoxIs h w box → box.hand ≡ Some copy
+        → copy.written ≢ length (record_of h.calendar h.host copy.post.note) → Step h (Sync w) new → ⊥ }
+    ensures sync_when_faulty { (h new : House) (w : ℕ) (box : Box) → BoxIs h w box → box.faulty ≡ true
+        → Step h (Sync w) new → ⊥ }
+    ensures release_without_copy { (h new : House) (w : ℕ) (box : Box) → BoxIs h w box → box.hand ≡ None
+        → Step h (Release w) new → ⊥ }
+    ensures release_twice { (h new : House) (w : ℕ) (box : Box) (copy : Copy) → BoxIs h w box → box.hand ≡ Some copy
+        → copy.released ≡ true → Step h (Release w) new → ⊥ }
+    ensures slip_without_copy { (h new : House) (w : ℕ) (outcome : Outcome) (box : Box) → BoxIs h w box
+        → box.hand ≡ None → Step h (GiveSlip w outcome) new → ⊥ }
+    ensures slip_before_release { (h new : House) (w : ℕ) (outcome : Outcome) (box : Box) (copy : Copy) → BoxIs h w box
+        → box.hand ≡ Some copy → copy.released ≡ false → Step h (GiveSlip w outcome) new → ⊥ }
+    ensures slip_that_lies { (h new : House) (w : ℕ) (outcome : Outcome) (box : Box) (copy : Copy) → BoxIs h w box
+        → box.hand ≡ Some copy → outcome ≢ (slip_of w copy.post.note copy.synced).outcome
+        → Step h (GiveSlip w outcome) new → ⊥ }
+    ensures stored_without_sync { (h new : House) (w : ℕ) (box : Box) (copy : Copy) → BoxIs h w box
+        → box.hand ≡ Some copy → copy.synced ≡ false → Step h (GiveSlip w Stored) new → ⊥ }
+    ensures failed_after_sync { (h new : House) (w : ℕ) (box : Box) (copy : Copy) → BoxIs h w box → box.hand ≡ Some copy
+        → copy.synced ≡ true → Step h (GiveSlip w Failed) new → ⊥ }
+    ensures reclaim_of_held { (h new : House) (key : Key) (bytes blocks : List ℕ) (weight : ℕ)
+        → held_under h.depot key ≡ Sealed bytes blocks weight → 0 < weight
+        → Step h (Reclaim key.slot key.generation) new → ⊥ }
+    ensures reclaim_of_draft { (h new : House) (key : Key) (bytes blocks : List ℕ)
+        → held_under h.depot key ≡ depot.Draft bytes blocks → Step h (Reclaim key.slot key.generation) new → ⊥ }
+    ensures close_twice { (h new : House) (b : ℕ) (box : Box) → BoxIs h b box → box.closed ≡ true → Step h (Close b) new
+        → ⊥ }
 {}

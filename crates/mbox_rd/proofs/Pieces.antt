@@ -4,7 +4,7 @@ use Rattle.std.proofs.lemmas.List.{take_rest}
 use Rattle.mbox_rd.specs.declared.pending.Step.{Step}
 use Rattle.mbox_rd.specs.Spool.{SpoolState, HasTaken, HasFailed}
 use Rattle.mbox_rd.specs.Steps.{IsStep, written}
-use Rattle.mbox_rd.specs.Writing.{Pending, IsPending, owed, FailsPiece}
+use Rattle.mbox_rd.specs.Writing.{Pending, IsPending, bytes_owed, FailsPiece}
 use Rattle.mbox_rd.proofs.Taken.{HasTaken-then, HasFailed-later}
 
 -- the spool took what is sure of the piece up to the rest
@@ -12,12 +12,12 @@ pub record TakesPiece (old new : SpoolState) (before now : Pending) (piece rest 
   pub text : List ℕ
   pub taken : HasTaken old new text
   pub is : IsPending now
-  pub goes : (more : List ℕ) → text ++ owed now (rest ++ more) ≡ owed before (piece ++ more)
+  pub goes : (more : List ℕ) → text ++ bytes_owed now (rest ++ more) ≡ bytes_owed before (piece ++ more)
 
 module _ (s t u : SpoolState) (before now : Pending) (piece rest : List ℕ) (step : Step) (x : TakesPiece s t before now piece rest) (y : IsStep now rest step) where
-  further : (more : List ℕ) → (x.text ++ written step rest) ++ owed step.next (drop step.taken rest ++ more) ≡ owed before (piece ++ more)
+  further : (more : List ℕ) → (x.text ++ written step rest) ++ bytes_owed step.next (drop step.taken rest ++ more) ≡ bytes_owed before (piece ++ more)
   further more =
-      append_assoc x.text (written step rest) (owed step.next (drop step.taken rest ++ more))
+      append_assoc x.text (written step rest) (bytes_owed step.next (drop step.taken rest ++ more))
       ∙ ap (λ (l : List ℕ). x.text ++ l) (y.goes more) ∙ x.goes more
 
   pub TakesPiece-more : HasTaken t u (written step rest) → TakesPiece s u before step.next piece (take (length rest - step.taken) (drop step.taken rest))
@@ -32,5 +32,5 @@ module _ (s t u : SpoolState) (before now : Pending) (piece rest : List ℕ) (st
   FailsPiece-more z = record {
     text = x.text ++ written step rest;
     failed = HasFailed-later s t u x.text (written step rest) x.taken z;
-    sure = λ more. record { rest = owed step.next (drop step.taken rest ++ more); whole = sym (further more) };
+    sure = λ more. record { rest = bytes_owed step.next (drop step.taken rest ++ more); whole = sym (further more) };
   }

@@ -1,5 +1,5 @@
 -- Texts that a spool takes one after another.
-use Rattle.std.proofs.Common.{◌≡◌, ℕ, ◌+◌, ◌-◌, ◌<◌, List, [], ◌++◌, length, Option, Some, None, Result, Ok, Err, take, drop, get_or, sym, ap, ◌∙◌, refl, subst, append_assoc, append-nil}
+use Rattle.std.proofs.Common.{◌≡◌, ℕ, ◌+◌, ◌-◌, ◌<◌, List, [], ◌++◌, length, Option, Some, None, Result, Ok, Err, take, drop, get_or, sym, ap, ◌∙◌, subst, append_assoc}
 use Rattle.std.proofs.lemmas.List.{take-append-drop, take_rest, drop_more}
 use Rattle.std.proofs.lemmas.List.Concat.{flat_map-append}
 use Rattle.std.specs.List.{flat_map}
@@ -7,10 +7,6 @@ use Rattle.std.specs.Result.{OnOk, OnErr}
 use Rattle.std.specs.Io.KnownBytes.{Appends}
 use Rattle.mail_world.specs.Failures.{Rises}
 use Rattle.mbox_rd.specs.Spool.{SpoolState, HasTaken, HasFailed}
-
-Appends-nil : (u : Option (List ℕ)) → Appends u u []
-Appends-nil None = tt
-Appends-nil (Some xs) = sym (append-nil xs)
 
 Appends-then : (u v w : Option (List ℕ)) (a b : List ℕ) → Appends u v a → Appends v w b → Appends u w (a ++ b)
 Appends-then None v w a b x y = tt
@@ -36,9 +32,6 @@ pieces-split : {X : Type 0} (f : X → List ℕ) (xs : List X) (k : ℕ) (d : X)
 pieces-split f xs k d h =
     ap (flat_map f) (sym (take-append-drop k xs)) ∙ flat_map-append f (take k xs) (drop k xs)
     ∙ ap (λ ys. flat_map f (take k xs) ++ flat_map f ys) (drop_more xs k d h)
-
-pub HasTaken-none : (s : SpoolState) → HasTaken s s []
-HasTaken-none s = record { appended = Appends-nil s.bytes; sound = refl; limited = refl; covered = refl }
 
 pub HasTaken-then : (s t u : SpoolState) (a b : List ℕ) → HasTaken s t a → HasTaken t u b → HasTaken s u (a ++ b)
 HasTaken-then s t u a b x y = record {

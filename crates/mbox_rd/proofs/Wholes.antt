@@ -1,21 +1,18 @@
 -- A message in pieces is the message, and its record is what a writer writes.
-use Rattle.std.proofs.Common.{◌≡◌, ℕ, List, [], ◌∷◌, ◌++◌, sym, ap, ◌∙◌, refl, append_assoc, append-nil}
+use Rattle.std.proofs.Common.{◌≡◌, ℕ, List, [], ◌∷◌, ◌++◌, sym, ap, ◌∙◌, append_assoc, append-nil}
 use Rattle.mail_world.specs.Text.{lf, unix}
 use Rattle.mail_world.specs.Records.{Calendar, quoted_text}
 use Rattle.mbox_rd.specs.Envelope.{Envelope, record_text, head_text}
 use Rattle.mbox_rd.specs.Spool.{SpoolState, HasTaken, HasFailed}
-use Rattle.mbox_rd.specs.Writing.{Pending, owed, WritesPiece, FailsPiece}
+use Rattle.mbox_rd.specs.Writing.{Pending, bytes_owed, WritesPiece, FailsPiece}
 use Rattle.mbox_rd.proofs.Parts.{record_split}
-use Rattle.mbox_rd.proofs.Taken.{HasTaken-none, HasTaken-then, HasTaken-as, HasFailed-first, HasFailed-later, HasFailed-as}
-
-pub WritesPiece-none : (s : SpoolState) (a : Pending) → WritesPiece s s a a []
-WritesPiece-none s a = record { text = []; taken = HasTaken-none s; goes = λ rest. refl }
+use Rattle.mbox_rd.proofs.Taken.{HasTaken-then, HasTaken-as, HasFailed-first, HasFailed-later, HasFailed-as}
 
 pub WritesPiece-then : (s t u : SpoolState) (a b c : Pending) (p q : List ℕ) → WritesPiece s t a b p → WritesPiece t u b c q → WritesPiece s u a c (p ++ q)
 WritesPiece-then s t u a b c p q x y = record {
   text = x.text ++ y.text;
   taken = HasTaken-then s t u x.text y.text x.taken y.taken;
-  goes = λ rest. append_assoc x.text y.text (owed c rest) ∙ ap (λ (l : List ℕ). x.text ++ l) (y.goes rest) ∙ x.goes (q ++ rest) ∙ ap (owed a) (sym (append_assoc p q rest));
+  goes = λ rest. append_assoc x.text y.text (bytes_owed c rest) ∙ ap (λ (l : List ℕ). x.text ++ l) (y.goes rest) ∙ x.goes (q ++ rest) ∙ ap (bytes_owed a) (sym (append_assoc p q rest));
 }
 
 pub FailsPiece-then : (s t u : SpoolState) (a b : Pending) (p q : List ℕ) → WritesPiece s t a b p → FailsPiece t u b q → FailsPiece s u a (p ++ q)
@@ -24,13 +21,13 @@ FailsPiece-then s t u a b p q x y = record {
   failed = HasFailed-later s t u x.text y.text x.taken y.failed;
   sure = λ rest. let front = y.sure rest in record {
     rest = front.rest;
-    whole = ap (owed a) (append_assoc p q rest) ∙ sym (x.goes (q ++ rest)) ∙ ap (λ (l : List ℕ). x.text ++ l) front.whole ∙ sym (append_assoc x.text y.text front.rest);
+    whole = ap (bytes_owed a) (append_assoc p q rest) ∙ sym (x.goes (q ++ rest)) ∙ ap (λ (l : List ℕ). x.text ++ l) front.whole ∙ sym (append_assoc x.text y.text front.rest);
   };
 }
 
 -- a writer that begins owes the message
 abbrev pub BeginsRecord : Pending → Type 0
-BeginsRecord first = (text : List ℕ) → owed first text ≡ quoted_text (unix text)
+BeginsRecord first = (text : List ℕ) → bytes_owed first text ≡ quoted_text (unix text)
 
 module _ (calendar : Calendar) (host : List ℕ) (e : Envelope) (message : List ℕ) where
   abbrev head : List ℕ
@@ -46,31 +43,31 @@ module _ (calendar : Calendar) (host : List ℕ) (e : Envelope) (message : List 
   whole = record_split calendar host e message ∙ append_assoc head content (lf ∷ [])
 
   -- what the writer wrote, and still writes at the end
-  parts : (t u : SpoolState) (first last : Pending) → BeginsRecord first → (x : WritesPiece t u first last message) → content ≡ x.text ++ owed last []
-  parts t u first last begins x = sym (x.goes [] ∙ ap (owed first) (append-nil message) ∙ begins message)
+  parts : (t u : SpoolState) (first last : Pending) → BeginsRecord first → (x : WritesPiece t u first last message) → content ≡ x.text ++ bytes_owed last []
+  parts t u first last begins x = sym (x.goes [] ∙ ap (bytes_owed first) (append-nil message) ∙ begins message)
 
   record_parts : (t u : SpoolState) (first last : Pending) → BeginsRecord first → (x : WritesPiece t u first last message)
-      → text ≡ (head ++ x.text) ++ (owed last [] ++ lf ∷ [])
+      → text ≡ (head ++ x.text) ++ (bytes_owed last [] ++ lf ∷ [])
   record_parts t u first last begins x =
       whole ∙ ap (λ (l : List ℕ). head ++ (l ++ lf ∷ [])) (parts t u first last begins x)
-      ∙ ap (λ (l : List ℕ). head ++ l) (append_assoc x.text (owed last []) (lf ∷ []))
-      ∙ sym (append_assoc head x.text (owed last [] ++ lf ∷ []))
+      ∙ ap (λ (l : List ℕ). head ++ l) (append_assoc x.text (bytes_owed last []) (lf ∷ []))
+      ∙ sym (append_assoc head x.text (bytes_owed last [] ++ lf ∷ []))
 
   pub record_taken : (s t u v : SpoolState) (first last : Pending) → HasTaken s t head → BeginsRecord first
-      → WritesPiece t u first last message → HasTaken u v (owed last [] ++ lf ∷ []) → HasTaken s v text
+      → WritesPiece t u first last message → HasTaken u v (bytes_owed last [] ++ lf ∷ []) → HasTaken s v text
   record_taken s t u v first last h begins x y =
-      HasTaken-as s v text ((head ++ x.text) ++ (owed last [] ++ lf ∷ [])) (record_parts t u first last begins x)
-      (HasTaken-then s u v (head ++ x.text) (owed last [] ++ lf ∷ []) (HasTaken-then s t u head x.text h x.taken) y)
+      HasTaken-as s v text ((head ++ x.text) ++ (bytes_owed last [] ++ lf ∷ [])) (record_parts t u first last begins x)
+      (HasTaken-then s u v (head ++ x.text) (bytes_owed last [] ++ lf ∷ []) (HasTaken-then s t u head x.text h x.taken) y)
 
   -- a failure at the head, within a piece, at the end
   pub head_failed : (s t : SpoolState) → HasFailed s t head → HasFailed s t text
   head_failed s t h = HasFailed-as s t text (head ++ (content ++ lf ∷ [])) whole (HasFailed-first s t head (content ++ lf ∷ []) h)
 
   pub end_failed : (s t u v : SpoolState) (first last : Pending) → HasTaken s t head → BeginsRecord first
-      → WritesPiece t u first last message → HasFailed u v (owed last [] ++ lf ∷ []) → HasFailed s v text
+      → WritesPiece t u first last message → HasFailed u v (bytes_owed last [] ++ lf ∷ []) → HasFailed s v text
   end_failed s t u v first last h begins x y =
-      HasFailed-as s v text ((head ++ x.text) ++ (owed last [] ++ lf ∷ [])) (record_parts t u first last begins x)
-      (HasFailed-later s u v (head ++ x.text) (owed last [] ++ lf ∷ []) (HasTaken-then s t u head x.text h x.taken) y)
+      HasFailed-as s v text ((head ++ x.text) ++ (bytes_owed last [] ++ lf ∷ [])) (record_parts t u first last begins x)
+      (HasFailed-later s u v (head ++ x.text) (bytes_owed last [] ++ lf ∷ []) (HasTaken-then s t u head x.text h x.taken) y)
 
 -- whatever message the piece was the front of
 pub piece_failed : (calendar : Calendar) (host : List ℕ) (e : Envelope) (piece rest : List ℕ) (s t u : SpoolState) (first : Pending)

@@ -2,7 +2,7 @@
 use Rattle.std.specs.Prelude.{◌≡◌, ℕ, ◌+◌, ◌-◌, ◌*◌, ◌<◌, ◌≤◌, List, ◌++◌, length, take, drop}
 use Rattle.mbox_rd.specs.declared.pending.Step.{Step}
 use Rattle.mbox_rd.specs.declared.pending.Pending.TheVariants.{Inside}
-use Rattle.mbox_rd.specs.Writing.{Pending, IsPending, owed}
+use Rattle.mbox_rd.specs.Writing.{Pending, IsPending, bytes_owed}
 
 -- the texts that a step writes: bytes of the piece as they are, and others behind them
 abbrev pub written : Step → List ℕ → List ℕ
@@ -18,4 +18,4 @@ pub record IsStep (before : Pending) (piece : List ℕ) (step : Step) : Type 0 w
   pub taken : step.taken ≤ length piece
   pub next : IsPending step.next
   pub smaller : 2 * (length piece - step.taken) + weight step.next < 2 * length piece + weight before
-  pub goes : (rest : List ℕ) → written step piece ++ owed step.next (drop step.taken piece ++ rest) ≡ owed before (piece ++ rest)
+  pub goes : (rest : List ℕ) → written step piece ++ bytes_owed step.next (drop step.taken piece ++ rest) ≡ bytes_owed before (piece ++ rest)

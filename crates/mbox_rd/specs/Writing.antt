@@ -2,7 +2,7 @@
 use Rattle.std.specs.Prelude.{◌≡◌, ℕ, ◌≤◌, ◌==◌, List, [], ◌∷◌, ◌++◌, take, if◌then◌else◌, codes, ⊤}
 use Rattle.mail_world.specs.Text.{cr, lf, unix}
 use Rattle.mail_world.specs.Records.{quoted_text}
-use Rattle.mail_world.specs.Deliveries.{IsFront}
+use Rattle.mail_world.specs.Fronts.{IsFront}
 use Rattle.mbox_rd.specs.Spool.{SpoolState, HasTaken, HasFailed}
 use Rattle.mbox_rd.specs.declared.pending.Pending.{Pending as Declared}
 use Rattle.mbox_rd.specs.declared.pending.Pending.TheVariants.{Start, Marks, Word, Inside, Cr}
@@ -27,21 +27,21 @@ behind_mark [] = lf ∷ []
 behind_mark (b ∷ text) = quoted_text (b ∷ text)
 
 -- what a writer still writes if this text is the rest of the message
-abbrev pub owed : Pending → List ℕ → List ℕ
-owed Start text = quoted_text (unix text)
-owed Marks text = behind_mark (unix text)
-owed (Word n) text = quoted_text (unix (take n (codes "From ") ++ text))
-owed Inside text = line_rest (unix text)
-owed Cr text = line_rest (unix (cr ∷ text))
+abbrev pub bytes_owed : Pending → List ℕ → List ℕ
+bytes_owed Start text = quoted_text (unix text)
+bytes_owed Marks text = behind_mark (unix text)
+bytes_owed (Word n) text = quoted_text (unix (take n (codes "From ") ++ text))
+bytes_owed Inside text = line_rest (unix text)
+bytes_owed Cr text = line_rest (unix (cr ∷ text))
 
 -- the spool took what is sure, and the writer goes on from there
 pub record WritesPiece (old new : SpoolState) (before after : Pending) (piece : List ℕ) : Type 0 where
   pub text : List ℕ
   pub taken : HasTaken old new text
-  pub goes : (rest : List ℕ) → text ++ owed after rest ≡ owed before (piece ++ rest)
+  pub goes : (rest : List ℕ) → text ++ bytes_owed after rest ≡ bytes_owed before (piece ++ rest)
 
 -- the spool failed within what is sure
 pub record FailsPiece (old new : SpoolState) (before : Pending) (piece : List ℕ) : Type 0 where
   pub text : List ℕ
   pub failed : HasFailed old new text
-  pub sure : (rest : List ℕ) → IsFront text (owed before (piece ++ rest))
+  pub sure : (rest : List ℕ) → IsFront text (bytes_owed before (piece ++ rest))

@@ -6,8 +6,10 @@ use crate::spool::{Spool, SpoolFault};
 
 // Appends the pieces one behind the other.
 pub(crate) fn append_each<S: Spool>(spool: &mut S, pieces: &[&[u8]]) -> Result<(), SpoolFault>
-    ensures ok { OnOk result (HasTaken (S.state spool.old) (S.state spool.new) (flat_map (λ piece. piece.now) pieces.now)) }
-    ensures err { OnErr result (HasFailed (S.state spool.old) (S.state spool.new) (flat_map (λ piece. piece.now) pieces.now)) }
+    ensures ok { OnOk result
+        (HasTaken (S.state spool.old) (S.state spool.new) (flat_map (λ piece. piece.now) pieces.now)) }
+    ensures err { OnErr result
+        (HasFailed (S.state spool.old) (S.state spool.new) (flat_map (λ piece. piece.now) pieces.now)) }
 {
     for piece in pieces {
         append_all(spool, piece)?;

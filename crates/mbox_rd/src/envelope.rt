@@ -7,7 +7,8 @@ use smallvec::SmallVec;
 use std::alloc::Global;
 use std::marker::Model;
 
-/// The reverse path, the client's name, the transaction and the moment of a delivery. Its texts lie in the value itself.
+/// The reverse path, the client's name, the transaction and the moment of a delivery. Its texts lie in the value
+/// itself.
 #[derive(Debug, Drop)]
 pub struct Envelope {
     sender: SmallVec<u8, 256>,
@@ -30,7 +31,8 @@ impl Model for Envelope {
 }
 
 impl Envelope {
-    /// The sender is without brackets and route, and empty for the null reverse path (RFC 5321, 4.5.5). The moment counts seconds since 1970.
+    /// The sender is without brackets and route, and empty for the null reverse path (RFC 5321, 4.5.5). The moment
+    /// counts seconds since 1970.
     pub fn new(alloc: Global, sender: &[u8], client: &[u8], txn: Txn, moment: u32) -> Envelope
         requires sender { length sender.now ≤ PATH_LIMIT }
         requires client { length client.now ≤ NAME_LIMIT }

@@ -18,8 +18,10 @@ pub(crate) fn write_head<S: Spool>(
     host: &[u8],
     envelope: &Envelope,
 ) -> Result<(), SpoolFault>
-    ensures ok { OnOk result (HasTaken (S.state spool.old) (S.state spool.new) (head_text civil_at host.now envelope.now)) }
-    ensures err { OnErr result (HasFailed (S.state spool.old) (S.state spool.new) (head_text civil_at host.now envelope.now)) }
+    ensures ok { OnOk result
+        (HasTaken (S.state spool.old) (S.state spool.new) (head_text civil_at host.now envelope.now)) }
+    ensures err { OnErr result
+        (HasFailed (S.state spool.old) (S.state spool.new) (head_text civil_at host.now envelope.now)) }
 {
     let stamp = Stamp::of_unix(envelope.moment());
     write_from_line(spool, envelope.sender(), &stamp)?;
@@ -54,8 +56,10 @@ fn write_trace<S: Spool>(
     envelope: &Envelope,
     stamp: &Stamp,
 ) -> Result<(), SpoolFault>
-    ensures ok { OnOk result (HasTaken (S.state spool.old) (S.state spool.new) (trace_lines host.now stamp.now envelope.now)) }
-    ensures err { OnErr result (HasFailed (S.state spool.old) (S.state spool.new) (trace_lines host.now stamp.now envelope.now)) }
+    ensures ok { OnOk result
+        (HasTaken (S.state spool.old) (S.state spool.new) (trace_lines host.now stamp.now envelope.now)) }
+    ensures err { OnErr result
+        (HasFailed (S.state spool.old) (S.state spool.new) (trace_lines host.now stamp.now envelope.now)) }
 {
     write_origin(spool, host, envelope)?;
     write_date(spool, stamp)

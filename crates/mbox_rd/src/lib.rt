@@ -1,4 +1,5 @@
-//! Mailboxes in the mboxrd format (RFC 4155): the record of a delivered message, the spools that take it, and the letters that are read back.
+//! Mailboxes in the mboxrd format (RFC 4155): the record of a delivered message, the spools that take it, and the
+//! letters that are read back.
 #![tactic(auto)]
 
 mod append;

@@ -1,5 +1,6 @@
 //! A spool in memory, with a bound on what it takes.
-ghost use Rattle.std.specs.Prelude.{◌≡◌, ◌↔◌, ◌+◌, ◌-◌, ◌^◌, ◌<◌, ◌≤◌, ◌++◌, length, take, min, IsOk, IsErr, IfOk, OnOk, OnErr, Some};
+ghost use Rattle.std.specs.Prelude.{◌≡◌, ◌↔◌, ◌+◌, ◌-◌, ◌^◌, ◌<◌, ◌≤◌, ◌++◌, length, take, min, IsOk, IsErr, IfOk};
+ghost use Rattle.std.specs.Prelude.{OnOk, OnErr, Some};
 ghost use Rattle.std.specs.Option.{IfSome};
 ghost use Rattle.mbox_rd.specs.Spool.{HasTaken, HasFailed, HasSynced, HasNotSynced, tail_of};
 
@@ -84,8 +85,11 @@ impl Spool for MemorySpool {
 
         // what every spool ensures
         ensures within { IfOk result (λ n. (1 ≤ n) × (n ≤ length piece.now)) }
-        ensures ok { IfOk result (λ n. HasTaken (⟦<MemorySpool as Spool>⟧.state self.old) (⟦<MemorySpool as Spool>⟧.state self.new) (take n piece.now)) }
-        ensures err { OnErr result (HasFailed (⟦<MemorySpool as Spool>⟧.state self.old) (⟦<MemorySpool as Spool>⟧.state self.new) piece.now) }
+        ensures ok { IfOk result
+            (λ n. HasTaken (⟦<MemorySpool as Spool>⟧.state self.old) (⟦<MemorySpool as Spool>⟧.state self.new)
+            (take n piece.now)) }
+        ensures err { OnErr result
+            (HasFailed (⟦<MemorySpool as Spool>⟧.state self.old) (⟦<MemorySpool as Spool>⟧.state self.new) piece.now) }
     {
         if self.room == 0 {
             self.failures = self.failures.saturating_add(1);
@@ -105,8 +109,10 @@ impl Spool for MemorySpool {
         ensures new { self.new ≡ record self.old { synced = length self.old.bytes } }
 
         // what every spool ensures
-        ensures ok { OnOk result (HasSynced (⟦<MemorySpool as Spool>⟧.state self.old) (⟦<MemorySpool as Spool>⟧.state self.new)) }
-        ensures err { OnErr result (HasNotSynced (⟦<MemorySpool as Spool>⟧.state self.old) (⟦<MemorySpool as Spool>⟧.state self.new)) }
+        ensures ok { OnOk result
+            (HasSynced (⟦<MemorySpool as Spool>⟧.state self.old) (⟦<MemorySpool as Spool>⟧.state self.new)) }
+        ensures err { OnErr result
+            (HasNotSynced (⟦<MemorySpool as Spool>⟧.state self.old) (⟦<MemorySpool as Spool>⟧.state self.new)) }
     {
         self.synced = self.bytes.len();
         Ok(())

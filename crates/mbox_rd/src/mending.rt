@@ -5,7 +5,8 @@ ghost use Rattle.mbox_rd.specs.Mending.{HasMended, HasNotMended};
 use crate::append::append_all;
 use crate::spool::{Spool, SpoolFault, Tail};
 
-/// Ends an old mailbox's last line, and the empty line behind it, so that a record may follow (RFC 4155, Appendix A). To an empty spool it appends nothing.
+/// Ends an old mailbox's last line, and the empty line behind it, so that a record may follow (RFC 4155, Appendix A).
+/// To an empty spool it appends nothing.
 pub fn mend<S: Spool>(spool: &mut S) -> Result<(), SpoolFault>
     ensures ok { OnOk result (HasMended (S.state spool.old) (S.state spool.new)) }
     ensures err { OnErr result (HasNotMended (S.state spool.old) (S.state spool.new)) }

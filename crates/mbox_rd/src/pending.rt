@@ -15,7 +15,8 @@ pub(crate) const FROM: &[u8] = b"From ";
 pub(crate) enum Pending {
     // At a line's start.
     Start,
-    // Behind the `>`s at a line's front, one or more. They are written at once: a From line's further `>` is the same behind them as before them.
+    // Behind the `>`s at a line's front, one or more. They are written at once: a From line's further `>` is the same
+    // behind them as before them.
     Marks,
     // That many bytes of `From ` are held back, which stand at a line's start or behind its `>`s.
     Word(usize),
@@ -25,7 +26,8 @@ pub(crate) enum Pending {
     Cr,
 }
 
-// What comes of the front of a piece: its first `len` bytes as they are, then `extra`, in place of its first `taken` bytes.
+// What comes of the front of a piece: its first `len` bytes as they are, then `extra`, in place of its first `taken`
+// bytes.
 #[derive(Clone, Copy, Debug)]
 pub(crate) struct Step {
     pub(crate) len: usize,

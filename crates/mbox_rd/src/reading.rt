@@ -1,5 +1,6 @@
 //! The letters of a mailbox (RFC 4155, Appendix A), with the quoting of mboxrd.
-ghost use Rattle.std.specs.Prelude.{◌≡◌, ◌↔◌, ◌≤◌, ℕ, List, ◌++◌, length, codes, true, false, Err, IfOk, IfSome, IfNone};
+ghost use Rattle.std.specs.Prelude.{◌≡◌, ◌↔◌, ◌≤◌, ℕ, List, ◌++◌, length, codes, true, false, Err, IfOk, IfSome};
+ghost use Rattle.std.specs.Prelude.{IfNone};
 ghost use Rattle.mail_world.specs.Reading as m;
 ghost use Rattle.mail_world.specs.Reading.{AreLetters, written};
 ghost use Rattle.mail_world.specs.Records.{is_from_line};
@@ -42,7 +43,8 @@ impl<T: Drop> From<AllocFailed<T>> for BadMailbox {
     }
 }
 
-/// Reads the letters, in their order. A mailbox has one reading at most; one of no bytes has no letters. `NoFromLine` comes before all else; `NoEmptyLine` where the line before the next From line or the end isn't empty, or has no LF.
+/// Reads the letters, in their order. A mailbox has one reading at most; one of no bytes has no letters. `NoFromLine`
+/// comes before all else; `NoEmptyLine` where the line before the next From line or the end isn't empty, or has no LF.
 pub fn read_mailbox(alloc: Global, mailbox: &[u8]) -> Result<Vec<Letter>, BadMailbox>
     ensures read { IfOk result (λ letters. AreLetters letters.items × (written letters.items ≡ mailbox.now)) }
     ensures no_from_line { (result ≡ Err BadMailbox.NoFromLine) ↔ (is_boundary mailbox.now ≡ false) }

@@ -1,4 +1,5 @@
-//! A record of a mailbox, written while its message comes: the From line, the trace lines, and the message with its From lines quoted.
+//! A record of a mailbox, written while its message comes: the From line, the trace lines, and the message with its
+//! From lines quoted.
 ghost use Rattle.std.specs.Prelude.{◌≡◌, ◌≤◌, ℕ, List, [], ◌∷◌, ◌++◌, length, IfOk, OnOk, OnErr};
 ghost use Rattle.mail_world.specs.Records.{quoted_text};
 ghost use Rattle.mail_world.specs.Text.{unix, lf};
@@ -6,7 +7,7 @@ ghost use Rattle.lmtp_text.specs.Calendar.{civil_at};
 ghost use Rattle.mbox_rd.specs.Envelope.{head_text};
 ghost use Rattle.mbox_rd.specs.Spool.{HasTaken, HasFailed};
 ghost use Rattle.mbox_rd.specs.Steps.{written};
-ghost use Rattle.mbox_rd.specs.Writing.{owed, WritesPiece, FailsPiece};
+ghost use Rattle.mbox_rd.specs.Writing.{bytes_owed, WritesPiece, FailsPiece};
 
 use crate::append::{append_all, append_each};
 use crate::envelope::Envelope;
@@ -15,7 +16,8 @@ use crate::pending::{FROM, Pending, Step, long_step};
 use crate::spool::{Spool, SpoolFault};
 use std::marker::Model;
 
-/// Writes the record of a message that comes in pieces. It holds back a CR, or the front of a line's `From `, and keeps no bytes of the message.
+/// Writes the record of a message that comes in pieces. It holds back a CR, or the front of a line's `From `, and keeps
+/// no bytes of the message.
 #[derive(Debug, Drop)]
 pub struct RecordWriter {
     pending: Pending,
@@ -38,9 +40,11 @@ impl RecordWriter {
         host: &[u8],
         envelope: &Envelope,
     ) -> Result<RecordWriter, SpoolFault>
-        ensures ok { OnOk result (HasTaken (S.state spool.old) (S.state spool.new) (head_text civil_at host.now envelope.now)) }
-        ensures new { IfOk result (λ writer. (text : List ℕ) → owed writer text ≡ quoted_text (unix text)) }
-        ensures err { OnErr result (HasFailed (S.state spool.old) (S.state spool.new) (head_text civil_at host.now envelope.now)) }
+        ensures ok { OnOk result
+            (HasTaken (S.state spool.old) (S.state spool.new) (head_text civil_at host.now envelope.now)) }
+        ensures new { IfOk result (λ writer. (text : List ℕ) → bytes_owed writer text ≡ quoted_text (unix text)) }
+        ensures err { OnErr result
+            (HasFailed (S.state spool.old) (S.state spool.new) (head_text civil_at host.now envelope.now)) }
     {
         write_head(spool, host, envelope)?;
         Ok(RecordWriter {
@@ -48,7 +52,8 @@ impl RecordWriter {
         })
     }
 
-    /// Writes what is sure of the message's bytes, with LF for CRLF and one `>` more before a From line. The piece may end anywhere. After a fault the spool holds a front of the record, and the writer is gone.
+    /// Writes what is sure of the message's bytes, with LF for CRLF and one `>` more before a From line. The piece may
+    /// end anywhere. After a fault the spool holds a front of the record, and the writer is gone.
     pub fn piece<S: Spool>(self, spool: &mut S, piece: &[u8]) -> Result<RecordWriter, SpoolFault>
         ensures ok { IfOk result (λ writer. WritesPiece (S.state spool.old) (S.state spool.new) self writer piece.now) }
         ensures err { OnErr result (FailsPiece (S.state spool.old) (S.state spool.new) self piece.now) }
@@ -64,10 +69,11 @@ impl RecordWriter {
         Ok(RecordWriter { pending })
     }
 
-    /// Writes what is left of the message, with LF behind a last line that has none, and the empty line that ends a record.
+    /// Writes what is left of the message, with LF behind a last line that has none, and the empty line that ends a
+    /// record.
     pub fn end<S: Spool>(self, spool: &mut S) -> Result<(), SpoolFault>
-        ensures ok { OnOk result (HasTaken (S.state spool.old) (S.state spool.new) (owed self [] ++ lf ∷ [])) }
-        ensures err { OnErr result (HasFailed (S.state spool.old) (S.state spool.new) (owed self [] ++ lf ∷ [])) }
+        ensures ok { OnOk result (HasTaken (S.state spool.old) (S.state spool.new) (bytes_owed self [] ++ lf ∷ [])) }
+        ensures err { OnErr result (HasFailed (S.state spool.old) (S.state spool.new) (bytes_owed self [] ++ lf ∷ [])) }
     {
         match self.pending {
             Pending::Start => append_all(spool, b"\n"),

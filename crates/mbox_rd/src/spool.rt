@@ -5,7 +5,8 @@ ghost use Rattle.mbox_rd.specs.Spool.{SpoolState, HasTaken, HasFailed, HasSynced
 
 use thiserror::Error;
 
-/// A spool took no more bytes, or couldn't make sure of those that it has, for a reason that it keeps to itself: no room, or a device that failed.
+/// A spool took no more bytes, or couldn't make sure of those that it has, for a reason that it keeps to itself: no
+/// room, or a device that failed.
 #[derive(Clone, Copy, Debug, PartialEq, Eq, Error)]
 #[error("the spool failed")]
 pub struct SpoolFault;
@@ -35,7 +36,8 @@ pub trait Spool {
         ensures ok { IfOk result (λ n. HasTaken (state self.old) (state self.new) (take n piece.now)) }
         ensures err { OnErr result (HasFailed (state self.old) (state self.new) piece.now) };
 
-    /// Asks that all it holds be kept through a crash, as a file's `sync_all` does, and waits for the answer. After a fault any of it may be lost.
+    /// Asks that all it holds be kept through a crash, as a file's `sync_all` does, and waits for the answer. After a
+    /// fault any of it may be lost.
     fn sync(&mut self) -> Result<(), SpoolFault>
         ensures ok { OnOk result (HasSynced (state self.old) (state self.new)) }
         ensures err { OnErr result (HasNotSynced (state self.old) (state self.new)) };

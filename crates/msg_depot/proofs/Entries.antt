@@ -7,7 +7,7 @@ use Rattle.std.proofs.lemmas.Bool.{eq-eqb}
 use Rattle.atomic_table.specs.Table.{Me}
 use Rattle.atomic_table.specs.Seated.{TableId}
 use Rattle.mail_world.specs.Depot as d
-use Rattle.mail_world.specs.Depot.{Depot, Slot, Key, Held, held_under, last_generation, HasEachBlockOnce, Begins, Puts, Seals, Drops, Reclaims, Releases, weight_held, weight_under, blocks_of}
+use Rattle.mail_world.specs.Depot.{Depot, Slot, Key, Held, held_under, last_generation, HasEachBlockOnce, Begins, Puts, Seals, GivesBack, Reclaims, Releases, weight_held, weight_under, blocks_of}
 use Rattle.mail_world.proofs.Depots.{used, begins_turn, puts_turn, seals_turn, drops_turn, releases_turn}
 use Rattle.mail_world.proofs.Holds.{part_own}
 use Rattle.block_arena.specs.Calls.{ReleasesAll, IsGivenBack}
@@ -111,12 +111,12 @@ count_behind generation = by (nat_lt generation last_generation)
 behind_slots : (depot : Depot) (key : Key) (free : List ℕ) → (d.given_back depot key free).slots ≡ slice_set depot.slots key.slot (slot_behind key.generation)
 behind_slots depot key free = by (nat_lt key.generation last_generation)
   where
-    by : (t : Bool) → (cond {A = Depot} t (record { slots = slice_set depot.slots key.slot (record { generation = key.generation + 1; held = d.Free }); free = free }) (d.holding depot key d.Retired free)).slots ≡ slice_set depot.slots key.slot (cond {A = Slot} t (record { generation = key.generation + 1; held = d.Free }) (record { generation = key.generation; held = d.Retired }))
+    by : (t : Bool) → (cond {A = Depot} t (record { slots = slice_set depot.slots key.slot (record { generation = key.generation + 1; held = d.Free }); free = free }) (d.with_held depot key d.Retired free)).slots ≡ slice_set depot.slots key.slot (cond {A = Slot} t (record { generation = key.generation + 1; held = d.Free }) (record { generation = key.generation; held = d.Retired }))
     by true = refl
     by false = refl
 
 drops_turned : (old : Depot) (key : Key) (held : List ℕ → List ℕ → Held) (new : Depot) → ((b blocks : List ℕ) → weight_held (held b blocks) ≡ 0) → ((b blocks : List ℕ) → blocks_of (held b blocks) ≡ blocks)
-    → ((b blocks : List ℕ) → (held b blocks ≡ d.Free) → ⊥) → Drops old key held new → Turned old new key.slot (slot_behind key.generation)
+    → ((b blocks : List ℕ) → (held b blocks ≡ d.Free) → ⊥) → GivesBack old key held new → Turned old new key.slot (slot_behind key.generation)
 drops_turned old key held new light has filled p = record {
   within = slice_get_within old.slots key.slot _ (used old key _ p.message (filled p.bytes p.blocks));
   slots = ap (λ (x : Depot). x.slots) p.after ∙ behind_slots old key p.free;

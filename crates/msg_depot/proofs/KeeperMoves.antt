@@ -17,7 +17,7 @@ use Rattle.msg_depot.specs.declared.view.Kind.{Kind}
 use Rattle.msg_depot.specs.declared.view.Kind.TheVariants.{Nothing, Draft, Spent}
 use Rattle.msg_depot.specs.declared.view.Phase.{Phase}
 use Rattle.msg_depot.specs.declared.view.Phase.TheVariants.{Free, Drafted, Sealed, Retired}
-use Rattle.msg_depot.specs.Rules.{Kept, Fits, Stands, Used, weight, drafts, spents, draft_of, spent_of, at, when, total, positive, token, keeping, resting, nobody, entry, phase_of, free_slots, word_of}
+use Rattle.msg_depot.specs.Rules.{ObeysHoldRule, MatchesEntry, IsWordOf, Used, weight, drafts, spents, draft_of, spent_of, at, when, total, positive, token, keeping, resting, nobody, entry, phase_of, free_slots, word_of}
 use Rattle.msg_depot.specs.Moves.{emptied, handed, Checked, entry_at, begun, Begun, put, Put, sealed, SealedBy, freed, Freed, RetiredNow, IsOver}
 use Rattle.msg_depot.proofs.Totals.{total_set, within, elem_at, elem_is, when_zero, positive_one, total_has, at_here}
 use Rattle.msg_depot.proofs.Keeps.{off, splits, viewed}
@@ -41,7 +41,7 @@ hands id es k c s r here = splits s.words s.views id (keeping es k c) (emptied (
 pub takes : (id : ℕ) (es : List Entry) (other : ℕ) (k : Kind) (c : Claim) → Joins Rule id (resting es) other (token k c) (keeping es k c) nobody
 takes id es other k c s r here apart there = viewed s.words s.views (set (set s.views id (keeping es k c)) other nobody) r
     (λ j u at_j. cases j u at_j (λ n x. x.keeps ≡ true → (n ≡ r.seat) × (x.book ≡ r.book)) (λ n q. absurd (off q)) (λ _. r.keeper id (resting es) here refl) r.keeper)
-    (λ j u at_j. cases j u at_j (λ _ x. Fits r.book x) (λ _. ((λ q. absurd (q refl)), refl)) (r.fits other (token k c) was) r.fits)
+    (λ j u at_j. cases j u at_j (λ _ x. MatchesEntry r.book x) (λ _. ((λ q. absurd (q refl)), refl)) (r.fits other (token k c) was) r.fits)
     (λ i. record {
       weights = moved (at i weight) refl (when_zero (eqb 0 i)) (when_zero (eqb 0 i));
       drafted = moved (at i drafts) refl (when_zero (eqb 0 i)) (when_zero (eqb 0 i));
@@ -67,8 +67,8 @@ checks slots id i v s r _ here small = (
   v,
   keeps,
   tt,
-  subst (λ (z : List ℕ × List View). Kept z.0 z.1) (λ k. (sym (set-get_or s.words i 0) k, sym (set_again s.views id v here) k)) r,
-  (refl, λ k. subst (λ (l : List Entry). Fits l v) (sym (r.keeper id v here k).1) (r.fits id v here)),
+  subst (λ (z : List ℕ × List View). ObeysHoldRule z.0 z.1) (λ k. (sym (set-get_or s.words i 0) k, sym (set_again s.views id v here) k)) r,
+  (refl, λ k. subst (λ (l : List Entry). MatchesEntry l v) (sym (r.keeper id v here k).1) (r.fits id v here)),
 )
 
 -- a draft is begun
@@ -159,7 +159,7 @@ free_word g n a e = omega arith
 -- the slot of a joined token ends, where no other seat claims it and its weight is 0
 module _ (s : State (Unit {0}) View) (r : Rule s) (id : ℕ) (es : List Entry) (k : Kind) (c : Claim) (here : get_elem? s.views id ≡ some (keeping es k c)) where
   ends : (p : Phase) (up n : ℕ) → ((w d t : ℕ) → w ≡ 0 → d ≡ 0 → t ≡ 0 → Used p w d t) → k ≢ Nothing → get_elem? r.book c.slot ≡ some (of_token k c) → Alone s.views id c.slot → n ≡ (c.generation + up) * GENERATION_UNIT + 0 → c.generation + up ≤ last_generation
-      → Kept (set s.words (word_of c.slot) n) (set s.views id (freed (keeping es k c) p up))
+      → ObeysHoldRule (set s.words (word_of c.slot) n) (set s.views id (freed (keeping es k c) p up))
   ends p up n unused some_kind there alone word few = keeper_turns s.words s.views r id (keeping es k c) (freed (keeping es k c) p up) here refl c.slot n (of_token k c) (entry p (c.generation + up) []) there refl (λ _. refl) (λ q. absurd (q refl))
       alone
       ((λ q. absurd (q refl)), refl)
@@ -208,13 +208,13 @@ retires slots id es k c which s r _ here small =
     (freed (keeping es k c) Retired 0, keeps, tt, ends s r id es k c here Retired 0 (get_or s.words (word_of c.slot) 0) (λ _ _ _ a b d. (a, b, d)) o.0 o.1 o.2 (omega (arith, o.3)) (omega (arith, o.4)), refl)
 
 -- the rule at the start
-pub opens : (words : List ℕ) (n g : ℕ) → words ≡ replicate (word_of n) (g * GENERATION_UNIT) → g ≤ last_generation → Kept words (resting (free_slots n g) ∷ [])
+pub opens : (words : List ℕ) (n g : ℕ) → words ≡ replicate (word_of n) (g * GENERATION_UNIT) → g ≤ last_generation → ObeysHoldRule words (resting (free_slots n g) ∷ [])
 opens words n g is few = record {
   seat = 0;
   book = free_slots n g;
   long = ap length is ∙ length-replicate (word_of n) (g * GENERATION_UNIT) ∙ ap word_of (sym (length-replicate n (entry Free g [])));
   keeper = λ j v at_j k. (only j v at_j (λ m x. (m ≡ 0) × (x.book ≡ free_slots n g)) (refl, refl));
-  fits = λ j v at_j. only j v at_j (λ _ x. Fits (free_slots n g) x) ((λ q. absurd (q refl)), refl);
+  fits = λ j v at_j. only j v at_j (λ _ x. MatchesEntry (free_slots n g) x) ((λ q. absurd (q refl)), refl);
   stands = λ i e at_i.
       let d : Entry = entry Free g [] in
       let inside : i < n = omega (arith, within (free_slots n g) i e at_i, length-replicate n d) in
@@ -222,7 +222,7 @@ opens words n g is few = record {
       let word : get_or words (word_of i) 0 ≡ g * GENERATION_UNIT = ap (λ (l : List ℕ). get_or l (word_of i) 0) is ∙ get_or-replicate (word_of n) (word_of i) (g * GENERATION_UNIT) 0 (omega arith) in
       let z : at i weight (resting (free_slots n g)) ≡ 0 = when_zero (eqb 0 i) in
       let w : total (at i weight) (resting (free_slots n g) ∷ []) ≡ 0 = omega arith in
-      subst (λ (x : Entry). Stands x (get_or words (word_of i) 0) (total (at i weight) (resting (free_slots n g) ∷ [])) (total (at i drafts) (resting (free_slots n g) ∷ [])) (total (at i spents) (resting (free_slots n g) ∷ []))) (sym same)
+      subst (λ (x : Entry). IsWordOf x (get_or words (word_of i) 0) (total (at i weight) (resting (free_slots n g) ∷ [])) (total (at i drafts) (resting (free_slots n g) ∷ [])) (total (at i spents) (resting (free_slots n g) ∷ []))) (sym same)
       (omega arith, omega arith, omega arith, (w, w, w));
 }
   where

@@ -9,7 +9,7 @@ use Rattle.msg_depot.specs.declared.view.Kind.{Kind}
 use Rattle.msg_depot.specs.declared.view.Kind.TheVariants.{Nothing, Draft, Hold, Spent}
 use Rattle.msg_depot.specs.declared.view.Phase.{Phase}
 use Rattle.msg_depot.specs.declared.view.Phase.TheVariants.{Free, Drafted, Sealed}
-use Rattle.msg_depot.specs.Rules.{Kept, Fits, Stands, Weighs, Used, weight, drafts, spents, draft_of, spent_of, at, total, entry, phase_of, word_of}
+use Rattle.msg_depot.specs.Rules.{ObeysHoldRule, MatchesEntry, IsWordOf, Weighs, Used, weight, drafts, spents, draft_of, spent_of, at, total, entry, phase_of, word_of}
 use Rattle.msg_depot.proofs.Totals.{total_has, total_two, total_alone, at_here, at_else, at_none, within, positive_one}
 use Rattle.msg_depot.proofs.Keeps.{turns}
 
@@ -56,16 +56,16 @@ alls i u h here = ⊎_elim
     (λ (e : u.kind ≢ Nothing). record { weights = at_here i weight u (here e); drafted = at_here i drafts u (here e); spent = at_here i spents u (here e) })
     (is_nothing u.kind)
 
-pub keeper_turns : (words : List ℕ) (views : List View) (r : Kept words views) (id : ℕ) (v w : View) → get_elem? views id ≡ some v
+pub keeper_turns : (words : List ℕ) (views : List View) (r : ObeysHoldRule words views) (id : ℕ) (v w : View) → get_elem? views id ≡ some v
     → v.keeps ≡ true → (i n : ℕ) (e e' : Entry) → get_elem? r.book i ≡ some e → w.book ≡ set v.book i e'
     → (v.kind ≢ Nothing → v.claim.slot ≡ i) → (w.kind ≢ Nothing → w.claim.slot ≡ i)
-    → Alone views id i → Fits (set v.book i e') w → Stands e' n (weight w) (drafts w) (spents w)
-    → Kept (set words (word_of i) n) (set views id w)
+    → Alone views id i → MatchesEntry (set v.book i e') w → IsWordOf e' n (weight w) (drafts w) (spents w)
+    → ObeysHoldRule (set words (word_of i) n) (set views id w)
 keeper_turns words views r id v w here keeps i n e e' there book mine mine' alone fit stands =
     let m = r.keeper id v here keeps in
     let old = r.fits id v here in
     let a = alls i w fit.1 mine' in
-    let fit' : Fits (set r.book i e') w = subst (λ (l : List Entry). Fits (set l i e') w) m.1 fit in
+    let fit' : MatchesEntry (set r.book i e') w = subst (λ (l : List Entry). MatchesEntry (set l i e') w) m.1 fit in
     let none_else : (j : ℕ) (u : View) → j ≢ id → get_elem? (set views id w) j ≡ some u → Zeros i u =
     λ j u apart at_j. let was : get_elem? views j ≡ some u = sym (set_else views id j w apart) ∙ at_j in zeros i u (r.fits j u was).1 (alone j u apart was) in
     let at_id : get_elem? (set views id w) id ≡ some w = set_here views id w (within views id v here) in
@@ -79,14 +79,14 @@ keeper_turns words views r id v w here keeps i n e e' there book mine mine' alon
     (λ j u apart at_j. let f = r.fits j u at_j in ((λ some_kind. set_else r.book i u.claim.slot e' (alone j u apart at_j some_kind) ∙ f.0 some_kind), f.1))
     (λ k apart. let x = zeros k v old.1 (λ q z. apart (sym z ∙ mine q)) in let y = zeros k w fit.1 (λ q z. apart (sym z ∙ mine' q)) in
     record { weights = x.weights ∙ sym y.weights; drafted = x.drafted ∙ sym y.drafted; spent = x.spent ∙ sym y.spent })
-    (subst (λ (z : ℕ × ℕ × ℕ). Stands e' n z.0 z.1 z.2) (λ k. (weights k, drafted k, spent k)) stands)
+    (subst (λ (z : ℕ × ℕ × ℕ). IsWordOf e' n z.0 z.1 z.2) (λ k. (weights k, drafted k, spent k)) stands)
 
 -- the phase of a slot that a seat claims
-claimed_phase : (words : List ℕ) (views : List View) (r : Kept words views) (j : ℕ) (u : View) (i : ℕ) (e : Entry) → get_elem? views j ≡ some u → get_elem? r.book i ≡ some e → u.kind ≢ Nothing → u.claim.slot ≡ i → phase_of u.kind ≡ e.phase
+claimed_phase : (words : List ℕ) (views : List View) (r : ObeysHoldRule words views) (j : ℕ) (u : View) (i : ℕ) (e : Entry) → get_elem? views j ≡ some u → get_elem? r.book i ≡ some e → u.kind ≢ Nothing → u.claim.slot ≡ i → phase_of u.kind ≡ e.phase
 claimed_phase words views r j u i e at_j there some_kind slot =
     ap (λ (x : Entry). x.phase) (some-injective (entry (phase_of u.kind) u.claim.generation u.claim.bytes) e (sym ((r.fits j u at_j).0 some_kind) ∙ ap (λ (k : ℕ). get_elem? r.book k) slot ∙ there))
 
-pub alone_free : (words : List ℕ) (views : List View) (r : Kept words views) (id i : ℕ) (e : Entry) → get_elem? r.book i ≡ some e → e.phase ≡ Free → Alone views id i
+pub alone_free : (words : List ℕ) (views : List View) (r : ObeysHoldRule words views) (id i : ℕ) (e : Entry) → get_elem? r.book i ≡ some e → e.phase ≡ Free → Alone views id i
 alone_free words views r id i e there free j u apart at_j some_kind slot = no u.kind some_kind (claimed_phase words views r j u i e at_j there some_kind slot ∙ free)
   where
     no : (k : Kind) → k ≢ Nothing → phase_of k ≡ Free → ⊥
@@ -95,7 +95,7 @@ alone_free words views r id i e there free j u apart at_j some_kind slot = no u.
     no Hold a b = absurd (cc)
     no Spent a b = absurd (cc)
 
-pub alone_draft : (words : List ℕ) (views : List View) (r : Kept words views) (id : ℕ) (v : View) (i : ℕ) (e : Entry) → get_elem? views id ≡ some v → v.kind ≡ Draft → v.claim.slot ≡ i
+pub alone_draft : (words : List ℕ) (views : List View) (r : ObeysHoldRule words views) (id : ℕ) (v : View) (i : ℕ) (e : Entry) → get_elem? views id ≡ some v → v.kind ≡ Draft → v.claim.slot ≡ i
     → get_elem? r.book i ≡ some e → e.phase ≡ Drafted → Alone views id i
 alone_draft words views r id v i e here draft mine there phase j u apart at_j some_kind slot = no u.kind refl
   where
@@ -111,7 +111,7 @@ alone_draft words views r id v i e here draft mine there phase j u apart at_j so
     no Hold is = let p : Sealed ≡ Drafted = sym (ap phase_of is) ∙ phases in absurd (cc)
     no Spent is = let p : Sealed ≡ Drafted = sym (ap phase_of is) ∙ phases in absurd (cc)
 
-pub alone_spent : (words : List ℕ) (views : List View) (r : Kept words views) (id : ℕ) (v : View) (i : ℕ) (e : Entry) → get_elem? views id ≡ some v → v.kind ≡ Spent → v.claim.slot ≡ i
+pub alone_spent : (words : List ℕ) (views : List View) (r : ObeysHoldRule words views) (id : ℕ) (v : View) (i : ℕ) (e : Entry) → get_elem? views id ≡ some v → v.kind ≡ Spent → v.claim.slot ≡ i
     → get_elem? r.book i ≡ some e → e.phase ≡ Sealed → Alone views id i
 alone_spent words views r id v i e here spent mine there phase j u apart at_j some_kind slot = no u.kind refl
   where

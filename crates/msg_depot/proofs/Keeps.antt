@@ -5,7 +5,7 @@ use lib.ListN.{get_elem?}
 use Rattle.atomic_table.proofs.Lists.{at_set, at_snoc}
 use Rattle.msg_depot.specs.declared.view.View.{View}
 use Rattle.msg_depot.specs.declared.view.Entry.{Entry}
-use Rattle.msg_depot.specs.Rules.{weight, drafts, spents, at, total, word_of, Fits, Stands, Kept}
+use Rattle.msg_depot.specs.Rules.{weight, drafts, spents, at, total, word_of, MatchesEntry, IsWordOf, ObeysHoldRule}
 use Rattle.msg_depot.proofs.Totals.{total_set, total_snoc, within}
 
 pub off : false ≡ true → ⊥
@@ -17,15 +17,15 @@ pub record Same (a b c a' b' c' : ℕ) : Type 0 where
   pub drafted : b ≡ b'
   pub spent : c ≡ c'
 
-pub stands_as : (e : Entry) (n w d s w' d' s' : ℕ) → Same w d s w' d' s' → Stands e n w d s → Stands e n w' d' s'
-stands_as e n w d s w' d' s' t h = subst (λ (z : ℕ × ℕ × ℕ). Stands e n z.0 z.1 z.2) (λ k. (t.weights k, t.drafted k, t.spent k)) h
+pub stands_as : (e : Entry) (n w d s w' d' s' : ℕ) → Same w d s w' d' s' → IsWordOf e n w d s → IsWordOf e n w' d' s'
+stands_as e n w d s w' d' s' t h = subst (λ (z : ℕ × ℕ × ℕ). IsWordOf e n z.0 z.1 z.2) (λ k. (t.weights k, t.drafted k, t.spent k)) h
 
 -- the views change, and nothing else
-pub viewed : (words : List ℕ) (views views' : List View) (r : Kept words views)
+pub viewed : (words : List ℕ) (views views' : List View) (r : ObeysHoldRule words views)
     → ((j : ℕ) (v : View) → get_elem? views' j ≡ some v → v.keeps ≡ true → (j ≡ r.seat) × (v.book ≡ r.book))
-    → ((j : ℕ) (v : View) → get_elem? views' j ≡ some v → Fits r.book v)
+    → ((j : ℕ) (v : View) → get_elem? views' j ≡ some v → MatchesEntry r.book v)
     → ((i : ℕ) → Same (total (at i weight) views) (total (at i drafts) views) (total (at i spents) views) (total (at i weight) views') (total (at i drafts) views') (total (at i spents) views'))
-    → Kept words views'
+    → ObeysHoldRule words views'
 viewed words views views' r k f t = record {
   seat = r.seat;
   book = r.book;
@@ -45,11 +45,11 @@ cut_total : (f : View → ℕ) (views : List View) (id : ℕ) (v left right : Vi
 cut_total f views id v left right here e = let a = total_set f views id v left here in let b = total_snoc f (set views id left) right in omega arith
 
 -- a view is cut in two
-pub splits : (words : List ℕ) (views : List View) (id : ℕ) (v left right : View) → Kept words views → get_elem? views id ≡ some v
+pub splits : (words : List ℕ) (views : List View) (id : ℕ) (v left right : View) → ObeysHoldRule words views → get_elem? views id ≡ some v
     → left.keeps ≡ v.keeps → left.book ≡ v.book → right.keeps ≡ false
-    → ((book : List Entry) → Fits book v → Fits book left × Fits book right)
+    → ((book : List Entry) → MatchesEntry book v → MatchesEntry book left × MatchesEntry book right)
     → ((i : ℕ) → Parts i v left right)
-    → Kept words (set views id left ++ right ∷ [])
+    → ObeysHoldRule words (set views id left ++ right ∷ [])
 splits words views id v left right r here same_keeps same_book outside fit parts = viewed words views (set views id left ++ right ∷ []) r keepers fitting
     (λ i. record {
       weights = cut_total (at i weight) views id v left right here (parts i).weights;
@@ -69,34 +69,34 @@ splits words views id v left right r here same_keeps same_book outside fit parts
         (λ _ k. absurd (off (sym outside ∙ k)))
         r.keeper
 
-    fitting : (j : ℕ) (u : View) → get_elem? (set views id left ++ right ∷ []) j ≡ some u → Fits r.book u
-    fitting j u e = cases j u e (λ _ x. Fits r.book x) (fit r.book (r.fits id v here)).0 (λ _. (fit r.book (r.fits id v here)).1) r.fits
+    fitting : (j : ℕ) (u : View) → get_elem? (set views id left ++ right ∷ []) j ≡ some u → MatchesEntry r.book u
+    fitting j u e = cases j u e (λ _ x. MatchesEntry r.book x) (fit r.book (r.fits id v here)).0 (λ _. (fit r.book (r.fits id v here)).1) r.fits
 
 words_apart : (i k : ℕ) → k ≢ i → word_of k ≢ word_of i
 words_apart i k apart e = apart (omega arith)
 
 -- one seat steps: the word of a slot, its entry and the seat's view change
-pub turns : (words : List ℕ) (views : List View) (r : Kept words views) (id : ℕ) (v w : View) → get_elem? views id ≡ some v
+pub turns : (words : List ℕ) (views : List View) (r : ObeysHoldRule words views) (id : ℕ) (v w : View) → get_elem? views id ≡ some v
     → (i n : ℕ) (e e' : Entry) → get_elem? r.book i ≡ some e
     → (w.keeps ≡ true → (id ≡ r.seat) × (w.book ≡ set r.book i e'))
     → ((j : ℕ) (u : View) → j ≢ id → get_elem? views j ≡ some u → u.keeps ≡ true → set r.book i e' ≡ r.book)
-    → Fits (set r.book i e') w
-    → ((j : ℕ) (u : View) → j ≢ id → get_elem? views j ≡ some u → Fits (set r.book i e') u)
+    → MatchesEntry (set r.book i e') w
+    → ((j : ℕ) (u : View) → j ≢ id → get_elem? views j ≡ some u → MatchesEntry (set r.book i e') u)
     → ((k : ℕ) → k ≢ i → Same (at k weight v) (at k drafts v) (at k spents v) (at k weight w) (at k drafts w) (at k spents w))
-    → Stands e' n (total (at i weight) (set views id w)) (total (at i drafts) (set views id w)) (total (at i spents) (set views id w))
-    → Kept (set words (word_of i) n) (set views id w)
+    → IsWordOf e' n (total (at i weight) (set views id w)) (total (at i drafts) (set views id w)) (total (at i spents) (set views id w))
+    → ObeysHoldRule (set words (word_of i) n) (set views id w)
 turns words views r id v w here i n e e' there mine others fit fits elsewhere now = record {
   seat = r.seat;
   book = set r.book i e';
   long = length-set words (word_of i) n ∙ r.long ∙ ap word_of (sym (length-set r.book i e'));
   keeper = λ j u at_j. cases j u at_j (λ k x. x.keeps ≡ true → (k ≡ r.seat) × (x.book ≡ set r.book i e')) mine
       (λ k x apart was keeps. let m = r.keeper k x was keeps in (m.0, m.1 ∙ sym (others k x apart was keeps)));
-  fits = λ j u at_j. cases j u at_j (λ _ x. Fits (set r.book i e') x) fit fits;
+  fits = λ j u at_j. cases j u at_j (λ _ x. MatchesEntry (set r.book i e') x) fit fits;
   stands = λ k d at_k. ⊎_elim
-      (λ (t : (k ≡ i) × (e' ≡ d)). subst (λ (z : ℕ × Entry). Stands z.1 (get_or (set words (word_of i) n) (word_of z.0) 0) (total (at z.0 weight) (set views id w)) (total (at z.0 drafts) (set views id w)) (total (at z.0 spents) (set views id w))) (λ q. (sym t.0 q, t.1 q))
-      (subst (λ (z : ℕ). Stands e' z (total (at i weight) (set views id w)) (total (at i drafts) (set views id w)) (total (at i spents) (set views id w))) (sym (get_or-set_same words (word_of i) n 0 inside)) now))
+      (λ (t : (k ≡ i) × (e' ≡ d)). subst (λ (z : ℕ × Entry). IsWordOf z.1 (get_or (set words (word_of i) n) (word_of z.0) 0) (total (at z.0 weight) (set views id w)) (total (at z.0 drafts) (set views id w)) (total (at z.0 spents) (set views id w))) (λ q. (sym t.0 q, t.1 q))
+      (subst (λ (z : ℕ). IsWordOf e' z (total (at i weight) (set views id w)) (total (at i drafts) (set views id w)) (total (at i spents) (set views id w))) (sym (get_or-set_same words (word_of i) n 0 inside)) now))
       (λ (t : (k ≢ i) × (get_elem? r.book k ≡ some d)).
-      subst (λ (z : ℕ). Stands d z (total (at k weight) (set views id w)) (total (at k drafts) (set views id w)) (total (at k spents) (set views id w))) (sym (get_or-set_other words (word_of i) (word_of k) n 0 (words_apart i k t.0)))
+      subst (λ (z : ℕ). IsWordOf d z (total (at k weight) (set views id w)) (total (at k drafts) (set views id w)) (total (at k spents) (set views id w))) (sym (get_or-set_other words (word_of i) (word_of k) n 0 (words_apart i k t.0)))
       (stands_as d (get_or words (word_of k) 0) _ _ _ _ _ _
       (record { weights = still (at k weight) (elsewhere k t.0).weights; drafted = still (at k drafts) (elsewhere k t.0).drafted; spent = still (at k spents) (elsewhere k t.0).spent })
       (r.stands k d t.1)))

@@ -12,22 +12,27 @@ use Rattle.msg_depot.specs.declared.view.TheConstants.{GENERATION_UNIT}
 use Rattle.msg_depot.specs.declared.view.View.{View}
 use Rattle.msg_depot.specs.declared.view.Claim.{Claim}
 use Rattle.msg_depot.specs.declared.view.Entry.{Entry}
+use Rattle.msg_depot.specs.declared.view.Kind.TheVariants.{Hold}
 use Rattle.msg_depot.specs.declared.view.Phase.TheVariants.{Sealed}
-use Rattle.msg_depot.specs.Rules.{Kept, Fits, weight, drafts, spents, at, when, total, positive, entry, word_of}
-use Rattle.msg_depot.specs.Moves.{one_less, one, holding, released, Released}
+use Rattle.msg_depot.specs.Rules.{ObeysHoldRule, MatchesEntry, weight, drafts, spents, at, when, total, positive, entry, word_of}
+use Rattle.msg_depot.specs.Moves.{one_less, one, released, Released}
 use Rattle.msg_depot.proofs.Totals.{total_set, total_has, at_here, at_else, at_none, positive_one}
 use Rattle.msg_depot.proofs.Keeps.{splits, turns}
 
 abbrev pub Rule : State (Unit {0}) View → Type 0
-Rule s = Kept s.words s.views
+Rule s = ObeysHoldRule s.words s.views
+
+-- a view that has a hold: a token's, or the keeper's with what it has joined
+abbrev pub hold_view : Bool → List Entry → Claim → View
+hold_view b es c = record { keeps = b; book = es; kind = Hold; claim = c }
 
 when_sum : (b : Bool) (k n m : ℕ) → k ≡ n + m → when b k ≡ when b n + when b m
 when_sum true k n m e = e
 when_sum false k n m e = refl
 
 -- a hold is cut in two
-pub cuts_one : (id : ℕ) (q : Bool) (es : List Entry) (c : Claim) → 1 < c.weight → Splits Rule id (holding q es c) (one_less (holding q es c)) (one (holding q es c))
-cuts_one id q es c more s r here = splits s.words s.views id (holding q es c) (one_less (holding q es c)) (one (holding q es c)) r here refl refl refl
+pub cuts_one : (id : ℕ) (q : Bool) (es : List Entry) (c : Claim) → 1 < c.weight → Splits Rule id (hold_view q es c) (one_less (hold_view q es c)) (one (hold_view q es c))
+cuts_one id q es c more s r here = splits s.words s.views id (hold_view q es c) (one_less (hold_view q es c)) (one (hold_view q es c)) r here refl refl refl
     (λ book f. ((f.0, omega arith), (f.0, omega arith)))
     (λ i. record {
       weights = when_sum (eqb c.slot i) c.weight (c.weight - 1) 1 (omega arith);
@@ -47,11 +52,11 @@ low_bits : (g w n : ℕ) → w ≤ RECIPIENT_LIMIT → n ≡ g * GENERATION_UNIT
 low_bits g w n b e = omega arith
 
 -- a hold of weight 1 is given up, and it was the last
-release_last : (words : List ℕ) (views : List View) (r : Kept words views) (id : ℕ) (q : Bool) (es : List Entry) (c : Claim) → get_elem? views id ≡ some (holding q es c) → c.weight ≡ 1
+release_last : (words : List ℕ) (views : List View) (r : ObeysHoldRule words views) (id : ℕ) (q : Bool) (es : List Entry) (c : Claim) → get_elem? views id ≡ some (hold_view q es c) → c.weight ≡ 1
     → get_or words (word_of c.slot) 0 % GENERATION_UNIT ≡ 1
-    → Kept (set words (word_of c.slot) ((get_or words (word_of c.slot) 0 + (2 ^ 64 - 1)) % 2 ^ 64)) (set views id (released true (holding q es c)))
+    → ObeysHoldRule (set words (word_of c.slot) ((get_or words (word_of c.slot) 0 + (2 ^ 64 - 1)) % 2 ^ 64)) (set views id (released true (hold_view q es c)))
 release_last words views r id q es c here is_one low =
-    let v : View = holding q es c in
+    let v : View = hold_view q es c in
     let w : View = released true v in
     let e : Entry = entry Sealed c.generation c.bytes in
     let there : get_elem? r.book c.slot ≡ some e = (r.fits id v here).0 (λ q. absurd (cc)) in
@@ -71,8 +76,8 @@ release_last words views r id q es c here is_one low =
     turns words views r id v w here c.slot ((get_or words (word_of c.slot) 0 + (2 ^ 64 - 1)) % 2 ^ 64) e e there
     (λ k. let m = r.keeper id v here k in (m.0, m.1 ∙ sym same))
     (λ j u apart at_j keeps. same)
-    (subst (λ (l : List Entry). Fits l w) (sym same) ((λ _. there), refl))
-    (λ j u apart at_j. subst (λ (l : List Entry). Fits l u) (sym same) (r.fits j u at_j))
+    (subst (λ (l : List Entry). MatchesEntry l w) (sym same) ((λ _. there), refl))
+    (λ j u apart at_j. subst (λ (l : List Entry). MatchesEntry l u) (sym same) (r.fits j u at_j))
     (λ k apart. record {
       weights = at_else k weight v (λ q. apart (sym q)) ∙ sym (at_else k weight w (λ q. apart (sym q)));
       drafted = at_else k drafts v (λ q. apart (sym q)) ∙ sym (at_else k drafts w (λ q. apart (sym q)));
@@ -81,11 +86,11 @@ release_last words views r id q es c here is_one low =
     (omega arith, omega arith, st.2, (omega arith, omega arith))
 
 -- the same, where it was not the last
-release_more : (words : List ℕ) (views : List View) (r : Kept words views) (id : ℕ) (q : Bool) (es : List Entry) (c : Claim) → get_elem? views id ≡ some (holding q es c) → c.weight ≡ 1
+release_more : (words : List ℕ) (views : List View) (r : ObeysHoldRule words views) (id : ℕ) (q : Bool) (es : List Entry) (c : Claim) → get_elem? views id ≡ some (hold_view q es c) → c.weight ≡ 1
     → get_or words (word_of c.slot) 0 % GENERATION_UNIT ≢ 1
-    → Kept (set words (word_of c.slot) ((get_or words (word_of c.slot) 0 + (2 ^ 64 - 1)) % 2 ^ 64)) (set views id (released false (holding q es c)))
+    → ObeysHoldRule (set words (word_of c.slot) ((get_or words (word_of c.slot) 0 + (2 ^ 64 - 1)) % 2 ^ 64)) (set views id (released false (hold_view q es c)))
 release_more words views r id q es c here is_one low =
-    let v : View = holding q es c in
+    let v : View = hold_view q es c in
     let w : View = released false v in
     let e : Entry = entry Sealed c.generation c.bytes in
     let there : get_elem? r.book c.slot ≡ some e = (r.fits id v here).0 (λ q. absurd (cc)) in
@@ -108,7 +113,7 @@ release_more words views r id q es c here is_one low =
     (λ k. let m = r.keeper id v here k in (m.0, m.1 ∙ sym same))
     (λ j u apart at_j keeps. same)
     ((λ k. absurd (k refl)), refl)
-    (λ j u apart at_j. subst (λ (l : List Entry). Fits l u) (sym same) (r.fits j u at_j))
+    (λ j u apart at_j. subst (λ (l : List Entry). MatchesEntry l u) (sym same) (r.fits j u at_j))
     (λ k apart. record {
       weights = at_else k weight v (λ q. apart (sym q)) ∙ sym (at_none k weight w refl);
       drafted = at_else k drafts v (λ q. apart (sym q)) ∙ sym (at_none k drafts w refl);
@@ -117,9 +122,9 @@ release_more words views r id q es c here is_one low =
     (omega arith, omega arith, st.2, (omega arith, omega arith))
 
 pub releases : (slots id : ℕ) (q : Bool) (es : List Entry) (c : Claim) → c.weight ≡ 1
-    → Allows Rule slots id (holding q es c, []) (word_of c.slot) (λ n. (n + (2 ^ 64 - 1)) % 2 ^ 64) (Released (step slots (word_of c.slot) 1 0 none) (holding q es c, []))
+    → Allows Rule slots id (hold_view q es c, []) (word_of c.slot) (λ n. (n + (2 ^ 64 - 1)) % 2 ^ 64) (Released (step slots (word_of c.slot) 1 0 none) (hold_view q es c, []))
 releases slots id q es c is_one s r _ here small =
     let n : ℕ = get_or s.words (word_of c.slot) 0 in
     dite (ℕ_discrete (n % GENERATION_UNIT) 1)
-    (λ last. (released true (holding q es c), keeps, tt, release_last s.words s.views r id q es c here is_one last, ap (λ (b : Bool). (released b (holding q es c), [])) (sym (eq-eqb (n % GENERATION_UNIT) 1 last))))
-    (λ more. (released false (holding q es c), keeps, tt, release_more s.words s.views r id q es c here is_one more, ap (λ (b : Bool). (released b (holding q es c), [])) (sym (ne_eqb (n % GENERATION_UNIT) 1 more))))
+    (λ last. (released true (hold_view q es c), keeps, tt, release_last s.words s.views r id q es c here is_one last, ap (λ (b : Bool). (released b (hold_view q es c), [])) (sym (eq-eqb (n % GENERATION_UNIT) 1 last))))
+    (λ more. (released false (hold_view q es c), keeps, tt, release_more s.words s.views r id q es c here is_one more, ap (λ (b : Bool). (released b (hold_view q es c), [])) (sym (ne_eqb (n % GENERATION_UNIT) 1 more))))

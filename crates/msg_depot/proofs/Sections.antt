@@ -24,8 +24,8 @@ Seen = Me (Unit {0}) View
 abbrev pub Agrees : List Entry → Seen → Type 0
 Agrees book him = him.0.kind ≢ Nothing → (him.0.claim.slot < length book) × (entry_at book him.0.claim.slot ≡ entry (phase_of him.0.kind) him.0.claim.generation him.0.claim.bytes)
 
-told : (book : List Entry) (him : Seen) (k : Kind) (c : Claim) → k ≢ Nothing → him ≡ (token k c, []) → Agrees book him → (c.slot < length book) × (entry_at book c.slot ≡ entry (phase_of k) c.generation c.bytes)
-told book him k c some_kind is agrees = subst (Agrees book) is agrees some_kind
+claims_entry : (book : List Entry) (him : Seen) (k : Kind) (c : Claim) → k ≢ Nothing → him ≡ (token k c, []) → Agrees book him → (c.slot < length book) × (entry_at book c.slot ≡ entry (phase_of k) c.generation c.bytes)
+claims_entry book him k c some_kind is agrees = subst (Agrees book) is agrees some_kind
 
 module _ (named t0 : TableId) (m0 : Seen) (old : Depot) (keeper : IsKeeper named t0 m0 old) (key : Key) where
   knows : m0.0.book ≡ entries_of old
@@ -48,7 +48,7 @@ module _ (named t0 : TableId) (m0 : Seen) (old : Depot) (keeper : IsKeeper named
   pub put_kept : (new : Depot) (more : List ℕ) → Puts old key more new → (him : Seen) (c : Claim) → him ≡ (token Draft c, []) → key.slot ≡ c.slot → Agrees m0.0.book him
       → (t1 t2 t3 : TableId) (m1 m2 m3 : Seen) → t1 ≡ t0 → m1 ≡ (keeping m0.0.book him.0.kind him.0.claim, []) → t2 ≡ t1 → m2 ≡ (put m1.0 more, []) → t3 ≡ t2 → m3 ≡ (resting m2.0.book, []) → IsKeeper named t3 m3 new
   put_kept new more p him c is place agrees t1 t2 t3 m1 m2 m3 same1 is1 same2 is2 same3 is3 =
-      let there = told m0.0.book him Draft c (λ e. absurd (cc)) is agrees in
+      let there = claims_entry m0.0.book him Draft c (λ e. absurd (cc)) is agrees in
       let now : m1 ≡ (keeping m0.0.book Draft c, []) = is1 ∙ ap (λ (m : Seen). (keeping m0.0.book m.0.kind m.0.claim, [])) is in
       let e = agreed old m0.0.book key.slot c.slot _ _ knows (sym place) there.1 (used old key _ p.draft (λ q. cc)) in
       kept_on named t0 t3 m0 m3 old new key.slot _ m0.0.book c.slot (entry Drafted c.generation (c.bytes ++ more)) keeper (puts_turned old key more new p)
@@ -58,7 +58,7 @@ module _ (named t0 : TableId) (m0 : Seen) (old : Depot) (keeper : IsKeeper named
   pub seal_kept : (new : Depot) (n : ℕ) → 1 ≤ n → Seals old key n new → (him : Seen) (c : Claim) → him ≡ (token Draft c, []) → key.slot ≡ c.slot → Agrees m0.0.book him
       → (w : ℕ) (t1 t2 t3 : TableId) (m1 m2 m3 : Seen) → t1 ≡ t0 → m1 ≡ (keeping m0.0.book him.0.kind him.0.claim, []) → t2 ≡ t1 → m2 ≡ (sealed m1.0 w, []) → t3 ≡ t2 → m3 ≡ (resting m2.0.book, []) → IsKeeper named t3 m3 new
   seal_kept new n some s him c is place agrees w t1 t2 t3 m1 m2 m3 same1 is1 same2 is2 same3 is3 =
-      let there = told m0.0.book him Draft c (λ e. absurd (cc)) is agrees in
+      let there = claims_entry m0.0.book him Draft c (λ e. absurd (cc)) is agrees in
       let now : m1 ≡ (keeping m0.0.book Draft c, []) = is1 ∙ ap (λ (m : Seen). (keeping m0.0.book m.0.kind m.0.claim, [])) is in
       let e = agreed old m0.0.book key.slot c.slot _ _ knows (sym place) there.1 (used old key _ s.draft (λ q. cc)) in
       kept_on named t0 t3 m0 m3 old new key.slot _ m0.0.book c.slot (entry Sealed c.generation c.bytes) keeper (seals_turned old key n new some s)
@@ -74,6 +74,6 @@ module _ (named t0 : TableId) (m0 : Seen) (old : Depot) (keeper : IsKeeper named
   -- the arena holds a joined hold's or Spent's message
   pub sealed_joined : (him : Seen) (k : Kind) (c : Claim) → k ≢ Nothing → phase_of k ≡ Sealed → him ≡ (token k c, []) → key.slot ≡ c.slot → key.generation ≡ c.generation → Agrees m0.0.book him → IsSealed old key c.bytes
   sealed_joined him k c some_kind phase is place generation agrees =
-      let there = told m0.0.book him k c some_kind is agrees in
+      let there = claims_entry m0.0.book him k c some_kind is agrees in
       sealed_under old key c.bytes m0.0.book knows place there.0
       ((λ n. entry_at m0.0.book (place n)) ∙ there.1 ∙ (λ n. entry (phase n) (sym generation n) c.bytes)) keeper.counts

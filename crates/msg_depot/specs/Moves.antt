@@ -9,11 +9,7 @@ use Rattle.msg_depot.specs.declared.view.Kind.{Kind}
 use Rattle.msg_depot.specs.declared.view.Kind.TheVariants.{Nothing, Draft, Hold, Spent}
 use Rattle.msg_depot.specs.declared.view.Phase.{Phase}
 use Rattle.msg_depot.specs.declared.view.Phase.TheVariants.{Free, Drafted, Sealed, Retired}
-use Rattle.msg_depot.specs.Rules.{entry, no_claim, weighing, token, keeping, resting, word_of, Fits}
-
--- a view that has a hold: a token's, or the keeper's with what it has joined
-abbrev pub holding : Bool → List Entry → Claim → View
-holding b es c = record { keeps = b; book = es; kind = Hold; claim = c }
+use Rattle.msg_depot.specs.Rules.{entry, no_claim, weighing, token, keeping, resting, word_of, MatchesEntry}
 
 -- a hold of weight 1 and the rest of it
 abbrev pub one_less : View → View
@@ -46,7 +42,7 @@ taking v w = record { keeps = v.keeps; book = v.book; kind = w.kind; claim = w.c
 
 -- what the keeper has joined agrees with its entry
 abbrev pub Checked : Step (Unit {0}) → Me (Unit {0}) View → ℕ → Me (Unit {0}) View → Type 0
-Checked st me n me' = (me' ≡ me) × (me.0.keeps ≡ true → Fits me.0.book me.0)
+Checked st me n me' = (me' ≡ me) × (me.0.keeps ≡ true → MatchesEntry me.0.book me.0)
 
 -- a claim by its parts
 abbrev pub claim : ℕ → ℕ → List ℕ → ℕ → Claim

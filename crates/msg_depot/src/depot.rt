@@ -1,6 +1,7 @@
 //! The depot: the keeper behind a lock, and beside it the words on which holds are split and released without the lock.
 
-ghost use Rattle.std.specs.Prelude.{◌≡◌, ◌+◌, ◌-◌, ◌^◌, ◌*◌, ◌<◌, ◌≤◌, ◌++◌, [], length, take, drop, min, replicate, IfOk, IfErr, IfSome};
+ghost use Rattle.std.specs.Prelude.{◌≡◌, ◌+◌, ◌-◌, ◌^◌, ◌*◌, ◌<◌, ◌≤◌, ◌++◌, [], length, take, drop, min, replicate};
+ghost use Rattle.std.specs.Prelude.{IfOk, IfErr, IfSome};
 ghost use Rattle.mail_world.specs.Depot.{last_generation, Free};
 ghost use Rattle.msg_depot.specs.Rules.{word_of};
 
@@ -55,7 +56,8 @@ impl Blank {
         requires blocks { (1 ≤ blocks) × (blocks ≤ BLOCK_LIMIT) }
         requires slots { (1 ≤ slots) × (slots ≤ SLOT_LIMIT) }
         requires generation { generation ≤ last_generation }
-        ensures slots { IfOk result (λ b. b.depot.slots ≡ replicate slots (record { generation = generation; held = Free })) }
+        ensures slots { IfOk result
+            (λ b. b.depot.slots ≡ replicate slots (record { generation = generation; held = Free })) }
         ensures free { IfOk result (λ b. length b.depot.free ≡ blocks) }
         ensures words { IfOk result (λ b. b.table.words ≡ word_of slots) }
     {
@@ -139,7 +141,8 @@ impl<N: DepotName> Depot<N> {
     /// Gives a hold of weight 1 up, by one step, and waits for nobody. The last one gives what gives the blocks back.
     pub fn release(&self, hold: Hold<N>) -> Option<Spent<N>>
         requires one { hold.weight ≡ 1 }
-        ensures spent { IfSome result (λ s. (s.slot ≡ hold.slot) × (s.generation ≡ hold.generation) × (s.bytes ≡ hold.bytes)) }
+        ensures spent { IfSome result
+            (λ s. (s.slot ≡ hold.slot) × (s.generation ≡ hold.generation) × (s.bytes ≡ hold.bytes)) }
     {
         hold::release(&self.board, hold)
     }

@@ -11,10 +11,9 @@ ghost use Rattle.msg_depot.specs.Entries.{entry_of, key_of, slot_behind, IsKeepe
 
 use crate::steps;
 use crate::token::{Board, DepotName, Draft, Hold, Place, Spent, seat_of};
-use crate::view::LAST_GENERATION;
 use atomic_table::Badge;
 use block_arena::{Arena, ArenaFault, Key};
-use mail_world::limits::RECIPIENT_LIMIT;
+use mail_world::limits::{LAST_GENERATION, RECIPIENT_LIMIT};
 use std::marker::{Brand, Model, PhantomData};
 use std::mem;
 use thiserror::Error;
@@ -183,10 +182,13 @@ impl<N: DepotName> Keeper<N> {
 
 // The slot of a joined draft, or of a joined message that nobody holds, is free with the next generation, or retired.
 fn free(board: &Board, seat: &mut Place, key: Key)
-    requires seat { (seat.old.table_id ≡ board.now.shared.table_id) × (seat.old.me ≡ (keeping seat.old.me.0.book seat.old.me.0.kind seat.old.me.0.claim, [])) }
-    requires slot { (word_of key.slot < board.now.shared.table_id.words) × (key.slot ≡ seat.old.me.0.claim.slot) × (key.generation ≡ seat.old.me.0.claim.generation) }
+    requires seat { (seat.old.table_id ≡ board.now.shared.table_id)
+        × (seat.old.me ≡ (keeping seat.old.me.0.book seat.old.me.0.kind seat.old.me.0.claim, [])) }
+    requires slot { (word_of key.slot < board.now.shared.table_id.words) × (key.slot ≡ seat.old.me.0.claim.slot)
+        × (key.generation ≡ seat.old.me.0.claim.generation) }
     requires over { IsOver seat.old.me.0.kind }
-    ensures { (seat.new.table_id ≡ seat.old.table_id) × (seat.new.me ≡ (resting (entered seat.old.me.0.book key.slot (entry_of (slot_behind key.generation))), [])) }
+    ensures { (seat.new.table_id ≡ seat.old.table_id)
+        × (seat.new.me ≡ (resting (entered seat.old.me.0.book key.slot (entry_of (slot_behind key.generation))), [])) }
 {
     let slot = key.slot;
     if key.generation < LAST_GENERATION {

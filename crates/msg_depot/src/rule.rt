@@ -8,9 +8,9 @@ use std::marker::{Brand, PhantomData};
 pub struct HoldRule;
 
 impl TableRule<(), View, Opening> for HoldRule {
-    ghost use Rattle.msg_depot.specs.Rules.{Kept, resting, free_slots};
+    ghost use Rattle.msg_depot.specs.Rules.{ObeysHoldRule, resting, free_slots};
 
-    ghost holds = { λ _ s. Kept s.words s.views };
+    ghost holds = { λ _ s. ObeysHoldRule s.words s.views };
 
     ghost first = { λ k. resting (free_slots k.slots k.generation) };
 }

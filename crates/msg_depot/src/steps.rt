@@ -16,10 +16,15 @@ use mail_world::limits::RECIPIENT_LIMIT;
 /// Joins what another seat has, and learns that it agrees with the keeper's entry.
 pub fn take_in(board: &Board, seat: &mut Place, other: Place, slot: u32)
     requires seat { (seat.old.table_id ≡ board.now.shared.table_id) × (seat.old.me ≡ (resting seat.old.me.0.book, [])) }
-    requires other { (other.table_id ≡ board.now.shared.table_id) × (other.me ≡ (token other.me.0.kind other.me.0.claim, [])) }
+    requires other { (other.table_id ≡ board.now.shared.table_id)
+        × (other.me ≡ (token other.me.0.kind other.me.0.claim, [])) }
     requires slot { word_of slot < board.now.shared.table_id.words }
-    ensures seat { (seat.new.table_id ≡ seat.old.table_id) × (seat.new.me ≡ (keeping seat.old.me.0.book other.me.0.kind other.me.0.claim, [])) }
-    ensures agrees { other.me.0.kind ≢ Nothing → (other.me.0.claim.slot < length seat.old.me.0.book) × (entry_at seat.old.me.0.book other.me.0.claim.slot ≡ entry (phase_of other.me.0.kind) other.me.0.claim.generation other.me.0.claim.bytes) }
+    ensures seat { (seat.new.table_id ≡ seat.old.table_id)
+        × (seat.new.me ≡ (keeping seat.old.me.0.book other.me.0.kind other.me.0.claim, [])) }
+    ensures agrees { other.me.0.kind ≢ Nothing
+        → (other.me.0.claim.slot < length seat.old.me.0.book)
+        × (entry_at seat.old.me.0.book other.me.0.claim.slot
+        ≡ entry (phase_of other.me.0.kind) other.me.0.claim.generation other.me.0.claim.bytes) }
 {
     board.shared.join_seat::<In>(seat, other);
     board.shared.load::<Checks>(seat, word_at(slot));
@@ -27,10 +32,12 @@ pub fn take_in(board: &Board, seat: &mut Place, other: Place, slot: u32)
 
 /// Splits off what was joined.
 pub fn hand_out(board: &Board, seat: &mut Place, slot: u32) -> Place
-    requires seat { (seat.old.table_id ≡ board.now.shared.table_id) × (seat.old.me ≡ (keeping seat.old.me.0.book seat.old.me.0.kind seat.old.me.0.claim, [])) }
+    requires seat { (seat.old.table_id ≡ board.now.shared.table_id)
+        × (seat.old.me ≡ (keeping seat.old.me.0.book seat.old.me.0.kind seat.old.me.0.claim, [])) }
     requires slot { word_of slot < board.now.shared.table_id.words }
     ensures seat { (seat.new.table_id ≡ seat.old.table_id) × (seat.new.me ≡ (resting seat.old.me.0.book, [])) }
-    ensures result { (result.table_id ≡ seat.old.table_id) × (result.me ≡ (token seat.old.me.0.kind seat.old.me.0.claim, [])) }
+    ensures result { (result.table_id ≡ seat.old.table_id)
+        × (result.me ≡ (token seat.old.me.0.kind seat.old.me.0.claim, [])) }
 {
     board.shared.split_seat::<Off>(seat)
 }
@@ -48,7 +55,8 @@ pub fn begin(board: &Board, seat: &mut Place, slot: u32)
 /// Adds bytes to a joined draft.
 pub fn put_bytes<B: Piece>(board: &Board, seat: &mut Place, slot: u32, piece: &[u8])
     requires piece { piece.now ≡ B.bytes }
-    requires seat { (seat.old.table_id ≡ board.now.shared.table_id) × (seat.old.me ≡ (keeping seat.old.me.0.book Draft seat.old.me.0.claim, [])) }
+    requires seat { (seat.old.table_id ≡ board.now.shared.table_id)
+        × (seat.old.me ≡ (keeping seat.old.me.0.book Draft seat.old.me.0.claim, [])) }
     requires slot { (word_of slot < board.now.shared.table_id.words) × (slot ≡ seat.old.me.0.claim.slot) }
     ensures { (seat.new.table_id ≡ seat.old.table_id) × (seat.new.me ≡ (put seat.old.me.0 piece.now, [])) }
 {
@@ -57,7 +65,8 @@ pub fn put_bytes<B: Piece>(board: &Board, seat: &mut Place, slot: u32, piece: &[
 
 /// Makes a joined draft a hold of this weight.
 pub fn seal(board: &Board, seat: &mut Place, slot: u32, weight: u64)
-    requires seat { (seat.old.table_id ≡ board.now.shared.table_id) × (seat.old.me ≡ (keeping seat.old.me.0.book Draft seat.old.me.0.claim, [])) }
+    requires seat { (seat.old.table_id ≡ board.now.shared.table_id)
+        × (seat.old.me ≡ (keeping seat.old.me.0.book Draft seat.old.me.0.claim, [])) }
     requires slot { (word_of slot < board.now.shared.table_id.words) × (slot ≡ seat.old.me.0.claim.slot) }
     requires weight { (0 < weight) × (weight ≤ RECIPIENT_LIMIT) }
     ensures { (seat.new.table_id ≡ seat.old.table_id) × (seat.new.me ≡ (sealed seat.old.me.0 weight, [])) }
@@ -67,7 +76,8 @@ pub fn seal(board: &Board, seat: &mut Place, slot: u32, weight: u64)
 
 /// Frees the slot of a joined draft, or of a message that nobody holds.
 pub fn free(board: &Board, seat: &mut Place, slot: u32)
-    requires seat { (seat.old.table_id ≡ board.now.shared.table_id) × (seat.old.me ≡ (keeping seat.old.me.0.book seat.old.me.0.kind seat.old.me.0.claim, [])) }
+    requires seat { (seat.old.table_id ≡ board.now.shared.table_id)
+        × (seat.old.me ≡ (keeping seat.old.me.0.book seat.old.me.0.kind seat.old.me.0.claim, [])) }
     requires slot { (word_of slot < board.now.shared.table_id.words) × (slot ≡ seat.old.me.0.claim.slot) }
     requires over { IsOver seat.old.me.0.kind }
     requires generation { seat.old.me.0.claim.generation < last_generation }
@@ -80,7 +90,8 @@ pub fn free(board: &Board, seat: &mut Place, slot: u32)
 
 /// The same, and the slot is retired.
 pub fn retire(board: &Board, seat: &mut Place, slot: u32)
-    requires seat { (seat.old.table_id ≡ board.now.shared.table_id) × (seat.old.me ≡ (keeping seat.old.me.0.book seat.old.me.0.kind seat.old.me.0.claim, [])) }
+    requires seat { (seat.old.table_id ≡ board.now.shared.table_id)
+        × (seat.old.me ≡ (keeping seat.old.me.0.book seat.old.me.0.kind seat.old.me.0.claim, [])) }
     requires slot { (word_of slot < board.now.shared.table_id.words) × (slot ≡ seat.old.me.0.claim.slot) }
     requires over { IsOver seat.old.me.0.kind }
     ensures { (seat.new.table_id ≡ seat.old.table_id) × (seat.new.me ≡ (freed seat.old.me.0 Retired 0, [])) }

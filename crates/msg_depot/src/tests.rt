@@ -4,7 +4,7 @@ ghost use Rattle.std.specs.Prelude.{◌≡◌, ◌≤◌, IfSome};
 ghost use Rattle.mail_world.specs.declared.limits.TheConstants.{RECIPIENT_LIMIT};
 
 use super::*;
-use crate::view::LAST_GENERATION;
+use mail_world::limits::LAST_GENERATION;
 use std::marker::Brand;
 use std::process::Abort;
 use std::sync::Wait;

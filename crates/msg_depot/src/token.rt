@@ -96,7 +96,8 @@ impl<N: DepotName> Model for Spent<N> {
 // The seat of a token's badge.
 pub(crate) fn seat_of(badge: Badge<View>) -> Place
     requires { badge.views ≡ token (kind_of badge.views) (claim_of badge.views) ∷ [] }
-    ensures { (result.table_id ≡ badge.table_id) × (result.me ≡ (token (kind_of badge.views) (claim_of badge.views), [])) }
+    ensures { (result.table_id ≡ badge.table_id)
+        × (result.me ≡ (token (kind_of badge.views) (claim_of badge.views), [])) }
 {
     badge.into_seat()
 }

@@ -5,9 +5,6 @@ use std::collections::LinkedList;
 /// What one generation counts for in the word of a slot. The slot's weight stays below it.
 pub const GENERATION_UNIT: u64 = 65_536;
 
-/// The last generation of a slot, which is retired behind it.
-pub const LAST_GENERATION: u64 = 281_474_976_710_655;
-
 /// What a slot is in use for.
 pub enum Phase {
     Free,

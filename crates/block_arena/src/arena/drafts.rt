@@ -1,6 +1,7 @@
 //! Calls on drafts.
 
-ghost use Rattle.std.specs.Prelude.{◌≡◌, ℕ, ◌≤◌, ◌<◌, ◌+◌, ◌-◌, ◌*◌, ◌/◌, ◌%◌, ◌++◌, [], length, take, drop, IfOk, IfErr};
+ghost use Rattle.std.specs.Prelude.{◌≡◌, ℕ, ◌≤◌, ◌<◌, ◌+◌, ◌-◌, ◌*◌, ◌/◌, ◌%◌, ◌++◌, [], length, take, drop, IfOk};
+ghost use Rattle.std.specs.Prelude.{IfErr};
 ghost use Rattle.mail_world.specs.Depot.{held_under, HasRoom, Puts, Seals, Cancels};
 ghost use Rattle.block_arena.specs.Calls.{depot_key, RefusesDraft, IsDraft};
 ghost use Rattle.block_arena.specs.Fields.{longer, linked_run, linked_next};
@@ -11,7 +12,8 @@ impl Arena {
     /// Adds bytes at the draft's end.
     pub fn put(&mut self, key: Key, bytes: &[u8]) -> Result<(), ArenaFault>
         ensures done { IfOk result (λ _. Puts self.old (depot_key key) bytes.now self.new) }
-        ensures fault { IfErr result (λ f. RefusesDraft (¬ HasRoom self.old (depot_key key) bytes.now) (held_under self.old (depot_key key)) f) }
+        ensures fault { IfErr result
+            (λ f. RefusesDraft (¬ HasRoom self.old (depot_key key) bytes.now) (held_under self.old (depot_key key)) f) }
         ensures same { IfErr result (λ _. self.new ≡ self.old) }
     {
         match content_under(&self.slots, key) {

@@ -9,11 +9,14 @@ ghost use Rattle.block_arena.specs.Calls.{depot_key, RefusesMessage, IsMessage, 
 use super::*;
 
 impl Arena {
-    /// Copies the bytes from `at` to the front of `out`, as many as there are and fit, and says how many. Reading on is fast.
+    /// Copies the bytes from `at` to the front of `out`, as many as there are and fit, and says how many. Reading on is
+    /// fast.
     pub fn copy_out(&mut self, key: Key, at: usize, out: &mut [u8]) -> Result<usize, ArenaFault>
         ensures message { IfOk result (λ _. IsMessage (held_under self.old (depot_key key))) }
-        ensures count { IfOk result (λ n. n ≡ min (length out.old) (length (bytes_of (held_under self.old (depot_key key))) - at)) }
-        ensures bytes { IfOk result (λ n. out.new ≡ take n (drop at (bytes_of (held_under self.old (depot_key key)))) ++ drop n out.old) }
+        ensures count { IfOk result
+            (λ n. n ≡ min (length out.old) (length (bytes_of (held_under self.old (depot_key key))) - at)) }
+        ensures bytes { IfOk result
+            (λ n. out.new ≡ take n (drop at (bytes_of (held_under self.old (depot_key key)))) ++ drop n out.old) }
         ensures end { IfOk result (λ n. at + n < 2 ^ 64) }
         ensures fault { IfErr result (λ f. RefusesMessage (held_under self.old (depot_key key)) f) }
         ensures same { IfErr result (λ _. out.new ≡ out.old) }
@@ -61,7 +64,8 @@ impl Arena {
     }
 }
 
-/// Where n blocks stand before, if there are so many. It is looked for from where the run was read last, or from its front.
+/// Where n blocks stand before, if there are so many. It is looked for from where the run was read last, or from its
+/// front.
 fn place_at(next: &[u32], run: Run, n: usize) -> Place
     requires low { AllByRecursion (λ b. b < length next.now) (blocks_in next.now run) }
     requires few { run.blocks ≤ BLOCK_LIMIT }

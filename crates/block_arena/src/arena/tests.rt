@@ -6,14 +6,14 @@ use std::test::Fail;
 fn three_blocks_and_two_slots(rt: HostRuntime) -> Result<(), Fail> {
     let mut arena = Arena::new(rt.alloc(), 3, 2)?;
     let first = arena.begin().expect(&rt, "a slot");
-    assert!(rt; arena.put(first, &[7; 513]) == Ok(()));
+    assert!(rt; arena.put(first, &[7; BLOCK_SIZE + 1]) == Ok(()));
     assert!(rt; arena.free_blocks() == 1);
     let second = arena.begin().expect(&rt, "a slot");
-    assert!(rt; arena.put(second, &[8; 512]) == Ok(()));
+    assert!(rt; arena.put(second, &[8; BLOCK_SIZE]) == Ok(()));
     assert!(rt; arena.free_blocks() == 0);
     assert!(rt; arena.begin() == None);
     assert!(rt; arena.put(second, &[9]) == Err(ArenaFault::Full));
-    assert!(rt; arena.length(second) == 512);
+    assert!(rt; arena.length(second) == BLOCK_SIZE);
     assert!(rt; arena.seal(first, 2) == Ok(()));
     assert!(rt; arena.holds(first) == 2);
     assert!(rt; arena.give_back(first, 1) == Ok(false));
@@ -47,7 +47,7 @@ fn faults_in_their_order(rt: HostRuntime) -> Result<(), Fail> {
         generation: 7,
     };
     for (key, fault) in [(sealed, ArenaFault::Sealed), (stale, ArenaFault::Stale)] {
-        assert!(rt; arena.put(key, &[1; 512]) == Err(fault));
+        assert!(rt; arena.put(key, &[1; BLOCK_SIZE]) == Err(fault));
         assert!(rt; arena.seal(key, 1) == Err(fault));
         assert!(rt; arena.drop_draft(key) == Err(fault));
     }
@@ -69,6 +69,9 @@ fn the_last_generation_retires_its_slot(rt: HostRuntime) -> Result<(), Fail> {
     Ok(())
 }
 
+/// A message of four blocks, the last of which has one byte.
+const LONG: usize = 3 * BLOCK_SIZE + 1;
+
 #[test]
 fn every_slot_and_block_is_used_again(rt: HostRuntime) -> Result<(), Fail> {
     let mut arena = Arena::new(rt.alloc(), 64, 16)?;
@@ -76,7 +79,7 @@ fn every_slot_and_block_is_used_again(rt: HostRuntime) -> Result<(), Fail> {
         let mut keys = Vec::with_capacity(rt.alloc(), 16)?;
         for n in 0..16u8 {
             let key = arena.begin().expect(&rt, "a slot");
-            let text = [n * 4 + round; 1537];
+            let text = [n * 4 + round; LONG];
             assert!(rt; arena.put(key, &text) == Ok(()));
             assert!(rt; arena.seal(key, 1) == Ok(()));
             keys.push(key)?;
@@ -86,9 +89,9 @@ fn every_slot_and_block_is_used_again(rt: HostRuntime) -> Result<(), Fail> {
         for n in 0..16u8 {
             let other = (n * 5 + 3) % 16;
             let key = *keys.get(other as usize).expect(&rt, "a key");
-            let mut out = [0; 1537];
-            assert!(rt; arena.copy_out(key, 0, &mut out) == Ok(1537));
-            assert!(rt; out == [other * 4 + round; 1537]);
+            let mut out = [0; LONG];
+            assert!(rt; arena.copy_out(key, 0, &mut out) == Ok(LONG));
+            assert!(rt; out == [other * 4 + round; LONG]);
             assert!(rt; arena.holds(key) == 1);
             assert!(rt; arena.give_back(key, 1) == Ok(true));
         }
@@ -99,7 +102,13 @@ fn every_slot_and_block_is_used_again(rt: HostRuntime) -> Result<(), Fail> {
 
 const MEBIBYTE: usize = 1_048_576;
 
-const PUT: [usize; 5] = [1, 511, 512, 513, 4096];
+const PUT: [usize; 5] = [
+    1,
+    BLOCK_SIZE - 1,
+    BLOCK_SIZE,
+    BLOCK_SIZE + 1,
+    8 * BLOCK_SIZE,
+];
 
 const COPIED: [usize; 4] = [700, 3, 8192, 512];
 
@@ -109,7 +118,7 @@ fn a_mebibyte_in_pieces(rt: HostRuntime) -> Result<(), Fail> {
     for i in 0..MEBIBYTE {
         text.push((i % 251) as u8)?;
     }
-    let mut arena = Arena::new(rt.alloc(), 2049, 2)?;
+    let mut arena = Arena::new(rt.alloc(), (MEBIBYTE / BLOCK_SIZE) as u32 + 1, 2)?;
     let other = arena.begin().expect(&rt, "a slot");
     let draft = arena.begin().expect(&rt, "a slot");
     assert!(rt; arena.put(other, &[5; 100]) == Ok(()));

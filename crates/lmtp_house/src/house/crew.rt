@@ -1,6 +1,7 @@
 //! Threads that each run one task, and what their results say.
 
-ghost use Rattle.std.specs.Prelude.{◌≡◌, ◌∷◌, ◌++◌, [], ◌<◌, ◌≤◌, IfOk, OnOk, OnErr, length, vec_len, vec_capacity, map};
+ghost use Rattle.std.specs.Prelude.{◌≡◌, ◌∷◌, ◌++◌, [], ◌<◌, ◌≤◌, IfOk, OnOk, OnErr, length, vec_len, vec_capacity};
+ghost use Rattle.std.specs.Prelude.{map};
 ghost use Rattle.std.specs.List.{AllZip, AllByRecursion};
 ghost use Rattle.lmtp_house.specs.HouseCrew.{CrewState};
 
@@ -48,9 +49,13 @@ pub struct Crew<T: Task> {
 impl<T: Task> Model for Crew<T> {
     ghost Value = { CrewState T };
 
-    ghost view = { λ c. record { tasks = map (λ h. h.promise.0.value) c.handles.items; room = vec_capacity c.results } };
+    ghost view = { λ c. record {
+      tasks = map (λ h. h.promise.0.value) c.handles.items;
+      room = vec_capacity c.results;
+    } };
 
-    ghost invariant = { λ c. (c.results.items ≡ []) × (vec_len c.handles ≤ vec_capacity c.results) × (vec_capacity c.results ≤ vec_capacity c.handles) };
+    ghost invariant = { λ c. (c.results.items ≡ []) × (vec_len c.handles ≤ vec_capacity c.results)
+        × (vec_capacity c.results ≤ vec_capacity c.handles) };
 }
 
 impl<T: Task> Crew<T> {

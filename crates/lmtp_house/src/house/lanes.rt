@@ -1,6 +1,7 @@
 //! The lanes of a server.
 
-ghost use Rattle.std.specs.Prelude.{◌≡◌, ◌<◌, ◌≤◌, ◌||◌, ◌++◌, [], ◌∷◌, false, IfOk, length, vec_len, vec_capacity, map};
+ghost use Rattle.std.specs.Prelude.{◌≡◌, ◌<◌, ◌≤◌, ◌||◌, ◌++◌, [], ◌∷◌, false, IfOk, length, vec_len, vec_capacity};
+ghost use Rattle.std.specs.Prelude.{map};
 ghost use Rattle.std.specs.List.{AllZip, AllByRecursion};
 ghost use Rattle.std.specs.Arc.{arc_value};
 ghost use Rattle.lmtp_house.specs.HouseGrid.{lists, IsRoom};
@@ -37,7 +38,15 @@ impl<N: DepotName, V: Visits, C: Clock> Model for LaneJob<N, V, C> {
 
     ghost Value = { LaneTask V C };
 
-    ghost view = { λ j. record { lane = j.lane; site = arc_value j.site; desk_site = j.desk.dialogue.session.site; clock = arc_value j.clock; visits = j.visits; senders = j.senders.items; slips = j.slips } };
+    ghost view = { λ j. record {
+      lane = j.lane;
+      site = arc_value j.site;
+      desk_site = j.desk.dialogue.session.site;
+      clock = arc_value j.clock;
+      visits = j.visits;
+      senders = j.senders.items;
+      slips = j.slips;
+    } };
 }
 
 impl<N, V, C> Task for LaneJob<N, V, C>
@@ -51,7 +60,8 @@ where
 
     ghost ready = { λ job. IsLaneReady V.out job };
 
-    ghost done = { λ job r. HasServed job.site job.lane (C.May job.clock) (V.MayGive job.visits) (V.finished job.visits) (V.finished r.visits) (V.over r.visits)
+    ghost done = { λ job r. HasServed job.site job.lane (C.May job.clock) (V.MayGive job.visits) (V.finished job.visits)
+        (V.finished r.visits) (V.over r.visits)
         job.senders r.senders.items job.slips r.slips r.conversations r.gone };
 
     fn run<R: Wait>(self, rt: &R) -> LaneReport<N, V> {
@@ -81,7 +91,8 @@ fn lane_job<N: DepotName, V: Visits, C: Clock>(
     senders: Vec<Sender<N>>,
     slips: SlipReceiver,
 ) -> Result<LaneJob<N, V, C>, AllocError>
-    ensures { IfOk result (λ job. job ≡ lane_task (arc_value site.now) (arc_value clock.now) lane visits senders.items slips) }
+    ensures { IfOk result (λ job. job
+        ≡ lane_task (arc_value site.now) (arc_value clock.now) lane visits senders.items slips) }
 {
     Ok(LaneJob {
         lane,
@@ -108,7 +119,8 @@ pub fn lane_jobs<N: DepotName, V: Visits, C: Clock>(
     requires few { vec_len visits ≤ LANE_LIMIT }
     requires rows { vec_len rows ≡ vec_len visits }
     requires takers { vec_len takers ≡ vec_len visits }
-    ensures { IfOk result (λ jobs. jobs.items ≡ lane_tasks (arc_value site.now) (arc_value clock.now) 0 visits.items (lists rows.items) takers.items) }
+    ensures { IfOk result (λ jobs. jobs.items
+        ≡ lane_tasks (arc_value site.now) (arc_value clock.now) 0 visits.items (lists rows.items) takers.items) }
 {
     let mut rows = rows.into_iter();
     let mut takers = takers.into_iter();
@@ -166,10 +178,13 @@ impl<N: DepotName, V: Visits> LaneEnds<N, V> {
         ensures visits { self.new.visits.items ≡ self.old.visits.items ++ report.visits ∷ [] }
         ensures senders { lists self.new.senders.items ≡ lists self.old.senders.items ++ report.senders.items ∷ [] }
         ensures slips { self.new.slips.items ≡ self.old.slips.items ++ report.slips ∷ [] }
-        ensures conversations { self.new.conversations.items ≡ self.old.conversations.items ++ report.conversations ∷ [] }
+        ensures conversations { self.new.conversations.items
+            ≡ self.old.conversations.items ++ report.conversations ∷ [] }
         ensures gone { self.new.gone ≡ (self.old.gone || report.gone) }
-        ensures room { (vec_capacity self.old.visits ≤ vec_capacity self.new.visits) × (vec_capacity self.old.senders ≤ vec_capacity self.new.senders)
-            × (vec_capacity self.old.slips ≤ vec_capacity self.new.slips) × (vec_capacity self.old.conversations ≤ vec_capacity self.new.conversations) }
+        ensures room { (vec_capacity self.old.visits ≤ vec_capacity self.new.visits)
+            × (vec_capacity self.old.senders ≤ vec_capacity self.new.senders)
+            × (vec_capacity self.old.slips ≤ vec_capacity self.new.slips)
+            × (vec_capacity self.old.conversations ≤ vec_capacity self.new.conversations) }
     {
         self.visits.push_reserved(report.visits);
         self.senders.push_reserved(report.senders);
@@ -227,7 +242,8 @@ where
 
     ghost view = { λ l. l.jobs.items };
 
-    ghost invariant = { λ l. (l.crew ≡ record { tasks = []; room = vec_len l.jobs }) × IsRoom (vec_len l.jobs) l.ends.visits × IsRoom (vec_len l.jobs) l.ends.senders
+    ghost invariant = { λ l. (l.crew ≡ record { tasks = []; room = vec_len l.jobs })
+        × IsRoom (vec_len l.jobs) l.ends.visits × IsRoom (vec_len l.jobs) l.ends.senders
         × IsRoom (vec_len l.jobs) l.ends.slips × IsRoom (vec_len l.jobs) l.ends.conversations };
 }
 
@@ -255,7 +271,9 @@ where
         rt: R,
     ) -> Result<LaneEnds<N, V>, Refused>
         requires { AllByRecursion (IsLaneReady V.out) self }
-        ensures { IfOk result (λ ends. ends.gone ≡ false → HaveServedAll C.May V.MayGive V.finished V.over self ends.visits.items (lists ends.senders.items) ends.slips.items ends.conversations.items) }
+        ensures { IfOk result (λ ends. ends.gone ≡ false
+            → HaveServedAll C.May V.MayGive V.finished V.over self ends.visits.items
+            (lists ends.senders.items) ends.slips.items ends.conversations.items) }
     {
         let Lanes {
             jobs,

@@ -5,9 +5,9 @@ ghost use Rattle.std.specs.Arc.{arc_value};
 ghost use Rattle.mail_world.specs.declared.limits.TheConstants.{LANE_LIMIT};
 ghost use Rattle.lmtp_house.specs.HousePlan.{IsPlanned, MayRun, HasRunAll};
 
+use crate::house::channels::{Closing, open_channels, settle_all};
 use crate::house::fault::HouseFault;
 use crate::house::lanes::{Lanes, lane_jobs};
-use crate::house::lines::{Closing, open_lines, settle_all};
 use crate::house::report::HouseReport;
 use crate::house::workers::{Workers, worker_jobs};
 use box_worker::Gate;
@@ -63,13 +63,14 @@ where
         requires lanes { (0 < length visits.items) × (length visits.items ≤ LANE_LIMIT) }
         requires spools { (0 < length spools.items) × (length spools.items ≡ length (arc_value site.now).boxes) }
         requires gates { length gates.items ≡ length spools.items }
-        ensures { IfOk result (λ plan. IsPlanned (arc_value site.now) (arc_value clock.now) visits.items spools.items plan.lanes plan.workers plan.mail plan.slips) }
+        ensures { IfOk result (λ plan. IsPlanned (arc_value site.now)
+            (arc_value clock.now) visits.items spools.items plan.lanes plan.workers plan.mail plan.slips) }
     {
         let lanes = visits.len();
         let box_count = site.box_count();
         let boxes = box_count as usize;
-        let (rows, receivers) = open_lines::<Post<N>>(alloc, capacity, lanes as u32, boxes)?;
-        let (slip_rows, takers) = open_lines::<Slip>(alloc, RECIPIENT_LIMIT, box_count, lanes)?;
+        let (rows, receivers) = open_channels::<Post<N>>(alloc, capacity, lanes as u32, boxes)?;
+        let (slip_rows, takers) = open_channels::<Slip>(alloc, RECIPIENT_LIMIT, box_count, lanes)?;
         let lane_jobs = lane_jobs(alloc, site, clock, depot, visits, rows, takers)?;
         let worker_jobs = worker_jobs(alloc, site, depot, receivers, slip_rows, spools, gates)?;
         Ok(Plan {
@@ -87,7 +88,8 @@ where
         depot: &Depot<N>,
     ) -> Result<HouseReport<V, S, G>, HouseFault>
         requires { MayRun V.out self.lanes self.workers self.mail self.slips }
-        ensures ran { IfOk result (λ report. HasRunAll C.May V.MayGive V.finished V.over S.state self.lanes self.workers self.mail self.slips
+        ensures ran { IfOk result
+            (λ report. HasRunAll C.May V.MayGive V.finished V.over S.state self.lanes self.workers self.mail self.slips
             report.visits.items report.spools.items report.conversations.items report.tallies.items) }
         ensures not_size { result ≢ Err HouseFault.Size }
     {

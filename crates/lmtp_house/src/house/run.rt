@@ -20,8 +20,8 @@ use std::marker::Brand;
 use std::sync::{Arc, Wait};
 use std::thread::Threads;
 
-/// Runs a server until its lanes have no more clients: a lane for each of the visits, and for each mailbox of the site a worker with its spool and its
-/// gate, each in a thread of its own. All memory is taken first.
+/// Runs a server until its lanes have no more clients: a lane for each of the visits, and for each mailbox of the site
+/// a worker with its spool and its gate, each in a thread of its own. All memory is taken first.
 pub fn run_house<V, S, G, C, R>(
     rt: R,
     alloc: Global,
@@ -41,8 +41,10 @@ where
     R: Threads + Wait + Copy + Send + 'static,
     requires none_out { AllByRecursion (λ v. V.out v ≡ false) visits.items }
     ensures ran { IfOk result (λ report. HasRun (arc_value site) (C.May clock) V.MayGive V.finished V.over S.state
-        visits.items report.visits.items spools.items report.spools.items report.conversations.items report.tallies.items) }
-    ensures size { result ≡ Err HouseFault.Size ↔ ¬ IsSize (arc_value site) sizes (length visits.items) (length spools.items) (length gates.items) }
+        visits.items report.visits.items spools.items report.spools.items
+        report.conversations.items report.tallies.items) }
+    ensures size { result ≡ Err HouseFault.Size
+        ↔ ¬ IsSize (arc_value site) sizes (length visits.items) (length spools.items) (length gates.items) }
 {
     if !is_size(&site, sizes, visits.len(), spools.len(), gates.len()) {
         return Err(HouseFault::Size);
@@ -81,8 +83,10 @@ where
     requires spools { (0 < length spools.items) × (length spools.items ≡ length (arc_value site).boxes) }
     requires gates { length gates.items ≡ length spools.items }
     requires none_out { AllByRecursion (λ v. V.out v ≡ false) visits.items }
-    ensures ran { IfOk result (λ report. HasRun (arc_value site) (C.May (arc_value clock)) V.MayGive V.finished V.over S.state
-        visits.items report.visits.items spools.items report.spools.items report.conversations.items report.tallies.items) }
+    ensures ran { IfOk result
+        (λ report. HasRun (arc_value site) (C.May (arc_value clock)) V.MayGive V.finished V.over S.state
+        visits.items report.visits.items spools.items report.spools.items
+        report.conversations.items report.tallies.items) }
     ensures not_size { result ≢ Err HouseFault.Size }
 {
     let depot = Arc::new(alloc, blank.open::<N>())?;

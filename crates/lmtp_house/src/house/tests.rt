@@ -123,8 +123,8 @@ fn a_server_has_its_size(rt: HostRuntime) -> Result<(), Fail> {
 const RECORD: &[u8] =
     b"From carl@a.example Thu Jan  1 00:00:00 1970\nReturn-Path: <carl@a.example>\nReceived: from relay.example\n\tby mx.example with LMTP id 0-1;\n\tThu, 1 Jan 1970 00:00:00 +0000\nSubject: hi\n\nhello\n\n";
 
-/// What the relay says, what it hears, the room of ben's spool, how many records anna's spool holds and how many of them are
-/// stored, and what ben's spool holds.
+/// What the relay says, what it hears, the room of ben's spool, how many records anna's spool holds and how many of
+/// them are stored, and what ben's spool holds.
 type Run<'a> = (&'a [u8], &'a [u8], usize, u64, &'a [u8]);
 
 const RUNS: [Run; 3] = [

@@ -1,11 +1,13 @@
 //! The workers of a server.
 
-ghost use Rattle.std.specs.Prelude.{◌≡◌, ◌<◌, ◌≤◌, ◌||◌, ◌++◌, [], ◌∷◌, false, IfOk, length, vec_len, vec_capacity, map};
+ghost use Rattle.std.specs.Prelude.{◌≡◌, ◌<◌, ◌≤◌, ◌||◌, ◌++◌, [], ◌∷◌, false, IfOk, length, vec_len, vec_capacity};
+ghost use Rattle.std.specs.Prelude.{map};
 ghost use Rattle.std.specs.List.{AllByRecursion};
 ghost use Rattle.std.specs.Arc.{arc_value};
 ghost use Rattle.lmtp_text.specs.Calendar.{civil_at};
 ghost use Rattle.box_worker.specs.Told.{worker_of};
-ghost use Rattle.box_worker.specs.Worked.{HasWorked};
+ghost use Rattle.box_worker.specs.Stored.{kept};
+ghost use Rattle.box_worker.specs.Worked.{idle, HasWorked};
 ghost use Rattle.lmtp_house.specs.HouseGrid.{lists, IsRoom};
 ghost use Rattle.lmtp_house.specs.HouseTasks.{box_task, box_tasks, tally_of, IsBoxReady, HaveWorkedAll};
 
@@ -38,7 +40,12 @@ impl<N: DepotName, S: Spool + Drop, G: Gate + Drop> Model for WorkerJob<N, S, G>
 
     ghost Value = { BoxTask S };
 
-    ghost view = { λ j. record { host = (arc_value j.site).host; receiver = j.receiver; slips = j.slips.items; spool = j.spool } };
+    ghost view = { λ j. record {
+      host = (arc_value j.site).host;
+      receiver = j.receiver;
+      slips = j.slips.items;
+      spool = j.spool;
+    } };
 }
 
 impl<N, S, G> Task for WorkerJob<N, S, G>
@@ -51,7 +58,15 @@ where
 
     ghost ready = { λ job. IsBoxReady job };
 
-    ghost done = { λ job r. HasWorked civil_at job.host (worker_of job.slips) job.receiver r.receiver job.slips r.slips.items (S.state job.spool) (S.state r.spool) r.taken r.stored r.faulty r.lost };
+    ghost done = { λ job r. HasWorked
+        (record { calendar = civil_at; host = job.host; worker = worker_of job.slips }) job.receiver r.receiver
+        (idle job.slips (S.state job.spool))
+        (record {
+          slips = r.slips.items;
+          mailbox = kept (S.state r.spool) r.stored r.faulty;
+          taken = r.taken;
+          lost = r.lost;
+        }) };
 
     fn run<R: Wait>(self, rt: &R) -> WorkerReport<N, S, G> {
         let WorkerJob {
@@ -79,7 +94,8 @@ pub fn worker_jobs<N: DepotName, S: Spool + Drop, G: Gate + Drop>(
     requires rows { vec_len rows ≡ vec_len receivers }
     requires spools { vec_len spools ≡ vec_len receivers }
     requires gates { vec_len gates ≡ vec_len receivers }
-    ensures { IfOk result (λ jobs. jobs.items ≡ box_tasks (arc_value site.now).host receivers.items (lists rows.items) spools.items) }
+    ensures { IfOk result (λ jobs. jobs.items
+        ≡ box_tasks (arc_value site.now).host receivers.items (lists rows.items) spools.items) }
 {
     let mut rows = rows.into_iter();
     let mut spools = spools.into_iter();
@@ -149,10 +165,13 @@ impl<N: DepotName, S: Spool + Drop, G: Gate + Drop> WorkerEnds<N, S, G> {
         ensures slips { lists self.new.slips.items ≡ lists self.old.slips.items ++ report.slips.items ∷ [] }
         ensures spools { self.new.spools.items ≡ self.old.spools.items ++ report.spool ∷ [] }
         ensures gates { self.new.gates.items ≡ self.old.gates.items ++ report.gate ∷ [] }
-        ensures tallies { self.new.tallies.items ≡ self.old.tallies.items ++ tally_of report.taken report.stored report.faulty ∷ [] }
+        ensures tallies { self.new.tallies.items
+            ≡ self.old.tallies.items ++ tally_of report.taken report.stored report.faulty ∷ [] }
         ensures lost { self.new.lost ≡ (self.old.lost || report.lost) }
-        ensures room { (vec_capacity self.old.receivers ≤ vec_capacity self.new.receivers) × (vec_capacity self.old.slips ≤ vec_capacity self.new.slips)
-            × (vec_capacity self.old.spools ≤ vec_capacity self.new.spools) × (vec_capacity self.old.gates ≤ vec_capacity self.new.gates)
+        ensures room { (vec_capacity self.old.receivers ≤ vec_capacity self.new.receivers)
+            × (vec_capacity self.old.slips ≤ vec_capacity self.new.slips)
+            × (vec_capacity self.old.spools ≤ vec_capacity self.new.spools)
+            × (vec_capacity self.old.gates ≤ vec_capacity self.new.gates)
             × (vec_capacity self.old.tallies ≤ vec_capacity self.new.tallies) }
     {
         self.receivers.push_reserved(report.receiver);
@@ -227,8 +246,10 @@ where
 
     ghost view = { λ w. w.jobs.items };
 
-    ghost invariant = { λ w. (w.crew ≡ record { tasks = []; room = vec_len w.jobs }) × IsRoom (vec_len w.jobs) w.ends.receivers × IsRoom (vec_len w.jobs) w.ends.slips
-        × IsRoom (vec_len w.jobs) w.ends.spools × IsRoom (vec_len w.jobs) w.ends.gates × IsRoom (vec_len w.jobs) w.ends.tallies };
+    ghost invariant = { λ w. (w.crew ≡ record { tasks = []; room = vec_len w.jobs })
+        × IsRoom (vec_len w.jobs) w.ends.receivers × IsRoom (vec_len w.jobs) w.ends.slips
+        × IsRoom (vec_len w.jobs) w.ends.spools × IsRoom (vec_len w.jobs) w.ends.gates
+        × IsRoom (vec_len w.jobs) w.ends.tallies };
 }
 
 impl<N, S, G> Model for Working<N, S, G>
@@ -246,7 +267,8 @@ where
     ghost view = { λ w. w.crew.tasks };
 
     ghost invariant = { λ w. IsRoom (length w.crew.tasks) w.ends.receivers × IsRoom (length w.crew.tasks) w.ends.slips
-        × IsRoom (length w.crew.tasks) w.ends.spools × IsRoom (length w.crew.tasks) w.ends.gates × IsRoom (length w.crew.tasks) w.ends.tallies };
+        × IsRoom (length w.crew.tasks) w.ends.spools × IsRoom (length w.crew.tasks) w.ends.gates
+        × IsRoom (length w.crew.tasks) w.ends.tallies };
 }
 
 impl<N, S, G> Workers<N, S, G>
@@ -294,7 +316,9 @@ where
 {
     /// Waits for each worker. Their channels are closed, or their senders are gone.
     pub fn finish<R: Threads>(self, rt: &R) -> WorkerEnds<N, S, G>
-        ensures { result.lost ≡ false → HaveWorkedAll S.state self result.spools.items (lists result.slips.items) result.receivers.items result.tallies.items }
+        ensures { result.lost ≡ false
+            → HaveWorkedAll S.state self result.spools.items
+            (lists result.slips.items) result.receivers.items result.tallies.items }
     {
         let Working { crew, ends } = self;
         ends.take_all(crew.join(rt))

@@ -4,8 +4,8 @@ ghost use Rattle.std.specs.Prelude.{◌≡◌, ◌<◌, false, IfOk, length, map
 ghost use Rattle.std.specs.List.{AllByRecursion};
 ghost use Rattle.lmtp_lane.specs.TcpVisits.{connections_left, reads_each, is_out, share, shares};
 
-use crate::tcp::read_buffer::ReadBuffer;
 use crate::tcp::visits::TcpVisits;
+use lmtp_talk::ReadBuffer;
 use std::alloc::{AllocError, Global};
 use std::sync::Arc;
 

@@ -1,7 +1,5 @@
-//! Clients over streams in memory: what comes of each, and how each is left.
+//! The clients of listeners in memory, and the moments of clocks.
 
 mod clients;
 mod clocks;
-mod closing;
 mod fakes;
-mod peers;

@@ -2,11 +2,8 @@
 
 ghost use Rattle.std.specs.Prelude.{◌≡◌};
 
-use crate::tcp::drain::close;
-use crate::tcp::peer::TcpPeer;
-use crate::tcp::read_buffer::ReadBuffer;
 use crate::visits::Visits;
-use lmtp_talk::EndCause;
+use lmtp_talk::{EndCause, ReadBuffer, TcpPeer};
 use std::io;
 use std::io::{ErrorKind, Read, Write};
 use std::net::{OpenListener, OpenStream};
@@ -133,13 +130,6 @@ where
         requires { is_out self.old ≡ true }
         ensures { TakesBack self.old self.new }
     {
-        let TcpPeer {
-            mut stream,
-            mut buffer,
-            ..
-        } = peer;
-        let waits = !buffer.is_empty();
-        close(&mut stream, &mut buffer.bytes, waits, end);
-        self.buffer = Some(buffer);
+        self.buffer = Some(peer.close(end));
     }
 }

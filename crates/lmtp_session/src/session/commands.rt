@@ -5,7 +5,7 @@ ghost use Rattle.mail_world.specs.Session.{on_command, on_mail, on_rcpt, on_data
 ghost use Rattle.mail_world.specs.Targets.{box_of};
 ghost use Rattle.lmtp_text.specs.Seen.{seen_answer, seen_target};
 ghost use Rattle.lmtp_session.specs.Steps.{TakesLines, IsTaken};
-ghost use Rattle.lmtp_session.specs.Fits.{IsWithinLimits};
+ghost use Rattle.lmtp_session.specs.CommandLimits.{IsWithinLimits};
 
 use crate::act::Act;
 use crate::session::{Session, lists};
@@ -18,7 +18,8 @@ impl Session {
     pub(crate) fn on_command(&mut self, answer: Result<Command, BadCommand>) -> Act
         requires state { TakesLines self.old.session.state }
         requires limits { IsWithinLimits (seen_answer answer) }
-        ensures step { IsTaken self.old (on_command self.old.site self.old.session (seen_answer answer.entry)) result self.new }
+        ensures step { IsTaken self.old
+            (on_command self.old.site self.old.session (seen_answer answer.entry)) result self.new }
         ensures no_memory { self.new.room ≡ self.old.room }
     {
         self.answers.clear();
@@ -68,7 +69,9 @@ impl Session {
     fn on_rcpt(&mut self, target: &Target) -> Act
         requires state { TakesLines self.old.session.state }
         requires no_answer { self.old.answers ≡ [] }
-        ensures step { IsTaken self.old (on_rcpt self.old.session.state self.old.session (box_of self.old.site (seen_target target.now))) result self.new }
+        ensures step { IsTaken self.old
+            (on_rcpt self.old.session.state self.old.session
+            (box_of self.old.site (seen_target target.now))) result self.new }
         ensures no_memory { self.new.room ≡ self.old.room }
     {
         match self.state {

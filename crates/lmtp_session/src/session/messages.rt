@@ -12,7 +12,8 @@ impl Session {
     /// Hands the message on to its recipients, and waits for the outcomes.
     pub(crate) fn deliver(&mut self) -> Act
         requires no_answer { self.old.answers ≡ [] }
-        ensures step { IsTaken self.old (record { replies = []; next = moved_to State.Waiting self.old.session }) result self.new }
+        ensures step { IsTaken self.old
+            (record { replies = []; next = moved_to State.Waiting self.old.session }) result self.new }
         ensures no_memory { self.new.room ≡ self.old.room }
     {
         self.state = State::Waiting;
@@ -22,7 +23,11 @@ impl Session {
     /// Gives each recipient that outcome, and ends the message.
     pub(crate) fn answer_all(&mut self, outcome: Outcome) -> Act
         requires no_answer { self.old.answers ≡ [] }
-        ensures step { IsTaken self.old (record { replies = result_for_all outcome self.old.session.recipients; next = greeted self.old.session.client }) result self.new }
+        ensures step { IsTaken self.old
+            (record {
+              replies = result_for_all outcome self.old.session.recipients;
+              next = greeted self.old.session.client;
+            }) result self.new }
         ensures no_memory { self.new.room ≡ self.old.room }
     {
         lists::push_result_for_all(&mut self.answers, outcome, &self.recipients);

@@ -13,8 +13,10 @@ use std::io::Write;
 
 // Writes the line of a mailbox, and what it holds.
 fn write_mailbox<W: Write>(writer: &mut W, name: &[u8], bytes: &[u8]) -> Result<(), WriteFault>
-    ensures ok { OnOk result (Appends (W.contents writer.old) (W.contents writer.new) (mailbox_line name.now (length bytes.now) ++ bytes.now)) }
-    ensures err { OnErr result (Breaks (W.contents writer.old) (W.contents writer.new) (mailbox_line name.now (length bytes.now) ++ bytes.now)) }
+    ensures ok { OnOk result (Appends (W.contents writer.old) (W.contents writer.new)
+        (mailbox_line name.now (length bytes.now) ++ bytes.now)) }
+    ensures err { OnErr result (Breaks (W.contents writer.old) (W.contents writer.new)
+        (mailbox_line name.now (length bytes.now) ++ bytes.now)) }
 {
     let mut digits = Buffer::new();
     let size = digits.format(bytes.len());
@@ -31,8 +33,10 @@ pub fn write_mailboxes<W: Write>(
     spools: &[MemorySpool],
 ) -> Result<(), WriteFault>
     requires { length spools.now ≡ length site.now.boxes }
-    ensures ok { OnOk result (Appends (W.contents writer.old) (W.contents writer.new) (texts_of_mailboxes site.now.boxes (bytes_of_all spools.now))) }
-    ensures err { OnErr result (Breaks (W.contents writer.old) (W.contents writer.new) (texts_of_mailboxes site.now.boxes (bytes_of_all spools.now))) }
+    ensures ok { OnOk result (Appends (W.contents writer.old) (W.contents writer.new)
+        (texts_of_mailboxes site.now.boxes (bytes_of_all spools.now))) }
+    ensures err { OnErr result (Breaks (W.contents writer.old) (W.contents writer.new)
+        (texts_of_mailboxes site.now.boxes (bytes_of_all spools.now))) }
 {
     for number in 0..site.box_count() {
         let spool = &spools[number as usize];

@@ -23,8 +23,8 @@ use std::sync::{Arc, Wait};
 use std::thread::Threads;
 
 /// Runs a server of one lane at the site for one conversation, and then writes the mailboxes, each behind the line
-/// `mailbox NAME LENGTH`. The mailboxes are empty at the start and lie in memory; every message is of the given moment, in seconds
-/// since 1970. All memory is taken first.
+/// `mailbox NAME LENGTH`. The mailboxes are empty at the start and lie in memory; every message is of the given moment,
+/// in seconds since 1970. All memory is taken first.
 pub fn rehearse_run<R, W, H>(
     rt: H,
     alloc: Global,
@@ -38,8 +38,9 @@ where
     R: Read + Drop + Send + 'static,
     W: Write + Drop + Send + 'static,
     H: Threads + Wait + Copy + Send + 'static,
-    ensures rehearses { IfOk result (λ rehearsed. IsRehearsed (arc_value site) moment (R.remaining reader) (R.remaining rehearsed.reader)
-        (W.contents writer) (W.contents rehearsed.writer) rehearsed.ending) }
+    ensures rehearses { IfOk result (λ rehearsed. IsRehearsed (arc_value site) moment
+        (record { unread = R.remaining reader; written = W.contents writer })
+        (record { unread = R.remaining rehearsed.reader; written = W.contents rehearsed.writer }) rehearsed.ending) }
     ensures only_size { result ≡ Err HouseFault.Size → ¬ IsBlockCount blocks }
     ensures size { ¬ IsBlockCount blocks → (result ≡ Err HouseFault.Size) ⊎ (result ≡ Err HouseFault.Memory) }
 {
@@ -90,8 +91,10 @@ where
     R: Read + Drop + Send + 'static,
     W: Write + Drop + Send + 'static,
     H: Threads + Wait + Copy + Send + 'static,
-    ensures held { IfOk result (λ held. IsHeld (arc_value site) moment (R.remaining peer.reader) (R.remaining held.peer.reader)
-        (W.contents peer.writer) (W.contents held.peer.writer) held.spools.items held.faulty held.end) }
+    ensures held { IfOk result (λ held. IsHeld (arc_value site) moment
+        (record { unread = R.remaining peer.reader; written = W.contents peer.writer })
+        (record { unread = R.remaining held.peer.reader; written = W.contents held.peer.writer })
+        (record { spools = held.spools.items; faulty = held.faulty; end = held.end })) }
     ensures only_size { result ≡ Err HouseFault.Size → ¬ IsBlockCount blocks }
     ensures size { ¬ IsBlockCount blocks → (result ≡ Err HouseFault.Size) ⊎ (result ≡ Err HouseFault.Memory) }
 {
@@ -126,7 +129,8 @@ fn only_client<P: Drop>(mut clients: Vec<OnlyClient<P>>) -> (P, EndCause)
 // Writes the mailboxes, also where a write of the replies has failed, and says whether a write fails.
 fn is_cut<W: Write>(site: &Site, spools: &[MemorySpool], writer: &mut W) -> bool
     requires { length spools.now ≡ length site.now.boxes }
-    ensures { IsListed (texts_of_mailboxes site.now.boxes (bytes_of_all spools.now)) (W.contents writer.old) (W.contents writer.new) result }
+    ensures { IsListed (texts_of_mailboxes site.now.boxes (bytes_of_all spools.now))
+        (W.contents writer.old) (W.contents writer.new) result }
 {
     write_mailboxes(writer, site, spools).is_err()
 }

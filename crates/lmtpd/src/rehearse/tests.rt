@@ -6,8 +6,8 @@ mod sizes;
 mod turns;
 
 use super::{EndCause, Ending, HouseFault, Rehearsed, rehearse_run};
-use crate::words::DEFAULT_BLOCKS;
 use lmtp_text::Site;
+use lmtpd_words::DEFAULT_BLOCKS;
 use std::alloc::{AllocError, Global};
 use std::io;
 use std::io::{ErrorKind, Read, Write};

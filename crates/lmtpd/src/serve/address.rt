@@ -13,7 +13,8 @@ pub const SMTP_PORT: u16 = 25;
 
 /// The address and port that the text names; an IPv6 address stands in brackets.
 pub fn address_of(text: &str) -> Result<SocketAddr, Fault>
-    ensures { MatchResult result (λ address. IsSocketText text.now address × (socket_port address ≢ SMTP_PORT)) (IsRefused text.now) }
+    ensures { MatchResult result (λ address. IsSocketText text.now address × (socket_port address ≢ SMTP_PORT))
+        (IsRefused text.now) }
 {
     match text.parse::<SocketAddr>() {
         Ok(address) if address.port() == SMTP_PORT => Err(Fault::Port),

@@ -22,8 +22,10 @@ pub fn address_line(alloc: Global, address: SocketAddr) -> Result<String, AllocE
 
 // Says of a mailbox how many copies it stored.
 fn write_count<W: Write>(writer: &mut W, name: &[u8], tally: &Tally) -> Result<(), WriteFault>
-    ensures ok { OnOk result (Appends (W.contents writer.old) (W.contents writer.new) (count_line name.now tally.now)) }
-    ensures err { OnErr result (Breaks (W.contents writer.old) (W.contents writer.new) (count_line name.now tally.now)) }
+    ensures ok { OnOk result (Appends (W.contents writer.old) (W.contents writer.new)
+        (count_line name.now tally.now)) }
+    ensures err { OnErr result (Breaks (W.contents writer.old) (W.contents writer.new)
+        (count_line name.now tally.now)) }
 {
     let mut digits = Buffer::new();
     let stored = digits.format(tally.stored);
@@ -38,8 +40,10 @@ pub fn write_counts<W: Write>(
     tallies: &[Tally],
 ) -> Result<(), WriteFault>
     requires { length tallies.now ≡ length site.now.boxes }
-    ensures ok { OnOk result (Appends (W.contents writer.old) (W.contents writer.new) (counts_text site.now.boxes tallies.now)) }
-    ensures err { OnErr result (Breaks (W.contents writer.old) (W.contents writer.new) (counts_text site.now.boxes tallies.now)) }
+    ensures ok { OnOk result (Appends (W.contents writer.old) (W.contents writer.new)
+        (counts_text site.now.boxes tallies.now)) }
+    ensures err { OnErr result (Breaks (W.contents writer.old) (W.contents writer.new)
+        (counts_text site.now.boxes tallies.now)) }
 {
     for number in 0..site.box_count() {
         let tally = &tallies[number as usize];

@@ -41,7 +41,8 @@ where
     S: Spool + Drop + Send + 'static,
     W: Write + Drop,
     H: Threads + Wait + Clock + Copy + Drop + Send + Sync + 'static,
-    ensures size { result ≡ Err HouseFault.Size ↔ ¬ IsSize (arc_value site) sizes lanes (length spools.items) (length spools.items) }
+    ensures size { let count = length spools.items in
+        result ≡ Err HouseFault.Size ↔ ¬ IsSize (arc_value site) sizes lanes count count }
     ensures ran { IfOk result (IsServed L (arc_value site) S.state lanes spools.items) }
 {
     if !is_size(&site, sizes, lanes as usize, spools.len(), spools.len()) {

@@ -18,7 +18,9 @@ pub struct Served {
 impl Served {
     /// A spool or a write that failed is a fault of a device, and comes before a listener that did.
     pub fn outcome(self) -> Result<(), Fault>
-        ensures { result ≡ (if self.faulty || self.cut then Err Fault.Device else if self.failed then Err Fault.Listen else Ok record {}) }
+        ensures { result ≡ (if self.faulty || self.cut then Err Fault.Device
+            else if self.failed then Err Fault.Listen
+            else Ok record {}) }
     {
         if self.faulty || self.cut {
             Err(Fault::Device)

@@ -41,7 +41,8 @@ fn letters_are_read(rt: HostRuntime) -> Result<(), Fail> {
     Ok(())
 }
 
-// Written by Python 3.11.7: `mailbox.mbox.add` of two messages whose lines are `Subject: one`, an empty one, `From here on`, `end`, and `Subject: two`, an empty one, `no line end`; then of an empty line.
+// Written by Python 3.11.7: `mailbox.mbox.add` of two messages whose lines are `Subject: one`, an empty one, `From here
+// on`, `end`, and `Subject: two`, an empty one, `no line end`; then of an empty line.
 const PYTHON: &[u8] = b"From carl@a.example Thu Jan  1 00:00:00 1970
 Subject: one
 

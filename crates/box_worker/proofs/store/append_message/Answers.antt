@@ -1,5 +1,5 @@
 use Rattle.std.proofs.Common.{◌≡◌, ℕ, ◌+◌, ◌-◌, min, length, take, drop, ap, ◌∙◌}
-use Rattle.mail_world.specs.declared.limits.TheConstants.{BLOCK_SIZE}
+use Rattle.mail_world.specs.declared.limits.TheConstants.{WORKER_BUFFER_SIZE}
 use Rattle.msg_depot.specs.declared.view.Claim.{Claim}
 use Rattle.mbox_rd.proofs.Taken.{OnErr-any}
 use Rattle.box_worker.proofs.Messages.{writes_next, fails_next}
@@ -17,7 +17,7 @@ loop-n-preserved g c =
     record {
       same = c.read-n-in-loop-n.ensures.same ∙ same;
       long = c.read-n-in-loop-n.ensures.length ∙ c.loop-n.invariant.long;
-      count = c.read-n-in-loop-n.ensures.count ∙ ap (λ (l : ℕ). min l (length c.loop-n.hold.bytes - at)) c.loop-n.invariant.long ∙ ap (λ (h : Claim). min BLOCK_SIZE (length h.bytes - at)) same;
+      count = c.read-n-in-loop-n.ensures.count ∙ ap (λ (l : ℕ). min l (length c.loop-n.hold.bytes - at)) c.loop-n.invariant.long ∙ ap (λ (h : Claim). min WORKER_BUFFER_SIZE (length h.bytes - at)) same;
       next = c.read-n-in-loop-n.ensures.bytes ∙ ap (λ (h : Claim). take c.read-n-in-loop-n.result (drop at h.bytes)) same;
       end = c.read-n-in-loop-n.ensures.end;
       written = writes_next (g.S.Spool.state c.args.spool.now) _ _ c.args.begun c.loop-n.writer c.in_ok-writer.writer c.args.hold.now.bytes _ c.loop-n.at c.loop-n.n

@@ -1,5 +1,5 @@
 use Rattle.std.proofs.Common.{◌≡◌, ◌+◌, ◌-◌, ◌^◌, ◌<◌, min, length, take, drop}
-use Rattle.mail_world.specs.declared.limits.TheConstants.{BLOCK_SIZE}
+use Rattle.mail_world.specs.declared.limits.TheConstants.{WORKER_BUFFER_SIZE}
 use Rattle.mbox_rd.specs.Writing.{WritesPiece}
 use Rattle.box_worker.proofs.store.append_message.Given as goal
 
@@ -7,8 +7,8 @@ use Rattle.box_worker.proofs.store.append_message.Given as goal
 abbrev pub invariant-loop-n : goal.invariant-loop-n
 invariant-loop-n g l = record {
   same : l.hold ≡ l.fn.hold;
-  long : length l.bytes ≡ BLOCK_SIZE;
-  count : l.n ≡ min BLOCK_SIZE (length l.fn.hold.bytes - l.at);
+  long : length l.bytes ≡ WORKER_BUFFER_SIZE;
+  count : l.n ≡ min WORKER_BUFFER_SIZE (length l.fn.hold.bytes - l.at);
   next : take l.n l.bytes ≡ take l.n (drop l.at l.fn.hold.bytes);
   end : l.at + l.n < 2 ^ 64;
   written : WritesPiece (g.S.Spool.state l.fn.spool) (g.S.Spool.state l.spool) l.fn.begun l.writer (take l.at l.fn.hold.bytes);

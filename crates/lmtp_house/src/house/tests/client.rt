@@ -58,7 +58,14 @@ impl Relay {
 }
 
 impl Peer for Relay {
-    ghost state = { λ r. record { read = None; unread = None; written = None; failures = r.failures; stops = 0; holds = [] } };
+    ghost state = { λ r. record {
+      read = None;
+      unread = None;
+      written = None;
+      failures = r.failures;
+      stops = 0;
+      holds = [];
+    } };
 
     fn read(&mut self, buffer: &mut [u8]) -> Result<Came, PeerFault> {
         if let Some(meeting) = &mut self.meeting {

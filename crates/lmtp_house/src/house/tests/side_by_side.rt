@@ -1,4 +1,5 @@
-//! Lanes and workers run at the same time: two lanes wait for each other at their first read, and two workers before their copies.
+//! Lanes and workers run at the same time: two lanes wait for each other at their first read, and two workers before
+//! their copies.
 
 use super::meeting::{Meeting, MeetingGate};
 use super::*;

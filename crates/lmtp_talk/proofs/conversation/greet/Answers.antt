@@ -9,7 +9,7 @@ use Rattle.lmtp_talk.proofs.conversation.greet.Goals as goal
 pub returns-clause-greets : goal.returns-clause-greets
 returns-clause-greets g c =
     let start = g.P.Peer.state c.args.peer.now in
-    let said : List ℕ → Type 0 = λ l. HasSaid start (g.P.Peer.state c.flush.new.peer) c.flush.new.self.broken c.flush.new.self.pending.items [] l in
+    let said : List ℕ → Type 0 = λ l. HasSaid start (g.P.Peer.state c.flush.new.peer) c.flush.new.self [] l in
     record {
       site = c.greeting-greeting.ensures.site;
       session = c.greeting-greeting.ensures.session;
@@ -17,5 +17,5 @@ returns-clause-greets g c =
       same = c.flush.ensures.goes ∙ c.say.ensures.goes;
       said = subst said
           (ap (λ (x : Site). reply_text x c.greeting-greeting.result) (c.site.ensures ∙ c.greeting-greeting.ensures.site) ∙ ap (λ (r : Reply). reply_text c.args.dialogue.now.session.site r) c.greeting-greeting.ensures.reply)
-          (c.flush.ensures.said start [] _ (c.say.ensures.says start [] [] (said_none start c.clear-2.new.self.broken c.clear-2.new.self.pending.items c.clear-2.ensures.1 c.clear-2.ensures.0)));
+          (c.flush.ensures.said start [] _ (c.say.ensures.says start [] [] (said_none start c.clear-2.new.self c.clear-2.ensures)));
     }

@@ -1,4 +1,4 @@
-use Rattle.std.proofs.Common.{◌<◌, ◌≤◌, ◌++◌, length, ◌∙◌, arith, length-append}
+use Rattle.std.proofs.Common.{◌<◌, ◌≤◌, ◌++◌, length, sym, ◌∙◌, arith, length-append}
 use Rattle.mail_world.specs.declared.limits.TheConstants.{READ_LIMIT}
 use Rattle.lmtp_talk.specs.declared.ending.EndCause.TheVariants as ends
 use Rattle.lmtp_talk.proofs.Ends.{served}
@@ -25,17 +25,17 @@ loop-made-preserved g c = record {
       (w.0 ++ t.more, omega (arith, made, some, length-append w.0 t.more), t.stands);
 }
 
-pub returns-then-dialogue-clause-ends : goal.returns-then-dialogue-clause-ends
-returns-then-dialogue-clause-ends g c site start first handled h =
+pub returns-then-is_broken-clause-ends : goal.returns-then-is_broken-clause-ends
+returns-then-is_broken-clause-ends g c site start first handled h =
     let w = c.loop-made.invariant.stands site start first handled h in
     served site start (g.P.Peer.state c.loop-made.peer) (g.D.Delivery.HasCome first) (g.D.Delivery.HasCome c.loop-made.delivery) (g.D.Delivery.HasCome c.leave.new.delivery) (g.D.Delivery.IsDrafting c.loop-made.delivery)
-    c.loop-made.dialogue w.0 ends.WriteFault w.2 c.leave.ensures.leaves c.if-dialogue.true
+    c.loop-made.dialogue w.0 ends.WriteFault w.2 c.leave.ensures.leaves (sym c.is_broken.ensures ∙ c.if-is_broken.true)
 
-pub returns-else-dialogue-clause-ends : goal.returns-else-dialogue-clause-ends
-returns-else-dialogue-clause-ends g c site start first handled h =
+pub returns-else-is_broken-clause-ends : goal.returns-else-is_broken-clause-ends
+returns-else-is_broken-clause-ends g c site start first handled h =
     let w = c.loop-made.invariant.stands site start first handled h in
     let made : c.loop-made._made ≤ length w.0 = w.1 in
     let bound : READ_LIMIT ≤ length w.0 = omega (arith, made, c.loop-made-test.false) in
     served site start (g.P.Peer.state c.loop-made.peer) (g.D.Delivery.HasCome first) (g.D.Delivery.HasCome c.loop-made.delivery) (g.D.Delivery.HasCome c.leave.new.delivery) (g.D.Delivery.IsDrafting c.loop-made.delivery)
     c.loop-made.dialogue w.0 ends.ReadBound w.2 c.leave.ensures.leaves
-    (record { whole = c.if-dialogue.false; none = c.loop-made.invariant.none }, may_not_ended c.loop-made.dialogue.session.session.state c.loop-made.invariant.may, bound)
+    (record { whole = sym c.is_broken.ensures ∙ c.if-is_broken.false; none = c.loop-made.invariant.none }, may_not_ended c.loop-made.dialogue.session.session.state c.loop-made.invariant.may, bound)

@@ -2,18 +2,18 @@ use Rattle.std.proofs.Common.{◌≡◌, ◌≤◌, ℕ, List, [], length}
 use Rattle.mail_world.specs.Site.{Site}
 use Rattle.lmtp_session.specs.Steps.{MayStop}
 use Rattle.lmtp_talk.specs.Peer.{PeerState}
-use Rattle.lmtp_talk.specs.Standing.{Stands}
+use Rattle.lmtp_talk.specs.Standing.{IsSoFar, standing, beginning}
 use Rattle.lmtp_talk.proofs.conversation.take_turns.Given as goal
 
 -- each turn so far brought a byte at least
 abbrev pub invariant-loop-made : goal.invariant-loop-made
 invariant-loop-made g l = record {
   may : MayStop l.dialogue.session.session.state;
-  none : l.dialogue.outbox.pending.items ≡ [];
+  none : l.dialogue.outbox.pending ≡ [];
   room : length l.buffer ≡ 4096;
   site : l.dialogue.session.site ≡ l.initial.dialogue.session.site;
   same : g.D.Delivery.site l.delivery ≡ g.D.Delivery.site l.initial.delivery;
   stands : (site : Site) (start : PeerState) (first : g.row.D.Denot) (handled : List ℕ)
-      → Stands site start (g.D.Delivery.HasCome first) l.initial.dialogue (g.P.Peer.state l.initial.peer) (g.D.Delivery.HasCome l.initial.delivery) (g.D.Delivery.IsDrafting l.initial.delivery) handled handled
-      → (all : List ℕ) × (l._made ≤ length all) × Stands site start (g.D.Delivery.HasCome first) l.dialogue (g.P.Peer.state l.peer) (g.D.Delivery.HasCome l.delivery) (g.D.Delivery.IsDrafting l.delivery) all all;
+      → IsSoFar (beginning site start (g.D.Delivery.HasCome first)) (standing l.initial.dialogue (g.P.Peer.state l.initial.peer) (g.D.Delivery.HasCome l.initial.delivery) (g.D.Delivery.IsDrafting l.initial.delivery)) handled handled
+      → (all : List ℕ) × (l._made ≤ length all) × IsSoFar (beginning site start (g.D.Delivery.HasCome first)) (standing l.dialogue (g.P.Peer.state l.peer) (g.D.Delivery.HasCome l.delivery) (g.D.Delivery.IsDrafting l.delivery)) all all;
 }

@@ -1,6 +1,6 @@
 use Rattle.std.proofs.Common.{◌≡◌, ◌+◌, ◌-◌, ◌≤◌, List, ℕ, ◌++◌, length, take, drop, ap, ◌∙◌, subst, arith, length-drop}
-use Rattle.lmtp_talk.specs.Steps.{Carries}
-use Rattle.lmtp_talk.proofs.Carrying.{carries_then, rest_of, take_more}
+use Rattle.lmtp_talk.specs.Steps.{Advances, talk}
+use Rattle.lmtp_talk.proofs.Advancing.{advances_then, rest_of, take_more}
 use Rattle.lmtp_talk.proofs.handling.handle.Goals as goal
 
 pub loop-at-preserved : goal.loop-at-preserved
@@ -18,9 +18,9 @@ loop-at-preserved g c =
       within = fits;
       site = step.site ∙ c.loop-at.invariant.site;
       same = step.same ∙ c.loop-at.invariant.same;
-      stands = subst (λ l. Carries HasCome IsDrafting c.args.dialogue.now c.take_front.new.dialogue (g.P.Peer.state c.args.peer.now) (g.P.Peer.state c.take_front.new.peer) c.args.delivery.now c.take_front.new.delivery l)
+      stands = subst (λ l. Advances HasCome IsDrafting (talk c.args.dialogue.now (g.P.Peer.state c.args.peer.now) c.args.delivery.now) (talk c.take_front.new.dialogue (g.P.Peer.state c.take_front.new.peer) c.take_front.new.delivery) l)
           (take_more at used piece c.loop-at.invariant.within)
-          (subst (λ l. Carries HasCome IsDrafting c.args.dialogue.now c.take_front.new.dialogue (g.P.Peer.state c.args.peer.now) (g.P.Peer.state c.take_front.new.peer) c.args.delivery.now c.take_front.new.delivery (take at piece ++ take used l)) rest
-          (carries_then HasCome IsDrafting c.args.dialogue.now c.loop-at.dialogue c.take_front.new.dialogue (g.P.Peer.state c.args.peer.now) (g.P.Peer.state c.loop-at.peer) (g.P.Peer.state c.take_front.new.peer)
+          (subst (λ l. Advances HasCome IsDrafting (talk c.args.dialogue.now (g.P.Peer.state c.args.peer.now) c.args.delivery.now) (talk c.take_front.new.dialogue (g.P.Peer.state c.take_front.new.peer) c.take_front.new.delivery) (take at piece ++ take used l)) rest
+          (advances_then HasCome IsDrafting c.args.dialogue.now c.loop-at.dialogue c.take_front.new.dialogue (g.P.Peer.state c.args.peer.now) (g.P.Peer.state c.loop-at.peer) (g.P.Peer.state c.take_front.new.peer)
           c.args.delivery.now c.loop-at.delivery c.take_front.new.delivery (take at piece) (take used (take (length piece - at) (drop at piece))) c.loop-at.invariant.stands step.stands));
     }

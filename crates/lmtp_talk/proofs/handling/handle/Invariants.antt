@@ -1,5 +1,5 @@
 use Rattle.std.proofs.Common.{◌≡◌, ◌≤◌, ◌-◌, length, take}
-use Rattle.lmtp_talk.specs.Steps.{Carries}
+use Rattle.lmtp_talk.specs.Steps.{Advances, talk}
 use Rattle.lmtp_talk.proofs.handling.handle.Given as goal
 
 -- the bytes up to there are handled
@@ -8,7 +8,7 @@ invariant-loop-at g l = record {
   within : l.at ≤ length l.piece;
   site : l.dialogue.session.site ≡ l.initial.dialogue.session.site;
   same : g.D.Delivery.site l.delivery ≡ g.D.Delivery.site l.initial.delivery;
-  stands : Carries g.D.Delivery.HasCome g.D.Delivery.IsDrafting l.initial.dialogue l.dialogue (g.P.Peer.state l.initial.peer) (g.P.Peer.state l.peer) l.initial.delivery l.delivery (take l.at l.piece);
+  stands : Advances g.D.Delivery.HasCome g.D.Delivery.IsDrafting (talk l.initial.dialogue (g.P.Peer.state l.initial.peer) l.initial.delivery) (talk l.dialogue (g.P.Peer.state l.peer) l.delivery) (take l.at l.piece);
 }
 
 abbrev pub decreases-loop-at : goal.decreases-loop-at

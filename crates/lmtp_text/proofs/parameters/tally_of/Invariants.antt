@@ -1,5 +1,6 @@
 use Rattle.std.proofs.Common.{map}
-use Rattle.lmtp_text.specs.Parameters.{Tallies, parameters_of}
+use Rattle.lmtp_text.specs.Parameters.{Tallies}
+use Rattle.lmtp_text.proofs.ParameterLists.{parameters_of}
 use Rattle.lmtp_text.proofs.parameters.tally_of.Given as goal
 
 -- the tally of the pieces that came

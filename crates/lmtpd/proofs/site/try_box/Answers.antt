@@ -1,6 +1,6 @@
 use Rattle.std.proofs.Common.{refl, inr}
 use Rattle.std.proofs.lemmas.Result.{err_from_is_err_and}
-use Rattle.lmtpd.specs.Words.{with_box}
+use Rattle.lmtpd.specs.Faults.{with_box}
 use Rattle.lmtpd.proofs.Orders.{site_refused}
 use Rattle.lmtpd.proofs.site.try_box.Goals as goal
 

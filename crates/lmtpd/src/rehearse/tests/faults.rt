@@ -171,8 +171,8 @@ fn add_head(text: &mut Vec<u8>, number: &str) -> Result<(), AllocError> {
     add_pieces(
         text,
         &[
-            "From carl@a.example Thu Jan  1 00:00:00 1970\nReturn-Path: <carl@a.example>\nReceived: from relay.example\n",
-            "\tby mx.example with LMTP id 0-",
+            "From carl@a.example Thu Jan  1 00:00:00 1970\nReturn-Path: <carl@a.example>\n",
+            "Received: from relay.example\n\tby mx.example with LMTP id 0-",
             number,
             ";\n\tThu, 1 Jan 1970 00:00:00 +0000\n",
         ],

@@ -3,5 +3,5 @@ use Rattle.mail_post.proofs.tests.fill.Given as goal
 
 abbrev pub invariant-loop-place : goal.invariant-loop-place
 invariant-loop-place g l = record {
-  lane : l.sender.lane ≡ 0;
+  number : l.sender.number ≡ 0;
 }

@@ -1,4 +1,5 @@
-//! A disk of a test's own, with one mailbox and the folder that holds it. It counts what is asked of it, and one of these calls fails.
+//! A disk of a test's own, with one mailbox and the folder that holds it. It counts what is asked of it, and one of
+//! these calls fails.
 use crate::file::FileLock;
 use std::alloc::Allocator;
 use std::cell::Cell;

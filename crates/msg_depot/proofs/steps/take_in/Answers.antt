@@ -2,7 +2,7 @@ use Rattle.std.proofs.Common.{◌≡◌, ℕ, ◌<◌, [], sym, ap, ◌∙◌, s
 use mathlib.Core.Option.{none}
 use Rattle.atomic_table.specs.Table.{Allows, Joins, Me, step}
 use Rattle.msg_depot.specs.declared.view.View.{View}
-use Rattle.msg_depot.specs.Rules.{Fits, nobody, keeping}
+use Rattle.msg_depot.specs.Rules.{MatchesEntry, nobody, keeping}
 use Rattle.msg_depot.specs.Moves.{Checked, taking, empty_entry}
 use Rattle.msg_depot.proofs.Moves.{Rule}
 use Rattle.msg_depot.proofs.Totals.{within, elem_is}
@@ -37,6 +37,6 @@ pub returns-clause-agrees : goal.returns-clause-agrees
 returns-clause-agrees c =
     let j = c.join_seat.ensures in
     let me : c.join_seat.new.seat.me ≡ (keeping c.args.seat.now.me.0.book c.args.other.me.0.kind c.args.other.me.0.claim, []) = j.2 ∙ (λ k. (taking (c.requires.seat.1 k).0 (c.requires.other.1 k).0, (c.requires.seat.1 k).1)) in
-    let fit : Fits c.args.seat.now.me.0.book (keeping c.args.seat.now.me.0.book c.args.other.me.0.kind c.args.other.me.0.claim) =
+    let fit : MatchesEntry c.args.seat.now.me.0.book (keeping c.args.seat.now.me.0.book c.args.other.me.0.kind c.args.other.me.0.claim) =
     (subst (λ (m : Me (Unit {0}) View). Checked (step 0 0 0 0 none) m 0 c.load.new.seat.me) me c.load.ensures.2).1 refl in
     λ some_kind. (within c.args.seat.now.me.0.book c.args.other.me.0.claim.slot _ (fit.0 some_kind), elem_is c.args.seat.now.me.0.book c.args.other.me.0.claim.slot empty_entry _ (fit.0 some_kind))

@@ -1,10 +1,11 @@
 use Rattle.std.proofs.Common.{replicate, rules}
 use Rattle.block_arena.proofs.Chains.{chain_length}
 use Rattle.block_arena.proofs.Made.{made_as, made_slots, made_once, row_size}
+use Rattle.mail_world.specs.declared.limits.TheConstants.{BLOCK_SIZE}
 use Rattle.block_arena.proofs.arena.Arena.new_at.Goals as goal
 
 pub invariant_of-result : goal.invariant_of-result
-invariant_of-result c = made_as c.args.blocks c.args.slots c.args.generation (replicate 512 0) c.in_ok-data.data.items c.in_ok-next.next.items c.in_ok-slots.slots.items row_size c.requires.few_blocks c.requires.few_slots c.requires.generation
+invariant_of-result c = made_as c.args.blocks c.args.slots c.args.generation (replicate BLOCK_SIZE 0) c.in_ok-data.data.items c.in_ok-next.next.items c.in_ok-slots.slots.items row_size c.requires.few_blocks c.requires.few_slots c.requires.generation
     c.in_ok-data.ensures c.in_ok-next.ensures (c.in_ok-slots.ensures.items_if_clones_equal (λ y h. search rules))
 
 pub returns-clause-slots : goal.returns-clause-slots

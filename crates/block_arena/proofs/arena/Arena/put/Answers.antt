@@ -6,6 +6,7 @@ use Rattle.block_arena.specs.Calls.{depot_key, RefusesDraft}
 use Rattle.block_arena.proofs.Seen.{Sees, sees, under, stale}
 use Rattle.block_arena.proofs.Pieced.{run_few, room_is}
 use Rattle.block_arena.proofs.Puts.{puts_none}
+use Rattle.mail_world.specs.declared.limits.TheConstants.{BLOCK_SIZE}
 use Rattle.block_arena.proofs.arena.Arena.put.Goals as goal
 
 pub room-requires-clause-few : goal.room-requires-clause-few
@@ -21,7 +22,7 @@ room-requires-clause-enough c =
 pub returns-then-room-bytes-clause-fault : goal.returns-then-room-bytes-clause-fault
 returns-then-room-bytes-clause-fault c =
     let s : Sees c.args.key c.args.self.now c.self.inside.data.items c.self.inside.next.items c.self.inside.slots.items c.self.inside.free c.self.inside.free_count (Draft c.in-Draft.run') = sees c.args.key c.args.self.now c.self.inside.data.items c.self.inside.next.items c.self.inside.slots.items c.self.inside.free c.self.inside.free_count c.deref.result.now c.content_under.result _ c.self.invariant c.self.view_is c.deref.ensures.value c.content_under.ensures c.in-Draft.is in
-    let no_room : d.HasRoom c.args.self.now (depot_key c.args.key) c.args.bytes.now → ⊥ = λ h. let fits : length c.args.bytes.now ≤ 512 * (c.in-Draft.run'.blocks + c.self.inside.free_count) - c.in-Draft.run'.length = (room_is c.args.key c.args.self.now c.self.inside.data.items c.self.inside.next.items c.self.inside.slots.items c.self.inside.free c.self.inside.free_count c.in-Draft.run' c.args.bytes.now s).0 h in omega (arith, fits, c.room.ensures, c.if-room-bytes.true) in
+    let no_room : d.HasRoom c.args.self.now (depot_key c.args.key) c.args.bytes.now → ⊥ = λ h. let fits : length c.args.bytes.now ≤ BLOCK_SIZE * (c.in-Draft.run'.blocks + c.self.inside.free_count) - c.in-Draft.run'.length = (room_is c.args.key c.args.self.now c.self.inside.data.items c.self.inside.next.items c.self.inside.slots.items c.self.inside.free c.self.inside.free_count c.in-Draft.run' c.args.bytes.now s).0 h in omega (arith, fits, c.room.ensures, c.if-room-bytes.true) in
     subst (λ (h : d.Held). RefusesDraft (¬ d.HasRoom c.args.self.now (depot_key c.args.key) c.args.bytes.now) h fault.Full) (sym (under c.args.key c.args.self.now c.self.inside.data.items c.self.inside.next.items c.self.inside.slots.items c.self.inside.free c.self.inside.free_count _ s)) (refl, no_room)
 
 pub put_all-requires-clause-none : goal.put_all-requires-clause-none

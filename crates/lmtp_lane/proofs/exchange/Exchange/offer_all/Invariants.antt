@@ -1,5 +1,5 @@
 use Rattle.std.proofs.Common.{◌≡◌, ◌+◌, length, take}
-use Rattle.mail_world.specs.Events.{txn_of}
+use Rattle.mail_world.specs.Slips.{txn_of}
 use Rattle.mail_world.specs.Lists.{copies_from}
 use Rattle.lmtp_lane.specs.LaneExchange.{Continues, sent_as}
 use Rattle.lmtp_lane.proofs.exchange.Exchange.offer_all.Given as goal

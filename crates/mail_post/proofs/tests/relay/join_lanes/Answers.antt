@@ -1,6 +1,6 @@
 use Rattle.std.proofs.Common.{◌≡◌, ◌++◌, [], sym, ◌∙◌, true≢false, append-nil, rules}
 use Rattle.std.specs.Vec.Iter.{into_iter_items}
-use Rattle.mail_post.specs.Line.{lists}
+use Rattle.mail_post.specs.Channel.{lists}
 use Rattle.mail_post.specs.Relay.{dues}
 use Rattle.mail_post.proofs.Relays.{names_step, lists_step, nil_of}
 use Rattle.mail_post.proofs.tests.relay.join_lanes.Goals as goal

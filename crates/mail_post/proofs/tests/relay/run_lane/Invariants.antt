@@ -5,8 +5,8 @@ use Rattle.mail_post.proofs.tests.relay.run_lane.Given as goal
 
 abbrev pub invariant-loop-post : goal.invariant-loop-post
 invariant-loop-post g l = record {
-  line : l.sender.line ≡ l.fn.sender.line;
-  lane : l.sender.lane ≡ l.fn.sender.lane;
-  rest : AreOfLane g.M.Laned.lane l.fn.sender.lane (into_iter_items l.post-iterator);
+  channel : l.sender.channel ≡ l.fn.sender.channel;
+  lane : l.sender.number ≡ l.fn.sender.number;
+  rest : AreOfLane g.M.FromSender.sender l.fn.sender.number (into_iter_items l.post-iterator);
   sent : l.sender.sent ++ into_iter_items l.post-iterator ≡ l.fn.sender.sent ++ l.fn.posts.items;
 }

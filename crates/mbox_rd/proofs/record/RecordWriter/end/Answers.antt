@@ -1,14 +1,14 @@
 use Rattle.std.proofs.Common.{◌≡◌, ℕ, [], ◌∷◌, ◌++◌, take, sym, ◌∙◌, subst}
 use Rattle.mail_world.specs.Text.{lf}
 use Rattle.mbox_rd.specs.declared.pending.Pending.TheVariants.{Word}
-use Rattle.mbox_rd.specs.Writing.{Pending, IsPending, owed}
+use Rattle.mbox_rd.specs.Writing.{Pending, IsPending, bytes_owed}
 use Rattle.mbox_rd.proofs.Words.{word, word_end}
 use Rattle.mbox_rd.proofs.Taken.{OnOk-as, OnErr-as}
 use Rattle.mbox_rd.proofs.record.RecordWriter.end.Goals as goal
 
-last_word : (p q : Pending) (n : ℕ) → q ≡ Word n → q ≡ p → IsPending q → owed p [] ++ lf ∷ [] ≡ take n word ++ lf ∷ lf ∷ []
+last_word : (p q : Pending) (n : ℕ) → q ≡ Word n → q ≡ p → IsPending q → bytes_owed p [] ++ lf ∷ [] ≡ take n word ++ lf ∷ lf ∷ []
 last_word p q n e view is =
-    let P : Pending → Type 0 = λ x. IsPending x → owed x [] ++ lf ∷ [] ≡ take n word ++ lf ∷ lf ∷ [] in
+    let P : Pending → Type 0 = λ x. IsPending x → bytes_owed x [] ++ lf ∷ [] ≡ take n word ++ lf ∷ lf ∷ [] in
     subst P (sym e ∙ view) (λ h. word_end n h.0 h.1) (subst IsPending view is)
 
 pub returns-in-Word-clause-ok : goal.returns-in-Word-clause-ok

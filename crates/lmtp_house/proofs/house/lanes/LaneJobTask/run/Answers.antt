@@ -1,7 +1,7 @@
 use Rattle.std.proofs.Common.{subst, sym}
 use Rattle.lmtp_house.specs.HouseTasks.{LaneTask}
-use Rattle.lmtp_lane.specs.LaneExchange.{AreOfLane}
+use Rattle.mail_post.specs.Offered.{HaveNumber}
 use Rattle.lmtp_house.proofs.house.lanes.LaneJobTask.run.Goals as goal
 
 pub lane_run-requires-clause-lane : goal.lane_run-requires-clause-lane
-lane_run-requires-clause-lane g c = subst (λ (j : LaneTask _ _). AreOfLane j.lane j.senders) (sym c.self.view_is) c.requires.lane
+lane_run-requires-clause-lane g c = subst (λ (j : LaneTask _ _). HaveNumber j.lane j.senders) (sym c.self.view_is) c.requires.lane

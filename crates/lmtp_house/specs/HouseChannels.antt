@@ -1,0 +1,85 @@
+-- All channels of one kind together: a grid of senders, and their receivers.
+use Rattle.std.specs.Prelude.{◌≡◌, ℕ, ◌<◌, List, [], ◌++◌, length, map, slice_get, Some}
+use Rattle.mail_post.specs.Channel.{Channel, Sender, Inbox, Sent, taken, new_senders, new_inbox, AreSendersOf, TookSome, TookAll, lists as sent_by}
+use Rattle.mail_post.specs.declared.channel.Gone.TheVariants.{Closed}
+
+-- how many channels there are, and how many lanes each has
+pub record Shape : Type 0 where
+  pub lanes : ℕ
+  pub count : ℕ
+
+module _ {M : Type 0} where
+  -- a sender that was told that these were accepted
+  abbrev pub lane_at : Channel M → ℕ → List M → Sender M
+  lane_at channel k sent = record { channel = channel; number = k; sent = sent }
+
+  -- which channels these are
+  abbrev pub channels_of : List (Inbox M) → List (Channel M)
+  channels_of inboxes = map (λ (inbox : Inbox M). inbox.channel) inboxes
+
+  -- nothing was sent
+  abbrev pub none : ℕ → ℕ → List M
+  none k b = []
+
+  -- a new channel's senders and its receiver
+  pub record IsNewChannel (lanes : ℕ) (senders : List (Sender M)) (inbox : Inbox M) : Type 0 where
+    pub senders_are : senders ≡ new_senders inbox.channel lanes
+    pub inbox_is : inbox ≡ new_inbox inbox.channel lanes
+
+  -- row k has lane k's sender of each channel, in the channels' order
+  pub record AreRows (n : ℕ) (channels : List (Channel M)) (sent : ℕ → ℕ → List M) (rows : List (List (Sender M))) : Type 0 where
+    pub count : length rows ≡ n
+    pub widths : (k : ℕ) (row : List (Sender M)) → slice_get rows k ≡ Some row → length row ≡ length channels
+    pub cells : (k b : ℕ) (row : List (Sender M)) (channel : Channel M) → slice_get rows k ≡ Some row → slice_get channels b ≡ Some channel → slice_get row b ≡ Some (lane_at channel k (sent k b))
+
+  -- column b has all senders of channel b, in their lanes' order
+  pub record AreColumns (n : ℕ) (channels : List (Channel M)) (sent : ℕ → ℕ → List M) (columns : List (List (Sender M))) : Type 0 where
+    pub count : length columns ≡ length channels
+    pub widths : (b : ℕ) (column : List (Sender M)) → slice_get columns b ≡ Some column → length column ≡ n
+    pub cells : (b k : ℕ) (column : List (Sender M)) (channel : Channel M) → slice_get columns b ≡ Some column → slice_get channels b ≡ Some channel → k < n
+        → slice_get column k ≡ Some (lane_at channel k (sent k b))
+
+  -- new channels: nothing was sent, and nothing taken
+  pub record AreNewChannels (n count : ℕ) (rows : List (List (Sender M))) (inboxes : List (Inbox M)) : Type 0 where
+    pub counts : length inboxes ≡ count
+    pub rows_are : AreRows n (channels_of inboxes) none rows
+    pub inboxes_are : (b : ℕ) (inbox : Inbox M) → slice_get inboxes b ≡ Some inbox → inbox ≡ new_inbox inbox.channel n
+
+  -- the channel was closed by n lanes, which had sent this
+  pub record IsClosedWith (n : ℕ) (channel : Channel M) (sent : ℕ → List M) (closed : Sent M) : Type 0 where
+    pub channel_is : closed.channel ≡ channel
+    pub count : length closed.sent ≡ n
+    pub each : (k : ℕ) → k < n → slice_get closed.sent k ≡ Some (sent k)
+
+  pub record AreClosed (n : ℕ) (channels : List (Channel M)) (sent : ℕ → ℕ → List M) (closed : List (Sent M)) : Type 0 where
+    pub count : length closed ≡ length channels
+    pub each : (b : ℕ) (channel : Channel M) (c : Sent M) → slice_get channels b ≡ Some channel → slice_get closed b ≡ Some c → IsClosedWith n channel (λ k. sent k b) c
+
+  -- the receiver may be compared with what its channel was closed with
+  pub record CanSettle (inbox : Inbox M) (closed : Sent M) : Type 0 where
+    pub channel : inbox.channel ≡ closed.channel
+    pub lanes : length closed.sent ≡ inbox.lanes
+
+  -- what was taken is the start of what was sent, and all of it once the receiver is closed
+  pub record IsSettled (lane : M → ℕ) (inbox : Inbox M) (closed : Sent M) : Type 0 where
+    pub front : TookSome lane (taken inbox) closed.sent
+    pub all : inbox.gone ≡ Some Closed → TookAll lane (taken inbox) closed.sent
+
+  -- closing the channel of these senders gives this
+  pub record IsShut (senders : List (Sender M)) (closed : Sent M) : Type 0 where
+    pub channel : AreSendersOf closed.channel senders
+    pub sent : closed.sent ≡ sent_by senders
+
+  -- the rows are of so many channels, and at least one lane
+  pub record MayClose (shape : Shape) (rows : List (List (Sender M))) : Type 0 where
+    pub channels : List (Channel M)
+    pub sent : ℕ → ℕ → List M
+    pub some : 0 < shape.lanes
+    pub count : length channels ≡ shape.count
+    pub rows_are : AreRows shape.lanes channels sent rows
+
+  -- the lane's senders are those of before, and this more was accepted of each
+  pub record HasGiven (sent : ℕ → List M) (old new : List (Sender M)) : Type 0 where
+    pub as_many : length new ≡ length old
+    pub each : (b : ℕ) (before after : Sender M) → slice_get old b ≡ Some before → slice_get new b ≡ Some after
+        → (after.channel ≡ before.channel) × (after.number ≡ before.number) × (after.sent ≡ before.sent ++ sent b)

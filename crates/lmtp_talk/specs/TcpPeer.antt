@@ -1,0 +1,31 @@
+-- What contracts see of a client over a stream.
+use Rattle.std.specs.Prelude.{◌≡◌, ◌-◌, ◌<◌, ◌⊎◌, ℕ, List, [], Result, length, Option, None, Some, Ok}
+use Rattle.std.specs.Io.KnownBytes.{prepend_known}
+use Rattle.lmtp_talk.specs.declared.peer.Came.{Came}
+use Rattle.lmtp_talk.specs.declared.peer.Came.TheVariants.{Bytes, Stop}
+use Rattle.lmtp_talk.specs.declared.tcp.peer.TcpPeer.{TcpPeer}
+use Rattle.lmtp_talk.specs.Peer.{PeerState, HasBrought, HasTransferred}
+use Rattle.lmtp_talk.specs.ReadBuffer.{waiting}
+
+-- what its buffer has and then what the stream has left, where the stream tells it; how often it failed and said stop
+abbrev pub reading : {T : Type 0} → (T → Option (List ℕ)) → TcpPeer T → PeerState
+reading remaining p = record { read = None; unread = prepend_known (waiting p.buffer) (remaining p.stream); written = None; failures = p.failures; stops = p.stops; holds = [] }
+
+-- something waits, and nothing was handed out; or nothing came, and what the client did is so
+abbrev pub Fills : {T : Type 0} → (T → Option (List ℕ)) → TcpPeer T → TcpPeer T → Option Came → Type 0
+Fills remaining old new None = (0 < length (waiting new.buffer)) × HasTransferred (reading remaining old) (reading remaining new) [] []
+Fills remaining old new (Some came) = HasBrought (reading remaining old) (reading remaining new) [] came
+
+-- one read fewer is left; where none was left, it says stop; what waits is handed out first; in neither case is the stream touched
+pub record TakesRead {T E : Type 0} (old new : TcpPeer T) (result : Result Came E) : Type 0 where
+  pub counts : new.reads_left ≡ old.reads_left - 1
+  pub stops : old.reads_left ≡ 0 → result ≡ Ok Stop
+  pub waits : 0 < old.reads_left → 0 < length (waiting old.buffer) → (n : ℕ) × (result ≡ Ok (Bytes n))
+  pub untouched : (old.reads_left ≡ 0) ⊎ (0 < length (waiting old.buffer)) → new.stream ≡ old.stream
+
+-- nothing was read of it, and so many reads may be made
+pub record IsNew {T : Type 0} (reads : ℕ) (peer : TcpPeer T) : Type 0 where
+  pub reads_left : peer.reads_left ≡ reads
+  pub unread : waiting peer.buffer ≡ []
+  pub failures : peer.failures ≡ 0
+  pub stops : peer.stops ≡ 0

@@ -1,0 +1,11 @@
+//! A client over TCP.
+
+mod drain;
+mod peer;
+mod read_buffer;
+mod retry;
+#[cfg(test)]
+mod tests;
+
+pub use peer::TcpPeer;
+pub use read_buffer::ReadBuffer;

@@ -1,0 +1,90 @@
+-- What the program's words ask for.
+use Rattle.std.specs.Prelude.{◌≡◌, ◌⊎◌, ◌<◌, ◌^◌, ◌==◌, ℕ, List, [], Option, Some, None, option_map, map, codes, String, string_bytes}
+use Rattle.std.specs.declared.alloc.Global.{Global}
+use Rattle.std.specs.Option.{option_map_or}
+use Rattle.std.specs.List.{slice_split}
+use Rattle.std.specs.Str.Parse.{IsNumeral, digits_value, without_leading_plus}
+use Rattle.clap.specs.Words.{Row, Text, all_of, first_of, one_of}
+use Rattle.mail_world.specs.Site.{Site}
+use Rattle.lmtp_text.specs.Sites.{site_of, texts}
+use Rattle.lmtpd_words.specs.declared.words.TheConstants.{DEFAULT_BLOCKS, DEFAULT_CAPACITY, DEFAULT_LANES, DEFAULT_READS, DEFAULT_TIMEOUT}
+use Rattle.lmtpd_words.specs.declared.words.SiteWords.{SiteWords}
+use Rattle.lmtpd_words.specs.declared.words.RehearseWords.{RehearseWords}
+use Rattle.lmtpd_words.specs.declared.words.ServeWords.{ServeWords}
+use Rattle.lmtpd_words.specs.declared.words.Words.{Words}
+use Rattle.lmtpd_words.specs.declared.words.Words.TheVariants.{Rehearse, Serve}
+
+-- the texts of words
+abbrev pub given : List (String Global) → List Text
+given words = map (λ word. string_bytes word) words
+
+-- the number that a text writes in decimal
+abbrev pub number : Text → ℕ
+number text = digits_value 10 (without_leading_plus text)
+
+-- a text that writes a number below 2^32
+abbrev pub IsNumber : Text → Type 0
+IsNumber text = IsNumeral 10 (without_leading_plus text) × (number text < 2 ^ 32)
+
+-- the texts that commas join
+abbrev pub parts : Text → List Text
+parts text = slice_split (λ b. b == 44) text
+
+-- the number of a text that is given, and else the usual one
+abbrev pub IsNumberOr : ℕ → Option Text → ℕ → Type 0
+IsNumberOr usual None n = n ≡ usual
+IsNumberOr usual (Some text) n = IsNumber text → n ≡ number text
+
+-- the site that the values of the arguments name
+pub record IsSiteRead (rows : List Row) (words : SiteWords) : Type 0 where
+  pub host : first_of (codes "host") rows ≡ Some words.host.now
+  pub domains : texts words.domains.items ≡ option_map_or parts (first_of (codes "domains") rows) []
+  pub boxes : all_of (codes "box") rows ≡ Some (texts words.boxes.items)
+
+-- what the values of a rehearsal's arguments ask for
+pub record IsRehearseRead (rows : List Row) (words : RehearseWords) : Type 0 where
+  pub site : IsSiteRead rows words.site
+  pub time : option_map number (one_of (codes "time") rows) ≡ Some words.time
+  pub blocks : IsNumberOr DEFAULT_BLOCKS (one_of (codes "blocks") rows) words.blocks
+
+-- what the values of a server's arguments ask for
+pub record IsServeRead (rows : List Row) (words : ServeWords) : Type 0 where
+  pub site : IsSiteRead rows words.site
+  pub listen : first_of (codes "listen") rows ≡ Some words.listen.now
+  pub dir : first_of (codes "dir") rows ≡ Some words.dir.now
+  pub connections : option_map number (one_of (codes "connections") rows) ≡ Some words.connections
+  pub lanes : IsNumberOr DEFAULT_LANES (one_of (codes "lanes") rows) words.lanes
+  pub blocks : IsNumberOr DEFAULT_BLOCKS (one_of (codes "blocks") rows) words.blocks
+  pub capacity : IsNumberOr DEFAULT_CAPACITY (one_of (codes "capacity") rows) words.capacity
+  pub reads : IsNumberOr DEFAULT_READS (one_of (codes "reads") rows) words.reads
+  pub timeout : IsNumberOr DEFAULT_TIMEOUT (one_of (codes "timeout") rows) words.timeout
+
+-- an argument that must be given has no value, or no number
+abbrev pub LacksText : List ℕ → List Row → Type 0
+LacksText name rows = first_of name rows ≡ None
+
+abbrev pub LacksNumber : List ℕ → List Row → Type 0
+LacksNumber name rows = (text : Text) → one_of name rows ≡ Some text → IsNumber text → ⊥
+
+abbrev pub LacksSite : List Row → Type 0
+LacksSite rows = LacksText (codes "host") rows ⊎ (all_of (codes "box") rows ≡ None)
+
+abbrev pub LacksRehearse : List Row → Type 0
+LacksRehearse rows = LacksNumber (codes "time") rows ⊎ LacksSite rows
+
+abbrev pub LacksServe : List Row → Type 0
+LacksServe rows = LacksText (codes "listen") rows ⊎ (LacksText (codes "dir") rows ⊎ (LacksNumber (codes "connections") rows ⊎ LacksSite rows))
+
+-- what a subcommand's call asks for: its name and the rows that its arguments get
+abbrev pub IsAsked : Option (Text × List Row) → Words → Type 0
+IsAsked call (Rehearse words) = (rows : List Row) × (call ≡ Some (codes "rehearse", rows)) × IsRehearseRead rows words
+IsAsked call (Serve words) = (rows : List Row) × (call ≡ Some (codes "serve", rows)) × IsServeRead rows words
+
+-- a call of either lacks something
+pub record IsLacking (call : Option (Text × List Row)) : Type 0 where
+  pub rehearse : (rows : List Row) → call ≡ Some (codes "rehearse", rows) → LacksRehearse rows
+  pub serve : (rows : List Row) → call ≡ Some (codes "serve", rows) → LacksServe rows
+
+-- the site that they name
+abbrev pub named_site : SiteWords → Site
+named_site words = site_of words.host.now words.domains.items words.boxes.items

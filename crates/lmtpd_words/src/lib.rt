@@ -1,0 +1,13 @@
+//! The words of `lmtpd`: its command line, and what a call of it asks for.
+#![tactic(auto)]
+
+mod command;
+mod reading;
+mod values;
+mod words;
+
+pub use reading::{not_text, read_words};
+pub use words::{
+    DEFAULT_BLOCKS, DEFAULT_CAPACITY, DEFAULT_LANES, DEFAULT_READS, DEFAULT_TIMEOUT, RehearseWords,
+    ServeWords, SiteWords, Words,
+};

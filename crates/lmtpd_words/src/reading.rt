@@ -1,0 +1,58 @@
+//! Words in, and what they ask for out.
+
+ghost use Rattle.std.specs.Prelude.{◌≡◌, ◌⊎◌, [], true, IfOk, IfErr, MatchOption};
+ghost use Rattle.clap.specs.Words.{kind_of, subcommand_of, takes};
+ghost use Rattle.clap.specs.Words.{fault_of as kinds_for};
+ghost use Rattle.lmtpd_words.specs.CommandLine.{program_app};
+ghost use Rattle.lmtpd_words.specs.Words.{IsAsked, IsLacking, given};
+
+use crate::command::program;
+use crate::values::words_of;
+use crate::words::Words;
+use clap::Error;
+use clap::error::ErrorKind;
+use std::alloc::{AllocError, Global};
+
+/// Reads the words, the program's own name first. The error is `clap`'s, a call for help among them.
+pub fn read_words<'a>(alloc: Global, words: &'a [String]) -> Result<Words<'a>, Error>
+    ensures taken { IfOk result (λ _. kinds_for program_app (given words.entry.now) ≡ []) }
+    ensures read { IfOk result (IsAsked (subcommand_of program_app (given words.entry.now))) }
+    ensures refused { let texts = given words.entry.now in IfErr result (λ e. takes program_app texts ≡ true
+        → (kind_of e ≡ ErrorKind.OutOfMemory) ⊎ IsLacking (subcommand_of program_app texts)) }
+{
+    match called(alloc, words)? {
+        Some(read) => Ok(read),
+        None => Err(missing(alloc)?),
+    }
+}
+
+fn called<'a>(alloc: Global, words: &'a [String]) -> Result<Option<Words<'a>>, Error>
+    ensures taken { IfOk result (λ _. kinds_for program_app (given words.entry.now) ≡ []) }
+    ensures read { let call = subcommand_of program_app (given words.entry.now) in
+        IfOk result (λ read. MatchOption read (IsLacking call) (IsAsked call)) }
+    ensures refused { IfErr result (λ e. takes program_app (given words.entry.now) ≡ true
+        → kind_of e ≡ ErrorKind.OutOfMemory) }
+{
+    let matches = program(alloc)?.try_get_matches_from(words)?;
+    let read = words_of(alloc, &matches)?;
+    Ok(read)
+}
+
+fn missing(alloc: Global) -> Result<Error, AllocError>
+    ensures { IfOk result (λ e. kind_of e ≡ ErrorKind.MissingRequiredArgument) }
+{
+    program(alloc)?.error(ErrorKind::MissingRequiredArgument, "a word is missing")
+}
+
+/// The error for words that aren't UTF-8.
+pub fn not_text(alloc: Global) -> Result<Error, AllocError>
+    ensures { IfOk result (λ e. kind_of e ≡ ErrorKind.InvalidValue) }
+{
+    program(alloc)?.error(
+        ErrorKind::InvalidValue,
+        "invalid UTF-8 was detected in one or more arguments",
+    )
+}
+
+#[cfg(test)]
+mod tests;

@@ -1,0 +1,143 @@
+//! The values that `clap` found for the words.
+
+ghost use Rattle.std.specs.Prelude.{◌≡◌, [], codes, Some, IfOk, MatchOption};
+ghost use Rattle.clap.specs.Words.{Text, first_of, found_of, one_of, rows_of, subcommand_rows_of};
+ghost use Rattle.std.specs.Option.{option_map, option_map_or};
+ghost use Rattle.lmtp_text.specs.Sites.{texts};
+ghost use Rattle.lmtpd_words.specs.Words.{IsAsked, IsNumberOr, IsRehearseRead, IsServeRead, IsSiteRead};
+ghost use Rattle.lmtpd_words.specs.Words.{IsLacking, LacksNumber, LacksRehearse, LacksServe, LacksSite, number, parts};
+
+use crate::words::{
+    DEFAULT_BLOCKS, DEFAULT_CAPACITY, DEFAULT_LANES, DEFAULT_READS, DEFAULT_TIMEOUT, RehearseWords,
+    ServeWords, SiteWords, Words,
+};
+use clap::ArgMatches;
+use std::alloc::{AllocError, Global};
+
+/// What the subcommand asks for, and none where a value is missing.
+pub fn words_of<'a>(
+    alloc: Global,
+    matches: &ArgMatches<'a>,
+) -> Result<Option<Words<'a>>, AllocError>
+    ensures { let call = subcommand_rows_of matches.now in
+        IfOk result (λ read. MatchOption read (IsLacking call) (IsAsked call)) }
+{
+    match matches.subcommand_matches("rehearse") {
+        Some(rehearse) => match rehearse_words(alloc, rehearse)? {
+            Some(read) => Ok(Some(Words::Rehearse(read))),
+            None => Ok(None),
+        },
+        None => match matches.subcommand_matches("serve") {
+            Some(serve) => match serve_words(alloc, serve)? {
+                Some(read) => Ok(Some(Words::Serve(read))),
+                None => Ok(None),
+            },
+            None => Ok(None),
+        },
+    }
+}
+
+fn rehearse_words<'a>(
+    alloc: Global,
+    matches: &ArgMatches<'a>,
+) -> Result<Option<RehearseWords<'a>>, AllocError>
+    ensures { let rows = rows_of (found_of matches.now) in
+        IfOk result (λ read. MatchOption read (LacksRehearse rows) (IsRehearseRead rows)) }
+{
+    let Some(time) = number_of(matches, "time") else {
+        return Ok(None);
+    };
+    let Some(site) = site_words(alloc, matches)? else {
+        return Ok(None);
+    };
+    Ok(Some(RehearseWords {
+        site,
+        time,
+        blocks: number_or(matches, "blocks", DEFAULT_BLOCKS),
+    }))
+}
+
+fn serve_words<'a>(
+    alloc: Global,
+    matches: &ArgMatches<'a>,
+) -> Result<Option<ServeWords<'a>>, AllocError>
+    ensures { let rows = rows_of (found_of matches.now) in
+        IfOk result (λ read. MatchOption read (LacksServe rows) (IsServeRead rows)) }
+{
+    let Some(listen) = matches.get_str("listen") else {
+        return Ok(None);
+    };
+    let Some(dir) = matches.get_str("dir") else {
+        return Ok(None);
+    };
+    let Some(connections) = number_of(matches, "connections") else {
+        return Ok(None);
+    };
+    let Some(site) = site_words(alloc, matches)? else {
+        return Ok(None);
+    };
+    Ok(Some(ServeWords {
+        site,
+        listen,
+        dir,
+        connections,
+        lanes: number_or(matches, "lanes", DEFAULT_LANES),
+        blocks: number_or(matches, "blocks", DEFAULT_BLOCKS),
+        capacity: number_or(matches, "capacity", DEFAULT_CAPACITY),
+        reads: number_or(matches, "reads", DEFAULT_READS),
+        timeout: number_or(matches, "timeout", DEFAULT_TIMEOUT),
+    }))
+}
+
+fn site_words<'a>(
+    alloc: Global,
+    matches: &ArgMatches<'a>,
+) -> Result<Option<SiteWords<'a>>, AllocError>
+    ensures { let rows = rows_of (found_of matches.now) in
+        IfOk result (λ read. MatchOption read (LacksSite rows) (IsSiteRead rows)) }
+{
+    let Some(host) = matches.get_str("host") else {
+        return Ok(None);
+    };
+    let Some(boxes) = matches.get_strs("box") else {
+        return Ok(None);
+    };
+    let domains = domains_of(alloc, matches)?;
+    let boxes = boxes.to_vec(alloc)?;
+    Ok(Some(SiteWords {
+        host,
+        domains,
+        boxes,
+    }))
+}
+
+// The number that was given.
+fn number_of(matches: &ArgMatches<'_>, name: &str) -> Option<u32>
+    ensures { let rows = rows_of (found_of matches.now) in
+        MatchOption result (LacksNumber name.now rows) (λ n. option_map number (one_of name.now rows) ≡ Some n) }
+{
+    matches.get_one::<u32>(name)
+}
+
+// The number that was given, and else the usual one.
+fn number_or(matches: &ArgMatches<'_>, name: &str, usual: u32) -> u32
+    ensures { IsNumberOr usual (one_of name.now (rows_of (found_of matches.now))) result }
+{
+    number_of(matches, name).unwrap_or(usual)
+}
+
+fn domains_of<'a>(alloc: Global, matches: &ArgMatches<'a>) -> Result<Vec<&'a str>, AllocError>
+    ensures { let rows = rows_of (found_of matches.now) in
+        IfOk result (λ v. texts v.items ≡ option_map_or parts (first_of (codes "domains") rows) []) }
+{
+    match matches.get_str("domains") {
+        Some(list) => domains_in(alloc, list),
+        None => Ok(Vec::new(alloc)),
+    }
+}
+
+fn domains_in<'a>(alloc: Global, list: &'a str) -> Result<Vec<&'a str>, AllocError>
+    ensures { IfOk result (λ v. texts v.items ≡ parts list.entry.now) }
+{
+    list.split(',').collect(alloc)
+}

@@ -1,0 +1,63 @@
+//! What the words ask for, and the numbers where they name none.
+
+/// The blocks for messages on their way where the words name no number of them.
+pub const DEFAULT_BLOCKS: u32 = 8_192;
+
+/// The conversations that a server holds at once.
+pub const DEFAULT_LANES: u32 = 4;
+
+/// The copies that wait for a mailbox.
+pub const DEFAULT_CAPACITY: u32 = 16;
+
+/// The reads after which a conversation is stopped.
+pub const DEFAULT_READS: u32 = 1_000_000;
+
+/// The seconds that a client may be silent.
+pub const DEFAULT_TIMEOUT: u32 = 300;
+
+/// The site that the words name.
+#[derive(Debug, Drop)]
+pub struct SiteWords<'a> {
+    pub host: &'a str,
+    pub domains: Vec<&'a str>,
+    pub boxes: Vec<&'a str>,
+}
+
+/// What a rehearsal is asked to do.
+#[derive(Debug, Drop)]
+pub struct RehearseWords<'a> {
+    pub site: SiteWords<'a>,
+    /// The moment of each delivery, in seconds since 1970.
+    pub time: u32,
+    /// The blocks for messages on their way.
+    pub blocks: u32,
+}
+
+/// What a server is asked to do.
+#[derive(Debug, Drop)]
+pub struct ServeWords<'a> {
+    pub site: SiteWords<'a>,
+    /// The address and port to listen on, in text.
+    pub listen: &'a str,
+    /// The folder of the mailboxes.
+    pub dir: &'a str,
+    /// The conversations after which the server ends.
+    pub connections: u32,
+    /// The conversations that are held at once.
+    pub lanes: u32,
+    /// The blocks for messages on their way.
+    pub blocks: u32,
+    /// The copies that wait for a mailbox.
+    pub capacity: u32,
+    /// The reads after which a conversation is stopped.
+    pub reads: u32,
+    /// The seconds that a client may be silent.
+    pub timeout: u32,
+}
+
+/// What the program is asked to do.
+#[derive(Debug, Drop)]
+pub enum Words<'a> {
+    Rehearse(RehearseWords<'a>),
+    Serve(ServeWords<'a>),
+}

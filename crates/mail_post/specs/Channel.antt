@@ -1,0 +1,119 @@
+-- What contracts see of a channel and its ends.
+use Rattle.std.specs.Prelude.{◌≡◌, ◌==◌, ℕ, zero, suc, ◌+◌, ◌<◌, Bool, if◌then◌else◌, slice_index_or, Option, Some, None, Result, Ok, Err, List, [], ◌∷◌, ◌++◌, map}
+use Rattle.atomic_table.specs.Seated.{TableId}
+use Rattle.atomic_table.specs.declared.badge.Badge.{Badge}
+use Rattle.crossbeam_channel.specs.declared.flavors.array.Key.{Key}
+use Rattle.crossbeam_channel.specs.Claims.{Pass}
+use Rattle.mail_world.specs.Fronts.{IsFront}
+use Rattle.mail_post.specs.declared.rule.Parcel.{Parcel}
+use Rattle.mail_post.specs.declared.rule.Parcel.TheVariants.{Copy, Mark}
+use Rattle.mail_post.specs.declared.rule.View.{View}
+use Rattle.mail_post.specs.declared.channel.Gone.{Gone}
+use Rattle.mail_post.specs.declared.channel.Gone.TheVariants.{Closed}
+use Rattle.mail_post.specs.Parcels.{of, copies, has_mark}
+use Rattle.mail_post.specs.Views.{taker}
+use Rattle.mail_post.specs.Rule.{IsFair}
+
+-- which channel a token is of
+abbrev pub Channel : Type 0 → Type 0
+Channel M = TableId × Badge (Key (Parcel M))
+
+-- a sender: its number among its channel's, and what it was told was accepted
+pub record Sender (M : Type 0) : Type 0 where
+  pub channel : Channel M
+  pub number : ℕ
+  pub sent : List M
+
+-- the receiver: the number of lanes, what was taken (messages and marks), and why no more is
+pub record Inbox (M : Type 0) : Type 0 where
+  pub channel : Channel M
+  pub lanes : ℕ
+  pub got : List (Parcel M)
+  pub gone : Option Gone
+
+-- the closed senders: what each lane was told was accepted, by the lanes' numbers
+pub record Sent (M : Type 0) : Type 0 where
+  pub channel : Channel M
+  pub sent : List (List M)
+
+-- how many of the first n lanes pass the test
+abbrev pub count_senders : (ℕ → Bool) → ℕ → ℕ
+count_senders p zero = 0
+count_senders p (suc n) = if p n then count_senders p n + 1 else count_senders p n
+
+-- the list and one more before it
+abbrev pub with : {M : Type 0} → M → Option (List M) → Option (List M)
+with m None = None
+with m (Some ms) = Some (m ∷ ms)
+
+module _ {M : Type 0} where
+  abbrev pub channel_of : Pass (Parcel M) (View M) → Channel M
+  channel_of p = (p.table_id, p.me.0.of)
+
+  -- what a pass knows
+  abbrev pub view_of : Pass (Parcel M) (View M) → View M
+  view_of p = p.me.0.client
+
+  -- the messages that were taken
+  abbrev pub taken : Inbox M → List M
+  taken r = copies r.got
+
+  -- the first n lanes, which have sent nothing
+  abbrev pub new_senders : Channel M → ℕ → List (Sender M)
+  new_senders channel zero = []
+  new_senders channel (suc n) = new_senders channel n ++ record { channel = channel; number = n; sent = [] } ∷ []
+
+  -- the receiver that a channel begins with
+  abbrev pub new_inbox : Channel M → ℕ → Inbox M
+  new_inbox channel lanes = record { channel = channel; lanes = lanes; got = []; gone = None }
+
+  -- they are of lanes i, i + 1, .. of one channel
+  abbrev pub AreSendersFrom : ℕ → Channel M → List (Sender M) → Type 0
+  AreSendersFrom i channel [] = Unit {0}
+  AreSendersFrom i channel (x ∷ xs) = (x.channel ≡ channel) × (x.number ≡ i) × AreSendersFrom (i + 1) channel xs
+
+  -- each of the senders is of that channel, and they are in lane order from lane 0 on
+  abbrev pub AreSendersOf : Channel M → List (Sender M) → Type 0
+  AreSendersOf channel xs = AreSendersFrom 0 channel xs
+
+  -- the senders of one channel, in lane order, and at least one
+  abbrev pub AreSenders : List (Sender M) → Type 0
+  AreSenders [] = ⊥
+  AreSenders (x ∷ xs) = AreSendersOf x.channel (x ∷ xs)
+
+  -- what each was told was accepted
+  abbrev pub lists : List (Sender M) → List (List M)
+  lists xs = map (λ x. x.sent) xs
+
+  module _ (lane : M → ℕ) where
+    -- the messages of lane k in front of its mark
+    abbrev pub before_mark : ℕ → List (Parcel M) → Option (List M)
+    before_mark k [] = None
+    before_mark k (Copy m ∷ xs) = if lane m == k then with m (before_mark k xs) else before_mark k xs
+    before_mark k (Mark j ∷ xs) = if j == k then Some [] else before_mark k xs
+
+    -- all lanes' marks were taken, and no message of a lane behind its mark. A mark carries its lane's number alone; that the messages in
+    -- front of it are all that the lane was told was accepted is the law NamesAll
+    abbrev pub IsDrained : Inbox M → Type 0
+    IsDrained r = (k : ℕ) → k < r.lanes → before_mark k r.got ≡ Some (of lane k (taken r))
+
+    -- what was taken of each lane is the start of what it was told was accepted
+    abbrev pub TookSome : List M → List (List M) → Type 0
+    TookSome ms sent = (k : ℕ) → IsFront (of lane k ms) (slice_index_or sent k [])
+
+    -- what was taken of each lane is all that it was told was accepted, and nothing was taken of another
+    abbrev pub TookAll : List M → List (List M) → Type 0
+    TookAll ms sent = (k : ℕ) → of lane k ms ≡ slice_index_or sent k []
+
+    -- what one parcel makes of a receiver that isn't gone: a mark that isn't the last answers nothing
+    abbrev pub IsNext : Inbox M → Inbox M → Option (Result M Gone) → Type 0
+    IsNext old new None = (new.gone ≡ None) × (taken new ≡ taken old)
+    IsNext old new (Some (Ok post)) = (new.gone ≡ None) × (taken new ≡ taken old ++ post ∷ []) × (lane post < old.lanes)
+    IsNext old new (Some (Err why)) = (new.gone ≡ Some why) × (taken new ≡ taken old) × (why ≡ Closed → IsDrained new)
+
+-- what a receiver keeps of what its pass knows: the marks taken are counted, and it is closed only with those of all lanes
+pub record IsInbox {M : Type 0} (lane : M → ℕ) (lanes marks : ℕ) (gone : Option Gone) (v : View M) : Type 0 where
+  pub knows : v ≡ taker lanes v.got
+  pub fair : IsFair lane lanes v.got
+  pub counted : count_senders (λ k. has_mark k v.got) lanes ≡ marks
+  pub all : gone ≡ Some Closed → marks ≡ lanes

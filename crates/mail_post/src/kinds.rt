@@ -1,0 +1,85 @@
+//! The two kinds of channel: a mailbox's, from the lanes to its worker, and a lane's, from the workers that give it
+//! slips.
+
+ghost use Rattle.std.specs.Prelude.{◌≡◌, ◌<◌, [], IfOk};
+ghost use Rattle.mail_post.specs.Channel.{new_senders, new_inbox, AreSenders, AreSendersOf, lists};
+
+use crate::channel::{ChannelClosed, ChannelReceiver, ChannelSender, close_channel, open_channel};
+use crate::post::Post;
+use crate::rule::FromSender;
+use mail_world::Slip;
+use mail_world::limits::RECIPIENT_LIMIT;
+use msg_depot::DepotName;
+use std::alloc::{AllocError, Global};
+use std::sync::Wait;
+
+/// A copy is of the lane that runs its transaction.
+impl<N: DepotName> FromSender for Post<N> {
+    ghost sender = { λ post. post.txn.lane };
+}
+
+/// A slip is of the worker that gives it.
+impl FromSender for Slip {
+    ghost sender = { λ slip. slip.worker };
+}
+
+/// A lane's end of a mailbox's channel.
+pub type Sender<N> = ChannelSender<Post<N>>;
+
+/// The worker's end of a mailbox's channel.
+pub type Receiver<N> = ChannelReceiver<Post<N>>;
+
+/// All lanes' ends of a mailbox's channel, once it is closed.
+pub type Closed<N> = ChannelClosed<Post<N>>;
+
+/// A worker's end of a lane's channel of slips.
+pub type SlipSender = ChannelSender<Slip>;
+
+/// The lane's end of its channel of slips.
+pub type SlipReceiver = ChannelReceiver<Slip>;
+
+/// All workers' ends of a lane's channel of slips, once it is closed.
+pub type SlipsClosed = ChannelClosed<Slip>;
+
+/// The channel of one mailbox, which has room for that many copies: a sender for each lane, and the receiver.
+pub fn mail_line<N: DepotName>(
+    alloc: Global,
+    capacity: usize,
+    lanes: u32,
+) -> Result<(Vec<Sender<N>>, Receiver<N>), AllocError>
+    requires capacity { 0 < capacity }
+    requires lanes { 0 < lanes }
+    ensures senders { IfOk result (λ ends. ends.0.items ≡ new_senders ends.1.channel lanes) }
+    ensures receiver { IfOk result (λ ends. ends.1 ≡ new_inbox ends.1.channel lanes) }
+{
+    open_channel(alloc, capacity, lanes)
+}
+
+/// Puts one closing mark for each sender, in lane order. Where the receiver is gone it puts no more, and answers the
+/// same.
+pub fn close<N: DepotName, R: Wait>(senders: Vec<Sender<N>>, rt: &R) -> Closed<N>
+    requires { AreSenders senders.items }
+    ensures channel { AreSendersOf result.channel senders.items }
+    ensures sent { result.sent ≡ lists senders.items }
+{
+    close_channel::<Post<N>, R>(senders, rt)
+}
+
+/// The channel of one lane's slips: a sender for each worker, and the receiver. It has room for a slip of each
+/// recipient of a message.
+pub fn slip_line(alloc: Global, workers: u32) -> Result<(Vec<SlipSender>, SlipReceiver), AllocError>
+    requires { 0 < workers }
+    ensures senders { IfOk result (λ ends. ends.0.items ≡ new_senders ends.1.channel workers) }
+    ensures receiver { IfOk result (λ ends. ends.1 ≡ new_inbox ends.1.channel workers) }
+{
+    open_channel(alloc, RECIPIENT_LIMIT, workers)
+}
+
+/// As `close`, for the senders of one lane's slips, in the workers' order.
+pub fn close_slips<R: Wait>(senders: Vec<SlipSender>, rt: &R) -> SlipsClosed
+    requires { AreSenders senders.items }
+    ensures channel { AreSendersOf result.channel senders.items }
+    ensures sent { result.sent ≡ lists senders.items }
+{
+    close_channel::<Slip, R>(senders, rt)
+}

@@ -1,0 +1,92 @@
+"""Random conversations: made by the grammar, and then broken."""
+
+CLIENTS = [b"relay.example", b"[127.0.0.1]", b"x", b"a" * 255, b"a" * 256, b"", b"a b", b"<a>"]
+SENDERS = [b"<carl@a.example>", b"<>", b"<@r.example:d@e.example>", b'<"a b\\"c"@d.example>', b"carl@a.example", b"<a@b", b"< >"]
+RECIPIENTS = [
+    b"<anna>",
+    b"<ben@mx.example>",
+    b'<"An\\na"@MX.EXAMPLE>',
+    b"<postmaster>",
+    b"<zoe@mx.example>",
+    b"<anna@[1.2.3.4]>",
+    b"<anna@other.example>",
+    b"anna",
+]
+PARAMETERS = [b"", b" SIZE=10", b" size=1048577", b" BODY=8BITMIME", b" SIZE=1 SIZE=2", b" SIZE", b" =", b" RET=FULL", b"  "]
+LINES = [
+    b"hello",
+    b"",
+    b".",
+    b"..",
+    b".a",
+    b"From x",
+    b">From x",
+    b">>>From ",
+    b"From a Thu Jan  1 00:00:00 1970",
+    b"x" * 510,
+    b"x" * 511,
+    b"x" * 1023,
+    b"\xff\x00\x80",
+    b"a\rb",
+    b"a\nFrom y",
+    b"\r",
+    b"mailbox anna 7",
+    b"QUIT",
+]
+ALONE = [b"RSET", b"NOOP", b"NOOP x", b"VRFY anna", b"EXPN all", b"HELP", b"HELO a", b"EHLO a", b"DATA", b"QUIT x", b"", b" ", b"AUTH", b"x" * 1022]
+INSERTED = [b"\r", b"\n", b"\0", b"\r\n", b".", b"\r\n.\r\n", b"\n.\n", b"\r.\r", b"From ", b" ", b"\xff"]
+
+
+def made(random):
+    """The lines of a conversation as a client might hold it."""
+    yield b"LHLO " + (random.choice(CLIENTS) if random.random() < 0.2 else CLIENTS[0])
+    for _ in range(random.randrange(4)):
+        yield from transaction(random)
+        if random.random() < 0.3:
+            yield random.choice(ALONE)
+    if random.random() < 0.8:
+        yield b"QUIT"
+
+
+def transaction(random):
+    yield b"MAIL FROM:" + random.choice(SENDERS[: random.choice([1, 3, len(SENDERS)])]) + random.choice(PARAMETERS[: random.choice([1, 4, len(PARAMETERS)])])
+    for _ in range(random.choice([0, 1, 1, 2, 3, 8, 101 if random.random() < 0.02 else 1])):
+        yield b"RCPT TO:" + random.choice(RECIPIENTS[: random.choice([2, len(RECIPIENTS)])])
+    yield b"DATA"
+    for _ in range(random.choice([0, 1, 3, 10])):
+        line = random.choice(LINES)
+        yield b"." + line if line.startswith(b".") and random.random() < 0.9 else line
+    yield b"."
+
+
+def broken(random, text):
+    """The text with some bytes dropped, doubled, put in or changed, or cut off."""
+    text = bytearray(text)
+    for _ in range(random.choice([0, 0, 1, 2, 5])):
+        at = random.randrange(len(text) + 1)
+        until = min(len(text), at + random.choice([1, 1, 2, 30]))
+        change = random.randrange(5)
+        if change == 0:
+            del text[at:until]
+        elif change == 1:
+            text[at:at] = text[at:until]
+        elif change == 2:
+            text[at:at] = random.choice(INSERTED)
+        elif change == 3:
+            text[at:until] = random.randbytes(until - at)
+        elif random.random() < 0.3:
+            del text[at:]
+    return bytes(text)
+
+
+def conversation(random):
+    text = b"".join(line + b"\r\n" for line in made(random))
+    return broken(random, text)
+
+
+def pieces(random, text):
+    """The text cut into pieces, at most fifty, or whole."""
+    if random.random() < 0.7:
+        return [text]
+    cuts = sorted(random.randrange(len(text) + 1) for _ in range(random.randrange(50)))
+    return [text[at:until] for at, until in zip([0, *cuts], [*cuts, len(text)])]

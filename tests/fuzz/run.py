@@ -1,0 +1,127 @@
+"""Plays random conversations on the built program, for tests/fuzz.sh."""
+
+import concurrent.futures
+import mailbox
+import os
+import pathlib
+import random
+import re
+import subprocess
+import sys
+import tempfile
+import time
+
+import conversations
+
+LMTPD = os.environ["LMTPD"]
+BOXES = ["anna", "ben"]
+WORDS = [LMTPD, "rehearse", "--host", "mx.example", "--time", "0", *BOXES]
+SECONDS = 20  # that a case may take
+BATCH = 250  # cases whose mailboxes are read back together
+MOST_SECONDS = 400  # for all cases
+
+OFFER = b"250-mx.example\r\n250-PIPELINING\r\n250-ENHANCEDSTATUSCODES\r\n250-8BITMIME\r\n250 SIZE 1048576"
+REPLIES = {
+    *[b"220 mx.example LMTP ready", OFFER, b"250 2.1.0 Sender ok", b"250 2.1.5 Recipient ok", b"354 End with a lone dot"],
+    *[b"250 2.0.0 Reset", b"250 2.0.0 Ok", b"252 2.0.0 Not checked", b"221 2.0.0 mx.example closing"],
+    *[b"214 2.0.0 LHLO MAIL RCPT DATA RSET NOOP QUIT VRFY HELP", b"550 5.1.1 No such mailbox"],
+    *[b"452 4.5.3 Too many recipients", b"503 5.5.1 Out of order", b"500 5.5.2 Line too long", b"500 5.5.2 Unknown command"],
+    *[b"500 Use LHLO", b"502 5.5.1 Not offered", b"501 5.5.4 Bad arguments", b"501 5.1.7 Bad sender", b"501 5.1.3 Bad recipient"],
+    *[b"555 5.5.4 Unknown parameter", b"552 5.3.4 Message too large", b"501 Bad client name"],
+    *[text % box.encode() for box in BOXES for text in [b"250 2.0.0 Stored for %s", b"552 5.3.4 Too large for %s"]],
+}
+
+
+class Wrong(Exception):
+    pass
+
+
+def run(seed, number):
+    """One case: how often each mailbox was told Stored, and its bytes."""
+    chance = random.Random(f"{seed} {number}")
+    given = conversations.conversation(chance)
+    pipes = {"stdin": subprocess.PIPE, "stdout": subprocess.PIPE, "stderr": subprocess.PIPE}
+    with subprocess.Popen(WORDS, bufsize=0, **pipes) as process:
+        try:
+            for piece in conversations.pieces(chance, given):
+                process.stdin.write(piece)
+        except BrokenPipeError:
+            pass  # it doesn't read behind QUIT
+        try:
+            said, errors = process.communicate(timeout=SECONDS)
+        finally:
+            process.kill()
+    try:
+        if process.returncode != 0 or errors:
+            raise Wrong(f"status {process.returncode}, {errors!r}")
+        return checked(said)
+    except Wrong as wrong:
+        raise Wrong(f"case {number}: {wrong}\n  given {given!r}\n  said {said!r:.3000}") from None
+
+
+def checked(said):
+    at = said.index(b"\r\nmailbox %s " % BOXES[0].encode()) + 2
+    replies = re.sub(rb"\r\n(?!\Z)", b"\n", said[:at].replace(OFFER, b"OFFER")).removesuffix(b"\r\n").split(b"\n")
+    for reply in replies:
+        if reply != b"OFFER" and reply not in REPLIES:
+            raise Wrong(f"the reply {reply!r}")
+    told, texts = {}, {}
+    for box in BOXES:
+        line = re.compile(rb"mailbox %s (\d+)\n" % box.encode()).match(said, at)
+        at = line.end() + int(line[1])
+        texts[box] = said[line.end() : at]
+        told[box] = replies.count(b"250 2.0.0 Stored for " + box.encode())
+    if at != len(said):
+        raise Wrong("bytes behind the mailboxes")
+    return told, texts
+
+
+def letters_by_git(path):
+    with tempfile.TemporaryDirectory() as folder:
+        words = ["git", "mailsplit", "--mboxrd", "--keep-cr", "-d8", f"-o{folder}", path]
+        subprocess.run(words, stdout=subprocess.DEVNULL, check=True)
+        return len(os.listdir(folder))
+
+
+def letters_by_python(path):
+    box = mailbox.mbox(path, create=False)
+    count = len(box)
+    box.close()
+    return count
+
+
+def read_back(folder, found):
+    """Both readers find as many letters as were told Stored."""
+    path = pathlib.Path(folder, "letters")
+    for box in BOXES:
+        path.write_bytes(b"".join(texts[box] for _, texts in found))
+        told = sum(counts[box] for counts, _ in found)
+        if not (told == letters_by_git(path) == letters_by_python(path)):
+            return False
+    return True
+
+
+def main(cases, seed):
+    print(f"{cases} cases, seed {seed}", flush=True)
+    began, stored, done = time.monotonic(), 0, 0
+    with concurrent.futures.ThreadPoolExecutor(2 * os.cpu_count()) as pool, tempfile.TemporaryDirectory() as folder:
+        for first in range(0, cases, BATCH):
+            numbers = range(first, min(first + BATCH, cases))
+            found = list(pool.map(lambda number: run(seed, number), numbers))
+            if not read_back(folder, found):
+                wrong = [number for number, one in zip(numbers, found) if not read_back(folder, [one])]
+                raise Wrong(f"cases {wrong}: letters aren't read back as often as they were told Stored")
+            stored += sum(sum(counts.values()) for counts, _ in found)
+            done += len(found)
+            if time.monotonic() - began > MOST_SECONDS:
+                break
+    print(f"ok: {done} conversations, {stored} letters told Stored and read back as often, in {time.monotonic() - began:.0f} s")
+    if done < cases:
+        print(f"{cases - done} were left out for time")
+
+
+try:
+    main(int(sys.argv[1]), sys.argv[2])
+except Wrong as wrong:
+    print(f"FAILED: {wrong}")
+    sys.exit(1)

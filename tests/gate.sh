@@ -1,0 +1,55 @@
+#!/usr/bin/env bash
+# The gate, from nothing. First `rt ci`: proves every crate and its tests, tries the must-fail edits, runs the
+# program and the tests. Then, over what that built, each script of tests/, and the build of each benchmark (none
+# is measured here). A script that lacks something of the machine says so and ends with status 77: that is
+# counted apart, as absent. The last line counts all: 'N passed, M failed'.
+# usage: tests/gate.sh [--scripts]: with the word only what comes behind `rt ci`, on what stands built
+set -uo pipefail
+cd "$(dirname "$0")/.."
+export LMTPD=$PWD/crates/lmtpd/out/lmtpd
+passed=0 failed=0 absent=0
+
+# count FILE: adds the last line of `rt ci`, which counts crates, edits, the program and the tests.
+count() {
+    local line
+    line=$(tail -n 1 "$1")
+    if [[ $line =~ ^([0-9]+)\ passed,\ ([0-9]+)\ failed$ ]]; then
+        passed=$((passed + BASH_REMATCH[1])) failed=$((failed + BASH_REMATCH[2]))
+    else
+        echo "rt ci ended with: $line"
+        failed=$((failed + 1))
+    fi
+}
+
+# play COMMAND..: runs it, for ten minutes at most, and counts how it ended.
+play() {
+    local status=0
+    echo "== $*"
+    timeout --kill-after=10 600 "$@" < /dev/null 2>&1 || status=$?
+    case $status in
+    0) passed=$((passed + 1)) ;;
+    77) absent=$((absent + 1)) && echo "absent: $*" ;;
+    *) failed=$((failed + 1)) && echo "FAILED with status $status: $*" ;;
+    esac
+}
+
+if [ "${1:-}" != --scripts ]; then
+    said=$(mktemp)
+    trap 'rm -f "$said"' EXIT
+    rt ci 2>&1 | tee "$said"
+    count "$said"
+fi
+if [ -x "$LMTPD" ]; then
+    for script in tests/*.sh; do
+        [ "$script" = tests/gate.sh ] || play "$script"
+    done
+    for benchmark in bench/*.sh; do
+        play "$benchmark" --build
+    done
+else
+    echo 'FAILED: no program was built, so no script was run'
+    failed=$((failed + 1))
+fi
+[ "$absent" = 0 ] || echo "$absent not run: see 'absent' above"
+echo "$passed passed, $failed failed"
+[ "$failed" = 0 ]

@@ -1,0 +1,135 @@
+"""Refuses each allocation and each thread of a rehearsal and of a server in turn, for tests/no_memory.sh."""
+
+import os
+import pathlib
+import socket
+import subprocess
+import sys
+import tempfile
+
+LMTPD, LIBRARY = os.environ["LMTPD"], sys.argv[1]
+SECONDS = 20  # that a run may take
+MOST = 2000  # calls of a run
+MEMORY, NO_THREAD = b"lmtpd: memory\n", b"lmtpd: no thread\n"
+COMMANDS = b"LHLO relay.example\r\nMAIL FROM:<carl@a.example>\r\nRCPT TO:<anna>\r\nRCPT TO:<ben>\r\nDATA\r\n"
+GIVEN = COMMANDS + b"Subject: hi\r\n\r\nhello\r\n.\r\nQUIT\r\n"
+STORED = b"250 2.0.0 Stored for anna\r\n250 2.0.0 Stored for ben\r\n221 2.0.0 mx.example closing\r\n"
+
+
+class Wrong(Exception):
+    pass
+
+
+class Refusing:
+    """A run in which one call is refused, or that one and all later ones."""
+
+    def __init__(self, number, is_all):
+        self.is_all = is_all
+        self.told, self.writer = os.pipe()
+        os.set_inheritable(self.writer, True)
+        self.given = {"LD_PRELOAD": LIBRARY, "REFUSE": str(number), "REFUSE_TOLD": str(self.writer)}
+        if is_all:
+            self.given["REFUSE_ALL"] = "1"
+
+    def start(self, words):
+        ends = {"stdin": subprocess.PIPE, "stdout": subprocess.PIPE, "stderr": subprocess.PIPE}
+        return subprocess.Popen([LMTPD, *words], pass_fds=[self.writer], env={**os.environ, **self.given}, **ends)
+
+    def refused(self):
+        """What was refused: nothing, b'r' for memory, b't' for a thread."""
+        os.close(self.writer)
+        with os.fdopen(self.told, "rb") as told:
+            return told.read()
+
+
+def is_refused(what, ended, is_all):
+    """Something was refused, and the run didn't end well all the same: a list whose growth by half was refused asks for
+    just what it needs. Once all later calls are refused no run ends well."""
+    return what and (is_all or ended[0] != 0)
+
+
+def check_refused(what, ended, said):
+    """The program says just why, and nothing but what it had said before."""
+    status, output, errors = ended
+    # a thread's start takes memory, too
+    lines = {b"r": [MEMORY, NO_THREAD], b"t": [NO_THREAD]}[what]
+    if status != 1 or errors not in lines or output not in said:
+        raise Wrong(f"refused {what!r}: status {status}, {output!r:.200}, {errors!r:.200}")
+
+
+def rehearse(refusing):
+    process = refusing.start(["rehearse", "--host", "mx.example", "--time", "0", "anna", "ben"])
+    output, errors = process.communicate(GIVEN, timeout=SECONDS)
+    ended, what = (process.returncode, output, errors), refusing.refused()
+    if is_refused(what, ended, refusing.is_all):
+        check_refused(what, ended, [b""])
+    elif ended[0] != 0 or errors or STORED not in output:
+        raise Wrong(f"not refused: {ended!r:.300}")
+    return what
+
+
+def serve(refusing):
+    with tempfile.TemporaryDirectory() as folder:
+        fixed = ["--host", "mx.example", "--listen", "127.0.0.1:0", "--dir", folder, "--connections", "2", "--lanes", "2"]
+        process = refusing.start(["serve", *fixed, "anna", "ben"])
+        first = process.stdout.readline()
+        heard = [converse(first), converse(first)]
+        output, errors = process.communicate(timeout=SECONDS)
+        files = [path.read_bytes() for path in sorted(pathlib.Path(folder).iterdir())]
+    ended, what = (process.returncode, first + output, errors), refusing.refused()
+    if is_refused(what, ended, refusing.is_all):
+        check_refused(what, ended, [b"", first])
+        check_kept(ended[2], heard, files)
+    elif ended[0] != 0 or errors or output != b"anna stored 2\nben stored 2\n" or any(STORED not in text for text in heard):
+        raise Wrong(f"not refused: {ended!r:.300}, {heard!r:.300}")
+    return what
+
+
+def check_kept(errors, heard, files):
+    """Nothing was taken; where a lane had started before a thread was refused, its clients are served: as many letters lie in
+    the mailboxes as were told Stored."""
+    told = sum(text.count(b"Stored for") for text in heard)
+    if errors == MEMORY and (any(files) or any(b"354 " in text for text in heard)):
+        raise Wrong(f"want of memory, and yet {heard!r:.300}, {files!r:.300}")
+    if sum(text.count(b"From carl@a.example ") for text in files) != told:
+        raise Wrong(f"told {told} times Stored, and {files!r:.300}")
+
+
+def converse(first):
+    """What a client hears of a server that said where it listens, up to the end; nothing where it is gone."""
+    if not first.startswith(b"listening on "):
+        return b""
+    host, port = first.decode().removeprefix("listening on ").strip().rsplit(":", 1)
+    heard = b""
+    try:
+        with socket.create_connection((host, int(port)), timeout=SECONDS) as client:
+            client.sendall(GIVEN)
+            while piece := client.recv(65536):
+                heard += piece
+    except OSError:
+        pass
+    return heard
+
+
+def in_turn(name, run, is_all):
+    counts = {b"r": 0, b"t": 0}
+    for number in range(1, MOST):
+        try:
+            what = run(Refusing(number, is_all))
+        except Wrong as wrong:
+            raise Wrong(f"{name}, call {number}{' and all later ones' if is_all else ''}: {wrong}") from None
+        if not what:
+            later = " and all later ones" if is_all else ""
+            print(f"ok: {name}: each of {counts[b'r']} allocations and {counts[b't']} threads refused in turn{later}", flush=True)
+            return
+        counts[what[:1]] += 1
+    raise Wrong(f"{name}: no end after {MOST} calls")
+
+
+try:
+    for is_all in [False, True]:
+        in_turn("rehearse", rehearse, is_all)
+        in_turn("serve", serve, is_all)
+except Wrong as wrong:
+    print(f"FAILED: {wrong}")
+    sys.exit(1)

@@ -1,0 +1,283 @@
+"""The worked examples, as runs of `lmtpd rehearse`: what goes in, and every byte that comes out.
+
+What is expected is written out here by the rules of the standards and by hand; nothing is taken from the program."""
+
+from dataclasses import dataclass, field
+
+CRLF = b"\r\n"
+GREETING = b"220 mx.example LMTP ready"
+OFFER = [b"250-mx.example", b"250-PIPELINING", b"250-ENHANCEDSTATUSCODES", b"250-8BITMIME", b"250 SIZE 1048576"]
+SENDER_OK = b"250 2.1.0 Sender ok"
+RECIPIENT_OK = b"250 2.1.5 Recipient ok"
+GO_AHEAD = b"354 End with a lone dot"
+BYE = b"221 2.0.0 mx.example closing"
+OUT_OF_ORDER = b"503 5.5.1 Out of order"
+UNKNOWN = b"500 5.5.2 Unknown command"
+OPENED = [GREETING, *OFFER, SENDER_OK]
+
+PROLOGUE = [b"LHLO relay.example", b"MAIL FROM:<carl@a.example>"]
+TO_ANNA = b"RCPT TO:<anna@mx.example>"
+HELLO = [b"Subject: hi", b"", b"hello", b"."]
+HELLO_STORED = b"Subject: hi\n\nhello\n"
+
+
+def stored(box):
+    return b"250 2.0.0 Stored for " + box.encode()
+
+
+def head(number=1, sender=b"carl@a.example", moment=(b"Thu Jan  1 00:00:00 1970", b"Thu, 1 Jan 1970 00:00:00 +0000")):
+    """The From line and the trace lines of a record."""
+    lines = [
+        b"From " + (sender or b"MAILER-DAEMON") + b" " + moment[0],
+        b"Return-Path: <" + sender + b">",
+        b"Received: from relay.example",
+        b"\tby mx.example with LMTP id 0-%d;" % number,
+        b"\t" + moment[1],
+    ]
+    return b"".join(line + b"\n" for line in lines)
+
+
+def record(text, **given):
+    return head(**given) + text + b"\n"
+
+
+@dataclass
+class Row:
+    name: str
+    given: list  # lines, or bytes that are taken as they are
+    replies: list
+    mailboxes: dict
+    words: list = field(default_factory=list)
+    time: int = 0
+
+    def input(self):
+        return b"".join(one if isinstance(one, bytearray) else one + CRLF for one in self.given)
+
+    def output(self):
+        said = b"".join(reply + CRLF for reply in self.replies)
+        return said + b"".join(b"mailbox %s %d\n" % (box.encode(), len(text)) + text for box, text in self.mailboxes.items())
+
+
+def message(name, data, text, **more):
+    """One message for anna in `data`, which becomes this text of her record."""
+    return Row(
+        name,
+        [*PROLOGUE, TO_ANNA, b"DATA", *data, b"QUIT"],
+        [*OPENED, RECIPIENT_OK, GO_AHEAD, stored("anna"), BYE],
+        {"anna": record(text, **more), "ben": b""},
+    )
+
+
+def rows():
+    yield from conversations()
+    yield from texts()
+    yield from limits()
+    yield from moments()
+    yield from smuggled()
+
+
+def conversations():
+    yield Row(
+        "one message",
+        [*PROLOGUE, TO_ANNA, b"DATA", *HELLO, b"QUIT"],
+        [*OPENED, RECIPIENT_OK, GO_AHEAD, stored("anna"), BYE],
+        {"anna": record(HELLO_STORED)},
+    )
+    yield Row(
+        "two mailboxes, and one that there isn't",
+        [*PROLOGUE, TO_ANNA, b"RCPT TO:<zoe@mx.example>", b"RCPT TO:<ben@mx.example>", b"DATA", *HELLO, b"QUIT"],
+        [*OPENED, RECIPIENT_OK, b"550 5.1.1 No such mailbox", RECIPIENT_OK, GO_AHEAD, stored("anna"), stored("ben"), BYE],
+        {"anna": record(HELLO_STORED), "ben": record(HELLO_STORED)},
+    )
+    yield Row(
+        "one mailbox twice",
+        [*PROLOGUE, TO_ANNA, TO_ANNA, b"DATA", *HELLO, b"QUIT"],
+        [*OPENED, RECIPIENT_OK, RECIPIENT_OK, GO_AHEAD, stored("anna"), stored("anna"), BYE],
+        {"anna": record(HELLO_STORED) * 2, "ben": b""},
+    )
+    yield Row(
+        "no recipient is accepted, so data is out of order",
+        [*PROLOGUE, b"RCPT TO:<zoe@mx.example>", b"DATA", b"hello", b".", b"QUIT"],
+        [*OPENED, b"550 5.1.1 No such mailbox", OUT_OF_ORDER, UNKNOWN, UNKNOWN, BYE],
+        {"anna": b"", "ben": b""},
+    )
+    yield Row(
+        "HELO and EHLO have no positive reply",
+        [b"HELO a", b"EHLO a", b"MAIL FROM:<>", b"QUIT"],
+        [GREETING, b"500 Use LHLO", b"500 Use LHLO", OUT_OF_ORDER, BYE],
+        {"anna": b"", "ben": b""},
+    )
+    yield Row(
+        "the input ends inside data",
+        [*PROLOGUE, TO_ANNA, b"DATA", b"Subject: hi"],
+        [*OPENED, RECIPIENT_OK, GO_AHEAD],
+        {"anna": b"", "ben": b""},
+    )
+    yield Row(
+        "parameters and paths of MAIL",
+        [
+            b"LHLO relay.example",
+            b"mail from: <a@b> size=10 BODY=8bitmime",
+            b"RSET",
+            b"MAIL FROM:<a@b> RET=FULL",
+            b"MAIL FROM:<a@b> BODY=X",
+            b"MAIL FROM:<a@b> SIZE=",
+            b"MAIL FROM:a@b",
+            b"LHLO",
+            b"QUIT",
+        ],
+        [
+            GREETING,
+            *OFFER,
+            SENDER_OK,
+            b"250 2.0.0 Reset",
+            b"555 5.5.4 Unknown parameter",
+            b"501 5.5.4 Bad arguments",
+            b"501 5.5.4 Bad arguments",
+            b"501 5.1.7 Bad sender",
+            b"501 Bad client name",
+            BYE,
+        ],
+        {"anna": b"", "ben": b""},
+    )
+    yield Row(
+        "postmaster, a quoted local part, an address in brackets",
+        [*PROLOGUE, b"RCPT TO:<Postmaster>", b'RCPT TO:<"ANNA"@MX.example>', b"RCPT TO:<anna@[127.0.0.1]>", b"QUIT"],
+        [*OPENED, RECIPIENT_OK, RECIPIENT_OK, b"550 5.1.1 No such mailbox", BYE],
+        {"anna": b"", "ben": b""},
+    )
+    yield Row(
+        "commands that change nothing",
+        [b"VRFY anna", b"EXPN all", b"HELP", b"RSET", b"QUIT"],
+        [
+            GREETING,
+            b"252 2.0.0 Not checked",
+            b"502 5.5.1 Not offered",
+            b"214 2.0.0 LHLO MAIL RCPT DATA RSET NOOP QUIT VRFY HELP",
+            b"250 2.0.0 Reset",
+            BYE,
+        ],
+        {"anna": b"", "ben": b""},
+    )
+
+
+def texts():
+    yield message("no data", [b"."], b"")
+    yield message("dots of transparency", [b"..a", b".b", b"."], b".a\nb\n")
+    yield message("bare line feeds", [bytearray(b"a\n.\nb\r\n.\nc\r\n.\r\n")], b"a\n.\nb\n\nc\n")
+    yield message(
+        "lines that look like From lines",
+        [b"From x", b">From x", b">>From x", b"From:x", bytearray(b"a\nFrom y\r\n.\r\n")],
+        b">From x\n>>From x\n>>>From x\nFrom:x\na\n>From y\n",
+    )
+    for size in range(505, 514):
+        yield message(
+            f"a quoted line behind {size} bytes",
+            [b"x" * (size - 2), b">>>From q", b"."],
+            b"x" * (size - 2) + b"\n>>>>From q\n",
+        )
+    senders = {b"<>": b"", b"<@a.example,@b.example:c@d.example>": b"c@d.example", b"<carl>": b"carl"}
+    for path, sender in senders.items():
+        row = message(f"the sender {path.decode()}", HELLO, HELLO_STORED, sender=sender)
+        row.given[1] = b"MAIL FROM:" + path
+        yield row
+    yield message("bytes above 127 and NUL", [b"\xff\x80\x00", b"."], b"\xff\x80\x00\n")
+
+
+def limits():
+    line = b"x" * 62
+    yield message("a message of the limit", [line] * 16_384 + [b"."], (line + b"\n") * 16_384)
+    row = message("a byte above the limit", [b"x" + line] + [line] * 16_383 + [b"."], b"")
+    row.replies[-2] = b"552 5.3.4 Too large for anna"
+    row.mailboxes["anna"] = b""
+    yield row
+    yield Row(
+        "a size above the limit, and the limit",
+        [b"LHLO relay.example", b"MAIL FROM:<a@b> SIZE=1048577", b"MAIL FROM:<a@b> SIZE=1048576", b"QUIT"],
+        [GREETING, *OFFER, b"552 5.3.4 Message too large", SENDER_OK, BYE],
+        {"anna": b"", "ben": b""},
+    )
+    yield Row(
+        "no room, and room for the next one",
+        [*PROLOGUE, TO_ANNA, b"DATA", b"x" + line, *[line] * 15, b".", PROLOGUE[1], TO_ANNA, b"DATA", *[line] * 16, b".", b"QUIT"],
+        [
+            *OPENED,
+            RECIPIENT_OK,
+            GO_AHEAD,
+            b"452 4.3.1 No room for anna",
+            SENDER_OK,
+            RECIPIENT_OK,
+            GO_AHEAD,
+            stored("anna"),
+            BYE,
+        ],
+        {"anna": record((line + b"\n") * 16, number=2)},
+        ["--blocks", "2"],
+    )
+    yield Row(
+        "command lines up to 1,024 bytes",
+        [b"NOOP " + b"x" * 1017, b"NOOP " + b"x" * 1018, b"NOOP", b"y" * 10_000_000, b"NOOP", b"QUIT"],
+        [
+            GREETING,
+            b"250 2.0.0 Ok",
+            b"500 5.5.2 Line too long",
+            b"250 2.0.0 Ok",
+            b"500 5.5.2 Line too long",
+            b"250 2.0.0 Ok",
+            BYE,
+        ],
+        {"anna": b"", "ben": b""},
+    )
+    yield Row(
+        "101 recipients",
+        [*PROLOGUE, *[b"RCPT TO:<anna>"] * 101, b"DATA", *HELLO, b"QUIT"],
+        [
+            *OPENED,
+            *[RECIPIENT_OK] * 100,
+            b"452 4.5.3 Too many recipients",
+            GO_AHEAD,
+            *[stored("anna")] * 100,
+            BYE,
+        ],
+        {"anna": record(HELLO_STORED) * 100, "ben": b""},
+    )
+
+
+def moments():
+    """The moment of `--time`, in both mailboxes."""
+    stamps = {
+        951_782_400: (b"Tue Feb 29 00:00:00 2000", b"Tue, 29 Feb 2000 00:00:00 +0000"),
+        4_294_967_295: (b"Sun Feb  7 06:28:15 2106", b"Sun, 7 Feb 2106 06:28:15 +0000"),
+    }
+    for time, moment in stamps.items():
+        text = record(HELLO_STORED, moment=moment)
+        yield Row(
+            f"the moment {time}",
+            [*PROLOGUE, TO_ANNA, b"RCPT TO:<ben>", b"DATA", *HELLO, b"QUIT"],
+            [*OPENED, RECIPIENT_OK, RECIPIENT_OK, GO_AHEAD, stored("anna"), stored("ben"), BYE],
+            {"anna": text, "ben": text},
+            time=time,
+        )
+
+
+def smuggled():
+    """What looks like the end of the data and isn't: QUIT behind it is content. By the rule a dot directly behind CRLF is dropped,
+    and a CR directly before LF."""
+    texts_of = {
+        b"\n.\n": b"\n.\n",
+        b"\n.\r\n": b"\n.\n",
+        b"\r\n.\n": b"\n\n",
+        b"\r.\r": b"\r.\r",
+        b"\r.\r\n": b"\r.\n",
+        b"\r\n.\r": b"\n\r",
+        b"\r\n.\0\r\n": b"\n\0\n",
+        b"\r\n\0.\r\n": b"\n\0.\n",
+        b"\r\0\n.\r\n": b"\r\0\n.\n",
+        b"\r\n.\r\0\n": b"\n\r\0\n",
+        b"\r\n.\r\r\n": b"\n\r\n",
+        b"\r\n..\r\n": b"\n.\n",
+        b"\r\n. \r\n": b"\n \n",
+    }
+    for end, text in texts_of.items():
+        data = bytearray(b"a" + end + b"QUIT\r\nMAIL FROM:<eve@e.example>\r\n.\r\n")
+        yield message(f"{end!r} ends no data", [data], b"a" + text + b"QUIT\nMAIL FROM:<eve@e.example>\n")

@@ -1,0 +1,61 @@
+"""Plays the worked examples on the built program, for tests/runs.sh: whole at once, and in pieces."""
+
+import os
+import subprocess
+import sys
+
+import rows
+
+LMTPD = os.environ["LMTPD"]
+SECONDS = 60  # that a run may take
+
+
+def words(row):
+    return [LMTPD, "rehearse", "--host", "mx.example", "--time", str(row.time), *row.words, *row.mailboxes]
+
+
+def play(row):
+    ended = subprocess.run(words(row), input=row.input(), capture_output=True, timeout=SECONDS)
+    return ended.returncode, ended.stdout, ended.stderr
+
+
+def play_in_pieces(row):
+    """The input byte by byte, where it is short."""
+    pipes = {"stdin": subprocess.PIPE, "stdout": subprocess.PIPE, "stderr": subprocess.PIPE}
+    process = subprocess.Popen(words(row), bufsize=0, **pipes)
+    try:
+        for byte in row.input():
+            process.stdin.write(bytes([byte]))
+        said, errors = process.communicate(timeout=SECONDS)
+    finally:
+        process.kill()
+    return process.returncode, said, errors
+
+
+def play_on_full(row):
+    """Standard output is a device that is full."""
+    with open("/dev/full", "wb", buffering=0) as full:
+        ended = subprocess.run(words(row), input=row.input(), stdout=full, stderr=subprocess.PIPE, timeout=SECONDS)
+    return ended.returncode, b"", ended.stderr
+
+
+def tell(name, found, wanted):
+    print(f"{'ok' if found == wanted else 'FAILED'}: {name}", flush=True)
+    if found != wanted:
+        print(f"  found  {found!r:.600}\n  wanted {wanted!r:.600}")
+    return found == wanted
+
+
+def verdicts():
+    for row in rows.rows():
+        wanted = (0, row.output(), b"")
+        yield tell(row.name, play(row), wanted)
+        if len(row.input()) < 400:
+            yield tell(f"{row.name}, byte by byte", play_in_pieces(row), wanted)
+    first = next(rows.rows())
+    yield tell("standard output is full", play_on_full(first), (1, b"", b"lmtpd: device fault\n"))
+
+
+found = list(verdicts())
+print(f"{sum(found)} of {len(found)} runs hold")
+sys.exit(0 if all(found) else 1)
