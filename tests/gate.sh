@@ -33,10 +33,19 @@ play() {
     esac
 }
 
+# How many checks go on side by side: one a core, where each has 5 GiB of memory. `rt ci` by itself reckons with far more than
+# a check takes, and so has the largest crates wait while cores are idle.
+jobs() {
+    local available cores
+    available=$(awk '$1 == "MemAvailable:" { print int($2 / 5242880) }' /proc/meminfo)
+    cores=$(nproc)
+    echo $((available < 1 ? 1 : available < cores ? available : cores))
+}
+
 if [ "${1:-}" != --scripts ]; then
     said=$(mktemp)
     trap 'rm -f "$said"' EXIT
-    rt ci 2>&1 | tee "$said"
+    RT_JOBS=${RT_JOBS:-$(jobs)} rt ci 2>&1 | tee "$said"
     count "$said"
 fi
 if [ -x "$LMTPD" ]; then
