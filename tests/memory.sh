@@ -1,8 +1,9 @@
 #!/usr/bin/env bash
-# Only makers take memory: no call of an arena, a depot, a channel or a worker does once it is made. For each test of these
-# crates, refuses one allocation after another (tests/memory/refuse.c, preloaded): a maker's is answered AllocError, and once
-# these are past the test ends well and asks for no more. A call that has no such answer would fail in another way. Left out are
-# tests with threads of their own, since a thread's start takes memory too, and one whose gate notes what it is asked.
+# Only makers take memory: no call of an arena, a depot, a channel or a worker does once it is made. For each test of
+# these crates, refuses one allocation after another (tests/memory/refuse.c, preloaded): a maker's is answered
+# AllocError (a list's of the test itself AllocFailed), and once these are past the test ends well and asks for no
+# more. A call that has no such answer would fail in another way. Left out are tests with threads of their own, since
+# a thread's start takes memory too, and one whose gate notes what it is asked.
 set -euo pipefail
 cd "$(dirname "$0")/.."
 . tests/needs cc
@@ -15,7 +16,7 @@ refuses() {
     local status=0 said
     : > "$folder/told"
     said=$(REFUSE=$3 REFUSE_TOLD=9 LD_PRELOAD="$folder/refuse.so" timeout 60 "$1" "$2" 2>&1 9> "$folder/told") || status=$?
-    if [ "$status" != 0 ] && ! [[ $said == *'error: AllocError'* && -s $folder/told ]]; then
+    if [ "$status" != 0 ] && ! [[ $said =~ error:\ Alloc(Error|Failed) && -s $folder/told ]]; then
         echo "FAILED: $2, allocation $3 refused: status $status, $said"
         exit 1
     fi
@@ -31,7 +32,7 @@ for crate in block_arena msg_depot mail_post box_worker; do
         number=1
         while refuses "$program" "$test" "$number"; do
             number=$((number + 1))
-            [ "$number" -le 999 ] || { echo "FAILED: $test: no end of allocations"; exit 1; }
+            [ "$number" -le 9999 ] || { echo "FAILED: $test: no end of allocations"; exit 1; }
         done
         tests=$((tests + 1))
         most=$((number - 1 > most ? number - 1 : most))
