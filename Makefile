@@ -2,7 +2,7 @@
 
 PROGRAM := crates/lmtpd/out/lmtpd
 
-.PHONY: rehearse build check test
+.PHONY: rehearse build check test benchmarks
 
 # One conversation: the replies, and then the mailbox. Where no proved program stands yet, the sources are run with checks, unproved.
 rehearse:
@@ -21,7 +21,10 @@ build:
 check:
 	rt all check
 
-# Proves everything from nothing, tries the must-fail edits, runs the program, the tests and the scripts of tests/, and builds
-# the benchmarks.
+# Proves everything from nothing, tries the must-fail edits, and runs the program, the tests and the scripts of tests/.
 test:
 	@tests/gate.sh
+
+# Proves and builds what the benchmarks measure, and measures nothing.
+benchmarks:
+	@for script in bench/*.sh; do echo "== $$script"; $$script --build || exit 1; done
