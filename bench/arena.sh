@@ -4,28 +4,12 @@
 #   copy_out  `Arena::copy_out` of every piece of the sealed messages
 # The largest arena has 32 MiB, so that 64 MiB are two rounds. Prints the best of RUNS times of each (9 if it isn't set)
 # and put's and copy_out's time over memcpy's. Fails where a ratio is above 3.0.
-#
-# The program of bench/arena stands in no crates.txt, so that the gate doesn't prove it each time; and since the gate
-# stops at a .rt or .antt file of no crate, the names of its files end in `.in`. It is proved and built here by `rt run`, by
-# LLVM as any program is, in a copy of the crates that it needs, over what their checks kept.
-# usage: bench/arena.sh [--build]: with the word it only proves and builds what it measures
+# usage: bench/arena.sh [--build | --try]: with a word it only makes what it measures with, proved or unproved (bench/program)
 set -euo pipefail
 cd "$(dirname "$0")/.."
 . tests/needs python3
-folder=$(mktemp -d)
-trap 'rm -rf "$folder"' EXIT
-
-mkdir "$folder/crates"
-for crate in mail_world block_arena; do
-    cp -a "crates/$crate" "$folder/crates/"
-    grep -E "^$crate( |:)" crates.txt
-done > "$folder/crates.txt"
-echo "arena: mail_world block_arena anyhow" >> "$folder/crates.txt"
-cp -a bench/arena "$folder/crates/"
-find "$folder/crates/arena" -name '*.in' | while read -r file; do mv "$file" "${file%.in}"; done
-cd "$folder/crates/arena"
-rt run > "$folder/build.log" 2>&1 || { cat "$folder/build.log" >&2; exit 1; }
-[ "${1:-}" != --build ] || exit 0
+. bench/program
+make_program arena arena "mail_world block_arena anyhow" "${1:-}" mail_world block_arena
 
 python3 - out/arena "${RUNS:-9}" <<'PYTHON'
 import subprocess

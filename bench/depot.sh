@@ -7,29 +7,12 @@
 # Prints the best of RUNS runs of each (9 if it isn't set): MB/s and how it grows over one thread, turns a second, and the
 # peer's time over ours. Fails where the counts differ. Both run by turns, so that a ratio means something on a machine that
 # does other work.
-#
-# As bench/streams.sh, it proves and builds the program of bench/depot in a copy of the crates that it needs, over what their
-# checks kept: it stands in no crates.txt, and the names of its files end in `.in`.
-# usage: bench/depot.sh [--build]: with the word it only proves and builds what it measures
+# usage: bench/depot.sh [--build | --try]: with a word it only makes what it measures with, proved or unproved (bench/program)
 set -euo pipefail
 cd "$(dirname "$0")/.."
 . tests/needs rustc python3
-folder=$(mktemp -d)
-trap 'rm -rf "$folder"' EXIT
-
-mkdir "$folder/crates"
-cp HANDLES "$folder/"
-for crate in mail_world block_arena msg_depot; do
-    cp -a "crates/$crate" "$folder/crates/"
-    grep -E "^$crate( |:)" crates.txt
-done > "$folder/crates.txt"
-echo "depot_bench: mail_world msg_depot anyhow" >> "$folder/crates.txt"
-cp -a bench/depot "$folder/crates/depot_bench"
-find "$folder/crates/depot_bench" -name '*.in' | while read -r file; do mv "$file" "${file%.in}"; done
-rustc -O -o "$folder/loops" bench/depot/loops.rs
-cd "$folder/crates/depot_bench"
-rt run > "$folder/build.log" 2>&1 || { cat "$folder/build.log" >&2; exit 1; }
-[ "${1:-}" != --build ] || exit 0
+. bench/program
+make_program depot_bench depot "mail_world msg_depot anyhow" "${1:-}" mail_world block_arena msg_depot
 
 python3 - out/depot_bench "$folder/loops" "${RUNS:-9}" <<'PYTHON'
 import subprocess

@@ -7,29 +7,12 @@
 #   trips     such a copy to a worker's thread, which releases it, and its slip back: microseconds a trip
 # Prints the best of RUNS times of each (9 if it isn't set) and std's time over ours. Fails where the counts differ.
 # Both run by turns, so that a ratio means something on a machine that does other work.
-#
-# As in bench/streams.sh, the program of bench/post stands in no crates.txt and its files end in `.in`; it is proved and
-# built here by `rt run` in a copy of the crates that it needs, over what their checks kept.
-# usage: bench/post.sh [--build]: with the word it only proves and builds what it measures
+# usage: bench/post.sh [--build | --try]: with a word it only makes what it measures with, proved or unproved (bench/program)
 set -euo pipefail
 cd "$(dirname "$0")/.."
 . tests/needs rustc python3
-folder=$(mktemp -d)
-trap 'rm -rf "$folder"' EXIT
-
-mkdir "$folder/crates"
-for crate in mail_world lmtp_text mbox_rd block_arena msg_depot mail_post; do
-    cp -a "crates/$crate" "$folder/crates/"
-    grep -E "^$crate( |:)" crates.txt
-done > "$folder/crates.txt"
-echo "post: mail_world mbox_rd msg_depot mail_post anyhow" >> "$folder/crates.txt"
-cp HANDLES "$folder/"
-cp -a bench/post "$folder/crates/"
-find "$folder/crates/post" -name '*.in' | while read -r file; do mv "$file" "${file%.in}"; done
-rustc -O -o "$folder/channels" bench/post/channels.rs
-cd "$folder/crates/post"
-rt run > "$folder/build.log" 2>&1 || { cat "$folder/build.log" >&2; exit 1; }
-[ "${1:-}" != --build ] || exit 0
+. bench/program
+make_program post post "mail_world mbox_rd msg_depot mail_post anyhow" "${1:-}" mail_world lmtp_text mbox_rd block_arena msg_depot mail_post
 
 python3 - out/post "$folder/channels" "${RUNS:-9}" <<'PYTHON'
 import subprocess

@@ -1,6 +1,8 @@
 #!/usr/bin/env bash
 # How fast `serve` delivers, beside others on the same work, all in one run on one machine, over loopback:
 #   floor      an append and an fdatasync for each delivery, with no protocol (bench/serve/floor.rs)
+#   plain      a server in plain Rust that does no more than it must, with a thread for each connection, which
+#              appends, syncs and answers (bench/serve/plain.rs)
 #   smtp-sink  Postfix's `smtp-sink -L`: the protocol, and nothing is stored
 #   dovecot    Dovecot's LMTP over mbox, mail_fsync=optimized, with a process for each connection
 #   ours       `serve` with 4 lanes and 8,192 blocks
@@ -8,7 +10,7 @@
 #   a, a1      4 connections, 2 KiB, one recipient: a mailbox each, and one for all
 #   b, b10     4 connections, 20 KiB, ten recipients: of 40 mailboxes, and the same ten for all
 #   c, c4      1 and 4 connections of 1 MiB, one recipient: a mailbox each
-# usage: bench/serve.sh --build, which only builds what it measures with, or
+# usage: bench/serve.sh --build or --try, which only builds what it measures with, or
 #        bench/serve.sh [--rounds N] [--works a,b,..] [--peers floor,ours,..] [--slow-sync]
 # 3 rounds, all works and all peers without the words. In each round each peer does each work with a fresh
 # store. With --slow-sync each fsync and fdatasync takes 2 ms more (bench/serve/slowsync.c). Peers that aren't
@@ -30,8 +32,9 @@ trap 'rm -rf "$folder"' EXIT
 
 rustc -O -o "$folder/load" bench/serve/load.rs
 rustc -O -o "$folder/floor" bench/serve/floor.rs
+rustc -O -o "$folder/plain" bench/serve/plain.rs
 if command -v cc > /dev/null; then
     cc -O2 -shared -fPIC -o "$folder/slowsync.so" bench/serve/slowsync.c
 fi
-[ "${1:-}" != --build ] || exit 0
+case "${1:-}" in --build | --try) exit 0 ;; esac
 python3 -B bench/serve/rounds.py "$folder" "$@"

@@ -7,29 +7,12 @@
 # Prints the best of RUNS times of each (9 if it isn't set) and the loop's time over ours, and the appends that a piece
 # of a record makes. Fails where the counts differ or a ratio is below 1.0.
 # Both run by turns, so that a ratio means something on a machine that does other work.
-#
-# The program of bench/streams stands in no crates.txt, so that the gate doesn't prove it each time; and since the gate
-# stops at a .rt or .antt file of no crate, the names of its files end in `.in`. It is proved and built here by `rt run`, by
-# LLVM as any program is, in a copy of the crates that it needs, over what their checks kept.
-# usage: bench/streams.sh [--build]: with the word it only proves and builds what it measures
+# usage: bench/streams.sh [--build | --try]: with a word it only makes what it measures with, proved or unproved (bench/program)
 set -euo pipefail
 cd "$(dirname "$0")/.."
 . tests/needs rustc python3
-folder=$(mktemp -d)
-trap 'rm -rf "$folder"' EXIT
-
-mkdir "$folder/crates"
-for crate in mail_world lmtp_text lmtp_wire mbox_rd; do
-    cp -a "crates/$crate" "$folder/crates/"
-    grep -E "^$crate( |:)" crates.txt
-done > "$folder/crates.txt"
-echo "streams: mail_world lmtp_wire mbox_rd anyhow" >> "$folder/crates.txt"
-cp -a bench/streams "$folder/crates/"
-find "$folder/crates/streams" -name '*.in' | while read -r file; do mv "$file" "${file%.in}"; done
-rustc -O -o "$folder/loops" bench/streams/loops.rs
-cd "$folder/crates/streams"
-rt run > "$folder/build.log" 2>&1 || { cat "$folder/build.log" >&2; exit 1; }
-[ "${1:-}" != --build ] || exit 0
+. bench/program
+make_program streams streams "mail_world lmtp_wire mbox_rd anyhow" "${1:-}" mail_world lmtp_text lmtp_wire mbox_rd
 
 python3 - out/streams "$folder/loops" "${RUNS:-9}" <<'PYTHON'
 import subprocess

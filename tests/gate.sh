@@ -2,8 +2,8 @@
 # The gate, from nothing. First `rt ci`: proves every crate and its tests, tries the must-fail edits, runs the
 # program and the tests. Then, over what that built, each script of tests/. A script that lacks something of the
 # machine says so and ends with status 77: that is counted apart, as absent. The last line counts all: 'N passed,
-# M failed'. The benchmarks' programs are built by `make benchmarks`: what `rt ci` proved serves no other command,
-# so it proves the crates below them once more.
+# M failed'. The benchmarks' programs are only compiled (tests/benchmarks.sh), and proved by `make benchmarks`: what
+# `rt ci` proved serves no other command, so it proves the crates below them once more.
 # usage: tests/gate.sh [--scripts]: with the word only what comes behind `rt ci`, on what stands built
 set -uo pipefail
 cd "$(dirname "$0")/.."

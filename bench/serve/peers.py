@@ -75,7 +75,12 @@ class Server:
         self.store.mkdir(parents=True)
         self.log = folder / "output"
         self.port = 0 if name == "ours" else free_port()
-        words_of = {"ours": self.ours, "smtp-sink": self.smtp_sink, "dovecot": self.dovecot}
+        words_of = {
+            "ours": self.ours,
+            "plain": self.plain,
+            "smtp-sink": self.smtp_sink,
+            "dovecot": self.dovecot,
+        }
         environment = dict(os.environ)
         if preload and name != "dovecot":
             environment["LD_PRELOAD"] = preload
@@ -101,6 +106,9 @@ class Server:
         boxes = [f"u{number}" for number in range(40)]
         words = ["--host", "mx.example", "--listen", "127.0.0.1:0", "--dir", str(self.store)]
         return [os.environ["LMTPD"], "serve", *words, "--connections", "1000000", *boxes]
+
+    def plain(self, folder, _preload):
+        return [str(folder.parent / "plain"), str(self.store), self.address]
 
     def smtp_sink(self, _folder, _preload):
         user = ["-u", "nobody"] if os.geteuid() == 0 else []

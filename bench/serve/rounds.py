@@ -1,6 +1,6 @@
 """usage: rounds.py FOLDER [--rounds N] [--works a,b,..] [--peers floor,ours,..] [--slow-sync]
 
-The rounds and the table of bench/serve.sh, which built `load`, `floor` and slowsync.so in FOLDER.
+The rounds and the table of bench/serve.sh, which built `load`, `floor`, `plain` and slowsync.so in FOLDER.
 """
 
 import argparse
@@ -16,7 +16,7 @@ from dataclasses import dataclass, field
 
 import peers
 
-PEERS = ["floor", "smtp-sink", "dovecot", "ours"]
+PEERS = ["floor", "plain", "smtp-sink", "dovecot", "ours"]
 
 
 @dataclass
