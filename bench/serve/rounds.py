@@ -178,26 +178,26 @@ def print_tables(works, names, given, runs):
             rate = f"{statistics.median(rates):,.0f} ({min(rates):,.0f} to {max(rates):,.0f})"
             uneven = max(run.uneven for run in all_of)
             print(f"| {work} | {name} | {rate} | {p50:.2f} | {p99:.2f} | {uneven:.2f} |")
-    if "ours" not in names:
-        return 0
-    print("\n| work | ours to | ratio (least to most) | wanted | |")
-    print("|---|---|---|---|---|")
+    print("\n| work | | to | ratio (least to most) | wanted | |")
+    print("|---|---|---|---|---|---|")
     missed = 0
     for work in works:
         wanted = WANTED_SLOW.get(work, {}) if given.slow_sync else WORKS[work].wanted
-        for name in (name for name in names if name != "ours"):
-            ratios = [runs[work, "ours", n].rate / runs[work, name, n].rate for n in range(given.rounds)]
-            missed += print_ratio(work, name, ratios, wanted.get(name))
+        for name, other in ((name, other) for name in ("ours", "plain") for other in names):
+            if name not in names or other == name or (name, other) == ("plain", "ours"):
+                continue
+            ratios = [runs[work, name, n].rate / runs[work, other, n].rate for n in range(given.rounds)]
+            missed += print_ratio(work, name, other, ratios, wanted.get(other) if name == "ours" else None)
     return 1 if missed else 0
 
 
-def print_ratio(work, name, ratios, wanted):
+def print_ratio(work, name, other, ratios, wanted):
     """Whether the median is less than it is to be."""
     ratio = statistics.median(ratios)
     is_missed = wanted is not None and ratio < wanted
     verdict = "" if wanted is None else "missed" if is_missed else "reached"
     found = f"{ratio:.2f} ({min(ratios):.2f} to {max(ratios):.2f})"
-    print(f"| {work} | {name} | {found} | {wanted or ''} | {verdict} |")
+    print(f"| {work} | {name} | {other} | {found} | {wanted or ''} | {verdict} |")
     return is_missed
 
 
