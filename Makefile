@@ -2,7 +2,7 @@
 
 PROGRAM := crates/lmtpd/out/lmtpd
 
-.PHONY: rehearse build check test benchmarks
+.PHONY: rehearse build check test real benchmarks
 
 # One conversation: the replies, and then the mailbox. Where no proved program stands yet, the sources are run with checks, unproved.
 rehearse:
@@ -24,6 +24,10 @@ check:
 # Proves everything from nothing, tries the must-fail edits, and runs the program, the tests and the scripts of tests/.
 test:
 	@tests/gate.sh
+
+# The server with the real programs of a site: relays and readers. It wants root and Debian's packages.
+real:
+	@tests/real/run.sh
 
 # Proves and builds what the benchmarks measure, and measures nothing.
 benchmarks:

@@ -1,0 +1,60 @@
+"""Postfix delivers to `lmtpd serve`."""
+
+import contextlib
+import subprocess
+
+from cases import Absent, case, equal
+from mail import equal_mailbox, message
+from packages import want_root
+from postfix import Postfix, free_port
+from server import Server
+
+LONG = (b"x" * 62 + b"\r\n") * 128
+
+
+@case
+def postfix_delivers(folder):
+    """Postfix: 250 for one recipient, 550 for another, in its log too; the letter byte for byte, with 8BITMIME"""
+    with Server(folder, ["anna"], 100, "--timeout", 30) as server:
+        with Postfix(folder, f"virtual_transport = lmtp:inet:{server.text}") as postfix:
+            postfix.send(["anna@mx.example", "nobody@mx.example"], message("one"))
+            word, text = postfix.fate("anna@mx.example")
+            equal((word, text), ("sent", "250 2.0.0 Stored for anna"))
+            word, text = postfix.fate("nobody@mx.example")
+            equal((word, "550 5.1.1 No such mailbox" in text), ("bounced", True))
+            equal_mailbox(server.mailbox("anna"), ["one"])
+
+
+@case
+def a_full_disk_keeps_the_queue(folder):
+    """Postfix and a full disk: 451, the copy stays queued, and is sent once there is room and the server began anew"""
+    listen = f"127.0.0.1:{free_port()}"
+    with small_disk(folder / "mail") as mail, Postfix(folder, f"virtual_transport = lmtp:inet:{listen}") as postfix:
+        filler = mail / "filler"
+        filler.write_bytes(b"x" * 60 * 1024)
+        with Server(mail, ["anna"], 100, listen=listen):
+            postfix.send(["anna@mx.example"], message("late") + LONG)
+            word, text = postfix.fate("anna@mx.example")
+            equal((word, "451 4.3.0 Not stored for anna" in text), ("deferred", True))
+        filler.unlink()
+        with Server(mail, ["anna"], 100, listen=listen) as server:
+            postfix.flush()
+            equal(postfix.fate("anna@mx.example", 2), ("sent", "250 2.0.0 Stored for anna"))
+            equal(sum(word == "sent" for word, _ in postfix.fates("anna@mx.example")), 1)
+            said = server.mailbox("anna").read_bytes()
+            # a front of the first record may stand before it
+            equal(said.count(b"Subject: late\n"), said.count(b"Message-ID: <late@a.example>\n"))
+            equal(said.endswith(LONG.replace(b"\r\n", b"\n") + b"\n"), True)
+
+
+@contextlib.contextmanager
+def small_disk(path):
+    """A file system of 64 KiB in memory."""
+    want_root()
+    path.mkdir()
+    if subprocess.run(["mount", "-t", "tmpfs", "-o", "size=64k", "none", path], stderr=subprocess.DEVNULL).returncode:
+        raise Absent("no file system can be mounted")
+    try:
+        yield path
+    finally:
+        subprocess.run(["umount", "-l", path])

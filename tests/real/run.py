@@ -1,0 +1,11 @@
+"""All cases of this folder, for tests/real/run.sh."""
+
+import sys
+
+import exim_delivers  # noqa: F401  (each adds its cases)
+import postfix_delivers  # noqa: F401
+import readers_agree  # noqa: F401
+import several_servers  # noqa: F401
+from cases import run_all
+
+sys.exit(0 if run_all(sys.argv[1:]) else 1)
