@@ -3,6 +3,8 @@
 import sys
 
 import exim_delivers  # noqa: F401  (each adds its cases)
+import killed_under_load  # noqa: F401
+import odd_clients  # noqa: F401
 import postfix_delivers  # noqa: F401
 import readers_agree  # noqa: F401
 import several_servers  # noqa: F401

@@ -38,7 +38,7 @@ def messages(path):
 
 def by_git(path):
     with tempfile.TemporaryDirectory() as folder:
-        words = ["git", "mailsplit", "--mboxrd", "--keep-cr", f"-o{folder}", path]
+        words = ["git", "mailsplit", "--mboxrd", "--keep-cr", "-d8", f"-o{folder}", path]
         subprocess.run(words, stdout=subprocess.DEVNULL, check=True)
         for name in sorted(os.listdir(folder)):
             # it leaves the empty line behind the letter

@@ -1,0 +1,62 @@
+"""The server is killed while several clients deliver."""
+
+import random
+import threading
+import time
+
+import letters
+from cases import case, equal
+from clients import Client
+from server import Server
+
+BOXES = ["anna", "ben", "carla", "dora"]
+CLIENTS = 4
+ROUNDS = 100
+
+
+@case
+def killed_a_hundred_times(folder):
+    """SIGKILL a hundred times under load: each copy that was told 250 is whole in its mailbox, and read by both readers"""
+    chance = random.Random(1)
+    told = {name: [] for name in BOXES}
+    for number in range(ROUNDS):
+        with Server(folder, BOXES, 1000) as server:
+            loads = [
+                threading.Thread(target=deliver, args=(server.address, told, f"{number}.{client}"))
+                for client in range(CLIENTS)
+            ]
+            for load in loads:
+                load.start()
+            time.sleep(chance.uniform(0.05, 0.25))
+            server.process.kill()
+            for load in loads:
+                load.join()
+    with Server(folder, BOXES, 1, "--lanes", 1) as server, Client(server.address).greet() as client:
+        equal(client.deliver(BOXES, "last")[1], [f"250 2.0.0 Stored for {name}" for name in BOXES])
+    for name in BOXES:
+        texts = list(letters.by_git(server.mailbox(name)))
+        equal(list(letters.by_python(server.mailbox(name))), texts)
+        found = [text.partition(b" +0000\n")[2] for text in texts]
+        equal([one[:40] for one in told[name] if found.count(one) != 1], [])
+        equal((len(told[name]) > ROUNDS, found[-1]), (True, b"last\n"))
+
+
+killed_a_hundred_times.seconds = 240
+
+
+def deliver(address, told, load):
+    """Delivers to two mailboxes at a time, until the server is gone."""
+    try:
+        with Client(address).greet() as client:
+            for number in range(1_000_000):
+                names = [BOXES[number % len(BOXES)], BOXES[(number + 1) % len(BOXES)]]
+                lines = [f"{load}.{number} {line}" for line in range(1 + 37 * number % 200)]
+                client.send("MAIL FROM:<carl@a.example>", *(f"RCPT TO:<{name}@mx.example>" for name in names), "DATA")
+                for _ in [*names, "MAIL", "DATA"]:
+                    assert client.hear()
+                client.send(*lines, ".")
+                for name in names:
+                    if client.hear() == f"250 2.0.0 Stored for {name}":
+                        told[name].append("\n".join([*lines, ""]).encode())
+    except (OSError, AssertionError):
+        pass
