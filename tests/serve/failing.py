@@ -1,5 +1,6 @@
-"""What the server does where a call on a mailbox's file fails."""
+"""What the server does where a call on a mailbox's file or on a socket fails."""
 
+import concurrent.futures
 import os
 import pathlib
 import shutil
@@ -7,13 +8,14 @@ import subprocess
 
 import letters
 from cases import Absent, case, equal
-from clients import deliver_one
+from clients import Client, deliver_one
 from server import Server
 
-LIBRARY = pathlib.Path(__file__).parent / "fail_file.c"
+LIBRARY = pathlib.Path(__file__).parent / "fail_calls.c"
 OLD = b"abc"
 CLOSED = b"abc\n\n"
 MOST_CALLS = 200
+BOXES = ["anna", "ben", "carla"]
 
 
 @case
@@ -29,10 +31,7 @@ def all_later_calls_fail(folder):
 
 
 def fail_in_turn(folder, more):
-    if shutil.which("cc") is None:
-        raise Absent("cc")
-    library = folder / "fail_file.so"
-    subprocess.run(["cc", "-O2", "-shared", "-fPIC", "-o", library, LIBRARY], check=True)
+    library = built(folder)
     seen = set()
     for number in range(1, MOST_CALLS):
         place = folder / str(number)
@@ -45,6 +44,14 @@ def fail_in_turn(folder, more):
             equal(seen, {"refused", "failed", "well"})
             return
     raise AssertionError(f"no end after {MOST_CALLS} calls")
+
+
+def built(folder):
+    if shutil.which("cc") is None:
+        raise Absent("cc")
+    library = folder / "fail_calls.so"
+    subprocess.run(["cc", "-O2", "-shared", "-fPIC", "-o", library, LIBRARY], check=True)
+    return library
 
 
 def deliver_twice(folder, given):
@@ -69,6 +76,69 @@ def deliver_twice(folder, given):
     equal(letters.messages(server.mailbox("ben")), [b"letter 1\n", b"letter 2\n"])
     check_front(server.mailbox("anna"), stored)
     return "failed" if failed else "well"
+
+
+@case
+def one_call_on_a_socket_fails(folder):
+    """each call on a socket fails in turn, two lanes and three mailboxes: what is told 250 is whole, and the server ends"""
+    fail_sockets_in_turn(folder, {})
+
+
+@case
+def all_later_calls_on_sockets_fail(folder):
+    """each call on a socket fails in turn, and all later ones: the same"""
+    fail_sockets_in_turn(folder, {"FAIL_ALL": "1"})
+
+
+def fail_sockets_in_turn(folder, more):
+    library = built(folder)
+    seen = set()
+    for number in range(1, MOST_CALLS):
+        place = folder / str(number)
+        place.mkdir()
+        told = place / "told"
+        given = {"LD_PRELOAD": library, "FAIL_SOCKETS": 1, "FAIL_CALL": number, "FAIL_TOLD": told, **more}
+        with environment({name: str(value) for name, value in given.items()}):
+            server = Server(place, BOXES, 2, "--lanes", 2, "--timeout", 2)
+        seen.add(deliver_side_by_side(server))
+        if not told.exists():
+            equal(seen >= {"cannot listen", "served"}, True)
+            return
+    raise AssertionError(f"no end after {MOST_CALLS} calls")
+
+
+def deliver_side_by_side(server):
+    """Two clients at once, each with a letter for two of three mailboxes: how the server ended."""
+    with server:
+        if not server.first:
+            equal(vars(server.end()), {"status": 1, "said": [], "errors": ["lmtpd: cannot listen"]})
+            return "cannot listen"
+        with concurrent.futures.ThreadPoolExecutor(2) as pool:
+            jobs = [pool.submit(try_to_deliver, server.address, names) for names in [BOXES[:2], BOXES[1:]]]
+            told = [name for job in jobs for name in job.result()]
+            ended = server.end()
+    equal((ended.status, ended.errors) in [(0, []), (1, ["lmtpd: cannot listen"])], True)
+    for name, line in zip(BOXES, ended.said):
+        found = letters.messages(server.mailbox(name))
+        equal(line, f"{name} stored {len(found)}")
+        equal(set(found) <= {b"hello\n"}, True)
+        assert told.count(name) <= len(found), (name, told, found)
+    return "served"
+
+
+def try_to_deliver(address, names):
+    """The mailboxes for which a letter was told 250."""
+    told = []
+    try:
+        with Client(address) as client:
+            client.socket.settimeout(5)
+            client.greet()
+            finals = client.deliver(names, "hello")[1]
+            told = [name for name, final in zip(names, finals) if final == f"250 2.0.0 Stored for {name}"]
+            client.quit()
+    except (OSError, AssertionError):
+        pass
+    return told
 
 
 def check_front(path, stored):

@@ -37,6 +37,8 @@ def messages(path):
 
 
 def by_git(path):
+    if os.path.getsize(path) == 0:
+        return  # for it no mailbox at all
     with tempfile.TemporaryDirectory() as folder:
         words = ["git", "mailsplit", "--mboxrd", "--keep-cr", "-d8", f"-o{folder}", path]
         subprocess.run(words, stdout=subprocess.DEVNULL, check=True)
