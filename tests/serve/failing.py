@@ -80,7 +80,7 @@ def deliver_twice(folder, given):
 
 @case
 def one_call_on_a_socket_fails(folder):
-    """each call on a socket fails in turn, two lanes and three mailboxes: what is told 250 is whole, and the server ends"""
+    """each call on a socket fails in turn, two lanes, three mailboxes: what is told 250 is whole, the server ends"""
     fail_sockets_in_turn(folder, {})
 
 
