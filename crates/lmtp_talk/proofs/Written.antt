@@ -1,15 +1,15 @@
 -- What is written to a peer, piece by piece.
-use Rattle.std.proofs.Common.{◌≡◌, ℕ, ◌+◌, ◌-◌, ◌<◌, add-one, List, [], ◌∷◌, ◌++◌, length, take, drop, Some, Result, Ok, Err, refl, sym, ap, ◌∙◌, subst, append_assoc, append-nil}
+use Rattle.std.proofs.Common.{◌≡◌, ℕ, ◌+◌, ◌-◌, ◌<◌, add-one, List, [], ◌∷◌, ◌++◌, length, take, drop, Some, Result, Ok, Err, refl, sym, ap, ◌∙◌, subst, ◌≤◌, arith, append_assoc, append-nil, length-append, length-take-le, take-take}
 use Rattle.std.specs.Prelude.{OnErr, OnOk, Bool, true, false}
 use Rattle.std.specs.Prelude.{slice_get}
 use Rattle.std.specs.Result.{is_err}
-use Rattle.std.proofs.Math.Seq.{take-suc, take-length}
+use Rattle.std.proofs.Math.Seq.{take-suc, take-length, take-append-add}
 use Rattle.std.proofs.lemmas.Option.{get_or_from_slice_get}
 use Rattle.std.proofs.lemmas.Grind.{flat_map-append}
 use Rattle.mail_world.specs.declared.Reply.{Reply}
 use Rattle.mail_world.specs.Site.{Site}
 use Rattle.mail_world.specs.Replies.{reply_text, reply_texts}
-use Rattle.std.proofs.lemmas.List.{take-append-drop, take_rest}
+use Rattle.std.proofs.lemmas.List.{take-append-drop, take-append-le, take_rest}
 use Rattle.std.proofs.KnownBytes.{Appends-nil, Consumes-nil, Appends-trans, Consumes-trans}
 use Rattle.mail_world.specs.Failures.{Rises}
 use Rattle.lmtp_talk.specs.Peer.{PeerState, HasMoved, HasTransferred, PeerFailed}
@@ -110,3 +110,15 @@ one_more site rs i r text within is =
 
 pub all_said : (site : Site) (rs : List Reply) (n : ℕ) (text : List ℕ) → n ≡ length rs → text ++ reply_texts site (take n rs) ≡ text ++ reply_texts site rs
 all_said site rs n text e = ap (λ l. text ++ reply_texts site l) (ap (λ k. take k rs) e ∙ take-length rs)
+
+-- what is put behind a front of a buffer follows that front
+pub put_behind : (k n size : ℕ) (buffer new post tail : List ℕ) → k ≤ length buffer → k + n ≤ size → n ≤ length new
+    → take (k + n) (take size ((take k buffer ++ (new ++ post)) ++ tail)) ≡ take k buffer ++ take n new
+put_behind k n size buffer new post tail within fits wrote =
+    let front : length (take k buffer) ≡ k = length-take-le k buffer within in
+    let long : k + n ≤ length (take k buffer ++ (new ++ post)) = omega (arith, front, wrote, length-append (take k buffer) (new ++ post), length-append new post) in
+    take-take (k + n) size ((take k buffer ++ (new ++ post)) ++ tail) fits
+    ∙ take-append-le (k + n) (take k buffer ++ (new ++ post)) tail long
+    ∙ ap (λ j. take (j + n) (take k buffer ++ (new ++ post))) (sym front)
+    ∙ take-append-add (take k buffer) (new ++ post) n
+    ∙ ap (λ l. take k buffer ++ l) (take-append-le n new post wrote)

@@ -19,20 +19,21 @@ pub const OUTBOX_SIZE: usize = 8_192;
 /// Replies that wait to be written, in memory that is taken once. Once a write has failed, replies are dropped.
 #[derive(Drop)]
 pub struct Outbox {
-    pending: Vec<u8>,
+    bytes: Vec<u8>,
+    size: usize,
     broken: bool,
 }
 
 impl Model for Outbox {
-    ghost use Rattle.std.specs.Prelude.{◌≤◌, length, vec_capacity};
+    ghost use Rattle.std.specs.Prelude.{◌≡◌, ◌≤◌, take, vec_len};
     ghost use Rattle.lmtp_talk.specs.declared.outbox.TheConstants.{OUTBOX_SIZE};
     ghost use Rattle.lmtp_talk.specs.Saying.{OutboxView};
 
     ghost Value = { OutboxView };
 
-    ghost view = { λ o. record { pending = o.pending.items; broken = o.broken } };
+    ghost view = { λ o. record { pending = take o.size o.bytes.items; broken = o.broken } };
 
-    ghost invariant = { λ o. (length o.pending.items ≤ OUTBOX_SIZE) × (OUTBOX_SIZE ≤ vec_capacity o.pending) };
+    ghost invariant = { λ o. (o.size ≤ OUTBOX_SIZE) × (vec_len o.bytes ≡ OUTBOX_SIZE) };
 }
 
 impl Outbox {
@@ -40,9 +41,10 @@ impl Outbox {
     pub fn new(alloc: Global) -> Result<Outbox, AllocError>
         ensures { IfOk result (λ outbox. (outbox.pending ≡ []) × (outbox.broken ≡ false)) }
     {
-        let pending = Vec::with_capacity(alloc, OUTBOX_SIZE)?;
+        let bytes = vec![in alloc; 0; OUTBOX_SIZE]?;
         Ok(Outbox {
-            pending,
+            bytes,
+            size: 0,
             broken: false,
         })
     }
@@ -51,7 +53,7 @@ impl Outbox {
     pub fn clear(&mut self)
         ensures { (self.new.pending ≡ []) × (self.new.broken ≡ false) }
     {
-        self.pending.clear();
+        self.size = 0;
         self.broken = false;
     }
 
@@ -94,7 +96,7 @@ impl Outbox {
         ensures says { Says (P.state peer.old) (P.state peer.new) self.old self.new (reply_text site.now reply) }
         ensures goes { (P.state peer.new).stops ≡ (P.state peer.old).stops }
     {
-        if self.pending.len() > OUTBOX_SIZE - REPLY_LIMIT {
+        if self.size > OUTBOX_SIZE - REPLY_LIMIT {
             self.flush(peer);
             self.add(site, reply);
             return;
@@ -108,11 +110,8 @@ impl Outbox {
         ensures text { self.new.pending ≡ self.old.pending ++ reply_text site.now reply }
         ensures same { self.new.broken ≡ self.old.broken }
     {
-        let mut text = [0; REPLY_LIMIT];
-        let size = write_reply(reply, site, &mut text);
-        if self.pending.extend_from_slice(&text[..size]).is_err() {
-            unreachable!();
-        }
+        let size = write_reply(reply, site, &mut self.bytes[self.size..]);
+        self.size += size;
     }
 
     /// Writes all that waits.
@@ -122,12 +121,12 @@ impl Outbox {
         ensures goes { (P.state peer.new).stops ≡ (P.state peer.old).stops }
     {
         if self.broken {
-            self.pending.clear();
+            self.size = 0;
             return;
         }
-        let written = write_all(peer, self.pending.as_slice());
+        let written = write_all(peer, &self.bytes[..self.size]);
         self.broken = written.is_err();
-        self.pending.clear();
+        self.size = 0;
     }
 }
 

@@ -1,5 +1,8 @@
 //! Conversations with a peer that keeps to a script.
 
+mod failing;
+mod faults;
+mod hostile;
 mod shelf;
 
 use crate::Then::{Ends, Fails, Says, Stops};
@@ -17,6 +20,11 @@ const OFFER: &[u8] =
     b"250-mx.example\r\n250-PIPELINING\r\n250-ENHANCEDSTATUSCODES\r\n250-8BITMIME\r\n250 SIZE 1048576\r\n";
 
 const STOPPING: &[u8] = b"421 4.3.2 mx.example stopping\r\n";
+
+/// What is said up to the data of a message that comes without waiting.
+const IN_DATA: &[u8] =
+    b"250-mx.example\r\n250-PIPELINING\r\n250-ENHANCEDSTATUSCODES\r\n250-8BITMIME\r\n\
+250 SIZE 1048576\r\n250 2.1.0 Sender ok\r\n250 2.1.5 Recipient ok\r\n354 End with a lone dot\r\n";
 
 /// Each line comes once the reply to the one before was written.
 const LINE_BY_LINE: [Turn; 10] = [
@@ -52,10 +60,7 @@ const STOPPED_IN_DATA: [Turn; 4] = [
         GREETING,
         Says(b"LHLO a\r\nMAIL FROM:<>\r\nRCPT TO:<anna>\r\nDATA\r\nhello\r\n"),
     ),
-    (
-        b"250-mx.example\r\n250-PIPELINING\r\n250-ENHANCEDSTATUSCODES\r\n250-8BITMIME\r\n250 SIZE 1048576\r\n250 2.1.0 Sender ok\r\n250 2.1.5 Recipient ok\r\n354 End with a lone dot\r\n",
-        Says(b"more\r"),
-    ),
+    (IN_DATA, Says(b"more\r")),
     (b"", Stops),
     (STOPPING, Ends),
 ];
@@ -69,29 +74,41 @@ fn site(rt: &impl Abort, alloc: Global) -> Result<Arc<Site>, Fail> {
     Ok(Arc::new(alloc, site).ok().expect(rt, "memory"))
 }
 
+/// Holds a conversation with that script: its end, the bytes of the messages that the delivery has then, and how many
+/// drafts were dropped.
+fn check(
+    rt: &impl Abort,
+    alloc: Global,
+    turns: &[Turn],
+    end: EndCause,
+    kept: (&[u8], u32),
+) -> Result<(), Fail> {
+    let site = site(rt, alloc)?;
+    let mut dialogue = Dialogue::new(alloc, site.clone()?)?;
+    let mut peer = Script::new(alloc, turns, usize::MAX);
+    let mut shelf = Shelf::new(alloc, site);
+    assert_eq!(rt; serve(&mut dialogue, &mut peer, &mut shelf), end);
+    assert!(rt; peer.has_heard_all());
+    assert_eq!(rt; shelf.bytes(), kept.0);
+    assert_eq!(rt; shelf.cancelled(), kept.1);
+    Ok(())
+}
+
 #[test]
 fn conversations_keep_to_their_scripts(rt: HostRuntime) -> Result<(), Fail> {
-    let table: [(&[Turn], EndCause, &[u8], u32); 5] = [
+    let table: [(&[Turn], EndCause, (&[u8], u32)); 5] = [
         (
             &LINE_BY_LINE,
             EndCause::Quit,
-            b"Subject: hi\r\n\r\n.hello\r\n",
-            0,
+            (b"Subject: hi\r\n\r\n.hello\r\n", 0),
         ),
-        (&STOPPED, EndCause::Stopped, b"", 0),
-        (&STOPPED_IN_DATA, EndCause::Stopped, b"hello\r\nmore\r", 1),
-        (&CUT_OFF, EndCause::EndOfInput, b"", 0),
-        (&READ_FAILS, EndCause::ReadFault, b"", 0),
+        (&STOPPED, EndCause::Stopped, (b"", 0)),
+        (&STOPPED_IN_DATA, EndCause::Stopped, (b"hello\r\nmore\r", 1)),
+        (&CUT_OFF, EndCause::EndOfInput, (b"", 0)),
+        (&READ_FAILS, EndCause::ReadFault, (b"", 0)),
     ];
-    let site = site(&rt, rt.alloc())?;
-    for (turns, end, message, cancelled) in table {
-        let mut dialogue = Dialogue::new(rt.alloc(), site.clone()?)?;
-        let mut peer = Script::new(rt.alloc(), turns, usize::MAX);
-        let mut shelf = Shelf::new(rt.alloc(), site.clone()?);
-        assert_eq!(rt; serve(&mut dialogue, &mut peer, &mut shelf), end);
-        assert!(rt; peer.has_heard_all());
-        assert_eq!(rt; shelf.bytes(), message);
-        assert_eq!(rt; shelf.cancelled(), cancelled);
+    for (turns, end, kept) in table {
+        check(&rt, rt.alloc(), turns, end, kept)?;
     }
     Ok(())
 }

@@ -8,9 +8,8 @@ ghost use Rattle.mail_world.specs.Text.{has_byte};
 ghost use Rattle.lmtp_text.specs.Seen.{seen_answer, seen_command, seen_target};
 
 use crate::alphabet::is_visible_byte;
-use crate::cut::{
-    begins_with_byte, is_the_word, split_at_byte, without_blanks_behind, without_spaces_before,
-};
+use crate::cut::{begins_with_byte, split_at_byte, without_blanks_behind, without_spaces_before};
+use crate::names::is_word;
 use crate::parameters::{check_mail_parameters, has_parameters};
 use crate::path::{read_forward_path, read_reverse_path};
 use mail_world::BadCommand;
@@ -55,27 +54,27 @@ pub fn read_command<'a>(line: &'a [u8]) -> Result<Command<'a>, BadCommand>
 fn by_verb<'a>(verb: &[u8], rest: &'a [u8]) -> Result<Command<'a>, BadCommand>
     ensures { seen_answer result ≡ m.by_verb verb.now rest.now }
 {
-    if is_the_word(verb, b"HELO") || is_the_word(verb, b"EHLO") {
+    if is_word(verb, b"HELO") || is_word(verb, b"EHLO") {
         Err(BadCommand::NotHere)
-    } else if is_the_word(verb, b"EXPN") {
+    } else if is_word(verb, b"EXPN") {
         Err(BadCommand::NotDone)
-    } else if is_the_word(verb, b"NOOP") {
+    } else if is_word(verb, b"NOOP") {
         Ok(Command::Noop)
-    } else if is_the_word(verb, b"VRFY") {
+    } else if is_word(verb, b"VRFY") {
         Ok(Command::Vrfy)
-    } else if is_the_word(verb, b"HELP") {
+    } else if is_word(verb, b"HELP") {
         Ok(Command::Help)
-    } else if is_the_word(verb, b"DATA") {
+    } else if is_word(verb, b"DATA") {
         alone(Command::StartData, rest)
-    } else if is_the_word(verb, b"RSET") {
+    } else if is_word(verb, b"RSET") {
         alone(Command::Rset, rest)
-    } else if is_the_word(verb, b"QUIT") {
+    } else if is_word(verb, b"QUIT") {
         alone(Command::Quit, rest)
-    } else if is_the_word(verb, b"LHLO") {
+    } else if is_word(verb, b"LHLO") {
         read_lhlo(rest)
-    } else if is_the_word(verb, b"MAIL") {
+    } else if is_word(verb, b"MAIL") {
         read_mail(rest)
-    } else if is_the_word(verb, b"RCPT") {
+    } else if is_word(verb, b"RCPT") {
         read_rcpt(rest)
     } else {
         Err(BadCommand::Unknown)
@@ -127,7 +126,7 @@ fn behind_label<'a>(label: &[u8], text: &'a [u8]) -> Option<&'a [u8]>
 {
     let n = label.len().min(text.len());
     let (front, rest) = text.split_at(n);
-    if is_the_word(front, label) {
+    if is_word(front, label) {
         Some(without_spaces_before(rest))
     } else {
         None

@@ -3,7 +3,7 @@
 ghost use Rattle.std.specs.Prelude.{◌≡◌, ◌==◌, IfSome, IfNone, is_some, []};
 ghost use Rattle.std.specs.List.{before_first, after_first};
 ghost use Rattle.mail_world.specs.Text.{begins, has_byte};
-ghost use Rattle.mail_world.specs.Commands.{trimmed, behind_spaces, is_word};
+ghost use Rattle.mail_world.specs.Commands.{trimmed, behind_spaces};
 
 use bstr::ByteSlice;
 
@@ -54,11 +54,4 @@ pub(crate) fn begins_with_byte(text: &[u8], byte: u8) -> bool
     ensures { result ≡ begins byte text.now }
 {
     text.first() == Some(&byte)
-}
-
-/// Whether the text is that word, whatever the case of its letters.
-pub(crate) fn is_the_word(text: &[u8], word: &[u8]) -> bool
-    ensures { result ≡ is_word word.now text.now }
-{
-    text.eq_ignore_ascii_case(word)
 }

@@ -12,6 +12,7 @@ mod reply;
 mod rules;
 mod site;
 mod stamp;
+mod writing;
 
 pub use command::{Command, Target, read_command};
 pub use mail_world::{BadCommand, Outcome, Reply};

@@ -25,18 +25,16 @@ fn is_quoted_word(text: &[u8], word: &[u8]) -> bool
     for b in text {
         if !escaped && *b == b'\\' {
             escaped = true;
-        } else {
-            match left {
-                [] => return false,
-                [first, rest @ ..] => {
-                    if !first.eq_ignore_ascii_case(b) {
-                        return false;
-                    }
-                    left = rest;
-                }
-            }
-            escaped = false;
+            continue;
         }
+        let [first, rest @ ..] = left else {
+            return false;
+        };
+        if !first.eq_ignore_ascii_case(b) {
+            return false;
+        }
+        left = rest;
+        escaped = false;
     }
     left.is_empty()
 }

@@ -5,7 +5,8 @@ ghost use Rattle.std.specs.Prelude.{◌≡◌, ◌++◌, ◌==◌, [], ◌∷◌
 ghost use Rattle.mail_world.specs.Commands as m;
 ghost use Rattle.lmtp_text.specs.Parameters.{seen_value, seen_parameter, Tallies, IsWithSize, IsWithBody, mail_answer};
 
-use crate::cut::{cut_at, is_the_word};
+use crate::cut::cut_at;
+use crate::names::is_word;
 use mail_world::BadCommand;
 use mail_world::limits::{MESSAGE_LIMIT, SIZE_DIGIT_LIMIT};
 
@@ -67,7 +68,7 @@ fn is_body(value: Option<&[u8]>) -> bool
     ensures { result ≡ m.is_body_value (seen_value value.entry) }
 {
     match value {
-        Some(kind) => is_the_word(kind, b"7BIT") || is_the_word(kind, b"8BITMIME"),
+        Some(kind) => is_word(kind, b"7BIT") || is_word(kind, b"8BITMIME"),
         None => false,
     }
 }
@@ -78,9 +79,9 @@ impl Tally {
         ensures { (before : List m.Parameter) → Tallies self before
             → Tallies result (before ++ seen_parameter parameter.entry ∷ []) }
     {
-        if is_the_word(parameter.keyword, b"SIZE") {
+        if is_word(parameter.keyword, b"SIZE") {
             self.with_size(parameter.value)
-        } else if is_the_word(parameter.keyword, b"BODY") {
+        } else if is_word(parameter.keyword, b"BODY") {
             self.with_body(parameter.value)
         } else {
             Tally {

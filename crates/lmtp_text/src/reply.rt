@@ -1,10 +1,11 @@
 //! The texts of the replies (RFC 5321, 4.2; the enhanced codes of RFC 2034).
 
-ghost use Rattle.std.specs.Prelude.{◌≡◌, ℕ, ◌+◌, ◌≤◌, List, ◌++◌, length, take, drop};
+ghost use Rattle.std.specs.Prelude.{◌≡◌, ℕ, ◌≤◌, List, ◌++◌, length, take, drop};
 ghost use Rattle.mail_world.specs.Text.{crlf};
 ghost use Rattle.mail_world.specs.Replies.{refusal_text, outcome_text, reply_text};
 
 use crate::site::Site;
+use crate::writing::put;
 use mail_world::limits::NAME_LIMIT;
 use mail_world::{BadCommand, Outcome, Reply};
 
@@ -77,18 +78,6 @@ fn pieces<'a>(reply: Reply, site: &'a Site) -> Pieces<'a>
         Reply::Refused(why) => (refusal(why), b"", b""),
         Reply::Result(outcome, i) => (outcome_front(outcome), site.box_name(i), b"\r\n"),
     }
-}
-
-/// Writes the text at `at`, and says where it ends.
-fn put(out: &mut [u8], at: usize, text: &[u8]) -> usize
-    requires { at + length text.now ≤ length out.old }
-    ensures end { result ≡ at + length text.now }
-    ensures front { take result out.new ≡ take at out.old ++ text.now }
-    ensures rest { drop result out.new ≡ drop result out.old }
-{
-    let end = at + text.len();
-    out[at..end].copy_from_slice(text);
-    end
 }
 
 /// Writes the reply's lines, each with CRLF, at the front of `out`, and says how many bytes they take. A result that

@@ -1,8 +1,9 @@
 //! A moment as the texts of a mailbox show it: the form of ctime, and that of a header's date.
-ghost use Rattle.std.specs.Prelude.{◌≡◌, ◌+◌, ◌≤◌, ◌<◌, ◌++◌, length, take, drop, codes};
+ghost use Rattle.std.specs.Prelude.{◌≡◌, ◌≤◌, ◌<◌, ◌++◌, length, take, drop, codes};
 ghost use Rattle.mail_world.specs.Stamps as texts;
 ghost use Rattle.lmtp_text.specs.Calendar.{civil_at};
 
+use crate::writing::put;
 use jiff::Timestamp;
 use jiff::tz::Offset;
 use std::marker::Model;
@@ -172,18 +173,6 @@ fn rest_of_date(stamp: &Stamp) -> [u8; 24]
         b' ', m0, m1, m2, b' ', y0, y1, y2, y3, b' ', t0, t1, t2, t3, t4, t5, t6, t7, b' ', b'+',
         b'0', b'0', b'0', b'0',
     ]
-}
-
-// Writes the text at that index, and gives the index after it.
-fn put(out: &mut [u8], at: usize, text: &[u8]) -> usize
-    requires { at + length text.now ≤ length out.old }
-    ensures text { take result out.new ≡ take at out.old ++ text.now }
-    ensures rest { drop result out.new ≡ drop result out.old }
-    ensures size { result ≡ at + length text.now }
-{
-    let end = at + text.len();
-    out[at..end].copy_from_slice(text);
-    end
 }
 
 /// `Tue, 29 Feb 2000 00:00:00 +0000`, the date of a header, with one digit for a day below 10

@@ -64,8 +64,8 @@ pub ends_at_lf : (taken piece : List ℕ) → place_of crlf taken ≡ None → e
 ends_at_lf taken piece e h begins = rw (begins_with-front (lf ∷ []) piece begins) (at_lf taken (drop 1 piece) e h)
 
 -- else it is the first in what follows the bytes
-abbrev IsFurther : List ℕ → List ℕ → Type 0
-IsFurther taken piece = place_of crlf (taken ++ piece) ≡ option_map (λ n. length taken + n) (place_of crlf piece)
+abbrev IsInPiece : List ℕ → List ℕ → Type 0
+IsInPiece taken piece = place_of crlf (taken ++ piece) ≡ option_map (λ n. length taken + n) (place_of crlf piece)
 
 none_further : (o : Option ℕ) → o ≡ option_map (λ n. 0 + n) o
 none_further None = refl
@@ -92,7 +92,7 @@ one_further m None = refl
 one_further m (Some n) = ap (λ k. Some k) (omega arith)
 
 further_by : (b : ℕ) (taken piece : List ℕ) → place_of crlf (b ∷ taken) ≡ None → ends_in (cr ∷ []) (b ∷ taken) && begins_with (lf ∷ []) piece ≡ false
-    → (place_of crlf taken ≡ None → ends_in (cr ∷ []) taken && begins_with (lf ∷ []) piece ≡ false → IsFurther taken piece) → IsFurther (b ∷ taken) piece
+    → (place_of crlf taken ≡ None → ends_in (cr ∷ []) taken && begins_with (lf ∷ []) piece ≡ false → IsInPiece taken piece) → IsInPiece (b ∷ taken) piece
 further_by b [] piece e h ih =
     ap (λ v. cond v (Some 0) (option_map (λ n. suc n) (place_of crlf piece))) (both (nat_eq cr b) (begins_with (lf ∷ []) piece) h) ∙ one_more (place_of crlf piece)
 further_by b (c ∷ t) piece e h ih =
@@ -100,7 +100,7 @@ further_by b (c ∷ t) piece e h ih =
     let found = ih p.1 (rw (ends_in-append (b ∷ []) c t) at h) in
     next b c t (t ++ piece) p.0 ∙ ap (λ o. option_map (λ n. suc n) o) found ∙ one_further (length (c ∷ t)) (place_of crlf piece)
 
-further : (taken piece : List ℕ) → place_of crlf taken ≡ None → ends_in (cr ∷ []) taken && begins_with (lf ∷ []) piece ≡ false → IsFurther taken piece
+further : (taken piece : List ℕ) → place_of crlf taken ≡ None → ends_in (cr ∷ []) taken && begins_with (lf ∷ []) piece ≡ false → IsInPiece taken piece
 further [] piece e h = none_further (place_of crlf piece)
 further (b ∷ taken) piece e h = further_by b taken piece e h (further taken piece)
 

@@ -27,10 +27,11 @@ pub record DataGoesOn (new : Dot) (taken made : List ℕ) (piece out : ℕ) (fed
   pub stops : (fed.used ≡ piece) ⊎ (fed.made ≡ out)
   pub whole : fed.made < out → new.owed ≡ None
 
-abbrev pub FeedsBy : Bool → Dot → List ℕ → List ℕ → ℕ → ℕ → Fed → Type 0
-FeedsBy true new taken made piece out fed = IsDataEnd taken made
-FeedsBy false new taken made piece out fed = DataGoesOn new taken made piece out fed
+-- the one where the data has ended, and else the other
+abbrev pub EndedOr : Bool → Type 0 → Type 0 → Type 0
+EndedOr true ends goes_on = ends
+EndedOr false ends goes_on = goes_on
 
 -- what a call did, by whether the data has ended
 abbrev pub Feeds : Dot → List ℕ → List ℕ → ℕ → ℕ → Fed → Type 0
-Feeds new taken made piece out fed = FeedsBy fed.ended new taken made piece out fed
+Feeds new taken made piece out fed = EndedOr fed.ended (IsDataEnd taken made) (DataGoesOn new taken made piece out fed)

@@ -1,4 +1,5 @@
 use super::*;
+use std::test::Fail;
 
 fn target<'a>(local: &'a str, quoted: bool, domain: Option<&'a str>) -> Target<'a> {
     Target {
@@ -73,10 +74,8 @@ fn senders_are_read(rt: HostRuntime) {
     }
 }
 
-/// With mailboxes and routes of RFC 5321, 4.1.1.3 and 4.1.3, and of RFC 3696, 3.
 #[test]
 fn recipients_are_read(rt: HostRuntime) {
-    let example = Some("example.com");
     let table = [
         (
             "RCPT TO:<Postmaster>",
@@ -95,46 +94,6 @@ fn recipients_are_read(rt: HostRuntime) {
             Ok(target("a", false, Some("[IPv6:2001:db8::1]"))),
         ),
         (
-            "RCPT TO:<\"Abc@def\"@example.com>",
-            Ok(target("Abc@def", true, example)),
-        ),
-        (
-            "RCPT TO:<\"Fred Bloggs\"@example.com>",
-            Ok(target("Fred Bloggs", true, example)),
-        ),
-        (
-            "RCPT TO:<\"Joe\\\\Blow\"@example.com>",
-            Ok(target("Joe\\\\Blow", true, example)),
-        ),
-        (
-            "RCPT TO:<\"a>b\"@example.com>",
-            Ok(target("a>b", true, example)),
-        ),
-        (
-            "RCPT TO:<customer/department=shipping@example.com>",
-            Ok(target("customer/department=shipping", false, example)),
-        ),
-        (
-            "RCPT TO:<$A12345@example.com>",
-            Ok(target("$A12345", false, example)),
-        ),
-        (
-            "RCPT TO:<!def!xyz%abc@example.com>",
-            Ok(target("!def!xyz%abc", false, example)),
-        ),
-        (
-            "RCPT TO:<_somename@example.com>",
-            Ok(target("_somename", false, example)),
-        ),
-        (
-            "RCPT TO:<Abc\\@def@example.com>",
-            Err(BadCommand::RecipientSyntax),
-        ),
-        (
-            "RCPT TO:<Fred\\ Bloggs@example.com>",
-            Err(BadCommand::RecipientSyntax),
-        ),
-        (
             "RCPT TO:<@hosta.int,@jkl.org:userc@d.bar.org>",
             Ok(target("userc", false, Some("d.bar.org"))),
         ),
@@ -149,4 +108,34 @@ fn recipients_are_read(rt: HostRuntime) {
             "{line}"
         );
     }
+}
+
+/// The mailboxes of RFC 3696, 3, at example.com: how each is spelled, its local part, and whether that is quoted.
+#[test]
+fn odd_mailboxes_are_read(rt: HostRuntime) -> Result<(), Fail> {
+    let table = [
+        ("\"Abc@def\"", "Abc@def", true),
+        ("\"Fred Bloggs\"", "Fred Bloggs", true),
+        ("\"Joe\\\\Blow\"", "Joe\\\\Blow", true),
+        ("\"a>b\"", "a>b", true),
+        (
+            "customer/department=shipping",
+            "customer/department=shipping",
+            false,
+        ),
+        ("$A12345", "$A12345", false),
+        ("!def!xyz%abc", "!def!xyz%abc", false),
+        ("_somename", "_somename", false),
+    ];
+    for (spelled, local, quoted) in table {
+        let line = format!(in rt.alloc(); "RCPT TO:<{spelled}@example.com>")?;
+        let want = Command::Rcpt(target(local, quoted, Some("example.com")));
+        assert_eq!(rt; read_command(line.as_bytes()), Ok(want), "{spelled}");
+    }
+    for spelled in ["Abc\\@def", "Fred\\ Bloggs"] {
+        let line = format!(in rt.alloc(); "RCPT TO:<{spelled}@example.com>")?;
+        let want = Err(BadCommand::RecipientSyntax);
+        assert_eq!(rt; read_command(line.as_bytes()), want, "{spelled}");
+    }
+    Ok(())
 }

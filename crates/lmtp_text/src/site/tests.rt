@@ -11,8 +11,6 @@ struct Row<'a> {
 #[test]
 fn refuses_by_the_first_broken_rule(rt: HostRuntime) {
     let alloc = rt.alloc();
-    let mut many: [&[u8]; 65] = [b"ben"; 65];
-    many[7] = b"Anna";
     let rows = [
         Row {
             host: b"",
@@ -32,6 +30,21 @@ fn refuses_by_the_first_broken_rule(rt: HostRuntime) {
             boxes: &[],
             fault: SiteFault::Count,
         },
+    ];
+    for row in &rows {
+        assert_eq!(rt;
+            Site::new(alloc, row.host, row.domains, row.boxes).err(),
+            Some(row.fault)
+        );
+    }
+}
+
+#[test]
+fn refuses_mailboxes_by_the_first_broken_rule(rt: HostRuntime) {
+    let alloc = rt.alloc();
+    let mut many: [&[u8]; 65] = [b"ben"; 65];
+    many[7] = b"Anna";
+    let rows = [
         Row {
             host: b"mx.example",
             domains: &[],
