@@ -1,6 +1,6 @@
 //! A mailbox's channel holds as many copies as it has room for.
 
-ghost use Rattle.std.specs.Prelude.{◌≡◌};
+ghost use Rattle.std.specs.Prelude.{◌≡◌, IfOk, IfSome};
 
 use super::*;
 use std::sync::Arc;
@@ -44,6 +44,46 @@ fn stops_at<R: Clock>(rt: &R, accepted: &AtomicU64, count: u64) -> bool {
     accepted.load(Ordering::SeqCst) == count
 }
 
+// Three copies of lane 0.
+fn three<N: DepotName, R: Wait>(
+    rt: &R,
+    alloc: Global,
+    depot: &Depot<N>,
+) -> Option<(Post<N>, Post<N>, Post<N>)>
+    ensures { IfSome result
+        (λ copies. (copies.0.txn.lane ≡ 0) × (copies.1.txn.lane ≡ 0) × (copies.2.txn.lane ≡ 0)) }
+{
+    let a = post(rt, alloc, depot, 0, 1, b"a")?;
+    let b = post(rt, alloc, depot, 0, 2, b"b")?;
+    let c = post(rt, alloc, depot, 0, 3, b"c")?;
+    Some((a, b, c))
+}
+
+// The ends of a channel with room for two copies, which has one lane.
+fn narrow<N: DepotName>(alloc: Global) -> Result<(Sender<N>, Receiver<N>), Fail>
+    ensures { IfOk result (λ ends. ends.0.number ≡ 0) }
+{
+    let (mut senders, receiver) = mail_line::<N>(alloc, 2, 1)?;
+    match senders.pop() {
+        Some(sender) => Ok((sender, receiver)),
+        None => Err("a sender".into()),
+    }
+}
+
+// Whether two copies are accepted and no third, and this one once a copy was taken. All three are taken.
+fn drains<N: DepotName, R: Wait + Clock>(
+    rt: &R,
+    mut receiver: Receiver<N>,
+    accepted: &AtomicU64,
+) -> bool {
+    let is_full = stops_at(rt, accepted, 2);
+    let first = receiver.take(rt).is_ok();
+    let has_room = stops_at(rt, accepted, 3);
+    let second = receiver.take(rt).is_ok();
+    let third = receiver.take(rt).is_ok();
+    is_full && has_room && first && second && third
+}
+
 fn fill_line<N, R>(rt: R, alloc: Global, blank: Blank) -> Result<(), Fail>
 where
     N: DepotName + Send + Sync + 'static,
@@ -51,21 +91,20 @@ where
     requires { blank.table ≡ N.table }
 {
     let depot = blank.open::<N>();
-    let a = post(&rt, alloc, &depot, 0, 1, b"a").ok_or("there is room")?;
-    let b = post(&rt, alloc, &depot, 0, 2, b"b").ok_or("there is room")?;
-    let c = post(&rt, alloc, &depot, 0, 3, b"c").ok_or("there is room")?;
-    let (mut senders, mut receiver) = mail_line::<N>(alloc, 2, 1)?;
-    let sender = senders.pop().ok_or("a sender")?;
+    let copies = three(&rt, alloc, &depot).ok_or("there is room")?;
+    let (sender, receiver) = narrow::<N>(alloc)?;
     let accepted = Arc::new(alloc, AtomicU64::new(0))?;
     let theirs = Arc::try_clone(&accepted)?;
-    let lane = thread::spawn(&rt, move || offer_three(&rt, sender, (a, b, c), &theirs))?;
-    let is_full = stops_at(&rt, &accepted, 2);
-    let first = receiver.take(&rt);
-    let has_room = stops_at(&rt, &accepted, 3);
-    let others = (receiver.take(&rt), receiver.take(&rt));
+    let lane = thread::spawn(
+        &rt,
+        move ||
+            requires { (copies.0.txn.lane ≡ sender.number) × (copies.1.txn.lane ≡ sender.number)
+                × (copies.2.txn.lane ≡ sender.number) }
+        { offer_three(&rt, sender, copies, &theirs) },
+    )?;
+    let is_drained = drains(&rt, receiver, &accepted);
     let all = lane.join(&rt);
-    assert!(rt; is_full && has_room);
-    assert!(rt; first.is_ok() && others.0.is_ok() && others.1.is_ok() && all.is_some());
+    assert!(rt; is_drained && all.is_some());
     Ok(())
 }
 
