@@ -1,59 +1,50 @@
 -- What became of a whole message.
-use Rattle.std.proofs.Common.{◌≡◌, ℕ, List, [], ◌∷◌, ◌++◌, length, map, Bool, Some, refl, ap, sym, ◌∙◌, subst, append-nil, arith}
+use Rattle.std.proofs.Common.{◌≡◌, ℕ, List, [], ◌∷◌, ◌++◌, length, map, Some, refl, ap, sym, ◌∙◌, subst, append-nil, arith}
 use Rattle.mail_world.specs.declared.Outcome.{Outcome}
 use Rattle.mail_world.specs.declared.Txn.{Txn}
 use Rattle.mail_world.specs.declared.Note.{Note}
 use Rattle.mail_world.specs.declared.Slip.{Slip}
-use Rattle.mail_world.specs.Session.{Session}
 use Rattle.mail_world.specs.Slips.{answers, Gather, txn_of}
-use Rattle.mail_world.specs.Lists.{copies_from}
-use Rattle.mail_post.specs.Channel.{Sender, Inbox, taken}
+use Rattle.mail_world.specs.Lists.{Transaction, copies_from}
 use Rattle.mail_post.specs.Gathering.{HasGathered}
-use Rattle.lmtp_lane.specs.LaneExchange.{HasExchanged, Episode, IsUnderWay, sent_as}
+use Rattle.lmtp_lane.specs.LaneExchange.{LaneEnds, Sending, joined, HasExchanged, IsUnderWay, Sends}
 use Rattle.lmtp_lane.specs.LaneAccount.{Delivers}
+use Rattle.lmtp_lane.proofs.Exchanging.{no_episode, joined_none}
 
 -- the answers of the gatherer are those of the slips that were heard
 abbrev pub Answers : Gather → List Outcome → Type 0
 Answers gather told = (txn : Txn) (n : ℕ) (heard : List Slip) → HasGathered txn n heard gather → map (λ o. Some o) told ≡ answers txn n heard
 
-pub delivered : (lane number : ℕ) (session : Session) (moment : ℕ) (message message' : List ℕ) (told : List Outcome) (now next : List (Sender Note)) (inbox inbox' : Inbox Slip)
-    (gather : Gather) (gone gone' : Bool) → message' ≡ message → Answers gather told
-    → ((notes : List Note) (past : Episode) (before : List (Sender Note)) (old_inbox : Inbox Slip) → HasExchanged lane notes before now old_inbox inbox past.own past.heard gone
-    → taken inbox ≡ taken old_inbox ++ past.came
-    → IsUnderWay lane (notes ++ copies_from lane (sent_as number session moment message') 0 session.recipients) (txn_of lane number) (length session.recipients) past before next old_inbox inbox' gather gone')
-    → Delivers lane number session moment message told now next inbox inbox' gone gone'
-delivered lane number session moment message message' told now next inbox inbox' gather gone gone' same says way notes past before old_inbox x took =
-    let u = way notes past before old_inbox x took in
-    let P : List ℕ → Type 0 = λ m. HasExchanged lane (notes ++ copies_from lane (sent_as number session moment m) 0 session.recipients) before next old_inbox inbox'
-    (past.own ++ u.now.own) (past.heard ++ u.now.heard) gone' in
+delivered_by : (t : Transaction) (told : List Outcome) (now : LaneEnds) (next : Sending) → Answers next.gather told → Sends t now next → Delivers t told now next.ends
+delivered_by t told now next says way notes past old x =
+    let W : ℕ → Type 0 = λ l. IsUnderWay (notes ++ copies_from l t 0 t.session.recipients) (txn_of l t.number) (length t.session.recipients) past old next in
+    let u : W old.lane = subst W x.lane (way notes past old x) in
     record {
       now = u.now;
       is = u.is;
-      exchanged = subst P same u.exchanged;
-      took = u.took;
-      outcomes = says (txn_of lane number) (length session.recipients) u.now.heard u.gathered;
+      exchanged = u.exchanged;
+      outcomes = says (txn_of old.lane t.number) (length t.session.recipients) u.now.heard u.gathered;
     }
 
+pub delivered : (t t' : Transaction) (told : List Outcome) (now : LaneEnds) (next : Sending) → t' ≡ t → Answers next.gather told → Sends t' now next → Delivers t told now next.ends
+delivered t t' told now next same says way = subst (λ u. Delivers u told now next.ends) same (delivered_by t' told now next says way)
+
 -- a message without recipients has no copy
-none_by : (lane number : ℕ) (session : Session) (moment : ℕ) (message : List ℕ) (rs : List ℕ) → length rs ≡ 0 → copies_from lane (sent_as number session moment message) 0 rs ≡ []
-none_by lane number session moment message [] e = refl
-none_by lane number session moment message (r ∷ rs) e = absurd (omega (arith, e))
+none_by : (lane : ℕ) (t : Transaction) (rs : List ℕ) → length rs ≡ 0 → copies_from lane t 0 rs ≡ []
+none_by lane t [] e = refl
+none_by lane t (r ∷ rs) e = absurd (omega (arith, e))
 
 no_answer : (txn : Txn) (n : ℕ) → n ≡ 0 → [] ≡ answers txn n []
 no_answer txn n e = ap (λ k. answers txn k []) (sym e)
 
-pub delivered_none : (lane number : ℕ) (session : Session) (moment : ℕ) (message : List ℕ) (told : List Outcome) (now : List (Sender Note)) (inbox : Inbox Slip) (gone : Bool)
-    → length session.recipients ≡ 0 → told ≡ [] → Delivers lane number session moment message told now now inbox inbox gone gone
-delivered_none lane number session moment message told now inbox gone none empty notes past before old_inbox x took =
-    let same : notes ++ copies_from lane (sent_as number session moment message) 0 session.recipients ≡ notes =
-    ap (λ l. notes ++ l) (none_by lane number session moment message session.recipients none) ∙ append-nil notes in
-    let P : List Note → Type 0 = λ l. HasExchanged lane l before now old_inbox inbox (past.own ++ []) (past.heard ++ []) gone in
-    let O : List Slip → Type 0 = λ l. HasExchanged lane notes before now old_inbox inbox l (past.heard ++ []) gone in
-    let Q : List Slip → Type 0 = λ l. HasExchanged lane notes before now old_inbox inbox past.own l gone in
+pub delivered_none : (t : Transaction) (told : List Outcome) (now : LaneEnds) → length t.session.recipients ≡ 0 → told ≡ [] → Delivers t told now now
+delivered_none t told now none empty notes past old x =
+    let same : notes ++ copies_from old.lane t 0 t.session.recipients ≡ notes =
+    ap (λ l. notes ++ l) (none_by old.lane t t.session.recipients none) ∙ append-nil notes in
+    let P : List Note → Type 0 = λ l. HasExchanged l (joined past no_episode) old now in
     record {
-      now = record { came = []; own = []; heard = [] };
+      now = no_episode;
       is = record { timely = (refl, refl); named = tt };
-      exchanged = subst P (sym same) (subst O (sym (append-nil past.own)) (subst Q (sym (append-nil past.heard)) x));
-      took = took ∙ ap (λ l. taken old_inbox ++ l) (sym (append-nil past.came));
-      outcomes = ap (λ (l : List Outcome). map (λ o. Some o) l) empty ∙ no_answer (txn_of lane number) (length session.recipients) none;
+      exchanged = subst P (sym same) (subst (λ e. HasExchanged notes e old now) (sym (joined_none past)) x);
+      outcomes = ap (λ (l : List Outcome). map (λ o. Some o) l) empty ∙ no_answer (txn_of old.lane t.number) (length t.session.recipients) none;
     }

@@ -4,10 +4,11 @@ ghost use Rattle.std.specs.Prelude.{◌≡◌, ◌≤◌, ◌<◌, ℕ, List, []
 ghost use Rattle.mail_world.specs.declared.limits.TheConstants.{RECIPIENT_LIMIT, NUMBER_LIMIT};
 ghost use Rattle.mail_world.specs.Lists.{Transaction};
 ghost use Rattle.msg_depot.specs.declared.view.Claim.{Claim};
+ghost use Rattle.lmtp_lane.specs.LaneExchange.{ends_of, sent_as};
 ghost use Rattle.lmtp_lane.specs.LaneAccount.{AgreesWith, HasOffered, HoldsDraft, Delivers};
 
 use crate::clock::Clock;
-use crate::exchange::Exchange;
+use crate::exchange::{Exchange, Postmark};
 use crate::incoming::Incoming;
 use crate::setting::LaneStart;
 use lmtp_session::Session;
@@ -34,7 +35,7 @@ pub struct LaneDelivery<'a, N: DepotName, C: Clock, R: Wait, S: LaneStart> {
     /// What became of the copies of the last message; none where it was refused.
     pub outcomes: Vec<Outcome>,
     start: PhantomData<S>,
-    ghost of_lane: { exchange.lane ≡ S.lane },
+    ghost of_lane: { exchange.lane ≡ S.ends.lane },
     ghost count: { length exchange.senders.items ≡ length S.site.boxes },
     ghost reserved: { RECIPIENT_LIMIT ≤ vec_capacity outcomes },
 }
@@ -48,12 +49,10 @@ impl<'a, N: DepotName, C: Clock, R: Wait, S: LaneStart> LaneDelivery<'a, N, C, R
         exchange: Exchange<N>,
         outcomes: Vec<Outcome>,
     ) -> LaneDelivery<'a, N, C, R, S>
-        requires lane { exchange.lane ≡ S.lane }
         requires count { length exchange.senders.items ≡ length S.site.boxes }
         requires room { RECIPIENT_LIMIT ≤ vec_capacity outcomes }
-        requires start { (exchange.senders.items ≡ S.senders) × (exchange.slips ≡ S.inbox) × (exchange.gone ≡ false) }
-        ensures begun { HasOffered S.lane S.May S.senders result.exchange.senders.items S.inbox result.exchange.slips
-            result.exchange.gone result.accepted 0 [] }
+        requires start { (ends_of exchange ≡ S.ends) × (exchange.gone ≡ false) }
+        ensures begun { HasOffered S.May result.accepted S.ends (ends_of result.exchange) 0 [] }
         ensures clock { AgreesWith (C.May result.clock.now) (C.May clock.now) }
     {
         LaneDelivery {
@@ -77,10 +76,8 @@ impl<'a, N: DepotName, C: Clock, R: Wait, S: LaneStart> LaneDelivery<'a, N, C, R
         ensures same { (self.new.accepted ≡ self.old.accepted) × (self.new.moment ≡ self.old.moment) }
         ensures clock { AgreesWith (C.May self.new.clock.now) (C.May self.old.clock.now) }
         ensures count { length self.new.outcomes.items ≡ length session.now.session.recipients }
-        ensures delivers { Delivers self.old.exchange.lane self.old.accepted session.now.session
-            self.old.moment draft.bytes self.new.outcomes.items
-            self.old.exchange.senders.items self.new.exchange.senders.items
-            self.old.exchange.slips self.new.exchange.slips self.old.exchange.gone self.new.exchange.gone }
+        ensures delivers { Delivers (sent_as self.old.accepted session.now.session self.old.moment draft.bytes)
+            self.new.outcomes.items (ends_of self.old.exchange) (ends_of self.new.exchange) }
     {
         let count = session.recipient_count();
         if count == 0 {
@@ -88,14 +85,11 @@ impl<'a, N: DepotName, C: Clock, R: Wait, S: LaneStart> LaneDelivery<'a, N, C, R
             return;
         }
         let hold = self.depot.seal(self.rt, draft, count);
-        self.exchange.send(
-            self.rt,
-            self.depot,
-            session,
-            self.accepted as u32,
-            self.moment,
-            hold,
-        );
+        let mark = Postmark {
+            number: self.accepted as u32,
+            moment: self.moment,
+        };
+        self.exchange.send(self.rt, self.depot, session, mark, hold);
         keep(&mut self.outcomes, self.exchange.gather.answers());
     }
 }
@@ -116,13 +110,11 @@ impl<'a, N: DepotName, C: Clock, R: Wait, S: LaneStart> Delivery for LaneDeliver
     ghost site = { λ d. S.site };
 
     ghost HasCome = { λ d n ts.
-        HasOffered S.lane S.May S.senders d.exchange.senders.items S.inbox d.exchange.slips d.exchange.gone
-        d.accepted n ts
+        HasOffered S.May d.accepted S.ends (ends_of d.exchange) n ts
         × AgreesWith (C.May d.clock.now) S.May };
 
     ghost IsDrafting = { λ d n ts message.
-        HasOffered S.lane S.May S.senders d.exchange.senders.items S.inbox d.exchange.slips d.exchange.gone
-        d.accepted n ts
+        HasOffered S.May d.accepted S.ends (ends_of d.exchange) n ts
         × AgreesWith (C.May d.clock.now) S.May × HoldsDraft d.incoming.draft d.incoming.size message };
 
     ghost outcomes = { λ d. d.outcomes.items };

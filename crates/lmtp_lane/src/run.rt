@@ -4,6 +4,7 @@ ghost use Rattle.std.specs.Prelude.{◌≡◌, [], length, true, false};
 ghost use Rattle.lmtp_talk.specs.Peer.{PeerState};
 ghost use Rattle.mail_post.specs.Offered.{HaveNumber};
 ghost use Rattle.lmtp_lane.specs.LaneAccount.{AgreesWith, HasOffered};
+ghost use Rattle.lmtp_lane.specs.LaneExchange.{ends_of};
 ghost use Rattle.lmtp_lane.specs.LaneRun.{HasServed};
 ghost use Rattle.lmtp_lane.specs.Visits.{HasConversed};
 
@@ -38,9 +39,19 @@ pub fn lane_run<N: DepotName, V: Visits, C: Clock, R: Wait>(
     requires count { length senders.items ≡ length site.now.boxes }
     requires lane { HaveNumber lane senders.items }
     requires none_out { V.out visits ≡ false }
-    ensures { HasServed site.now lane (C.May clock.now) (V.MayGive visits) (V.finished visits)
-        (V.finished result.visits) (V.over result.visits)
-        senders.items result.senders.items slips result.slips result.conversations result.gone }
+    ensures { HasServed site.now (C.May clock.now) (V.MayGive visits)
+        (record {
+          finished = V.finished visits;
+          over = V.over visits;
+          ends = record { lane = lane; senders = senders.items; inbox = slips; gone = false };
+          conversations = 0;
+        })
+        (record {
+          finished = V.finished result.visits;
+          over = V.over result.visits;
+          ends = record { lane = lane; senders = result.senders.items; inbox = result.slips; gone = result.gone };
+          conversations = result.conversations;
+        }) }
 {
     lane_at::<Brand, N, V, C, R>(rt, lane, desk, visits, depot, senders, slips, clock)
 }
@@ -57,15 +68,19 @@ fn lane_at<S: LaneStart, N: DepotName, V: Visits, C: Clock, R: Wait>(
     clock: &C,
 ) -> LaneReport<N, V>
     requires here { desk.dialogue.session.site ≡ S.site }
-    requires number { lane ≡ S.lane }
     requires count { length senders.items ≡ length S.site.boxes }
     requires lane { HaveNumber lane senders.items }
-    requires start { (senders.items ≡ S.senders) × (slips ≡ S.inbox) }
+    requires start { S.ends ≡ record { lane = lane; senders = senders.items; inbox = slips; gone = false } }
     requires clock { AgreesWith (C.May clock.now) S.May }
     requires none_out { V.out visits ≡ false }
-    ensures { HasServed S.site S.lane S.May (V.MayGive visits) (V.finished visits)
-        (V.finished result.visits) (V.over result.visits)
-        S.senders result.senders.items S.inbox result.slips result.conversations result.gone }
+    ensures { HasServed S.site S.May (V.MayGive visits)
+        (record { finished = V.finished visits; over = V.over visits; ends = S.ends; conversations = 0 })
+        (record {
+          finished = V.finished result.visits;
+          over = V.over result.visits;
+          ends = record { lane = lane; senders = result.senders.items; inbox = result.slips; gone = result.gone };
+          conversations = result.conversations;
+        }) }
 {
     let mut visits = visits;
     let Desk {
@@ -101,13 +116,17 @@ fn serve_all<'a, N: DepotName, V: Visits, C: Clock, R: Wait, S: LaneStart>(
     delivery: &mut LaneDelivery<'a, N, C, R, S>,
 ) -> u64
     requires here { dialogue.old.session.site ≡ S.site }
-    requires begun { HasOffered S.lane S.May S.senders delivery.old.exchange.senders.items
-        S.inbox delivery.old.exchange.slips delivery.old.exchange.gone delivery.old.accepted 0 [] }
+    requires begun { HasOffered S.May delivery.old.accepted S.ends (ends_of delivery.old.exchange) 0 [] }
     requires clock { AgreesWith (C.May delivery.old.clock.now) S.May }
     requires none_out { V.out visits.old ≡ false }
-    ensures { HasServed S.site S.lane S.May (V.MayGive visits.old) (V.finished visits.old)
-        (V.finished visits.new) (V.over visits.new) S.senders delivery.new.exchange.senders.items
-        S.inbox delivery.new.exchange.slips result delivery.new.exchange.gone }
+    ensures { HasServed S.site S.May (V.MayGive visits.old)
+        (record { finished = V.finished visits.old; over = V.over visits.old; ends = S.ends; conversations = 0 })
+        (record {
+          finished = V.finished visits.new;
+          over = V.over visits.new;
+          ends = ends_of delivery.new.exchange;
+          conversations = result;
+        }) }
 {
     let mut conversations: u64 = 0;
     for _ in rt.forever() {
