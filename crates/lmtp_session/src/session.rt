@@ -153,9 +153,10 @@ impl Session {
         self.answers[i as usize]
     }
 
-    /// How many recipients the message has so far.
+    /// How many recipients the message has so far. DATA is taken only where there is one.
     pub fn recipient_count(&self) -> u32
         ensures count { result ≡ length self.now.session.recipients }
+        ensures some { self.now.session.state ≡ State.Content → 0 < result }
         ensures bound { result ≤ RECIPIENT_LIMIT }
     {
         self.recipients.len() as u32

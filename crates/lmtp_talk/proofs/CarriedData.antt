@@ -17,7 +17,6 @@ use Rattle.lmtp_wire.specs.Dot.{HasMade, GoesOn}
 use Rattle.lmtp_wire.specs.Place.{Ends}
 use Rattle.lmtp_talk.specs.declared.dialogue.Dialogue.{Dialogue}
 use Rattle.lmtp_talk.specs.Peer.{PeerState}
-use Rattle.lmtp_talk.specs.Delivery.{ended_so}
 use Rattle.lmtp_talk.specs.Standing.{QuitsWith, Comes, InLine, InData, IsInside, IsSoFar, standing, beginning}
 use Rattle.lmtp_talk.specs.Steps.{EndsData, talk}
 use Rattle.lmtp_talk.proofs.CutUp.{cut_data}
@@ -73,10 +72,10 @@ end_of_data site start Before {D} HasCome IsDrafting old new dot before after de
     let text : List ℕ = h.rest ++ take used piece in
     let between : Dialogue = record old { dot = dot } in
     let ends = feeds h.rest inside.made inside.behind in
-    let d : Disposition = ended_so e.verdict e.moment e.told in
+    let d : Disposition = e.disposition in
     let p : Part = MailData text d in
     let session_is : new.session.session ≡ session_behind site fresh (h.done ++ p ∷ []) = session_more site h.done p between new before after e.takes h.same_site h.session in
-    let greets : new.session.session.state ≡ Greeted = ap (λ (s : Session). s.state) e.takes.session ∙ data_greets e.verdict old.session.site old.session.session d in
+    let greets : new.session.session.state ≡ Greeted = ap (λ (s : Session). s.state) e.takes.session ∙ data_greets d.verdict old.session.site old.session.session d in
     let now : InLine new [] (Comes site (h.done ++ p ∷ []) Before (HasCome later)) = record {
       behind = subst (λ w. IsBehind w []) (sym e.takes.wire) inside.next;
       comes = λ n ts first.
@@ -103,8 +102,8 @@ end_of_data site start Before {D} HasCome IsDrafting old new dot before after de
       same_site = e.takes.site ∙ h.same_site;
       session = session_is;
       quits = subst (λ (s : Session). QuitsWith s.state (flat_map inputs_of (h.done ++ p ∷ []))) (sym e.takes.session)
-          (subst (λ l. QuitsWith (session_after old.session.site old.session.session (DataEnded e.verdict ∷ outcomes_of d e.verdict)).state l) (sym (inputs-snoc h.done p))
-          (quits_data e.verdict old.session.site old.session.session (flat_map inputs_of h.done) d content h.quits));
+          (subst (λ l. QuitsWith (session_after old.session.site old.session.session (DataEnded d.verdict ∷ outcomes_of d d.verdict)).state l) (sym (inputs-snoc h.done p))
+          (quits_data d.verdict old.session.site old.session.session (flat_map inputs_of h.done) d content h.quits));
       said = says_part site h.done p start before after between new came e.takes h.same_site h.session h.said;
       goes = e.takes.same ∙ h.goes;
       inside = subst (λ (s : State). IsInside s new [] (Comes site (h.done ++ p ∷ []) Before (HasCome later)) (λ made. Comes site (h.done ++ p ∷ []) Before (λ n ts. IsDrafting later n ts made))) (sym greets) now;

@@ -1,5 +1,5 @@
 -- A message whose data has ended: the inputs of the session, and what the delivery did.
-use Rattle.std.proofs.Common.{◌≡◌, ℕ, List, [], ◌∷◌, ◌++◌, length, refl, sym, ap, ◌∙◌, subst, append-nil}
+use Rattle.std.proofs.Common.{◌≡◌, ℕ, List, [], ◌∷◌, ◌++◌, length, Ok, Err, refl, sym, ap, ◌∙◌, subst, append-nil}
 use Rattle.mail_world.specs.declared.Outcome.{Outcome}
 use Rattle.mail_world.specs.declared.Verdict.{Verdict}
 use Rattle.mail_world.specs.declared.Verdict.TheVariants.{Whole, TooLarge, NoRoom}
@@ -32,51 +32,45 @@ texts_are : (site : Site) (act : Act) (st : Transition) (old : View) (new : View
 texts_are site act st old new t e = ap (λ (x : Site). reply_texts x (said act new.answers)) (t.site ∙ e) ∙ ap (λ rs. reply_texts site rs) (said_is act st new.answers t.fits)
 
 pub whole_message : {D : Type 0} (HasCome : D → ℕ → List Transaction → Type 0) (IsDrafting : D → ℕ → List Transaction → List ℕ → Type 0)
-    (old new : Dialogue) (mid : View) (before after : PeerState) (delivery later : D) (verdict : Verdict) (moment : ℕ) (told : List Outcome) (first second : Act)
-    → verdict ≡ Whole
-    → ((n : ℕ) (ts : List Transaction) (message : List ℕ) → IsDrafting delivery n ts message → EndsDraft (HasCome later) n ts old.session.session message (ended_so verdict moment told))
+    (old new : Dialogue) (mid : View) (before after : PeerState) (delivery later : D) (moment : ℕ) (told : List Outcome) (first second : Act)
+    → ((n : ℕ) (ts : List Transaction) (message : List ℕ) → IsDrafting delivery n ts message → EndsDraft (HasCome later) n ts old.session.session message (ended_so (Ok tt) moment told))
     → length told ≡ length old.session.session.recipients
-    → IsStep old.session (DataEnded verdict) first mid → IsStep mid (Outcomes told) second new.session → new.wire ≡ old.wire → after.stops ≡ before.stops
+    → IsStep old.session (DataEnded Whole) first mid → IsStep mid (Outcomes told) second new.session → new.wire ≡ old.wire → after.stops ≡ before.stops
     → Says before after old.outbox new.outbox (reply_texts new.session.site (said second new.session.answers))
     → EndsData HasCome IsDrafting (talk old before delivery) (talk new after later)
-whole_message {D} HasCome IsDrafting old new mid before after delivery later verdict moment told first second is ended count one two wire same says =
+whole_message {D} HasCome IsDrafting old new mid before after delivery later moment told first second ended count one two wire same says =
     let site : Site = old.session.site in
     let s : Session = old.session.session in
-    let one' : IsStep old.session (DataEnded Whole) first mid = subst (λ (v : Verdict). IsStep old.session (DataEnded v) first mid) is one in
     let session : new.session.session ≡ session_after site s (DataEnded Whole ∷ Outcomes told ∷ []) =
-    two.next ∙ ap (λ (x : Site). (step x mid.session (Outcomes told)).next) one'.site ∙ ap (λ (x : Session). (step site x (Outcomes told)).next) one'.next in
+    two.next ∙ ap (λ (x : Site). (step x mid.session (Outcomes told)).next) one.site ∙ ap (λ (x : Session). (step site x (Outcomes told)).next) one.next in
     let texts : reply_texts new.session.site (said second new.session.answers) ≡ reply_texts site (replies_to site s (DataEnded Whole ∷ Outcomes told ∷ [])) =
-    texts_are site second (step mid.site mid.session (Outcomes told)) mid new.session two one'.site
-    ∙ ap (λ (x : Site). reply_texts site (step x mid.session (Outcomes told)).replies) one'.site
-    ∙ ap (λ (x : Session). reply_texts site (step site x (Outcomes told)).replies) one'.next
+    texts_are site second (step mid.site mid.session (Outcomes told)) mid new.session two one.site
+    ∙ ap (λ (x : Site). reply_texts site (step x mid.session (Outcomes told)).replies) one.site
+    ∙ ap (λ (x : Session). reply_texts site (step site x (Outcomes told)).replies) one.next
     ∙ ap (λ rs. reply_texts site rs) (sym (append-nil _)) in
     record {
-      verdict = Whole;
-      moment = moment;
-      told = told;
+      disposition = ended_so (Ok tt) moment told;
       takes = record {
-        site = two.site ∙ one'.site;
+        site = two.site ∙ one.site;
         session = session;
         says = λ start came text h. subst (λ l. HasSaid start after new.outbox came (text ++ l)) texts (says start came text h);
         wire = wire;
         same = same;
       };
       fits = count;
-      ended = λ n ts message h. subst (λ (v : Verdict). EndsDraft (HasCome later) n ts s message (ended_so v moment told)) is (ended n ts message h);
+      ended = ended;
     }
 
 pub refused_message : {D : Type 0} (HasCome : D → ℕ → List Transaction → Type 0) (IsDrafting : D → ℕ → List Transaction → List ℕ → Type 0)
     (old new : Dialogue) (before after : PeerState) (delivery later : D) (verdict : Verdict) (moment : ℕ) (told : List Outcome) (act : Act)
     → (verdict ≡ Whole → ⊥)
-    → ((n : ℕ) (ts : List Transaction) (message : List ℕ) → IsDrafting delivery n ts message → EndsDraft (HasCome later) n ts old.session.session message (ended_so verdict moment told))
+    → ((n : ℕ) (ts : List Transaction) (message : List ℕ) → IsDrafting delivery n ts message → EndsDraft (HasCome later) n ts old.session.session message (ended_so (Err verdict) moment told))
     → IsStep old.session (DataEnded verdict) act new.session → new.wire ≡ old.wire → after.stops ≡ before.stops
     → Says before after old.outbox new.outbox (reply_texts new.session.site (said act new.session.answers))
     → EndsData HasCome IsDrafting (talk old before delivery) (talk new after later)
 refused_message {D} HasCome IsDrafting old new before after delivery later Whole moment told act other ended one wire same says = absurd (other refl)
 refused_message {D} HasCome IsDrafting old new before after delivery later TooLarge moment told act other ended one wire same says = record {
-  verdict = TooLarge;
-  moment = moment;
-  told = told;
+  disposition = ended_so (Err TooLarge) moment told;
   takes = record {
     site = one.site;
     session = one.next;
@@ -90,9 +84,7 @@ refused_message {D} HasCome IsDrafting old new before after delivery later TooLa
   ended = ended;
 }
 refused_message {D} HasCome IsDrafting old new before after delivery later NoRoom moment told act other ended one wire same says = record {
-  verdict = NoRoom;
-  moment = moment;
-  told = told;
+  disposition = ended_so (Err NoRoom) moment told;
   takes = record {
     site = one.site;
     session = one.next;

@@ -1,14 +1,16 @@
 -- What a delivery has come to.
-use Rattle.std.specs.Prelude.{ℕ, List, [], ◌∷◌, ◌++◌}
+use Rattle.std.specs.Prelude.{ℕ, List, [], ◌∷◌, ◌++◌, Result, Ok, Err}
 use Rattle.mail_world.specs.declared.Outcome.{Outcome}
 use Rattle.mail_world.specs.declared.Verdict.{Verdict}
+use Rattle.mail_world.specs.declared.Verdict.TheVariants.{Whole}
 use Rattle.mail_world.specs.Session.{Session}
 use Rattle.mail_world.specs.Conversation.{Disposition}
 use Rattle.mail_world.specs.Lists.{Transaction}
 
--- what became of the data
-abbrev pub ended_so : Verdict → ℕ → List Outcome → Disposition
-ended_so verdict moment told = record { verdict = verdict; moment = moment; outcomes = told }
+-- what became of the data: a whole message was delivered with these outcomes, or it was refused by a verdict
+abbrev pub ended_so : Result (Unit {0}) Verdict → ℕ → List Outcome → Disposition
+ended_so (Ok done) moment told = record { verdict = Whole; moment = moment; outcomes = told }
+ended_so (Err verdict) moment told = record { verdict = verdict; moment = moment; outcomes = [] }
 
 -- the draft is one transaction more: of this session, with this message, and this became of it
 abbrev pub EndsDraft : (ℕ → List Transaction → Type 0) → ℕ → List Transaction → Session → List ℕ → Disposition → Type 0

@@ -1,17 +1,15 @@
 -- What each step of a conversation does.
 use Rattle.std.specs.Prelude.{◌≡◌, ℕ, ◌+◌, Bool, true, false, List, [], ◌∷◌, ◌++◌}
-use Rattle.mail_world.specs.declared.Verdict.{Verdict}
-use Rattle.mail_world.specs.declared.Outcome.{Outcome}
 use Rattle.mail_world.specs.Session.{Input, DataEnded}
 use Rattle.mail_world.specs.Replies.{reply_texts}
-use Rattle.mail_world.specs.Conversation.{session_after, replies_to, outcomes_of, OutcomesFit}
+use Rattle.mail_world.specs.Conversation.{Disposition, session_after, replies_to, outcomes_of, OutcomesFit}
 use Rattle.mail_world.specs.Lists.{Transaction, is_content}
 use Rattle.mail_world.specs.Site.{Site}
 use Rattle.lmtp_wire.specs.Dot.{HasMade}
 use Rattle.lmtp_talk.specs.declared.dialogue.Dialogue.{Dialogue}
 use Rattle.lmtp_talk.specs.Peer.{PeerState}
 use Rattle.lmtp_talk.specs.Saying.{Says}
-use Rattle.lmtp_talk.specs.Delivery.{ended_so, EndsDraft}
+use Rattle.lmtp_talk.specs.Delivery.{EndsDraft}
 use Rattle.lmtp_talk.specs.Standing.{beginning, Standing, standing, IsSoFar}
 
 -- the session takes the inputs, and their replies are said
@@ -46,13 +44,11 @@ pub record TakesLine {D : Type 0} (HasCome : D → ℕ → List Transaction → 
 
 -- the data ends
 pub record EndsData {D : Type 0} (HasCome : D → ℕ → List Transaction → Type 0) (IsDrafting : D → ℕ → List Transaction → List ℕ → Type 0) (old new : Talk D) : Type 0 where
-  pub verdict : Verdict
-  pub moment : ℕ
-  pub told : List Outcome
-  pub takes : TakesInputs (DataEnded verdict ∷ outcomes_of (ended_so verdict moment told) verdict) old.dialogue new.dialogue old.peer new.peer
-  pub fits : OutcomesFit old.dialogue.session.session.recipients (ended_so verdict moment told) verdict
+  pub disposition : Disposition
+  pub takes : TakesInputs (DataEnded disposition.verdict ∷ outcomes_of disposition disposition.verdict) old.dialogue new.dialogue old.peer new.peer
+  pub fits : OutcomesFit old.dialogue.session.session.recipients disposition disposition.verdict
   pub ended : (n : ℕ) (ts : List Transaction) (message : List ℕ) → IsDrafting old.delivery n ts message
-      → EndsDraft (HasCome new.delivery) n ts old.dialogue.session.session message (ended_so verdict moment told)
+      → EndsDraft (HasCome new.delivery) n ts old.dialogue.session.session message disposition
 
 -- wherever the conversation stood before, it stands with these bytes more
 abbrev pub Advances : {D : Type 0} → (D → ℕ → List Transaction → Type 0) → (D → ℕ → List Transaction → List ℕ → Type 0) → Talk D → Talk D → List ℕ → Type 0

@@ -1,6 +1,6 @@
 //! What is done with the messages of a conversation.
 
-ghost use Rattle.std.specs.Prelude.{◌≡◌, ℕ, ◌+◌, List, [], ◌++◌, length};
+ghost use Rattle.std.specs.Prelude.{◌≡◌, ◌≢◌, ℕ, ◌+◌, List, [], ◌++◌, length, OnOk, IfErr};
 ghost use Rattle.mail_world.specs.declared.Outcome.{Outcome as Told};
 ghost use Rattle.mail_world.specs.Lists.{Transaction};
 ghost use Rattle.mail_world.specs.Site.{Site};
@@ -20,7 +20,7 @@ pub trait Delivery {
     // the same, with a draft of these message bytes in hand
     ghost IsDrafting: { Self → ℕ → List Transaction → List ℕ → Type 0 };
 
-    // what became of the copies of the last whole message
+    // what became of the copies of the last message that was delivered
     ghost outcomes: { Self → List Told };
 
     // the moment of the last data that ended, in seconds since 1970
@@ -44,17 +44,19 @@ pub trait Delivery {
         ensures drops { (n : ℕ) (ts : List Transaction) (message : List ℕ) → IsDrafting self.old n ts message
             → HasCome self.new n ts };
 
-    /// The data has ended. A whole message is delivered to the recipients of the session, in their order.
-    fn end(&mut self, session: &Session) -> Verdict
+    /// The data has ended. A whole message is delivered to the recipients of the session, in their order, and another
+    /// is refused.
+    fn end(&mut self, session: &Session) -> Result<(), Verdict>
         requires content { session.now.session.state ≡ State.Content }
         requires here { session.now.site ≡ site self.old }
         ensures same { site self.new ≡ site self.old }
         ensures ended { (n : ℕ) (ts : List Transaction) (message : List ℕ) → IsDrafting self.old n ts message
             → EndsDraft (HasCome self.new) n ts session.now.session message
             (ended_so result (moment self.new) (outcomes self.new)) }
-        ensures count { result ≡ Verdict.Whole → length (outcomes self.new) ≡ length session.now.session.recipients };
+        ensures count { OnOk result (length (outcomes self.new) ≡ length session.now.session.recipients) }
+        ensures refused { IfErr result (λ verdict. verdict ≢ Verdict.Whole) };
 
-    /// What became of the copies of the last whole message, in the order of its recipients.
+    /// What became of the copies of the last message that was delivered, in the order of its recipients.
     fn outcomes(&self) -> &[Outcome]
         ensures { result.now ≡ outcomes self.now };
 }

@@ -147,13 +147,15 @@ fn handle_message<P: Peer, D: Delivery>(dialogue: &mut Dialogue, peer: &mut P, d
         (talk dialogue.new (P.state peer.new) delivery.new) }
     ensures same { D.site delivery.new ≡ D.site delivery.old }
 {
-    let verdict = delivery.end(&dialogue.session);
-    let refused = dialogue.session.data_done(verdict);
-    match verdict {
-        Verdict::Whole => {
+    match delivery.end(&dialogue.session) {
+        Ok(()) => {
+            dialogue.session.data_done(Verdict::Whole);
             let answered = dialogue.session.outcomes(delivery.outcomes());
             dialogue.outbox.say_all(peer, &dialogue.session, answered);
         }
-        _ => dialogue.outbox.say_all(peer, &dialogue.session, refused),
+        Err(verdict) => {
+            let refused = dialogue.session.data_done(verdict);
+            dialogue.outbox.say_all(peer, &dialogue.session, refused);
+        }
     }
 }

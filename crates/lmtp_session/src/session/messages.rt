@@ -11,6 +11,7 @@ use mail_world::{Outcome, Reply, State};
 impl Session {
     /// Hands the message on to its recipients, and waits for the outcomes.
     pub(crate) fn deliver(&mut self) -> Act
+        requires state { self.old.session.state ≡ State.Content }
         requires no_answer { self.old.answers ≡ [] }
         ensures step { IsTaken self.old
             (record { replies = []; next = moved_to State.Waiting self.old.session }) result self.new }

@@ -61,15 +61,15 @@ impl Delivery for Shelf {
         self.cancelled = self.cancelled.saturating_add(1);
     }
 
-    fn end(&mut self, session: &Session) -> Verdict {
+    fn end(&mut self, session: &Session) -> Result<(), Verdict> {
         let count = session.recipient_count() as usize;
         if self.outcomes.resize(count, Outcome::Stored).is_err() {
-            return Verdict::NoRoom;
+            return Err(Verdict::NoRoom);
         }
         for outcome in self.outcomes.iter_mut().skip(1) {
             *outcome = Outcome::Failed;
         }
-        Verdict::Whole
+        Ok(())
     }
 
     fn outcomes(&self) -> &[Outcome] {
