@@ -24,7 +24,7 @@ use Rattle.lmtp_lane.specs.LaneExchange.{LaneEnds, for_box, HasExchanged, Episod
 use Rattle.mail_world.specs.Counts.{counted}
 use Rattle.lmtp_lane.proofs.Exchanging.{no_episode, joined_none}
 use Rattle.lmtp_lane.specs.LaneAccount.{IsAnswered, AreEpisodes, IsHeardInTurn, HasOffered, HoldsDraft, verdict_with, verdict_on, Delivers}
-use Rattle.lmtp_talk.specs.Delivery.{ended_so, EndsDraft}
+use Rattle.lmtp_talk.specs.Delivery.{EndsDraft}
 
 -- a slip that was found is found where more are heard
 front_by : (p : Slip → Bool) (x : Slip) (xs more : List Slip) (o : Outcome) (t : Bool)
@@ -148,14 +148,14 @@ turns_none lane ts all t x =
 
 -- a message that is refused
 pub ended_refused : (May : ℕ → Type 0) (old now : LaneEnds) (accepted size : ℕ) (draft : Option Claim) (session : Session) (moment : ℕ)
-    (told : List Outcome) (v : Verdict) → v ≡ verdict_on accepted size draft → (v ≡ Whole → ⊥) → May moment
+    (v : Verdict) → v ≡ verdict_on accepted size draft → (v ≡ Whole → ⊥) → May moment
     → (n : ℕ) (ts : List Transaction) (message : List ℕ) → HasOffered May accepted old now n ts × HoldsDraft draft size message
-    → EndsDraft (λ n ts. HasOffered May accepted old now n ts) n ts session message (ended_so v moment told)
-ended_refused May old now accepted size draft session moment told v is other may n ts message h =
+    → EndsDraft (λ n ts. HasOffered May accepted old now n ts) n ts session message (record { verdict = v; moment = moment; outcomes = [] })
+ended_refused May old now accepted size draft session moment v is other may n ts message h =
     let x = h.0 in
     let lane : ℕ = old.lane in
     let all : Episode = record { came = x.came; own = x.own; heard = x.heard } in
-    let t : Transaction = record { number = n; session = session; message = message; disposition = record { verdict = v; moment = moment; outcomes = told } } in
+    let t : Transaction = record { number = n; session = session; message = message; disposition = record { verdict = v; moment = moment; outcomes = [] } } in
     let same : flat_map (copies lane) (ts ++ t ∷ []) ≡ flat_map (copies lane) ts =
     copies-snoc lane ts t ∙ ap (λ l. flat_map (copies lane) ts ++ l) (no_copy lane t v other) ∙ append-nil (flat_map (copies lane) ts) in
     let P : List Note → Type 0 = λ l. HasExchanged l all old now in
@@ -188,7 +188,7 @@ whole_same : (May : ℕ → Type 0) (old now next : LaneEnds) (accepted size : �
     (moment : ℕ) (told : List Outcome) → accepted ≤ NUMBER_LIMIT → draft ≡ Some claim → Whole ≡ verdict_on accepted size draft → May moment
     → Delivers (sent_as accepted session moment claim.bytes) told now next
     → (n : ℕ) (ts : List Transaction) (message : List ℕ) → HasOffered May accepted old now n ts × HoldsDraft draft size message
-    → EndsDraft (λ n ts. HasOffered May accepted old next n ts) n ts session message (ended_so Whole moment told)
+    → EndsDraft (λ n ts. HasOffered May accepted old next n ts) n ts session message (record { verdict = Whole; moment = moment; outcomes = told })
 whole_same May old now next accepted size draft claim session moment told low there is may delivers n ts message h =
     let x = h.0 in
     let lane : ℕ = old.lane in
@@ -219,10 +219,10 @@ pub ended_whole : (May : ℕ → Type 0) (old now next : LaneEnds) (accepted acc
     → accepted ≤ NUMBER_LIMIT → draft ≡ Some claim → Whole ≡ verdict_on accepted size draft → May moment
     → Delivers (sent_as accepted session moment claim.bytes) told now next
     → (n : ℕ) (ts : List Transaction) (message : List ℕ) → HasOffered May accepted old now n ts × HoldsDraft draft size message
-    → EndsDraft (λ n ts. HasOffered May accepted' old next n ts) n ts session message (ended_so Whole moment' told)
+    → EndsDraft (λ n ts. HasOffered May accepted' old next n ts) n ts session message (record { verdict = Whole; moment = moment'; outcomes = told })
 ended_whole May old now next accepted accepted' size draft claim session moment moment' told same low there is may delivers n ts message h =
-    let Q : ℕ → Type 0 = λ k. EndsDraft (λ n ts. HasOffered May k old next n ts) n ts session message (ended_so Whole moment' told) in
-    let R : ℕ → Type 0 = λ m. EndsDraft (λ n ts. HasOffered May accepted old next n ts) n ts session message (ended_so Whole m told) in
+    let Q : ℕ → Type 0 = λ k. EndsDraft (λ n ts. HasOffered May k old next n ts) n ts session message (record { verdict = Whole; moment = moment'; outcomes = told }) in
+    let R : ℕ → Type 0 = λ m. EndsDraft (λ n ts. HasOffered May accepted old next n ts) n ts session message (record { verdict = Whole; moment = m; outcomes = told }) in
     subst Q (sym same.0) (subst R (sym same.1) (whole_same May old now next accepted size draft claim session moment told low there is may delivers n ts message h))
 
 -- a lane that was given nothing to do

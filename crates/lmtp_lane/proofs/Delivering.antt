@@ -1,19 +1,41 @@
 -- What became of a whole message.
-use Rattle.std.proofs.Common.{◌≡◌, ℕ, List, [], ◌∷◌, ◌++◌, length, map, Some, refl, ap, sym, ◌∙◌, subst, append-nil, arith}
+use Rattle.std.proofs.Common.{true, false, ◌≡◌, ℕ, List, [], ◌∷◌, ◌++◌, length, map, Some, refl, ap, sym, ◌∙◌, subst}
+use Rattle.std.specs.Prelude.{Option, None, IsSome}
+use Rattle.std.specs.List.{AllByRecursion}
+use Rattle.std.proofs.lemmas.List.{length-map}
+use Rattle.std.proofs.lemmas.List.Elements.{recursion_from_All}
 use Rattle.mail_world.specs.declared.Outcome.{Outcome}
 use Rattle.mail_world.specs.declared.Txn.{Txn}
-use Rattle.mail_world.specs.declared.Note.{Note}
 use Rattle.mail_world.specs.declared.Slip.{Slip}
 use Rattle.mail_world.specs.Slips.{answers, Gather, txn_of}
 use Rattle.mail_world.specs.Lists.{Transaction, copies_from}
-use Rattle.mail_post.specs.Gathering.{HasGathered}
-use Rattle.lmtp_lane.specs.LaneExchange.{LaneEnds, Sending, joined, HasExchanged, IsUnderWay, Sends}
-use Rattle.lmtp_lane.specs.LaneAccount.{Delivers}
-use Rattle.lmtp_lane.proofs.Exchanging.{no_episode, joined_none}
+use Rattle.mail_post.specs.Gathering.{HasGathered, IsDone}
+use Rattle.lmtp_lane.specs.LaneExchange.{LaneEnds, Sending, IsUnderWay, Sends}
+use Rattle.lmtp_lane.specs.LaneAccount.{outcomes_in, told_by, Delivers}
 
 -- the answers of the gatherer are those of the slips that were heard
 abbrev pub Answers : Gather → List Outcome → Type 0
 Answers gather told = (txn : Txn) (n : ℕ) (heard : List Slip) → HasGathered txn n heard gather → map (λ o. Some o) told ≡ answers txn n heard
+
+-- once none is missing these are all of its places
+told_all : (places : List (Option Outcome)) → AllByRecursion IsSome places → map (λ o. Some o) (outcomes_in places) ≡ places
+told_all [] all = refl
+told_all (Some outcome ∷ places) all = ap (λ l. Some outcome ∷ l) (told_all places all.1)
+told_all (None ∷ places) all = let bad : false ≡ true = all.0 in cc
+
+pub told_answers : (gather : Gather) → IsDone gather → Answers gather (told_by gather)
+told_answers gather done txn n heard g = told_all gather.places (recursion_from_All IsSome gather.places done) ∙ g.places
+
+told_map : (outcomes : List Outcome) → outcomes_in (map (λ o. Some o) outcomes) ≡ outcomes
+told_map [] = refl
+told_map (o ∷ os) = ap (λ l. o ∷ l) (told_map os)
+
+pub told_same : (places : List (Option Outcome)) (outcomes : List Outcome) → map (λ o. Some o) outcomes ≡ places → outcomes ≡ outcomes_in places
+told_same places outcomes is = sym (ap outcomes_in (sym is) ∙ told_map outcomes)
+
+pub told_count : (gather : Gather) (n : ℕ) → IsDone gather → length gather.places ≡ n → length (told_by gather) ≡ n
+told_count gather n done size =
+    sym (length-map (told_by gather) (λ o. Some o)) ∙ ap length (told_all gather.places (recursion_from_All IsSome gather.places done)) ∙ size
 
 delivered_by : (t : Transaction) (told : List Outcome) (now : LaneEnds) (next : Sending) → Answers next.gather told → Sends t now next → Delivers t told now next.ends
 delivered_by t told now next says way notes past old x =
@@ -28,23 +50,3 @@ delivered_by t told now next says way notes past old x =
 
 pub delivered : (t t' : Transaction) (told : List Outcome) (now : LaneEnds) (next : Sending) → t' ≡ t → Answers next.gather told → Sends t' now next → Delivers t told now next.ends
 delivered t t' told now next same says way = subst (λ u. Delivers u told now next.ends) same (delivered_by t' told now next says way)
-
--- a message without recipients has no copy
-none_by : (lane : ℕ) (t : Transaction) (rs : List ℕ) → length rs ≡ 0 → copies_from lane t 0 rs ≡ []
-none_by lane t [] e = refl
-none_by lane t (r ∷ rs) e = absurd (omega (arith, e))
-
-no_answer : (txn : Txn) (n : ℕ) → n ≡ 0 → [] ≡ answers txn n []
-no_answer txn n e = ap (λ k. answers txn k []) (sym e)
-
-pub delivered_none : (t : Transaction) (told : List Outcome) (now : LaneEnds) → length t.session.recipients ≡ 0 → told ≡ [] → Delivers t told now now
-delivered_none t told now none empty notes past old x =
-    let same : notes ++ copies_from old.lane t 0 t.session.recipients ≡ notes =
-    ap (λ l. notes ++ l) (none_by old.lane t t.session.recipients none) ∙ append-nil notes in
-    let P : List Note → Type 0 = λ l. HasExchanged l (joined past no_episode) old now in
-    record {
-      now = no_episode;
-      is = record { timely = (refl, refl); named = tt };
-      exchanged = subst P (sym same) (subst (λ e. HasExchanged notes e old now) (sym (joined_none past)) x);
-      outcomes = ap (λ (l : List Outcome). map (λ o. Some o) l) empty ∙ no_answer (txn_of old.lane t.number) (length t.session.recipients) none;
-    }

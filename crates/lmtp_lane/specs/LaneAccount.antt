@@ -9,7 +9,7 @@ use Rattle.mail_world.specs.declared.Verdict.{Verdict}
 use Rattle.mail_world.specs.declared.Verdict.TheVariants.{Whole, TooLarge, NoRoom}
 use Rattle.mail_world.specs.declared.limits.TheConstants.{MESSAGE_LIMIT, NUMBER_LIMIT}
 use Rattle.mail_world.specs.Counts.{counted}
-use Rattle.mail_world.specs.Slips.{answers, txn_of}
+use Rattle.mail_world.specs.Slips.{answers, txn_of, Gather}
 use Rattle.mail_world.specs.Lists.{Transaction, VerdictFits, OutcomesIn, copies, copies_from}
 use Rattle.msg_depot.specs.declared.view.Claim.{Claim}
 use Rattle.lmtp_lane.specs.LaneExchange.{LaneEnds, HasExchanged, Episode, joined, IsEpisode}
@@ -70,6 +70,15 @@ verdict_on accepted size draft =
     if nat_lt NUMBER_LIMIT accepted then NoRoom
     else if nat_lt MESSAGE_LIMIT size then TooLarge
     else verdict_with draft
+
+-- the outcomes that a gatherer has
+abbrev pub outcomes_in : List (Option Outcome) → List Outcome
+outcomes_in [] = []
+outcomes_in (Some outcome ∷ places) = outcome ∷ outcomes_in places
+outcomes_in (None ∷ places) = outcomes_in places
+
+abbrev pub told_by : Gather → List Outcome
+told_by gather = outcomes_in gather.places
 
 -- A whole message went to its recipients: its copies more are owed, and its outcomes are those of slips that were heard since.
 pub record IsDelivered (t : Transaction) (told : List Outcome) (notes : List Note) (past : Episode) (old new : LaneEnds)

@@ -2,6 +2,7 @@
 
 ghost use Rattle.std.specs.Prelude.{◌≡◌, [], length, true, false};
 ghost use Rattle.lmtp_talk.specs.Peer.{PeerState};
+ghost use Rattle.mail_post.specs.Gathering.{IsDone};
 ghost use Rattle.mail_post.specs.Offered.{HaveNumber};
 ghost use Rattle.lmtp_lane.specs.LaneAccount.{AgreesWith, HasOffered};
 ghost use Rattle.lmtp_lane.specs.LaneExchange.{ends_of};
@@ -53,24 +54,24 @@ pub fn lane_run<N: DepotName, V: Visits, C: Clock, R: Wait>(
           conversations = result.conversations;
         }) }
 {
-    lane_at::<Brand, N, V, C, R>(rt, lane, desk, visits, depot, senders, slips, clock)
+    let Desk { dialogue, gather } = desk;
+    let exchange = Exchange::new(*senders.allocator(), lane, senders, slips, gather);
+    lane_at::<Brand, N, V, C, R>(rt, dialogue, exchange, visits, depot, clock)
 }
 
 // The same, at a type that stands for the lane's start.
 fn lane_at<S: LaneStart, N: DepotName, V: Visits, C: Clock, R: Wait>(
     rt: &R,
-    lane: u32,
-    desk: Desk,
+    dialogue: Dialogue,
+    exchange: Exchange<N>,
     visits: V,
     depot: &Depot<N>,
-    senders: Vec<Sender<N>>,
-    slips: SlipReceiver,
     clock: &C,
 ) -> LaneReport<N, V>
-    requires here { desk.dialogue.session.site ≡ S.site }
-    requires count { length senders.items ≡ length S.site.boxes }
-    requires lane { HaveNumber lane senders.items }
-    requires start { S.ends ≡ record { lane = lane; senders = senders.items; inbox = slips; gone = false } }
+    requires here { dialogue.session.site ≡ S.site }
+    requires count { length exchange.senders.items ≡ length S.site.boxes }
+    requires start { (ends_of exchange ≡ S.ends) × (exchange.gone ≡ false) }
+    requires none_missing { IsDone exchange.gather.gather }
     requires clock { AgreesWith (C.May clock.now) S.May }
     requires none_out { V.out visits ≡ false }
     ensures { HasServed S.site S.May (V.MayGive visits)
@@ -78,20 +79,13 @@ fn lane_at<S: LaneStart, N: DepotName, V: Visits, C: Clock, R: Wait>(
         (record {
           finished = V.finished result.visits;
           over = V.over result.visits;
-          ends = record { lane = lane; senders = result.senders.items; inbox = result.slips; gone = result.gone };
+          ends = record { lane = S.ends.lane; senders = result.senders.items; inbox = result.slips; gone = result.gone };
           conversations = result.conversations;
         }) }
 {
     let mut visits = visits;
-    let Desk {
-        mut dialogue,
-        gather,
-        outcomes,
-    } = desk;
-    let exchange = Exchange::new(*outcomes.allocator(), lane, senders, slips, gather);
-    let mut delivery: LaneDelivery<N, C, R, S> = LaneDelivery::new(
-        rt, depot, clock, exchange, outcomes,
-    );
+    let mut dialogue = dialogue;
+    let mut delivery: LaneDelivery<N, C, R, S> = LaneDelivery::new(rt, depot, clock, exchange);
     let conversations = serve_all(rt, &mut dialogue, &mut visits, &mut delivery);
     let Exchange {
         senders,

@@ -26,7 +26,8 @@ impl<N: DepotName> Exchange<N> {
     ) -> Exchange<N>
         requires lane { HaveNumber lane senders.items }
         requires room { RECIPIENT_LIMIT ≤ gather.limit }
-        ensures { ends_of result ≡ record { lane = lane; senders = senders.items; inbox = slips; gone = false } }
+        ensures ends { ends_of result ≡ record { lane = lane; senders = senders.items; inbox = slips; gone = false } }
+        ensures gather { result.gather ≡ gather }
     {
         Exchange {
             alloc,

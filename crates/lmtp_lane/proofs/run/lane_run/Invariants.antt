@@ -1,9 +1,5 @@
-use Rattle.std.proofs.Common.{false}
+use Rattle.lmtp_lane.specs.LaneExchange.{ends_of}
 use Rattle.lmtp_lane.proofs.run.lane_run.Given as goal
 
 abbrev pub ghosts-lane_at : goal.ghosts-lane_at
-ghosts-lane_at g a = record {
-  site = a.desk.dialogue.session.site;
-  May = g.C.Clock.May a.clock.now;
-  ends = record { lane = a.lane; senders = a.senders.items; inbox = a.slips; gone = false };
-}
+ghosts-lane_at g a = record { site = a.dialogue.session.site; May = g.C.Clock.May a.clock.now; ends = ends_of a.exchange }

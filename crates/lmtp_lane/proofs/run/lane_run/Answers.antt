@@ -1,0 +1,19 @@
+use Rattle.std.proofs.Common.{subst}
+use Rattle.mail_world.specs.Site.{Site}
+use Rattle.lmtp_lane.specs.LaneExchange.{LaneEnds, ends_of}
+use Rattle.lmtp_lane.specs.LaneRun.{HasServed}
+use Rattle.lmtp_lane.proofs.run.lane_run.Goals as goal
+
+pub returns : goal.returns
+returns g c =
+    let V = g.V.Visits in
+    let r = c.lane_at.result in
+    let P : Site → LaneEnds → Type 0 = λ s e. HasServed s (g.C.Clock.May c.args.clock.now) (V.MayGive c.args.visits)
+    (record { finished = V.finished c.args.visits; over = V.over c.args.visits; ends = e; conversations = 0 })
+    (record {
+      finished = V.finished r.visits;
+      over = V.over r.visits;
+      ends = record { lane = e.lane; senders = r.senders.items; inbox = r.slips; gone = r.gone };
+      conversations = r.conversations;
+    }) in
+    subst (P c.args.site.now) c.new-exchange.ensures.ends (subst (λ s. P s (ends_of c.new-exchange.result)) c.requires.site c.lane_at.ensures)
