@@ -1,6 +1,7 @@
 #!/usr/bin/env bash
-# A worker tells a lane of a copy only once it has given the copy's hold back, and tells it then: a body that tells first, and
-# one that doesn't tell, don't compile. Tries both on a copy of the crate, and wants the compiler's refusals.
+# A worker tells a lane of a copy only once it has given the copy's hold back, and tells it then: a body that tells first, one
+# that sends a slip past `tell`, and one that doesn't tell, don't compile. Tries them on a copy of the crate, and wants the
+# compiler's refusals.
 set -euo pipefail
 cd "$(dirname "$0")/.."
 . tests/needs python3
@@ -35,4 +36,5 @@ PYTHON
 }
 
 refuses 'release(rt, depot, txn, place, hold)' 'crate::release::Released { txn, place }' 'txn.*Released.*private'
-refuses 'tell(rt, &mut self.slips, released, outcome)' 'false' 'released.*let go.*Drop'
+refuses 'self.slips.tell(rt, released, outcome)' 'self.slips.senders.pop()' 'senders.*SlipSenders.*private'
+refuses 'self.slips.tell(rt, released, outcome);' '' 'released.*let go.*Drop'

@@ -1,5 +1,5 @@
 -- One copy more that a worker handled.
-use Rattle.std.proofs.Common.{◌≡◌, ℕ, ◌+◌, ◌-◌, ◌^◌, min, List, [], ◌∷◌, ◌++◌, length, Bool, true, false, not, ◌||◌, inl, inr, refl, ap, sym, ◌∙◌, subst, arith, length-append}
+use Rattle.std.proofs.Common.{◌≡◌, ℕ, ◌+◌, ◌-◌, ◌^◌, min, List, [], ◌∷◌, ◌++◌, length, Bool, true, false, ◌||◌, Option, Some, None, IsSome, inl, inr, refl, ap, sym, ◌∙◌, subst, arith, length-append}
 use Rattle.mail_world.specs.declared.Note.{Note}
 use Rattle.mail_world.specs.declared.Slip.{Slip}
 use Rattle.mail_world.specs.declared.Outcome.{Outcome}
@@ -7,15 +7,18 @@ use Rattle.mail_world.specs.declared.Outcome.TheVariants.{Stored, Failed, NoRoom
 use Rattle.mail_world.specs.Counts.{counted}
 use Rattle.mail_world.specs.Slips.{slip_of}
 use Rattle.mail_world.specs.Records.{Calendar, record_of}
-use Rattle.mail_post.specs.Channel.{Sender}
+use Rattle.std.proofs.lemmas.Bool.{or_parts}
+use Rattle.mail_post.specs.Channel.{Sender, Inbox}
+use Rattle.mail_post.specs.declared.channel.Gone.{Gone}
+use Rattle.mail_post.specs.declared.channel.Gone.TheVariants.{Closed, Lost}
 use Rattle.mail_post.specs.Copies.{envelope_of}
-use Rattle.mail_post.specs.Offered.{HaveNumber, IsOffered}
-use Rattle.mail_post.proofs.Offered.{still_numbered, accepted_nothing, all_gone, offered_more}
+use Rattle.mail_post.specs.Offered.{HaveNumber, IsOffered, any_refused}
+use Rattle.mail_post.proofs.Offered.{still_numbered, accepted_nothing, offered_more}
 use Rattle.mbox_rd.specs.Spool.{SpoolState}
 use Rattle.mbox_rd.specs.Envelope.{record_text}
 use Rattle.box_worker.specs.Stored.{kept, TakesCopy, HasStored}
 use Rattle.box_worker.specs.Told.{slip_by, owed_to}
-use Rattle.box_worker.specs.Worked.{Setting, WorkerState, idle, HasHandled}
+use Rattle.box_worker.specs.Worked.{Setting, WorkerState, idle, is_lost, HasHandled, HasWorked}
 use Rattle.box_worker.proofs.Storing.{stored_more, stored_not, stored_later}
 use Rattle.box_worker.proofs.Telling.{GivesOneMore, owes_stored, owes_failed, owed_more}
 
@@ -31,7 +34,7 @@ counted_more n = omega arith
 module _ (at : Setting) (copies : List Note) (old now : WorkerState) (next : List (Sender Slip)) (spool : SpoolState) (note : Note) (accepted : Bool) (x : HasHandled at copies old now) where
   -- the worker behind the copy
   abbrev behind : ℕ → Bool → WorkerState
-  behind count faulty = record { slips = next; mailbox = kept spool count faulty; taken = counted (now.taken + 1); lost = now.lost || not accepted }
+  behind count faulty = record { slips = next; mailbox = kept spool count faulty; taken = counted (now.taken + 1); lost = any_refused next }
 
   -- the slips, by what the lane was told
   handled_by : (n count : ℕ) (is_stored faulty : Bool) (outcome : Outcome) → outcome ≡ (slip_of at.worker note is_stored).outcome
@@ -47,9 +50,9 @@ module _ (at : Setting) (copies : List Note) (old now : WorkerState) (next : Lis
       record {
         stored = n;
         spool = stored;
-        told = offered_more (λ k. owed_to at.worker x.stored k copies) (λ k. owed_to at.worker n k (copies ++ note ∷ [])) now.lost accepted note.txn.lane
-            (slip_by note.txn note.place outcome) (slip_of at.worker note is_stored) old.slips now.slips next x.told offered slip_is
-            (owed_more at.worker x.stored n copies note is_stored gives);
+        told = offered_more note.txn.lane (slip_by note.txn note.place outcome) old.slips now.slips next
+            (λ k. owed_to at.worker x.stored k copies) (λ k. owed_to at.worker n k (copies ++ note ∷ [])) accepted (slip_of at.worker note is_stored)
+            x.told offered slip_is (owed_more at.worker x.stored n copies note is_stored gives);
         numbered = still_numbered at.worker note.txn.lane (slip_by note.txn note.place outcome) accepted now.slips next x.numbered offered;
         taken_count = ap (λ m. counted (m + 1)) x.taken_count ∙ counted_more (length copies) ∙ ap counted (sym (length-append copies (note ∷ [])));
         stored_count = count_is;
@@ -80,7 +83,7 @@ module _ (at : Setting) (copies : List Note) (old now : WorkerState) (next : Lis
 -- a worker that took nothing
 pub handled_none : (at : Setting) (slips : List (Sender Slip)) (old spool : SpoolState) (faulty : Bool)
     → HaveNumber at.worker slips → HasStored at.calendar at.host [] old (kept spool 0 faulty)
-    → HasHandled at [] (idle slips old) (record { slips = slips; mailbox = kept spool 0 faulty; taken = 0; lost = false })
+    → HasHandled at [] (idle slips old) (record { slips = slips; mailbox = kept spool 0 faulty; taken = 0; lost = any_refused slips })
 handled_none at slips old spool faulty mine stored = record {
   stored = 0;
   spool = stored;
@@ -91,12 +94,28 @@ handled_none at slips old spool faulty mine stored = record {
 }
 
 -- nothing more was handled where nothing more was taken, though a channel may be found gone
-pub handled_lost : (at : Setting) (copies : List Note) (old now : WorkerState) (also : Bool) → HasHandled at copies old now → HasHandled at copies old (record now { lost = now.lost || also })
-handled_lost at copies old now also x = record {
+pub handled_lost : (at : Setting) (copies : List Note) (old now : WorkerState) (lost : Bool) → HasHandled at copies old now → HasHandled at copies old (record now { lost = lost })
+handled_lost at copies old now lost x = record {
   stored = x.stored;
   spool = x.spool;
-  told = all_gone (λ k. owed_to at.worker x.stored k copies) now.lost also old.slips now.slips x.told;
+  told = x.told;
   numbered = x.numbered;
   taken_count = x.taken_count;
   stored_count = x.stored_count;
 }
+
+-- a worker that found no channel gone: no slip was handed back, and its own channel was closed
+closed_by : (gone : Option Gone) → IsSome gone → is_lost gone ≡ false → gone ≡ Some Closed
+closed_by None ended sound = absurd (cc)
+closed_by (Some Closed) ended sound = refl
+closed_by (Some Lost) ended sound = absurd (cc)
+
+module _ (at : Setting) (before after : Inbox Note) (old new : WorkerState) (h : HasWorked at before after old new) (sound : new.lost ≡ false) where
+  parts : (any_refused new.slips ≡ false) × (is_lost after.gone ≡ false)
+  parts = or_parts (any_refused new.slips) (is_lost after.gone) (sym h.lost ∙ sound)
+
+  pub none_came_back : any_refused new.slips ≡ false
+  none_came_back = parts.0
+
+  pub was_closed : after.gone ≡ Some Closed
+  was_closed = closed_by after.gone h.ended parts.1

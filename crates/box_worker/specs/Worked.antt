@@ -1,13 +1,14 @@
 -- What a worker comes to: what its spool holds of the copies that it took, and what it told the lanes of each.
-use Rattle.std.specs.Prelude.{◌≡◌, ℕ, Bool, false, List, length, Some, IsSome}
+use Rattle.std.specs.Prelude.{◌≡◌, ◌||◌, ℕ, Bool, true, false, List, length, Option, Some, None, IsSome}
 use Rattle.mail_world.specs.declared.Note.{Note}
 use Rattle.mail_world.specs.declared.Slip.{Slip}
 use Rattle.mail_world.specs.Counts.{counted}
 use Rattle.mail_world.specs.Records.{Calendar}
 use Rattle.mbox_rd.specs.Spool.{SpoolState}
 use Rattle.mail_post.specs.Channel.{Sender, Inbox, taken}
-use Rattle.mail_post.specs.Offered.{HaveNumber, HaveAccepted}
-use Rattle.mail_post.specs.declared.channel.Gone.TheVariants.{Closed}
+use Rattle.mail_post.specs.Offered.{HaveNumber, HaveAccepted, any_refused}
+use Rattle.mail_post.specs.declared.channel.Gone.{Gone}
+use Rattle.mail_post.specs.declared.channel.Gone.TheVariants.{Closed, Lost}
 use Rattle.box_worker.specs.Stored.{MailboxState, kept, HasStored}
 use Rattle.box_worker.specs.Told.{owed_to}
 
@@ -33,15 +34,22 @@ pub record HasHandled (at : Setting) (copies : List Note) (old new : WorkerState
   -- how many of them were stored
   pub stored : ℕ
   pub spool : HasStored at.calendar at.host copies old.mailbox.state (record new.mailbox { stored = stored })
-  pub told : HaveAccepted (λ k. owed_to at.worker stored k copies) new.lost old.slips new.slips
+  pub told : HaveAccepted (λ k. owed_to at.worker stored k copies) old.slips new.slips
   pub numbered : HaveNumber at.worker new.slips
   pub taken_count : new.taken ≡ counted (length copies)
   pub stored_count : new.mailbox.stored ≡ counted stored
 
--- what a worker's run comes to: all that its channel gave it is handled, and it was closed unless a channel was found gone
+-- whether its channel was found gone before it was closed
+abbrev pub is_lost : Option Gone → Bool
+is_lost None = false
+is_lost (Some Closed) = false
+is_lost (Some Lost) = true
+
+-- What a worker's run comes to: all that its channel gave it until that ended is handled. A channel was found gone just where that one was, or
+-- where a slip was handed back.
 pub record HasWorked (at : Setting) (before after : Inbox Note) (old new : WorkerState) : Type 0 where
   pub channel : after.channel ≡ before.channel
   pub lanes : after.lanes ≡ before.lanes
   pub ended : IsSome after.gone
-  pub closed : new.lost ≡ false → after.gone ≡ Some Closed
+  pub lost : new.lost ≡ (any_refused new.slips || is_lost after.gone)
   pub handled : HasHandled at (taken after) old new

@@ -7,7 +7,6 @@ mod mailbox;
 mod release;
 mod report;
 mod store;
-mod tell;
 #[cfg(test)]
 mod tests;
 mod worker;

@@ -1,26 +1,21 @@
-//! The end of a worker's hold on a copy, which stands between the copy's record and its slip.
+//! The end of a worker's hold on a copy, and the slip that may follow it. What is handed from one to the other has
+//! fields that are private to this module, so that no slip goes out for a copy that is still held.
 
-ghost use Rattle.std.specs.Prelude.{◌≡◌};
+ghost use Rattle.std.specs.Prelude.{◌≡◌, ◌<◌, Bool, length};
+ghost use Rattle.mail_post.specs.Offered.{IsOffered, any_refused};
+ghost use Rattle.box_worker.specs.Told.{slip_by};
 
-use mail_world::Txn;
+use mail_post::SlipSender;
+use mail_world::{Outcome, Slip, Txn};
 use msg_depot::{Depot, DepotName, Hold};
+use std::marker::Model;
 use std::sync::Wait;
 
-/// A copy whose hold was given back, and whose lane isn't told yet. Its fields are private to this module, so that it
-/// comes from `release` alone, which takes the hold; and nothing drops it.
+/// A copy whose hold was given back, and whose lane isn't told yet. It comes from `release` alone, which takes the
+/// hold; and nothing drops it.
 pub(crate) struct Released {
     txn: Txn,
     place: u32,
-}
-
-impl Released {
-    /// What its slip names: the transaction and the place.
-    pub(crate) fn into_names(self) -> (Txn, u32)
-        ensures { (result.0 ≡ self.txn) × (result.1 ≡ self.place) }
-    {
-        let Released { txn, place } = self;
-        (txn, place)
-    }
 }
 
 /// Gives the copy's hold up, and the blocks of a message that nobody holds any more.
@@ -38,4 +33,60 @@ pub(crate) fn release<N: DepotName, R: Wait>(
         depot.reclaim(rt, spent);
     }
     Released { txn, place }
+}
+
+/// A worker's senders of slips, one for each lane. What they send is for a copy that was released. Contracts see the
+/// list of them.
+#[derive(Drop)]
+pub(crate) struct SlipSenders {
+    senders: Vec<SlipSender>,
+}
+
+impl Model for SlipSenders {
+    ghost use Rattle.std.specs.Prelude.{List};
+    ghost use Rattle.mail_world.specs.declared.Slip.{Slip};
+    ghost use Rattle.mail_post.specs.Channel.{Sender};
+
+    ghost Value = { List (Sender Slip) };
+
+    ghost view = { λ s. s.senders.items };
+}
+
+impl SlipSenders {
+    pub(crate) fn new(senders: Vec<SlipSender>) -> SlipSenders
+        ensures { result ≡ senders.items }
+    {
+        SlipSenders { senders }
+    }
+
+    /// Gives the copy's lane a slip. One that comes back is dropped, and its sender says that it did.
+    pub(crate) fn tell<R: Wait>(&mut self, rt: &R, copy: Released, outcome: Outcome)
+        requires { copy.txn.lane < length self.old }
+        ensures { (accepted : Bool)
+            × IsOffered copy.txn.lane (slip_by copy.txn copy.place outcome) accepted self.old self.new }
+    {
+        let Released { txn, place } = copy;
+        let sender = &mut self.senders[txn.lane as usize];
+        let slip = Slip {
+            txn,
+            place,
+            worker: sender.number(),
+            outcome,
+        };
+        let _ = sender.offer(rt, slip);
+    }
+
+    /// Whether a slip of one of them came back.
+    pub(crate) fn any_refused(&self) -> bool
+        ensures { result ≡ any_refused self.now }
+    {
+        self.senders.iter().any(|sender| sender.is_refused())
+    }
+
+    /// The senders, once no copy is left.
+    pub(crate) fn into_senders(self) -> Vec<SlipSender>
+        ensures { result.items ≡ self }
+    {
+        self.senders
+    }
 }

@@ -15,7 +15,8 @@ pub struct WorkerReport<N: DepotName, S: Spool, G: Gate> {
     pub stored: u64,
     /// Whether the spool failed.
     pub faulty: bool,
-    /// Whether a channel was found gone: the mailbox's before its closing mark came, or a lane's of slips.
+    /// Whether a channel was found gone: the mailbox's before its closing marks came, or a lane's that handed a slip
+    /// back.
     pub lost: bool,
     pub receiver: Receiver<N>,
     pub slips: Vec<SlipSender>,

@@ -1,10 +1,10 @@
 //! A worker over three copies of a message: two of lane 0, for two recipients of one transaction, and one of lane 1.
-ghost use Rattle.std.specs.Prelude.{◌≡◌, ◌≤◌, IfOk, IfSome, length};
+ghost use Rattle.std.specs.Prelude.{◌≡◌, ◌≤◌, [], IfOk, IfSome, length};
 ghost use Rattle.mail_post.specs.Offered.{HaveNumber};
 ghost use Rattle.box_worker.specs.Told.{worker_of};
 
 use super::*;
-use mail_post::{Post, SlipReceiver, SlipSender, close, mail_line, slip_line};
+use mail_post::{Post, Receiver, SlipReceiver, SlipSender, mail_line, slip_line};
 use mail_world::{Outcome, Slip, Txn};
 use mbox_rd::{Envelope, MemorySpool, Spool};
 use msg_depot::{Blank, Depot, DepotName, Hold};
@@ -20,7 +20,7 @@ use failing::FailingSpool;
 
 mod noting;
 
-use noting::{Call, NotingGate};
+use noting::{Log, NotingGate, NotingSpool, Step};
 
 /// Each record has 189 bytes.
 const STORED: &[u8] = b"From carl@a.example Thu Jan  1 00:00:00 1970
@@ -111,42 +111,99 @@ fn slip(lane: u32, place: u32, is_stored: bool) -> Slip {
     }
 }
 
+/// What a worker is handed besides its copies, and what hears its slips.
+#[derive(Drop)]
+struct Handed<S: Spool, G: Gate> {
+    spool: S,
+    gate: G,
+    slips: Vec<SlipSender>,
+    lanes: (Option<SlipReceiver>, Option<SlipReceiver>),
+}
+
 fn run<S: Spool + Drop, R: Wait>(
     rt: &R,
     alloc: Global,
     spool: S,
     others: Others,
 ) -> Result<Ran<S>, Fail> {
-    let (ran, _) = run_gated(rt, alloc, spool, others, OpenGate)?;
-    Ok(ran)
+    let (slips, first, second) = slip_ends(alloc)?;
+    let handed = Handed {
+        spool,
+        gate: OpenGate,
+        slips,
+        lanes: (Some(first).filter(|_| others.listen), Some(second)),
+    };
+    run_by(rt, alloc, handed, others.close)
 }
 
-fn run_gated<S: Spool + Drop, G: Gate + Drop, R: Wait>(
+fn run_by<S: Spool + Drop, G: Gate + Drop, R: Wait>(
     rt: &R,
     alloc: Global,
-    spool: S,
-    others: Others,
-    gate: G,
-) -> Result<(Ran<S>, G), Fail> {
+    handed: Handed<S, G>,
+    close: bool,
+) -> Result<Ran<S>, Fail>
+    requires lanes { length handed.slips.items ≡ 2 }
+    requires worker { HaveNumber (worker_of handed.slips.items) handed.slips.items }
+{
     let blank = Blank::new(alloc, BLOCKS, 2)?;
-    run_over::<Brand, S, G, R>(rt, alloc, blank, spool, others, gate)
+    run_over::<Brand, S, G, R>(rt, alloc, blank, handed, close)
 }
 
 fn run_over<N: DepotName, S: Spool + Drop, G: Gate + Drop, R: Wait>(
     rt: &R,
     alloc: Global,
     blank: Blank,
-    spool: S,
-    others: Others,
-    gate: G,
-) -> Result<(Ran<S>, G), Fail>
-    requires { blank.table ≡ N.table }
+    handed: Handed<S, G>,
+    close: bool,
+) -> Result<Ran<S>, Fail>
+    requires table { blank.table ≡ N.table }
+    requires lanes { length handed.slips.items ≡ 2 }
+    requires worker { HaveNumber (worker_of handed.slips.items) handed.slips.items }
 {
     let depot = blank.open::<N>();
+    let receiver = copies(rt, alloc, &depot, close)?;
+    let Handed {
+        spool,
+        gate,
+        slips,
+        lanes,
+    } = handed;
+    let report = worker_run(rt, receiver, slips, spool, &depot, gate, b"mx.example");
+    let WorkerReport {
+        spool,
+        gate: _,
+        taken,
+        stored,
+        faulty,
+        lost,
+        receiver: _,
+        slips,
+    } = report;
+    drop(slips);
+    Ok(Ran {
+        spool,
+        taken,
+        stored,
+        faulty,
+        lost,
+        heard: (heard(rt, alloc, lanes.0)?, heard(rt, alloc, lanes.1)?),
+        free_blocks: depot.free_blocks(rt),
+    })
+}
+
+// The channel of the three copies, whose senders are gone, and which is closed or not.
+fn copies<N: DepotName, R: Wait>(
+    rt: &R,
+    alloc: Global,
+    depot: &Depot<N>,
+    close: bool,
+) -> Result<Receiver<N>, Fail>
+    ensures { IfOk result (λ receiver. (receiver.got ≡ []) × (receiver.lanes ≡ 2)) }
+{
     let (mut senders, receiver) = mail_line::<N>(alloc, CAPACITY, 2)?;
-    let mut first = sealed(rt, &depot, 2).ok_or("there is room")?;
+    let mut first = sealed(rt, depot, 2).ok_or("there is room")?;
     let second = depot.split_one(&mut first);
-    let third = sealed(rt, &depot, 1).ok_or("there is room")?;
+    let third = sealed(rt, depot, 1).ok_or("there is room")?;
     senders[0]
         .offer(rt, post(alloc, 0, 0, first))
         .ok()
@@ -159,35 +216,10 @@ fn run_over<N: DepotName, S: Spool + Drop, G: Gate + Drop, R: Wait>(
         .offer(rt, post(alloc, 1, 0, third))
         .ok()
         .ok_or("accepted")?;
-    if others.close {
-        drop(close(senders, rt));
-    } else {
-        drop(senders);
+    if close {
+        drop(mail_post::close(senders, rt));
     }
-    let (slips, a, b) = slip_ends(alloc)?;
-    let a = Some(a).filter(|_| others.listen);
-    let report = worker_run(rt, receiver, slips, spool, &depot, gate, b"mx.example");
-    let WorkerReport {
-        spool,
-        gate,
-        taken,
-        stored,
-        faulty,
-        lost,
-        receiver: _,
-        slips,
-    } = report;
-    drop(slips);
-    let ran = Ran {
-        spool,
-        taken,
-        stored,
-        faulty,
-        lost,
-        heard: (heard(rt, alloc, a)?, heard(rt, alloc, Some(b))?),
-        free_blocks: depot.free_blocks(rt),
-    };
-    Ok((ran, gate))
+    Ok(receiver)
 }
 
 // The message, in two blocks' pieces.
@@ -254,19 +286,37 @@ fn three_copies_are_stored(rt: HostRuntime) -> Result<(), Fail> {
 }
 
 #[test]
-fn the_gate_is_asked_around_each_copy(rt: HostRuntime) -> Result<(), Fail> {
-    let spool = MemorySpool::new(rt.alloc(), b"", STORED.len())?;
-    let gate = NotingGate::new(rt.alloc());
-    let (_, gate) = run_gated(&rt, rt.alloc(), spool, ALL_THERE, gate)?;
-    let calls = [
-        Call::Before(0, 0),
-        Call::After(0, 0),
-        Call::Before(0, 1),
-        Call::After(0, 1),
-        Call::Before(1, 0),
-        Call::After(1, 0),
+fn each_copy_goes_its_way_in_order(rt: HostRuntime) -> Result<(), Fail> {
+    let log = Log::new(rt.alloc());
+    let (slips, first, second) = slip_ends(rt.alloc())?;
+    let handed = Handed {
+        spool: NotingSpool::new(&log, MemorySpool::new(rt.alloc(), b"", STORED.len())?),
+        gate: NotingGate::new(&log, second),
+        slips,
+        lanes: (Some(first), None),
+    };
+    let ran = run_by(&rt, rt.alloc(), handed, true)?;
+    // Lane 1 goes within the gate's last call, so that only a slip given after that call comes back.
+    assert!(rt; ran.lost && ran.taken == 3 && ran.stored == 3);
+    assert_eq!(rt;
+        ran.heard.0.as_slice(),
+        [slip(0, 0, true), slip(0, 1, true)].as_slice()
+    );
+    let steps = [
+        Step::Before(0, 0),
+        Step::Record,
+        Step::Sync,
+        Step::After(0, 0),
+        Step::Before(0, 1),
+        Step::Record,
+        Step::Sync,
+        Step::After(0, 1),
+        Step::Before(1, 0),
+        Step::Record,
+        Step::Sync,
+        Step::After(1, 0),
     ];
-    assert_eq!(rt; gate.calls.as_slice(), calls.as_slice());
+    assert!(rt; log.is(&steps));
     Ok(())
 }
 

@@ -4,16 +4,15 @@ ghost use Rattle.std.specs.Prelude.{◌≡◌, ◌<◌, ◌||◌, ℕ, List, [],
 ghost use Rattle.lmtp_text.specs.Calendar.{civil_at};
 ghost use Rattle.mail_world.specs.declared.Note.{Note};
 ghost use Rattle.mail_post.specs.Channel.{taken};
-ghost use Rattle.mail_post.specs.Offered.{HaveNumber};
+ghost use Rattle.mail_post.specs.Offered.{HaveNumber, any_refused};
 ghost use Rattle.box_worker.specs.Stored.{kept};
 ghost use Rattle.box_worker.specs.Told.{worker_of};
 ghost use Rattle.box_worker.specs.Worked.{WorkerState, idle, HasHandled, HasWorked};
 
 use crate::gate::Gate;
 use crate::mailbox::Mailbox;
-use crate::release::release;
+use crate::release::{SlipSenders, release};
 use crate::report::WorkerReport;
-use crate::tell::tell;
 use mail_post::{Gone, Parts, Post, Receiver, SlipSender};
 use mbox_rd::Spool;
 use msg_depot::{Depot, DepotName};
@@ -46,9 +45,8 @@ pub fn worker_run<N: DepotName, S: Spool, G: Gate, R: Wait>(
     let mut worker = Worker {
         mailbox: Mailbox::over(spool),
         gate,
-        slips,
+        slips: SlipSenders::new(slips),
         taken: 0,
-        lost: false,
     };
     for _ in rt.forever() {
         match receiver.take(rt) {
@@ -65,13 +63,12 @@ pub fn worker_run<N: DepotName, S: Spool, G: Gate, R: Wait>(
 pub struct Worker<S: Spool, G: Gate> {
     mailbox: Mailbox<S>,
     gate: G,
-    slips: Vec<SlipSender>,
+    slips: SlipSenders,
     taken: u64,
-    lost: bool,
 }
 
 impl<S: Spool, G: Gate> Worker<S, G> {
-    // One copy, from gate to slip. `tell` takes what `release` makes of the hold, so that no lane is told before.
+    // One copy, from gate to slip. A slip takes what `release` makes of the hold, so that no lane is told before.
     fn handle<N: DepotName, R: Wait>(
         &mut self,
         rt: &R,
@@ -79,21 +76,21 @@ impl<S: Spool, G: Gate> Worker<S, G> {
         host: &[u8],
         post: Post<N>,
     )
-        requires lane { post.txn.lane < length self.old.slips.items }
+        requires lane { post.txn.lane < length self.old.slips }
         ensures { (worker : ℕ) (copies : List Note) (old : WorkerState)
             → HasHandled (record { calendar = civil_at; host = host.now; worker = worker }) copies old
             (record {
-              slips = self.old.slips.items;
+              slips = self.old.slips;
               mailbox = kept (S.state self.old.mailbox.spool) self.old.mailbox.stored self.old.mailbox.faulty;
               taken = self.old.taken;
-              lost = self.old.lost;
+              lost = any_refused self.old.slips;
             })
             → HasHandled (record { calendar = civil_at; host = host.now; worker = worker }) (copies ++ post ∷ []) old
             (record {
-              slips = self.new.slips.items;
+              slips = self.new.slips;
               mailbox = kept (S.state self.new.mailbox.spool) self.new.mailbox.stored self.new.mailbox.faulty;
               taken = self.new.taken;
-              lost = self.new.lost;
+              lost = any_refused self.new.slips;
             }) }
     {
         let Parts {
@@ -107,24 +104,22 @@ impl<S: Spool, G: Gate> Worker<S, G> {
         let outcome = self.mailbox.take(rt, depot, host, &envelope, &mut hold);
         let released = release(rt, depot, txn, place, hold);
         self.gate.after(txn, place);
-        let accepted = tell(rt, &mut self.slips, released, outcome);
-        self.lost |= !accepted;
+        self.slips.tell(rt, released, outcome);
         self.taken = self.taken.saturating_add(1);
     }
 
     // What it hands back once nothing more comes.
     fn report<N: DepotName>(self, receiver: Receiver<N>, is_lost: bool) -> WorkerReport<N, S, G>
-        ensures ends { (result.receiver ≡ receiver) × (result.slips.items ≡ self.slips.items) }
+        ensures ends { (result.receiver ≡ receiver) × (result.slips.items ≡ self.slips) }
         ensures counts { (result.taken ≡ self.taken) × (result.stored ≡ self.mailbox.stored) }
         ensures spool { (S.state result.spool ≡ S.state self.mailbox.spool) × (result.faulty ≡ self.mailbox.faulty) }
-        ensures lost { result.lost ≡ (self.lost || is_lost) }
+        ensures lost { result.lost ≡ (any_refused self.slips || is_lost) }
     {
         let Worker {
             mailbox,
             gate,
             slips,
             taken,
-            lost,
         } = self;
         let Mailbox {
             spool,
@@ -137,9 +132,9 @@ impl<S: Spool, G: Gate> Worker<S, G> {
             taken,
             stored,
             faulty,
-            lost: lost || is_lost,
+            lost: slips.any_refused() || is_lost,
             receiver,
-            slips,
+            slips: slips.into_senders(),
         }
     }
 }

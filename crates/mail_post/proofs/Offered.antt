@@ -1,19 +1,15 @@
 -- Once a message more is owed to one of several senders, and offered by it or not.
-use Rattle.std.proofs.Common.{◌≡◌, ◌≢◌, ◌⊎◌, ℕ, zero, suc, List, [], ◌∷◌, ◌++◌, length, Bool, true, false, not, ◌||◌, Some, inl, inr, refl, ap, sym, ◌∙◌, subst, append_assoc, append-nil, arith, length-set}
+use Rattle.std.proofs.Common.{◌≡◌, ◌≢◌, ◌⊎◌, ℕ, zero, suc, List, [], ◌∷◌, ◌++◌, length, Bool, true, false, ◌||◌, Some, inl, inr, refl, ap, sym, ◌∙◌, subst, append_assoc, append-nil}
 use Rattle.std.specs.Prelude.{slice_get, slice_set}
+use Rattle.std.proofs.Common.{length-set}
 use Rattle.std.proofs.lemmas.Bool.{or_parts}
 use Rattle.mail_world.proofs.Accepted.{get_set}
 use Rattle.mail_post.specs.Channel.{Sender}
-use Rattle.mail_post.specs.Offered.{IsPart, HaveNumber, given, IsOffered, HasAccepted, HaveAccepted}
+use Rattle.mail_post.specs.Offered.{IsPart, HaveNumber, any_refused, given, IsOffered, HasSent, HaveSent, HasAccepted, HaveAccepted}
 
-same_or_not : (k at : ℕ) → (k ≡ at) ⊎ (k ≢ at)
-same_or_not k at = grind arith
-
--- a message handed back changed nothing
-set_same : {A : Type 0} (xs : List A) (i : ℕ) (x : A) → slice_get xs i ≡ Some x → slice_set xs i x ≡ xs
-set_same [] i x e = refl
-set_same (y ∷ xs) zero x e = let same : x ≡ y = cc in ap (λ z. z ∷ xs) same
-set_same (y ∷ xs) (suc i) x e = ap (λ l. y ∷ l) (set_same xs i x e)
+or_refused : (a b : Bool) → b ≡ true → (a || b) ≡ true
+or_refused true b is = refl
+or_refused false b is = is
 
 module _ {M : Type 0} where
   -- one element more of the whole, and of both
@@ -46,56 +42,67 @@ module _ {M : Type 0} where
         | inr other ↦ h k sender other.1
       ]
 
-  pub refused_same : (at : ℕ) (message : Sender M → M) (old new : List (Sender M)) → IsOffered at message false old new → new ≡ old
-  refused_same at message old new o = o.after ∙ set_same old at o.sender o.is
+  -- where none was refused, the one at that place wasn't
+  pub none_refused : (senders : List (Sender M)) (k : ℕ) (sender : Sender M) → any_refused senders ≡ false → slice_get senders k ≡ Some sender → sender.refused ≡ false
+  none_refused [] k sender none is = absurd (cc)
+  none_refused (x ∷ xs) zero sender none is =
+      let same : x ≡ sender = cc in
+      ap (λ (s : Sender M). s.refused) (sym same) ∙ (or_parts x.refused (any_refused xs) none).0
+  none_refused (x ∷ xs) (suc k) sender none is = none_refused xs k sender (or_parts x.refused (any_refused xs) none).1 is
 
-  -- nothing is owed
-  accepted_none : (sender : Sender M) → HasAccepted [] false sender sender
-  accepted_none sender = record { channel = refl; number = refl; accepted = []; sent = sym (append-nil sender.sent); all = λ e. refl; some = tt }
+  any_set_refused : (senders : List (Sender M)) (at : ℕ) (old new : Sender M) → slice_get senders at ≡ Some old → new.refused ≡ true → any_refused (slice_set senders at new) ≡ true
+  any_set_refused [] at old new is refused = absurd (cc)
+  any_set_refused (x ∷ xs) zero old new is refused = ap (λ b. b || any_refused xs) refused
+  any_set_refused (x ∷ xs) (suc at) old new is refused = or_refused x.refused (any_refused (slice_set xs at new)) (any_set_refused xs at old new is refused)
 
-  -- one more is owed, and was accepted
-  accepted_given : (owed : List M) (m : M) (gone : Bool) (old now : Sender M) → HasAccepted owed gone old now → HasAccepted (owed ++ m ∷ []) gone old (given now m true)
-  accepted_given owed m gone old now x = record {
+  any_set_same : (senders : List (Sender M)) (at : ℕ) (old new : Sender M) → slice_get senders at ≡ Some old → new.refused ≡ old.refused → any_refused (slice_set senders at new) ≡ any_refused senders
+  any_set_same [] at old new is same = absurd (cc)
+  any_set_same (x ∷ xs) zero old new is same =
+      let e : x ≡ old = cc in
+      ap (λ b. b || any_refused xs) (same ∙ ap (λ (s : Sender M). s.refused) (sym e))
+  any_set_same (x ∷ xs) (suc at) old new is same = ap (λ b. x.refused || b) (any_set_same xs at old new is same)
+
+  -- a message was handed back, so one is refused; one that was accepted changes nothing of that
+  pub refused_now : (at : ℕ) (message : Sender M → M) (old new : List (Sender M)) → IsOffered at message false old new → any_refused new ≡ true
+  refused_now at message old new o = ap any_refused o.after ∙ any_set_refused old at o.sender (given o.sender (message o.sender) false) o.is refl
+
+  pub refused_as_before : (at : ℕ) (message : Sender M → M) (old new : List (Sender M)) → IsOffered at message true old new → any_refused new ≡ any_refused old
+  refused_as_before at message old new o = ap any_refused o.after ∙ any_set_same old at o.sender (given o.sender (message o.sender) true) o.is refl
+
+  sent_none : (sender : Sender M) → HasSent [] sender sender
+  sent_none sender = record { channel = refl; number = refl; sent = sym (append-nil sender.sent); stays = λ e. e }
+
+  -- one more was accepted
+  sent_given : (accepted : List M) (m : M) (old now : Sender M) → HasSent accepted old now → HasSent (accepted ++ m ∷ []) old (given now m true)
+  sent_given accepted m old now x = record {
     channel = x.channel;
     number = x.number;
+    sent = ap (λ l. l ++ m ∷ []) x.sent ∙ append_assoc old.sent accepted (m ∷ []);
+    stays = x.stays;
+  }
+
+  -- one was handed back
+  sent_back : (accepted : List M) (m : M) (old now : Sender M) → HasSent accepted old now → HasSent accepted old (given now m false)
+  sent_back accepted m old now x = record { channel = x.channel; number = x.number; sent = x.sent; stays = λ e. refl }
+
+  -- nothing is owed
+  accepted_none : (sender : Sender M) → HasAccepted [] sender sender
+  accepted_none sender = record { accepted = []; sent = sent_none sender; all = λ e. refl; some = tt }
+
+  -- one more is owed, and was offered
+  accepted_by : (owed : List M) (m : M) (accepted : Bool) (old now : Sender M) → HasAccepted owed old now → HasAccepted (owed ++ m ∷ []) old (given now m accepted)
+  accepted_by owed m true old now x = record {
     accepted = x.accepted ++ m ∷ [];
-    sent = ap (λ l. l ++ m ∷ []) x.sent ∙ append_assoc old.sent x.accepted (m ∷ []);
+    sent = sent_given x.accepted m old now x.sent;
     all = λ sound. ap (λ l. l ++ m ∷ []) (x.all sound);
     some = part_both x.accepted owed m x.some;
   }
-
-  -- one more is owed, and was not accepted
-  accepted_back : (owed : List M) (m : M) (gone : Bool) (old now : Sender M) → HasAccepted owed gone old now → HasAccepted (owed ++ m ∷ []) true old now
-  accepted_back owed m gone old now x = record {
-    channel = x.channel;
-    number = x.number;
+  accepted_by owed m false old now x = record {
     accepted = x.accepted;
-    sent = x.sent;
+    sent = sent_back x.accepted m old now x.sent;
     all = λ sound. cc;
     some = part_more x.accepted owed m x.some;
   }
-
-  -- a channel may be found gone
-  accepted_gone : (owed : List M) (gone also : Bool) (old now : Sender M) → HasAccepted owed gone old now → HasAccepted owed (gone || also) old now
-  accepted_gone owed gone also old now x = record {
-    channel = x.channel;
-    number = x.number;
-    accepted = x.accepted;
-    sent = x.sent;
-    all = λ sound. x.all (or_parts gone also sound).0;
-    some = x.some;
-  }
-
-  gone_so : (owed : List M) (gone : Bool) (old now : Sender M) → HasAccepted owed gone old now → HasAccepted owed true old now
-  gone_so owed gone old now x = record { channel = x.channel; number = x.number; accepted = x.accepted; sent = x.sent; all = λ sound. cc; some = x.some }
-
-  accepted_by : (owed : List M) (m : M) (gone accepted : Bool) (old now : Sender M) → HasAccepted owed gone old now → HasAccepted (owed ++ m ∷ []) (gone || not accepted) old (given now m accepted)
-  accepted_by owed m gone true old now x = accepted_gone (owed ++ m ∷ []) gone false old (given now m true) (accepted_given owed m gone old now x)
-  accepted_by owed m gone false old now x =
-      elim gone as (λ g. HasAccepted owed g old now → HasAccepted (owed ++ m ∷ []) (g || true) old now) [
-        | true ↦ λ y. accepted_back owed m true old now y
-        | false ↦ λ y. accepted_back owed m false old now y
-      ] x
 
 -- the message is owed to the sender at that place, and nothing more to the others
 pub record OwesOneMore {M : Type 0} (old new : ℕ → List M) (at : ℕ) (message : M) : Type 0 where
@@ -104,58 +111,77 @@ pub record OwesOneMore {M : Type 0} (old new : ℕ → List M) (at : ℕ) (messa
 
 module _ {M : Type 0} where
   -- nothing was offered
-  pub accepted_nothing : (owed : ℕ → List M) (senders : List (Sender M)) → ((k : ℕ) → owed k ≡ []) → HaveAccepted owed false senders senders
+  pub sent_nothing : (accepted : ℕ → List M) (senders : List (Sender M)) → ((k : ℕ) → accepted k ≡ []) → HaveSent accepted senders senders
+  sent_nothing accepted senders none = record {
+    as_many = refl;
+    each = λ k old new was is.
+        let same : old ≡ new = cc in
+        let P : List M → Type 0 = λ l. HasSent l old old in
+        let Q : Sender M → Type 0 = λ s. HasSent (accepted k) old s in
+        subst Q same (subst P (sym (none k)) (sent_none old));
+  }
+
+  pub accepted_nothing : (owed : ℕ → List M) (senders : List (Sender M)) → ((k : ℕ) → owed k ≡ []) → HaveAccepted owed senders senders
   accepted_nothing owed senders none = record {
     as_many = refl;
     each = λ k old new was is.
         let same : old ≡ new = cc in
-        let P : List M → Type 0 = λ l. HasAccepted l false old old in
-        let Q : Sender M → Type 0 = λ s. HasAccepted (owed k) false old s in
+        let P : List M → Type 0 = λ l. HasAccepted l old old in
+        let Q : Sender M → Type 0 = λ s. HasAccepted (owed k) old s in
         subst Q same (subst P (sym (none k)) (accepted_none old));
   }
 
-  pub all_gone : (owed : ℕ → List M) (gone also : Bool) (old new : List (Sender M)) → HaveAccepted owed gone old new → HaveAccepted owed (gone || also) old new
-  all_gone owed gone also old new x = record {
-    as_many = x.as_many;
-    each = λ k before after was is. accepted_gone (owed k) gone also before after (x.each k before after was is);
-  }
+  module _ (at : ℕ) (message : Sender M → M) (old now next : List (Sender M)) where
+    -- a message more was accepted
+    pub sent_more : (accepted accepted' : ℕ → List M) (m : M) → HaveSent accepted old now → (o : IsOffered at message true now next) → message o.sender ≡ m
+        → OwesOneMore accepted accepted' at m → HaveSent accepted' old next
+    sent_more accepted accepted' m x o is more =
+        let changed : Sender M = given o.sender m true in
+        let after : next ≡ slice_set now at changed = o.after ∙ ap (λ (w : M). slice_set now at (given o.sender w true)) is in
+        record {
+          as_many = ap length after ∙ length-set now at changed ∙ x.as_many;
+          each = λ k before sender was there. elim (get_set now at k changed sender (ap (λ l. slice_get l k) (sym after) ∙ there)) [
+            | inl here ↦
+                let same : accepted' k ≡ accepted k ++ m ∷ [] = ap accepted' here.0 ∙ more.here ∙ ap (λ (j : ℕ). accepted j ++ m ∷ []) (sym here.0) in
+                let P : List M → Type 0 = λ l. HasSent l before changed in
+                let Q : Sender M → Type 0 = λ s. HasSent (accepted' k) before s in
+                subst Q here.1 (subst P (sym same) (sent_given (accepted k) m before o.sender (x.each k before o.sender was (ap (slice_get now) here.0 ∙ o.is))))
+            | inr other ↦
+                let P : List M → Type 0 = λ l. HasSent l before sender in
+                subst P (sym (more.other k other.0)) (x.each k before sender was other.1)
+          ];
+        }
 
-  -- a message more was offered
-  pub offered_more : (owed owed' : ℕ → List M) (gone accepted : Bool) (at : ℕ) (message : Sender M → M) (m : M) (old now next : List (Sender M)) → HaveAccepted owed gone old now
-      → (o : IsOffered at message accepted now next) → message o.sender ≡ m → OwesOneMore owed owed' at m → HaveAccepted owed' (gone || not accepted) old next
-  offered_more owed owed' gone accepted at message m old now next x o is owes =
-      let changed : Sender M = given o.sender m accepted in
-      let after : next ≡ slice_set now at changed = o.after ∙ ap (λ (w : M). slice_set now at (given o.sender w accepted)) is in
-      record {
-        as_many = ap length after ∙ length-set now at changed ∙ x.as_many;
-        each = λ k before sender was there. elim (get_set now at k changed sender (ap (λ l. slice_get l k) (sym after) ∙ there)) [
-          | inl here ↦
-              let same : owed' k ≡ owed k ++ m ∷ [] = ap owed' here.0 ∙ owes.here ∙ ap (λ (j : ℕ). owed j ++ m ∷ []) (sym here.0) in
-              let P : List M → Type 0 = λ l. HasAccepted l (gone || not accepted) before changed in
-              let Q : Sender M → Type 0 = λ s. HasAccepted (owed' k) (gone || not accepted) before s in
-              subst Q here.1 (subst P (sym same) (accepted_by (owed k) m gone accepted before o.sender (x.each k before o.sender was (ap (slice_get now) here.0 ∙ o.is))))
-          | inr other ↦
-              let P : List M → Type 0 = λ l. HasAccepted l (gone || not accepted) before sender in
-              subst P (sym (owes.other k other.0)) (accepted_gone (owed k) gone (not accepted) before sender (x.each k before sender was other.1))
-        ];
-      }
+    -- a message was handed back
+    pub sent_no_more : (accepted : ℕ → List M) → HaveSent accepted old now → IsOffered at message false now next → HaveSent accepted old next
+    sent_no_more accepted x o =
+        let changed : Sender M = given o.sender (message o.sender) false in
+        record {
+          as_many = ap length o.after ∙ length-set now at changed ∙ x.as_many;
+          each = λ k before sender was there. elim (get_set now at k changed sender (ap (λ l. slice_get l k) (sym o.after) ∙ there)) [
+            | inl here ↦
+                let Q : Sender M → Type 0 = λ s. HasSent (accepted k) before s in
+                subst Q here.1 (sent_back (accepted k) (message o.sender) before o.sender (x.each k before o.sender was (ap (slice_get now) here.0 ∙ o.is)))
+            | inr other ↦ x.each k before sender was other.1
+          ];
+        }
 
-  -- a message more was handed back, or offered no more
-  pub refused_more : (owed owed' : ℕ → List M) (gone : Bool) (at : ℕ) (m : M) (old now : List (Sender M)) → HaveAccepted owed gone old now
-      → OwesOneMore owed owed' at m → HaveAccepted owed' true old now
-  refused_more owed owed' gone at m old now x owes = record {
-    as_many = x.as_many;
-    each = λ k before after was is.
-        let P : List M → Type 0 = λ l. HasAccepted l true before after in
-        elim (same_or_not k at) [
-          | inl here ↦
-              let same : owed' k ≡ owed k ++ m ∷ [] = ap owed' here ∙ owes.here ∙ ap (λ (j : ℕ). owed j ++ m ∷ []) (sym here) in
-              subst P (sym same) (accepted_back (owed k) m gone before after (x.each k before after was is))
-          | inr other ↦
-              subst P (sym (owes.other k other)) (gone_so (owed k) gone before after (x.each k before after was is))
-        ];
-  }
-
-  -- a channel was found gone
-  pub found_gone : (owed : ℕ → List M) (gone : Bool) (old new : List (Sender M)) → HaveAccepted owed gone old new → HaveAccepted owed true old new
-  found_gone owed gone old new x = record { as_many = x.as_many; each = λ k before after was is. gone_so (owed k) gone before after (x.each k before after was is) }
+    -- a message more that is owed was offered
+    pub offered_more : (owed owed' : ℕ → List M) (accepted : Bool) (m : M) → HaveAccepted owed old now → (o : IsOffered at message accepted now next) → message o.sender ≡ m
+        → OwesOneMore owed owed' at m → HaveAccepted owed' old next
+    offered_more owed owed' accepted m x o is owes =
+        let changed : Sender M = given o.sender m accepted in
+        let after : next ≡ slice_set now at changed = o.after ∙ ap (λ (w : M). slice_set now at (given o.sender w accepted)) is in
+        record {
+          as_many = ap length after ∙ length-set now at changed ∙ x.as_many;
+          each = λ k before sender was there. elim (get_set now at k changed sender (ap (λ l. slice_get l k) (sym after) ∙ there)) [
+            | inl here ↦
+                let same : owed' k ≡ owed k ++ m ∷ [] = ap owed' here.0 ∙ owes.here ∙ ap (λ (j : ℕ). owed j ++ m ∷ []) (sym here.0) in
+                let P : List M → Type 0 = λ l. HasAccepted l before changed in
+                let Q : Sender M → Type 0 = λ s. HasAccepted (owed' k) before s in
+                subst Q here.1 (subst P (sym same) (accepted_by (owed k) m accepted before o.sender (x.each k before o.sender was (ap (slice_get now) here.0 ∙ o.is))))
+            | inr other ↦
+                let P : List M → Type 0 = λ l. HasAccepted l before sender in
+                subst P (sym (owes.other k other.0)) (x.each k before sender was other.1)
+          ];
+        }

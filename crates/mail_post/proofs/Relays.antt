@@ -1,5 +1,5 @@
 -- Lanes in threads of their own, once they are joined.
-use Rattle.std.proofs.Common.{◌≡◌, ◌+◌, ◌<◌, ℕ, zero, suc, List, [], ◌∷◌, ◌++◌, length, refl, sym, ap, ◌∙◌, subst, append_assoc, add-zero, arith}
+use Rattle.std.proofs.Common.{◌≡◌, false, ◌+◌, ◌<◌, ℕ, zero, suc, List, [], ◌∷◌, ◌++◌, length, refl, sym, ap, ◌∙◌, subst, append_assoc, add-zero, arith}
 use Rattle.std.proofs.lemmas.List.{map-append}
 use Rattle.mail_post.proofs.Senders.{length-new_senders}
 use Rattle.mail_post.specs.Channel.{Channel, Sender, lists, AreSenders, AreSendersFrom, new_senders}
@@ -40,7 +40,7 @@ module _ {M : Type 0} where
 
   pub are_fresh : (channel : Channel M) (n : ℕ) → AreFresh 0 channel (new_senders channel n)
   are_fresh channel zero = tt
-  are_fresh channel (suc n) = fresh_snoc 0 channel (new_senders channel n) (record { channel = channel; number = n; sent = [] }) (are_fresh channel n) refl (let h = length-new_senders channel n in omega arith) refl
+  are_fresh channel (suc n) = fresh_snoc 0 channel (new_senders channel n) (record { channel = channel; number = n; sent = []; refused = false }) (are_fresh channel n) refl (let h = length-new_senders channel n in omega arith) refl
 
   pub are_ready : (lane : M → ℕ) (i : ℕ) (channel : Channel M) (xs : List (Sender M)) (ps : List (Job M)) → AreFresh i channel xs → AreJobsFrom lane i ps → length xs ≡ length ps → AreReady lane xs ps
   are_ready lane i channel [] [] h j e = tt

@@ -1,5 +1,5 @@
 -- What contracts see of a channel and its ends.
-use Rattle.std.specs.Prelude.{◌≡◌, ◌==◌, ℕ, zero, suc, ◌+◌, ◌<◌, Bool, if◌then◌else◌, slice_index_or, Option, Some, None, Result, Ok, Err, List, [], ◌∷◌, ◌++◌, map}
+use Rattle.std.specs.Prelude.{◌≡◌, ◌==◌, ℕ, zero, suc, ◌+◌, ◌<◌, Bool, false, if◌then◌else◌, slice_index_or, Option, Some, None, Result, Ok, Err, List, [], ◌∷◌, ◌++◌, map}
 use Rattle.atomic_table.specs.Seated.{TableId}
 use Rattle.atomic_table.specs.declared.badge.Badge.{Badge}
 use Rattle.crossbeam_channel.specs.declared.flavors.array.Key.{Key}
@@ -18,11 +18,12 @@ use Rattle.mail_post.specs.Rule.{IsFair}
 abbrev pub Channel : Type 0 → Type 0
 Channel M = TableId × Badge (Key (Parcel M))
 
--- a sender: its number among its channel's, and what it was told was accepted
+-- a sender: its number among its channel's, what it was told was accepted, and whether a message of it was handed back
 pub record Sender (M : Type 0) : Type 0 where
   pub channel : Channel M
   pub number : ℕ
   pub sent : List M
+  pub refused : Bool
 
 -- the receiver: the number of lanes, what was taken (messages and marks), and why no more is
 pub record Inbox (M : Type 0) : Type 0 where
@@ -61,7 +62,7 @@ module _ {M : Type 0} where
   -- the first n lanes, which have sent nothing
   abbrev pub new_senders : Channel M → ℕ → List (Sender M)
   new_senders channel zero = []
-  new_senders channel (suc n) = new_senders channel n ++ record { channel = channel; number = n; sent = [] } ∷ []
+  new_senders channel (suc n) = new_senders channel n ++ record { channel = channel; number = n; sent = []; refused = false } ∷ []
 
   -- the receiver that a channel begins with
   abbrev pub new_inbox : Channel M → ℕ → Inbox M

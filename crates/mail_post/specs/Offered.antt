@@ -1,5 +1,6 @@
 -- Messages that senders are offered, and what their channels accept of what is owed to them.
 use Rattle.std.specs.Prelude.{◌≡◌, ◌⊎◌, ⊤, ℕ, Bool, true, false, List, [], ◌∷◌, ◌++◌, length, slice_get, slice_set, Some}
+use Rattle.std.specs.List.{list_any}
 use Rattle.mail_post.specs.Channel.{Sender}
 
 module _ {M : Type 0} where
@@ -13,10 +14,14 @@ module _ {M : Type 0} where
   abbrev pub HaveNumber : ℕ → List (Sender M) → Type 0
   HaveNumber number senders = (at : ℕ) (sender : Sender M) → slice_get senders at ≡ Some sender → sender.number ≡ number
 
+  -- whether one of these senders had a message handed back
+  abbrev pub any_refused : List (Sender M) → Bool
+  any_refused senders = list_any (λ sender. sender.refused) senders
+
   -- a sender behind a message that its channel accepted, or handed back
   abbrev pub given : Sender M → M → Bool → Sender M
-  given sender message true = record { channel = sender.channel; number = sender.number; sent = sender.sent ++ message ∷ [] }
-  given sender message false = sender
+  given sender message true = record sender { sent = sender.sent ++ message ∷ [] }
+  given sender message false = record sender { refused = true }
 
 -- The sender at that place was offered the message, which its channel accepted, or handed back. A message may name its sender's number.
 pub record IsOffered {M : Type 0} (at : ℕ) (message : Sender M → M) (accepted : Bool) (old new : List (Sender M)) : Type 0 where
@@ -24,16 +29,28 @@ pub record IsOffered {M : Type 0} (at : ℕ) (message : Sender M → M) (accepte
   pub is : slice_get old at ≡ Some sender
   pub after : new ≡ slice_set old at (given sender (message sender) accepted)
 
--- the sender's channel accepted what was owed to it, in order; where a channel was found gone, some of it
-pub record HasAccepted {M : Type 0} (owed : List M) (gone : Bool) (old new : Sender M) : Type 0 where
+-- the sender's channel accepted just these messages since, in order
+pub record HasSent {M : Type 0} (accepted : List M) (old new : Sender M) : Type 0 where
   pub channel : new.channel ≡ old.channel
   pub number : new.number ≡ old.number
-  pub accepted : List M
   pub sent : new.sent ≡ old.sent ++ accepted
-  pub all : gone ≡ false → accepted ≡ owed
+  pub stays : old.refused ≡ true → new.refused ≡ true
+
+-- so it is for each of several senders, by the messages of the one at each place
+pub record HaveSent {M : Type 0} (accepted : ℕ → List M) (old new : List (Sender M)) : Type 0 where
+  pub as_many : length new ≡ length old
+  pub each : (k : ℕ) (before after : Sender M) → slice_get old k ≡ Some before → slice_get new k ≡ Some after
+      → HasSent (accepted k) before after
+
+-- the sender's channel accepted what was owed to it, in order; where it handed a message back, some of it
+pub record HasAccepted {M : Type 0} (owed : List M) (old new : Sender M) : Type 0 where
+  pub accepted : List M
+  pub sent : HasSent accepted old new
+  pub all : new.refused ≡ false → accepted ≡ owed
   pub some : IsPart accepted owed
 
 -- so it is for each of several senders, by what is owed to the one at each place
-pub record HaveAccepted {M : Type 0} (owed : ℕ → List M) (gone : Bool) (old new : List (Sender M)) : Type 0 where
+pub record HaveAccepted {M : Type 0} (owed : ℕ → List M) (old new : List (Sender M)) : Type 0 where
   pub as_many : length new ≡ length old
-  pub each : (k : ℕ) (before after : Sender M) → slice_get old k ≡ Some before → slice_get new k ≡ Some after → HasAccepted (owed k) gone before after
+  pub each : (k : ℕ) (before after : Sender M) → slice_get old k ≡ Some before → slice_get new k ≡ Some after
+      → HasAccepted (owed k) before after

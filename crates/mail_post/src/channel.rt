@@ -48,6 +48,7 @@ pub fn open_channel<M: FromSender>(
             end,
             pass,
             number: lane,
+            refused: false,
         })?;
     }
     Ok((
@@ -68,6 +69,7 @@ pub struct ChannelSender<M: FromSender> {
     end: RuledSender<Parcel<M>, View<M>, LaneOrder<M>>,
     pass: Pass<Parcel<M>, View<M>>,
     number: u32,
+    refused: bool,
 }
 
 impl<M: FromSender> Model for ChannelSender<M> {
@@ -79,7 +81,12 @@ impl<M: FromSender> Model for ChannelSender<M> {
 
     ghost Value = { Sender M };
 
-    ghost view = { λ s. record { channel = channel_of s.pass; number = s.number; sent = (view_of s.pass).sent } };
+    ghost view = { λ s. record {
+      channel = channel_of s.pass;
+      number = s.number;
+      sent = (view_of s.pass).sent;
+      refused = s.refused;
+    } };
 
     ghost invariant = { λ s. IsSeatAt (sends_on s.end) s.pass
         × (view_of s.pass ≡ sender s.number (view_of s.pass).sent false) };
@@ -93,11 +100,18 @@ impl<M: FromSender> ChannelSender<M> {
         self.number
     }
 
+    /// Whether a post of it was handed back. Then it stays so.
+    pub fn is_refused(&self) -> bool
+        ensures { result ≡ self.now.refused }
+    {
+        self.refused
+    }
+
     /// Ok where the channel has accepted the post at its end.
     pub fn offer<R: Wait>(&mut self, rt: &R, post: M) -> Result<(), M>
         requires { M.sender post ≡ self.old.number }
         ensures accepted { OnOk result (self.new ≡ record self.old { sent = self.old.sent ++ post ∷ [] }) }
-        ensures refused { OnErr result (self.new ≡ self.old) }
+        ensures refused { OnErr result (self.new ≡ record self.old { refused = true }) }
         ensures back { IfErr result (λ back. back ≡ post) }
     {
         match self
@@ -105,10 +119,13 @@ impl<M: FromSender> ChannelSender<M> {
             .send_as::<Offers, R>(rt, &mut self.pass, Parcel::Copy(post))
         {
             Ok(()) => Ok(()),
-            Err(back) => match back.into_inner() {
-                Parcel::Copy(post) => Err(post),
-                Parcel::Mark(_) => unreachable!(),
-            },
+            Err(back) => {
+                self.refused = true;
+                match back.into_inner() {
+                    Parcel::Copy(post) => Err(post),
+                    Parcel::Mark(_) => unreachable!(),
+                }
+            }
         }
     }
 }
@@ -244,6 +261,7 @@ impl<M: FromSender> ChannelClosed<M> {
             end,
             pass: mut mine,
             number,
+            refused: _,
         } = from;
         let mut pass = end.another::<Opens>(&mut mine);
         let is_lost = put_mark(rt, &end, &mut mine, number, false);
@@ -261,6 +279,7 @@ impl<M: FromSender> ChannelClosed<M> {
             end,
             pass: mut mine,
             number,
+            refused: _,
         } = from;
         self.is_lost = put_mark(rt, &end, &mut mine, number, self.is_lost);
         self.end.absorb::<Ends>(&mut self.pass, mine);

@@ -18,6 +18,7 @@ use std::test::*;
 use std::thread::Threads;
 
 mod relay;
+mod room;
 
 use relay::relay;
 

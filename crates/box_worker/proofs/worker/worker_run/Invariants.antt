@@ -1,6 +1,7 @@
 use Rattle.std.proofs.Common.{◌≡◌}
 use Rattle.lmtp_text.specs.Calendar.{civil_at}
 use Rattle.mail_post.specs.Channel.{taken}
+use Rattle.mail_post.specs.Offered.{any_refused}
 use Rattle.box_worker.specs.Stored.{kept}
 use Rattle.box_worker.specs.Told.{worker_of}
 use Rattle.box_worker.specs.Worked.{idle, HasHandled}
@@ -13,9 +14,9 @@ invariant-loop g l = record {
   lanes : l.receiver.lanes ≡ l.fn.receiver.lanes;
   handled : HasHandled (record { calendar = civil_at; host = l.host; worker = worker_of l.fn.slips.items }) (taken l.receiver)
       (idle l.fn.slips.items (g.S.Spool.state l.fn.spool)) (record {
-        slips = l.worker.slips.items;
+        slips = l.worker.slips;
         mailbox = kept (g.S.Spool.state l.worker.mailbox.spool) l.worker.mailbox.stored l.worker.mailbox.faulty;
         taken = l.worker.taken;
-        lost = l.worker.lost;
+        lost = any_refused l.worker.slips;
       });
 }

@@ -24,5 +24,5 @@ pub loop-lane-preserved : goal.loop-lane-preserved
 loop-lane-preserved g c = record {
   seated = search rules;
   knows = search rules;
-  made = fresh_more (channel_of c.loop-lane.first) (channel_of c.another-pass.new.pass) c.loop-lane.lane _ _ _ c.loop-lane.invariant.made c.in_ok-push.ensures.items (search rules) (search rules) (search rules) (search rules);
+  made = fresh_more (channel_of c.loop-lane.first) (channel_of c.another-pass.new.pass) c.loop-lane.lane _ _ _ c.loop-lane.invariant.made c.in_ok-push.ensures.items (search rules) (search rules) (search rules) (search rules) (search rules);
 }

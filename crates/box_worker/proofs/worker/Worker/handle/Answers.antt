@@ -1,9 +1,9 @@
-use Rattle.std.proofs.Common.{◌≡◌, ◌∙◌, ℕ, List, [], ◌∷◌, ◌++◌, ◌||◌, ap, sym, subst, not}
+use Rattle.std.proofs.Common.{◌≡◌, ◌∙◌, ℕ, List, [], ◌∷◌, ◌++◌, ap, sym, subst, Bool}
 use Rattle.lmtp_text.specs.Calendar.{civil_at}
 use Rattle.mail_world.specs.declared.Txn.{Txn}
 use Rattle.mail_world.specs.Records.{record_of}
 use Rattle.mail_post.specs.Copies.{envelope_of}
-use Rattle.mail_post.specs.Offered.{IsOffered}
+use Rattle.mail_post.specs.Offered.{IsOffered, any_refused}
 use Rattle.mbox_rd.specs.Envelope.{Envelope, record_text}
 use Rattle.box_worker.specs.Stored.{kept, TakesCopy}
 use Rattle.box_worker.specs.Told.{slip_by}
@@ -16,13 +16,13 @@ returns g c worker copies old x =
     let host : List ℕ = c.args.host.now in
     let self = c.args.self.now in
     let took = c.take-outcome in
-    let told = c.tell-accepted in
+    let told = c.tell in
     let at : Setting = record { calendar = civil_at; host = host; worker = worker } in
     let now : WorkerState = record {
-      slips = self.slips.items;
+      slips = self.slips;
       mailbox = kept (g.S.Spool.state self.mailbox.spool) self.mailbox.stored self.mailbox.faulty;
       taken = self.taken;
-      lost = self.lost;
+      lost = any_refused self.slips;
     } in
     let parts = c.parts-place in
     let text : record_text civil_at host parts.result.envelope parts.result.hold.bytes ≡ record_of civil_at host c.args.post =
@@ -30,14 +30,15 @@ returns g c worker copies old x =
     ∙ ap (λ (m : List ℕ). record_text civil_at host (envelope_of c.args.post) m) parts.ensures.hold.0 ∙ text_of civil_at host c.args.post in
     let P : List ℕ → Type 0 = λ t. TakesCopy t took.result now.mailbox (kept (g.S.Spool.state took.new.self.spool) took.new.self.stored took.new.self.faulty) in
     let gone = c.release-released.ensures in
-    let Q : Txn → Type 0 = λ t. IsOffered t.lane (slip_by t c.release-released.result.place took.result) told.result now.slips told.new.slips.items in
-    let R : ℕ → Type 0 = λ p. IsOffered c.args.post.txn.lane (slip_by c.args.post.txn p took.result) told.result now.slips told.new.slips.items in
+    let accepted : Bool = told.ensures.0 in
+    let Q : Txn → Type 0 = λ t. IsOffered t.lane (slip_by t c.release-released.result.place took.result) accepted now.slips told.new.self in
+    let R : ℕ → Type 0 = λ p. IsOffered c.args.post.txn.lane (slip_by c.args.post.txn p took.result) accepted now.slips told.new.self in
     let H : ℕ → Type 0 = λ n. HasHandled at (copies ++ c.args.post ∷ []) old (record {
-      slips = told.new.slips.items;
+      slips = told.new.self;
       mailbox = kept (g.S.Spool.state took.new.self.spool) took.new.self.stored took.new.self.faulty;
       taken = n;
-      lost = self.lost || not told.result;
+      lost = any_refused told.new.self;
     }) in
     subst H (sym c.saturating_add-self.ensures)
-    (handled_more at copies old now told.new.slips.items (g.S.Spool.state took.new.self.spool) c.args.post told.result x took.result took.new.self.stored took.new.self.faulty
-    (subst P text took.ensures.takes) (subst R (gone.1 ∙ parts.ensures.names.1) (subst Q (gone.0 ∙ parts.ensures.names.0) told.ensures)))
+    (handled_more at copies old now told.new.self (g.S.Spool.state took.new.self.spool) c.args.post accepted x took.result took.new.self.stored took.new.self.faulty
+    (subst P text took.ensures.takes) (subst R (gone.1 ∙ parts.ensures.names.1) (subst Q (gone.0 ∙ parts.ensures.names.0) told.ensures.1)))

@@ -1,4 +1,4 @@
-use Rattle.box_worker.proofs.tests.run_gated.Given as goal
+use Rattle.box_worker.proofs.tests.run_by.Given as goal
 
 -- the table that was just made
 abbrev pub ghosts-run_over : goal.ghosts-run_over
