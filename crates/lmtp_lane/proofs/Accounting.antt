@@ -1,6 +1,6 @@
 -- What a lane's account says once another DATA command came, or another data ended.
 use Rattle.std.proofs.Common.{◌≡◌, ℕ, zero, suc, cond, ◌+◌, ◌<◌, ◌≤◌, List, [], ◌∷◌, ◌++◌, length, map, Bool, true, false, Option, Some, None, refl, ap, sym, ◌∙◌, subst, append_assoc, append-nil, arith}
-use Rattle.std.specs.Prelude.{nat_lt, if◌then◌else◌, flat_map, find, option_map}
+use Rattle.std.specs.Prelude.{is_some, ◌||◌, nat_lt, if◌then◌else◌, flat_map, find, option_map}
 use Rattle.std.specs.List.{AllByRecursion, range_with_len}
 use Rattle.std.specs.Option.{IfSome}
 use Rattle.std.proofs.lemmas.Grind.{flat_map-append}
@@ -18,8 +18,8 @@ use Rattle.mail_world.specs.Lists.{Transaction, VerdictFits, OutcomesIn, copies,
 use Rattle.mail_world.proofs.Heard.{all_more}
 use Rattle.msg_depot.specs.declared.view.Claim.{Claim}
 use Rattle.mail_post.specs.Channel.{taken}
-use Rattle.mail_post.specs.Offered.{HaveAccepted}
-use Rattle.mail_post.proofs.Offered.{accepted_nothing}
+use Rattle.mail_post.specs.Offered.{any_refused}
+use Rattle.mail_post.proofs.Offered.{sent_nothing}
 use Rattle.lmtp_lane.specs.LaneExchange.{LaneEnds, for_box, HasExchanged, Episode, joined, IsEpisode, sent_as}
 use Rattle.mail_world.specs.Counts.{counted}
 use Rattle.lmtp_lane.proofs.Exchanging.{no_episode, joined_none}
@@ -121,30 +121,31 @@ copies-snoc lane ts t = flat_map-append (copies lane) ts (t ∷ []) ∙ ap (λ l
 
 -- one transaction more, with its episode
 episodes_more : (lane : ℕ) (ts : List Transaction) (es : List Episode) (t : Transaction) (e : Episode) → AreEpisodes lane ts es → IsEpisode (txn_of lane t.number) e
-    → AreEpisodes lane (ts ++ t ∷ []) (es ++ e ∷ [])
-episodes_more lane [] [] t e h is = (is, tt)
-episodes_more lane [] (f ∷ es) t e h is = absurd h
-episodes_more lane (u ∷ ts) [] t e h is = absurd h
-episodes_more lane (u ∷ ts) (f ∷ es) t e h is = (h.0, episodes_more lane ts es t e h.1 is)
+    → OutcomesIn lane e.heard t t.disposition.verdict → AreEpisodes lane (ts ++ t ∷ []) (es ++ e ∷ [])
+episodes_more lane [] [] t e h is told = (is, told, tt)
+episodes_more lane [] (f ∷ es) t e h is told = absurd h
+episodes_more lane (u ∷ ts) [] t e h is told = absurd h
+episodes_more lane (u ∷ ts) (f ∷ es) t e h is told = (h.0, h.1, episodes_more lane ts es t e h.2 is told)
 
 slips-snoc : (f : Episode → List Slip) (es : List Episode) (e : Episode) → flat_map f (es ++ e ∷ []) ≡ flat_map f es ++ f e
 slips-snoc f es e = flat_map-append f es (e ∷ []) ∙ ap (λ l. flat_map f es ++ l) (append-nil (f e))
 
 turns_more : (lane : ℕ) (ts : List Transaction) (all : Episode) (t : Transaction) (e : Episode) → IsEpisode (txn_of lane t.number) e
-    → IsHeardInTurn lane ts all → IsHeardInTurn lane (ts ++ t ∷ []) (joined all e)
-turns_more lane ts all t e is x = record {
+    → OutcomesIn lane e.heard t t.disposition.verdict → IsHeardInTurn lane ts all → IsHeardInTurn lane (ts ++ t ∷ []) (joined all e)
+turns_more lane ts all t e is told x = record {
   episodes = x.episodes ++ e ∷ [];
-  each = episodes_more lane ts x.episodes t e x.each is;
+  each = episodes_more lane ts x.episodes t e x.each is told;
   came_is = ap (λ l. l ++ e.came) x.came_is ∙ sym (slips-snoc (λ (e : Episode). e.came) x.episodes e);
   own_is = ap (λ l. l ++ e.own) x.own_is ∙ sym (slips-snoc (λ (e : Episode). e.own) x.episodes e);
   heard_is = ap (λ l. l ++ e.heard) x.heard_is ∙ sym (slips-snoc (λ (e : Episode). e.heard) x.episodes e);
 }
 
 -- one more of which nothing was heard
-turns_none : (lane : ℕ) (ts : List Transaction) (all : Episode) (t : Transaction) → IsHeardInTurn lane ts all → IsHeardInTurn lane (ts ++ t ∷ []) all
-turns_none lane ts all t x =
+turns_none : (lane : ℕ) (ts : List Transaction) (all : Episode) (t : Transaction) → OutcomesIn lane [] t t.disposition.verdict → IsHeardInTurn lane ts all
+    → IsHeardInTurn lane (ts ++ t ∷ []) all
+turns_none lane ts all t told x =
     subst (λ e. IsHeardInTurn lane (ts ++ t ∷ []) e) (joined_none all)
-    (turns_more lane ts all t no_episode (record { timely = (refl, refl); named = tt }) x)
+    (turns_more lane ts all t no_episode (record { timely = (refl, refl); named = tt }) told x)
 
 -- a message that is refused
 pub ended_refused : (May : ℕ → Type 0) (old now : LaneEnds) (accepted size : ℕ) (draft : Option Claim) (session : Session) (moment : ℕ)
@@ -165,7 +166,7 @@ ended_refused May old now accepted size draft session moment v is other may n ts
       own = x.own;
       heard = x.heard;
       exchanged = subst P (sym same) x.exchanged;
-      turns = turns_none lane ts all t x.turns;
+      turns = turns_none lane ts all t (no_outcome lane [] t v other) x.turns;
       answered = all_more (IsAnswered lane x.heard) ts t x.answered (record { before = x.heard; since = []; whole = sym (append-nil x.heard); outcomes = no_outcome lane [] t v other });
       verdicts = all_more VerdictFits ts t x.verdicts (verdict_fits t accepted size draft x.count h.1.long is);
       moments = all_more (λ (y : Transaction). May y.disposition.moment) ts t x.moments may;
@@ -207,7 +208,7 @@ whole_same May old now next accepted size draft claim session moment told low th
       own = x.own ++ d.now.own;
       heard = x.heard ++ d.now.heard;
       exchanged = subst P same d.exchanged;
-      turns = turns_more lane ts all t d.now d.is x.turns;
+      turns = turns_more lane ts all t d.now d.is d.outcomes x.turns;
       answered = all_more (IsAnswered lane (x.heard ++ d.now.heard)) ts t (answered_later lane x.heard d.now.heard ts x.answered)
           (record { before = x.heard; since = d.now.heard; whole = refl; outcomes = d.outcomes });
       verdicts = all_more VerdictFits ts t x.verdicts (verdict_fits t accepted size draft x.count h.1.long is);
@@ -225,16 +226,26 @@ ended_whole May old now next accepted accepted' size draft claim session moment 
     let R : ℕ → Type 0 = λ m. EndsDraft (λ n ts. HasOffered May accepted old next n ts) n ts session message (record { verdict = Whole; moment = m; outcomes = told }) in
     subst Q (sym same.0) (subst R (sym same.1) (whole_same May old now next accepted size draft claim session moment told low there is may delivers n ts message h))
 
+or_false : (b : Bool) → (b || false) ≡ b
+or_false true = refl
+or_false false = refl
+
 -- a lane that was given nothing to do
-offered_none : (May : ℕ → Type 0) (ends : LaneEnds) → ends.gone ≡ false → HasOffered May 0 ends ends 0 []
-offered_none May ends sound = record {
+offered_none : (May : ℕ → Type 0) (ends : LaneEnds) → HasOffered May 0 ends (record ends { gone = any_refused ends.senders }) 0 []
+offered_none May ends = record {
   count = refl;
   came = [];
   own = [];
   heard = [];
   exchanged = record {
     lane = refl;
-    offered = subst (λ b. HaveAccepted (λ box. for_box box []) b ends.senders ends.senders) (sym sound) (accepted_nothing (λ box. for_box box []) ends.senders (λ box. refl));
+    accepted = [];
+    left = [];
+    first = refl;
+    offered = sent_nothing (λ box. for_box box []) ends.senders (λ box. refl);
+    all = λ none. refl;
+    whole = λ none. none;
+    tells = λ fresh. sym (ap (λ g. any_refused ends.senders || is_some g) fresh ∙ or_false (any_refused ends.senders));
     channel = refl;
     lanes = refl;
     took = sym (append-nil (taken ends.inbox));
@@ -248,5 +259,5 @@ offered_none May ends sound = record {
   moments = tt;
 }
 
-pub offered_start : (May : ℕ → Type 0) (old new : LaneEnds) → new ≡ old → new.gone ≡ false → HasOffered May 0 old new 0 []
-offered_start May old new same sound = subst (λ e. HasOffered May 0 e new 0 []) same (offered_none May new sound)
+pub offered_start : (May : ℕ → Type 0) (old new : LaneEnds) → new ≡ record old { gone = any_refused old.senders } → HasOffered May 0 old new 0 []
+offered_start May old new same = subst (λ e. HasOffered May 0 old e 0 []) (sym same) (offered_none May old)

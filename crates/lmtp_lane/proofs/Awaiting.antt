@@ -5,7 +5,7 @@ use Rattle.std.proofs.lemmas.List.{take_all}
 use Rattle.mail_world.specs.declared.Txn.{Txn}
 use Rattle.mail_world.specs.declared.Note.{Note}
 use Rattle.mail_world.specs.declared.Slip.{Slip}
-use Rattle.std.specs.Prelude.{slice_get, find, option_map, count_by}
+use Rattle.std.specs.Prelude.{is_some, slice_get, find, option_map, count_by}
 use Rattle.std.specs.List.{range_with_len}
 use Rattle.mail_world.specs.Slips.{names, times_named, answer, answers, Gather, gathered, place_outcome, is_same_txn, own_slip, txn_of}
 use Rattle.mail_world.proofs.GivenAway.{count-cons}
@@ -14,7 +14,7 @@ use Rattle.mail_world.specs.Session.{Session}
 use Rattle.mail_world.specs.Lists.{Transaction, copies_from}
 use Rattle.mail_post.specs.Channel.{Inbox, taken}
 use Rattle.mail_post.specs.Gathering.{HasGathered, IsAwaited}
-use Rattle.lmtp_lane.specs.LaneExchange.{LaneEnds, Sending, found_gone, KeepsRoom, IsAmong, own_slip_of, HasExchanged, IsUnderWay, Continues, Awaits, Sends, TakesOne, sent_as, copy_at}
+use Rattle.lmtp_lane.specs.LaneExchange.{LaneEnds, Sending, found_gone, is_silent, KeepsRoom, IsAmong, own_slip_of, HasExchanged, IsUnderWay, Continues, Awaits, Sends, TakesOne, sent_as, copy_at}
 use Rattle.lmtp_lane.proofs.Exchanging.{HearsSlip, sending, with_inbox, no_episode, joined_none, way_failed, way_heard, way_gone}
 
 -- a copy of a transaction is among its copies
@@ -39,9 +39,9 @@ with_copies notes lane number session moment message = notes ++ copies_from lane
 
 -- a copy that had no slip is answered by the lane; one that had is left
 answered_by : (number place mailbox : ℕ) (session : Session) (now : Sending) (gather : Gather) (taken_so : Bool)
-    → place < length session.recipients → mailbox ≡ get_or session.recipients place 0 → TakesOne (own_slip now.ends.lane number place mailbox) now.gather gather taken_so
-    → Awaits number session now (sending (found_gone now.ends) gather)
-answered_by number place mailbox session now gather true low is takes moment message notes n past old x =
+    → place < length session.recipients → mailbox ≡ get_or session.recipients place 0 → now.ends.gone ≡ true → is_silent now.ends ≡ true
+    → TakesOne (own_slip now.ends.lane number place mailbox) now.gather gather taken_so → Awaits number session now (sending now.ends gather)
+answered_by number place mailbox session now gather true low is went silent takes moment message notes n past old x =
     let lane : ℕ = now.ends.lane in
     let t : Transaction = sent_as number session moment message in
     let all : List Note = with_copies notes lane number session moment message in
@@ -53,34 +53,32 @@ answered_by number place mailbox session now gather true low is takes moment mes
     (among_right (copy_at lane t place (get_or session.recipients place 0)) notes (copies_from lane t 0 session.recipients) (subst C low_sum (among_copies lane t 0 session.recipients place low))) in
     let same : lane ≡ old.lane = x.exchanged.lane in
     let N : ℕ → Type 0 = λ l. (times_named (own_slip_of l note).txn place x.now.heard ≡ 0) × HasGathered (txn_of lane number) n (x.now.heard ++ own_slip_of l note ∷ []) gather in
-    way_failed all (txn_of lane number) n past old now x note gather among (ap (λ l. txn_of l number) (sym same)) (subst N same (takes (txn_of lane number) n x.now.heard x.gathered))
-answered_by number place mailbox session now gather false low is kept moment message notes n past old x =
-    let lane : ℕ = now.ends.lane in
-    let all : List Note = with_copies notes lane number session moment message in
-    subst (λ g. IsUnderWay all (txn_of lane number) n past old (sending (found_gone now.ends) g)) (sym kept)
-    (way_gone all (txn_of lane number) n past old now x now.ends.inbox refl refl refl)
+    way_failed all (txn_of lane number) n past old now x note gather among silent went (ap (λ l. txn_of l number) (sym same)) (subst N same (takes (txn_of lane number) n x.now.heard x.gathered))
+answered_by number place mailbox session now gather false low is went silent kept moment message notes n past old x =
+    subst (λ g. IsUnderWay (with_copies notes now.ends.lane number session moment message) (txn_of now.ends.lane number) n past old (sending now.ends g)) (sym kept) x
 
 pub answered_next : (number place mailbox : ℕ) (session : Session) (now next : Sending) (taken_so : Bool)
-    → place < length session.recipients → mailbox ≡ get_or session.recipients place 0 → next.ends ≡ found_gone now.ends
+    → place < length session.recipients → mailbox ≡ get_or session.recipients place 0 → (now.ends.gone ≡ true) × (is_silent now.ends ≡ true) → next.ends ≡ now.ends
     → TakesOne (own_slip now.ends.lane number place mailbox) now.gather next.gather taken_so → Awaits number session now next
-answered_next number place mailbox session now next taken_so low is went takes =
-    subst (λ e. Awaits number session now (sending e next.gather)) (sym went) (answered_by number place mailbox session now next.gather taken_so low is takes)
+answered_next number place mailbox session now next taken_so low is went same takes =
+    subst (λ e. Awaits number session now (sending e next.gather)) (sym same) (answered_by number place mailbox session now next.gather taken_so low is went.0 went.1 takes)
 
 -- a slip came
 pub heard_next : (number : ℕ) (session : Session) (now : Sending) (inbox : Inbox Slip) (gather : Gather) (slip : Slip)
-    → (inbox.channel ≡ now.ends.inbox.channel) × (inbox.lanes ≡ now.ends.inbox.lanes) → taken inbox ≡ taken now.ends.inbox ++ slip ∷ [] → HearsSlip slip now.gather gather
+    → (inbox.channel ≡ now.ends.inbox.channel) × (inbox.lanes ≡ now.ends.inbox.lanes) → taken inbox ≡ taken now.ends.inbox ++ slip ∷ []
+    → inbox.gone ≡ now.ends.inbox.gone → HearsSlip slip now.gather gather
     → Awaits number session now (sending (with_inbox now.ends inbox) gather)
-heard_next number session now inbox gather slip same took hears moment message notes n past old x =
+heard_next number session now inbox gather slip same took still hears moment message notes n past old x =
     way_heard (with_copies notes now.ends.lane number session moment message) (txn_of now.ends.lane number) n past old now x
-    slip inbox gather same.0 same.1 took (hears (txn_of now.ends.lane number) n x.now.heard x.gathered)
+    slip inbox gather same.0 same.1 took still (hears (txn_of now.ends.lane number) n x.now.heard x.gathered)
 
 -- the channel of slips is gone, and then the lane answered itself
 pub nothing_then : (number : ℕ) (session : Session) (now next : Sending) (inbox : Inbox Slip)
-    → (inbox.channel ≡ now.ends.inbox.channel) × (inbox.lanes ≡ now.ends.inbox.lanes) → taken inbox ≡ taken now.ends.inbox
+    → (inbox.channel ≡ now.ends.inbox.channel) × (inbox.lanes ≡ now.ends.inbox.lanes) → taken inbox ≡ taken now.ends.inbox → is_some inbox.gone ≡ true
     → Awaits number session (sending (found_gone (with_inbox now.ends inbox)) now.gather) next → Awaits number session now next
-nothing_then number session now next inbox same took after moment message notes n past old x =
+nothing_then number session now next inbox same took silent after moment message notes n past old x =
     after moment message notes n past old
-    (way_gone (with_copies notes now.ends.lane number session moment message) (txn_of now.ends.lane number) n past old now x inbox same.0 same.1 took)
+    (way_gone (with_copies notes now.ends.lane number session moment message) (txn_of now.ends.lane number) n past old now x inbox same.0 same.1 took silent)
 
 -- one after the other
 pub awaits_then : (number : ℕ) (session : Session) (a b c : Sending) → b.ends.lane ≡ a.ends.lane → Awaits number session a b → Awaits number session b c → Awaits number session a c

@@ -21,12 +21,13 @@ pub record IsAnswered (lane : ℕ) (heard : List Slip) (t : Transaction) : Type 
   pub whole : heard ≡ before ++ since
   pub outcomes : OutcomesIn lane since t t.disposition.verdict
 
--- an episode for each transaction, one after the other
+-- an episode for each transaction, one after the other; the outcomes of a whole message are those of the slips of its own
 abbrev pub AreEpisodes : ℕ → List Transaction → List Episode → Type 0
 AreEpisodes lane [] [] = ⊤
 AreEpisodes lane [] (e ∷ es) = ⊥
 AreEpisodes lane (t ∷ ts) [] = ⊥
-AreEpisodes lane (t ∷ ts) (e ∷ es) = IsEpisode (txn_of lane t.number) e × AreEpisodes lane ts es
+AreEpisodes lane (t ∷ ts) (e ∷ es) =
+    IsEpisode (txn_of lane t.number) e × OutcomesIn lane e.heard t t.disposition.verdict × AreEpisodes lane ts es
 
 -- All was heard transaction by transaction. So a lane's own slips of a transaction name each place once, and none that its
 -- channel had given a slip for.

@@ -1,5 +1,5 @@
 -- What a lane gave to the mailboxes' channels, and what it heard of the copies.
-use Rattle.std.specs.Prelude.{◌≡◌, ◌⊎◌, ℕ, ◌==◌, Bool, true, false, List, [], ◌∷◌, ◌++◌, filter, length, Result, Ok, Err}
+use Rattle.std.specs.Prelude.{◌≡◌, ◌⊎◌, ℕ, ◌==◌, Bool, true, false, ◌||◌, List, [], ◌∷◌, ◌++◌, filter, length, None, is_some, Result, Ok, Err}
 use Rattle.std.specs.List.{AllByRecursion}
 use Rattle.mail_world.specs.declared.Txn.{Txn}
 use Rattle.mail_world.specs.declared.Note.{Note}
@@ -10,7 +10,7 @@ use Rattle.mail_world.specs.Lists.{Transaction, copies_from}
 use Rattle.mail_world.specs.Slips.{times_named, Gather, own_slip, txn_of, IsMerged}
 use Rattle.mail_post.specs.Channel.{Sender, Inbox, taken}
 use Rattle.mail_post.specs.Gathering.{HasGathered}
-use Rattle.mail_post.specs.Offered.{HaveAccepted}
+use Rattle.mail_post.specs.Offered.{any_refused, HaveSent}
 use Rattle.lmtp_lane.specs.declared.exchange.Exchange.{Exchange}
 
 -- a lane's ends of the channels
@@ -34,6 +34,14 @@ sending_of x = record { ends = ends_of x; gather = x.gather.gather }
 -- the ends with a channel found gone
 abbrev pub found_gone : LaneEnds → LaneEnds
 found_gone ends = record { lane = ends.lane; senders = ends.senders; inbox = ends.inbox; gone = true }
+
+-- nothing more comes on the channel of slips
+abbrev pub is_silent : LaneEnds → Bool
+is_silent ends = is_some ends.inbox.gone
+
+-- a channel is gone: a mailbox's handed a copy back, or the channel of slips is silent
+abbrev pub is_gone : LaneEnds → Bool
+is_gone ends = any_refused ends.senders || is_silent ends
 
 -- as many senders, and as many places for outcomes
 pub record KeepsRoom (old new : Sending) : Type 0 where
@@ -75,10 +83,10 @@ for_box box notes = filter (λ note. note.mailbox == box) notes
 abbrev pub own_slip_of : ℕ → Note → Slip
 own_slip_of lane note = own_slip lane note.txn.number note.place note.mailbox
 
--- a slip that a lane made itself, of one of these copies
-pub record IsOwnSlip (lane : ℕ) (notes : List Note) (slip : Slip) : Type 0 where
+-- a slip that a lane made itself: of one of the copies that are left, or, once the channel of slips is silent, of any copy
+pub record IsOwnSlip (lane : ℕ) (notes left : List Note) (silent : Bool) (slip : Slip) : Type 0 where
   pub note : Note
-  pub owed : IsAmong note notes
+  pub owed : IsAmong note left ⊎ (IsAmong note notes × (silent ≡ true))
   pub made : slip ≡ own_slip_of lane note
 
 -- whether a channel took what was offered
@@ -96,16 +104,23 @@ pub record Episode : Type 0 where
 abbrev pub joined : Episode → Episode → Episode
 joined a b = record { came = a.came ++ b.came; own = a.own ++ b.own; heard = a.heard ++ b.heard }
 
--- What a lane that owed these copies gave to the channels, and what it heard: slips that its channel gave, in their order, and
--- between them its own, of which there is none unless a channel was found gone.
+-- What a lane that owed these copies gave to the channels: the first so many, and once a channel handed one back no more. And
+-- what it heard: slips that its channel gave, in their order, and between them its own, each of a copy that was left, or of one
+-- whose slip can't come any more. It says that a channel is gone just where one is, if the channel of slips wasn't at first.
 pub record HasExchanged (notes : List Note) (e : Episode) (old new : LaneEnds) : Type 0 where
   pub lane : new.lane ≡ old.lane
-  pub offered : HaveAccepted (λ box. for_box box notes) new.gone old.senders new.senders
+  pub accepted : List Note
+  pub left : List Note
+  pub first : notes ≡ accepted ++ left
+  pub offered : HaveSent (λ box. for_box box accepted) old.senders new.senders
+  pub all : any_refused new.senders ≡ false → left ≡ []
+  pub whole : new.gone ≡ false → any_refused new.senders ≡ false
+  pub tells : old.inbox.gone ≡ None → new.gone ≡ is_gone new
   pub channel : new.inbox.channel ≡ old.inbox.channel
   pub lanes : new.inbox.lanes ≡ old.inbox.lanes
   pub took : taken new.inbox ≡ taken old.inbox ++ e.came
   pub merged : IsMerged e.came e.own e.heard
-  pub made : AllByRecursion (IsOwnSlip old.lane notes) e.own
+  pub made : AllByRecursion (IsOwnSlip old.lane notes left (is_silent new)) e.own
   pub sound : new.gone ≡ false → e.own ≡ []
 
 -- What was heard is merged of what came and of a lane's own slips, and one of its own stands only where none of these before

@@ -1,8 +1,8 @@
 //! A lane's ends of the channels: copies go out to the mailboxes, and slips come back.
 
-ghost use Rattle.std.specs.Prelude.{◌≤◌};
+ghost use Rattle.std.specs.Prelude.{◌≡◌, ◌≤◌, true};
 ghost use Rattle.mail_world.specs.declared.limits.TheConstants.{RECIPIENT_LIMIT};
-ghost use Rattle.mail_post.specs.Offered.{HaveNumber};
+ghost use Rattle.mail_post.specs.Offered.{HaveNumber, any_refused};
 
 use mail_post::{Gather, Sender, SlipReceiver};
 use mail_world::limits::RECIPIENT_LIMIT;
@@ -28,10 +28,12 @@ pub struct Exchange<N: DepotName> {
     pub senders: Vec<Sender<N>>,
     pub slips: SlipReceiver,
     pub gather: Gather,
-    /// A copy was handed back, so no more are offered.
+    /// A mailbox's channel handed a copy back, so no more are offered.
     pub refused: bool,
     /// A channel was found gone.
     pub gone: bool,
     ghost of_lane: { HaveNumber lane senders.items },
     ghost room: { RECIPIENT_LIMIT ≤ gather.limit },
+    ghost handed_back: { refused ≡ any_refused senders.items },
+    ghost tells: { refused ≡ true → gone ≡ true },
 }

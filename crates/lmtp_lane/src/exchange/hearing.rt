@@ -2,7 +2,7 @@
 
 ghost use Rattle.std.specs.Prelude.{◌≡◌, true};
 ghost use Rattle.mail_post.specs.Gathering.{IsDone};
-ghost use Rattle.lmtp_lane.specs.LaneExchange.{ends_of, sending_of, found_gone, KeepsRoom, Awaits, TakesOne};
+ghost use Rattle.lmtp_lane.specs.LaneExchange.{ends_of, sending_of, is_silent, KeepsRoom, Awaits, TakesOne};
 
 use super::Exchange;
 use lmtp_session::Session;
@@ -11,14 +11,12 @@ use msg_depot::DepotName;
 use std::sync::Wait;
 
 impl<N: DepotName> Exchange<N> {
-    /// The lane's own slip of a copy, where a channel is gone. A place that has its slip keeps it, and the answer is
-    /// false.
+    /// The lane's own slip of a copy. A place that has its slip keeps it, and the answer is false.
     pub fn answer_failed(&mut self, slip: Slip) -> bool
-        ensures gone { ends_of self.new ≡ found_gone (ends_of self.old) }
+        ensures same { ends_of self.new ≡ ends_of self.old }
         ensures room { KeepsRoom (sending_of self.old) (sending_of self.new) }
         ensures takes { TakesOne slip self.old.gather.gather self.new.gather.gather result }
     {
-        self.gone = true;
         match self.gather.put(slip) {
             Ok(()) => true,
             Err(_) => false,
@@ -46,7 +44,7 @@ impl<N: DepotName> Exchange<N> {
 
     // The copy at that place is answered Failed, unless it has its slip.
     fn answer_next(&mut self, session: &Session, number: u32, place: u32) -> u32
-        requires gone { self.old.gone ≡ true }
+        requires gone { (self.old.gone ≡ true) × (is_silent (ends_of self.old) ≡ true) }
         ensures room { KeepsRoom (sending_of self.old) (sending_of self.new) }
         ensures way { Awaits number session.now.session (sending_of self.old) (sending_of self.new) }
     {

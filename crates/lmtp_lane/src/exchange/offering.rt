@@ -46,6 +46,7 @@ impl<N: DepotName> Exchange<N> {
             Ok(()) => {}
             Err(back) => {
                 self.refused = true;
+                self.gone = true;
                 let_go(rt, depot, back);
                 self.answer_failed(failed);
             }

@@ -1,10 +1,10 @@
 //! A message from its first offer to its last answer.
 
-ghost use Rattle.std.specs.Prelude.{◌≡◌, ◌≤◌, ◌<◌, length, false};
+ghost use Rattle.std.specs.Prelude.{◌≡◌, ◌≤◌, ◌<◌, length};
 ghost use Rattle.mail_world.specs.declared.limits.TheConstants.{RECIPIENT_LIMIT};
 ghost use Rattle.mail_world.specs.Slips.{own_slip, txn_of};
 ghost use Rattle.mail_post.specs.Gathering.{IsDone};
-ghost use Rattle.mail_post.specs.Offered.{HaveNumber};
+ghost use Rattle.mail_post.specs.Offered.{HaveNumber, any_refused};
 ghost use Rattle.lmtp_lane.specs.LaneExchange.{ends_of, sending_of, sent_as, Sends};
 
 use super::{Exchange, Postmark};
@@ -26,17 +26,23 @@ impl<N: DepotName> Exchange<N> {
     ) -> Exchange<N>
         requires lane { HaveNumber lane senders.items }
         requires room { RECIPIENT_LIMIT ≤ gather.limit }
-        ensures ends { ends_of result ≡ record { lane = lane; senders = senders.items; inbox = slips; gone = false } }
+        ensures ends { ends_of result ≡ record {
+          lane = lane;
+          senders = senders.items;
+          inbox = slips;
+          gone = any_refused senders.items;
+        } }
         ensures gather { result.gather ≡ gather }
     {
+        let refused = one_refused(&senders);
         Exchange {
             alloc,
             lane,
             senders,
             slips,
             gather,
-            refused: false,
-            gone: false,
+            refused,
+            gone: refused,
         }
     }
 
@@ -86,4 +92,11 @@ impl<N: DepotName> Exchange<N> {
         self.offer_all(rt, depot, session, mark, hold);
         self.collect(rt, session, mark.number);
     }
+}
+
+// Whether one of the senders had a copy handed back.
+fn one_refused<N: DepotName>(senders: &[Sender<N>]) -> bool
+    ensures { result ≡ any_refused senders.now }
+{
+    senders.iter().any(|sender| sender.is_refused())
 }

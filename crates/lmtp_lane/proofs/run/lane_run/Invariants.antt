@@ -1,5 +1,9 @@
-use Rattle.lmtp_lane.specs.LaneExchange.{ends_of}
+use Rattle.std.proofs.Common.{false}
 use Rattle.lmtp_lane.proofs.run.lane_run.Given as goal
 
 abbrev pub ghosts-lane_at : goal.ghosts-lane_at
-ghosts-lane_at g a = record { site = a.dialogue.session.site; May = g.C.Clock.May a.clock.now; ends = ends_of a.exchange }
+ghosts-lane_at g a = record {
+  site = a.dialogue.session.site;
+  May = g.C.Clock.May a.clock.now;
+  ends = record { lane = a.exchange.lane; senders = a.exchange.senders.items; inbox = a.exchange.slips; gone = false };
+}

@@ -11,4 +11,4 @@ returns-then-place-recipient_count-clause-way g c =
     let T : Slip → Type 0 = λ s. TakesOne s self.gather.gather new.gather.gather c.answer_failed.result in
     answered_next c.args.number c.args.place c.recipient.result c.args.session.now.session (sending_of self) (sending_of new) c.answer_failed.result
     (omega (arith, c.if-place-recipient_count.true, c.recipient_count.ensures.count)) c.recipient.ensures.mailbox
-    c.answer_failed.ensures.gone (subst T c.failed-slip.ensures c.answer_failed.ensures.takes)
+    c.requires.gone c.answer_failed.ensures.same (subst T c.failed-slip.ensures c.answer_failed.ensures.takes)
