@@ -16,7 +16,7 @@ use crate::exchange::Exchange;
 use crate::report::LaneReport;
 use crate::setting::LaneStart;
 use crate::visits::Visits;
-use lmtp_talk::{Delivery, Dialogue, serve};
+use lmtp_talk::{Dialogue, serve};
 use lmtp_text::Site;
 use mail_post::{Sender, SlipReceiver};
 use msg_depot::{Depot, DepotName};
@@ -136,21 +136,25 @@ fn serve_all<'a, N: DepotName, V: Visits, C: Clock, R: Wait, S: LaneStart>(
     unreachable!()
 }
 
-// Serves a client, and hands it back.
-fn converse<V: Visits, D: Delivery>(
+// Serves a client while no channel is gone, and hands it back.
+fn converse<'a, N: DepotName, V: Visits, C: Clock, R: Wait, S: LaneStart>(
     dialogue: &mut Dialogue,
     visits: &mut V,
-    delivery: &mut D,
+    delivery: &mut LaneDelivery<'a, N, C, R, S>,
     peer: V::P,
 )
-    requires here { D.site delivery.old ≡ dialogue.old.session.site }
+    requires here { S.site ≡ dialogue.old.session.site }
+    requires sound { delivery.old.exchange.gone ≡ false }
     requires out { V.out visits.old ≡ true }
     ensures converses { HasConversed dialogue.old.session.site (V.P.state peer) (V.finished visits.old)
-        (V.finished visits.new) (D.HasCome delivery.old) (D.HasCome delivery.new) }
+        (V.finished visits.new)
+        (λ n ts. HasOffered S.May delivery.old.accepted S.ends (ends_of delivery.old.exchange) n ts
+        × AgreesWith (C.May delivery.old.clock.now) S.May)
+        (λ n ts. HasOffered S.May delivery.new.accepted S.ends (ends_of delivery.new.exchange) n ts
+        × AgreesWith (C.May delivery.new.clock.now) S.May) }
     ensures others { (peer : PeerState) → V.MayGive visits.new peer → V.MayGive visits.old peer }
     ensures back { V.out visits.new ≡ false }
     ensures site { dialogue.new.session.site ≡ dialogue.old.session.site }
-    ensures same { D.site delivery.new ≡ D.site delivery.old }
 {
     let mut peer = peer;
     let end = serve(dialogue, &mut peer, delivery);
