@@ -1,6 +1,6 @@
 -- What a lane's account says once another DATA command came, or another data ended.
 use Rattle.std.proofs.Common.{◌≡◌, ℕ, zero, suc, cond, ◌+◌, ◌<◌, ◌≤◌, List, [], ◌∷◌, ◌++◌, length, map, Bool, true, false, Option, Some, None, refl, ap, sym, ◌∙◌, subst, append_assoc, append-nil, arith}
-use Rattle.std.specs.Prelude.{nat_lt, if◌then◌else◌, flat_map, find, option_map}
+use Rattle.std.specs.Prelude.{is_some, ◌||◌, nat_lt, if◌then◌else◌, flat_map, find, option_map}
 use Rattle.std.specs.List.{AllByRecursion, range_with_len}
 use Rattle.std.specs.Option.{IfSome}
 use Rattle.std.proofs.lemmas.Grind.{flat_map-append}
@@ -17,12 +17,14 @@ use Rattle.mail_world.specs.Session.{Session}
 use Rattle.mail_world.specs.Lists.{Transaction, VerdictFits, OutcomesIn, copies, copies_if, copies_from}
 use Rattle.mail_world.proofs.Heard.{all_more}
 use Rattle.msg_depot.specs.declared.view.Claim.{Claim}
-use Rattle.mail_post.specs.Channel.{Sender, Inbox, taken}
-use Rattle.mail_post.proofs.Offered.{accepted_nothing}
-use Rattle.lmtp_lane.specs.LaneExchange.{for_box, HasExchanged, Episode, IsEpisode, sent_as}
+use Rattle.mail_post.specs.Channel.{taken}
+use Rattle.mail_post.specs.Offered.{any_refused}
+use Rattle.mail_post.proofs.Offered.{sent_nothing}
+use Rattle.lmtp_lane.specs.LaneExchange.{LaneEnds, for_box, HasExchanged, Episode, joined, IsEpisode, sent_as}
 use Rattle.mail_world.specs.Counts.{counted}
+use Rattle.lmtp_lane.proofs.Exchanging.{no_episode, joined_none}
 use Rattle.lmtp_lane.specs.LaneAccount.{IsAnswered, AreEpisodes, IsHeardInTurn, HasOffered, HoldsDraft, verdict_with, verdict_on, Delivers}
-use Rattle.lmtp_talk.specs.Delivery.{ended_so, EndsDraft}
+use Rattle.lmtp_talk.specs.Delivery.{EndsDraft}
 
 -- a slip that was found is found where more are heard
 front_by : (p : Slip → Bool) (x : Slip) (xs more : List Slip) (o : Outcome) (t : Bool)
@@ -119,53 +121,52 @@ copies-snoc lane ts t = flat_map-append (copies lane) ts (t ∷ []) ∙ ap (λ l
 
 -- one transaction more, with its episode
 episodes_more : (lane : ℕ) (ts : List Transaction) (es : List Episode) (t : Transaction) (e : Episode) → AreEpisodes lane ts es → IsEpisode (txn_of lane t.number) e
-    → AreEpisodes lane (ts ++ t ∷ []) (es ++ e ∷ [])
-episodes_more lane [] [] t e h is = (is, tt)
-episodes_more lane [] (f ∷ es) t e h is = absurd h
-episodes_more lane (u ∷ ts) [] t e h is = absurd h
-episodes_more lane (u ∷ ts) (f ∷ es) t e h is = (h.0, episodes_more lane ts es t e h.1 is)
+    → OutcomesIn lane e.heard t t.disposition.verdict → AreEpisodes lane (ts ++ t ∷ []) (es ++ e ∷ [])
+episodes_more lane [] [] t e h is told = (is, told, tt)
+episodes_more lane [] (f ∷ es) t e h is told = absurd h
+episodes_more lane (u ∷ ts) [] t e h is told = absurd h
+episodes_more lane (u ∷ ts) (f ∷ es) t e h is told = (h.0, h.1, episodes_more lane ts es t e h.2 is told)
 
 slips-snoc : (f : Episode → List Slip) (es : List Episode) (e : Episode) → flat_map f (es ++ e ∷ []) ≡ flat_map f es ++ f e
 slips-snoc f es e = flat_map-append f es (e ∷ []) ∙ ap (λ l. flat_map f es ++ l) (append-nil (f e))
 
-turns_more : (lane : ℕ) (i j j' : Inbox Slip) (own heard : List Slip) (ts : List Transaction) (t : Transaction) (e : Episode) → IsEpisode (txn_of lane t.number) e
-    → (x : IsHeardInTurn lane i j own heard ts) → taken j' ≡ taken i ++ (flat_map (λ (e : Episode). e.came) x.episodes ++ e.came)
-    → IsHeardInTurn lane i j' (own ++ e.own) (heard ++ e.heard) (ts ++ t ∷ [])
-turns_more lane i j j' own heard ts t e is x took = record {
+turns_more : (lane : ℕ) (ts : List Transaction) (all : Episode) (t : Transaction) (e : Episode) → IsEpisode (txn_of lane t.number) e
+    → OutcomesIn lane e.heard t t.disposition.verdict → IsHeardInTurn lane ts all → IsHeardInTurn lane (ts ++ t ∷ []) (joined all e)
+turns_more lane ts all t e is told x = record {
   episodes = x.episodes ++ e ∷ [];
-  each = episodes_more lane ts x.episodes t e x.each is;
-  took = took ∙ ap (λ l. taken i ++ l) (sym (slips-snoc (λ (e : Episode). e.came) x.episodes e));
+  each = episodes_more lane ts x.episodes t e x.each is told;
+  came_is = ap (λ l. l ++ e.came) x.came_is ∙ sym (slips-snoc (λ (e : Episode). e.came) x.episodes e);
   own_is = ap (λ l. l ++ e.own) x.own_is ∙ sym (slips-snoc (λ (e : Episode). e.own) x.episodes e);
   heard_is = ap (λ l. l ++ e.heard) x.heard_is ∙ sym (slips-snoc (λ (e : Episode). e.heard) x.episodes e);
 }
 
 -- one more of which nothing was heard
-turns_none : (lane : ℕ) (i j : Inbox Slip) (own heard : List Slip) (ts : List Transaction) (t : Transaction) → IsHeardInTurn lane i j own heard ts → IsHeardInTurn lane i j own heard (ts ++ t ∷ [])
-turns_none lane i j own heard ts t x =
-    let e : Episode = record { came = []; own = []; heard = [] } in
-    let O : List Slip → Type 0 = λ l. IsHeardInTurn lane i j l heard (ts ++ t ∷ []) in
-    let H : List Slip → Type 0 = λ l. IsHeardInTurn lane i j (own ++ []) l (ts ++ t ∷ []) in
-    subst O (append-nil own) (subst H (append-nil heard)
-    (turns_more lane i j j own heard ts t e (record { timely = (refl, refl); named = tt }) x
-    (x.took ∙ ap (λ l. taken i ++ l) (sym (append-nil (flat_map (λ (e : Episode). e.came) x.episodes))))))
+turns_none : (lane : ℕ) (ts : List Transaction) (all : Episode) (t : Transaction) → OutcomesIn lane [] t t.disposition.verdict → IsHeardInTurn lane ts all
+    → IsHeardInTurn lane (ts ++ t ∷ []) all
+turns_none lane ts all t told x =
+    subst (λ e. IsHeardInTurn lane (ts ++ t ∷ []) e) (joined_none all)
+    (turns_more lane ts all t no_episode (record { timely = (refl, refl); named = tt }) told x)
 
 -- a message that is refused
-pub ended_refused : (lane : ℕ) (May : ℕ → Type 0) (a b : List (Sender Note)) (i j : Inbox Slip) (gone : Bool) (accepted size : ℕ) (draft : Option Claim) (session : Session) (moment : ℕ)
-    (told : List Outcome) (v : Verdict) → v ≡ verdict_on accepted size draft → (v ≡ Whole → ⊥) → May moment
-    → (n : ℕ) (ts : List Transaction) (message : List ℕ) → HasOffered lane May a b i j gone accepted n ts × HoldsDraft draft size message
-    → EndsDraft (λ n ts. HasOffered lane May a b i j gone accepted n ts) n ts session message (ended_so v moment told)
-ended_refused lane May a b i j gone accepted size draft session moment told v is other may n ts message h =
+pub ended_refused : (May : ℕ → Type 0) (old now : LaneEnds) (accepted size : ℕ) (draft : Option Claim) (session : Session) (moment : ℕ)
+    (v : Verdict) → v ≡ verdict_on accepted size draft → (v ≡ Whole → ⊥) → May moment
+    → (n : ℕ) (ts : List Transaction) (message : List ℕ) → HasOffered May accepted old now n ts × HoldsDraft draft size message
+    → EndsDraft (λ n ts. HasOffered May accepted old now n ts) n ts session message (record { verdict = v; moment = moment; outcomes = [] })
+ended_refused May old now accepted size draft session moment v is other may n ts message h =
     let x = h.0 in
-    let t : Transaction = record { number = n; session = session; message = message; disposition = record { verdict = v; moment = moment; outcomes = told } } in
+    let lane : ℕ = old.lane in
+    let all : Episode = record { came = x.came; own = x.own; heard = x.heard } in
+    let t : Transaction = record { number = n; session = session; message = message; disposition = record { verdict = v; moment = moment; outcomes = [] } } in
     let same : flat_map (copies lane) (ts ++ t ∷ []) ≡ flat_map (copies lane) ts =
     copies-snoc lane ts t ∙ ap (λ l. flat_map (copies lane) ts ++ l) (no_copy lane t v other) ∙ append-nil (flat_map (copies lane) ts) in
-    let P : List Note → Type 0 = λ l. HasExchanged lane l a b i j x.own x.heard gone in
+    let P : List Note → Type 0 = λ l. HasExchanged l all old now in
     record {
       count = x.count;
+      came = x.came;
       own = x.own;
       heard = x.heard;
       exchanged = subst P (sym same) x.exchanged;
-      turns = turns_none lane i j x.own x.heard ts t x.turns;
+      turns = turns_none lane ts all t (no_outcome lane [] t v other) x.turns;
       answered = all_more (IsAnswered lane x.heard) ts t x.answered (record { before = x.heard; since = []; whole = sym (append-nil x.heard); outcomes = no_outcome lane [] t v other });
       verdicts = all_more VerdictFits ts t x.verdicts (verdict_fits t accepted size draft x.count h.1.long is);
       moments = all_more (λ (y : Transaction). May y.disposition.moment) ts t x.moments may;
@@ -183,73 +184,80 @@ copies_told lane n session moment message told place (r ∷ rs) =
 bytes_are : (draft : Option Claim) (claim : Claim) (message : List ℕ) → draft ≡ Some claim → IfSome draft (λ (x : Claim). x.bytes ≡ message) → claim.bytes ≡ message
 bytes_are draft claim message e h = let P : Option Claim → Type 0 = λ d. IfSome d (λ (x : Claim). x.bytes ≡ message) in subst P e h
 
--- a message that went to its recipients, where nothing else has changed
-whole_same : (lane : ℕ) (May : ℕ → Type 0) (a b b' : List (Sender Note)) (i j j' : Inbox Slip) (gone gone' : Bool) (accepted size : ℕ) (draft : Option Claim) (claim : Claim) (session : Session)
+-- a message that went to its recipients
+whole_same : (May : ℕ → Type 0) (old now next : LaneEnds) (accepted size : ℕ) (draft : Option Claim) (claim : Claim) (session : Session)
     (moment : ℕ) (told : List Outcome) → accepted ≤ NUMBER_LIMIT → draft ≡ Some claim → Whole ≡ verdict_on accepted size draft → May moment
-    → Delivers lane accepted session moment claim.bytes told b b' j j' gone gone'
-    → (n : ℕ) (ts : List Transaction) (message : List ℕ) → HasOffered lane May a b i j gone accepted n ts × HoldsDraft draft size message
-    → EndsDraft (λ n ts. HasOffered lane May a b' i j' gone' accepted n ts) n ts session message (ended_so Whole moment told)
-whole_same lane May a b b' i j j' gone gone' accepted size draft claim session moment told low there is may delivers n ts message h =
+    → Delivers (sent_as accepted session moment claim.bytes) told now next
+    → (n : ℕ) (ts : List Transaction) (message : List ℕ) → HasOffered May accepted old now n ts × HoldsDraft draft size message
+    → EndsDraft (λ n ts. HasOffered May accepted old next n ts) n ts session message (record { verdict = Whole; moment = moment; outcomes = told })
+whole_same May old now next accepted size draft claim session moment told low there is may delivers n ts message h =
     let x = h.0 in
+    let lane : ℕ = old.lane in
+    let all : Episode = record { came = x.came; own = x.own; heard = x.heard } in
     let t : Transaction = record { number = n; session = session; message = message; disposition = record { verdict = Whole; moment = moment; outcomes = told } } in
     let number : accepted ≡ n = omega (arith, x.count, low) in
     let bytes : claim.bytes ≡ message = bytes_are draft claim message there h.1.bytes in
-    let D : ℕ → List ℕ → Type 0 = λ k m. Delivers lane k session moment m told b b' j j' gone gone' in
-    let past : Episode = record { came = flat_map (λ (e : Episode). e.came) x.turns.episodes; own = x.own; heard = x.heard } in
-    let d = subst (λ m. D n m) bytes (subst (λ k. D k claim.bytes) number delivers) (flat_map (copies lane) ts) past a i x.exchanged x.turns.took in
+    let D : ℕ → List ℕ → Type 0 = λ k m. Delivers (sent_as k session moment m) told now next in
+    let d = subst (λ m. D n m) bytes (subst (λ k. D k claim.bytes) number delivers) (flat_map (copies lane) ts) all old x.exchanged in
     let same : flat_map (copies lane) ts ++ copies_from lane (sent_as n session moment message) 0 session.recipients ≡ flat_map (copies lane) (ts ++ t ∷ []) =
     ap (λ l. flat_map (copies lane) ts ++ l) (copies_told lane n session moment message told 0 session.recipients) ∙ sym (copies-snoc lane ts t) in
-    let P : List Note → Type 0 = λ l. HasExchanged lane l a b' i j' (x.own ++ d.now.own) (x.heard ++ d.now.heard) gone' in
+    let P : List Note → Type 0 = λ l. HasExchanged l (joined all d.now) old next in
     record {
       count = x.count;
+      came = x.came ++ d.now.came;
       own = x.own ++ d.now.own;
       heard = x.heard ++ d.now.heard;
       exchanged = subst P same d.exchanged;
-      turns = turns_more lane i j j' x.own x.heard ts t d.now d.is x.turns d.took;
+      turns = turns_more lane ts all t d.now d.is d.outcomes x.turns;
       answered = all_more (IsAnswered lane (x.heard ++ d.now.heard)) ts t (answered_later lane x.heard d.now.heard ts x.answered)
           (record { before = x.heard; since = d.now.heard; whole = refl; outcomes = d.outcomes });
       verdicts = all_more VerdictFits ts t x.verdicts (verdict_fits t accepted size draft x.count h.1.long is);
       moments = all_more (λ (y : Transaction). May y.disposition.moment) ts t x.moments may;
     }
 
-pub ended_whole : (lane at : ℕ) (May : ℕ → Type 0) (a b b' : List (Sender Note)) (i j j' : Inbox Slip) (gone gone' : Bool) (accepted accepted' size : ℕ) (draft : Option Claim) (claim : Claim)
-    (session : Session) (moment moment' : ℕ) (told : List Outcome) → at ≡ lane → (accepted' ≡ accepted) × (moment' ≡ moment)
+pub ended_whole : (May : ℕ → Type 0) (old now next : LaneEnds) (accepted accepted' size : ℕ) (draft : Option Claim) (claim : Claim)
+    (session : Session) (moment moment' : ℕ) (told : List Outcome) → (accepted' ≡ accepted) × (moment' ≡ moment)
     → accepted ≤ NUMBER_LIMIT → draft ≡ Some claim → Whole ≡ verdict_on accepted size draft → May moment
-    → Delivers at accepted session moment claim.bytes told b b' j j' gone gone'
-    → (n : ℕ) (ts : List Transaction) (message : List ℕ) → HasOffered lane May a b i j gone accepted n ts × HoldsDraft draft size message
-    → EndsDraft (λ n ts. HasOffered lane May a b' i j' gone' accepted' n ts) n ts session message (ended_so Whole moment' told)
-ended_whole lane at May a b b' i j j' gone gone' accepted accepted' size draft claim session moment moment' told here same low there is may delivers n ts message h =
-    let D : ℕ → Type 0 = λ l. Delivers l accepted session moment claim.bytes told b b' j j' gone gone' in
-    let Q : ℕ → Type 0 = λ k. EndsDraft (λ n ts. HasOffered lane May a b' i j' gone' k n ts) n ts session message (ended_so Whole moment' told) in
-    let R : ℕ → Type 0 = λ m. EndsDraft (λ n ts. HasOffered lane May a b' i j' gone' accepted n ts) n ts session message (ended_so Whole m told) in
-    subst Q (sym same.0) (subst R (sym same.1)
-    (whole_same lane May a b b' i j j' gone gone' accepted size draft claim session moment told low there is may (subst D here delivers) n ts message h))
+    → Delivers (sent_as accepted session moment claim.bytes) told now next
+    → (n : ℕ) (ts : List Transaction) (message : List ℕ) → HasOffered May accepted old now n ts × HoldsDraft draft size message
+    → EndsDraft (λ n ts. HasOffered May accepted' old next n ts) n ts session message (record { verdict = Whole; moment = moment'; outcomes = told })
+ended_whole May old now next accepted accepted' size draft claim session moment moment' told same low there is may delivers n ts message h =
+    let Q : ℕ → Type 0 = λ k. EndsDraft (λ n ts. HasOffered May k old next n ts) n ts session message (record { verdict = Whole; moment = moment'; outcomes = told }) in
+    let R : ℕ → Type 0 = λ m. EndsDraft (λ n ts. HasOffered May accepted old next n ts) n ts session message (record { verdict = Whole; moment = m; outcomes = told }) in
+    subst Q (sym same.0) (subst R (sym same.1) (whole_same May old now next accepted size draft claim session moment told low there is may delivers n ts message h))
+
+or_false : (b : Bool) → (b || false) ≡ b
+or_false true = refl
+or_false false = refl
 
 -- a lane that was given nothing to do
-offered_none : (lane : ℕ) (May : ℕ → Type 0) (senders : List (Sender Note)) (inbox : Inbox Slip) → HasOffered lane May senders senders inbox inbox false 0 0 []
-offered_none lane May senders inbox = record {
+offered_none : (May : ℕ → Type 0) (ends : LaneEnds) → HasOffered May 0 ends (record ends { gone = any_refused ends.senders }) 0 []
+offered_none May ends = record {
   count = refl;
+  came = [];
   own = [];
   heard = [];
   exchanged = record {
-    offered = accepted_nothing (λ box. for_box box []) senders (λ box. refl);
+    lane = refl;
+    accepted = [];
+    left = [];
+    first = refl;
+    offered = sent_nothing (λ box. for_box box []) ends.senders (λ box. refl);
+    all = λ none. refl;
+    whole = λ none. none;
+    tells = λ fresh. sym (ap (λ g. any_refused ends.senders || is_some g) fresh ∙ or_false (any_refused ends.senders));
     channel = refl;
     lanes = refl;
-    came = [];
-    took = sym (append-nil (taken inbox));
+    took = sym (append-nil (taken ends.inbox));
     merged = (refl, refl);
     made = tt;
     sound = λ none. refl;
   };
-  turns = record { episodes = []; each = tt; took = sym (append-nil (taken inbox)); own_is = refl; heard_is = refl };
+  turns = record { episodes = []; each = tt; came_is = refl; own_is = refl; heard_is = refl };
   answered = tt;
   verdicts = tt;
   moments = tt;
 }
 
-pub offered_start : (lane : ℕ) (May : ℕ → Type 0) (a b : List (Sender Note)) (i j : Inbox Slip) (gone : Bool) → b ≡ a → j ≡ i → gone ≡ false → HasOffered lane May a b i j gone 0 0 []
-offered_start lane May a b i j gone same same_inbox sound =
-    let P : List (Sender Note) → Type 0 = λ l. HasOffered lane May a l i i false 0 0 [] in
-    let Q : Inbox Slip → Type 0 = λ k. HasOffered lane May a b i k false 0 0 [] in
-    let R : Bool → Type 0 = λ t. HasOffered lane May a b i j t 0 0 [] in
-    subst R (sym sound) (subst Q (sym same_inbox) (subst P (sym same) (offered_none lane May a i)))
+pub offered_start : (May : ℕ → Type 0) (old new : LaneEnds) → new ≡ record old { gone = any_refused old.senders } → HasOffered May 0 old new 0 []
+offered_start May old new same = subst (λ e. HasOffered May 0 old e 0 []) (sym same) (offered_none May old)

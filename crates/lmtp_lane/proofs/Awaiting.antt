@@ -1,166 +1,158 @@
 -- What is under way while copies are offered one by one, and while their slips come.
-use Rattle.std.proofs.Common.{◌≡◌, ℕ, zero, suc, ◌+◌, ◌<◌, List, [], ◌∷◌, ◌++◌, length, map, take, get_or, Bool, true, false, cond, Option, Some, None, length-set, inl, inr, refl, ap, sym, ◌∙◌, subst, append_assoc, append-nil, add-one, arith, length-take-le}
+use Rattle.std.proofs.Common.{◌≡◌, ℕ, zero, suc, ◌+◌, ◌<◌, List, [], ◌∷◌, ◌++◌, length, map, take, get_or, Bool, true, false, cond, Option, Some, None, length-set, inl, inr, refl, ap, sym, ◌∙◌, subst, append_assoc, add-one, arith, length-take-le}
 use Rattle.std.proofs.Math.Seq.{take-suc}
 use Rattle.std.proofs.lemmas.List.{take_all}
 use Rattle.mail_world.specs.declared.Txn.{Txn}
 use Rattle.mail_world.specs.declared.Note.{Note}
 use Rattle.mail_world.specs.declared.Slip.{Slip}
-use Rattle.std.specs.Prelude.{slice_get, find, option_map, count_by}
+use Rattle.std.specs.Prelude.{is_some, slice_get, find, option_map, count_by}
 use Rattle.std.specs.List.{range_with_len}
 use Rattle.mail_world.specs.Slips.{names, times_named, answer, answers, Gather, gathered, place_outcome, is_same_txn, own_slip, txn_of}
 use Rattle.mail_world.proofs.GivenAway.{count-cons}
 use Rattle.mail_world.specs.declared.Outcome.{Outcome}
 use Rattle.mail_world.specs.Session.{Session}
 use Rattle.mail_world.specs.Lists.{Transaction, copies_from}
-use Rattle.mail_post.specs.Channel.{Sender, Inbox, taken}
+use Rattle.mail_post.specs.Channel.{Inbox, taken}
 use Rattle.mail_post.specs.Gathering.{HasGathered, IsAwaited}
-use Rattle.lmtp_lane.specs.LaneExchange.{IsAmong, HasExchanged, Episode, IsUnderWay, Continues, Awaits, TakesOne, sent_as, copy_at}
-use Rattle.lmtp_lane.proofs.Exchanging.{HearsSlip, way_failed, way_heard, way_gone}
+use Rattle.lmtp_lane.specs.LaneExchange.{LaneEnds, Sending, found_gone, is_silent, KeepsRoom, IsAmong, own_slip_of, HasExchanged, IsUnderWay, Continues, Awaits, Sends, TakesOne, sent_as, copy_at}
+use Rattle.lmtp_lane.proofs.Exchanging.{HearsSlip, sending, with_inbox, no_episode, joined_none, way_failed, way_heard, way_gone}
 
 -- a copy of a transaction is among its copies
 among_right : (note : Note) (xs ys : List Note) → IsAmong note ys → IsAmong note (xs ++ ys)
 among_right note [] ys h = h
 among_right note (x ∷ xs) ys h = inr (among_right note xs ys h)
 
-among_copies : (lane number : ℕ) (session : Session) (moment : ℕ) (message : List ℕ) (first : ℕ) (boxes : List ℕ) (p : ℕ) → p < length boxes
-    → IsAmong (copy_at lane number session moment message (first + p) (get_or boxes p 0)) (copies_from lane (sent_as number session moment message) first boxes)
-among_copies lane number session moment message first [] p low = absurd (omega arith)
-among_copies lane number session moment message first (box ∷ boxes) zero low =
+among_copies : (lane : ℕ) (t : Transaction) (first : ℕ) (boxes : List ℕ) (p : ℕ) → p < length boxes
+    → IsAmong (copy_at lane t (first + p) (get_or boxes p 0)) (copies_from lane t first boxes)
+among_copies lane t first [] p low = absurd (omega arith)
+among_copies lane t first (box ∷ boxes) zero low =
     let e : first + 0 ≡ first = omega arith in
-    inl (ap (λ k. copy_at lane number session moment message k box) e)
-among_copies lane number session moment message first (box ∷ boxes) (suc p) low =
+    inl (ap (λ k. copy_at lane t k box) e)
+among_copies lane t first (box ∷ boxes) (suc p) low =
     let e : first + 1 + p ≡ first + suc p = omega arith in
-    let P : ℕ → Type 0 = λ k. IsAmong (copy_at lane number session moment message k (get_or boxes p 0)) (copies_from lane (sent_as number session moment message) (first + 1) boxes) in
-    inr (subst P e (among_copies lane number session moment message (first + 1) boxes p (omega arith)))
+    let P : ℕ → Type 0 = λ k. IsAmong (copy_at lane t k (get_or boxes p 0)) (copies_from lane t (first + 1) boxes) in
+    inr (subst P e (among_copies lane t (first + 1) boxes p (omega arith)))
 
--- only a channel was found gone
-pub gone_on : (lane number : ℕ) (session : Session) (now next : List (Sender Note)) (inbox inbox' : Inbox Slip) (gather : Gather) (gone gone' : Bool)
-    → next ≡ now → inbox' ≡ inbox → gone' ≡ true → Awaits lane number session now next inbox inbox' gather gather gone gone'
-gone_on lane number session now next inbox inbox' gather gone gone' same same_inbox went moment message notes n heard before old_inbox x =
-    let all : List Note = notes ++ copies_from lane (sent_as number session moment message) 0 session.recipients in
-    let Q : List (Sender Note) → Type 0 = λ l. IsUnderWay lane all (txn_of lane number) n heard before l old_inbox inbox gather true in
-    let R : Inbox Slip → Type 0 = λ i. IsUnderWay lane all (txn_of lane number) n heard before next old_inbox i gather true in
-    let S : Bool → Type 0 = λ b. IsUnderWay lane all (txn_of lane number) n heard before next old_inbox inbox' gather b in
-    subst S (sym went) (subst R (sym same_inbox) (subst Q (sym same) (way_gone lane all (txn_of lane number) n heard before now old_inbox inbox gather gone x inbox refl refl refl)))
+-- the copies that are owed behind these, where the transaction's are offered
+abbrev pub with_copies : List Note → ℕ → ℕ → Session → ℕ → List ℕ → List Note
+with_copies notes lane number session moment message = notes ++ copies_from lane (sent_as number session moment message) 0 session.recipients
 
 -- a copy that had no slip is answered by the lane; one that had is left
-pub answered_next : (lane number place mailbox : ℕ) (session : Session) (now next : List (Sender Note)) (inbox inbox' : Inbox Slip) (gather gather' : Gather) (gone gone' taken_so : Bool)
-    → place < length session.recipients → mailbox ≡ get_or session.recipients place 0 → next ≡ now → inbox' ≡ inbox → gone' ≡ true
-    → TakesOne (own_slip lane number place mailbox) gather gather' taken_so
-    → Awaits lane number session now next inbox inbox' gather gather' gone gone'
-answered_next lane number place mailbox session now next inbox inbox' gather gather' gone gone' true low is same same_inbox went takes moment message notes n past before old_inbox x =
-    let all : List Note = notes ++ copies_from lane (sent_as number session moment message) 0 session.recipients in
-    let note : Note = copy_at lane number session moment message place mailbox in
-    let P : ℕ → Type 0 = λ b. IsAmong (copy_at lane number session moment message place b) all in
+answered_by : (number place mailbox : ℕ) (session : Session) (now : Sending) (gather : Gather) (taken_so : Bool)
+    → place < length session.recipients → mailbox ≡ get_or session.recipients place 0 → now.ends.gone ≡ true → is_silent now.ends ≡ true
+    → TakesOne (own_slip now.ends.lane number place mailbox) now.gather gather taken_so → Awaits number session now (sending now.ends gather)
+answered_by number place mailbox session now gather true low is went silent takes moment message notes n past old x =
+    let lane : ℕ = now.ends.lane in
+    let t : Transaction = sent_as number session moment message in
+    let all : List Note = with_copies notes lane number session moment message in
+    let note : Note = copy_at lane t place mailbox in
     let low_sum : 0 + place ≡ place = omega arith in
-    let C : ℕ → Type 0 = λ k. IsAmong (copy_at lane number session moment message k (get_or session.recipients place 0)) (copies_from lane (sent_as number session moment message) 0 session.recipients) in
+    let C : ℕ → Type 0 = λ k. IsAmong (copy_at lane t k (get_or session.recipients place 0)) (copies_from lane t 0 session.recipients) in
+    let P : ℕ → Type 0 = λ b. IsAmong (copy_at lane t place b) all in
     let among : IsAmong note all = subst P (sym is)
-    (among_right (copy_at lane number session moment message place (get_or session.recipients place 0)) notes
-    (copies_from lane (sent_as number session moment message) 0 session.recipients) (subst C low_sum (among_copies lane number session moment message 0 session.recipients place low))) in
-    let Q : List (Sender Note) → Type 0 = λ l. IsUnderWay lane all (txn_of lane number) n past before l old_inbox inbox gather' true in
-    let R : Inbox Slip → Type 0 = λ i. IsUnderWay lane all (txn_of lane number) n past before next old_inbox i gather' true in
-    let S : Bool → Type 0 = λ b. IsUnderWay lane all (txn_of lane number) n past before next old_inbox inbox' gather' b in
-    subst S (sym went) (subst R (sym same_inbox) (subst Q (sym same)
-    (way_failed lane all (txn_of lane number) n past before now old_inbox inbox gather gone x note gather' among refl (takes (txn_of lane number) n x.now.heard x.gathered))))
-answered_next lane number place mailbox session now next inbox inbox' gather gather' gone gone' false low is same same_inbox went kept moment message notes n past before old_inbox x =
-    let G : Gather → Type 0 = λ g. Awaits lane number session now next inbox inbox' gather g gone gone' in
-    subst G (sym kept) (gone_on lane number session now next inbox inbox' gather gone gone' same same_inbox went) moment message notes n past before old_inbox x
+    (among_right (copy_at lane t place (get_or session.recipients place 0)) notes (copies_from lane t 0 session.recipients) (subst C low_sum (among_copies lane t 0 session.recipients place low))) in
+    let same : lane ≡ old.lane = x.exchanged.lane in
+    let N : ℕ → Type 0 = λ l. (times_named (own_slip_of l note).txn place x.now.heard ≡ 0) × HasGathered (txn_of lane number) n (x.now.heard ++ own_slip_of l note ∷ []) gather in
+    way_failed all (txn_of lane number) n past old now x note gather among silent went (ap (λ l. txn_of l number) (sym same)) (subst N same (takes (txn_of lane number) n x.now.heard x.gathered))
+answered_by number place mailbox session now gather false low is went silent kept moment message notes n past old x =
+    subst (λ g. IsUnderWay (with_copies notes now.ends.lane number session moment message) (txn_of now.ends.lane number) n past old (sending now.ends g)) (sym kept) x
+
+pub answered_next : (number place mailbox : ℕ) (session : Session) (now next : Sending) (taken_so : Bool)
+    → place < length session.recipients → mailbox ≡ get_or session.recipients place 0 → (now.ends.gone ≡ true) × (is_silent now.ends ≡ true) → next.ends ≡ now.ends
+    → TakesOne (own_slip now.ends.lane number place mailbox) now.gather next.gather taken_so → Awaits number session now next
+answered_next number place mailbox session now next taken_so low is went same takes =
+    subst (λ e. Awaits number session now (sending e next.gather)) (sym same) (answered_by number place mailbox session now next.gather taken_so low is went.0 went.1 takes)
 
 -- a slip came
-pub heard_next : (lane number : ℕ) (session : Session) (now : List (Sender Note)) (inbox inbox' : Inbox Slip) (gather gather' : Gather) (gone : Bool) (slip : Slip)
-    → (inbox'.channel ≡ inbox.channel) × (inbox'.lanes ≡ inbox.lanes) → taken inbox' ≡ taken inbox ++ slip ∷ [] → HearsSlip slip gather gather'
-    → Awaits lane number session now now inbox inbox' gather gather' gone gone
-heard_next lane number session now inbox inbox' gather gather' gone slip same took hears moment message notes n heard before old_inbox x =
-    way_heard lane (notes ++ copies_from lane (sent_as number session moment message) 0 session.recipients) (txn_of lane number) n heard before now old_inbox inbox gather gone x
-    slip inbox' gather' same.0 same.1 took (hears (txn_of lane number) n x.now.heard x.gathered)
+pub heard_next : (number : ℕ) (session : Session) (now : Sending) (inbox : Inbox Slip) (gather : Gather) (slip : Slip)
+    → (inbox.channel ≡ now.ends.inbox.channel) × (inbox.lanes ≡ now.ends.inbox.lanes) → taken inbox ≡ taken now.ends.inbox ++ slip ∷ []
+    → inbox.gone ≡ now.ends.inbox.gone → HearsSlip slip now.gather gather
+    → Awaits number session now (sending (with_inbox now.ends inbox) gather)
+heard_next number session now inbox gather slip same took still hears moment message notes n past old x =
+    way_heard (with_copies notes now.ends.lane number session moment message) (txn_of now.ends.lane number) n past old now x
+    slip inbox gather same.0 same.1 took still (hears (txn_of now.ends.lane number) n x.now.heard x.gathered)
 
 -- the channel of slips is gone, and then the lane answered itself
-pub nothing_then : (lane number : ℕ) (session : Session) (now next : List (Sender Note)) (inbox inbox' inbox'' : Inbox Slip) (gather gather' : Gather) (gone gone' : Bool)
-    → (inbox'.channel ≡ inbox.channel) × (inbox'.lanes ≡ inbox.lanes) → taken inbox' ≡ taken inbox
-    → Awaits lane number session now next inbox' inbox'' gather gather' true gone'
-    → Awaits lane number session now next inbox inbox'' gather gather' gone gone'
-nothing_then lane number session now next inbox inbox' inbox'' gather gather' gone gone' same took then moment message notes n heard before old_inbox x =
-    let all : List Note = notes ++ copies_from lane (sent_as number session moment message) 0 session.recipients in
-    then moment message notes n heard before old_inbox (way_gone lane all (txn_of lane number) n heard before now old_inbox inbox gather gone x inbox' same.0 same.1 took)
+pub nothing_then : (number : ℕ) (session : Session) (now next : Sending) (inbox : Inbox Slip)
+    → (inbox.channel ≡ now.ends.inbox.channel) × (inbox.lanes ≡ now.ends.inbox.lanes) → taken inbox ≡ taken now.ends.inbox → is_some inbox.gone ≡ true
+    → Awaits number session (sending (found_gone (with_inbox now.ends inbox)) now.gather) next → Awaits number session now next
+nothing_then number session now next inbox same took silent after moment message notes n past old x =
+    after moment message notes n past old
+    (way_gone (with_copies notes now.ends.lane number session moment message) (txn_of now.ends.lane number) n past old now x inbox same.0 same.1 took silent)
 
 -- one after the other
-pub continues_then : (lane : ℕ) (txn : Txn) (xs ys zs : List Note) (a b c : List (Sender Note)) (i j k : Inbox Slip) (f g h : Gather) (p q r : Bool)
-    → xs ++ ys ≡ zs → Continues lane txn xs a b i j f g p q → Continues lane txn ys b c j k g h q r → Continues lane txn zs a c i k f h p r
-continues_then lane txn xs ys zs a b c i j k f g h p q r e first second notes n heard before old_inbox x =
-    let P : List Note → Type 0 = λ l. IsUnderWay lane l txn n heard before c old_inbox k h r in
-    subst P (append_assoc notes xs ys ∙ ap (λ l. notes ++ l) e) (second (notes ++ xs) n heard before old_inbox (first notes n heard before old_inbox x))
+pub awaits_then : (number : ℕ) (session : Session) (a b c : Sending) → b.ends.lane ≡ a.ends.lane → Awaits number session a b → Awaits number session b c → Awaits number session a c
+awaits_then number session a b c same first second moment message notes n past old x =
+    let W : ℕ → Type 0 = λ l. IsUnderWay (with_copies notes l number session moment message) (txn_of l number) n past old b
+    → IsUnderWay (with_copies notes l number session moment message) (txn_of l number) n past old c in
+    subst W same (second moment message notes n past old) (first moment message notes n past old x)
+
+pub continues_then : (txn : Txn) (xs ys zs : List Note) (a b c : Sending) → xs ++ ys ≡ zs → Continues txn xs a b → Continues txn ys b c → Continues txn zs a c
+continues_then txn xs ys zs a b c e first second notes n past old x =
+    let P : List Note → Type 0 = λ l. IsUnderWay l txn n past old c in
+    subst P (append_assoc notes xs ys ∙ ap (λ l. notes ++ l) e) (second (notes ++ xs) n past old (first notes n past old x))
 
 -- one copy more of a transaction
-copies-snoc : (lane : ℕ) (number : ℕ) (session : Session) (moment : ℕ) (message : List ℕ) (first : ℕ) (boxes : List ℕ) (box : ℕ)
-    → copies_from lane (sent_as number session moment message) first (boxes ++ box ∷ [])
-    ≡ copies_from lane (sent_as number session moment message) first boxes ++ copy_at lane number session moment message (first + length boxes) box ∷ []
-copies-snoc lane number session moment message first [] box =
+copies-snoc : (lane : ℕ) (t : Transaction) (first : ℕ) (boxes : List ℕ) (box : ℕ)
+    → copies_from lane t first (boxes ++ box ∷ []) ≡ copies_from lane t first boxes ++ copy_at lane t (first + length boxes) box ∷ []
+copies-snoc lane t first [] box =
     let e : first ≡ first + 0 = omega arith in
-    ap (λ k. copy_at lane number session moment message k box ∷ []) e
-copies-snoc lane number session moment message first (b ∷ boxes) box =
+    ap (λ k. copy_at lane t k box ∷ []) e
+copies-snoc lane t first (b ∷ boxes) box =
     let e : first + 1 + length boxes ≡ first + suc (length boxes) = omega arith in
-    let t : Transaction = sent_as number session moment message in
-    ap (λ l. copy_at lane number session moment message first b ∷ l)
-    (copies-snoc lane number session moment message (first + 1) boxes box
-    ∙ ap (λ k. copies_from lane t (first + 1) boxes ++ copy_at lane number session moment message k box ∷ []) e)
+    ap (λ l. copy_at lane t first b ∷ l)
+    (copies-snoc lane t (first + 1) boxes box ∙ ap (λ k. copies_from lane t (first + 1) boxes ++ copy_at lane t k box ∷ []) e)
 
-pub next_copy : (lane number : ℕ) (session : Session) (moment : ℕ) (message : List ℕ) (place : ℕ) → place < length session.recipients
-    → copies_from lane (sent_as number session moment message) 0 (take place session.recipients) ++ copy_at lane number session moment message place (get_or session.recipients place 0) ∷ []
-    ≡ copies_from lane (sent_as number session moment message) 0 (take (place + 1) session.recipients)
-next_copy lane number session moment message place low =
-    let rs : List ℕ = session.recipients in
-    let t : Transaction = sent_as number session moment message in
+next_copy : (lane : ℕ) (t : Transaction) (place : ℕ) → place < length t.session.recipients
+    → copies_from lane t 0 (take place t.session.recipients) ++ copy_at lane t place (get_or t.session.recipients place 0) ∷ []
+    ≡ copies_from lane t 0 (take (place + 1) t.session.recipients)
+next_copy lane t place low =
+    let rs : List ℕ = t.session.recipients in
     let size : 0 + length (take place rs) ≡ place = omega (arith, length-take-le place rs (omega (arith, low))) in
     let next : take place rs ++ get_or rs place 0 ∷ [] ≡ take (place + 1) rs = sym (take-suc rs place 0 low) ∙ ap (λ k. take k rs) (sym (add-one place)) in
-    ap (λ k. copies_from lane t 0 (take place rs) ++ copy_at lane number session moment message k (get_or rs place 0) ∷ []) (sym size)
-    ∙ sym (copies-snoc lane number session moment message 0 (take place rs) (get_or rs place 0)) ∙ ap (λ l. copies_from lane t 0 l) next
+    ap (λ k. copies_from lane t 0 (take place rs) ++ copy_at lane t k (get_or rs place 0) ∷ []) (sym size)
+    ∙ sym (copies-snoc lane t 0 (take place rs) (get_or rs place 0)) ∙ ap (λ l. copies_from lane t 0 l) next
 
 -- the loop over the recipients, and its end
-pub offered_next : (lane lane' number : ℕ) (session : Session) (moment : ℕ) (message message' : List ℕ) (place : ℕ) (a b c : List (Sender Note)) (i j k : Inbox Slip) (f g h : Gather) (p q r : Bool)
-    → lane' ≡ lane → message' ≡ message → place < length session.recipients
-    → Continues lane (txn_of lane number) (copies_from lane (sent_as number session moment message) 0 (take place session.recipients)) a b i j f g p q
-    → Continues lane' (txn_of lane' number) (copy_at lane' number session moment message' place (get_or session.recipients place 0) ∷ []) b c j k g h q r
-    → Continues lane (txn_of lane number) (copies_from lane (sent_as number session moment message) 0 (take (place + 1) session.recipients)) a c i k f h p r
-offered_next lane lane' number session moment message message' place a b c i j k f g h p q r same bytes low first second =
-    let P : ℕ → Type 0 = λ l. Continues l (txn_of l number) (copy_at l number session moment message' place (get_or session.recipients place 0) ∷ []) b c j k g h q r in
-    let Q : List ℕ → Type 0 = λ m. Continues lane (txn_of lane number) (copy_at lane number session moment m place (get_or session.recipients place 0) ∷ []) b c j k g h q r in
-    continues_then lane (txn_of lane number) (copies_from lane (sent_as number session moment message) 0 (take place session.recipients))
-    (copy_at lane number session moment message place (get_or session.recipients place 0) ∷ [])
-    (copies_from lane (sent_as number session moment message) 0 (take (place + 1) session.recipients)) a b c i j k f g h p q r
-    (next_copy lane number session moment message place low) first (subst Q bytes (subst P same second))
+pub offered_next : (lane lane' : ℕ) (t t' : Transaction) (place : ℕ) (a b c : Sending) → lane' ≡ lane → t' ≡ t → place < length t.session.recipients
+    → Continues (txn_of lane t.number) (copies_from lane t 0 (take place t.session.recipients)) a b
+    → Continues (txn_of lane' t'.number) (copy_at lane' t' place (get_or t'.session.recipients place 0) ∷ []) b c
+    → Continues (txn_of lane t.number) (copies_from lane t 0 (take (place + 1) t.session.recipients)) a c
+offered_next lane lane' t t' place a b c same is low first second =
+    let P : ℕ → Type 0 = λ l. Continues (txn_of l t'.number) (copy_at l t' place (get_or t'.session.recipients place 0) ∷ []) b c in
+    let Q : Transaction → Type 0 = λ u. Continues (txn_of lane u.number) (copy_at lane u place (get_or u.session.recipients place 0) ∷ []) b c in
+    continues_then (txn_of lane t.number) (copies_from lane t 0 (take place t.session.recipients))
+    (copy_at lane t place (get_or t.session.recipients place 0) ∷ [])
+    (copies_from lane t 0 (take (place + 1) t.session.recipients)) a b c
+    (next_copy lane t place low) first (subst Q is (subst P same second))
 
-pub offered_last : (lane lane' number : ℕ) (session : Session) (moment : ℕ) (message message' : List ℕ) (place place' : ℕ) (a b c : List (Sender Note)) (i j k : Inbox Slip) (f g h : Gather) (p q r : Bool)
-    → lane' ≡ lane → message' ≡ message → place' ≡ place → place + 1 ≡ length session.recipients
-    → Continues lane (txn_of lane number) (copies_from lane (sent_as number session moment message) 0 (take place session.recipients)) a b i j f g p q
-    → Continues lane' (txn_of lane' number) (copy_at lane' number session moment message' place' (get_or session.recipients place' 0) ∷ []) b c j k g h q r
-    → Continues lane (txn_of lane number) (copies_from lane (sent_as number session moment message) 0 session.recipients) a c i k f h p r
-offered_last lane lane' number session moment message message' place place' a b c i j k f g h p q r same bytes at last first second =
-    let S : ℕ → Type 0 = λ x. Continues lane' (txn_of lane' number) (copy_at lane' number session moment message' x (get_or session.recipients x 0) ∷ []) b c j k g h q r in
-    let P : List ℕ → Type 0 = λ rs. Continues lane (txn_of lane number) (copies_from lane (sent_as number session moment message) 0 rs) a c i k f h p r in
-    let all : take (place + 1) session.recipients ≡ session.recipients = take_all (place + 1) session.recipients (omega (arith, last)) in
-    subst P all (offered_next lane lane' number session moment message message' place a b c i j k f g h p q r same bytes (omega (arith, last)) first (subst S at second))
+pub offered_last : (lane lane' : ℕ) (t t' : Transaction) (place place' : ℕ) (a b c : Sending) → lane' ≡ lane → t' ≡ t → place' ≡ place → place + 1 ≡ length t.session.recipients
+    → Continues (txn_of lane t.number) (copies_from lane t 0 (take place t.session.recipients)) a b
+    → Continues (txn_of lane' t'.number) (copy_at lane' t' place' (get_or t'.session.recipients place' 0) ∷ []) b c
+    → Continues (txn_of lane t.number) (copies_from lane t 0 t.session.recipients) a c
+offered_last lane lane' t t' place place' a b c same is at last first second =
+    let S : ℕ → Type 0 = λ x. Continues (txn_of lane' t'.number) (copy_at lane' t' x (get_or t'.session.recipients x 0) ∷ []) b c in
+    let P : List ℕ → Type 0 = λ rs. Continues (txn_of lane t.number) (copies_from lane t 0 rs) a c in
+    let all : take (place + 1) t.session.recipients ≡ t.session.recipients = take_all (place + 1) t.session.recipients (omega (arith, last)) in
+    subst P all (offered_next lane lane' t t' place a b c same is (omega (arith, last)) first (subst S at second))
 
 -- a message from its first offer to its last answer
-pub sent_way : (lane lane' number : ℕ) (session : Session) (moment : ℕ) (message : List ℕ) (places : ℕ) (a b c : List (Sender Note)) (i j k : Inbox Slip) (f g h : Gather) (p q r : Bool)
-    → lane' ≡ lane → places ≡ length session.recipients → HasGathered (txn_of lane number) places [] f
-    → Continues lane (txn_of lane number) (copies_from lane (sent_as number session moment message) 0 session.recipients) a b i j f g p q
-    → Awaits lane' number session b c j k g h q r
-    → (notes : List Note) (past : Episode) (before : List (Sender Note)) (inbox : Inbox Slip) → HasExchanged lane notes before a inbox i past.own past.heard p
-    → taken i ≡ taken inbox ++ past.came
-    → IsUnderWay lane (notes ++ copies_from lane (sent_as number session moment message) 0 session.recipients) (txn_of lane number) (length session.recipients) past before c inbox k h r
-sent_way lane lane' number session moment message places a b c i j k f g h p q r same count begun first second notes past before inbox x took =
-    let P : List Slip → Type 0 = λ l. HasExchanged lane notes before a inbox i past.own l p in
-    let O : List Slip → Type 0 = λ l. HasExchanged lane notes before a inbox i l (past.heard ++ []) p in
-    let W : ℕ → Type 0 = λ l. Awaits l number session b c j k g h q r in
-    let N : ℕ → Type 0 = λ n. HasGathered (txn_of lane number) n [] f in
-    let start : IsUnderWay lane notes (txn_of lane number) (length session.recipients) past before a inbox i f p = record {
-      now = record { came = []; own = []; heard = [] };
+pub sent_way : (number : ℕ) (session : Session) (moment : ℕ) (message : List ℕ) (places : ℕ) (ends : LaneEnds) (gather : Gather) (b c : Sending)
+    → b.ends.lane ≡ ends.lane → places ≡ length session.recipients → HasGathered (txn_of ends.lane number) places [] gather
+    → Continues (txn_of ends.lane number) (copies_from ends.lane (sent_as number session moment message) 0 session.recipients) (sending ends gather) b
+    → Awaits number session b c
+    → Sends (sent_as number session moment message) ends c
+sent_way number session moment message places ends gather b c same count begun first second notes past old x =
+    let W : ℕ → Type 0 = λ l. IsUnderWay (with_copies notes l number session moment message) (txn_of l number) (length session.recipients) past old b
+    → IsUnderWay (with_copies notes l number session moment message) (txn_of l number) (length session.recipients) past old c in
+    let N : ℕ → Type 0 = λ n. HasGathered (txn_of ends.lane number) n [] gather in
+    let start : IsUnderWay notes (txn_of ends.lane number) (length session.recipients) past old (sending ends gather) = record {
+      now = no_episode;
       is = record { timely = (refl, refl); named = tt };
-      exchanged = subst O (sym (append-nil past.own)) (subst P (sym (append-nil past.heard)) x);
-      took = took ∙ ap (λ l. taken inbox ++ l) (sym (append-nil past.came));
+      exchanged = subst (λ e. HasExchanged notes e old ends) (sym (joined_none past)) x;
       gathered = subst N count begun;
     } in
-    subst W same second moment message notes (length session.recipients) past before inbox (first notes (length session.recipients) past before inbox start)
+    subst W same (second moment message notes (length session.recipients) past old) (first notes (length session.recipients) past old start)
 
 -- a slip changes no number of places
 same_length : (ps : List (Option Outcome)) (p : ℕ) (o : Outcome) (at : Option (Option Outcome)) → length (place_outcome ps p o at) ≡ length ps
@@ -174,6 +166,18 @@ same_by g slip false = refl
 
 pub same_places : (old new : Gather) (slip : Slip) → new ≡ gathered old slip → length new.places ≡ length old.places
 same_places old new slip e = ap (λ (g : Gather). length g.places) e ∙ same_by old slip (is_same_txn slip.txn old.txn)
+
+-- room is kept one stretch after the other, and where a slip was put and the ends but for the channels stayed
+pub keeps_then : (a b c : Sending) → KeepsRoom a b → KeepsRoom b c → KeepsRoom a c
+keeps_then a b c first second = record {
+  lane = second.lane ∙ first.lane;
+  senders = second.senders ∙ first.senders;
+  places = second.places ∙ first.places;
+}
+
+pub same_room : (now : Sending) (inbox : Inbox Slip) (gone : Bool) (gather : Gather) (slip : Slip) → gather ≡ gathered now.gather slip
+    → KeepsRoom now (sending (record { lane = now.ends.lane; senders = now.ends.senders; inbox = inbox; gone = gone }) gather)
+same_room now inbox gone gather slip e = record { lane = refl; senders = refl; places = same_places now.gather gather slip e }
 
 -- a slip that is awaited is for a place that none before names
 open_at : (f : ℕ → Option Outcome) (a n p : ℕ) (o : Option Outcome) → slice_get (map f (range_with_len a n)) p ≡ Some o → f (a + p) ≡ o

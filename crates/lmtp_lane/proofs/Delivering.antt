@@ -1,59 +1,52 @@
 -- What became of a whole message.
-use Rattle.std.proofs.Common.{◌≡◌, ℕ, List, [], ◌∷◌, ◌++◌, length, map, Bool, Some, refl, ap, sym, ◌∙◌, subst, append-nil, arith}
+use Rattle.std.proofs.Common.{true, false, ◌≡◌, ℕ, List, [], ◌∷◌, ◌++◌, length, map, Some, refl, ap, sym, ◌∙◌, subst}
+use Rattle.std.specs.Prelude.{Option, None, IsSome}
+use Rattle.std.specs.List.{AllByRecursion}
+use Rattle.std.proofs.lemmas.List.{length-map}
+use Rattle.std.proofs.lemmas.List.Elements.{recursion_from_All}
 use Rattle.mail_world.specs.declared.Outcome.{Outcome}
 use Rattle.mail_world.specs.declared.Txn.{Txn}
-use Rattle.mail_world.specs.declared.Note.{Note}
 use Rattle.mail_world.specs.declared.Slip.{Slip}
-use Rattle.mail_world.specs.Session.{Session}
 use Rattle.mail_world.specs.Slips.{answers, Gather, txn_of}
-use Rattle.mail_world.specs.Lists.{copies_from}
-use Rattle.mail_post.specs.Channel.{Sender, Inbox, taken}
-use Rattle.mail_post.specs.Gathering.{HasGathered}
-use Rattle.lmtp_lane.specs.LaneExchange.{HasExchanged, Episode, IsUnderWay, sent_as}
-use Rattle.lmtp_lane.specs.LaneAccount.{Delivers}
+use Rattle.mail_world.specs.Lists.{Transaction, copies_from}
+use Rattle.mail_post.specs.Gathering.{HasGathered, IsDone}
+use Rattle.lmtp_lane.specs.LaneExchange.{LaneEnds, Sending, IsUnderWay, Sends}
+use Rattle.lmtp_lane.specs.LaneAccount.{outcomes_in, told_by, Delivers}
 
 -- the answers of the gatherer are those of the slips that were heard
 abbrev pub Answers : Gather → List Outcome → Type 0
 Answers gather told = (txn : Txn) (n : ℕ) (heard : List Slip) → HasGathered txn n heard gather → map (λ o. Some o) told ≡ answers txn n heard
 
-pub delivered : (lane number : ℕ) (session : Session) (moment : ℕ) (message message' : List ℕ) (told : List Outcome) (now next : List (Sender Note)) (inbox inbox' : Inbox Slip)
-    (gather : Gather) (gone gone' : Bool) → message' ≡ message → Answers gather told
-    → ((notes : List Note) (past : Episode) (before : List (Sender Note)) (old_inbox : Inbox Slip) → HasExchanged lane notes before now old_inbox inbox past.own past.heard gone
-    → taken inbox ≡ taken old_inbox ++ past.came
-    → IsUnderWay lane (notes ++ copies_from lane (sent_as number session moment message') 0 session.recipients) (txn_of lane number) (length session.recipients) past before next old_inbox inbox' gather gone')
-    → Delivers lane number session moment message told now next inbox inbox' gone gone'
-delivered lane number session moment message message' told now next inbox inbox' gather gone gone' same says way notes past before old_inbox x took =
-    let u = way notes past before old_inbox x took in
-    let P : List ℕ → Type 0 = λ m. HasExchanged lane (notes ++ copies_from lane (sent_as number session moment m) 0 session.recipients) before next old_inbox inbox'
-    (past.own ++ u.now.own) (past.heard ++ u.now.heard) gone' in
+-- once none is missing these are all of its places
+told_all : (places : List (Option Outcome)) → AllByRecursion IsSome places → map (λ o. Some o) (outcomes_in places) ≡ places
+told_all [] all = refl
+told_all (Some outcome ∷ places) all = ap (λ l. Some outcome ∷ l) (told_all places all.1)
+told_all (None ∷ places) all = let bad : false ≡ true = all.0 in cc
+
+pub told_answers : (gather : Gather) → IsDone gather → Answers gather (told_by gather)
+told_answers gather done txn n heard g = told_all gather.places (recursion_from_All IsSome gather.places done) ∙ g.places
+
+told_map : (outcomes : List Outcome) → outcomes_in (map (λ o. Some o) outcomes) ≡ outcomes
+told_map [] = refl
+told_map (o ∷ os) = ap (λ l. o ∷ l) (told_map os)
+
+pub told_same : (places : List (Option Outcome)) (outcomes : List Outcome) → map (λ o. Some o) outcomes ≡ places → outcomes ≡ outcomes_in places
+told_same places outcomes is = sym (ap outcomes_in (sym is) ∙ told_map outcomes)
+
+pub told_count : (gather : Gather) (n : ℕ) → IsDone gather → length gather.places ≡ n → length (told_by gather) ≡ n
+told_count gather n done size =
+    sym (length-map (told_by gather) (λ o. Some o)) ∙ ap length (told_all gather.places (recursion_from_All IsSome gather.places done)) ∙ size
+
+delivered_by : (t : Transaction) (told : List Outcome) (now : LaneEnds) (next : Sending) → Answers next.gather told → Sends t now next → Delivers t told now next.ends
+delivered_by t told now next says way notes past old x =
+    let W : ℕ → Type 0 = λ l. IsUnderWay (notes ++ copies_from l t 0 t.session.recipients) (txn_of l t.number) (length t.session.recipients) past old next in
+    let u : W old.lane = subst W x.lane (way notes past old x) in
     record {
       now = u.now;
       is = u.is;
-      exchanged = subst P same u.exchanged;
-      took = u.took;
-      outcomes = says (txn_of lane number) (length session.recipients) u.now.heard u.gathered;
+      exchanged = u.exchanged;
+      outcomes = says (txn_of old.lane t.number) (length t.session.recipients) u.now.heard u.gathered;
     }
 
--- a message without recipients has no copy
-none_by : (lane number : ℕ) (session : Session) (moment : ℕ) (message : List ℕ) (rs : List ℕ) → length rs ≡ 0 → copies_from lane (sent_as number session moment message) 0 rs ≡ []
-none_by lane number session moment message [] e = refl
-none_by lane number session moment message (r ∷ rs) e = absurd (omega (arith, e))
-
-no_answer : (txn : Txn) (n : ℕ) → n ≡ 0 → [] ≡ answers txn n []
-no_answer txn n e = ap (λ k. answers txn k []) (sym e)
-
-pub delivered_none : (lane number : ℕ) (session : Session) (moment : ℕ) (message : List ℕ) (told : List Outcome) (now : List (Sender Note)) (inbox : Inbox Slip) (gone : Bool)
-    → length session.recipients ≡ 0 → told ≡ [] → Delivers lane number session moment message told now now inbox inbox gone gone
-delivered_none lane number session moment message told now inbox gone none empty notes past before old_inbox x took =
-    let same : notes ++ copies_from lane (sent_as number session moment message) 0 session.recipients ≡ notes =
-    ap (λ l. notes ++ l) (none_by lane number session moment message session.recipients none) ∙ append-nil notes in
-    let P : List Note → Type 0 = λ l. HasExchanged lane l before now old_inbox inbox (past.own ++ []) (past.heard ++ []) gone in
-    let O : List Slip → Type 0 = λ l. HasExchanged lane notes before now old_inbox inbox l (past.heard ++ []) gone in
-    let Q : List Slip → Type 0 = λ l. HasExchanged lane notes before now old_inbox inbox past.own l gone in
-    record {
-      now = record { came = []; own = []; heard = [] };
-      is = record { timely = (refl, refl); named = tt };
-      exchanged = subst P (sym same) (subst O (sym (append-nil past.own)) (subst Q (sym (append-nil past.heard)) x));
-      took = took ∙ ap (λ l. taken old_inbox ++ l) (sym (append-nil past.came));
-      outcomes = ap (λ (l : List Outcome). map (λ o. Some o) l) empty ∙ no_answer (txn_of lane number) (length session.recipients) none;
-    }
+pub delivered : (t t' : Transaction) (told : List Outcome) (now : LaneEnds) (next : Sending) → t' ≡ t → Answers next.gather told → Sends t' now next → Delivers t told now next.ends
+delivered t t' told now next same says way = subst (λ u. Delivers u told now next.ends) same (delivered_by t' told now next says way)

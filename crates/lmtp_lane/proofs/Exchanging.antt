@@ -1,22 +1,21 @@
 -- One copy more, or one slip more, between a lane and the channels.
-use Rattle.std.proofs.Common.{◌≡◌, ℕ, List, [], ◌∷◌, ◌++◌, Bool, true, false, ◌||◌, cond, inl, inr, refl, ap, sym, ◌∙◌, subst, append_assoc, append-nil}
-use Rattle.std.specs.Prelude.{◌==◌}
+use Rattle.std.proofs.Common.{◌≡◌, ◌⊎◌, ℕ, List, [], ◌∷◌, ◌++◌, Bool, true, false, ◌||◌, cond, inl, inr, refl, ap, sym, ◌∙◌, subst, append_assoc, append-nil}
+use Rattle.std.specs.Prelude.{◌==◌, is_some}
 use Rattle.std.specs.List.{AllByRecursion}
 use Rattle.std.proofs.lemmas.Bool.{eq-eqb}
 use Rattle.std.proofs.lemmas.List.Elements.{filter-append}
 use Rattle.mail_world.specs.declared.Txn.{Txn}
 use Rattle.mail_world.specs.declared.Note.{Note}
 use Rattle.mail_world.specs.declared.Slip.{Slip}
-use Rattle.mail_world.specs.Slips.{Gather, own_slip, txn_of}
-use Rattle.mail_world.specs.Slips.{times_named}
+use Rattle.mail_world.specs.Slips.{times_named, Gather, txn_of}
 use Rattle.mail_world.proofs.Heard.{all_more}
 use Rattle.mail_world.proofs.Merged.{merged_front, merged_own}
 use Rattle.mail_world.proofs.OneLine.{other_byte}
 use Rattle.mail_post.specs.Channel.{Sender, Inbox, taken}
 use Rattle.mail_post.specs.Gathering.{HasGathered}
-use Rattle.mail_post.specs.Offered.{IsOffered, HaveAccepted}
-use Rattle.mail_post.proofs.Offered.{OwesOneMore, offered_more as all_offered, refused_more as all_refused, found_gone as all_found_gone}
-use Rattle.lmtp_lane.specs.LaneExchange.{IsAmong, for_box, own_slip_of, IsOwnSlip, HasExchanged, IsTimely, Episode, IsEpisode, IsUnderWay, TakesOne}
+use Rattle.mail_post.specs.Offered.{any_refused, IsOffered}
+use Rattle.mail_post.proofs.Offered.{OwesOneMore, sent_more, sent_no_more, refused_now, refused_as_before}
+use Rattle.lmtp_lane.specs.LaneExchange.{LaneEnds, Sending, found_gone, is_silent, IsAmong, for_box, own_slip_of, IsOwnSlip, Episode, joined, HasExchanged, IsTimely, IsEpisode, IsUnderWay, TakesOne, Continues}
 
 -- one more at the end of a list that is merged in time
 timely_front : (before came own heard : List Slip) (x : Slip) → IsTimely before came own heard → IsTimely before (came ++ x ∷ []) own (heard ++ x ∷ [])
@@ -39,16 +38,43 @@ timely_own before came own (y ∷ heard) x none m =
       | inr mine ↦ inr (mine.0 ++ x ∷ [], ap (λ l. l ++ x ∷ []) mine.1, mine.2, timely_own (before ++ y ∷ []) came mine.0 heard x rest mine.3)
     ]
 
--- one slip more in an episode
-episode_own : (txn : Txn) (e : Episode) (x : Slip) → x.txn ≡ txn → times_named x.txn x.place e.heard ≡ 0 → IsEpisode txn e
-    → IsEpisode txn (record { came = e.came; own = e.own ++ x ∷ []; heard = e.heard ++ x ∷ [] })
+-- an episode with one slip more at its end: the lane's own, or one that came
+abbrev pub with_own : Episode → Slip → Episode
+with_own e slip = record { came = e.came; own = e.own ++ slip ∷ []; heard = e.heard ++ slip ∷ [] }
+
+abbrev pub with_came : Episode → Slip → Episode
+with_came e slip = record { came = e.came ++ slip ∷ []; own = e.own; heard = e.heard ++ slip ∷ [] }
+
+episode_own : (txn : Txn) (e : Episode) (x : Slip) → x.txn ≡ txn → times_named x.txn x.place e.heard ≡ 0 → IsEpisode txn e → IsEpisode txn (with_own e x)
 episode_own txn e x same none is = record {
   timely = timely_own [] e.came e.own e.heard x none is.timely;
   named = all_more (λ (slip : Slip). slip.txn ≡ txn) e.own x is.named same;
 }
 
-episode_came : (txn : Txn) (e : Episode) (x : Slip) → IsEpisode txn e → IsEpisode txn (record { came = e.came ++ x ∷ []; own = e.own; heard = e.heard ++ x ∷ [] })
+episode_came : (txn : Txn) (e : Episode) (x : Slip) → IsEpisode txn e → IsEpisode txn (with_came e x)
 episode_came txn e x is = record { timely = timely_front [] e.came e.own e.heard x is.timely; named = is.named }
+
+abbrev episode : List Slip → List Slip → List Slip → Episode
+episode came own heard = record { came = came; own = own; heard = heard }
+
+joined_own : (a b : Episode) (slip : Slip) → with_own (joined a b) slip ≡ joined a (with_own b slip)
+joined_own a b slip =
+    ap (λ l. episode (a.came ++ b.came) l ((a.heard ++ b.heard) ++ slip ∷ [])) (append_assoc a.own b.own (slip ∷ []))
+    ∙ ap (λ l. episode (a.came ++ b.came) (a.own ++ (b.own ++ slip ∷ [])) l) (append_assoc a.heard b.heard (slip ∷ []))
+
+joined_came : (a b : Episode) (slip : Slip) → with_came (joined a b) slip ≡ joined a (with_came b slip)
+joined_came a b slip =
+    ap (λ l. episode l (a.own ++ b.own) ((a.heard ++ b.heard) ++ slip ∷ [])) (append_assoc a.came b.came (slip ∷ []))
+    ∙ ap (λ l. episode (a.came ++ (b.came ++ slip ∷ [])) (a.own ++ b.own) l) (append_assoc a.heard b.heard (slip ∷ []))
+
+abbrev pub no_episode : Episode
+no_episode = record { came = []; own = []; heard = [] }
+
+pub joined_none : (a : Episode) → joined a no_episode ≡ a
+joined_none a =
+    ap (λ l. episode l (a.own ++ []) (a.heard ++ [])) (append-nil a.came)
+    ∙ ap (λ l. episode a.came l (a.heard ++ [])) (append-nil a.own)
+    ∙ ap (λ l. episode a.came a.own l) (append-nil a.heard)
 
 among_more : (note x : Note) (xs : List Note) → IsAmong note xs → IsAmong note (xs ++ x ∷ [])
 among_more note x [] h = absurd h
@@ -61,15 +87,21 @@ among_last : (x : Note) (xs : List Note) → IsAmong x (xs ++ x ∷ [])
 among_last x [] = inl refl
 among_last x (y ∷ xs) = inr (among_last x xs)
 
-own_more : (lane : ℕ) (notes : List Note) (note : Note) (own : List Slip) → AllByRecursion (IsOwnSlip lane notes) own → AllByRecursion (IsOwnSlip lane (notes ++ note ∷ [])) own
-own_more lane notes note [] h = tt
-own_more lane notes note (slip ∷ own) h =
-    (record { note = h.0.note; owed = among_more h.0.note note notes h.0.owed; made = h.0.made }, own_more lane notes note own h.1)
+-- slips of the lane's own are so of more copies
+made_weaker : (lane : ℕ) (notes left notes' left' : List Note) (silent silent' : Bool)
+    → ((note : Note) → IsAmong note left ⊎ (IsAmong note notes × (silent ≡ true)) → IsAmong note left' ⊎ (IsAmong note notes' × (silent' ≡ true)))
+    → (own : List Slip) → AllByRecursion (IsOwnSlip lane notes left silent) own → AllByRecursion (IsOwnSlip lane notes' left' silent') own
+made_weaker lane notes left notes' left' silent silent' f [] h = tt
+made_weaker lane notes left notes' left' silent silent' f (slip ∷ own) h =
+    (record { note = h.0.note; owed = f h.0.note h.0.owed; made = h.0.made }, made_weaker lane notes left notes' left' silent silent' f own h.1)
 
-own_last : (lane : ℕ) (notes : List Note) (slip : Slip) (own : List Slip) → AllByRecursion (IsOwnSlip lane notes) own → IsOwnSlip lane notes slip
-    → AllByRecursion (IsOwnSlip lane notes) (own ++ slip ∷ [])
-own_last lane notes slip [] h last = (last, tt)
-own_last lane notes slip (x ∷ own) h last = (h.0, own_last lane notes slip own h.1 last)
+-- no copy is among none
+among_none : (note : Note) (left : List Note) → left ≡ [] → IsAmong note left → ⊥
+among_none note left none h = subst (IsAmong note) none h
+
+or_true : (b : Bool) → (b || true) ≡ true
+or_true true = refl
+or_true false = refl
 
 -- the copies for each mailbox, with one more
 owed_more : (notes : List Note) (note : Note) → OwesOneMore (λ box. for_box box notes) (λ box. for_box box (notes ++ note ∷ [])) note.mailbox note
@@ -81,177 +113,237 @@ owed_more notes note =
       other = λ box away. owed box ∙ ap (λ t. for_box box notes ++ cond t (note ∷ []) []) (other_byte note.mailbox box (λ e. away (sym e))) ∙ append-nil (for_box box notes);
     }
 
-or_false : (b : Bool) → (b || false) ≡ b
-or_false true = refl
-or_false false = refl
+-- these ends with other senders, or another channel of slips
+abbrev pub with_senders : LaneEnds → List (Sender Note) → LaneEnds
+with_senders ends senders = record { lane = ends.lane; senders = senders; inbox = ends.inbox; gone = ends.gone }
 
-module _ (lane : ℕ) (notes : List Note) (before now : List (Sender Note)) (old_inbox inbox : Inbox Slip) (own heard : List Slip) (gone : Bool)
-    (x : HasExchanged lane notes before now old_inbox inbox own heard gone) where
-  abbrev for_boxes : List Note → ℕ → List Note
-  for_boxes all box = for_box box all
+abbrev pub with_inbox : LaneEnds → Inbox Slip → LaneEnds
+with_inbox ends inbox = record { lane = ends.lane; senders = ends.senders; inbox = inbox; gone = ends.gone }
 
+abbrev for_boxes : List Note → ℕ → List Note
+for_boxes all box = for_box box all
+
+module _ (notes : List Note) (e : Episode) (old now : LaneEnds) (x : HasExchanged notes e old now) where
   -- a copy more that its channel accepted
-  pub offered_more : (note : Note) (next : List (Sender Note)) → IsOffered note.mailbox (λ sender. note) true now next
-      → HasExchanged lane (notes ++ note ∷ []) before next old_inbox inbox own heard gone
-  offered_more note next o =
-      let P : Bool → Type 0 = λ b. HaveAccepted (for_boxes (notes ++ note ∷ [])) b before next in
+  pub offered_more : (note : Note) (next : List (Sender Note)) → any_refused now.senders ≡ false → IsOffered note.mailbox (λ sender. note) true now.senders next
+      → HasExchanged (notes ++ note ∷ []) e old (with_senders now next)
+  offered_more note next none o =
+      let empty : x.left ≡ [] = x.all none in
+      let same : any_refused next ≡ any_refused now.senders = refused_as_before note.mailbox (λ sender. note) now.senders next o in
       record {
-        offered = subst P (or_false gone) (all_offered (for_boxes notes) (for_boxes (notes ++ note ∷ [])) gone true note.mailbox (λ sender. note) note before now next x.offered o refl
-            (owed_more notes note));
+        lane = x.lane;
+        accepted = x.accepted ++ note ∷ [];
+        left = [];
+        first = ap (λ l. l ++ note ∷ []) (x.first ∙ ap (λ l. x.accepted ++ l) empty ∙ append-nil x.accepted) ∙ sym (append-nil (x.accepted ++ note ∷ []));
+        offered = sent_more note.mailbox (λ sender. note) old.senders now.senders next (for_boxes x.accepted) (for_boxes (x.accepted ++ note ∷ [])) note x.offered o refl
+            (owed_more x.accepted note);
+        all = λ sound. refl;
+        whole = λ sound. same ∙ x.whole sound;
+        tells = λ fresh. x.tells fresh ∙ ap (λ b. b || is_silent now) (sym same);
         channel = x.channel;
         lanes = x.lanes;
-        came = x.came;
         took = x.took;
         merged = x.merged;
-        made = own_more lane notes note own x.made;
+        made = made_weaker old.lane notes x.left (notes ++ note ∷ []) [] (is_silent now) (is_silent now)
+            (λ n h. elim h [
+              | inl l ↦ absurd (among_none n x.left empty l)
+              | inr a ↦ inr (among_more n note notes a.0, a.1)
+            ]) e.own x.made;
         sound = x.sound;
       }
 
-  -- a copy more that no channel accepted, for which the lane made a slip
-  pub refused_more : (note : Note) → HasExchanged lane (notes ++ note ∷ []) before now old_inbox inbox (own ++ own_slip_of lane note ∷ []) (heard ++ own_slip_of lane note ∷ []) true
-  refused_more note = record {
-    offered = all_refused (for_boxes notes) (for_boxes (notes ++ note ∷ [])) gone note.mailbox note before now x.offered (owed_more notes note);
-    channel = x.channel;
-    lanes = x.lanes;
-    came = x.came;
-    took = x.took;
-    merged = merged_own x.came own heard (own_slip_of lane note) x.merged;
-    made = own_last lane (notes ++ note ∷ []) (own_slip_of lane note) own (own_more lane notes note own x.made) (record { note = note; owed = among_last note notes; made = refl });
-    sound = λ none. cc;
-  }
+  left_made : (note : Note) → AllByRecursion (IsOwnSlip old.lane (notes ++ note ∷ []) (x.left ++ note ∷ []) (is_silent now)) e.own
+  left_made note = made_weaker old.lane notes x.left (notes ++ note ∷ []) (x.left ++ note ∷ []) (is_silent now) (is_silent now)
+      (λ n h. elim h [
+        | inl l ↦ inl (among_more n note x.left l)
+        | inr a ↦ inr (among_more n note notes a.0, a.1)
+      ]) e.own x.made
 
-  -- a copy more that no channel accepted, whose place had a slip
-  pub unanswered_more : (note : Note) → HasExchanged lane (notes ++ note ∷ []) before now old_inbox inbox own heard true
-  unanswered_more note = record {
-    offered = all_refused (for_boxes notes) (for_boxes (notes ++ note ∷ [])) gone note.mailbox note before now x.offered (owed_more notes note);
-    channel = x.channel;
-    lanes = x.lanes;
-    came = x.came;
-    took = x.took;
-    merged = x.merged;
-    made = own_more lane notes note own x.made;
-    sound = λ none. cc;
-  }
+  left_first : (note : Note) → notes ++ note ∷ [] ≡ x.accepted ++ (x.left ++ note ∷ [])
+  left_first note = ap (λ l. l ++ note ∷ []) x.first ∙ append_assoc x.accepted x.left (note ∷ [])
 
-  -- a slip that the lane made for a copy that a channel accepted
-  pub failed_more : (note : Note) → IsAmong note notes → HasExchanged lane notes before now old_inbox inbox (own ++ own_slip_of lane note ∷ []) (heard ++ own_slip_of lane note ∷ []) true
-  failed_more note among = record {
-    offered = all_found_gone (for_boxes notes) gone before now x.offered;
+  -- a copy more that was handed back
+  pub refused_more : (note : Note) (next : List (Sender Note)) → IsOffered note.mailbox (λ sender. note) false now.senders next
+      → (y : HasExchanged (notes ++ note ∷ []) e old (found_gone (with_senders now next))) × IsAmong note y.left
+  refused_more note next o =
+      let refused : any_refused next ≡ true = refused_now note.mailbox (λ sender. note) now.senders next o in (
+        record {
+          lane = x.lane;
+          accepted = x.accepted;
+          left = x.left ++ note ∷ [];
+          first = left_first note;
+          offered = sent_no_more note.mailbox (λ sender. note) old.senders now.senders next (for_boxes x.accepted) x.offered o;
+          all = λ none. let bad : true ≡ false = sym refused ∙ none in cc;
+          whole = λ none. cc;
+          tells = λ fresh. sym (ap (λ b. b || is_silent now) refused);
+          channel = x.channel;
+          lanes = x.lanes;
+          took = x.took;
+          merged = x.merged;
+          made = left_made note;
+          sound = λ none. cc;
+        },
+        among_last note x.left,
+      )
+
+  -- a copy more that wasn't offered, since one was handed back before
+  pub unoffered_more : (note : Note) → any_refused now.senders ≡ true → (y : HasExchanged (notes ++ note ∷ []) e old now) × IsAmong note y.left
+  unoffered_more note refused = (
+    record {
+      lane = x.lane;
+      accepted = x.accepted;
+      left = x.left ++ note ∷ [];
+      first = left_first note;
+      offered = x.offered;
+      all = λ none. let bad : true ≡ false = sym refused ∙ none in cc;
+      whole = x.whole;
+      tells = x.tells;
+      channel = x.channel;
+      lanes = x.lanes;
+      took = x.took;
+      merged = x.merged;
+      made = left_made note;
+      sound = x.sound;
+    },
+    among_last note x.left,
+  )
+
+  -- a slip more that the lane made of a copy that is left, or of any while the channel of slips is silent
+  pub own_more : (note : Note) → IsAmong note x.left ⊎ (IsAmong note notes × (is_silent now ≡ true)) → now.gone ≡ true
+      → HasExchanged notes (with_own e (own_slip_of old.lane note)) old now
+  own_more note owed went = record {
+    lane = x.lane;
+    accepted = x.accepted;
+    left = x.left;
+    first = x.first;
+    offered = x.offered;
+    all = x.all;
+    whole = x.whole;
+    tells = x.tells;
     channel = x.channel;
     lanes = x.lanes;
-    came = x.came;
     took = x.took;
-    merged = merged_own x.came own heard (own_slip_of lane note) x.merged;
-    made = own_last lane notes (own_slip_of lane note) own x.made (record { note = note; owed = among; made = refl });
-    sound = λ none. cc;
+    merged = merged_own e.came e.own e.heard (own_slip_of old.lane note) x.merged;
+    made = all_more (IsOwnSlip old.lane notes x.left (is_silent now)) e.own (own_slip_of old.lane note) x.made (record { note = note; owed = owed; made = refl });
+    sound = λ none. let bad : true ≡ false = sym went ∙ none in cc;
   }
 
   -- a slip that came
-  pub heard_more : (slip : Slip) (next : Inbox Slip) → next.channel ≡ inbox.channel → next.lanes ≡ inbox.lanes → taken next ≡ taken inbox ++ slip ∷ []
-      → HasExchanged lane notes before now old_inbox next own (heard ++ slip ∷ []) gone
-  heard_more slip next channel lanes took = record {
+  pub heard_more : (slip : Slip) (next : Inbox Slip) → next.channel ≡ now.inbox.channel → next.lanes ≡ now.inbox.lanes → taken next ≡ taken now.inbox ++ slip ∷ []
+      → next.gone ≡ now.inbox.gone → HasExchanged notes (with_came e slip) old (with_inbox now next)
+  heard_more slip next channel lanes took still = record {
+    lane = x.lane;
+    accepted = x.accepted;
+    left = x.left;
+    first = x.first;
     offered = x.offered;
+    all = x.all;
+    whole = x.whole;
+    tells = λ fresh. x.tells fresh ∙ ap (λ g. any_refused now.senders || is_some g) (sym still);
     channel = channel ∙ x.channel;
     lanes = lanes ∙ x.lanes;
-    came = x.came ++ slip ∷ [];
-    took = took ∙ ap (λ l. l ++ slip ∷ []) x.took ∙ append_assoc (taken old_inbox) x.came (slip ∷ []);
-    merged = merged_front x.came own heard slip x.merged;
-    made = x.made;
+    took = took ∙ ap (λ l. l ++ slip ∷ []) x.took ∙ append_assoc (taken old.inbox) e.came (slip ∷ []);
+    merged = merged_front e.came e.own e.heard slip x.merged;
+    made = subst (λ g. AllByRecursion (IsOwnSlip old.lane notes x.left (is_some g)) e.own) (sym still) x.made;
     sound = x.sound;
   }
 
-  -- a channel was found gone, and nothing came
-  pub found_gone : (next : Inbox Slip) → next.channel ≡ inbox.channel → next.lanes ≡ inbox.lanes → taken next ≡ taken inbox
-      → HasExchanged lane notes before now old_inbox next own heard true
-  found_gone next channel lanes took = record {
-    offered = all_found_gone (for_boxes notes) gone before now x.offered;
+  -- the channel of slips was found silent
+  pub gone_more : (next : Inbox Slip) → next.channel ≡ now.inbox.channel → next.lanes ≡ now.inbox.lanes → taken next ≡ taken now.inbox
+      → is_some next.gone ≡ true → HasExchanged notes e old (found_gone (with_inbox now next))
+  gone_more next channel lanes took silent = record {
+    lane = x.lane;
+    accepted = x.accepted;
+    left = x.left;
+    first = x.first;
+    offered = x.offered;
+    all = x.all;
+    whole = λ none. cc;
+    tells = λ fresh. sym (ap (λ b. any_refused now.senders || b) silent ∙ or_true (any_refused now.senders));
     channel = channel ∙ x.channel;
     lanes = lanes ∙ x.lanes;
-    came = x.came;
     took = took ∙ x.took;
     merged = x.merged;
-    made = x.made;
+    made = made_weaker old.lane notes x.left notes x.left (is_silent now) (is_some next.gone)
+        (λ n h. elim h [
+          | inl l ↦ inl l
+          | inr a ↦ inr (a.0, silent)
+        ]) e.own x.made;
     sound = λ none. cc;
   }
 
+-- these ends, and this gatherer
+abbrev pub sending : LaneEnds → Gather → Sending
+sending ends gather = record { ends = ends; gather = gather }
+
+-- a copy more is left where these ends were
+abbrev pub Leaves : Note → LaneEnds → LaneEnds → Type 0
+Leaves note now next = (notes : List Note) (e : Episode) (old : LaneEnds) → HasExchanged notes e old now
+    → (y : HasExchanged (notes ++ note ∷ []) e old next) × IsAmong note y.left
+
 -- the same steps within a message
-module _ (lane : ℕ) (notes : List Note) (txn : Txn) (n : ℕ) (past : Episode) (before now : List (Sender Note)) (old_inbox inbox : Inbox Slip) (gather : Gather) (gone : Bool)
-    (x : IsUnderWay lane notes txn n past before now old_inbox inbox gather gone) where
-  pub way_offered : (note : Note) (next : List (Sender Note)) → IsOffered note.mailbox (λ sender. note) true now next
-      → IsUnderWay lane (notes ++ note ∷ []) txn n past before next old_inbox inbox gather gone
-  way_offered note next o = record {
+module _ (notes : List Note) (txn : Txn) (n : ℕ) (past : Episode) (old : LaneEnds) (now : Sending) (x : IsUnderWay notes txn n past old now) where
+  pub way_offered : (note : Note) (next : List (Sender Note)) → any_refused now.ends.senders ≡ false → IsOffered note.mailbox (λ sender. note) true now.ends.senders next
+      → IsUnderWay (notes ++ note ∷ []) txn n past old (sending (with_senders now.ends next) now.gather)
+  way_offered note next none o = record {
     now = x.now;
     is = x.is;
-    exchanged = offered_more lane notes before now old_inbox inbox (past.own ++ x.now.own) (past.heard ++ x.now.heard) gone x.exchanged note next o;
-    took = x.took;
+    exchanged = offered_more notes (joined past x.now) old now.ends x.exchanged note next none o;
     gathered = x.gathered;
   }
 
-  -- the lane's own slip more
-  with_own : (more : List Note) (slip : Slip) → HasExchanged lane more before now old_inbox inbox ((past.own ++ x.now.own) ++ slip ∷ []) ((past.heard ++ x.now.heard) ++ slip ∷ []) true
-      → HasExchanged lane more before now old_inbox inbox (past.own ++ (x.now.own ++ slip ∷ [])) (past.heard ++ (x.now.heard ++ slip ∷ [])) true
-  with_own more slip h =
-      let P : List Slip → Type 0 = λ l. HasExchanged lane more before now old_inbox inbox l ((past.heard ++ x.now.heard) ++ slip ∷ []) true in
-      let Q : List Slip → Type 0 = λ l. HasExchanged lane more before now old_inbox inbox (past.own ++ (x.now.own ++ slip ∷ [])) l true in
-      subst Q (append_assoc past.heard x.now.heard (slip ∷ [])) (subst P (append_assoc past.own x.now.own (slip ∷ [])) h)
-
-  pub way_refused : (note : Note) (next : Gather) → (own_slip_of lane note).txn ≡ txn
-      → (times_named (own_slip_of lane note).txn (own_slip_of lane note).place x.now.heard ≡ 0) × HasGathered txn n (x.now.heard ++ own_slip_of lane note ∷ []) next
-      → IsUnderWay lane (notes ++ note ∷ []) txn n past before now old_inbox inbox next true
-  way_refused note next same g =
-      let slip : Slip = own_slip_of lane note in
+  pub way_left : (note : Note) (next : LaneEnds) (gather : Gather) → Leaves note now.ends next → next.gone ≡ true → (own_slip_of old.lane note).txn ≡ txn
+      → (times_named (own_slip_of old.lane note).txn (own_slip_of old.lane note).place x.now.heard ≡ 0) × HasGathered txn n (x.now.heard ++ own_slip_of old.lane note ∷ []) gather
+      → IsUnderWay (notes ++ note ∷ []) txn n past old (sending next gather)
+  way_left note next gather leaves went same g =
+      let slip : Slip = own_slip_of old.lane note in
+      let y = leaves notes (joined past x.now) old x.exchanged in
       record {
-        now = record { came = x.now.came; own = x.now.own ++ slip ∷ []; heard = x.now.heard ++ slip ∷ [] };
+        now = with_own x.now slip;
         is = episode_own txn x.now slip same g.0 x.is;
-        exchanged = with_own (notes ++ note ∷ []) slip (refused_more lane notes before now old_inbox inbox (past.own ++ x.now.own) (past.heard ++ x.now.heard) gone x.exchanged note);
-        took = x.took;
+        exchanged = subst (λ e. HasExchanged (notes ++ note ∷ []) e old next) (joined_own past x.now slip)
+            (own_more (notes ++ note ∷ []) (joined past x.now) old next y.0 note (inl y.1) went);
         gathered = g.1;
       }
 
-  pub way_kept : (note : Note) → IsUnderWay lane (notes ++ note ∷ []) txn n past before now old_inbox inbox gather true
-  way_kept note = record {
+  pub way_kept : (note : Note) (next : LaneEnds) → Leaves note now.ends next → IsUnderWay (notes ++ note ∷ []) txn n past old (sending next now.gather)
+  way_kept note next leaves = record {
     now = x.now;
     is = x.is;
-    exchanged = unanswered_more lane notes before now old_inbox inbox (past.own ++ x.now.own) (past.heard ++ x.now.heard) gone x.exchanged note;
-    took = x.took;
+    exchanged = (leaves notes (joined past x.now) old x.exchanged).0;
     gathered = x.gathered;
   }
 
-  pub way_failed : (note : Note) (next : Gather) → IsAmong note notes → (own_slip_of lane note).txn ≡ txn
-      → (times_named (own_slip_of lane note).txn (own_slip_of lane note).place x.now.heard ≡ 0) × HasGathered txn n (x.now.heard ++ own_slip_of lane note ∷ []) next
-      → IsUnderWay lane notes txn n past before now old_inbox inbox next true
-  way_failed note next among same g =
-      let slip : Slip = own_slip_of lane note in
+  pub way_failed : (note : Note) (next : Gather) → IsAmong note notes → is_silent now.ends ≡ true → now.ends.gone ≡ true → (own_slip_of old.lane note).txn ≡ txn
+      → (times_named (own_slip_of old.lane note).txn (own_slip_of old.lane note).place x.now.heard ≡ 0) × HasGathered txn n (x.now.heard ++ own_slip_of old.lane note ∷ []) next
+      → IsUnderWay notes txn n past old (sending now.ends next)
+  way_failed note next among silent went same g =
+      let slip : Slip = own_slip_of old.lane note in
       record {
-        now = record { came = x.now.came; own = x.now.own ++ slip ∷ []; heard = x.now.heard ++ slip ∷ [] };
+        now = with_own x.now slip;
         is = episode_own txn x.now slip same g.0 x.is;
-        exchanged = with_own notes slip (failed_more lane notes before now old_inbox inbox (past.own ++ x.now.own) (past.heard ++ x.now.heard) gone x.exchanged note among);
-        took = x.took;
+        exchanged = subst (λ e. HasExchanged notes e old now.ends) (joined_own past x.now slip)
+            (own_more notes (joined past x.now) old now.ends x.exchanged note (inr (among, silent)) went);
         gathered = g.1;
       }
 
-  pub way_heard : (slip : Slip) (after : Inbox Slip) (next : Gather) → after.channel ≡ inbox.channel → after.lanes ≡ inbox.lanes → taken after ≡ taken inbox ++ slip ∷ []
-      → HasGathered txn n (x.now.heard ++ slip ∷ []) next
-      → IsUnderWay lane notes txn n past before now old_inbox after next gone
-  way_heard slip after next channel lanes took g =
-      let P : List Slip → Type 0 = λ l. HasExchanged lane notes before now old_inbox after (past.own ++ x.now.own) l gone in
-      record {
-        now = record { came = x.now.came ++ slip ∷ []; own = x.now.own; heard = x.now.heard ++ slip ∷ [] };
-        is = episode_came txn x.now slip x.is;
-        exchanged = subst P (append_assoc past.heard x.now.heard (slip ∷ []))
-            (heard_more lane notes before now old_inbox inbox (past.own ++ x.now.own) (past.heard ++ x.now.heard) gone x.exchanged slip after channel lanes took);
-        took = took ∙ ap (λ l. l ++ slip ∷ []) x.took ∙ append_assoc (taken old_inbox) (past.came ++ x.now.came) (slip ∷ [])
-            ∙ ap (λ l. taken old_inbox ++ l) (append_assoc past.came x.now.came (slip ∷ []));
-        gathered = g;
-      }
+  pub way_heard : (slip : Slip) (after : Inbox Slip) (next : Gather) → after.channel ≡ now.ends.inbox.channel → after.lanes ≡ now.ends.inbox.lanes
+      → taken after ≡ taken now.ends.inbox ++ slip ∷ [] → after.gone ≡ now.ends.inbox.gone → HasGathered txn n (x.now.heard ++ slip ∷ []) next
+      → IsUnderWay notes txn n past old (sending (with_inbox now.ends after) next)
+  way_heard slip after next channel lanes took still g = record {
+    now = with_came x.now slip;
+    is = episode_came txn x.now slip x.is;
+    exchanged = subst (λ e. HasExchanged notes e old (with_inbox now.ends after)) (joined_came past x.now slip)
+        (heard_more notes (joined past x.now) old now.ends x.exchanged slip after channel lanes took still);
+    gathered = g;
+  }
 
-  pub way_gone : (after : Inbox Slip) → after.channel ≡ inbox.channel → after.lanes ≡ inbox.lanes → taken after ≡ taken inbox
-      → IsUnderWay lane notes txn n past before now old_inbox after gather true
-  way_gone after channel lanes took = record {
+  pub way_gone : (after : Inbox Slip) → after.channel ≡ now.ends.inbox.channel → after.lanes ≡ now.ends.inbox.lanes → taken after ≡ taken now.ends.inbox
+      → is_some after.gone ≡ true → IsUnderWay notes txn n past old (sending (found_gone (with_inbox now.ends after)) now.gather)
+  way_gone after channel lanes took silent = record {
     now = x.now;
     is = x.is;
-    exchanged = found_gone lane notes before now old_inbox inbox (past.own ++ x.now.own) (past.heard ++ x.now.heard) gone x.exchanged after channel lanes took;
-    took = took ∙ x.took;
+    exchanged = gone_more notes (joined past x.now) old now.ends x.exchanged after channel lanes took silent;
     gathered = x.gathered;
   }
 
@@ -259,30 +351,36 @@ module _ (lane : ℕ) (notes : List Note) (txn : Txn) (n : ℕ) (past : Episode)
 abbrev pub HearsSlip : Slip → Gather → Gather → Type 0
 HearsSlip slip old new = (txn : Txn) (n : ℕ) (heard : List Slip) → HasGathered txn n heard old → HasGathered txn n (heard ++ slip ∷ []) new
 
--- a copy was handed back, or offered no more: the lane's own slip of it was given to the gatherer, or its place keeps the slip that it has
-pub refused_way : (lane : ℕ) (slip : Slip) (note : Note) (now next : List (Sender Note)) (inbox inbox' : Inbox Slip) (gather gather' : Gather) (gone gone' taken_so : Bool)
-    → note.txn.lane ≡ lane → slip ≡ own_slip_of lane note → next ≡ now → inbox' ≡ inbox → gone' ≡ true → TakesOne slip gather gather' taken_so
-    → (notes : List Note) (n : ℕ) (past : Episode) (before : List (Sender Note)) (old_inbox : Inbox Slip)
-    → IsUnderWay lane notes note.txn n past before now old_inbox inbox gather gone → IsUnderWay lane (notes ++ note ∷ []) note.txn n past before next old_inbox inbox' gather' gone'
-refused_way lane slip note now next inbox inbox' gather gather' gone gone' true here is same same_inbox went takes notes n past before old_inbox x =
-    let T : Slip → Type 0 = λ s. (times_named s.txn s.place x.now.heard ≡ 0) × HasGathered note.txn n (x.now.heard ++ s ∷ []) gather' in
-    let g : T (own_slip_of lane note) = subst T is (takes note.txn n x.now.heard x.gathered) in
-    let named : (own_slip_of lane note).txn ≡ note.txn = ap (λ l. txn_of l note.txn.number) (sym here) in
-    let Q : List (Sender Note) → Type 0 = λ l. IsUnderWay lane (notes ++ note ∷ []) note.txn n past before l old_inbox inbox gather' true in
-    let R : Inbox Slip → Type 0 = λ i. IsUnderWay lane (notes ++ note ∷ []) note.txn n past before next old_inbox i gather' true in
-    let S : Bool → Type 0 = λ b. IsUnderWay lane (notes ++ note ∷ []) note.txn n past before next old_inbox inbox' gather' b in
-    subst S (sym went) (subst R (sym same_inbox) (subst Q (sym same) (way_refused lane notes note.txn n past before now old_inbox inbox gather gone x note gather' named g)))
-refused_way lane slip note now next inbox inbox' gather gather' gone gone' false here is same same_inbox went kept notes n past before old_inbox x =
-    let G : Gather → Type 0 = λ g. IsUnderWay lane (notes ++ note ∷ []) note.txn n past before now old_inbox inbox g true in
-    let Q : List (Sender Note) → Type 0 = λ l. IsUnderWay lane (notes ++ note ∷ []) note.txn n past before l old_inbox inbox gather' true in
-    let R : Inbox Slip → Type 0 = λ i. IsUnderWay lane (notes ++ note ∷ []) note.txn n past before next old_inbox i gather' true in
-    let S : Bool → Type 0 = λ b. IsUnderWay lane (notes ++ note ∷ []) note.txn n past before next old_inbox inbox' gather' b in
-    subst S (sym went) (subst R (sym same_inbox) (subst Q (sym same) (subst G (sym kept) (way_kept lane notes note.txn n past before now old_inbox inbox gather gone x note))))
+-- a copy was left: the lane's own slip of it was given to the gatherer, or its place keeps the slip that it has
+left_by : (note : Note) (now : Sending) (next : LaneEnds) (gather : Gather) (taken_so : Bool) → note.txn.lane ≡ now.ends.lane → Leaves note now.ends next → next.gone ≡ true
+    → TakesOne (own_slip_of now.ends.lane note) now.gather gather taken_so
+    → Continues note.txn (note ∷ []) now (sending next gather)
+left_by note now next gather true here leaves went takes notes n past old x =
+    let same : now.ends.lane ≡ old.lane = x.exchanged.lane in
+    let named : txn_of now.ends.lane note.txn.number ≡ note.txn = ap (λ l. txn_of l note.txn.number) (sym here) in
+    let N : ℕ → Type 0 = λ l. (times_named (own_slip_of l note).txn note.place x.now.heard ≡ 0) × HasGathered note.txn n (x.now.heard ++ own_slip_of l note ∷ []) gather in
+    way_left notes note.txn n past old now x note next gather leaves went (ap (λ l. txn_of l note.txn.number) (sym same) ∙ named) (subst N same (takes note.txn n x.now.heard x.gathered))
+left_by note now next gather false here leaves went kept notes n past old x =
+    subst (λ g. IsUnderWay (notes ++ note ∷ []) note.txn n past old (sending next g)) (sym kept) (way_kept notes note.txn n past old now x note next leaves)
 
-pub offered_way : (lane mailbox : ℕ) (note : Note) (now next : List (Sender Note)) (inbox : Inbox Slip) (gather : Gather) (gone : Bool)
-    → note.mailbox ≡ mailbox → IsOffered mailbox (λ sender. note) true now next
-    → (notes : List Note) (n : ℕ) (past : Episode) (before : List (Sender Note)) (old_inbox : Inbox Slip)
-    → IsUnderWay lane notes note.txn n past before now old_inbox inbox gather gone → IsUnderWay lane (notes ++ note ∷ []) note.txn n past before next old_inbox inbox gather gone
-offered_way lane mailbox note now next inbox gather gone is o notes n past before old_inbox x =
-    let P : ℕ → Type 0 = λ b. IsOffered b (λ sender. note) true now next in
-    way_offered lane notes note.txn n past before now old_inbox inbox gather gone x note next (subst P (sym is) o)
+pub left_way : (slip : Slip) (note : Note) (now next : Sending) (ends : LaneEnds) (taken_so : Bool) → note.txn.lane ≡ now.ends.lane → slip ≡ own_slip_of now.ends.lane note
+    → Leaves note now.ends ends → ends.gone ≡ true → next.ends ≡ ends → TakesOne slip now.gather next.gather taken_so → Continues note.txn (note ∷ []) now next
+left_way slip note now next ends taken_so here is leaves went same takes notes n past old x =
+    let T : Slip → Type 0 = λ s. TakesOne s now.gather next.gather taken_so in
+    subst (λ e. IsUnderWay (notes ++ note ∷ []) note.txn n past old (sending e next.gather)) (sym same)
+    (left_by note now ends next.gather taken_so here leaves went (subst T is takes) notes n past old x)
+
+pub leaves_refused : (mailbox : ℕ) (note : Note) (now : LaneEnds) (next : List (Sender Note)) → note.mailbox ≡ mailbox → IsOffered mailbox (λ sender. note) false now.senders next
+    → Leaves note now (found_gone (with_senders now next))
+leaves_refused mailbox note now next is o notes e old x =
+    let P : ℕ → Type 0 = λ b. IsOffered b (λ sender. note) false now.senders next in
+    refused_more notes e old now x note next (subst P (sym is) o)
+
+pub leaves_unoffered : (note : Note) (now : LaneEnds) → any_refused now.senders ≡ true → Leaves note now now
+leaves_unoffered note now refused notes e old x = unoffered_more notes e old now x note refused
+
+pub offered_way : (mailbox : ℕ) (note : Note) (now : Sending) (next : List (Sender Note)) → note.mailbox ≡ mailbox → any_refused now.ends.senders ≡ false
+    → IsOffered mailbox (λ sender. note) true now.ends.senders next → Continues note.txn (note ∷ []) now (sending (with_senders now.ends next) now.gather)
+offered_way mailbox note now next is none o notes n past old x =
+    let P : ℕ → Type 0 = λ b. IsOffered b (λ sender. note) true now.ends.senders next in
+    way_offered notes note.txn n past old now x note next none (subst P (sym is) o)

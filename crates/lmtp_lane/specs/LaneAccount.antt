@@ -1,5 +1,5 @@
 -- What the delivery of a lane has come to.
-use Rattle.std.specs.Prelude.{◌≡◌, ⊤, ℕ, Bool, nat_lt, if◌then◌else◌, List, [], ◌∷◌, ◌++◌, length, map, flat_map, Option, Some, None}
+use Rattle.std.specs.Prelude.{◌≡◌, ⊤, ℕ, nat_lt, if◌then◌else◌, List, [], ◌∷◌, ◌++◌, length, map, flat_map, Option, Some, None}
 use Rattle.std.specs.Option.{IfSome}
 use Rattle.std.specs.List.{AllByRecursion}
 use Rattle.mail_world.specs.declared.Note.{Note}
@@ -8,13 +8,11 @@ use Rattle.mail_world.specs.declared.Outcome.{Outcome}
 use Rattle.mail_world.specs.declared.Verdict.{Verdict}
 use Rattle.mail_world.specs.declared.Verdict.TheVariants.{Whole, TooLarge, NoRoom}
 use Rattle.mail_world.specs.declared.limits.TheConstants.{MESSAGE_LIMIT, NUMBER_LIMIT}
-use Rattle.mail_world.specs.Session.{Session}
 use Rattle.mail_world.specs.Counts.{counted}
-use Rattle.mail_world.specs.Slips.{answers, txn_of}
+use Rattle.mail_world.specs.Slips.{answers, txn_of, Gather}
 use Rattle.mail_world.specs.Lists.{Transaction, VerdictFits, OutcomesIn, copies, copies_from}
-use Rattle.mail_post.specs.Channel.{Sender, Inbox, taken}
 use Rattle.msg_depot.specs.declared.view.Claim.{Claim}
-use Rattle.lmtp_lane.specs.LaneExchange.{HasExchanged, Episode, IsEpisode, sent_as}
+use Rattle.lmtp_lane.specs.LaneExchange.{LaneEnds, HasExchanged, Episode, joined, IsEpisode}
 
 -- the outcomes of a whole message are those of the slips that were heard since it was sealed
 pub record IsAnswered (lane : ℕ) (heard : List Slip) (t : Transaction) : Type 0 where
@@ -23,35 +21,37 @@ pub record IsAnswered (lane : ℕ) (heard : List Slip) (t : Transaction) : Type 
   pub whole : heard ≡ before ++ since
   pub outcomes : OutcomesIn lane since t t.disposition.verdict
 
--- an episode for each transaction, one after the other
+-- an episode for each transaction, one after the other; the outcomes of a whole message are those of the slips of its own
 abbrev pub AreEpisodes : ℕ → List Transaction → List Episode → Type 0
 AreEpisodes lane [] [] = ⊤
 AreEpisodes lane [] (e ∷ es) = ⊥
 AreEpisodes lane (t ∷ ts) [] = ⊥
-AreEpisodes lane (t ∷ ts) (e ∷ es) = IsEpisode (txn_of lane t.number) e × AreEpisodes lane ts es
+AreEpisodes lane (t ∷ ts) (e ∷ es) =
+    IsEpisode (txn_of lane t.number) e × OutcomesIn lane e.heard t t.disposition.verdict × AreEpisodes lane ts es
 
--- All was heard transaction by transaction. So a lane's own slips of a transaction name each place once, and none that its channel had given a slip for.
-pub record IsHeardInTurn (lane : ℕ) (old_inbox new_inbox : Inbox Slip) (own heard : List Slip) (ts : List Transaction) : Type 0 where
+-- All was heard transaction by transaction. So a lane's own slips of a transaction name each place once, and none that its
+-- channel had given a slip for.
+pub record IsHeardInTurn (lane : ℕ) (ts : List Transaction) (all : Episode) : Type 0 where
   pub episodes : List Episode
   pub each : AreEpisodes lane ts episodes
-  pub took : taken new_inbox ≡ taken old_inbox ++ flat_map (λ e. e.came) episodes
-  pub own_is : own ≡ flat_map (λ e. e.own) episodes
-  pub heard_is : heard ≡ flat_map (λ e. e.heard) episodes
+  pub came_is : all.came ≡ flat_map (λ e. e.came) episodes
+  pub own_is : all.own ≡ flat_map (λ e. e.own) episodes
+  pub heard_is : all.heard ≡ flat_map (λ e. e.heard) episodes
 
 -- the moments that a clock may answer are such
 abbrev pub AgreesWith : (ℕ → Type 0) → (ℕ → Type 0) → Type 0
 AgreesWith May Known = (moment : ℕ) → May moment → Known moment
 
--- Where n DATA commands were accepted, and this became of the data that ended: the senders gave what is owed, the outcomes are those
--- of the slips, and each moment is one that the clock may answer.
-pub record HasOffered (lane : ℕ) (May : ℕ → Type 0) (old_senders new_senders : List (Sender Note)) (old_inbox new_inbox : Inbox Slip)
-    (gone : Bool) (accepted : ℕ) (n : ℕ) (ts : List Transaction) : Type 0 where
+-- Where n DATA commands were accepted, and this became of the data that ended: the senders gave what is owed, the outcomes
+-- are those of the slips, and each moment is one that the clock may answer.
+pub record HasOffered (May : ℕ → Type 0) (accepted : ℕ) (old new : LaneEnds) (n : ℕ) (ts : List Transaction) : Type 0 where
   pub count : accepted ≡ counted n
+  pub came : List Slip
   pub own : List Slip
   pub heard : List Slip
-  pub exchanged : HasExchanged lane (flat_map (copies lane) ts) old_senders new_senders old_inbox new_inbox own heard gone
-  pub turns : IsHeardInTurn lane old_inbox new_inbox own heard ts
-  pub answered : AllByRecursion (IsAnswered lane heard) ts
+  pub exchanged : HasExchanged (flat_map (copies old.lane) ts) (record { came = came; own = own; heard = heard }) old new
+  pub turns : IsHeardInTurn old.lane ts (record { came = came; own = own; heard = heard })
+  pub answered : AllByRecursion (IsAnswered old.lane heard) ts
   pub verdicts : AllByRecursion VerdictFits ts
   pub moments : AllByRecursion (λ t. May t.disposition.moment) ts
 
@@ -67,19 +67,29 @@ verdict_with (Some claim) = Whole
 
 -- the verdict on a message of that number, of that length
 abbrev pub verdict_on : ℕ → ℕ → Option Claim → Verdict
-verdict_on accepted size draft = if nat_lt NUMBER_LIMIT accepted then NoRoom else if nat_lt MESSAGE_LIMIT size then TooLarge else verdict_with draft
+verdict_on accepted size draft =
+    if nat_lt NUMBER_LIMIT accepted then NoRoom
+    else if nat_lt MESSAGE_LIMIT size then TooLarge
+    else verdict_with draft
+
+-- the outcomes that a gatherer has
+abbrev pub outcomes_in : List (Option Outcome) → List Outcome
+outcomes_in [] = []
+outcomes_in (Some outcome ∷ places) = outcome ∷ outcomes_in places
+outcomes_in (None ∷ places) = outcomes_in places
+
+abbrev pub told_by : Gather → List Outcome
+told_by gather = outcomes_in gather.places
 
 -- A whole message went to its recipients: its copies more are owed, and its outcomes are those of slips that were heard since.
-pub record IsDelivered (lane number : ℕ) (session : Session) (moment : ℕ) (message : List ℕ) (told : List Outcome) (notes : List Note) (past : Episode)
-    (old_senders new_senders : List (Sender Note)) (old_inbox new_inbox : Inbox Slip) (gone : Bool) : Type 0 where
+pub record IsDelivered (t : Transaction) (told : List Outcome) (notes : List Note) (past : Episode) (old new : LaneEnds)
+    : Type 0 where
   pub now : Episode
-  pub is : IsEpisode (txn_of lane number) now
-  pub exchanged : HasExchanged lane (notes ++ copies_from lane (sent_as number session moment message) 0 session.recipients) old_senders new_senders old_inbox new_inbox
-      (past.own ++ now.own) (past.heard ++ now.heard) gone
-  pub took : taken new_inbox ≡ taken old_inbox ++ (past.came ++ now.came)
-  pub outcomes : map (λ o. Some o) told ≡ answers (txn_of lane number) (length session.recipients) now.heard
+  pub is : IsEpisode (txn_of old.lane t.number) now
+  pub exchanged : HasExchanged (notes ++ copies_from old.lane t 0 t.session.recipients) (joined past now) old new
+  pub outcomes : map (λ o. Some o) told ≡ answers (txn_of old.lane t.number) (length t.session.recipients) now.heard
 
-abbrev pub Delivers : ℕ → ℕ → Session → ℕ → List ℕ → List Outcome → List (Sender Note) → List (Sender Note) → Inbox Slip → Inbox Slip → Bool → Bool → Type 0
-Delivers lane number session moment message told now next inbox inbox' gone gone' = (notes : List Note) (past : Episode) (before : List (Sender Note)) (old_inbox : Inbox Slip)
-    → HasExchanged lane notes before now old_inbox inbox past.own past.heard gone → taken inbox ≡ taken old_inbox ++ past.came
-    → IsDelivered lane number session moment message told notes past before next old_inbox inbox' gone'
+-- so it is, whatever was exchanged before
+abbrev pub Delivers : Transaction → List Outcome → LaneEnds → LaneEnds → Type 0
+Delivers t told now next = (notes : List Note) (past : Episode) (old : LaneEnds)
+    → HasExchanged notes past old now → IsDelivered t told notes past old next

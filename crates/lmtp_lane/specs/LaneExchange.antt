@@ -1,5 +1,5 @@
 -- What a lane gave to the mailboxes' channels, and what it heard of the copies.
-use Rattle.std.specs.Prelude.{◌≡◌, ◌⊎◌, ℕ, ◌==◌, Bool, true, false, List, [], ◌∷◌, ◌++◌, filter, Result, Ok, Err}
+use Rattle.std.specs.Prelude.{◌≡◌, ◌⊎◌, ℕ, ◌==◌, Bool, true, false, ◌||◌, List, [], ◌∷◌, ◌++◌, filter, length, None, is_some, Result, Ok, Err}
 use Rattle.std.specs.List.{AllByRecursion}
 use Rattle.mail_world.specs.declared.Txn.{Txn}
 use Rattle.mail_world.specs.declared.Note.{Note}
@@ -10,7 +10,44 @@ use Rattle.mail_world.specs.Lists.{Transaction, copies_from}
 use Rattle.mail_world.specs.Slips.{times_named, Gather, own_slip, txn_of, IsMerged}
 use Rattle.mail_post.specs.Channel.{Sender, Inbox, taken}
 use Rattle.mail_post.specs.Gathering.{HasGathered}
-use Rattle.mail_post.specs.Offered.{HaveAccepted}
+use Rattle.mail_post.specs.Offered.{any_refused, HaveSent}
+use Rattle.lmtp_lane.specs.declared.exchange.Exchange.{Exchange}
+
+-- a lane's ends of the channels
+pub record LaneEnds : Type 0 where
+  pub lane : ℕ
+  pub senders : List (Sender Note)
+  pub inbox : Inbox Slip
+  pub gone : Bool  -- a channel was found gone
+
+-- a lane while it sends a message
+pub record Sending : Type 0 where
+  pub ends : LaneEnds
+  pub gather : Gather
+
+abbrev pub ends_of : {N : Type 0} → Exchange N → LaneEnds
+ends_of x = record { lane = x.lane; senders = x.senders.items; inbox = x.slips; gone = x.gone }
+
+abbrev pub sending_of : {N : Type 0} → Exchange N → Sending
+sending_of x = record { ends = ends_of x; gather = x.gather.gather }
+
+-- the ends with a channel found gone
+abbrev pub found_gone : LaneEnds → LaneEnds
+found_gone ends = record { lane = ends.lane; senders = ends.senders; inbox = ends.inbox; gone = true }
+
+-- nothing more comes on the channel of slips
+abbrev pub is_silent : LaneEnds → Bool
+is_silent ends = is_some ends.inbox.gone
+
+-- a channel is gone: a mailbox's handed a copy back, or the channel of slips is silent
+abbrev pub is_gone : LaneEnds → Bool
+is_gone ends = any_refused ends.senders || is_silent ends
+
+-- as many senders, and as many places for outcomes
+pub record KeepsRoom (old new : Sending) : Type 0 where
+  pub lane : new.ends.lane ≡ old.ends.lane
+  pub senders : length new.ends.senders ≡ length old.ends.senders
+  pub places : length new.gather.places ≡ length old.gather.places
 
 -- a whole message, before its outcomes are known
 abbrev pub sent_as : ℕ → Session → ℕ → List ℕ → Transaction
@@ -21,16 +58,16 @@ sent_as number session moment message = record {
   disposition = record { verdict = Whole; moment = moment; outcomes = [] };
 }
 
--- its copy for the recipient at a place
-abbrev pub copy_at : ℕ → ℕ → Session → ℕ → List ℕ → ℕ → ℕ → Note
-copy_at lane number session moment message place box = record {
-  txn = txn_of lane number;
+-- a transaction's copy for the recipient at a place
+abbrev pub copy_at : ℕ → Transaction → ℕ → ℕ → Note
+copy_at lane t place box = record {
+  txn = txn_of lane t.number;
   place = place;
   mailbox = box;
-  sender = session.sender;
-  client = session.client;
-  moment = moment;
-  message = message;
+  sender = t.session.sender;
+  client = t.session.client;
+  moment = t.disposition.moment;
+  message = t.message;
 }
 
 -- the copy is one of these
@@ -46,10 +83,10 @@ for_box box notes = filter (λ note. note.mailbox == box) notes
 abbrev pub own_slip_of : ℕ → Note → Slip
 own_slip_of lane note = own_slip lane note.txn.number note.place note.mailbox
 
--- a slip that a lane made itself, of one of these copies
-pub record IsOwnSlip (lane : ℕ) (notes : List Note) (slip : Slip) : Type 0 where
+-- a slip that a lane made itself: of one of the copies that are left, or, once the channel of slips is silent, of any copy
+pub record IsOwnSlip (lane : ℕ) (notes left : List Note) (silent : Bool) (slip : Slip) : Type 0 where
   pub note : Note
-  pub owed : IsAmong note notes
+  pub owed : IsAmong note left ⊎ (IsAmong note notes × (silent ≡ true))
   pub made : slip ≡ own_slip_of lane note
 
 -- whether a channel took what was offered
@@ -57,45 +94,55 @@ abbrev pub is_ok : {A E : Type 0} → Result A E → Bool
 is_ok (Ok x) = true
 is_ok (Err e) = false
 
--- What a lane that owed these copies gave to the channels, and what it heard: slips that its channel gave, in their order, and
--- between them its own, of which there is none unless a channel was found gone.
-pub record HasExchanged (lane : ℕ) (notes : List Note) (old_senders new_senders : List (Sender Note)) (old_inbox new_inbox : Inbox Slip)
-    (own heard : List Slip) (gone : Bool) : Type 0 where
-  pub offered : HaveAccepted (λ box. for_box box notes) gone old_senders new_senders
-  pub channel : new_inbox.channel ≡ old_inbox.channel
-  pub lanes : new_inbox.lanes ≡ old_inbox.lanes
-  pub came : List Slip
-  pub took : taken new_inbox ≡ taken old_inbox ++ came
-  pub merged : IsMerged came own heard
-  pub made : AllByRecursion (IsOwnSlip lane notes) own
-  pub sound : gone ≡ false → own ≡ []
-
--- What was heard is merged of what came and of a lane's own slips, and one of its own stands only where none of these before it names its place.
-abbrev pub IsTimely : List Slip → List Slip → List Slip → List Slip → Type 0
-IsTimely before came own [] = (came ≡ []) × (own ≡ [])
-IsTimely before came own (slip ∷ heard) =
-    ((rest : List Slip) × (came ≡ slip ∷ rest) × IsTimely (before ++ slip ∷ []) rest own heard)
-    ⊎ ((rest : List Slip) × (own ≡ slip ∷ rest) × (times_named slip.txn slip.place before ≡ 0) × IsTimely (before ++ slip ∷ []) came rest heard)
-
 -- what a lane heard in a stretch of time, and of it what its channel gave and its own slips
 pub record Episode : Type 0 where
   pub came : List Slip
   pub own : List Slip
   pub heard : List Slip
 
+-- two, one after the other
+abbrev pub joined : Episode → Episode → Episode
+joined a b = record { came = a.came ++ b.came; own = a.own ++ b.own; heard = a.heard ++ b.heard }
+
+-- What a lane that owed these copies gave to the channels: the first so many, and once a channel handed one back no more. And
+-- what it heard: slips that its channel gave, in their order, and between them its own, each of a copy that was left, or of one
+-- whose slip can't come any more. It says that a channel is gone just where one is, if the channel of slips wasn't at first.
+pub record HasExchanged (notes : List Note) (e : Episode) (old new : LaneEnds) : Type 0 where
+  pub lane : new.lane ≡ old.lane
+  pub accepted : List Note
+  pub left : List Note
+  pub first : notes ≡ accepted ++ left
+  pub offered : HaveSent (λ box. for_box box accepted) old.senders new.senders
+  pub all : any_refused new.senders ≡ false → left ≡ []
+  pub whole : new.gone ≡ false → any_refused new.senders ≡ false
+  pub tells : old.inbox.gone ≡ None → new.gone ≡ is_gone new
+  pub channel : new.inbox.channel ≡ old.inbox.channel
+  pub lanes : new.inbox.lanes ≡ old.inbox.lanes
+  pub took : taken new.inbox ≡ taken old.inbox ++ e.came
+  pub merged : IsMerged e.came e.own e.heard
+  pub made : AllByRecursion (IsOwnSlip old.lane notes left (is_silent new)) e.own
+  pub sound : new.gone ≡ false → e.own ≡ []
+
+-- What was heard is merged of what came and of a lane's own slips, and one of its own stands only where none of these before
+-- it names its place.
+abbrev pub IsTimely : List Slip → List Slip → List Slip → List Slip → Type 0
+IsTimely before came own [] = (came ≡ []) × (own ≡ [])
+IsTimely before came own (slip ∷ heard) =
+    ((rest : List Slip) × (came ≡ slip ∷ rest) × IsTimely (before ++ slip ∷ []) rest own heard)
+    ⊎ ((rest : List Slip) × (own ≡ slip ∷ rest) × (times_named slip.txn slip.place before ≡ 0)
+    × IsTimely (before ++ slip ∷ []) came rest heard)
+
 -- an episode of that transaction: the lane's own slips are of it, each for a place that had no slip
 pub record IsEpisode (txn : Txn) (e : Episode) : Type 0 where
   pub timely : IsTimely [] e.came e.own e.heard
   pub named : AllByRecursion (λ slip. slip.txn ≡ txn) e.own
 
--- the same within a message of n recipients, before which this was heard: its gatherer has the answers of the slips heard since
-pub record IsUnderWay (lane : ℕ) (notes : List Note) (txn : Txn) (n : ℕ) (past : Episode) (old_senders new_senders : List (Sender Note))
-    (old_inbox new_inbox : Inbox Slip) (gather : Gather) (gone : Bool) : Type 0 where
+-- within a message of n recipients, before which this was heard: its gatherer has the answers of the slips heard since
+pub record IsUnderWay (notes : List Note) (txn : Txn) (n : ℕ) (past : Episode) (old : LaneEnds) (new : Sending) : Type 0 where
   pub now : Episode
   pub is : IsEpisode txn now
-  pub exchanged : HasExchanged lane notes old_senders new_senders old_inbox new_inbox (past.own ++ now.own) (past.heard ++ now.heard) gone
-  pub took : taken new_inbox ≡ taken old_inbox ++ (past.came ++ now.came)
-  pub gathered : HasGathered txn n now.heard gather
+  pub exchanged : HasExchanged notes (joined past now) old new.ends
+  pub gathered : HasGathered txn n now.heard new.gather
 
 -- a gatherer that was given a slip for a place that had none, or for one that keeps what it has
 abbrev pub TakesOne : Slip → Gather → Gather → Bool → Type 0
@@ -104,12 +151,20 @@ TakesOne slip old new true = (txn : Txn) (n : ℕ) (heard : List Slip) → HasGa
 TakesOne slip old new false = new ≡ old
 
 -- what was under way is so with these copies more
-abbrev pub Continues : ℕ → Txn → List Note → List (Sender Note) → List (Sender Note) → Inbox Slip → Inbox Slip → Gather → Gather → Bool → Bool → Type 0
-Continues lane txn more now next inbox inbox' gather gather' gone gone' = (notes : List Note) (n : ℕ) (past : Episode) (before : List (Sender Note)) (old_inbox : Inbox Slip)
-    → IsUnderWay lane notes txn n past before now old_inbox inbox gather gone → IsUnderWay lane (notes ++ more) txn n past before next old_inbox inbox' gather' gone'
+abbrev pub Continues : Txn → List Note → Sending → Sending → Type 0
+Continues txn more now next = (notes : List Note) (n : ℕ) (past : Episode) (old : LaneEnds)
+    → IsUnderWay notes txn n past old now → IsUnderWay (notes ++ more) txn n past old next
 
--- what was under way with the copies of a transaction is so, whatever was heard since
-abbrev pub Awaits : ℕ → ℕ → Session → List (Sender Note) → List (Sender Note) → Inbox Slip → Inbox Slip → Gather → Gather → Bool → Bool → Type 0
-Awaits lane number session now next inbox inbox' gather gather' gone gone' = (moment : ℕ) (message : List ℕ) (notes : List Note) (n : ℕ) (past : Episode) (before : List (Sender Note)) (old_inbox : Inbox Slip)
-    → IsUnderWay lane (notes ++ copies_from lane (sent_as number session moment message) 0 session.recipients) (txn_of lane number) n past before now old_inbox inbox gather gone
-    → IsUnderWay lane (notes ++ copies_from lane (sent_as number session moment message) 0 session.recipients) (txn_of lane number) n past before next old_inbox inbox' gather' gone'
+-- what was under way with the copies of the transaction of that number is so, whatever was heard since
+abbrev pub Awaits : ℕ → Session → Sending → Sending → Type 0
+Awaits number session now next = (moment : ℕ) (message : List ℕ) (notes : List Note) (n : ℕ) (past : Episode) (old : LaneEnds)
+    → IsUnderWay (notes ++ copies_from now.ends.lane (sent_as number session moment message) 0 session.recipients)
+    (txn_of now.ends.lane number) n past old now
+    → IsUnderWay (notes ++ copies_from now.ends.lane (sent_as number session moment message) 0 session.recipients)
+    (txn_of now.ends.lane number) n past old next
+
+-- a message that was sent, from its first offer to its last answer
+abbrev pub Sends : Transaction → LaneEnds → Sending → Type 0
+Sends t now next = (notes : List Note) (past : Episode) (old : LaneEnds) → HasExchanged notes past old now
+    → IsUnderWay (notes ++ copies_from now.lane t 0 t.session.recipients) (txn_of now.lane t.number)
+    (length t.session.recipients) past old next

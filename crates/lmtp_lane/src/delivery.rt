@@ -1,19 +1,21 @@
 //! What a lane does with the messages of its conversations.
 
-ghost use Rattle.std.specs.Prelude.{◌≡◌, ◌≤◌, ◌<◌, ℕ, List, [], length, vec_capacity, false};
-ghost use Rattle.mail_world.specs.declared.limits.TheConstants.{RECIPIENT_LIMIT, NUMBER_LIMIT};
+ghost use Rattle.std.specs.Prelude.{◌≡◌, ◌≤◌, ◌<◌, ℕ, List, [], length, false};
+ghost use Rattle.mail_world.specs.declared.limits.TheConstants.{NUMBER_LIMIT};
 ghost use Rattle.mail_world.specs.Lists.{Transaction};
+ghost use Rattle.mail_post.specs.Gathering.{IsDone};
+ghost use Rattle.mail_post.specs.Offered.{any_refused};
 ghost use Rattle.msg_depot.specs.declared.view.Claim.{Claim};
-ghost use Rattle.lmtp_lane.specs.LaneAccount.{AgreesWith, HasOffered, HoldsDraft, Delivers};
+ghost use Rattle.lmtp_lane.specs.LaneExchange.{ends_of, sent_as};
+ghost use Rattle.lmtp_lane.specs.LaneAccount.{AgreesWith, HasOffered, HoldsDraft, told_by, Delivers};
 
 use crate::clock::Clock;
-use crate::exchange::Exchange;
+use crate::exchange::{Exchange, Postmark};
 use crate::incoming::Incoming;
 use crate::setting::LaneStart;
 use lmtp_session::Session;
 use lmtp_talk::Delivery;
-use mail_world::limits::RECIPIENT_LIMIT;
-use mail_world::{Outcome, Verdict};
+use mail_world::{Outcome, State, Verdict};
 use msg_depot::{Depot, DepotName, Draft};
 use std::marker::PhantomData;
 use std::sync::Wait;
@@ -31,12 +33,10 @@ pub struct LaneDelivery<'a, N: DepotName, C: Clock, R: Wait, S: LaneStart> {
     pub accepted: u64,
     /// The moment of the last data that ended, in seconds since 1970.
     pub moment: u32,
-    /// What became of the copies of the last message; none where it was refused.
-    pub outcomes: Vec<Outcome>,
     start: PhantomData<S>,
-    ghost of_lane: { exchange.lane ≡ S.lane },
+    ghost of_lane: { exchange.lane ≡ S.ends.lane },
     ghost count: { length exchange.senders.items ≡ length S.site.boxes },
-    ghost reserved: { RECIPIENT_LIMIT ≤ vec_capacity outcomes },
+    ghost none_missing: { IsDone exchange.gather.gather },
 }
 
 impl<'a, N: DepotName, C: Clock, R: Wait, S: LaneStart> LaneDelivery<'a, N, C, R, S> {
@@ -46,14 +46,11 @@ impl<'a, N: DepotName, C: Clock, R: Wait, S: LaneStart> LaneDelivery<'a, N, C, R
         depot: &'a Depot<N>,
         clock: &'a C,
         exchange: Exchange<N>,
-        outcomes: Vec<Outcome>,
     ) -> LaneDelivery<'a, N, C, R, S>
-        requires lane { exchange.lane ≡ S.lane }
         requires count { length exchange.senders.items ≡ length S.site.boxes }
-        requires room { RECIPIENT_LIMIT ≤ vec_capacity outcomes }
-        requires start { (exchange.senders.items ≡ S.senders) × (exchange.slips ≡ S.inbox) × (exchange.gone ≡ false) }
-        ensures begun { HasOffered S.lane S.May S.senders result.exchange.senders.items S.inbox result.exchange.slips
-            result.exchange.gone result.accepted 0 [] }
+        requires none_missing { IsDone exchange.gather.gather }
+        requires start { ends_of exchange ≡ record S.ends { gone = any_refused S.ends.senders } }
+        ensures begun { HasOffered S.May result.accepted S.ends (ends_of result.exchange) 0 [] }
         ensures clock { AgreesWith (C.May result.clock.now) (C.May clock.now) }
     {
         LaneDelivery {
@@ -64,51 +61,27 @@ impl<'a, N: DepotName, C: Clock, R: Wait, S: LaneStart> LaneDelivery<'a, N, C, R
             incoming: Incoming::new(),
             accepted: 0,
             moment: 0,
-            outcomes,
             start: PhantomData,
         }
     }
 
-    // Sends a whole message to its recipients, and keeps what became of the copies.
+    // Sends a whole message to its recipients.
     fn deliver(&mut self, session: &Session, draft: Draft<N>)
+        requires content { session.now.session.state ≡ State.Content }
         requires here { session.now.site ≡ S.site }
         requires number { self.old.accepted ≤ NUMBER_LIMIT }
-        requires none { self.old.outcomes.items ≡ [] }
         ensures same { (self.new.accepted ≡ self.old.accepted) × (self.new.moment ≡ self.old.moment) }
         ensures clock { AgreesWith (C.May self.new.clock.now) (C.May self.old.clock.now) }
-        ensures count { length self.new.outcomes.items ≡ length session.now.session.recipients }
-        ensures delivers { Delivers self.old.exchange.lane self.old.accepted session.now.session
-            self.old.moment draft.bytes self.new.outcomes.items
-            self.old.exchange.senders.items self.new.exchange.senders.items
-            self.old.exchange.slips self.new.exchange.slips self.old.exchange.gone self.new.exchange.gone }
+        ensures count { length self.new.exchange.gather.gather.places ≡ length session.now.session.recipients }
+        ensures delivers { Delivers (sent_as self.old.accepted session.now.session self.old.moment draft.bytes)
+            (told_by self.new.exchange.gather.gather) (ends_of self.old.exchange) (ends_of self.new.exchange) }
     {
-        let count = session.recipient_count();
-        if count == 0 {
-            self.depot.cancel(self.rt, draft);
-            return;
-        }
-        let hold = self.depot.seal(self.rt, draft, count);
-        self.exchange.send(
-            self.rt,
-            self.depot,
-            session,
-            self.accepted as u32,
-            self.moment,
-            hold,
-        );
-        keep(&mut self.outcomes, self.exchange.gather.answers());
-    }
-}
-
-// Keeps the answers to a message.
-fn keep(outcomes: &mut Vec<Outcome>, answers: &[Outcome])
-    requires none { outcomes.old.items ≡ [] }
-    requires room { length answers.now ≤ vec_capacity outcomes.old }
-    ensures all { outcomes.new.items ≡ answers.now }
-    ensures room { vec_capacity outcomes.old ≤ vec_capacity outcomes.new }
-{
-    if outcomes.extend_from_slice(answers).is_err() {
-        unreachable!();
+        let hold = self.depot.seal(self.rt, draft, session.recipient_count());
+        let mark = Postmark {
+            number: self.accepted as u32,
+            moment: self.moment,
+        };
+        self.exchange.send(self.rt, self.depot, session, mark, hold);
     }
 }
 
@@ -116,16 +89,14 @@ impl<'a, N: DepotName, C: Clock, R: Wait, S: LaneStart> Delivery for LaneDeliver
     ghost site = { λ d. S.site };
 
     ghost HasCome = { λ d n ts.
-        HasOffered S.lane S.May S.senders d.exchange.senders.items S.inbox d.exchange.slips d.exchange.gone
-        d.accepted n ts
+        HasOffered S.May d.accepted S.ends (ends_of d.exchange) n ts
         × AgreesWith (C.May d.clock.now) S.May };
 
     ghost IsDrafting = { λ d n ts message.
-        HasOffered S.lane S.May S.senders d.exchange.senders.items S.inbox d.exchange.slips d.exchange.gone
-        d.accepted n ts
+        HasOffered S.May d.accepted S.ends (ends_of d.exchange) n ts
         × AgreesWith (C.May d.clock.now) S.May × HoldsDraft d.incoming.draft d.incoming.size message };
 
-    ghost outcomes = { λ d. d.outcomes.items };
+    ghost outcomes = { λ d. told_by d.exchange.gather.gather };
 
     ghost moment = { λ d. d.moment };
 
@@ -143,19 +114,18 @@ impl<'a, N: DepotName, C: Clock, R: Wait, S: LaneStart> Delivery for LaneDeliver
     }
 
     /// The moment is asked of the clock, also of a message that is refused.
-    fn end(&mut self, session: &Session) -> Verdict {
-        self.outcomes.clear();
+    fn end(&mut self, session: &Session) -> Result<(), Verdict> {
         self.moment = self.clock.unix(self.rt);
         match self.incoming.end(self.rt, self.depot, self.accepted) {
-            Err(verdict) => verdict,
+            Err(verdict) => Err(verdict),
             Ok(draft) => {
                 self.deliver(session, draft);
-                Verdict::Whole
+                Ok(())
             }
         }
     }
 
     fn outcomes(&self) -> &[Outcome] {
-        &self.outcomes
+        self.exchange.gather.answers()
     }
 }

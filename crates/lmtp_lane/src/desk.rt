@@ -1,13 +1,13 @@
 //! What a lane works with.
 
-ghost use Rattle.std.specs.Prelude.{◌≡◌, ◌≤◌, ℕ, [], IfOk, vec_capacity};
+ghost use Rattle.std.specs.Prelude.{◌≡◌, ◌≤◌, IfOk};
 ghost use Rattle.std.specs.Arc.{arc_value};
 ghost use Rattle.mail_world.specs.declared.limits.TheConstants.{RECIPIENT_LIMIT};
+ghost use Rattle.mail_post.specs.Gathering.{IsDone};
 
 use lmtp_talk::Dialogue;
 use lmtp_text::Site;
 use mail_post::Gather;
-use mail_world::Outcome;
 use mail_world::limits::RECIPIENT_LIMIT;
 use std::alloc::{AllocError, Global};
 use std::sync::Arc;
@@ -17,20 +17,18 @@ use std::sync::Arc;
 pub struct Desk {
     pub dialogue: Dialogue,
     pub gather: Gather,
-    pub outcomes: Vec<Outcome>,
     ghost room: { RECIPIENT_LIMIT ≤ gather.limit },
-    ghost reserved: { RECIPIENT_LIMIT ≤ vec_capacity outcomes },
+    ghost none_missing: { IsDone gather.gather },
 }
 
 impl Desk {
     /// A desk at that site, before its lane's first conversation.
     pub fn new(alloc: Global, site: Arc<Site>) -> Result<Desk, AllocError>
-        ensures { IfOk result (λ desk. (desk.dialogue.session.site ≡ arc_value site) × (desk.outcomes.items ≡ [])) }
+        ensures { IfOk result (λ desk. desk.dialogue.session.site ≡ arc_value site) }
     {
         Ok(Desk {
             dialogue: Dialogue::new(alloc, site)?,
             gather: Gather::new(alloc, RECIPIENT_LIMIT)?,
-            outcomes: Vec::with_capacity(alloc, RECIPIENT_LIMIT)?,
         })
     }
 }

@@ -2,8 +2,10 @@
 
 ghost use Rattle.std.specs.Prelude.{◌≡◌, [], length, true, false};
 ghost use Rattle.lmtp_talk.specs.Peer.{PeerState};
-ghost use Rattle.mail_post.specs.Offered.{HaveNumber};
+ghost use Rattle.mail_post.specs.Gathering.{IsDone};
+ghost use Rattle.mail_post.specs.Offered.{HaveNumber, any_refused};
 ghost use Rattle.lmtp_lane.specs.LaneAccount.{AgreesWith, HasOffered};
+ghost use Rattle.lmtp_lane.specs.LaneExchange.{ends_of};
 ghost use Rattle.lmtp_lane.specs.LaneRun.{HasServed};
 ghost use Rattle.lmtp_lane.specs.Visits.{HasConversed};
 
@@ -14,7 +16,7 @@ use crate::exchange::Exchange;
 use crate::report::LaneReport;
 use crate::setting::LaneStart;
 use crate::visits::Visits;
-use lmtp_talk::{Delivery, Dialogue, serve};
+use lmtp_talk::{Dialogue, serve};
 use lmtp_text::Site;
 use mail_post::{Sender, SlipReceiver};
 use msg_depot::{Depot, DepotName};
@@ -38,45 +40,52 @@ pub fn lane_run<N: DepotName, V: Visits, C: Clock, R: Wait>(
     requires count { length senders.items ≡ length site.now.boxes }
     requires lane { HaveNumber lane senders.items }
     requires none_out { V.out visits ≡ false }
-    ensures { HasServed site.now lane (C.May clock.now) (V.MayGive visits) (V.finished visits)
-        (V.finished result.visits) (V.over result.visits)
-        senders.items result.senders.items slips result.slips result.conversations result.gone }
+    ensures { HasServed site.now (C.May clock.now) (V.MayGive visits)
+        (record {
+          finished = V.finished visits;
+          over = V.over visits;
+          ends = record { lane = lane; senders = senders.items; inbox = slips; gone = false };
+          conversations = 0;
+        })
+        (record {
+          finished = V.finished result.visits;
+          over = V.over result.visits;
+          ends = record { lane = lane; senders = result.senders.items; inbox = result.slips; gone = result.gone };
+          conversations = result.conversations;
+        }) }
 {
-    lane_at::<Brand, N, V, C, R>(rt, lane, desk, visits, depot, senders, slips, clock)
+    let Desk { dialogue, gather } = desk;
+    let exchange = Exchange::new(*senders.allocator(), lane, senders, slips, gather);
+    lane_at::<Brand, N, V, C, R>(rt, dialogue, exchange, visits, depot, clock)
 }
 
 // The same, at a type that stands for the lane's start.
 fn lane_at<S: LaneStart, N: DepotName, V: Visits, C: Clock, R: Wait>(
     rt: &R,
-    lane: u32,
-    desk: Desk,
+    dialogue: Dialogue,
+    exchange: Exchange<N>,
     visits: V,
     depot: &Depot<N>,
-    senders: Vec<Sender<N>>,
-    slips: SlipReceiver,
     clock: &C,
 ) -> LaneReport<N, V>
-    requires here { desk.dialogue.session.site ≡ S.site }
-    requires number { lane ≡ S.lane }
-    requires count { length senders.items ≡ length S.site.boxes }
-    requires lane { HaveNumber lane senders.items }
-    requires start { (senders.items ≡ S.senders) × (slips ≡ S.inbox) }
+    requires here { dialogue.session.site ≡ S.site }
+    requires count { length exchange.senders.items ≡ length S.site.boxes }
+    requires start { ends_of exchange ≡ record S.ends { gone = any_refused S.ends.senders } }
+    requires none_missing { IsDone exchange.gather.gather }
     requires clock { AgreesWith (C.May clock.now) S.May }
     requires none_out { V.out visits ≡ false }
-    ensures { HasServed S.site S.lane S.May (V.MayGive visits) (V.finished visits)
-        (V.finished result.visits) (V.over result.visits)
-        S.senders result.senders.items S.inbox result.slips result.conversations result.gone }
+    ensures { HasServed S.site S.May (V.MayGive visits)
+        (record { finished = V.finished visits; over = V.over visits; ends = S.ends; conversations = 0 })
+        (record {
+          finished = V.finished result.visits;
+          over = V.over result.visits;
+          ends = record { lane = S.ends.lane; senders = result.senders.items; inbox = result.slips; gone = result.gone };
+          conversations = result.conversations;
+        }) }
 {
     let mut visits = visits;
-    let Desk {
-        mut dialogue,
-        gather,
-        outcomes,
-    } = desk;
-    let exchange = Exchange::new(*outcomes.allocator(), lane, senders, slips, gather);
-    let mut delivery: LaneDelivery<N, C, R, S> = LaneDelivery::new(
-        rt, depot, clock, exchange, outcomes,
-    );
+    let mut dialogue = dialogue;
+    let mut delivery: LaneDelivery<N, C, R, S> = LaneDelivery::new(rt, depot, clock, exchange);
     let conversations = serve_all(rt, &mut dialogue, &mut visits, &mut delivery);
     let Exchange {
         senders,
@@ -101,13 +110,17 @@ fn serve_all<'a, N: DepotName, V: Visits, C: Clock, R: Wait, S: LaneStart>(
     delivery: &mut LaneDelivery<'a, N, C, R, S>,
 ) -> u64
     requires here { dialogue.old.session.site ≡ S.site }
-    requires begun { HasOffered S.lane S.May S.senders delivery.old.exchange.senders.items
-        S.inbox delivery.old.exchange.slips delivery.old.exchange.gone delivery.old.accepted 0 [] }
+    requires begun { HasOffered S.May delivery.old.accepted S.ends (ends_of delivery.old.exchange) 0 [] }
     requires clock { AgreesWith (C.May delivery.old.clock.now) S.May }
     requires none_out { V.out visits.old ≡ false }
-    ensures { HasServed S.site S.lane S.May (V.MayGive visits.old) (V.finished visits.old)
-        (V.finished visits.new) (V.over visits.new) S.senders delivery.new.exchange.senders.items
-        S.inbox delivery.new.exchange.slips result delivery.new.exchange.gone }
+    ensures { HasServed S.site S.May (V.MayGive visits.old)
+        (record { finished = V.finished visits.old; over = V.over visits.old; ends = S.ends; conversations = 0 })
+        (record {
+          finished = V.finished visits.new;
+          over = V.over visits.new;
+          ends = ends_of delivery.new.exchange;
+          conversations = result;
+        }) }
 {
     let mut conversations: u64 = 0;
     for _ in rt.forever() {
@@ -123,21 +136,25 @@ fn serve_all<'a, N: DepotName, V: Visits, C: Clock, R: Wait, S: LaneStart>(
     unreachable!()
 }
 
-// Serves a client, and hands it back.
-fn converse<V: Visits, D: Delivery>(
+// Serves a client while no channel is gone, and hands it back.
+fn converse<'a, N: DepotName, V: Visits, C: Clock, R: Wait, S: LaneStart>(
     dialogue: &mut Dialogue,
     visits: &mut V,
-    delivery: &mut D,
+    delivery: &mut LaneDelivery<'a, N, C, R, S>,
     peer: V::P,
 )
-    requires here { D.site delivery.old ≡ dialogue.old.session.site }
+    requires here { S.site ≡ dialogue.old.session.site }
+    requires sound { delivery.old.exchange.gone ≡ false }
     requires out { V.out visits.old ≡ true }
     ensures converses { HasConversed dialogue.old.session.site (V.P.state peer) (V.finished visits.old)
-        (V.finished visits.new) (D.HasCome delivery.old) (D.HasCome delivery.new) }
+        (V.finished visits.new)
+        (λ n ts. HasOffered S.May delivery.old.accepted S.ends (ends_of delivery.old.exchange) n ts
+        × AgreesWith (C.May delivery.old.clock.now) S.May)
+        (λ n ts. HasOffered S.May delivery.new.accepted S.ends (ends_of delivery.new.exchange) n ts
+        × AgreesWith (C.May delivery.new.clock.now) S.May) }
     ensures others { (peer : PeerState) → V.MayGive visits.new peer → V.MayGive visits.old peer }
     ensures back { V.out visits.new ≡ false }
     ensures site { dialogue.new.session.site ≡ dialogue.old.session.site }
-    ensures same { D.site delivery.new ≡ D.site delivery.old }
 {
     let mut peer = peer;
     let end = serve(dialogue, &mut peer, delivery);

@@ -1,15 +1,16 @@
 use Rattle.std.proofs.Common.{refl, ap}
 use Rattle.mail_post.specs.Gathering.{Gathering}
-use Rattle.lmtp_lane.proofs.Awaiting.{same_places, takes_open}
+use Rattle.lmtp_lane.specs.LaneExchange.{sending_of}
+use Rattle.lmtp_lane.proofs.Awaiting.{same_room, takes_open}
 use Rattle.lmtp_lane.proofs.exchange.Exchange.answer_failed.Goals as goal
 
-pub returns-in-Ok-clause-places : goal.returns-in-Ok-clause-places
-returns-in-Ok-clause-places g c =
-    same_places c.args.self.now.gather.gather c.put.new.self.gather c.args.slip (ap (λ (x : Gathering). x.gather) c.put.ensures.gathered)
+pub returns-in-Ok-clause-room : goal.returns-in-Ok-clause-room
+returns-in-Ok-clause-room g c =
+    same_room (sending_of c.args.self.now) c.args.self.now.slips c.args.self.now.gone c.put.new.self.gather c.args.slip (ap (λ (x : Gathering). x.gather) c.put.ensures.gathered)
 
-pub returns-in-Err-clause-places : goal.returns-in-Err-clause-places
-returns-in-Err-clause-places g c =
-    same_places c.args.self.now.gather.gather c.put.new.self.gather c.args.slip (ap (λ (x : Gathering). x.gather) c.put.ensures.gathered)
+pub returns-in-Err-clause-room : goal.returns-in-Err-clause-room
+returns-in-Err-clause-room g c =
+    same_room (sending_of c.args.self.now) c.args.self.now.slips c.args.self.now.gone c.put.new.self.gather c.args.slip (ap (λ (x : Gathering). x.gather) c.put.ensures.gathered)
 
 pub returns-in-Ok-clause-takes : goal.returns-in-Ok-clause-takes
 returns-in-Ok-clause-takes g c =

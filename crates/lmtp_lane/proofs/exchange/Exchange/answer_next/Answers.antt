@@ -1,6 +1,6 @@
 use Rattle.std.proofs.Common.{subst, arith}
 use Rattle.mail_world.specs.declared.Slip.{Slip}
-use Rattle.lmtp_lane.specs.LaneExchange.{TakesOne}
+use Rattle.lmtp_lane.specs.LaneExchange.{sending_of, TakesOne}
 use Rattle.lmtp_lane.proofs.Awaiting.{answered_next}
 use Rattle.lmtp_lane.proofs.exchange.Exchange.answer_next.Goals as goal
 
@@ -8,8 +8,7 @@ pub returns-then-place-recipient_count-clause-way : goal.returns-then-place-reci
 returns-then-place-recipient_count-clause-way g c =
     let self = c.args.self.now in
     let new = c.answer_failed.new.self in
-    let failed = c.answer_failed.ensures in
     let T : Slip → Type 0 = λ s. TakesOne s self.gather.gather new.gather.gather c.answer_failed.result in
-    answered_next self.lane c.args.number c.args.place c.recipient.result c.args.session.now.session self.senders.items new.senders.items self.slips new.slips
-    self.gather.gather new.gather.gather self.gone new.gone c.answer_failed.result (omega (arith, c.if-place-recipient_count.true, c.recipient_count.ensures.count)) c.recipient.ensures.mailbox
-    failed.same.1 failed.same.2 failed.gone (subst T c.failed-slip.ensures failed.takes)
+    answered_next c.args.number c.args.place c.recipient.result c.args.session.now.session (sending_of self) (sending_of new) c.answer_failed.result
+    (omega (arith, c.if-place-recipient_count.true, c.recipient_count.ensures.count)) c.recipient.ensures.mailbox
+    c.requires.gone c.answer_failed.ensures.same (subst T c.failed-slip.ensures c.answer_failed.ensures.takes)

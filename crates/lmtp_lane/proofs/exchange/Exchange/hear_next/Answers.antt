@@ -1,20 +1,19 @@
-use Rattle.std.proofs.Common.{ap}
+use Rattle.std.proofs.Common.{ap, sym, ◌∙◌}
+use Rattle.std.specs.Prelude.{is_some}
 use Rattle.mail_post.specs.Gathering.{Gathering}
-use Rattle.lmtp_lane.proofs.Awaiting.{heard_next, nothing_then, same_places}
+use Rattle.lmtp_lane.specs.LaneExchange.{sending_of}
+use Rattle.lmtp_lane.proofs.Awaiting.{heard_next, nothing_then, same_room}
 use Rattle.lmtp_lane.proofs.exchange.Exchange.hear_next.Goals as goal
 
 pub returns-in-Ok-clause-way : goal.returns-in-Ok-clause-way
 returns-in-Ok-clause-way g c =
-    let self = c.args.self.now in
-    heard_next self.lane c.args.number c.args.session.now.session self.senders.items self.slips c.take.new.self self.gather.gather c.put.new.self.gather self.gone c.in-Ok.slip
-    c.take.ensures.same c.in-Ok.ensures.post c.put.ensures.heard
+    heard_next c.args.number c.args.session.now.session (sending_of c.args.self.now) c.take.new.self c.put.new.self.gather c.in-Ok.slip
+    c.take.ensures.same c.in-Ok.ensures.post (c.in-Ok.ensures.open_still.1 ∙ sym c.in-Ok.ensures.open_still.0) c.put.ensures.heard
 
 pub returns-in-Err-clause-way : goal.returns-in-Err-clause-way
 returns-in-Err-clause-way g c =
-    let self = c.args.self.now in
-    let new = c.answer_next.new.self in
-    nothing_then self.lane c.args.number c.args.session.now.session self.senders.items new.senders.items self.slips c.take.new.self new.slips self.gather.gather new.gather.gather self.gone new.gone
-    c.take.ensures.same c.in-Err.ensures.nothing c.answer_next.ensures.way
+    nothing_then c.args.number c.args.session.now.session (sending_of c.args.self.now) (sending_of c.answer_next.new.self) c.take.new.self
+    c.take.ensures.same c.in-Err.ensures.nothing (ap is_some c.in-Err.ensures.gone) c.answer_next.ensures.way
 
-pub returns-in-Ok-clause-places : goal.returns-in-Ok-clause-places
-returns-in-Ok-clause-places g c = same_places c.args.self.now.gather.gather c.put.new.self.gather c.in-Ok.slip (ap (λ (x : Gathering). x.gather) c.put.ensures.gathered)
+pub returns-in-Ok-clause-room : goal.returns-in-Ok-clause-room
+returns-in-Ok-clause-room g c = same_room (sending_of c.args.self.now) c.take.new.self c.args.self.now.gone c.put.new.self.gather c.in-Ok.slip (ap (λ (x : Gathering). x.gather) c.put.ensures.gathered)

@@ -1,16 +1,16 @@
-use Rattle.std.proofs.Common.{◌≡◌, ◌∙◌, ap, sym, true, false}
+use Rattle.std.proofs.Common.{ap, sym, refl, true, false, ◌∙◌}
 use Rattle.mail_world.specs.declared.Slip.{Slip}
-use Rattle.lmtp_lane.proofs.Exchanging.{refused_way, offered_way}
-use Rattle.mail_post.proofs.Offered.{still_numbered, refused_same}
+use Rattle.lmtp_lane.specs.LaneExchange.{sending_of, ends_of, found_gone}
+use Rattle.lmtp_lane.proofs.Exchanging.{left_way, leaves_refused, leaves_unoffered, offered_way, with_senders}
+use Rattle.mail_post.proofs.Offered.{still_numbered, refused_now, refused_as_before}
 use Rattle.lmtp_lane.proofs.exchange.Exchange.offer.Goals as goal
 
 pub returns-then-self-clause-way : goal.returns-then-self-clause-way
 returns-then-self-clause-way g c =
     let self = c.args.self.now in
-    let new = c.answer_failed.new.self in
-    let failed = c.answer_failed.ensures in
-    refused_way self.lane c.args.failed c.args.post self.senders.items new.senders.items self.slips new.slips self.gather.gather new.gather.gather
-    self.gone new.gone c.answer_failed.result c.requires.lane c.requires.copy failed.same.1 failed.same.2 failed.gone failed.takes
+    left_way c.args.failed c.args.post (sending_of self) (sending_of c.answer_failed.new.self) (ends_of self) c.answer_failed.result
+    c.requires.lane c.requires.copy (leaves_unoffered c.args.post (ends_of self) (sym self.handed_back ∙ c.if-self.true)) (self.tells c.if-self.true)
+    c.answer_failed.ensures.same c.answer_failed.ensures.takes
 
 pub invariant_of-self : goal.invariant_of-self
 invariant_of-self g c =
@@ -18,6 +18,8 @@ invariant_of-self g c =
     record {
       of_lane = still_numbered self.lane c.args.failed.worker (λ sender. c.args.post) true self.senders.items c.offer_to.new.senders.items self.of_lane c.in-Ok.ensures;
       room = self.room;
+      handed_back = self.handed_back ∙ sym (refused_as_before c.args.failed.worker (λ sender. c.args.post) self.senders.items c.offer_to.new.senders.items c.in-Ok.ensures);
+      tells = self.tells;
     }
 
 pub invariant_of-self-in-Err : goal.invariant_of-self-in-Err
@@ -26,18 +28,20 @@ invariant_of-self-in-Err g c =
     record {
       of_lane = still_numbered self.lane c.args.failed.worker (λ sender. c.args.post) false self.senders.items c.offer_to.new.senders.items self.of_lane c.in-Err.ensures;
       room = self.room;
+      handed_back = sym (refused_now c.args.failed.worker (λ sender. c.args.post) self.senders.items c.offer_to.new.senders.items c.in-Err.ensures);
+      tells = λ refused. refl;
     }
 
 pub returns-in-Ok-clause-way : goal.returns-in-Ok-clause-way
 returns-in-Ok-clause-way g c =
     let self = c.args.self.now in
-    offered_way self.lane c.args.failed.worker c.args.post self.senders.items c.offer_to.new.senders.items self.slips self.gather.gather self.gone (sym (ap (λ (s : Slip). s.worker) c.requires.copy)) c.in-Ok.ensures
+    offered_way c.args.failed.worker c.args.post (sending_of self) c.offer_to.new.senders.items (sym (ap (λ (s : Slip). s.worker) c.requires.copy))
+    (sym self.handed_back ∙ c.if-self.false) c.in-Ok.ensures
 
 pub returns-in-Err-clause-way : goal.returns-in-Err-clause-way
 returns-in-Err-clause-way g c =
     let self = c.args.self.now in
-    let new = c.answer_failed-in-Err.new.self in
-    let failed = c.answer_failed-in-Err.ensures in
-    let same : new.senders.items ≡ self.senders.items = failed.same.1 ∙ refused_same c.args.failed.worker (λ sender. c.args.post) self.senders.items c.offer_to.new.senders.items c.in-Err.ensures in
-    refused_way self.lane c.args.failed c.args.post self.senders.items new.senders.items self.slips new.slips self.gather.gather new.gather.gather
-    self.gone new.gone c.answer_failed-in-Err.result c.requires.lane c.requires.copy same failed.same.2 failed.gone failed.takes
+    left_way c.args.failed c.args.post (sending_of self) (sending_of c.answer_failed-in-Err.new.self)
+    (found_gone (with_senders (ends_of self) c.offer_to.new.senders.items)) c.answer_failed-in-Err.result c.requires.lane c.requires.copy
+    (leaves_refused c.args.failed.worker c.args.post (ends_of self) c.offer_to.new.senders.items (sym (ap (λ (s : Slip). s.worker) c.requires.copy)) c.in-Err.ensures) refl
+    c.answer_failed-in-Err.ensures.same c.answer_failed-in-Err.ensures.takes
