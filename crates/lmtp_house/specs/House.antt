@@ -27,7 +27,8 @@ pub record IsSize (site : Site) (sizes : Sizes) (lanes spools gates : ℕ) : Typ
   pub each_spool : spools ≡ length site.boxes
   pub each_gate : gates ≡ length site.boxes
 
--- what contracts see of one kind of clients: those that may come, the conversations that have ended, and whether no client is left
+-- what contracts see of one kind of clients: those that may come, the conversations that have ended, and whether no
+-- client is left
 pub record VisitsView (V : Type 0) : Type 1 where
   pub MayGive : V → PeerState → Type 0
   pub finished : V → Option (List Finished)
@@ -55,7 +56,8 @@ pub record BoxWork : Type 0 where
   pub taken : List Note
   pub stored : ℕ
 
--- what is told of a lane's run: the conversations that had ended before it and behind it, whether no client was left, and how many it held
+-- what is told of a lane's run: the conversations that had ended before it and behind it, whether no client was left,
+-- and how many it held
 pub record LaneTold : Type 0 where
   pub before : Option (List Finished)
   pub after : Option (List Finished)
@@ -70,8 +72,8 @@ lane_told view before after count = record {
   count = count;
 }
 
--- Lane k served these clients until there were no more: its verdicts fit, each moment is one that the clock may answer, and each
--- outcome is that of the slip that it heard.
+-- Lane k served these clients until there were no more: its verdicts fit, each moment is one that the clock may answer,
+-- and each outcome is that of the slip that it heard.
 pub record IsLaneWork (site : Site) (May : ℕ → Type 0) (MayCome : PeerState → Type 0) (k : ℕ) (work : LaneWork)
     (told : LaneTold) : Type 0 where
   pub visited : HasVisited site MayCome told.before told.after work.visits
@@ -87,23 +89,26 @@ pub record IsBoxWork (site : Site) (work : BoxWork) (old new : SpoolState) (tall
   pub taken : tally.taken ≡ counted (length work.taken)
   pub stored : tally.stored ≡ counted work.stored
 
--- However lanes and workers interleaved: each worker took of each lane just the copies that the lane's conversations owe its mailbox, in
--- their order, and nothing else; and each lane heard of its copies the slips that their workers gave, and nothing else.
+-- However lanes and workers interleaved: each worker took of each lane just the copies that the lane's conversations owe
+-- its mailbox, in their order, and nothing else; and each lane heard of its copies the slips that their workers gave, and
+-- nothing else.
 pub record HasRun {V S : Type 0} (site : Site) (May : ℕ → Type 0) (view : VisitsView V) (state : S → SpoolState)
     (old : HandedIn V S) (new : HandedBack V S) : Type 0 where
   pub lanes : ℕ → LaneWork
   pub boxes : ℕ → BoxWork
   pub as_many_lanes : (length new.visits ≡ length old.visits) × (length new.conversations ≡ length old.visits)
   pub as_many_boxes : (length new.spools ≡ length old.spools) × (length new.tallies ≡ length old.spools)
-  pub served : (k count : ℕ) (before after : V) → slice_get old.visits k ≡ Some before → slice_get new.visits k ≡ Some after
-      → slice_get new.conversations k ≡ Some count
+  pub served : (k count : ℕ) (before after : V) → slice_get old.visits k ≡ Some before
+      → slice_get new.visits k ≡ Some after → slice_get new.conversations k ≡ Some count
       → IsLaneWork site May (view.MayGive before) k (lanes k) (lane_told view before after count)
-  pub stored : (b : ℕ) (before after : S) (tally : Tally) → slice_get old.spools b ≡ Some before → slice_get new.spools b ≡ Some after
-      → slice_get new.tallies b ≡ Some tally → IsBoxWork site (boxes b) (state before) (state after) tally
+  pub stored : (b : ℕ) (before after : S) (tally : Tally) → slice_get old.spools b ≡ Some before
+      → slice_get new.spools b ≡ Some after → slice_get new.tallies b ≡ Some tally
+      → IsBoxWork site (boxes b) (state before) (state after) tally
   pub owed : (k b : ℕ) → k < length old.visits → b < length old.spools
       → of_lane k (boxes b).taken ≡ due site k b (conversations_of (lanes k).visits)
   pub owed_only : (b : ℕ) → b < length old.spools
       → AllByRecursion (λ note. note.txn.lane < length old.visits) (boxes b).taken
   pub told : (k b : ℕ) → k < length old.visits → b < length old.spools
       → IsFront (of_worker b (lanes k).heard) (owed_to b (boxes b).stored k (boxes b).taken)
-  pub told_only : (k : ℕ) → k < length old.visits → AllByRecursion (λ slip. slip.worker < length old.spools) (lanes k).heard
+  pub told_only : (k : ℕ) → k < length old.visits
+      → AllByRecursion (λ slip. slip.worker < length old.spools) (lanes k).heard

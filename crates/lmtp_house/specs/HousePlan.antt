@@ -17,8 +17,10 @@ pub record PlanState (V S C : Type 0) : Type 0 where
   pub mail : Shape
   pub slips : Shape
 
--- Lanes for these visits and workers for these spools, over new channels that nobody has used, and what closes the channels.
-pub record IsPlanned {V S C : Type 0} (site : Site) (clock : C) (handed : HandedIn V S) (plan : PlanState V S C) : Type 0 where
+-- Lanes for these visits and workers for these spools, over new channels that nobody has used, and what closes the
+-- channels.
+pub record IsPlanned {V S C : Type 0} (site : Site) (clock : C) (handed : HandedIn V S) (plan : PlanState V S C)
+    : Type 0 where
   pub mail_rows : List (List (Sender Note))
   pub mail : List (Inbox Note)
   pub slip_rows : List (List (Sender Slip))
@@ -42,7 +44,8 @@ pub record MayRun {V S C : Type 0} (out : V → Bool) (plan : PlanState V S C) :
   pub none_out : AllByRecursion (λ v. out v ≡ false) handed.visits
 
 -- whatever was planned has been run
-abbrev pub HasRunAll : {V S C : Type 0} → (C → ℕ → Type 0) → VisitsView V → (S → SpoolState) → PlanState V S C → HandedBack V S → Type 0
+abbrev pub HasRunAll : {V S C : Type 0} → (C → ℕ → Type 0) → VisitsView V → (S → SpoolState) → PlanState V S C
+    → HandedBack V S → Type 0
 HasRunAll {V} {S} {C} May view state plan back =
     (site : Site) (clock : C) (handed : HandedIn V S) → IsPlanned site clock handed plan
     → HasRun site (May clock) view state handed back

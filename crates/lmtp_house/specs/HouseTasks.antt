@@ -31,14 +31,23 @@ pub record LaneTask (V C : Type 0) : Type 0 where
 
 module _ {V C : Type 0} where
   abbrev pub lane_task : Site → C → ℕ → V → List (Sender Note) → Inbox Slip → LaneTask V C
-  lane_task site clock k visits senders slips = record { lane = k; site = site; desk_site = site; clock = clock; visits = visits; senders = senders; slips = slips }
+  lane_task site clock k visits senders slips = record {
+    lane = k;
+    site = site;
+    desk_site = site;
+    clock = clock;
+    visits = visits;
+    senders = senders;
+    slips = slips;
+  }
 
   -- the tasks of the lanes from number k on
   abbrev pub lane_tasks : Site → C → ℕ → List V → List (List (Sender Note)) → List (Inbox Slip) → List (LaneTask V C)
   lane_tasks site clock k [] rows inboxes = []
   lane_tasks site clock k (v ∷ vs) [] inboxes = []
   lane_tasks site clock k (v ∷ vs) (row ∷ rows) [] = []
-  lane_tasks site clock k (v ∷ vs) (row ∷ rows) (inbox ∷ inboxes) = lane_task site clock k v row inbox ∷ lane_tasks site clock (k + 1) vs rows inboxes
+  lane_tasks site clock k (v ∷ vs) (row ∷ rows) (inbox ∷ inboxes) =
+      lane_task site clock k v row inbox ∷ lane_tasks site clock (k + 1) vs rows inboxes
 
   -- a lane may run
   pub record IsLaneReady (out : V → Bool) (task : LaneTask V C) : Type 0 where
@@ -72,7 +81,8 @@ module _ {S : Type 0} where
   box_tasks host [] rows spools = []
   box_tasks host (inbox ∷ inboxes) [] spools = []
   box_tasks host (inbox ∷ inboxes) (row ∷ rows) [] = []
-  box_tasks host (inbox ∷ inboxes) (row ∷ rows) (spool ∷ spools) = box_task host inbox row spool ∷ box_tasks host inboxes rows spools
+  box_tasks host (inbox ∷ inboxes) (row ∷ rows) (spool ∷ spools) =
+      box_task host inbox row spool ∷ box_tasks host inboxes rows spools
 
   -- a worker may run
   pub record IsBoxReady (task : BoxTask S) : Type 0 where
@@ -130,15 +140,16 @@ pub record WorkersBack (S : Type 0) : Type 0 where
   pub tallies : List Tally
 
 -- All lanes have ended, and none found a channel gone: what each did, with what its senders gave and its receiver took.
-pub record HaveServed {V : Type 0} (site : Site) (May : ℕ → Type 0) (view : VisitsView V) (channels : List (Channel Note))
-    (old : LanesGiven V) (new : LanesBack V) : Type 0 where
+pub record HaveServed {V : Type 0} (site : Site) (May : ℕ → Type 0) (view : VisitsView V)
+    (channels : List (Channel Note)) (old : LanesGiven V) (new : LanesBack V) : Type 0 where
   pub works : ℕ → LaneWork
   pub as_many : (length new.visits ≡ length old.visits) × (length new.conversations ≡ length old.visits)
       × (length new.inboxes ≡ length old.visits)
-  pub served : (k count : ℕ) (before after : V) → slice_get old.visits k ≡ Some before → slice_get new.visits k ≡ Some after
-      → slice_get new.conversations k ≡ Some count
+  pub served : (k count : ℕ) (before after : V) → slice_get old.visits k ≡ Some before
+      → slice_get new.visits k ≡ Some after → slice_get new.conversations k ≡ Some count
       → IsServedLane site May (view.MayGive before) k (works k) (lane_told view before after count)
-  pub rows_are : AreRows (length old.visits) channels (λ k b. due site k b (conversations_of (works k).visits)) new.rows
+  pub rows_are : AreRows (length old.visits) channels (λ k b. due site k b (conversations_of (works k).visits))
+      new.rows
   pub heard : (k : ℕ) (before after : Inbox Slip) → slice_get old.inboxes k ≡ Some before
       → slice_get new.inboxes k ≡ Some after → HasHeard (works k).heard before after
 
@@ -148,8 +159,9 @@ pub record HaveWorked {S : Type 0} (site : Site) (state : S → SpoolState) (cha
   pub works : ℕ → BoxWork
   pub as_many : (length new.spools ≡ length old.spools) × (length new.tallies ≡ length old.spools)
       × (length new.inboxes ≡ length old.spools)
-  pub stored : (b : ℕ) (before after : S) (tally : Tally) → slice_get old.spools b ≡ Some before → slice_get new.spools b ≡ Some after
-      → slice_get new.tallies b ≡ Some tally → IsBoxWork site (works b) (state before) (state after) tally
+  pub stored : (b : ℕ) (before after : S) (tally : Tally) → slice_get old.spools b ≡ Some before
+      → slice_get new.spools b ≡ Some after → slice_get new.tallies b ≡ Some tally
+      → IsBoxWork site (works b) (state before) (state after) tally
   pub rows_are : AreRows (length old.spools) channels (λ b k. owed_to b (works b).stored k (works b).taken) new.rows
   pub took : (b : ℕ) (before after : Inbox Note) → slice_get old.inboxes b ≡ Some before
       → slice_get new.inboxes b ≡ Some after → HasTaken (works b).taken before after
@@ -165,8 +177,8 @@ HaveServedAll {V} {C} May view tasks new =
 abbrev pub HaveWorkedAll : {S : Type 0} → (S → SpoolState) → List (BoxTask S) → WorkersBack S → Type 0
 HaveWorkedAll {S} state tasks new =
     (site : Site) (channels : List (Channel Slip)) (old : WorkersGiven S)
-    → tasks ≡ box_tasks site.host old.inboxes old.rows old.spools → length old.inboxes ≡ length old.spools → 0 < length channels
-    → AreRows (length old.spools) channels none old.rows → HaveWorked site state channels old new
+    → tasks ≡ box_tasks site.host old.inboxes old.rows old.spools → length old.inboxes ≡ length old.spools
+    → 0 < length channels → AreRows (length old.spools) channels none old.rows → HaveWorked site state channels old new
 
 -- a report's counts
 abbrev pub tally_of : ℕ → ℕ → Bool → Tally
