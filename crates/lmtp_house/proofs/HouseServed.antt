@@ -16,7 +16,7 @@ use Rattle.lmtp_lane.specs.LaneRun.{HasServed}
 use Rattle.lmtp_lane.specs.Visits.{conversations_of}
 use Rattle.lmtp_house.specs.House.{VisitsView, LaneWork, lane_told}
 use Rattle.lmtp_house.specs.HouseChannels.{AreRows, none, HasGiven}
-use Rattle.lmtp_house.specs.HouseTasks.{LaneTask, lane_task, lane_tasks, lane_before, LanesGiven, LanesBack, IsServedLane, HaveServed, HasHeard}
+use Rattle.lmtp_house.specs.HouseTasks.{LaneTask, lane_task, lane_tasks, lane_before, LanesGiven, LanesBack, IsServedLane, HaveServed, TookSlips}
 use Rattle.lmtp_house.proofs.HousePairs.{AllZip-length, picks, picked}
 use Rattle.lmtp_house.proofs.HouseChannels.{same_at, at_each, source, rows_given}
 
@@ -136,7 +136,7 @@ module _ {V C R : Type 0} (May : C → ℕ → Type 0) (view : VisitsView V)
       report_is : slice_get reports k ≡ Some report
       served : IsServedLane site (May clock) (view.MayGive visit) k (works k) (lane_told view visit (rv report) (rc report))
       given_out : HasGiven (λ b. due site k b (conversations_of (works k).visits)) row (rs report)
-      heard : HasHeard (works k).heard inbox (rt report)
+      heard : TookSlips (works k).heard inbox (rt report)
 
     lane_is : (k : ℕ) → k < length given.visits → LaneIs k
     lane_is k below =
@@ -150,7 +150,7 @@ module _ {V C R : Type 0} (May : C → ℕ → Type 0) (view : VisitsView V)
         let Served : LaneTask V C → LaneWork → Type 0 = λ j w.
         IsServedLane j.site (May j.clock) (view.MayGive j.visits) j.lane w (lane_told view j.visits (rv p.right) (rc p.right)) in
         let Given : LaneTask V C → LaneWork → Type 0 = λ j w. HasGiven (λ b. due j.site j.lane b (conversations_of w.visits)) j.senders (rs p.right) in
-        let Heard : LaneTask V C → LaneWork → Type 0 = λ j w. HasHeard w.heard j.slips (rt p.right) in
+        let Heard : LaneTask V C → LaneWork → Type 0 = λ j w. TookSlips w.heard j.slips (rt p.right) in
         let served : Served p.left (lane_work p.left p.right h) = record {
           visited = h.visited;
           ended = h.ended no;
@@ -211,5 +211,5 @@ module _ {V C R : Type 0} (May : C → ℕ → Type 0) (view : VisitsView V)
           let l = lane_is k (omega (arith, inboxes_count, slice_get_within given.inboxes k old a)) in
           let new_is : rt l.report ≡ new = sym (r.gives ∙ ap rt (same_at reports k r.value l.report r.is l.report_is)) in
           let old_is : l.inbox ≡ old = same_at given.inboxes k l.inbox old l.inbox_is a in
-          subst (λ x. HasHeard (works k).heard old x) new_is (subst (λ x. HasHeard (works k).heard x (rt l.report)) old_is l.heard);
+          subst (λ x. TookSlips (works k).heard old x) new_is (subst (λ x. TookSlips (works k).heard x (rt l.report)) old_is l.heard);
     }

@@ -101,13 +101,13 @@ pub record IsServedLane (site : Site) (May : ℕ → Type 0) (MayCome : PeerStat
   pub answered : AllByRecursion (IsAnswered k work.heard) (transactions site 0 (conversations_of work.visits))
 
 -- a receiver took these more
-pub record HasHeard (heard : List Slip) (old new : Inbox Slip) : Type 0 where
+pub record TookSlips (heard : List Slip) (old new : Inbox Slip) : Type 0 where
   pub channel : new.channel ≡ old.channel
   pub lanes : new.lanes ≡ old.lanes
   pub took : taken new ≡ taken old ++ heard
 
 -- a receiver took all of this up to its closing
-pub record HasTaken (all : List Note) (old new : Inbox Note) : Type 0 where
+pub record TookAllNotes (all : List Note) (old new : Inbox Note) : Type 0 where
   pub channel : new.channel ≡ old.channel
   pub lanes : new.lanes ≡ old.lanes
   pub took : taken new ≡ all
@@ -151,7 +151,7 @@ pub record HaveServed {V : Type 0} (site : Site) (May : ℕ → Type 0) (view : 
   pub rows_are : AreRows (length old.visits) channels (λ k b. due site k b (conversations_of (works k).visits))
       new.rows
   pub heard : (k : ℕ) (before after : Inbox Slip) → slice_get old.inboxes k ≡ Some before
-      → slice_get new.inboxes k ≡ Some after → HasHeard (works k).heard before after
+      → slice_get new.inboxes k ≡ Some after → TookSlips (works k).heard before after
 
 -- All workers have ended, and none found a channel gone.
 pub record HaveWorked {S : Type 0} (site : Site) (state : S → SpoolState) (channels : List (Channel Slip))
@@ -164,7 +164,7 @@ pub record HaveWorked {S : Type 0} (site : Site) (state : S → SpoolState) (cha
       → IsBoxWork site (works b) (state before) (state after) tally
   pub rows_are : AreRows (length old.spools) channels (λ b k. owed_to b (works b).stored k (works b).taken) new.rows
   pub took : (b : ℕ) (before after : Inbox Note) → slice_get old.inboxes b ≡ Some before
-      → slice_get new.inboxes b ≡ Some after → HasTaken (works b).taken before after
+      → slice_get new.inboxes b ≡ Some after → TookAllNotes (works b).taken before after
 
 -- whatever these tasks were made of, all lanes have ended
 abbrev pub HaveServedAll : {V C : Type 0} → (C → ℕ → Type 0) → VisitsView V → List (LaneTask V C) → LanesBack V → Type 0
