@@ -1,5 +1,5 @@
 -- What was settled of the channels, and the run that follows from it.
-use Rattle.std.proofs.Common.{◌≡◌, ℕ, ◌<◌, ◌≤◌, Bool, true, false, cond, List, [], ◌∷◌, ◌++◌, length, get_or, refl, sym, ap, ◌∙◌, subst, arith, eq-eqb, Option, Some, inl, inr}
+use Rattle.std.proofs.Common.{◌≡◌, ℕ, ◌<◌, ◌≤◌, Bool, true, false, cond, List, [], ◌∷◌, ◌++◌, length, get_or, refl, sym, ap, ◌∙◌, subst, arith, eq-eqb, Some, inl, inr}
 use Rattle.std.specs.Prelude.{slice_get, ◌==◌}
 use Rattle.std.specs.List.{AllZip, AllByRecursion}
 use Rattle.std.proofs.lemmas.Bool.{cases_lt}
@@ -15,12 +15,10 @@ use Rattle.mail_post.specs.Channel.{Channel, Sender, Inbox, Sent, taken, TookSom
 use Rattle.mail_post.specs.Parcels.{of}
 use Rattle.mbox_rd.specs.Spool.{SpoolState}
 use Rattle.box_worker.specs.Told.{owed_to}
-use Rattle.lmtp_house.specs.declared.house.report.Tally.{Tally}
-use Rattle.lmtp_talk.specs.Peer.{PeerState}
-use Rattle.lmtp_lane.specs.Visits.{Finished, conversations_of}
-use Rattle.lmtp_house.specs.House.{HasRun}
+use Rattle.lmtp_lane.specs.Visits.{conversations_of}
+use Rattle.lmtp_house.specs.House.{VisitsView, HasRun}
 use Rattle.lmtp_house.specs.HouseChannels.{channels_of, AreNewChannels, IsClosedWith, AreClosed, CanSettle, IsSettled}
-use Rattle.lmtp_house.specs.HouseTasks.{HaveServed, HaveWorked}
+use Rattle.lmtp_house.specs.HouseTasks.{LanesGiven, LanesBack, WorkersGiven, WorkersBack, HaveServed, HaveWorked}
 use Rattle.lmtp_house.proofs.AnsweredAll.{outcomes_are_answers}
 use Rattle.lmtp_house.proofs.NamedOnce.{named_once}
 use Rattle.lmtp_house.proofs.HouseChannels.{at, at_map, zip_at, at_zip}
@@ -84,16 +82,17 @@ module _ {M : Type 0} where
         lanes = w.count ∙ sym (s.1 ∙ ap (λ (i : Inbox M). i.lanes) fresh);
       })
 
-module _ {V S : Type 0} (site : Site) (May : ℕ → Type 0) (MayGive : V → PeerState → Type 0) (finished : V → Option (List Finished)) (over : V → Bool) (state : S → SpoolState)
-    (visits visits_after : List V) (spools spools_after : List S) (conversations : List ℕ) (tallies : List Tally)
-    (mail_rows : List (List (Sender Note))) (mail mail_after : List (Inbox Note)) (mail_rows_after : List (List (Sender Note))) (mail_closed : List (Sent Note))
-    (slip_rows : List (List (Sender Slip))) (slips slips_after : List (Inbox Slip)) (slip_rows_after : List (List (Sender Slip))) (slips_closed : List (Sent Slip))
-    (mail_new : AreNewChannels (length visits) (length spools) mail_rows mail) (slips_new : AreNewChannels (length spools) (length visits) slip_rows slips)
-    (lanes : HaveServed site May MayGive finished over (channels_of mail) visits visits_after mail_rows_after slips slips_after conversations)
-    (boxes : HaveWorked site state (channels_of slips) mail mail_after slip_rows_after spools spools_after tallies)
-    (mail_shut : AreClosed (length visits) (channels_of mail) (λ k b. due site k b (conversations_of (lanes.works k).visits)) mail_closed)
-    (slips_shut : AreClosed (length spools) (channels_of slips) (λ b k. owed_to b (boxes.works b).stored k (boxes.works b).taken) slips_closed)
-    (mail_settled : AllZip (IsSettled (λ (n : Note). n.txn.lane)) mail_after mail_closed) (slips_settled : AllZip (IsSettled (λ (s : Slip). s.worker)) slips_after slips_closed) where
+module _ {V S : Type 0} (site : Site) (May : ℕ → Type 0) (view : VisitsView V) (state : S → SpoolState)
+    (old_lanes : LanesGiven V) (new_lanes : LanesBack V) (old_boxes : WorkersGiven S) (new_boxes : WorkersBack S)
+    (mail_closed : List (Sent Note)) (slips_closed : List (Sent Slip))
+    (mail_new : AreNewChannels (length old_lanes.visits) (length old_boxes.spools) old_lanes.rows old_boxes.inboxes)
+    (slips_new : AreNewChannels (length old_boxes.spools) (length old_lanes.visits) old_boxes.rows old_lanes.inboxes)
+    (lanes : HaveServed site May view (channels_of old_boxes.inboxes) old_lanes new_lanes)
+    (boxes : HaveWorked site state (channels_of old_lanes.inboxes) old_boxes new_boxes)
+    (mail_shut : AreClosed (length old_lanes.visits) (channels_of old_boxes.inboxes) (λ k b. due site k b (conversations_of (lanes.works k).visits)) mail_closed)
+    (slips_shut : AreClosed (length old_boxes.spools) (channels_of old_lanes.inboxes) (λ b k. owed_to b (boxes.works b).stored k (boxes.works b).taken) slips_closed)
+    (mail_settled : AllZip (IsSettled (λ (n : Note). n.txn.lane)) new_boxes.inboxes mail_closed)
+    (slips_settled : AllZip (IsSettled (λ (s : Slip). s.worker)) new_lanes.inboxes slips_closed) where
   abbrev owed_by : ℕ → ℕ → List Note
   owed_by k b = due site k b (conversations_of (lanes.works k).visits)
 
@@ -102,43 +101,49 @@ module _ {V S : Type 0} (site : Site) (May : ℕ → Type 0) (MayGive : V → Pe
 
   -- what is known of mailbox b
   record BoxKnown (b : ℕ) : Type 0 where
-    each : (k : ℕ) → k < length visits → of_lane k (boxes.works b).taken ≡ owed_by k b
-    only : AllByRecursion (λ (note : Note). note.txn.lane < length visits) (boxes.works b).taken
+    each : (k : ℕ) → k < length old_lanes.visits → of_lane k (boxes.works b).taken ≡ owed_by k b
+    only : AllByRecursion (λ (note : Note). note.txn.lane < length old_lanes.visits) (boxes.works b).taken
 
-  box_known : (b : ℕ) → b < length spools → BoxKnown b
+  box_known : (b : ℕ) → b < length old_boxes.spools → BoxKnown b
   box_known b below =
-      let x = at mail b (omega (arith, mail_new.counts, below)) in
-      let y = at mail_after b (omega (arith, boxes.as_many.2, below)) in
-      let c = at mail_closed b (omega (arith, mail_shut.count, length-map mail (λ (i : Inbox Note). i.channel), mail_new.counts, below)) in
+      let x = at old_boxes.inboxes b (omega (arith, mail_new.counts, below)) in
+      let y = at new_boxes.inboxes b (omega (arith, boxes.as_many.2, below)) in
+      let c = at mail_closed b (omega (arith, mail_shut.count, length-map old_boxes.inboxes (λ (i : Inbox Note). i.channel), mail_new.counts, below)) in
       let took = boxes.took b x.value y.value x.is y.is in
-      let w = mail_shut.each b x.value.channel c.value (at_map (λ (i : Inbox Note). i.channel) mail b x.value x.is) c.is in
-      let s = zip_at (IsSettled (λ (n : Note). n.txn.lane)) mail_after mail_closed mail_settled b y.value c.value y.is c.is in
+      let w = mail_shut.each b x.value.channel c.value (at_map (λ (i : Inbox Note). i.channel) old_boxes.inboxes b x.value x.is) c.is in
+      let s = zip_at (IsSettled (λ (n : Note). n.txn.lane)) new_boxes.inboxes mail_closed mail_settled b y.value c.value y.is c.is in
       let all : TookAll (λ (n : Note). n.txn.lane) (boxes.works b).taken c.value.sent = subst (λ l. TookAll (λ (n : Note). n.txn.lane) l c.value.sent) took.took (s.all took.closed) in record {
-        each = took_each (λ (n : Note). n.txn.lane) (length visits) x.value.channel (λ k. owed_by k b) c.value w (boxes.works b).taken all;
-        only = took_below (λ (n : Note). n.txn.lane) (length visits) x.value.channel (λ k. owed_by k b) c.value w (boxes.works b).taken all;
+        each = took_each (λ (n : Note). n.txn.lane) (length old_lanes.visits) x.value.channel (λ k. owed_by k b) c.value w (boxes.works b).taken all;
+        only = took_below (λ (n : Note). n.txn.lane) (length old_lanes.visits) x.value.channel (λ k. owed_by k b) c.value w (boxes.works b).taken all;
       }
 
   -- what is known of lane k
   record LaneKnown (k : ℕ) : Type 0 where
-    each : (b : ℕ) → b < length spools → IsFront (of_worker b (lanes.works k).heard) (owed_slips b k)
-    only : AllByRecursion (λ (slip : Slip). slip.worker < length spools) (lanes.works k).heard
+    each : (b : ℕ) → b < length old_boxes.spools → IsFront (of_worker b (lanes.works k).heard) (owed_slips b k)
+    only : AllByRecursion (λ (slip : Slip). slip.worker < length old_boxes.spools) (lanes.works k).heard
 
-  lane_known : (k : ℕ) → k < length visits → LaneKnown k
+  lane_known : (k : ℕ) → k < length old_lanes.visits → LaneKnown k
   lane_known k below =
-      let x = at slips k (omega (arith, slips_new.counts, below)) in
-      let y = at slips_after k (omega (arith, lanes.as_many.2, below)) in
-      let c = at slips_closed k (omega (arith, slips_shut.count, length-map slips (λ (i : Inbox Slip). i.channel), slips_new.counts, below)) in
+      let x = at old_lanes.inboxes k (omega (arith, slips_new.counts, below)) in
+      let y = at new_lanes.inboxes k (omega (arith, lanes.as_many.2, below)) in
+      let c = at slips_closed k (omega (arith, slips_shut.count, length-map old_lanes.inboxes (λ (i : Inbox Slip). i.channel), slips_new.counts, below)) in
       let heard = lanes.heard k x.value y.value x.is y.is in
-      let w = slips_shut.each k x.value.channel c.value (at_map (λ (i : Inbox Slip). i.channel) slips k x.value x.is) c.is in
-      let s = zip_at (IsSettled (λ (s : Slip). s.worker)) slips_after slips_closed slips_settled k y.value c.value y.is c.is in
+      let w = slips_shut.each k x.value.channel c.value (at_map (λ (i : Inbox Slip). i.channel) old_lanes.inboxes k x.value x.is) c.is in
+      let s = zip_at (IsSettled (λ (s : Slip). s.worker)) new_lanes.inboxes slips_closed slips_settled k y.value c.value y.is c.is in
       let fresh : taken x.value ≡ [] = ap (λ (i : Inbox Slip). taken i) (slips_new.inboxes_are k x.value x.is) in
       let took : taken y.value ≡ (lanes.works k).heard = heard.took ∙ ap (λ l. l ++ (lanes.works k).heard) fresh in
       let front : TookSome (λ (s : Slip). s.worker) (lanes.works k).heard c.value.sent = subst (λ l. TookSome (λ (s : Slip). s.worker) l c.value.sent) took s.front in record {
-        each = front_each (λ (s : Slip). s.worker) (length spools) x.value.channel (λ b. owed_slips b k) c.value w (lanes.works k).heard front;
-        only = front_below (λ (s : Slip). s.worker) (length spools) x.value.channel (λ b. owed_slips b k) c.value w (lanes.works k).heard front;
+        each = front_each (λ (s : Slip). s.worker) (length old_boxes.spools) x.value.channel (λ b. owed_slips b k) c.value w (lanes.works k).heard front;
+        only = front_below (λ (s : Slip). s.worker) (length old_boxes.spools) x.value.channel (λ b. owed_slips b k) c.value w (lanes.works k).heard front;
       }
 
-  pub has_run : HasRun site May MayGive finished over state visits visits_after spools spools_after conversations tallies
+  pub has_run : HasRun site May view state (record { visits = old_lanes.visits; spools = old_boxes.spools })
+      (record {
+        visits = new_lanes.visits;
+        spools = new_boxes.spools;
+        conversations = new_lanes.conversations;
+        tallies = new_boxes.tallies;
+      })
   has_run = record {
     lanes = lanes.works;
     boxes = boxes.works;
@@ -146,7 +151,7 @@ module _ {V S : Type 0} (site : Site) (May : ℕ → Type 0) (MayGive : V → Pe
     as_many_boxes = (boxes.as_many.0, boxes.as_many.1);
     served = λ k count old new a b c.
         let s = lanes.served k count old new a b c in
-        let below = slice_get_within visits k old a in
+        let below = slice_get_within old_lanes.visits k old a in
         let l = lane_known k below in
         let cs = conversations_of (lanes.works k).visits in record {
           visited = s.visited;
@@ -155,7 +160,7 @@ module _ {V S : Type 0} (site : Site) (May : ℕ → Type 0) (MayGive : V → Pe
           verdicts = s.verdicts;
           moments = s.moments;
           answered = outcomes_are_answers site k (lanes.works k).heard cs
-              (named_once site k (length spools) cs (lanes.works k).heard boxes.works l.only l.each (λ b box. (box_known b box).each k below)) s.answered;
+              (named_once site k (length old_boxes.spools) cs (lanes.works k).heard boxes.works l.only l.each (λ b box. (box_known b box).each k below)) s.answered;
         };
     stored = boxes.stored;
     owed = λ k b below box. (box_known b box).each k below;

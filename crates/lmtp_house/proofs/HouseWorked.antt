@@ -16,7 +16,7 @@ use Rattle.box_worker.specs.Worked.{idle, HasWorked}
 use Rattle.lmtp_house.specs.declared.house.report.Tally.{Tally}
 use Rattle.lmtp_house.specs.House.{BoxWork, IsBoxWork}
 use Rattle.lmtp_house.specs.HouseChannels.{AreRows, none, lane_at, HasGiven}
-use Rattle.lmtp_house.specs.HouseTasks.{BoxTask, box_task, box_tasks, HaveWorked, TookAllNotes}
+use Rattle.lmtp_house.specs.HouseTasks.{BoxTask, box_task, box_tasks, WorkersGiven, WorkersBack, HaveWorked, TookAllNotes}
 use Rattle.lmtp_house.proofs.HousePairs.{AllZip-length, picks, picked}
 use Rattle.lmtp_house.proofs.HouseChannels.{at, same_at, at_each, source, rows_given}
 
@@ -67,19 +67,28 @@ module _ {S R : Type 0} (state : S → SpoolState) (rr : R → Inbox Note) (rs :
   abbrev no_work : BoxWork
   no_work = record { taken = []; stored = 0 }
 
-  module _ (site : Site) (channels : List (Channel Slip)) (inboxes : List (Inbox Note)) (rows : List (List (Sender Slip))) (spools : List S) (reports : List R)
-      (inboxes_count : length inboxes ≡ length spools) (some : 0 < length channels) (are : AreRows (length spools) channels none rows)
-      (all : AllZip BoxOk (box_tasks site.host inboxes rows spools) reports) (sound : AllByRecursion (λ r. rl r ≡ false) reports) where
+  -- what reports tell together
+  abbrev pub workers_back : List R → WorkersBack S
+  workers_back reports = record {
+    inboxes = map rr reports;
+    rows = map rs reports;
+    spools = map rp reports;
+    tallies = map rt reports;
+  }
+
+  module _ (site : Site) (channels : List (Channel Slip)) (given : WorkersGiven S) (reports : List R)
+      (inboxes_count : length given.inboxes ≡ length given.spools) (some : 0 < length channels) (are : AreRows (length given.spools) channels none given.rows)
+      (all : AllZip BoxOk (box_tasks site.host given.inboxes given.rows given.spools) reports) (sound : AllByRecursion (λ r. rl r ≡ false) reports) where
     abbrev tasks : List (BoxTask S)
-    tasks = box_tasks site.host inboxes rows spools
+    tasks = box_tasks site.host given.inboxes given.rows given.spools
 
     abbrev works : ℕ → BoxWork
     works = picks BoxOk box_work no_work tasks reports all
 
-    count : length tasks ≡ length spools
-    count = tasks_count site.host inboxes rows spools inboxes_count are.count
+    count : length tasks ≡ length given.spools
+    count = tasks_count site.host given.inboxes given.rows given.spools inboxes_count are.count
 
-    reports_count : length reports ≡ length spools
+    reports_count : length reports ≡ length given.spools
     reports_count = sym (AllZip-length BoxOk tasks reports all) ∙ count
 
     -- what is known of worker k
@@ -88,18 +97,18 @@ module _ {S R : Type 0} (state : S → SpoolState) (rr : R → Inbox Note) (rs :
       row : List (Sender Slip)
       spool : S
       report : R
-      inbox_is : slice_get inboxes k ≡ Some inbox
-      row_is : slice_get rows k ≡ Some row
-      spool_is : slice_get spools k ≡ Some spool
+      inbox_is : slice_get given.inboxes k ≡ Some inbox
+      row_is : slice_get given.rows k ≡ Some row
+      spool_is : slice_get given.spools k ≡ Some spool
       report_is : slice_get reports k ≡ Some report
       stored : IsBoxWork site (works k) (state spool) (state (rp report)) (rt report)
-      given : HasGiven (λ j. owed_to k (works k).stored j (works k).taken) row (rs report)
+      given_out : HasGiven (λ j. owed_to k (works k).stored j (works k).taken) row (rs report)
       took : TookAllNotes (works k).taken inbox (rr report)
 
-    box_is : (k : ℕ) → k < length spools → BoxIs k
+    box_is : (k : ℕ) → k < length given.spools → BoxIs k
     box_is k below =
         let p = picked BoxOk box_work no_work tasks reports all k (omega (arith, count, below)) in
-        let t = task_at site.host inboxes rows spools k p.left p.left_is in
+        let t = task_at site.host given.inboxes given.rows given.spools k p.left p.left_is in
         let h = p.holds in
         let no = at_each (λ r. rl r ≡ false) reports sound k p.right p.right_is in
         let first = at channels 0 some in
@@ -108,14 +117,14 @@ module _ {S R : Type 0} (state : S → SpoolState) (rr : R → Inbox Note) (rs :
         let Given : ℕ → List (Sender Slip) → BoxWork → Type 0 = λ b row w. HasGiven (λ j. owed_to b w.stored j w.taken) row (rs p.right) in
         let Took : Inbox Note → BoxWork → Type 0 = λ inbox w. TookAllNotes w.taken inbox (rr p.right) in
         let stored : Stored p.left.host p.left.spool (box_work p.left p.right h) = record { spool = h.handled.spool; taken = h.handled.taken_count; stored = h.handled.stored_count } in
-        let given : Given (worker_of p.left.slips) p.left.slips (box_work p.left p.right h) = record {
+        let given_out : Given (worker_of p.left.slips) p.left.slips (box_work p.left p.right h) = record {
           as_many = h.handled.told.as_many;
           each = λ j before after e f.
               let o = h.handled.told.each j before after e f in (o.channel, o.number, o.sent ∙ ap (λ l. before.sent ++ l) (o.all no));
         } in
         let took : Took p.left.receiver (box_work p.left p.right h) = record { channel = h.channel; lanes = h.lanes; took = refl; closed = h.closed no } in
         let given_at : Given (worker_of t.row) t.row (works k) =
-        subst (λ (j : BoxTask S). Given (worker_of j.slips) j.slips (works k)) t.is (subst (λ w. Given (worker_of p.left.slips) p.left.slips w) (sym p.picked) given) in record {
+        subst (λ (j : BoxTask S). Given (worker_of j.slips) j.slips (works k)) t.is (subst (λ w. Given (worker_of p.left.slips) p.left.slips w) (sym p.picked) given_out) in record {
           inbox = t.inbox;
           row = t.row;
           spool = t.spool;
@@ -125,36 +134,36 @@ module _ {S R : Type 0} (state : S → SpoolState) (rr : R → Inbox Note) (rs :
           spool_is = t.spool_is;
           report_is = p.right_is;
           stored = subst (λ (j : BoxTask S). Stored j.host j.spool (works k)) t.is (subst (λ w. Stored p.left.host p.left.spool w) (sym p.picked) stored);
-          given = subst (λ b. Given b t.row (works k)) worker_is given_at;
+          given_out = subst (λ b. Given b t.row (works k)) worker_is given_at;
           took = subst (λ (j : BoxTask S). Took j.receiver (works k)) t.is (subst (λ w. Took p.left.receiver w) (sym p.picked) took);
         }
 
-    pub have_worked : HaveWorked site state channels inboxes (map rr reports) (map rs reports) spools (map rp reports) (map rt reports)
+    pub have_worked : HaveWorked site state channels given (workers_back reports)
     have_worked = record {
       works = works;
       as_many = (length-map reports rp ∙ reports_count, length-map reports rt ∙ reports_count, length-map reports rr ∙ reports_count);
       stored = λ k old new tally a b c.
-          let l = box_is k (slice_get_within spools k old a) in
+          let l = box_is k (slice_get_within given.spools k old a) in
           let v = source rp reports k new b in
           let n = source rt reports k tally c in
-          let old_is : l.spool ≡ old = same_at spools k l.spool old l.spool_is a in
+          let old_is : l.spool ≡ old = same_at given.spools k l.spool old l.spool_is a in
           let new_is : rp l.report ≡ new = sym (v.gives ∙ ap rp (same_at reports k v.value l.report v.is l.report_is)) in
           let tally_is : rt l.report ≡ tally = sym (n.gives ∙ ap rt (same_at reports k n.value l.report n.is l.report_is)) in
           subst (λ x. IsBoxWork site (works k) (state old) (state new) x) tally_is
           (subst (λ x. IsBoxWork site (works k) (state old) (state x) (rt l.report)) new_is
           (subst (λ x. IsBoxWork site (works k) (state x) (state (rp l.report)) (rt l.report)) old_is l.stored));
-      rows_are = rows_given (length spools) channels (λ b k. owed_to b (works b).stored k (works b).taken) rows (map rs reports) are (length-map reports rs ∙ reports_count)
+      rows_are = rows_given (length given.spools) channels (λ b k. owed_to b (works b).stored k (works b).taken) given.rows (map rs reports) are (length-map reports rs ∙ reports_count)
           (λ k row row' a b.
           let r = source rs reports k row' b in
-          let l = box_is k (omega (arith, are.count, slice_get_within rows k row a)) in
+          let l = box_is k (omega (arith, are.count, slice_get_within given.rows k row a)) in
           let new_is : rs l.report ≡ row' = sym (r.gives ∙ ap rs (same_at reports k r.value l.report r.is l.report_is)) in
-          let old_is : l.row ≡ row = same_at rows k l.row row l.row_is a in
+          let old_is : l.row ≡ row = same_at given.rows k l.row row l.row_is a in
           let Given : List (Sender Slip) → List (Sender Slip) → Type 0 = λ x y. HasGiven (λ j. owed_to k (works k).stored j (works k).taken) x y in
-          subst (λ x. Given row x) new_is (subst (λ x. Given x (rs l.report)) old_is l.given));
+          subst (λ x. Given row x) new_is (subst (λ x. Given x (rs l.report)) old_is l.given_out));
       took = λ k old new a b.
           let r = source rr reports k new b in
-          let l = box_is k (omega (arith, inboxes_count, slice_get_within inboxes k old a)) in
+          let l = box_is k (omega (arith, inboxes_count, slice_get_within given.inboxes k old a)) in
           let new_is : rr l.report ≡ new = sym (r.gives ∙ ap rr (same_at reports k r.value l.report r.is l.report_is)) in
-          let old_is : l.inbox ≡ old = same_at inboxes k l.inbox old l.inbox_is a in
+          let old_is : l.inbox ≡ old = same_at given.inboxes k l.inbox old l.inbox_is a in
           subst (λ x. TookAllNotes (works k).taken old x) new_is (subst (λ x. TookAllNotes (works k).taken x (rr l.report)) old_is l.took);
     }

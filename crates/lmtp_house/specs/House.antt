@@ -1,5 +1,5 @@
 -- What a server's run comes to: its lanes and its workers taken together.
-use Rattle.std.specs.Prelude.{◌≡◌, ◌<◌, ◌≤◌, ℕ, Bool, true, List, ◌++◌, length, slice_get, Option, Some}
+use Rattle.std.specs.Prelude.{◌≡◌, ◌<◌, ◌≤◌, ℕ, Bool, true, List, length, slice_get, Option, Some}
 use Rattle.std.specs.List.{AllByRecursion}
 use Rattle.mail_world.specs.declared.Note.{Note}
 use Rattle.mail_world.specs.declared.Slip.{Slip}
@@ -27,6 +27,25 @@ pub record IsSize (site : Site) (sizes : Sizes) (lanes spools gates : ℕ) : Typ
   pub each_spool : spools ≡ length site.boxes
   pub each_gate : gates ≡ length site.boxes
 
+-- what contracts see of one kind of clients: those that may come, the conversations that have ended, and whether no
+-- client is left
+pub record VisitsView (V : Type 0) : Type 1 where
+  pub MayGive : V → PeerState → Type 0
+  pub finished : V → Option (List Finished)
+  pub over : V → Bool
+
+-- what is handed in: clients by lane, and spools by mailbox
+pub record HandedIn (V S : Type 0) : Type 0 where
+  pub visits : List V
+  pub spools : List S
+
+-- what is handed back, and what is told of it: how many conversations each lane held, and what each worker did
+pub record HandedBack (V S : Type 0) : Type 0 where
+  pub visits : List V
+  pub spools : List S
+  pub conversations : List ℕ
+  pub tallies : List Tally
+
 -- what a lane did: the clients that it served, and the slips that it heard
 pub record LaneWork : Type 0 where
   pub visits : List Visit
@@ -37,13 +56,29 @@ pub record BoxWork : Type 0 where
   pub taken : List Note
   pub stored : ℕ
 
--- Lane k served these clients until there were no more: its verdicts fit, each moment is one that the clock may answer, and each
--- outcome is that of the slip that it heard.
+-- what is told of a lane's run: the conversations that had ended before it and behind it, whether no client was left,
+-- and how many it held
+pub record LaneTold : Type 0 where
+  pub before : Option (List Finished)
+  pub after : Option (List Finished)
+  pub over : Bool
+  pub count : ℕ
+
+abbrev pub lane_told : {V : Type 0} → VisitsView V → V → V → ℕ → LaneTold
+lane_told view before after count = record {
+  before = view.finished before;
+  after = view.finished after;
+  over = view.over after;
+  count = count;
+}
+
+-- Lane k served these clients until there were no more: its verdicts fit, each moment is one that the clock may answer,
+-- and each outcome is that of the slip that it heard.
 pub record IsLaneWork (site : Site) (May : ℕ → Type 0) (MayCome : PeerState → Type 0) (k : ℕ) (work : LaneWork)
-    (old new : Option (List Finished)) (over : Bool) (count : ℕ) : Type 0 where
-  pub visited : HasVisited site MayCome old new work.visits
-  pub ended : over ≡ true
-  pub counts : count ≡ counted (length work.visits)
+    (told : LaneTold) : Type 0 where
+  pub visited : HasVisited site MayCome told.before told.after work.visits
+  pub ended : told.over ≡ true
+  pub counts : told.count ≡ counted (length work.visits)
   pub verdicts : VerdictsFit site (conversations_of work.visits)
   pub moments : AllByRecursion (λ t. May t.disposition.moment) (transactions site 0 (conversations_of work.visits))
   pub answered : OutcomesAreAnswers site k work.heard (conversations_of work.visits)
@@ -54,19 +89,26 @@ pub record IsBoxWork (site : Site) (work : BoxWork) (old new : SpoolState) (tall
   pub taken : tally.taken ≡ counted (length work.taken)
   pub stored : tally.stored ≡ counted work.stored
 
--- However lanes and workers interleaved: each worker took of each lane just the copies that the lane's conversations owe its mailbox, in
--- their order, and nothing else; and each lane heard of its copies the slips that their workers gave, and nothing else.
-pub record HasRun {V S : Type 0} (site : Site) (May : ℕ → Type 0) (MayGive : V → PeerState → Type 0) (finished : V → Option (List Finished)) (over : V → Bool) (state : S → SpoolState)
-    (visits visits_after : List V) (spools spools_after : List S) (conversations : List ℕ) (tallies : List Tally) : Type 0 where
+-- However lanes and workers interleaved: each worker took of each lane just the copies that the lane's conversations owe
+-- its mailbox, in their order, and nothing else; and each lane heard of its copies the slips that their workers gave, and
+-- nothing else.
+pub record HasRun {V S : Type 0} (site : Site) (May : ℕ → Type 0) (view : VisitsView V) (state : S → SpoolState)
+    (old : HandedIn V S) (new : HandedBack V S) : Type 0 where
   pub lanes : ℕ → LaneWork
   pub boxes : ℕ → BoxWork
-  pub as_many_lanes : (length visits_after ≡ length visits) × (length conversations ≡ length visits)
-  pub as_many_boxes : (length spools_after ≡ length spools) × (length tallies ≡ length spools)
-  pub served : (k count : ℕ) (old new : V) → slice_get visits k ≡ Some old → slice_get visits_after k ≡ Some new → slice_get conversations k ≡ Some count
-      → IsLaneWork site May (MayGive old) k (lanes k) (finished old) (finished new) (over new) count
-  pub stored : (b : ℕ) (old new : S) (tally : Tally) → slice_get spools b ≡ Some old → slice_get spools_after b ≡ Some new → slice_get tallies b ≡ Some tally
-      → IsBoxWork site (boxes b) (state old) (state new) tally
-  pub owed : (k b : ℕ) → k < length visits → b < length spools → of_lane k (boxes b).taken ≡ due site k b (conversations_of (lanes k).visits)
-  pub owed_only : (b : ℕ) → b < length spools → AllByRecursion (λ note. note.txn.lane < length visits) (boxes b).taken
-  pub told : (k b : ℕ) → k < length visits → b < length spools → IsFront (of_worker b (lanes k).heard) (owed_to b (boxes b).stored k (boxes b).taken)
-  pub told_only : (k : ℕ) → k < length visits → AllByRecursion (λ slip. slip.worker < length spools) (lanes k).heard
+  pub as_many_lanes : (length new.visits ≡ length old.visits) × (length new.conversations ≡ length old.visits)
+  pub as_many_boxes : (length new.spools ≡ length old.spools) × (length new.tallies ≡ length old.spools)
+  pub served : (k count : ℕ) (before after : V) → slice_get old.visits k ≡ Some before
+      → slice_get new.visits k ≡ Some after → slice_get new.conversations k ≡ Some count
+      → IsLaneWork site May (view.MayGive before) k (lanes k) (lane_told view before after count)
+  pub stored : (b : ℕ) (before after : S) (tally : Tally) → slice_get old.spools b ≡ Some before
+      → slice_get new.spools b ≡ Some after → slice_get new.tallies b ≡ Some tally
+      → IsBoxWork site (boxes b) (state before) (state after) tally
+  pub owed : (k b : ℕ) → k < length old.visits → b < length old.spools
+      → of_lane k (boxes b).taken ≡ due site k b (conversations_of (lanes k).visits)
+  pub owed_only : (b : ℕ) → b < length old.spools
+      → AllByRecursion (λ note. note.txn.lane < length old.visits) (boxes b).taken
+  pub told : (k b : ℕ) → k < length old.visits → b < length old.spools
+      → IsFront (of_worker b (lanes k).heard) (owed_to b (boxes b).stored k (boxes b).taken)
+  pub told_only : (k : ℕ) → k < length old.visits
+      → AllByRecursion (λ slip. slip.worker < length old.spools) (lanes k).heard

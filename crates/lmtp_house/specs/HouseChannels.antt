@@ -1,6 +1,7 @@
 -- All channels of one kind together: a grid of senders, and their receivers.
 use Rattle.std.specs.Prelude.{◌≡◌, ℕ, ◌<◌, List, [], ◌++◌, length, map, slice_get, Some}
-use Rattle.mail_post.specs.Channel.{Channel, Sender, Inbox, Sent, taken, new_senders, new_inbox, AreSendersOf, TookSome, TookAll, lists as sent_by}
+use Rattle.mail_post.specs.Channel.{Channel, Sender, Inbox, Sent, taken, new_senders, new_inbox, AreSendersOf}
+use Rattle.mail_post.specs.Channel.{TookSome, TookAll, lists as sent_by}
 use Rattle.mail_post.specs.declared.channel.Gone.TheVariants.{Closed}
 
 -- how many channels there are, and how many lanes each has
@@ -27,17 +28,20 @@ module _ {M : Type 0} where
     pub inbox_is : inbox ≡ new_inbox inbox.channel lanes
 
   -- row k has lane k's sender of each channel, in the channels' order
-  pub record AreRows (n : ℕ) (channels : List (Channel M)) (sent : ℕ → ℕ → List M) (rows : List (List (Sender M))) : Type 0 where
+  pub record AreRows (n : ℕ) (channels : List (Channel M)) (sent : ℕ → ℕ → List M) (rows : List (List (Sender M)))
+      : Type 0 where
     pub count : length rows ≡ n
     pub widths : (k : ℕ) (row : List (Sender M)) → slice_get rows k ≡ Some row → length row ≡ length channels
-    pub cells : (k b : ℕ) (row : List (Sender M)) (channel : Channel M) → slice_get rows k ≡ Some row → slice_get channels b ≡ Some channel → slice_get row b ≡ Some (lane_at channel k (sent k b))
+    pub cells : (k b : ℕ) (row : List (Sender M)) (channel : Channel M) → slice_get rows k ≡ Some row
+        → slice_get channels b ≡ Some channel → slice_get row b ≡ Some (lane_at channel k (sent k b))
 
   -- column b has all senders of channel b, in their lanes' order
-  pub record AreColumns (n : ℕ) (channels : List (Channel M)) (sent : ℕ → ℕ → List M) (columns : List (List (Sender M))) : Type 0 where
+  pub record AreColumns (n : ℕ) (channels : List (Channel M)) (sent : ℕ → ℕ → List M)
+      (columns : List (List (Sender M))) : Type 0 where
     pub count : length columns ≡ length channels
     pub widths : (b : ℕ) (column : List (Sender M)) → slice_get columns b ≡ Some column → length column ≡ n
-    pub cells : (b k : ℕ) (column : List (Sender M)) (channel : Channel M) → slice_get columns b ≡ Some column → slice_get channels b ≡ Some channel → k < n
-        → slice_get column k ≡ Some (lane_at channel k (sent k b))
+    pub cells : (b k : ℕ) (column : List (Sender M)) (channel : Channel M) → slice_get columns b ≡ Some column
+        → slice_get channels b ≡ Some channel → k < n → slice_get column k ≡ Some (lane_at channel k (sent k b))
 
   -- new channels: nothing was sent, and nothing taken
   pub record AreNewChannels (n count : ℕ) (rows : List (List (Sender M))) (inboxes : List (Inbox M)) : Type 0 where
@@ -51,9 +55,11 @@ module _ {M : Type 0} where
     pub count : length closed.sent ≡ n
     pub each : (k : ℕ) → k < n → slice_get closed.sent k ≡ Some (sent k)
 
-  pub record AreClosed (n : ℕ) (channels : List (Channel M)) (sent : ℕ → ℕ → List M) (closed : List (Sent M)) : Type 0 where
+  pub record AreClosed (n : ℕ) (channels : List (Channel M)) (sent : ℕ → ℕ → List M) (closed : List (Sent M))
+      : Type 0 where
     pub count : length closed ≡ length channels
-    pub each : (b : ℕ) (channel : Channel M) (c : Sent M) → slice_get channels b ≡ Some channel → slice_get closed b ≡ Some c → IsClosedWith n channel (λ k. sent k b) c
+    pub each : (b : ℕ) (channel : Channel M) (c : Sent M) → slice_get channels b ≡ Some channel
+        → slice_get closed b ≡ Some c → IsClosedWith n channel (λ k. sent k b) c
 
   -- the receiver may be compared with what its channel was closed with
   pub record CanSettle (inbox : Inbox M) (closed : Sent M) : Type 0 where

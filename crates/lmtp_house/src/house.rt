@@ -4,6 +4,7 @@ mod channels;
 mod crew;
 pub mod fault;
 mod grid;
+mod handed;
 mod lanes;
 mod plan;
 pub mod report;

@@ -25,7 +25,7 @@ use Rattle.mbox_rd.specs.MemorySpool.{MemorySpool}
 use Rattle.lmtp_talk.specs.declared.ending.EndCause.{EndCause}
 use Rattle.lmtp_talk.specs.declared.ending.EndCause.TheVariants.{WriteFault}
 use Rattle.lmtp_house.specs.declared.house.report.Tally.{Tally}
-use Rattle.lmtp_house.specs.House.{HasRun, IsBoxWork, LaneWork, BoxWork}
+use Rattle.lmtp_house.specs.House.{HandedBack, HasRun, IsBoxWork, LaneWork, BoxWork}
 use Rattle.lmtp_talk.specs.Peer.{PeerState}
 use Rattle.lmtp_talk.specs.Served.{IsWritten, has_quit, transactions_in}
 use Rattle.lmtp_lane.specs.Visits.{Finished, Visit, IsVisit, conversations_of, finished_of}
@@ -204,22 +204,24 @@ delivered site c heard boxes count spools tallies faulty is accounted h size fau
     }
 
 -- the run of a server whose only lane has one client, and whose spools are new
-abbrev pub HasRunAlone : (site : Site) (moment : ℕ) {P : Type 0} (state : P → PeerState) (peer : P) (clients : List (OnlyClient P)) (count : ℕ) (spools : List MemorySpool) (conversations : List ℕ) (tallies : List Tally) → Type 0
-HasRunAlone site moment state peer clients count spools conversations tallies =
-    HasRun site (λ m. m ≡ moment) (λ c p. MayGive state c p) (λ c. told_by state c) (λ c. is_over c) state_of (Waiting peer ∷ []) clients (replicate count empty_spool) spools conversations tallies
+abbrev pub HasRunAlone : (site : Site) (moment : ℕ) {P : Type 0} (state : P → PeerState) (peer : P) (count : ℕ)
+    (back : HandedBack (OnlyClient P) MemorySpool) → Type 0
+HasRunAlone site moment state peer count back =
+    HasRun site (λ m. m ≡ moment) (record { MayGive = λ c p. MayGive state c p; finished = λ c. told_by state c; over = λ c. is_over c }) state_of
+    (record { visits = Waiting peer ∷ []; spools = replicate count empty_spool }) back
 
-module _ (site : Site) (moment : ℕ) {P : Type 0} (state : P → PeerState) (peer : P) (clients : List (OnlyClient P)) (count : ℕ) (spools : List MemorySpool) (conversations : List ℕ) (tallies : List Tally) where
+module _ (site : Site) (moment : ℕ) {P : Type 0} (state : P → PeerState) (peer : P) (count : ℕ) (back : HandedBack (OnlyClient P) MemorySpool) where
   -- the client has left
-  pub only_over : HasRunAlone site moment state peer clients count spools conversations tallies → IsOnlyOver clients
+  pub only_over : HasRunAlone site moment state peer count back → IsOnlyOver back.visits
   only_over h =
-      let client = one_alone clients h.as_many_lanes.0 in
-      let number = one_alone conversations h.as_many_lanes.1 in
+      let client = one_alone back.visits h.as_many_lanes.0 in
+      let number = one_alone back.conversations h.as_many_lanes.1 in
       let work = h.served 0 number.0 (Waiting peer) client.0 refl (ap (λ l. slice_get l 0) client.1) (ap (λ l. slice_get l 0) number.1) in
       (client.0, client.1, work.ended)
 
-  have_worked : (h : HasRunAlone site moment state peer clients count spools conversations tallies) (c : Conversation)
+  have_worked : (h : HasRunAlone site moment state peer count back) (c : Conversation)
       → conversations_of (h.lanes 0).visits ≡ c ∷ [] → AllByRecursion (λ t. OutcomesIn 0 (h.lanes 0).heard t t.disposition.verdict) (transactions_in site 0 c)
-      → HaveWorked site (transactions_in site 0 c) (h.lanes 0).heard h.boxes count spools tallies
+      → HaveWorked site (transactions_in site 0 c) (h.lanes 0).heard h.boxes count back.spools back.tallies
   have_worked h c is answered =
       let ts : List Transaction = transactions_in site 0 c in
       let heard : List Slip = (h.lanes 0).heard in
@@ -237,23 +239,23 @@ module _ (site : Site) (moment : ℕ) {P : Type 0} (state : P → PeerState) (pe
             subst B (taken b low) (h.told 0 b one (low_in b low));
         taken = taken;
         each = λ b low.
-            let spool = get_some spools b (omega (arith, many, low, h.as_many_boxes.0)) in
-            let tally = get_some tallies b (omega (arith, many, low, h.as_many_boxes.1)) in
+            let spool = get_some back.spools b (omega (arith, many, low, h.as_many_boxes.0)) in
+            let tally = get_some back.tallies b (omega (arith, many, low, h.as_many_boxes.1)) in
             record {
               spool = spool.0;
               tally = tally.0;
-              is = kept_is spools tallies b spool.0 tally.0 spool.1 tally.1;
+              is = kept_is back.spools back.tallies b spool.0 tally.0 spool.1 tally.1;
               did = h.stored b empty_spool spool.0 tally.0 (get_same count b empty_spool low) spool.1 tally.1;
             };
         as_many = (h.as_many_boxes.0 ∙ many, h.as_many_boxes.1 ∙ many);
       }
 
-  pub held : (last : P) (end : EndCause) (faulty : Bool) → HasRunAlone site moment state peer clients count spools conversations tallies → clients ≡ Over last end ∷ [] → ((p : P) → (state p).stops ≡ 0)
-      → count ≡ length site.boxes → faulty ≡ list_any (λ t. t.faulty) tallies
-      → IsHeld site moment (streams_of (state peer)) (streams_of (state last)) (record { spools = spools; faulty = faulty; end = end })
+  pub held : (last : P) (end : EndCause) (faulty : Bool) → HasRunAlone site moment state peer count back → back.visits ≡ Over last end ∷ [] → ((p : P) → (state p).stops ≡ 0)
+      → count ≡ length site.boxes → faulty ≡ list_any (λ t. t.faulty) back.tallies
+      → IsHeld site moment (streams_of (state peer)) (streams_of (state last)) (record { spools = back.spools; faulty = faulty; end = end })
   held last end faulty h after never size faulty_is =
       let lane : LaneWork = h.lanes 0 in
-      let number = one_alone conversations h.as_many_lanes.1 in
+      let number = one_alone back.conversations h.as_many_lanes.1 in
       let work = h.served 0 number.0 (Waiting peer) (Over last end) refl (ap (λ l. slice_get l 0) after) (ap (λ l. slice_get l 0) number.1) in
       let one = one_visit lane.visits (record { peer = state last; cause = end }) work.visited.told in
       let v : Visit = one.visit in
@@ -281,9 +283,9 @@ module _ (site : Site) (moment : ℕ) {P : Type 0} (state : P → PeerState) (pe
           moments = subst D (account_told site 0 c by.accounted) (all_mapped (λ d. d.moment ≡ moment) (λ (t : Transaction). t.disposition) (transactions_in site 0 c) (subst F ts_are work.moments));
           verdicts = subst N by.unstopped (subst W (ap (λ l. transactions site 0 l) are) work.verdicts);
         };
-        mailboxes = kept_all spools tallies;
-        delivered = delivered site c lane.heard h.boxes count spools tallies faulty by.unstopped by.accounted worked size faulty_is;
-        holds = bytes_are spools tallies (worked.as_many.1 ∙ sym worked.as_many.0);
+        mailboxes = kept_all back.spools back.tallies;
+        delivered = delivered site c lane.heard h.boxes count back.spools back.tallies faulty by.unstopped by.accounted worked size faulty_is;
+        holds = bytes_are back.spools back.tallies (worked.as_many.1 ∙ sym worked.as_many.0);
         said = by.said;
         output = by.output;
         says = subst (λ e. R (conversation c.bytes c.dispositions) e) one.cause (subst (λ x. R x v.cause) by.unstopped by.says);

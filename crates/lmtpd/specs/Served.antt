@@ -7,7 +7,7 @@ use Rattle.mail_world.specs.Text.{lf}
 use Rattle.mail_world.specs.Site.{Site}
 use Rattle.mbox_rd.specs.Spool.{SpoolState}
 use Rattle.lmtp_house.specs.declared.house.report.Tally.{Tally}
-use Rattle.lmtp_house.specs.House.{HasRun}
+use Rattle.lmtp_house.specs.House.{HandedBack, HasRun}
 use Rattle.lmtp_lane.specs.TcpVisits.{is_over}
 use Rattle.lmtp_lane.specs.declared.tcp.visits.TcpVisits.{TcpVisits}
 use Rattle.lmtpd.specs.Output.{pair_texts}
@@ -27,10 +27,8 @@ counts_text names tallies = pair_texts count_line names tallies
 -- A server ran with so many lanes, over clients of a listener, which tell nothing, and these spools; it is faulty exactly where a worker is.
 pub record IsServerRun (L : Type 0) {S : Type 0} (site : Site) (state : S → SpoolState) (lanes : ℕ) (spools : List S) (served : Served) : Type 0 where
   pub visits : List (TcpVisits L)
-  pub visits_after : List (TcpVisits L)
-  pub spools_after : List S
-  pub conversations : List ℕ
-  pub tallies : List Tally
+  pub back : HandedBack (TcpVisits L) S
   pub each_lane : length visits ≡ lanes
-  pub ran : HasRun site (λ moment. moment < 2 ^ 32) (λ _ _. ⊤) (λ _. None) is_over state visits visits_after spools spools_after conversations tallies
-  pub faulty : served.faulty ≡ list_any (λ tally. tally.faulty) tallies
+  pub ran : HasRun site (λ moment. moment < 2 ^ 32) (record { MayGive = λ _ _. ⊤; finished = λ _. None; over = is_over })
+      state (record { visits = visits; spools = spools }) back
+  pub faulty : served.faulty ≡ list_any (λ tally. tally.faulty) back.tallies

@@ -23,6 +23,9 @@ impl FromSender for Slip {
     ghost sender = { λ slip. slip.worker };
 }
 
+/// The slips that wait for a lane: one for each recipient of a message.
+pub const SLIP_CAPACITY: usize = RECIPIENT_LIMIT;
+
 /// A lane's end of a mailbox's channel.
 pub type Sender<N> = ChannelSender<Post<N>>;
 
@@ -65,14 +68,13 @@ pub fn close<N: DepotName, R: Wait>(senders: Vec<Sender<N>>, rt: &R) -> Closed<N
     close_channel::<Post<N>, R>(senders, rt)
 }
 
-/// The channel of one lane's slips: a sender for each worker, and the receiver. It has room for a slip of each
-/// recipient of a message.
+/// The channel of one lane's slips: a sender for each worker, and the receiver.
 pub fn slip_line(alloc: Global, workers: u32) -> Result<(Vec<SlipSender>, SlipReceiver), AllocError>
     requires { 0 < workers }
     ensures senders { IfOk result (λ ends. ends.0.items ≡ new_senders ends.1.channel workers) }
     ensures receiver { IfOk result (λ ends. ends.1 ≡ new_inbox ends.1.channel workers) }
 {
-    open_channel(alloc, RECIPIENT_LIMIT, workers)
+    open_channel(alloc, SLIP_CAPACITY, workers)
 }
 
 /// As `close`, for the senders of one lane's slips, in the workers' order.

@@ -16,8 +16,8 @@ pub use channel::{
 };
 pub use gather::{Gather, GatherFault};
 pub use kinds::{
-    Closed, Receiver, Sender, SlipReceiver, SlipSender, SlipsClosed, close, close_slips, mail_line,
-    slip_line,
+    Closed, Receiver, SLIP_CAPACITY, Sender, SlipReceiver, SlipSender, SlipsClosed, close,
+    close_slips, mail_line, slip_line,
 };
 pub use post::{Parts, Post};
 pub use rule::FromSender;

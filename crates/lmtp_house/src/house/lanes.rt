@@ -5,11 +5,12 @@ ghost use Rattle.std.specs.Prelude.{map};
 ghost use Rattle.std.specs.List.{AllZip, AllByRecursion};
 ghost use Rattle.std.specs.Arc.{arc_value};
 ghost use Rattle.lmtp_house.specs.HouseGrid.{lists, IsRoom};
-ghost use Rattle.lmtp_house.specs.HouseTasks.{lane_task, lane_tasks, IsLaneReady, HaveServedAll};
+ghost use Rattle.lmtp_house.specs.HouseTasks.{lane_task, lane_tasks, lane_before, IsLaneReady, HaveServedAll};
 ghost use Rattle.mail_world.specs.declared.limits.TheConstants.{LANE_LIMIT};
 ghost use Rattle.lmtp_lane.specs.LaneRun.{HasServed};
 
 use crate::house::crew::{Crew, Refused, Task};
+use crate::house::handed::Shared;
 use lmtp_lane::{Clock, Desk, LaneReport, Visits, lane_run};
 use lmtp_text::Site;
 use mail_post::{Sender, SlipReceiver};
@@ -60,9 +61,14 @@ where
 
     ghost ready = { λ job. IsLaneReady V.out job };
 
-    ghost done = { λ job r. HasServed job.site job.lane (C.May job.clock) (V.MayGive job.visits) (V.finished job.visits)
-        (V.finished r.visits) (V.over r.visits)
-        job.senders r.senders.items job.slips r.slips r.conversations r.gone };
+    ghost done = { λ job r. HasServed job.site (C.May job.clock) (V.MayGive job.visits)
+        (lane_before (record { MayGive = V.MayGive; finished = V.finished; over = V.over }) job)
+        (record {
+          finished = V.finished r.visits;
+          over = V.over r.visits;
+          ends = record { lane = job.lane; senders = r.senders.items; inbox = r.slips; gone = r.gone };
+          conversations = r.conversations;
+        }) };
 
     fn run<R: Wait>(self, rt: &R) -> LaneReport<N, V> {
         let LaneJob {
@@ -82,36 +88,30 @@ where
 
 // One lane's job, with a desk of its own.
 fn lane_job<N: DepotName, V: Visits, C: Clock>(
-    alloc: Global,
-    site: &Arc<Site>,
-    clock: &Arc<C>,
-    depot: &Arc<Depot<N>>,
+    shared: &Shared<N, C>,
     lane: u32,
     visits: V,
     senders: Vec<Sender<N>>,
     slips: SlipReceiver,
 ) -> Result<LaneJob<N, V, C>, AllocError>
     ensures { IfOk result (λ job. job
-        ≡ lane_task (arc_value site.now) (arc_value clock.now) lane visits senders.items slips) }
+        ≡ lane_task (arc_value shared.now.site) (arc_value shared.now.clock) lane visits senders.items slips) }
 {
     Ok(LaneJob {
         lane,
-        site: Arc::try_clone(site)?,
-        desk: Desk::new(alloc, Arc::try_clone(site)?)?,
-        depot: Arc::try_clone(depot)?,
+        site: Arc::try_clone(&shared.site)?,
+        desk: Desk::new(shared.alloc, Arc::try_clone(&shared.site)?)?,
+        depot: Arc::try_clone(&shared.depot)?,
         visits,
         senders,
         slips,
-        clock: Arc::try_clone(clock)?,
+        clock: Arc::try_clone(&shared.clock)?,
     })
 }
 
 /// The jobs of all lanes, in their order.
 pub fn lane_jobs<N: DepotName, V: Visits, C: Clock>(
-    alloc: Global,
-    site: &Arc<Site>,
-    clock: &Arc<C>,
-    depot: &Arc<Depot<N>>,
+    shared: &Shared<N, C>,
     visits: Vec<V>,
     rows: Vec<Vec<Sender<N>>>,
     takers: Vec<SlipReceiver>,
@@ -119,12 +119,12 @@ pub fn lane_jobs<N: DepotName, V: Visits, C: Clock>(
     requires few { vec_len visits ≤ LANE_LIMIT }
     requires rows { vec_len rows ≡ vec_len visits }
     requires takers { vec_len takers ≡ vec_len visits }
-    ensures { IfOk result (λ jobs. jobs.items
-        ≡ lane_tasks (arc_value site.now) (arc_value clock.now) 0 visits.items (lists rows.items) takers.items) }
+    ensures { IfOk result (λ jobs. jobs.items ≡ lane_tasks (arc_value shared.now.site) (arc_value shared.now.clock) 0
+        visits.items (lists rows.items) takers.items) }
 {
     let mut rows = rows.into_iter();
     let mut takers = takers.into_iter();
-    let mut jobs = Vec::new(alloc);
+    let mut jobs = Vec::new(shared.alloc);
     let mut lane = 0;
     for visits in visits {
         let Some(senders) = rows.next() else {
@@ -133,8 +133,7 @@ pub fn lane_jobs<N: DepotName, V: Visits, C: Clock>(
         let Some(slips) = takers.next() else {
             unreachable!()
         };
-        let job = lane_job(alloc, site, clock, depot, lane, visits, senders, slips)?;
-        jobs.push(job)?;
+        jobs.push(lane_job(shared, lane, visits, senders, slips)?)?;
         lane += 1;
     }
     Ok(jobs)
@@ -142,7 +141,7 @@ pub fn lane_jobs<N: DepotName, V: Visits, C: Clock>(
 
 /// What the lanes handed back, part by part.
 #[derive(Drop)]
-pub struct LaneEnds<N: DepotName, V: Visits> {
+pub struct LaneReports<N: DepotName, V: Visits> {
     pub visits: Vec<V>,
     pub senders: Vec<Vec<Sender<N>>>,
     pub slips: Vec<SlipReceiver>,
@@ -151,16 +150,16 @@ pub struct LaneEnds<N: DepotName, V: Visits> {
     pub gone: bool,
 }
 
-impl<N: DepotName, V: Visits> LaneEnds<N, V> {
+impl<N: DepotName, V: Visits> LaneReports<N, V> {
     // The memory for the parts of so many lanes.
-    fn with_capacity(alloc: Global, lanes: usize) -> Result<LaneEnds<N, V>, AllocError>
+    fn with_capacity(alloc: Global, lanes: usize) -> Result<LaneReports<N, V>, AllocError>
         ensures visits { IfOk result (λ ends. IsRoom lanes ends.visits) }
         ensures senders { IfOk result (λ ends. IsRoom lanes ends.senders) }
         ensures slips { IfOk result (λ ends. IsRoom lanes ends.slips) }
         ensures conversations { IfOk result (λ ends. IsRoom lanes ends.conversations) }
         ensures gone { IfOk result (λ ends. ends.gone ≡ false) }
     {
-        Ok(LaneEnds {
+        Ok(LaneReports {
             visits: Vec::with_capacity(alloc, lanes)?,
             senders: Vec::with_capacity(alloc, lanes)?,
             slips: Vec::with_capacity(alloc, lanes)?,
@@ -194,7 +193,7 @@ impl<N: DepotName, V: Visits> LaneEnds<N, V> {
     }
 
     // Takes the reports apart. There is room.
-    fn take_all(self, reports: Vec<LaneReport<N, V>>) -> LaneEnds<N, V>
+    fn take_all(self, reports: Vec<LaneReport<N, V>>) -> LaneReports<N, V>
         requires visits { IsRoom (vec_len reports) self.visits }
         requires senders { IsRoom (vec_len reports) self.senders }
         requires slips { IsRoom (vec_len reports) self.slips }
@@ -224,7 +223,7 @@ where
 {
     jobs: Vec<LaneJob<N, V, C>>,
     crew: Crew<LaneJob<N, V, C>>,
-    ends: LaneEnds<N, V>,
+    ends: LaneReports<N, V>,
 }
 
 impl<N, V, C> Model for Lanes<N, V, C>
@@ -260,7 +259,7 @@ where
     {
         Ok(Lanes {
             crew: Crew::with_capacity(alloc, jobs.len())?,
-            ends: LaneEnds::with_capacity(alloc, jobs.len())?,
+            ends: LaneReports::with_capacity(alloc, jobs.len())?,
             jobs,
         })
     }
@@ -269,11 +268,16 @@ where
     pub fn run<R: Threads + Wait + Copy + Send + 'static>(
         self,
         rt: R,
-    ) -> Result<LaneEnds<N, V>, Refused>
+    ) -> Result<LaneReports<N, V>, Refused>
         requires { AllByRecursion (IsLaneReady V.out) self }
-        ensures { IfOk result (λ ends. ends.gone ≡ false
-            → HaveServedAll C.May V.MayGive V.finished V.over self ends.visits.items
-            (lists ends.senders.items) ends.slips.items ends.conversations.items) }
+        ensures { IfOk result (λ back. back.gone ≡ false → HaveServedAll C.May
+            (record { MayGive = V.MayGive; finished = V.finished; over = V.over }) self
+            (record {
+              visits = back.visits.items;
+              rows = lists back.senders.items;
+              inboxes = back.slips.items;
+              conversations = back.conversations.items;
+            })) }
     {
         let Lanes {
             jobs,

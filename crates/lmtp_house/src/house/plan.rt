@@ -7,18 +7,17 @@ ghost use Rattle.lmtp_house.specs.HousePlan.{IsPlanned, MayRun, HasRunAll};
 
 use crate::house::channels::{Closing, open_channels, settle_all};
 use crate::house::fault::HouseFault;
+use crate::house::handed::{HandedIn, Shared};
 use crate::house::lanes::{Lanes, lane_jobs};
 use crate::house::report::HouseReport;
 use crate::house::workers::{Workers, worker_jobs};
 use box_worker::Gate;
 use lmtp_lane::{Clock, Visits};
-use lmtp_text::Site;
-use mail_post::Post;
+use mail_post::{Post, SLIP_CAPACITY};
 use mail_world::Slip;
-use mail_world::limits::RECIPIENT_LIMIT;
 use mbox_rd::Spool;
 use msg_depot::{Depot, DepotName};
-use std::alloc::{AllocError, Global};
+use std::alloc::AllocError;
 use std::sync::{Arc, Wait};
 use std::thread::Threads;
 
@@ -50,29 +49,32 @@ where
 {
     /// Takes all the memory that lanes and workers need.
     pub fn new(
-        alloc: Global,
-        depot: &Arc<Depot<N>>,
-        site: &Arc<Site>,
-        clock: &Arc<C>,
-        capacity: usize,
-        visits: Vec<V>,
-        spools: Vec<S>,
-        gates: Vec<G>,
+        shared: &Shared<N, C>,
+        handed: HandedIn<V, S, G>,
     ) -> Result<Plan<N, V, S, G, C>, AllocError>
-        requires capacity { 0 < capacity }
-        requires lanes { (0 < length visits.items) × (length visits.items ≤ LANE_LIMIT) }
-        requires spools { (0 < length spools.items) × (length spools.items ≡ length (arc_value site.now).boxes) }
-        requires gates { length gates.items ≡ length spools.items }
-        ensures { IfOk result (λ plan. IsPlanned (arc_value site.now)
-            (arc_value clock.now) visits.items spools.items plan.lanes plan.workers plan.mail plan.slips) }
+        requires capacity { 0 < handed.capacity }
+        requires lanes { (0 < length handed.visits.items) × (length handed.visits.items ≤ LANE_LIMIT) }
+        requires spools { (0 < length handed.spools.items)
+            × (length handed.spools.items ≡ length (arc_value shared.now.site).boxes) }
+        requires gates { length handed.gates.items ≡ length handed.spools.items }
+        ensures { IfOk result (λ plan. IsPlanned (arc_value shared.now.site) (arc_value shared.now.clock)
+            (record { visits = handed.visits.items; spools = handed.spools.items })
+            (record { lanes = plan.lanes; workers = plan.workers; mail = plan.mail; slips = plan.slips })) }
     {
+        let HandedIn {
+            visits,
+            spools,
+            gates,
+            capacity,
+        } = handed;
+        let alloc = shared.alloc;
         let lanes = visits.len();
-        let box_count = site.box_count();
+        let box_count = shared.site.box_count();
         let boxes = box_count as usize;
         let (rows, receivers) = open_channels::<Post<N>>(alloc, capacity, lanes as u32, boxes)?;
-        let (slip_rows, takers) = open_channels::<Slip>(alloc, RECIPIENT_LIMIT, box_count, lanes)?;
-        let lane_jobs = lane_jobs(alloc, site, clock, depot, visits, rows, takers)?;
-        let worker_jobs = worker_jobs(alloc, site, depot, receivers, slip_rows, spools, gates)?;
+        let (slip_rows, takers) = open_channels::<Slip>(alloc, SLIP_CAPACITY, box_count, lanes)?;
+        let lane_jobs = lane_jobs(shared, visits, rows, takers)?;
+        let worker_jobs = worker_jobs(shared, receivers, slip_rows, spools, gates)?;
         Ok(Plan {
             lanes: Lanes::new(alloc, lane_jobs)?,
             workers: Workers::new(alloc, worker_jobs)?,
@@ -87,10 +89,17 @@ where
         rt: R,
         depot: &Depot<N>,
     ) -> Result<HouseReport<V, S, G>, HouseFault>
-        requires { MayRun V.out self.lanes self.workers self.mail self.slips }
-        ensures ran { IfOk result
-            (λ report. HasRunAll C.May V.MayGive V.finished V.over S.state self.lanes self.workers self.mail self.slips
-            report.visits.items report.spools.items report.conversations.items report.tallies.items) }
+        requires { MayRun V.out
+            (record { lanes = self.lanes; workers = self.workers; mail = self.mail; slips = self.slips }) }
+        ensures ran { IfOk result (λ report. HasRunAll C.May
+            (record { MayGive = V.MayGive; finished = V.finished; over = V.over }) S.state
+            (record { lanes = self.lanes; workers = self.workers; mail = self.mail; slips = self.slips })
+            (record {
+              visits = report.visits.items;
+              spools = report.spools.items;
+              conversations = report.conversations.items;
+              tallies = report.tallies.items;
+            })) }
         ensures not_size { result ≢ Err HouseFault.Size }
     {
         let Plan {

@@ -7,6 +7,7 @@ ghost use Rattle.mail_world.specs.declared.limits.TheConstants.{LANE_LIMIT};
 ghost use Rattle.lmtp_house.specs.House.{HasRun, IsSize};
 
 use crate::house::fault::HouseFault;
+use crate::house::handed::{HandedIn, Shared};
 use crate::house::plan::Plan;
 use crate::house::report::HouseReport;
 use crate::house::sizes::{Sizes, is_size};
@@ -40,9 +41,15 @@ where
     C: Clock + Send + Sync + 'static,
     R: Threads + Wait + Copy + Send + 'static,
     requires none_out { AllByRecursion (λ v. V.out v ≡ false) visits.items }
-    ensures ran { IfOk result (λ report. HasRun (arc_value site) (C.May clock) V.MayGive V.finished V.over S.state
-        visits.items report.visits.items spools.items report.spools.items
-        report.conversations.items report.tallies.items) }
+    ensures ran { IfOk result (λ report. HasRun (arc_value site) (C.May clock)
+        (record { MayGive = V.MayGive; finished = V.finished; over = V.over }) S.state
+        (record { visits = visits.items; spools = spools.items })
+        (record {
+          visits = report.visits.items;
+          spools = report.spools.items;
+          conversations = report.conversations.items;
+          tallies = report.tallies.items;
+        })) }
     ensures size { result ≡ Err HouseFault.Size
         ↔ ¬ IsSize (arc_value site) sizes (length visits.items) (length spools.items) (length gates.items) }
 {
@@ -51,10 +58,13 @@ where
     }
     let clock = Arc::new(alloc, clock)?;
     let blank = Blank::new(alloc, sizes.blocks, sizes.slots)?;
-    let capacity = sizes.capacity as usize;
-    run_at::<Brand, V, S, G, C, R>(
-        rt, alloc, blank, site, capacity, visits, spools, gates, clock,
-    )
+    let handed = HandedIn {
+        visits,
+        spools,
+        gates,
+        capacity: sizes.capacity as usize,
+    };
+    run_at::<Brand, V, S, G, C, R>(rt, alloc, blank, site, clock, handed)
 }
 
 // Runs a server over the depot of this name.
@@ -63,11 +73,8 @@ fn run_at<N, V, S, G, C, R>(
     alloc: Global,
     blank: Blank,
     site: Arc<Site>,
-    capacity: usize,
-    visits: Vec<V>,
-    spools: Vec<S>,
-    gates: Vec<G>,
     clock: Arc<C>,
+    handed: HandedIn<V, S, G>,
 ) -> Result<HouseReport<V, S, G>, HouseFault>
 where
     N: DepotName + Send + Sync + 'static,
@@ -78,20 +85,29 @@ where
     C: Clock + Send + Sync + 'static,
     R: Threads + Wait + Copy + Send + 'static,
     requires name { blank.table ≡ N.table }
-    requires capacity { 0 < capacity }
-    requires lanes { (0 < length visits.items) × (length visits.items ≤ LANE_LIMIT) }
-    requires spools { (0 < length spools.items) × (length spools.items ≡ length (arc_value site).boxes) }
-    requires gates { length gates.items ≡ length spools.items }
-    requires none_out { AllByRecursion (λ v. V.out v ≡ false) visits.items }
-    ensures ran { IfOk result
-        (λ report. HasRun (arc_value site) (C.May (arc_value clock)) V.MayGive V.finished V.over S.state
-        visits.items report.visits.items spools.items report.spools.items
-        report.conversations.items report.tallies.items) }
+    requires capacity { 0 < handed.capacity }
+    requires lanes { (0 < length handed.visits.items) × (length handed.visits.items ≤ LANE_LIMIT) }
+    requires spools { (0 < length handed.spools.items)
+        × (length handed.spools.items ≡ length (arc_value site).boxes) }
+    requires gates { length handed.gates.items ≡ length handed.spools.items }
+    requires none_out { AllByRecursion (λ v. V.out v ≡ false) handed.visits.items }
+    ensures ran { IfOk result (λ report. HasRun (arc_value site) (C.May (arc_value clock))
+        (record { MayGive = V.MayGive; finished = V.finished; over = V.over }) S.state
+        (record { visits = handed.visits.items; spools = handed.spools.items })
+        (record {
+          visits = report.visits.items;
+          spools = report.spools.items;
+          conversations = report.conversations.items;
+          tallies = report.tallies.items;
+        })) }
     ensures not_size { result ≢ Err HouseFault.Size }
 {
-    let depot = Arc::new(alloc, blank.open::<N>())?;
-    let plan = Plan::new(
-        alloc, &depot, &site, &clock, capacity, visits, spools, gates,
-    )?;
-    plan.run(rt, &depot)
+    let shared = Shared {
+        alloc,
+        site,
+        clock,
+        depot: Arc::new(alloc, blank.open::<N>())?,
+    };
+    let plan = Plan::new(&shared, handed)?;
+    plan.run(rt, &shared.depot)
 }

@@ -121,7 +121,9 @@ fn a_server_has_its_size(rt: HostRuntime) -> Result<(), Fail> {
 }
 
 const RECORD: &[u8] =
-    b"From carl@a.example Thu Jan  1 00:00:00 1970\nReturn-Path: <carl@a.example>\nReceived: from relay.example\n\tby mx.example with LMTP id 0-1;\n\tThu, 1 Jan 1970 00:00:00 +0000\nSubject: hi\n\nhello\n\n";
+    b"From carl@a.example Thu Jan  1 00:00:00 1970\nReturn-Path: <carl@a.example>\n\
+    Received: from relay.example\n\tby mx.example with LMTP id 0-1;\n\tThu, 1 Jan 1970 00:00:00 +0000\n\
+    Subject: hi\n\nhello\n\n";
 
 /// What the relay says, what it hears, the room of ben's spool, how many records anna's spool holds and how many of
 /// them are stored, and what ben's spool holds.
@@ -129,22 +131,33 @@ type Run<'a> = (&'a [u8], &'a [u8], usize, u64, &'a [u8]);
 
 const RUNS: [Run; 3] = [
     (
-        b"LHLO relay.example\r\nMAIL FROM:<carl@a.example>\r\nRCPT TO:<anna@mx.example>\r\nDATA\r\nSubject: hi\r\n\r\nhello\r\n.\r\nQUIT\r\n",
-        b"220 mx.example LMTP ready\r\n250-mx.example\r\n250-PIPELINING\r\n250-ENHANCEDSTATUSCODES\r\n250-8BITMIME\r\n250 SIZE 1048576\r\n250 2.1.0 Sender ok\r\n250 2.1.5 Recipient ok\r\n354 End with a lone dot\r\n250 2.0.0 Stored for anna\r\n221 2.0.0 mx.example closing\r\n",
+        b"LHLO relay.example\r\nMAIL FROM:<carl@a.example>\r\nRCPT TO:<anna@mx.example>\r\nDATA\r\n\
+        Subject: hi\r\n\r\nhello\r\n.\r\nQUIT\r\n",
+        b"220 mx.example LMTP ready\r\n250-mx.example\r\n250-PIPELINING\r\n250-ENHANCEDSTATUSCODES\r\n\
+        250-8BITMIME\r\n250 SIZE 1048576\r\n250 2.1.0 Sender ok\r\n250 2.1.5 Recipient ok\r\n\
+        354 End with a lone dot\r\n250 2.0.0 Stored for anna\r\n221 2.0.0 mx.example closing\r\n",
         1_000,
         1,
         b"",
     ),
     (
-        b"LHLO relay.example\r\nMAIL FROM:<carl@a.example>\r\nRCPT TO:<anna@mx.example>\r\nRCPT TO:<anna@mx.example>\r\nDATA\r\nSubject: hi\r\n\r\nhello\r\n.\r\nQUIT\r\n",
-        b"220 mx.example LMTP ready\r\n250-mx.example\r\n250-PIPELINING\r\n250-ENHANCEDSTATUSCODES\r\n250-8BITMIME\r\n250 SIZE 1048576\r\n250 2.1.0 Sender ok\r\n250 2.1.5 Recipient ok\r\n250 2.1.5 Recipient ok\r\n354 End with a lone dot\r\n250 2.0.0 Stored for anna\r\n250 2.0.0 Stored for anna\r\n221 2.0.0 mx.example closing\r\n",
+        b"LHLO relay.example\r\nMAIL FROM:<carl@a.example>\r\nRCPT TO:<anna@mx.example>\r\n\
+        RCPT TO:<anna@mx.example>\r\nDATA\r\nSubject: hi\r\n\r\nhello\r\n.\r\nQUIT\r\n",
+        b"220 mx.example LMTP ready\r\n250-mx.example\r\n250-PIPELINING\r\n250-ENHANCEDSTATUSCODES\r\n\
+        250-8BITMIME\r\n250 SIZE 1048576\r\n250 2.1.0 Sender ok\r\n250 2.1.5 Recipient ok\r\n\
+        250 2.1.5 Recipient ok\r\n354 End with a lone dot\r\n250 2.0.0 Stored for anna\r\n\
+        250 2.0.0 Stored for anna\r\n221 2.0.0 mx.example closing\r\n",
         1_000,
         2,
         b"",
     ),
     (
-        b"LHLO relay.example\r\nMAIL FROM:<carl@a.example>\r\nRCPT TO:<anna@mx.example>\r\nRCPT TO:<ben@mx.example>\r\nDATA\r\nSubject: hi\r\n\r\nhello\r\n.\r\nQUIT\r\n",
-        b"220 mx.example LMTP ready\r\n250-mx.example\r\n250-PIPELINING\r\n250-ENHANCEDSTATUSCODES\r\n250-8BITMIME\r\n250 SIZE 1048576\r\n250 2.1.0 Sender ok\r\n250 2.1.5 Recipient ok\r\n250 2.1.5 Recipient ok\r\n354 End with a lone dot\r\n250 2.0.0 Stored for anna\r\n451 4.3.0 Not stored for ben\r\n221 2.0.0 mx.example closing\r\n",
+        b"LHLO relay.example\r\nMAIL FROM:<carl@a.example>\r\nRCPT TO:<anna@mx.example>\r\n\
+        RCPT TO:<ben@mx.example>\r\nDATA\r\nSubject: hi\r\n\r\nhello\r\n.\r\nQUIT\r\n",
+        b"220 mx.example LMTP ready\r\n250-mx.example\r\n250-PIPELINING\r\n250-ENHANCEDSTATUSCODES\r\n\
+        250-8BITMIME\r\n250 SIZE 1048576\r\n250 2.1.0 Sender ok\r\n250 2.1.5 Recipient ok\r\n\
+        250 2.1.5 Recipient ok\r\n354 End with a lone dot\r\n250 2.0.0 Stored for anna\r\n\
+        451 4.3.0 Not stored for ben\r\n221 2.0.0 mx.example closing\r\n",
         40,
         1,
         b"From carl@a.example Thu Jan  1 00:00:00 ",

@@ -12,6 +12,7 @@ ghost use Rattle.lmtp_house.specs.HouseGrid.{lists, IsRoom};
 ghost use Rattle.lmtp_house.specs.HouseTasks.{box_task, box_tasks, tally_of, IsBoxReady, HaveWorkedAll};
 
 use crate::house::crew::{Crew, Task};
+use crate::house::handed::Shared;
 use crate::house::report::Tally;
 use box_worker::{Gate, WorkerReport, worker_run};
 use lmtp_text::Site;
@@ -82,10 +83,8 @@ where
 }
 
 /// The jobs of all workers, in the order of their mailboxes.
-pub fn worker_jobs<N: DepotName, S: Spool + Drop, G: Gate + Drop>(
-    alloc: Global,
-    site: &Arc<Site>,
-    depot: &Arc<Depot<N>>,
+pub fn worker_jobs<N: DepotName, S: Spool + Drop, G: Gate + Drop, C: Drop>(
+    shared: &Shared<N, C>,
     receivers: Vec<Receiver<N>>,
     rows: Vec<Vec<SlipSender>>,
     spools: Vec<S>,
@@ -95,12 +94,12 @@ pub fn worker_jobs<N: DepotName, S: Spool + Drop, G: Gate + Drop>(
     requires spools { vec_len spools ≡ vec_len receivers }
     requires gates { vec_len gates ≡ vec_len receivers }
     ensures { IfOk result (λ jobs. jobs.items
-        ≡ box_tasks (arc_value site.now).host receivers.items (lists rows.items) spools.items) }
+        ≡ box_tasks (arc_value shared.now.site).host receivers.items (lists rows.items) spools.items) }
 {
     let mut rows = rows.into_iter();
     let mut spools = spools.into_iter();
     let mut gates = gates.into_iter();
-    let mut jobs = Vec::new(alloc);
+    let mut jobs = Vec::new(shared.alloc);
     for receiver in receivers {
         let Some(slips) = rows.next() else {
             unreachable!()
@@ -112,8 +111,8 @@ pub fn worker_jobs<N: DepotName, S: Spool + Drop, G: Gate + Drop>(
             unreachable!()
         };
         jobs.push(WorkerJob {
-            site: Arc::try_clone(site)?,
-            depot: Arc::try_clone(depot)?,
+            site: Arc::try_clone(&shared.site)?,
+            depot: Arc::try_clone(&shared.depot)?,
             receiver,
             slips,
             spool,
@@ -125,7 +124,7 @@ pub fn worker_jobs<N: DepotName, S: Spool + Drop, G: Gate + Drop>(
 
 /// What the workers handed back, part by part.
 #[derive(Drop)]
-pub struct WorkerEnds<N: DepotName, S: Spool + Drop, G: Gate + Drop> {
+pub struct WorkerReports<N: DepotName, S: Spool + Drop, G: Gate + Drop> {
     pub receivers: Vec<Receiver<N>>,
     pub slips: Vec<Vec<SlipSender>>,
     pub spools: Vec<S>,
@@ -135,16 +134,16 @@ pub struct WorkerEnds<N: DepotName, S: Spool + Drop, G: Gate + Drop> {
     pub lost: bool,
 }
 
-impl<N: DepotName, S: Spool + Drop, G: Gate + Drop> WorkerEnds<N, S, G> {
+impl<N: DepotName, S: Spool + Drop, G: Gate + Drop> WorkerReports<N, S, G> {
     // The memory for the parts of so many workers.
-    fn with_capacity(alloc: Global, workers: usize) -> Result<WorkerEnds<N, S, G>, AllocError>
+    fn with_capacity(alloc: Global, workers: usize) -> Result<WorkerReports<N, S, G>, AllocError>
         ensures receivers { IfOk result (λ ends. IsRoom workers ends.receivers) }
         ensures slips { IfOk result (λ ends. IsRoom workers ends.slips) }
         ensures spools { IfOk result (λ ends. IsRoom workers ends.spools) }
         ensures gates { IfOk result (λ ends. IsRoom workers ends.gates) }
         ensures tallies { IfOk result (λ ends. IsRoom workers ends.tallies) }
     {
-        Ok(WorkerEnds {
+        Ok(WorkerReports {
             receivers: Vec::with_capacity(alloc, workers)?,
             slips: Vec::with_capacity(alloc, workers)?,
             spools: Vec::with_capacity(alloc, workers)?,
@@ -187,7 +186,7 @@ impl<N: DepotName, S: Spool + Drop, G: Gate + Drop> WorkerEnds<N, S, G> {
     }
 
     // Takes the reports apart. There is room.
-    fn take_all(self, reports: Vec<WorkerReport<N, S, G>>) -> WorkerEnds<N, S, G>
+    fn take_all(self, reports: Vec<WorkerReport<N, S, G>>) -> WorkerReports<N, S, G>
         requires receivers { IsRoom (vec_len reports) self.receivers }
         requires slips { IsRoom (vec_len reports) self.slips }
         requires spools { IsRoom (vec_len reports) self.spools }
@@ -217,7 +216,7 @@ where
 {
     jobs: Vec<WorkerJob<N, S, G>>,
     crew: Crew<WorkerJob<N, S, G>>,
-    ends: WorkerEnds<N, S, G>,
+    ends: WorkerReports<N, S, G>,
 }
 
 /// Workers that run.
@@ -229,7 +228,7 @@ where
     G: Gate + Drop + Send + 'static,
 {
     crew: Crew<WorkerJob<N, S, G>>,
-    ends: WorkerEnds<N, S, G>,
+    ends: WorkerReports<N, S, G>,
 }
 
 impl<N, S, G> Model for Workers<N, S, G>
@@ -283,7 +282,7 @@ where
     {
         Ok(Workers {
             crew: Crew::with_capacity(alloc, jobs.len())?,
-            ends: WorkerEnds::with_capacity(alloc, jobs.len())?,
+            ends: WorkerReports::with_capacity(alloc, jobs.len())?,
             jobs,
         })
     }
@@ -315,10 +314,13 @@ where
     G: Gate + Drop + Send + 'static,
 {
     /// Waits for each worker. Their channels are closed, or their senders are gone.
-    pub fn finish<R: Threads>(self, rt: &R) -> WorkerEnds<N, S, G>
-        ensures { result.lost ≡ false
-            → HaveWorkedAll S.state self result.spools.items
-            (lists result.slips.items) result.receivers.items result.tallies.items }
+    pub fn finish<R: Threads>(self, rt: &R) -> WorkerReports<N, S, G>
+        ensures { result.lost ≡ false → HaveWorkedAll S.state self (record {
+          inboxes = result.receivers.items;
+          rows = lists result.slips.items;
+          spools = result.spools.items;
+          tallies = result.tallies.items;
+        }) }
     {
         let Working { crew, ends } = self;
         ends.take_all(crew.join(rt))

@@ -5,6 +5,7 @@ ghost use Rattle.lmtpd.specs.Mailboxes.{empty_spool};
 
 use box_worker::OpenGate;
 use lmtp_house::Sizes;
+use lmtpd_words::DEFAULT_CAPACITY;
 use mbox_rd::MemorySpool;
 use std::alloc::{AllocError, Global};
 
@@ -14,17 +15,14 @@ pub const MAILBOX_ROOM: usize = 2_097_152;
 /// A rehearsal has one client, and so one lane.
 const LANES: u32 = 1;
 
-/// The copies that may wait for a mailbox's worker.
-const CAPACITY: u32 = 16;
-
-/// The sizes of a rehearsal's server: a slot for each lane.
+/// The sizes of a rehearsal's server: a slot for each lane, and the usual number of copies that may wait.
 pub fn sizes(blocks: u32) -> Sizes
-    ensures { result ≡ record { blocks = blocks; slots = 1; capacity = 16 } }
+    ensures { result ≡ record { blocks = blocks; slots = LANES; capacity = DEFAULT_CAPACITY } }
 {
     Sizes {
         blocks,
         slots: LANES,
-        capacity: CAPACITY,
+        capacity: DEFAULT_CAPACITY,
     }
 }
 

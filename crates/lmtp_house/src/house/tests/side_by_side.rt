@@ -5,10 +5,14 @@ use super::meeting::{Meeting, MeetingGate};
 use super::*;
 
 const SAYS: &[u8] =
-    b"LHLO relay.example\r\nMAIL FROM:<carl@a.example>\r\nRCPT TO:<anna@mx.example>\r\nRCPT TO:<ben@mx.example>\r\nDATA\r\nSubject: hi\r\n\r\nhello\r\n.\r\nQUIT\r\n";
+    b"LHLO relay.example\r\nMAIL FROM:<carl@a.example>\r\nRCPT TO:<anna@mx.example>\r\n\
+    RCPT TO:<ben@mx.example>\r\nDATA\r\nSubject: hi\r\n\r\nhello\r\n.\r\nQUIT\r\n";
 
 const HEARS: &[u8] =
-    b"220 mx.example LMTP ready\r\n250-mx.example\r\n250-PIPELINING\r\n250-ENHANCEDSTATUSCODES\r\n250-8BITMIME\r\n250 SIZE 1048576\r\n250 2.1.0 Sender ok\r\n250 2.1.5 Recipient ok\r\n250 2.1.5 Recipient ok\r\n354 End with a lone dot\r\n250 2.0.0 Stored for anna\r\n250 2.0.0 Stored for ben\r\n221 2.0.0 mx.example closing\r\n";
+    b"220 mx.example LMTP ready\r\n250-mx.example\r\n250-PIPELINING\r\n250-ENHANCEDSTATUSCODES\r\n\
+    250-8BITMIME\r\n250 SIZE 1048576\r\n250 2.1.0 Sender ok\r\n250 2.1.5 Recipient ok\r\n\
+    250 2.1.5 Recipient ok\r\n354 End with a lone dot\r\n250 2.0.0 Stored for anna\r\n\
+    250 2.0.0 Stored for ben\r\n221 2.0.0 mx.example closing\r\n";
 
 #[test]
 fn lanes_meet_and_workers_meet(rt: HostRuntime) -> Result<(), Fail> {

@@ -11,6 +11,6 @@ invariant-loop-receiver g l = record {
   with_rows : into_iter_len l.rows ≡ into_iter_len l.receiver-iterator;
   with_spools : into_iter_len l.spools ≡ into_iter_len l.receiver-iterator;
   with_gates : into_iter_len l.gates ≡ into_iter_len l.receiver-iterator;
-  whole : vec_items l.jobs ++ box_tasks (arc_value l.fn.site).host (into_iter_items l.receiver-iterator) (lists (into_iter_items l.rows)) (into_iter_items l.spools)
-      ≡ box_tasks (arc_value l.fn.site).host (vec_items l.fn.receivers) (lists (vec_items l.fn.rows)) (vec_items l.fn.spools);
+  whole : vec_items l.jobs ++ box_tasks (arc_value l.fn.shared.site).host (into_iter_items l.receiver-iterator) (lists (into_iter_items l.rows)) (into_iter_items l.spools)
+      ≡ box_tasks (arc_value l.fn.shared.site).host (vec_items l.fn.receivers) (lists (vec_items l.fn.rows)) (vec_items l.fn.spools);
 }

@@ -1,5 +1,6 @@
 use Rattle.std.proofs.Common.{arith, ◌≡◌, length, ap, sym, ◌∙◌, subst, vec_items, vec_len}
 use Rattle.std.specs.List.{AllZip, AllByRecursion}
+use Rattle.lmtp_house.specs.House.{VisitsView}
 use Rattle.lmtp_house.specs.HouseTasks.{lane_tasks, IsLaneReady}
 use Rattle.lmtp_house.proofs.HousePairs.{AllZip-length}
 use Rattle.lmtp_house.proofs.HouseServed.{LaneOk, have_served}
@@ -24,13 +25,14 @@ pub take_all-requires-clause-conversations : goal.take_all-requires-clause-conve
 take_all-requires-clause-conversations g c = let len = reports_len g c in record { empty = c.self.invariant.4.empty; room = omega (arith, len, c.self.invariant.4.room) }
 
 pub returns-in-Ok : goal.returns-in-Ok
-returns-in-Ok g c not_gone site clock channels visits rows inboxes is count are =
+returns-in-Ok g c not_gone site clock channels given is count are =
     let parts = c.take_all.ensures in
     let reports = vec_items c.join.result in
-    let tasks_are : c.start_all.new.self.tasks ≡ lane_tasks site clock 0 visits rows inboxes = c.in-Ok.ensures ∙ (c.self.view_is ∙ is) in
-    let all = subst (λ l. AllZip (LaneOk g.C.Clock.May g.V.Visits.MayGive g.V.Visits.finished g.V.Visits.over (λ r. r.visits) (λ r. vec_items r.senders) (λ r. r.slips) (λ r. r.conversations) (λ r. r.gone)) l reports) tasks_are c.join.ensures in
+    let view : VisitsView _ = record { MayGive = g.V.Visits.MayGive; finished = g.V.Visits.finished; over = g.V.Visits.over } in
+    let tasks_are : c.start_all.new.self.tasks ≡ lane_tasks site clock 0 given.visits given.rows given.inboxes = c.in-Ok.ensures ∙ (c.self.view_is ∙ is) in
+    let all = subst (λ l. AllZip (LaneOk g.C.Clock.May view (λ r. r.visits) (λ r. vec_items r.senders) (λ r. r.slips) (λ r. r.conversations) (λ r. r.gone)) l reports) tasks_are c.join.ensures in
     rw (parts.visits, parts.senders, parts.slips, parts.conversations)
-    (have_served g.C.Clock.May g.V.Visits.MayGive g.V.Visits.finished g.V.Visits.over (λ r. r.visits) (λ r. vec_items r.senders) (λ r. r.slips) (λ r. r.conversations) (λ r. r.gone) site clock channels visits rows inboxes reports count are all (parts.gone not_gone))
+    (have_served g.C.Clock.May view (λ r. r.visits) (λ r. vec_items r.senders) (λ r. r.slips) (λ r. r.conversations) (λ r. r.gone) site clock channels given reports count are all (parts.gone not_gone))
 
 pub start_all-requires-clause-ready : goal.start_all-requires-clause-ready
 start_all-requires-clause-ready g c κs within = subst (λ l. AllByRecursion (λ t. IsLaneReady g.V.Visits.out t) l) (sym c.self.view_is) c.requires

@@ -3,7 +3,7 @@ use Rattle.std.specs.List.{AllByRecursion}
 use Rattle.std.specs.Vec.Iter.{into_iter_items, into_iter_len}
 use Rattle.lmtp_house.specs.HouseGrid.{lists}
 use Rattle.lmtp_house.specs.HouseTasks.{tally_of}
-use Rattle.lmtp_house.proofs.house.workers.WorkerEnds.take_all.Given as goal
+use Rattle.lmtp_house.proofs.house.workers.WorkerReports.take_all.Given as goal
 
 -- the first reports are taken apart
 abbrev pub invariant-loop-report : goal.invariant-loop-report

@@ -4,7 +4,7 @@ use Rattle.std.specs.Vec.Iter.{into_iter_items}
 use Rattle.lmtp_house.specs.HouseGrid.{lists}
 use Rattle.lmtp_house.specs.HouseTasks.{tally_of}
 use Rattle.lmtp_house.proofs.HouseLists.{move_one, moved_all, count_one_more, lists_count, neither}
-use Rattle.lmtp_house.proofs.house.workers.WorkerEnds.take_all.Goals as goal
+use Rattle.lmtp_house.proofs.house.workers.WorkerReports.take_all.Goals as goal
 
 pub take-requires-clause-receivers : goal.take-requires-clause-receivers
 take-requires-clause-receivers g c = omega (arith, c.loop-report.invariant.room_receivers, c.in-Some.ensures.steps.1)

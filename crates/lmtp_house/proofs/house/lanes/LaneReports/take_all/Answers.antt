@@ -3,7 +3,7 @@ use Rattle.std.proofs.lemmas.List.{nil_from_length}
 use Rattle.std.specs.Vec.Iter.{into_iter_items}
 use Rattle.lmtp_house.specs.HouseGrid.{lists}
 use Rattle.lmtp_house.proofs.HouseLists.{move_one, moved_all, count_one_more, lists_count, neither}
-use Rattle.lmtp_house.proofs.house.lanes.LaneEnds.take_all.Goals as goal
+use Rattle.lmtp_house.proofs.house.lanes.LaneReports.take_all.Goals as goal
 
 pub take-requires-clause-visits : goal.take-requires-clause-visits
 take-requires-clause-visits g c = omega (arith, c.loop-report.invariant.room_visits, c.in-Some.ensures.steps.1)
