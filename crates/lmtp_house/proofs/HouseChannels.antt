@@ -1,5 +1,5 @@
 -- Channels of one kind, from their opening to what is settled.
-use Rattle.std.proofs.Common.{◌≡◌, ℕ, zero, suc, ◌+◌, ◌<◌, List, [], ◌∷◌, ◌++◌, length, get_or, map, refl, sym, ap, ◌∙◌, subst, arith, length-append, Option, Some, None, inl, inr}
+use Rattle.std.proofs.Common.{◌≡◌, ℕ, zero, suc, ◌+◌, ◌<◌, Bool, false, List, [], ◌∷◌, ◌++◌, length, get_or, map, refl, sym, ap, ◌∙◌, subst, arith, length-append, Option, Some, None, inl, inr}
 use Rattle.std.proofs.lemmas.Bool.{cases_lt}
 use Rattle.std.specs.Prelude.{slice_get, option_map}
 use Rattle.std.specs.List.{All, AllZip, AllByRecursion}
@@ -192,12 +192,16 @@ module _ {M : Type 0} where
         };
   }
 
-  grown_cell : (old new : Sender M) (channel : Channel M) (k : ℕ) (more : List M) → old ≡ lane_at channel k [] → new.channel ≡ old.channel → new.number ≡ old.number → new.sent ≡ old.sent ++ more → new ≡ lane_at channel k more
-  grown_cell old new channel k more is a b c =
+  grown_cell : (old new : Sender M) (channel : Channel M) (k : ℕ) (more : List M) → old ≡ lane_at channel k []
+      → new.channel ≡ old.channel → new.number ≡ old.number → new.sent ≡ old.sent ++ more → new.refused ≡ false
+      → new ≡ lane_at channel k more
+  grown_cell old new channel k more is a b c d =
       let l : new.channel ≡ channel = a ∙ ap (λ (o : Sender M). o.channel) is in
       let n : new.number ≡ k = b ∙ ap (λ (o : Sender M). o.number) is in
       let s : new.sent ≡ more = c ∙ ap (λ (o : Sender M). o.sent ++ more) is in
-      ap (λ x. lane_at x new.number new.sent) l ∙ (ap (λ x. lane_at channel x new.sent) n ∙ ap (λ x. lane_at channel k x) s)
+      let with_refused : Bool → Sender M = λ x. record { channel = new.channel; number = new.number; sent = new.sent; refused = x } in
+      ap with_refused d ∙ (ap (λ x. lane_at x new.number new.sent) l
+      ∙ (ap (λ x. lane_at channel x new.sent) n ∙ ap (λ x. lane_at channel k x) s))
 
   -- the lanes have given
   pub rows_given : (n : ℕ) (channels : List (Channel M)) (sent : ℕ → ℕ → List M) (rows rows_after : List (List (Sender M))) → AreRows n channels none rows → length rows_after ≡ n
@@ -212,7 +216,7 @@ module _ {M : Type 0} where
         let old = are.cells k b r.value channel r.is f in
         let new = at row' b (omega (arith, g.as_many, slice_get_within r.value b (lane_at channel k []) old)) in
         let one = g.each b (lane_at channel k []) new.value old new.is in
-        new.is ∙ ap (λ v. Some v) (grown_cell (lane_at channel k []) new.value channel k (sent k b) refl one.0 one.1 one.2);
+        new.is ∙ ap (λ v. Some v) (grown_cell (lane_at channel k []) new.value channel k (sent k b) refl one.0 one.1 one.2 one.3);
   }
 
   -- two accounts of the same rows are of as many channels

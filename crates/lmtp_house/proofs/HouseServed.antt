@@ -1,5 +1,5 @@
 -- The lanes' reports, taken together.
-use Rattle.std.proofs.Common.{◌≡◌, ℕ, zero, suc, ◌+◌, ◌<◌, Bool, false, List, [], ◌∷◌, ◌++◌, length, map, refl, sym, ap, ◌∙◌, subst, arith, Option, Some, None, inl, inr}
+use Rattle.std.proofs.Common.{◌≡◌, ℕ, zero, suc, ◌+◌, ◌<◌, Bool, false, List, [], ◌∷◌, ◌++◌, length, map, append-nil, refl, sym, ap, ◌∙◌, subst, arith, Option, Some, None, inl, inr}
 use Rattle.std.specs.Prelude.{slice_get, flat_map}
 use Rattle.std.specs.List.{AllZip, AllByRecursion}
 use Rattle.std.proofs.lemmas.List.{length-map}
@@ -11,6 +11,7 @@ use Rattle.mail_world.specs.Conversation.{Conversation}
 use Rattle.mail_world.specs.Lists.{due, copies, transactions}
 use Rattle.mail_world.specs.Slips.{IsMerged}
 use Rattle.mail_post.specs.Channel.{Channel, Sender, Inbox, taken}
+use Rattle.mail_post.proofs.Offered.{none_refused}
 use Rattle.lmtp_lane.specs.LaneExchange.{for_box}
 use Rattle.lmtp_lane.specs.LaneRun.{HasServed}
 use Rattle.lmtp_lane.specs.Visits.{conversations_of}
@@ -146,7 +147,10 @@ module _ {V C R : Type 0} (May : C → ℕ → Type 0) (view : VisitsView V)
         let no = at_each (λ r. rg r ≡ false) reports sound k p.right p.right_is in
         let n : 0 + k ≡ k = omega arith in
         let is : p.left ≡ lane_task site clock k t.visit t.row t.inbox = t.is ∙ ap (λ j. lane_task site clock j t.visit t.row t.inbox) n in
-        let none_own = h.exchanged.sound no in
+        let x = h.exchanged in
+        let none_own = x.sound no in
+        let notes_due : flat_map (copies p.left.lane) (transactions p.left.site 0 (conversations_of h.visits)) ≡ x.accepted =
+        x.first ∙ (ap (λ l. x.accepted ++ l) (x.all (x.whole no)) ∙ append-nil x.accepted) in
         let Served : LaneTask V C → LaneWork → Type 0 = λ j w.
         IsServedLane j.site (May j.clock) (view.MayGive j.visits) j.lane w (lane_told view j.visits (rv p.right) (rc p.right)) in
         let Given : LaneTask V C → LaneWork → Type 0 = λ j w. HasGiven (λ b. due j.site j.lane b (conversations_of w.visits)) j.senders (rs p.right) in
@@ -162,8 +166,10 @@ module _ {V C R : Type 0} (May : C → ℕ → Type 0) (view : VisitsView V)
         let given_out : Given p.left (lane_work p.left p.right h) = record {
           as_many = h.exchanged.offered.as_many;
           each = λ b before after e f.
-              let o = h.exchanged.offered.each b before after e f in
-              (o.channel, o.number, o.sent ∙ ap (λ l. before.sent ++ l) (o.all no ∙ due_is p.left.site p.left.lane b (conversations_of h.visits)));
+              let o = x.offered.each b before after e f in
+              let sent : for_box b x.accepted ≡ due p.left.site p.left.lane b (conversations_of h.visits) =
+              ap (for_box b) (sym notes_due) ∙ due_is p.left.site p.left.lane b (conversations_of h.visits) in
+              (o.channel, o.number, o.sent ∙ ap (λ l. before.sent ++ l) sent, none_refused (rs p.right) b after (x.whole no) f);
         } in
         let heard : Heard p.left (lane_work p.left p.right h) = record {
           channel = h.exchanged.channel;

@@ -13,6 +13,8 @@ use Rattle.mail_post.specs.Channel.{Channel, Sender, Inbox, taken}
 use Rattle.box_worker.specs.Told.{worker_of, owed_to}
 use Rattle.box_worker.specs.Stored.{kept}
 use Rattle.box_worker.specs.Worked.{idle, HasWorked}
+use Rattle.box_worker.proofs.Handling.{was_closed, none_came_back}
+use Rattle.mail_post.proofs.Offered.{none_refused}
 use Rattle.lmtp_house.specs.declared.house.report.Tally.{Tally}
 use Rattle.lmtp_house.specs.House.{BoxWork, IsBoxWork}
 use Rattle.lmtp_house.specs.HouseChannels.{AreRows, none, lane_at, HasGiven}
@@ -120,9 +122,11 @@ module _ {S R : Type 0} (state : S → SpoolState) (rr : R → Inbox Note) (rs :
         let given_out : Given (worker_of p.left.slips) p.left.slips (box_work p.left p.right h) = record {
           as_many = h.handled.told.as_many;
           each = λ j before after e f.
-              let o = h.handled.told.each j before after e f in (o.channel, o.number, o.sent ∙ ap (λ l. before.sent ++ l) (o.all no));
+              let o = h.handled.told.each j before after e f in
+              let kept : after.refused ≡ false = none_refused (rs p.right) j after (none_came_back _ _ _ _ _ h no) f in
+              (o.sent.channel, o.sent.number, o.sent.sent ∙ ap (λ l. before.sent ++ l) (o.all kept), kept);
         } in
-        let took : Took p.left.receiver (box_work p.left p.right h) = record { channel = h.channel; lanes = h.lanes; took = refl; closed = h.closed no } in
+        let took : Took p.left.receiver (box_work p.left p.right h) = record { channel = h.channel; lanes = h.lanes; took = refl; closed = was_closed _ _ _ _ _ h no } in
         let given_at : Given (worker_of t.row) t.row (works k) =
         subst (λ (j : BoxTask S). Given (worker_of j.slips) j.slips (works k)) t.is (subst (λ w. Given (worker_of p.left.slips) p.left.slips w) (sym p.picked) given_out) in record {
           inbox = t.inbox;

@@ -1,5 +1,5 @@
 -- All channels of one kind together: a grid of senders, and their receivers.
-use Rattle.std.specs.Prelude.{◌≡◌, ℕ, ◌<◌, List, [], ◌++◌, length, map, slice_get, Some}
+use Rattle.std.specs.Prelude.{◌≡◌, ℕ, ◌<◌, false, List, [], ◌++◌, length, map, slice_get, Some}
 use Rattle.mail_post.specs.Channel.{Channel, Sender, Inbox, Sent, taken, new_senders, new_inbox, AreSendersOf}
 use Rattle.mail_post.specs.Channel.{TookSome, TookAll, lists as sent_by}
 use Rattle.mail_post.specs.declared.channel.Gone.TheVariants.{Closed}
@@ -10,9 +10,9 @@ pub record Shape : Type 0 where
   pub count : ℕ
 
 module _ {M : Type 0} where
-  -- a sender that was told that these were accepted
+  -- a sender that was told that these were accepted, and had none handed back
   abbrev pub lane_at : Channel M → ℕ → List M → Sender M
-  lane_at channel k sent = record { channel = channel; number = k; sent = sent }
+  lane_at channel k sent = record { channel = channel; number = k; sent = sent; refused = false }
 
   -- which channels these are
   abbrev pub channels_of : List (Inbox M) → List (Channel M)
@@ -84,8 +84,9 @@ module _ {M : Type 0} where
     pub count : length channels ≡ shape.count
     pub rows_are : AreRows shape.lanes channels sent rows
 
-  -- the lane's senders are those of before, and this more was accepted of each
+  -- the lane's senders are those of before, this more was accepted of each, and none was handed back
   pub record HasGiven (sent : ℕ → List M) (old new : List (Sender M)) : Type 0 where
     pub as_many : length new ≡ length old
     pub each : (b : ℕ) (before after : Sender M) → slice_get old b ≡ Some before → slice_get new b ≡ Some after
         → (after.channel ≡ before.channel) × (after.number ≡ before.number) × (after.sent ≡ before.sent ++ sent b)
+        × (after.refused ≡ false)

@@ -1,4 +1,4 @@
-use Rattle.std.proofs.Common.{◌≡◌, ◌≤◌, ◌+◌, ◌++◌, List, ℕ, length, take, sym, ap, ◌∙◌, arith, length-take-le}
+use Rattle.std.proofs.Common.{◌≡◌, ◌≤◌, ◌++◌, List, ℕ, length, take, sym, ap, ◌∙◌, arith, length-take-le}
 use Rattle.lmtp_talk.specs.Saying.{OutboxView}
 use Rattle.lmtp_talk.proofs.Written.{put_behind}
 use Rattle.lmtp_talk.proofs.outbox.Outbox.add.Goals as goal
