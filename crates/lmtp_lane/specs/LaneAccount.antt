@@ -1,5 +1,6 @@
 -- What the delivery of a lane has come to.
-use Rattle.std.specs.Prelude.{◌≡◌, ⊤, ℕ, nat_lt, if◌then◌else◌, List, [], ◌∷◌, ◌++◌, length, map, flat_map, Option, Some, None}
+use Rattle.std.specs.Prelude.{◌≡◌, ⊤, ℕ, nat_lt, if◌then◌else◌, List, [], ◌∷◌, ◌++◌, length}
+use Rattle.std.specs.Prelude.{map, flat_map, Option, Some, None}
 use Rattle.std.specs.Option.{IfSome}
 use Rattle.std.specs.List.{AllByRecursion}
 use Rattle.mail_world.specs.declared.Note.{Note}
@@ -21,7 +22,7 @@ pub record IsAnswered (lane : ℕ) (heard : List Slip) (t : Transaction) : Type 
   pub whole : heard ≡ before ++ since
   pub outcomes : OutcomesIn lane since t t.disposition.verdict
 
--- an episode for each transaction, one after the other; the outcomes of a whole message are those of the slips of its own
+-- an episode for each transaction, one after the other, and the outcomes of a whole message are those of its own slips
 abbrev pub AreEpisodes : ℕ → List Transaction → List Episode → Type 0
 AreEpisodes lane [] [] = ⊤
 AreEpisodes lane [] (e ∷ es) = ⊥
@@ -29,8 +30,8 @@ AreEpisodes lane (t ∷ ts) [] = ⊥
 AreEpisodes lane (t ∷ ts) (e ∷ es) =
     IsEpisode (txn_of lane t.number) e × OutcomesIn lane e.heard t t.disposition.verdict × AreEpisodes lane ts es
 
--- All was heard transaction by transaction. So a lane's own slips of a transaction name each place once, and none that its
--- channel had given a slip for.
+-- All was heard transaction by transaction. So a lane's own slips of a transaction name each place once, and none that
+-- its channel had given a slip for.
 pub record IsHeardInTurn (lane : ℕ) (ts : List Transaction) (all : Episode) : Type 0 where
   pub episodes : List Episode
   pub each : AreEpisodes lane ts episodes
@@ -42,9 +43,10 @@ pub record IsHeardInTurn (lane : ℕ) (ts : List Transaction) (all : Episode) : 
 abbrev pub AgreesWith : (ℕ → Type 0) → (ℕ → Type 0) → Type 0
 AgreesWith May Known = (moment : ℕ) → May moment → Known moment
 
--- Where n DATA commands were accepted, and this became of the data that ended: the senders gave what is owed, the outcomes
--- are those of the slips, and each moment is one that the clock may answer.
-pub record HasOffered (May : ℕ → Type 0) (accepted : ℕ) (old new : LaneEnds) (n : ℕ) (ts : List Transaction) : Type 0 where
+-- Where n DATA commands were accepted, and this became of the data that ended: the senders gave what is owed, the
+-- outcomes are those of the slips, and each moment is one that the clock may answer.
+pub record HasOffered (May : ℕ → Type 0) (accepted : ℕ) (old new : LaneEnds) (n : ℕ) (ts : List Transaction)
+    : Type 0 where
   pub count : accepted ≡ counted n
   pub came : List Slip
   pub own : List Slip
@@ -81,7 +83,7 @@ outcomes_in (None ∷ places) = outcomes_in places
 abbrev pub told_by : Gather → List Outcome
 told_by gather = outcomes_in gather.places
 
--- A whole message went to its recipients: its copies more are owed, and its outcomes are those of slips that were heard since.
+-- A whole message went to its recipients: its copies more are owed, and its outcomes are those of slips heard since.
 pub record IsDelivered (t : Transaction) (told : List Outcome) (notes : List Note) (past : Episode) (old new : LaneEnds)
     : Type 0 where
   pub now : Episode

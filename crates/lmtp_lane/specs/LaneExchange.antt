@@ -1,5 +1,6 @@
 -- What a lane gave to the mailboxes' channels, and what it heard of the copies.
-use Rattle.std.specs.Prelude.{◌≡◌, ◌⊎◌, ℕ, ◌==◌, Bool, true, false, ◌||◌, List, [], ◌∷◌, ◌++◌, filter, length, None, is_some, Result, Ok, Err}
+use Rattle.std.specs.Prelude.{◌≡◌, ◌⊎◌, ℕ, ◌==◌, Bool, true, false, ◌||◌, List, [], ◌∷◌, ◌++◌}
+use Rattle.std.specs.Prelude.{filter, length, None, is_some, Result, Ok, Err}
 use Rattle.std.specs.List.{AllByRecursion}
 use Rattle.mail_world.specs.declared.Txn.{Txn}
 use Rattle.mail_world.specs.declared.Note.{Note}
@@ -83,7 +84,7 @@ for_box box notes = filter (λ note. note.mailbox == box) notes
 abbrev pub own_slip_of : ℕ → Note → Slip
 own_slip_of lane note = own_slip lane note.txn.number note.place note.mailbox
 
--- a slip that a lane made itself: of one of the copies that are left, or, once the channel of slips is silent, of any copy
+-- a slip that a lane made itself: of one of the copies that are left, or, once the channel of slips is silent, of any
 pub record IsOwnSlip (lane : ℕ) (notes left : List Note) (silent : Bool) (slip : Slip) : Type 0 where
   pub note : Note
   pub owed : IsAmong note left ⊎ (IsAmong note notes × (silent ≡ true))
@@ -104,9 +105,10 @@ pub record Episode : Type 0 where
 abbrev pub joined : Episode → Episode → Episode
 joined a b = record { came = a.came ++ b.came; own = a.own ++ b.own; heard = a.heard ++ b.heard }
 
--- What a lane that owed these copies gave to the channels: the first so many, and once a channel handed one back no more. And
--- what it heard: slips that its channel gave, in their order, and between them its own, each of a copy that was left, or of one
--- whose slip can't come any more. It says that a channel is gone just where one is, if the channel of slips wasn't at first.
+-- What a lane that owed these copies gave to the channels: the first so many, and once a channel handed one back no
+-- more. And what it heard: slips that its channel gave, in their order, and between them its own, each of a copy that was
+-- left, or of one whose slip can't come any more. It says that a channel is gone just where one is, unless the channel of
+-- slips was silent from the first.
 pub record HasExchanged (notes : List Note) (e : Episode) (old new : LaneEnds) : Type 0 where
   pub lane : new.lane ≡ old.lane
   pub accepted : List Note
@@ -123,8 +125,8 @@ pub record HasExchanged (notes : List Note) (e : Episode) (old new : LaneEnds) :
   pub made : AllByRecursion (IsOwnSlip old.lane notes left (is_silent new)) e.own
   pub sound : new.gone ≡ false → e.own ≡ []
 
--- What was heard is merged of what came and of a lane's own slips, and one of its own stands only where none of these before
--- it names its place.
+-- What was heard is merged of what came and of a lane's own slips, and one of its own stands only where none of these
+-- before it names its place.
 abbrev pub IsTimely : List Slip → List Slip → List Slip → List Slip → Type 0
 IsTimely before came own [] = (came ≡ []) × (own ≡ [])
 IsTimely before came own (slip ∷ heard) =
@@ -138,7 +140,8 @@ pub record IsEpisode (txn : Txn) (e : Episode) : Type 0 where
   pub named : AllByRecursion (λ slip. slip.txn ≡ txn) e.own
 
 -- within a message of n recipients, before which this was heard: its gatherer has the answers of the slips heard since
-pub record IsUnderWay (notes : List Note) (txn : Txn) (n : ℕ) (past : Episode) (old : LaneEnds) (new : Sending) : Type 0 where
+pub record IsUnderWay (notes : List Note) (txn : Txn) (n : ℕ) (past : Episode) (old : LaneEnds) (new : Sending)
+    : Type 0 where
   pub now : Episode
   pub is : IsEpisode txn now
   pub exchanged : HasExchanged notes (joined past now) old new.ends
@@ -157,7 +160,8 @@ Continues txn more now next = (notes : List Note) (n : ℕ) (past : Episode) (ol
 
 -- what was under way with the copies of the transaction of that number is so, whatever was heard since
 abbrev pub Awaits : ℕ → Session → Sending → Sending → Type 0
-Awaits number session now next = (moment : ℕ) (message : List ℕ) (notes : List Note) (n : ℕ) (past : Episode) (old : LaneEnds)
+Awaits number session now next =
+    (moment : ℕ) (message : List ℕ) (notes : List Note) (n : ℕ) (past : Episode) (old : LaneEnds)
     → IsUnderWay (notes ++ copies_from now.ends.lane (sent_as number session moment message) 0 session.recipients)
     (txn_of now.ends.lane number) n past old now
     → IsUnderWay (notes ++ copies_from now.ends.lane (sent_as number session moment message) 0 session.recipients)

@@ -1,5 +1,6 @@
 -- What contracts see of the clients that connect to a listener, and how they are shared out among lanes.
-use Rattle.std.specs.Prelude.{◌≡◌, ◌+◌, ◌/◌, ◌%◌, ◌⊎◌, ◌↔◌, ℕ, Bool, true, false, List, map, nat_lt, if◌then◌else◌, Option, is_none, is_some, IsNone, IfSome}
+use Rattle.std.specs.Prelude.{◌≡◌, ◌+◌, ◌/◌, ◌%◌, ◌⊎◌, ◌↔◌, ℕ, Bool, true, false, List, map}
+use Rattle.std.specs.Prelude.{nat_lt, if◌then◌else◌, Option, is_none, is_some, IsNone, IfSome}
 use Rattle.std.specs.List.{range_with_len}
 use Rattle.lmtp_talk.specs.declared.tcp.peer.TcpPeer.{TcpPeer}
 use Rattle.lmtp_lane.specs.declared.tcp.visits.TcpVisits.{TcpVisits}
@@ -25,7 +26,8 @@ is_over v = v.over
 abbrev pub has_failed : {L : Type 0} → TcpVisits L → Bool
 has_failed v = v.failed
 
--- Where there is a client it is a new one, and counts as a conversation; there is none exactly where no conversation is left, or an accept failed.
+-- Where there is a client it is a new one, and counts as a conversation; there is none exactly where no conversation is
+-- left, or an accept failed.
 pub record TakesClient {L T : Type 0} (old new : TcpVisits L) (client : Option (TcpPeer T)) : Type 0 where
   pub fresh : IfSome client (IsNew old.reads)
   pub out : is_out new ≡ is_some client

@@ -19,14 +19,16 @@ abbrev pub Finishes : Option (List Finished) → Option (List Finished) → Peer
 Finishes None new peer cause = new ≡ None
 Finishes (Some told) new peer cause = new ≡ Some (told ++ record { peer = peer; cause = cause } ∷ [])
 
--- a client who was served: the client before and behind the conversation, the bytes that were read and what became of their data, and why it ended
+-- a client who was served: the client before and behind the conversation, the bytes that were read and what became of
+-- their data, and why it ended
 pub record Visit : Type 0 where
   pub before : PeerState
   pub after : PeerState
   pub conversation : Conversation
   pub cause : EndCause
 
--- the client is one that may come; what was read and written is the conversation, whose account has an entry for each data that ended; and it ended for that cause
+-- the client is one that may come; what was read and written is the conversation, whose account has an entry for each data
+-- that ended; and it ended for that cause
 pub record IsVisit (site : Site) (MayCome : PeerState → Type 0) (v : Visit) : Type 0 where
   pub client : MayCome v.before
   pub said : List ℕ
@@ -47,12 +49,14 @@ HasFinished None new visits = new ≡ None
 HasFinished (Some told) new visits = new ≡ Some (told ++ map finished_of visits)
 
 -- the clients that were served, one after another
-pub record HasVisited (site : Site) (MayCome : PeerState → Type 0) (old new : Option (List Finished)) (visits : List Visit) : Type 0 where
+pub record HasVisited (site : Site) (MayCome : PeerState → Type 0) (old new : Option (List Finished)) (visits : List Visit)
+    : Type 0 where
   pub told : HasFinished old new visits
   pub each : AllByRecursion (IsVisit site MayCome) visits
 
 -- this client was served, and handed back; a delivery that had come to so much before has come to its messages more
-pub record HasConversed (site : Site) (peer : PeerState) (old new : Option (List Finished)) (Before After : ℕ → List Transaction → Type 0) : Type 0 where
+pub record HasConversed (site : Site) (peer : PeerState) (old new : Option (List Finished))
+    (Before After : ℕ → List Transaction → Type 0) : Type 0 where
   pub visit : Visit
   pub is : IsVisit site (λ client. client ≡ peer) visit
   pub told : Finishes old new visit.after visit.cause
