@@ -7,7 +7,7 @@ use Rattle.mail_world.specs.Slips.{names, times_named, gather_for, txn_of, own_s
 use Rattle.mail_world.specs.House.{Post, Copy, Box, Lane, House, IsFreshBox, IsFreshLane, IsStart}
 use Rattle.mail_world.specs.declared.Event.{Event}
 use Rattle.mail_world.specs.declared.Event.TheVariants.{Begin, Put, Cancel, Seal, Split, Offer, HandBack, Collect, Take, Write, Sync, Release, GiveSlip, Reclaim, Close}
-use Rattle.mail_world.specs.Events.{Step, LaneIs, BoxIs, without_copy, with_heard}
+use Rattle.mail_world.specs.Events.{Step, LaneIs, BoxIs, without_copy, sealed_up_to, with_heard}
 use Rattle.mail_world.specs.Runs.{Happened, Run, last_house, finished_by, HearsOnce}
 use Rattle.mail_world.proofs.Accepted.{get_set, each_at}
 use Rattle.mail_world.proofs.Spools.{AllSound, sound_step, sound_fresh, held}
@@ -129,23 +129,23 @@ bounded_step h (Seal k n) new sound all st =
     (λ txn p b. given_seal k txn p (times_told txn p st.lane) (times_on_way txn p h.boxes) st.lane.messages st.key st.lane.number st.seals.bytes b) all
 bounded_step h (Split k i) new sound all st = lane_alone h new k st.lane _ (ap (λ (x : House). x.boxes) st.after) (ap (λ (x : House). x.lanes) st.after) st.is (λ txn p b. b) all
 bounded_step h (HandBack k i m) new sound all st =
-    let next : Lane = with_heard (without_copy st.lane i st.t st.key st.number st.message st.place) (own_slip k st.number st.place m) in
+    let next : Lane = with_heard (without_copy st.lane i st.t st.sealed) (own_slip k st.sealed.number st.sealed.offered m) in
     lane_alone h new k st.lane next (ap (λ (x : House). x.boxes) st.after) (ap (λ (x : House). x.lanes) st.after) st.is
-    (λ txn p b. given_back k txn p (times_told txn p st.lane) (times_told txn p next) (times_on_way txn p h.boxes) st.lane.messages st.t st.key st.number st.place m st.message st.copy.sealed
-    (omega (arith, count-append (names txn p) st.lane.heard (own_slip k st.number st.place m ∷ []))) b) all
+    (λ txn p b. given_back k txn p (times_told txn p st.lane) (times_told txn p next) (times_on_way txn p h.boxes) st.lane.messages st.t st.sealed.key st.sealed.number st.sealed.offered m st.sealed.message st.copy.is
+    (omega (arith, count-append (names txn p) st.lane.heard (own_slip k st.sealed.number st.sealed.offered m ∷ []))) b) all
 bounded_step h (Collect k) new sound all st =
     let next : Lane = record (with_heard st.lane st.slip) { collected = st.lane.collected + 1 } in
     lane_alone h new k st.lane next (ap (λ (x : House). x.boxes) st.after) (ap (λ (x : House). x.lanes) st.after) st.is
     (λ txn p b. collected k st.lane next st.slip h.boxes txn p st.front refl refl refl refl b) all
 bounded_step h (Offer k note) new sound all st =
     let post : Post = record { note = note; key = st.key } in
-    let next : Lane = without_copy st.lane st.at st.t st.key note.txn.number note.message note.place in
+    let next : Lane = without_copy st.lane st.at st.t (sealed_up_to st.key note.txn.number note.message note.place) in
     let changed : Box = record st.box { accepted = st.box.accepted ++ post ∷ [] } in
     let boxes : new.boxes ≡ slice_set h.boxes note.mailbox changed = ap (λ (x : House). x.boxes) st.after in
     let way : (txn : Txn) (p : ℕ) → times_on_way txn p new.boxes ≤ times_on_way txn p h.boxes + cond (is_of txn p post) 1 0 =
     (λ txn p. rw (boxes) (way_offered txn p h.boxes note.mailbox st.box changed post st.channel refl refl refl)) in
     one_lane h new k st.lane next (ap (λ (x : House). x.lanes) st.after) st.is
-    (λ txn p b. given_offer k txn p (times_told txn p st.lane) (times_on_way txn p h.boxes) (times_on_way txn p new.boxes) st.lane.messages st.t st.key note st.own st.copy.sealed (way txn p) b)
+    (λ txn p b. given_offer k txn p (times_told txn p st.lane) (times_on_way txn p h.boxes) (times_on_way txn p new.boxes) st.lane.messages st.t st.key note st.own st.copy.is (way txn p) b)
     (λ v lane txn p ne b. given_elsewhere k v txn p (times_told txn p lane) (times_on_way txn p h.boxes) (times_on_way txn p new.boxes) lane.messages note st.own ne (way txn p) b) all
 bounded_step h (Take w) new sound all st =
     let one : st.box.taken + 1 - 1 ≡ st.box.taken = omega arith in

@@ -1,5 +1,5 @@
 -- What a lane heard is what it collected of its channel's slips, and between them its own slips, one for each copy that it handed back.
-use Rattle.std.proofs.Common.{◌≡◌, ◌≢◌, ℕ, ◌+◌, ◌≤◌, List, [], ◌∷◌, ◌++◌, length, take, map, Bool, true, false, cond, ◌==◌, Some, None, inl, inr, refl, ap, sym, ◌∙◌, subst, append_assoc, append-nil, arith, add-one, length-append}
+use Rattle.std.proofs.Common.{◌≡◌, ◌≢◌, ℕ, ◌+◌, ◌<◌, ◌≤◌, ◌⊎◌, List, [], ◌∷◌, ◌++◌, length, take, map, Bool, true, false, cond, ◌==◌, Some, None, inl, inr, refl, ap, sym, ◌∙◌, subst, append_assoc, append-nil, arith, add-one, length-append}
 use Rattle.std.specs.Prelude.{slice_get, slice_set, count_by}
 use Rattle.std.specs.List.{AllByRecursion}
 use Rattle.std.proofs.lemmas.Bool.{eq-eqb}
@@ -10,18 +10,27 @@ use Rattle.mail_world.specs.declared.Txn.{Txn}
 use Rattle.mail_world.specs.declared.Slip.{Slip}
 use Rattle.mail_world.specs.Slips.{names, times_named, gather_for, txn_of, own_slip, slip_of, IsMerged}
 use Rattle.mail_world.specs.Depot.{Key}
-use Rattle.mail_world.specs.House.{Post, Box, Lane, House, IsFreshBox, IsFreshLane, IsStart}
+use Rattle.mail_world.specs.House.{Post, Box, SealedMessage, Lane, House, IsFreshBox, IsFreshLane, IsStart}
 use Rattle.mail_world.specs.declared.Event.{Event}
 use Rattle.mail_world.specs.declared.Event.TheVariants.{Begin, Put, Cancel, Seal, Split, Offer, HandBack, Collect, Take, Write, Sync, Release, GiveSlip, Reclaim, Close}
-use Rattle.mail_world.specs.Events.{Step, LaneIs, BoxIs, without_copy, with_heard}
-use Rattle.mail_world.specs.Runs.{Happened, Run, last_house, events_of, times_copied, is_collect, handed_back_by, handed_back, IsHandedBack, HasHeard}
+use Rattle.mail_world.specs.Events.{Step, LaneIs, BoxIs, without_copy, sealed_up_to, with_heard}
+use Rattle.mail_world.specs.Runs.{Happened, Run, last_house, events_of, times_copied, is_collect, handed_back_by, handed_back, IsOfMessage, IsHandedBack, HasHeard}
 use Rattle.mail_world.proofs.OneLine.{other_byte}
 use Rattle.mail_world.proofs.Accepted.{get_set, each_at}
-use Rattle.mail_world.proofs.Spools.{take_one_more}
+use Rattle.mail_world.proofs.Spools.{take_one_more, slice_get-append}
 use Rattle.mail_world.proofs.Heard.{all_more}
+use Rattle.mail_world.proofs.Depots.{set_at, set_past}
+use Rattle.mail_world.proofs.WrongSteps.{same_some}
 use Rattle.mail_world.proofs.Holds.{all_of}
 use Rattle.mail_world.proofs.Once.{accepted_in, is_copy, times_same, times_offer, IsOnce, every_run_is_once}
 use Rattle.mail_world.proofs.GivenAway.{count-append, count_some, AreGiven, given_fewer, given_none, given_seal, given_back, given_offer, given_elsewhere, given_once}
+
+same_or_not : (k at : ℕ) → (k ≡ at) ⊎ (k ≢ at)
+same_or_not k at = grind arith
+
+all_kept : {A : Type 0} (P Q : A → Type 0) → ((x : A) → P x → Q x) → (xs : List A) → AllByRecursion P xs → AllByRecursion Q xs
+all_kept P Q keeps [] all = tt
+all_kept P Q keeps (x ∷ xs) all = (keeps x all.0, all_kept P Q keeps xs all.1)
 
 -- one more at the end of a merged list
 pub merged_front : (front own heard : List Slip) (x : Slip) → IsMerged front own heard → IsMerged (front ++ x ∷ []) own (heard ++ x ∷ [])
@@ -52,6 +61,7 @@ record IsSoFar (events : List Event) (k : ℕ) (lane : Lane) (bs : List Box) : T
   collected : count_by (is_collect k) events ≡ lane.collected
   handed : handed_back k events ≡ map (λ slip. slip.worker) own
   made : AllByRecursion (IsMade k) own
+  sealed : AllByRecursion (IsOfMessage lane.messages) own
   given : (txn : Txn) (p : ℕ) → AreGiven k txn p (times_named txn p own) (copied txn p bs) lane.messages
 
 abbrev AllSoFar : List Event → House → Type 0
@@ -70,12 +80,42 @@ handed_more : (k : ℕ) (events : List Event) (e : Event) (ms : List ℕ) → ha
 handed_more k events e ms is =
     flat_map-append (handed_back_by k) events (e ∷ []) ∙ ap (λ l. handed_back k events ++ l) (append-nil (handed_back_by k e) ∙ is)
 
+-- what names one of the messages still does: one more was sealed, or a copy more of one is gone
+of_more : (messages : List SealedMessage) (message : SealedMessage) (slip : Slip) → IsOfMessage messages slip → IsOfMessage (messages ++ message ∷ []) slip
+of_more messages message slip x = record { at = x.at; message = x.message; is = slice_get-append messages (message ∷ []) x.at x.message x.is; number = x.number; place = x.place }
+
+of_set : (messages : List SealedMessage) (t : ℕ) (old : SealedMessage) (slip : Slip) → slice_get messages t ≡ Some old → IsOfMessage messages slip
+    → IsOfMessage (slice_set messages t (record old { offered = old.offered + 1 })) slip
+of_set messages t old slip was x = elim (same_or_not x.at t) [
+  | inl here ↦
+      let same : x.message ≡ old = same_some (slice_get messages t) x.message old (ap (slice_get messages) (sym here) ∙ x.is) was in
+      let below : slip.place < old.offered = subst (λ (m : SealedMessage). slip.place < m.offered) same x.place in record {
+        at = t;
+        message = record old { offered = old.offered + 1 };
+        is = set_at messages t (record old { offered = old.offered + 1 }) old was;
+        number = x.number ∙ ap (λ (m : SealedMessage). m.number) same;
+        place = omega (arith, below);
+      }
+  | inr away ↦ record { at = x.at; message = x.message; is = set_past messages t x.at (record old { offered = old.offered + 1 }) (λ same. away (sym same)) ∙ x.is; number = x.number; place = x.place }
+]
+
+of_given : (messages : List SealedMessage) (t : ℕ) (old : SealedMessage) (slip : Slip) → slice_get messages t ≡ Some old → slip.txn.number ≡ old.number → slip.place ≡ old.offered
+    → IsOfMessage (slice_set messages t (record old { offered = old.offered + 1 })) slip
+of_given messages t old slip was number place = record {
+  at = t;
+  message = record old { offered = old.offered + 1 };
+  is = set_at messages t (record old { offered = old.offered + 1 }) old was;
+  number = number;
+  place = omega (arith, place);
+}
+
 -- a lane that hears nothing
 quiet_lane : (events : List Event) (e : Event) (k : ℕ) (lane next : Lane) (bs ms : List Box) (more : List Slip) → IsQuiet k e
     → next.heard ≡ lane.heard → next.collected ≡ lane.collected → next.slips ≡ lane.slips ++ more
+    → ((slip : Slip) → IsOfMessage lane.messages slip → IsOfMessage next.messages slip)
     → ((txn : Txn) (p told : ℕ) → AreGiven k txn p told (copied txn p bs) lane.messages → AreGiven k txn p told (copied txn p ms) next.messages)
     → IsSoFar events k lane bs → IsSoFar (events ++ e ∷ []) k next ms
-quiet_lane events e k lane next bs ms more q heard count slips given s =
+quiet_lane events e k lane next bs ms more q heard count slips of given s =
     let front : lane.collected ≤ length lane.slips = s.front in
     let same : take next.collected next.slips ≡ take lane.collected lane.slips = rw (count, slips) (take-append-le lane.collected lane.slips more front) in
     let P : List Slip → Type 0 = λ l. IsMerged l s.own next.heard in
@@ -87,6 +127,7 @@ quiet_lane events e k lane next bs ms more q heard count slips given s =
       collected = let was = s.collected in omega (arith, count_more k events e false q.1);
       handed = handed_more k events e [] q.0 ∙ append-nil (handed_back k events) ∙ s.handed;
       made = s.made;
+      sealed = all_kept (IsOfMessage lane.messages) (IsOfMessage next.messages) of s.own s.sealed;
       given = λ txn p. given txn p (times_named txn p s.own) (s.given txn p);
     }
 
@@ -95,6 +136,7 @@ same_lane : (events : List Event) (e : Event) (k : ℕ) (lane next : Lane) (bs m
     → IsSoFar events k lane bs → IsSoFar (events ++ e ∷ []) k next ms
 same_lane events e k lane next bs ms q heard count slips ts le s =
     quiet_lane events e k lane next bs ms [] q heard count (slips ∙ sym (append-nil lane.slips))
+    (λ slip x. subst (λ ms. IsOfMessage ms slip) (sym ts) x)
     (λ txn p told g. rw (ts) (given_fewer k txn p told (copied txn p bs) (copied txn p ms) lane.messages (le txn p) g)) s
 
 -- a lane that makes a slip itself
@@ -115,6 +157,9 @@ own_lane events k i m lane next bs t key number place message at slips count hea
       collected = let was = s.collected in omega (arith, count_more k events (HandBack k i m) false refl);
       handed = handed_more k events (HandBack k i m) (m ∷ []) (rw (eq-eqb k k refl) refl) ∙ ap (λ l. l ++ m ∷ []) s.handed ∙ sym (map-append (λ x. x.worker) s.own (slip ∷ []));
       made = all_more (IsMade k) s.own slip s.made refl;
+      sealed = all_more (IsOfMessage next.messages) s.own slip
+          (all_kept (IsOfMessage lane.messages) (IsOfMessage next.messages) (λ x o. subst (λ ms. IsOfMessage ms x) (sym ts) (of_set lane.messages t _ x at o)) s.own s.sealed)
+          (subst (λ ms. IsOfMessage ms slip) (sym ts) (of_given lane.messages t _ slip at refl refl));
       given = λ txn p. rw (ts) (given_back k txn p (times_named txn p s.own) (times_named txn p (s.own ++ slip ∷ [])) (copied txn p bs) lane.messages t key number place m message at
           (omega (arith, count-append (names txn p) s.own (slip ∷ []))) (s.given txn p));
     }
@@ -135,6 +180,7 @@ collecting_lane events k lane next bs slip at slips count heard ts s =
       collected = let was = s.collected in omega (arith, count_more k events (Collect k) true (eq-eqb k k refl));
       handed = handed_more k events (Collect k) [] refl ∙ append-nil (handed_back k events) ∙ s.handed;
       made = s.made;
+      sealed = subst (λ ms. AllByRecursion (IsOfMessage ms) s.own) (sym ts) s.sealed;
       given = λ txn p. rw (ts) (s.given txn p);
     }
 
@@ -187,6 +233,7 @@ so_far_step events h (Seal k n) new all st =
     } in
     lane_alone events (Seal k n) h new k st.lane next (ap (λ (x : House). x.lanes) st.after) st.is le (λ v ne. (refl, refl))
     (quiet_lane events (Seal k n) k st.lane next h.boxes new.boxes [] (refl, refl) refl refl (sym (append-nil st.lane.slips))
+    (λ slip x. of_more st.lane.messages _ slip x)
     (λ txn p told g. given_seal k txn p told (copied txn p new.boxes) st.lane.messages st.key st.lane.number st.seals.bytes
     (given_fewer k txn p told (copied txn p h.boxes) (copied txn p new.boxes) st.lane.messages (le txn p) g))) all
 so_far_step events h (Split k i) new all st =
@@ -194,10 +241,10 @@ so_far_step events h (Split k i) new all st =
     (same_lane events (Split k i) k st.lane _ h.boxes new.boxes (refl, refl) refl refl refl refl (no_box h new (ap (λ (x : House). x.boxes) st.after))) all
 so_far_step events h (HandBack k i m) new all st =
     let boxes : new.boxes ≡ h.boxes = ap (λ (x : House). x.boxes) st.after in
-    let next : Lane = with_heard (without_copy st.lane i st.t st.key st.number st.message st.place) (own_slip k st.number st.place m) in
+    let next : Lane = with_heard (without_copy st.lane i st.t st.sealed) (own_slip k st.sealed.number st.sealed.offered m) in
     let P : List Box → Type 0 = λ bs. IsSoFar (events ++ HandBack k i m ∷ []) k next bs in
     lane_alone events (HandBack k i m) h new k st.lane next (ap (λ (x : House). x.lanes) st.after) st.is (no_box h new boxes) (λ v ne. (rw (other_byte k v (λ same. ne (sym same))) refl, refl))
-    (λ s. subst P (sym boxes) (own_lane events k i m st.lane next h.boxes st.t st.key st.number st.place st.message st.copy.sealed refl refl refl refl s)) all
+    (λ s. subst P (sym boxes) (own_lane events k i m st.lane next h.boxes st.t st.sealed.key st.sealed.number st.sealed.offered st.sealed.message st.copy.is refl refl refl refl s)) all
 so_far_step events h (Collect k) new all st =
     let boxes : new.boxes ≡ h.boxes = ap (λ (x : House). x.boxes) st.after in
     let next : Lane = record (with_heard st.lane st.slip) { collected = st.lane.collected + 1 } in
@@ -206,13 +253,14 @@ so_far_step events h (Collect k) new all st =
     (λ s. subst P (sym boxes) (collecting_lane events k st.lane next h.boxes st.slip st.front refl refl refl refl s)) all
 so_far_step events h (Offer k note) new all st =
     let post : Post = record { note = note; key = st.key } in
-    let next : Lane = without_copy st.lane st.at st.t st.key note.txn.number note.message note.place in
+    let next : Lane = without_copy st.lane st.at st.t (sealed_up_to st.key note.txn.number note.message note.place) in
     let more : (txn : Txn) (p : ℕ) → copied txn p new.boxes ≤ copied txn p h.boxes + cond (is_copy txn p note) 1 0 =
     (λ txn p. rw (ap (λ (x : House). x.boxes) st.after) (omega (arith, times_offer txn p h.boxes note.mailbox st.box (record st.box { accepted = st.box.accepted ++ post ∷ [] }) post st.channel refl))) in
     one_lane events (Offer k note) h new k st.lane next (ap (λ (x : House). x.lanes) st.after) st.is
     (quiet_lane events (Offer k note) k st.lane next h.boxes new.boxes [] (refl, refl) refl refl (sym (append-nil st.lane.slips))
-    (λ txn p told g. given_offer k txn p told (copied txn p h.boxes) (copied txn p new.boxes) st.lane.messages st.t st.key note st.own st.copy.sealed (more txn p) g))
-    (λ v lane ne. quiet_lane events (Offer k note) v lane lane h.boxes new.boxes [] (refl, refl) refl refl (sym (append-nil lane.slips))
+    (λ slip x. of_set st.lane.messages st.t _ slip st.copy.is x)
+    (λ txn p told g. given_offer k txn p told (copied txn p h.boxes) (copied txn p new.boxes) st.lane.messages st.t st.key note st.own st.copy.is (more txn p) g))
+    (λ v lane ne. quiet_lane events (Offer k note) v lane lane h.boxes new.boxes [] (refl, refl) refl refl (sym (append-nil lane.slips)) (λ slip x. x)
     (λ txn p told g. given_elsewhere k v txn p told (copied txn p h.boxes) (copied txn p new.boxes) lane.messages note st.own ne (more txn p) g)) all
 so_far_step events h (Take w) new all st =
     no_lane events (Take w) h new (ap (λ (x : House). x.lanes) st.after) (one_box h new w st.box _ (ap (λ (x : House). x.boxes) st.after) st.is refl) (λ v. (refl, refl)) all
@@ -228,7 +276,7 @@ so_far_step events h (GiveSlip w o) new all st =
     let next : Lane = record st.lane { slips = st.lane.slips ++ slip ∷ [] } in
     let le : NoCopy h new = one_box h new w st.box (record st.box { hand = None }) (ap (λ (x : House). x.boxes) st.after) st.is refl in
     lane_alone events (GiveSlip w o) h new k st.lane next (ap (λ (x : House). x.lanes) st.after) st.to le (λ v ne. (refl, refl))
-    (quiet_lane events (GiveSlip w o) k st.lane next h.boxes new.boxes (slip ∷ []) (refl, refl) refl refl refl
+    (quiet_lane events (GiveSlip w o) k st.lane next h.boxes new.boxes (slip ∷ []) (refl, refl) refl refl refl (λ x o. o)
     (λ txn p told g. given_fewer k txn p told (copied txn p h.boxes) (copied txn p new.boxes) st.lane.messages (le txn p) g)) all
 so_far_step events h (Reclaim slot generation) new all st =
     no_lane events (Reclaim slot generation) h new (ap (λ (x : House). x.lanes) st.2) (no_box h new (ap (λ (x : House). x.boxes) st.2)) (λ v. (refl, refl)) all
@@ -255,6 +303,7 @@ so_far_start blocks h start k lane is =
       collected = sym f.collected;
       handed = refl;
       made = tt;
+      sealed = tt;
       given = λ txn p. rw (f.messages, none_copied txn p h.boxes start.boxes) (given_none k txn p);
     }
 
@@ -266,11 +315,12 @@ never_by false told way old e some most h = cc
 own_named : (slip : Slip) → names slip.txn slip.place slip ≡ true
 own_named slip = rw (eq-eqb slip.txn.lane slip.txn.lane refl, eq-eqb slip.txn.number slip.txn.number refl, eq-eqb slip.place slip.place refl) refl
 
-is_own : (h : House) (k : ℕ) (lane : Lane) (events : List Event) → LaneIs h k lane → IsOnce h → (s : IsSoFar events k lane h.boxes) → (i : ℕ) (slip : Slip) → slice_get s.own i ≡ Some slip → IsHandedBack k h slip
+is_own : (h : House) (k : ℕ) (lane : Lane) (events : List Event) → LaneIs h k lane → IsOnce h → (s : IsSoFar events k lane h.boxes) → (i : ℕ) (slip : Slip) → slice_get s.own i ≡ Some slip → IsHandedBack k h lane slip
 is_own h k lane events is once s i slip at =
     let made : IsMade k slip = each_at (IsMade k) s.own i slip s.made at in
     record {
       made = made;
+      sealed = each_at (IsOfMessage lane.messages) s.own i slip s.sealed at;
       not_offered = never_by (k == slip.txn.lane) (times_named slip.txn slip.place s.own) (copied slip.txn slip.place h.boxes) _
           (eq-eqb k slip.txn.lane (sym (ap (λ (x : Slip). x.txn.lane) made)))
           (count_some (names slip.txn slip.place) s.own i slip at (own_named slip))
@@ -286,5 +336,5 @@ every_run_hears_each blocks start run is r k lane at =
       front = s.front;
       collected = s.collected;
       handed = s.handed;
-      each = all_of (IsHandedBack k (last_house start run)) s.own (is_own (last_house start run) k lane (events_of run) at (every_run_is_once blocks start run is r) s);
+      each = all_of (IsHandedBack k (last_house start run) lane) s.own (is_own (last_house start run) k lane (events_of run) at (every_run_is_once blocks start run is r) s);
     }

@@ -88,6 +88,10 @@ split_of_one h new k i lane hold is at one st =
     let weight : hold.weight ≡ st.weight + 1 = ap (λ (x : Hold). x.weight) same in
     absurd (omega (arith, st.above))
 
+pub split_of_nothing : (h new : House) (k i : ℕ) (lane : Lane) → LaneIs h k lane → slice_get lane.holds i ≡ None → SplitStep h k i new → ⊥
+split_of_nothing h new k i lane is nothing st =
+    none_some (slice_get lane.holds i) (record { key = st.key; weight = st.weight + 1 }) nothing (ap (λ (x : Lane). slice_get x.holds i) (same_lane h k lane st.lane is st.is) ∙ st.hold)
+
 pub offer_without_hold : (h new : House) (k : ℕ) (note : Note) (lane : Lane) → LaneIs h k lane → ((i : ℕ) (hold : Hold) → slice_get lane.holds i ≡ Some hold → hold.weight ≢ 1) → OfferStep h k note new → ⊥
 offer_without_hold h new k note lane is none st =
     none st.at (record { key = st.key; weight = 1 }) (ap (λ (x : Lane). slice_get x.holds st.at) (same_lane h k lane st.lane is st.is) ∙ st.copy.hold) refl
@@ -95,7 +99,12 @@ offer_without_hold h new k note lane is none st =
 -- the transaction of an offer's note
 offered_of : (h new : House) (k : ℕ) (note : Note) (lane : Lane) → LaneIs h k lane → (st : OfferStep h k note new)
     → slice_get lane.messages st.t ≡ Some (record { number = note.txn.number; key = st.key; message = note.message; offered = note.place })
-offered_of h new k note lane is st = ap (λ (x : Lane). slice_get x.messages st.t) (same_lane h k lane st.lane is st.is) ∙ st.copy.sealed
+offered_of h new k note lane is st = ap (λ (x : Lane). slice_get x.messages st.t) (same_lane h k lane st.lane is st.is) ∙ st.copy.is
+
+pub offer_with_other_hold : (h new : House) (k : ℕ) (note : Note) (lane : Lane) → LaneIs h k lane
+    → ((i t : ℕ) (hold : Hold) (x : SealedMessage) → slice_get lane.holds i ≡ Some hold → slice_get lane.messages t ≡ Some x → x.number ≡ note.txn.number → hold.key ≢ x.key) → OfferStep h k note new → ⊥
+offer_with_other_hold h new k note lane is other st =
+    other st.at st.t (record { key = st.key; weight = 1 }) _ (ap (λ (x : Lane). slice_get x.holds st.at) (same_lane h k lane st.lane is st.is) ∙ st.copy.hold) (offered_of h new k note lane is st) refl refl
 
 pub offer_of_other_bytes : (h new : House) (k : ℕ) (note : Note) (lane : Lane) → LaneIs h k lane
     → ((t : ℕ) (x : SealedMessage) → slice_get lane.messages t ≡ Some x → x.number ≡ note.txn.number → x.message ≢ note.message) → OfferStep h k note new → ⊥
@@ -120,7 +129,13 @@ offer_when_full h new k note box is full st =
 
 pub hand_back_without_hold : (h new : House) (k i b : ℕ) (lane : Lane) → LaneIs h k lane → ((hold : Hold) → slice_get lane.holds i ≡ Some hold → hold.weight ≢ 1) → HandBackStep h k i b new → ⊥
 hand_back_without_hold h new k i b lane is none st =
-    none (record { key = st.key; weight = 1 }) (ap (λ (x : Lane). slice_get x.holds i) (same_lane h k lane st.lane is st.is) ∙ st.copy.hold) refl
+    none (record { key = st.sealed.key; weight = 1 }) (ap (λ (x : Lane). slice_get x.holds i) (same_lane h k lane st.lane is st.is) ∙ st.copy.hold) refl
+
+pub hand_back_with_other_hold : (h new : House) (k i b : ℕ) (lane : Lane) → LaneIs h k lane
+    → ((t : ℕ) (hold : Hold) (x : SealedMessage) → slice_get lane.holds i ≡ Some hold → slice_get lane.messages t ≡ Some x → hold.key ≢ x.key) → HandBackStep h k i b new → ⊥
+hand_back_with_other_hold h new k i b lane is other st =
+    let same = same_lane h k lane st.lane is st.is in
+    other st.t (record { key = st.sealed.key; weight = 1 }) st.sealed (ap (λ (x : Lane). slice_get x.holds i) same ∙ st.copy.hold) (ap (λ (x : Lane). slice_get x.messages st.t) same ∙ st.copy.is) refl
 
 pub collect_of_none : (h new : House) (k : ℕ) (lane : Lane) → LaneIs h k lane → length lane.slips ≤ lane.collected → CollectStep h k new → ⊥
 collect_of_none h new k lane is none st =

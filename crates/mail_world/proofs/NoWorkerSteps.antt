@@ -6,7 +6,7 @@ use Rattle.mail_world.specs.declared.Note.{Note}
 use Rattle.mail_world.specs.declared.Outcome.{Outcome}
 use Rattle.mail_world.specs.declared.Outcome.TheVariants.{Stored, Failed}
 use Rattle.mail_world.specs.Records.{record_of}
-use Rattle.mail_world.specs.Depot.{Key, Draft, Sealed, held_under, weight_held}
+use Rattle.mail_world.specs.Depot.{Key, Free, Draft, Sealed, Retired, held_under, weight_held}
 use Rattle.mail_world.specs.House.{House, Box, Copy}
 use Rattle.mail_world.specs.Events.{TakeStep, WriteStep, SyncStep, ReleaseStep, GiveSlipStep, ReclaimStep, CloseStep, BoxIs}
 use Rattle.mail_world.specs.Slips.{slip_of}
@@ -34,6 +34,11 @@ pub write_when_faulty : (h new : House) (w : ℕ) (bytes : List ℕ) (box : Box)
 write_when_faulty h new w bytes box is faulty st =
     not_both st.box.faulty (ap (λ (x : Box). x.faulty) (same_box h w st.box box st.is is) ∙ faulty) st.sound
 
+pub write_after_release : (h new : House) (w : ℕ) (bytes : List ℕ) (box : Box) (copy : Copy) → BoxIs h w box → box.hand ≡ Some copy → copy.released ≡ true → WriteStep h w bytes new → ⊥
+write_after_release h new w bytes box copy is hand gone st =
+    let same = same_copy h w box st.box copy st.copy is st.is hand st.in_hand in
+    not_both st.copy.released (ap (λ (x : Copy). x.released) (sym same) ∙ gone) st.held
+
 pub sync_without_copy : (h new : House) (w : ℕ) (box : Box) → BoxIs h w box → box.hand ≡ None → SyncStep h w new → ⊥
 sync_without_copy h new w box is none st = no_copy h w box st.box st.copy is st.is none st.in_hand
 
@@ -46,6 +51,16 @@ sync_of_part h new w box copy is hand part st =
 pub sync_when_faulty : (h new : House) (w : ℕ) (box : Box) → BoxIs h w box → box.faulty ≡ true → SyncStep h w new → ⊥
 sync_when_faulty h new w box is faulty st =
     not_both st.box.faulty (ap (λ (x : Box). x.faulty) (same_box h w st.box box st.is is) ∙ faulty) st.sound
+
+pub sync_after_release : (h new : House) (w : ℕ) (box : Box) (copy : Copy) → BoxIs h w box → box.hand ≡ Some copy → copy.released ≡ true → SyncStep h w new → ⊥
+sync_after_release h new w box copy is hand gone st =
+    let same = same_copy h w box st.box copy st.copy is st.is hand st.in_hand in
+    not_both st.copy.released (ap (λ (x : Copy). x.released) (sym same) ∙ gone) st.held
+
+pub sync_twice : (h new : House) (w : ℕ) (box : Box) (copy : Copy) → BoxIs h w box → box.hand ≡ Some copy → copy.synced ≡ true → SyncStep h w new → ⊥
+sync_twice h new w box copy is hand synced st =
+    let same = same_copy h w box st.box copy st.copy is st.is hand st.in_hand in
+    not_both st.copy.synced (ap (λ (x : Copy). x.synced) (sym same) ∙ synced) st.first
 
 pub release_without_copy : (h new : House) (w : ℕ) (box : Box) → BoxIs h w box → box.hand ≡ None → ReleaseStep h w new → ⊥
 release_without_copy h new w box is none st = no_copy h w box st.box st.copy is st.is none st.in_hand
@@ -90,6 +105,12 @@ reclaim_of_held h new key bytes blocks weight held some st =
 
 pub reclaim_of_draft : (h new : House) (key : Key) (bytes blocks : List ℕ) → held_under h.depot key ≡ Draft bytes blocks → ReclaimStep h key new → ⊥
 reclaim_of_draft h new key bytes blocks held st = let bad : Draft bytes blocks ≡ Sealed st.1.bytes st.1.blocks 0 = sym held ∙ st.1.message in cc
+
+pub reclaim_of_nothing : (h new : House) (key : Key) → held_under h.depot key ≡ Free → ReclaimStep h key new → ⊥
+reclaim_of_nothing h new key held st = let bad : Free ≡ Sealed st.1.bytes st.1.blocks 0 = sym held ∙ st.1.message in cc
+
+pub reclaim_of_retired : (h new : House) (key : Key) → held_under h.depot key ≡ Retired → ReclaimStep h key new → ⊥
+reclaim_of_retired h new key held st = let bad : Retired ≡ Sealed st.1.bytes st.1.blocks 0 = sym held ∙ st.1.message in cc
 
 pub close_twice : (h new : House) (b : ℕ) (box : Box) → BoxIs h b box → box.closed ≡ true → CloseStep h b new → ⊥
 close_twice h new b box is closed st =

@@ -6,7 +6,7 @@ use Rattle.mail_world.specs.declared.Event.TheVariants.{Begin, Split, Offer, Col
 use Rattle.mail_world.specs.Records.{record_of}
 use Rattle.mail_world.specs.Depot.{Key, Held, Free, Draft, Sealed, Slot, held_under, with_held, given_back}
 use Rattle.mail_world.specs.House.{House, Box, Lane, Copy, Hold}
-use Rattle.mail_world.specs.Events.{MayHappen, HasCopy, BoxIs, LaneIs}
+use Rattle.mail_world.specs.Events.{MayHappen, HasCopy, BoxIs, LaneIs, sealed_up_to}
 use Rattle.mail_world.proofs.Depots.{times-append}
 
 -- what stands at an index within the list
@@ -29,7 +29,7 @@ split h k i lane hold is at more =
     at ∙ ap (λ n. let x : Hold = record { key = hold.key; weight = n } in Some x) weight in
     (_, record { lane = lane; key = hold.key; weight = hold.weight - 1; is = is; hold = its; above = omega arith; after = refl })
 
-pub offer : (h : House) (k i t : ℕ) (key : Key) (note : Note) (lane : Lane) (box : Box) → LaneIs h k lane → HasCopy lane i t key note.txn.number note.message note.place → note.txn.lane ≡ k
+pub offer : (h : House) (k i t : ℕ) (key : Key) (note : Note) (lane : Lane) (box : Box) → LaneIs h k lane → HasCopy lane i t (sealed_up_to key note.txn.number note.message note.place) → note.txn.lane ≡ k
     → BoxIs h note.mailbox box → box.closed ≡ false → length box.accepted < box.taken + h.capacity → MayHappen h (Offer k note)
 offer h k i t key note lane box is copy own channel still_open room =
     (_, record { lane = lane; box = box; at = i; t = t; key = key; is = is; copy = copy; own = own; channel = channel; still_open = still_open; room = room; after = refl })

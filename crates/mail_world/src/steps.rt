@@ -9,10 +9,10 @@ ghost use Rattle.mail_world.specs.declared.Event.TheVariants.{Close};
 ghost use Rattle.mail_world.specs.declared.Outcome.{Outcome};
 ghost use Rattle.mail_world.specs.declared.Outcome.TheVariants.{Stored, Failed};
 ghost use Rattle.mail_world.specs.Records.{record_of};
-ghost use Rattle.mail_world.specs.Depot.{Key, Slot, Free, Sealed, HasRoom, held_under};
+ghost use Rattle.mail_world.specs.Depot.{Key, Slot, Free, Sealed, Retired, HasRoom, held_under, spent};
 ghost use Rattle.mail_world.specs.Depot as depot;
 ghost use Rattle.mail_world.specs.House.{House, Box, Lane, Copy, Hold, SealedMessage};
-ghost use Rattle.mail_world.specs.Events.{Step, MayHappen, HasCopy, BoxIs, LaneIs};
+ghost use Rattle.mail_world.specs.Events.{Step, MayHappen, HasCopy, BoxIs, LaneIs, sealed_up_to};
 ghost use Rattle.mail_world.specs.Slips.{slip_of};
 ghost use Rattle.mail_world.specs.Runs.{InEveryRun};
 
@@ -47,8 +47,8 @@ pub fn other_steps_may_happen()
     ensures split { (h : House) (k i : ℕ) (lane : Lane) (hold : Hold) → LaneIs h k lane
         → slice_get lane.holds i ≡ Some hold → 1 < hold.weight → MayHappen h (Split k i) }
     ensures offer { (h : House) (k i t : ℕ) (key : Key) (note : Note) (lane : Lane) (box : Box) → LaneIs h k lane
-        → HasCopy lane i t key note.txn.number note.message note.place → note.txn.lane ≡ k → BoxIs h note.mailbox box
-        → box.closed ≡ false → length box.accepted < box.taken + h.capacity → MayHappen h (Offer k note) }
+        → HasCopy lane i t (sealed_up_to key note.txn.number note.message note.place) → note.txn.lane ≡ k
+        → BoxIs h note.mailbox box → box.closed ≡ false → length box.accepted < box.taken + h.capacity → MayHappen h (Offer k note) }
     ensures collect { (h : House) (k : ℕ) (lane : Lane) → LaneIs h k lane → lane.collected < length lane.slips
         → MayHappen h (Collect k) }
     ensures take { (h : House) (w : ℕ) (box : Box) → BoxIs h w box → box.hand ≡ None → box.taken < length box.accepted
@@ -59,7 +59,7 @@ pub fn other_steps_may_happen()
     ensures sync { (h : House) (w : ℕ) (box : Box) (copy : Copy) → BoxIs h w box → box.hand ≡ Some copy
         → copy.released ≡ false → box.faulty ≡ false → copy.synced ≡ false
         → copy.written ≡ length (record_of h.calendar h.host copy.post.note) → MayHappen h (Sync w) }
-    ensures reclaim { (h : House) (key : Key) (bytes blocks : List ℕ) → held_under h.depot key ≡ Sealed bytes blocks 0
+    ensures reclaim { (h : House) (key : Key) (bytes blocks : List ℕ) → held_under h.depot key ≡ spent bytes blocks
         → MayHappen h (Reclaim key.slot key.generation) }
     ensures close { (h : House) (b : ℕ) (box : Box) → BoxIs h b box → box.closed ≡ false → MayHappen h (Close b) }
 {}
@@ -82,9 +82,15 @@ pub fn wrong_steps_of_lanes_have_no_result()
     ensures seal_for_none { (h new : House) (k : ℕ) → Step h (Seal k 0) new → ⊥ }
     ensures split_of_one { (h new : House) (k i : ℕ) (lane : Lane) (hold : Hold) → LaneIs h k lane
         → slice_get lane.holds i ≡ Some hold → hold.weight ≤ 1 → Step h (Split k i) new → ⊥ }
+    ensures split_of_nothing { (h new : House) (k i : ℕ) (lane : Lane) → LaneIs h k lane
+        → slice_get lane.holds i ≡ None → Step h (Split k i) new → ⊥ }
     ensures offer_without_hold { (h new : House) (k : ℕ) (note : Note) (lane : Lane) → LaneIs h k lane
         → ((i : ℕ) (hold : Hold) → slice_get lane.holds i ≡ Some hold → hold.weight ≢ 1) → Step h (Offer k note) new
         → ⊥ }
+    ensures offer_with_other_hold { (h new : House) (k : ℕ) (note : Note) (lane : Lane) → LaneIs h k lane
+        → ((i t : ℕ) (hold : Hold) (x : SealedMessage) → slice_get lane.holds i ≡ Some hold
+        → slice_get lane.messages t ≡ Some x → x.number ≡ note.txn.number → hold.key ≢ x.key)
+        → Step h (Offer k note) new → ⊥ }
     ensures offer_of_other_bytes { (h new : House) (k : ℕ) (note : Note) (lane : Lane) → LaneIs h k lane
         → ((t : ℕ) (x : SealedMessage) → slice_get lane.messages t ≡ Some x → x.number ≡ note.txn.number
         → x.message ≢ note.message) → Step h (Offer k note) new → ⊥ }
@@ -99,6 +105,9 @@ pub fn wrong_steps_of_lanes_have_no_result()
         → box.taken + h.capacity ≤ length box.accepted → Step h (Offer k note) new → ⊥ }
     ensures hand_back_without_hold { (h new : House) (k i b : ℕ) (lane : Lane) → LaneIs h k lane
         → ((hold : Hold) → slice_get lane.holds i ≡ Some hold → hold.weight ≢ 1) → Step h (HandBack k i b) new → ⊥ }
+    ensures hand_back_with_other_hold { (h new : House) (k i b : ℕ) (lane : Lane) → LaneIs h k lane
+        → ((t : ℕ) (hold : Hold) (x : SealedMessage) → slice_get lane.holds i ≡ Some hold
+        → slice_get lane.messages t ≡ Some x → hold.key ≢ x.key) → Step h (HandBack k i b) new → ⊥ }
     ensures collect_of_none { (h new : House) (k : ℕ) (lane : Lane) → LaneIs h k lane
         → length lane.slips ≤ lane.collected → Step h (Collect k) new → ⊥ }
 {}
@@ -117,12 +126,18 @@ pub fn wrong_steps_of_workers_have_no_result()
         → Step h (Write w bytes) new → ⊥ }
     ensures write_when_faulty { (h new : House) (w : ℕ) (bytes : List ℕ) (box : Box) → BoxIs h w box → box.faulty ≡ true
         → Step h (Write w bytes) new → ⊥ }
+    ensures write_after_release { (h new : House) (w : ℕ) (bytes : List ℕ) (box : Box) (copy : Copy) → BoxIs h w box
+        → box.hand ≡ Some copy → copy.released ≡ true → Step h (Write w bytes) new → ⊥ }
     ensures sync_without_copy { (h new : House) (w : ℕ) (box : Box) → BoxIs h w box → box.hand ≡ None
         → Step h (Sync w) new → ⊥ }
     ensures sync_of_part { (h new : House) (w : ℕ) (box : Box) (copy : Copy) → BoxIs h w box → box.hand ≡ Some copy
         → copy.written ≢ length (record_of h.calendar h.host copy.post.note) → Step h (Sync w) new → ⊥ }
     ensures sync_when_faulty { (h new : House) (w : ℕ) (box : Box) → BoxIs h w box → box.faulty ≡ true
         → Step h (Sync w) new → ⊥ }
+    ensures sync_after_release { (h new : House) (w : ℕ) (box : Box) (copy : Copy) → BoxIs h w box
+        → box.hand ≡ Some copy → copy.released ≡ true → Step h (Sync w) new → ⊥ }
+    ensures sync_twice { (h new : House) (w : ℕ) (box : Box) (copy : Copy) → BoxIs h w box → box.hand ≡ Some copy
+        → copy.synced ≡ true → Step h (Sync w) new → ⊥ }
     ensures release_without_copy { (h new : House) (w : ℕ) (box : Box) → BoxIs h w box → box.hand ≡ None
         → Step h (Release w) new → ⊥ }
     ensures release_twice { (h new : House) (w : ℕ) (box : Box) (copy : Copy) → BoxIs h w box → box.hand ≡ Some copy
@@ -143,6 +158,10 @@ pub fn wrong_steps_of_workers_have_no_result()
         → Step h (Reclaim key.slot key.generation) new → ⊥ }
     ensures reclaim_of_draft { (h new : House) (key : Key) (bytes blocks : List ℕ)
         → held_under h.depot key ≡ depot.Draft bytes blocks → Step h (Reclaim key.slot key.generation) new → ⊥ }
+    ensures reclaim_of_nothing { (h new : House) (key : Key) → held_under h.depot key ≡ Free
+        → Step h (Reclaim key.slot key.generation) new → ⊥ }
+    ensures reclaim_of_retired { (h new : House) (key : Key) → held_under h.depot key ≡ Retired
+        → Step h (Reclaim key.slot key.generation) new → ⊥ }
     ensures close_twice { (h new : House) (b : ℕ) (box : Box) → BoxIs h b box → box.closed ≡ true → Step h (Close b) new
         → ⊥ }
 {}
