@@ -36,10 +36,10 @@ fn a_rehearsal_is_held_as_the_words_ask(rt: HostRuntime) -> Result<(), Fail> {
     let words = words_of(rt.alloc(), line)?;
     let mut error = Vec::new(rt.alloc());
     let ended = run_program(&rt, rt, &words, SAYS, Vec::new(rt.alloc()), &mut error);
-    let Done::Rehearsed(rehearsed) = ended.done else {
-        return Err("no rehearsal".into());
-    };
-    assert_eq!(rt; rehearsed.writer.as_slice(), OUTPUT);
+    match &ended.done {
+        Done::Rehearsed(rehearsed) => assert_eq!(rt; rehearsed.writer.as_slice(), OUTPUT),
+        _ => return Err("no rehearsal".into()),
+    }
     assert_eq!(rt; ended.exit.status, 0);
     assert!(rt; error.is_empty());
     Ok(())
