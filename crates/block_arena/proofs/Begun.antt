@@ -11,30 +11,30 @@ use Rattle.block_arena.specs.declared.slot.Content.{Content}
 use Rattle.block_arena.specs.declared.slot.Content.TheVariants.{Free, Draft, Sealed, Retired}
 use Rattle.block_arena.specs.declared.slot.Slot.{Slot}
 use Rattle.block_arena.specs.Fields.{is_free, chain, held, slot_of, depot_of, IsArena}
-use Rattle.block_arena.specs.Calls.{depot_key, IsTaken}
+use Rattle.block_arena.specs.Calls.{depot_key, IsUsed}
 use Rattle.block_arena.proofs.Slots.{slot_at, relabelled, map_set, get_map}
 
 abbrev free_from : ℕ → List Slot → Option ℕ
 free_from i slots = position_from (λ (slot : Slot). is_free slot.content) i slots
 
-taken_by : (store : List (List ℕ)) (next : List ℕ) (c : Content) (i : ℕ) (o : Option ℕ) → cond (is_free c) (Some i) o ≡ None → IsTaken (held store next c) × (o ≡ None)
+taken_by : (store : List (List ℕ)) (next : List ℕ) (c : Content) (i : ℕ) (o : Option ℕ) → cond (is_free c) (Some i) o ≡ None → IsUsed (held store next c) × (o ≡ None)
 taken_by store next Free i o e = cc
 taken_by store next (Draft run) i o e = (tt, e)
 taken_by store next (Sealed run holds) i o e = (tt, e)
 taken_by store next Retired i o e = (tt, e)
 
-none_from : (store : List (List ℕ)) (next : List ℕ) (slots : List Slot) (i : ℕ) → free_from i slots ≡ None → AllByRecursion (λ (slot : d.Slot). IsTaken slot.held) (map (slot_of store next) slots)
+none_from : (store : List (List ℕ)) (next : List ℕ) (slots : List Slot) (i : ℕ) → free_from i slots ≡ None → AllByRecursion (λ (slot : d.Slot). IsUsed slot.held) (map (slot_of store next) slots)
 none_from store next [] i e = tt
 none_from store next (slot ∷ slots) i e =
-    let p : IsTaken (held store next slot.content) × (free_from (i + 1) slots ≡ None) = taken_by store next slot.content i (free_from (i + 1) slots) e in
+    let p : IsUsed (held store next slot.content) × (free_from (i + 1) slots ≡ None) = taken_by store next slot.content i (free_from (i + 1) slots) e in
     (p.0, none_from store next slots (i + 1) p.1)
 
 pub none_free : (depot : d.Depot) (store : List (List ℕ)) (next : List ℕ) (slots : List Slot) (free free_count : ℕ) (items : List Slot) (result : Option ℕ)
     → depot_of store next slots free free_count ≡ depot → items ≡ slots → result ≡ position (λ (slot : Slot). is_free slot.content) items → result ≡ None
-    → AllByRecursion (λ (slot : d.Slot). IsTaken slot.held) depot.slots
+    → AllByRecursion (λ (slot : d.Slot). IsUsed slot.held) depot.slots
 none_free depot store next slots free free_count items result view same is none =
     let at : free_from 0 slots ≡ None = sym (position_from-zero (λ (slot : Slot). is_free slot.content) slots) ∙ ap (λ (xs : List Slot). position (λ (slot : Slot). is_free slot.content) xs) (sym same) ∙ sym is ∙ none in
-    subst (λ (e : d.Depot). AllByRecursion (λ (slot : d.Slot). IsTaken slot.held) e.slots) view (none_from store next slots 0 at)
+    subst (λ (e : d.Depot). AllByRecursion (λ (slot : d.Slot). IsUsed slot.held) e.slots) view (none_from store next slots 0 at)
 
 record Found (slots : List Slot) (i k : ℕ) : Type 0 where
   j : ℕ

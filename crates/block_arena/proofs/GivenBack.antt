@@ -9,7 +9,7 @@ use Rattle.block_arena.specs.declared.slot.Content.{Content}
 use Rattle.block_arena.specs.declared.slot.Content.TheVariants.{Free, Sealed}
 use Rattle.block_arena.specs.declared.slot.Slot.{Slot}
 use Rattle.block_arena.specs.Fields.{held, slot_of, depot_of, blocks_in, bytes_in}
-use Rattle.block_arena.specs.Calls.{depot_key, Frees, IsGivenBack, MayGive}
+use Rattle.block_arena.specs.Calls.{depot_key, Frees, IsGivenBack, MayGiveBack}
 use Rattle.block_arena.proofs.Slots.{slot_at, get_map}
 use Rattle.block_arena.proofs.Seen.{Sees, under, stands}
 use Rattle.block_arena.proofs.Labels.{depot_slot, set_twice, held_there, releases, held_behind}
@@ -76,10 +76,10 @@ gives_some key depot store next slots free free_count run holds k s few =
     (held_behind key depot store next slots free free_count (Sealed run holds) (Sealed run (holds - k)) s)
 
 pub gives_last : (key : Key) (depot : d.Depot) (store : List (List ℕ)) (next : List ℕ) (slots : List Slot) (free free_count : ℕ) (run : Run) (holds k : ℕ) (new : d.Depot)
-    → Sees key depot store next slots free free_count (Sealed run holds) → holds ≤ k → MayGive k (d.held_under depot (depot_key key)) → Frees depot (depot_key key) new
+    → Sees key depot store next slots free free_count (Sealed run holds) → holds ≤ k → MayGiveBack k (d.held_under depot (depot_key key)) → Frees depot (depot_key key) new
     → IsGivenBack k depot (depot_key key) new true
 gives_last key depot store next slots free free_count run holds k new s most may f =
-    let within : k ≤ holds = subst (λ (h : d.Held). MayGive k h) (under key depot store next slots free free_count (Sealed run holds) s) may in
+    let within : k ≤ holds = subst (λ (h : d.Held). MayGiveBack k h) (under key depot store next slots free free_count (Sealed run holds) s) may in
     let same : holds ≡ k = omega (arith, most, within) in
     given_last k depot (depot_key key) new (bytes_in store next run) (blocks_in next run)
     (depot_there key depot store next slots free free_count (Sealed run holds) s (λ e. cc) ∙ ap (λ (x : d.Slot). Some x) (ap (λ n. depot_slot key.generation (d.Sealed (bytes_in store next run) (blocks_in next run) n)) same))

@@ -131,7 +131,7 @@ links : (key : Key) (depot : d.Depot) (store : List (List ℕ)) (next : List ℕ
 links key depot store next slots free free_count run s some = links_by (run.blocks == 0) key depot store next slots free free_count run s some refl
 
 -- what the code knows of the piece that goes into a free block
-pub record IsNext (free_count : ℕ) (run : Run) (n : ℕ) (piece row : List ℕ) : Type 0 where
+pub record IsNextRun (free_count : ℕ) (run : Run) (n : ℕ) (piece row : List ℕ) : Type 0 where
   pub full : run.length % BLOCK_SIZE ≡ 0
   pub free : 1 ≤ free_count
   pub some : 0 < n
@@ -140,7 +140,7 @@ pub record IsNext (free_count : ℕ) (run : Run) (n : ℕ) (piece row : List ℕ
   pub row_size : length row ≡ BLOCK_SIZE
   pub front : take n row ≡ piece
 
-linked_is : (key : Key) (depot : d.Depot) (store : List (List ℕ)) (next : List ℕ) (slots : List Slot) (free free_count : ℕ) (run : Run) (n : ℕ) (piece row : List ℕ) → Sees key depot store next slots free free_count (Draft run) → IsNext free_count run n piece row
+linked_is : (key : Key) (depot : d.Depot) (store : List (List ℕ)) (next : List ℕ) (slots : List Slot) (free free_count : ℕ) (run : Run) (n : ℕ) (piece row : List ℕ) → Sees key depot store next slots free free_count (Draft run) → IsNextRun free_count run n piece row
     → IsRun (linked_next next run free) (longer (linked_run run free) n)
 linked_is key depot store next slots free free_count run n piece row s f =
     let was : slice_get slots key.slot ≡ Some (slot_at key.generation (Draft run)) = stands key depot store next slots free free_count (Draft run) s (λ e. cc) in
@@ -153,7 +153,7 @@ linked_is key depot store next slots free free_count run n piece row s f =
       read = record { is = refl; within = omega arith };
     }
 
-pub linked_turn : (key : Key) (depot : d.Depot) (store : List (List ℕ)) (next : List ℕ) (slots : List Slot) (free free_count : ℕ) (run : Run) (n : ℕ) (piece row : List ℕ) → Sees key depot store next slots free free_count (Draft run) → IsNext free_count run n piece row
+pub linked_turn : (key : Key) (depot : d.Depot) (store : List (List ℕ)) (next : List ℕ) (slots : List Slot) (free free_count : ℕ) (run : Run) (n : ℕ) (piece row : List ℕ) → Sees key depot store next slots free free_count (Draft run) → IsNextRun free_count run n piece row
     → Turn store next slots free free_count key.slot (slot_at key.generation (Draft run)) (slot_at key.generation (Draft (longer (linked_run run free) n))) store (linked_next next run free) (get_or next free 0) (free_count - 1)
 linked_turn key depot store next slots free free_count run n piece row s f =
     let was : slice_get slots key.slot ≡ Some (slot_at key.generation (Draft run)) = stands key depot store next slots free free_count (Draft run) s (λ e. cc) in
@@ -179,7 +179,7 @@ take_all_of : (k : ℕ) (xs : List ℕ) → length xs ≡ k → take k xs ≡ xs
 take_all_of k xs e = ap (take k) (sym (append-nil xs)) ∙ take_exact k xs [] e
 
 -- the bytes behind a piece in a block of its own
-pub linked_bytes : (key : Key) (depot : d.Depot) (store : List (List ℕ)) (next : List ℕ) (slots : List Slot) (free free_count : ℕ) (run : Run) (n : ℕ) (piece row : List ℕ) → Sees key depot store next slots free free_count (Draft run) → IsNext free_count run n piece row
+pub linked_bytes : (key : Key) (depot : d.Depot) (store : List (List ℕ)) (next : List ℕ) (slots : List Slot) (free free_count : ℕ) (run : Run) (n : ℕ) (piece row : List ℕ) → Sees key depot store next slots free free_count (Draft run) → IsNextRun free_count run n piece row
     → get_or store free [] ≡ row
     → bytes_in store (linked_next next run free) (longer (linked_run run free) n) ≡ bytes_in store next run ++ piece
 linked_bytes key depot store next slots free free_count run n piece row s f there =
@@ -195,7 +195,7 @@ linked_bytes key depot store next slots free free_count run n piece row s f ther
     ∙ ap (λ t. flat store (chain run.blocks next run.first) ++ t) f.front
     ∙ ap (λ t. t ++ piece) (sym (take_all_of run.length (flat store (chain run.blocks next run.first)) size))
 
-pub linked_gains : (key : Key) (depot : d.Depot) (store : List (List ℕ)) (next : List ℕ) (slots : List Slot) (free free_count : ℕ) (run : Run) (n : ℕ) (piece row : List ℕ) → Sees key depot store next slots free free_count (Draft run) → IsNext free_count run n piece row
+pub linked_gains : (key : Key) (depot : d.Depot) (store : List (List ℕ)) (next : List ℕ) (slots : List Slot) (free free_count : ℕ) (run : Run) (n : ℕ) (piece row : List ℕ) → Sees key depot store next slots free free_count (Draft run) → IsNextRun free_count run n piece row
     → get_or store free [] ≡ row
     → Gains key store next slots free free_count run (longer (linked_run run free) n) piece (free ∷ []) store (linked_next next run free) (get_or next free 0) (free_count - 1)
 linked_gains key depot store next slots free free_count run n piece row s f there = record {
@@ -226,7 +226,7 @@ free_there key depot store next slots free free_count content s some = free_with
 -- what the code wrote into the first free block
 pub next_by : (key : Key) (depot : d.Depot) (store : List (List ℕ)) (next : List ℕ) (slots : List Slot) (free free_count : ℕ) (run : Run) (n : ℕ) (bytes old row other : List ℕ)
     → Sees key depot store next slots free free_count (Draft run) → d.HasRoom depot (depot_key key) bytes → 0 < length bytes → run.length % BLOCK_SIZE ≡ 0 → n ≡ min (length bytes) (BLOCK_SIZE - run.length % BLOCK_SIZE) → old ≡ get_or store free other
-    → row ≡ take 0 old ++ take n bytes ++ drop (0 + length (take n bytes)) old → IsNext free_count run n (take n bytes) row
+    → row ≡ take 0 old ++ take n bytes ++ drop (0 + length (take n bytes)) old → IsNextRun free_count run n (take n bytes) row
 next_by key depot store next slots free free_count run n bytes old row other s room some full least was is =
     let free_some : 1 ≤ free_count = some_free key depot store next slots free free_count run bytes s room some full in
     let low : free < length next = free_there key depot store next slots free free_count (Draft run) s free_some in

@@ -14,7 +14,7 @@ use Rattle.block_arena.proofs.Slots.{slot_at, all_at}
 use Rattle.block_arena.proofs.Seen.{Sees, sees, under, stands, enough_room}
 use Rattle.block_arena.proofs.Freed.{last_in, slot_within, sum_within}
 use Rattle.block_arena.proofs.Filled.{draft_is, draft_owns, draft_last, filled_by, filled_gains, get_any, IsFilled}
-use Rattle.block_arena.proofs.Linked.{IsNext, linked_gains, next_by, some_free, free_there, spare}
+use Rattle.block_arena.proofs.Linked.{IsNextRun, linked_gains, next_by, some_free, free_there, spare}
 use Rattle.block_arena.proofs.Puts.{Gains, gained_puts, gained_room, sees_new, room_to, room_from}
 use Rattle.mail_world.specs.declared.limits.TheConstants.{BLOCK_SIZE, BLOCK_LIMIT}
 
@@ -75,7 +75,7 @@ pub put_next : (key : Key) (depot : d.Depot) (store : List (List ℕ)) (next : L
     → rest ≡ get_or next free spare' → run' ≡ linked_run run free → next' ≡ linked_next next run free → slot ≡ slot_at key.generation (Draft (longer run' n))
     → IsPut key depot n bytes (set store free row) next' (slice_set slots key.slot slot) rest (free_count - 1)
 put_next key depot store next slots free free_count run n bytes old row other rest spare' run' next' slot k full was is behind runs links e =
-    let f : IsNext free_count run n (take n bytes) row = next_by key depot store next slots free free_count run n bytes old row other k.sees k.room k.some full k.least was is in
+    let f : IsNextRun free_count run n (take n bytes) row = next_by key depot store next slots free free_count run n bytes old row other k.sees k.room k.some full k.least was is in
     let low : free < length next = free_there key depot store next slots free free_count (Draft run) k.sees f.free in
     let s : Sees key depot (set store free row) next slots free free_count (Draft run) = spare key depot store next slots free free_count (Draft run) row k.sees f.free f.row_size in
     let there : get_or (set store free row) free [] ≡ row = get_or-set_same store free row [] (omega (arith, low, k.sees.arena.count)) in

@@ -9,11 +9,11 @@ use Rattle.block_arena.specs.declared.fault.ArenaFault.TheVariants as fault
 abbrev pub depot_key : Key → d.Key
 depot_key key = record { slot = key.slot; generation = key.generation }
 
-abbrev pub IsTaken : d.Held → Type 0
-IsTaken d.Free = ⊥
-IsTaken (d.Draft bytes blocks) = Unit {0}
-IsTaken (d.Sealed bytes blocks weight) = Unit {0}
-IsTaken d.Retired = Unit {0}
+abbrev pub IsUsed : d.Held → Type 0
+IsUsed d.Free = ⊥
+IsUsed (d.Draft bytes blocks) = Unit {0}
+IsUsed (d.Sealed bytes blocks weight) = Unit {0}
+IsUsed d.Retired = Unit {0}
 
 abbrev pub IsDraft : d.Held → Type 0
 IsDraft d.Free = ⊥
@@ -49,11 +49,11 @@ RefusesMessage (d.Sealed bytes blocks weight) f = ⊥
 RefusesMessage d.Retired f = f ≡ fault.Stale
 
 -- a message has so many holds, if it is one
-abbrev pub MayGive : ℕ → d.Held → Type 0
-MayGive k d.Free = Unit {0}
-MayGive k (d.Draft bytes blocks) = Unit {0}
-MayGive k (d.Sealed bytes blocks weight) = k ≤ weight
-MayGive k d.Retired = Unit {0}
+abbrev pub MayGiveBack : ℕ → d.Held → Type 0
+MayGiveBack k d.Free = Unit {0}
+MayGiveBack k (d.Draft bytes blocks) = Unit {0}
+MayGiveBack k (d.Sealed bytes blocks weight) = k ≤ weight
+MayGiveBack k d.Retired = Unit {0}
 
 abbrev pub IsMessage : d.Held → Type 0
 IsMessage d.Free = ⊥

@@ -7,7 +7,7 @@ ghost use Rattle.mail_world.specs.Depot as depot;
 ghost use Rattle.std.specs.List.{position};
 ghost use Rattle.block_arena.specs.declared.slot.Slot.{Slot};
 ghost use Rattle.block_arena.specs.Fields.{is_free, links, slot_behind};
-ghost use Rattle.block_arena.specs.Calls.{depot_key, IsTaken, IsInUse, Frees};
+ghost use Rattle.block_arena.specs.Calls.{depot_key, IsUsed, IsInUse, Frees};
 
 use crate::fault::ArenaFault;
 use crate::key::Key;
@@ -121,7 +121,7 @@ impl Arena {
     /// A new draft, without blocks, unless every slot is in use or retired.
     pub fn begin(&mut self) -> Option<Key>
         ensures some { IfSome result (λ key. Begins self.old (depot_key key) self.new) }
-        ensures none { IfNone result (AllByRecursion (λ (slot : depot.Slot). IsTaken slot.held) self.old.slots) }
+        ensures none { IfNone result (AllByRecursion (λ (slot : depot.Slot). IsUsed slot.held) self.old.slots) }
         ensures same { IfNone result (self.new ≡ self.old) }
     {
         match free_slot(&self.slots) {

@@ -3,7 +3,7 @@
 ghost use Rattle.std.specs.Prelude.{◌≡◌, OnOk, OnErr, IfOk};
 ghost use Rattle.lmtp_text.specs.Calendar.{civil_at};
 ghost use Rattle.mbox_rd.specs.Envelope.{record_text};
-ghost use Rattle.mbox_rd.specs.Spool.{HasTaken, HasFailed};
+ghost use Rattle.mbox_rd.specs.Spool.{SpoolTook, SpoolFailed};
 ghost use Rattle.mbox_rd.specs.Writing.{WritesPiece, FailsPiece};
 ghost use Rattle.box_worker.specs.Stored.{HasKept, HasNotKept};
 
@@ -40,9 +40,9 @@ fn append_record<N: DepotName, S: Spool, R: Wait>(
     envelope: &Envelope,
     hold: &mut Hold<N>,
 ) -> Result<(), SpoolFault>
-    ensures ok { OnOk result (HasTaken (S.state spool.old) (S.state spool.new)
+    ensures ok { OnOk result (SpoolTook (S.state spool.old) (S.state spool.new)
         (record_text civil_at host.now envelope.now hold.old.bytes)) }
-    ensures err { OnErr result (HasFailed (S.state spool.old) (S.state spool.new)
+    ensures err { OnErr result (SpoolFailed (S.state spool.old) (S.state spool.new)
         (record_text civil_at host.now envelope.now hold.old.bytes)) }
     ensures hold { hold.new ≡ hold.old }
 {

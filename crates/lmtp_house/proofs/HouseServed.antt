@@ -17,7 +17,7 @@ use Rattle.lmtp_lane.specs.LaneRun.{HasServed}
 use Rattle.lmtp_lane.specs.Visits.{Finished, conversations_of}
 use Rattle.lmtp_house.specs.House.{LaneWork}
 use Rattle.lmtp_house.specs.HouseChannels.{AreRows, none, HasGiven}
-use Rattle.lmtp_house.specs.HouseTasks.{LaneTask, lane_task, lane_tasks, IsServedLane, HaveServed, HasHeard}
+use Rattle.lmtp_house.specs.HouseTasks.{LaneTask, lane_task, lane_tasks, IsServedLane, HaveServed, TookSlips}
 use Rattle.lmtp_house.proofs.HousePairs.{AllZip-length, picks, picked}
 use Rattle.lmtp_house.proofs.HouseChannels.{same_at, at_each, source, rows_given}
 
@@ -102,7 +102,7 @@ module _ {V C R : Type 0} (May : C → ℕ → Type 0) (MayGive : V → PeerStat
       report_is : slice_get reports k ≡ Some report
       served : IsServedLane site (May clock) (MayGive visit) k (works k) (finished visit) (finished (rv report)) (over (rv report)) (rc report)
       given : HasGiven (λ b. due site k b (conversations_of (works k).visits)) row (rs report)
-      heard : HasHeard (works k).heard inbox (rt report)
+      heard : TookSlips (works k).heard inbox (rt report)
 
     lane_is : (k : ℕ) → k < length visits → LaneIs k
     lane_is k below =
@@ -121,14 +121,14 @@ module _ {V C R : Type 0} (May : C → ℕ → Type 0) (MayGive : V → PeerStat
               let o = h.exchanged.offered.each b before after e f in
               (o.channel, o.number, o.sent ∙ ap (λ l. before.sent ++ l) (o.all no ∙ due_is p.left.site p.left.lane b (conversations_of h.visits)));
         } in
-        let heard : HasHeard (lane_work p.left p.right h).heard p.left.slips (rt p.right) = record {
+        let heard : TookSlips (lane_work p.left p.right h).heard p.left.slips (rt p.right) = record {
           channel = h.exchanged.channel;
           lanes = h.exchanged.lanes;
           took = h.exchanged.took ∙ ap (λ l. taken p.left.slips ++ l) (merged_none h.exchanged.came h.heard (subst (λ l. IsMerged h.exchanged.came l h.heard) none_own h.exchanged.merged));
         } in
         let Served : LaneTask V C → LaneWork → Type 0 = λ j w. IsServedLane j.site (May j.clock) (MayGive j.visits) j.lane w (finished j.visits) (finished (rv p.right)) (over (rv p.right)) (rc p.right) in
         let Given : LaneTask V C → LaneWork → Type 0 = λ j w. HasGiven (λ b. due j.site j.lane b (conversations_of w.visits)) j.senders (rs p.right) in
-        let Heard : LaneTask V C → LaneWork → Type 0 = λ j w. HasHeard w.heard j.slips (rt p.right) in record {
+        let Heard : LaneTask V C → LaneWork → Type 0 = λ j w. TookSlips w.heard j.slips (rt p.right) in record {
           visit = t.visit;
           row = t.row;
           inbox = t.inbox;
@@ -170,5 +170,5 @@ module _ {V C R : Type 0} (May : C → ℕ → Type 0) (MayGive : V → PeerStat
           let l = lane_is k (omega (arith, inboxes_count, slice_get_within inboxes k old a)) in
           let new_is : rt l.report ≡ new = sym (r.gives ∙ ap rt (same_at reports k r.value l.report r.is l.report_is)) in
           let old_is : l.inbox ≡ old = same_at inboxes k l.inbox old l.inbox_is a in
-          subst (λ x. HasHeard (works k).heard old x) new_is (subst (λ x. HasHeard (works k).heard x (rt l.report)) old_is l.heard);
+          subst (λ x. TookSlips (works k).heard old x) new_is (subst (λ x. TookSlips (works k).heard x (rt l.report)) old_is l.heard);
     }

@@ -16,7 +16,7 @@ use Rattle.box_worker.specs.Worked.{idle, HasWorked}
 use Rattle.lmtp_house.specs.declared.house.report.Tally.{Tally}
 use Rattle.lmtp_house.specs.House.{BoxWork, IsBoxWork}
 use Rattle.lmtp_house.specs.HouseChannels.{AreRows, none, lane_at, HasGiven}
-use Rattle.lmtp_house.specs.HouseTasks.{BoxTask, box_task, box_tasks, HaveWorked, HasTaken}
+use Rattle.lmtp_house.specs.HouseTasks.{BoxTask, box_task, box_tasks, HaveWorked, TookAllNotes}
 use Rattle.lmtp_house.proofs.HousePairs.{AllZip-length, picks, picked}
 use Rattle.lmtp_house.proofs.HouseChannels.{at, same_at, at_each, source, rows_given}
 
@@ -94,7 +94,7 @@ module _ {S R : Type 0} (state : S → SpoolState) (rr : R → Inbox Note) (rs :
       report_is : slice_get reports k ≡ Some report
       stored : IsBoxWork site (works k) (state spool) (state (rp report)) (rt report)
       given : HasGiven (λ j. owed_to k (works k).stored j (works k).taken) row (rs report)
-      took : HasTaken (works k).taken inbox (rr report)
+      took : TookAllNotes (works k).taken inbox (rr report)
 
     box_is : (k : ℕ) → k < length spools → BoxIs k
     box_is k below =
@@ -106,7 +106,7 @@ module _ {S R : Type 0} (state : S → SpoolState) (rr : R → Inbox Note) (rs :
         let worker_is : worker_of t.row ≡ k = numbered k first.value t.row (are.cells k 0 t.row first.value t.row_is first.is) in
         let Stored : List ℕ → S → BoxWork → Type 0 = λ host spool w. IsBoxWork (record site { host = host }) w (state spool) (state (rp p.right)) (rt p.right) in
         let Given : ℕ → List (Sender Slip) → BoxWork → Type 0 = λ b row w. HasGiven (λ j. owed_to b w.stored j w.taken) row (rs p.right) in
-        let Took : Inbox Note → BoxWork → Type 0 = λ inbox w. HasTaken w.taken inbox (rr p.right) in
+        let Took : Inbox Note → BoxWork → Type 0 = λ inbox w. TookAllNotes w.taken inbox (rr p.right) in
         let stored : Stored p.left.host p.left.spool (box_work p.left p.right h) = record { spool = h.handled.spool; taken = h.handled.taken_count; stored = h.handled.stored_count } in
         let given : Given (worker_of p.left.slips) p.left.slips (box_work p.left p.right h) = record {
           as_many = h.handled.told.as_many;
@@ -156,5 +156,5 @@ module _ {S R : Type 0} (state : S → SpoolState) (rr : R → Inbox Note) (rs :
           let l = box_is k (omega (arith, inboxes_count, slice_get_within inboxes k old a)) in
           let new_is : rr l.report ≡ new = sym (r.gives ∙ ap rr (same_at reports k r.value l.report r.is l.report_is)) in
           let old_is : l.inbox ≡ old = same_at inboxes k l.inbox old l.inbox_is a in
-          subst (λ x. HasTaken (works k).taken old x) new_is (subst (λ x. HasTaken (works k).taken x (rr l.report)) old_is l.took);
+          subst (λ x. TookAllNotes (works k).taken old x) new_is (subst (λ x. TookAllNotes (works k).taken x (rr l.report)) old_is l.took);
     }

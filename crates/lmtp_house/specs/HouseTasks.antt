@@ -81,13 +81,13 @@ pub record IsServedLane (site : Site) (May : ℕ → Type 0) (MayCome : PeerStat
   pub answered : AllByRecursion (IsAnswered k work.heard) (transactions site 0 (conversations_of work.visits))
 
 -- a receiver took these more
-pub record HasHeard (heard : List Slip) (old new : Inbox Slip) : Type 0 where
+pub record TookSlips (heard : List Slip) (old new : Inbox Slip) : Type 0 where
   pub channel : new.channel ≡ old.channel
   pub lanes : new.lanes ≡ old.lanes
   pub took : taken new ≡ taken old ++ heard
 
 -- a receiver took all of this up to its closing
-pub record HasTaken (all : List Note) (old new : Inbox Note) : Type 0 where
+pub record TookAllNotes (all : List Note) (old new : Inbox Note) : Type 0 where
   pub channel : new.channel ≡ old.channel
   pub lanes : new.lanes ≡ old.lanes
   pub took : taken new ≡ all
@@ -101,7 +101,7 @@ pub record HaveServed {V : Type 0} (site : Site) (May : ℕ → Type 0) (MayGive
   pub served : (k count : ℕ) (old new : V) → slice_get visits k ≡ Some old → slice_get visits_after k ≡ Some new → slice_get conversations k ≡ Some count
       → IsServedLane site May (MayGive old) k (works k) (finished old) (finished new) (over new) count
   pub rows_are : AreRows (length visits) channels (λ k b. due site k b (conversations_of (works k).visits)) rows_after
-  pub heard : (k : ℕ) (old new : Inbox Slip) → slice_get inboxes k ≡ Some old → slice_get inboxes_after k ≡ Some new → HasHeard (works k).heard old new
+  pub heard : (k : ℕ) (old new : Inbox Slip) → slice_get inboxes k ≡ Some old → slice_get inboxes_after k ≡ Some new → TookSlips (works k).heard old new
 
 -- All workers have ended, and none found a channel gone.
 pub record HaveWorked {S : Type 0} (site : Site) (state : S → SpoolState) (channels : List (Channel Slip)) (inboxes inboxes_after : List (Inbox Note))
@@ -111,7 +111,7 @@ pub record HaveWorked {S : Type 0} (site : Site) (state : S → SpoolState) (cha
   pub stored : (b : ℕ) (old new : S) (tally : Tally) → slice_get spools b ≡ Some old → slice_get spools_after b ≡ Some new → slice_get tallies b ≡ Some tally
       → IsBoxWork site (works b) (state old) (state new) tally
   pub rows_are : AreRows (length spools) channels (λ b k. owed_to b (works b).stored k (works b).taken) rows_after
-  pub took : (b : ℕ) (old new : Inbox Note) → slice_get inboxes b ≡ Some old → slice_get inboxes_after b ≡ Some new → HasTaken (works b).taken old new
+  pub took : (b : ℕ) (old new : Inbox Note) → slice_get inboxes b ≡ Some old → slice_get inboxes_after b ≡ Some new → TookAllNotes (works b).taken old new
 
 -- whatever these tasks were made of, all lanes have ended
 abbrev pub HaveServedAll : {V C : Type 0} → (C → ℕ → Type 0) → (V → PeerState → Type 0) → (V → Option (List Finished)) → (V → Bool)

@@ -35,7 +35,7 @@ abbrev pub MayStop : State → Type 0
 MayStop state = IsTrue (may_stop state)
 
 -- one reply is said, and lines go on
-pub record IsSaid (reply : Reply) (st : Transition) (kept : List Reply) : Type 0 where
+pub record SaysReply (reply : Reply) (st : Transition) (kept : List Reply) : Type 0 where
   pub says : st.replies ≡ reply ∷ []
   pub state : TakesLines st.next.state
   pub no_answer : kept ≡ []
@@ -47,14 +47,14 @@ pub record IsAskedFor (st : Transition) (kept : List Reply) : Type 0 where
   pub no_answer : kept ≡ []
 
 -- the message goes to its n recipients, and nothing is said yet
-pub record IsDelivered (n : ℕ) (st : Transition) (kept : List Reply) : Type 0 where
+pub record AwaitsOutcomes (n : ℕ) (st : Transition) (kept : List Reply) : Type 0 where
   pub says : st.replies ≡ []
   pub state : st.next.state ≡ Waiting
   pub count : n ≡ length st.next.recipients
   pub no_answer : kept ≡ []
 
 -- the n replies are kept, from where they are said
-pub record IsAnswered (n : ℕ) (st : Transition) (kept : List Reply) : Type 0 where
+pub record KeepsReplies (n : ℕ) (st : Transition) (kept : List Reply) : Type 0 where
   pub says : st.replies ≡ kept
   pub state : st.next.state ≡ Greeted
   pub count : n ≡ length kept
@@ -67,18 +67,18 @@ pub record IsQuit (reply : Reply) (st : Transition) (kept : List Reply) : Type 0
 
 -- the act fits the step, with these replies kept for the recipients
 abbrev pub IsAct : Act → Transition → List Reply → Type 0
-IsAct (Say reply) st kept = IsSaid reply st kept
+IsAct (Say reply) st kept = SaysReply reply st kept
 IsAct ReadData st kept = IsAskedFor st kept
-IsAct (Deliver n) st kept = IsDelivered n st kept
-IsAct (Answer n) st kept = IsAnswered n st kept
+IsAct (Deliver n) st kept = AwaitsOutcomes n st kept
+IsAct (Answer n) st kept = KeepsReplies n st kept
 IsAct (Quit reply) st kept = IsQuit reply st kept
 
 -- the step is taken: its act fits it, and the session stands where it leads
-pub record IsTaken (old : View) (st : Transition) (act : Act) (new : View) : Type 0 where
+pub record IsTransition (old : View) (st : Transition) (act : Act) (new : View) : Type 0 where
   pub site : new.site ≡ old.site
   pub next : new.session ≡ st.next
   pub fits : IsAct act st new.answers
 
 -- the step of the table for the input is taken
 abbrev pub IsStep : View → Input → Act → View → Type 0
-IsStep old input act new = IsTaken old (step old.site old.session input) act new
+IsStep old input act new = IsTransition old (step old.site old.session input) act new

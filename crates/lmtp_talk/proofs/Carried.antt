@@ -19,7 +19,7 @@ use Rattle.mail_world.specs.Lists.{Transaction, is_content, accepted_after, tran
 use Rattle.mail_world.proofs.Handled.{inputs-snoc, session_behind-snoc, replies_to-append, line_within}
 use Rattle.mail_world.proofs.Owed.{accepted_behind, accepted-append, transactions-append}
 use Rattle.lmtp_session.specs.Steps.{TakesLines}
-use Rattle.lmtp_wire.specs.Wire.{WireView, IsBehind, GoesOn as LineGoesOn, EndsLine}
+use Rattle.lmtp_wire.specs.Wire.{WireView, IsBehind, LineGoesOn, EndsLine}
 use Rattle.lmtp_talk.specs.declared.dialogue.Dialogue.{Dialogue}
 use Rattle.lmtp_talk.specs.Peer.{PeerState}
 use Rattle.lmtp_talk.specs.Saying.{HasSaid}

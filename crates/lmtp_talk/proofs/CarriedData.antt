@@ -13,8 +13,8 @@ use Rattle.mail_world.proofs.Owed.{same_behind_data}
 use Rattle.lmtp_wire.specs.Wire.{IsBehind}
 use Rattle.lmtp_wire.specs.declared.dot.Fed.{Fed}
 use Rattle.lmtp_wire.specs.declared.dot.Dot.{Dot}
-use Rattle.lmtp_wire.specs.Dot.{HasMade, GoesOn}
-use Rattle.lmtp_wire.specs.Place.{Ends}
+use Rattle.lmtp_wire.specs.Dot.{HasMade, DataGoesOn}
+use Rattle.lmtp_wire.specs.Place.{IsDataEnd}
 use Rattle.lmtp_talk.specs.declared.dialogue.Dialogue.{Dialogue}
 use Rattle.lmtp_talk.specs.Peer.{PeerState}
 use Rattle.lmtp_talk.specs.Delivery.{ended_so}
@@ -31,7 +31,7 @@ in_data state dialogue rest come drafts e x = subst (λ (s : State). IsInside s 
 pub more_of_data : (site : Site) (start : PeerState) (Before : ℕ → List Transaction → Type 0) {D : Type 0} (HasCome : D → ℕ → List Transaction → Type 0) (IsDrafting : D → ℕ → List Transaction → List ℕ → Type 0)
     (old : Dialogue) (dot : Dot) (peer : PeerState) (delivery later : D) (handled came piece bytes : List ℕ) (size room : ℕ) (fed : Fed)
     → old.session.session.state ≡ Content
-    → ((taken made : List ℕ) → HasMade old.dot taken made → GoesOn dot (taken ++ take fed.used piece) (made ++ bytes) size room fed)
+    → ((taken made : List ℕ) → HasMade old.dot taken made → DataGoesOn dot (taken ++ take fed.used piece) (made ++ bytes) size room fed)
     → ((n : ℕ) (ts : List Transaction) (draft : List ℕ) → IsDrafting delivery n ts draft → IsDrafting later n ts (draft ++ bytes))
     → IsSoFar (beginning site start Before) (standing old peer (HasCome delivery) (IsDrafting delivery)) handled came
     → IsSoFar (beginning site start Before) (standing (record old { dot = dot }) peer (HasCome later) (IsDrafting later)) (handled ++ take fed.used piece) came
@@ -63,7 +63,7 @@ more_of_data site start Before {D} HasCome IsDrafting old dot peer delivery late
 pub end_of_data : (site : Site) (start : PeerState) (Before : ℕ → List Transaction → Type 0) {D : Type 0} (HasCome : D → ℕ → List Transaction → Type 0) (IsDrafting : D → ℕ → List Transaction → List ℕ → Type 0)
     (old new : Dialogue) (dot : Dot) (before after : PeerState) (delivery mid later : D) (handled came piece bytes : List ℕ) (used : ℕ)
     → old.session.session.state ≡ Content
-    → ((taken made : List ℕ) → HasMade old.dot taken made → Ends (taken ++ take used piece) (made ++ bytes))
+    → ((taken made : List ℕ) → HasMade old.dot taken made → IsDataEnd (taken ++ take used piece) (made ++ bytes))
     → ((n : ℕ) (ts : List Transaction) (draft : List ℕ) → IsDrafting delivery n ts draft → IsDrafting mid n ts (draft ++ bytes))
     → EndsData HasCome IsDrafting (talk (record old { dot = dot }) before mid) (talk new after later)
     → IsSoFar (beginning site start Before) (standing old before (HasCome delivery) (IsDrafting delivery)) handled came

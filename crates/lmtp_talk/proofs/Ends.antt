@@ -19,7 +19,7 @@ use Rattle.lmtp_session.specs.Steps.{MayStop}
 use Rattle.lmtp_talk.specs.declared.dialogue.Dialogue.{Dialogue}
 use Rattle.lmtp_talk.specs.declared.ending.EndCause.{EndCause}
 use Rattle.lmtp_talk.specs.declared.ending.EndCause.TheVariants as ends
-use Rattle.lmtp_talk.specs.Peer.{PeerState, HasMoved, HasFailed, HasStopped}
+use Rattle.lmtp_talk.specs.Peer.{PeerState, HasMoved, PeerFailed, HasStopped}
 use Rattle.lmtp_talk.specs.Saying.{HasSaid}
 use Rattle.lmtp_talk.specs.Served.{is_quit, has_quit, IsWritten, IsServed}
 use Rattle.lmtp_talk.specs.Standing.{Comes, IsInside, IsSoFar, standing, beginning}
@@ -358,7 +358,7 @@ served site start now Before Come Last Drafting dialogue handled ends.Stopped h 
 -- the read after it failed
 pub served_read_fault : (site : Site) (start before now : PeerState) (Before Come Last : ℕ → List Transaction → Type 0) (Drafting : ℕ → List Transaction → List ℕ → Type 0) (dialogue : Dialogue) (handled : List ℕ)
     → IsSoFar (beginning site start Before) (standing dialogue before Come Drafting) handled handled → Leaves (is_content dialogue.session.session.state) Come Drafting Last
-    → IsQuiet dialogue → (dialogue.session.session.state ≡ Ended → ⊥) → HasFailed before now → IsServed site start now Before Last ends.ReadFault
+    → IsQuiet dialogue → (dialogue.session.session.state ≡ Ended → ⊥) → PeerFailed before now → IsServed site start now Before Last ends.ReadFault
 served_read_fault site start before now Before Come Last Drafting dialogue handled h l q open' f =
     let s : HasSaid start before (record { pending = []; broken = false }) handled (last_text site (last_inputs site h.done false)) =
     subst (λ l. HasSaid start before (record { pending = []; broken = false }) handled l) (text_not_stopped site h.done) (said_whole start before dialogue handled (last_text site (flat_map inputs_of h.done)) q h.said) in

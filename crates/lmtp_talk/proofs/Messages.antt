@@ -12,7 +12,7 @@ use Rattle.mail_world.specs.Lists.{Transaction}
 use Rattle.lmtp_session.specs.declared.act.Act.{Act}
 use Rattle.lmtp_session.specs.declared.act.Act.TheVariants.{Say, ReadData, Deliver, Answer, Quit}
 use Rattle.lmtp_session.specs.View.{View}
-use Rattle.lmtp_session.specs.Steps.{IsAct, IsTaken, IsStep}
+use Rattle.lmtp_session.specs.Steps.{IsAct, IsTransition, IsStep}
 use Rattle.lmtp_talk.specs.declared.dialogue.Dialogue.{Dialogue}
 use Rattle.lmtp_talk.specs.Peer.{PeerState}
 use Rattle.lmtp_talk.specs.Saying.{HasSaid, Says, said}
@@ -28,7 +28,7 @@ said_is (Answer n) st kept h = sym h.says
 said_is (Quit reply) st kept h = sym h.says
 
 -- the texts that were said are those of the step, at the site
-texts_are : (site : Site) (act : Act) (st : Transition) (old : View) (new : View) → IsTaken old st act new → old.site ≡ site → reply_texts new.site (said act new.answers) ≡ reply_texts site st.replies
+texts_are : (site : Site) (act : Act) (st : Transition) (old : View) (new : View) → IsTransition old st act new → old.site ≡ site → reply_texts new.site (said act new.answers) ≡ reply_texts site st.replies
 texts_are site act st old new t e = ap (λ (x : Site). reply_texts x (said act new.answers)) (t.site ∙ e) ∙ ap (λ rs. reply_texts site rs) (said_is act st new.answers t.fits)
 
 pub whole_message : {D : Type 0} (HasCome : D → ℕ → List Transaction → Type 0) (IsDrafting : D → ℕ → List Transaction → List ℕ → Type 0)

@@ -12,7 +12,7 @@ use Rattle.mail_world.specs.Replies.{reply_text, reply_texts}
 use Rattle.std.proofs.lemmas.List.{take-append-drop, take_rest}
 use Rattle.std.proofs.KnownBytes.{Appends-nil, Consumes-nil, Appends-trans, Consumes-trans}
 use Rattle.mail_world.specs.Failures.{Rises}
-use Rattle.lmtp_talk.specs.Peer.{PeerState, HasMoved, HasTransferred, HasFailed}
+use Rattle.lmtp_talk.specs.Peer.{PeerState, HasMoved, HasTransferred, PeerFailed}
 use Rattle.lmtp_talk.specs.Saying.{BreaksOff, HasSaid}
 
 pub OnErr-any : {T E Q : Type 0} (r : Result T E) → Q → OnErr r Q

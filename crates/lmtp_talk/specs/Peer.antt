@@ -28,7 +28,7 @@ pub record HasTransferred (old new : PeerState) (came said : List ℕ) : Type 0 
   pub same : new.stops ≡ old.stops
 
 -- nothing was read or written, and it failed
-pub record HasFailed (old new : PeerState) : Type 0 where
+pub record PeerFailed (old new : PeerState) : Type 0 where
   pub moved : HasMoved old new [] []
   pub failed : Rises old.failures new.failures
   pub same : new.stops ≡ old.stops

@@ -1,7 +1,7 @@
 //! The other end of a conversation: bytes come from it and go to it, and it may fail.
 
 ghost use Rattle.std.specs.Prelude.{◌<◌, length, take, IfOk, OnErr};
-ghost use Rattle.lmtp_talk.specs.Peer.{PeerState, HasBrought, HasWritten, HasFailed};
+ghost use Rattle.lmtp_talk.specs.Peer.{PeerState, HasBrought, HasWritten, PeerFailed};
 
 use thiserror::Error;
 
@@ -30,11 +30,11 @@ pub trait Peer {
     fn read(&mut self, buffer: &mut [u8]) -> Result<Came, PeerFault>
         requires { 0 < length buffer.old }
         ensures ok { IfOk result (λ came. HasBrought (state self.old) (state self.new) buffer.new came) }
-        ensures err { OnErr result (HasFailed (state self.old) (state self.new)) };
+        ensures err { OnErr result (PeerFailed (state self.old) (state self.new)) };
 
     /// Writes bytes of the front, one at least, and says how many.
     fn write(&mut self, bytes: &[u8]) -> Result<usize, PeerFault>
         requires { 0 < length bytes.now }
         ensures ok { IfOk result (λ n. HasWritten (state self.old) (state self.new) bytes.now n) }
-        ensures err { OnErr result (HasFailed (state self.old) (state self.new)) };
+        ensures err { OnErr result (PeerFailed (state self.old) (state self.new)) };
 }

@@ -11,7 +11,7 @@ use Rattle.lmtp_wire.specs.declared.dot.Place.{Place}
 use Rattle.lmtp_wire.specs.declared.dot.Place.TheVariants.{InText, BehindCr, LineStart, BehindDot, BehindDotCr}
 use Rattle.lmtp_wire.specs.declared.dot.Effect.{Effect}
 use Rattle.lmtp_wire.specs.declared.dot.Effect.TheVariants.{Nothing, Byte, HeldCr, End}
-use Rattle.lmtp_wire.specs.Place.{came, in_doubt, held, is_cr, is_start, is_dot, begun, effect_of, without_dots_at, moved, IsAtPlace, Ends}
+use Rattle.lmtp_wire.specs.Place.{came, in_doubt, held, is_cr, is_start, is_dot, begun, effect_of, without_dots_at, moved, IsAtPlace, IsDataEnd}
 use Rattle.lmtp_wire.proofs.EndSteps.{end_in, text_other, cr_again, cr_other, start_cr, start_other, dot_other, dot_cr_again, dot_cr_other, moved_more, moved_none, moved_some}
 use Rattle.lmtp_wire.proofs.LastBytes.{eqb_comm, ends_more, fades, fades_cr}
 
@@ -25,7 +25,7 @@ abbrev pub Brings : List ℕ → ℕ → Effect → Type 0
 Brings taken byte (Nothing place) = Adds place taken byte []
 Brings taken byte (Byte place) = Adds place taken byte (byte ∷ [])
 Brings taken byte (HeldCr place) = Adds place taken byte (cr ∷ byte ∷ [])
-Brings taken byte End = Ends (taken ++ byte ∷ []) (shown taken)
+Brings taken byte End = IsDataEnd (taken ++ byte ∷ []) (shown taken)
 
 -- data that stands somewhere hasn't ended
 came_none : (place : Place) → end_in (came place ++ []) ≡ None
@@ -176,7 +176,7 @@ adds_held taken s =
     }
 
 -- LF behind that CR ends the data
-ends_data : (taken : List ℕ) → IsAtPlace BehindDotCr taken → Ends (taken ++ lf ∷ []) (shown taken)
+ends_data : (taken : List ℕ) → IsAtPlace BehindDotCr taken → IsDataEnd (taken ++ lf ∷ []) (shown taken)
 unfolding data_end message
 ends_data taken s =
     let at : length s.lead ≡ s.before = omega (arith, s.count, ap length s.whole, length-append s.lead (dot ∷ cr ∷ [])) in
@@ -333,7 +333,7 @@ by_cr taken b true e s = let P : ℕ → Type 0 = λ x. Adds BehindDotCr taken x
 by_cr taken b false e s = adds_behind_dot taken b e s
 
 by_last_lf : (taken : List ℕ) (b : ℕ) (t : Bool) → (b == lf) ≡ t → IsAtPlace BehindDotCr taken → Brings taken b (cond t End (HeldCr (begun b)))
-by_last_lf taken b true e s = let P : ℕ → Type 0 = λ x. Ends (taken ++ x ∷ []) (shown taken) in subst P (sym (eqb-true b lf e)) (ends_data taken s)
+by_last_lf taken b true e s = let P : ℕ → Type 0 = λ x. IsDataEnd (taken ++ x ∷ []) (shown taken) in subst P (sym (eqb-true b lf e)) (ends_data taken s)
 by_last_lf taken b false e s = adds_behind_dot_cr taken b e s
 
 brings : (place : Place) (taken : List ℕ) (b : ℕ) → IsAtPlace place taken → Brings taken b (effect_of place b)

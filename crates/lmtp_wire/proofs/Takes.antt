@@ -10,8 +10,8 @@ use Rattle.mail_world.specs.Data.{shown}
 use Rattle.lmtp_wire.specs.declared.dot.Dot.{Dot}
 use Rattle.lmtp_wire.specs.declared.dot.Place.{Place}
 use Rattle.lmtp_wire.specs.declared.dot.Place.TheVariants.{InText}
-use Rattle.lmtp_wire.specs.Place.{IsAtPlace, Ends}
-use Rattle.lmtp_wire.specs.Dot.{HasMade, Comes, bytes_of}
+use Rattle.lmtp_wire.specs.Place.{IsAtPlace, IsDataEnd}
+use Rattle.lmtp_wire.specs.Dot.{HasMade, HasFed, bytes_of}
 use Rattle.lmtp_wire.proofs.PlaceSteps.{stands_none, Adds, adds_run}
 
 pub drop-later : (i j : ℕ) (xs ys : List ℕ) → i ≤ j → drop i xs ≡ drop i ys → drop j xs ≡ drop j ys
@@ -72,14 +72,14 @@ takes_byte old new piece out out' used m m' add none within adds bytes taken mad
 
 -- the last byte
 pub takes_last : (old : Dot) (piece out : List ℕ) (used m : ℕ) → old.owed ≡ None → used < length piece
-    → ((taken : List ℕ) → IsAtPlace old.place taken → Ends (taken ++ get_or piece used 0 ∷ []) (shown taken))
-    → (taken made : List ℕ) → HasMade old (taken ++ take used piece) (made ++ take m out) → Ends (taken ++ take (used + 1) piece) (made ++ take m out)
+    → ((taken : List ℕ) → IsAtPlace old.place taken → IsDataEnd (taken ++ get_or piece used 0 ∷ []) (shown taken))
+    → (taken made : List ℕ) → HasMade old (taken ++ take used piece) (made ++ take m out) → IsDataEnd (taken ++ take (used + 1) piece) (made ++ take m out)
 takes_last old piece out used m none within ends taken made h =
     let now : List ℕ = taken ++ take used piece in
     let more : now ++ get_or piece used 0 ∷ [] ≡ taken ++ take (used + 1) piece =
     append_assoc taken (take used piece) (get_or piece used 0 ∷ []) ∙ ap (λ l. taken ++ l) (sym (take_more piece used 0 within)) in
-    let P : List ℕ → Type 0 = λ l. Ends l (made ++ take m out) in
-    let Q : List ℕ → Type 0 = λ l. Ends (now ++ get_or piece used 0 ∷ []) l in
+    let P : List ℕ → Type 0 = λ l. IsDataEnd l (made ++ take m out) in
+    let Q : List ℕ → Type 0 = λ l. IsDataEnd (now ++ get_or piece used 0 ∷ []) l in
     subst P more (subst Q (all_made old now (made ++ take m out) none h) (ends now h.stands))
 
 -- a run of text
@@ -107,6 +107,6 @@ pub puts_byte : (out : List ℕ) (m b : ℕ) (owed : Option ℕ) → owed ≡ No
 puts_byte out m b owed none room = ap (λ o. take (m + 1) (set out m b) ++ bytes_of o) none ∙ append-nil (take (m + 1) (set out m b)) ∙ take_more_set out m b room
 
 -- what comes where the data goes on
-pub on_from : (dot : Dot) (taken made : List ℕ) (ended : Bool) → not ended ≡ true → Comes dot taken made ended → HasMade dot taken made
+pub on_from : (dot : Dot) (taken made : List ℕ) (ended : Bool) → not ended ≡ true → HasFed dot taken made ended → HasMade dot taken made
 on_from dot taken made true e h = cc
 on_from dot taken made false e h = h

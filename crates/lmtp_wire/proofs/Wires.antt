@@ -6,7 +6,7 @@ use Rattle.std.proofs.lemmas.List.{take-append-drop, take-append-le}
 use Rattle.mail_world.specs.declared.limits.TheConstants.{LINE_LIMIT}
 use Rattle.mail_world.specs.Text.{cr, lf, crlf, place_of, begins_with, ends_in}
 use Rattle.mail_world.proofs.Places.{begins_with-front}
-use Rattle.lmtp_wire.specs.Wire.{WireView, Keeps, IsBehind, EndsLine, EndsIn, Ends, Takes}
+use Rattle.lmtp_wire.specs.Wire.{WireView, Keeps, IsBehind, EndsLine, EndsIn, IsLineEnd, Takes}
 use Rattle.lmtp_wire.specs.declared.wire.Stage.{Stage}
 use Rattle.lmtp_wire.specs.declared.wire.Stage.TheVariants.{Beyond}
 use Rattle.lmtp_wire.specs.declared.wire.Got.{Got}
@@ -121,7 +121,7 @@ same_front taken piece used end h =
     sym (ap (λ l. take end l) whole ∙ take-append-le end (taken ++ take used piece) (drop used piece) short)
 
 takes_by : (got : Got) (new : WireView) (taken piece : List ℕ) (used end : ℕ) → length (taken ++ take used piece) ≡ end + 2
-    → EndsLine new (taken ++ piece) (length taken) used end → Ends got new (taken ++ take used piece)
+    → EndsLine new (taken ++ piece) (length taken) used end → IsLineEnd got new (taken ++ take used piece)
     → Takes new (taken ++ piece) (length taken) (length piece) (record { used = used; got = got })
 takes_by More new taken piece used end size ends h = absurd h
 takes_by Line new taken piece used end size ends h =
@@ -129,13 +129,13 @@ takes_by Line new taken piece used end size ends h =
     (end, ends, omega arith, h.2 ∙ ap (λ n. take n (taken ++ take used piece)) (omega arith) ∙ same_front taken piece used end size)
 takes_by TooLong new taken piece used end size ends h = let long = h.1 in (end, ends, omega arith, h.2)
 
-behind_none : (got : Got) (new : WireView) (bytes : List ℕ) → Ends got new bytes → IsBehind new []
+behind_none : (got : Got) (new : WireView) (bytes : List ℕ) → IsLineEnd got new bytes → IsBehind new []
 behind_none More new bytes h = absurd h
 behind_none Line new bytes h = h.0
 behind_none TooLong new bytes h = h.0
 
 pub takes_line : (got : Got) (new : WireView) (taken piece : List ℕ) (used : ℕ) → used ≤ length piece → EndsIn taken piece (Some used)
-    → (2 ≤ length (taken ++ take used piece) → Ends got new (taken ++ take used piece))
+    → (2 ≤ length (taken ++ take used piece) → IsLineEnd got new (taken ++ take used piece))
     → Takes new (taken ++ piece) (length taken) (length piece) (record { used = used; got = got })
 takes_line got new taken piece used within ends_in answered =
     let count = ends_in.2 in

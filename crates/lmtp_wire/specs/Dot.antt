@@ -3,7 +3,7 @@ use Rattle.std.specs.Prelude.{◌≡◌, ◌<◌, ◌⊎◌, ℕ, Bool, true, fa
 use Rattle.mail_world.specs.Data.{data_end, shown}
 use Rattle.lmtp_wire.specs.declared.dot.Dot.{Dot}
 use Rattle.lmtp_wire.specs.declared.dot.Fed.{Fed}
-use Rattle.lmtp_wire.specs.Place.{IsAtPlace, Ends}
+use Rattle.lmtp_wire.specs.Place.{IsAtPlace, IsDataEnd}
 
 -- a byte, if there is one
 abbrev pub bytes_of : Option ℕ → List ℕ
@@ -17,19 +17,19 @@ pub record HasMade (dot : Dot) (taken made : List ℕ) : Type 0 where
   pub stands : IsAtPlace dot.place taken
 
 -- the data has ended, or goes on
-abbrev pub Comes : Dot → List ℕ → List ℕ → Bool → Type 0
-Comes new taken made true = Ends taken made
-Comes new taken made false = HasMade new taken made
+abbrev pub HasFed : Dot → List ℕ → List ℕ → Bool → Type 0
+HasFed new taken made true = IsDataEnd taken made
+HasFed new taken made false = HasMade new taken made
 
 -- the data goes on: the piece is used up or `out` is full, and where it isn't, all that is sure of the message was made
-pub record GoesOn (new : Dot) (taken made : List ℕ) (piece out : ℕ) (fed : Fed) : Type 0 where
+pub record DataGoesOn (new : Dot) (taken made : List ℕ) (piece out : ℕ) (fed : Fed) : Type 0 where
   pub behind : HasMade new taken made
   pub stops : (fed.used ≡ piece) ⊎ (fed.made ≡ out)
   pub whole : fed.made < out → new.owed ≡ None
 
 abbrev pub FeedsBy : Bool → Dot → List ℕ → List ℕ → ℕ → ℕ → Fed → Type 0
-FeedsBy true new taken made piece out fed = Ends taken made
-FeedsBy false new taken made piece out fed = GoesOn new taken made piece out fed
+FeedsBy true new taken made piece out fed = IsDataEnd taken made
+FeedsBy false new taken made piece out fed = DataGoesOn new taken made piece out fed
 
 -- what a call did, by whether the data has ended
 abbrev pub Feeds : Dot → List ℕ → List ℕ → ℕ → ℕ → Fed → Type 0

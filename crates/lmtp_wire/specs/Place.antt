@@ -92,7 +92,7 @@ pub record IsAtPlace (place : Place) (taken : List ℕ) : Type 0 where
   pub sure : unstuffed taken ≡ shown taken ++ held place
 
 -- the data has ended with the last byte that was taken, and the message was made
-pub record Ends (taken made : List ℕ) : Type 0 where
+pub record IsDataEnd (taken made : List ℕ) : Type 0 where
   pub end : ℕ
   pub ends : data_end taken ≡ Some end
   pub last : length taken ≡ end + 3

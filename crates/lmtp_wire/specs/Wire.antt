@@ -26,7 +26,7 @@ pub record IsBehind (wire : WireView) (taken : List ℕ) : Type 0 where
   pub keeps : Keeps wire.stage wire.line taken
 
 -- no line ends in the bytes: all of the piece was taken
-pub record GoesOn (new : WireView) (bytes : List ℕ) (piece used : ℕ) : Type 0 where
+pub record LineGoesOn (new : WireView) (bytes : List ℕ) (piece used : ℕ) : Type 0 where
   pub all : used ≡ piece
   pub behind : IsBehind new bytes
 
@@ -37,7 +37,7 @@ pub record EndsLine (new : WireView) (bytes : List ℕ) (before used end : ℕ) 
   pub behind : IsBehind new []
 
 abbrev pub TakesBy : Got → WireView → List ℕ → ℕ → ℕ → ℕ → Type 0
-TakesBy More new bytes before piece used = GoesOn new bytes piece used
+TakesBy More new bytes before piece used = LineGoesOn new bytes piece used
 TakesBy Line new bytes before piece used = (end : ℕ) × EndsLine new bytes before used end × (end + 2 ≤ LINE_LIMIT) × (new.line ≡ take end bytes)
 TakesBy TooLong new bytes before piece used = (end : ℕ) × EndsLine new bytes before used end × (LINE_LIMIT < end + 2) × (new.line ≡ [])
 
@@ -50,7 +50,7 @@ EndsIn taken piece None = place_of crlf (taken ++ piece) ≡ None
 EndsIn taken piece (Some used) = (end : ℕ) × (place_of crlf (taken ++ piece) ≡ Some end) × (length taken + used ≡ end + 2)
 
 -- what is answered to a line of these bytes, with its CRLF at their end
-abbrev pub Ends : Got → WireView → List ℕ → Type 0
-Ends More new bytes = ⊥
-Ends Line new bytes = IsBehind new [] × (length bytes ≤ LINE_LIMIT) × (new.line ≡ take (length bytes - 2) bytes)
-Ends TooLong new bytes = IsBehind new [] × (LINE_LIMIT < length bytes) × (new.line ≡ [])
+abbrev pub IsLineEnd : Got → WireView → List ℕ → Type 0
+IsLineEnd More new bytes = ⊥
+IsLineEnd Line new bytes = IsBehind new [] × (length bytes ≤ LINE_LIMIT) × (new.line ≡ take (length bytes - 2) bytes)
+IsLineEnd TooLong new bytes = IsBehind new [] × (LINE_LIMIT < length bytes) × (new.line ≡ [])

@@ -3,7 +3,7 @@
 ghost use Rattle.std.specs.Prelude.{◌≡◌, ℕ, ◌+◌, ◌<◌, ◌≤◌, Bool, false, List, [], ◌∷◌, ◌++◌, length, take, drop};
 ghost use Rattle.mail_world.specs.Text.{cr, has_byte};
 ghost use Rattle.lmtp_wire.specs.Place.{begun, effect_of};
-ghost use Rattle.lmtp_wire.specs.Dot.{HasMade, Comes, Feeds, bytes_of};
+ghost use Rattle.lmtp_wire.specs.Dot.{HasMade, HasFed, Feeds, bytes_of};
 
 #[cfg(test)]
 mod tests;
@@ -128,7 +128,7 @@ impl Dot {
         ensures owes { result.made < length out.new → self.new.owed ≡ None }
         ensures comes { (taken made : List ℕ)
             → HasMade self.old (taken ++ take fed.used piece.now) (made ++ take fed.made out.old)
-            → Comes self.new (taken ++ take result.used piece.now) (made ++ take result.made out.new) result.ended }
+            → HasFed self.new (taken ++ take result.used piece.now) (made ++ take result.made out.new) result.ended }
     {
         match self.place {
             Place::InText => self.take_text(piece, out, fed),
@@ -150,7 +150,7 @@ impl Dot {
         ensures owes { result.made < length out.new → self.new.owed ≡ None }
         ensures comes { (taken made : List ℕ)
             → HasMade self.old (taken ++ take fed.used piece.now) (made ++ take fed.made out.old)
-            → Comes self.new (taken ++ take result.used piece.now) (made ++ take result.made out.new) result.ended }
+            → HasFed self.new (taken ++ take result.used piece.now) (made ++ take result.made out.new) result.ended }
     {
         let room = (piece.len() - fed.used).min(out.len() - fed.made);
         let front = &piece[fed.used..fed.used + room];
@@ -178,7 +178,7 @@ impl Dot {
         ensures owes { result.made < length out.new → self.new.owed ≡ None }
         ensures comes { (taken made : List ℕ)
             → HasMade self.old (taken ++ take fed.used piece.now) (made ++ take fed.made out.old)
-            → Comes self.new (taken ++ take result.used piece.now) (made ++ take result.made out.new) result.ended }
+            → HasFed self.new (taken ++ take result.used piece.now) (made ++ take result.made out.new) result.ended }
     {
         let byte = piece[fed.used];
         let used = fed.used + 1;

@@ -2,7 +2,7 @@
 
 ghost use Rattle.std.specs.Prelude.{◌≡◌, ◌+◌, ◌≤◌, ℕ, List, [], ◌∷◌, ◌++◌, length, IfOk, IfSome};
 ghost use Rattle.mail_world.specs.Text.{cr, crlf, place_of, ends_in};
-ghost use Rattle.lmtp_wire.specs.Wire.{Keeps, IsBehind, EndsIn, Takes, Ends};
+ghost use Rattle.lmtp_wire.specs.Wire.{Keeps, IsBehind, EndsIn, Takes, IsLineEnd};
 
 use mail_world::limits::LINE_LIMIT;
 use memchr::memchr;
@@ -176,7 +176,7 @@ impl Wire {
     // Answers a line that ends with its CRLF.
     fn end_line(&mut self) -> Got
         ensures { (bytes : List ℕ) → Keeps self.old.stage self.old.line bytes → 2 ≤ length bytes
-            → Ends result self.new bytes }
+            → IsLineEnd result self.new bytes }
     {
         if !matches!(self.stage, Stage::Within) {
             self.clear();

@@ -6,7 +6,7 @@ use Rattle.mbox_rd.specs.Spool.{SpoolState}
 use Rattle.lmtp_house.specs.House.{IsSize}
 use Rattle.lmtp_house.specs.declared.house.sizes.Sizes.{Sizes}
 use Rattle.lmtpd.specs.declared.serve.served.Served.{Served}
-use Rattle.lmtpd.specs.Served.{IsServed}
+use Rattle.lmtpd.specs.Served.{IsServerRun}
 use Rattle.lmtp_house.specs.declared.house.fault.HouseFault.{HouseFault}
 use Rattle.lmtp_house.specs.declared.house.fault.HouseFault.TheVariants as house
 use Rattle.lmtpd_words.specs.Words.{named_site}
@@ -44,7 +44,7 @@ pub served_as_asked : (L : Type 0) {S : Type 0} (state : S → SpoolState) (word
     → IsAddress words.listen.now → (site ≡ named_site words.site) × (first_fault (named_site words.site) ≡ None) → sizes ≡ sizes_asked words
     → length spools ≡ length words.site.boxes.items
     → (◌≡◌ {A = Result Served HouseFault} (Ok served) (Err house.Size)) ⊎ IsSize site sizes words.lanes (length spools) (length spools)
-    → IsServed L site state words.lanes spools served
+    → IsServerRun L site state words.lanes spools served
     → IsServedAsAsked L state words served
 served_as_asked L state words served site sizes spools address made asked boxes good ran = record {
   address = address;
@@ -52,7 +52,7 @@ served_as_asked L state words served site sizes spools address made asked boxes 
   sizes = size_asked words site sizes (length spools) made.0 asked boxes (size_of_sum served (IsSize site sizes words.lanes (length spools) (length spools)) good);
   spools = spools;
   each_box = boxes;
-  ran = subst (λ (s : Site). IsServed L s state words.lanes spools served) made.0 ran;
+  ran = subst (λ (s : Site). IsServerRun L s state words.lanes spools served) made.0 ran;
 }
 
 pub no_server : (words : ServeWords) (cause : HouseFault) (site : Site) (sizes : Sizes) (count : ℕ)

@@ -6,7 +6,7 @@ use Rattle.std.specs.Io.KnownBytes.{Appends}
 use Rattle.mail_world.specs.Site.{Site, box_name}
 use Rattle.mbox_rd.specs.MemorySpool.{MemorySpool}
 use Rattle.lmtpd.specs.Mailboxes.{bytes_of_all}
-use Rattle.lmtpd.specs.Output.{Breaks, pair_texts}
+use Rattle.lmtpd.specs.Output.{IsCutOff, pair_texts}
 use Rattle.lmtpd.proofs.Written.{WritesUpTo, writes_next, breaks_next}
 
 -- the name at this place of the site's mailboxes, and what belongs to it
@@ -55,8 +55,8 @@ module _ {X : Type 0} (f : List ℕ → X → List ℕ) where
       writes_next u v w text (f name x) _ (subst P (text_is site xs k name x h) before) taken
 
   pub pair_broken : (site : Site) (xs : List X) (k : ℕ) (name : List ℕ) (x : X) (u v w : Option (List ℕ)) (text : List ℕ) → IsPairAt site xs k name x
-      → WritesUpTo u v text (pair_texts f (drop k site.boxes) (drop k xs)) → Breaks v w (f name x)
-      → Breaks u w text
+      → WritesUpTo u v text (pair_texts f (drop k site.boxes) (drop k xs)) → IsCutOff v w (f name x)
+      → IsCutOff u w text
   pair_broken site xs k name x u v w text h before broken =
       let P : List ℕ → Type 0 = λ l. WritesUpTo u v text l in
       breaks_next u v w text (f name x) _ (subst P (text_is site xs k name x h) before) broken

@@ -44,8 +44,8 @@ all_turned P [] ys h = all_none (λ y. AllByRecursion (λ x. P y x) []) ys (λ y
 all_turned P (x ∷ xs) ys h = all_both (λ y. P y x) (λ y. AllByRecursion (λ x. P y x) xs) ys h.0 (all_turned P xs ys h.1)
 
 -- a slip that names what that one names says the same
-abbrev pub Agrees : Slip → Slip → Type 0
-Agrees slip other = names slip.txn slip.place other ≡ true → other.outcome ≡ slip.outcome
+abbrev pub SayTheSame : Slip → Slip → Type 0
+SayTheSame slip other = names slip.txn slip.place other ≡ true → other.outcome ≡ slip.outcome
 
 and_all : (a b c : Bool) → a && b && c ≡ true → (b ≡ true) × (c ≡ true)
 and_all true true true e = (refl, refl)
@@ -64,12 +64,12 @@ names_as txn place slip e =
 not_from : (n p number place : ℕ) → IsFrom n (p + 1) number place → number ≡ n → place ≡ p → ⊥
 not_from n p number place h e f = elim h [ inl a ↦ omega arith | inr a ↦ (let low = a.1 in omega arith) ]
 
-agrees_later : (slip other : Slip) → IsFrom slip.txn.number (slip.place + 1) other.txn.number other.place → Agrees slip other
+agrees_later : (slip other : Slip) → IsFrom slip.txn.number (slip.place + 1) other.txn.number other.place → SayTheSame slip other
 agrees_later slip other from e =
     let is = names_as slip.txn slip.place other e in
     absurd (not_from slip.txn.number slip.place other.txn.number other.place from is.0 is.1)
 
-agrees_earlier : (slip other : Slip) → IsFrom slip.txn.number (slip.place + 1) other.txn.number other.place → Agrees other slip
+agrees_earlier : (slip other : Slip) → IsFrom slip.txn.number (slip.place + 1) other.txn.number other.place → SayTheSame other slip
 agrees_earlier slip other from e =
     let is = names_as other.txn other.place slip e in
     absurd (not_from slip.txn.number slip.place other.txn.number other.place from (sym is.0) (sym is.1))
@@ -124,14 +124,14 @@ module _ (stored : ℕ → ℕ) where
       )
 
   -- each of them agrees with all
-  pub all_agree : (notes : List Note) (count : ℕ → ℕ) (n p : ℕ) → CopiesRise n p notes → AllByRecursion (λ slip. AllByRecursion (λ other. Agrees other slip) (slips_all count notes)) (slips_all count notes)
+  pub all_agree : (notes : List Note) (count : ℕ → ℕ) (n p : ℕ) → CopiesRise n p notes → AllByRecursion (λ slip. AllByRecursion (λ other. SayTheSame other slip) (slips_all count notes)) (slips_all count notes)
   all_agree [] count n p rise = tt
   all_agree (x ∷ xs) count n p rise =
       let slip : Slip = slip_of x.mailbox x (nat_lt (count x.mailbox) (stored x.mailbox)) in
       let rest : List Slip = slips_all (λ b. one_more count x.mailbox b) xs in
       let later : AllByRecursion (IsSlipFrom x.txn.number (x.place + 1)) rest = slips_rise xs (λ b. one_more count x.mailbox b) x.txn.number (x.place + 1) x.txn.number (x.place + 1) rise.1 (inr (refl, omega arith)) in (
-        ((λ e. refl), all_map (IsSlipFrom x.txn.number (x.place + 1)) (λ other. Agrees other slip) rest (λ other from. agrees_earlier slip other from) later),
-        all_both (λ other. Agrees slip other) (λ other. AllByRecursion (λ third. Agrees third other) rest) rest
-            (all_map (IsSlipFrom x.txn.number (x.place + 1)) (λ other. Agrees slip other) rest (λ other from. agrees_later slip other from) later)
+        ((λ e. refl), all_map (IsSlipFrom x.txn.number (x.place + 1)) (λ other. SayTheSame other slip) rest (λ other from. agrees_earlier slip other from) later),
+        all_both (λ other. SayTheSame slip other) (λ other. AllByRecursion (λ third. SayTheSame third other) rest) rest
+            (all_map (IsSlipFrom x.txn.number (x.place + 1)) (λ other. SayTheSame slip other) rest (λ other from. agrees_later slip other from) later)
             (all_agree xs (λ b. one_more count x.mailbox b) x.txn.number (x.place + 1) rise.1),
       )

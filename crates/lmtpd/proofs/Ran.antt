@@ -34,7 +34,7 @@ use Rattle.lmtpd.specs.declared.rehearse.client.OnlyClient.TheVariants.{Waiting,
 use Rattle.lmtpd.specs.Account.{conversation, IsAllStored}
 use Rattle.lmtpd.specs.Client.{MayGive, told as told_by, is_over, IsOnlyOver}
 use Rattle.lmtpd.specs.Mailboxes.{MailboxContent, kept_all, kept_at, bytes_of_all, empty_spool, texts_of_mailboxes, IsCalm}
-use Rattle.lmtpd.specs.Rehearsal.{AreMailboxes, EndsFor, HeldState, IsHeld, IsListed, IsRehearsed, Streams}
+use Rattle.lmtpd.specs.Rehearsal.{AreMailboxes, RehearsalEndsFor, HeldState, IsHeld, IsListed, IsRehearsed, Streams}
 use Rattle.lmtpd.proofs.Boxes.{state_of, get_some, get_same, kept_is, length-kept, bytes_are, none_failed, all_calm, is_full, holds_stored}
 use Rattle.lmtpd.proofs.Rising.{NumbersRise, numbers_rise}
 use Rattle.lmtpd.proofs.Written.{Appends-then}
@@ -108,7 +108,7 @@ record IsHeldBy (site : Site) (moment : ℕ) (old new : PeerState) (end : EndCau
   said : List ℕ
   output : Appends old.written new.written said
   says : IsWritten (replies site (inputs site c)) (end ≡ WriteFault) said
-  ends : EndsFor site c.bytes c.dispositions new.unread end
+  ends : RehearsalEndsFor site c.bytes c.dispositions new.unread end
   unstopped : c ≡ conversation c.bytes c.dispositions
 
 held_by : (site : Site) (moment : ℕ) (old new : PeerState) (v : Visit) → old.stops ≡ 0 → new.stops ≡ 0 → v.after ≡ new → IsVisit site (λ peer. peer ≡ old) v → IsHeldBy site moment old new v.cause v.conversation
@@ -122,14 +122,14 @@ held_by site moment old new v never still at h =
     let Q : Conversation → Type 0 = λ x. has_quit (inputs site x) ≡ true in
     let I : PeerState → PeerState → Type 0 = λ x y. Consumes x.unread y.unread c.bytes in
     let O : PeerState → PeerState → Type 0 = λ x y. Appends x.written y.written h.said in
-    let ends : EndsFor site c.bytes c.dispositions v.after.unread v.cause = record {
+    let ends : RehearsalEndsFor site c.bytes c.dispositions v.after.unread v.cause = record {
       quit = λ e. subst Q is (h.causes.quit e);
       quits = λ q. h.causes.quits (subst Q (sym is) q);
       end_of_input = h.causes.end_of_input;
       read_bound = h.causes.read_bound;
       not_stopped = λ e. let wrong : true ≡ false = sym (h.causes.stop e) ∙ stopped in cc;
     } in
-    let E : PeerState → Type 0 = λ x. EndsFor site c.bytes c.dispositions x.unread v.cause in
+    let E : PeerState → Type 0 = λ x. RehearsalEndsFor site c.bytes c.dispositions x.unread v.cause in
     record {
       input = subst (λ x. I x new) before (subst (λ y. I v.before y) at h.moved.unread);
       accounted = h.accounted;
@@ -269,7 +269,7 @@ module _ (site : Site) (moment : ℕ) {P : Type 0} (state : P → PeerState) (pe
       let D : List Disposition → Type 0 = λ ds. AllByRecursion (λ d. d.moment ≡ moment) ds in
       let W : List Transaction → Type 0 = λ ts. AllByRecursion VerdictFits ts in
       let R : Conversation → EndCause → Type 0 = λ x e. IsWritten (replies site (inputs site x)) (e ≡ WriteFault) by.said in
-      let E : EndCause → Type 0 = λ e. EndsFor site c.bytes c.dispositions (state last).unread e in
+      let E : EndCause → Type 0 = λ e. RehearsalEndsFor site c.bytes c.dispositions (state last).unread e in
       let N : Conversation → Type 0 = λ x. AllByRecursion VerdictFits (transactions site 0 (x ∷ [])) in
       let worked = have_worked h c are (subst O ts_are work.answered) in
       record {

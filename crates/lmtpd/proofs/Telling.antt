@@ -20,7 +20,7 @@ use Rattle.mail_world.specs.Slips.{names, answer, of_worker, slip_of, slips_from
 use Rattle.mail_world.proofs.Deliveries.{copy_at}
 use Rattle.lmtpd.specs.Account.{IsStoredIf, IsAllStored}
 use Rattle.lmtpd.proofs.Rising.{NumbersRise, copies_rise}
-use Rattle.lmtpd.proofs.Naming.{Agrees, all_agree, all_behind, all_filter, all_front, all_turned, slips_all, slips_all-append, slips_behind, slips_of_box}
+use Rattle.lmtpd.proofs.Naming.{SayTheSame, all_agree, all_behind, all_filter, all_front, all_turned, slips_all, slips_all-append, slips_behind, slips_of_box}
 
 -- the first of a list that may lack it
 first_of : (P : Slip → Type 0) (t : Bool) (slip : Slip) (rest : List Slip) → t ≡ true → AllByRecursion P (cond t (slip ∷ rest) rest) → P slip
@@ -41,9 +41,9 @@ all_heard P n (slip ∷ heard) known each = (
 
 -- a slip that all that were heard agree with
 abbrev IsHeardAs : List Slip → Slip → Type 0
-IsHeardAs heard slip = AllByRecursion (λ other. Agrees slip other) heard
+IsHeardAs heard slip = AllByRecursion (λ other. SayTheSame slip other) heard
 
-answer_by : (t : Bool) (slip other : Slip) (found : Option Slip) (o : Outcome) → names slip.txn slip.place other ≡ t → Agrees slip other
+answer_by : (t : Bool) (slip other : Slip) (found : Option Slip) (o : Outcome) → names slip.txn slip.place other ≡ t → SayTheSame slip other
     → (option_map (λ s. s.outcome) found ≡ Some o → o ≡ slip.outcome) → option_map (λ s. s.outcome) (cond t (Some other) found) ≡ Some o → o ≡ slip.outcome
 answer_by true slip other found o e agrees more is = let same : other.outcome ≡ o = cc in sym same ∙ agrees e
 answer_by false slip other found o e agrees more is = more is
@@ -175,12 +175,12 @@ module _ (stored : ℕ → ℕ) (heard : List Slip) where
       let none : ℕ → ℕ = λ k. 0 in
       let notes : List Note = flat_map (copies 0) ts in
       let all : List Slip = slips_all stored none notes in
-      let AgreesWithAll : Slip → Type 0 = λ slip. AllByRecursion (λ other. Agrees other slip) all in
+      let AgreesWithAll : Slip → Type 0 = λ slip. AllByRecursion (λ other. SayTheSame other slip) all in
       let Q : List Slip → Type 0 = λ l. AllByRecursion AgreesWithAll l in
       let agree : AllByRecursion AgreesWithAll all = all_agree stored notes none 0 0 (copies_rise ts m 0 0 rise some) in
       let heard_agree : AllByRecursion AgreesWithAll heard = heard_owed AgreesWithAll n ts known begun
       (λ k low. subst Q (slips_of_box stored k notes none) (all_filter AgreesWithAll (λ slip. slip.worker == k) all agree)) in
-      told_each b ts none answered (all_turned (λ slip other. Agrees slip other) heard all heard_agree)
+      told_each b ts none answered (all_turned (λ slip other. SayTheSame slip other) heard all heard_agree)
       ∙ ap (map (λ (s : Slip). s.outcome)) (slips_of_box stored b notes none)
       ∙ outcomes_all b (stored b) (copies_owed 0 b ts)
 

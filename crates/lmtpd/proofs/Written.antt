@@ -3,7 +3,7 @@ use Rattle.std.proofs.Common.{◌≡◌, ℕ, ◌+◌, ◌-◌, ◌<◌, List, [
 use Rattle.std.proofs.lemmas.List.{take-append-drop, take_rest, drop_more}
 use Rattle.std.specs.List.{flat_map}
 use Rattle.std.specs.Io.KnownBytes.{Appends, Keeps}
-use Rattle.lmtpd.specs.Output.{Breaks}
+use Rattle.lmtpd.specs.Output.{IsCutOff}
 
 -- a writer
 pub Appends-nil : (u : Option (List ℕ)) → Appends u u []
@@ -50,7 +50,7 @@ writes_next u v w text a b x y = record {
   appended = Appends-then u v w x.front a x.appended y;
 }
 
-pub breaks_next : (u v w : Option (List ℕ)) (text a b : List ℕ) → WritesUpTo u v text (a ++ b) → Breaks v w a → Breaks u w text
+pub breaks_next : (u v w : Option (List ℕ)) (text a b : List ℕ) → WritesUpTo u v text (a ++ b) → IsCutOff v w a → IsCutOff u w text
 breaks_next u v w text a b x y = record {
   front = x.front ++ y.front;
   begins = record {
@@ -64,7 +64,7 @@ pub writes_more : (u v w : Option (List ℕ)) (text rest : List ℕ) (n : ℕ) �
 writes_more u v w text rest n x y = rw (take_rest rest n)
     (writes_next u v w text (take n rest) (drop n rest) (let P : List ℕ → Type 0 = λ l. WritesUpTo u v text l in subst P (sym (take-append-drop n rest)) x) y)
 
-pub breaks_now : (u v w : Option (List ℕ)) (text rest : List ℕ) → WritesUpTo u v text rest → Keeps v w → Breaks u w text
+pub breaks_now : (u v w : Option (List ℕ)) (text rest : List ℕ) → WritesUpTo u v text rest → Keeps v w → IsCutOff u w text
 breaks_now u v w text rest x y = record { front = x.front; begins = record { rest = rest; whole = x.whole }; appended = Appends-keeps u v w x.front x.appended y }
 
 pub nothing_taken : (v w : Option (List ℕ)) (rest : List ℕ) (n : ℕ) → n ≡ 0 → Appends v w (take n rest) → Keeps v w
@@ -80,6 +80,6 @@ writes_text f u v w xs k d h x y =
     writes_next u v w (flat_map f xs) (f (get_or xs k d)) _ (let P : List ℕ → Type 0 = λ l. WritesUpTo u v (flat_map f xs) l in subst P (texts_split f xs k d h) x) y
 
 pub breaks_text : {X : Type 0} (f : X → List ℕ) (u v w : Option (List ℕ)) (xs : List X) (k : ℕ) (d : X) → k < length xs
-    → WritesUpTo u v (flat_map f xs) (flat_map f (drop k xs)) → Breaks v w (f (get_or xs k d)) → Breaks u w (flat_map f xs)
+    → WritesUpTo u v (flat_map f xs) (flat_map f (drop k xs)) → IsCutOff v w (f (get_or xs k d)) → IsCutOff u w (flat_map f xs)
 breaks_text f u v w xs k d h x y =
     breaks_next u v w (flat_map f xs) (f (get_or xs k d)) _ (let P : List ℕ → Type 0 = λ l. WritesUpTo u v (flat_map f xs) l in subst P (texts_split f xs k d h) x) y

@@ -20,7 +20,7 @@ use Rattle.lmtpd_words.specs.declared.words.Words.TheVariants.{Rehearse, Serve}
 use Rattle.lmtpd.specs.Address.{IsRefused}
 use Rattle.lmtpd.specs.Faults.{fault_text, first_fault, rehearsal_fault, server_fault, status_of, stop_for, stop_status}
 use Rattle.lmtpd.specs.Rehearsal.{IsBlockCount, IsRehearsed, Streams}
-use Rattle.lmtpd.specs.Served.{IsServed}
+use Rattle.lmtpd.specs.Served.{IsServerRun}
 use Rattle.lmtpd.specs.Unopened.{IsUnopened}
 use Rattle.lmtpd.specs.declared.fault.Fault.{Fault}
 use Rattle.lmtpd.specs.declared.fault.Fault.TheVariants as fault
@@ -92,7 +92,7 @@ pub record IsServedAsAsked (L : Type 0) {S : Type 0} (state : S → SpoolState) 
   pub sizes : IsSizeAsked words
   pub spools : List S
   pub each_box : length spools ≡ length words.site.boxes.items
-  pub ran : IsServed L (named_site words.site) state words.lanes spools served
+  pub ran : IsServerRun L (named_site words.site) state words.lanes spools served
 
 -- why none ran though its site is sound: a mailbox's file, the listener, or the server
 abbrev pub IsNotServedAt : ServeWords → Stop → Type 0

@@ -40,7 +40,7 @@ pub record AreMailboxes (site : Site) (read : List ℕ) (account : List Disposit
   pub held : faulty ≡ false → (box : ℕ) → box < length site.boxes → (kept_at mailboxes box).bytes ≡ mailbox civil_at site.host [] (due site 0 box (conversation read account ∷ []))
 
 -- why the conversation ended
-pub record EndsFor (site : Site) (read : List ℕ) (account : List Disposition) (left : Option (List ℕ)) (end : EndCause) : Type 0 where
+pub record RehearsalEndsFor (site : Site) (read : List ℕ) (account : List Disposition) (left : Option (List ℕ)) (end : EndCause) : Type 0 where
   pub quit : end ≡ Quit → has_quit (inputs site (conversation read account)) ≡ true
   pub quits : has_quit (inputs site (conversation read account)) ≡ true → (end ≡ Quit) ⊎ (end ≡ WriteFault)
   pub end_of_input : end ≡ EndOfInput → IsAtEnd left
@@ -66,7 +66,7 @@ pub record IsRehearsed (site : Site) (moment : ℕ) (old new : Streams) (ending 
   pub output : Appends old.written new.written (said ++ listed)
   pub says : IsWritten (replies site (inputs site (conversation read account))) (ending.end ≡ WriteFault) said
   pub lists : IsWritten (mailboxes_text site.boxes mailboxes) (ending.cut ≡ true) listed
-  pub ends : EndsFor site read account new.unread ending.end
+  pub ends : RehearsalEndsFor site read account new.unread ending.end
 
 -- what a conversation leaves: the spools, whether one failed, and why it ended
 pub record HeldState : Type 0 where
@@ -86,7 +86,7 @@ pub record IsHeld (site : Site) (moment : ℕ) (old new : Streams) (held : HeldS
   pub said : List ℕ
   pub output : Appends old.written new.written said
   pub says : IsWritten (replies site (inputs site (conversation read account))) (held.end ≡ WriteFault) said
-  pub ends : EndsFor site read account new.unread held.end
+  pub ends : RehearsalEndsFor site read account new.unread held.end
 
 -- a text was written behind that, or a front of it where it was cut
 pub record IsListed (text : List ℕ) (before after : Option (List ℕ)) (cut : Bool) : Type 0 where

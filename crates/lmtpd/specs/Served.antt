@@ -25,7 +25,7 @@ abbrev pub counts_text : List (List ℕ) → List Tally → List ℕ
 counts_text names tallies = pair_texts count_line names tallies
 
 -- A server ran with so many lanes, over clients of a listener, which tell nothing, and these spools; it is faulty exactly where a worker is.
-pub record IsServed (L : Type 0) {S : Type 0} (site : Site) (state : S → SpoolState) (lanes : ℕ) (spools : List S) (served : Served) : Type 0 where
+pub record IsServerRun (L : Type 0) {S : Type 0} (site : Site) (state : S → SpoolState) (lanes : ℕ) (spools : List S) (served : Served) : Type 0 where
   pub visits : List (TcpVisits L)
   pub visits_after : List (TcpVisits L)
   pub spools_after : List S

@@ -2,7 +2,7 @@
 
 ghost use Rattle.std.specs.Prelude.{◌≡◌, ◌++◌, length, flat_map, OnOk, OnErr};
 ghost use Rattle.std.specs.Io.KnownBytes.{Appends};
-ghost use Rattle.lmtpd.specs.Output.{Breaks};
+ghost use Rattle.lmtpd.specs.Output.{IsCutOff};
 
 use std::io::Write;
 use thiserror::Error;
@@ -15,7 +15,7 @@ pub struct WriteFault;
 /// Writes all of the bytes. After a fault the writer holds a front of them more.
 pub fn write_bytes<W: Write>(writer: &mut W, bytes: &[u8]) -> Result<(), WriteFault>
     ensures ok { OnOk result (Appends (W.contents writer.old) (W.contents writer.new) bytes.now) }
-    ensures err { OnErr result (Breaks (W.contents writer.old) (W.contents writer.new) bytes.now) }
+    ensures err { OnErr result (IsCutOff (W.contents writer.old) (W.contents writer.new) bytes.now) }
 {
     let mut rest = bytes;
     while !rest.is_empty() {
@@ -32,7 +32,7 @@ pub fn write_bytes<W: Write>(writer: &mut W, bytes: &[u8]) -> Result<(), WriteFa
 pub fn write_each<W: Write>(writer: &mut W, pieces: &[&[u8]]) -> Result<(), WriteFault>
     ensures ok { OnOk result (Appends (W.contents writer.old) (W.contents writer.new)
         (flat_map (λ piece. piece.now) pieces.now)) }
-    ensures err { OnErr result (Breaks (W.contents writer.old) (W.contents writer.new)
+    ensures err { OnErr result (IsCutOff (W.contents writer.old) (W.contents writer.new)
         (flat_map (λ piece. piece.now) pieces.now)) }
 {
     for piece in pieces {

@@ -4,15 +4,15 @@ use Rattle.std.proofs.lemmas.List.{length-drop, drop-drop}
 use Rattle.std.proofs.Math.Seq.{take-add}
 use Rattle.mbox_rd.specs.declared.pending.Step.{Step}
 use Rattle.mbox_rd.specs.Writing.{Pending, IsPending, bytes_owed}
-use Rattle.mbox_rd.specs.Steps.{IsStep, weight}
+use Rattle.mbox_rd.specs.Steps.{IsWriterStep, weight}
 
 -- the first n bytes as they are
-pub IsStep-plain : (before next : Pending) (piece : List ℕ) (n : ℕ) (step : Step)
+pub IsWriterStep-plain : (before next : Pending) (piece : List ℕ) (n : ℕ) (step : Step)
     → step.len ≡ n → step.taken ≡ n → step.extra.now ≡ [] → step.next ≡ next
     → n ≤ length piece → IsPending next → 2 * (length piece - n) + weight next < 2 * length piece + weight before
     → ((rest : List ℕ) → take n piece ++ bytes_owed next (drop n piece ++ rest) ≡ bytes_owed before (piece ++ rest))
-    → IsStep before piece step
-IsStep-plain before next piece n step a b c d within is smaller goes = record {
+    → IsWriterStep before piece step
+IsWriterStep-plain before next piece n step a b c d within is smaller goes = record {
   len = rw a within;
   taken = rw b within;
   next = rw d is;
@@ -29,9 +29,9 @@ both_goes piece extra end t m =
     rw (take-add t m piece) (append_assoc (take t piece ++ take m (drop t piece)) extra end ∙ append_assoc (take t piece) (take m (drop t piece)) (extra ++ end)
     ∙ ap (λ (l : List ℕ). take t piece ++ l) (sym (append_assoc (take m (drop t piece)) extra end)))
 
-pub IsStep-both : (before : Pending) (piece : List ℕ) (step more : Step) → step.len ≡ step.taken → step.extra.now ≡ []
-    → IsStep before piece step → IsStep step.next (drop step.taken piece) more → IsStep before piece (both step more)
-IsStep-both before piece step more same none x y =
+pub IsWriterStep-both : (before : Pending) (piece : List ℕ) (step more : Step) → step.len ≡ step.taken → step.extra.now ≡ []
+    → IsWriterStep before piece step → IsWriterStep step.next (drop step.taken piece) more → IsWriterStep before piece (both step more)
+IsWriterStep-both before piece step more same none x y =
     let len = length-drop step.taken piece in record {
       len = omega (arith, x.taken, y.len, len, same);
       taken = omega (arith, x.taken, y.taken, len);

@@ -6,7 +6,7 @@ use Rattle.std.specs.List.{flat_map}
 use Rattle.std.specs.Result.{OnOk, OnErr}
 use Rattle.std.specs.Io.KnownBytes.{Appends}
 use Rattle.mail_world.specs.Failures.{Rises}
-use Rattle.mbox_rd.specs.Spool.{SpoolState, HasTaken, HasFailed}
+use Rattle.mbox_rd.specs.Spool.{SpoolState, SpoolTook, SpoolFailed}
 
 Appends-then : (u v w : Option (List ℕ)) (a b : List ℕ) → Appends u v a → Appends v w b → Appends u w (a ++ b)
 Appends-then None v w a b x y = tt
@@ -33,8 +33,8 @@ pieces-split f xs k d h =
     ap (flat_map f) (sym (take-append-drop k xs)) ∙ flat_map-append f (take k xs) (drop k xs)
     ∙ ap (λ ys. flat_map f (take k xs) ++ flat_map f ys) (drop_more xs k d h)
 
-pub HasTaken-then : (s t u : SpoolState) (a b : List ℕ) → HasTaken s t a → HasTaken t u b → HasTaken s u (a ++ b)
-HasTaken-then s t u a b x y = record {
+pub SpoolTook-then : (s t u : SpoolState) (a b : List ℕ) → SpoolTook s t a → SpoolTook t u b → SpoolTook s u (a ++ b)
+SpoolTook-then s t u a b x y = record {
   appended = Appends-then s.bytes t.bytes u.bytes a b x.appended y.appended;
   sound = y.sound ∙ x.sound;
   limited = y.limited ∙ x.limited;
@@ -42,8 +42,8 @@ HasTaken-then s t u a b x y = record {
 }
 
 -- a failure in the first text, in the second
-pub HasFailed-first : (s t : SpoolState) (a b : List ℕ) → HasFailed s t a → HasFailed s t (a ++ b)
-HasFailed-first s t a b x = record {
+pub SpoolFailed-first : (s t : SpoolState) (a b : List ℕ) → SpoolFailed s t a → SpoolFailed s t (a ++ b)
+SpoolFailed-first s t a b x = record {
   front = x.front;
   rest = x.rest ++ b;
   whole = ap (λ (w : List ℕ). w ++ b) x.whole ∙ append_assoc x.front x.rest b;
@@ -54,8 +54,8 @@ HasFailed-first s t a b x = record {
   full = x.full;
 }
 
-pub HasFailed-later : (s t u : SpoolState) (a b : List ℕ) → HasTaken s t a → HasFailed t u b → HasFailed s u (a ++ b)
-HasFailed-later s t u a b x y = record {
+pub SpoolFailed-later : (s t u : SpoolState) (a b : List ℕ) → SpoolTook s t a → SpoolFailed t u b → SpoolFailed s u (a ++ b)
+SpoolFailed-later s t u a b x y = record {
   front = a ++ y.front;
   rest = y.rest;
   whole = ap (λ (w : List ℕ). a ++ w) y.whole ∙ sym (append_assoc a y.front y.rest);
@@ -70,50 +70,50 @@ HasFailed-later s t u a b x y = record {
 pub record TakesUpTo (old new : SpoolState) (text rest : List ℕ) : Type 0 where
   pub front : List ℕ
   pub whole : text ≡ front ++ rest
-  pub taken : HasTaken old new front
+  pub taken : SpoolTook old new front
 
-pub TakesUpTo-more : (s t u : SpoolState) (text rest : List ℕ) (n : ℕ) → TakesUpTo s t text rest → HasTaken t u (take n rest)
+pub TakesUpTo-more : (s t u : SpoolState) (text rest : List ℕ) (n : ℕ) → TakesUpTo s t text rest → SpoolTook t u (take n rest)
     → TakesUpTo s u text (take (length rest - n) (drop n rest))
 TakesUpTo-more s t u text rest n x y = record {
   front = x.front ++ take n rest;
   whole = rw (take_rest rest n) (x.whole ∙ ap (λ (w : List ℕ). x.front ++ w) (sym (take-append-drop n rest)) ∙ sym (append_assoc x.front (take n rest) (drop n rest)));
-  taken = HasTaken-then s t u x.front (take n rest) x.taken y;
+  taken = SpoolTook-then s t u x.front (take n rest) x.taken y;
 }
 
 -- a failure in the rest is one in the text
-pub HasFailed-rest : (s t u : SpoolState) (text rest : List ℕ) → TakesUpTo s t text rest → HasFailed t u rest → HasFailed s u text
-HasFailed-rest s t u text rest x y = rw x.whole (HasFailed-later s t u x.front rest x.taken y)
+pub SpoolFailed-rest : (s t u : SpoolState) (text rest : List ℕ) → TakesUpTo s t text rest → SpoolFailed t u rest → SpoolFailed s u text
+SpoolFailed-rest s t u text rest x y = rw x.whole (SpoolFailed-later s t u x.front rest x.taken y)
 
-pub HasFailed-within : {X : Type 0} (f : X → List ℕ) (s t u : SpoolState) (xs : List X) (k : ℕ) (d : X) → k < length xs
-    → HasTaken s t (flat_map f (take k xs)) → HasFailed t u (f (get_or xs k d)) → HasFailed s u (flat_map f xs)
-HasFailed-within f s t u xs k d h x y = rw (pieces-split f xs k d h) (
-    HasFailed-later s t u (flat_map f (take k xs)) _ x (HasFailed-first t u (f (get_or xs k d)) _ y)
+pub SpoolFailed-within : {X : Type 0} (f : X → List ℕ) (s t u : SpoolState) (xs : List X) (k : ℕ) (d : X) → k < length xs
+    → SpoolTook s t (flat_map f (take k xs)) → SpoolFailed t u (f (get_or xs k d)) → SpoolFailed s u (flat_map f xs)
+SpoolFailed-within f s t u xs k d h x y = rw (pieces-split f xs k d h) (
+    SpoolFailed-later s t u (flat_map f (take k xs)) _ x (SpoolFailed-first t u (f (get_or xs k d)) _ y)
     )
 
-pub TakesUpTo-first : (s t : SpoolState) (text a b : List ℕ) → text ≡ a ++ b → HasTaken s t a → TakesUpTo s t text b
+pub TakesUpTo-first : (s t : SpoolState) (text a b : List ℕ) → text ≡ a ++ b → SpoolTook s t a → TakesUpTo s t text b
 TakesUpTo-first s t text a b e x = record { front = a; whole = e; taken = x }
 
-pub HasTaken-as : (s t : SpoolState) (a b : List ℕ) → a ≡ b → HasTaken s t b → HasTaken s t a
-HasTaken-as s t a b e h = let P : List ℕ → Type 0 = λ w. HasTaken s t w in subst P (sym e) h
+pub SpoolTook-as : (s t : SpoolState) (a b : List ℕ) → a ≡ b → SpoolTook s t b → SpoolTook s t a
+SpoolTook-as s t a b e h = let P : List ℕ → Type 0 = λ w. SpoolTook s t w in subst P (sym e) h
 
-pub HasFailed-as : (s t : SpoolState) (a b : List ℕ) → a ≡ b → HasFailed s t b → HasFailed s t a
-HasFailed-as s t a b e h = let P : List ℕ → Type 0 = λ w. HasFailed s t w in subst P (sym e) h
+pub SpoolFailed-as : (s t : SpoolState) (a b : List ℕ) → a ≡ b → SpoolFailed s t b → SpoolFailed s t a
+SpoolFailed-as s t a b e h = let P : List ℕ → Type 0 = λ w. SpoolFailed s t w in subst P (sym e) h
 
-pub HasTaken-rest : (s t u : SpoolState) (text rest : List ℕ) → TakesUpTo s t text rest → HasTaken t u rest → HasTaken s u text
-HasTaken-rest s t u text rest x y = rw x.whole (HasTaken-then s t u x.front rest x.taken y)
+pub SpoolTook-rest : (s t u : SpoolState) (text rest : List ℕ) → TakesUpTo s t text rest → SpoolTook t u rest → SpoolTook s u text
+SpoolTook-rest s t u text rest x y = rw x.whole (SpoolTook-then s t u x.front rest x.taken y)
 
 -- a result that says so of one text says so of an equal one
-pub OnOk-as : {T E : Type 0} (r : Result T E) (s t : SpoolState) (a b : List ℕ) → a ≡ b → OnOk r (HasTaken s t b) → OnOk r (HasTaken s t a)
-OnOk-as r s t a b e h = let P : List ℕ → Type 0 = λ w. OnOk r (HasTaken s t w) in subst P (sym e) h
+pub OnOk-as : {T E : Type 0} (r : Result T E) (s t : SpoolState) (a b : List ℕ) → a ≡ b → OnOk r (SpoolTook s t b) → OnOk r (SpoolTook s t a)
+OnOk-as r s t a b e h = let P : List ℕ → Type 0 = λ w. OnOk r (SpoolTook s t w) in subst P (sym e) h
 
-pub OnErr-as : {T E : Type 0} (r : Result T E) (s t : SpoolState) (a b : List ℕ) → a ≡ b → OnErr r (HasFailed s t b) → OnErr r (HasFailed s t a)
-OnErr-as r s t a b e h = let P : List ℕ → Type 0 = λ w. OnErr r (HasFailed s t w) in subst P (sym e) h
+pub OnErr-as : {T E : Type 0} (r : Result T E) (s t : SpoolState) (a b : List ℕ) → a ≡ b → OnErr r (SpoolFailed s t b) → OnErr r (SpoolFailed s t a)
+OnErr-as r s t a b e h = let P : List ℕ → Type 0 = λ w. OnErr r (SpoolFailed s t w) in subst P (sym e) h
 
 -- the last of the texts
-pub OnOk-rest : {T E : Type 0} (r : Result T E) (s t u : SpoolState) (text rest : List ℕ) → TakesUpTo s t text rest → OnOk r (HasTaken t u rest) → OnOk r (HasTaken s u text)
-OnOk-rest (Ok v) s t u text rest x y = HasTaken-rest s t u text rest x y
+pub OnOk-rest : {T E : Type 0} (r : Result T E) (s t u : SpoolState) (text rest : List ℕ) → TakesUpTo s t text rest → OnOk r (SpoolTook t u rest) → OnOk r (SpoolTook s u text)
+OnOk-rest (Ok v) s t u text rest x y = SpoolTook-rest s t u text rest x y
 OnOk-rest (Err d) s t u text rest x y = tt
 
-pub OnErr-rest : {T E : Type 0} (r : Result T E) (s t u : SpoolState) (text rest : List ℕ) → TakesUpTo s t text rest → OnErr r (HasFailed t u rest) → OnErr r (HasFailed s u text)
+pub OnErr-rest : {T E : Type 0} (r : Result T E) (s t u : SpoolState) (text rest : List ℕ) → TakesUpTo s t text rest → OnErr r (SpoolFailed t u rest) → OnErr r (SpoolFailed s u text)
 OnErr-rest (Ok v) s t u text rest x y = tt
-OnErr-rest (Err d) s t u text rest x y = HasFailed-rest s t u text rest x y
+OnErr-rest (Err d) s t u text rest x y = SpoolFailed-rest s t u text rest x y

@@ -2,16 +2,16 @@
 use Rattle.std.specs.Prelude.{◌≡◌, ℕ, List}
 use Rattle.std.specs.Option.{IfSome}
 use Rattle.mail_world.specs.Records.{mended}
-use Rattle.mbox_rd.specs.Spool.{SpoolState, HasTaken, HasFailed}
+use Rattle.mbox_rd.specs.Spool.{SpoolState, SpoolTook, SpoolFailed}
 
 -- the spool took what the bytes that it held want
 pub record HasMended (old new : SpoolState) : Type 0 where
   pub text : List ℕ
   pub is : IfSome old.bytes (λ held. text ≡ mended held)
-  pub taken : HasTaken old new text
+  pub taken : SpoolTook old new text
 
 -- the spool failed before it had all of it
 pub record HasNotMended (old new : SpoolState) : Type 0 where
   pub text : List ℕ
   pub is : IfSome old.bytes (λ held. text ≡ mended held)
-  pub failed : HasFailed old new text
+  pub failed : SpoolFailed old new text

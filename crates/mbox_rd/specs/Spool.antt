@@ -24,14 +24,14 @@ CoversAll None n = ⊤
 CoversAll (Some held) n = n ≡ length held
 
 -- the spool took the text, and nothing failed
-pub record HasTaken (old new : SpoolState) (text : List ℕ) : Type 0 where
+pub record SpoolTook (old new : SpoolState) (text : List ℕ) : Type 0 where
   pub appended : Appends old.bytes new.bytes text
   pub sound : new.failures ≡ old.failures
   pub limited : new.limit ≡ old.limit
   pub covered : new.synced ≡ old.synced
 
 -- the spool took a front of the text, and failed, which one with a limit does only once it is full
-pub record HasFailed (old new : SpoolState) (text : List ℕ) : Type 0 where
+pub record SpoolFailed (old new : SpoolState) (text : List ℕ) : Type 0 where
   pub front : List ℕ
   pub rest : List ℕ
   pub whole : text ≡ front ++ rest

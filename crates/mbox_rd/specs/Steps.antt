@@ -13,7 +13,7 @@ abbrev pub weight : Pending → ℕ
 weight Inside = 0
 weight _ = 1
 
-pub record IsStep (before : Pending) (piece : List ℕ) (step : Step) : Type 0 where
+pub record IsWriterStep (before : Pending) (piece : List ℕ) (step : Step) : Type 0 where
   pub len : step.len ≤ length piece
   pub taken : step.taken ≤ length piece
   pub next : IsPending step.next

@@ -3,7 +3,7 @@ use Rattle.std.specs.Prelude.{◌≡◌, ℕ, ◌≤◌, ◌==◌, List, [], ◌
 use Rattle.mail_world.specs.Text.{cr, lf, unix}
 use Rattle.mail_world.specs.Records.{quoted_text}
 use Rattle.mail_world.specs.Fronts.{IsFront}
-use Rattle.mbox_rd.specs.Spool.{SpoolState, HasTaken, HasFailed}
+use Rattle.mbox_rd.specs.Spool.{SpoolState, SpoolTook, SpoolFailed}
 use Rattle.mbox_rd.specs.declared.pending.Pending.{Pending as Declared}
 use Rattle.mbox_rd.specs.declared.pending.Pending.TheVariants.{Start, Marks, Word, Inside, Cr}
 
@@ -37,11 +37,11 @@ bytes_owed Cr text = line_rest (unix (cr ∷ text))
 -- the spool took what is sure, and the writer goes on from there
 pub record WritesPiece (old new : SpoolState) (before after : Pending) (piece : List ℕ) : Type 0 where
   pub text : List ℕ
-  pub taken : HasTaken old new text
+  pub taken : SpoolTook old new text
   pub goes : (rest : List ℕ) → text ++ bytes_owed after rest ≡ bytes_owed before (piece ++ rest)
 
 -- the spool failed within what is sure
 pub record FailsPiece (old new : SpoolState) (before : Pending) (piece : List ℕ) : Type 0 where
   pub text : List ℕ
-  pub failed : HasFailed old new text
+  pub failed : SpoolFailed old new text
   pub sure : (rest : List ℕ) → IsFront text (bytes_owed before (piece ++ rest))

@@ -5,7 +5,7 @@ ghost use Rattle.std.specs.Io.Buffered.{writer_buffer, writer_contents};
 ghost use Rattle.std.specs.Io.KnownBytes.{Appends, Keeps};
 ghost use Rattle.std.specs.IoError.{error_kind};
 ghost use Rattle.mail_world.specs.Failures.{Rises};
-ghost use Rattle.mbox_rd.specs.Spool.{HasTaken, HasFailed, HasSynced, HasNotSynced};
+ghost use Rattle.mbox_rd.specs.Spool.{SpoolTook, SpoolFailed, HasSynced, HasNotSynced};
 
 #[cfg(test)]
 mod tests;
@@ -219,9 +219,9 @@ impl<F: Write + OpenFile + Drop> Spool for FileSpool<F> {
 
         // what every spool ensures
         ensures within { IfOk result (λ n. (1 ≤ n) × (n ≤ length piece.now)) }
-        ensures ok { IfOk result (λ n. HasTaken (⟦<FileSpool<F> as Spool>⟧.state self.old)
+        ensures ok { IfOk result (λ n. SpoolTook (⟦<FileSpool<F> as Spool>⟧.state self.old)
             (⟦<FileSpool<F> as Spool>⟧.state self.new) (take n piece.now)) }
-        ensures err { OnErr result (HasFailed (⟦<FileSpool<F> as Spool>⟧.state self.old)
+        ensures err { OnErr result (SpoolFailed (⟦<FileSpool<F> as Spool>⟧.state self.old)
             (⟦<FileSpool<F> as Spool>⟧.state self.new) piece.now) }
     {
         let Sink::Sound(writer) = &mut self.sink else {

@@ -4,7 +4,7 @@ ghost use Rattle.mail_world.specs.Records.{from_address};
 ghost use Rattle.lmtp_text.specs.Calendar.{civil_at};
 ghost use Rattle.mbox_rd.specs.Envelope.{from_line, trace_lines, head_text};
 ghost use Rattle.mbox_rd.specs.Parts.{origin, date_line};
-ghost use Rattle.mbox_rd.specs.Spool.{HasTaken, HasFailed};
+ghost use Rattle.mbox_rd.specs.Spool.{SpoolTook, SpoolFailed};
 
 use crate::append::append_each;
 use crate::envelope::Envelope;
@@ -19,9 +19,9 @@ pub(crate) fn write_head<S: Spool>(
     envelope: &Envelope,
 ) -> Result<(), SpoolFault>
     ensures ok { OnOk result
-        (HasTaken (S.state spool.old) (S.state spool.new) (head_text civil_at host.now envelope.now)) }
+        (SpoolTook (S.state spool.old) (S.state spool.new) (head_text civil_at host.now envelope.now)) }
     ensures err { OnErr result
-        (HasFailed (S.state spool.old) (S.state spool.new) (head_text civil_at host.now envelope.now)) }
+        (SpoolFailed (S.state spool.old) (S.state spool.new) (head_text civil_at host.now envelope.now)) }
 {
     let stamp = Stamp::of_unix(envelope.moment());
     write_from_line(spool, envelope.sender(), &stamp)?;
@@ -29,8 +29,8 @@ pub(crate) fn write_head<S: Spool>(
 }
 
 fn write_from_line<S: Spool>(spool: &mut S, sender: &[u8], stamp: &Stamp) -> Result<(), SpoolFault>
-    ensures ok { OnOk result (HasTaken (S.state spool.old) (S.state spool.new) (from_line sender.now stamp.now)) }
-    ensures err { OnErr result (HasFailed (S.state spool.old) (S.state spool.new) (from_line sender.now stamp.now)) }
+    ensures ok { OnOk result (SpoolTook (S.state spool.old) (S.state spool.new) (from_line sender.now stamp.now)) }
+    ensures err { OnErr result (SpoolFailed (S.state spool.old) (S.state spool.new) (from_line sender.now stamp.now)) }
 {
     let moment = stamp_ctime(stamp);
     append_each(
@@ -57,17 +57,17 @@ fn write_trace<S: Spool>(
     stamp: &Stamp,
 ) -> Result<(), SpoolFault>
     ensures ok { OnOk result
-        (HasTaken (S.state spool.old) (S.state spool.new) (trace_lines host.now stamp.now envelope.now)) }
+        (SpoolTook (S.state spool.old) (S.state spool.new) (trace_lines host.now stamp.now envelope.now)) }
     ensures err { OnErr result
-        (HasFailed (S.state spool.old) (S.state spool.new) (trace_lines host.now stamp.now envelope.now)) }
+        (SpoolFailed (S.state spool.old) (S.state spool.new) (trace_lines host.now stamp.now envelope.now)) }
 {
     write_origin(spool, host, envelope)?;
     write_date(spool, stamp)
 }
 
 fn write_origin<S: Spool>(spool: &mut S, host: &[u8], envelope: &Envelope) -> Result<(), SpoolFault>
-    ensures ok { OnOk result (HasTaken (S.state spool.old) (S.state spool.new) (origin host.now envelope.now)) }
-    ensures err { OnErr result (HasFailed (S.state spool.old) (S.state spool.new) (origin host.now envelope.now)) }
+    ensures ok { OnOk result (SpoolTook (S.state spool.old) (S.state spool.new) (origin host.now envelope.now)) }
+    ensures err { OnErr result (SpoolFailed (S.state spool.old) (S.state spool.new) (origin host.now envelope.now)) }
 {
     let txn = envelope.txn();
     let (mut lane, mut number) = (Buffer::new(), Buffer::new());
@@ -90,8 +90,8 @@ fn write_origin<S: Spool>(spool: &mut S, host: &[u8], envelope: &Envelope) -> Re
 }
 
 fn write_date<S: Spool>(spool: &mut S, stamp: &Stamp) -> Result<(), SpoolFault>
-    ensures ok { OnOk result (HasTaken (S.state spool.old) (S.state spool.new) (date_line stamp.now)) }
-    ensures err { OnErr result (HasFailed (S.state spool.old) (S.state spool.new) (date_line stamp.now)) }
+    ensures ok { OnOk result (SpoolTook (S.state spool.old) (S.state spool.new) (date_line stamp.now)) }
+    ensures err { OnErr result (SpoolFailed (S.state spool.old) (S.state spool.new) (date_line stamp.now)) }
 {
     let mut date = [0; 31];
     let len = stamp_5322(stamp, &mut date);

@@ -2,7 +2,7 @@
 ghost use Rattle.std.specs.Prelude.{◌≡◌, ◌↔◌, ◌+◌, ◌-◌, ◌^◌, ◌<◌, ◌≤◌, ◌++◌, length, take, min, IsOk, IsErr, IfOk};
 ghost use Rattle.std.specs.Prelude.{OnOk, OnErr, Some};
 ghost use Rattle.std.specs.Option.{IfSome};
-ghost use Rattle.mbox_rd.specs.Spool.{HasTaken, HasFailed, HasSynced, HasNotSynced, tail_of};
+ghost use Rattle.mbox_rd.specs.Spool.{SpoolTook, SpoolFailed, HasSynced, HasNotSynced, tail_of};
 
 use crate::spool::{Spool, SpoolFault, Tail, tail_of};
 use std::alloc::{AllocError, Global};
@@ -86,10 +86,10 @@ impl Spool for MemorySpool {
         // what every spool ensures
         ensures within { IfOk result (λ n. (1 ≤ n) × (n ≤ length piece.now)) }
         ensures ok { IfOk result
-            (λ n. HasTaken (⟦<MemorySpool as Spool>⟧.state self.old) (⟦<MemorySpool as Spool>⟧.state self.new)
+            (λ n. SpoolTook (⟦<MemorySpool as Spool>⟧.state self.old) (⟦<MemorySpool as Spool>⟧.state self.new)
             (take n piece.now)) }
         ensures err { OnErr result
-            (HasFailed (⟦<MemorySpool as Spool>⟧.state self.old) (⟦<MemorySpool as Spool>⟧.state self.new) piece.now) }
+            (SpoolFailed (⟦<MemorySpool as Spool>⟧.state self.old) (⟦<MemorySpool as Spool>⟧.state self.new) piece.now) }
     {
         if self.room == 0 {
             self.failures = self.failures.saturating_add(1);

@@ -3,7 +3,7 @@ ghost use Rattle.std.specs.Prelude.{◌≡◌, ◌<◌, ◌≤◌, [], length, t
 ghost use Rattle.std.specs.Str.{byte};
 ghost use Rattle.mail_world.specs.Text.{begins};
 ghost use Rattle.mbox_rd.specs.Writing.{IsPending};
-ghost use Rattle.mbox_rd.specs.Steps.{IsStep};
+ghost use Rattle.mbox_rd.specs.Steps.{IsWriterStep};
 ghost use Rattle.mbox_rd.specs.declared.pending.Pending.TheVariants.{Start, Marks, Word, Inside, Cr};
 
 use memchr::memchr;
@@ -63,7 +63,7 @@ impl Step {
 pub(crate) fn long_step(pending: Pending, piece: &[u8]) -> Step
     requires some { 0 < length piece.now }
     requires pending { IsPending pending }
-    ensures { IsStep pending piece.now result }
+    ensures { IsWriterStep pending piece.now result }
 {
     let mut step = short_step(pending, piece);
     while step.is_unchanged() && step.taken < piece.len() {
@@ -81,7 +81,7 @@ pub(crate) fn long_step(pending: Pending, piece: &[u8]) -> Step
 fn short_step(pending: Pending, piece: &[u8]) -> Step
     requires some { 0 < length piece.now }
     requires pending { IsPending pending }
-    ensures { IsStep pending piece.now result }
+    ensures { IsWriterStep pending piece.now result }
 {
     match pending {
         Pending::Start | Pending::Marks => front_step(piece),
@@ -94,8 +94,8 @@ fn short_step(pending: Pending, piece: &[u8]) -> Step
 // At a line's start or behind its `>`s.
 fn front_step(piece: &[u8]) -> Step
     requires some { 0 < length piece.now }
-    ensures start { IsStep Start piece.now result }
-    ensures marks { IsStep Marks piece.now result }
+    ensures start { IsWriterStep Start piece.now result }
+    ensures marks { IsWriterStep Marks piece.now result }
 {
     if piece[0] == b'>' {
         Step::unchanged(1, Pending::Marks)
@@ -109,7 +109,7 @@ fn word_step(n: usize, piece: &[u8]) -> Step
     requires some { 0 < length piece.now }
     requires within { n ≤ 4 }
     requires first { n ≡ 0 → begins (byte ">") piece.now ≡ false }
-    ensures { IsStep (Word n) piece.now result }
+    ensures { IsWriterStep (Word n) piece.now result }
 {
     let missing = &FROM[n..];
     if piece.starts_with(missing) {
@@ -139,7 +139,7 @@ fn word_step(n: usize, piece: &[u8]) -> Step
 // Inside a line: up to its end, or to the CR before it.
 fn line_step(piece: &[u8]) -> Step
     requires some { 0 < length piece.now }
-    ensures { IsStep Inside piece.now result }
+    ensures { IsWriterStep Inside piece.now result }
 {
     match memchr(b'\n', piece) {
         Some(at) => match piece[..at].strip_suffix(b"\r") {
@@ -166,7 +166,7 @@ fn line_step(piece: &[u8]) -> Step
 // Behind a CR.
 fn cr_step(piece: &[u8]) -> Step
     requires some { 0 < length piece.now }
-    ensures { IsStep Cr piece.now result }
+    ensures { IsWriterStep Cr piece.now result }
 {
     Step {
         len: 0,

@@ -5,7 +5,7 @@ ghost use Rattle.mail_world.specs.Records.{quoted_text};
 ghost use Rattle.mail_world.specs.Text.{unix, lf};
 ghost use Rattle.lmtp_text.specs.Calendar.{civil_at};
 ghost use Rattle.mbox_rd.specs.Envelope.{head_text};
-ghost use Rattle.mbox_rd.specs.Spool.{HasTaken, HasFailed};
+ghost use Rattle.mbox_rd.specs.Spool.{SpoolTook, SpoolFailed};
 ghost use Rattle.mbox_rd.specs.Steps.{written};
 ghost use Rattle.mbox_rd.specs.Writing.{bytes_owed, WritesPiece, FailsPiece};
 
@@ -41,10 +41,10 @@ impl RecordWriter {
         envelope: &Envelope,
     ) -> Result<RecordWriter, SpoolFault>
         ensures ok { OnOk result
-            (HasTaken (S.state spool.old) (S.state spool.new) (head_text civil_at host.now envelope.now)) }
+            (SpoolTook (S.state spool.old) (S.state spool.new) (head_text civil_at host.now envelope.now)) }
         ensures new { IfOk result (λ writer. (text : List ℕ) → bytes_owed writer text ≡ quoted_text (unix text)) }
         ensures err { OnErr result
-            (HasFailed (S.state spool.old) (S.state spool.new) (head_text civil_at host.now envelope.now)) }
+            (SpoolFailed (S.state spool.old) (S.state spool.new) (head_text civil_at host.now envelope.now)) }
     {
         write_head(spool, host, envelope)?;
         Ok(RecordWriter {
@@ -72,8 +72,8 @@ impl RecordWriter {
     /// Writes what is left of the message, with LF behind a last line that has none, and the empty line that ends a
     /// record.
     pub fn end<S: Spool>(self, spool: &mut S) -> Result<(), SpoolFault>
-        ensures ok { OnOk result (HasTaken (S.state spool.old) (S.state spool.new) (bytes_owed self [] ++ lf ∷ [])) }
-        ensures err { OnErr result (HasFailed (S.state spool.old) (S.state spool.new) (bytes_owed self [] ++ lf ∷ [])) }
+        ensures ok { OnOk result (SpoolTook (S.state spool.old) (S.state spool.new) (bytes_owed self [] ++ lf ∷ [])) }
+        ensures err { OnErr result (SpoolFailed (S.state spool.old) (S.state spool.new) (bytes_owed self [] ++ lf ∷ [])) }
     {
         match self.pending {
             Pending::Start => append_all(spool, b"\n"),
@@ -86,8 +86,8 @@ impl RecordWriter {
 
 fn write_step<S: Spool>(spool: &mut S, piece: &[u8], step: &Step) -> Result<(), SpoolFault>
     requires { step.now.len ≤ length piece.now }
-    ensures ok { OnOk result (HasTaken (S.state spool.old) (S.state spool.new) (written step.now piece.now)) }
-    ensures err { OnErr result (HasFailed (S.state spool.old) (S.state spool.new) (written step.now piece.now)) }
+    ensures ok { OnOk result (SpoolTook (S.state spool.old) (S.state spool.new) (written step.now piece.now)) }
+    ensures err { OnErr result (SpoolFailed (S.state spool.old) (S.state spool.new) (written step.now piece.now)) }
 {
     append_all(spool, &piece[..step.len])?;
     append_all(spool, step.extra)

@@ -1,7 +1,7 @@
 //! Where records go: a place that takes bytes at its end, and may fail.
 ghost use Rattle.std.specs.Prelude.{◌≡◌, ◌<◌, ◌≤◌, length, take, IfOk, OnOk, OnErr};
 ghost use Rattle.std.specs.Option.{IfSome};
-ghost use Rattle.mbox_rd.specs.Spool.{SpoolState, HasTaken, HasFailed, HasSynced, HasNotSynced, tail_of};
+ghost use Rattle.mbox_rd.specs.Spool.{SpoolState, SpoolTook, SpoolFailed, HasSynced, HasNotSynced, tail_of};
 
 use thiserror::Error;
 
@@ -33,8 +33,8 @@ pub trait Spool {
     fn append(&mut self, piece: &[u8]) -> Result<usize, SpoolFault>
         requires { 0 < length piece.now }
         ensures within { IfOk result (λ n. (1 ≤ n) × (n ≤ length piece.now)) }
-        ensures ok { IfOk result (λ n. HasTaken (state self.old) (state self.new) (take n piece.now)) }
-        ensures err { OnErr result (HasFailed (state self.old) (state self.new) piece.now) };
+        ensures ok { IfOk result (λ n. SpoolTook (state self.old) (state self.new) (take n piece.now)) }
+        ensures err { OnErr result (SpoolFailed (state self.old) (state self.new) piece.now) };
 
     /// Asks that all it holds be kept through a crash, as a file's `sync_all` does, and waits for the answer. After a
     /// fault any of it may be lost.

@@ -4,7 +4,7 @@ ghost use Rattle.std.specs.Prelude.{◌≡◌, ◌+◌, ◌-◌, ◌^◌, ◌<�
 ghost use Rattle.std.specs.List.{AllByRecursion};
 ghost use Rattle.mail_world.specs.Depot.{weight_under, HasRoom, Begins, Puts, Seals, Cancels};
 ghost use Rattle.mail_world.specs.Depot as depot;
-ghost use Rattle.block_arena.specs.Calls.{IsTaken, IsGivenBack};
+ghost use Rattle.block_arena.specs.Calls.{IsUsed, IsGivenBack};
 ghost use Rattle.msg_depot.specs.Rules.{weighing, resting, keeping, word_of};
 ghost use Rattle.msg_depot.specs.Moves.{longer, entered, IsOver};
 ghost use Rattle.msg_depot.specs.Entries.{entry_of, key_of, slot_behind, IsKeeper};
@@ -69,7 +69,7 @@ impl<N: DepotName> Keeper<N> {
         requires board { board.now.shared.table_id ≡ N.table }
         ensures begun { IfOk result (λ d. Begins self.old (key_of d) self.new) }
         ensures empty { IfOk result (λ d. (d.bytes ≡ []) × (d.weight ≡ 0)) }
-        ensures none { IfErr result (λ _. AllByRecursion (λ (slot : depot.Slot). IsTaken slot.held) self.old.slots) }
+        ensures none { IfErr result (λ _. AllByRecursion (λ (slot : depot.Slot). IsUsed slot.held) self.old.slots) }
         ensures same { IfErr result (λ _. self.new ≡ self.old) }
     {
         let Some(key) = self.arena.begin() else {

@@ -4,7 +4,7 @@ ghost use Rattle.std.specs.Prelude.{◌≡◌, ℕ, ◌≤◌, ◌<◌, ◌+◌,
 ghost use Rattle.mail_world.specs.Depot.{held_under, bytes_of};
 ghost use Rattle.std.specs.List.{AllByRecursion};
 ghost use Rattle.block_arena.specs.Fields.{blocks_in, bytes_in, chain, node, IsPlace, IsReadable};
-ghost use Rattle.block_arena.specs.Calls.{depot_key, RefusesMessage, IsMessage, MayGive, IsGivenBack};
+ghost use Rattle.block_arena.specs.Calls.{depot_key, RefusesMessage, IsMessage, MayGiveBack, IsGivenBack};
 
 use super::*;
 
@@ -40,7 +40,7 @@ impl Arena {
     /// Gives k of the message's holds back, and says whether none is left. Then the message is gone.
     pub fn give_back(&mut self, key: Key, k: u32) -> Result<bool, ArenaFault>
         requires some { 1 ≤ k }
-        requires holds { MayGive k (held_under self.old (depot_key key)) }
+        requires holds { MayGiveBack k (held_under self.old (depot_key key)) }
         ensures done { IfOk result (λ gone. IsGivenBack k self.old (depot_key key) self.new gone) }
         ensures fault { IfErr result (λ f. RefusesMessage (held_under self.old (depot_key key)) f) }
         ensures same { IfErr result (λ _. self.new ≡ self.old) }

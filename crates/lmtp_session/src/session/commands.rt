@@ -4,7 +4,7 @@ ghost use Rattle.std.specs.Prelude.{◌≡◌, ◌≤◌, [], length};
 ghost use Rattle.mail_world.specs.Session.{on_command, on_mail, on_rcpt, on_data, on_rset, says, greeted};
 ghost use Rattle.mail_world.specs.Targets.{box_of};
 ghost use Rattle.lmtp_text.specs.Seen.{seen_answer, seen_target};
-ghost use Rattle.lmtp_session.specs.Steps.{TakesLines, IsTaken};
+ghost use Rattle.lmtp_session.specs.Steps.{TakesLines, IsTransition};
 ghost use Rattle.lmtp_session.specs.CommandLimits.{IsWithinLimits};
 
 use crate::act::Act;
@@ -18,7 +18,7 @@ impl Session {
     pub(crate) fn on_command(&mut self, answer: Result<Command, BadCommand>) -> Act
         requires state { TakesLines self.old.session.state }
         requires limits { IsWithinLimits (seen_answer answer) }
-        ensures step { IsTaken self.old
+        ensures step { IsTransition self.old
             (on_command self.old.site self.old.session (seen_answer answer.entry)) result self.new }
         ensures no_memory { self.new.room ≡ self.old.room }
     {
@@ -40,7 +40,7 @@ impl Session {
     fn on_lhlo(&mut self, client: &[u8]) -> Act
         requires fits { length client.now ≤ NAME_LIMIT }
         requires no_answer { self.old.answers ≡ [] }
-        ensures step { IsTaken self.old (says Reply.Offer (greeted client.now)) result self.new }
+        ensures step { IsTransition self.old (says Reply.Offer (greeted client.now)) result self.new }
         ensures no_memory { self.new.room ≡ self.old.room }
     {
         lists::refill(&mut self.client, client);
@@ -52,7 +52,7 @@ impl Session {
         requires state { TakesLines self.old.session.state }
         requires fits { length sender.now ≤ PATH_LIMIT }
         requires no_answer { self.old.answers ≡ [] }
-        ensures step { IsTaken self.old (on_mail self.old.session.state self.old.session sender.now) result self.new }
+        ensures step { IsTransition self.old (on_mail self.old.session.state self.old.session sender.now) result self.new }
         ensures no_memory { self.new.room ≡ self.old.room }
     {
         match self.state {
@@ -69,7 +69,7 @@ impl Session {
     fn on_rcpt(&mut self, target: &Target) -> Act
         requires state { TakesLines self.old.session.state }
         requires no_answer { self.old.answers ≡ [] }
-        ensures step { IsTaken self.old
+        ensures step { IsTransition self.old
             (on_rcpt self.old.session.state self.old.session
             (box_of self.old.site (seen_target target.now))) result self.new }
         ensures no_memory { self.new.room ≡ self.old.room }
@@ -91,7 +91,7 @@ impl Session {
     fn on_data(&mut self) -> Act
         requires state { TakesLines self.old.session.state }
         requires no_answer { self.old.answers ≡ [] }
-        ensures step { IsTaken self.old (on_data self.old.session.state self.old.session) result self.new }
+        ensures step { IsTransition self.old (on_data self.old.session.state self.old.session) result self.new }
         ensures no_memory { self.new.room ≡ self.old.room }
     {
         match self.state {
@@ -106,7 +106,7 @@ impl Session {
     fn on_rset(&mut self) -> Act
         requires state { TakesLines self.old.session.state }
         requires no_answer { self.old.answers ≡ [] }
-        ensures step { IsTaken self.old (on_rset self.old.session.state self.old.session) result self.new }
+        ensures step { IsTransition self.old (on_rset self.old.session.state self.old.session) result self.new }
         ensures no_memory { self.new.room ≡ self.old.room }
     {
         match self.state {

@@ -2,7 +2,7 @@
 
 ghost use Rattle.std.specs.Prelude.{◌≡◌, []};
 ghost use Rattle.mail_world.specs.Session.{says, greeted, moved_to, result_for_all};
-ghost use Rattle.lmtp_session.specs.Steps.{IsTaken};
+ghost use Rattle.lmtp_session.specs.Steps.{IsTransition};
 
 use crate::act::Act;
 use crate::session::{Session, lists};
@@ -12,7 +12,7 @@ impl Session {
     /// Hands the message on to its recipients, and waits for the outcomes.
     pub(crate) fn deliver(&mut self) -> Act
         requires no_answer { self.old.answers ≡ [] }
-        ensures step { IsTaken self.old
+        ensures step { IsTransition self.old
             (record { replies = []; next = moved_to State.Waiting self.old.session }) result self.new }
         ensures no_memory { self.new.room ≡ self.old.room }
     {
@@ -23,7 +23,7 @@ impl Session {
     /// Gives each recipient that outcome, and ends the message.
     pub(crate) fn answer_all(&mut self, outcome: Outcome) -> Act
         requires no_answer { self.old.answers ≡ [] }
-        ensures step { IsTaken self.old
+        ensures step { IsTransition self.old
             (record {
               replies = result_for_all outcome self.old.session.recipients;
               next = greeted self.old.session.client;
@@ -47,7 +47,7 @@ impl Session {
     /// Ends the conversation with that reply.
     pub(crate) fn end(&mut self, reply: Reply) -> Act
         requires no_answer { self.old.answers ≡ [] }
-        ensures step { IsTaken self.old (says reply (moved_to State.Ended self.old.session)) result self.new }
+        ensures step { IsTransition self.old (says reply (moved_to State.Ended self.old.session)) result self.new }
         ensures no_memory { self.new.room ≡ self.old.room }
     {
         self.state = State::Ended;

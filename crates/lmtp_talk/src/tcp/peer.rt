@@ -64,14 +64,14 @@ impl<T> TcpPeer<T> {
 }
 
 impl<T: Read> TcpPeer<T> {
-    ghost use Rattle.lmtp_talk.specs.Peer.{HasFailed};
+    ghost use Rattle.lmtp_talk.specs.Peer.{PeerFailed};
     ghost use Rattle.lmtp_talk.specs.ReadBuffer.{waiting};
     ghost use Rattle.lmtp_talk.specs.TcpPeer.{Fills, reading};
 
     // Reads on where nothing waits, and says what the client did where it said nothing.
     fn fill(&mut self) -> Result<Option<Came>, PeerFault>
         ensures ok { IfOk result (Fills T.remaining self.old self.new) }
-        ensures err { OnErr result (HasFailed (reading T.remaining self.old) (reading T.remaining self.new)) }
+        ensures err { OnErr result (PeerFailed (reading T.remaining self.old) (reading T.remaining self.new)) }
         ensures waits { 0 < length (waiting self.old.buffer) → (result ≡ Ok None) × (self.new ≡ self.old) }
         ensures same { self.new.reads_left ≡ self.old.reads_left }
     {
@@ -104,7 +104,7 @@ impl<T: Read + OpenStream + Drop> TcpPeer<T> {
 
 impl<T: Read + Write> Peer for TcpPeer<T> {
     ghost use Rattle.std.specs.Prelude.{[], None};
-    ghost use Rattle.lmtp_talk.specs.Peer.{HasBrought, HasFailed, HasWritten};
+    ghost use Rattle.lmtp_talk.specs.Peer.{HasBrought, PeerFailed, HasWritten};
     ghost use Rattle.lmtp_talk.specs.TcpPeer.{TakesRead, reading};
 
     ghost state = { λ p.
@@ -116,7 +116,7 @@ impl<T: Read + Write> Peer for TcpPeer<T> {
         requires { 0 < length buffer.old }
         ensures come { IfOk result
             (λ came. HasBrought (reading T.remaining self.old) (reading T.remaining self.new) buffer.new came) }
-        ensures failed { OnErr result (HasFailed (reading T.remaining self.old) (reading T.remaining self.new)) }
+        ensures failed { OnErr result (PeerFailed (reading T.remaining self.old) (reading T.remaining self.new)) }
         ensures bound { TakesRead self.old self.new result }
     {
         if self.reads_left == 0 {

@@ -2,7 +2,7 @@
 
 ghost use Rattle.std.specs.Prelude.{◌≡◌, ◌++◌, length, OnOk, OnErr};
 ghost use Rattle.std.specs.Io.KnownBytes.{Appends};
-ghost use Rattle.lmtpd.specs.Output.{Breaks};
+ghost use Rattle.lmtpd.specs.Output.{IsCutOff};
 ghost use Rattle.lmtpd.specs.Mailboxes.{bytes_of_all, mailbox_line, texts_of_mailboxes};
 
 use crate::output::{WriteFault, write_each};
@@ -15,7 +15,7 @@ use std::io::Write;
 fn write_mailbox<W: Write>(writer: &mut W, name: &[u8], bytes: &[u8]) -> Result<(), WriteFault>
     ensures ok { OnOk result (Appends (W.contents writer.old) (W.contents writer.new)
         (mailbox_line name.now (length bytes.now) ++ bytes.now)) }
-    ensures err { OnErr result (Breaks (W.contents writer.old) (W.contents writer.new)
+    ensures err { OnErr result (IsCutOff (W.contents writer.old) (W.contents writer.new)
         (mailbox_line name.now (length bytes.now) ++ bytes.now)) }
 {
     let mut digits = Buffer::new();
@@ -35,7 +35,7 @@ pub fn write_mailboxes<W: Write>(
     requires { length spools.now ≡ length site.now.boxes }
     ensures ok { OnOk result (Appends (W.contents writer.old) (W.contents writer.new)
         (texts_of_mailboxes site.now.boxes (bytes_of_all spools.now))) }
-    ensures err { OnErr result (Breaks (W.contents writer.old) (W.contents writer.new)
+    ensures err { OnErr result (IsCutOff (W.contents writer.old) (W.contents writer.new)
         (texts_of_mailboxes site.now.boxes (bytes_of_all spools.now))) }
 {
     for number in 0..site.box_count() {

@@ -2,7 +2,7 @@
 
 ghost use Rattle.std.specs.Prelude.{◌≡◌, length, string_bytes, IfOk, OnOk, OnErr};
 ghost use Rattle.std.specs.Io.KnownBytes.{Appends};
-ghost use Rattle.lmtpd.specs.Output.{Breaks};
+ghost use Rattle.lmtpd.specs.Output.{IsCutOff};
 ghost use Rattle.lmtpd.specs.Served.{address_line, count_line, counts_text};
 
 use crate::output::{WriteFault, write_each};
@@ -24,7 +24,7 @@ pub fn address_line(alloc: Global, address: SocketAddr) -> Result<String, AllocE
 fn write_count<W: Write>(writer: &mut W, name: &[u8], tally: &Tally) -> Result<(), WriteFault>
     ensures ok { OnOk result (Appends (W.contents writer.old) (W.contents writer.new)
         (count_line name.now tally.now)) }
-    ensures err { OnErr result (Breaks (W.contents writer.old) (W.contents writer.new)
+    ensures err { OnErr result (IsCutOff (W.contents writer.old) (W.contents writer.new)
         (count_line name.now tally.now)) }
 {
     let mut digits = Buffer::new();
@@ -42,7 +42,7 @@ pub fn write_counts<W: Write>(
     requires { length tallies.now ≡ length site.now.boxes }
     ensures ok { OnOk result (Appends (W.contents writer.old) (W.contents writer.new)
         (counts_text site.now.boxes tallies.now)) }
-    ensures err { OnErr result (Breaks (W.contents writer.old) (W.contents writer.new)
+    ensures err { OnErr result (IsCutOff (W.contents writer.old) (W.contents writer.new)
         (counts_text site.now.boxes tallies.now)) }
 {
     for number in 0..site.box_count() {

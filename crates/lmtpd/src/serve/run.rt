@@ -3,7 +3,7 @@
 ghost use Rattle.std.specs.Prelude.{◌≡◌, ◌↔◌, ◌⊎◌, IfOk, Err, length};
 ghost use Rattle.std.specs.Arc.{arc_value};
 ghost use Rattle.lmtp_house.specs.House.{IsSize};
-ghost use Rattle.lmtpd.specs.Served.{IsServed};
+ghost use Rattle.lmtpd.specs.Served.{IsServerRun};
 
 use super::lines::{address_line, write_counts};
 use super::served::Served;
@@ -45,7 +45,7 @@ where
         result ≡ Err HouseFault.Size ↔ ¬ IsSize (arc_value site) sizes lanes count count }
     ensures sized { let count = length spools.items in
         (result ≡ Err HouseFault.Size) ⊎ IsSize (arc_value site) sizes lanes count count }
-    ensures ran { IfOk result (IsServed L (arc_value site) S.state lanes spools.items) }
+    ensures ran { IfOk result (IsServerRun L (arc_value site) S.state lanes spools.items) }
 {
     if !is_size(&site, sizes, lanes as usize, spools.len(), spools.len()) {
         return Err(HouseFault::Size);

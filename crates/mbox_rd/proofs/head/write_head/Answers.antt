@@ -1,13 +1,13 @@
 use Rattle.std.proofs.Common.{ap, ◌∙◌}
 use Rattle.lmtp_text.specs.Calendar.{civil_at}
 use Rattle.mbox_rd.proofs.Parts.{head_split}
-use Rattle.mbox_rd.proofs.Taken.{OnErr-any, OnOk-rest, OnErr-rest, HasFailed-as, HasFailed-first, TakesUpTo-first}
+use Rattle.mbox_rd.proofs.Taken.{OnErr-any, OnOk-rest, OnErr-rest, SpoolFailed-as, SpoolFailed-first, TakesUpTo-first}
 use Rattle.mbox_rd.proofs.head.write_head.Goals as goal
 
 pub returns-in_err-write_from_line-clause-err : goal.returns-in_err-write_from_line-clause-err
 returns-in_err-write_from_line-clause-err g c = OnErr-any c.from_residual.result (
-    HasFailed-as _ _ _ _ (head_split c.args.host.now _ _ c.args.envelope.now c.sender.ensures (c.of_unix-stamp.ensures ∙ ap civil_at c.moment.ensures))
-    (HasFailed-first _ _ _ _ c.in_err-write_from_line.ensures.err)
+    SpoolFailed-as _ _ _ _ (head_split c.args.host.now _ _ c.args.envelope.now c.sender.ensures (c.of_unix-stamp.ensures ∙ ap civil_at c.moment.ensures))
+    (SpoolFailed-first _ _ _ _ c.in_err-write_from_line.ensures.err)
     )
 
 pub returns-clause-ok : goal.returns-clause-ok

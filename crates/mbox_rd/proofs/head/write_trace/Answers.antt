@@ -1,10 +1,10 @@
 use Rattle.mbox_rd.proofs.Parts.{trace_split}
-use Rattle.mbox_rd.proofs.Taken.{OnErr-any, OnOk-rest, OnErr-rest, HasFailed-as, HasFailed-first, TakesUpTo-first}
+use Rattle.mbox_rd.proofs.Taken.{OnErr-any, OnOk-rest, OnErr-rest, SpoolFailed-as, SpoolFailed-first, TakesUpTo-first}
 use Rattle.mbox_rd.proofs.head.write_trace.Goals as goal
 
 pub returns-in_err-write_origin-clause-err : goal.returns-in_err-write_origin-clause-err
 returns-in_err-write_origin-clause-err g c = OnErr-any c.from_residual.result (
-    HasFailed-as _ _ _ _ (trace_split c.args.host.now c.args.stamp.now c.args.envelope.now) (HasFailed-first _ _ _ _ c.in_err-write_origin.ensures.err)
+    SpoolFailed-as _ _ _ _ (trace_split c.args.host.now c.args.stamp.now c.args.envelope.now) (SpoolFailed-first _ _ _ _ c.in_err-write_origin.ensures.err)
     )
 
 pub returns-clause-ok : goal.returns-clause-ok

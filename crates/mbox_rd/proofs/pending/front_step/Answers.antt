@@ -4,7 +4,7 @@ use Rattle.mail_world.specs.Records.{quoted_text}
 use Rattle.mbox_rd.specs.declared.pending.Pending.TheVariants.{Start, Marks}
 use Rattle.mbox_rd.specs.Writing.{behind_mark}
 use Rattle.mbox_rd.proofs.Rests.{marked_line}
-use Rattle.mbox_rd.proofs.Steps.{IsStep-plain}
+use Rattle.mbox_rd.proofs.Steps.{IsWriterStep-plain}
 use Rattle.mbox_rd.proofs.pending.front_step.Goals as goal
 
 mark : (piece rest : List ℕ) → 0 < length piece → slice_index_or piece 0 0 ≡ 62
@@ -14,11 +14,11 @@ mark [] rest some e = absurd (omega arith)
 mark (b ∷ piece) rest some e = let more = sym (marked_line (unix (piece ++ rest))) in rw e (more, more)
 
 pub returns-then-piece-eq62-clause-start : goal.returns-then-piece-eq62-clause-start
-returns-then-piece-eq62-clause-start c = IsStep-plain Start Marks c.args.piece.now 1 c.unchanged.result
+returns-then-piece-eq62-clause-start c = IsWriterStep-plain Start Marks c.args.piece.now 1 c.unchanged.result
     c.unchanged.ensures.len c.unchanged.ensures.taken c.unchanged.ensures.extra c.unchanged.ensures.next
     (omega (arith, c.requires.some)) tt (omega (arith, c.requires.some)) (λ rest. (mark c.args.piece.now rest c.requires.some c.if-piece-eq62.true).0)
 
 pub returns-then-piece-eq62-clause-marks : goal.returns-then-piece-eq62-clause-marks
-returns-then-piece-eq62-clause-marks c = IsStep-plain Marks Marks c.args.piece.now 1 c.unchanged.result
+returns-then-piece-eq62-clause-marks c = IsWriterStep-plain Marks Marks c.args.piece.now 1 c.unchanged.result
     c.unchanged.ensures.len c.unchanged.ensures.taken c.unchanged.ensures.extra c.unchanged.ensures.next
     (omega (arith, c.requires.some)) tt (omega (arith, c.requires.some)) (λ rest. (mark c.args.piece.now rest c.requires.some c.if-piece-eq62.true).1)

@@ -3,7 +3,7 @@ use Rattle.std.proofs.lemmas.Bool.Decides.{Decides-eqb}
 use Rattle.std.proofs.lemmas.Slice.Eq.{strip_suffix_is}
 use Rattle.mail_world.specs.Text.{cr}
 use Rattle.mbox_rd.specs.declared.pending.Pending.TheVariants.{Start, Inside}
-use Rattle.mbox_rd.proofs.Steps.{IsStep-plain}
+use Rattle.mbox_rd.proofs.Steps.{IsWriterStep-plain}
 use Rattle.mbox_rd.proofs.Ends.{IsEnd-found, no_lf, ends_lf, ends_crlf, crlf_place, ends_cr, cr_len, ends_amid}
 use Rattle.mbox_rd.proofs.pending.line_step.Goals as goal
 
@@ -30,7 +30,7 @@ returns-in-None-strip_suffix c =
     let end = IsEnd-found piece n c.in-Some.ensures.0 c.in-Some.ensures.1 in
     let free = strip_suffix_is Decides-eqb (take n piece) (cr ∷ []) None c.in-None-strip_suffix.ensures.cases in
     let high = end.high in
-    IsStep-plain Inside Start piece (n + 1) c.unchanged.result c.unchanged.ensures.len c.unchanged.ensures.taken c.unchanged.ensures.extra c.unchanged.ensures.next
+    IsWriterStep-plain Inside Start piece (n + 1) c.unchanged.result c.unchanged.ensures.len c.unchanged.ensures.taken c.unchanged.ensures.extra c.unchanged.ensures.next
     (omega (arith, high)) tt (omega (arith, high)) (λ rest. ends_lf piece n rest end free)
 
 pub returns-in-Some-strip_suffix-2 : goal.returns-in-Some-strip_suffix-2
@@ -51,5 +51,5 @@ returns-in-None-strip_suffix-2 c =
     let piece = c.args.piece.now in
     let made = c.unchanged-in-None-strip_suffix-2 in
     let free = strip_suffix_is Decides-eqb piece (cr ∷ []) None c.in-None-strip_suffix-2.ensures.cases in
-    IsStep-plain Inside Inside piece (length piece) made.result made.ensures.len made.ensures.taken made.ensures.extra made.ensures.next
+    IsWriterStep-plain Inside Inside piece (length piece) made.result made.ensures.len made.ensures.taken made.ensures.extra made.ensures.next
     (omega arith) tt (omega (arith, c.requires.some)) (λ rest. ends_amid piece rest (no_lf piece c.in-None.ensures) free)

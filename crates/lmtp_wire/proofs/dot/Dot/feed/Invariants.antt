@@ -1,5 +1,5 @@
 use Rattle.std.proofs.Common.{◌≡◌, ◌<◌, ◌≤◌, length, ℕ, ◌-◌, List, ◌++◌, take, drop, None, ◌∷◌, false}
-use Rattle.lmtp_wire.specs.Dot.{HasMade, Comes}
+use Rattle.lmtp_wire.specs.Dot.{HasMade, HasFed}
 use Rattle.lmtp_wire.proofs.dot.Dot.feed.Given as goal
 
 abbrev pub invariant-loop-fed : goal.invariant-loop-fed
@@ -9,7 +9,7 @@ invariant-loop-fed l = record {
   made : l.fed.made ≤ length l.out;
   rest : drop l.fed.made l.out ≡ drop l.fed.made l.fn.out;
   owes : l.fed.made < length l.out → l.self.owed ≡ None;
-  comes : (taken front : List ℕ) → HasMade l.fn.self taken front → Comes l.self (taken ++ take l.fed.used l.piece) (front ++ take l.fed.made l.out) l.fed.ended;
+  comes : (taken front : List ℕ) → HasMade l.fn.self taken front → HasFed l.self (taken ++ take l.fed.used l.piece) (front ++ take l.fed.made l.out) l.fed.ended;
 }
 
 abbrev pub decreases-loop-fed : goal.decreases-loop-fed

@@ -1,6 +1,6 @@
 use Rattle.std.proofs.Common.{◌≡◌, ◌≤◌, [], ℕ, List, ap, ◌∙◌, subst, refl, sym, Bool, arith}
 use Rattle.mail_world.specs.Depot.{Key, Held, weight_held}
-use Rattle.block_arena.specs.Calls.{depot_key, IsGivenBack, MayGive, RefusesMessage}
+use Rattle.block_arena.specs.Calls.{depot_key, IsGivenBack, MayGiveBack, RefusesMessage}
 use Rattle.msg_depot.specs.declared.view.View.{View}
 use Rattle.msg_depot.specs.declared.view.Kind.TheVariants.{Spent}
 use Rattle.msg_depot.specs.Rules.{token, kind_of, claim_of}
@@ -28,7 +28,7 @@ give_back-requires-clause-holds g c =
     let s = c.spent.invariant in
     let was : c.seat_of.result.me ≡ (token Spent (claim_of c.spent.inside.badge.views), []) = c.seat_of.ensures.1 ∙ ap (λ (l : List View). (token (kind_of l) (claim_of l), [])) s.1 in
     let there = sealed_joined _ _ _ c.self.inside.arena c.self.invariant (depot_key c.spent.inside.key) _ Spent _ (λ e. absurd (cc)) refl was s.2 s.3 c.take_in.ensures.agrees in
-    subst (MayGive c.holds-all.result) (sym there.is) (let all : c.holds-all.result ≡ there.weight = c.holds-all.ensures ∙ ap weight_held there.is in omega arith)
+    subst (MayGiveBack c.holds-all.result) (sym there.is) (let all : c.holds-all.result ≡ there.weight = c.holds-all.ensures ∙ ap weight_held there.is in omega arith)
 
 pub unreachable-requires : goal.unreachable-requires
 unreachable-requires g c =
