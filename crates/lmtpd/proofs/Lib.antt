@@ -6,3 +6,5 @@ pub mod Telling
 pub mod Boxes
 pub mod Ran
 pub mod Orders
+pub mod Unrun
+pub mod AsAsked

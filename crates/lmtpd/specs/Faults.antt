@@ -1,5 +1,5 @@
 -- What the program's words may lack, and what the program then answers.
-use Rattle.std.specs.Prelude.{ℕ, Bool, true, false, not, ◌||◌, nat_lt, ◌==◌, List, [], ◌∷◌, length, if◌then◌else◌, Option, Some, None}
+use Rattle.std.specs.Prelude.{ℕ, Bool, true, false, not, ◌||◌, nat_lt, ◌==◌, List, [], ◌∷◌, length, if◌then◌else◌, Option, Some, None, codes}
 use Rattle.std.specs.Borrow.{Bor}
 use Rattle.std.specs.List.{list_all}
 use Rattle.mail_world.specs.declared.limits.TheConstants.{BOX_LIMIT}
@@ -8,6 +8,7 @@ use Rattle.lmtp_text.specs.Sites.{texts}
 use Rattle.lmtp_text.specs.declared.site.SiteFault.{SiteFault}
 use Rattle.lmtp_text.specs.declared.site.SiteFault.TheVariants as cause
 use Rattle.lmtpd.specs.declared.rehearse.ending.Ending.{Ending}
+use Rattle.lmtpd.specs.declared.serve.served.Served.{Served}
 use Rattle.lmtp_talk.specs.declared.ending.EndCause.{EndCause}
 use Rattle.lmtp_house.specs.declared.house.fault.HouseFault.{HouseFault}
 use Rattle.lmtp_house.specs.declared.house.fault.HouseFault.TheVariants as house
@@ -30,6 +31,22 @@ status_of fault.NoThread = 1
 status_of fault.ChannelGone = 1
 status_of fault.Device = 1
 status_of _ = 2
+
+-- what standard error says of it
+abbrev pub fault_text : Fault → List ℕ
+fault_text fault.Address = codes "bad address"
+fault_text fault.Port = codes "port 25"
+fault_text fault.Host = codes "bad host"
+fault_text fault.Domain = codes "bad domain"
+fault_text fault.Box = codes "bad box"
+fault_text fault.TooManyBoxes = codes "too many boxes"
+fault_text fault.BoxTwice = codes "box named twice"
+fault_text fault.Memory = codes "memory"
+fault_text fault.Listen = codes "cannot listen"
+fault_text fault.Size = codes "size"
+fault_text fault.NoThread = codes "no thread"
+fault_text fault.ChannelGone = codes "channel gone"
+fault_text fault.Device = codes "device fault"
 
 -- the fault for a site that could not be made
 abbrev pub refusal : SiteFault → Fault
@@ -94,3 +111,11 @@ is_broken _ = false
 -- a rehearsal in which a device failed
 abbrev pub is_device_fault : Ending → Bool
 is_device_fault ending = ending.faulty || ending.cut || is_broken ending.end
+
+-- what a rehearsal that was held lacks
+abbrev pub rehearsal_fault : Ending → Option Fault
+rehearsal_fault ending = if is_device_fault ending then Some fault.Device else None
+
+-- what a server that ran lacks: a device's fault comes before a listener's
+abbrev pub server_fault : Served → Option Fault
+server_fault served = if served.faulty || served.cut then Some fault.Device else if served.failed then Some fault.Listen else None

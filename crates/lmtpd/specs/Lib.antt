@@ -7,3 +7,4 @@ pub mod Address
 pub mod Faults
 pub mod Served
 pub mod Unopened
+pub mod Program

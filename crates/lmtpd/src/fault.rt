@@ -1,7 +1,7 @@
 //! What the program says on standard error, and the status that it then ends with.
 
-ghost use Rattle.std.specs.Prelude.{◌≡◌, ◌∷◌, IsOk, if◌then◌else◌, Err, Ok};
-ghost use Rattle.lmtpd.specs.Faults.{house_refusal, is_device_fault, refusal, status_of};
+ghost use Rattle.std.specs.Prelude.{◌≡◌};
+ghost use Rattle.lmtpd.specs.Faults.{fault_text, house_refusal, refusal, rehearsal_fault, status_of};
 
 use crate::rehearse::{EndCause, Ending, HouseFault};
 use lmtp_text::SiteFault;
@@ -10,32 +10,20 @@ use thiserror::Error;
 
 /// Why the program did not do what its words ask for, in the order in which it looks for a cause.
 #[derive(Clone, Copy, Debug, PartialEq, Eq, Error)]
+#[error("{}", self.text())]
 pub enum Fault {
-    #[error("bad address")]
     Address,
-    #[error("port 25")]
     Port,
-    #[error("bad host")]
     Host,
-    #[error("bad domain")]
     Domain,
-    #[error("bad box")]
     Box,
-    #[error("too many boxes")]
     TooManyBoxes,
-    #[error("box named twice")]
     BoxTwice,
-    #[error("memory")]
     Memory,
-    #[error("cannot listen")]
     Listen,
-    #[error("size")]
     Size,
-    #[error("no thread")]
     NoThread,
-    #[error("channel gone")]
     ChannelGone,
-    #[error("device fault")]
     Device,
 }
 
@@ -49,6 +37,27 @@ impl Fault {
             Fault::Box | Fault::TooManyBoxes | Fault::BoxTwice => 2,
             Fault::Memory | Fault::Listen | Fault::Size => 1,
             Fault::NoThread | Fault::ChannelGone | Fault::Device => 1,
+        }
+    }
+
+    /// What standard error says of it.
+    pub fn text(self) -> &'static str
+        ensures { result.now ≡ fault_text self }
+    {
+        match self {
+            Fault::Address => "bad address",
+            Fault::Port => "port 25",
+            Fault::Host => "bad host",
+            Fault::Domain => "bad domain",
+            Fault::Box => "bad box",
+            Fault::TooManyBoxes => "too many boxes",
+            Fault::BoxTwice => "box named twice",
+            Fault::Memory => "memory",
+            Fault::Listen => "cannot listen",
+            Fault::Size => "size",
+            Fault::NoThread => "no thread",
+            Fault::ChannelGone => "channel gone",
+            Fault::Device => "device fault",
         }
     }
 }
@@ -101,15 +110,15 @@ impl From<HouseFault> for Fault {
     }
 }
 
-/// What a rehearsal that ended so comes to: a spool, a reader or a writer that failed is a fault of a device.
-pub fn outcome(ending: Ending) -> Result<(), Fault>
-    ensures { result ≡ (if is_device_fault ending then Err Fault.Device else Ok record {}) }
+/// What a rehearsal that ended so lacks: a spool, a reader or a writer that failed is a fault of a device.
+pub fn rehearsal_fault(ending: Ending) -> Option<Fault>
+    ensures { result ≡ rehearsal_fault ending }
 {
     let is_broken = matches!(ending.end, EndCause::ReadFault | EndCause::WriteFault);
     if ending.faulty || ending.cut || is_broken {
-        Err(Fault::Device)
+        Some(Fault::Device)
     } else {
-        Ok(())
+        None
     }
 }
 

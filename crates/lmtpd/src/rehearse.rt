@@ -1,5 +1,6 @@
 //! A rehearsal: one conversation from a reader, its replies and then its mailboxes to a writer.
 
+mod asked;
 mod client;
 mod clock;
 mod ending;
@@ -8,9 +9,11 @@ mod parts;
 mod peer;
 mod run;
 
+pub use asked::rehearse_asked;
 pub use ending::{Ending, Rehearsed};
 pub use lmtp_house::{EndCause, HouseFault};
-pub use run::rehearse_run;
+#[cfg(test)]
+use run::rehearse_run;
 
 #[cfg(test)]
 mod tests;

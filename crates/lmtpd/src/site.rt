@@ -1,6 +1,7 @@
 //! The site that the program's words name.
 
 ghost use Rattle.std.specs.Prelude.{◌≡◌, ◌⊎◌, true, Some, None, IfOk, MatchResult};
+ghost use Rattle.std.specs.Arc.{arc_value};
 ghost use Rattle.mail_world.specs.Site.{IsSite, is_box_name};
 ghost use Rattle.std.specs.List.{list_all};
 ghost use Rattle.lmtp_text.specs.Sites.{site_of, texts};
@@ -11,6 +12,7 @@ use crate::fault::Fault;
 use lmtp_text::Site;
 use lmtpd_words::SiteWords;
 use std::alloc::{AllocError, Global};
+use std::sync::Arc;
 
 /// The site of these words. Each mailbox is tried alone first, so that a bad name comes before too many.
 pub fn site_of(alloc: Global, words: &SiteWords) -> Result<Site, Fault>
@@ -22,6 +24,16 @@ pub fn site_of(alloc: Global, words: &SiteWords) -> Result<Site, Fault>
     let domains = bytes_of(alloc, &words.domains)?;
     let boxes = bytes_of(alloc, &words.boxes)?;
     make_site(alloc, words.host.as_bytes(), &domains, &boxes)
+}
+
+/// The same, to be shared by threads.
+pub fn shared_site(alloc: Global, words: &SiteWords) -> Result<Arc<Site>, Fault>
+    ensures { MatchResult result
+        (λ site. (arc_value site ≡ named_site words.now) × (first_fault (named_site words.now) ≡ None))
+        (λ fault. (fault ≡ Fault.Memory) ⊎ (first_fault (named_site words.now) ≡ Some fault)) }
+{
+    let site = Arc::new(alloc, site_of(alloc, words)?)?;
+    Ok(site)
 }
 
 fn bytes_of<'a>(alloc: Global, names: &[&'a str]) -> Result<Vec<&'a [u8]>, AllocError>

@@ -1,11 +1,23 @@
 //! Why the program ends before its work is done, and what it says then.
 
-ghost use Rattle.std.specs.Prelude.{◌≡◌};
+ghost use Rattle.std.specs.Prelude.{◌≡◌, flat_map};
 ghost use Rattle.lmtpd.specs.Faults.{stop_for, stop_status, words_status};
+ghost use Rattle.lmtpd.specs.Program.{line_after, status_after, stop_line, unopened_line};
+ghost use Rattle.lmtpd.specs.Rehearsal.{IsListed};
 
 use crate::fault::Fault;
+use crate::output::write_each;
 use clap::Error;
 use clap::error::ErrorKind;
+use std::io::Write;
+
+/// How the program ends.
+#[derive(Clone, Copy, Debug, PartialEq, Eq)]
+pub struct Exit {
+    pub status: u8,
+    /// Whether a write to standard error failed; nothing was written after it.
+    pub cut: bool,
+}
 
 /// Words that `clap` refuses or answers with help, a fault, or a mailbox whose file can't be opened.
 #[derive(Debug, Drop)]
@@ -39,25 +51,60 @@ impl From<Fault> for Stop<'_> {
 }
 
 impl Stop<'_> {
-    /// Says it, and gives the program's exit status. Text that can't be written is dropped.
-    pub fn report<R: Print + Eprint>(self, rt: &R) -> u8
-        ensures { result ≡ stop_status self.entry }
+    /// Says it on `error`. What `clap` has to say is printed by `rt`, and dropped where it can't be.
+    pub fn report<R: Print + Eprint, E: Write>(&self, rt: &R, error: &mut E) -> Exit
+        ensures status { result.status ≡ stop_status self.now }
+        ensures line { IsListed (stop_line self.now) (E.contents error.old) (E.contents error.new) result.cut }
     {
         match self {
             Stop::Words(refused) => {
                 let _ = refused.print(rt);
-                words_status(refused.kind())
+                Exit {
+                    status: words_status(refused.kind()),
+                    cut: false,
+                }
             }
-            Stop::Fault(fault) => {
-                let _ = eprintln!(rt; "lmtpd: {fault}");
-                fault.status()
-            }
-            Stop::Unopened(name) => {
-                let _ = eprintln!(rt; "lmtpd: cannot open {name}.mbox");
-                1
-            }
+            Stop::Fault(fault) => report_fault(Some(*fault), error),
+            Stop::Unopened(name) => report_unopened(name, error),
         }
     }
+}
+
+/// Says on `error` what is lacking, if anything is.
+pub fn report_fault<E: Write>(fault: Option<Fault>, error: &mut E) -> Exit
+    ensures status { result.status ≡ status_after fault }
+    ensures line { IsListed (line_after fault) (E.contents error.old) (E.contents error.new) result.cut }
+{
+    match fault {
+        Some(fault) => Exit {
+            status: fault.status(),
+            cut: is_cut(error, &[b"lmtpd: ", fault.text().as_bytes(), b"\n"]),
+        },
+        None => Exit {
+            status: 0,
+            cut: false,
+        },
+    }
+}
+
+fn report_unopened<E: Write>(name: &str, error: &mut E) -> Exit
+    ensures status { result.status ≡ 1 }
+    ensures line { IsListed (unopened_line name.now) (E.contents error.old) (E.contents error.new) result.cut }
+{
+    Exit {
+        status: 1,
+        cut: is_cut(
+            error,
+            &[b"lmtpd: cannot open ", name.as_bytes(), b".mbox\n"],
+        ),
+    }
+}
+
+// Writes the pieces of a line, and says whether a write fails.
+fn is_cut<E: Write>(error: &mut E, pieces: &[&[u8]]) -> bool
+    ensures { IsListed (flat_map (λ piece. piece.now) pieces.now) (E.contents error.old) (E.contents error.new) result }
+{
+    write_each(error, pieces).is_err()
 }
 
 fn words_status(kind: ErrorKind) -> u8

@@ -1,4 +1,4 @@
-use super::{Fault, outcome};
+use super::{Fault, rehearsal_fault};
 use crate::rehearse::{EndCause, Ending};
 use std::test::Fail;
 
@@ -38,7 +38,7 @@ fn only_a_whole_rehearsal_is_good(rt: HostRuntime) {
         (EndCause::Quit, false, true, false),
     ];
     for (end, faulty, cut, good) in table {
-        let ended = outcome(Ending { end, faulty, cut });
-        assert_eq!(rt; ended.is_ok(), good);
+        let lacks = rehearsal_fault(Ending { end, faulty, cut });
+        assert_eq!(rt; lacks.is_none(), good);
     }
 }

@@ -1,6 +1,6 @@
 //! A server's run, from the line that says where it listens to the lines that say what was stored.
 
-ghost use Rattle.std.specs.Prelude.{◌≡◌, ◌↔◌, IfOk, Err, length};
+ghost use Rattle.std.specs.Prelude.{◌≡◌, ◌↔◌, ◌⊎◌, IfOk, Err, length};
 ghost use Rattle.std.specs.Arc.{arc_value};
 ghost use Rattle.lmtp_house.specs.House.{IsSize};
 ghost use Rattle.lmtpd.specs.Served.{IsServerRun};
@@ -43,6 +43,8 @@ where
     H: Threads + Wait + Clock + Copy + Drop + Send + Sync + 'static,
     ensures size { let count = length spools.items in
         result ≡ Err HouseFault.Size ↔ ¬ IsSize (arc_value site) sizes lanes count count }
+    ensures sized { let count = length spools.items in
+        (result ≡ Err HouseFault.Size) ⊎ IsSize (arc_value site) sizes lanes count count }
     ensures ran { IfOk result (IsServerRun L (arc_value site) S.state lanes spools.items) }
 {
     if !is_size(&site, sizes, lanes as usize, spools.len(), spools.len()) {

@@ -1,6 +1,7 @@
 //! How a server's run ended.
 
-ghost use Rattle.std.specs.Prelude.{◌≡◌, ◌||◌, if◌then◌else◌, Err, Ok};
+ghost use Rattle.std.specs.Prelude.{◌≡◌};
+ghost use Rattle.lmtpd.specs.Faults.{server_fault};
 
 use crate::fault::Fault;
 
@@ -16,18 +17,16 @@ pub struct Served {
 }
 
 impl Served {
-    /// A spool or a write that failed is a fault of a device, and comes before a listener that did.
-    pub fn outcome(self) -> Result<(), Fault>
-        ensures { result ≡ (if self.faulty || self.cut then Err Fault.Device
-            else if self.failed then Err Fault.Listen
-            else Ok record {}) }
+    /// What the run lacks: a spool or a write that failed is a fault of a device, and comes before a listener that did.
+    pub fn fault(self) -> Option<Fault>
+        ensures { result ≡ server_fault self }
     {
         if self.faulty || self.cut {
-            Err(Fault::Device)
+            Some(Fault::Device)
         } else if self.failed {
-            Err(Fault::Listen)
+            Some(Fault::Listen)
         } else {
-            Ok(())
+            None
         }
     }
 }

@@ -225,19 +225,19 @@ fn a_size_is_told_before_anything_is_said(rt: HostRuntime) -> Result<(), Fail> {
 #[test]
 fn a_device_fault_comes_before_a_listener_that_failed(rt: HostRuntime) {
     let table = [
-        (false, false, false, Ok(())),
-        (false, true, false, Err(Fault::Listen)),
-        (true, false, false, Err(Fault::Device)),
-        (false, false, true, Err(Fault::Device)),
-        (true, true, false, Err(Fault::Device)),
-        (false, true, true, Err(Fault::Device)),
+        (false, false, false, None),
+        (false, true, false, Some(Fault::Listen)),
+        (true, false, false, Some(Fault::Device)),
+        (false, false, true, Some(Fault::Device)),
+        (true, true, false, Some(Fault::Device)),
+        (false, true, true, Some(Fault::Device)),
     ];
-    for (faulty, failed, cut, outcome) in table {
+    for (faulty, failed, cut, fault) in table {
         let served = Served {
             faulty,
             failed,
             cut,
         };
-        assert_eq!(rt; served.outcome(), outcome);
+        assert_eq!(rt; served.fault(), fault);
     }
 }

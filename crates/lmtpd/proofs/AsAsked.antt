@@ -1,0 +1,71 @@
+-- A server that words ask for: what it comes to, and why it didn't run, cause by cause.
+use Rattle.std.proofs.Common.{◌≡◌, ◌⊎◌, inl, inr, ℕ, List, length, Some, None, refl, ap, sym, subst}
+use Rattle.std.specs.Prelude.{Err, Ok, Result}
+use Rattle.mail_world.specs.Site.{Site}
+use Rattle.mbox_rd.specs.Spool.{SpoolState}
+use Rattle.lmtp_house.specs.House.{IsSize}
+use Rattle.lmtp_house.specs.declared.house.sizes.Sizes.{Sizes}
+use Rattle.lmtpd.specs.declared.serve.served.Served.{Served}
+use Rattle.lmtpd.specs.Served.{IsServerRun}
+use Rattle.lmtp_house.specs.declared.house.fault.HouseFault.{HouseFault}
+use Rattle.lmtp_house.specs.declared.house.fault.HouseFault.TheVariants as house
+use Rattle.lmtpd_words.specs.Words.{named_site}
+use Rattle.lmtpd_words.specs.declared.words.ServeWords.{ServeWords}
+use Rattle.lmtpd.specs.declared.fault.Fault.TheVariants as fault
+use Rattle.lmtpd.specs.declared.stop.Stop.TheVariants as stop
+use Rattle.lmtpd.specs.Faults.{first_fault, house_refusal}
+use Rattle.lmtpd.specs.Program.{IsAddress, IsNotRun, IsNotServed, IsServedAsAsked, IsSizeAsked, sizes_asked}
+use Rattle.lmtpd.proofs.Unrun.{causes, unrun}
+
+not_run : (words : ServeWords) (cause : HouseFault) → IsAddress words.listen.now → first_fault (named_site words.site) ≡ None
+    → (house_refusal cause ≡ fault.Memory) ⊎ IsNotRun (IsSizeAsked words) (house_refusal cause) → IsNotServed words (stop.Fault (house_refusal cause))
+not_run words cause address sound (inl memory) = inl (ap stop.Fault memory)
+not_run words cause address sound (inr why) = inr (inr (address, inr (sound, inr why)))
+
+size_asked : (words : ServeWords) (site : Site) (sizes : Sizes) (count : ℕ) → site ≡ named_site words.site → sizes ≡ sizes_asked words → count ≡ length words.site.boxes.items
+    → IsSize site sizes words.lanes count count → IsSizeAsked words
+size_asked words site sizes count is asked boxes good =
+    subst (λ (n : ℕ). IsSize (named_site words.site) (sizes_asked words) words.lanes n n) boxes
+    (subst (λ (z : Sizes). IsSize (named_site words.site) z words.lanes count count) asked
+    (subst (λ (s : Site). IsSize s sizes words.lanes count count) is good))
+
+size_given : (words : ServeWords) (site : Site) (sizes : Sizes) (count : ℕ) → site ≡ named_site words.site → sizes ≡ sizes_asked words → count ≡ length words.site.boxes.items
+    → IsSizeAsked words → IsSize site sizes words.lanes count count
+size_given words site sizes count is asked boxes good =
+    subst (λ (s : Site). IsSize s sizes words.lanes count count) (sym is)
+    (subst (λ (z : Sizes). IsSize (named_site words.site) z words.lanes count count) (sym asked)
+    (subst (λ (n : ℕ). IsSize (named_site words.site) (sizes_asked words) words.lanes n n) (sym boxes) good))
+
+size_of_sum : {X : Type 0} (x : X) (Good : Type 0) → (◌≡◌ {A = Result X HouseFault} (Ok x) (Err house.Size)) ⊎ Good → Good
+size_of_sum x Good (inl e) = cc
+size_of_sum x Good (inr good) = good
+
+pub served_as_asked : (L : Type 0) {S : Type 0} (state : S → SpoolState) (words : ServeWords) (served : Served) (site : Site) (sizes : Sizes) (spools : List S)
+    → IsAddress words.listen.now → (site ≡ named_site words.site) × (first_fault (named_site words.site) ≡ None) → sizes ≡ sizes_asked words
+    → length spools ≡ length words.site.boxes.items
+    → (◌≡◌ {A = Result Served HouseFault} (Ok served) (Err house.Size)) ⊎ IsSize site sizes words.lanes (length spools) (length spools)
+    → IsServerRun L site state words.lanes spools served
+    → IsServedAsAsked L state words served
+served_as_asked L state words served site sizes spools address made asked boxes good ran = record {
+  address = address;
+  sound = made.1;
+  sizes = size_asked words site sizes (length spools) made.0 asked boxes (size_of_sum served (IsSize site sizes words.lanes (length spools) (length spools)) good);
+  spools = spools;
+  each_box = boxes;
+  ran = subst (λ (s : Site). IsServerRun L s state words.lanes spools served) made.0 ran;
+}
+
+pub no_server : (words : ServeWords) (cause : HouseFault) (site : Site) (sizes : Sizes) (count : ℕ)
+    → IsAddress words.listen.now → (site ≡ named_site words.site) × (first_fault (named_site words.site) ≡ None) → sizes ≡ sizes_asked words
+    → count ≡ length words.site.boxes.items
+    → (◌≡◌ {A = Result Served HouseFault} (Err cause) (Err house.Size) → IsSize site sizes words.lanes count count → ⊥)
+    → (◌≡◌ {A = Result Served HouseFault} (Err cause) (Err house.Size)) ⊎ IsSize site sizes words.lanes count count
+    → IsNotServed words (stop.Fault (house_refusal cause))
+no_server words cause site sizes count address made asked boxes only (inl e) =
+    not_run words cause address made.1 (unrun (IsSizeAsked words) cause (inr (λ good. only e (size_given words site sizes count made.0 asked boxes good)))
+    (λ f good. only (ap Err f) (size_given words site sizes count made.0 asked boxes good))
+    (λ bad. causes {X = Served} cause house.Size house.Memory (inl e)))
+no_server words cause site sizes count address made asked boxes only (inr good) =
+    not_run words cause address made.1 (unrun (IsSizeAsked words) cause (inl (size_asked words site sizes count made.0 asked boxes good))
+    (λ f asks. only (ap Err f) (size_given words site sizes count made.0 asked boxes asks))
+    (λ bad. absurd (bad (size_asked words site sizes count made.0 asked boxes good))))

@@ -1,0 +1,134 @@
+-- What a run of the program comes to: the words say what is asked for, and then come what was done, the line on standard error and the
+-- status.
+use Rattle.std.specs.Prelude.{◌≡◌, ◌≢◌, ◌⊎◌, ℕ, true, List, [], ◌∷◌, ◌++◌, length, codes, Option, Some, None, Contains}
+use Rattle.std.specs.Net.Socket.{socket_port}
+use Rattle.std.specs.Net.Grammar.{IsSocketText}
+use Rattle.std.specs.declared.net.SocketAddr.{SocketAddr}
+use Rattle.clap.specs.Words.{Row, Text, kind_of, subcommand_of, takes}
+use Rattle.clap.specs.declared.error.Error.{Error}
+use Rattle.clap.specs.declared.error.kind.ErrorKind.TheVariants.{OutOfMemory}
+use Rattle.mail_world.specs.Text.{lf}
+use Rattle.mail_world.specs.Site.{Site}
+use Rattle.mbox_rd.specs.Spool.{SpoolState}
+use Rattle.lmtp_house.specs.House.{IsSize}
+use Rattle.lmtp_house.specs.declared.house.sizes.Sizes.{Sizes}
+use Rattle.lmtpd_words.specs.CommandLine.{program_app}
+use Rattle.lmtpd_words.specs.Words.{IsAsked, IsLacking, named_site}
+use Rattle.lmtpd_words.specs.declared.words.RehearseWords.{RehearseWords}
+use Rattle.lmtpd_words.specs.declared.words.ServeWords.{ServeWords}
+use Rattle.lmtpd_words.specs.declared.words.Words.TheVariants.{Rehearse, Serve}
+use Rattle.lmtpd.specs.Address.{IsRefused}
+use Rattle.lmtpd.specs.Faults.{fault_text, first_fault, rehearsal_fault, server_fault, status_of, stop_for, stop_status}
+use Rattle.lmtpd.specs.Rehearsal.{IsBlockCount, IsRehearsed, Streams}
+use Rattle.lmtpd.specs.Served.{IsServerRun}
+use Rattle.lmtpd.specs.Unopened.{IsUnopened}
+use Rattle.lmtpd.specs.declared.fault.Fault.{Fault}
+use Rattle.lmtpd.specs.declared.fault.Fault.TheVariants as fault
+use Rattle.lmtpd.specs.declared.program.Done.{Done}
+use Rattle.lmtpd.specs.declared.program.Done.TheVariants.{Rehearsed, Served, Stopped}
+use Rattle.lmtpd.specs.declared.rehearse.ending.Ending.{Ending}
+use Rattle.lmtpd.specs.declared.serve.served.Served.{Served as ServedRun}
+use Rattle.lmtpd.specs.declared.serve.address.TheConstants.{SMTP_PORT}
+use Rattle.lmtpd.specs.declared.stop.Stop.{Stop}
+use Rattle.lmtpd.specs.declared.stop.Stop.TheVariants as stop
+
+-- the line on standard error for a fault
+abbrev pub fault_line : Fault → List ℕ
+fault_line f = codes "lmtpd: " ++ fault_text f ++ (lf ∷ [])
+
+-- the line for a mailbox whose file can't be opened
+abbrev pub unopened_line : List ℕ → List ℕ
+unopened_line name = codes "lmtpd: cannot open " ++ name ++ (codes ".mbox" ++ (lf ∷ []))
+
+-- what the program itself says where it stops early; clap says its own text
+abbrev pub stop_line : Stop → List ℕ
+stop_line (stop.Words error) = []
+stop_line (stop.Fault f) = fault_line f
+stop_line (stop.Unopened name) = unopened_line name.now
+
+-- the line and the status where all was done that was asked for, but for a fault
+abbrev pub line_after : Option Fault → List ℕ
+line_after None = []
+line_after (Some f) = fault_line f
+
+abbrev pub status_after : Option Fault → ℕ
+status_after None = 0
+status_after (Some f) = status_of f
+
+-- why a server of a size didn't run, where memory wasn't wanting
+abbrev pub IsNotRun : Type 0 → Fault → Type 0
+IsNotRun IsSize fault.Size = ¬ IsSize
+IsNotRun IsSize fault.NoThread = IsSize
+IsNotRun IsSize fault.ChannelGone = IsSize
+IsNotRun IsSize _ = ⊥
+
+-- A rehearsal that its words asked for was held: at the site that they name, at their moment, with as many blocks as they say.
+pub record IsRehearsedAsAsked (words : RehearseWords) (old new : Streams) (ending : Ending) : Type 0 where
+  pub sound : first_fault (named_site words.site) ≡ None
+  pub blocks : IsBlockCount words.blocks
+  pub rehearsed : IsRehearsed (named_site words.site) words.time old new ending
+
+-- Why none was held: memory is wanting, and else the first fault of the site, and then one of the server that was to run.
+abbrev pub IsNotRehearsed : RehearseWords → Fault → Type 0
+IsNotRehearsed words f = (f ≡ fault.Memory)
+    ⊎ ((first_fault (named_site words.site) ≡ Some f)
+    ⊎ ((first_fault (named_site words.site) ≡ None) × IsNotRun (IsBlockCount words.blocks) f))
+
+-- an address that a server may listen at
+abbrev pub IsAddress : List ℕ → Type 0
+IsAddress text = (address : SocketAddr) × IsSocketText text address × (socket_port address ≢ SMTP_PORT)
+
+-- the sizes that the words of a server ask for: a slot for each lane
+abbrev pub sizes_asked : ServeWords → Sizes
+sizes_asked words = record { blocks = words.blocks; slots = words.lanes; capacity = words.capacity }
+
+abbrev pub IsSizeAsked : ServeWords → Type 0
+IsSizeAsked words = IsSize (named_site words.site) (sizes_asked words) words.lanes (length words.site.boxes.items) (length words.site.boxes.items)
+
+-- A server that its words asked for ran: where they say, at the site that they name, with their sizes, over a spool for each mailbox.
+pub record IsServedAsAsked (L : Type 0) {S : Type 0} (state : S → SpoolState) (words : ServeWords) (served : ServedRun) : Type 0 where
+  pub address : IsAddress words.listen.now
+  pub sound : first_fault (named_site words.site) ≡ None
+  pub sizes : IsSizeAsked words
+  pub spools : List S
+  pub each_box : length spools ≡ length words.site.boxes.items
+  pub ran : IsServerRun L (named_site words.site) state words.lanes spools served
+
+-- why none ran though its site is sound: a mailbox's file, the listener, or the server
+abbrev pub IsNotServedAt : ServeWords → Stop → Type 0
+IsNotServedAt words (stop.Words error) = ⊥
+IsNotServedAt words (stop.Unopened name) = Contains words.site.boxes.items name
+IsNotServedAt words (stop.Fault f) = (f ≡ fault.Listen) ⊎ IsNotRun (IsSizeAsked words) f
+
+-- Why none ran: memory is wanting, and else the first of the address, the site, the files, the listener and the server itself.
+abbrev pub IsNotServed : ServeWords → Stop → Type 0
+IsNotServed words s = (s ≡ stop.Fault fault.Memory)
+    ⊎ (((f : Fault) × (s ≡ stop.Fault f) × IsRefused words.listen.now f)
+    ⊎ (IsAddress words.listen.now × (((f : Fault) × (s ≡ stop.Fault f) × (first_fault (named_site words.site) ≡ Some f))
+    ⊎ ((first_fault (named_site words.site) ≡ None) × IsNotServedAt words s))))
+
+-- why the program stopped early: clap's answer to its words, or why there was no rehearsal or no server
+abbrev pub IsStopped : List Text → Stop → Type 0
+IsStopped texts s = ((error : Error) × (s ≡ stop_for error) × (takes program_app texts ≡ true → (kind_of error ≡ OutOfMemory) ⊎ IsLacking (subcommand_of program_app texts)))
+    ⊎ (((words : RehearseWords) × IsAsked (subcommand_of program_app texts) (Rehearse words) × ((f : Fault) × (s ≡ stop.Fault f) × IsNotRehearsed words f))
+    ⊎ ((words : ServeWords) × IsAsked (subcommand_of program_app texts) (Serve words) × IsNotServed words s))
+
+-- What the program did is what its words ask for: `streams` is what contracts see of a reader and a writer, and `IsRun` says which runs of
+-- a server its words ask for.
+module _ {R W : Type 0} where
+  abbrev pub IsDone : (R → W → Streams) → (ServeWords → ServedRun → Type 0) → List Text → Streams → Done R W → Type 0
+  IsDone streams IsRun texts old (Rehearsed it) =
+      (words : RehearseWords) × IsAsked (subcommand_of program_app texts) (Rehearse words) × IsRehearsedAsAsked words old (streams it.reader it.writer) it.ending
+  IsDone streams IsRun texts old (Served it) = (words : ServeWords) × IsAsked (subcommand_of program_app texts) (Serve words) × IsRun words it
+  IsDone streams IsRun texts old (Stopped s) = IsStopped texts s
+
+  -- the status of the program, and its line on standard error: 0 only for what was done with no fault, and for help
+  abbrev pub exit_status : Done R W → ℕ
+  exit_status (Rehearsed it) = status_after (rehearsal_fault it.ending)
+  exit_status (Served it) = status_after (server_fault it)
+  exit_status (Stopped s) = stop_status s
+
+  abbrev pub exit_line : Done R W → List ℕ
+  exit_line (Rehearsed it) = line_after (rehearsal_fault it.ending)
+  exit_line (Served it) = line_after (server_fault it)
+  exit_line (Stopped s) = stop_line s

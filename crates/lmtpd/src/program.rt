@@ -1,0 +1,119 @@
+//! What the program does with its words, the line that it says where something went wrong, and its status.
+
+ghost use Rattle.std.specs.Prelude.{◌≡◌};
+ghost use Rattle.lmtp_lane.specs.declared.tcp.listener.TimedListener.{TimedListener};
+ghost use Rattle.lmtpd_words.specs.Words.{given};
+ghost use Rattle.lmtpd.specs.Program.{IsDone, IsServedAsAsked, exit_line, exit_status};
+ghost use Rattle.lmtpd.specs.Rehearsal.{IsListed};
+
+use crate::fault::rehearsal_fault;
+use crate::rehearse::{Rehearsed, rehearse_asked};
+use crate::serve::{Served, serve_asked};
+use crate::stop::{Exit, Stop, report_fault};
+use lmtpd_words::{Words, read_words};
+use mbox_rd::{FileLock, FileSpool, Spool};
+use std::fs::Files;
+use std::io::{Read, Write};
+use std::net::Net;
+use std::sync::Wait;
+use std::thread::Threads;
+use std::time::Clock;
+
+/// What the program did.
+#[derive(Drop)]
+pub enum Done<'a, R, W> {
+    Rehearsed(Rehearsed<R, W>),
+    Served(Served),
+    /// It stopped before its work was done.
+    Stopped(Stop<'a>),
+}
+
+/// How the program ended.
+#[derive(Drop)]
+pub struct Ended<'a, R, W> {
+    pub done: Done<'a, R, W>,
+    pub exit: Exit,
+}
+
+/// Runs the program with these words, its own name first. `rt` prints clap's texts, and opens files and listeners; by
+/// `threads` lanes and workers start. The program's own lines go to `error`.
+pub fn run_program<'a, P, H, R, W, E>(
+    rt: &P,
+    threads: H,
+    words: &'a [String],
+    reader: R,
+    writer: W,
+    error: &mut E,
+) -> Ended<'a, R, W>
+where
+    P: AllocGlobal + Print + Eprint + Files + Net,
+    P::File: FileLock + Send + 'static,
+    P::Listener: Send + Sync + 'static,
+    P::Stream: Send + 'static,
+    H: Threads + Wait + Clock + Copy + Drop + Send + Sync + 'static,
+    R: Read + Drop + Send + 'static,
+    W: Write + Drop + Send + 'static,
+    E: Write,
+    ensures done { IsDone (λ reader writer. record { unread = R.remaining reader; written = W.contents writer })
+        (IsServedAsAsked (TimedListener P.Listener) (⟦<FileSpool<P::File> as Spool>⟧.state)) (given words.entry.now)
+        (record { unread = R.remaining reader; written = W.contents writer }) result.done }
+    ensures status { result.exit.status ≡ exit_status result.done }
+    ensures line { IsListed (exit_line result.done) (E.contents error.old) (E.contents error.new) result.exit.cut }
+{
+    let done = do_asked(rt, threads, words, reader, writer);
+    let exit = report(rt, &done, error);
+    Ended { done, exit }
+}
+
+// Does what the words ask for.
+fn do_asked<'a, P, H, R, W>(
+    rt: &P,
+    threads: H,
+    words: &'a [String],
+    reader: R,
+    writer: W,
+) -> Done<'a, R, W>
+where
+    P: AllocGlobal + Files + Net,
+    P::File: FileLock + Send + 'static,
+    P::Listener: Send + Sync + 'static,
+    P::Stream: Send + 'static,
+    H: Threads + Wait + Clock + Copy + Drop + Send + Sync + 'static,
+    R: Read + Drop + Send + 'static,
+    W: Write + Drop + Send + 'static,
+    ensures { IsDone (λ reader writer. record { unread = R.remaining reader; written = W.contents writer })
+        (IsServedAsAsked (TimedListener P.Listener) (⟦<FileSpool<P::File> as Spool>⟧.state)) (given words.entry.now)
+        (record { unread = R.remaining reader; written = W.contents writer }) result }
+{
+    match read_words(rt.alloc(), words) {
+        Ok(Words::Rehearse(asked)) => {
+            match rehearse_asked(threads, rt.alloc(), &asked, reader, writer) {
+                Ok(rehearsed) => Done::Rehearsed(rehearsed),
+                Err(fault) => Done::Stopped(Stop::Fault(fault)),
+            }
+        }
+        Ok(Words::Serve(asked)) => match serve_asked(rt, threads, &asked, writer) {
+            Ok(served) => Done::Served(served),
+            Err(stop) => Done::Stopped(stop),
+        },
+        Err(refused) => Done::Stopped(Stop::from(refused)),
+    }
+}
+
+// Says what went wrong, and gives the status.
+fn report<P, R, W, E>(rt: &P, done: &Done<'_, R, W>, error: &mut E) -> Exit
+where
+    P: Print + Eprint,
+    E: Write,
+    ensures status { result.status ≡ exit_status done.now }
+    ensures line { IsListed (exit_line done.now) (E.contents error.old) (E.contents error.new) result.cut }
+{
+    match done {
+        Done::Rehearsed(rehearsed) => report_fault(rehearsal_fault(rehearsed.ending), error),
+        Done::Served(served) => report_fault(served.fault(), error),
+        Done::Stopped(stop) => stop.report(rt, error),
+    }
+}
+
+#[cfg(test)]
+mod tests;

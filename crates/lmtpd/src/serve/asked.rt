@@ -1,0 +1,88 @@
+//! The server that the program's words ask for.
+
+ghost use Rattle.std.specs.Prelude.{◌≡◌, MatchResult};
+ghost use Rattle.lmtp_lane.specs.declared.tcp.listener.TimedListener.{TimedListener};
+ghost use Rattle.lmtpd.specs.Program.{IsNotServed, IsServedAsAsked, sizes_asked};
+
+use super::address::address_of;
+use super::mailboxes::open_mailboxes;
+use super::run::serve_run;
+use super::served::Served;
+use crate::fault::Fault;
+use crate::site::shared_site;
+use crate::stop::Stop;
+use lmtp_house::{Sizes, TimedListener};
+use lmtpd_words::ServeWords;
+use mbox_rd::{FileLock, FileSpool, Spool};
+use std::fs::{Files, OpenOptions};
+use std::io::Write;
+use std::net::{Net, TcpListener};
+use std::sync::Wait;
+use std::thread::Threads;
+use std::time::Clock;
+
+/// Runs the server. `rt` opens its files and its listener, `threads` is the handle that its threads take.
+pub fn serve_asked<'a, P, H, W>(
+    rt: &P,
+    threads: H,
+    words: &ServeWords<'a>,
+    writer: W,
+) -> Result<Served, Stop<'a>>
+where
+    P: AllocGlobal + Files + Net,
+    P::File: FileLock + Send + 'static,
+    P::Listener: Send + Sync + 'static,
+    P::Stream: Send + 'static,
+    H: Threads + Wait + Clock + Copy + Drop + Send + Sync + 'static,
+    W: Write + Drop,
+    ensures { MatchResult result
+        (IsServedAsAsked (TimedListener P.Listener) (⟦<FileSpool<P::File> as Spool>⟧.state) words.now)
+        (IsNotServed words.now) }
+{
+    let alloc = rt.alloc();
+    let _input = null(rt);
+    let _output = null(rt);
+    let _error = null(rt);
+    let address = address_of(words.listen)?;
+    let site = shared_site(alloc, &words.site)?;
+    let spools = open_mailboxes(rt, alloc, words.dir, &words.site.boxes)?;
+    let Ok(listener) = TcpListener::bind(rt, address) else {
+        return Err(Stop::Fault(Fault::Listen));
+    };
+    match serve_run(
+        threads,
+        alloc,
+        site,
+        sizes_asked(words),
+        words.lanes,
+        u64::from(words.connections),
+        u64::from(words.reads),
+        TimedListener::new(listener, words.timeout),
+        spools,
+        writer,
+    ) {
+        Ok(served) => Ok(served),
+        Err(cause) => Err(Stop::Fault(Fault::from(cause))),
+    }
+}
+
+// Held three times, it stands where a standard stream is closed: else a mailbox would be opened there, and take what is
+// said.
+fn null<P: Files>(rt: &P) -> Option<P::File> {
+    OpenOptions::new()
+        .read(true)
+        .write(true)
+        .open(rt, "/dev/null")
+        .ok()
+}
+
+// A slot for each lane.
+fn sizes_asked(words: &ServeWords<'_>) -> Sizes
+    ensures { result ≡ sizes_asked words.now }
+{
+    Sizes {
+        blocks: words.blocks,
+        slots: words.lanes,
+        capacity: words.capacity,
+    }
+}
