@@ -79,7 +79,12 @@ fn lane_at<S: LaneStart, N: DepotName, V: Visits, C: Clock, R: Wait>(
         (record {
           finished = V.finished result.visits;
           over = V.over result.visits;
-          ends = record { lane = S.ends.lane; senders = result.senders.items; inbox = result.slips; gone = result.gone };
+          ends = record {
+            lane = S.ends.lane;
+            senders = result.senders.items;
+            inbox = result.slips;
+            gone = result.gone;
+          };
           conversations = result.conversations;
         }) }
 {

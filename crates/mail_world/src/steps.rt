@@ -48,7 +48,8 @@ pub fn other_steps_may_happen()
         → slice_get lane.holds i ≡ Some hold → 1 < hold.weight → MayHappen h (Split k i) }
     ensures offer { (h : House) (k i t : ℕ) (key : Key) (note : Note) (lane : Lane) (box : Box) → LaneIs h k lane
         → HasCopy lane i t (sealed_up_to key note.txn.number note.message note.place) → note.txn.lane ≡ k
-        → BoxIs h note.mailbox box → box.closed ≡ false → length box.accepted < box.taken + h.capacity → MayHappen h (Offer k note) }
+        → BoxIs h note.mailbox box → box.closed ≡ false → length box.accepted < box.taken + h.capacity
+        → MayHappen h (Offer k note) }
     ensures collect { (h : House) (k : ℕ) (lane : Lane) → LaneIs h k lane → lane.collected < length lane.slips
         → MayHappen h (Collect k) }
     ensures take { (h : House) (w : ℕ) (box : Box) → BoxIs h w box → box.hand ≡ None → box.taken < length box.accepted

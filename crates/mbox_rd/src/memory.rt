@@ -89,7 +89,8 @@ impl Spool for MemorySpool {
             (λ n. SpoolTook (⟦<MemorySpool as Spool>⟧.state self.old) (⟦<MemorySpool as Spool>⟧.state self.new)
             (take n piece.now)) }
         ensures err { OnErr result
-            (SpoolFailed (⟦<MemorySpool as Spool>⟧.state self.old) (⟦<MemorySpool as Spool>⟧.state self.new) piece.now) }
+            (SpoolFailed (⟦<MemorySpool as Spool>⟧.state self.old)
+            (⟦<MemorySpool as Spool>⟧.state self.new) piece.now) }
     {
         if self.room == 0 {
             self.failures = self.failures.saturating_add(1);

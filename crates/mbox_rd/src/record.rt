@@ -73,7 +73,8 @@ impl RecordWriter {
     /// record.
     pub fn end<S: Spool>(self, spool: &mut S) -> Result<(), SpoolFault>
         ensures ok { OnOk result (SpoolTook (S.state spool.old) (S.state spool.new) (bytes_owed self [] ++ lf ∷ [])) }
-        ensures err { OnErr result (SpoolFailed (S.state spool.old) (S.state spool.new) (bytes_owed self [] ++ lf ∷ [])) }
+        ensures err { OnErr result
+            (SpoolFailed (S.state spool.old) (S.state spool.new) (bytes_owed self [] ++ lf ∷ [])) }
     {
         match self.pending {
             Pending::Start => append_all(spool, b"\n"),

@@ -46,7 +46,14 @@ impl<'a> Visits for Guests<'a> {
     ghost MayGive = { λ guests peer. ⊤ };
 
     ghost finished = { λ guests. Some (map (λ guest. record {
-      peer = record { read = None; unread = None; written = None; failures = guest.client.failures; stops = guest.client.stops; holds = [] };
+      peer = record {
+        read = None;
+        unread = None;
+        written = None;
+        failures = guest.client.failures;
+        stops = guest.client.stops;
+        holds = [];
+      };
       cause = guest.end;
     }) guests.served.items) };
 

@@ -52,7 +52,8 @@ impl Session {
         requires state { TakesLines self.old.session.state }
         requires fits { length sender.now ≤ PATH_LIMIT }
         requires no_answer { self.old.answers ≡ [] }
-        ensures step { IsTransition self.old (on_mail self.old.session.state self.old.session sender.now) result self.new }
+        ensures step { IsTransition self.old
+            (on_mail self.old.session.state self.old.session sender.now) result self.new }
         ensures no_memory { self.new.room ≡ self.old.room }
     {
         match self.state {
