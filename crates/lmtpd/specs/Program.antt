@@ -1,5 +1,5 @@
--- What a run of the program comes to: the words say what is asked for, and then come what was done, the line on standard error and the
--- status.
+-- What a run of the program comes to: the words say what is asked for, and then come what was done, the line on standard
+-- error and the status.
 use Rattle.std.specs.Prelude.{◌≡◌, ◌≢◌, ◌⊎◌, ℕ, true, List, [], ◌∷◌, ◌++◌, length, codes, Option, Some, None, Contains}
 use Rattle.std.specs.Net.Socket.{socket_port}
 use Rattle.std.specs.Net.Grammar.{IsSocketText}
@@ -83,7 +83,8 @@ abbrev pub sizes_asked : ServeWords → Sizes
 sizes_asked words = record { blocks = words.blocks; slots = words.lanes; capacity = words.capacity }
 
 abbrev pub IsSizeAsked : ServeWords → Type 0
-IsSizeAsked words = IsSize (named_site words.site) (sizes_asked words) words.lanes (length words.site.boxes.items) (length words.site.boxes.items)
+IsSizeAsked words =
+    IsSize (named_site words.site) (sizes_asked words) words.lanes (length words.site.boxes.items) (length words.site.boxes.items)
 
 -- A server that its words asked for ran: where they say, at the site that they name, with their sizes, over a spool for each mailbox.
 pub record IsServedAsAsked (L : Type 0) {S : Type 0} (state : S → SpoolState) (words : ServeWords) (served : ServedRun) : Type 0 where
@@ -109,17 +110,21 @@ IsNotServed words s = (s ≡ stop.Fault fault.Memory)
 
 -- why the program stopped early: clap's answer to its words, or why there was no rehearsal or no server
 abbrev pub IsStopped : List Text → Stop → Type 0
-IsStopped texts s = ((error : Error) × (s ≡ stop_for error) × (takes program_app texts ≡ true → (kind_of error ≡ OutOfMemory) ⊎ IsLacking (subcommand_of program_app texts)))
-    ⊎ (((words : RehearseWords) × IsAsked (subcommand_of program_app texts) (Rehearse words) × ((f : Fault) × (s ≡ stop.Fault f) × IsNotRehearsed words f))
+IsStopped texts s = ((error : Error) × (s ≡ stop_for error)
+    × (takes program_app texts ≡ true → (kind_of error ≡ OutOfMemory) ⊎ IsLacking (subcommand_of program_app texts)))
+    ⊎ (((words : RehearseWords) × IsAsked (subcommand_of program_app texts) (Rehearse words)
+    × ((f : Fault) × (s ≡ stop.Fault f) × IsNotRehearsed words f))
     ⊎ ((words : ServeWords) × IsAsked (subcommand_of program_app texts) (Serve words) × IsNotServed words s))
 
--- What the program did is what its words ask for: `streams` is what contracts see of a reader and a writer, and `IsRun` says which runs of
--- a server its words ask for.
+-- What the program did is what its words ask for: `streams` is what contracts see of a reader and a writer, and `IsRun` says
+-- which runs of a server its words ask for.
 module _ {R W : Type 0} where
   abbrev pub IsDone : (R → W → Streams) → (ServeWords → ServedRun → Type 0) → List Text → Streams → Done R W → Type 0
   IsDone streams IsRun texts old (Rehearsed it) =
-      (words : RehearseWords) × IsAsked (subcommand_of program_app texts) (Rehearse words) × IsRehearsedAsAsked words old (streams it.reader it.writer) it.ending
-  IsDone streams IsRun texts old (Served it) = (words : ServeWords) × IsAsked (subcommand_of program_app texts) (Serve words) × IsRun words it
+      (words : RehearseWords) × IsAsked (subcommand_of program_app texts) (Rehearse words)
+      × IsRehearsedAsAsked words old (streams it.reader it.writer) it.ending
+  IsDone streams IsRun texts old (Served it) =
+      (words : ServeWords) × IsAsked (subcommand_of program_app texts) (Serve words) × IsRun words it
   IsDone streams IsRun texts old (Stopped s) = IsStopped texts s
 
   -- the status of the program, and its line on standard error: 0 only for what was done with no fault, and for help
