@@ -6,6 +6,7 @@ import exim_delivers  # noqa: F401  (each adds its cases)
 import killed_under_load  # noqa: F401
 import odd_clients  # noqa: F401
 import postfix_delivers  # noqa: F401
+import power_cut  # noqa: F401
 import readers_agree  # noqa: F401
 import several_servers  # noqa: F401
 from cases import run_all
