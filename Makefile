@@ -2,7 +2,7 @@
 
 PROGRAM := crates/lmtpd/out/lmtpd
 
-.PHONY: rehearse build check test real benchmarks
+.PHONY: rehearse build install check test real benchmarks
 
 # One conversation: the replies, and then the mailbox. Where no proved program stands yet, the sources are run with checks, unproved.
 rehearse:
@@ -16,6 +16,20 @@ rehearse:
 # Proves all and builds the program, which takes some minutes the first time; only a proved crate is built.
 build:
 	cd crates/lmtpd && rt run -- $$(cat args) < stdin > /dev/null
+
+# Installs the program that `make build` made, its manual page, its unit for systemd with the user and the folder that it
+# wants, and what bash completes. DESTDIR stands before all paths.
+PREFIX ?= /usr/local
+install:
+	@[ -x $(PROGRAM) ] || { echo 'make install: no proved program is built yet (make build)' >&2; exit 1; }
+	install -D -m 0755 $(PROGRAM) $(DESTDIR)$(PREFIX)/bin/lmtpd
+	install -D -m 0644 packaging/lmtpd.8 $(DESTDIR)$(PREFIX)/share/man/man8/lmtpd.8
+	install -D -m 0644 packaging/lmtpd.bash $(DESTDIR)$(PREFIX)/share/bash-completion/completions/lmtpd
+	install -D -m 0644 packaging/lmtpd.sysusers $(DESTDIR)$(PREFIX)/lib/sysusers.d/lmtpd.conf
+	install -D -m 0644 packaging/lmtpd.tmpfiles $(DESTDIR)$(PREFIX)/lib/tmpfiles.d/lmtpd.conf
+	install -D -m 0644 packaging/lmtpd.conf $(DESTDIR)$(PREFIX)/share/doc/lmtpd/lmtpd.conf
+	install -d $(DESTDIR)$(PREFIX)/lib/systemd/system
+	sed 's|@PREFIX@|$(PREFIX)|' packaging/lmtpd.service > $(DESTDIR)$(PREFIX)/lib/systemd/system/lmtpd.service
 
 # Proves every crate, lowest first, over what earlier checks kept.
 check:

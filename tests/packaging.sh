@@ -1,0 +1,14 @@
+#!/usr/bin/env bash
+# The manual page, what bash completes and what `--help` says name the same words; the page's numbers are those of the
+# help; and `make install` puts each file in its place, with a unit that names the installed program. Where
+# `systemd-analyze` and `groff` are there, they must find nothing wrong with unit and page. LMTPD names a program that
+# is built already.
+set -euo pipefail
+cd "$(dirname "$0")/.."
+. tests/needs bash make python3
+if [ -z "${LMTPD:-}" ]; then
+    make -s build
+    LMTPD=$PWD/crates/lmtpd/out/lmtpd
+fi
+export LMTPD
+exec python3 -B tests/packaging/run.py

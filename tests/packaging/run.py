@@ -1,0 +1,94 @@
+"""Compares packaging/ with the program's own help, for tests/packaging.sh."""
+
+import os
+import pathlib
+import re
+import shutil
+import subprocess
+import sys
+import tempfile
+
+LMTPD = os.environ["LMTPD"]
+PAGE = pathlib.Path("packaging/lmtpd.8").read_text()
+COMPLETION = pathlib.Path("packaging/lmtpd.bash").read_text()
+INSTALLED = [
+    "bin/lmtpd",
+    "share/man/man8/lmtpd.8",
+    "share/bash-completion/completions/lmtpd",
+    "lib/sysusers.d/lmtpd.conf",
+    "lib/tmpfiles.d/lmtpd.conf",
+    "lib/systemd/system/lmtpd.service",
+    "share/doc/lmtpd/lmtpd.conf",
+]
+
+
+def said_by(*words, **more):
+    said = subprocess.run(words, capture_output=True, text=True, timeout=60, **more)
+    return said.returncode, said.stdout + said.stderr
+
+
+def help_of(command):
+    """By option the text that the help has behind it."""
+    status, said = said_by(LMTPD, command, "--help")
+    assert status == 0, said
+    found = re.findall(r"^ +(?:-h, )?(--[a-z]+)(?: <[^>]*>)? +(.*)$", said, re.MULTILINE)
+    return dict(found)
+
+
+def options_of_page(letter):
+    """The options that the page lists for that command, with their texts."""
+    listed = re.findall(r"^\.It Fl -([a-z]+) (?:Ar [^\n]*)?\n\.Pq ([sr, ]+)\n(.*?)(?=^\.It|^\.El)", PAGE, re.MULTILINE | re.DOTALL)
+    return {f"--{name}": text for name, letters, text in listed if letter in letters.split(", ")}
+
+
+def completed(line):
+    """What bash completes at the end of that line."""
+    words = line.split(" ")
+    script = 'source packaging/lmtpd.bash; COMP_WORDS=("$@"); COMP_CWORD=$(($# - 1)); _lmtpd; echo "${COMPREPLY[*]}"'
+    status, said = said_by("bash", "-c", script, "bash", *words)
+    assert status == 0, said
+    return set(said.split())
+
+
+def check_words():
+    for command, letter in [("serve", "s"), ("rehearse", "r")]:
+        told, listed = help_of(command), options_of_page(letter)
+        wanted = set(told) - {"--help"}
+        assert set(listed) == wanted, (command, set(listed) ^ wanted)
+        for option, text in told.items():
+            # each limit and each usual number of the help stands in the page too
+            numbers = set(re.findall(r"\d+", text.split("port")[0])) - {"127", "0", "1", "2003"}
+            missing = [number for number in numbers if number not in listed.get(option, "")]
+            assert not missing, (command, option, missing)
+        assert completed(f"lmtpd {command} --") == set(told), command
+        synopsis = PAGE.split(f".Cm {command}\n")[1].split(".Nm")[0].split(".Sh")[0]
+        assert set(re.findall(r"Fl -([a-z]+)", synopsis)) == {name[2:] for name in wanted}, command
+    assert completed("lmtpd ") == {"serve", "rehearse", "help", "--help"}
+    assert completed("lmtpd s") == {"serve"}
+
+
+def check_install(folder):
+    program = pathlib.Path("crates/lmtpd/out/lmtpd")
+    prefix = folder / "usr"
+    words = ["make", "-s", "install", f"PREFIX={prefix}", f"PROGRAM={LMTPD}"]
+    status, said = said_by(*words)
+    assert status == 0, (program, said)
+    found = sorted(str(path.relative_to(prefix)) for path in prefix.rglob("*") if path.is_file())
+    assert found == sorted(INSTALLED), found
+    unit = prefix / "lib/systemd/system/lmtpd.service"
+    assert f"ExecStart={prefix}/bin/lmtpd serve " in unit.read_text()
+    if shutil.which("systemd-analyze"):
+        # what this machine's own units say isn't ours
+        _, said = said_by("systemd-analyze", "verify", "--man=no", str(unit))
+        ours = [line for line in said.splitlines() if "lmtpd.service" in line]
+        assert not ours, ours
+    if shutil.which("groff"):
+        status, said = said_by("groff", "-mdoc", "-Tutf8", "-ww", "-z", "packaging/lmtpd.8")
+        assert (status, said) == (0, ""), said
+
+
+check_words()
+with tempfile.TemporaryDirectory() as room:
+    check_install(pathlib.Path(room))
+print("ok: page, completion, unit and install")
+sys.exit(0)
