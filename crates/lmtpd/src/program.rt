@@ -114,6 +114,3 @@ where
         Done::Stopped(stop) => stop.report(rt, error),
     }
 }
-
-#[cfg(test)]
-mod tests;
