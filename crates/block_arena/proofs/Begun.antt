@@ -10,7 +10,7 @@ use Rattle.block_arena.specs.declared.slot.Run.{Run}
 use Rattle.block_arena.specs.declared.slot.Content.{Content}
 use Rattle.block_arena.specs.declared.slot.Content.TheVariants.{Free, Draft, Sealed, Retired}
 use Rattle.block_arena.specs.declared.slot.Slot.{Slot}
-use Rattle.block_arena.specs.Fields.{is_free, chain, held, slot_of, depot_of, IsArena}
+use Rattle.block_arena.specs.Fields.{ArenaFields, is_free, chain, held, slot_of, depot_of, IsArena}
 use Rattle.block_arena.specs.Calls.{depot_key, IsUsed}
 use Rattle.block_arena.proofs.Slots.{slot_at, relabelled, map_set, get_map}
 
@@ -29,12 +29,12 @@ none_from store next (slot ∷ slots) i e =
     let p : IsUsed (held store next slot.content) × (free_from (i + 1) slots ≡ None) = taken_by store next slot.content i (free_from (i + 1) slots) e in
     (p.0, none_from store next slots (i + 1) p.1)
 
-pub none_free : (depot : d.Depot) (store : List (List ℕ)) (next : List ℕ) (slots : List Slot) (free free_count : ℕ) (items : List Slot) (result : Option ℕ)
-    → depot_of store next slots free free_count ≡ depot → items ≡ slots → result ≡ position (λ (slot : Slot). is_free slot.content) items → result ≡ None
+pub none_free : (depot : d.Depot) (a : ArenaFields) (items : List Slot) (result : Option ℕ)
+    → depot_of a ≡ depot → items ≡ a.slots → result ≡ position (λ (slot : Slot). is_free slot.content) items → result ≡ None
     → AllByRecursion (λ (slot : d.Slot). IsUsed slot.held) depot.slots
-none_free depot store next slots free free_count items result view same is none =
-    let at : free_from 0 slots ≡ None = sym (position_from-zero (λ (slot : Slot). is_free slot.content) slots) ∙ ap (λ (xs : List Slot). position (λ (slot : Slot). is_free slot.content) xs) (sym same) ∙ sym is ∙ none in
-    subst (λ (e : d.Depot). AllByRecursion (λ (slot : d.Slot). IsUsed slot.held) e.slots) view (none_from store next slots 0 at)
+none_free depot a items result view same is none =
+    let at : free_from 0 a.slots ≡ None = sym (position_from-zero (λ (slot : Slot). is_free slot.content) a.slots) ∙ ap (λ (xs : List Slot). position (λ (slot : Slot). is_free slot.content) xs) (sym same) ∙ sym is ∙ none in
+    subst (λ (e : d.Depot). AllByRecursion (λ (slot : d.Slot). IsUsed slot.held) e.slots) view (none_from a.store a.next a.slots 0 at)
 
 record Found (slots : List Slot) (i k : ℕ) : Type 0 where
   j : ℕ
@@ -72,15 +72,15 @@ free_there slots items result k at d' same is some here =
 abbrev empty : Run
 empty = record { first = 0; last = 0; blocks = 0; length = 0; read = record { index = 0; block = 0 } }
 
-pub begun_arena : (store : List (List ℕ)) (next : List ℕ) (slots : List Slot) (free free_count k g : ℕ) → IsArena store next slots free free_count → slice_get slots k ≡ Some (slot_at g Free)
-    → IsArena store next (slice_set slots k (slot_at g (Draft (record { first = 0; last = 0; blocks = 0; length = 0; read = record { index = 0; block = 0 } })))) free free_count
-begun_arena store next slots free free_count k g arena was = relabelled store next slots free free_count k (slot_at g Free) (slot_at g (Draft empty)) arena was refl
+pub begun_arena : (a : ArenaFields) (k g : ℕ) → IsArena a → slice_get a.slots k ≡ Some (slot_at g Free)
+    → IsArena (record a { slots = slice_set a.slots k (slot_at g (Draft (record { first = 0; last = 0; blocks = 0; length = 0; read = record { index = 0; block = 0 } }))) })
+begun_arena a k g arena was = relabelled a k (slot_at g Free) (slot_at g (Draft empty)) arena was refl
     (record { enough = refl; last = λ h. absurd (omega (arith, h)); read = record { is = refl; within = omega arith } }) refl refl
 
-pub begins : (depot : d.Depot) (store : List (List ℕ)) (next : List ℕ) (slots : List Slot) (free free_count k g : ℕ) → depot_of store next slots free free_count ≡ depot → slice_get slots k ≡ Some (slot_at g Free)
-    → d.Begins depot (depot_key (record { slot = k; generation = g })) (depot_of store next (slice_set slots k (slot_at g (Draft (record { first = 0; last = 0; blocks = 0; length = 0; read = record { index = 0; block = 0 } })))) free free_count)
-begins depot store next slots free free_count k g view was =
-    subst (λ (e : d.Depot). d.Begins e (depot_key (record { slot = k; generation = g })) (depot_of store next (slice_set slots k (slot_at g (Draft (record { first = 0; last = 0; blocks = 0; length = 0; read = record { index = 0; block = 0 } })))) free free_count)) view (
-      get_map (slot_of store next) slots k (slot_at g Free) was,
-      ap (λ (ss : List d.Slot). record { slots = ss; free = chain free_count next free }) (map_set (slot_of store next) slots k (slot_at g (Draft empty))),
+pub begins : (depot : d.Depot) (a : ArenaFields) (k g : ℕ) → depot_of a ≡ depot → slice_get a.slots k ≡ Some (slot_at g Free)
+    → d.Begins depot (depot_key (record { slot = k; generation = g })) (depot_of (record a { slots = slice_set a.slots k (slot_at g (Draft (record { first = 0; last = 0; blocks = 0; length = 0; read = record { index = 0; block = 0 } }))) }))
+begins depot a k g view was =
+    subst (λ (e : d.Depot). d.Begins e (depot_key (record { slot = k; generation = g })) (depot_of (record a { slots = slice_set a.slots k (slot_at g (Draft (record { first = 0; last = 0; blocks = 0; length = 0; read = record { index = 0; block = 0 } }))) }))) view (
+      get_map (slot_of a.store a.next) a.slots k (slot_at g Free) was,
+      ap (λ (ss : List d.Slot). record { slots = ss; free = chain a.free_count a.next a.free }) (map_set (slot_of a.store a.next) a.slots k (slot_at g (Draft empty))),
     )

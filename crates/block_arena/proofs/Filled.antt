@@ -11,7 +11,7 @@ use Rattle.block_arena.specs.declared.slot.Run.{Run}
 use Rattle.block_arena.specs.declared.slot.Content.{Content}
 use Rattle.block_arena.specs.declared.slot.Content.TheVariants.{Free, Draft, Sealed, Retired}
 use Rattle.block_arena.specs.declared.slot.Slot.{Slot}
-use Rattle.block_arena.specs.Fields.{chain, blocks_in, bytes_in, held, slot_of, run_of, longer, IsContent, IsRun}
+use Rattle.block_arena.specs.Fields.{ArenaFields, chain, blocks_in, bytes_in, held, slot_of, run_of, longer, IsContent, IsRun}
 use Rattle.block_arena.specs.Calls.{IsDraft}
 use Rattle.block_arena.proofs.Slots.{slot_at, Turn, all_set, all_at}
 use Rattle.block_arena.proofs.Seen.{Sees, stands, run_low, full_length}
@@ -33,35 +33,37 @@ draft_owns store next run = record { filled = λ e. cc; blocks = refl; count = r
 some_block : (n blocks : ℕ) → blocks ≡ d.blocks_for n → 0 < n % BLOCK_SIZE → 0 < blocks
 some_block n blocks e h = omega (arith, e, h)
 
-pub draft_last : (key : Key) (depot : d.Depot) (store : List (List ℕ)) (next : List ℕ) (slots : List Slot) (free free_count : ℕ) (run : Run)
-    → Sees key depot store next slots free free_count (Draft run) → 0 < run.length % BLOCK_SIZE → (0 < run.blocks) × IsLast next free free_count (run.blocks - 1) run.first run.last
-draft_last key depot store next slots free free_count run s some =
-    let was : slice_get slots key.slot ≡ Some (slot_at key.generation (Draft run)) = stands key depot store next slots free free_count (Draft run) s (λ e. cc) in
-    let is : IsRun next run = all_at (λ (slot : Slot). IsContent next slot.content) slots key.slot (slot_at key.generation (Draft run)) s.arena.runs was in
+pub draft_last : (key : Key) (depot : d.Depot) (a : ArenaFields) (run : Run)
+    → Sees key depot a (Draft run) → 0 < run.length % BLOCK_SIZE → (0 < run.blocks) × IsLast a.next a.free a.free_count (run.blocks - 1) run.first run.last
+draft_last key depot a run s some =
+    let was : slice_get a.slots key.slot ≡ Some (slot_at key.generation (Draft run)) = stands key depot a (Draft run) s (λ e. cc) in
+    let is : IsRun a.next run = all_at (λ (slot : Slot). IsContent a.next slot.content) a.slots key.slot (slot_at key.generation (Draft run)) s.arena.runs was in
     let there : 0 < run.blocks = some_block run.length run.blocks is.enough some in
-    (there, last_in key depot store next slots free free_count (Draft run) run s (draft_owns store next run) there)
+    (there, last_in key depot a (Draft run) run s (draft_owns a.store a.next run) there)
 
-pub fill_turn : (key : Key) (depot : d.Depot) (store : List (List ℕ)) (next : List ℕ) (slots : List Slot) (free free_count : ℕ) (run : Run) (n : ℕ) (row : List ℕ)
-    → Sees key depot store next slots free free_count (Draft run) → 0 < run.length % BLOCK_SIZE → n ≤ BLOCK_SIZE - run.length % BLOCK_SIZE → length row ≡ BLOCK_SIZE
-    → Turn store next slots free free_count key.slot (slot_at key.generation (Draft run)) (slot_at key.generation (Draft (longer run n))) (set store run.last row) next free free_count
-fill_turn key depot store next slots free free_count run n row s some fits size =
-    let was : slice_get slots key.slot ≡ Some (slot_at key.generation (Draft run)) = stands key depot store next slots free free_count (Draft run) s (λ e. cc) in
-    let is : IsRun next run = all_at (λ (slot : Slot). IsContent next slot.content) slots key.slot (slot_at key.generation (Draft run)) s.arena.runs was in
-    let l : (0 < run.blocks) × IsLast next free free_count (run.blocks - 1) run.first run.last = draft_last key depot store next slots free free_count run s some in
+pub fill_turn : (key : Key) (depot : d.Depot) (a : ArenaFields) (run : Run) (n : ℕ) (row : List ℕ)
+    → Sees key depot a (Draft run) → 0 < run.length % BLOCK_SIZE → n ≤ BLOCK_SIZE - run.length % BLOCK_SIZE → length row ≡ BLOCK_SIZE
+    → Turn a key.slot (slot_at key.generation (Draft run)) (slot_at key.generation (Draft (longer run n)))
+    (record a { store = set a.store run.last row; slots = slice_set a.slots key.slot (slot_at key.generation (Draft (longer run n))) })
+fill_turn key depot a run n row s some fits size =
+    let was : slice_get a.slots key.slot ≡ Some (slot_at key.generation (Draft run)) = stands key depot a (Draft run) s (λ e. cc) in
+    let is : IsRun a.next run = all_at (λ (slot : Slot). IsContent a.next slot.content) a.slots key.slot (slot_at key.generation (Draft run)) s.arena.runs was in
+    let l : (0 < run.blocks) × IsLast a.next a.free a.free_count (run.blocks - 1) run.first run.last = draft_last key depot a run s some in
     let has : 0 < run.blocks = l.0 in
     let one : suc (run.blocks - 1) ≡ run.blocks = omega (arith, has) in
-    let there : occurrences run.last (chain run.blocks next run.first) ≡ 1 = ap (λ k. occurrences run.last (chain k next run.first)) (sym one) ∙ l.1.there in
-    let else' : AllByRecursion (Without store next run.last) (slice_set slots key.slot (slot_at 0 Free)) = none_else store next slots free free_count key.slot (slot_at key.generation (Draft run)) run.last s.arena was (omega (arith, there)) in
+    let there : occurrences run.last (chain run.blocks a.next run.first) ≡ 1 = ap (λ k. occurrences run.last (chain k a.next run.first)) (sym one) ∙ l.1.there in
+    let else' : AllByRecursion (Without a.store a.next run.last) (slice_set a.slots key.slot (slot_at 0 Free)) = none_else a key.slot (slot_at key.generation (Draft run)) run.last s.arena was (omega (arith, there)) in
     record {
       arena = s.arena;
       was = was;
-      sizes = All-set (λ (bytes : List ℕ). length bytes ≡ BLOCK_SIZE) store run.last row size s.arena.sizes;
-      blocks_stay = length-set store run.last row;
+      slots = refl;
+      sizes = All-set (λ (bytes : List ℕ). length bytes ≡ BLOCK_SIZE) a.store run.last row size s.arena.sizes;
+      blocks_stay = length-set a.store run.last row;
       next_stay = refl;
-      generation = all_at (λ (slot : Slot). slot.generation ≤ d.last_generation) slots key.slot (slot_at key.generation (Draft run)) s.arena.generations was;
+      generation = all_at (λ (slot : Slot). slot.generation ≤ d.last_generation) a.slots key.slot (slot_at key.generation (Draft run)) s.arena.generations was;
       count = refl;
-      others = map_kept (slot_of store next) (slot_of (set store run.last row) next) (Without store next run.last) slots key.slot (slot_at key.generation (Draft (longer run n))) (slot_at 0 Free) else' (slot_stays store next run.last row);
-      runs = all_set (λ (slot : Slot). IsContent next slot.content) slots key.slot (slot_at key.generation (Draft (longer run n))) s.arena.runs (longer_run next run n is some fits);
+      others = map_kept (slot_of a.store a.next) (slot_of (set a.store run.last row) a.next) (Without a.store a.next run.last) a.slots key.slot (slot_at key.generation (Draft (longer run n))) (slot_at 0 Free) else' (slot_stays a.store a.next run.last row);
+      runs = all_set (λ (slot : Slot). IsContent a.next slot.content) a.slots key.slot (slot_at key.generation (Draft (longer run n))) s.arena.runs (longer_run a.next run n is some fits);
       split = λ x. refl;
     }
 
@@ -73,26 +75,26 @@ len_parts : (n blocks : ℕ) → blocks ≡ d.blocks_for n → 0 < n % BLOCK_SIZ
 len_parts n blocks e some = omega (arith, e, some)
 
 -- the bytes behind a piece that went into the last block
-pub filled_bytes : (key : Key) (depot : d.Depot) (store : List (List ℕ)) (next : List ℕ) (slots : List Slot) (free free_count : ℕ) (run : Run) (n : ℕ) (piece : List ℕ)
-    → Sees key depot store next slots free free_count (Draft run) → 0 < run.length % BLOCK_SIZE → n ≤ BLOCK_SIZE - run.length % BLOCK_SIZE → length piece ≡ n
-    → bytes_in (set store run.last (take (run.length % BLOCK_SIZE) (get_or store run.last []) ++ piece ++ drop (run.length % BLOCK_SIZE + n) (get_or store run.last []))) next (longer run n) ≡ bytes_in store next run ++ piece
-filled_bytes key depot store next slots free free_count run n piece s some fits size =
-    let was : slice_get slots key.slot ≡ Some (slot_at key.generation (Draft run)) = stands key depot store next slots free free_count (Draft run) s (λ e. cc) in
-    let is : IsRun next run = all_at (λ (slot : Slot). IsContent next slot.content) slots key.slot (slot_at key.generation (Draft run)) s.arena.runs was in
-    let l : (0 < run.blocks) × IsLast next free free_count (run.blocks - 1) run.first run.last = draft_last key depot store next slots free free_count run s some in
+pub filled_bytes : (key : Key) (depot : d.Depot) (a : ArenaFields) (run : Run) (n : ℕ) (piece : List ℕ)
+    → Sees key depot a (Draft run) → 0 < run.length % BLOCK_SIZE → n ≤ BLOCK_SIZE - run.length % BLOCK_SIZE → length piece ≡ n
+    → bytes_in (set a.store run.last (take (run.length % BLOCK_SIZE) (get_or a.store run.last []) ++ piece ++ drop (run.length % BLOCK_SIZE + n) (get_or a.store run.last []))) a.next (longer run n) ≡ bytes_in a.store a.next run ++ piece
+filled_bytes key depot a run n piece s some fits size =
+    let was : slice_get a.slots key.slot ≡ Some (slot_at key.generation (Draft run)) = stands key depot a (Draft run) s (λ e. cc) in
+    let is : IsRun a.next run = all_at (λ (slot : Slot). IsContent a.next slot.content) a.slots key.slot (slot_at key.generation (Draft run)) s.arena.runs was in
+    let l : (0 < run.blocks) × IsLast a.next a.free a.free_count (run.blocks - 1) run.first run.last = draft_last key depot a run s some in
     let has : 0 < run.blocks = l.0 in
     let one : run.blocks ≡ suc (run.blocks - 1) = omega (arith, has) in
-    let parts : chain run.blocks next run.first ≡ chain (run.blocks - 1) next run.first ++ run.last ∷ [] =
-    ap (λ k. chain k next run.first) one ∙ chain_last (run.blocks - 1) next run.first ∙ ap (λ b. chain (run.blocks - 1) next run.first ++ b ∷ []) l.1.is in
-    let low : AllByRecursion (λ b. b < length next) (chain (run.blocks - 1) next run.first ++ run.last ∷ []) =
-    subst (λ bs. AllByRecursion (λ b. b < length next) bs) parts (run_low store next slots free free_count key.slot (slot_at key.generation (Draft run)) s.arena was) in
-    let front : length (flat store (chain (run.blocks - 1) next run.first)) ≡ BLOCK_SIZE * (run.blocks - 1) =
-    full_length store (length next) (chain (run.blocks - 1) next run.first) s.arena.count s.arena.sizes (all_front (λ b. b < length next) (chain (run.blocks - 1) next run.first) (run.last ∷ []) low) ∙ ap (λ k. BLOCK_SIZE * k) (chain_length (run.blocks - 1) next run.first) in
-    let there : run.last < length store = omega (arith, l.1.low, s.arena.count) in
-    ap (λ bs. take (run.length + n) (flat (set store run.last (take (run.length % BLOCK_SIZE) (get_or store run.last []) ++ piece ++ drop (run.length % BLOCK_SIZE + n) (get_or store run.last []))) bs)) parts
-    ∙ written store (chain (run.blocks - 1) next run.first) run.last (BLOCK_SIZE * (run.blocks - 1)) (run.length % BLOCK_SIZE) n run.length piece l.1.once there front (s.arena.sizes run.last [] there)
+    let parts : chain run.blocks a.next run.first ≡ chain (run.blocks - 1) a.next run.first ++ run.last ∷ [] =
+    ap (λ k. chain k a.next run.first) one ∙ chain_last (run.blocks - 1) a.next run.first ∙ ap (λ b. chain (run.blocks - 1) a.next run.first ++ b ∷ []) l.1.is in
+    let low : AllByRecursion (λ b. b < length a.next) (chain (run.blocks - 1) a.next run.first ++ run.last ∷ []) =
+    subst (λ bs. AllByRecursion (λ b. b < length a.next) bs) parts (run_low a key.slot (slot_at key.generation (Draft run)) s.arena was) in
+    let front : length (flat a.store (chain (run.blocks - 1) a.next run.first)) ≡ BLOCK_SIZE * (run.blocks - 1) =
+    full_length a.store (length a.next) (chain (run.blocks - 1) a.next run.first) s.arena.count s.arena.sizes (all_front (λ b. b < length a.next) (chain (run.blocks - 1) a.next run.first) (run.last ∷ []) low) ∙ ap (λ k. BLOCK_SIZE * k) (chain_length (run.blocks - 1) a.next run.first) in
+    let there : run.last < length a.store = omega (arith, l.1.low, s.arena.count) in
+    ap (λ bs. take (run.length + n) (flat (set a.store run.last (take (run.length % BLOCK_SIZE) (get_or a.store run.last []) ++ piece ++ drop (run.length % BLOCK_SIZE + n) (get_or a.store run.last []))) bs)) parts
+    ∙ written a.store (chain (run.blocks - 1) a.next run.first) run.last (BLOCK_SIZE * (run.blocks - 1)) (run.length % BLOCK_SIZE) n run.length piece l.1.once there front (s.arena.sizes run.last [] there)
     (len_parts run.length run.blocks is.enough some) size (omega (arith, fits))
-    ∙ ap (λ bs. take run.length (flat store bs) ++ piece) (sym parts)
+    ∙ ap (λ bs. take run.length (flat a.store bs) ++ piece) (sym parts)
 
 pub get_any : {A : Type 0} (xs : List A) (i : ℕ) (a b : A) → i < length xs → get_or xs i a ≡ get_or xs i b
 get_any [] i a b h = absurd (omega (arith, h))
@@ -115,35 +117,37 @@ row_size : (row old piece : List ℕ) (at n : ℕ) → row ≡ take at old ++ pi
 row_size row old piece at n e size long fits =
     ap length e ∙ omega (arith, size, long, fits, length-append (take at old ++ piece) (drop (at + n) old), length-append (take at old) piece, length-take at old, length-drop (at + n) old)
 
-pub filled_turn : (key : Key) (depot : d.Depot) (store : List (List ℕ)) (next : List ℕ) (slots : List Slot) (free free_count : ℕ) (run : Run) (n : ℕ) (piece old row : List ℕ)
-    → Sees key depot store next slots free free_count (Draft run) → IsFilled store run n piece old row
-    → Turn store next slots free free_count key.slot (slot_at key.generation (Draft run)) (slot_at key.generation (Draft (longer run n))) (set store run.last row) next free free_count
-filled_turn key depot store next slots free free_count run n piece old row s f =
-    let l : (0 < run.blocks) × IsLast next free free_count (run.blocks - 1) run.first run.last = draft_last key depot store next slots free free_count run s f.some in
-    let there : run.last < length store = omega (arith, l.1.low, s.arena.count) in
-    fill_turn key depot store next slots free free_count run n row s f.some f.fits
-    (row_size row (get_or store run.last []) piece (run.length % BLOCK_SIZE) n (row_is store run n piece old row f) (s.arena.sizes run.last [] there) f.size (omega (arith, f.fits, f.some)))
+pub filled_turn : (key : Key) (depot : d.Depot) (a : ArenaFields) (run : Run) (n : ℕ) (piece old row : List ℕ)
+    → Sees key depot a (Draft run) → IsFilled a.store run n piece old row
+    → Turn a key.slot (slot_at key.generation (Draft run)) (slot_at key.generation (Draft (longer run n)))
+    (record a { store = set a.store run.last row; slots = slice_set a.slots key.slot (slot_at key.generation (Draft (longer run n))) })
+filled_turn key depot a run n piece old row s f =
+    let l : (0 < run.blocks) × IsLast a.next a.free a.free_count (run.blocks - 1) run.first run.last = draft_last key depot a run s f.some in
+    let there : run.last < length a.store = omega (arith, l.1.low, s.arena.count) in
+    fill_turn key depot a run n row s f.some f.fits
+    (row_size row (get_or a.store run.last []) piece (run.length % BLOCK_SIZE) n (row_is a.store run n piece old row f) (s.arena.sizes run.last [] there) f.size (omega (arith, f.fits, f.some)))
 
-pub filled_gains : (key : Key) (depot : d.Depot) (store : List (List ℕ)) (next : List ℕ) (slots : List Slot) (free free_count : ℕ) (run : Run) (n : ℕ) (piece old row : List ℕ)
-    → Sees key depot store next slots free free_count (Draft run) → IsFilled store run n piece old row
-    → Gains key store next slots free free_count run (longer run n) piece [] (set store run.last row) next free free_count
-filled_gains key depot store next slots free free_count run n piece old row s f = record {
-  turn = filled_turn key depot store next slots free free_count run n piece old row s f;
+pub filled_gains : (key : Key) (depot : d.Depot) (a : ArenaFields) (run : Run) (n : ℕ) (piece old row : List ℕ)
+    → Sees key depot a (Draft run) → IsFilled a.store run n piece old row
+    → Gains key a run (longer run n) piece (record a { store = set a.store run.last row; slots = slice_set a.slots key.slot (slot_at key.generation (Draft (longer run n))) })
+filled_gains key depot a run n piece old row s f = record {
+  picked = [];
+  turn = filled_turn key depot a run n piece old row s f;
   long = omega (arith, f.size);
-  bytes = ap (λ r. bytes_in (set store run.last r) next (longer run n)) (row_is store run n piece old row f) ∙ filled_bytes key depot store next slots free free_count run n piece s f.some f.fits f.size;
-  blocks = sym (append-nil (blocks_in next run));
+  bytes = ap (λ r. bytes_in (set a.store run.last r) a.next (longer run n)) (row_is a.store run n piece old row f) ∙ filled_bytes key depot a run n piece s f.some f.fits f.size;
+  blocks = sym (append-nil (blocks_in a.next run));
   taken = λ x. omega arith;
 }
 
-pub filled_by : (key : Key) (depot : d.Depot) (store : List (List ℕ)) (next : List ℕ) (slots : List Slot) (free free_count : ℕ) (run : Run) (n : ℕ) (bytes old row other : List ℕ)
-    → Sees key depot store next slots free free_count (Draft run) → 0 < run.length % BLOCK_SIZE → n ≤ length bytes → n ≤ BLOCK_SIZE - run.length % BLOCK_SIZE → old ≡ get_or store run.last other
-    → row ≡ take (run.length % BLOCK_SIZE) old ++ take n bytes ++ drop (run.length % BLOCK_SIZE + length (take n bytes)) old → IsFilled store run n (take n bytes) old row
-filled_by key depot store next slots free free_count run n bytes old row other s some short fits was is =
-    let l : (0 < run.blocks) × IsLast next free free_count (run.blocks - 1) run.first run.last = draft_last key depot store next slots free free_count run s some in
+pub filled_by : (key : Key) (depot : d.Depot) (a : ArenaFields) (run : Run) (n : ℕ) (bytes old row other : List ℕ)
+    → Sees key depot a (Draft run) → 0 < run.length % BLOCK_SIZE → n ≤ length bytes → n ≤ BLOCK_SIZE - run.length % BLOCK_SIZE → old ≡ get_or a.store run.last other
+    → row ≡ take (run.length % BLOCK_SIZE) old ++ take n bytes ++ drop (run.length % BLOCK_SIZE + length (take n bytes)) old → IsFilled a.store run n (take n bytes) old row
+filled_by key depot a run n bytes old row other s some short fits was is =
+    let l : (0 < run.blocks) × IsLast a.next a.free a.free_count (run.blocks - 1) run.first run.last = draft_last key depot a run s some in
     record {
       some = some;
       fits = fits;
       size = omega (arith, short, length-take n bytes);
-      was = was ∙ get_any store run.last other [] (omega (arith, l.1.low, s.arena.count));
+      was = was ∙ get_any a.store run.last other [] (omega (arith, l.1.low, s.arena.count));
       is = is;
     }

@@ -9,7 +9,7 @@ use Rattle.block_arena.specs.declared.slot.Run.{Run}
 use Rattle.block_arena.specs.declared.slot.Content.{Content}
 use Rattle.block_arena.specs.declared.slot.Content.TheVariants.{Free, Draft, Sealed, Retired}
 use Rattle.block_arena.specs.declared.slot.Slot.{Slot}
-use Rattle.block_arena.specs.Fields.{chain, held, slot_of, IsContent, IsRun, IsArena}
+use Rattle.block_arena.specs.Fields.{ArenaFields, chain, held, slot_of, IsContent, IsRun, IsArena}
 use Rattle.block_arena.proofs.Chains.{times_cons, chain_keeps, node_keeps, times_less}
 use Rattle.block_arena.proofs.Slots.{slot_at, get_map, map_set}
 
@@ -27,15 +27,15 @@ pub at_most : (t : Bool) → cond t 1 0 ≤ 1
 at_most true = omega arith
 at_most false = omega arith
 
-pub none_else : (store : List (List ℕ)) (next : List ℕ) (slots : List Slot) (free free_count i : ℕ) (old : Slot) (b : ℕ) → IsArena store next slots free free_count → slice_get slots i ≡ Some old
-    → 1 ≤ occurrences b (chain free_count next free) + occurrences b (d.blocks_of (held store next old.content)) → AllByRecursion (Without store next b) (slice_set slots i (slot_at 0 Free))
-none_else store next slots free free_count i old b arena was here =
-    let total : occurrences b (flat_map (λ (slot : d.Slot). d.blocks_of slot.held) (slice_set (map (slot_of store next) slots) i (record { generation = 0; held = d.Free }))) + occurrences b (d.blocks_of (held store next old.content)) ≡ occurrences b (flat_map (λ (slot : d.Slot). d.blocks_of slot.held) (map (slot_of store next) slots)) + 0 =
-    total_set (λ y. cond (y == b) 1 0) (λ (slot : d.Slot). d.blocks_of slot.held) (map (slot_of store next) slots) i (slot_of store next old) (record { generation = 0; held = d.Free }) (get_map (slot_of store next) slots i old was) in
-    let once : occurrences b (chain free_count next free ++ flat_map (λ (slot : d.Slot). d.blocks_of slot.held) (map (slot_of store next) slots)) ≡ cond (nat_lt b (length next)) 1 0 = arena.once b in
-    let none : occurrences b (flat_map (λ (slot : d.Slot). d.blocks_of slot.held) (slice_set (map (slot_of store next) slots) i (record { generation = 0; held = d.Free }))) ≡ 0 =
-    omega (arith, total, once, at_most (nat_lt b (length next)), here, times-append b (chain free_count next free) (flat_map (λ (slot : d.Slot). d.blocks_of slot.held) (map (slot_of store next) slots))) in
-    none_by store next b (slice_set slots i (slot_at 0 Free)) (ap (λ (ss : List d.Slot). occurrences b (flat_map (λ (slot : d.Slot). d.blocks_of slot.held) ss)) (map_set (slot_of store next) slots i (slot_at 0 Free)) ∙ none)
+pub none_else : (a : ArenaFields) (i : ℕ) (old : Slot) (b : ℕ) → IsArena a → slice_get a.slots i ≡ Some old
+    → 1 ≤ occurrences b (chain a.free_count a.next a.free) + occurrences b (d.blocks_of (held a.store a.next old.content)) → AllByRecursion (Without a.store a.next b) (slice_set a.slots i (slot_at 0 Free))
+none_else a i old b arena was here =
+    let total : occurrences b (flat_map (λ (slot : d.Slot). d.blocks_of slot.held) (slice_set (map (slot_of a.store a.next) a.slots) i (record { generation = 0; held = d.Free }))) + occurrences b (d.blocks_of (held a.store a.next old.content)) ≡ occurrences b (flat_map (λ (slot : d.Slot). d.blocks_of slot.held) (map (slot_of a.store a.next) a.slots)) + 0 =
+    total_set (λ y. cond (y == b) 1 0) (λ (slot : d.Slot). d.blocks_of slot.held) (map (slot_of a.store a.next) a.slots) i (slot_of a.store a.next old) (record { generation = 0; held = d.Free }) (get_map (slot_of a.store a.next) a.slots i old was) in
+    let once : occurrences b (chain a.free_count a.next a.free ++ flat_map (λ (slot : d.Slot). d.blocks_of slot.held) (map (slot_of a.store a.next) a.slots)) ≡ cond (nat_lt b (length a.next)) 1 0 = arena.once b in
+    let none : occurrences b (flat_map (λ (slot : d.Slot). d.blocks_of slot.held) (slice_set (map (slot_of a.store a.next) a.slots) i (record { generation = 0; held = d.Free }))) ≡ 0 =
+    omega (arith, total, once, at_most (nat_lt b (length a.next)), here, times-append b (chain a.free_count a.next a.free) (flat_map (λ (slot : d.Slot). d.blocks_of slot.held) (map (slot_of a.store a.next) a.slots))) in
+    none_by a.store a.next b (slice_set a.slots i (slot_at 0 Free)) (ap (λ (ss : List d.Slot). occurrences b (flat_map (λ (slot : d.Slot). d.blocks_of slot.held) ss)) (map_set (slot_of a.store a.next) a.slots i (slot_at 0 Free)) ∙ none)
 
 pub map_same : {A B : Type 0} (f f' : A → B) (P : A → Type 0) (xs : List A) → AllByRecursion P xs → ((x : A) → P x → f' x ≡ f x) → map f' xs ≡ map f xs
 map_same f f' P [] h e = refl

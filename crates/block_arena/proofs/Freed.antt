@@ -11,7 +11,7 @@ use Rattle.block_arena.specs.declared.slot.Run.{Run}
 use Rattle.block_arena.specs.declared.slot.Content.{Content}
 use Rattle.block_arena.specs.declared.slot.Content.TheVariants.{Free, Draft, Sealed, Retired}
 use Rattle.block_arena.specs.declared.slot.Slot.{Slot}
-use Rattle.block_arena.specs.Fields.{chain, node, held, slot_of, depot_of, slot_behind, run_of, block_count, IsContent, IsRun, IsArena}
+use Rattle.block_arena.specs.Fields.{ArenaFields, chain, node, held, slot_of, depot_of, slot_behind, run_of, block_count, IsContent, IsRun, IsArena}
 use Rattle.block_arena.specs.Calls.{depot_key, IsInUse, Frees}
 use Rattle.block_arena.proofs.Chains.{chain_last, splice}
 use Rattle.block_arena.proofs.Slots.{slot_at, Turn, turned, map_set, all_set, all_at, sum_set, get_within}
@@ -33,9 +33,9 @@ owns store next (Sealed run holds) h = record { filled = λ e. cc; blocks = refl
 owns store next Retired h = absurd h
 
 -- the slot's content in an arena, whichever it is
-pub in_use : (key : Key) (depot : d.Depot) (store : List (List ℕ)) (next : List ℕ) (slots : List Slot) (free free_count : ℕ) (content : Content)
-    → Sees key depot store next slots free free_count content → IsInUse (d.held_under depot (depot_key key)) → Owns store next content (run_of content)
-in_use key depot store next slots free free_count content s h = owns store next content (subst (λ (x : d.Held). IsInUse x) (under key depot store next slots free free_count content s) h)
+pub in_use : (key : Key) (depot : d.Depot) (a : ArenaFields) (content : Content)
+    → Sees key depot a content → IsInUse (d.held_under depot (depot_key key)) → Owns a.store a.next content (run_of content)
+in_use key depot a content s h = owns a.store a.next content (subst (λ (x : d.Held). IsInUse x) (under key depot a content s) h)
 
 behind_content : (t : Bool) (next : List ℕ) (g k : ℕ) → IsContent next ((cond t (slot_at g Free) (slot_at k Retired)).content)
 behind_content true next g k = tt
@@ -63,23 +63,24 @@ behind_as true store next slots i g free = refl
 behind_as false store next slots i g free = refl
 
 -- a slot without blocks
-pub empty_turn : (key : Key) (depot : d.Depot) (store : List (List ℕ)) (next : List ℕ) (slots : List Slot) (free free_count : ℕ) (content : Content) (run : Run)
-    → Sees key depot store next slots free free_count content → Owns store next content run → run.blocks ≡ 0
-    → Turn store next slots free free_count key.slot (slot_at key.generation content) (slot_behind key.generation) store next free free_count
-empty_turn key depot store next slots free free_count content run s o none =
-    let was : slice_get slots key.slot ≡ Some (slot_at key.generation content) = stands key depot store next slots free free_count content s o.filled in
+pub empty_turn : (key : Key) (depot : d.Depot) (a : ArenaFields) (content : Content) (run : Run)
+    → Sees key depot a content → Owns a.store a.next content run → run.blocks ≡ 0
+    → Turn a key.slot (slot_at key.generation content) (slot_behind key.generation) (record a { slots = slice_set a.slots key.slot (slot_behind key.generation) })
+empty_turn key depot a content run s o none =
+    let was : slice_get a.slots key.slot ≡ Some (slot_at key.generation content) = stands key depot a content s o.filled in
     record {
       arena = s.arena;
       was = was;
+      slots = refl;
       sizes = s.arena.sizes;
       blocks_stay = refl;
       next_stay = refl;
-      generation = behind_generation (nat_lt key.generation d.last_generation) key.generation refl (all_at (λ (slot : Slot). slot.generation ≤ d.last_generation) slots key.slot (slot_at key.generation content) s.arena.generations was);
+      generation = behind_generation (nat_lt key.generation d.last_generation) key.generation refl (all_at (λ (slot : Slot). slot.generation ≤ d.last_generation) a.slots key.slot (slot_at key.generation content) s.arena.generations was);
       count = omega (arith, behind_count (nat_lt key.generation d.last_generation) (key.generation + 1) key.generation, o.count, none);
-      others = map_set (slot_of store next) slots key.slot (slot_behind key.generation);
-      runs = all_set (λ (slot : Slot). IsContent next slot.content) slots key.slot (slot_behind key.generation) s.arena.runs (behind_content (nat_lt key.generation d.last_generation) next (key.generation + 1) key.generation);
-      split = λ x. ap (λ bs. occurrences x (chain free_count next free) + occurrences x bs)
-          (behind_blocks (nat_lt key.generation d.last_generation) store next (key.generation + 1) key.generation ∙ sym (ap (λ k. chain k next run.first) none) ∙ sym o.blocks);
+      others = map_set (slot_of a.store a.next) a.slots key.slot (slot_behind key.generation);
+      runs = all_set (λ (slot : Slot). IsContent a.next slot.content) a.slots key.slot (slot_behind key.generation) s.arena.runs (behind_content (nat_lt key.generation d.last_generation) a.next (key.generation + 1) key.generation);
+      split = λ x. ap (λ bs. occurrences x (chain a.free_count a.next a.free) + occurrences x bs)
+          (behind_blocks (nat_lt key.generation d.last_generation) a.store a.next (key.generation + 1) key.generation ∙ sym (ap (λ k. chain k a.next run.first) none) ∙ sym o.blocks);
     }
 
 -- what holds of the last block of a run
@@ -124,38 +125,40 @@ splice_free next free free_count run l some =
     let all : suc (run.blocks - 1) + free_count ≡ free_count + run.blocks = omega (arith, some) in
     ap (λ k. chain k (set next run.last free) run.first) (sym all) ∙ splice (run.blocks - 1) free_count next run.first free run.last l.is l.once l.low l.apart ∙ ap (λ k. chain k next run.first ++ chain free_count next free) one
 
-pub last_in : (key : Key) (depot : d.Depot) (store : List (List ℕ)) (next : List ℕ) (slots : List Slot) (free free_count : ℕ) (content : Content) (run : Run)
-    → Sees key depot store next slots free free_count content → Owns store next content run → 0 < run.blocks → IsLast next free free_count (run.blocks - 1) run.first run.last
-last_in key depot store next slots free free_count content run s o some =
-    let was : slice_get slots key.slot ≡ Some (slot_at key.generation content) = stands key depot store next slots free free_count content s o.filled in
-    let is : IsRun next run = o.is (all_at (λ (slot : Slot). IsContent next slot.content) slots key.slot (slot_at key.generation content) s.arena.runs was) in
+pub last_in : (key : Key) (depot : d.Depot) (a : ArenaFields) (content : Content) (run : Run)
+    → Sees key depot a content → Owns a.store a.next content run → 0 < run.blocks → IsLast a.next a.free a.free_count (run.blocks - 1) run.first run.last
+last_in key depot a content run s o some =
+    let was : slice_get a.slots key.slot ≡ Some (slot_at key.generation content) = stands key depot a content s o.filled in
+    let is : IsRun a.next run = o.is (all_at (λ (slot : Slot). IsContent a.next slot.content) a.slots key.slot (slot_at key.generation content) s.arena.runs was) in
     let one : suc (run.blocks - 1) ≡ run.blocks = omega (arith, some) in
-    let same : occurrences run.last (d.blocks_of (held store next content)) ≡ occurrences run.last (chain (suc (run.blocks - 1)) next run.first) = ap (occurrences run.last) o.blocks ∙ ap (λ k. occurrences run.last (chain k next run.first)) (sym one) in
-    last_of next free free_count (run.blocks - 1) run.first run.last (is.last some) (omega (arith, same, run_times store next slots free free_count key.slot (slot_at key.generation content) s.arena was run.last))
+    let same : occurrences run.last (d.blocks_of (held a.store a.next content)) ≡ occurrences run.last (chain (suc (run.blocks - 1)) a.next run.first) = ap (occurrences run.last) o.blocks ∙ ap (λ k. occurrences run.last (chain k a.next run.first)) (sym one) in
+    last_of a.next a.free a.free_count (run.blocks - 1) run.first run.last (is.last some) (omega (arith, same, run_times a key.slot (slot_at key.generation content) s.arena was run.last))
 
-pub freed_turn : (key : Key) (depot : d.Depot) (store : List (List ℕ)) (next : List ℕ) (slots : List Slot) (free free_count : ℕ) (content : Content) (run : Run)
-    → Sees key depot store next slots free free_count content → Owns store next content run → 0 < run.blocks
-    → Turn store next slots free free_count key.slot (slot_at key.generation content) (slot_behind key.generation) store (set next run.last free) run.first (free_count + run.blocks)
-freed_turn key depot store next slots free free_count content run s o some =
-    let was : slice_get slots key.slot ≡ Some (slot_at key.generation content) = stands key depot store next slots free free_count content s o.filled in
-    let l : IsLast next free free_count (run.blocks - 1) run.first run.last = last_in key depot store next slots free free_count content run s o some in
+pub freed_turn : (key : Key) (depot : d.Depot) (a : ArenaFields) (content : Content) (run : Run)
+    → Sees key depot a content → Owns a.store a.next content run → 0 < run.blocks
+    → Turn a key.slot (slot_at key.generation content) (slot_behind key.generation)
+    (record a { next = set a.next run.last a.free; slots = slice_set a.slots key.slot (slot_behind key.generation); free = run.first; free_count = a.free_count + run.blocks })
+freed_turn key depot a content run s o some =
+    let was : slice_get a.slots key.slot ≡ Some (slot_at key.generation content) = stands key depot a content s o.filled in
+    let l : IsLast a.next a.free a.free_count (run.blocks - 1) run.first run.last = last_in key depot a content run s o some in
     let one : suc (run.blocks - 1) ≡ run.blocks = omega (arith, some) in
-    let there : occurrences run.last (d.blocks_of (held store next content)) ≡ 1 = ap (occurrences run.last) o.blocks ∙ ap (λ k. occurrences run.last (chain k next run.first)) (sym one) ∙ l.there in
-    let else' : AllByRecursion (Without store next run.last) (slice_set slots key.slot (slot_at 0 Free)) = none_else store next slots free free_count key.slot (slot_at key.generation content) run.last s.arena was (omega (arith, there)) in
+    let there : occurrences run.last (d.blocks_of (held a.store a.next content)) ≡ 1 = ap (occurrences run.last) o.blocks ∙ ap (λ k. occurrences run.last (chain k a.next run.first)) (sym one) ∙ l.there in
+    let else' : AllByRecursion (Without a.store a.next run.last) (slice_set a.slots key.slot (slot_at 0 Free)) = none_else a key.slot (slot_at key.generation content) run.last s.arena was (omega (arith, there)) in
     record {
       arena = s.arena;
       was = was;
+      slots = refl;
       sizes = s.arena.sizes;
       blocks_stay = refl;
-      next_stay = length-set next run.last free;
-      generation = behind_generation (nat_lt key.generation d.last_generation) key.generation refl (all_at (λ (slot : Slot). slot.generation ≤ d.last_generation) slots key.slot (slot_at key.generation content) s.arena.generations was);
+      next_stay = length-set a.next run.last a.free;
+      generation = behind_generation (nat_lt key.generation d.last_generation) key.generation refl (all_at (λ (slot : Slot). slot.generation ≤ d.last_generation) a.slots key.slot (slot_at key.generation content) s.arena.generations was);
       count = omega (arith, behind_count (nat_lt key.generation d.last_generation) (key.generation + 1) key.generation, o.count);
-      others = map_kept (slot_of store next) (slot_of store (set next run.last free)) (Without store next run.last) slots key.slot (slot_behind key.generation) (slot_at 0 Free) else' (slot_keeps store next run.last free);
-      runs = all_kept (Without store next run.last) (λ (slot : Slot). IsContent next slot.content) (λ (slot : Slot). IsContent (set next run.last free) slot.content) slots key.slot (slot_behind key.generation) (slot_at 0 Free) else' s.arena.runs
-          (λ (x : Slot) without is. content_keeps store next run.last free x.content without is) (behind_content (nat_lt key.generation d.last_generation) (set next run.last free) (key.generation + 1) key.generation);
+      others = map_kept (slot_of a.store a.next) (slot_of a.store (set a.next run.last a.free)) (Without a.store a.next run.last) a.slots key.slot (slot_behind key.generation) (slot_at 0 Free) else' (slot_keeps a.store a.next run.last a.free);
+      runs = all_kept (Without a.store a.next run.last) (λ (slot : Slot). IsContent a.next slot.content) (λ (slot : Slot). IsContent (set a.next run.last a.free) slot.content) a.slots key.slot (slot_behind key.generation) (slot_at 0 Free) else' s.arena.runs
+          (λ (x : Slot) without is. content_keeps a.store a.next run.last a.free x.content without is) (behind_content (nat_lt key.generation d.last_generation) (set a.next run.last a.free) (key.generation + 1) key.generation);
       split = λ x.
-          ap (λ bs. occurrences x (chain (free_count + run.blocks) (set next run.last free) run.first) + occurrences x bs) (behind_blocks (nat_lt key.generation d.last_generation) store (set next run.last free) (key.generation + 1) key.generation)
-          ∙ split_by x (chain (free_count + run.blocks) (set next run.last free) run.first) (chain run.blocks next run.first) (chain free_count next free) (d.blocks_of (held store next content)) (splice_free next free free_count run l some) o.blocks;
+          ap (λ bs. occurrences x (chain (a.free_count + run.blocks) (set a.next run.last a.free) run.first) + occurrences x bs) (behind_blocks (nat_lt key.generation d.last_generation) a.store (set a.next run.last a.free) (key.generation + 1) key.generation)
+          ∙ split_by x (chain (a.free_count + run.blocks) (set a.next run.last a.free) run.first) (chain run.blocks a.next run.first) (chain a.free_count a.next a.free) (d.blocks_of (held a.store a.next content)) (splice_free a.next a.free a.free_count run l some) o.blocks;
     } where
       split_by : (x : ℕ) (new these those held : List ℕ) → new ≡ these ++ those → held ≡ these → occurrences x new + 0 ≡ occurrences x those + occurrences x held
       split_by x new these those held e h =
@@ -164,56 +167,56 @@ freed_turn key depot store next slots free free_count content run s o some =
           omega (arith, a, b, times-append x these those)
 
 -- what a turn of the slot behind its generation frees
-pub frees : (key : Key) (depot : d.Depot) (store : List (List ℕ)) (next : List ℕ) (slots : List Slot) (free free_count : ℕ) (content : Content) (next' : List ℕ) (free' free_count' : ℕ)
-    → Sees key depot store next slots free free_count content
-    → Turn store next slots free free_count key.slot (slot_at key.generation content) (slot_behind key.generation) store next' free' free_count'
-    → Frees depot (depot_key key) (depot_of store next' (slice_set slots key.slot (slot_behind key.generation)) free' free_count')
-frees key depot store next slots free free_count content next' free' free_count' s t = record {
-  free = chain free_count' next' free';
+pub frees : (key : Key) (depot : d.Depot) (a : ArenaFields) (content : Content) (a' : ArenaFields)
+    → Sees key depot a content
+    → Turn a key.slot (slot_at key.generation content) (slot_behind key.generation) a'
+    → Frees depot (depot_key key) (depot_of a')
+frees key depot a content a' s t = record {
+  free = chain a'.free_count a'.next a'.free;
   given = λ x.
-      let split : occurrences x (chain free_count' next' free') + occurrences x (d.blocks_of (held store next' ((slot_behind key.generation).content))) ≡ occurrences x (chain free_count next free) + occurrences x (d.blocks_of (held store next content)) = t.split x in
-      let none : occurrences x (d.blocks_of (held store next' ((slot_behind key.generation).content))) ≡ 0 = ap (occurrences x) (behind_blocks (nat_lt key.generation d.last_generation) store next' (key.generation + 1) key.generation) in
-      let here : occurrences x (d.blocks_of (d.held_under depot (depot_key key))) ≡ occurrences x (d.blocks_of (held store next content)) = ap (λ h. occurrences x (d.blocks_of h)) (under key depot store next slots free free_count content s) in
-      let spare : occurrences x depot.free ≡ occurrences x (chain free_count next free) = ap (λ (e : d.Depot). occurrences x e.free) (sym s.view) in
+      let split : occurrences x (chain a'.free_count a'.next a'.free) + occurrences x (d.blocks_of (held a'.store a'.next ((slot_behind key.generation).content))) ≡ occurrences x (chain a.free_count a.next a.free) + occurrences x (d.blocks_of (held a.store a.next content)) = t.split x in
+      let none : occurrences x (d.blocks_of (held a'.store a'.next ((slot_behind key.generation).content))) ≡ 0 = ap (occurrences x) (behind_blocks (nat_lt key.generation d.last_generation) a'.store a'.next (key.generation + 1) key.generation) in
+      let here : occurrences x (d.blocks_of (d.held_under depot (depot_key key))) ≡ occurrences x (d.blocks_of (held a.store a.next content)) = ap (λ h. occurrences x (d.blocks_of h)) (under key depot a content s) in
+      let spare : occurrences x depot.free ≡ occurrences x (chain a.free_count a.next a.free) = ap (λ (e : d.Depot). occurrences x e.free) (sym s.view) in
       omega (arith, split, none, here, spare);
   after =
-      ap (λ (ss : List d.Slot). depot_with ss (chain free_count' next' free')) t.others
-      ∙ behind_as (nat_lt key.generation d.last_generation) store next' (map (slot_of store next) slots) key.slot key.generation (chain free_count' next' free')
-      ∙ ap (λ (e : d.Depot). d.given_back e (depot_key key) (chain free_count' next' free')) s.view;
+      ap (λ (ss : List d.Slot). depot_with ss (chain a'.free_count a'.next a'.free)) t.others
+      ∙ behind_as (nat_lt key.generation d.last_generation) a'.store a'.next (map (slot_of a.store a.next) a.slots) key.slot key.generation (chain a'.free_count a'.next a'.free)
+      ∙ ap (λ (e : d.Depot). d.given_back e (depot_key key) (chain a'.free_count a'.next a'.free)) s.view;
 }
 
 -- no more blocks are free than there are
-pub free_within : (store : List (List ℕ)) (next : List ℕ) (slots : List Slot) (free free_count i : ℕ) (s : Slot) → IsArena store next slots free free_count → slice_get slots i ≡ Some s
-    → free_count + block_count s.content ≤ length next
-free_within store next slots free free_count i s arena was = omega (arith, arena.total, sum_set (λ (slot : Slot). block_count slot.content) slots i s (slot_at 0 Free) was)
+pub free_within : (a : ArenaFields) (i : ℕ) (s : Slot) → IsArena a → slice_get a.slots i ≡ Some s
+    → a.free_count + block_count s.content ≤ length a.next
+free_within a i s arena was = omega (arith, arena.total, sum_set (λ (slot : Slot). block_count slot.content) a.slots i s (slot_at 0 Free) was)
 
 -- the same, with the slot as code made it
-pub empty_arena : (key : Key) (depot : d.Depot) (store : List (List ℕ)) (next : List ℕ) (slots : List Slot) (free free_count : ℕ) (content : Content) (run : Run) (slot : Slot) → Sees key depot store next slots free free_count content → Owns store next content run → run.blocks ≡ 0 → slot ≡ slot_behind key.generation → IsArena store next (slice_set slots key.slot slot) free free_count
-empty_arena key depot store next slots free free_count content run slot s o none e = subst (λ (x : Slot). IsArena store next (slice_set slots key.slot x) free free_count) (sym e)
-    (turned store next slots free free_count key.slot (slot_at key.generation content) (slot_behind key.generation) store next free free_count (empty_turn key depot store next slots free free_count content run s o none))
+pub empty_arena : (key : Key) (depot : d.Depot) (a : ArenaFields) (content : Content) (run : Run) (slot : Slot) → Sees key depot a content → Owns a.store a.next content run → run.blocks ≡ 0 → slot ≡ slot_behind key.generation → IsArena (record a { slots = slice_set a.slots key.slot slot })
+empty_arena key depot a content run slot s o none e = subst (λ (x : Slot). IsArena (record a { slots = slice_set a.slots key.slot x })) (sym e)
+    (turned a key.slot (slot_at key.generation content) (slot_behind key.generation) _ (empty_turn key depot a content run s o none))
 
-pub empty_frees : (key : Key) (depot : d.Depot) (store : List (List ℕ)) (next : List ℕ) (slots : List Slot) (free free_count : ℕ) (content : Content) (run : Run) (slot : Slot) → Sees key depot store next slots free free_count content → Owns store next content run → run.blocks ≡ 0 → slot ≡ slot_behind key.generation → Frees depot (depot_key key) (depot_of store next (slice_set slots key.slot slot) free free_count)
-empty_frees key depot store next slots free free_count content run slot s o none e = subst (λ (x : Slot). Frees depot (depot_key key) (depot_of store next (slice_set slots key.slot x) free free_count)) (sym e)
-    (frees key depot store next slots free free_count content next free free_count s (empty_turn key depot store next slots free free_count content run s o none))
+pub empty_frees : (key : Key) (depot : d.Depot) (a : ArenaFields) (content : Content) (run : Run) (slot : Slot) → Sees key depot a content → Owns a.store a.next content run → run.blocks ≡ 0 → slot ≡ slot_behind key.generation → Frees depot (depot_key key) (depot_of (record a { slots = slice_set a.slots key.slot slot }))
+empty_frees key depot a content run slot s o none e = subst (λ (x : Slot). Frees depot (depot_key key) (depot_of (record a { slots = slice_set a.slots key.slot x }))) (sym e)
+    (frees key depot a content _ s (empty_turn key depot a content run s o none))
 
-pub freed_arena : (key : Key) (depot : d.Depot) (store : List (List ℕ)) (next : List ℕ) (slots : List Slot) (free free_count : ℕ) (content : Content) (run : Run) (slot : Slot) → Sees key depot store next slots free free_count content → Owns store next content run → 0 < run.blocks → slot ≡ slot_behind key.generation
-    → IsArena store (set next run.last free) (slice_set slots key.slot slot) run.first (free_count + run.blocks)
-freed_arena key depot store next slots free free_count content run slot s o some e = subst (λ (x : Slot). IsArena store (set next run.last free) (slice_set slots key.slot x) run.first (free_count + run.blocks)) (sym e)
-    (turned store next slots free free_count key.slot (slot_at key.generation content) (slot_behind key.generation) store (set next run.last free) run.first (free_count + run.blocks) (freed_turn key depot store next slots free free_count content run s o some))
+pub freed_arena : (key : Key) (depot : d.Depot) (a : ArenaFields) (content : Content) (run : Run) (slot : Slot) → Sees key depot a content → Owns a.store a.next content run → 0 < run.blocks → slot ≡ slot_behind key.generation
+    → IsArena (record a { next = set a.next run.last a.free; slots = slice_set a.slots key.slot slot; free = run.first; free_count = a.free_count + run.blocks })
+freed_arena key depot a content run slot s o some e = subst (λ (x : Slot). IsArena (record a { next = set a.next run.last a.free; slots = slice_set a.slots key.slot x; free = run.first; free_count = a.free_count + run.blocks })) (sym e)
+    (turned a key.slot (slot_at key.generation content) (slot_behind key.generation) _ (freed_turn key depot a content run s o some))
 
-pub freed_frees : (key : Key) (depot : d.Depot) (store : List (List ℕ)) (next : List ℕ) (slots : List Slot) (free free_count : ℕ) (content : Content) (run : Run) (slot : Slot) → Sees key depot store next slots free free_count content → Owns store next content run → 0 < run.blocks → slot ≡ slot_behind key.generation
-    → Frees depot (depot_key key) (depot_of store (set next run.last free) (slice_set slots key.slot slot) run.first (free_count + run.blocks))
-freed_frees key depot store next slots free free_count content run slot s o some e = subst (λ (x : Slot). Frees depot (depot_key key) (depot_of store (set next run.last free) (slice_set slots key.slot x) run.first (free_count + run.blocks))) (sym e)
-    (frees key depot store next slots free free_count content (set next run.last free) run.first (free_count + run.blocks) s (freed_turn key depot store next slots free free_count content run s o some))
+pub freed_frees : (key : Key) (depot : d.Depot) (a : ArenaFields) (content : Content) (run : Run) (slot : Slot) → Sees key depot a content → Owns a.store a.next content run → 0 < run.blocks → slot ≡ slot_behind key.generation
+    → Frees depot (depot_key key) (depot_of (record a { next = set a.next run.last a.free; slots = slice_set a.slots key.slot slot; free = run.first; free_count = a.free_count + run.blocks }))
+freed_frees key depot a content run slot s o some e = subst (λ (x : Slot). Frees depot (depot_key key) (depot_of (record a { next = set a.next run.last a.free; slots = slice_set a.slots key.slot x; free = run.first; free_count = a.free_count + run.blocks }))) (sym e)
+    (frees key depot a content _ s (freed_turn key depot a content run s o some))
 
-pub slot_within : (key : Key) (depot : d.Depot) (store : List (List ℕ)) (next : List ℕ) (slots : List Slot) (free free_count : ℕ) (content : Content) (run : Run)
-    → Sees key depot store next slots free free_count content → Owns store next content run → key.slot < length slots
-slot_within key depot store next slots free free_count content run s o = get_within slots key.slot (slot_at key.generation content) (stands key depot store next slots free free_count content s o.filled)
+pub slot_within : (key : Key) (depot : d.Depot) (a : ArenaFields) (content : Content) (run : Run)
+    → Sees key depot a content → Owns a.store a.next content run → key.slot < length a.slots
+slot_within key depot a content run s o = get_within a.slots key.slot (slot_at key.generation content) (stands key depot a content s o.filled)
 
-pub generation_within : (key : Key) (depot : d.Depot) (store : List (List ℕ)) (next : List ℕ) (slots : List Slot) (free free_count : ℕ) (content : Content) (run : Run)
-    → Sees key depot store next slots free free_count content → Owns store next content run → key.generation ≤ d.last_generation
-generation_within key depot store next slots free free_count content run s o = all_at (λ (slot : Slot). slot.generation ≤ d.last_generation) slots key.slot (slot_at key.generation content) s.arena.generations (stands key depot store next slots free free_count content s o.filled)
+pub generation_within : (key : Key) (depot : d.Depot) (a : ArenaFields) (content : Content) (run : Run)
+    → Sees key depot a content → Owns a.store a.next content run → key.generation ≤ d.last_generation
+generation_within key depot a content run s o = all_at (λ (slot : Slot). slot.generation ≤ d.last_generation) a.slots key.slot (slot_at key.generation content) s.arena.generations (stands key depot a content s o.filled)
 
-pub sum_within : (key : Key) (depot : d.Depot) (store : List (List ℕ)) (next : List ℕ) (slots : List Slot) (free free_count : ℕ) (content : Content) (run : Run)
-    → Sees key depot store next slots free free_count content → Owns store next content run → free_count + run.blocks ≤ BLOCK_LIMIT
-sum_within key depot store next slots free free_count content run s o = omega (arith, o.count, s.arena.limit, free_within store next slots free free_count key.slot (slot_at key.generation content) s.arena (stands key depot store next slots free free_count content s o.filled))
+pub sum_within : (key : Key) (depot : d.Depot) (a : ArenaFields) (content : Content) (run : Run)
+    → Sees key depot a content → Owns a.store a.next content run → a.free_count + run.blocks ≤ BLOCK_LIMIT
+sum_within key depot a content run s o = omega (arith, o.count, s.arena.limit, free_within a key.slot (slot_at key.generation content) s.arena (stands key depot a content s o.filled))

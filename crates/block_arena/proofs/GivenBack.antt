@@ -7,8 +7,7 @@ use Rattle.block_arena.specs.declared.key.Key.{Key}
 use Rattle.block_arena.specs.declared.slot.Run.{Run}
 use Rattle.block_arena.specs.declared.slot.Content.{Content}
 use Rattle.block_arena.specs.declared.slot.Content.TheVariants.{Free, Sealed}
-use Rattle.block_arena.specs.declared.slot.Slot.{Slot}
-use Rattle.block_arena.specs.Fields.{held, slot_of, depot_of, blocks_in, bytes_in}
+use Rattle.block_arena.specs.Fields.{ArenaFields, held, slot_of, depot_of, blocks_in, bytes_in}
 use Rattle.block_arena.specs.Calls.{depot_key, Frees, IsGivenBack, MayGiveBack}
 use Rattle.block_arena.proofs.Slots.{slot_at, get_map}
 use Rattle.block_arena.proofs.Seen.{Sees, under, stands}
@@ -60,27 +59,27 @@ given_some k w old key new bytes blocks was some e =
     let weight : d.weight_under (d.with_held old key (d.Sealed bytes blocks w) old.free) key ≡ w = ap d.weight_held here in
     subst (λ (x : d.Depot). IsGivenBack k old key x false) (sym e) (releases k w old key bytes blocks was, omega (arith, weight, some))
 
-pub depot_there : (key : Key) (depot : d.Depot) (store : List (List ℕ)) (next : List ℕ) (slots : List Slot) (free free_count : ℕ) (content : Content)
-    → Sees key depot store next slots free free_count content → ((content ≡ Free) → ⊥) → slice_get depot.slots key.slot ≡ Some (depot_slot key.generation (held store next content))
-depot_there key depot store next slots free free_count content s filled =
-    ap (λ (e : d.Depot). slice_get e.slots key.slot) (sym s.view) ∙ get_map (slot_of store next) slots key.slot (slot_at key.generation content) (stands key depot store next slots free free_count content s filled)
+pub depot_there : (key : Key) (depot : d.Depot) (a : ArenaFields) (content : Content)
+    → Sees key depot a content → ((content ≡ Free) → ⊥) → slice_get depot.slots key.slot ≡ Some (depot_slot key.generation (held a.store a.next content))
+depot_there key depot a content s filled =
+    ap (λ (e : d.Depot). slice_get e.slots key.slot) (sym s.view) ∙ get_map (slot_of a.store a.next) a.slots key.slot (slot_at key.generation content) (stands key depot a content s filled)
 
-pub gives_some : (key : Key) (depot : d.Depot) (store : List (List ℕ)) (next : List ℕ) (slots : List Slot) (free free_count : ℕ) (run : Run) (holds k : ℕ)
-    → Sees key depot store next slots free free_count (Sealed run holds) → k < holds
-    → IsGivenBack k depot (depot_key key) (depot_of store next (slice_set slots key.slot (slot_at key.generation (Sealed run (holds - k)))) free free_count) false
-gives_some key depot store next slots free free_count run holds k s few =
+pub gives_some : (key : Key) (depot : d.Depot) (a : ArenaFields) (run : Run) (holds k : ℕ)
+    → Sees key depot a (Sealed run holds) → k < holds
+    → IsGivenBack k depot (depot_key key) (depot_of (record a { slots = slice_set a.slots key.slot (slot_at key.generation (Sealed run (holds - k))) })) false
+gives_some key depot a run holds k s few =
     let sum : holds ≡ (holds - k) + k = omega (arith, few) in
-    given_some k (holds - k) depot (depot_key key) (depot_of store next (slice_set slots key.slot (slot_at key.generation (Sealed run (holds - k)))) free free_count) (bytes_in store next run) (blocks_in next run)
-    (depot_there key depot store next slots free free_count (Sealed run holds) s (λ e. cc) ∙ ap (λ (x : d.Slot). Some x) (ap (λ n. depot_slot key.generation (d.Sealed (bytes_in store next run) (blocks_in next run) n)) sum))
+    given_some k (holds - k) depot (depot_key key) (depot_of (record a { slots = slice_set a.slots key.slot (slot_at key.generation (Sealed run (holds - k))) })) (bytes_in a.store a.next run) (blocks_in a.next run)
+    (depot_there key depot a (Sealed run holds) s (λ e. cc) ∙ ap (λ (x : d.Slot). Some x) (ap (λ n. depot_slot key.generation (d.Sealed (bytes_in a.store a.next run) (blocks_in a.next run) n)) sum))
     (omega (arith, few))
-    (held_behind key depot store next slots free free_count (Sealed run holds) (Sealed run (holds - k)) s)
+    (held_behind key depot a (Sealed run holds) (Sealed run (holds - k)) s)
 
-pub gives_last : (key : Key) (depot : d.Depot) (store : List (List ℕ)) (next : List ℕ) (slots : List Slot) (free free_count : ℕ) (run : Run) (holds k : ℕ) (new : d.Depot)
-    → Sees key depot store next slots free free_count (Sealed run holds) → holds ≤ k → MayGiveBack k (d.held_under depot (depot_key key)) → Frees depot (depot_key key) new
+pub gives_last : (key : Key) (depot : d.Depot) (a : ArenaFields) (run : Run) (holds k : ℕ) (new : d.Depot)
+    → Sees key depot a (Sealed run holds) → holds ≤ k → MayGiveBack k (d.held_under depot (depot_key key)) → Frees depot (depot_key key) new
     → IsGivenBack k depot (depot_key key) new true
-gives_last key depot store next slots free free_count run holds k new s most may f =
-    let within : k ≤ holds = subst (λ (h : d.Held). MayGiveBack k h) (under key depot store next slots free free_count (Sealed run holds) s) may in
+gives_last key depot a run holds k new s most may f =
+    let within : k ≤ holds = subst (λ (h : d.Held). MayGiveBack k h) (under key depot a (Sealed run holds) s) may in
     let same : holds ≡ k = omega (arith, most, within) in
-    given_last k depot (depot_key key) new (bytes_in store next run) (blocks_in next run)
-    (depot_there key depot store next slots free free_count (Sealed run holds) s (λ e. cc) ∙ ap (λ (x : d.Slot). Some x) (ap (λ n. depot_slot key.generation (d.Sealed (bytes_in store next run) (blocks_in next run) n)) same))
+    given_last k depot (depot_key key) new (bytes_in a.store a.next run) (blocks_in a.next run)
+    (depot_there key depot a (Sealed run holds) s (λ e. cc) ∙ ap (λ (x : d.Slot). Some x) (ap (λ n. depot_slot key.generation (d.Sealed (bytes_in a.store a.next run) (blocks_in a.next run) n)) same))
     f

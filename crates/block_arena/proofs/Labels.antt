@@ -9,37 +9,37 @@ use Rattle.block_arena.specs.declared.slot.Run.{Run}
 use Rattle.block_arena.specs.declared.slot.Content.{Content}
 use Rattle.block_arena.specs.declared.slot.Content.TheVariants.{Draft, Sealed}
 use Rattle.block_arena.specs.declared.slot.Slot.{Slot}
-use Rattle.block_arena.specs.Fields.{held, slot_of, depot_of, blocks_in, bytes_in, IsContent, IsArena}
+use Rattle.block_arena.specs.Fields.{ArenaFields, held, slot_of, depot_of, blocks_in, bytes_in, IsContent, IsArena}
 use Rattle.block_arena.specs.Calls.{depot_key, ReleasesAll}
 use Rattle.block_arena.proofs.Slots.{slot_at, relabelled, map_set, all_at}
 use Rattle.block_arena.proofs.Seen.{Sees, under, stands}
 
 -- the depot behind such a call
-pub held_behind : (key : Key) (depot : d.Depot) (store : List (List ℕ)) (next : List ℕ) (slots : List Slot) (free free_count : ℕ) (old content : Content) → Sees key depot store next slots free free_count old
-    → depot_of store next (slice_set slots key.slot (slot_at key.generation content)) free free_count ≡ d.with_held depot (depot_key key) (held store next content) depot.free
-held_behind key depot store next slots free free_count old content s =
-    ap (λ (ss : List d.Slot). record { slots = ss; free = (depot_of store next slots free free_count).free }) (map_set (slot_of store next) slots key.slot (slot_at key.generation content))
-    ∙ ap (λ (e : d.Depot). d.with_held e (depot_key key) (held store next content) e.free) s.view
+pub held_behind : (key : Key) (depot : d.Depot) (a : ArenaFields) (old content : Content) → Sees key depot a old
+    → depot_of (record a { slots = slice_set a.slots key.slot (slot_at key.generation content) }) ≡ d.with_held depot (depot_key key) (held a.store a.next content) depot.free
+held_behind key depot a old content s =
+    ap (λ (ss : List d.Slot). record { slots = ss; free = (depot_of a).free }) (map_set (slot_of a.store a.next) a.slots key.slot (slot_at key.generation content))
+    ∙ ap (λ (e : d.Depot). d.with_held e (depot_key key) (held a.store a.next content) e.free) s.view
 
-pub sealed_arena : (key : Key) (depot : d.Depot) (store : List (List ℕ)) (next : List ℕ) (slots : List Slot) (free free_count : ℕ) (run : Run) (n : ℕ) → Sees key depot store next slots free free_count (Draft run) → IsArena store next (slice_set slots key.slot (slot_at key.generation (Sealed run n))) free free_count
-sealed_arena key depot store next slots free free_count run n s =
-    let was : slice_get slots key.slot ≡ Some (slot_at key.generation (Draft run)) = stands key depot store next slots free free_count (Draft run) s (λ e. cc) in
-    relabelled store next slots free free_count key.slot (slot_at key.generation (Draft run)) (slot_at key.generation (Sealed run n)) s.arena was refl
-    (all_at (λ (slot : Slot). IsContent next slot.content) slots key.slot (slot_at key.generation (Draft run)) s.arena.runs was) refl refl
+pub sealed_arena : (key : Key) (depot : d.Depot) (a : ArenaFields) (run : Run) (n : ℕ) → Sees key depot a (Draft run) → IsArena (record a { slots = slice_set a.slots key.slot (slot_at key.generation (Sealed run n)) })
+sealed_arena key depot a run n s =
+    let was : slice_get a.slots key.slot ≡ Some (slot_at key.generation (Draft run)) = stands key depot a (Draft run) s (λ e. cc) in
+    relabelled a key.slot (slot_at key.generation (Draft run)) (slot_at key.generation (Sealed run n)) s.arena was refl
+    (all_at (λ (slot : Slot). IsContent a.next slot.content) a.slots key.slot (slot_at key.generation (Draft run)) s.arena.runs was) refl refl
 
-pub seals : (key : Key) (depot : d.Depot) (store : List (List ℕ)) (next : List ℕ) (slots : List Slot) (free free_count : ℕ) (run : Run) (n : ℕ) → Sees key depot store next slots free free_count (Draft run) → d.Seals depot (depot_key key) n (depot_of store next (slice_set slots key.slot (slot_at key.generation (Sealed run n))) free free_count)
-seals key depot store next slots free free_count run n s = record {
-  bytes = bytes_in store next run;
-  blocks = blocks_in next run;
-  draft = under key depot store next slots free free_count (Draft run) s;
-  after = held_behind key depot store next slots free free_count (Draft run) (Sealed run n) s;
+pub seals : (key : Key) (depot : d.Depot) (a : ArenaFields) (run : Run) (n : ℕ) → Sees key depot a (Draft run) → d.Seals depot (depot_key key) n (depot_of (record a { slots = slice_set a.slots key.slot (slot_at key.generation (Sealed run n)) }))
+seals key depot a run n s = record {
+  bytes = bytes_in a.store a.next run;
+  blocks = blocks_in a.next run;
+  draft = under key depot a (Draft run) s;
+  after = held_behind key depot a (Draft run) (Sealed run n) s;
 }
 
-pub lighter_arena : (key : Key) (depot : d.Depot) (store : List (List ℕ)) (next : List ℕ) (slots : List Slot) (free free_count : ℕ) (run : Run) (holds n : ℕ) → Sees key depot store next slots free free_count (Sealed run holds) → IsArena store next (slice_set slots key.slot (slot_at key.generation (Sealed run n))) free free_count
-lighter_arena key depot store next slots free free_count run holds n s =
-    let was : slice_get slots key.slot ≡ Some (slot_at key.generation (Sealed run holds)) = stands key depot store next slots free free_count (Sealed run holds) s (λ e. cc) in
-    relabelled store next slots free free_count key.slot (slot_at key.generation (Sealed run holds)) (slot_at key.generation (Sealed run n)) s.arena was refl
-    (all_at (λ (slot : Slot). IsContent next slot.content) slots key.slot (slot_at key.generation (Sealed run holds)) s.arena.runs was) refl refl
+pub lighter_arena : (key : Key) (depot : d.Depot) (a : ArenaFields) (run : Run) (holds n : ℕ) → Sees key depot a (Sealed run holds) → IsArena (record a { slots = slice_set a.slots key.slot (slot_at key.generation (Sealed run n)) })
+lighter_arena key depot a run holds n s =
+    let was : slice_get a.slots key.slot ≡ Some (slot_at key.generation (Sealed run holds)) = stands key depot a (Sealed run holds) s (λ e. cc) in
+    relabelled a key.slot (slot_at key.generation (Sealed run holds)) (slot_at key.generation (Sealed run n)) s.arena was refl
+    (all_at (λ (slot : Slot). IsContent a.next slot.content) a.slots key.slot (slot_at key.generation (Sealed run holds)) s.arena.runs was) refl refl
 
 abbrev pub depot_slot : ℕ → d.Held → d.Slot
 depot_slot generation held = record { generation = generation; held = held }

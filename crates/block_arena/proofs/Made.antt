@@ -84,7 +84,7 @@ length_same : {A : Type 0} (n : ℕ) (x : A) → length (replicate n x) ≡ n
 length_same zero x = refl
 length_same (suc n) x = ap (λ k. suc k) (length_same n x)
 
-pub once_made : (store : List (List ℕ)) (blocks n g : ℕ) → d.HasEachBlockOnce blocks (depot_of store (links 1 blocks) (replicate n (slot_at g Free)) 0 blocks)
+pub once_made : (store : List (List ℕ)) (blocks n g : ℕ) → d.HasEachBlockOnce blocks (depot_of (record { store = store; next = links 1 blocks; slots = replicate n (slot_at g Free); free = 0; free_count = blocks }))
 once_made store blocks n g x =
     let none : flat_map (λ (slot : d.Slot). d.blocks_of slot.held) (map (slot_of store (links 1 blocks)) (replicate n (slot_at g Free))) ≡ [] = none_used store (links 1 blocks) n g in
     let free : chain blocks (links 1 blocks) 0 ≡ links 0 blocks = chain_links blocks blocks 0 (omega arith) in
@@ -100,7 +100,7 @@ get_same (suc n) x zero e h = refl
 get_same (suc n) x (suc k) e h = get_same n x k e (omega (arith, h))
 
 pub made : (blocks n g : ℕ) (row : List ℕ) → length row ≡ BLOCK_SIZE → blocks ≤ BLOCK_LIMIT → n ≤ SLOT_LIMIT → g ≤ d.last_generation
-    → IsArena (replicate blocks row) (links 1 blocks) (replicate n (slot_at g Free)) 0 blocks
+    → IsArena (record { store = replicate blocks row; next = links 1 blocks; slots = replicate n (slot_at g Free); free = 0; free_count = blocks })
 made blocks n g row size few few_slots generation = record {
   sizes = λ k e h. ap length (get_same blocks row k e h) ∙ size;
   count = length_same blocks row ∙ sym (length_links blocks 1);
@@ -113,7 +113,7 @@ made blocks n g row size few few_slots generation = record {
 }
 
 pub made_as : (blocks n g : ℕ) (row : List ℕ) (store : List (List ℕ)) (next : List ℕ) (slots : List Slot) → length row ≡ BLOCK_SIZE → blocks ≤ BLOCK_LIMIT → n ≤ SLOT_LIMIT → g ≤ d.last_generation
-    → store ≡ replicate blocks row → next ≡ links 1 blocks → slots ≡ replicate n (slot_at g Free) → IsArena store next slots 0 blocks
+    → store ≡ replicate blocks row → next ≡ links 1 blocks → slots ≡ replicate n (slot_at g Free) → IsArena (record { store = store; next = next; slots = slots; free = 0; free_count = blocks })
 made_as blocks n g row store next slots size few few_slots generation e1 e2 e3 = rw (e1, e2, e3) (made blocks n g row size few few_slots generation)
 
 pub made_slots : (n g : ℕ) (store : List (List ℕ)) (next : List ℕ) (slots : List Slot) → slots ≡ replicate n (slot_at g Free)
@@ -121,7 +121,7 @@ pub made_slots : (n g : ℕ) (store : List (List ℕ)) (next : List ℕ) (slots 
 made_slots n g store next slots e = rw e (slots_seen store next n g)
 
 pub made_once : (blocks n g : ℕ) (store : List (List ℕ)) (next : List ℕ) (slots : List Slot) → next ≡ links 1 blocks → slots ≡ replicate n (slot_at g Free)
-    → d.HasEachBlockOnce blocks (depot_of store next slots 0 blocks)
+    → d.HasEachBlockOnce blocks (depot_of (record { store = store; next = next; slots = slots; free = 0; free_count = blocks }))
 made_once blocks n g store next slots e2 e3 = rw (e2, e3) (once_made store blocks n g)
 
 pub row_size : length {A = ℕ} (replicate BLOCK_SIZE 0) ≡ BLOCK_SIZE

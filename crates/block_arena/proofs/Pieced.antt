@@ -1,5 +1,5 @@
 -- What a put of one piece owes, from what its code knows.
-use Rattle.std.proofs.Common.{◌≡◌, ℕ, ◌+◌, ◌-◌, ◌*◌, ◌%◌, ◌<◌, ◌≤◌, List, [], ◌∷◌, ◌++◌, Some, get_or, min, take, drop, length, set, refl, ap, sym, ◌∙◌, subst, arith, length-take}
+use Rattle.std.proofs.Common.{◌≡◌, ℕ, ◌+◌, ◌-◌, ◌*◌, ◌%◌, ◌<◌, ◌≤◌, List, [], ◌++◌, Some, get_or, min, take, drop, length, set, refl, ap, sym, ◌∙◌, subst, arith, length-take}
 use Rattle.std.specs.Prelude.{slice_get, slice_set}
 use Rattle.std.proofs.lemmas.List.{get_or-set_same}
 use Rattle.mail_world.specs.Depot as d
@@ -8,7 +8,7 @@ use Rattle.block_arena.specs.declared.slot.Run.{Run}
 use Rattle.block_arena.specs.declared.slot.Content.{Content}
 use Rattle.block_arena.specs.declared.slot.Content.TheVariants.{Draft}
 use Rattle.block_arena.specs.declared.slot.Slot.{Slot}
-use Rattle.block_arena.specs.Fields.{content_at, depot_of, run_of, longer, linked_run, linked_next, IsContent, IsRun, IsArena}
+use Rattle.block_arena.specs.Fields.{ArenaFields, content_at, depot_of, run_of, longer, linked_run, linked_next, IsContent, IsRun, IsArena}
 use Rattle.block_arena.specs.Calls.{depot_key, IsDraft}
 use Rattle.block_arena.proofs.Slots.{slot_at, all_at}
 use Rattle.block_arena.proofs.Seen.{Sees, sees, under, stands, enough_room}
@@ -19,128 +19,128 @@ use Rattle.block_arena.proofs.Puts.{Gains, gained_puts, gained_room, sees_new, r
 use Rattle.mail_world.specs.declared.limits.TheConstants.{BLOCK_SIZE, BLOCK_LIMIT}
 
 -- what the code knows once it looked the draft's run up
-pub record Knows (key : Key) (depot : d.Depot) (store : List (List ℕ)) (next : List ℕ) (slots : List Slot) (free free_count : ℕ) (run : Run) (n : ℕ) (bytes : List ℕ) : Type 0 where
-  pub sees : Sees key depot store next slots free free_count (Draft run)
+pub record Knows (key : Key) (depot : d.Depot) (a : ArenaFields) (run : Run) (n : ℕ) (bytes : List ℕ) : Type 0 where
+  pub sees : Sees key depot a (Draft run)
   pub some : 0 < length bytes
   pub room : d.HasRoom depot (depot_key key) bytes
   pub least : n ≡ min (length bytes) (BLOCK_SIZE - run.length % BLOCK_SIZE)
 
-pub knows : (key : Key) (depot : d.Depot) (store : List (List ℕ)) (next : List ℕ) (slots : List Slot) (free free_count : ℕ) (items : List Slot) (content : Content) (run : Run) (n : ℕ) (bytes : List ℕ)
-    → IsArena store next slots free free_count → depot_of store next slots free free_count ≡ depot → items ≡ slots → content ≡ content_at (slice_get items key.slot) key.generation → IsDraft (d.held_under depot (depot_key key)) → run ≡ run_of content
+pub knows : (key : Key) (depot : d.Depot) (a : ArenaFields) (items : List Slot) (content : Content) (run : Run) (n : ℕ) (bytes : List ℕ)
+    → IsArena a → depot_of a ≡ depot → items ≡ a.slots → content ≡ content_at (slice_get items key.slot) key.generation → IsDraft (d.held_under depot (depot_key key)) → run ≡ run_of content
     → 0 < length bytes → d.HasRoom depot (depot_key key) bytes → n ≡ min (length bytes) (BLOCK_SIZE - run.length % BLOCK_SIZE)
-    → Knows key depot store next slots free free_count run n bytes
-knows key depot store next slots free free_count items content run n bytes arena view same is draft e some room least =
-    let s : Sees key depot store next slots free free_count content = sees key depot store next slots free free_count items content content arena view same is refl in
+    → Knows key depot a run n bytes
+knows key depot a items content run n bytes arena view same is draft e some room least =
+    let s : Sees key depot a content = sees key depot a items content content arena view same is refl in
     record {
       sees = record {
         arena = s.arena;
         view = s.view;
-        at = s.at ∙ draft_is store next content (subst (λ (x : d.Held). IsDraft x) (under key depot store next slots free free_count content s) draft) ∙ ap (λ (r : Run). Draft r) (sym e);
+        at = s.at ∙ draft_is a.store a.next content (subst (λ (x : d.Held). IsDraft x) (under key depot a content s) draft) ∙ ap (λ (r : Run). Draft r) (sym e);
       };
       some = some;
       room = room;
       least = least;
     }
 
-pub slot_low : (key : Key) (depot : d.Depot) (store : List (List ℕ)) (next : List ℕ) (slots : List Slot) (free free_count : ℕ) (run : Run) (n : ℕ) (bytes : List ℕ) → Knows key depot store next slots free free_count run n bytes → key.slot < length slots
-slot_low key depot store next slots free free_count run n bytes k = slot_within key depot store next slots free free_count (Draft run) run k.sees (draft_owns store next run)
+pub slot_low : (key : Key) (depot : d.Depot) (a : ArenaFields) (run : Run) (n : ℕ) (bytes : List ℕ) → Knows key depot a run n bytes → key.slot < length a.slots
+slot_low key depot a run n bytes k = slot_within key depot a (Draft run) run k.sees (draft_owns a.store a.next run)
 
 -- the two ways of a piece, whose links and free blocks the code made
-pub record IsPut (key : Key) (depot : d.Depot) (n : ℕ) (bytes : List ℕ) (store : List (List ℕ)) (next : List ℕ) (slots : List Slot) (free free_count : ℕ) : Type 0 where
-  pub arena : IsArena store next slots free free_count
-  pub put : d.Puts depot (depot_key key) (take n bytes) (depot_of store next slots free free_count)
-  pub room : d.HasRoom (depot_of store next slots free free_count) (depot_key key) (drop n bytes)
+pub record IsPut (key : Key) (depot : d.Depot) (n : ℕ) (bytes : List ℕ) (a : ArenaFields) : Type 0 where
+  pub arena : IsArena a
+  pub put : d.Puts depot (depot_key key) (take n bytes) (depot_of a)
+  pub room : d.HasRoom (depot_of a) (depot_key key) (drop n bytes)
 
-gained : (key : Key) (depot : d.Depot) (store : List (List ℕ)) (next : List ℕ) (slots : List Slot) (free free_count : ℕ) (run run' : Run) (n : ℕ) (bytes picked : List ℕ) (store' : List (List ℕ)) (next' : List ℕ) (free' free_count' : ℕ)
-    → Sees key depot store next slots free free_count (Draft run) → Gains key store next slots free free_count run run' (take n bytes) picked store' next' free' free_count' → n ≤ length bytes → d.HasRoom depot (depot_key key) bytes
-    → IsPut key depot n bytes store' next' (slice_set slots key.slot (slot_at key.generation (Draft run'))) free' free_count'
-gained key depot store next slots free free_count run run' n bytes picked store' next' free' free_count' s g short room = record {
-  arena = (sees_new key depot store next slots free free_count run run' store' next' free' free_count' g.turn).arena;
-  put = gained_puts key depot store next slots free free_count run run' (take n bytes) picked store' next' free' free_count' s g;
-  room = gained_room key depot store next slots free free_count run run' n bytes picked store' next' free' free_count' s g (omega (arith, short, length-take n bytes)) short room;
+gained : (key : Key) (depot : d.Depot) (a : ArenaFields) (run run' : Run) (n : ℕ) (bytes : List ℕ) (a' : ArenaFields)
+    → Sees key depot a (Draft run) → Gains key a run run' (take n bytes) a' → n ≤ length bytes → d.HasRoom depot (depot_key key) bytes
+    → IsPut key depot n bytes a'
+gained key depot a run run' n bytes a' s g short room = record {
+  arena = (sees_new key depot a run run' a' g.turn).arena;
+  put = gained_puts key depot a run run' (take n bytes) a' s g;
+  room = gained_room key depot a run run' n bytes a' s g (omega (arith, short, length-take n bytes)) short room;
 }
 
-pub put_last : (key : Key) (depot : d.Depot) (store : List (List ℕ)) (next : List ℕ) (slots : List Slot) (free free_count : ℕ) (run : Run) (n : ℕ) (bytes old row other : List ℕ) (slot : Slot)
-    → Knows key depot store next slots free free_count run n bytes → 0 < run.length % BLOCK_SIZE → old ≡ get_or store run.last other → row ≡ take (run.length % BLOCK_SIZE) old ++ take n bytes ++ drop (run.length % BLOCK_SIZE + length (take n bytes)) old
+pub put_last : (key : Key) (depot : d.Depot) (a : ArenaFields) (run : Run) (n : ℕ) (bytes old row other : List ℕ) (slot : Slot)
+    → Knows key depot a run n bytes → 0 < run.length % BLOCK_SIZE → old ≡ get_or a.store run.last other → row ≡ take (run.length % BLOCK_SIZE) old ++ take n bytes ++ drop (run.length % BLOCK_SIZE + length (take n bytes)) old
     → slot ≡ slot_at key.generation (Draft (longer run n))
-    → IsPut key depot n bytes (set store run.last row) next (slice_set slots key.slot slot) free free_count
-put_last key depot store next slots free free_count run n bytes old row other slot k some was is e =
-    let f : IsFilled store run n (take n bytes) old row = filled_by key depot store next slots free free_count run n bytes old row other k.sees some (omega (arith, k.least)) (omega (arith, k.least)) was is in
-    subst (λ (x : Slot). IsPut key depot n bytes (set store run.last row) next (slice_set slots key.slot x) free free_count) (sym e)
-    (gained key depot store next slots free free_count run (longer run n) n bytes [] (set store run.last row) next free free_count k.sees
-    (filled_gains key depot store next slots free free_count run n (take n bytes) old row k.sees f) (omega (arith, k.least)) k.room)
+    → IsPut key depot n bytes (record a { store = set a.store run.last row; slots = slice_set a.slots key.slot slot })
+put_last key depot a run n bytes old row other slot k some was is e =
+    let f : IsFilled a.store run n (take n bytes) old row = filled_by key depot a run n bytes old row other k.sees some (omega (arith, k.least)) (omega (arith, k.least)) was is in
+    subst (λ (x : Slot). IsPut key depot n bytes (record a { store = set a.store run.last row; slots = slice_set a.slots key.slot x })) (sym e)
+    (gained key depot a run (longer run n) n bytes _ k.sees
+    (filled_gains key depot a run n (take n bytes) old row k.sees f) (omega (arith, k.least)) k.room)
 
-pub put_next : (key : Key) (depot : d.Depot) (store : List (List ℕ)) (next : List ℕ) (slots : List Slot) (free free_count : ℕ) (run : Run) (n : ℕ) (bytes old row other : List ℕ) (rest spare' : ℕ) (run' : Run) (next' : List ℕ) (slot : Slot)
-    → Knows key depot store next slots free free_count run n bytes → run.length % BLOCK_SIZE ≡ 0 → old ≡ get_or store free other → row ≡ take 0 old ++ take n bytes ++ drop (0 + length (take n bytes)) old
-    → rest ≡ get_or next free spare' → run' ≡ linked_run run free → next' ≡ linked_next next run free → slot ≡ slot_at key.generation (Draft (longer run' n))
-    → IsPut key depot n bytes (set store free row) next' (slice_set slots key.slot slot) rest (free_count - 1)
-put_next key depot store next slots free free_count run n bytes old row other rest spare' run' next' slot k full was is behind runs links e =
-    let f : IsNextRun free_count run n (take n bytes) row = next_by key depot store next slots free free_count run n bytes old row other k.sees k.room k.some full k.least was is in
-    let low : free < length next = free_there key depot store next slots free free_count (Draft run) k.sees f.free in
-    let s : Sees key depot (set store free row) next slots free free_count (Draft run) = spare key depot store next slots free free_count (Draft run) row k.sees f.free f.row_size in
-    let there : get_or (set store free row) free [] ≡ row = get_or-set_same store free row [] (omega (arith, low, k.sees.arena.count)) in
-    let same : slot ≡ slot_at key.generation (Draft (longer (linked_run run free) n)) = e ∙ ap (λ (r : Run). slot_at key.generation (Draft (longer r n))) runs in
-    subst (λ (x : Slot). IsPut key depot n bytes (set store free row) next' (slice_set slots key.slot x) rest (free_count - 1)) (sym same)
-    (subst (λ ns. IsPut key depot n bytes (set store free row) ns (slice_set slots key.slot (slot_at key.generation (Draft (longer (linked_run run free) n)))) rest (free_count - 1)) (sym links)
-    (subst (λ b. IsPut key depot n bytes (set store free row) (linked_next next run free) (slice_set slots key.slot (slot_at key.generation (Draft (longer (linked_run run free) n)))) b (free_count - 1)) (sym (behind ∙ get_any next free spare' 0 low))
-    (gained key depot (set store free row) next slots free free_count run (longer (linked_run run free) n) n bytes (free ∷ []) (set store free row) (linked_next next run free) (get_or next free 0) (free_count - 1) s
-    (linked_gains key depot (set store free row) next slots free free_count run n (take n bytes) row s f there) (omega (arith, k.least)) k.room)))
+pub put_next : (key : Key) (depot : d.Depot) (a : ArenaFields) (run : Run) (n : ℕ) (bytes old row other : List ℕ) (rest spare' : ℕ) (run' : Run) (next' : List ℕ) (slot : Slot)
+    → Knows key depot a run n bytes → run.length % BLOCK_SIZE ≡ 0 → old ≡ get_or a.store a.free other → row ≡ take 0 old ++ take n bytes ++ drop (0 + length (take n bytes)) old
+    → rest ≡ get_or a.next a.free spare' → run' ≡ linked_run run a.free → next' ≡ linked_next a.next run a.free → slot ≡ slot_at key.generation (Draft (longer run' n))
+    → IsPut key depot n bytes (record a { store = set a.store a.free row; next = next'; slots = slice_set a.slots key.slot slot; free = rest; free_count = a.free_count - 1 })
+put_next key depot a run n bytes old row other rest spare' run' next' slot k full was is behind runs links e =
+    let f : IsNextRun a.free_count run n (take n bytes) row = next_by key depot a run n bytes old row other k.sees k.room k.some full k.least was is in
+    let low : a.free < length a.next = free_there key depot a (Draft run) k.sees f.free in
+    let s : Sees key depot (record a { store = set a.store a.free row }) (Draft run) = spare key depot a (Draft run) row k.sees f.free f.row_size in
+    let there : get_or (set a.store a.free row) a.free [] ≡ row = get_or-set_same a.store a.free row [] (omega (arith, low, k.sees.arena.count)) in
+    let same : slot ≡ slot_at key.generation (Draft (longer (linked_run run a.free) n)) = e ∙ ap (λ (r : Run). slot_at key.generation (Draft (longer r n))) runs in
+    subst (λ (x : Slot). IsPut key depot n bytes (record a { store = set a.store a.free row; next = next'; slots = slice_set a.slots key.slot x; free = rest; free_count = a.free_count - 1 })) (sym same)
+    (subst (λ ns. IsPut key depot n bytes (record a { store = set a.store a.free row; next = ns; slots = slice_set a.slots key.slot (slot_at key.generation (Draft (longer (linked_run run a.free) n))); free = rest; free_count = a.free_count - 1 })) (sym links)
+    (subst (λ b. IsPut key depot n bytes (record a { store = set a.store a.free row; next = linked_next a.next run a.free; slots = slice_set a.slots key.slot (slot_at key.generation (Draft (longer (linked_run run a.free) n))); free = b; free_count = a.free_count - 1 })) (sym (behind ∙ get_any a.next a.free spare' 0 low))
+    (gained key depot (record a { store = set a.store a.free row }) run (longer (linked_run run a.free) n) n bytes _ s
+    (linked_gains key depot (record a { store = set a.store a.free row }) run n (take n bytes) row s f there) (omega (arith, k.least)) k.room)))
 
 -- bounds that the code needs
-pub last_low : (key : Key) (depot : d.Depot) (store : List (List ℕ)) (next : List ℕ) (slots : List Slot) (free free_count : ℕ) (run : Run) (n : ℕ) (bytes : List ℕ) → Knows key depot store next slots free free_count run n bytes → 0 < run.length % BLOCK_SIZE → run.last < length store
-last_low key depot store next slots free free_count run n bytes k some =
-    let low : run.last < length next = (draft_last key depot store next slots free free_count run k.sees some).1.low in
+pub last_low : (key : Key) (depot : d.Depot) (a : ArenaFields) (run : Run) (n : ℕ) (bytes : List ℕ) → Knows key depot a run n bytes → 0 < run.length % BLOCK_SIZE → run.last < length a.store
+last_low key depot a run n bytes k some =
+    let low : run.last < length a.next = (draft_last key depot a run k.sees some).1.low in
     omega (arith, low, k.sees.arena.count)
 
-pub last_fits : (key : Key) (depot : d.Depot) (store : List (List ℕ)) (next : List ℕ) (slots : List Slot) (free free_count : ℕ) (run : Run) (n : ℕ) (bytes old other : List ℕ) → Knows key depot store next slots free free_count run n bytes → 0 < run.length % BLOCK_SIZE
-    → old ≡ get_or store run.last other → run.length % BLOCK_SIZE + length (take n bytes) ≤ length old
-last_fits key depot store next slots free free_count run n bytes old other k some was =
-    let size : length (get_or store run.last other) ≡ BLOCK_SIZE = k.sees.arena.sizes run.last other (last_low key depot store next slots free free_count run n bytes k some) in
-    let same : length old ≡ length (get_or store run.last other) = ap length was in
+pub last_fits : (key : Key) (depot : d.Depot) (a : ArenaFields) (run : Run) (n : ℕ) (bytes old other : List ℕ) → Knows key depot a run n bytes → 0 < run.length % BLOCK_SIZE
+    → old ≡ get_or a.store run.last other → run.length % BLOCK_SIZE + length (take n bytes) ≤ length old
+last_fits key depot a run n bytes old other k some was =
+    let size : length (get_or a.store run.last other) ≡ BLOCK_SIZE = k.sees.arena.sizes run.last other (last_low key depot a run n bytes k some) in
+    let same : length old ≡ length (get_or a.store run.last other) = ap length was in
     omega (arith, size, same, k.least, some, length-take n bytes)
 
-pub free_some : (key : Key) (depot : d.Depot) (store : List (List ℕ)) (next : List ℕ) (slots : List Slot) (free free_count : ℕ) (run : Run) (n : ℕ) (bytes : List ℕ) → Knows key depot store next slots free free_count run n bytes → run.length % BLOCK_SIZE ≡ 0 → 1 ≤ free_count
-free_some key depot store next slots free free_count run n bytes k full = some_free key depot store next slots free free_count run bytes k.sees k.room k.some full
+pub free_some : (key : Key) (depot : d.Depot) (a : ArenaFields) (run : Run) (n : ℕ) (bytes : List ℕ) → Knows key depot a run n bytes → run.length % BLOCK_SIZE ≡ 0 → 1 ≤ a.free_count
+free_some key depot a run n bytes k full = some_free key depot a run bytes k.sees k.room k.some full
 
-pub free_low : (key : Key) (depot : d.Depot) (store : List (List ℕ)) (next : List ℕ) (slots : List Slot) (free free_count : ℕ) (run : Run) (n : ℕ) (bytes : List ℕ) → Knows key depot store next slots free free_count run n bytes → run.length % BLOCK_SIZE ≡ 0 → (free < length next) × (free < length store)
-free_low key depot store next slots free free_count run n bytes k full =
-    let low : free < length next = free_there key depot store next slots free free_count (Draft run) k.sees (free_some key depot store next slots free free_count run n bytes k full) in
+pub free_low : (key : Key) (depot : d.Depot) (a : ArenaFields) (run : Run) (n : ℕ) (bytes : List ℕ) → Knows key depot a run n bytes → run.length % BLOCK_SIZE ≡ 0 → (a.free < length a.next) × (a.free < length a.store)
+free_low key depot a run n bytes k full =
+    let low : a.free < length a.next = free_there key depot a (Draft run) k.sees (free_some key depot a run n bytes k full) in
     (low, omega (arith, low, k.sees.arena.count))
 
-pub free_fits : (key : Key) (depot : d.Depot) (store : List (List ℕ)) (next : List ℕ) (slots : List Slot) (free free_count : ℕ) (run : Run) (n : ℕ) (bytes old other : List ℕ) → Knows key depot store next slots free free_count run n bytes → run.length % BLOCK_SIZE ≡ 0
-    → old ≡ get_or store free other → 0 + length (take n bytes) ≤ length old
-free_fits key depot store next slots free free_count run n bytes old other k full was =
-    let size : length (get_or store free other) ≡ BLOCK_SIZE = k.sees.arena.sizes free other ((free_low key depot store next slots free free_count run n bytes k full).1) in
-    let same : length old ≡ length (get_or store free other) = ap length was in
+pub free_fits : (key : Key) (depot : d.Depot) (a : ArenaFields) (run : Run) (n : ℕ) (bytes old other : List ℕ) → Knows key depot a run n bytes → run.length % BLOCK_SIZE ≡ 0
+    → old ≡ get_or a.store a.free other → 0 + length (take n bytes) ≤ length old
+free_fits key depot a run n bytes old other k full was =
+    let size : length (get_or a.store a.free other) ≡ BLOCK_SIZE = k.sees.arena.sizes a.free other ((free_low key depot a run n bytes k full).1) in
+    let same : length old ≡ length (get_or a.store a.free other) = ap length was in
     omega (arith, size, same, k.least, length-take n bytes)
 
-pub link_low : (key : Key) (depot : d.Depot) (store : List (List ℕ)) (next : List ℕ) (slots : List Slot) (free free_count : ℕ) (run : Run) (n : ℕ) (bytes : List ℕ) → Knows key depot store next slots free free_count run n bytes → 0 < run.blocks → run.last < length next
-link_low key depot store next slots free free_count run n bytes k some = (last_in key depot store next slots free free_count (Draft run) run k.sees (draft_owns store next run) some).low
+pub link_low : (key : Key) (depot : d.Depot) (a : ArenaFields) (run : Run) (n : ℕ) (bytes : List ℕ) → Knows key depot a run n bytes → 0 < run.blocks → run.last < length a.next
+link_low key depot a run n bytes k some = (last_in key depot a (Draft run) run k.sees (draft_owns a.store a.next run) some).low
 
 -- a draft is no longer than the blocks that there may be
-pub run_few : (key : Key) (depot : d.Depot) (store : List (List ℕ)) (next : List ℕ) (slots : List Slot) (free free_count : ℕ) (run : Run) → Sees key depot store next slots free free_count (Draft run) → (free_count + run.blocks ≤ BLOCK_LIMIT) × (run.length ≤ BLOCK_SIZE * run.blocks)
-run_few key depot store next slots free free_count run s =
-    let was : slice_get slots key.slot ≡ Some (slot_at key.generation (Draft run)) = stands key depot store next slots free free_count (Draft run) s (λ e. cc) in
-    let is : IsRun next run = all_at (λ (slot : Slot). IsContent next slot.content) slots key.slot (slot_at key.generation (Draft run)) s.arena.runs was in
-    (sum_within key depot store next slots free free_count (Draft run) run s (draft_owns store next run), enough_room run.length run.blocks is.enough)
+pub run_few : (key : Key) (depot : d.Depot) (a : ArenaFields) (run : Run) → Sees key depot a (Draft run) → (a.free_count + run.blocks ≤ BLOCK_LIMIT) × (run.length ≤ BLOCK_SIZE * run.blocks)
+run_few key depot a run s =
+    let was : slice_get a.slots key.slot ≡ Some (slot_at key.generation (Draft run)) = stands key depot a (Draft run) s (λ e. cc) in
+    let is : IsRun a.next run = all_at (λ (slot : Slot). IsContent a.next slot.content) a.slots key.slot (slot_at key.generation (Draft run)) s.arena.runs was in
+    (sum_within key depot a (Draft run) run s (draft_owns a.store a.next run), enough_room run.length run.blocks is.enough)
 
-pub few : (key : Key) (depot : d.Depot) (store : List (List ℕ)) (next : List ℕ) (slots : List Slot) (free free_count : ℕ) (run : Run) (n : ℕ) (bytes : List ℕ) → Knows key depot store next slots free free_count run n bytes → (free_count + run.blocks ≤ BLOCK_LIMIT) × (run.length ≤ BLOCK_SIZE * run.blocks) × (n ≤ BLOCK_SIZE)
-few key depot store next slots free free_count run n bytes k =
-    let p : (free_count + run.blocks ≤ BLOCK_LIMIT) × (run.length ≤ BLOCK_SIZE * run.blocks) = run_few key depot store next slots free free_count run k.sees in
+pub few : (key : Key) (depot : d.Depot) (a : ArenaFields) (run : Run) (n : ℕ) (bytes : List ℕ) → Knows key depot a run n bytes → (a.free_count + run.blocks ≤ BLOCK_LIMIT) × (run.length ≤ BLOCK_SIZE * run.blocks) × (n ≤ BLOCK_SIZE)
+few key depot a run n bytes k =
+    let p : (a.free_count + run.blocks ≤ BLOCK_LIMIT) × (run.length ≤ BLOCK_SIZE * run.blocks) = run_few key depot a run k.sees in
     (p.0, p.1, omega (arith, k.least))
 
 -- room for so many bytes, as the code counts it
-pub room_is : (key : Key) (depot : d.Depot) (store : List (List ℕ)) (next : List ℕ) (slots : List Slot) (free free_count : ℕ) (run : Run) (bytes : List ℕ) → Sees key depot store next slots free free_count (Draft run)
-    → (d.HasRoom depot (depot_key key) bytes → length bytes ≤ BLOCK_SIZE * (run.blocks + free_count) - run.length) × (length bytes ≤ BLOCK_SIZE * (run.blocks + free_count) - run.length → d.HasRoom depot (depot_key key) bytes)
-room_is key depot store next slots free free_count run bytes s = (
-  λ h. let all : d.blocks_for (run.length + length bytes) ≤ run.blocks + free_count = room_to key depot store next slots free free_count run bytes s h in omega (arith, all),
-  λ h. room_from key depot store next slots free free_count run bytes s (omega (arith, h, within)),
+pub room_is : (key : Key) (depot : d.Depot) (a : ArenaFields) (run : Run) (bytes : List ℕ) → Sees key depot a (Draft run)
+    → (d.HasRoom depot (depot_key key) bytes → length bytes ≤ BLOCK_SIZE * (run.blocks + a.free_count) - run.length) × (length bytes ≤ BLOCK_SIZE * (run.blocks + a.free_count) - run.length → d.HasRoom depot (depot_key key) bytes)
+room_is key depot a run bytes s = (
+  λ h. let all : d.blocks_for (run.length + length bytes) ≤ run.blocks + a.free_count = room_to key depot a run bytes s h in omega (arith, all),
+  λ h. room_from key depot a run bytes s (omega (arith, h, within)),
 ) where
-  was : slice_get slots key.slot ≡ Some (slot_at key.generation (Draft run))
-  was = stands key depot store next slots free free_count (Draft run) s (λ e. cc)
+  was : slice_get a.slots key.slot ≡ Some (slot_at key.generation (Draft run))
+  was = stands key depot a (Draft run) s (λ e. cc)
 
-  is : IsRun next run
-  is = all_at (λ (slot : Slot). IsContent next slot.content) slots key.slot (slot_at key.generation (Draft run)) s.arena.runs was
+  is : IsRun a.next run
+  is = all_at (λ (slot : Slot). IsContent a.next slot.content) a.slots key.slot (slot_at key.generation (Draft run)) s.arena.runs was
 
   within : run.length ≤ BLOCK_SIZE * run.blocks
   within = enough_room run.length run.blocks is.enough

@@ -8,7 +8,7 @@ use Rattle.block_arena.specs.declared.slot.Run.{Run}
 use Rattle.block_arena.specs.declared.slot.Place.{Place}
 use Rattle.block_arena.specs.declared.slot.Content.TheVariants.{Sealed}
 use Rattle.block_arena.specs.declared.slot.Slot.{Slot}
-use Rattle.block_arena.specs.Fields.{chain, node, blocks_in, held, depot_of, reading, IsPlace, IsContent, IsRun, IsArena, IsReadable}
+use Rattle.block_arena.specs.Fields.{ArenaFields, chain, node, blocks_in, held, depot_of, reading, IsPlace, IsContent, IsRun, IsArena, IsReadable}
 use Rattle.block_arena.proofs.Slots.{slot_at, relabelled, all_at}
 use Rattle.block_arena.proofs.Seen.{Sees, stands}
 use Rattle.block_arena.proofs.Labels.{held_behind, set_same}
@@ -53,25 +53,25 @@ pub block_there : (next : List ℕ) (run : Run) (at : ℕ) → IsPlace next run 
 block_there next run at p e = sym p.is ∙ ap (λ i. node i next run.first) e
 
 -- a message is read at another place: the depot stays as it is
-pub read_arena : (key : Key) (depot : d.Depot) (store : List (List ℕ)) (next : List ℕ) (slots : List Slot) (free free_count : ℕ) (run : Run) (holds : ℕ) (place : Place) → Sees key depot store next slots free free_count (Sealed run holds) → IsPlace next run place
-    → IsArena store next (slice_set slots key.slot (slot_at key.generation (Sealed (reading run place) holds))) free free_count
-read_arena key depot store next slots free free_count run holds place s p =
-    let was : slice_get slots key.slot ≡ Some (slot_at key.generation (Sealed run holds)) = stands key depot store next slots free free_count (Sealed run holds) s (λ e. cc) in
-    let is : IsRun next run = all_at (λ (slot : Slot). IsContent next slot.content) slots key.slot (slot_at key.generation (Sealed run holds)) s.arena.runs was in
-    relabelled store next slots free free_count key.slot (slot_at key.generation (Sealed run holds)) (slot_at key.generation (Sealed (reading run place) holds)) s.arena was refl
+pub read_arena : (key : Key) (depot : d.Depot) (a : ArenaFields) (run : Run) (holds : ℕ) (place : Place) → Sees key depot a (Sealed run holds) → IsPlace a.next run place
+    → IsArena (record a { slots = slice_set a.slots key.slot (slot_at key.generation (Sealed (reading run place) holds)) })
+read_arena key depot a run holds place s p =
+    let was : slice_get a.slots key.slot ≡ Some (slot_at key.generation (Sealed run holds)) = stands key depot a (Sealed run holds) s (λ e. cc) in
+    let is : IsRun a.next run = all_at (λ (slot : Slot). IsContent a.next slot.content) a.slots key.slot (slot_at key.generation (Sealed run holds)) s.arena.runs was in
+    relabelled a key.slot (slot_at key.generation (Sealed run holds)) (slot_at key.generation (Sealed (reading run place) holds)) s.arena was refl
     (record { enough = is.enough; last = is.last; read = record { is = p.is; within = p.within } }) refl refl
 
-pub read_kept : (key : Key) (depot : d.Depot) (store : List (List ℕ)) (next : List ℕ) (slots : List Slot) (free free_count : ℕ) (run : Run) (holds : ℕ) (place : Place) → Sees key depot store next slots free free_count (Sealed run holds)
-    → depot_of store next (slice_set slots key.slot (slot_at key.generation (Sealed (reading run place) holds))) free free_count ≡ depot
-read_kept key depot store next slots free free_count run holds place s =
-    held_behind key depot store next slots free free_count (Sealed run holds) (Sealed (reading run place) holds) s
+pub read_kept : (key : Key) (depot : d.Depot) (a : ArenaFields) (run : Run) (holds : ℕ) (place : Place) → Sees key depot a (Sealed run holds)
+    → depot_of (record a { slots = slice_set a.slots key.slot (slot_at key.generation (Sealed (reading run place) holds)) }) ≡ depot
+read_kept key depot a run holds place s =
+    held_behind key depot a (Sealed run holds) (Sealed (reading run place) holds) s
     ∙ ap (λ (ss : List d.Slot). record { slots = ss; free = depot.free })
-    (set_same depot.slots key.slot (record { generation = key.generation; held = held store next (Sealed run holds) }) (depot_there key depot store next slots free free_count (Sealed run holds) s (λ e. cc)))
+    (set_same depot.slots key.slot (record { generation = key.generation; held = held a.store a.next (Sealed run holds) }) (depot_there key depot a (Sealed run holds) s (λ e. cc)))
 
 -- what the code knows of a message that it reads
-pub place_read : (key : Key) (depot : d.Depot) (store : List (List ℕ)) (next : List ℕ) (slots : List Slot) (free free_count : ℕ) (run : Run) (holds : ℕ) → Sees key depot store next slots free free_count (Sealed run holds) → IsRun next run
-place_read key depot store next slots free free_count run holds s =
-    all_at (λ (slot : Slot). IsContent next slot.content) slots key.slot (slot_at key.generation (Sealed run holds)) s.arena.runs (stands key depot store next slots free free_count (Sealed run holds) s (λ e. cc))
+pub place_read : (key : Key) (depot : d.Depot) (a : ArenaFields) (run : Run) (holds : ℕ) → Sees key depot a (Sealed run holds) → IsRun a.next run
+place_read key depot a run holds s =
+    all_at (λ (slot : Slot). IsContent a.next slot.content) a.slots key.slot (slot_at key.generation (Sealed run holds)) s.arena.runs (stands key depot a (Sealed run holds) s (λ e. cc))
 
 pub read_on : (store : List (List ℕ)) (next : List ℕ) (run : Run) (place : Place) → IsReadable store next run → IsReadable store next (reading run place)
 read_on store next run place r = record { sizes = r.sizes; count = r.count; low = r.low; enough = r.enough }
@@ -82,5 +82,5 @@ block_at_byte run at e h = omega (arith, e, h)
 pub message_owns : (store : List (List ℕ)) (next : List ℕ) (run : Run) (holds : ℕ) → Owns store next (Sealed run holds) run
 message_owns store next run holds = record { filled = λ e. cc; blocks = refl; count = refl; is = λ x. x }
 
-pub message_few : (key : Key) (depot : d.Depot) (store : List (List ℕ)) (next : List ℕ) (slots : List Slot) (free free_count : ℕ) (run : Run) (holds : ℕ) → Sees key depot store next slots free free_count (Sealed run holds) → run.blocks ≤ BLOCK_LIMIT
-message_few key depot store next slots free free_count run holds s = omega (arith, sum_within key depot store next slots free free_count (Sealed run holds) run s (message_owns store next run holds))
+pub message_few : (key : Key) (depot : d.Depot) (a : ArenaFields) (run : Run) (holds : ℕ) → Sees key depot a (Sealed run holds) → run.blocks ≤ BLOCK_LIMIT
+message_few key depot a run holds s = omega (arith, sum_within key depot a (Sealed run holds) run s (message_owns a.store a.next run holds))

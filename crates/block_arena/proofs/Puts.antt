@@ -10,10 +10,10 @@ use Rattle.block_arena.specs.declared.slot.Run.{Run}
 use Rattle.block_arena.specs.declared.slot.Content.{Content}
 use Rattle.block_arena.specs.declared.slot.Content.TheVariants.{Free, Draft}
 use Rattle.block_arena.specs.declared.slot.Slot.{Slot}
-use Rattle.block_arena.specs.Fields.{content_at, chain, blocks_in, bytes_in, depot_of, IsContent, IsRun}
+use Rattle.block_arena.specs.Fields.{ArenaFields, content_at, chain, blocks_in, bytes_in, depot_of, IsContent, IsRun}
 use Rattle.block_arena.specs.Calls.{depot_key}
 use Rattle.block_arena.proofs.Chains.{chain_length}
-use Rattle.block_arena.proofs.Slots.{slot_at, Turn, turned, all_at}
+use Rattle.block_arena.proofs.Slots.{slot_at, Turn, turned, turned_at, all_at}
 use Rattle.block_arena.proofs.Seen.{Sees, under, stands, run_low, run_length, draft_length}
 use Rattle.block_arena.proofs.Labels.{set_same, set_twice, held_there}
 
@@ -22,92 +22,94 @@ content_if g c true e = refl
 content_if g c false e = let yes' : (g == g) ≡ true = eq-eqb g g refl in cc
 
 -- the draft behind a turn of its slot
-pub sees_new : (key : Key) (depot : d.Depot) (store : List (List ℕ)) (next : List ℕ) (slots : List Slot) (free free_count : ℕ) (run run' : Run) (store' : List (List ℕ)) (next' : List ℕ) (free' free_count' : ℕ)
-    → Turn store next slots free free_count key.slot (slot_at key.generation (Draft run)) (slot_at key.generation (Draft run')) store' next' free' free_count'
-    → Sees key (depot_of store' next' (slice_set slots key.slot (slot_at key.generation (Draft run'))) free' free_count') store' next' (slice_set slots key.slot (slot_at key.generation (Draft run'))) free' free_count' (Draft run')
-sees_new key depot store next slots free free_count run run' store' next' free' free_count' t = record {
-  arena = turned store next slots free free_count key.slot (slot_at key.generation (Draft run)) (slot_at key.generation (Draft run')) store' next' free' free_count' t;
+pub sees_new : (key : Key) (depot : d.Depot) (a : ArenaFields) (run run' : Run) (a' : ArenaFields)
+    → Turn a key.slot (slot_at key.generation (Draft run)) (slot_at key.generation (Draft run')) a'
+    → Sees key (depot_of a') a' (Draft run')
+sees_new key depot a run run' a' t = record {
+  arena = turned a key.slot (slot_at key.generation (Draft run)) (slot_at key.generation (Draft run')) a' t;
   view = refl;
-  at = ap (λ o. content_at o key.generation) (set_at slots key.slot (slot_at key.generation (Draft run')) (slot_at key.generation (Draft run)) t.was) ∙ content_if key.generation (Draft run') (key.generation == key.generation) refl;
+  at = ap (λ o. content_at o key.generation) (turned_at a key.slot (slot_at key.generation (Draft run)) (slot_at key.generation (Draft run')) a' t) ∙ content_if key.generation (Draft run') (key.generation == key.generation) refl;
 }
 
 -- what room means by the counts
-pub room_to : (key : Key) (depot : d.Depot) (store : List (List ℕ)) (next : List ℕ) (slots : List Slot) (free free_count : ℕ) (run : Run) (bytes : List ℕ)
-    → Sees key depot store next slots free free_count (Draft run) → d.HasRoom depot (depot_key key) bytes → d.blocks_for (run.length + length bytes) ≤ run.blocks + free_count
-room_to key depot store next slots free free_count run bytes s h =
-    let all : length (d.bytes_of (d.held_under depot (depot_key key)) ++ bytes) ≡ run.length + length bytes = omega (arith, draft_length key depot store next slots free free_count run s, length-append (d.bytes_of (d.held_under depot (depot_key key))) bytes) in
-    let blocks : length (d.blocks_of (d.held_under depot (depot_key key))) ≡ run.blocks = ap (λ h. length (d.blocks_of h)) (under key depot store next slots free free_count (Draft run) s) ∙ chain_length run.blocks next run.first in
-    let spare : length depot.free ≡ free_count = ap (λ (e : d.Depot). length e.free) (sym s.view) ∙ chain_length free_count next free in
+pub room_to : (key : Key) (depot : d.Depot) (a : ArenaFields) (run : Run) (bytes : List ℕ)
+    → Sees key depot a (Draft run) → d.HasRoom depot (depot_key key) bytes → d.blocks_for (run.length + length bytes) ≤ run.blocks + a.free_count
+room_to key depot a run bytes s h =
+    let all : length (d.bytes_of (d.held_under depot (depot_key key)) ++ bytes) ≡ run.length + length bytes = omega (arith, draft_length key depot a run s, length-append (d.bytes_of (d.held_under depot (depot_key key))) bytes) in
+    let blocks : length (d.blocks_of (d.held_under depot (depot_key key))) ≡ run.blocks = ap (λ h. length (d.blocks_of h)) (under key depot a (Draft run) s) ∙ chain_length run.blocks a.next run.first in
+    let spare : length depot.free ≡ a.free_count = ap (λ (e : d.Depot). length e.free) (sym s.view) ∙ chain_length a.free_count a.next a.free in
     omega (arith, all, blocks, spare, h)
 
-pub room_from : (key : Key) (depot : d.Depot) (store : List (List ℕ)) (next : List ℕ) (slots : List Slot) (free free_count : ℕ) (run : Run) (bytes : List ℕ)
-    → Sees key depot store next slots free free_count (Draft run) → d.blocks_for (run.length + length bytes) ≤ run.blocks + free_count → d.HasRoom depot (depot_key key) bytes
-room_from key depot store next slots free free_count run bytes s h =
-    let all : length (d.bytes_of (d.held_under depot (depot_key key)) ++ bytes) ≡ run.length + length bytes = omega (arith, draft_length key depot store next slots free free_count run s, length-append (d.bytes_of (d.held_under depot (depot_key key))) bytes) in
-    let blocks : length (d.blocks_of (d.held_under depot (depot_key key))) ≡ run.blocks = ap (λ h. length (d.blocks_of h)) (under key depot store next slots free free_count (Draft run) s) ∙ chain_length run.blocks next run.first in
-    let spare : length depot.free ≡ free_count = ap (λ (e : d.Depot). length e.free) (sym s.view) ∙ chain_length free_count next free in
+pub room_from : (key : Key) (depot : d.Depot) (a : ArenaFields) (run : Run) (bytes : List ℕ)
+    → Sees key depot a (Draft run) → d.blocks_for (run.length + length bytes) ≤ run.blocks + a.free_count → d.HasRoom depot (depot_key key) bytes
+room_from key depot a run bytes s h =
+    let all : length (d.bytes_of (d.held_under depot (depot_key key)) ++ bytes) ≡ run.length + length bytes = omega (arith, draft_length key depot a run s, length-append (d.bytes_of (d.held_under depot (depot_key key))) bytes) in
+    let blocks : length (d.blocks_of (d.held_under depot (depot_key key))) ≡ run.blocks = ap (λ h. length (d.blocks_of h)) (under key depot a (Draft run) s) ∙ chain_length run.blocks a.next run.first in
+    let spare : length depot.free ≡ a.free_count = ap (λ (e : d.Depot). length e.free) (sym s.view) ∙ chain_length a.free_count a.next a.free in
     omega (arith, all, blocks, spare, h)
 
 -- a turn by which a draft gains a piece, and the free blocks that it picks
-pub record Gains (key : Key) (store : List (List ℕ)) (next : List ℕ) (slots : List Slot) (free free_count : ℕ) (run run' : Run) (piece picked : List ℕ) (store' : List (List ℕ)) (next' : List ℕ) (free' free_count' : ℕ) : Type 0 where
-  pub turn : Turn store next slots free free_count key.slot (slot_at key.generation (Draft run)) (slot_at key.generation (Draft run')) store' next' free' free_count'
+pub record Gains (key : Key) (a : ArenaFields) (run run' : Run) (piece : List ℕ) (a' : ArenaFields) : Type 0 where
+  pub picked : List ℕ
+  pub turn : Turn a key.slot (slot_at key.generation (Draft run)) (slot_at key.generation (Draft run')) a'
   pub long : run'.length ≡ run.length + length piece
-  pub bytes : bytes_in store' next' run' ≡ bytes_in store next run ++ piece
-  pub blocks : blocks_in next' run' ≡ blocks_in next run ++ picked
-  pub taken : (x : ℕ) → occurrences x (chain free_count next free) ≡ occurrences x picked + occurrences x (chain free_count' next' free')
+  pub bytes : bytes_in a'.store a'.next run' ≡ bytes_in a.store a.next run ++ piece
+  pub blocks : blocks_in a'.next run' ≡ blocks_in a.next run ++ picked
+  pub taken : (x : ℕ) → occurrences x (chain a.free_count a.next a.free) ≡ occurrences x picked + occurrences x (chain a'.free_count a'.next a'.free)
 
-pub gained_puts : (key : Key) (depot : d.Depot) (store : List (List ℕ)) (next : List ℕ) (slots : List Slot) (free free_count : ℕ) (run run' : Run) (piece picked : List ℕ) (store' : List (List ℕ)) (next' : List ℕ) (free' free_count' : ℕ)
-    → Sees key depot store next slots free free_count (Draft run) → Gains key store next slots free free_count run run' piece picked store' next' free' free_count'
-    → d.Puts depot (depot_key key) piece (depot_of store' next' (slice_set slots key.slot (slot_at key.generation (Draft run'))) free' free_count')
-gained_puts key depot store next slots free free_count run run' piece picked store' next' free' free_count' s g =
-    let new : Sees key (depot_of store' next' (slice_set slots key.slot (slot_at key.generation (Draft run'))) free' free_count') store' next' (slice_set slots key.slot (slot_at key.generation (Draft run'))) free' free_count' (Draft run') = sees_new key depot store next slots free free_count run run' store' next' free' free_count' g.turn in
-    let is : IsRun next' run' = all_at (λ (slot : Slot). IsContent next' slot.content) (slice_set slots key.slot (slot_at key.generation (Draft run'))) key.slot (slot_at key.generation (Draft run')) g.turn.runs (set_at slots key.slot (slot_at key.generation (Draft run')) (slot_at key.generation (Draft run)) g.turn.was) in
-    let long : run'.length ≡ length (bytes_in store' next' run') = run_length store' next' run' new.arena.count new.arena.sizes is (run_low store' next' (slice_set slots key.slot (slot_at key.generation (Draft run'))) free' free_count' key.slot (slot_at key.generation (Draft run')) new.arena (set_at slots key.slot (slot_at key.generation (Draft run')) (slot_at key.generation (Draft run)) g.turn.was)) in
+pub gained_puts : (key : Key) (depot : d.Depot) (a : ArenaFields) (run run' : Run) (piece : List ℕ) (a' : ArenaFields)
+    → Sees key depot a (Draft run) → Gains key a run run' piece a'
+    → d.Puts depot (depot_key key) piece (depot_of a')
+gained_puts key depot a run run' piece a' s g =
+    let there : slice_get a'.slots key.slot ≡ Some (slot_at key.generation (Draft run')) = turned_at a key.slot (slot_at key.generation (Draft run)) (slot_at key.generation (Draft run')) a' g.turn in
+    let new : Sees key (depot_of a') a' (Draft run') = sees_new key depot a run run' a' g.turn in
+    let is : IsRun a'.next run' = all_at (λ (slot : Slot). IsContent a'.next slot.content) a'.slots key.slot (slot_at key.generation (Draft run')) g.turn.runs there in
+    let long : run'.length ≡ length (bytes_in a'.store a'.next run') = run_length a'.store a'.next run' new.arena.count new.arena.sizes is (run_low a' key.slot (slot_at key.generation (Draft run')) new.arena there) in
     record {
-      bytes = bytes_in store next run;
-      blocks = blocks_in next run;
-      picked = picked;
-      rest = chain free_count' next' free';
-      draft = under key depot store next slots free free_count (Draft run) s;
-      enough = ap length (sym g.blocks) ∙ chain_length run'.blocks next' run'.first ∙ is.enough ∙ ap (λ k. d.blocks_for k) (long ∙ ap length g.bytes);
+      bytes = bytes_in a.store a.next run;
+      blocks = blocks_in a.next run;
+      picked = g.picked;
+      rest = chain a'.free_count a'.next a'.free;
+      draft = under key depot a (Draft run) s;
+      enough = ap length (sym g.blocks) ∙ chain_length run'.blocks a'.next run'.first ∙ is.enough ∙ ap (λ k. d.blocks_for k) (long ∙ ap length g.bytes);
       taken = λ x. ap (λ (e : d.Depot). occurrences x e.free) (sym s.view) ∙ g.taken x;
       after =
-          ap (λ (ss : List d.Slot). record { slots = ss; free = chain free_count' next' free' }) g.turn.others
-          ∙ ap (λ bs. d.with_held (depot_of store next slots free free_count) (depot_key key) (d.Draft bs (blocks_in next' run')) (chain free_count' next' free')) g.bytes
-          ∙ ap (λ bs. d.with_held (depot_of store next slots free free_count) (depot_key key) (d.Draft (bytes_in store next run ++ piece) bs) (chain free_count' next' free')) g.blocks
-          ∙ ap (λ (e : d.Depot). d.with_held e (depot_key key) (d.Draft (bytes_in store next run ++ piece) (blocks_in next run ++ picked)) (chain free_count' next' free')) s.view;
+          ap (λ (ss : List d.Slot). record { slots = ss; free = chain a'.free_count a'.next a'.free }) g.turn.others
+          ∙ ap (λ bs. d.with_held (depot_of a) (depot_key key) (d.Draft bs (blocks_in a'.next run')) (chain a'.free_count a'.next a'.free)) g.bytes
+          ∙ ap (λ bs. d.with_held (depot_of a) (depot_key key) (d.Draft (bytes_in a.store a.next run ++ piece) bs) (chain a'.free_count a'.next a'.free)) g.blocks
+          ∙ ap (λ (e : d.Depot). d.with_held e (depot_key key) (d.Draft (bytes_in a.store a.next run ++ piece) (blocks_in a.next run ++ g.picked)) (chain a'.free_count a'.next a'.free)) s.view;
     }
 
-pub gained_room : (key : Key) (depot : d.Depot) (store : List (List ℕ)) (next : List ℕ) (slots : List Slot) (free free_count : ℕ) (run run' : Run) (n : ℕ) (bytes picked : List ℕ) (store' : List (List ℕ)) (next' : List ℕ) (free' free_count' : ℕ)
-    → Sees key depot store next slots free free_count (Draft run) → Gains key store next slots free free_count run run' (take n bytes) picked store' next' free' free_count' → length (take n bytes) ≡ n → n ≤ length bytes
-    → d.HasRoom depot (depot_key key) bytes → d.HasRoom (depot_of store' next' (slice_set slots key.slot (slot_at key.generation (Draft run'))) free' free_count') (depot_key key) (drop n bytes)
-gained_room key depot store next slots free free_count run run' n bytes picked store' next' free' free_count' s g size short room =
-    let old : d.blocks_for (run.length + length bytes) ≤ run.blocks + free_count = room_to key depot store next slots free free_count run bytes s room in
-    let count : free_count' + run'.blocks ≡ free_count + run.blocks = g.turn.count in
+pub gained_room : (key : Key) (depot : d.Depot) (a : ArenaFields) (run run' : Run) (n : ℕ) (bytes : List ℕ) (a' : ArenaFields)
+    → Sees key depot a (Draft run) → Gains key a run run' (take n bytes) a' → length (take n bytes) ≡ n → n ≤ length bytes
+    → d.HasRoom depot (depot_key key) bytes → d.HasRoom (depot_of a') (depot_key key) (drop n bytes)
+gained_room key depot a run run' n bytes a' s g size short room =
+    let old : d.blocks_for (run.length + length bytes) ≤ run.blocks + a.free_count = room_to key depot a run bytes s room in
+    let count : a'.free_count + run'.blocks ≡ a.free_count + run.blocks = g.turn.count in
     let all : run'.length + length (drop n bytes) ≡ run.length + length bytes = omega (arith, g.long, size, short, length-drop n bytes) in
-    room_from key (depot_of store' next' (slice_set slots key.slot (slot_at key.generation (Draft run'))) free' free_count') store' next' (slice_set slots key.slot (slot_at key.generation (Draft run'))) free' free_count' run' (drop n bytes)
-    (sees_new key depot store next slots free free_count run run' store' next' free' free_count' g.turn)
+    room_from key (depot_of a') a' run' (drop n bytes)
+    (sees_new key depot a run run' a' g.turn)
     (omega (arith, old, count, all))
 
 -- no bytes are put
-pub puts_none : (key : Key) (depot : d.Depot) (store : List (List ℕ)) (next : List ℕ) (slots : List Slot) (free free_count : ℕ) (run : Run) → Sees key depot store next slots free free_count (Draft run) → d.Puts depot (depot_key key) [] depot
-puts_none key depot store next slots free free_count run s =
-    let was : slice_get slots key.slot ≡ Some (slot_at key.generation (Draft run)) = stands key depot store next slots free free_count (Draft run) s (λ e. cc) in
-    let is : IsRun next run = all_at (λ (slot : Slot). IsContent next slot.content) slots key.slot (slot_at key.generation (Draft run)) s.arena.runs was in
-    let here : d.held_under depot (depot_key key) ≡ d.Draft (bytes_in store next run) (blocks_in next run) = under key depot store next slots free free_count (Draft run) s in
-    let long : run.length ≡ length (bytes_in store next run) = run_length store next run s.arena.count s.arena.sizes is (run_low store next slots free free_count key.slot (slot_at key.generation (Draft run)) s.arena was) in
+pub puts_none : (key : Key) (depot : d.Depot) (a : ArenaFields) (run : Run) → Sees key depot a (Draft run) → d.Puts depot (depot_key key) [] depot
+puts_none key depot a run s =
+    let was : slice_get a.slots key.slot ≡ Some (slot_at key.generation (Draft run)) = stands key depot a (Draft run) s (λ e. cc) in
+    let is : IsRun a.next run = all_at (λ (slot : Slot). IsContent a.next slot.content) a.slots key.slot (slot_at key.generation (Draft run)) s.arena.runs was in
+    let here : d.held_under depot (depot_key key) ≡ d.Draft (bytes_in a.store a.next run) (blocks_in a.next run) = under key depot a (Draft run) s in
+    let long : run.length ≡ length (bytes_in a.store a.next run) = run_length a.store a.next run s.arena.count s.arena.sizes is (run_low a key.slot (slot_at key.generation (Draft run)) s.arena was) in
     record {
-      bytes = bytes_in store next run;
-      blocks = blocks_in next run;
+      bytes = bytes_in a.store a.next run;
+      blocks = blocks_in a.next run;
       picked = [];
       rest = depot.free;
       draft = here;
-      enough = ap length (append-nil (blocks_in next run)) ∙ chain_length run.blocks next run.first ∙ is.enough ∙ ap (λ k. d.blocks_for k) (long ∙ ap length (sym (append-nil (bytes_in store next run))));
+      enough = ap length (append-nil (blocks_in a.next run)) ∙ chain_length run.blocks a.next run.first ∙ is.enough ∙ ap (λ k. d.blocks_for k) (long ∙ ap length (sym (append-nil (bytes_in a.store a.next run))));
       taken = λ x. omega arith;
       after = sym (
-          ap (λ bs. d.with_held depot (depot_key key) (d.Draft bs (blocks_in next run ++ [])) depot.free) (append-nil (bytes_in store next run))
-          ∙ ap (λ bs. d.with_held depot (depot_key key) (d.Draft (bytes_in store next run) bs) depot.free) (append-nil (blocks_in next run))
-          ∙ ap (λ (ss : List d.Slot). record { slots = ss; free = depot.free }) (set_same depot.slots key.slot (record { generation = key.generation; held = d.Draft (bytes_in store next run) (blocks_in next run) }) (used depot (depot_key key) (d.Draft (bytes_in store next run) (blocks_in next run)) here (λ e. cc)))
+          ap (λ bs. d.with_held depot (depot_key key) (d.Draft bs (blocks_in a.next run ++ [])) depot.free) (append-nil (bytes_in a.store a.next run))
+          ∙ ap (λ bs. d.with_held depot (depot_key key) (d.Draft (bytes_in a.store a.next run) bs) depot.free) (append-nil (blocks_in a.next run))
+          ∙ ap (λ (ss : List d.Slot). record { slots = ss; free = depot.free }) (set_same depot.slots key.slot (record { generation = key.generation; held = d.Draft (bytes_in a.store a.next run) (blocks_in a.next run) }) (used depot (depot_key key) (d.Draft (bytes_in a.store a.next run) (blocks_in a.next run)) here (λ e. cc)))
           );
     }
 

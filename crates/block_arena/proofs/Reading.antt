@@ -61,20 +61,33 @@ walk store next (suc q) m (suc n) first e sizes count low =
       rest.1,
     )
 
--- so many bytes are copied, and the block that the next one lies in
-pub record Reads (store : List (List ℕ)) (next : List ℕ) (all : List ℕ) (total at : ℕ) (start out : List ℕ) (done from block : ℕ) : Type 0 where
+-- what is to be copied: so many of all bytes from a place on, to the front of a slice
+pub record Copying : Type 0 where
+  pub all : List ℕ
+  pub total : ℕ
+  pub at : ℕ
+  pub start : List ℕ
+
+-- how far that is: the slice as it is now, how many bytes are done, and the place and the block of the next one
+pub record Progress : Type 0 where
+  pub out : List ℕ
+  pub done : ℕ
+  pub from : ℕ
+  pub block : ℕ
+
+pub record Reads (store : List (List ℕ)) (next : List ℕ) (c : Copying) (p : Progress) : Type 0 where
   pub m : ℕ
-  pub low : AllByRecursion (λ b. b < length next) (chain m next block)
-  pub left : done < total → drop (at + done) all ≡ drop from (whole store next m block)
-  pub enough : total ≤ done + (BLOCK_SIZE * m - from)
-  pub within : done ≤ total
-  pub from_in : from < BLOCK_SIZE
-  pub long : total ≤ length (drop at all)
-  pub room : total ≤ length start
-  pub is : out ≡ take done (drop at all) ++ drop done start
+  pub low : AllByRecursion (λ b. b < length next) (chain m next p.block)
+  pub left : p.done < c.total → drop (c.at + p.done) c.all ≡ drop p.from (whole store next m p.block)
+  pub enough : c.total ≤ p.done + (BLOCK_SIZE * m - p.from)
+  pub within : p.done ≤ c.total
+  pub from_in : p.from < BLOCK_SIZE
+  pub long : c.total ≤ length (drop c.at c.all)
+  pub room : c.total ≤ length c.start
+  pub is : p.out ≡ take p.done (drop c.at c.all) ++ drop p.done c.start
 
 pub reads_in : (store : List (List ℕ)) (next : List ℕ) (run : Run) (total at : ℕ) (out : List ℕ) (block : ℕ) → IsReadable store next run → at < run.length → total ≤ length out → total ≤ run.length - at
-    → block ≡ node (at / BLOCK_SIZE) next run.first → Reads store next (whole store next run.blocks run.first) total at out out 0 (at % BLOCK_SIZE) block
+    → block ≡ node (at / BLOCK_SIZE) next run.first → Reads store next (record { all = whole store next run.blocks run.first; total = total; at = at; start = out }) (record { out = out; done = 0; from = at % BLOCK_SIZE; block = block })
 reads_in store next run total at out block r inside room short e =
     let q : at / BLOCK_SIZE ≤ run.blocks = omega (arith, inside, r.enough) in
     let w : (drop (BLOCK_SIZE * (at / BLOCK_SIZE)) (whole store next run.blocks run.first) ≡ whole store next (run.blocks - at / BLOCK_SIZE) (node (at / BLOCK_SIZE) next run.first)) × AllByRecursion (λ b. b < length next) (chain (run.blocks - at / BLOCK_SIZE) next (node (at / BLOCK_SIZE) next run.first)) =
@@ -101,50 +114,50 @@ joined out P S start piece w done n e size s =
     let back : drop (done + n) out ≡ drop (done + n) start = ap (drop (done + n)) e ∙ sym (drop-drop n done (P ++ S)) ∙ ap (drop n) (drop_front done P S size ∙ s) ∙ drop-drop n done start in
     ap (λ p. p ++ piece ++ drop (done + n) out) front ∙ ap (λ b. P ++ piece ++ b) back
 
-step_by : (store : List (List ℕ)) (next : List ℕ) (all : List ℕ) (total at : ℕ) (start out : List ℕ) (done from block n : ℕ) (row out' : List ℕ) (m : ℕ)
+step_by : (store : List (List ℕ)) (next : List ℕ) (c : Copying) (p : Progress) (n : ℕ) (row out' : List ℕ) (m : ℕ)
     → All (λ (bytes : List ℕ). length bytes ≡ BLOCK_SIZE) store → length store ≡ length next
-    → AllByRecursion (λ b. b < length next) (chain m next block) → drop (at + done) all ≡ drop from (whole store next m block) → total ≤ done + (BLOCK_SIZE * m - from)
-    → done < total → from < BLOCK_SIZE → total ≤ length (drop at all) → total ≤ length start → out ≡ take done (drop at all) ++ drop done start
-    → n ≡ min (total - done) (BLOCK_SIZE - from) → row ≡ get_or store block [] → out' ≡ take done out ++ take n (drop from row) ++ drop (done + n) out
-    → Reads store next all total at start out' (done + n) 0 (get_or next block 0)
-step_by store next all total at start out done from block n row out' zero sizes count low left enough some from_in long room is en er eo = absurd (omega (arith, enough, some))
-step_by store next all total at start out done from block n row out' (suc m) sizes count low left enough some from_in long room is en er eo =
-    let here : length (get_or store block []) ≡ BLOCK_SIZE = sizes block [] (omega (arith, low.0, count)) in
+    → AllByRecursion (λ b. b < length next) (chain m next p.block) → drop (c.at + p.done) c.all ≡ drop p.from (whole store next m p.block) → c.total ≤ p.done + (BLOCK_SIZE * m - p.from)
+    → p.done < c.total → p.from < BLOCK_SIZE → c.total ≤ length (drop c.at c.all) → c.total ≤ length c.start → p.out ≡ take p.done (drop c.at c.all) ++ drop p.done c.start
+    → n ≡ min (c.total - p.done) (BLOCK_SIZE - p.from) → row ≡ get_or store p.block [] → out' ≡ take p.done p.out ++ take n (drop p.from row) ++ drop (p.done + n) p.out
+    → Reads store next c (record { out = out'; done = p.done + n; from = 0; block = get_or next p.block 0 })
+step_by store next c p n row out' zero sizes count low left enough some from_in long room is en er eo = absurd (omega (arith, enough, some))
+step_by store next c p n row out' (suc m) sizes count low left enough some from_in long room is en er eo =
+    let here : length (get_or store p.block []) ≡ BLOCK_SIZE = sizes p.block [] (omega (arith, low.0, count)) in
     let size : length row ≡ BLOCK_SIZE = ap length er ∙ here in
-    let rest : List ℕ = whole store next m (get_or next block 0) in
-    let same : drop (at + done) all ≡ drop from (row ++ whole store next m (get_or next block 0)) = left ∙ ap (λ r. drop from (r ++ whole store next m (get_or next block 0))) (sym er) in
-    let fits : from + n ≤ BLOCK_SIZE = omega (arith, en, from_in) in
-    let piece : take n (drop done (drop at all)) ≡ take n (drop from row) =
-    ap (take n) (drop-drop done at all ∙ same ∙ drop_in from row (whole store next m (get_or next block 0)) (omega (arith, size, from_in)))
-    ∙ take_front n (drop from row) (whole store next m (get_or next block 0)) (omega (arith, length-drop from row, size, fits)) in
-    let front : length (take done (drop at all)) ≡ done = omega (arith, length-take done (drop at all), long, some) in
+    let rest : List ℕ = whole store next m (get_or next p.block 0) in
+    let same : drop (c.at + p.done) c.all ≡ drop p.from (row ++ whole store next m (get_or next p.block 0)) = left ∙ ap (λ r. drop p.from (r ++ whole store next m (get_or next p.block 0))) (sym er) in
+    let fits : p.from + n ≤ BLOCK_SIZE = omega (arith, en, from_in) in
+    let piece : take n (drop p.done (drop c.at c.all)) ≡ take n (drop p.from row) =
+    ap (take n) (drop-drop p.done c.at c.all ∙ same ∙ drop_in p.from row (whole store next m (get_or next p.block 0)) (omega (arith, size, from_in)))
+    ∙ take_front n (drop p.from row) (whole store next m (get_or next p.block 0)) (omega (arith, length-drop p.from row, size, fits)) in
+    let front : length (take p.done (drop c.at c.all)) ≡ p.done = omega (arith, length-take p.done (drop c.at c.all), long, some) in
     record {
       m = m;
       low = low.1;
       left = λ more.
-          let full : from + n ≡ BLOCK_SIZE = omega (arith, en, more, some, from_in) in
-          ap (λ k. drop k all) (let z : at + (done + n) ≡ (at + done) + n = omega arith in z)
-          ∙ sym (drop-drop n (at + done) all)
+          let full : p.from + n ≡ BLOCK_SIZE = omega (arith, en, more, some, from_in) in
+          ap (λ k. drop k c.all) (let z : c.at + (p.done + n) ≡ (c.at + p.done) + n = omega arith in z)
+          ∙ sym (drop-drop n (c.at + p.done) c.all)
           ∙ ap (drop n) same
-          ∙ drop-drop n from (row ++ whole store next m (get_or next block 0))
-          ∙ drop_front (from + n) row (whole store next m (get_or next block 0)) (size ∙ sym full);
+          ∙ drop-drop n p.from (row ++ whole store next m (get_or next p.block 0))
+          ∙ drop_front (p.from + n) row (whole store next m (get_or next p.block 0)) (size ∙ sym full);
       enough = omega (arith, en, enough, from_in, some);
       within = omega (arith, en, some);
       from_in = omega arith;
       long = long;
       room = room;
       is = eo
-          ∙ joined out (take done (drop at all)) (drop done start) start (take n (drop from row)) [] done n is front refl
-          ∙ ap (λ p. take done (drop at all) ++ p ++ drop (done + n) start) (sym piece)
-          ∙ ap (λ p. p ++ drop (done + n) start) (sym (take-add done n (drop at all)));
+          ∙ joined p.out (take p.done (drop c.at c.all)) (drop p.done c.start) c.start (take n (drop p.from row)) [] p.done n is front refl
+          ∙ ap (λ xs. take p.done (drop c.at c.all) ++ xs ++ drop (p.done + n) c.start) (sym piece)
+          ∙ ap (λ xs. xs ++ drop (p.done + n) c.start) (sym (take-add p.done n (drop c.at c.all)));
     }
 
-pub reads_step : (store : List (List ℕ)) (next : List ℕ) (all : List ℕ) (total at : ℕ) (start out : List ℕ) (done from block n : ℕ) (row out' : List ℕ)
-    → All (λ (bytes : List ℕ). length bytes ≡ BLOCK_SIZE) store → length store ≡ length next → Reads store next all total at start out done from block → done < total
-    → n ≡ min (total - done) (BLOCK_SIZE - from) → row ≡ get_or store block [] → out' ≡ take done out ++ take n (drop from row) ++ drop (done + n) out
-    → Reads store next all total at start out' (done + n) 0 (get_or next block 0)
-reads_step store next all total at start out done from block n row out' sizes count r some en er eo =
-    step_by store next all total at start out done from block n row out' r.m sizes count r.low (r.left some) r.enough some r.from_in r.long r.room r.is en er eo
+pub reads_step : (store : List (List ℕ)) (next : List ℕ) (c : Copying) (p : Progress) (n : ℕ) (row out' : List ℕ)
+    → All (λ (bytes : List ℕ). length bytes ≡ BLOCK_SIZE) store → length store ≡ length next → Reads store next c p → p.done < c.total
+    → n ≡ min (c.total - p.done) (BLOCK_SIZE - p.from) → row ≡ get_or store p.block [] → out' ≡ take p.done p.out ++ take n (drop p.from row) ++ drop (p.done + n) p.out
+    → Reads store next c (record { out = out'; done = p.done + n; from = 0; block = get_or next p.block 0 })
+reads_step store next c p n row out' sizes count r some en er eo =
+    step_by store next c p n row out' r.m sizes count r.low (r.left some) r.enough some r.from_in r.long r.room r.is en er eo
 
 take_less : (k n : ℕ) (xs : List ℕ) → k ≤ n → take k (take n xs) ≡ take k xs
 take_less zero n xs h = refl
@@ -158,8 +171,8 @@ take_short k zero (suc at) xs h = let z : k ≡ 0 = omega (arith, h) in ap (λ j
 take_short k (suc n) (suc at) [] h = refl
 take_short k (suc n) (suc at) (x ∷ xs) h = take_short k n at xs (omega (arith, h))
 
-pub reads_all : (store : List (List ℕ)) (next : List ℕ) (run : Run) (total at : ℕ) (start out : List ℕ) (done from block : ℕ) → Reads store next (whole store next run.blocks run.first) total at start out done from block → total ≤ done → total ≤ run.length - at
-    → out ≡ take total (drop at (bytes_in store next run)) ++ drop total start
-reads_all store next run total at start out done from block r over short =
-    let same : done ≡ total = omega (arith, r.within, over) in
+pub reads_all : (store : List (List ℕ)) (next : List ℕ) (run : Run) (total at : ℕ) (start : List ℕ) (p : Progress) → Reads store next (record { all = whole store next run.blocks run.first; total = total; at = at; start = start }) p → total ≤ p.done → total ≤ run.length - at
+    → p.out ≡ take total (drop at (bytes_in store next run)) ++ drop total start
+reads_all store next run total at start p r over short =
+    let same : p.done ≡ total = omega (arith, r.within, over) in
     r.is ∙ ap (λ k. take k (drop at (whole store next run.blocks run.first)) ++ drop k start) same ∙ ap (λ p. p ++ drop total start) (sym (take_short total run.length at (whole store next run.blocks run.first) short))

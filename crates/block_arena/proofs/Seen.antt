@@ -13,7 +13,7 @@ use Rattle.block_arena.specs.declared.slot.Run.{Run}
 use Rattle.block_arena.specs.declared.slot.Content.{Content}
 use Rattle.block_arena.specs.declared.slot.Content.TheVariants.{Free, Draft, Sealed, Retired}
 use Rattle.block_arena.specs.declared.slot.Slot.{Slot}
-use Rattle.block_arena.specs.Fields.{content_at, chain, blocks_in, bytes_in, held, slot_of, depot_of, IsContent, IsRun, IsArena, IsReadable}
+use Rattle.block_arena.specs.Fields.{ArenaFields, content_at, chain, blocks_in, bytes_in, held, slot_of, depot_of, IsContent, IsRun, IsArena, IsReadable}
 use Rattle.block_arena.specs.Calls.{depot_key, RefusesDraft, RefusesMessage}
 use Rattle.block_arena.proofs.Chains.{times_cons, chain_length}
 use Rattle.block_arena.proofs.Slots.{get_map, found, all_at}
@@ -32,31 +32,31 @@ held_in store next key None = refl
 held_in store next key (Some slot) = held_if store next (slot.generation == key.generation) slot.content
 
 -- what lies in the key's slot, in an arena that a depot stands for
-pub record Sees (key : Key) (depot : d.Depot) (store : List (List ℕ)) (next : List ℕ) (slots : List Slot) (free free_count : ℕ) (content : Content) : Type 0 where
-  pub arena : IsArena store next slots free free_count
-  pub view : depot_of store next slots free free_count ≡ depot
-  pub at : content_at (slice_get slots key.slot) key.generation ≡ content
+pub record Sees (key : Key) (depot : d.Depot) (a : ArenaFields) (content : Content) : Type 0 where
+  pub arena : IsArena a
+  pub view : depot_of a ≡ depot
+  pub at : content_at (slice_get a.slots key.slot) key.generation ≡ content
 
-pub sees : (key : Key) (depot : d.Depot) (store : List (List ℕ)) (next : List ℕ) (slots : List Slot) (free free_count : ℕ) (items : List Slot) (result content : Content)
-    → IsArena store next slots free free_count → depot_of store next slots free free_count ≡ depot → items ≡ slots → result ≡ content_at (slice_get items key.slot) key.generation → result ≡ content
-    → Sees key depot store next slots free free_count content
-sees key depot store next slots free free_count items result content arena view same is what = record {
+pub sees : (key : Key) (depot : d.Depot) (a : ArenaFields) (items : List Slot) (result content : Content)
+    → IsArena a → depot_of a ≡ depot → items ≡ a.slots → result ≡ content_at (slice_get items key.slot) key.generation → result ≡ content
+    → Sees key depot a content
+sees key depot a items result content arena view same is what = record {
   arena = arena;
   view = view;
   at = ap (λ (xs : List Slot). content_at (slice_get xs key.slot) key.generation) (sym same) ∙ sym is ∙ what;
 }
 
-pub under : (key : Key) (depot : d.Depot) (store : List (List ℕ)) (next : List ℕ) (slots : List Slot) (free free_count : ℕ) (content : Content)
-    → Sees key depot store next slots free free_count content → d.held_under depot (depot_key key) ≡ held store next content
-under key depot store next slots free free_count content s =
+pub under : (key : Key) (depot : d.Depot) (a : ArenaFields) (content : Content)
+    → Sees key depot a content → d.held_under depot (depot_key key) ≡ held a.store a.next content
+under key depot a content s =
     ap (λ (e : d.Depot). d.held_under e (depot_key key)) (sym s.view)
-    ∙ ap (λ o. d.held_at (depot_key key) o) (get_mapped (slot_of store next) slots key.slot)
-    ∙ held_in store next (depot_key key) (slice_get slots key.slot)
-    ∙ ap (held store next) s.at
+    ∙ ap (λ o. d.held_at (depot_key key) o) (get_mapped (slot_of a.store a.next) a.slots key.slot)
+    ∙ held_in a.store a.next (depot_key key) (slice_get a.slots key.slot)
+    ∙ ap (held a.store a.next) s.at
 
-pub stands : (key : Key) (depot : d.Depot) (store : List (List ℕ)) (next : List ℕ) (slots : List Slot) (free free_count : ℕ) (content : Content)
-    → Sees key depot store next slots free free_count content → ((content ≡ Free) → ⊥) → slice_get slots key.slot ≡ Some (record { generation = key.generation; content = content })
-stands key depot store next slots free free_count content s filled = found (slice_get slots key.slot) key.generation content s.at filled
+pub stands : (key : Key) (depot : d.Depot) (a : ArenaFields) (content : Content)
+    → Sees key depot a content → ((content ≡ Free) → ⊥) → slice_get a.slots key.slot ≡ Some (record { generation = key.generation; content = content })
+stands key depot a content s filled = found (slice_get a.slots key.slot) key.generation content s.at filled
 
 -- no block of a list is past the last
 once_low : (k x n : ℕ) (t : Bool) → nat_lt x k ≡ t → suc n ≤ cond t 1 0 → x < k
@@ -73,22 +73,22 @@ low_by k (x ∷ xs) h =
     let one : suc (occurrences x xs) ≤ cond (nat_lt x k) 1 0 = omega (arith, h x, times_cons x x xs, self_once x (occurrences x xs) (x == x) refl) in
     (once_low k x (occurrences x xs) (nat_lt x k) refl one, low_by k xs (λ y. omega (arith, h y, times_cons y x xs)))
 
-pub run_times : (store : List (List ℕ)) (next : List ℕ) (slots : List Slot) (free free_count i : ℕ) (s : Slot) → IsArena store next slots free free_count → slice_get slots i ≡ Some s
-    → (x : ℕ) → occurrences x (chain free_count next free) + occurrences x (d.blocks_of (held store next s.content)) ≤ cond (nat_lt x (length next)) 1 0
-run_times store next slots free free_count i s arena was x =
-    let total : occurrences x (flat_map (λ (slot : d.Slot). d.blocks_of slot.held) (slice_set (map (slot_of store next) slots) i (record { generation = 0; held = d.Free }))) + occurrences x (d.blocks_of (held store next s.content)) ≡ occurrences x (flat_map (λ (slot : d.Slot). d.blocks_of slot.held) (map (slot_of store next) slots)) + 0 =
-    total_set (λ y. cond (y == x) 1 0) (λ (slot : d.Slot). d.blocks_of slot.held) (map (slot_of store next) slots) i (slot_of store next s) (record { generation = 0; held = d.Free }) (get_map (slot_of store next) slots i s was) in
-    let once : occurrences x (chain free_count next free ++ flat_map (λ (slot : d.Slot). d.blocks_of slot.held) (map (slot_of store next) slots)) ≡ cond (nat_lt x (length next)) 1 0 = arena.once x in
-    omega (arith, total, once, times-append x (chain free_count next free) (flat_map (λ (slot : d.Slot). d.blocks_of slot.held) (map (slot_of store next) slots)))
+pub run_times : (a : ArenaFields) (i : ℕ) (s : Slot) → IsArena a → slice_get a.slots i ≡ Some s
+    → (x : ℕ) → occurrences x (chain a.free_count a.next a.free) + occurrences x (d.blocks_of (held a.store a.next s.content)) ≤ cond (nat_lt x (length a.next)) 1 0
+run_times a i s arena was x =
+    let total : occurrences x (flat_map (λ (slot : d.Slot). d.blocks_of slot.held) (slice_set (map (slot_of a.store a.next) a.slots) i (record { generation = 0; held = d.Free }))) + occurrences x (d.blocks_of (held a.store a.next s.content)) ≡ occurrences x (flat_map (λ (slot : d.Slot). d.blocks_of slot.held) (map (slot_of a.store a.next) a.slots)) + 0 =
+    total_set (λ y. cond (y == x) 1 0) (λ (slot : d.Slot). d.blocks_of slot.held) (map (slot_of a.store a.next) a.slots) i (slot_of a.store a.next s) (record { generation = 0; held = d.Free }) (get_map (slot_of a.store a.next) a.slots i s was) in
+    let once : occurrences x (chain a.free_count a.next a.free ++ flat_map (λ (slot : d.Slot). d.blocks_of slot.held) (map (slot_of a.store a.next) a.slots)) ≡ cond (nat_lt x (length a.next)) 1 0 = arena.once x in
+    omega (arith, total, once, times-append x (chain a.free_count a.next a.free) (flat_map (λ (slot : d.Slot). d.blocks_of slot.held) (map (slot_of a.store a.next) a.slots)))
 
-pub run_low : (store : List (List ℕ)) (next : List ℕ) (slots : List Slot) (free free_count i : ℕ) (s : Slot) → IsArena store next slots free free_count → slice_get slots i ≡ Some s
-    → AllByRecursion (λ b. b < length next) (d.blocks_of (held store next s.content))
-run_low store next slots free free_count i s arena was = low_by (length next) (d.blocks_of (held store next s.content)) (λ x. omega (arith, run_times store next slots free free_count i s arena was x))
+pub run_low : (a : ArenaFields) (i : ℕ) (s : Slot) → IsArena a → slice_get a.slots i ≡ Some s
+    → AllByRecursion (λ b. b < length a.next) (d.blocks_of (held a.store a.next s.content))
+run_low a i s arena was = low_by (length a.next) (d.blocks_of (held a.store a.next s.content)) (λ x. omega (arith, run_times a i s arena was x))
 
-pub free_low : (store : List (List ℕ)) (next : List ℕ) (slots : List Slot) (free free_count : ℕ) → IsArena store next slots free free_count → AllByRecursion (λ b. b < length next) (chain free_count next free)
-free_low store next slots free free_count arena = low_by (length next) (chain free_count next free) (λ x.
-    let once : occurrences x (chain free_count next free ++ flat_map (λ (slot : d.Slot). d.blocks_of slot.held) (map (slot_of store next) slots)) ≡ cond (nat_lt x (length next)) 1 0 = arena.once x in
-    omega (arith, once, times-append x (chain free_count next free) (flat_map (λ (slot : d.Slot). d.blocks_of slot.held) (map (slot_of store next) slots))))
+pub free_low : (a : ArenaFields) → IsArena a → AllByRecursion (λ b. b < length a.next) (chain a.free_count a.next a.free)
+free_low a arena = low_by (length a.next) (chain a.free_count a.next a.free) (λ x.
+    let once : occurrences x (chain a.free_count a.next a.free ++ flat_map (λ (slot : d.Slot). d.blocks_of slot.held) (map (slot_of a.store a.next) a.slots)) ≡ cond (nat_lt x (length a.next)) 1 0 = arena.once x in
+    omega (arith, once, times-append x (chain a.free_count a.next a.free) (flat_map (λ (slot : d.Slot). d.blocks_of slot.held) (map (slot_of a.store a.next) a.slots))))
 
 pub full_length : (store : List (List ℕ)) (k : ℕ) (bs : List ℕ) → length store ≡ k → All (λ (bytes : List ℕ). length bytes ≡ BLOCK_SIZE) store → AllByRecursion (λ b. b < k) bs
     → length (flat_map (λ b. get_or store b []) bs) ≡ BLOCK_SIZE * length bs
@@ -105,39 +105,39 @@ pub run_length : (store : List (List ℕ)) (next : List ℕ) (run : Run) → len
 run_length store next run same sizes is low =
     omega (arith, enough_room run.length run.blocks is.enough, chain_length run.blocks next run.first, full_length store (length next) (blocks_in next run) same sizes low, length-take run.length (flat_map (λ b. get_or store b []) (blocks_in next run)))
 
-pub draft_length : (key : Key) (depot : d.Depot) (store : List (List ℕ)) (next : List ℕ) (slots : List Slot) (free free_count : ℕ) (run : Run)
-    → Sees key depot store next slots free free_count (Draft run) → run.length ≡ length (d.bytes_of (d.held_under depot (depot_key key)))
-draft_length key depot store next slots free free_count run s =
-    let was : slice_get slots key.slot ≡ Some (record { generation = key.generation; content = Draft run }) = stands key depot store next slots free free_count (Draft run) s (λ e. cc) in
-    run_length store next run s.arena.count s.arena.sizes (all_at (λ (slot : Slot). IsContent next slot.content) slots key.slot (record { generation = key.generation; content = Draft run }) s.arena.runs was) (run_low store next slots free free_count key.slot (record { generation = key.generation; content = Draft run }) s.arena was)
-    ∙ ap (λ h. length (d.bytes_of h)) (sym (under key depot store next slots free free_count (Draft run) s))
+pub draft_length : (key : Key) (depot : d.Depot) (a : ArenaFields) (run : Run)
+    → Sees key depot a (Draft run) → run.length ≡ length (d.bytes_of (d.held_under depot (depot_key key)))
+draft_length key depot a run s =
+    let was : slice_get a.slots key.slot ≡ Some (record { generation = key.generation; content = Draft run }) = stands key depot a (Draft run) s (λ e. cc) in
+    run_length a.store a.next run s.arena.count s.arena.sizes (all_at (λ (slot : Slot). IsContent a.next slot.content) a.slots key.slot (record { generation = key.generation; content = Draft run }) s.arena.runs was) (run_low a key.slot (record { generation = key.generation; content = Draft run }) s.arena was)
+    ∙ ap (λ h. length (d.bytes_of h)) (sym (under key depot a (Draft run) s))
 
-pub sealed_length : (key : Key) (depot : d.Depot) (store : List (List ℕ)) (next : List ℕ) (slots : List Slot) (free free_count : ℕ) (run : Run) (holds : ℕ)
-    → Sees key depot store next slots free free_count (Sealed run holds) → run.length ≡ length (d.bytes_of (d.held_under depot (depot_key key)))
-sealed_length key depot store next slots free free_count run holds s =
-    let was : slice_get slots key.slot ≡ Some (record { generation = key.generation; content = Sealed run holds }) = stands key depot store next slots free free_count (Sealed run holds) s (λ e. cc) in
-    run_length store next run s.arena.count s.arena.sizes (all_at (λ (slot : Slot). IsContent next slot.content) slots key.slot (record { generation = key.generation; content = Sealed run holds }) s.arena.runs was) (run_low store next slots free free_count key.slot (record { generation = key.generation; content = Sealed run holds }) s.arena was)
-    ∙ ap (λ h. length (d.bytes_of h)) (sym (under key depot store next slots free free_count (Sealed run holds) s))
+pub sealed_length : (key : Key) (depot : d.Depot) (a : ArenaFields) (run : Run) (holds : ℕ)
+    → Sees key depot a (Sealed run holds) → run.length ≡ length (d.bytes_of (d.held_under depot (depot_key key)))
+sealed_length key depot a run holds s =
+    let was : slice_get a.slots key.slot ≡ Some (record { generation = key.generation; content = Sealed run holds }) = stands key depot a (Sealed run holds) s (λ e. cc) in
+    run_length a.store a.next run s.arena.count s.arena.sizes (all_at (λ (slot : Slot). IsContent a.next slot.content) a.slots key.slot (record { generation = key.generation; content = Sealed run holds }) s.arena.runs was) (run_low a key.slot (record { generation = key.generation; content = Sealed run holds }) s.arena was)
+    ∙ ap (λ h. length (d.bytes_of h)) (sym (under key depot a (Sealed run holds) s))
 
-pub stale : (IsFull : Type 0) (key : Key) (depot : d.Depot) (store : List (List ℕ)) (next : List ℕ) (slots : List Slot) (free free_count : ℕ) (items : List Slot) (result : Content)
-    → IsArena store next slots free free_count → depot_of store next slots free free_count ≡ depot → items ≡ slots → result ≡ content_at (slice_get items key.slot) key.generation → (result ≡ Free) ⊎ (result ≡ Retired)
+pub stale : (IsFull : Type 0) (key : Key) (depot : d.Depot) (a : ArenaFields) (items : List Slot) (result : Content)
+    → IsArena a → depot_of a ≡ depot → items ≡ a.slots → result ≡ content_at (slice_get items key.slot) key.generation → (result ≡ Free) ⊎ (result ≡ Retired)
     → RefusesDraft IsFull (d.held_under depot (depot_key key)) fault.Stale × RefusesMessage (d.held_under depot (depot_key key)) fault.Stale
-stale IsFull key depot store next slots free free_count items result arena view same is (inl e) =
-    let h : d.held_under depot (depot_key key) ≡ d.Free = under key depot store next slots free free_count Free (sees key depot store next slots free free_count items result Free arena view same is e) in
+stale IsFull key depot a items result arena view same is (inl e) =
+    let h : d.held_under depot (depot_key key) ≡ d.Free = under key depot a Free (sees key depot a items result Free arena view same is e) in
     subst (λ (x : d.Held). RefusesDraft IsFull x fault.Stale × RefusesMessage x fault.Stale) (sym h) (refl, refl)
-stale IsFull key depot store next slots free free_count items result arena view same is (inr e) =
-    let h : d.held_under depot (depot_key key) ≡ d.Retired = under key depot store next slots free free_count Retired (sees key depot store next slots free free_count items result Retired arena view same is e) in
+stale IsFull key depot a items result arena view same is (inr e) =
+    let h : d.held_under depot (depot_key key) ≡ d.Retired = under key depot a Retired (sees key depot a items result Retired arena view same is e) in
     subst (λ (x : d.Held). RefusesDraft IsFull x fault.Stale × RefusesMessage x fault.Stale) (sym h) (refl, refl)
 
-pub readable : (key : Key) (depot : d.Depot) (store : List (List ℕ)) (next : List ℕ) (slots : List Slot) (free free_count : ℕ) (run : Run) (holds : ℕ)
-    → Sees key depot store next slots free free_count (Sealed run holds) → IsReadable store next run
-readable key depot store next slots free free_count run holds s =
-    let was : slice_get slots key.slot ≡ Some (record { generation = key.generation; content = Sealed run holds }) = stands key depot store next slots free free_count (Sealed run holds) s (λ e. cc) in
-    let is : IsRun next run = all_at (λ (slot : Slot). IsContent next slot.content) slots key.slot (record { generation = key.generation; content = Sealed run holds }) s.arena.runs was in
+pub readable : (key : Key) (depot : d.Depot) (a : ArenaFields) (run : Run) (holds : ℕ)
+    → Sees key depot a (Sealed run holds) → IsReadable a.store a.next run
+readable key depot a run holds s =
+    let was : slice_get a.slots key.slot ≡ Some (record { generation = key.generation; content = Sealed run holds }) = stands key depot a (Sealed run holds) s (λ e. cc) in
+    let is : IsRun a.next run = all_at (λ (slot : Slot). IsContent a.next slot.content) a.slots key.slot (record { generation = key.generation; content = Sealed run holds }) s.arena.runs was in
     record {
       sizes = s.arena.sizes;
       count = s.arena.count;
-      low = run_low store next slots free free_count key.slot (record { generation = key.generation; content = Sealed run holds }) s.arena was;
+      low = run_low a key.slot (record { generation = key.generation; content = Sealed run holds }) s.arena was;
       enough = enough_room run.length run.blocks is.enough;
     }
 

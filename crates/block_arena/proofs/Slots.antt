@@ -7,11 +7,11 @@ use Rattle.std.proofs.lemmas.List.Sums.{sum_by-cons}
 use Rattle.mail_world.specs.Depot as d
 use Rattle.mail_world.specs.Depot.{occurrences}
 use Rattle.mail_world.specs.declared.limits.TheConstants.{BLOCK_SIZE}
-use Rattle.mail_world.proofs.Depots.{times-append, total_set}
+use Rattle.mail_world.proofs.Depots.{set_at, times-append, total_set}
 use Rattle.block_arena.specs.declared.slot.Content.{Content}
 use Rattle.block_arena.specs.declared.slot.Content.TheVariants.{Free}
 use Rattle.block_arena.specs.declared.slot.Slot.{Slot}
-use Rattle.block_arena.specs.Fields.{content_at, chain, held, slot_of, IsContent, block_count, IsArena}
+use Rattle.block_arena.specs.Fields.{ArenaFields, content_at, chain, held, slot_of, IsContent, block_count, IsArena}
 
 pub get_map : {A B : Type 0} (f : A → B) (xs : List A) (i : ℕ) (x : A) → slice_get xs i ≡ Some x → slice_get (map f xs) i ≡ Some (f x)
 get_map f [] i x e = cc
@@ -70,59 +70,68 @@ found (Some slot) g content e filled =
     ap (λ (x : Slot). Some x) (same_slot slot.generation g slot.content content p.0 p.1)
 
 -- what a step of one slot owes for the arena to stand behind it
-pub record Turn (blocks : List (List ℕ)) (next : List ℕ) (slots : List Slot) (free free_count i : ℕ) (old s : Slot) (blocks' : List (List ℕ)) (next' : List ℕ) (free' free_count' : ℕ) : Type 0 where
-  pub arena : IsArena blocks next slots free free_count
-  pub was : slice_get slots i ≡ Some old
-  pub sizes : All (λ (bytes : List ℕ). length bytes ≡ BLOCK_SIZE) blocks'
-  pub blocks_stay : length blocks' ≡ length blocks
-  pub next_stay : length next' ≡ length next
+pub record Turn (a : ArenaFields) (i : ℕ) (old s : Slot) (a' : ArenaFields) : Type 0 where
+  pub arena : IsArena a
+  pub was : slice_get a.slots i ≡ Some old
+  pub slots : a'.slots ≡ slice_set a.slots i s
+  pub sizes : All (λ (bytes : List ℕ). length bytes ≡ BLOCK_SIZE) a'.store
+  pub blocks_stay : length a'.store ≡ length a.store
+  pub next_stay : length a'.next ≡ length a.next
   pub generation : s.generation ≤ d.last_generation
-  pub count : free_count' + block_count s.content ≡ free_count + block_count old.content
-  pub others : map (slot_of blocks' next') (slice_set slots i s) ≡ slice_set (map (slot_of blocks next) slots) i (slot_of blocks' next' s)
-  pub runs : AllByRecursion (λ (slot : Slot). IsContent next' slot.content) (slice_set slots i s)
-  pub split : (x : ℕ) → occurrences x (chain free_count' next' free') + occurrences x (d.blocks_of (held blocks' next' s.content)) ≡ occurrences x (chain free_count next free) + occurrences x (d.blocks_of (held blocks next old.content))
+  pub count : a'.free_count + block_count s.content ≡ a.free_count + block_count old.content
+  pub others : map (slot_of a'.store a'.next) a'.slots ≡ slice_set (map (slot_of a.store a.next) a.slots) i (slot_of a'.store a'.next s)
+  pub runs : AllByRecursion (λ (slot : Slot). IsContent a'.next slot.content) a'.slots
+  pub split : (x : ℕ) → occurrences x (chain a'.free_count a'.next a'.free) + occurrences x (d.blocks_of (held a'.store a'.next s.content)) ≡ occurrences x (chain a.free_count a.next a.free) + occurrences x (d.blocks_of (held a.store a.next old.content))
 
-pub turned : (blocks : List (List ℕ)) (next : List ℕ) (slots : List Slot) (free free_count i : ℕ) (old s : Slot) (blocks' : List (List ℕ)) (next' : List ℕ) (free' free_count' : ℕ)
-    → Turn blocks next slots free free_count i old s blocks' next' free' free_count' → IsArena blocks' next' (slice_set slots i s) free' free_count'
-turned blocks next slots free free_count i old s blocks' next' free' free_count' t = record {
+pub turned : (a : ArenaFields) (i : ℕ) (old s : Slot) (a' : ArenaFields)
+    → Turn a i old s a' → IsArena a'
+turned a i old s a' t = record {
   sizes = t.sizes;
   count = t.blocks_stay ∙ t.arena.count ∙ sym t.next_stay;
   limit = omega (arith, t.next_stay, t.arena.limit);
-  slot_limit = omega (arith, length_set slots i s, t.arena.slot_limit);
+  slot_limit = omega (arith, size, t.arena.slot_limit);
   runs = t.runs;
-  generations = all_set (λ (slot : Slot). slot.generation ≤ d.last_generation) slots i s t.arena.generations t.generation;
-  total = omega (arith, t.count, t.arena.total, t.next_stay, sum_set (λ (slot : Slot). block_count slot.content) slots i old s t.was);
+  generations = subst (λ ss. AllByRecursion (λ (slot : Slot). slot.generation ≤ d.last_generation) ss) (sym t.slots) (all_set (λ (slot : Slot). slot.generation ≤ d.last_generation) a.slots i s t.arena.generations t.generation);
+  total = omega (arith, t.count, t.arena.total, t.next_stay, sum, sum_set (λ (slot : Slot). block_count slot.content) a.slots i old s t.was);
   once = λ x. once_by x;
 } where
-  f : Slot → d.Slot
-  f = slot_of blocks next
+  sum : sum_by (λ (slot : Slot). block_count slot.content) a'.slots ≡ sum_by (λ (slot : Slot). block_count slot.content) (slice_set a.slots i s)
+  sum = ap (λ ss. sum_by (λ (slot : Slot). block_count slot.content) ss) t.slots
+
+  size : length a'.slots ≡ length a.slots
+  size = ap length t.slots ∙ length_set a.slots i s
 
   in_use : List d.Slot → List ℕ
   in_use ss = flat_map (λ (slot : d.Slot). d.blocks_of slot.held) ss
 
-  once_by : (x : ℕ) → occurrences x (chain free_count' next' free' ++ flat_map (λ (slot : d.Slot). d.blocks_of slot.held) (map (slot_of blocks' next') (slice_set slots i s))) ≡ cond (nat_lt x (length next')) 1 0
+  once_by : (x : ℕ) → occurrences x (chain a'.free_count a'.next a'.free ++ flat_map (λ (slot : d.Slot). d.blocks_of slot.held) (map (slot_of a'.store a'.next) a'.slots)) ≡ cond (nat_lt x (length a'.next)) 1 0
   once_by x =
-      let used : occurrences x (flat_map (λ (slot : d.Slot). d.blocks_of slot.held) (map (slot_of blocks' next') (slice_set slots i s))) ≡ occurrences x (flat_map (λ (slot : d.Slot). d.blocks_of slot.held) (slice_set (map (slot_of blocks next) slots) i (slot_of blocks' next' s))) = ap (λ ss. occurrences x (flat_map (λ (slot : d.Slot). d.blocks_of slot.held) ss)) t.others in
-      let total : occurrences x (flat_map (λ (slot : d.Slot). d.blocks_of slot.held) (slice_set (map (slot_of blocks next) slots) i (slot_of blocks' next' s))) + occurrences x (d.blocks_of (held blocks next old.content)) ≡ occurrences x (flat_map (λ (slot : d.Slot). d.blocks_of slot.held) (map (slot_of blocks next) slots)) + occurrences x (d.blocks_of (held blocks' next' s.content)) =
-      total_set (λ y. cond (y == x) 1 0) (λ (slot : d.Slot). d.blocks_of slot.held) (map (slot_of blocks next) slots) i (slot_of blocks next old) (slot_of blocks' next' s) (get_map (slot_of blocks next) slots i old t.was) in
-      let split : occurrences x (chain free_count' next' free') + occurrences x (d.blocks_of (held blocks' next' s.content)) ≡ occurrences x (chain free_count next free) + occurrences x (d.blocks_of (held blocks next old.content)) = t.split x in
-      let moved : occurrences x (chain free_count' next' free' ++ flat_map (λ (slot : d.Slot). d.blocks_of slot.held) (map (slot_of blocks' next') (slice_set slots i s))) ≡ occurrences x (chain free_count next free ++ flat_map (λ (slot : d.Slot). d.blocks_of slot.held) (map (slot_of blocks next) slots)) =
-      omega (arith, split, total, used, times-append x (chain free_count' next' free') (flat_map (λ (slot : d.Slot). d.blocks_of slot.held) (map (slot_of blocks' next') (slice_set slots i s))), times-append x (chain free_count next free) (flat_map (λ (slot : d.Slot). d.blocks_of slot.held) (map (slot_of blocks next) slots))) in
+      let used : occurrences x (flat_map (λ (slot : d.Slot). d.blocks_of slot.held) (map (slot_of a'.store a'.next) a'.slots)) ≡ occurrences x (flat_map (λ (slot : d.Slot). d.blocks_of slot.held) (slice_set (map (slot_of a.store a.next) a.slots) i (slot_of a'.store a'.next s))) = ap (λ ss. occurrences x (flat_map (λ (slot : d.Slot). d.blocks_of slot.held) ss)) t.others in
+      let total : occurrences x (flat_map (λ (slot : d.Slot). d.blocks_of slot.held) (slice_set (map (slot_of a.store a.next) a.slots) i (slot_of a'.store a'.next s))) + occurrences x (d.blocks_of (held a.store a.next old.content)) ≡ occurrences x (flat_map (λ (slot : d.Slot). d.blocks_of slot.held) (map (slot_of a.store a.next) a.slots)) + occurrences x (d.blocks_of (held a'.store a'.next s.content)) =
+      total_set (λ y. cond (y == x) 1 0) (λ (slot : d.Slot). d.blocks_of slot.held) (map (slot_of a.store a.next) a.slots) i (slot_of a.store a.next old) (slot_of a'.store a'.next s) (get_map (slot_of a.store a.next) a.slots i old t.was) in
+      let split : occurrences x (chain a'.free_count a'.next a'.free) + occurrences x (d.blocks_of (held a'.store a'.next s.content)) ≡ occurrences x (chain a.free_count a.next a.free) + occurrences x (d.blocks_of (held a.store a.next old.content)) = t.split x in
+      let moved : occurrences x (chain a'.free_count a'.next a'.free ++ flat_map (λ (slot : d.Slot). d.blocks_of slot.held) (map (slot_of a'.store a'.next) a'.slots)) ≡ occurrences x (chain a.free_count a.next a.free ++ flat_map (λ (slot : d.Slot). d.blocks_of slot.held) (map (slot_of a.store a.next) a.slots)) =
+      omega (arith, split, total, used, times-append x (chain a'.free_count a'.next a'.free) (flat_map (λ (slot : d.Slot). d.blocks_of slot.held) (map (slot_of a'.store a'.next) a'.slots)), times-append x (chain a.free_count a.next a.free) (flat_map (λ (slot : d.Slot). d.blocks_of slot.held) (map (slot_of a.store a.next) a.slots))) in
       moved ∙ t.arena.once x ∙ ap (λ n. cond (nat_lt x n) 1 0) (sym t.next_stay)
 
+-- the slot behind the step
+pub turned_at : (a : ArenaFields) (i : ℕ) (old s : Slot) (a' : ArenaFields) → Turn a i old s a' → slice_get a'.slots i ≡ Some s
+turned_at a i old s a' t = ap (λ ss. slice_get ss i) t.slots ∙ set_at a.slots i s old t.was
+
 -- a slot changes what it says of its blocks, and no block moves
-pub relabelled : (blocks : List (List ℕ)) (next : List ℕ) (slots : List Slot) (free free_count i : ℕ) (old s : Slot) → IsArena blocks next slots free free_count → slice_get slots i ≡ Some old
-    → s.generation ≡ old.generation → IsContent next s.content → block_count s.content ≡ block_count old.content → d.blocks_of (held blocks next s.content) ≡ d.blocks_of (held blocks next old.content)
-    → IsArena blocks next (slice_set slots i s) free free_count
-relabelled blocks next slots free free_count i old s arena was generation content count same = turned blocks next slots free free_count i old s blocks next free free_count (record {
+pub relabelled : (a : ArenaFields) (i : ℕ) (old s : Slot) → IsArena a → slice_get a.slots i ≡ Some old
+    → s.generation ≡ old.generation → IsContent a.next s.content → block_count s.content ≡ block_count old.content → d.blocks_of (held a.store a.next s.content) ≡ d.blocks_of (held a.store a.next old.content)
+    → IsArena (record a { slots = slice_set a.slots i s })
+relabelled a i old s arena was generation content count same = turned a i old s (record a { slots = slice_set a.slots i s }) (record {
   arena = arena;
   was = was;
+  slots = refl;
   sizes = arena.sizes;
   blocks_stay = refl;
   next_stay = refl;
-  generation = let h : old.generation ≤ d.last_generation = all_at (λ (slot : Slot). slot.generation ≤ d.last_generation) slots i old arena.generations was in let P : ℕ → Type 0 = λ n. n ≤ d.last_generation in subst P (sym generation) h;
-  count = ap (λ n. free_count + n) count;
-  others = map_set (slot_of blocks next) slots i s;
-  runs = all_set (λ (slot : Slot). IsContent next slot.content) slots i s arena.runs content;
-  split = λ x. ap (λ b. occurrences x (chain free_count next free) + occurrences x b) same;
+  generation = let h : old.generation ≤ d.last_generation = all_at (λ (slot : Slot). slot.generation ≤ d.last_generation) a.slots i old arena.generations was in let P : ℕ → Type 0 = λ n. n ≤ d.last_generation in subst P (sym generation) h;
+  count = ap (λ n. a.free_count + n) count;
+  others = map_set (slot_of a.store a.next) a.slots i s;
+  runs = all_set (λ (slot : Slot). IsContent a.next slot.content) a.slots i s arena.runs content;
+  split = λ x. ap (λ b. occurrences x (chain a.free_count a.next a.free) + occurrences x b) same;
 })

@@ -48,8 +48,17 @@ held blocks next Retired = d.Retired
 abbrev pub slot_of : List (List ℕ) → List ℕ → Slot → d.Slot
 slot_of blocks next slot = record { generation = slot.generation; held = held blocks next slot.content }
 
-abbrev pub depot_of : List (List ℕ) → List ℕ → List Slot → ℕ → ℕ → d.Depot
-depot_of blocks next slots free free_count = record { slots = map (slot_of blocks next) slots; free = chain free_count next free }
+-- the arena's fields as lists and numbers: the blocks' bytes, the links from block to block, the slots, the first free
+-- block, and how many are free
+pub record ArenaFields : Type 0 where
+  pub store : List (List ℕ)
+  pub next : List ℕ
+  pub slots : List Slot
+  pub free : ℕ
+  pub free_count : ℕ
+
+abbrev pub depot_of : ArenaFields → d.Depot
+depot_of a = record { slots = map (slot_of a.store a.next) a.slots; free = chain a.free_count a.next a.free }
 
 -- a block of a run, by how many stand before it
 pub record IsPlace (next : List ℕ) (run : Run) (place : Place) : Type 0 where
@@ -87,15 +96,15 @@ block_count (Draft run) = run.blocks
 block_count (Sealed run holds) = run.blocks
 block_count Retired = 0
 
-pub record IsArena (blocks : List (List ℕ)) (next : List ℕ) (slots : List Slot) (free free_count : ℕ) : Type 0 where
-  pub sizes : All (λ bytes. length bytes ≡ BLOCK_SIZE) blocks
-  pub count : length blocks ≡ length next
-  pub limit : length next ≤ BLOCK_LIMIT
-  pub slot_limit : length slots ≤ SLOT_LIMIT
-  pub runs : AllByRecursion (λ slot. IsContent next slot.content) slots
-  pub generations : AllByRecursion (λ slot. slot.generation ≤ d.last_generation) slots
-  pub total : free_count + sum_by (λ (slot : Slot). block_count slot.content) slots ≡ length next
-  pub once : d.HasEachBlockOnce (length next) (depot_of blocks next slots free free_count)
+pub record IsArena (a : ArenaFields) : Type 0 where
+  pub sizes : All (λ bytes. length bytes ≡ BLOCK_SIZE) a.store
+  pub count : length a.store ≡ length a.next
+  pub limit : length a.next ≤ BLOCK_LIMIT
+  pub slot_limit : length a.slots ≤ SLOT_LIMIT
+  pub runs : AllByRecursion (λ slot. IsContent a.next slot.content) a.slots
+  pub generations : AllByRecursion (λ slot. slot.generation ≤ d.last_generation) a.slots
+  pub total : a.free_count + sum_by (λ (slot : Slot). block_count slot.content) a.slots ≡ length a.next
+  pub once : d.HasEachBlockOnce (length a.next) (depot_of a)
 
 -- a run whose blocks are there, and hold its bytes
 pub record IsReadable (blocks : List (List ℕ)) (next : List ℕ) (run : Run) : Type 0 where

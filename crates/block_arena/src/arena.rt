@@ -36,11 +36,12 @@ impl Model for Arena {
 
     ghost Value = { Depot };
 
+    ghost use Rattle.block_arena.specs.ArenaParts.{fields_of};
     ghost use Rattle.block_arena.specs.Fields.{depot_of, IsArena};
 
-    ghost view = { λ a. depot_of a.data.items a.next.items a.slots.items a.free a.free_count };
+    ghost view = { λ a. depot_of (fields_of a) };
 
-    ghost invariant = { λ a. IsArena a.data.items a.next.items a.slots.items a.free a.free_count };
+    ghost invariant = { λ a. IsArena (fields_of a) };
 }
 
 impl Arena {

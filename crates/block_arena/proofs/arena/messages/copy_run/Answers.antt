@@ -10,10 +10,10 @@ loop-done-init c =
     reads_in c.args.store.now c.args.next.now c.args.run c.min-total.result c.args.at c.args.out.now c.args.run.read.block c.requires.run c.if-run-at.false (omega (arith, short)) (omega (arith, short)) (block_there c.args.next.now c.args.run (c.args.at / BLOCK_SIZE) c.requires.read (c.requires.there c.if-run-at.false))
 
 pub loop-done-preserved : goal.loop-done-preserved
-loop-done-preserved c = reads_step c.args.store.now c.args.next.now _ c.min-total.result c.args.at c.args.out.now c.loop-done.out c.loop-done.done c.loop-done.from c.loop-done.block c.min-n.result _ c.copy_piece.new.out
+loop-done-preserved c = reads_step c.args.store.now c.args.next.now _ _ c.min-n.result _ c.copy_piece.new.out
     c.requires.run.sizes c.requires.run.count c.loop-done.invariant c.loop-done-test.true c.min-n.ensures refl c.copy_piece.ensures
 
 pub returns-clause-bytes : goal.returns-clause-bytes
 returns-clause-bytes c =
     let short : c.min-total.result ≡ min (length c.args.out.now) (c.args.run.length - c.args.at) = c.min-total.ensures in
-    reads_all c.args.store.now c.args.next.now c.args.run c.min-total.result c.args.at c.args.out.now c.loop-done.out c.loop-done.done c.loop-done.from c.loop-done.block c.loop-done.invariant c.loop-done-test.false (omega (arith, short))
+    reads_all c.args.store.now c.args.next.now c.args.run c.min-total.result c.args.at c.args.out.now _ c.loop-done.invariant c.loop-done-test.false (omega (arith, short))
