@@ -11,7 +11,7 @@ use Rattle.mail_post.specs.declared.rule.Parcel.TheVariants.{Copy, Mark}
 use Rattle.mail_post.specs.declared.rule.View.{View}
 use Rattle.mail_post.specs.Views.{sender, taker, knower, settled, put, took}
 use Rattle.mail_post.specs.Parcels.{lane_of, part, copies, all_of_lane}
-use Rattle.mail_post.specs.Rule.{FitsKnown, Fits, Carries, IsFair, Agrees}
+use Rattle.mail_post.specs.Rule.{Traffic, FitsKnown, Fits, Carries, IsFair, Agrees}
 use Rattle.mail_post.proofs.Parcels.{part-append, part-here, part-else, of-copies, copies-append, copies-all_of_lane, all_of_lane-put, all_of_lane-end, front, all-there, has_mark-part}
 
 module _ {M : Type 0} (lane : M → ℕ) where
@@ -70,15 +70,10 @@ module _ {M : Type 0} (lane : M → ℕ) where
 
   pub begins : Carries lane [] (taker 0 [] ∷ [])
   begins = record {
-    seat = λ _. none;
-    sent = λ _. [];
-    closed = λ _. false;
-    reader = 0;
-    lanes = 0;
-    got = [];
+    traffic = record { seat = λ _. none; sent = λ _. []; closed = λ _. false; reader = 0; lanes = 0; got = [] };
     order = λ _. refl;
     others = λ _ _. (refl, refl, refl);
-    fits = all_set (Fits (λ _. none) (λ _. []) (λ _. false) 0 0 []) (taker 0 [] ∷ []) 0 (taker 0 [])
+    fits = all_set (Fits (record { seat = λ _. none; sent = λ _. []; closed = λ _. false; reader = 0; lanes = 0; got = [] })) (taker 0 [] ∷ []) 0 (taker 0 [])
         ((λ p. absurd (true≢false (sym p))), (λ _. (refl, refl, refl)), (λ k h. absurd (omega arith)))
         (λ j u other e. ⊎_elim (λ x. absurd (some-ne-none u (sym x))) (λ x. absurd (other x.0)) (at_end [] (taker 0 []) u j e));
   }
@@ -89,28 +84,23 @@ module _ {M : Type 0} (lane : M → ℕ) where
   moves n pass v x s b may is grown items views _ h at =
       let w : View M = sender v.lane s b in
       let mine = (h.fits pass v at).0 may in
-      let sent : ℕ → List M = changed h.sent v.lane s in
-      let closed : ℕ → Bool = changed h.closed v.lane b in
-      let here : all_of_lane v.lane (sent v.lane) (closed v.lane) ≡ all_of_lane v.lane (h.sent v.lane) (h.closed v.lane) ++ x ∷ [] =
-      (λ i. all_of_lane v.lane (changed_here h.sent v.lane s i) (changed_here h.closed v.lane b i)) ∙ grown ∙ (λ i. all_of_lane v.lane (sym mine.1 i) (sym mine.2 i) ++ x ∷ []) in
-      let taken : (k : ℕ) → h.seat k ≡ none → k ≢ v.lane = λ k e q. some-ne-none pass (sym mine.0 ∙ ap h.seat (sym q) ∙ e) in (
+      let sent : ℕ → List M = changed h.traffic.sent v.lane s in
+      let closed : ℕ → Bool = changed h.traffic.closed v.lane b in
+      let here : all_of_lane v.lane (sent v.lane) (closed v.lane) ≡ all_of_lane v.lane (h.traffic.sent v.lane) (h.traffic.closed v.lane) ++ x ∷ [] =
+      (λ i. all_of_lane v.lane (changed_here h.traffic.sent v.lane s i) (changed_here h.traffic.closed v.lane b i)) ∙ grown ∙ (λ i. all_of_lane v.lane (sym mine.1 i) (sym mine.2 i) ++ x ∷ []) in
+      let taken : (k : ℕ) → h.traffic.seat k ≡ none → k ≢ v.lane = λ k e q. some-ne-none pass (sym mine.0 ∙ ap h.traffic.seat (sym q) ∙ e) in (
         w,
         record {
-          seat = h.seat;
-          sent = sent;
-          closed = closed;
-          reader = h.reader;
-          lanes = h.lanes;
-          got = h.got;
-          order = grows h.got items x (λ j. all_of_lane j (h.sent j) (h.closed j)) (λ j. all_of_lane j (sent j) (closed j)) v.lane is h.order here (λ j other i. all_of_lane j (changed_else h.sent v.lane s j other i) (changed_else h.closed v.lane b j other i));
-          others = λ k le. let q = h.others k le in let other = taken k q.0 in (q.0, changed_else h.sent v.lane s k other ∙ q.1, changed_else h.closed v.lane b k other ∙ q.2);
-          fits = all_set (Fits h.seat sent closed h.reader h.lanes h.got) views pass w
-              ((λ _. (mine.0, changed_here h.sent v.lane s, changed_here h.closed v.lane b)), (λ p. absurd (true≢false (sym p))), (λ k l. absurd (omega arith)))
+          traffic = record h.traffic { sent = sent; closed = closed };
+          order = grows h.traffic.got items x (λ j. all_of_lane j (h.traffic.sent j) (h.traffic.closed j)) (λ j. all_of_lane j (sent j) (closed j)) v.lane is h.order here (λ j other i. all_of_lane j (changed_else h.traffic.sent v.lane s j other i) (changed_else h.traffic.closed v.lane b j other i));
+          others = λ k le. let q = h.others k le in let other = taken k q.0 in (q.0, changed_else h.traffic.sent v.lane s k other ∙ q.1, changed_else h.traffic.closed v.lane b k other ∙ q.2);
+          fits = all_set (Fits (record h.traffic { sent = sent; closed = closed })) views pass w
+              ((λ _. (mine.0, changed_here h.traffic.sent v.lane s, changed_here h.traffic.closed v.lane b)), (λ p. absurd (true≢false (sym p))), (λ k l. absurd (omega arith)))
               (λ j u apart e. let f = h.fits j u e in (
-                (λ p. let q = f.0 p in let other : u.lane ≢ v.lane = λ t. apart (some-injective j pass (sym q.0 ∙ ap h.seat t ∙ mine.0)) in
-                    (q.0, changed_else h.sent v.lane s u.lane other ∙ q.1, changed_else h.closed v.lane b u.lane other ∙ q.2)),
+                (λ p. let q = f.0 p in let other : u.lane ≢ v.lane = λ t. apart (some-injective j pass (sym q.0 ∙ ap h.traffic.seat t ∙ mine.0)) in
+                    (q.0, changed_else h.traffic.sent v.lane s u.lane other ∙ q.1, changed_else h.traffic.closed v.lane b u.lane other ∙ q.2)),
                 f.1,
-                (λ k l. let q = f.2 k l in (q.0, q.1, q.2 ∙ sym (changed_else h.sent v.lane s k (taken k q.1)))),
+                (λ k l. let q = f.2 k l in (q.0, q.1, q.2 ∙ sym (changed_else h.traffic.sent v.lane s k (taken k q.1)))),
               ));
         },
         refl,
@@ -129,24 +119,19 @@ module _ {M : Type 0} (lane : M → ℕ) where
   takes pass v may x items views h at =
       let w : View M = took v x in
       let mine = (h.fits pass v at).1 may in
-      let got : List (Parcel M) = h.got ++ x ∷ [] in
-      let there : (k : ℕ) → part lane k (got ++ items) ≡ all_of_lane k (h.sent k) (h.closed k) = λ k. ap (part lane k) (append_assoc h.got (x ∷ []) items) ∙ h.order k in
-      let split : (k : ℕ) → part lane k got ++ part lane k items ≡ all_of_lane k (h.sent k) (h.closed k) = λ k. sym (part-append lane k got items) ∙ there k in
-      let fair : IsFair lane h.lanes got = λ k. (
-        front lane k (part lane k got) (part lane k items) (h.sent k) (h.closed k) (split k),
+      let got : List (Parcel M) = h.traffic.got ++ x ∷ [] in
+      let there : (k : ℕ) → part lane k (got ++ items) ≡ all_of_lane k (h.traffic.sent k) (h.traffic.closed k) = λ k. ap (part lane k) (append_assoc h.traffic.got (x ∷ []) items) ∙ h.order k in
+      let split : (k : ℕ) → part lane k got ++ part lane k items ≡ all_of_lane k (h.traffic.sent k) (h.traffic.closed k) = λ k. sym (part-append lane k got items) ∙ there k in
+      let fair : IsFair lane h.traffic.lanes got = λ k. (
+        front lane k (part lane k got) (part lane k items) (h.traffic.sent k) (h.traffic.closed k) (split k),
         λ le. let q = h.others k le in nil_left (part lane k got) (part lane k items) (split k ∙ (λ i. all_of_lane k (q.1 i) (q.2 i))),
       ) in (
         w,
         record {
-          seat = h.seat;
-          sent = h.sent;
-          closed = h.closed;
-          reader = h.reader;
-          lanes = h.lanes;
-          got = got;
+          traffic = record h.traffic { got = got };
           order = there;
           others = h.others;
-          fits = all_set (Fits h.seat h.sent h.closed h.reader h.lanes got) views pass w
+          fits = all_set (Fits (record h.traffic { got = got })) views pass w
               ((λ p. absurd (true≢false (sym p))), (λ _. (mine.0, mine.1, ap (λ l. l ++ x ∷ []) mine.2)), (λ k l. absurd (omega arith)))
               (λ j u apart e. let f = h.fits j u e in (f.0, (λ p. absurd (apart ((f.1 p).0 ∙ sym mine.0))), f.2));
         },
@@ -160,30 +145,25 @@ module _ {M : Type 0} (lane : M → ℕ) where
       let right : View M = sender v.lanes [] false in
       let mine = (h.fits pass v at).1 may in
       let vs : List (View M) = set views pass left in
-      let seat : ℕ → Option ℕ = changed h.seat v.lanes (some (length vs)) in
-      let free = h.others v.lanes (let e : v.lanes ≡ h.lanes = mine.1 in omega arith) in
-      let old : All (Fits seat h.sent h.closed h.reader (v.lanes + 1) h.got) vs = all_set (Fits seat h.sent h.closed h.reader (v.lanes + 1) h.got) views pass left
+      let seat : ℕ → Option ℕ = changed h.traffic.seat v.lanes (some (length vs)) in
+      let free = h.others v.lanes (let e : v.lanes ≡ h.traffic.lanes = mine.1 in omega arith) in
+      let old : All (Fits (record h.traffic { seat = seat; lanes = v.lanes + 1 })) vs = all_set (Fits (record h.traffic { seat = seat; lanes = v.lanes + 1 })) views pass left
       ((λ p. absurd (true≢false (sym p))), (λ _. (mine.0, refl, mine.2)), (λ k l. absurd (omega arith)))
       (λ j u apart e. let f = h.fits j u e in (
-        (λ p. let q = f.0 p in (changed_else h.seat v.lanes (some (length vs)) u.lane (λ t. some-ne-none j (sym q.0 ∙ ap h.seat t ∙ free.0)) ∙ q.0, q.1, q.2)),
+        (λ p. let q = f.0 p in (changed_else h.traffic.seat v.lanes (some (length vs)) u.lane (λ t. some-ne-none j (sym q.0 ∙ ap h.traffic.seat t ∙ free.0)) ∙ q.0, q.1, q.2)),
         (λ p. absurd (apart ((f.1 p).0 ∙ sym mine.0))),
-        (λ k l. let q = f.2 k l in let below : k < h.lanes = q.0 in let is : v.lanes ≡ h.lanes = mine.1 in (
+        (λ k l. let q = f.2 k l in let below : k < h.traffic.lanes = q.0 in let is : v.lanes ≡ h.traffic.lanes = mine.1 in (
           (omega arith),
-          changed_else h.seat v.lanes (some (length vs)) k (λ t. omega arith) ∙ q.1,
+          changed_else h.traffic.seat v.lanes (some (length vs)) k (λ t. omega arith) ∙ q.1,
           q.2,
         )),
       )) in record {
-        seat = seat;
-        sent = h.sent;
-        closed = h.closed;
-        reader = h.reader;
-        lanes = v.lanes + 1;
-        got = h.got;
+        traffic = record h.traffic { seat = seat; lanes = v.lanes + 1 };
         order = h.order;
-        others = λ k le. let is : v.lanes ≡ h.lanes = mine.1 in let q = h.others k (omega arith) in (changed_else h.seat v.lanes (some (length vs)) k (λ t. omega arith) ∙ q.0, q.1, q.2);
+        others = λ k le. let is : v.lanes ≡ h.traffic.lanes = mine.1 in let q = h.others k (omega arith) in (changed_else h.traffic.seat v.lanes (some (length vs)) k (λ t. omega arith) ∙ q.0, q.1, q.2);
         fits = (λ j u e. ⊎_elim (old j u)
-            (λ (is : (j ≡ length vs) × (right ≡ u)). subst (λ (y : ℕ × View M). Fits seat h.sent h.closed h.reader (v.lanes + 1) h.got y.0 y.1) (λ i. (sym is.0 i, is.1 i))
-            ((λ _. (changed_here h.seat v.lanes (some (length vs)), free.1, free.2)), (λ p. absurd (true≢false (sym p))), (λ k l. absurd (omega arith))))
+            (λ (is : (j ≡ length vs) × (right ≡ u)). subst (λ (y : ℕ × View M). Fits (record h.traffic { seat = seat; lanes = v.lanes + 1 }) y.0 y.1) (λ i. (sym is.0 i, is.1 i))
+            ((λ _. (changed_here h.traffic.seat v.lanes (some (length vs)), free.1, free.2)), (λ p. absurd (true≢false (sym p))), (λ k l. absurd (omega arith))))
             (at_end vs right u j e));
       }
 
@@ -191,14 +171,9 @@ module _ {M : Type 0} (lane : M → ℕ) where
   pub opens : (pass : ℕ) (v : View M) → Forks (Carries lane) pass v v (knower [])
   opens pass v items views h at =
       let vs : List (View M) = set views pass v in
-      let F : ℕ → View M → Type 0 = Fits h.seat h.sent h.closed h.reader h.lanes h.got in
+      let F : ℕ → View M → Type 0 = Fits h.traffic in
       let old : All F vs = all_set F views pass v (h.fits pass v at) (λ j u apart e. h.fits j u e) in record {
-        seat = h.seat;
-        sent = h.sent;
-        closed = h.closed;
-        reader = h.reader;
-        lanes = h.lanes;
-        got = h.got;
+        traffic = h.traffic;
         order = h.order;
         others = h.others;
         fits = (λ j u e. ⊎_elim (old j u)
@@ -214,31 +189,26 @@ module _ {M : Type 0} (lane : M → ℕ) where
       let was : get_elem? views other ≡ some w = ⊎_elim (λ x. absurd (apart x.0)) (λ x. x.1) (at_set views pass other both w at') in
       let theirs = (h.fits other w was).0 may in
       let mine = (h.fits pass v at).2 in
-      let seat : ℕ → Option ℕ = changed h.seat w.lane none in
-      let gone : (k : ℕ) → h.seat k ≡ none → seat k ≡ none = λ k e. ⊎_elim (λ t. ap seat t ∙ changed_here h.seat w.lane none) (λ n. changed_else h.seat w.lane none k n ∙ e) (same? k w.lane) in
-      let F : ℕ → View M → Type 0 = Fits seat h.sent h.closed h.reader h.lanes h.got in
-      let known : FitsKnown seat h.sent h.lanes both = λ k l. ⊎_elim
+      let seat : ℕ → Option ℕ = changed h.traffic.seat w.lane none in
+      let gone : (k : ℕ) → h.traffic.seat k ≡ none → seat k ≡ none = λ k e. ⊎_elim (λ t. ap seat t ∙ changed_here h.traffic.seat w.lane none) (λ n. changed_else h.traffic.seat w.lane none k n ∙ e) (same? k w.lane) in
+      let F : ℕ → View M → Type 0 = Fits (record h.traffic { seat = seat }) in
+      let known : FitsKnown (record h.traffic { seat = seat }) both = λ k l. ⊎_elim
       (λ (low : k < length v.known). let q = mine k low in (q.0, gone k q.1, get_or_append_left v.known (w.sent ∷ []) [] k low ∙ q.2))
       (λ (is : k ≡ length v.known). let at_k : k ≡ w.lane = is ∙ next in (
-        ⊎_elim (λ (x : k < h.lanes). x) (λ (le : h.lanes ≤ k). absurd (some-ne-none other (sym theirs.0 ∙ ap h.seat (sym at_k) ∙ (h.others k le).0))) (below? k h.lanes),
-        ap seat at_k ∙ changed_here h.seat w.lane none,
-        ap (λ (i : ℕ). get_or ls i []) is ∙ get_or_last v.known w.sent [] ∙ sym theirs.1 ∙ ap h.sent (sym at_k),
+        ⊎_elim (λ (x : k < h.traffic.lanes). x) (λ (le : h.traffic.lanes ≤ k). absurd (some-ne-none other (sym theirs.0 ∙ ap h.traffic.seat (sym at_k) ∙ (h.others k le).0))) (below? k h.traffic.lanes),
+        ap seat at_k ∙ changed_here h.traffic.seat w.lane none,
+        ap (λ (i : ℕ). get_or ls i []) is ∙ get_or_last v.known w.sent [] ∙ sym theirs.1 ∙ ap h.traffic.sent (sym at_k),
       ))
       (last? v.known w.sent k l) in
       let now : (j : ℕ) (u : View M) → j ≢ other → get_elem? (set views pass both) j ≡ some u → F j u = λ j u away e. ⊎_elim
       (λ (is : (j ≡ pass) × (both ≡ u)). subst (F j) is.1 ((λ p. absurd (true≢false (sym p))), (λ p. absurd (true≢false (sym p))), known))
       (λ (is : (j ≢ pass) × (get_elem? views j ≡ some u)). let f = h.fits j u is.1 in (
-        (λ p. let q = f.0 p in (changed_else h.seat w.lane none u.lane (λ t. away (some-injective j other (sym q.0 ∙ ap h.seat t ∙ theirs.0))) ∙ q.0, q.1, q.2)),
+        (λ p. let q = f.0 p in (changed_else h.traffic.seat w.lane none u.lane (λ t. away (some-injective j other (sym q.0 ∙ ap h.traffic.seat t ∙ theirs.0))) ∙ q.0, q.1, q.2)),
         f.1,
         (λ k l. let q = f.2 k l in (q.0, gone k q.1, q.2)),
       ))
       (at_set views pass j both u e) in record {
-        seat = seat;
-        sent = h.sent;
-        closed = h.closed;
-        reader = h.reader;
-        lanes = h.lanes;
-        got = h.got;
+        traffic = record h.traffic { seat = seat };
         order = h.order;
         others = λ k le. let q = h.others k le in (gone k q.0, q.1, q.2);
         fits = all_set F (set views pass both) other (knower []) ((λ p. absurd (true≢false (sym p))), (λ p. absurd (true≢false (sym p))), (λ k l. absurd (omega arith))) now;
@@ -250,18 +220,13 @@ module _ {M : Type 0} (lane : M → ℕ) where
       let both : View M = settled w.lanes w.got v.known in
       let was : get_elem? views other ≡ some w = ⊎_elim (λ x. absurd (apart x.0)) (λ x. x.1) (at_set views pass other both w at') in
       let theirs = (h.fits other w was).1 may in
-      let F : ℕ → View M → Type 0 = Fits h.seat h.sent h.closed pass h.lanes h.got in
+      let F : ℕ → View M → Type 0 = Fits (record h.traffic { reader = pass }) in
       let now : (j : ℕ) (u : View M) → j ≢ other → get_elem? (set views pass both) j ≡ some u → F j u = λ j u away e. ⊎_elim
       (λ (is : (j ≡ pass) × (both ≡ u)). subst (λ (y : ℕ × View M). F y.0 y.1) (λ i. (sym is.0 i, is.1 i))
       ((λ p. absurd (true≢false (sym p))), (λ _. (refl, theirs.1, theirs.2)), (h.fits pass v at).2))
       (λ (is : (j ≢ pass) × (get_elem? views j ≡ some u)). let f = h.fits j u is.1 in (f.0, (λ p. absurd (away ((f.1 p).0 ∙ sym theirs.0))), f.2))
       (at_set views pass j both u e) in record {
-        seat = h.seat;
-        sent = h.sent;
-        closed = h.closed;
-        reader = pass;
-        lanes = h.lanes;
-        got = h.got;
+        traffic = record h.traffic { reader = pass };
         order = h.order;
         others = h.others;
         fits = all_set F (set views pass both) other (knower []) ((λ p. absurd (true≢false (sym p))), (λ p. absurd (true≢false (sym p))), (λ k l. absurd (omega arith))) now;
@@ -271,11 +236,11 @@ module _ {M : Type 0} (lane : M → ℕ) where
   pub learns : (pass : ℕ) (v : View M) → v.takes ≡ true → Learns (Carries lane) pass v (λ items. Agrees lane v)
   learns pass v may items views h at k l =
       let f = h.fits pass v at in
-      let got : v.got ≡ h.got = (f.1 may).2 in
-      let split : part lane k v.got ++ part lane k items ≡ all_of_lane k (h.sent k) (h.closed k) = (λ i. part lane k (got i) ++ part lane k items) ∙ sym (part-append lane k h.got items) ∙ h.order k in
-      let sent : h.sent k ≡ slice_index_or v.known k [] = sym (f.2 k l).2 in
+      let got : v.got ≡ h.traffic.got = (f.1 may).2 in
+      let split : part lane k v.got ++ part lane k items ≡ all_of_lane k (h.traffic.sent k) (h.traffic.closed k) = (λ i. part lane k (got i) ++ part lane k items) ∙ sym (part-append lane k h.traffic.got items) ∙ h.order k in
+      let sent : h.traffic.sent k ≡ slice_index_or v.known k [] = sym (f.2 k l).2 in
       let rest : List M = copies (part lane k items) in
-      let both : copies (part lane k v.got) ++ rest ≡ h.sent k = sym (copies-append lane (part lane k v.got) (part lane k items)) ∙ ap copies split ∙ copies-all_of_lane lane k (h.sent k) (h.closed k) in (
+      let both : copies (part lane k v.got) ++ rest ≡ h.traffic.sent k = sym (copies-append lane (part lane k v.got) (part lane k items)) ∙ ap copies split ∙ copies-all_of_lane lane k (h.traffic.sent k) (h.traffic.closed k) in (
         record { rest = rest; whole = sym ((λ i. of-copies lane k v.got i ++ rest) ∙ both ∙ sent) },
-        (λ mark. of-copies lane k v.got ∙ all-there lane k (part lane k v.got) (part lane k items) (h.sent k) (h.closed k) split (has_mark-part lane k v.got ∙ mark) ∙ sent),
+        (λ mark. of-copies lane k v.got ∙ all-there lane k (part lane k v.got) (part lane k items) (h.traffic.sent k) (h.traffic.closed k) split (has_mark-part lane k v.got ∙ mark) ∙ sent),
       )

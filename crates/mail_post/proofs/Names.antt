@@ -67,13 +67,13 @@ module _ {M : Type 0} (lane : M → ℕ) where
 
   -- the rule in other words
   pub in_order : IsInOrder lane
-  in_order items views h k = of-copies lane k (h.got ++ items) ∙ ap copies (h.order k) ∙ copies-all_of_lane lane k (h.sent k) (h.closed k)
+  in_order items views h k = of-copies lane k (h.traffic.got ++ items) ∙ ap copies (h.order k) ∙ copies-all_of_lane lane k (h.traffic.sent k) (h.traffic.closed k)
 
   pub nothing_else : IsNothingElse lane
   nothing_else items views h k le = in_order items views h k ∙ (h.others k le).1
 
   pub names_all : NamesAll lane
   names_all items views h k is =
-      let xs : List (Parcel M) = h.got ++ items in
-      let mine : copies (part lane k xs) ≡ h.sent k = ap copies (h.order k) ∙ copies-all_of_lane lane k (h.sent k) (h.closed k) in
-      sym (before_mark-part k xs) ∙ ap (before_mark lane k) (h.order k ∙ ap (all_of_lane k (h.sent k)) is) ∙ before_mark-all_of_lane k (h.sent k) (subst (AreOf k) mine (are_of_part k xs))
+      let xs : List (Parcel M) = h.traffic.got ++ items in
+      let mine : copies (part lane k xs) ≡ h.traffic.sent k = ap copies (h.order k) ∙ copies-all_of_lane lane k (h.traffic.sent k) (h.traffic.closed k) in
+      sym (before_mark-part k xs) ∙ ap (before_mark lane k) (h.order k ∙ ap (all_of_lane k (h.traffic.sent k)) is) ∙ before_mark-all_of_lane k (h.traffic.sent k) (subst (AreOf k) mine (are_of_part k xs))

@@ -12,19 +12,19 @@ module _ {M : Type 0} (lane : M → ℕ) where
   -- of each lane, what was taken and then what waits is what the lane was told was accepted
   abbrev pub IsInOrder : Type 0
   IsInOrder = (items : List (Parcel M)) (views : List (View M)) (h : Carries lane items views) (k : ℕ)
-      → of lane k (copies (h.got ++ items)) ≡ h.sent k
+      → of lane k (copies (h.traffic.got ++ items)) ≡ h.traffic.sent k
 
   -- nothing is of another than the lanes
   abbrev pub IsNothingElse : Type 0
   IsNothingElse = (items : List (Parcel M)) (views : List (View M)) (h : Carries lane items views) (k : ℕ)
-      → h.lanes ≤ k → of lane k (copies (h.got ++ items)) ≡ []
+      → h.traffic.lanes ≤ k → of lane k (copies (h.traffic.got ++ items)) ≡ []
 
   -- a mark that was put names all that its lane was told was accepted: nothing of the lane stands behind it
   abbrev pub NamesAll : Type 0
   NamesAll = (items : List (Parcel M)) (views : List (View M)) (h : Carries lane items views) (k : ℕ)
-      → h.closed k ≡ true → before_mark lane k (h.got ++ items) ≡ Some (h.sent k)
+      → h.traffic.closed k ≡ true → before_mark lane k (h.traffic.got ++ items) ≡ Some (h.traffic.sent k)
 
   -- each lane's end knows just what the lane was told was accepted, and the receiver's what was taken
   abbrev pub AreTold : Type 0
   AreTold = (items : List (Parcel M)) (views : List (View M)) (h : Carries lane items views) (pass : ℕ) (v : View M) → get_elem? views pass ≡ some v
-      → (v.sends ≡ true → h.sent v.lane ≡ v.sent) × (v.takes ≡ true → h.got ≡ v.got)
+      → (v.sends ≡ true → h.traffic.sent v.lane ≡ v.sent) × (v.takes ≡ true → h.traffic.got ≡ v.got)
