@@ -1,12 +1,13 @@
 //! The texts of the replies (RFC 5321, 4.2; the enhanced codes of RFC 2034).
 
-ghost use Rattle.std.specs.Prelude.{◌≡◌, ℕ, ◌≤◌, List, ◌++◌, length, take, drop};
+ghost use Rattle.std.specs.Prelude.{◌≡◌, ℕ, ◌≤◌, List, ◌++◌, length, take, drop, IfSome, IfNone};
 ghost use Rattle.mail_world.specs.Text.{crlf};
 ghost use Rattle.mail_world.specs.Replies.{refusal_text, outcome_text, reply_text};
 
 use crate::site::Site;
 use crate::writing::put;
-use mail_world::limits::NAME_LIMIT;
+use itoa::Buffer;
+use mail_world::limits::{MESSAGE_LIMIT, NAME_LIMIT};
 use mail_world::{BadCommand, Outcome, Reply};
 
 /// Bytes in which each reply has room.
@@ -44,40 +45,55 @@ fn outcome_front(outcome: Outcome) -> &'static [u8]
     }
 }
 
+/// The pieces of a reply that has no number in it, which is each but the offer.
 #[tactic(auto, unfolding(mail_world::specs::Replies::reply_text))]
-fn pieces<'a>(reply: Reply, site: &'a Site) -> Pieces<'a>
-    ensures text { result.0.now ++ result.1.now ++ result.2.now ≡ reply_text site.now reply }
-    ensures front { length result.0.now ≤ 64 }
-    ensures name { length result.1.now ≤ NAME_LIMIT }
-    ensures back { length result.2.now ≤ 128 }
+fn pieces<'a>(reply: Reply, site: &'a Site) -> Option<Pieces<'a>>
+    ensures text { IfSome result (λ p. p.0.now ++ p.1.now ++ p.2.now ≡ reply_text site.now reply) }
+    ensures front { IfSome result (λ p. length p.0.now ≤ 64) }
+    ensures name { IfSome result (λ p. length p.1.now ≤ NAME_LIMIT) }
+    ensures back { IfSome result (λ p. length p.2.now ≤ 128) }
+    ensures offer { IfNone result (reply ≡ Reply.Offer) }
 {
     match reply {
-        Reply::Greeting => (b"220 ", site.host(), b" LMTP ready\r\n"),
-        Reply::Offer => (
-            b"250-",
-            site.host(),
-            b"\r\n250-PIPELINING\r\n250-ENHANCEDSTATUSCODES\r\n250-8BITMIME\r\n250 SIZE 1048576\r\n",
-        ),
-        Reply::SenderOk => (b"250 2.1.0 Sender ok\r\n", b"", b""),
-        Reply::RecipientOk => (b"250 2.1.5 Recipient ok\r\n", b"", b""),
-        Reply::GoAhead => (b"354 End with a lone dot\r\n", b"", b""),
-        Reply::ResetOk => (b"250 2.0.0 Reset\r\n", b"", b""),
-        Reply::NoopOk => (b"250 2.0.0 Ok\r\n", b"", b""),
-        Reply::NotChecked => (b"252 2.0.0 Not checked\r\n", b"", b""),
-        Reply::HelpText => (
+        Reply::Greeting => Some((b"220 ", site.host(), b" LMTP ready\r\n")),
+        Reply::Offer => None,
+        Reply::SenderOk => Some((b"250 2.1.0 Sender ok\r\n", b"", b"")),
+        Reply::RecipientOk => Some((b"250 2.1.5 Recipient ok\r\n", b"", b"")),
+        Reply::GoAhead => Some((b"354 End with a lone dot\r\n", b"", b"")),
+        Reply::ResetOk => Some((b"250 2.0.0 Reset\r\n", b"", b"")),
+        Reply::NoopOk => Some((b"250 2.0.0 Ok\r\n", b"", b"")),
+        Reply::NotChecked => Some((b"252 2.0.0 Not checked\r\n", b"", b"")),
+        Reply::HelpText => Some((
             b"214 2.0.0 LHLO MAIL RCPT DATA RSET NOOP QUIT VRFY HELP\r\n",
             b"",
             b"",
-        ),
-        Reply::Bye => (b"221 2.0.0 ", site.host(), b" closing\r\n"),
-        Reply::Stopping => (b"421 4.3.2 ", site.host(), b" stopping\r\n"),
-        Reply::NoSuchBox => (b"550 5.1.1 No such mailbox\r\n", b"", b""),
-        Reply::TooMany => (b"452 4.5.3 Too many recipients\r\n", b"", b""),
-        Reply::OutOfOrder => (b"503 5.5.1 Out of order\r\n", b"", b""),
-        Reply::LineTooLong => (b"500 5.5.2 Line too long\r\n", b"", b""),
-        Reply::Refused(why) => (refusal(why), b"", b""),
-        Reply::Result(outcome, i) => (outcome_front(outcome), site.box_name(i), b"\r\n"),
+        )),
+        Reply::Bye => Some((b"221 2.0.0 ", site.host(), b" closing\r\n")),
+        Reply::Stopping => Some((b"421 4.3.2 ", site.host(), b" stopping\r\n")),
+        Reply::NoSuchBox => Some((b"550 5.1.1 No such mailbox\r\n", b"", b"")),
+        Reply::TooMany => Some((b"452 4.5.3 Too many recipients\r\n", b"", b"")),
+        Reply::OutOfOrder => Some((b"503 5.5.1 Out of order\r\n", b"", b"")),
+        Reply::LineTooLong => Some((b"500 5.5.2 Line too long\r\n", b"", b"")),
+        Reply::Refused(why) => Some((refusal(why), b"", b"")),
+        Reply::Result(outcome, i) => Some((outcome_front(outcome), site.box_name(i), b"\r\n")),
     }
+}
+
+/// Writes the answer to LHLO, which tells the longest message that is taken.
+fn write_offer(site: &Site, out: &mut [u8]) -> usize
+    requires { REPLY_LIMIT ≤ length out.old }
+    ensures text { take result out.new ≡ reply_text site.now Reply.Offer }
+    ensures rest { drop result out.new ≡ drop result out.old }
+    ensures size { result ≤ REPLY_LIMIT }
+{
+    let mut buffer = Buffer::new();
+    let limit = buffer.format(MESSAGE_LIMIT).as_bytes();
+    let front = put(out, 0, b"250-");
+    let named = put(out, front, site.host());
+    let offers = b"\r\n250-PIPELINING\r\n250-ENHANCEDSTATUSCODES\r\n250-8BITMIME\r\n250 SIZE ";
+    let offered = put(out, named, offers);
+    let sized = put(out, offered, limit);
+    put(out, sized, b"\r\n")
 }
 
 /// Writes the reply's lines, each with CRLF, at the front of `out`, and says how many bytes they take. A result that
@@ -88,7 +104,9 @@ pub fn write_reply(reply: Reply, site: &Site, out: &mut [u8]) -> usize
     ensures rest { drop result out.new ≡ drop result out.old }
     ensures size { result ≤ REPLY_LIMIT }
 {
-    let (front, name, back) = pieces(reply, site);
+    let Some((front, name, back)) = pieces(reply, site) else {
+        return write_offer(site, out);
+    };
     let named = put(out, 0, front);
     let behind = put(out, named, name);
     put(out, behind, back)

@@ -1,0 +1,16 @@
+use Rattle.std.proofs.Common.{◌∙◌, arith}
+use Rattle.lmtp_text.proofs.ReplyTexts.{offer-put, drop-later}
+use Rattle.lmtp_text.proofs.reply.write_offer.Goals as goal
+
+pub returns-clause-text : goal.returns-clause-text
+returns-clause-text c = offer-put c.args.site.now c.host.result.now c.as_bytes-limit.result.now _ _ _ _ _
+    c.put-front.ensures.front c.put-named.ensures.front c.put-offered.ensures.front c.put-sized.ensures.front c.put.ensures.front
+    c.host.ensures.value (c.as_bytes-limit.ensures.value ∙ c.format.ensures.text)
+
+pub returns-clause-rest : goal.returns-clause-rest
+returns-clause-rest c =
+    c.put.ensures.rest
+    ∙ drop-later c.put-sized.result c.put.result c.put-sized.new.out c.put-offered.new.out (omega arith) c.put-sized.ensures.rest
+    ∙ drop-later c.put-offered.result c.put.result c.put-offered.new.out c.put-named.new.out (omega arith) c.put-offered.ensures.rest
+    ∙ drop-later c.put-named.result c.put.result c.put-named.new.out c.put-front.new.out (omega arith) c.put-named.ensures.rest
+    ∙ drop-later c.put-front.result c.put.result c.put-front.new.out c.args.out.now (omega arith) c.put-front.ensures.rest
