@@ -1,0 +1,40 @@
+-- A limit of bytes for each mailbox: which copies are kept, and what is told of them.
+use Rattle.std.specs.Prelude.{ℕ, zero, suc, ◌+◌, nat_le, Bool, true, false, List, [], ◌∷◌, ◌++◌, length, if◌then◌else◌, Option, Some, None}
+use Rattle.mail_world.specs.declared.Note.{Note}
+use Rattle.mail_world.specs.declared.Outcome.{Outcome}
+use Rattle.mail_world.specs.declared.Outcome.TheVariants.{Stored, Failed}
+use Rattle.mail_world.specs.Records.{Calendar, record_of, mended}
+
+-- a record of that size may stand behind so many bytes
+abbrev pub fits : Option ℕ → ℕ → ℕ → Bool
+fits None len size = true
+fits (Some quota) len size = nat_le (len + size) quota
+
+-- for each note whether it is kept behind so many bytes, which grow by the record of a note that is
+abbrev pub are_kept_behind : Calendar → List ℕ → Option ℕ → ℕ → List Note → List Bool
+are_kept_behind calendar host quota len [] = []
+are_kept_behind calendar host quota len (note ∷ notes) =
+    let size = length (record_of calendar host note) in
+    let is_kept = fits quota len size in
+    is_kept ∷ are_kept_behind calendar host quota (if is_kept then len + size else len) notes
+
+-- the first stand behind the old bytes and what mends them, which no quota refuses
+unfoldable pub are_kept : Calendar → List ℕ → Option ℕ → List ℕ → List Note → List Bool
+are_kept calendar host quota old notes = are_kept_behind calendar host quota (length (old ++ mended old)) notes
+
+-- the elements that are marked
+abbrev pub marked : {A : Type 0} → List Bool → List A → List A
+marked (true ∷ marks) (x ∷ xs) = x ∷ marked marks xs
+marked (false ∷ marks) (x ∷ xs) = marked marks xs
+marked _ _ = []
+
+-- the notes that a mailbox keeps which held these bytes
+abbrev pub kept : Calendar → List ℕ → Option ℕ → List ℕ → List Note → List Note
+kept calendar host quota old notes = marked (are_kept calendar host quota old notes) notes
+
+-- what is told of notes, by whether each is kept: the first so many were settled, so that a kept one is Stored and any other is over the quota; those behind are Failed
+abbrev pub outcomes_settled : Outcome → ℕ → List Bool → List Outcome
+outcomes_settled over_quota settled [] = []
+outcomes_settled over_quota zero (is_kept ∷ marks) = Failed ∷ outcomes_settled over_quota zero marks
+outcomes_settled over_quota (suc settled) (is_kept ∷ marks) =
+    (if is_kept then Stored else over_quota) ∷ outcomes_settled over_quota settled marks
