@@ -51,13 +51,12 @@ fn counts(letters: &[Letter]) -> Option<[u32; 2]> {
 #[test]
 fn two_lanes_and_two_mailboxes(rt: HostRuntime) -> Result<(), Fail> {
     let alloc = rt.alloc();
-    let site = site(&rt, alloc, &[b"anna", b"ben"])?;
     let says = many_messages(alloc)?;
     let (one, other) = (Relay::new(alloc, &says)?, Relay::new(alloc, &says)?);
     let visits = vec![in alloc; Clients::new(Some(one)), Clients::new(Some(other))]?;
     let spools = spools(alloc, &[20_000, 20_000])?;
     let gates = gates(alloc, 2)?;
-    let report = run_house(rt, alloc, site, RIGHT, visits, spools, gates, Epoch)?;
+    let report = run(rt, alloc, RIGHT, visits, spools, gates)??;
     for spool in &report.spools {
         let letters = read_mailbox(alloc, spool.bytes()).ok().ok_or("a mailbox")?;
         assert_eq!(rt; counts(&letters), Some([MESSAGES, MESSAGES]));

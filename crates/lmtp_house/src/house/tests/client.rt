@@ -3,18 +3,32 @@
 ghost use Rattle.std.specs.Prelude.{◌≡◌, None, [], ⊤, false};
 ghost use Rattle.mail_world.specs.Failures.{Rises};
 
+use super::failing::{Faults, NO_FAULTS};
 use super::meeting::Meeting;
 use crate::{Came, Clock, EndCause, Peer, PeerFault, Visits};
 use std::alloc::{AllocError, Global};
-use std::sync::Wait;
+use std::sync::atomic::{AtomicBool, Ordering};
+use std::sync::{Arc, Wait};
 
-/// A client that says all at once, and keeps what it hears.
+/// A client that says all at once, and then ends, and keeps what it hears.
 #[derive(Drop)]
 pub struct Relay {
     says: Vec<u8>,
-    at: usize,
-    heard: Vec<u8>,
+    /// How many bytes of that were read.
+    pub at: usize,
+    /// How many of them a read brings at most.
+    most: usize,
+    faults: Faults,
+    /// How often it was read or written to.
+    pub calls: u32,
+    /// All that it was told.
+    pub heard: Vec<u8>,
+    /// The cause for which its conversation ends where a call failed.
+    pub fault: Option<EndCause>,
     failures: u64,
+    /// Whether the server is to stop once all was said, and how often it was told so.
+    is_stopping: bool,
+    stops: u64,
     meeting: Option<Meeting>,
 }
 
@@ -23,10 +37,33 @@ impl Relay {
         Ok(Relay {
             says: says.to_vec(alloc)?,
             at: 0,
+            most: usize::MAX,
+            faults: NO_FAULTS,
+            calls: 0,
             heard: Vec::new(alloc),
+            fault: None,
             failures: 0,
+            is_stopping: false,
+            stops: 0,
             meeting: None,
         })
+    }
+
+    /// One that says a byte at a time, and fails so.
+    pub fn with_faults(self, faults: Faults) -> Relay {
+        Relay {
+            most: 1,
+            faults,
+            ..self
+        }
+    }
+
+    /// One behind which the server stops, where that is so.
+    pub fn stopping(self, is_stopping: bool) -> Relay {
+        Relay {
+            is_stopping,
+            ..self
+        }
     }
 
     /// One that waits for the other of the meeting when it is first read.
@@ -44,16 +81,31 @@ impl Relay {
             .is_some_and(|meeting| meeting.has_met())
     }
 
-    /// All that it was told.
-    pub fn heard(&self) -> &[u8] {
-        &self.heard
+    // Counts the call, and says whether it fails.
+    fn call(&mut self) -> bool
+        ensures { (self.new.failures ≡ self.old.failures) × (self.new.stops ≡ self.old.stops) }
+    {
+        let fails = self.faults.fail(self.calls);
+        self.calls = self.calls.saturating_add(1);
+        fails
     }
 
-    fn fail(&mut self) -> PeerFault
-        ensures { Rises self.old.failures self.new.failures }
+    fn fail(&mut self, fault: EndCause) -> PeerFault
+        ensures failed { Rises self.old.failures self.new.failures }
+        ensures same { self.new.stops ≡ self.old.stops }
     {
+        self.fault = Some(fault);
         self.failures = self.failures.saturating_add(1);
         PeerFault
+    }
+
+    fn stop(&mut self) -> Came
+        ensures came { result ≡ Came.Stop }
+        ensures same { self.new.failures ≡ self.old.failures }
+        ensures stopped { Rises self.old.stops self.new.stops }
+    {
+        self.stops = self.stops.saturating_add(1);
+        Came::Stop
     }
 }
 
@@ -63,7 +115,7 @@ impl Peer for Relay {
       unread = None;
       written = None;
       failures = r.failures;
-      stops = 0;
+      stops = r.stops;
       holds = [];
     } };
 
@@ -71,9 +123,15 @@ impl Peer for Relay {
         if let Some(meeting) = &mut self.meeting {
             meeting.attend();
         }
+        if self.call() {
+            return Err(self.fail(EndCause::ReadFault));
+        }
         let at = self.at.min(self.says.len());
         let rest = &self.says[at..];
-        let n = rest.len().min(buffer.len());
+        let n = rest.len().min(buffer.len()).min(self.most);
+        if n == 0 && self.is_stopping {
+            return Ok(self.stop());
+        }
         if n == 0 {
             return Ok(Came::End);
         }
@@ -83,18 +141,26 @@ impl Peer for Relay {
     }
 
     fn write(&mut self, bytes: &[u8]) -> Result<usize, PeerFault> {
-        if self.heard.extend_from_slice(bytes).is_err() {
-            return Err(self.fail());
+        if self.call() || self.heard.extend_from_slice(bytes).is_err() {
+            return Err(self.fail(EndCause::WriteFault));
         }
         Ok(bytes.len())
     }
+}
+
+/// A client that was served, and why its conversation ended.
+#[derive(Drop)]
+pub struct Guest {
+    pub client: Relay,
+    pub end: EndCause,
 }
 
 /// One client at most, and what became of it.
 #[derive(Drop)]
 pub struct Clients {
     next: Option<Relay>,
-    ended: Option<Relay>,
+    guest: Option<Guest>,
+    is_used: Option<Arc<AtomicBool>>,
     out: bool,
     over: bool,
 }
@@ -105,24 +171,35 @@ impl Clients {
     {
         Clients {
             next: client,
-            ended: None,
+            guest: None,
+            is_used: None,
             out: false,
             over: false,
         }
     }
 
-    /// All that its client was told.
-    pub fn heard(&self) -> &[u8] {
-        match &self.ended {
-            Some(client) => client.heard(),
-            None => b"",
+    /// No client, and a note where one is asked for.
+    pub fn noting(is_used: Arc<AtomicBool>) -> Clients
+        ensures { result.out ≡ false }
+    {
+        Clients {
+            next: None,
+            guest: None,
+            is_used: Some(is_used),
+            out: false,
+            over: false,
         }
     }
 
-    /// Whether its client met the other.
-    pub fn has_met(&self) -> bool {
-        self.ended.as_ref().is_some_and(|client| client.has_met())
+    /// The client that was served.
+    pub fn guest(&self) -> Option<&Guest> {
+        self.guest.as_ref()
     }
+}
+
+/// The client of the first lane.
+pub fn first_guest(visits: &[Clients]) -> Option<&Guest> {
+    visits.first().and_then(|clients| clients.guest())
 }
 
 impl Visits for Clients {
@@ -138,6 +215,9 @@ impl Visits for Clients {
 
     fn next<R: Wait>(&mut self, rt: &R) -> Option<Relay> {
         let _ = rt;
+        if let Some(is_used) = &self.is_used {
+            is_used.store(true, Ordering::SeqCst);
+        }
         let client = self.next.take();
         self.out = client.is_some();
         self.over = client.is_none();
@@ -145,8 +225,7 @@ impl Visits for Clients {
     }
 
     fn done(&mut self, peer: Relay, end: EndCause) {
-        let _ = end;
-        self.ended = Some(peer);
+        self.guest = Some(Guest { client: peer, end });
         self.out = false;
     }
 }

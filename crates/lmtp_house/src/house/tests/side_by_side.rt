@@ -17,7 +17,6 @@ const HEARS: &[u8] =
 #[test]
 fn lanes_meet_and_workers_meet(rt: HostRuntime) -> Result<(), Fail> {
     let alloc = rt.alloc();
-    let site = site(&rt, alloc, &[b"anna", b"ben"])?;
     let (here, there) = Meeting::sides(alloc)?;
     let sender = Relay::new(alloc, SAYS)?.with_meeting(here);
     let leaver = Relay::new(alloc, b"QUIT\r\n")?.with_meeting(there);
@@ -25,11 +24,15 @@ fn lanes_meet_and_workers_meet(rt: HostRuntime) -> Result<(), Fail> {
     let (anna, ben) = Meeting::sides(alloc)?;
     let gates = vec![in alloc; MeetingGate(anna), MeetingGate(ben)]?;
     let spools = spools(alloc, &[1_000, 1_000])?;
-    let report = run_house(rt, alloc, site, RIGHT, visits, spools, gates, Epoch)?;
-    assert!(rt; report.visits.iter().all(|clients| clients.has_met()));
+    let report = run(rt, alloc, RIGHT, visits, spools, gates)??;
+    assert!(rt;
+        report.visits.iter().all(|clients| clients
+            .guest()
+            .is_some_and(|guest| guest.client.has_met()))
+    );
     assert!(rt; report.gates.iter().all(|gate| gate.0.has_met()));
-    let clients = report.visits.first().ok_or("two lanes")?;
-    assert!(rt; is_same(clients.heard(), HEARS));
+    let guest = first_guest(&report.visits).ok_or("two lanes")?;
+    assert_eq!(rt; guest.client.heard.as_slice(), HEARS);
     assert_eq!(rt; report.free_blocks, RIGHT.blocks);
     Ok(())
 }

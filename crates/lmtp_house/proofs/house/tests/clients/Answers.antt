@@ -4,4 +4,4 @@ use Rattle.lmtp_house.proofs.HouseLists.{each_more}
 use Rattle.lmtp_house.proofs.house.tests.clients.Goals as goal
 
 pub loop-preserved : goal.loop-preserved
-loop-preserved c = rw c.in_ok-push.ensures.items (each_more (λ (v : Clients). v.out ≡ false) (vec_items c.loop.visits) c.new.result c.loop.invariant c.new.ensures)
+loop-preserved c = rw c.in_ok-push.ensures.items (each_more (λ (v : Clients). v.out ≡ false) (vec_items c.loop.visits) c.noting.result c.loop.invariant c.noting.ensures)
