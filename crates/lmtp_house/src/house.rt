@@ -13,7 +13,7 @@ pub mod sizes;
 mod workers;
 
 pub use fault::HouseFault;
-pub use report::{HouseReport, Tally};
+pub use report::{HouseReport, Tally, has_failed};
 pub use run::run_house;
 pub use sizes::{Sizes, is_size};
 

@@ -3,7 +3,7 @@
 
 mod house;
 
-pub use house::{HouseFault, HouseReport, Sizes, Tally, is_size, run_house};
+pub use house::{HouseFault, HouseReport, Sizes, Tally, has_failed, is_size, run_house};
 pub use lmtp_lane::{
     Clock, Desk, LaneReport, SystemClock, TcpVisits, TimedListener, Visits, lane_run, tcp_visits,
 };

@@ -5,8 +5,8 @@ use Rattle.mail_world.specs.Site.{Site}
 use Rattle.mbox_rd.specs.Spool.{SpoolState}
 use Rattle.lmtp_house.specs.House.{IsSize}
 use Rattle.lmtp_house.specs.declared.house.sizes.Sizes.{Sizes}
-use Rattle.lmtpd.specs.declared.serve.served.Served.{Served}
-use Rattle.lmtpd.specs.Served.{IsServerRun}
+use Rattle.lmtpd_serve.specs.declared.served.Served.{Served}
+use Rattle.lmtpd_serve.specs.Served.{IsServerRun}
 use Rattle.lmtp_house.specs.declared.house.fault.HouseFault.{HouseFault}
 use Rattle.lmtp_house.specs.declared.house.fault.HouseFault.TheVariants as house
 use Rattle.lmtpd_words.specs.Words.{named_site}

@@ -1,10 +1,3 @@
-pub mod Written
-pub mod Listed
-pub mod Rising
-pub mod Naming
-pub mod Telling
-pub mod Boxes
-pub mod Ran
 pub mod Orders
 pub mod Unrun
 pub mod AsAsked

@@ -10,7 +10,7 @@ use Rattle.lmtpd_words.specs.Words.{named_site}
 use Rattle.lmtpd_words.specs.declared.words.RehearseWords.{RehearseWords}
 use Rattle.lmtpd.specs.Faults.{first_fault, house_refusal}
 use Rattle.lmtpd.specs.Program.{IsNotRun, IsNotRehearsed}
-use Rattle.lmtpd.specs.Rehearsal.{IsBlockCount}
+use Rattle.lmtpd_rehearse.specs.Rehearsal.{IsBlockCount}
 
 at_most : (a b : ℕ) (t : Bool) → ltb b a ≡ t → (a ≤ b) ⊎ (a ≤ b → ⊥)
 at_most a b true e = let below : b < a = ltb-true b a e in inr (λ h. absurd (omega (arith, below, h)))

@@ -7,8 +7,8 @@ use Rattle.mail_world.specs.Site.{Site, is_host_name, is_box_name, has_twice}
 use Rattle.lmtp_text.specs.Sites.{texts}
 use Rattle.lmtp_text.specs.declared.site.SiteFault.{SiteFault}
 use Rattle.lmtp_text.specs.declared.site.SiteFault.TheVariants as cause
-use Rattle.lmtpd.specs.declared.rehearse.ending.Ending.{Ending}
-use Rattle.lmtpd.specs.declared.serve.served.Served.{Served}
+use Rattle.lmtpd_rehearse.specs.declared.ending.Ending.{Ending}
+use Rattle.lmtpd_serve.specs.declared.served.Served.{Served}
 use Rattle.lmtp_talk.specs.declared.ending.EndCause.{EndCause}
 use Rattle.lmtp_house.specs.declared.house.fault.HouseFault.{HouseFault}
 use Rattle.lmtp_house.specs.declared.house.fault.HouseFault.TheVariants as house

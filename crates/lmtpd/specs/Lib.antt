@@ -1,10 +1,4 @@
-pub mod Output
-pub mod Mailboxes
-pub mod Client
-pub mod Account
-pub mod Rehearsal
 pub mod Address
 pub mod Faults
-pub mod Served
 pub mod Unopened
 pub mod Program

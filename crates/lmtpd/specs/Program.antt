@@ -19,15 +19,15 @@ use Rattle.lmtpd_words.specs.declared.words.ServeWords.{ServeWords}
 use Rattle.lmtpd_words.specs.declared.words.Words.TheVariants.{Rehearse, Serve}
 use Rattle.lmtpd.specs.Address.{IsRefused}
 use Rattle.lmtpd.specs.Faults.{fault_text, first_fault, rehearsal_fault, server_fault, status_of, stop_for, stop_status}
-use Rattle.lmtpd.specs.Rehearsal.{IsBlockCount, IsRehearsed, Streams}
-use Rattle.lmtpd.specs.Served.{IsServerRun}
+use Rattle.lmtpd_rehearse.specs.Rehearsal.{IsBlockCount, IsRehearsed, Streams}
+use Rattle.lmtpd_serve.specs.Served.{IsServerRun}
 use Rattle.lmtpd.specs.Unopened.{IsUnopened}
 use Rattle.lmtpd.specs.declared.fault.Fault.{Fault}
 use Rattle.lmtpd.specs.declared.fault.Fault.TheVariants as fault
 use Rattle.lmtpd.specs.declared.program.Done.{Done}
 use Rattle.lmtpd.specs.declared.program.Done.TheVariants.{Rehearsed, Served, Stopped}
-use Rattle.lmtpd.specs.declared.rehearse.ending.Ending.{Ending}
-use Rattle.lmtpd.specs.declared.serve.served.Served.{Served as ServedRun}
+use Rattle.lmtpd_rehearse.specs.declared.ending.Ending.{Ending}
+use Rattle.lmtpd_serve.specs.declared.served.Served.{Served as ServedRun}
 use Rattle.lmtpd.specs.declared.serve.address.TheConstants.{SMTP_PORT}
 use Rattle.lmtpd.specs.declared.stop.Stop.{Stop}
 use Rattle.lmtpd.specs.declared.stop.Stop.TheVariants as stop

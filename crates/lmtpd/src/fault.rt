@@ -1,10 +1,11 @@
 //! What the program says on standard error, and the status that it then ends with.
 
 ghost use Rattle.std.specs.Prelude.{◌≡◌};
-ghost use Rattle.lmtpd.specs.Faults.{fault_text, house_refusal, refusal, rehearsal_fault, status_of};
+ghost use Rattle.lmtpd.specs.Faults.{fault_text, house_refusal, refusal, rehearsal_fault, server_fault, status_of};
 
-use crate::rehearse::{EndCause, Ending, HouseFault};
 use lmtp_text::SiteFault;
+use lmtpd_rehearse::{EndCause, Ending, HouseFault};
+use lmtpd_serve::Served;
 use std::alloc::{AllocError, AllocFailed};
 use thiserror::Error;
 
@@ -117,6 +118,20 @@ pub fn rehearsal_fault(ending: Ending) -> Option<Fault>
     let is_broken = matches!(ending.end, EndCause::ReadFault | EndCause::WriteFault);
     if ending.faulty || ending.cut || is_broken {
         Some(Fault::Device)
+    } else {
+        None
+    }
+}
+
+/// What a server that ran lacks: a spool or a write that failed is a fault of a device, and comes before a listener that
+/// did.
+pub fn server_fault(served: Served) -> Option<Fault>
+    ensures { result ≡ server_fault served }
+{
+    if served.faulty || served.cut {
+        Some(Fault::Device)
+    } else if served.failed {
+        Some(Fault::Listen)
     } else {
         None
     }

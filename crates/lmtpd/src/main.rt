@@ -2,13 +2,11 @@
 #![tactic(auto)]
 
 mod fault;
-mod output;
 mod program;
 mod rehearse;
 mod serve;
 mod site;
 mod stop;
-mod tally;
 
 use lmtpd_words::not_text;
 use program::run_program;

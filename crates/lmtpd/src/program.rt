@@ -4,12 +4,14 @@ ghost use Rattle.std.specs.Prelude.{◌≡◌};
 ghost use Rattle.lmtp_lane.specs.declared.tcp.listener.TimedListener.{TimedListener};
 ghost use Rattle.lmtpd_words.specs.Words.{given};
 ghost use Rattle.lmtpd.specs.Program.{IsDone, IsServedAsAsked, exit_line, exit_status};
-ghost use Rattle.lmtpd.specs.Rehearsal.{IsListed};
+ghost use Rattle.lmtpd_rehearse.specs.Rehearsal.{IsListed};
 
-use crate::fault::rehearsal_fault;
-use crate::rehearse::{Rehearsed, rehearse_asked};
-use crate::serve::{Served, serve_asked};
+use crate::fault::{rehearsal_fault, server_fault};
+use crate::rehearse::rehearse_asked;
+use crate::serve::serve_asked;
 use crate::stop::{Exit, Stop, report_fault};
+use lmtpd_rehearse::Rehearsed;
+use lmtpd_serve::Served;
 use lmtpd_words::{Words, read_words};
 use mbox_rd::{FileLock, FileSpool, Spool};
 use std::fs::Files;
@@ -110,7 +112,7 @@ where
 {
     match done {
         Done::Rehearsed(rehearsed) => report_fault(rehearsal_fault(rehearsed.ending), error),
-        Done::Served(served) => report_fault(served.fault(), error),
+        Done::Served(served) => report_fault(server_fault(*served), error),
         Done::Stopped(stop) => stop.report(rt, error),
     }
 }

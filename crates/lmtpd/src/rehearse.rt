@@ -1,19 +1,35 @@
-//! A rehearsal: one conversation from a reader, its replies and then its mailboxes to a writer.
+//! The rehearsal that the program's words ask for.
 
-mod asked;
-mod client;
-mod clock;
-mod ending;
-mod output;
-mod parts;
-mod peer;
-mod run;
+ghost use Rattle.std.specs.Prelude.{MatchResult};
+ghost use Rattle.lmtpd.specs.Program.{IsNotRehearsed, IsRehearsedAsAsked};
 
-pub use asked::rehearse_asked;
-pub use ending::{Ending, Rehearsed};
-pub use lmtp_house::{EndCause, HouseFault};
-#[cfg(test)]
-use run::rehearse_run;
+use crate::fault::Fault;
+use crate::site::site_of;
+use lmtpd_rehearse::{Rehearsed, rehearse_run};
+use lmtpd_words::RehearseWords;
+use std::alloc::Global;
+use std::io::{Read, Write};
+use std::sync::{Arc, Wait};
+use std::thread::Threads;
 
-#[cfg(test)]
-mod tests;
+/// Holds the rehearsal on this reader and this writer. Where there is none, they are gone.
+pub fn rehearse_asked<R, W, H>(
+    rt: H,
+    alloc: Global,
+    words: &RehearseWords<'_>,
+    reader: R,
+    writer: W,
+) -> Result<Rehearsed<R, W>, Fault>
+where
+    R: Read + Drop + Send + 'static,
+    W: Write + Drop + Send + 'static,
+    H: Threads + Wait + Copy + Send + 'static,
+    ensures { MatchResult result (λ rehearsed. IsRehearsedAsAsked words.now
+        (record { unread = R.remaining reader; written = W.contents writer })
+        (record { unread = R.remaining rehearsed.reader; written = W.contents rehearsed.writer }) rehearsed.ending)
+        (IsNotRehearsed words.now) }
+{
+    let site = Arc::new(alloc, site_of(alloc, &words.site)?)?;
+    let rehearsed = rehearse_run(rt, alloc, site, words.blocks, words.time, reader, writer)?;
+    Ok(rehearsed)
+}

@@ -1,16 +1,7 @@
-//! A server over TCP and files: where it listens, its mailboxes, its run, and what it says of it.
+//! The server that the program's words ask for: where it listens, its mailboxes, and its run.
 
 mod address;
 mod asked;
-mod lines;
 mod mailboxes;
-mod run;
-mod served;
 
 pub use asked::serve_asked;
-#[cfg(test)]
-use run::serve_run;
-pub use served::Served;
-
-#[cfg(test)]
-mod tests;

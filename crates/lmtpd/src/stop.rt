@@ -3,12 +3,12 @@
 ghost use Rattle.std.specs.Prelude.{◌≡◌, flat_map};
 ghost use Rattle.lmtpd.specs.Faults.{stop_for, stop_status, words_status};
 ghost use Rattle.lmtpd.specs.Program.{line_after, status_after, stop_line, unopened_line};
-ghost use Rattle.lmtpd.specs.Rehearsal.{IsListed};
+ghost use Rattle.lmtpd_rehearse.specs.Rehearsal.{IsListed};
 
 use crate::fault::Fault;
-use crate::output::write_each;
 use clap::Error;
 use clap::error::ErrorKind;
+use lmtpd_output::write_each;
 use std::io::Write;
 
 /// How the program ends.

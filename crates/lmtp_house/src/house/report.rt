@@ -1,5 +1,8 @@
 //! What a server hands back.
 
+ghost use Rattle.std.specs.Prelude.{◌≡◌};
+ghost use Rattle.std.specs.List.{list_any};
+
 /// What a worker did. Counts stay at their largest value.
 #[derive(Clone, Copy, Debug, PartialEq, Eq)]
 pub struct Tally {
@@ -9,6 +12,13 @@ pub struct Tally {
     pub stored: u64,
     /// Whether its spool failed.
     pub faulty: bool,
+}
+
+/// Whether a worker's spool failed.
+pub fn has_failed(tallies: &[Tally]) -> bool
+    ensures { result ≡ list_any (λ tally. tally.faulty) tallies.now }
+{
+    tallies.iter().any(|tally| tally.faulty)
 }
 
 /// All that was handed in, by lane and by mailbox, and what became of it.

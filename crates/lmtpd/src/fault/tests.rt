@@ -1,5 +1,6 @@
-use super::{Fault, rehearsal_fault};
-use crate::rehearse::{EndCause, Ending};
+use super::{Fault, rehearsal_fault, server_fault};
+use lmtpd_rehearse::{EndCause, Ending};
+use lmtpd_serve::Served;
 use std::test::Fail;
 
 #[test]
@@ -40,5 +41,25 @@ fn only_a_whole_rehearsal_is_good(rt: HostRuntime) {
     for (end, faulty, cut, good) in table {
         let lacks = rehearsal_fault(Ending { end, faulty, cut });
         assert_eq!(rt; lacks.is_none(), good);
+    }
+}
+
+#[test]
+fn a_device_fault_comes_before_a_listener_that_failed(rt: HostRuntime) {
+    let table = [
+        (false, false, false, None),
+        (false, true, false, Some(Fault::Listen)),
+        (true, false, false, Some(Fault::Device)),
+        (false, false, true, Some(Fault::Device)),
+        (true, true, false, Some(Fault::Device)),
+        (false, true, true, Some(Fault::Device)),
+    ];
+    for (faulty, failed, cut, fault) in table {
+        let served = Served {
+            faulty,
+            failed,
+            cut,
+        };
+        assert_eq!(rt; server_fault(served), fault);
     }
 }

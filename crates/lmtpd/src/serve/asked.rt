@@ -6,12 +6,10 @@ ghost use Rattle.lmtpd.specs.Program.{IsNotServed, IsServedAsAsked, sizes_asked}
 
 use super::address::address_of;
 use super::mailboxes::open_mailboxes;
-use super::run::serve_run;
-use super::served::Served;
 use crate::fault::Fault;
 use crate::site::shared_site;
 use crate::stop::Stop;
-use lmtp_house::{Sizes, TimedListener};
+use lmtpd_serve::{Served, Sizes, TimedListener, serve_run};
 use lmtpd_words::ServeWords;
 use mbox_rd::{FileLock, FileSpool, Spool};
 use std::fs::{Files, OpenOptions};

@@ -1,0 +1,6 @@
+pub mod Listed
+pub mod Rising
+pub mod Naming
+pub mod Telling
+pub mod Boxes
+pub mod Ran

@@ -1,0 +1,319 @@
+-- A rehearsal from its parts: the run of the server, and how the mailboxes were written.
+use Rattle.std.proofs.Common.{◌≡◌, ℕ, cond, ◌<◌, ◌-◌, List, [], ◌∷◌, ◌++◌, length, map, take, drop, replicate, Bool, true, false, Option, Some, inl, inr, refl, ap, sym, ◌∙◌, subst, append-nil, arith}
+use Rattle.std.specs.Prelude.{filter, ◌==◌, ◌^◌, slice_get}
+use Rattle.std.specs.List.{AllByRecursion, list_any}
+use Rattle.std.specs.Io.KnownBytes.{Appends, Consumes}
+use Rattle.std.proofs.lemmas.List.{length-map, length-replicate}
+use Rattle.std.proofs.lemmas.Bool.Decides.{nat_tests}
+use Rattle.mail_world.specs.declared.Note.{Note}
+use Rattle.mail_world.specs.declared.Outcome.{Outcome}
+use Rattle.mail_world.specs.declared.Slip.{Slip}
+use Rattle.mail_world.specs.Fronts.{IsFront}
+use Rattle.mail_world.specs.Slips.{slips_from}
+use Rattle.mail_world.specs.Slips.{of_worker}
+use Rattle.mail_world.specs.declared.Outcome.TheVariants.{Stored, Failed}
+use Rattle.mail_world.specs.Failures.{Rises}
+use Rattle.mail_world.specs.Site.{Site}
+use Rattle.mail_world.specs.Session.{fresh}
+use Rattle.mail_world.specs.Conversation.{Disposition, Conversation, IsAccount, inputs, parts, replies}
+use Rattle.mail_world.specs.Lists.{Transaction, VerdictFits, OutcomesIn, of_lane, copies_owed, due, transactions}
+use Rattle.mail_world.specs.Deliveries.{HoldsCopies, outcomes_told, told_all}
+use Rattle.mail_world.proofs.Accounts.{account_told}
+use Rattle.mail_world.proofs.Deliveries.{holds_all}
+use Rattle.lmtp_text.specs.Calendar.{civil_at}
+use Rattle.mbox_rd.specs.MemorySpool.{MemorySpool}
+use Rattle.lmtp_talk.specs.declared.ending.EndCause.{EndCause}
+use Rattle.lmtp_talk.specs.declared.ending.EndCause.TheVariants.{WriteFault}
+use Rattle.lmtp_house.specs.declared.house.report.Tally.{Tally}
+use Rattle.lmtp_house.specs.House.{HandedBack, HasRun, IsBoxWork, LaneWork, BoxWork}
+use Rattle.lmtp_talk.specs.Peer.{PeerState}
+use Rattle.lmtp_talk.specs.Served.{IsWritten, has_quit, transactions_in}
+use Rattle.lmtp_lane.specs.Visits.{Finished, Visit, IsVisit, conversations_of, finished_of}
+use Rattle.lmtpd_rehearse.specs.declared.client.OnlyClient.{OnlyClient}
+use Rattle.lmtpd_rehearse.specs.declared.client.OnlyClient.TheVariants.{Waiting, Over}
+use Rattle.lmtpd_rehearse.specs.Account.{conversation, IsAllStored}
+use Rattle.lmtpd_rehearse.specs.Client.{MayGive, told as told_by, is_over, IsOnlyOver}
+use Rattle.lmtpd_rehearse.specs.Mailboxes.{MailboxContent, kept_all, kept_at, bytes_of_all, empty_spool, texts_of_mailboxes, IsCalm}
+use Rattle.lmtpd_rehearse.specs.Rehearsal.{AreMailboxes, RehearsalEndsFor, HeldState, IsHeld, IsListed, IsRehearsed, Streams}
+use Rattle.lmtpd_rehearse.proofs.Boxes.{state_of, get_some, get_same, kept_is, length-kept, bytes_are, none_failed, all_calm, is_full, holds_stored}
+use Rattle.lmtpd_rehearse.proofs.Rising.{NumbersRise, numbers_rise}
+use Rattle.lmtpd_output.proofs.Written.{Appends-then}
+use Rattle.lmtpd_rehearse.proofs.Telling.{IsFrontOfOwed, told_stored, all_stored}
+
+-- a peer that never says to stop
+never_rises : (n : ℕ) → n ≡ 0 → Rises 0 n → ⊥
+never_rises n none (inl more) = omega (arith, none, more)
+never_rises n none (inr most) = let wrong : 0 ≡ 2 ^ 64 - 1 = most.0 in omega (arith, wrong)
+
+not_stopped : (b : Bool) (m n : ℕ) → m ≡ 0 → n ≡ 0 → (b ≡ true → Rises m n) → b ≡ false
+not_stopped true m n none still f = absurd (never_rises n still (subst (λ k. Rises k n) none (f refl)))
+not_stopped false m n none still f = refl
+
+-- the lane's only conversation
+only_one : (site : Site) (c : Conversation) → transactions site 0 (c ∷ []) ≡ transactions_in site 0 c
+unfolding transactions
+only_one site c = append-nil (transactions_in site 0 c)
+
+due_is : (site : Site) (box : ℕ) (c : Conversation) → due site 0 box (c ∷ []) ≡ copies_owed 0 box (transactions_in site 0 c)
+unfolding due
+due_is site box c = ap (λ ts. copies_owed 0 box ts) (only_one site c)
+
+told_is : (site : Site) (box : ℕ) (c : Conversation) → outcomes_told site box (c ∷ []) ≡ told_all box (transactions_in site 0 c)
+unfolding outcomes_told
+told_is site box c = ap (λ ts. told_all box ts) (only_one site c)
+
+rising : (site : Site) (c : Conversation) → NumbersRise 1 (transactions_in site 0 c)
+unfolding parts
+rising site c = numbers_rise (length c.bytes) site 0 fresh c.bytes c.dispositions
+
+-- lists
+one_alone : {A : Type 0} (xs : List A) → length xs ≡ 1 → (x : A) × (xs ≡ x ∷ [])
+one_alone [] e = absurd (omega (arith, e))
+one_alone (x ∷ []) e = (x, refl)
+one_alone (x ∷ y ∷ xs) e = absurd (omega (arith, e))
+
+all_mapped : {A B : Type 0} (P : B → Type 0) (f : A → B) (xs : List A) → AllByRecursion (λ x. P (f x)) xs → AllByRecursion P (map f xs)
+all_mapped P f [] h = tt
+all_mapped P f (x ∷ xs) h = (h.0, all_mapped P f xs h.1)
+
+lane_zero : (n : ℕ) → n < 1 → (n == 0) ≡ true
+lane_zero n h = grind (arith, nat_tests, h)
+
+all_of_lane : (notes : List Note) → AllByRecursion (λ note. note.txn.lane < 1) notes → of_lane 0 notes ≡ notes
+all_of_lane [] h = refl
+all_of_lane (x ∷ notes) h = ap (λ b. cond b (x ∷ of_lane 0 notes) (of_lane 0 notes)) (lane_zero x.txn.lane h.0) ∙ ap (λ l. x ∷ l) (all_of_lane notes h.1)
+
+-- the only client's visit
+record OneVisit (visits : List Visit) (finished : Finished) : Type 0 where
+  visit : Visit
+  only : visits ≡ visit ∷ []
+  after : visit.after ≡ finished.peer
+  cause : visit.cause ≡ finished.cause
+
+one_visit : (visits : List Visit) (finished : Finished) → ◌≡◌ {A = Option (List Finished)} (Some (finished ∷ [])) (Some (map finished_of visits)) → OneVisit visits finished
+one_visit [] finished e = cc
+one_visit (v ∷ []) finished e =
+    let is : finished ≡ finished_of v = cc in
+    record { visit = v; only = refl; after = sym (ap (λ (f : Finished). f.peer) is); cause = sym (ap (λ (f : Finished). f.cause) is) }
+one_visit (v ∷ w ∷ visits) finished e = cc
+
+-- the bytes that a peer says
+abbrev pub streams_of : PeerState → Streams
+streams_of peer = record { unread = peer.unread; written = peer.written }
+
+-- a conversation of which this is known
+record IsHeldBy (site : Site) (moment : ℕ) (old new : PeerState) (end : EndCause) (c : Conversation) : Type 0 where
+  input : Consumes old.unread new.unread c.bytes
+  accounted : IsAccount site c
+  said : List ℕ
+  output : Appends old.written new.written said
+  says : IsWritten (replies site (inputs site c)) (end ≡ WriteFault) said
+  ends : RehearsalEndsFor site c.bytes c.dispositions new.unread end
+  unstopped : c ≡ conversation c.bytes c.dispositions
+
+held_by : (site : Site) (moment : ℕ) (old new : PeerState) (v : Visit) → old.stops ≡ 0 → new.stops ≡ 0 → v.after ≡ new → IsVisit site (λ peer. peer ≡ old) v → IsHeldBy site moment old new v.cause v.conversation
+held_by site moment old new v never still at h =
+    let c = v.conversation in
+    let before : v.before ≡ old = h.client in
+    let began : v.before.stops ≡ 0 = ap (λ (p : PeerState). p.stops) before ∙ never in
+    let ended : v.after.stops ≡ 0 = ap (λ (p : PeerState). p.stops) at ∙ still in
+    let stopped : c.stopped ≡ false = not_stopped c.stopped v.before.stops v.after.stops began ended (λ e. h.causes.rose e) in
+    let is : c ≡ conversation c.bytes c.dispositions = ap (λ b. record { bytes = c.bytes; dispositions = c.dispositions; stopped = b }) stopped in
+    let Q : Conversation → Type 0 = λ x. has_quit (inputs site x) ≡ true in
+    let I : PeerState → PeerState → Type 0 = λ x y. Consumes x.unread y.unread c.bytes in
+    let O : PeerState → PeerState → Type 0 = λ x y. Appends x.written y.written h.said in
+    let ends : RehearsalEndsFor site c.bytes c.dispositions v.after.unread v.cause = record {
+      quit = λ e. subst Q is (h.causes.quit e);
+      quits = λ q. h.causes.quits (subst Q (sym is) q);
+      end_of_input = h.causes.end_of_input;
+      read_bound = h.causes.read_bound;
+      not_stopped = λ e. let wrong : true ≡ false = sym (h.causes.stop e) ∙ stopped in cc;
+    } in
+    let E : PeerState → Type 0 = λ x. RehearsalEndsFor site c.bytes c.dispositions x.unread v.cause in
+    record {
+      input = subst (λ x. I x new) before (subst (λ y. I v.before y) at h.moved.unread);
+      accounted = h.accounted;
+      said = h.said;
+      output = subst (λ x. O x new) before (subst (λ y. O v.before y) at h.moved.written);
+      says = h.says;
+      ends = subst E at ends;
+      unstopped = is;
+    }
+
+-- what a mailbox's worker did
+record BoxAt (site : Site) (work : BoxWork) (spools : List MemorySpool) (tallies : List Tally) (b : ℕ) : Type 0 where
+  spool : MemorySpool
+  tally : Tally
+  is : kept_at (kept_all spools tallies) b ≡ record { bytes = spool.bytes; failed = tally.faulty }
+  did : IsBoxWork site work (state_of empty_spool) (state_of spool) tally
+
+-- what lane and workers did for these transactions, at so many mailboxes
+record HaveWorked (site : Site) (ts : List Transaction) (heard : List Slip) (boxes : ℕ → BoxWork) (count : ℕ) (spools : List MemorySpool) (tallies : List Tally) : Type 0 where
+  answered : AllByRecursion (λ t. OutcomesIn 0 heard t t.disposition.verdict) ts
+  known : AllByRecursion (λ slip. slip.worker < count) heard
+  begun : (b : ℕ) → b < count → IsFrontOfOwed (λ k. (boxes k).stored) heard ts b
+  taken : (b : ℕ) → b < count → (boxes b).taken ≡ copies_owed 0 b ts
+  each : (b : ℕ) → b < count → BoxAt site (boxes b) spools tallies b
+  as_many : (length spools ≡ count) × (length tallies ≡ count)
+
+delivered : (site : Site) (c : Conversation) (heard : List Slip) (boxes : ℕ → BoxWork) (count : ℕ) (spools : List MemorySpool) (tallies : List Tally) (faulty : Bool)
+    → c ≡ conversation c.bytes c.dispositions → IsAccount site c → HaveWorked site (transactions_in site 0 c) heard boxes count spools tallies → count ≡ length site.boxes
+    → faulty ≡ list_any (λ t. t.faulty) tallies
+    → AreMailboxes site c.bytes c.dispositions (kept_all spools tallies) faulty
+delivered site c heard boxes count spools tallies faulty is accounted h size faulty_is =
+    let ts : List Transaction = transactions_in site 0 c in
+    let ks : List MailboxContent = kept_all spools tallies in
+    let stored : ℕ → ℕ = λ k. (boxes k).stored in
+    let some : 0 < 1 = omega arith in
+    let as_many : length tallies ≡ length spools = h.as_many.1 ∙ sym h.as_many.0 in
+    let told_it : map (λ t. t.disposition) ts ≡ c.dispositions = account_told site 0 c accounted in
+    let calm : faulty ≡ false → IsCalm ks = λ f. none_failed spools tallies as_many (sym faulty_is ∙ f) in
+    let many : length ks ≡ count = length-kept spools tallies as_many ∙ h.as_many.0 in
+    let H : Conversation → ℕ → List ℕ → Bool → Type 0 = λ x box bytes failed. HoldsCopies civil_at site.host (due site 0 box (x ∷ [])) (outcomes_told site box (x ∷ [])) bytes failed in
+    let each : (box : ℕ) → box < length site.boxes → H (conversation c.bytes c.dispositions) box (kept_at ks box).bytes (kept_at ks box).failed = λ box within.
+    let low : box < count = omega (arith, size, within) in
+    let at = h.each box low in
+    let P : List Note → Type 0 = λ notes. HoldsCopies civil_at site.host notes (map (λ (note : Note). Stored) (take (stored box) notes) ++ map (λ (note : Note). Failed) (drop (stored box) notes)) at.spool.bytes at.tally.faulty in
+    let Q : List Outcome → Type 0 = λ os. HoldsCopies civil_at site.host (copies_owed 0 box ts) os at.spool.bytes at.tally.faulty in
+    let D : List Note → Type 0 = λ notes. HoldsCopies civil_at site.host notes (told_all box ts) at.spool.bytes at.tally.faulty in
+    let T : List Outcome → Type 0 = λ os. HoldsCopies civil_at site.host (due site 0 box (c ∷ [])) os at.spool.bytes at.tally.faulty in
+    let K : MailboxContent → Type 0 = λ k. H c box k.bytes k.failed in
+    let C : Conversation → Type 0 = λ x. H x box (kept_at ks box).bytes (kept_at ks box).failed in
+    let first : P (copies_owed 0 box ts) = subst P (h.taken box low) (holds_stored civil_at site.host at.spool (boxes box).taken (stored box) at.tally.faulty at.did.spool) in
+    let told_so : Q (told_all box ts) = subst Q (sym (told_stored stored heard count 1 ts some (rising site c) h.answered h.known h.begun box)) first in
+    subst C is (subst K (sym at.is) (subst T (sym (told_is site box c)) (subst D (sym (due_is site box c)) told_so))) in
+    record {
+      count = many ∙ size;
+      each = each;
+      full = λ box within failed.
+          let low : box < count = omega (arith, size, within) in
+          let at = h.each box low in
+          ap (λ (k : MailboxContent). length k.bytes) at.is
+          ∙ is_full civil_at site.host at.spool (boxes box).taken (stored box) at.tally.faulty at.did.spool (sym (ap (λ (k : MailboxContent). k.failed) at.is) ∙ failed);
+      sound = (calm, λ quiet. faulty_is ∙ all_calm spools tallies as_many quiet);
+      stored = λ f.
+          let S : List Disposition → Type 0 = λ ds. AllByRecursion IsAllStored ds in
+          subst S told_it (all_stored stored heard count ts h.answered h.known h.begun (λ b low.
+          let at = h.each b low in
+          let sound : at.tally.faulty ≡ false = sym (ap (λ (k : MailboxContent). k.failed) at.is) ∙ calm f b (omega (arith, many, low)) in
+          at.did.spool.all sound ∙ ap length (h.taken b low)));
+      held = λ f box within.
+          let failed : (kept_at ks box).failed ≡ false = calm f box (omega (arith, within, many, size)) in
+          let B : Bool → Type 0 = λ b. H (conversation c.bytes c.dispositions) box (kept_at ks box).bytes b in
+          (holds_all civil_at site.host _ _ (kept_at ks box).bytes (subst B failed (each box within))).held;
+    }
+
+-- the run of a server whose only lane has one client, and whose spools are new
+abbrev pub HasRunAlone : (site : Site) (moment : ℕ) {P : Type 0} (state : P → PeerState) (peer : P) (count : ℕ)
+    (back : HandedBack (OnlyClient P) MemorySpool) → Type 0
+HasRunAlone site moment state peer count back =
+    HasRun site (λ m. m ≡ moment) (record { MayGive = λ c p. MayGive state c p; finished = λ c. told_by state c; over = λ c. is_over c }) state_of
+    (record { visits = Waiting peer ∷ []; spools = replicate count empty_spool }) back
+
+module _ (site : Site) (moment : ℕ) {P : Type 0} (state : P → PeerState) (peer : P) (count : ℕ) (back : HandedBack (OnlyClient P) MemorySpool) where
+  -- the client has left
+  pub only_over : HasRunAlone site moment state peer count back → IsOnlyOver back.visits
+  only_over h =
+      let client = one_alone back.visits h.as_many_lanes.0 in
+      let number = one_alone back.conversations h.as_many_lanes.1 in
+      let work = h.served 0 number.0 (Waiting peer) client.0 refl (ap (λ l. slice_get l 0) client.1) (ap (λ l. slice_get l 0) number.1) in
+      (client.0, client.1, work.ended)
+
+  have_worked : (h : HasRunAlone site moment state peer count back) (c : Conversation)
+      → conversations_of (h.lanes 0).visits ≡ c ∷ [] → AllByRecursion (λ t. OutcomesIn 0 (h.lanes 0).heard t t.disposition.verdict) (transactions_in site 0 c)
+      → HaveWorked site (transactions_in site 0 c) (h.lanes 0).heard h.boxes count back.spools back.tallies
+  have_worked h c is answered =
+      let ts : List Transaction = transactions_in site 0 c in
+      let heard : List Slip = (h.lanes 0).heard in
+      let many : length (replicate count empty_spool) ≡ count = length-replicate count empty_spool in
+      let one : 0 < 1 = omega arith in
+      let low_in : (b : ℕ) → b < count → b < length (replicate count empty_spool) = λ b low. omega (arith, many, low) in
+      let taken : (b : ℕ) → b < count → (h.boxes b).taken ≡ copies_owed 0 b ts = λ b low.
+      sym (all_of_lane (h.boxes b).taken (h.owed_only b (low_in b low))) ∙ h.owed 0 b one (low_in b low) ∙ ap (λ l. due site 0 b l) is ∙ due_is site b c in
+      let K : ℕ → Type 0 = λ n. AllByRecursion (λ slip. slip.worker < n) heard in
+      record {
+        answered = answered;
+        known = subst K many (h.told_only 0 one);
+        begun = λ b low.
+            let B : List Note → Type 0 = λ notes. IsFront (of_worker b heard) (filter (λ slip. slip.txn.lane == 0) (slips_from b (h.boxes b).stored 0 notes)) in
+            subst B (taken b low) (h.told 0 b one (low_in b low));
+        taken = taken;
+        each = λ b low.
+            let spool = get_some back.spools b (omega (arith, many, low, h.as_many_boxes.0)) in
+            let tally = get_some back.tallies b (omega (arith, many, low, h.as_many_boxes.1)) in
+            record {
+              spool = spool.0;
+              tally = tally.0;
+              is = kept_is back.spools back.tallies b spool.0 tally.0 spool.1 tally.1;
+              did = h.stored b empty_spool spool.0 tally.0 (get_same count b empty_spool low) spool.1 tally.1;
+            };
+        as_many = (h.as_many_boxes.0 ∙ many, h.as_many_boxes.1 ∙ many);
+      }
+
+  pub held : (last : P) (end : EndCause) (faulty : Bool) → HasRunAlone site moment state peer count back → back.visits ≡ Over last end ∷ [] → ((p : P) → (state p).stops ≡ 0)
+      → count ≡ length site.boxes → faulty ≡ list_any (λ t. t.faulty) back.tallies
+      → IsHeld site moment (streams_of (state peer)) (streams_of (state last)) (record { spools = back.spools; faulty = faulty; end = end })
+  held last end faulty h after never size faulty_is =
+      let lane : LaneWork = h.lanes 0 in
+      let number = one_alone back.conversations h.as_many_lanes.1 in
+      let work = h.served 0 number.0 (Waiting peer) (Over last end) refl (ap (λ l. slice_get l 0) after) (ap (λ l. slice_get l 0) number.1) in
+      let one = one_visit lane.visits (record { peer = state last; cause = end }) work.visited.told in
+      let v : Visit = one.visit in
+      let c : Conversation = v.conversation in
+      let M : PeerState → Type 0 = λ p. p ≡ state peer in
+      let V : List Visit → Type 0 = λ l. AllByRecursion (IsVisit site M) l in
+      let visited : V (v ∷ []) = subst V one.only work.visited.each in
+      let by = held_by site moment (state peer) (state last) v (never peer) (never last) one.after visited.0 in
+      let are : conversations_of lane.visits ≡ c ∷ [] = ap conversations_of one.only in
+      let ts_are : transactions site 0 (conversations_of lane.visits) ≡ transactions_in site 0 c = ap (λ l. transactions site 0 l) are ∙ only_one site c in
+      let O : List Transaction → Type 0 = λ ts. AllByRecursion (λ t. OutcomesIn 0 lane.heard t t.disposition.verdict) ts in
+      let F : List Transaction → Type 0 = λ ts. AllByRecursion (λ t. t.disposition.moment ≡ moment) ts in
+      let D : List Disposition → Type 0 = λ ds. AllByRecursion (λ d. d.moment ≡ moment) ds in
+      let W : List Transaction → Type 0 = λ ts. AllByRecursion VerdictFits ts in
+      let R : Conversation → EndCause → Type 0 = λ x e. IsWritten (replies site (inputs site x)) (e ≡ WriteFault) by.said in
+      let E : EndCause → Type 0 = λ e. RehearsalEndsFor site c.bytes c.dispositions (state last).unread e in
+      let N : Conversation → Type 0 = λ x. AllByRecursion VerdictFits (transactions site 0 (x ∷ [])) in
+      let worked = have_worked h c are (subst O ts_are work.answered) in
+      record {
+        read = c.bytes;
+        input = by.input;
+        account = c.dispositions;
+        accounted = record {
+          complete = by.accounted;
+          moments = subst D (account_told site 0 c by.accounted) (all_mapped (λ d. d.moment ≡ moment) (λ (t : Transaction). t.disposition) (transactions_in site 0 c) (subst F ts_are work.moments));
+          verdicts = subst N by.unstopped (subst W (ap (λ l. transactions site 0 l) are) work.verdicts);
+        };
+        mailboxes = kept_all back.spools back.tallies;
+        delivered = delivered site c lane.heard h.boxes count back.spools back.tallies faulty by.unstopped by.accounted worked size faulty_is;
+        holds = bytes_are back.spools back.tallies (worked.as_many.1 ∙ sym worked.as_many.0);
+        said = by.said;
+        output = by.output;
+        says = subst (λ e. R (conversation c.bytes c.dispositions) e) one.cause (subst (λ x. R x v.cause) by.unstopped by.says);
+        ends = subst E one.cause by.ends;
+      }
+
+-- the mailboxes behind the replies
+pub rehearsed : (site : Site) (moment : ℕ) (old between : Streams) (left : HeldState) (after : Option (List ℕ)) (cut : Bool)
+    → IsHeld site moment old between left → IsListed (texts_of_mailboxes site.boxes (bytes_of_all left.spools)) between.written after cut
+    → IsRehearsed site moment old (record { unread = between.unread; written = after }) (record { end = left.end; faulty = left.faulty; cut = cut })
+rehearsed site moment old between left after cut h w =
+    let L : List (List ℕ) → Type 0 = λ texts. IsWritten (texts_of_mailboxes site.boxes texts) (cut ≡ true) w.listed in
+    record {
+      read = h.read;
+      input = h.input;
+      account = h.account;
+      accounted = h.accounted;
+      mailboxes = h.mailboxes;
+      delivered = h.delivered;
+      said = h.said;
+      listed = w.listed;
+      output = Appends-then old.written between.written after h.said w.listed h.output w.output;
+      says = h.says;
+      lists = subst L (sym h.holds) w.lists;
+      ends = h.ends;
+    }
+
+-- there is a spool for each mailbox
+pub as_many_spools : (site : Site) (moment : ℕ) (old new : Streams) (left : HeldState) → IsHeld site moment old new left → length left.spools ≡ length site.boxes
+as_many_spools site moment old new left h =
+    sym (length-map left.spools (λ (x : MemorySpool). x.bytes)) ∙ ap length (sym h.holds) ∙ length-map h.mailboxes (λ (k : MailboxContent). k.bytes) ∙ h.delivered.count

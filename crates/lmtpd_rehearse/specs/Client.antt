@@ -1,0 +1,32 @@
+-- What a lane sees of its only client.
+use Rattle.std.specs.Prelude.{◌≡◌, Bool, true, false, List, [], ◌∷◌, Option, Some}
+use Rattle.lmtp_talk.specs.Peer.{PeerState}
+use Rattle.lmtp_lane.specs.Visits.{Finished}
+use Rattle.lmtpd_rehearse.specs.declared.client.OnlyClient.{OnlyClient}
+use Rattle.lmtpd_rehearse.specs.declared.client.OnlyClient.TheVariants.{Waiting, Out, Back, Over}
+
+module _ {P : Type 0} where
+  -- the client that is handed out next
+  abbrev pub MayGive : (P → PeerState) → OnlyClient P → PeerState → Type 0
+  MayGive state (Waiting client) peer = peer ≡ state client
+  MayGive state _ peer = ⊥
+
+  -- the conversation that has ended
+  abbrev pub told : (P → PeerState) → OnlyClient P → Option (List Finished)
+  told state (Back client end) = Some (record { peer = state client; cause = end } ∷ [])
+  told state (Over client end) = Some (record { peer = state client; cause = end } ∷ [])
+  told state _ = Some []
+
+  -- the client is being served
+  abbrev pub is_out : OnlyClient P → Bool
+  is_out Out = true
+  is_out _ = false
+
+  -- it was said that there is no other
+  abbrev pub is_over : OnlyClient P → Bool
+  is_over (Over client end) = true
+  is_over _ = false
+
+  -- there is one client alone, who has left
+  abbrev pub IsOnlyOver : List (OnlyClient P) → Type 0
+  IsOnlyOver clients = (client : OnlyClient P) × (clients ≡ client ∷ []) × (is_over client ≡ true)

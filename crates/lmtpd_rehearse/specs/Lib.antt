@@ -1,0 +1,4 @@
+pub mod Mailboxes
+pub mod Client
+pub mod Account
+pub mod Rehearsal

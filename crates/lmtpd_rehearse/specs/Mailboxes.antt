@@ -1,0 +1,47 @@
+-- The mailboxes of a rehearsal: what they hold, and how they are written.
+use Rattle.std.specs.Prelude.{◌≡◌, ◌<◌, ℕ, Bool, false, List, [], ◌∷◌, ◌++◌, length, map, slice_index_or, codes, decimal}
+use Rattle.mail_world.specs.Text.{lf}
+use Rattle.mbox_rd.specs.MemorySpool.{MemorySpool}
+use Rattle.lmtp_house.specs.declared.house.report.Tally.{Tally}
+use Rattle.lmtpd_output.specs.Output.{pair_texts}
+use Rattle.lmtpd_rehearse.specs.declared.parts.TheConstants.{MAILBOX_ROOM}
+
+-- what a mailbox holds, and whether it failed
+pub record MailboxContent : Type 0 where
+  pub bytes : List ℕ
+  pub failed : Bool
+
+-- a mailbox's spool, and what its worker says of it
+abbrev pub kept_all : List MemorySpool → List Tally → List MailboxContent
+kept_all (spool ∷ spools) (tally ∷ tallies) = record { bytes = spool.bytes; failed = tally.faulty } ∷ kept_all spools tallies
+kept_all _ _ = []
+
+-- the line before a mailbox's bytes, and the bytes
+abbrev pub mailbox_line : List ℕ → ℕ → List ℕ
+mailbox_line name size = codes "mailbox " ++ name ++ codes " " ++ decimal size ++ (lf ∷ [])
+
+abbrev pub bytes_of_all : List MemorySpool → List (List ℕ)
+bytes_of_all spools = map (λ spool. spool.bytes) spools
+
+abbrev pub mailbox_text : List ℕ → List ℕ → List ℕ
+mailbox_text name bytes = mailbox_line name (length bytes) ++ bytes
+
+abbrev pub texts_of_mailboxes : List (List ℕ) → List (List ℕ) → List ℕ
+texts_of_mailboxes names texts = pair_texts mailbox_text names texts
+
+abbrev pub mailboxes_text : List (List ℕ) → List MailboxContent → List ℕ
+mailboxes_text names ks = texts_of_mailboxes names (map (λ k. k.bytes) ks)
+
+abbrev pub nothing_kept : MailboxContent
+nothing_kept = record { bytes = []; failed = false }
+
+abbrev pub kept_at : List MailboxContent → ℕ → MailboxContent
+kept_at ks n = slice_index_or ks n nothing_kept
+
+-- no mailbox failed
+abbrev pub IsCalm : List MailboxContent → Type 0
+IsCalm ks = (n : ℕ) → n < length ks → (kept_at ks n).failed ≡ false
+
+-- a spool that holds nothing, with room for a mailbox
+abbrev pub empty_spool : MemorySpool
+empty_spool = record { bytes = []; room = MAILBOX_ROOM; failures = 0; synced = 0 }

@@ -1,0 +1,99 @@
+-- What a rehearsal comes to: its replies and its mailboxes, for an account of what became of the data.
+use Rattle.std.specs.Prelude.{◌≡◌, ◌↔◌, ◌⊎◌, ◌<◌, ◌≤◌, ℕ, Bool, true, false, List, [], ◌∷◌, ◌++◌, length, map, Option}
+use Rattle.std.specs.List.{AllByRecursion}
+use Rattle.std.specs.Io.KnownBytes.{Consumes, Appends, IsAtEnd}
+use Rattle.mail_world.specs.declared.limits.TheConstants.{READ_LIMIT, BLOCK_LIMIT}
+use Rattle.lmtpd_rehearse.specs.declared.parts.TheConstants.{MAILBOX_ROOM}
+use Rattle.mail_world.specs.Site.{Site}
+use Rattle.mbox_rd.specs.MemorySpool.{MemorySpool}
+use Rattle.mail_world.specs.Conversation.{Disposition, IsAccount, inputs, replies}
+use Rattle.mail_world.specs.Lists.{VerdictFits, transactions, due}
+use Rattle.mail_world.specs.Records.{mailbox}
+use Rattle.mail_world.specs.Deliveries.{HoldsCopies, outcomes_told}
+use Rattle.lmtp_text.specs.Calendar.{civil_at}
+use Rattle.lmtp_talk.specs.declared.ending.EndCause.{EndCause}
+use Rattle.lmtp_talk.specs.declared.ending.EndCause.TheVariants.{Quit, EndOfInput, WriteFault, Stopped, ReadBound}
+use Rattle.lmtp_talk.specs.Served.{IsWritten, has_quit}
+use Rattle.lmtpd_rehearse.specs.declared.ending.Ending.{Ending}
+use Rattle.lmtpd_rehearse.specs.Mailboxes.{MailboxContent, kept_at, mailboxes_text, bytes_of_all, IsCalm}
+use Rattle.lmtpd_rehearse.specs.Account.{conversation, IsAllStored}
+
+-- the account of a conversation whose bytes were read: what became of its data, each at that moment
+pub record IsAccountAt (site : Site) (moment : ℕ) (read : List ℕ) (account : List Disposition) : Type 0 where
+  pub complete : IsAccount site (conversation read account)
+  pub moments : AllByRecursion (λ d. d.moment ≡ moment) account
+  -- too large exactly where the message is above the limit and a number is left
+  pub verdicts : AllByRecursion VerdictFits (transactions site 0 (conversation read account ∷ []))
+
+-- the mailboxes, in the order of the site, by that account
+pub record AreMailboxes (site : Site) (read : List ℕ) (account : List Disposition) (mailboxes : List MailboxContent) (faulty : Bool) : Type 0 where
+  pub count : length mailboxes ≡ length site.boxes
+  -- each holds the records of its first copies, which were told Stored; once its spool failed, the others were told Failed
+  pub each : (box : ℕ) → box < length site.boxes
+      → HoldsCopies civil_at site.host (due site 0 box (conversation read account ∷ [])) (outcomes_told site box (conversation read account ∷ [])) (kept_at mailboxes box).bytes (kept_at mailboxes box).failed
+  -- a spool failed only once its room was used up
+  pub full : (box : ℕ) → box < length site.boxes → (kept_at mailboxes box).failed ≡ true → length (kept_at mailboxes box).bytes ≡ MAILBOX_ROOM
+  -- a rehearsal is faulty exactly where a spool failed
+  pub sound : (faulty ≡ false) ↔ IsCalm mailboxes
+  -- and where it isn't, every outcome is Stored and each mailbox has the records of all its copies
+  pub stored : faulty ≡ false → AllByRecursion IsAllStored account
+  pub held : faulty ≡ false → (box : ℕ) → box < length site.boxes → (kept_at mailboxes box).bytes ≡ mailbox civil_at site.host [] (due site 0 box (conversation read account ∷ []))
+
+-- why the conversation ended
+pub record RehearsalEndsFor (site : Site) (read : List ℕ) (account : List Disposition) (left : Option (List ℕ)) (end : EndCause) : Type 0 where
+  pub quit : end ≡ Quit → has_quit (inputs site (conversation read account)) ≡ true
+  pub quits : has_quit (inputs site (conversation read account)) ≡ true → (end ≡ Quit) ⊎ (end ≡ WriteFault)
+  pub end_of_input : end ≡ EndOfInput → IsAtEnd left
+  pub read_bound : end ≡ ReadBound → READ_LIMIT ≤ length read
+  pub not_stopped : end ≡ Stopped → ⊥
+
+-- what contracts see of a reader and a writer: the bytes that are left to be read, and those that were written
+pub record Streams : Type 0 where
+  pub unread : Option (List ℕ)
+  pub written : Option (List ℕ)
+
+-- From a reader and a writer that stood so to ones that stand so.
+pub record IsRehearsed (site : Site) (moment : ℕ) (old new : Streams) (ending : Ending) : Type 0 where
+  pub read : List ℕ
+  pub input : Consumes old.unread new.unread read
+  pub account : List Disposition
+  pub accounted : IsAccountAt site moment read account
+  pub mailboxes : List MailboxContent
+  pub delivered : AreMailboxes site read account mailboxes ending.faulty
+  -- what was written of the replies, and then of the mailboxes
+  pub said : List ℕ
+  pub listed : List ℕ
+  pub output : Appends old.written new.written (said ++ listed)
+  pub says : IsWritten (replies site (inputs site (conversation read account))) (ending.end ≡ WriteFault) said
+  pub lists : IsWritten (mailboxes_text site.boxes mailboxes) (ending.cut ≡ true) listed
+  pub ends : RehearsalEndsFor site read account new.unread ending.end
+
+-- what a conversation leaves: the spools, whether one failed, and why it ended
+pub record HeldState : Type 0 where
+  pub spools : List MemorySpool
+  pub faulty : Bool
+  pub end : EndCause
+
+-- A conversation that was held, from a reader and a writer that stood so to ones that stand so, and what it left.
+pub record IsHeld (site : Site) (moment : ℕ) (old new : Streams) (held : HeldState) : Type 0 where
+  pub read : List ℕ
+  pub input : Consumes old.unread new.unread read
+  pub account : List Disposition
+  pub accounted : IsAccountAt site moment read account
+  pub mailboxes : List MailboxContent
+  pub delivered : AreMailboxes site read account mailboxes held.faulty
+  pub holds : map (λ k. k.bytes) mailboxes ≡ bytes_of_all held.spools
+  pub said : List ℕ
+  pub output : Appends old.written new.written said
+  pub says : IsWritten (replies site (inputs site (conversation read account))) (held.end ≡ WriteFault) said
+  pub ends : RehearsalEndsFor site read account new.unread held.end
+
+-- a text was written behind that, or a front of it where it was cut
+pub record IsListed (text : List ℕ) (before after : Option (List ℕ)) (cut : Bool) : Type 0 where
+  pub listed : List ℕ
+  pub output : Appends before after listed
+  pub lists : IsWritten text (cut ≡ true) listed
+
+-- how many blocks there may be
+abbrev pub IsBlockCount : ℕ → Type 0
+IsBlockCount blocks = (1 ≤ blocks) × (blocks ≤ BLOCK_LIMIT)

@@ -1,0 +1,135 @@
+//! A rehearsal, from its reader to its writer.
+
+ghost use Rattle.std.specs.Prelude.{◌≡◌, ◌⊎◌, [], ◌∷◌, length, IfOk, Err};
+ghost use Rattle.std.specs.Arc.{arc_value};
+ghost use Rattle.lmtpd_rehearse.specs.Mailboxes.{bytes_of_all, texts_of_mailboxes};
+ghost use Rattle.lmtpd_rehearse.specs.Client.{IsOnlyOver};
+ghost use Rattle.lmtpd_rehearse.specs.declared.client.OnlyClient.TheVariants as OnlyClient;
+ghost use Rattle.lmtpd_rehearse.specs.Rehearsal.{IsRehearsed, IsBlockCount, IsHeld, IsListed};
+
+use super::client::OnlyClient;
+use super::clock::FixedClock;
+use super::ending::{Ending, Rehearsed};
+use super::output::write_mailboxes;
+use super::parts::{empty_spools, open_gates, sizes};
+use super::peer::StreamPeer;
+use lmtp_house::{EndCause, HouseFault, has_failed, run_house};
+use lmtp_text::Site;
+use mbox_rd::MemorySpool;
+use std::alloc::Global;
+use std::io::{Read, Write};
+use std::sync::{Arc, Wait};
+use std::thread::Threads;
+
+/// Runs a server of one lane at the site for one conversation, and then writes the mailboxes, each behind the line
+/// `mailbox NAME LENGTH`. The mailboxes are empty at the start and lie in memory; every message is of the given moment,
+/// in seconds since 1970. All memory is taken first.
+pub fn rehearse_run<R, W, H>(
+    rt: H,
+    alloc: Global,
+    site: Arc<Site>,
+    blocks: u32,
+    moment: u32,
+    reader: R,
+    writer: W,
+) -> Result<Rehearsed<R, W>, HouseFault>
+where
+    R: Read + Drop + Send + 'static,
+    W: Write + Drop + Send + 'static,
+    H: Threads + Wait + Copy + Send + 'static,
+    ensures rehearses { IfOk result (λ rehearsed. IsRehearsed (arc_value site) moment
+        (record { unread = R.remaining reader; written = W.contents writer })
+        (record { unread = R.remaining rehearsed.reader; written = W.contents rehearsed.writer }) rehearsed.ending) }
+    ensures only_size { result ≡ Err HouseFault.Size → ¬ IsBlockCount blocks }
+    ensures size { ¬ IsBlockCount blocks → (result ≡ Err HouseFault.Size) ⊎ (result ≡ Err HouseFault.Memory) }
+{
+    let peer = StreamPeer {
+        reader,
+        writer,
+        failures: 0,
+    };
+    let held = hold(rt, alloc, site.clone()?, blocks, moment, peer)?;
+    let StreamPeer {
+        reader,
+        mut writer,
+        ..
+    } = held.peer;
+    let cut = is_cut(&site, &held.spools, &mut writer);
+    let ending = Ending {
+        end: held.end,
+        faulty: held.faulty,
+        cut,
+    };
+    Ok(Rehearsed {
+        ending,
+        reader,
+        writer,
+    })
+}
+
+/// A conversation that has ended, and the mailboxes behind it.
+#[derive(Drop)]
+struct Held<P> {
+    peer: P,
+    end: EndCause,
+    spools: Vec<MemorySpool>,
+    /// Whether one of them failed.
+    faulty: bool,
+}
+
+// Runs the server until its only client has left.
+fn hold<R, W, H>(
+    rt: H,
+    alloc: Global,
+    site: Arc<Site>,
+    blocks: u32,
+    moment: u32,
+    peer: StreamPeer<R, W>,
+) -> Result<Held<StreamPeer<R, W>>, HouseFault>
+where
+    R: Read + Drop + Send + 'static,
+    W: Write + Drop + Send + 'static,
+    H: Threads + Wait + Copy + Send + 'static,
+    ensures held { IfOk result (λ held. IsHeld (arc_value site) moment
+        (record { unread = R.remaining peer.reader; written = W.contents peer.writer })
+        (record { unread = R.remaining held.peer.reader; written = W.contents held.peer.writer })
+        (record { spools = held.spools.items; faulty = held.faulty; end = held.end })) }
+    ensures only_size { result ≡ Err HouseFault.Size → ¬ IsBlockCount blocks }
+    ensures size { ¬ IsBlockCount blocks → (result ≡ Err HouseFault.Size) ⊎ (result ≡ Err HouseFault.Memory) }
+{
+    let count = site.box_count();
+    let spools = empty_spools(alloc, count)?;
+    let gates = open_gates(alloc, count)?;
+    let mut visits = Vec::with_capacity(alloc, 1)?;
+    visits.push_reserved(OnlyClient::Waiting(peer));
+    let clock = FixedClock { moment };
+    let report = run_house(rt, alloc, site, sizes(blocks), visits, spools, gates, clock)?;
+    let faulty = has_failed(&report.tallies);
+    let (peer, end) = only_client(report.visits);
+    Ok(Held {
+        peer,
+        end,
+        spools: report.spools,
+        faulty,
+    })
+}
+
+// Takes the client out of the list where it is the only one, and has left.
+fn only_client<P: Drop>(mut clients: Vec<OnlyClient<P>>) -> (P, EndCause)
+    requires { IsOnlyOver clients.items }
+    ensures { clients.items ≡ OnlyClient.Over result.0 result.1 ∷ [] }
+{
+    match clients.pop() {
+        Some(OnlyClient::Over(peer, end)) => (peer, end),
+        _ => unreachable!(),
+    }
+}
+
+// Writes the mailboxes, also where a write of the replies has failed, and says whether a write fails.
+fn is_cut<W: Write>(site: &Site, spools: &[MemorySpool], writer: &mut W) -> bool
+    requires { length spools.now ≡ length site.now.boxes }
+    ensures { IsListed (texts_of_mailboxes site.now.boxes (bytes_of_all spools.now))
+        (W.contents writer.old) (W.contents writer.new) result }
+{
+    write_mailboxes(writer, site, spools).is_err()
+}
