@@ -2,6 +2,7 @@ pub mod AnsweredAll
 pub mod HouseGrids
 pub mod HouseLists
 pub mod HousePairs
+pub mod TakenApart
 pub mod HouseChannels
 pub mod HouseServed
 pub mod HouseWorked

@@ -195,6 +195,7 @@ impl<N: DepotName, S: Spool + Drop, G: Gate + Drop> WorkerReports<N, S, G> {
         ensures receivers { result.receivers.items ≡ map (λ r. r.receiver) reports.items }
         ensures slips { lists result.slips.items ≡ map (λ r. r.slips.items) reports.items }
         ensures spools { result.spools.items ≡ map (λ r. r.spool) reports.items }
+        ensures gates { result.gates.items ≡ map (λ r. r.gate) reports.items }
         ensures tallies { result.tallies.items ≡ map (λ r. tally_of r.taken r.stored r.faulty) reports.items }
         ensures lost { result.lost ≡ false → AllByRecursion (λ r. r.lost ≡ false) reports.items }
     {
