@@ -79,7 +79,10 @@ fn script<M: FromSender, R: Wait>(
 }
 
 fn is_closed<M: FromSender>(answer: &Result<M, Gone>) -> bool {
-    matches!(answer, Err(Gone::Closed))
+    match answer {
+        Ok(_) => false,
+        Err(why) => *why == Gone::Closed,
+    }
 }
 
 #[test]

@@ -9,7 +9,7 @@ use mail_world::limits::{BLOCK_LIMIT, CAPACITY_LIMIT, LANE_LIMIT, SLOT_LIMIT};
 /// The sizes that are chosen when a server starts.
 #[derive(Clone, Copy, Debug, PartialEq, Eq)]
 pub struct Sizes {
-    /// Blocks of 512 bytes for the messages on their way, 1 to 65,536.
+    /// Blocks of `BLOCK_SIZE` bytes for the messages on their way, 1 to 65,536.
     pub blocks: u32,
     /// Messages on their way, 1 to 64.
     pub slots: u32,

@@ -8,40 +8,115 @@ use std::sync::atomic::{AtomicU64, Ordering};
 use std::thread;
 use std::time::{Clock, Duration};
 
-/// The first is the longest wait for a copy to be accepted, in milliseconds, and the second how long none must be.
+/// The longest wait for an answer that must come, in milliseconds, and how long one is watched for that must not.
 const LONG: u64 = 20_000;
 
 const SHORT: u64 = 100;
 
-// Offers three copies, and counts those that were accepted.
-fn offer_three<N: DepotName, R: Wait>(
+// Notes 1, offers the message, and notes 2.
+fn offer_noted<M: FromSender, R: Wait>(
     rt: &R,
-    mut sender: Sender<N>,
-    copies: (Post<N>, Post<N>, Post<N>),
-    accepted: &AtomicU64,
-) -> Option<()>
-    requires { (copies.0.txn.lane ≡ sender.number) × (copies.1.txn.lane ≡ sender.number)
-        × (copies.2.txn.lane ≡ sender.number) }
+    mut sender: ChannelSender<M>,
+    message: M,
+    note: &AtomicU64,
+) -> bool
+    requires { M.sender message ≡ sender.number }
 {
-    sender.offer(rt, copies.0).ok()?;
-    accepted.fetch_add(1, Ordering::SeqCst);
-    sender.offer(rt, copies.1).ok()?;
-    accepted.fetch_add(1, Ordering::SeqCst);
-    sender.offer(rt, copies.2).ok()?;
-    accepted.fetch_add(1, Ordering::SeqCst);
-    Some(())
+    note.store(1, Ordering::SeqCst);
+    let is_accepted = sender.offer(rt, message).is_ok();
+    note.store(2, Ordering::SeqCst);
+    is_accepted
 }
 
-// Whether so many are accepted, and for a while no more.
-fn stops_at<R: Clock>(rt: &R, accepted: &AtomicU64, count: u64) -> bool {
+// Whether that is noted before long.
+fn is_noted<R: Clock>(rt: &R, note: &AtomicU64, value: u64) -> bool {
     for _ in 0..LONG {
-        if accepted.load(Ordering::SeqCst) >= count {
-            break;
+        if note.load(Ordering::SeqCst) == value {
+            return true;
         }
         thread::sleep(rt, Duration::from_millis(1));
     }
-    thread::sleep(rt, Duration::from_millis(SHORT));
-    accepted.load(Ordering::SeqCst) == count
+    false
+}
+
+// Whether the message is accepted, but not before one was taken.
+fn waits_for_room<M, R>(
+    rt: R,
+    alloc: Global,
+    sender: ChannelSender<M>,
+    mut receiver: ChannelReceiver<M>,
+    message: M,
+) -> Result<bool, Fail>
+where
+    M: FromSender + Send + 'static,
+    R: Threads + Wait + Clock + Copy + Send + 'static,
+    requires { M.sender message ≡ sender.number }
+{
+    let note = Arc::new(alloc, AtomicU64::new(0))?;
+    let theirs = Arc::try_clone(&note)?;
+    let lane = thread::spawn(
+        &rt,
+        move ||
+            requires { M.sender message ≡ sender.number }
+        { offer_noted(&rt, sender, message, &theirs) },
+    )?;
+    let begins = is_noted(&rt, &note, 1);
+    thread::sleep(&rt, Duration::from_millis(SHORT));
+    let waits = note.load(Ordering::SeqCst) == 1;
+    let is_taken = receiver.take(&rt).is_ok();
+    let ends = is_noted(&rt, &note, 2);
+    let is_accepted = lane.join(&rt);
+    Ok(begins && waits && is_taken && ends && is_accepted)
+}
+
+// The sender, once both messages were accepted.
+fn offer_two<M: FromSender, R: Wait>(
+    rt: &R,
+    mut sender: ChannelSender<M>,
+    first: M,
+    second: M,
+) -> Option<ChannelSender<M>>
+    requires { (M.sender first ≡ sender.number) × (M.sender second ≡ sender.number) }
+    ensures { IfSome result (λ after. after.number ≡ sender.number) }
+{
+    if sender.offer(rt, first).is_err() {
+        return None;
+    }
+    if sender.offer(rt, second).is_err() {
+        return None;
+    }
+    Some(sender)
+}
+
+// The ends of a channel with room for two copies, which has one lane.
+fn narrow<N: DepotName>(alloc: Global) -> Result<(Sender<N>, Receiver<N>), Fail>
+    ensures { IfOk result (λ ends. ends.0.number ≡ 0) }
+{
+    let (mut senders, receiver) = mail_line::<N>(alloc, 2, 1)?;
+    match senders.pop() {
+        Some(sender) => Ok((sender, receiver)),
+        None => Err("a sender".into()),
+    }
+}
+
+// Whether two are accepted and the third waits for room.
+fn third_waits<M, R>(
+    rt: R,
+    alloc: Global,
+    sender: ChannelSender<M>,
+    receiver: ChannelReceiver<M>,
+    messages: (M, M, M),
+) -> Result<bool, Fail>
+where
+    M: FromSender + Send + 'static,
+    R: Threads + Wait + Clock + Copy + Send + 'static,
+    requires { (M.sender messages.0 ≡ sender.number) × (M.sender messages.1 ≡ sender.number)
+        × (M.sender messages.2 ≡ sender.number) }
+{
+    let Some(full) = offer_two(&rt, sender, messages.0, messages.1) else {
+        return Ok(false);
+    };
+    waits_for_room(rt, alloc, full, receiver, messages.2)
 }
 
 // Three copies of lane 0.
@@ -59,31 +134,6 @@ fn three<N: DepotName, R: Wait>(
     Some((a, b, c))
 }
 
-// The ends of a channel with room for two copies, which has one lane.
-fn narrow<N: DepotName>(alloc: Global) -> Result<(Sender<N>, Receiver<N>), Fail>
-    ensures { IfOk result (λ ends. ends.0.number ≡ 0) }
-{
-    let (mut senders, receiver) = mail_line::<N>(alloc, 2, 1)?;
-    match senders.pop() {
-        Some(sender) => Ok((sender, receiver)),
-        None => Err("a sender".into()),
-    }
-}
-
-// Whether two copies are accepted and no third, and this one once a copy was taken. All three are taken.
-fn drains<N: DepotName, R: Wait + Clock>(
-    rt: &R,
-    mut receiver: Receiver<N>,
-    accepted: &AtomicU64,
-) -> bool {
-    let is_full = stops_at(rt, accepted, 2);
-    let first = receiver.take(rt).is_ok();
-    let has_room = stops_at(rt, accepted, 3);
-    let second = receiver.take(rt).is_ok();
-    let third = receiver.take(rt).is_ok();
-    is_full && has_room && first && second && third
-}
-
 fn fill_line<N, R>(rt: R, alloc: Global, blank: Blank) -> Result<(), Fail>
 where
     N: DepotName + Send + Sync + 'static,
@@ -93,18 +143,7 @@ where
     let depot = blank.open::<N>();
     let copies = three(&rt, alloc, &depot).ok_or("there is room")?;
     let (sender, receiver) = narrow::<N>(alloc)?;
-    let accepted = Arc::new(alloc, AtomicU64::new(0))?;
-    let theirs = Arc::try_clone(&accepted)?;
-    let lane = thread::spawn(
-        &rt,
-        move ||
-            requires { (copies.0.txn.lane ≡ sender.number) × (copies.1.txn.lane ≡ sender.number)
-                × (copies.2.txn.lane ≡ sender.number) }
-        { offer_three(&rt, sender, copies, &theirs) },
-    )?;
-    let is_drained = drains(&rt, receiver, &accepted);
-    let all = lane.join(&rt);
-    assert!(rt; is_drained && all.is_some());
+    assert!(rt; third_waits(rt, alloc, sender, receiver, copies)?);
     Ok(())
 }
 
