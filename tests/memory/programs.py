@@ -31,8 +31,8 @@ class Refusing:
         if is_all:
             self.given["REFUSE_ALL"] = "1"
 
-    def start(self, words):
-        ends = {"stdin": subprocess.PIPE, "stdout": subprocess.PIPE, "stderr": subprocess.PIPE}
+    def start(self, words, given=subprocess.PIPE):
+        ends = {"stdin": given, "stdout": subprocess.PIPE, "stderr": subprocess.PIPE}
         return subprocess.Popen([LMTPD, *words], pass_fds=[self.writer], env={**os.environ, **self.given}, **ends)
 
     def refused(self):
@@ -58,11 +58,17 @@ def check_refused(what, ended, said):
 
 
 def rehearse(refusing):
-    process = refusing.start(["rehearse", "--host", "mx.example", "--time", "0", "anna", "ben"])
-    output, errors = process.communicate(GIVEN, timeout=SECONDS)
+    with tempfile.TemporaryFile() as given:
+        given.write(GIVEN)
+        given.seek(0)
+        process = refusing.start(["rehearse", "--host", "mx.example", "--time", "0", "anna", "ben"], given)
+        output, errors = process.communicate(timeout=SECONDS)
+        read = os.lseek(given.fileno(), 0, os.SEEK_CUR)
     ended, what = (process.returncode, output, errors), refusing.refused()
     if is_refused(what, ended, refusing.is_all):
         check_refused(what, ended, [b""])
+        if errors == MEMORY and read:
+            raise Wrong(f"want of memory, and yet {read} bytes were read")
     elif ended[0] != 0 or errors or STORED not in output:
         raise Wrong(f"not refused: {ended!r:.300}")
     return what

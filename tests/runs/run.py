@@ -3,6 +3,7 @@
 import os
 import subprocess
 import sys
+import tempfile
 
 import rows
 
@@ -39,6 +40,18 @@ def play_on_full(row):
     return ended.returncode, b"", ended.stderr
 
 
+def play_with_blocks(row, blocks):
+    """With that many blocks; at the end, how much of the input was read."""
+    with tempfile.TemporaryFile() as given:
+        given.write(row.input())
+        given.seek(0)
+        ended = subprocess.run(
+            [*words(row), "--blocks", str(blocks)], stdin=given, capture_output=True, timeout=SECONDS
+        )
+        read = os.lseek(given.fileno(), 0, os.SEEK_CUR)
+    return ended.returncode, ended.stdout, ended.stderr, read
+
+
 def tell(name, found, wanted):
     print(f"{'ok' if found == wanted else 'FAILED'}: {name}", flush=True)
     if found != wanted:
@@ -54,6 +67,9 @@ def verdicts():
             yield tell(f"{row.name}, byte by byte", play_in_pieces(row), wanted)
     first = next(rows.rows())
     yield tell("standard output is full", play_on_full(first), (1, b"", b"lmtpd: device fault\n"))
+    for blocks in [0, 65_537]:
+        found = play_with_blocks(first, blocks)
+        yield tell(f"{blocks} blocks: nothing is read or written", found, (1, b"", b"lmtpd: size\n", 0))
 
 
 found = list(verdicts())
