@@ -14,6 +14,8 @@ pub struct Relay {
     says: Vec<u8>,
     at: usize,
     heard: Vec<u8>,
+    // each stays at its largest value
+    reads: u64,
     failures: u64,
     meeting: Option<Meeting>,
 }
@@ -24,6 +26,7 @@ impl Relay {
             says: says.to_vec(alloc)?,
             at: 0,
             heard: Vec::new(alloc),
+            reads: 0,
             failures: 0,
             meeting: None,
         })
@@ -50,7 +53,8 @@ impl Relay {
     }
 
     fn fail(&mut self) -> PeerFault
-        ensures { Rises self.old.failures self.new.failures }
+        ensures failed { Rises self.old.failures self.new.failures }
+        ensures same { self.new.reads ≡ self.old.reads }
     {
         self.failures = self.failures.saturating_add(1);
         PeerFault
@@ -62,12 +66,14 @@ impl Peer for Relay {
       read = None;
       unread = None;
       written = None;
+      reads = r.reads;
       failures = r.failures;
       stops = 0;
       holds = [];
     } };
 
     fn read(&mut self, buffer: &mut [u8]) -> Result<Came, PeerFault> {
+        self.reads = self.reads.saturating_add(1);
         if let Some(meeting) = &mut self.meeting {
             meeting.attend();
         }
@@ -95,6 +101,8 @@ impl Peer for Relay {
 pub struct Clients {
     next: Option<Relay>,
     ended: Option<Relay>,
+    // how many conversations have ended; it stays at its largest value
+    count: u64,
     out: bool,
     over: bool,
 }
@@ -106,6 +114,7 @@ impl Clients {
         Clients {
             next: client,
             ended: None,
+            count: 0,
             out: false,
             over: false,
         }
@@ -130,7 +139,7 @@ impl Visits for Clients {
 
     ghost MayGive = { λ clients peer. ⊤ };
 
-    ghost finished = { λ clients. None };
+    ghost finished = { λ clients. record { each = None; count = clients.count } };
 
     ghost out = { λ clients. clients.out };
 
@@ -147,6 +156,7 @@ impl Visits for Clients {
     fn done(&mut self, peer: Relay, end: EndCause) {
         let _ = end;
         self.ended = Some(peer);
+        self.count = self.count.saturating_add(1);
         self.out = false;
     }
 }
