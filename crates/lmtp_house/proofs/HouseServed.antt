@@ -13,6 +13,8 @@ use Rattle.mail_world.specs.Slips.{IsMerged}
 use Rattle.mail_post.specs.Channel.{Channel, Sender, Inbox, taken}
 use Rattle.mail_post.proofs.Offered.{none_refused}
 use Rattle.lmtp_lane.specs.LaneExchange.{for_box}
+use Rattle.mail_world.specs.declared.limits.TheConstants.{READ_LIMIT}
+use Rattle.lmtp_talk.specs.Served.{terms}
 use Rattle.lmtp_lane.specs.LaneRun.{HasServed}
 use Rattle.lmtp_lane.specs.Visits.{conversations_of}
 use Rattle.lmtp_house.specs.House.{VisitsView, LaneWork, lane_told}
@@ -87,7 +89,7 @@ due_is site lane b cs = refl
 module _ {V C R : Type 0} (May : C → ℕ → Type 0) (view : VisitsView V)
     (rv : R → V) (rs : R → List (Sender Note)) (rt : R → Inbox Slip) (rc : R → ℕ) (rg : R → Bool) where
   abbrev pub LaneOk : LaneTask V C → R → Type 0
-  LaneOk j r = HasServed j.site (May j.clock) (view.MayGive j.visits) (lane_before view j) (record {
+  LaneOk j r = HasServed (terms j.site READ_LIMIT) (May j.clock) (view.MayGive j.visits) (lane_before view j) (record {
     finished = view.finished (rv r);
     over = view.over (rv r);
     ends = record { lane = j.lane; senders = rs r; inbox = rt r; gone = rg r };

@@ -1,9 +1,9 @@
 -- What a server's run comes to: its lanes and its workers taken together.
-use Rattle.std.specs.Prelude.{◌≡◌, ◌<◌, ◌≤◌, ℕ, Bool, true, List, length, slice_get, Option, Some}
+use Rattle.std.specs.Prelude.{◌≡◌, ◌<◌, ◌≤◌, ℕ, Bool, true, List, length, slice_get, Some}
 use Rattle.std.specs.List.{AllByRecursion}
 use Rattle.mail_world.specs.declared.Note.{Note}
 use Rattle.mail_world.specs.declared.Slip.{Slip}
-use Rattle.mail_world.specs.declared.limits.TheConstants.{LANE_LIMIT, BLOCK_LIMIT, SLOT_LIMIT, CAPACITY_LIMIT}
+use Rattle.mail_world.specs.declared.limits.TheConstants.{LANE_LIMIT, BLOCK_LIMIT, SLOT_LIMIT, CAPACITY_LIMIT, READ_LIMIT}
 use Rattle.mail_world.specs.Fronts.{IsFront}
 use Rattle.mail_world.specs.Site.{Site}
 use Rattle.mail_world.specs.Slips.{of_worker}
@@ -16,7 +16,8 @@ use Rattle.lmtp_house.specs.declared.house.report.Tally.{Tally}
 use Rattle.lmtp_house.specs.declared.house.sizes.Sizes.{Sizes}
 use Rattle.mail_world.specs.Counts.{counted}
 use Rattle.lmtp_talk.specs.Peer.{PeerState}
-use Rattle.lmtp_lane.specs.Visits.{Finished, Visit, HasVisited, conversations_of}
+use Rattle.lmtp_talk.specs.Served.{terms}
+use Rattle.lmtp_lane.specs.Visits.{VisitsTold, Visit, HasVisited, conversations_of}
 
 -- the sizes that a server may have
 pub record IsSize (site : Site) (sizes : Sizes) (lanes spools gates : ℕ) : Type 0 where
@@ -31,7 +32,7 @@ pub record IsSize (site : Site) (sizes : Sizes) (lanes spools gates : ℕ) : Typ
 -- client is left
 pub record VisitsView (V : Type 0) : Type 1 where
   pub MayGive : V → PeerState → Type 0
-  pub finished : V → Option (List Finished)
+  pub finished : V → VisitsTold
   pub over : V → Bool
 
 -- what is handed in: clients by lane, and spools by mailbox
@@ -59,8 +60,8 @@ pub record BoxWork : Type 0 where
 -- what is told of a lane's run: the conversations that had ended before it and behind it, whether no client was left,
 -- and how many it held
 pub record LaneTold : Type 0 where
-  pub before : Option (List Finished)
-  pub after : Option (List Finished)
+  pub before : VisitsTold
+  pub after : VisitsTold
   pub over : Bool
   pub count : ℕ
 
@@ -76,7 +77,7 @@ lane_told view before after count = record {
 -- and each outcome is that of the slip that it heard.
 pub record IsLaneWork (site : Site) (May : ℕ → Type 0) (MayCome : PeerState → Type 0) (k : ℕ) (work : LaneWork)
     (told : LaneTold) : Type 0 where
-  pub visited : HasVisited site MayCome told.before told.after work.visits
+  pub visited : HasVisited (terms site READ_LIMIT) MayCome told.before told.after work.visits
   pub ended : told.over ≡ true
   pub counts : told.count ≡ counted (length work.visits)
   pub verdicts : VerdictsFit site (conversations_of work.visits)

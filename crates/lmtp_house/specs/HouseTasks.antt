@@ -3,6 +3,7 @@ use Rattle.std.specs.Prelude.{◌≡◌, ℕ, ◌+◌, ◌<◌, Bool, true, fals
 use Rattle.std.specs.List.{AllByRecursion}
 use Rattle.mail_world.specs.declared.Note.{Note}
 use Rattle.mail_world.specs.declared.Slip.{Slip}
+use Rattle.mail_world.specs.declared.limits.TheConstants.{READ_LIMIT}
 use Rattle.mail_world.specs.Site.{Site}
 use Rattle.mail_world.specs.Lists.{due, transactions, VerdictsFit}
 use Rattle.mbox_rd.specs.Spool.{SpoolState}
@@ -12,6 +13,7 @@ use Rattle.mail_post.specs.declared.channel.Gone.TheVariants.{Closed}
 use Rattle.box_worker.specs.Told.{worker_of, owed_to}
 use Rattle.lmtp_house.specs.declared.house.report.Tally.{Tally}
 use Rattle.lmtp_talk.specs.Peer.{PeerState}
+use Rattle.lmtp_talk.specs.Served.{terms}
 use Rattle.mail_world.specs.Counts.{counted}
 use Rattle.lmtp_lane.specs.LaneAccount.{IsAnswered}
 use Rattle.lmtp_lane.specs.LaneRun.{LaneState}
@@ -93,7 +95,7 @@ module _ {S : Type 0} where
 -- as IsLaneWork, with the outcomes as they were gathered
 pub record IsServedLane (site : Site) (May : ℕ → Type 0) (MayCome : PeerState → Type 0) (k : ℕ) (work : LaneWork)
     (told : LaneTold) : Type 0 where
-  pub visited : HasVisited site MayCome told.before told.after work.visits
+  pub visited : HasVisited (terms site READ_LIMIT) MayCome told.before told.after work.visits
   pub ended : told.over ≡ true
   pub counts : told.count ≡ counted (length work.visits)
   pub verdicts : VerdictsFit site (conversations_of work.visits)

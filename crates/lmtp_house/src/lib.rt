@@ -5,7 +5,8 @@ mod house;
 
 pub use house::{HouseFault, HouseReport, Sizes, Tally, has_failed, is_size, run_house};
 pub use lmtp_lane::{
-    Clock, Desk, LaneReport, SystemClock, TcpVisits, TimedListener, Visits, lane_run, tcp_visits,
+    Clock, Desk, LaneReport, SystemClock, TcpVisits, TimedListener, Visits, lane_run, lane_run_at,
+    tcp_visits,
 };
 pub use lmtp_talk::{
     Came, Delivery, Dialogue, EndCause, Outbox, Peer, PeerFault, ReadBuffer, TcpPeer, serve,

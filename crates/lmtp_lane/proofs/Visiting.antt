@@ -1,22 +1,25 @@
 -- The clients of a lane, one after another.
-use Rattle.std.proofs.Common.{◌≡◌, ℕ, ◌+◌, List, [], ◌∷◌, ◌++◌, length, map, Option, Some, None, refl, ap, sym, ◌∙◌, subst, append_assoc, append-nil, length-append, arith}
+use Rattle.std.proofs.Common.{◌≡◌, ℕ, ◌+◌, List, [], ◌∷◌, ◌++◌, length, map, Option, Some, None, inl, refl, ap, sym, ◌∙◌, subst, append_assoc, append-nil, length-append, arith}
 use Rattle.std.specs.List.{AllByRecursion}
 use Rattle.mail_world.specs.Site.{Site}
 use Rattle.mail_world.specs.Conversation.{Conversation}
 use Rattle.mail_world.specs.Lists.{Transaction, transactions}
 use Rattle.lmtp_talk.specs.declared.ending.EndCause.{EndCause}
-use Rattle.lmtp_talk.specs.Peer.{PeerState}
-use Rattle.lmtp_talk.specs.Served.{IsServed, transactions_in, accepted_behind_all}
-use Rattle.lmtp_lane.specs.Visits.{Finished, Finishes, Visit, IsVisit, finished_of, conversations_of, HasFinished, HasVisited, HasConversed}
+use Rattle.lmtp_talk.specs.Peer.{PeerState, RisesBy}
+use Rattle.lmtp_talk.specs.Served.{Terms, terms, HasRead, IsServed, transactions_in, accepted_behind_all}
+use Rattle.lmtp_talk.proofs.Counting.{rises_then}
+use Rattle.lmtp_lane.specs.Visits.{VisitsTold, Finished, Finishes, Visit, IsVisit, finished_of, conversations_of, HasFinished, HasVisited, HasConversed}
 use Rattle.mail_world.specs.Counts.{counted}
 
 -- a client that was served, and is handed back
-pub conversed : (site : Site) (old new : Option (List Finished)) (before after : PeerState) (Before After : ℕ → List Transaction → Type 0) (cause : EndCause)
-    → IsServed site before after Before After cause → Finishes old new after cause → HasConversed site before old new Before After
-conversed site old new before after Before After cause x finishes = record {
+pub conversed : (by : Terms) (old new : VisitsTold) (before after : PeerState) (Before After : ℕ → List Transaction → Type 0) (cause : EndCause)
+    → IsServed by before after Before After cause → HasRead by.reads before after cause → Finishes old.each new.each after cause → RisesBy 1 old.count new.count
+    → HasConversed by before old new Before After
+conversed by old new before after Before After cause x reads finishes counts = record {
   visit = record { before = before; after = after; conversation = x.conversation; cause = cause };
-  is = record { client = refl; said = x.said; moved = x.moved; accounted = x.accounted; says = x.says; causes = x.causes };
+  is = record { client = refl; reads = reads; said = x.said; moved = x.moved; accounted = x.accounted; says = x.says; causes = x.causes };
   told = finishes;
+  counts = counts;
   delivered = x.delivered;
 }
 
@@ -46,23 +49,23 @@ conversations_last [] v = refl
 conversations_last (x ∷ vs) v = ap (λ l. x.conversation ∷ l) (conversations_last vs v)
 
 -- the clients that were served so far, and what the delivery has come to with them
-pub record HasCalled (site : Site) (MayCome : PeerState → Type 0) (old now : Option (List Finished)) (Come : ℕ → List Transaction → Type 0) (count : ℕ) : Type 0 where
+pub record HasCalled (by : Terms) (MayCome : PeerState → Type 0) (old now : VisitsTold) (Come : ℕ → List Transaction → Type 0) (count : ℕ) : Type 0 where
   pub visits : List Visit
-  pub visited : HasVisited site MayCome old now visits
+  pub visited : HasVisited by MayCome old now visits
   pub counts : count ≡ counted (length visits)
-  pub come : Come (accepted_all site 0 (conversations_of visits)) (transactions site 0 (conversations_of visits))
+  pub come : Come (accepted_all by.site 0 (conversations_of visits)) (transactions by.site 0 (conversations_of visits))
 
 -- none yet
 told_none : (old : Option (List Finished)) → HasFinished old old []
 told_none None = refl
 told_none (Some told) = ap (λ l. Some l) (sym (append-nil told))
 
-pub called_none : (site : Site) (MayCome : PeerState → Type 0) (old : Option (List Finished)) (Come : ℕ → List Transaction → Type 0) → Come 0 [] → HasCalled site MayCome old old Come 0
-called_none site MayCome old Come come = record {
+pub called_none : (by : Terms) (MayCome : PeerState → Type 0) (old : VisitsTold) (Come : ℕ → List Transaction → Type 0) → Come 0 [] → HasCalled by MayCome old old Come 0
+called_none by MayCome old Come come = record {
   visits = [];
-  visited = record { told = told_none old; each = tt };
+  visited = record { told = told_none old.each; counts = inl (omega arith); each = tt };
   counts = refl;
-  come = subst (λ ts. Come 0 ts) (sym (transactions_first site 0)) come;
+  come = subst (λ ts. Come 0 ts) (sym (transactions_first by.site 0)) come;
 }
 
 -- one client more
@@ -82,13 +85,15 @@ each_more : (P : Visit → Type 0) (vs : List Visit) (v : Visit) → AllByRecurs
 each_more P [] v h p = (p, tt)
 each_more P (x ∷ vs) v h p = (h.0, each_more P vs v h.1 p)
 
-more_called : (site : Site) (MayCome : PeerState → Type 0) (peer : PeerState) (old now next : Option (List Finished)) (Come Come' : ℕ → List Transaction → Type 0) (count count' : ℕ)
-    → count' ≡ counted (count + 1) → MayCome peer → HasCalled site MayCome old now Come count → HasConversed site peer now next Come Come' → HasCalled site MayCome old next Come' count'
-more_called site MayCome peer old now next Come Come' count count' e may x y =
+more_called : (by : Terms) (MayCome : PeerState → Type 0) (peer : PeerState) (old now next : VisitsTold) (Come Come' : ℕ → List Transaction → Type 0) (count count' : ℕ)
+    → count' ≡ counted (count + 1) → MayCome peer → HasCalled by MayCome old now Come count → HasConversed by peer now next Come Come' → HasCalled by MayCome old next Come' count'
+more_called by MayCome peer old now next Come Come' count count' e may x y =
     let v : Visit = y.visit in
+    let site : Site = by.site in
     let cs : List Conversation = conversations_of x.visits in
-    let is : IsVisit site MayCome v = record {
+    let is : IsVisit by MayCome v = record {
       client = subst MayCome (sym y.is.client) may;
+      reads = y.is.reads;
       said = y.is.said;
       moved = y.is.moved;
       accounted = y.is.accounted;
@@ -105,15 +110,15 @@ more_called site MayCome peer old now next Come Come' count count' e may x y =
     = subst (λ ts. Come' (accepted_all site 0 (cs ++ v.conversation ∷ [])) ts) (sym (transactions_last site 0 cs v.conversation)) counted_so in
     record {
       visits = x.visits ++ v ∷ [];
-      visited = record { told = told_more old now next x.visits v x.visited.told y.told; each = each_more (IsVisit site MayCome) x.visits v x.visited.each is };
+      visited = record { told = told_more old.each now.each next.each x.visits v x.visited.told y.told; counts = subst (λ n. RisesBy n old.count next.count) (sym size) (rises_then (length x.visits) 1 old.count now.count next.count x.visited.counts y.counts); each = each_more (IsVisit by MayCome) x.visits v x.visited.each is };
       counts = omega (arith, e, x.counts, size);
       come = subst (λ l. Come' (accepted_all site 0 l) (transactions site 0 l)) (sym all) come;
     }
 
-pub called_more : (site site' : Site) (MayCome : PeerState → Type 0) (peer : PeerState) (old now now' next : Option (List Finished)) (Come Come' : ℕ → List Transaction → Type 0) (count count' : ℕ)
-    → site' ≡ site → now' ≡ now → count' ≡ counted (count + 1) → MayCome peer → HasCalled site MayCome old now Come count → HasConversed site' peer now' next Come Come'
-    → HasCalled site MayCome old next Come' count'
-called_more site site' MayCome peer old now now' next Come Come' count count' here same e may x y =
-    let P : Site → Type 0 = λ s. HasConversed s peer now' next Come Come' in
-    let Q : Option (List Finished) → Type 0 = λ f. HasConversed site peer f next Come Come' in
-    more_called site MayCome peer old now next Come Come' count count' e may x (subst Q same (subst P here y))
+pub called_more : (reads : ℕ) (site site' : Site) (MayCome : PeerState → Type 0) (peer : PeerState) (old now now' next : VisitsTold) (Come Come' : ℕ → List Transaction → Type 0) (count count' : ℕ)
+    → site' ≡ site → now' ≡ now → count' ≡ counted (count + 1) → MayCome peer → HasCalled (terms site reads) MayCome old now Come count → HasConversed (terms site' reads) peer now' next Come Come'
+    → HasCalled (terms site reads) MayCome old next Come' count'
+called_more reads site site' MayCome peer old now now' next Come Come' count count' here same e may x y =
+    let P : Site → Type 0 = λ s. HasConversed (terms s reads) peer now' next Come Come' in
+    let Q : VisitsTold → Type 0 = λ f. HasConversed (terms site reads) peer f next Come Come' in
+    more_called (terms site reads) MayCome peer old now next Come Come' count count' e may x (subst Q same (subst P here y))

@@ -1,18 +1,18 @@
 -- What a lane comes to.
-use Rattle.std.specs.Prelude.{◌≡◌, ℕ, Bool, true, false, List, length, flat_map, Option}
+use Rattle.std.specs.Prelude.{◌≡◌, ℕ, Bool, true, false, List, length, flat_map}
 use Rattle.std.specs.List.{AllByRecursion}
 use Rattle.mail_world.specs.declared.Slip.{Slip}
-use Rattle.mail_world.specs.Site.{Site}
 use Rattle.mail_world.specs.Lists.{transactions, VerdictsFit, copies}
 use Rattle.mail_world.specs.Counts.{counted}
 use Rattle.lmtp_talk.specs.Peer.{PeerState}
+use Rattle.lmtp_talk.specs.Served.{Terms}
 use Rattle.lmtp_lane.specs.LaneExchange.{LaneEnds, HasExchanged}
 use Rattle.lmtp_lane.specs.LaneAccount.{IsAnswered, IsHeardInTurn}
-use Rattle.lmtp_lane.specs.Visits.{Finished, Visit, HasVisited, conversations_of}
+use Rattle.lmtp_lane.specs.Visits.{VisitsTold, Visit, HasVisited, conversations_of}
 
 -- a lane between two conversations
 pub record LaneState : Type 0 where
-  pub finished : Option (List Finished)
+  pub finished : VisitsTold
   pub over : Bool
   pub ends : LaneEnds
   pub conversations : ℕ
@@ -20,18 +20,18 @@ pub record LaneState : Type 0 where
 -- A lane served these clients: each conversation's replies are those to its inputs, the senders gave the mailboxes what
 -- the conversations owe them, up to a copy that was handed back, the outcomes are those of the slips that were heard, and
 -- each moment is one that the clock may answer. Without a gone channel it ended because there was no client more.
-pub record HasServed (site : Site) (May : ℕ → Type 0) (MayCome : PeerState → Type 0) (old new : LaneState) : Type 0 where
+pub record HasServed (by : Terms) (May : ℕ → Type 0) (MayCome : PeerState → Type 0) (old new : LaneState) : Type 0 where
   pub visits : List Visit
-  pub visited : HasVisited site MayCome old.finished new.finished visits
+  pub visited : HasVisited by MayCome old.finished new.finished visits
   pub ended : new.ends.gone ≡ false → new.over ≡ true
   pub counts : new.conversations ≡ counted (length visits)
   pub came : List Slip
   pub own : List Slip
   pub heard : List Slip
-  pub exchanged : HasExchanged (flat_map (copies old.ends.lane) (transactions site 0 (conversations_of visits)))
+  pub exchanged : HasExchanged (flat_map (copies old.ends.lane) (transactions by.site 0 (conversations_of visits)))
       (record { came = came; own = own; heard = heard }) old.ends new.ends
-  pub turns : IsHeardInTurn old.ends.lane (transactions site 0 (conversations_of visits))
+  pub turns : IsHeardInTurn old.ends.lane (transactions by.site 0 (conversations_of visits))
       (record { came = came; own = own; heard = heard })
-  pub answered : AllByRecursion (IsAnswered old.ends.lane heard) (transactions site 0 (conversations_of visits))
-  pub verdicts : VerdictsFit site (conversations_of visits)
-  pub moments : AllByRecursion (λ t. May t.disposition.moment) (transactions site 0 (conversations_of visits))
+  pub answered : AllByRecursion (IsAnswered old.ends.lane heard) (transactions by.site 0 (conversations_of visits))
+  pub verdicts : VerdictsFit by.site (conversations_of visits)
+  pub moments : AllByRecursion (λ t. May t.disposition.moment) (transactions by.site 0 (conversations_of visits))

@@ -1,10 +1,12 @@
 -- What contracts see of the clients that connect to a listener, and how they are shared out among lanes.
 use Rattle.std.specs.Prelude.{◌≡◌, ◌+◌, ◌/◌, ◌%◌, ◌⊎◌, ◌↔◌, ℕ, Bool, true, false, List, map}
-use Rattle.std.specs.Prelude.{nat_lt, if◌then◌else◌, Option, is_none, is_some, IsNone, IfSome}
+use Rattle.std.specs.Prelude.{nat_lt, if◌then◌else◌, Option, None, is_none, is_some, IsNone, IfSome}
 use Rattle.std.specs.List.{range_with_len}
 use Rattle.lmtp_talk.specs.declared.tcp.peer.TcpPeer.{TcpPeer}
 use Rattle.lmtp_lane.specs.declared.tcp.visits.TcpVisits.{TcpVisits}
+use Rattle.lmtp_talk.specs.Peer.{PeerState, RisesBy}
 use Rattle.lmtp_talk.specs.TcpPeer.{IsNew}
+use Rattle.lmtp_lane.specs.Visits.{VisitsTold}
 
 -- how many conversations may still be held
 abbrev pub connections_left : {L : Type 0} → TcpVisits L → ℕ
@@ -13,6 +15,18 @@ connections_left v = v.connections
 -- how many reads each of them may make
 abbrev pub reads_each : {L : Type 0} → TcpVisits L → ℕ
 reads_each v = v.reads
+
+-- how many of the conversations have ended
+abbrev pub conversations_ended : {L : Type 0} → TcpVisits L → ℕ
+conversations_ended v = v.ended
+
+-- what it tells: how many conversations have ended, and none of them
+abbrev pub told_by : {L : Type 0} → TcpVisits L → VisitsTold
+told_by v = record { each = None; count = v.ended }
+
+-- a client who has done nothing yet
+abbrev pub IsNewcomer : PeerState → Type 0
+IsNewcomer peer = (peer.reads ≡ 0) × (peer.failures ≡ 0) × (peer.stops ≡ 0)
 
 -- a client was handed out, and with it the buffer
 abbrev pub is_out : {L : Type 0} → TcpVisits L → Bool
@@ -34,10 +48,12 @@ pub record TakesClient {L T : Type 0} (old new : TcpVisits L) (client : Option (
   pub counts : new.connections + (if is_some client then 1 else 0) ≡ old.connections
   pub none : IsNone client ↔ ((old.connections ≡ 0) ⊎ (new.failed ≡ true))
   pub same : new.reads ≡ old.reads
+  pub still : new.ended ≡ old.ended
 
--- the client is back, and all else stays
+-- the client is back, and its conversation is one that has ended; all else stays
 pub record TakesBack {L : Type 0} (old new : TcpVisits L) : Type 0 where
   pub back : is_out new ≡ false
+  pub ended : RisesBy 1 old.ended new.ended
   pub connections : new.connections ≡ old.connections
   pub reads : new.reads ≡ old.reads
   pub over : new.over ≡ old.over

@@ -1,18 +1,23 @@
 -- The clients that a lane served.
-use Rattle.std.specs.Prelude.{◌≡◌, ℕ, List, [], ◌∷◌, ◌++◌, map, Option, Some, None}
+use Rattle.std.specs.Prelude.{◌≡◌, ℕ, List, [], ◌∷◌, ◌++◌, length, map, Option, Some, None}
 use Rattle.std.specs.List.{AllByRecursion}
-use Rattle.mail_world.specs.Site.{Site}
 use Rattle.mail_world.specs.Conversation.{Conversation, IsAccount, inputs, replies}
 use Rattle.mail_world.specs.Lists.{Transaction}
 use Rattle.lmtp_talk.specs.declared.ending.EndCause.{EndCause}
 use Rattle.lmtp_talk.specs.declared.ending.EndCause.TheVariants as ends
-use Rattle.lmtp_talk.specs.Peer.{PeerState, HasMoved}
-use Rattle.lmtp_talk.specs.Served.{IsWritten, EndsFor, transactions_in, accepted_behind_all}
+use Rattle.lmtp_talk.specs.Peer.{PeerState, HasMoved, RisesBy}
+use Rattle.lmtp_talk.specs.Served.{Terms, IsWritten, EndsFor, HasRead, transactions_in, accepted_behind_all}
 
 -- a conversation that has ended: its client, as it was handed back, and the cause
 pub record Finished : Type 0 where
   pub peer : PeerState
   pub cause : EndCause
+
+-- what a Visits tells of the conversations that have ended: each of them, where it tells them, and how many these are; the
+-- count stays at its largest value
+pub record VisitsTold : Type 0 where
+  pub each : Option (List Finished)
+  pub count : ℕ
 
 -- one more conversation is told, where they are told
 abbrev pub Finishes : Option (List Finished) → Option (List Finished) → PeerState → EndCause → Type 0
@@ -27,15 +32,16 @@ pub record Visit : Type 0 where
   pub conversation : Conversation
   pub cause : EndCause
 
--- the client is one that may come; what was read and written is the conversation, whose account has an entry for each data
+-- the client is one that may come; no more reads were made of it than may be, and each was counted; what was read and written is the conversation, whose account has an entry for each data
 -- that ended; and it ended for that cause
-pub record IsVisit (site : Site) (MayCome : PeerState → Type 0) (v : Visit) : Type 0 where
+pub record IsVisit (by : Terms) (MayCome : PeerState → Type 0) (v : Visit) : Type 0 where
   pub client : MayCome v.before
+  pub reads : HasRead by.reads v.before v.after v.cause
   pub said : List ℕ
   pub moved : HasMoved v.before v.after v.conversation.bytes said
-  pub accounted : IsAccount site v.conversation
-  pub says : IsWritten (replies site (inputs site v.conversation)) (v.cause ≡ ends.WriteFault) said
-  pub causes : EndsFor site v.conversation v.before v.after v.cause
+  pub accounted : IsAccount by.site v.conversation
+  pub says : IsWritten (replies by.site (inputs by.site v.conversation)) (v.cause ≡ ends.WriteFault) said
+  pub causes : EndsFor by v.conversation v.before v.after v.cause
 
 abbrev pub finished_of : Visit → Finished
 finished_of v = record { peer = v.after; cause = v.cause }
@@ -48,17 +54,19 @@ abbrev pub HasFinished : Option (List Finished) → Option (List Finished) → L
 HasFinished None new visits = new ≡ None
 HasFinished (Some told) new visits = new ≡ Some (told ++ map finished_of visits)
 
--- the clients that were served, one after another
-pub record HasVisited (site : Site) (MayCome : PeerState → Type 0) (old new : Option (List Finished)) (visits : List Visit)
+-- the clients that were served, one after another, and each was handed back
+pub record HasVisited (by : Terms) (MayCome : PeerState → Type 0) (old new : VisitsTold) (visits : List Visit)
     : Type 0 where
-  pub told : HasFinished old new visits
-  pub each : AllByRecursion (IsVisit site MayCome) visits
+  pub told : HasFinished old.each new.each visits
+  pub counts : RisesBy (length visits) old.count new.count
+  pub each : AllByRecursion (IsVisit by MayCome) visits
 
 -- this client was served, and handed back; a delivery that had come to so much before has come to its messages more
-pub record HasConversed (site : Site) (peer : PeerState) (old new : Option (List Finished))
+pub record HasConversed (by : Terms) (peer : PeerState) (old new : VisitsTold)
     (Before After : ℕ → List Transaction → Type 0) : Type 0 where
   pub visit : Visit
-  pub is : IsVisit site (λ client. client ≡ peer) visit
-  pub told : Finishes old new visit.after visit.cause
+  pub is : IsVisit by (λ client. client ≡ peer) visit
+  pub told : Finishes old.each new.each visit.after visit.cause
+  pub counts : RisesBy 1 old.count new.count
   pub delivered : (n : ℕ) (ts : List Transaction) → Before n ts
-      → After (accepted_behind_all site n visit.conversation) (ts ++ transactions_in site n visit.conversation)
+      → After (accepted_behind_all by.site n visit.conversation) (ts ++ transactions_in by.site n visit.conversation)

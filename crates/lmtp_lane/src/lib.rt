@@ -17,6 +17,6 @@ mod visits;
 pub use clock::Clock;
 pub use desk::Desk;
 pub use report::LaneReport;
-pub use run::lane_run;
+pub use run::{lane_run, lane_run_at};
 pub use tcp::{SystemClock, TcpVisits, TimedListener, tcp_visits};
 pub use visits::Visits;

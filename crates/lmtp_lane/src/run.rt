@@ -2,6 +2,7 @@
 
 ghost use Rattle.std.specs.Prelude.{◌≡◌, [], length, true, false};
 ghost use Rattle.lmtp_talk.specs.Peer.{PeerState};
+ghost use Rattle.lmtp_talk.specs.Served.{terms};
 ghost use Rattle.mail_post.specs.Gathering.{IsDone};
 ghost use Rattle.mail_post.specs.Offered.{HaveNumber, any_refused};
 ghost use Rattle.lmtp_lane.specs.LaneAccount.{AgreesWith, HasOffered};
@@ -19,6 +20,7 @@ use crate::visits::Visits;
 use lmtp_talk::{Dialogue, serve};
 use lmtp_text::Site;
 use mail_post::{Sender, SlipReceiver};
+use mail_world::limits::READ_LIMIT;
 use msg_depot::{Depot, DepotName};
 use std::marker::Brand;
 use std::sync::Wait;
@@ -40,7 +42,43 @@ pub fn lane_run<N: DepotName, V: Visits, C: Clock, R: Wait>(
     requires count { length senders.items ≡ length site.now.boxes }
     requires lane { HaveNumber lane senders.items }
     requires none_out { V.out visits ≡ false }
-    ensures { HasServed site.now (C.May clock.now) (V.MayGive visits)
+    ensures { HasServed (terms site.now READ_LIMIT) (C.May clock.now) (V.MayGive visits)
+        (record {
+          finished = V.finished visits;
+          over = V.over visits;
+          ends = record { lane = lane; senders = senders.items; inbox = slips; gone = false };
+          conversations = 0;
+        })
+        (record {
+          finished = V.finished result.visits;
+          over = V.over result.visits;
+          ends = record { lane = lane; senders = result.senders.items; inbox = result.slips; gone = result.gone };
+          conversations = result.conversations;
+        }) }
+{
+    lane_run_at(
+        rt, lane, site, desk, visits, depot, senders, slips, clock, READ_LIMIT,
+    )
+}
+
+/// The same, where each conversation may make so many reads.
+pub fn lane_run_at<N: DepotName, V: Visits, C: Clock, R: Wait>(
+    rt: &R,
+    lane: u32,
+    site: &Site,
+    desk: Desk,
+    visits: V,
+    depot: &Depot<N>,
+    senders: Vec<Sender<N>>,
+    slips: SlipReceiver,
+    clock: &C,
+    reads: u32,
+) -> LaneReport<N, V>
+    requires site { desk.dialogue.session.site ≡ site.now }
+    requires count { length senders.items ≡ length site.now.boxes }
+    requires lane { HaveNumber lane senders.items }
+    requires none_out { V.out visits ≡ false }
+    ensures { HasServed (terms site.now reads) (C.May clock.now) (V.MayGive visits)
         (record {
           finished = V.finished visits;
           over = V.over visits;
@@ -56,25 +94,32 @@ pub fn lane_run<N: DepotName, V: Visits, C: Clock, R: Wait>(
 {
     let Desk { dialogue, gather } = desk;
     let exchange = Exchange::new(*senders.allocator(), lane, senders, slips, gather);
-    lane_at::<Brand, N, V, C, R>(rt, dialogue, exchange, visits, depot, clock)
+    let bounded = BoundedDialogue { dialogue, reads };
+    lane_at::<Brand, N, V, C, R>(rt, bounded, exchange, visits, depot, clock)
+}
+
+// A dialogue, and how many reads each of its conversations may make.
+struct BoundedDialogue {
+    dialogue: Dialogue,
+    reads: u32,
 }
 
 // The same, at a type that stands for the lane's start.
 fn lane_at<S: LaneStart, N: DepotName, V: Visits, C: Clock, R: Wait>(
     rt: &R,
-    dialogue: Dialogue,
+    bounded: BoundedDialogue,
     exchange: Exchange<N>,
     visits: V,
     depot: &Depot<N>,
     clock: &C,
 ) -> LaneReport<N, V>
-    requires here { dialogue.session.site ≡ S.site }
+    requires here { bounded.dialogue.session.site ≡ S.site }
     requires count { length exchange.senders.items ≡ length S.site.boxes }
     requires start { ends_of exchange ≡ record S.ends { gone = any_refused S.ends.senders } }
     requires none_missing { IsDone exchange.gather.gather }
     requires clock { AgreesWith (C.May clock.now) S.May }
     requires none_out { V.out visits ≡ false }
-    ensures { HasServed S.site S.May (V.MayGive visits)
+    ensures { HasServed (terms S.site bounded.reads) S.May (V.MayGive visits)
         (record { finished = V.finished visits; over = V.over visits; ends = S.ends; conversations = 0 })
         (record {
           finished = V.finished result.visits;
@@ -88,10 +133,13 @@ fn lane_at<S: LaneStart, N: DepotName, V: Visits, C: Clock, R: Wait>(
           conversations = result.conversations;
         }) }
 {
+    let BoundedDialogue {
+        mut dialogue,
+        reads,
+    } = bounded;
     let mut visits = visits;
-    let mut dialogue = dialogue;
     let mut delivery: LaneDelivery<N, C, R, S> = LaneDelivery::new(rt, depot, clock, exchange);
-    let conversations = serve_all(rt, &mut dialogue, &mut visits, &mut delivery);
+    let conversations = serve_all(rt, &mut dialogue, &mut visits, &mut delivery, reads);
     let Exchange {
         senders,
         slips,
@@ -113,12 +161,13 @@ fn serve_all<'a, N: DepotName, V: Visits, C: Clock, R: Wait, S: LaneStart>(
     dialogue: &mut Dialogue,
     visits: &mut V,
     delivery: &mut LaneDelivery<'a, N, C, R, S>,
+    reads: u32,
 ) -> u64
     requires here { dialogue.old.session.site ≡ S.site }
     requires begun { HasOffered S.May delivery.old.accepted S.ends (ends_of delivery.old.exchange) 0 [] }
     requires clock { AgreesWith (C.May delivery.old.clock.now) S.May }
     requires none_out { V.out visits.old ≡ false }
-    ensures { HasServed S.site S.May (V.MayGive visits.old)
+    ensures { HasServed (terms S.site reads) S.May (V.MayGive visits.old)
         (record { finished = V.finished visits.old; over = V.over visits.old; ends = S.ends; conversations = 0 })
         (record {
           finished = V.finished visits.new;
@@ -135,7 +184,7 @@ fn serve_all<'a, N: DepotName, V: Visits, C: Clock, R: Wait, S: LaneStart>(
         let Some(peer) = visits.next(rt) else {
             return conversations;
         };
-        converse(dialogue, visits, delivery, peer);
+        converse(dialogue, visits, delivery, peer, reads);
         conversations = conversations.saturating_add(1);
     }
     unreachable!()
@@ -147,12 +196,13 @@ fn converse<'a, N: DepotName, V: Visits, C: Clock, R: Wait, S: LaneStart>(
     visits: &mut V,
     delivery: &mut LaneDelivery<'a, N, C, R, S>,
     peer: V::P,
+    reads: u32,
 )
     requires here { S.site ≡ dialogue.old.session.site }
     requires sound { delivery.old.exchange.gone ≡ false }
     requires out { V.out visits.old ≡ true }
-    ensures converses { HasConversed dialogue.old.session.site (V.P.state peer) (V.finished visits.old)
-        (V.finished visits.new)
+    ensures converses { HasConversed (terms dialogue.old.session.site reads) (V.P.state peer)
+        (V.finished visits.old) (V.finished visits.new)
         (λ n ts. HasOffered S.May delivery.old.accepted S.ends (ends_of delivery.old.exchange) n ts
         × AgreesWith (C.May delivery.old.clock.now) S.May)
         (λ n ts. HasOffered S.May delivery.new.accepted S.ends (ends_of delivery.new.exchange) n ts
@@ -162,6 +212,6 @@ fn converse<'a, N: DepotName, V: Visits, C: Clock, R: Wait, S: LaneStart>(
     ensures site { dialogue.new.session.site ≡ dialogue.old.session.site }
 {
     let mut peer = peer;
-    let end = serve(dialogue, &mut peer, delivery);
+    let end = serve(dialogue, &mut peer, delivery, reads);
     visits.done(peer, end);
 }

@@ -1,8 +1,8 @@
 //! The clients that a lane serves, one after another.
 
-ghost use Rattle.std.specs.Prelude.{◌≡◌, List, Bool, Option, IfSome, is_none, is_some, true, false};
-ghost use Rattle.lmtp_talk.specs.Peer.{PeerState};
-ghost use Rattle.lmtp_lane.specs.Visits.{Finished, Finishes};
+ghost use Rattle.std.specs.Prelude.{◌≡◌, Bool, IfSome, is_none, is_some, true, false};
+ghost use Rattle.lmtp_talk.specs.Peer.{PeerState, RisesBy};
+ghost use Rattle.lmtp_lane.specs.Visits.{VisitsTold, Finishes};
 
 use lmtp_talk::{EndCause, Peer};
 use std::sync::Wait;
@@ -15,8 +15,8 @@ pub trait Visits: Drop {
     // the clients that it may hand out
     ghost MayGive: { Self → PeerState → Type 0 };
 
-    // the conversations that have ended, in their order, where it tells them
-    ghost finished: { Self → Option (List Finished) };
+    // the conversations that have ended, in their order, where it tells them, and how many they are
+    ghost finished: { Self → VisitsTold };
 
     // a client was handed out, and has not come back
     ghost out: { Self → Bool };
@@ -36,7 +36,8 @@ pub trait Visits: Drop {
     /// Takes the client back, whose conversation ended for that cause.
     fn done(&mut self, peer: Self::P, end: EndCause)
         requires { out self.old ≡ true }
-        ensures finishes { Finishes (finished self.old) (finished self.new) (Self.P.state peer) end }
+        ensures finishes { Finishes (finished self.old).each (finished self.new).each (Self.P.state peer) end }
+        ensures counts { RisesBy 1 (finished self.old).count (finished self.new).count }
         ensures others { (peer : PeerState) → MayGive self.new peer → MayGive self.old peer }
         ensures back { out self.new ≡ false }
         ensures same { over self.new ≡ over self.old };

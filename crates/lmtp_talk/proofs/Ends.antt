@@ -6,7 +6,6 @@ use Rattle.std.proofs.lemmas.Grind.{flat_map-append}
 use Rattle.mail_world.specs.declared.State.{State}
 use Rattle.mail_world.specs.declared.State.TheVariants.{Fresh, Greeted, Sender, Recipients, Content, Waiting, Ended}
 use Rattle.mail_world.specs.declared.Reply.TheVariants.{Greeting}
-use Rattle.mail_world.specs.declared.limits.TheConstants.{READ_LIMIT}
 use Rattle.mail_world.specs.Failures.{Rises}
 use Rattle.mail_world.specs.Site.{Site}
 use Rattle.mail_world.specs.Session.{Session, fresh, Input, Stop}
@@ -21,7 +20,7 @@ use Rattle.lmtp_talk.specs.declared.ending.EndCause.{EndCause}
 use Rattle.lmtp_talk.specs.declared.ending.EndCause.TheVariants as ends
 use Rattle.lmtp_talk.specs.Peer.{PeerState, HasMoved, PeerFailed, HasStopped}
 use Rattle.lmtp_talk.specs.Saying.{HasSaid}
-use Rattle.lmtp_talk.specs.Served.{is_quit, has_quit, IsWritten, IsServed}
+use Rattle.lmtp_talk.specs.Served.{terms, is_quit, has_quit, IsWritten, IsServed}
 use Rattle.lmtp_talk.specs.Standing.{Comes, IsInside, IsSoFar, standing, beginning}
 use Rattle.lmtp_talk.specs.Steps.{TakesInputs}
 use Rattle.lmtp_talk.specs.Turns.{Leaves, stopped_or}
@@ -139,11 +138,11 @@ written_broken : (start now : PeerState) (pending came text : List ℕ) (fails :
 written_broken start now pending came text fails h f = record { begins = h.is.begins; whole = λ g. absurd (g f) }
 
 -- why the conversation ends, in the words of the session's state
-record EndsBy (state : State) (stopped : Bool) (handled : List ℕ) (old new : PeerState) (end : EndCause) : Type 0 where
+record EndsBy (reads : ℕ) (state : State) (stopped : Bool) (handled : List ℕ) (old new : PeerState) (end : EndCause) : Type 0 where
   pub quit : end ≡ ends.Quit → state ≡ Ended
   pub quits : state ≡ Ended → (end ≡ ends.Quit) ⊎ (end ≡ ends.WriteFault)
   pub end_of_input : end ≡ ends.EndOfInput → IsAtEnd new.unread
-  pub read_bound : end ≡ ends.ReadBound → READ_LIMIT ≤ length handled
+  pub read_bound : end ≡ ends.ReadBound → reads ≤ length handled
   pub stop : end ≡ ends.Stopped → stopped ≡ true
   pub stops : stopped ≡ true → (end ≡ ends.Stopped) ⊎ (end ≡ ends.WriteFault)
   pub rose : stopped ≡ true → Rises old.stops new.stops
@@ -153,17 +152,17 @@ record EndsBy (state : State) (stopped : Bool) (handled : List ℕ) (old new : P
   pub sound : (end ≡ ends.ReadFault → ⊥) → (end ≡ ends.WriteFault → ⊥) → new.failures ≡ old.failures
 
 -- all that came is handled, and its replies are written as far as they were
-record Finishes (site : Site) (start now : PeerState) (stopped : Bool) (ps : List Part) (state : State) (handled : List ℕ) (end : EndCause) : Type 0 where
+record Finishes (reads : ℕ) (site : Site) (start now : PeerState) (stopped : Bool) (ps : List Part) (state : State) (handled : List ℕ) (end : EndCause) : Type 0 where
   pub written : List ℕ
   pub moved : HasMoved start now handled written
   pub says : IsWritten (last_text site (last_inputs site ps stopped)) (end ≡ ends.WriteFault) written
-  pub causes : EndsBy state stopped handled start now end
+  pub causes : EndsBy reads state stopped handled start now end
 
-finished : (site : Site) (start before now : PeerState) (Before Come Last : ℕ → List Transaction → Type 0) (Drafting : ℕ → List Transaction → List ℕ → Type 0)
+finished : (reads : ℕ) (site : Site) (start before now : PeerState) (Before Come Last : ℕ → List Transaction → Type 0) (Drafting : ℕ → List Transaction → List ℕ → Type 0)
     (dialogue : Dialogue) (handled : List ℕ) (stopped : Bool) (end : EndCause)
     → (h : IsSoFar (beginning site start Before) (standing dialogue before Come Drafting) handled handled) → Comes site h.done Before Last
-    → Finishes site start now stopped h.done dialogue.session.session.state handled end → IsServed site start now Before Last end
-finished site start before now Before Come Last Drafting dialogue handled stopped end h comes f =
+    → Finishes reads site start now stopped h.done dialogue.session.session.state handled end → IsServed (terms site reads) start now Before Last end
+finished reads site start before now Before Come Last Drafting dialogue handled stopped end h comes f =
     let c : Conversation = record { bytes = handled; dispositions = dispositions_of h.done; stopped = stopped } in
     let at : List ℕ → Conversation = λ l. record { bytes = l; dispositions = dispositions_of h.done; stopped = stopped } in
     let none : HasNoPart (session_behind site fresh h.done).state h.rest =
@@ -211,13 +210,13 @@ pub record IsQuiet (dialogue : Dialogue) : Type 0 where
   pub none : dialogue.outbox.pending ≡ []
 
 -- why a conversation ends in which nobody said to stop, and no read failed
-abbrev pub EndsAs : EndCause → Dialogue → PeerState → List ℕ → Type 0
-EndsAs ends.Quit dialogue now handled = IsQuiet dialogue × (dialogue.session.session.state ≡ Ended)
-EndsAs ends.EndOfInput dialogue now handled = IsQuiet dialogue × (dialogue.session.session.state ≡ Ended → ⊥) × IsAtEnd now.unread
-EndsAs ends.ReadBound dialogue now handled = IsQuiet dialogue × (dialogue.session.session.state ≡ Ended → ⊥) × (READ_LIMIT ≤ length handled)
-EndsAs ends.WriteFault dialogue now handled = dialogue.outbox.broken ≡ true
-EndsAs ends.ReadFault dialogue now handled = ⊥
-EndsAs ends.Stopped dialogue now handled = ⊥
+abbrev pub EndsAs : ℕ → EndCause → Dialogue → PeerState → List ℕ → Type 0
+EndsAs reads ends.Quit dialogue now handled = IsQuiet dialogue × (dialogue.session.session.state ≡ Ended)
+EndsAs reads ends.EndOfInput dialogue now handled = IsQuiet dialogue × (dialogue.session.session.state ≡ Ended → ⊥) × IsAtEnd now.unread
+EndsAs reads ends.ReadBound dialogue now handled = IsQuiet dialogue × (dialogue.session.session.state ≡ Ended → ⊥) × (reads ≤ length handled)
+EndsAs reads ends.WriteFault dialogue now handled = dialogue.outbox.broken ≡ true
+EndsAs reads ends.ReadFault dialogue now handled = ⊥
+EndsAs reads ends.Stopped dialogue now handled = ⊥
 
 -- what the outbox tells
 said_whole : (start now : PeerState) (dialogue : Dialogue) (came text : List ℕ) → IsQuiet dialogue → HasSaid start now dialogue.outbox came text → HasSaid start now (record { pending = []; broken = false }) came text
@@ -226,19 +225,19 @@ said_whole start now dialogue came text q h = subst (λ b. HasSaid start now (re
 said_broken : (start now : PeerState) (broken : Bool) (pending came text : List ℕ) → broken ≡ true → HasSaid start now (record { pending = pending; broken = broken }) came text → HasSaid start now (record { pending = pending; broken = true }) came text
 said_broken start now broken pending came text e h = subst (λ b. HasSaid start now (record { pending = pending; broken = b }) came text) e h
 
-finishes_quiet : (site : Site) (start now : PeerState) (dialogue : Dialogue) (ps : List Part) (handled : List ℕ) (end : EndCause) → IsQuiet dialogue
+finishes_quiet : (reads : ℕ) (site : Site) (start now : PeerState) (dialogue : Dialogue) (ps : List Part) (handled : List ℕ) (end : EndCause) → IsQuiet dialogue
     → HasSaid start now dialogue.outbox handled (last_text site (flat_map inputs_of ps))
-    → (now.failures ≡ start.failures → EndsBy dialogue.session.session.state false handled start now end)
-    → Finishes site start now false ps dialogue.session.session.state handled end
-finishes_quiet site start now dialogue ps handled end q h causes =
+    → (now.failures ≡ start.failures → EndsBy reads dialogue.session.session.state false handled start now end)
+    → Finishes reads site start now false ps dialogue.session.session.state handled end
+finishes_quiet reads site start now dialogue ps handled end q h causes =
     let s : HasSaid start now (record { pending = []; broken = false }) handled (last_text site (last_inputs site ps false)) =
     subst (λ l. HasSaid start now (record { pending = []; broken = false }) handled l) (text_not_stopped site ps) (said_whole start now dialogue handled (last_text site (flat_map inputs_of ps)) q h) in
     record { written = s.written; moved = s.moved; says = written_whole start now [] handled (last_text site (last_inputs site ps false)) (end ≡ ends.WriteFault) s refl; causes = causes s.is.sound }
 
-finishes_broken : (site : Site) (start now : PeerState) (broken : Bool) (pending : List ℕ) (state : State) (stopped : Bool) (ps : List Part) (handled text : List ℕ) → broken ≡ true
+finishes_broken : (reads : ℕ) (site : Site) (start now : PeerState) (broken : Bool) (pending : List ℕ) (state : State) (stopped : Bool) (ps : List Part) (handled text : List ℕ) → broken ≡ true
     → text ≡ last_text site (last_inputs site ps stopped) → (stopped ≡ true → Rises start.stops now.stops) → (stopped ≡ false → now.stops ≡ start.stops) → HasSaid start now (record { pending = pending; broken = broken }) handled text
-    → Finishes site start now stopped ps state handled ends.WriteFault
-finishes_broken site start now broken pending state stopped ps handled text e is rose kept h =
+    → Finishes reads site start now stopped ps state handled ends.WriteFault
+finishes_broken reads site start now broken pending state stopped ps handled text e is rose kept h =
     let s : HasSaid start now (record { pending = pending; broken = true }) handled (last_text site (last_inputs site ps stopped)) =
     subst (λ l. HasSaid start now (record { pending = pending; broken = true }) handled l) is (said_broken start now broken pending handled text e h) in
     record {
@@ -261,8 +260,8 @@ finishes_broken site start now broken pending state stopped ps handled text e is
     }
 
 -- the causes of a conversation that was not stopped
-quit_ends : (state : State) (handled : List ℕ) (start now : PeerState) → state ≡ Ended → now.failures ≡ start.failures → now.stops ≡ start.stops → EndsBy state false handled start now ends.Quit
-quit_ends state handled start now ended sound same = record {
+quit_ends : (reads : ℕ) (state : State) (handled : List ℕ) (start now : PeerState) → state ≡ Ended → now.failures ≡ start.failures → now.stops ≡ start.stops → EndsBy reads state false handled start now ends.Quit
+quit_ends reads state handled start now ended sound same = record {
   quit = λ f. ended;
   quits = λ f. inl refl;
   end_of_input = λ f. cc;
@@ -276,8 +275,8 @@ quit_ends state handled start now ended sound same = record {
   sound = λ f g. sound;
 }
 
-input_ends : (state : State) (handled : List ℕ) (start now : PeerState) → (state ≡ Ended → ⊥) → IsAtEnd now.unread → now.failures ≡ start.failures → now.stops ≡ start.stops → EndsBy state false handled start now ends.EndOfInput
-input_ends state handled start now open' none sound same = record {
+input_ends : (reads : ℕ) (state : State) (handled : List ℕ) (start now : PeerState) → (state ≡ Ended → ⊥) → IsAtEnd now.unread → now.failures ≡ start.failures → now.stops ≡ start.stops → EndsBy reads state false handled start now ends.EndOfInput
+input_ends reads state handled start now open' none sound same = record {
   quit = λ f. cc;
   quits = λ f. absurd (open' f);
   end_of_input = λ f. none;
@@ -291,8 +290,8 @@ input_ends state handled start now open' none sound same = record {
   sound = λ f g. sound;
 }
 
-bound_ends : (state : State) (handled : List ℕ) (start now : PeerState) → (state ≡ Ended → ⊥) → READ_LIMIT ≤ length handled → now.failures ≡ start.failures → now.stops ≡ start.stops → EndsBy state false handled start now ends.ReadBound
-bound_ends state handled start now open' long sound same = record {
+bound_ends : (reads : ℕ) (state : State) (handled : List ℕ) (start now : PeerState) → (state ≡ Ended → ⊥) → reads ≤ length handled → now.failures ≡ start.failures → now.stops ≡ start.stops → EndsBy reads state false handled start now ends.ReadBound
+bound_ends reads state handled start now open' long sound same = record {
   quit = λ f. cc;
   quits = λ f. absurd (open' f);
   end_of_input = λ f. cc;
@@ -306,8 +305,8 @@ bound_ends state handled start now open' long sound same = record {
   sound = λ f g. sound;
 }
 
-fault_ends : (state : State) (handled : List ℕ) (start now : PeerState) → (state ≡ Ended → ⊥) → Rises start.failures now.failures → now.stops ≡ start.stops → EndsBy state false handled start now ends.ReadFault
-fault_ends state handled start now open' failed same = record {
+fault_ends : (reads : ℕ) (state : State) (handled : List ℕ) (start now : PeerState) → (state ≡ Ended → ⊥) → Rises start.failures now.failures → now.stops ≡ start.stops → EndsBy reads state false handled start now ends.ReadFault
+fault_ends reads state handled start now open' failed same = record {
   quit = λ f. cc;
   quits = λ f. absurd (open' f);
   end_of_input = λ f. cc;
@@ -321,8 +320,8 @@ fault_ends state handled start now open' failed same = record {
   sound = λ f g. absurd (f refl);
 }
 
-stop_ends : (state : State) (handled : List ℕ) (start now : PeerState) → (state ≡ Ended → ⊥) → Rises start.stops now.stops → now.failures ≡ start.failures → EndsBy state true handled start now ends.Stopped
-stop_ends state handled start now open' may sound = record {
+stop_ends : (reads : ℕ) (state : State) (handled : List ℕ) (start now : PeerState) → (state ≡ Ended → ⊥) → Rises start.stops now.stops → now.failures ≡ start.failures → EndsBy reads state true handled start now ends.Stopped
+stop_ends reads state handled start now open' may sound = record {
   quit = λ f. cc;
   quits = λ f. absurd (open' f);
   end_of_input = λ f. cc;
@@ -337,39 +336,39 @@ stop_ends state handled start now open' may sound = record {
 }
 
 -- all that came is handled, and it ends so
-pub served : (site : Site) (start now : PeerState) (Before Come Last : ℕ → List Transaction → Type 0) (Drafting : ℕ → List Transaction → List ℕ → Type 0) (dialogue : Dialogue) (handled : List ℕ) (end : EndCause)
+pub served : (reads : ℕ) (site : Site) (start now : PeerState) (Before Come Last : ℕ → List Transaction → Type 0) (Drafting : ℕ → List Transaction → List ℕ → Type 0) (dialogue : Dialogue) (handled : List ℕ) (end : EndCause)
     → IsSoFar (beginning site start Before) (standing dialogue now Come Drafting) handled handled → Leaves (is_content dialogue.session.session.state) Come Drafting Last
-    → EndsAs end dialogue now handled → IsServed site start now Before Last end
-served site start now Before Come Last Drafting dialogue handled ends.Quit h l e =
-    finished site start now now Before Come Last Drafting dialogue handled false ends.Quit h (comes_in_the_end site start now Before Come Last Drafting dialogue handled handled h l)
-    (finishes_quiet site start now dialogue h.done handled ends.Quit e.0 h.said (λ sound. quit_ends dialogue.session.session.state handled start now e.1 sound h.goes))
-served site start now Before Come Last Drafting dialogue handled ends.EndOfInput h l e =
-    finished site start now now Before Come Last Drafting dialogue handled false ends.EndOfInput h (comes_in_the_end site start now Before Come Last Drafting dialogue handled handled h l)
-    (finishes_quiet site start now dialogue h.done handled ends.EndOfInput e.0 h.said (λ sound. input_ends dialogue.session.session.state handled start now e.1 e.2 sound h.goes))
-served site start now Before Come Last Drafting dialogue handled ends.ReadBound h l e =
-    finished site start now now Before Come Last Drafting dialogue handled false ends.ReadBound h (comes_in_the_end site start now Before Come Last Drafting dialogue handled handled h l)
-    (finishes_quiet site start now dialogue h.done handled ends.ReadBound e.0 h.said (λ sound. bound_ends dialogue.session.session.state handled start now e.1 e.2 sound h.goes))
-served site start now Before Come Last Drafting dialogue handled ends.WriteFault h l e =
-    finished site start now now Before Come Last Drafting dialogue handled false ends.WriteFault h (comes_in_the_end site start now Before Come Last Drafting dialogue handled handled h l)
-    (finishes_broken site start now dialogue.outbox.broken dialogue.outbox.pending dialogue.session.session.state false h.done handled _ e (text_not_stopped site h.done) (λ f. cc) (λ f. h.goes) h.said)
-served site start now Before Come Last Drafting dialogue handled ends.ReadFault h l e = absurd e
-served site start now Before Come Last Drafting dialogue handled ends.Stopped h l e = absurd e
+    → EndsAs reads end dialogue now handled → IsServed (terms site reads) start now Before Last end
+served reads site start now Before Come Last Drafting dialogue handled ends.Quit h l e =
+    finished reads site start now now Before Come Last Drafting dialogue handled false ends.Quit h (comes_in_the_end site start now Before Come Last Drafting dialogue handled handled h l)
+    (finishes_quiet reads site start now dialogue h.done handled ends.Quit e.0 h.said (λ sound. quit_ends reads dialogue.session.session.state handled start now e.1 sound h.goes))
+served reads site start now Before Come Last Drafting dialogue handled ends.EndOfInput h l e =
+    finished reads site start now now Before Come Last Drafting dialogue handled false ends.EndOfInput h (comes_in_the_end site start now Before Come Last Drafting dialogue handled handled h l)
+    (finishes_quiet reads site start now dialogue h.done handled ends.EndOfInput e.0 h.said (λ sound. input_ends reads dialogue.session.session.state handled start now e.1 e.2 sound h.goes))
+served reads site start now Before Come Last Drafting dialogue handled ends.ReadBound h l e =
+    finished reads site start now now Before Come Last Drafting dialogue handled false ends.ReadBound h (comes_in_the_end site start now Before Come Last Drafting dialogue handled handled h l)
+    (finishes_quiet reads site start now dialogue h.done handled ends.ReadBound e.0 h.said (λ sound. bound_ends reads dialogue.session.session.state handled start now e.1 e.2 sound h.goes))
+served reads site start now Before Come Last Drafting dialogue handled ends.WriteFault h l e =
+    finished reads site start now now Before Come Last Drafting dialogue handled false ends.WriteFault h (comes_in_the_end site start now Before Come Last Drafting dialogue handled handled h l)
+    (finishes_broken reads site start now dialogue.outbox.broken dialogue.outbox.pending dialogue.session.session.state false h.done handled _ e (text_not_stopped site h.done) (λ f. cc) (λ f. h.goes) h.said)
+served reads site start now Before Come Last Drafting dialogue handled ends.ReadFault h l e = absurd e
+served reads site start now Before Come Last Drafting dialogue handled ends.Stopped h l e = absurd e
 
 -- the read after it failed
-pub served_read_fault : (site : Site) (start before now : PeerState) (Before Come Last : ℕ → List Transaction → Type 0) (Drafting : ℕ → List Transaction → List ℕ → Type 0) (dialogue : Dialogue) (handled : List ℕ)
+pub served_read_fault : (reads : ℕ) (site : Site) (start before now : PeerState) (Before Come Last : ℕ → List Transaction → Type 0) (Drafting : ℕ → List Transaction → List ℕ → Type 0) (dialogue : Dialogue) (handled : List ℕ)
     → IsSoFar (beginning site start Before) (standing dialogue before Come Drafting) handled handled → Leaves (is_content dialogue.session.session.state) Come Drafting Last
-    → IsQuiet dialogue → (dialogue.session.session.state ≡ Ended → ⊥) → PeerFailed before now → IsServed site start now Before Last ends.ReadFault
-served_read_fault site start before now Before Come Last Drafting dialogue handled h l q open' f =
+    → IsQuiet dialogue → (dialogue.session.session.state ≡ Ended → ⊥) → PeerFailed before now → IsServed (terms site reads) start now Before Last ends.ReadFault
+served_read_fault reads site start before now Before Come Last Drafting dialogue handled h l q open' f =
     let s : HasSaid start before (record { pending = []; broken = false }) handled (last_text site (last_inputs site h.done false)) =
     subst (λ l. HasSaid start before (record { pending = []; broken = false }) handled l) (text_not_stopped site h.done) (said_whole start before dialogue handled (last_text site (flat_map inputs_of h.done)) q h.said) in
     let moved : HasMoved start now handled s.written = subst (λ l. HasMoved start now handled l) (append-nil s.written) (moved_writing start before now handled s.written [] s.moved f.moved) in
     let failed : Rises start.failures now.failures = subst (λ k. Rises k now.failures) s.is.sound f.failed in
-    finished site start before now Before Come Last Drafting dialogue handled false ends.ReadFault h (comes_in_the_end site start before Before Come Last Drafting dialogue handled handled h l)
+    finished reads site start before now Before Come Last Drafting dialogue handled false ends.ReadFault h (comes_in_the_end site start before Before Come Last Drafting dialogue handled handled h l)
     (record {
       written = s.written;
       moved = moved;
       says = written_whole start before [] handled (last_text site (last_inputs site h.done false)) (ends.ReadFault ≡ ends.WriteFault) s refl;
-      causes = fault_ends dialogue.session.session.state handled start now open' failed (f.same ∙ h.goes);
+      causes = fault_ends reads dialogue.session.session.state handled start now open' failed (f.same ∙ h.goes);
     })
 
 -- the session was told to stop, and what it said to that was written as far as it could be
@@ -380,29 +379,29 @@ text_in_the_end site start before Before Come Drafting dialogue handled came h m
 
 -- whether the outbox broke decides
 
-stopped_by : (broken : Bool) (site : Site) (start now : PeerState) (pending : List ℕ) (state : State) (ps : List Part) (handled text : List ℕ) → (state ≡ Ended → ⊥) → Rises start.stops now.stops
+stopped_by : (reads : ℕ) (broken : Bool) (site : Site) (start now : PeerState) (pending : List ℕ) (state : State) (ps : List Part) (handled text : List ℕ) → (state ≡ Ended → ⊥) → Rises start.stops now.stops
     → text ≡ last_text site (last_inputs site ps true) → pending ≡ [] → HasSaid start now (record { pending = pending; broken = broken }) handled text
-    → Finishes site start now true ps state handled (stopped_or broken)
-stopped_by true site start now pending state ps handled text open' may is none h = finishes_broken site start now true pending state true ps handled text refl is (λ f. may) (λ f. cc) h
-stopped_by false site start now pending state ps handled text open' may is none h =
+    → Finishes reads site start now true ps state handled (stopped_or broken)
+stopped_by reads true site start now pending state ps handled text open' may is none h = finishes_broken reads site start now true pending state true ps handled text refl is (λ f. may) (λ f. cc) h
+stopped_by reads false site start now pending state ps handled text open' may is none h =
     let s : HasSaid start now (record { pending = pending; broken = false }) handled (last_text site (last_inputs site ps true)) = subst (λ l. HasSaid start now (record { pending = pending; broken = false }) handled l) is h in
     record {
       written = s.written;
       moved = s.moved;
       says = written_whole start now pending handled (last_text site (last_inputs site ps true)) (ends.Stopped ≡ ends.WriteFault) s none;
-      causes = stop_ends state handled start now open' may s.is.sound;
+      causes = stop_ends reads state handled start now open' may s.is.sound;
     }
 
-pub served_stopped : (site : Site) (start earlier before now : PeerState) (Before Come Last : ℕ → List Transaction → Type 0) (Drafting : ℕ → List Transaction → List ℕ → Type 0) (dialogue new : Dialogue) (handled : List ℕ)
+pub served_stopped : (reads : ℕ) (site : Site) (start earlier before now : PeerState) (Before Come Last : ℕ → List Transaction → Type 0) (Drafting : ℕ → List Transaction → List ℕ → Type 0) (dialogue new : Dialogue) (handled : List ℕ)
     → IsSoFar (beginning site start Before) (standing dialogue earlier Come Drafting) handled handled → Leaves (is_content dialogue.session.session.state) Come Drafting Last
     → (dialogue.session.session.state ≡ Ended → ⊥) → HasStopped earlier before → TakesInputs (Stop ∷ []) dialogue new before now → new.outbox.pending ≡ []
-    → IsServed site start now Before Last (stopped_or new.outbox.broken)
-served_stopped site start earlier before now Before Come Last Drafting dialogue new handled h l open' stops t none =
+    → IsServed (terms site reads) start now Before Last (stopped_or new.outbox.broken)
+served_stopped reads site start earlier before now Before Come Last Drafting dialogue new handled h l open' stops t none =
     let may : MayStop dialogue.session.session.state = may_stop site start earlier Before Come Drafting dialogue handled handled h open' in
     let said : HasSaid start before dialogue.outbox handled (last_text site (flat_map inputs_of h.done)) =
     subst (λ l. HasSaid start before dialogue.outbox l (last_text site (flat_map inputs_of h.done))) (append-nil handled)
     (said_on dialogue.outbox.broken start earlier before dialogue.outbox.pending handled [] (last_text site (flat_map inputs_of h.done)) h.said stops.moved stops.sound) in
     let rose : Rises start.stops now.stops = subst (λ k. Rises start.stops k) (sym t.same) (subst (λ k. Rises k before.stops) h.goes stops.stopped) in
-    finished site start earlier now Before Come Last Drafting dialogue handled true (stopped_or new.outbox.broken) h (comes_in_the_end site start earlier Before Come Last Drafting dialogue handled handled h l)
-    (stopped_by new.outbox.broken site start now new.outbox.pending dialogue.session.session.state h.done handled _ open' rose
+    finished reads site start earlier now Before Come Last Drafting dialogue handled true (stopped_or new.outbox.broken) h (comes_in_the_end site start earlier Before Come Last Drafting dialogue handled handled h l)
+    (stopped_by reads new.outbox.broken site start now new.outbox.pending dialogue.session.session.state h.done handled _ open' rose
     (text_in_the_end site start earlier Before Come Drafting dialogue handled handled h may) none (t.says start handled _ said))

@@ -8,3 +8,4 @@ pub mod Advancing
 pub mod Ends
 pub mod Turning
 pub mod HandedOut
+pub mod Counting

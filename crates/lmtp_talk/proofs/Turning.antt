@@ -114,28 +114,28 @@ module _ {D : Type 0} (HasCome : D → ℕ → List Transaction → Type 0) (IsD
   goes_on : 0 < length piece → HasTransferred before read piece [] → HandlesPiece HasCome IsDrafting (talk old read delivery) (talk new after later) piece → TakesTurn HasCome IsDrafting (talk old before delivery) (talk new after later)
   goes_on some w handles site start first handled h = record { more = piece; some = some; stands = handled_all w handles site start first handled h }
 
-  ends_with : (broken : Bool) → new.session.session.state ≡ Ended → new.outbox.broken ≡ broken → new.outbox.pending ≡ [] → HasTransferred before read piece [] → HandlesPiece HasCome IsDrafting (talk old read delivery) (talk new after later) piece
-      → EndsTurn HasCome IsDrafting (talk old before delivery) (talk new after later) (quit_or broken)
-  ends_with true ended broken none w handles site start first handled h =
-      served site start after (HasCome first) (HasCome later) (HasCome later) (IsDrafting later) new (handled ++ piece) ends.WriteFault (handled_all w handles site start first handled h)
+  ends_with : (reads : ℕ) (broken : Bool) → new.session.session.state ≡ Ended → new.outbox.broken ≡ broken → new.outbox.pending ≡ [] → HasTransferred before read piece [] → HandlesPiece HasCome IsDrafting (talk old read delivery) (talk new after later) piece
+      → EndsTurn HasCome IsDrafting reads (talk old before delivery) (talk new after later) (quit_or broken)
+  ends_with reads true ended broken none w handles site start first handled h =
+      served reads site start after (HasCome first) (HasCome later) (HasCome later) (IsDrafting later) new (handled ++ piece) ends.WriteFault (handled_all w handles site start first handled h)
       (leave_none new.session.session.state (HasCome later) (IsDrafting later) (λ e. let wrong : Content ≡ Ended = sym e ∙ ended in cc)) broken
-  ends_with false ended broken none w handles site start first handled h =
-      served site start after (HasCome first) (HasCome later) (HasCome later) (IsDrafting later) new (handled ++ piece) ends.Quit (handled_all w handles site start first handled h)
+  ends_with reads false ended broken none w handles site start first handled h =
+      served reads site start after (HasCome first) (HasCome later) (HasCome later) (IsDrafting later) new (handled ++ piece) ends.Quit (handled_all w handles site start first handled h)
       (leave_none new.session.session.state (HasCome later) (IsDrafting later) (λ e. let wrong : Content ≡ Ended = sym e ∙ ended in cc))
       (record { whole = broken; none = none }, ended)
 
-  never_waits : (broken : Bool) → new.session.session.state ≡ Waiting → HasTransferred before read piece [] → HandlesPiece HasCome IsDrafting (talk old read delivery) (talk new after later) piece
-      → EndsTurn HasCome IsDrafting (talk old before delivery) (talk new after later) (quit_or broken)
-  never_waits broken waits w handles site start first handled h =
+  never_waits : (reads : ℕ) (broken : Bool) → new.session.session.state ≡ Waiting → HasTransferred before read piece [] → HandlesPiece HasCome IsDrafting (talk old read delivery) (talk new after later) piece
+      → EndsTurn HasCome IsDrafting reads (talk old before delivery) (talk new after later) (quit_or broken)
+  never_waits reads broken waits w handles site start first handled h =
       let s = handled_all w handles site start first handled h in
       absurd (subst (λ (x : State). IsInside x new s.rest (Comes site s.done (HasCome first) (HasCome later)) (λ made. Comes site s.done (HasCome first) (λ n ts. IsDrafting later n ts made))) waits s.inside)
 
   pub turns_by : (state : State) → new.session.session.state ≡ state → new.outbox.pending ≡ [] → 0 < length piece → HasTransferred before read piece [] → HandlesPiece HasCome IsDrafting (talk old read delivery) (talk new after later) piece
-      → MatchOption (end_behind state new.outbox.broken) (TakesTurn HasCome IsDrafting (talk old before delivery) (talk new after later)) (EndsTurn HasCome IsDrafting (talk old before delivery) (talk new after later))
+      → MatchOption (end_behind state new.outbox.broken) (TakesTurn HasCome IsDrafting (talk old before delivery) (talk new after later)) (λ end. (reads : ℕ) → EndsTurn HasCome IsDrafting reads (talk old before delivery) (talk new after later) end)
   turns_by Fresh e none some w handles = goes_on some w handles
   turns_by Greeted e none some w handles = goes_on some w handles
   turns_by Sender e none some w handles = goes_on some w handles
   turns_by Recipients e none some w handles = goes_on some w handles
   turns_by Content e none some w handles = goes_on some w handles
-  turns_by Waiting e none some w handles = never_waits new.outbox.broken e w handles
-  turns_by Ended e none some w handles = ends_with new.outbox.broken e refl none w handles
+  turns_by Waiting e none some w handles = λ reads. never_waits reads new.outbox.broken e w handles
+  turns_by Ended e none some w handles = λ reads. ends_with reads new.outbox.broken e refl none w handles

@@ -1,15 +1,16 @@
 -- What contracts see of a peer, and what a read and a write do.
-use Rattle.std.specs.Prelude.{◌≡◌, ◌≤◌, ℕ, List, [], length, take, Option}
+use Rattle.std.specs.Prelude.{◌≡◌, ◌≤◌, ◌⊎◌, ℕ, ◌+◌, ◌-◌, ◌^◌, List, [], length, take, Option}
 use Rattle.std.specs.Io.KnownBytes.{Appends, Consumes, IsAtEnd}
 use Rattle.mail_world.specs.Failures.{Rises}
 use Rattle.lmtp_talk.specs.declared.peer.Came.{Came}
 use Rattle.lmtp_talk.specs.declared.peer.Came.TheVariants.{Bytes, End, Stop}
 
--- the bytes that were read of it, those that are still to come and those that it was given, each where it tells; how often it failed; how often it said that the server is to stop; the names of the borrows that it holds
+-- the bytes that were read of it, those that are still to come and those that it was given, each where it tells; how often it was read, which stays at its largest value; how often it failed; how often it said that the server is to stop; the names of the borrows that it holds
 pub record PeerState : Type 0 where
   pub read : Option (List ℕ)
   pub unread : Option (List ℕ)
   pub written : Option (List ℕ)
+  pub reads : ℕ
   pub failures : ℕ
   pub stops : ℕ
   pub holds : List ℕ
@@ -38,6 +39,14 @@ pub record HasStopped (old new : PeerState) : Type 0 where
   pub moved : HasMoved old new [] []
   pub sound : new.failures ≡ old.failures
   pub stopped : Rises old.stops new.stops
+
+-- a count that stops at 2^64 - 1 went up so often
+abbrev pub RisesBy : ℕ → ℕ → ℕ → Type 0
+RisesBy times old new = (new ≡ old + times) ⊎ ((2 ^ 64 - 1 ≤ old + times) × (2 ^ 64 - 1 ≤ new))
+
+-- it was read so often
+abbrev pub WasRead : ℕ → PeerState → PeerState → Type 0
+WasRead made old new = RisesBy made old.reads new.reads
 
 -- a read has brought what it answered
 abbrev pub HasBrought : PeerState → PeerState → List ℕ → Came → Type 0

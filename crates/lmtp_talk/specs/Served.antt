@@ -1,7 +1,6 @@
 -- What a conversation with one client comes to.
 use Rattle.std.specs.Prelude.{◌≡◌, ◌⊎◌, ◌||◌, ◌≤◌, ℕ, Bool, true, false, List, [], ◌∷◌, ◌++◌, length, Ok}
 use Rattle.std.specs.Io.KnownBytes.{IsAtEnd}
-use Rattle.mail_world.specs.declared.limits.TheConstants.{READ_LIMIT}
 use Rattle.mail_world.specs.Failures.{Rises}
 use Rattle.mail_world.specs.Site.{Site}
 use Rattle.mail_world.specs.Commands.{Answer, Quit, command}
@@ -11,7 +10,7 @@ use Rattle.mail_world.specs.Lists.{Transaction, accepted_after, transactions_of}
 use Rattle.mail_world.specs.Fronts.{IsFront}
 use Rattle.lmtp_talk.specs.declared.ending.EndCause.{EndCause}
 use Rattle.lmtp_talk.specs.declared.ending.EndCause.TheVariants as ends
-use Rattle.lmtp_talk.specs.Peer.{PeerState, HasMoved}
+use Rattle.lmtp_talk.specs.Peer.{PeerState, HasMoved, WasRead}
 
 -- QUIT is among the inputs
 abbrev pub is_quit_answer : Answer → Bool
@@ -38,12 +37,21 @@ transactions_in site n c = transactions_of site n fresh (parts site fresh c.byte
 abbrev pub accepted_behind_all : Site → ℕ → Conversation → ℕ
 accepted_behind_all site n c = accepted_after site n fresh (parts site fresh c.bytes c.dispositions)
 
+-- what a conversation keeps to: the site, and how many reads it may make
+pub record Terms : Type 0 where
+  pub site : Site
+  pub reads : ℕ
+
+abbrev pub terms : Site → ℕ → Terms
+terms site reads = record { site = site; reads = reads }
+
 -- why the conversation ended
-pub record EndsFor (site : Site) (c : Conversation) (old new : PeerState) (end : EndCause) : Type 0 where
-  pub quit : end ≡ ends.Quit → has_quit (inputs site c) ≡ true
-  pub quits : has_quit (inputs site c) ≡ true → (end ≡ ends.Quit) ⊎ (end ≡ ends.WriteFault)
+pub record EndsFor (by : Terms) (c : Conversation) (old new : PeerState) (end : EndCause) : Type 0 where
+  pub quit : end ≡ ends.Quit → has_quit (inputs by.site c) ≡ true
+  pub quits : has_quit (inputs by.site c) ≡ true → (end ≡ ends.Quit) ⊎ (end ≡ ends.WriteFault)
   pub end_of_input : end ≡ ends.EndOfInput → IsAtEnd new.unread
-  pub read_bound : end ≡ ends.ReadBound → READ_LIMIT ≤ length c.bytes
+  -- each read behind which it went on brought a byte
+  pub read_bound : end ≡ ends.ReadBound → by.reads ≤ length c.bytes
   pub stop : end ≡ ends.Stopped → c.stopped ≡ true
   pub stops : c.stopped ≡ true → (end ≡ ends.Stopped) ⊎ (end ≡ ends.WriteFault)
   -- the peer said so exactly where the conversation was stopped
@@ -53,14 +61,21 @@ pub record EndsFor (site : Site) (c : Conversation) (old new : PeerState) (end :
   pub write_fault : end ≡ ends.WriteFault → Rises old.failures new.failures
   pub sound : (end ≡ ends.ReadFault → ⊥) → (end ≡ ends.WriteFault → ⊥) → new.failures ≡ old.failures
 
+-- so many reads were made, never more than may be, and all of these where that ended the conversation
+pub record HasRead (reads : ℕ) (old new : PeerState) (end : EndCause) : Type 0 where
+  pub made : ℕ
+  pub counts : WasRead made old new
+  pub within : made ≤ reads
+  pub read_bound : end ≡ ends.ReadBound → made ≡ reads
+
 -- From a peer that stood so to one that stands so, and from what the delivery had come to, to what it has come to.
-pub record IsServed (site : Site) (old new : PeerState) (Before After : ℕ → List Transaction → Type 0) (end : EndCause) : Type 0 where
+pub record IsServed (by : Terms) (old new : PeerState) (Before After : ℕ → List Transaction → Type 0) (end : EndCause) : Type 0 where
   pub conversation : Conversation
   pub said : List ℕ
   pub moved : HasMoved old new conversation.bytes said
   -- an entry for each data that ended
-  pub accounted : IsAccount site conversation
-  pub says : IsWritten (replies site (inputs site conversation)) (end ≡ ends.WriteFault) said
+  pub accounted : IsAccount by.site conversation
+  pub says : IsWritten (replies by.site (inputs by.site conversation)) (end ≡ ends.WriteFault) said
   -- the delivery got just these messages, each in its session, in their order, and its outcomes are those of the account
-  pub delivered : (n : ℕ) (ts : List Transaction) → Before n ts → After (accepted_behind_all site n conversation) (ts ++ transactions_in site n conversation)
-  pub causes : EndsFor site conversation old new end
+  pub delivered : (n : ℕ) (ts : List Transaction) → Before n ts → After (accepted_behind_all by.site n conversation) (ts ++ transactions_in by.site n conversation)
+  pub causes : EndsFor by conversation old new end

@@ -7,9 +7,9 @@ use Rattle.lmtp_talk.specs.declared.tcp.peer.TcpPeer.{TcpPeer}
 use Rattle.lmtp_talk.specs.Peer.{PeerState, HasBrought, HasTransferred}
 use Rattle.lmtp_talk.specs.ReadBuffer.{waiting}
 
--- what its buffer has and then what the stream has left, where the stream tells it; how often it failed and said stop
+-- what its buffer has and then what the stream has left, where the stream tells it; how often it was read, failed and said stop
 abbrev pub reading : {T : Type 0} → (T → Option (List ℕ)) → TcpPeer T → PeerState
-reading remaining p = record { read = None; unread = prepend_known (waiting p.buffer) (remaining p.stream); written = None; failures = p.failures; stops = p.stops; holds = [] }
+reading remaining p = record { read = None; unread = prepend_known (waiting p.buffer) (remaining p.stream); written = None; reads = p.reads; failures = p.failures; stops = p.stops; holds = [] }
 
 -- something waits, and nothing was handed out; or nothing came, and what the client did is so
 abbrev pub Fills : {T : Type 0} → (T → Option (List ℕ)) → TcpPeer T → TcpPeer T → Option Came → Type 0
@@ -27,5 +27,6 @@ pub record TakesRead {T E : Type 0} (old new : TcpPeer T) (result : Result Came 
 pub record IsNew {T : Type 0} (reads : ℕ) (peer : TcpPeer T) : Type 0 where
   pub reads_left : peer.reads_left ≡ reads
   pub unread : waiting peer.buffer ≡ []
+  pub none_made : peer.reads ≡ 0
   pub failures : peer.failures ≡ 0
   pub stops : peer.stops ≡ 0

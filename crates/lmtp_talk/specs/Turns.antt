@@ -13,7 +13,7 @@ use Rattle.mail_world.specs.declared.State.{State}
 use Rattle.mail_world.specs.declared.State.TheVariants.{Waiting, Ended}
 use Rattle.lmtp_talk.specs.Peer.{PeerState}
 use Rattle.lmtp_talk.specs.Saying.{HasSaid}
-use Rattle.lmtp_talk.specs.Served.{IsServed}
+use Rattle.lmtp_talk.specs.Served.{terms, IsServed}
 use Rattle.lmtp_talk.specs.Standing.{Beginning, beginning, Standing, IsSoFar}
 use Rattle.lmtp_talk.specs.Steps.{Talk, standing_of}
 
@@ -42,11 +42,11 @@ TakesTurn {D} HasCome IsDrafting old new = (site : Site) (start : PeerState) (fi
     → IsSoFar (beginning site start (HasCome first)) (standing_of HasCome IsDrafting old) handled handled
     → IsFurther (beginning site start (HasCome first)) (standing_of HasCome IsDrafting new) handled
 
--- what is behind the last turn
-abbrev pub EndsTurn : {D : Type 0} → (D → ℕ → List Transaction → Type 0) → (D → ℕ → List Transaction → List ℕ → Type 0) → Talk D → Talk D → EndCause → Type 0
-EndsTurn {D} HasCome IsDrafting old new end = (site : Site) (start : PeerState) (first : D) (handled : List ℕ)
+-- what is behind the last turn of a conversation that may make so many reads
+abbrev pub EndsTurn : {D : Type 0} → (D → ℕ → List Transaction → Type 0) → (D → ℕ → List Transaction → List ℕ → Type 0) → ℕ → Talk D → Talk D → EndCause → Type 0
+EndsTurn {D} HasCome IsDrafting reads old new end = (site : Site) (start : PeerState) (first : D) (handled : List ℕ)
     → IsSoFar (beginning site start (HasCome first)) (standing_of HasCome IsDrafting old) handled handled
-    → IsServed site start new.peer (HasCome first) (HasCome new.delivery) end
+    → IsServed (terms site reads) start new.peer (HasCome first) (HasCome new.delivery) end
 
 -- the bytes that have come are handled, and the conversation goes on, or it has ended with them
 abbrev pub HandlesPiece : {D : Type 0} → (D → ℕ → List Transaction → Type 0) → (D → ℕ → List Transaction → List ℕ → Type 0) → Talk D → Talk D → List ℕ → Type 0

@@ -1,12 +1,13 @@
 //! One conversation, from its greeting to its end.
 
-ghost use Rattle.std.specs.Prelude.{◌≡◌, ◌<◌, [], ◌∷◌, length, IfSome, MatchOption};
+ghost use Rattle.std.specs.Prelude.{◌≡◌, ◌≢◌, ◌<◌, ℕ, [], ◌∷◌, length, IfSome, MatchOption};
 ghost use Rattle.mail_world.specs.Session.{Stop};
 ghost use Rattle.mail_world.specs.Lists.{is_content};
 ghost use Rattle.lmtp_session.specs.Steps.{MayStop};
 ghost use Rattle.lmtp_talk.specs.Steps.{talk, TakesInputs};
 ghost use Rattle.lmtp_talk.specs.Turns.{Greets, Leaves, TakesTurn, EndsTurn, HandlesPiece, end_behind, stopped_or};
-ghost use Rattle.lmtp_talk.specs.Served.{IsServed};
+ghost use Rattle.lmtp_talk.specs.Peer.{WasRead};
+ghost use Rattle.lmtp_talk.specs.Served.{terms, HasRead, IsServed};
 
 use crate::delivery::Delivery;
 use crate::dialogue::Dialogue;
@@ -14,31 +15,34 @@ use crate::ending::EndCause;
 use crate::handling::handle;
 use crate::peer::{Came, Peer};
 use mail_world::State;
-use mail_world::limits::READ_LIMIT;
 
 /// The bytes that one read asks for.
 const READ_SIZE: usize = 4_096;
 
 /// Serves one conversation. All that was read is handled, and its replies are written, before the next read; nothing is
-/// read behind QUIT. Where a write fails the conversation ends once the bytes that were read are handled.
+/// read behind QUIT, and so many reads are made at most. Where a write fails the conversation ends once the bytes that
+/// were read are handled.
 pub fn serve<P: Peer, D: Delivery>(
     dialogue: &mut Dialogue,
     peer: &mut P,
     delivery: &mut D,
+    reads: u32,
 ) -> EndCause
     requires { D.site delivery.old ≡ dialogue.old.session.site }
-    ensures serves { IsServed dialogue.old.session.site (P.state peer.old) (P.state peer.new)
+    ensures serves { IsServed (terms dialogue.old.session.site reads) (P.state peer.old) (P.state peer.new)
         (D.HasCome delivery.old) (D.HasCome delivery.new) result }
+    ensures reads { HasRead reads (P.state peer.old) (P.state peer.new) result }
     ensures site { dialogue.new.session.site ≡ dialogue.old.session.site }
     ensures same { D.site delivery.new ≡ D.site delivery.old }
 {
     greet(dialogue, peer);
-    take_turns(dialogue, peer, delivery)
+    take_turns(dialogue, peer, delivery, reads)
 }
 
 // The first reply (RFC 5321, 4.3.1).
 fn greet<P: Peer>(dialogue: &mut Dialogue, peer: &mut P)
     ensures greets { Greets dialogue.old dialogue.new (P.state peer.old) (P.state peer.new) }
+    ensures reads { (P.state peer.new).reads ≡ (P.state peer.old).reads }
     ensures none { dialogue.new.outbox.pending ≡ [] }
 {
     dialogue.wire.clear();
@@ -53,17 +57,19 @@ fn take_turns<P: Peer, D: Delivery>(
     dialogue: &mut Dialogue,
     peer: &mut P,
     delivery: &mut D,
+    reads: u32,
 ) -> EndCause
     requires may { MayStop dialogue.old.session.session.state }
     requires none { dialogue.old.outbox.pending ≡ [] }
     requires here { D.site delivery.old ≡ dialogue.old.session.site }
-    ensures ends { EndsTurn D.HasCome D.IsDrafting (talk dialogue.old (P.state peer.old) delivery.old)
+    ensures ends { EndsTurn D.HasCome D.IsDrafting reads (talk dialogue.old (P.state peer.old) delivery.old)
         (talk dialogue.new (P.state peer.new) delivery.new) result }
+    ensures reads { HasRead reads (P.state peer.old) (P.state peer.new) result }
     ensures site { dialogue.new.session.site ≡ dialogue.old.session.site }
     ensures same { D.site delivery.new ≡ D.site delivery.old }
 {
     let mut buffer = [0; READ_SIZE];
-    for _made in 0..READ_LIMIT {
+    for _made in 0..reads {
         if let Some(end) = take_turn(dialogue, peer, delivery, &mut buffer) {
             return end;
         }
@@ -90,8 +96,10 @@ fn take_turn<P: Peer, D: Delivery>(
     ensures turn { MatchOption result
         (TakesTurn D.HasCome D.IsDrafting (talk dialogue.old (P.state peer.old) delivery.old)
         (talk dialogue.new (P.state peer.new) delivery.new))
-        (EndsTurn D.HasCome D.IsDrafting (talk dialogue.old (P.state peer.old) delivery.old)
-        (talk dialogue.new (P.state peer.new) delivery.new)) }
+        (λ end. (reads : ℕ) → EndsTurn D.HasCome D.IsDrafting reads
+        (talk dialogue.old (P.state peer.old) delivery.old) (talk dialogue.new (P.state peer.new) delivery.new) end) }
+    ensures reads { MatchOption result (WasRead 1 (P.state peer.old) (P.state peer.new))
+        (λ end. (end ≢ EndCause.ReadBound) × HasRead 1 (P.state peer.old) (P.state peer.new) end) }
     ensures may { MatchOption result (MayStop dialogue.new.session.session.state) (λ _. Unit {0}) }
     ensures none { MatchOption result (dialogue.new.outbox.pending ≡ []) (λ _. Unit {0}) }
     ensures size { length buffer.new ≡ length buffer.old }
@@ -133,6 +141,7 @@ fn take_piece<P: Peer, D: Delivery>(
     requires { D.site delivery.old ≡ dialogue.old.session.site }
     ensures handles { HandlesPiece D.HasCome D.IsDrafting (talk dialogue.old (P.state peer.old) delivery.old)
         (talk dialogue.new (P.state peer.new) delivery.new) piece.now }
+    ensures reads { (P.state peer.new).reads ≡ (P.state peer.old).reads }
     ensures none { dialogue.new.outbox.pending ≡ [] }
     ensures site { dialogue.new.session.site ≡ dialogue.old.session.site }
     ensures same { D.site delivery.new ≡ D.site delivery.old }
@@ -181,6 +190,7 @@ fn leave<D: Delivery>(dialogue: &Dialogue, delivery: &mut D)
 fn stop<P: Peer>(dialogue: &mut Dialogue, peer: &mut P)
     requires { MayStop dialogue.old.session.session.state }
     ensures takes { TakesInputs (Stop ∷ []) dialogue.old dialogue.new (P.state peer.old) (P.state peer.new) }
+    ensures reads { (P.state peer.new).reads ≡ (P.state peer.old).reads }
     ensures none { dialogue.new.outbox.pending ≡ [] }
 {
     let act = dialogue.session.stop();

@@ -27,6 +27,7 @@ pub fn handle<P: Peer, D: Delivery>(
         (talk dialogue.new (P.state peer.new) delivery.new) piece.now }
     ensures site { dialogue.new.session.site ≡ dialogue.old.session.site }
     ensures same { D.site delivery.new ≡ D.site delivery.old }
+    ensures reads { (P.state peer.new).reads ≡ (P.state peer.old).reads }
 {
     let mut at = 0;
     while at < piece.len() {
@@ -54,6 +55,7 @@ fn take_front<P: Peer, D: Delivery>(
         (talk dialogue.new (P.state peer.new) delivery.new) (take used rest.now)) }
     ensures site { dialogue.new.session.site ≡ dialogue.old.session.site }
     ensures same { D.site delivery.new ≡ D.site delivery.old }
+    ensures reads { (P.state peer.new).reads ≡ (P.state peer.old).reads }
 {
     match dialogue.session.state() {
         State::Content => Some(take_data(dialogue, peer, delivery, rest)),
@@ -79,6 +81,7 @@ fn take_line<P: Peer, D: Delivery>(
         (talk dialogue.new (P.state peer.new) delivery.new) (take result rest.now) }
     ensures site { dialogue.new.session.site ≡ dialogue.old.session.site }
     ensures same { D.site delivery.new ≡ D.site delivery.old }
+    ensures reads { (P.state peer.new).reads ≡ (P.state peer.old).reads }
 {
     let took = dialogue.wire.command(rest);
     match took.got {
@@ -96,6 +99,7 @@ fn handle_line<P: Peer, D: Delivery>(dialogue: &mut Dialogue, peer: &mut P, deli
         (talk dialogue.old (P.state peer.old) delivery.old)
         (talk dialogue.new (P.state peer.new) delivery.new) }
     ensures same { D.site delivery.new ≡ D.site delivery.old }
+    ensures reads { (P.state peer.new).reads ≡ (P.state peer.old).reads }
 {
     let act = dialogue.session.line(dialogue.wire.line());
     dialogue.outbox.say_all(peer, &dialogue.session, act);
@@ -108,7 +112,8 @@ fn handle_line<P: Peer, D: Delivery>(dialogue: &mut Dialogue, peer: &mut P, deli
 // Answers a line that was too long.
 fn refuse_line<P: Peer>(dialogue: &mut Dialogue, peer: &mut P)
     requires { TakesLines dialogue.old.session.session.state }
-    ensures { TakesInputs (LongLine ∷ []) dialogue.old dialogue.new (P.state peer.old) (P.state peer.new) }
+    ensures takes { TakesInputs (LongLine ∷ []) dialogue.old dialogue.new (P.state peer.old) (P.state peer.new) }
+    ensures reads { (P.state peer.new).reads ≡ (P.state peer.old).reads }
 {
     let act = dialogue.session.too_long();
     dialogue.outbox.say_all(peer, &dialogue.session, act);
@@ -129,6 +134,7 @@ fn take_data<P: Peer, D: Delivery>(
         (talk dialogue.new (P.state peer.new) delivery.new) (take result rest.now) }
     ensures site { dialogue.new.session.site ≡ dialogue.old.session.site }
     ensures same { D.site delivery.new ≡ D.site delivery.old }
+    ensures reads { (P.state peer.new).reads ≡ (P.state peer.old).reads }
 {
     let mut message = [0; DATA_BUFFER_SIZE];
     let fed = dialogue.dot.feed(rest, &mut message);
@@ -146,6 +152,7 @@ fn handle_message<P: Peer, D: Delivery>(dialogue: &mut Dialogue, peer: &mut P, d
     ensures ends { EndsData D.HasCome D.IsDrafting (talk dialogue.old (P.state peer.old) delivery.old)
         (talk dialogue.new (P.state peer.new) delivery.new) }
     ensures same { D.site delivery.new ≡ D.site delivery.old }
+    ensures reads { (P.state peer.new).reads ≡ (P.state peer.old).reads }
 {
     match delivery.end(&dialogue.session) {
         Ok(()) => {

@@ -70,6 +70,7 @@ impl Outbox {
         ensures says { Says (P.state peer.old) (P.state peer.new) self.old self.new
             (reply_texts session.now.site (said act session.now.answers)) }
         ensures goes { (P.state peer.new).stops ≡ (P.state peer.old).stops }
+        ensures reads { (P.state peer.new).reads ≡ (P.state peer.old).reads }
     {
         match act {
             Act::Say(reply) | Act::Quit(reply) => self.say(peer, session.site(), reply),
@@ -85,6 +86,7 @@ impl Outbox {
         ensures says { Says (P.state peer.old) (P.state peer.new) self.old self.new
             (reply_texts session.now.site session.now.answers) }
         ensures goes { (P.state peer.new).stops ≡ (P.state peer.old).stops }
+        ensures reads { (P.state peer.new).reads ≡ (P.state peer.old).reads }
     {
         for i in 0..count {
             self.say(peer, session.site(), session.reply_at(i));
@@ -95,6 +97,7 @@ impl Outbox {
     pub fn say<P: Peer>(&mut self, peer: &mut P, site: &Site, reply: Reply)
         ensures says { Says (P.state peer.old) (P.state peer.new) self.old self.new (reply_text site.now reply) }
         ensures goes { (P.state peer.new).stops ≡ (P.state peer.old).stops }
+        ensures reads { (P.state peer.new).reads ≡ (P.state peer.old).reads }
     {
         if self.size > OUTBOX_SIZE - REPLY_LIMIT {
             self.flush(peer);
@@ -119,6 +122,7 @@ impl Outbox {
         ensures said { SaysNoMore (P.state peer.old) (P.state peer.new) self.old self.new }
         ensures none { self.new.pending ≡ [] }
         ensures goes { (P.state peer.new).stops ≡ (P.state peer.old).stops }
+        ensures reads { (P.state peer.new).reads ≡ (P.state peer.old).reads }
     {
         if self.broken {
             self.size = 0;
@@ -134,6 +138,7 @@ impl Outbox {
 fn write_all<P: Peer>(peer: &mut P, bytes: &[u8]) -> Result<(), PeerFault>
     ensures ok { OnOk result (HasTransferred (P.state peer.old) (P.state peer.new) [] bytes.now) }
     ensures err { OnErr result (BreaksOff (P.state peer.old) (P.state peer.new) bytes.now) }
+    ensures reads { (P.state peer.new).reads ≡ (P.state peer.old).reads }
 {
     let mut rest = bytes;
     while !rest.is_empty() {

@@ -1,7 +1,7 @@
 //! The other end of a conversation: bytes come from it and go to it, and it may fail.
 
-ghost use Rattle.std.specs.Prelude.{◌<◌, length, take, IfOk, OnErr};
-ghost use Rattle.lmtp_talk.specs.Peer.{PeerState, HasBrought, HasWritten, PeerFailed};
+ghost use Rattle.std.specs.Prelude.{◌≡◌, ◌<◌, length, take, IfOk, OnErr};
+ghost use Rattle.lmtp_talk.specs.Peer.{PeerState, WasRead, HasBrought, HasWritten, PeerFailed};
 
 use thiserror::Error;
 
@@ -23,18 +23,20 @@ pub enum Came {
 
 /// A client, as the server sees it.
 pub trait Peer {
-    // what was read of it, what is still to come, what it was given, and how often it failed
+    // what was read of it, what is still to come, what it was given, and how often it was read and failed
     ghost state: { Self → PeerState };
 
     /// Reads bytes to the front of the buffer.
     fn read(&mut self, buffer: &mut [u8]) -> Result<Came, PeerFault>
         requires { 0 < length buffer.old }
+        ensures reads { WasRead 1 (state self.old) (state self.new) }
         ensures ok { IfOk result (λ came. HasBrought (state self.old) (state self.new) buffer.new came) }
         ensures err { OnErr result (PeerFailed (state self.old) (state self.new)) };
 
     /// Writes bytes of the front, one at least, and says how many.
     fn write(&mut self, bytes: &[u8]) -> Result<usize, PeerFault>
         requires { 0 < length bytes.now }
+        ensures reads { (state self.new).reads ≡ (state self.old).reads }
         ensures ok { IfOk result (λ n. HasWritten (state self.old) (state self.new) bytes.now n) }
         ensures err { OnErr result (PeerFailed (state self.old) (state self.new)) };
 }

@@ -26,7 +26,7 @@ pub enum Then<'a> {
 }
 
 /// A peer that takes a turn at each read, and notes whether it had heard just what the turn waits for. It tells how
-/// often it failed and said that the server is to stop, and not what was read and written.
+/// often it was read, failed and said that the server is to stop, and not what was read and written.
 #[derive(Drop)]
 pub struct Script<'a> {
     pub turns: &'a [Turn<'a>],
@@ -40,6 +40,8 @@ pub struct Script<'a> {
     pub misheard: bool,
     /// How many bytes it still takes before a write fails.
     pub room: usize,
+    /// How often it was read; it stays at its largest value.
+    pub reads: u64,
     /// How often a read or a write failed; it stays at its largest value.
     pub failures: u64,
     /// How often it said that the server is to stop; it stays at its largest value.
@@ -52,7 +54,7 @@ impl<'a> Script<'a> {
         ensures script { (result.turns.now ≡ turns.now) × (result.room ≡ room) }
         ensures start { (result.at ≡ 0) × (result.said ≡ 0) × (result.heard.items ≡ [])
             × (result.misheard ≡ false) }
-        ensures sound { (result.failures ≡ 0) × (result.stops ≡ 0) }
+        ensures sound { (result.reads ≡ 0) × (result.failures ≡ 0) × (result.stops ≡ 0) }
     {
         Script {
             turns,
@@ -61,6 +63,7 @@ impl<'a> Script<'a> {
             heard: Vec::new(alloc),
             misheard: false,
             room,
+            reads: 0,
             failures: 0,
             stops: 0,
         }
@@ -91,6 +94,7 @@ impl<'a> Script<'a> {
     // The turn comes again until it was had so often.
     fn repeat(&mut self, times: usize)
         ensures same { (self.new.failures ≡ self.old.failures) × (self.new.stops ≡ self.old.stops) }
+        ensures reads { self.new.reads ≡ self.old.reads }
     {
         self.said = self.said.saturating_add(1);
         if self.said < times {
@@ -104,6 +108,7 @@ impl<'a> Script<'a> {
         ensures came { result ≡ Came.Stop }
         ensures same { self.new.failures ≡ self.old.failures }
         ensures stopped { Rises self.old.stops self.new.stops }
+        ensures reads { self.new.reads ≡ self.old.reads }
     {
         self.stops = self.stops.saturating_add(1);
         Came::Stop
@@ -111,7 +116,7 @@ impl<'a> Script<'a> {
 
     fn fail(&mut self) -> PeerFault
         ensures failed { Rises self.old.failures self.new.failures }
-        ensures same { self.new.stops ≡ self.old.stops }
+        ensures same { (self.new.stops ≡ self.old.stops) × (self.new.reads ≡ self.old.reads) }
     {
         self.failures = self.failures.saturating_add(1);
         PeerFault
@@ -135,9 +140,10 @@ fn is_same(heard: &[u8], awaited: &[u8]) -> bool
 
 impl Peer for Script<'_> {
     ghost state = { λ s.
-        record { read = None; unread = None; written = None; failures = s.failures; stops = s.stops; holds = [] } };
+        record { read = None; unread = None; written = None; reads = s.reads; failures = s.failures; stops = s.stops; holds = [] } };
 
     fn read(&mut self, buffer: &mut [u8]) -> Result<Came, PeerFault> {
+        self.reads = self.reads.saturating_add(1);
         let (awaited, then) = match self.turns.get(self.at) {
             Some(turn) => *turn,
             None => return Ok(Came::End),

@@ -8,6 +8,7 @@ mod shelf;
 use crate::Then::{Ends, Fails, Says, Stops};
 use crate::{Dialogue, EndCause, Script, Turn, serve};
 use lmtp_text::Site;
+use mail_world::limits::READ_LIMIT;
 use shelf::Shelf;
 use std::alloc::Global;
 use std::process::Abort;
@@ -83,11 +84,23 @@ fn check(
     end: EndCause,
     kept: (&[u8], u32),
 ) -> Result<(), Fail> {
+    check_within(rt, alloc, turns, end, kept, READ_LIMIT)
+}
+
+/// The same, where the conversation may make so many reads.
+fn check_within(
+    rt: &impl Abort,
+    alloc: Global,
+    turns: &[Turn],
+    end: EndCause,
+    kept: (&[u8], u32),
+    reads: u32,
+) -> Result<(), Fail> {
     let site = site(rt, alloc)?;
     let mut dialogue = Dialogue::new(alloc, site.clone()?)?;
     let mut peer = Script::new(alloc, turns, usize::MAX);
     let mut shelf = Shelf::new(alloc, site);
-    assert_eq!(rt; serve(&mut dialogue, &mut peer, &mut shelf), end);
+    assert_eq!(rt; serve(&mut dialogue, &mut peer, &mut shelf, reads), end);
     assert!(rt; peer.has_heard_all());
     assert_eq!(rt; shelf.bytes(), kept.0);
     assert_eq!(rt; shelf.cancelled(), kept.1);

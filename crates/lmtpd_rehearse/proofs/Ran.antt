@@ -27,7 +27,8 @@ use Rattle.lmtp_talk.specs.declared.ending.EndCause.TheVariants.{WriteFault}
 use Rattle.lmtp_house.specs.declared.house.report.Tally.{Tally}
 use Rattle.lmtp_house.specs.House.{HandedBack, HasRun, IsBoxWork, LaneWork, BoxWork}
 use Rattle.lmtp_talk.specs.Peer.{PeerState}
-use Rattle.lmtp_talk.specs.Served.{IsWritten, has_quit, transactions_in}
+use Rattle.lmtp_talk.specs.Served.{terms, IsWritten, has_quit, transactions_in}
+use Rattle.mail_world.specs.declared.limits.TheConstants.{READ_LIMIT}
 use Rattle.lmtp_lane.specs.Visits.{Finished, Visit, IsVisit, conversations_of, finished_of}
 use Rattle.lmtpd_rehearse.specs.declared.client.OnlyClient.{OnlyClient}
 use Rattle.lmtpd_rehearse.specs.declared.client.OnlyClient.TheVariants.{Waiting, Over}
@@ -111,7 +112,7 @@ record IsHeldBy (site : Site) (moment : ℕ) (old new : PeerState) (end : EndCau
   ends : RehearsalEndsFor site c.bytes c.dispositions new.unread end
   unstopped : c ≡ conversation c.bytes c.dispositions
 
-held_by : (site : Site) (moment : ℕ) (old new : PeerState) (v : Visit) → old.stops ≡ 0 → new.stops ≡ 0 → v.after ≡ new → IsVisit site (λ peer. peer ≡ old) v → IsHeldBy site moment old new v.cause v.conversation
+held_by : (site : Site) (moment : ℕ) (old new : PeerState) (v : Visit) → old.stops ≡ 0 → new.stops ≡ 0 → v.after ≡ new → IsVisit (terms site READ_LIMIT) (λ peer. peer ≡ old) v → IsHeldBy site moment old new v.cause v.conversation
 held_by site moment old new v never still at h =
     let c = v.conversation in
     let before : v.before ≡ old = h.client in
@@ -261,7 +262,7 @@ module _ (site : Site) (moment : ℕ) {P : Type 0} (state : P → PeerState) (pe
       let v : Visit = one.visit in
       let c : Conversation = v.conversation in
       let M : PeerState → Type 0 = λ p. p ≡ state peer in
-      let V : List Visit → Type 0 = λ l. AllByRecursion (IsVisit site M) l in
+      let V : List Visit → Type 0 = λ l. AllByRecursion (IsVisit (terms site READ_LIMIT) M) l in
       let visited : V (v ∷ []) = subst V one.only work.visited.each in
       let by = held_by site moment (state peer) (state last) v (never peer) (never last) one.after visited.0 in
       let are : conversations_of lane.visits ≡ c ∷ [] = ap conversations_of one.only in

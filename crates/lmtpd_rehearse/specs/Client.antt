@@ -1,7 +1,7 @@
 -- What a lane sees of its only client.
 use Rattle.std.specs.Prelude.{◌≡◌, Bool, true, false, List, [], ◌∷◌, Option, Some}
 use Rattle.lmtp_talk.specs.Peer.{PeerState}
-use Rattle.lmtp_lane.specs.Visits.{Finished}
+use Rattle.lmtp_lane.specs.Visits.{VisitsTold}
 use Rattle.lmtpd_rehearse.specs.declared.client.OnlyClient.{OnlyClient}
 use Rattle.lmtpd_rehearse.specs.declared.client.OnlyClient.TheVariants.{Waiting, Out, Back, Over}
 
@@ -11,11 +11,11 @@ module _ {P : Type 0} where
   MayGive state (Waiting client) peer = peer ≡ state client
   MayGive state _ peer = ⊥
 
-  -- the conversation that has ended
-  abbrev pub told : (P → PeerState) → OnlyClient P → Option (List Finished)
-  told state (Back client end) = Some (record { peer = state client; cause = end } ∷ [])
-  told state (Over client end) = Some (record { peer = state client; cause = end } ∷ [])
-  told state _ = Some []
+  -- the conversation that has ended, and how many have
+  abbrev pub told : (P → PeerState) → OnlyClient P → VisitsTold
+  told state (Back client end) = record { each = Some (record { peer = state client; cause = end } ∷ []); count = 1 }
+  told state (Over client end) = record { each = Some (record { peer = state client; cause = end } ∷ []); count = 1 }
+  told state _ = record { each = Some []; count = 0 }
 
   -- the client is being served
   abbrev pub is_out : OnlyClient P → Bool

@@ -10,6 +10,8 @@ use std::io::{Read, Write};
 pub struct StreamPeer<R, W> {
     pub reader: R,
     pub writer: W,
+    /// How many reads were made; it stays at its largest value.
+    pub reads: u64,
     /// How many reads and writes failed; it stays at its largest value.
     pub failures: u64,
 }
@@ -19,12 +21,14 @@ impl<R: Read, W: Write> Peer for StreamPeer<R, W> {
       read = None;
       unread = R.remaining p.reader;
       written = W.contents p.writer;
+      reads = p.reads;
       failures = p.failures;
       stops = 0;
       holds = [];
     } };
 
     fn read(&mut self, buffer: &mut [u8]) -> Result<Came, PeerFault> {
+        self.reads = self.reads.saturating_add(1);
         match self.reader.read(buffer) {
             Ok(0) => Ok(Came::End),
             Ok(size) => Ok(Came::Bytes(size)),

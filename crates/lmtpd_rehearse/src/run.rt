@@ -46,6 +46,7 @@ where
     let peer = StreamPeer {
         reader,
         writer,
+        reads: 0,
         failures: 0,
     };
     let held = hold(rt, alloc, site.clone()?, blocks, moment, peer)?;

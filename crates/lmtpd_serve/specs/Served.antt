@@ -1,6 +1,6 @@
 -- What a server says on its standard output, and how its run ends.
-use Rattle.std.specs.Prelude.{◌≡◌, ◌<◌, ◌^◌, ⊤, ℕ, List, [], ◌∷◌, ◌++◌, length, codes, decimal, None}
-use Rattle.std.specs.List.{list_any}
+use Rattle.std.specs.Prelude.{◌≡◌, ◌<◌, ◌^◌, ℕ, List, [], ◌∷◌, ◌++◌, length, codes, decimal}
+use Rattle.std.specs.List.{AllByRecursion, list_any}
 use Rattle.std.specs.Net.Text.{socket_text}
 use Rattle.std.specs.declared.net.SocketAddr.{SocketAddr}
 use Rattle.mail_world.specs.Text.{lf}
@@ -8,7 +8,7 @@ use Rattle.mail_world.specs.Site.{Site}
 use Rattle.mbox_rd.specs.Spool.{SpoolState}
 use Rattle.lmtp_house.specs.declared.house.report.Tally.{Tally}
 use Rattle.lmtp_house.specs.House.{HandedBack, HasRun}
-use Rattle.lmtp_lane.specs.TcpVisits.{is_over}
+use Rattle.lmtp_lane.specs.TcpVisits.{conversations_ended, told_by, IsNewcomer, is_over}
 use Rattle.lmtp_lane.specs.declared.tcp.visits.TcpVisits.{TcpVisits}
 use Rattle.lmtpd_output.specs.Output.{pair_texts}
 use Rattle.lmtpd_serve.specs.declared.served.Served.{Served}
@@ -24,11 +24,12 @@ count_line name tally = name ++ codes " stored " ++ decimal tally.stored ++ (lf 
 abbrev pub counts_text : List (List ℕ) → List Tally → List ℕ
 counts_text names tallies = pair_texts count_line names tallies
 
--- A server ran with so many lanes, over clients of a listener, which tell nothing, and these spools; it is faulty exactly where a worker is.
+-- A server ran with so many lanes, over clients of a listener, of whom it is told how many were handed back, and these spools; it is faulty exactly where a worker is.
 pub record IsServerRun (L : Type 0) {S : Type 0} (site : Site) (state : S → SpoolState) (lanes : ℕ) (spools : List S) (served : Served) : Type 0 where
   pub visits : List (TcpVisits L)
   pub back : HandedBack (TcpVisits L) S
   pub each_lane : length visits ≡ lanes
-  pub ran : HasRun site (λ moment. moment < 2 ^ 32) (record { MayGive = λ _ _. ⊤; finished = λ _. None; over = is_over })
+  pub none_ended : AllByRecursion (λ v. conversations_ended v ≡ 0) visits
+  pub ran : HasRun site (λ moment. moment < 2 ^ 32) (record { MayGive = λ _ peer. IsNewcomer peer; finished = told_by; over = is_over })
       state (record { visits = visits; spools = spools }) back
   pub faulty : served.faulty ≡ list_any (λ tally. tally.faulty) back.tallies

@@ -7,6 +7,8 @@ ghost use Rattle.std.specs.Arc.{arc_value};
 ghost use Rattle.lmtp_house.specs.HouseGrid.{lists, IsRoom};
 ghost use Rattle.lmtp_house.specs.HouseTasks.{lane_task, lane_tasks, lane_before, IsLaneReady, HaveServedAll};
 ghost use Rattle.mail_world.specs.declared.limits.TheConstants.{LANE_LIMIT};
+ghost use Rattle.mail_world.specs.declared.limits.TheConstants.{READ_LIMIT};
+ghost use Rattle.lmtp_talk.specs.Served.{terms};
 ghost use Rattle.lmtp_lane.specs.LaneRun.{HasServed};
 
 use crate::house::crew::{Crew, Refused, Task};
@@ -61,7 +63,7 @@ where
 
     ghost ready = { λ job. IsLaneReady V.out job };
 
-    ghost done = { λ job r. HasServed job.site (C.May job.clock) (V.MayGive job.visits)
+    ghost done = { λ job r. HasServed (terms job.site READ_LIMIT) (C.May job.clock) (V.MayGive job.visits)
         (lane_before (record { MayGive = V.MayGive; finished = V.finished; over = V.over }) job)
         (record {
           finished = V.finished r.visits;

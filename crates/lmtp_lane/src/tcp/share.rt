@@ -2,7 +2,7 @@
 
 ghost use Rattle.std.specs.Prelude.{◌≡◌, ◌<◌, false, IfOk, length, map, sum};
 ghost use Rattle.std.specs.List.{AllByRecursion};
-ghost use Rattle.lmtp_lane.specs.TcpVisits.{connections_left, reads_each, is_out, share, shares};
+ghost use Rattle.lmtp_lane.specs.TcpVisits.{connections_left, reads_each, conversations_ended, is_out, share, shares};
 
 use crate::tcp::visits::TcpVisits;
 use lmtp_talk::ReadBuffer;
@@ -21,6 +21,7 @@ pub fn tcp_visits<L: Drop>(
 ) -> Result<Vec<TcpVisits<L>>, AllocError>
     ensures count { IfOk result (λ visits. length visits.items ≡ lanes) }
     ensures none_out { IfOk result (λ visits. AllByRecursion (λ v. is_out v ≡ false) visits.items) }
+    ensures none_ended { IfOk result (λ visits. AllByRecursion (λ v. conversations_ended v ≡ 0) visits.items) }
     ensures shares { IfOk result (λ visits. map connections_left visits.items ≡ shares connections lanes) }
     ensures all { IfOk result (λ visits. 0 < lanes → sum (map connections_left visits.items) ≡ connections) }
     ensures reads { IfOk result (λ visits. AllByRecursion (λ v. reads_each v ≡ reads) visits.items) }

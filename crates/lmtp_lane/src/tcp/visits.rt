@@ -18,6 +18,8 @@ pub struct TcpVisits<L: Drop> {
     pub(super) connections: u64,
     // how many reads each of them may make
     reads: u64,
+    // how many conversations have ended; it stays at its largest value
+    ended: u64,
     // here while no client is out
     buffer: Option<ReadBuffer>,
     over: bool,
@@ -26,12 +28,13 @@ pub struct TcpVisits<L: Drop> {
 
 impl<L: Drop> TcpVisits<L> {
     ghost use Rattle.std.specs.Prelude.{false};
-    ghost use Rattle.lmtp_lane.specs.TcpVisits.{connections_left, reads_each, is_out, has_failed};
+    ghost use Rattle.lmtp_lane.specs.TcpVisits.{connections_left, reads_each, conversations_ended, is_out, has_failed};
 
     /// That many clients of the listener, each of whom may be read so often.
     pub fn new(listener: Arc<L>, connections: u64, reads: u64, buffer: ReadBuffer) -> TcpVisits<L>
         ensures connections { connections_left result ≡ connections }
         ensures reads { reads_each result ≡ reads }
+        ensures none_ended { conversations_ended result ≡ 0 }
         ensures none_out { is_out result ≡ false }
         ensures not_failed { has_failed result ≡ false }
     {
@@ -39,6 +42,7 @@ impl<L: Drop> TcpVisits<L> {
             listener,
             connections,
             reads,
+            ended: 0,
             buffer: Some(buffer),
             over: false,
             failed: false,
@@ -101,12 +105,12 @@ where
 {
     type P = TcpPeer<L::Stream>;
 
-    ghost use Rattle.std.specs.Prelude.{⊤, None, true, false, is_none};
-    ghost use Rattle.lmtp_lane.specs.TcpVisits.{TakesClient, TakesBack, is_out, is_over};
+    ghost use Rattle.std.specs.Prelude.{true, false, is_none};
+    ghost use Rattle.lmtp_lane.specs.TcpVisits.{TakesClient, TakesBack, IsNewcomer, told_by, is_out, is_over};
 
-    ghost MayGive = { λ visits peer. ⊤ };
+    ghost MayGive = { λ visits peer. IsNewcomer peer };
 
-    ghost finished = { λ visits. None };
+    ghost finished = { λ visits. told_by visits };
 
     ghost out = { λ visits. is_out visits };
 
@@ -131,5 +135,6 @@ where
         ensures { TakesBack self.old self.new }
     {
         self.buffer = Some(peer.close(end));
+        self.ended = self.ended.saturating_add(1);
     }
 }

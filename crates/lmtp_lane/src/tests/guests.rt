@@ -45,17 +45,21 @@ impl<'a> Visits for Guests<'a> {
 
     ghost MayGive = { λ guests peer. ⊤ };
 
-    ghost finished = { λ guests. Some (map (λ guest. record {
-      peer = record {
-        read = None;
-        unread = None;
-        written = None;
-        failures = guest.client.failures;
-        stops = guest.client.stops;
-        holds = [];
-      };
-      cause = guest.end;
-    }) guests.served.items) };
+    ghost finished = { λ guests. record {
+      each = Some (map (λ guest. record {
+        peer = record {
+          read = None;
+          unread = None;
+          written = None;
+          reads = guest.client.reads;
+          failures = guest.client.failures;
+          stops = guest.client.stops;
+          holds = [];
+        };
+        cause = guest.end;
+      }) guests.served.items);
+      count = length guests.served.items;
+    } };
 
     ghost out = { λ guests. guests.out };
 

@@ -20,6 +20,7 @@ pub struct TcpPeer<T> {
     // how many reads may still be made
     reads_left: u64,
     // each stays at its largest value
+    reads: u64,
     failures: u64,
     stops: u64,
 }
@@ -38,6 +39,7 @@ impl<T> TcpPeer<T> {
             stream,
             buffer,
             reads_left: reads,
+            reads: 0,
             failures: 0,
             stops: 0,
         }
@@ -73,7 +75,7 @@ impl<T: Read> TcpPeer<T> {
         ensures ok { IfOk result (Fills T.remaining self.old self.new) }
         ensures err { OnErr result (PeerFailed (reading T.remaining self.old) (reading T.remaining self.new)) }
         ensures waits { 0 < length (waiting self.old.buffer) → (result ≡ Ok None) × (self.new ≡ self.old) }
-        ensures same { self.new.reads_left ≡ self.old.reads_left }
+        ensures same { (self.new.reads_left ≡ self.old.reads_left) × (self.new.reads ≡ self.old.reads) }
     {
         if !self.buffer.is_empty() {
             return Ok(None);
@@ -104,21 +106,23 @@ impl<T: Read + OpenStream + Drop> TcpPeer<T> {
 
 impl<T: Read + Write> Peer for TcpPeer<T> {
     ghost use Rattle.std.specs.Prelude.{[], None};
-    ghost use Rattle.lmtp_talk.specs.Peer.{HasBrought, PeerFailed, HasWritten};
+    ghost use Rattle.lmtp_talk.specs.Peer.{WasRead, HasBrought, PeerFailed, HasWritten};
     ghost use Rattle.lmtp_talk.specs.TcpPeer.{TakesRead, reading};
 
     ghost state = { λ p.
-        record { read = None; unread = None; written = None; failures = p.failures; stops = p.stops; holds = [] } };
+        record { read = None; unread = None; written = None; reads = p.reads; failures = p.failures; stops = p.stops; holds = [] } };
 
     /// What it handed out, what its buffer has and what the stream has left are, together, what buffer and
     /// stream had.
     fn read(&mut self, buffer: &mut [u8]) -> Result<Came, PeerFault>
         requires { 0 < length buffer.old }
+        ensures reads { WasRead 1 (reading T.remaining self.old) (reading T.remaining self.new) }
         ensures come { IfOk result
             (λ came. HasBrought (reading T.remaining self.old) (reading T.remaining self.new) buffer.new came) }
         ensures failed { OnErr result (PeerFailed (reading T.remaining self.old) (reading T.remaining self.new)) }
         ensures bound { TakesRead self.old self.new result }
     {
+        self.reads = self.reads.saturating_add(1);
         if self.reads_left == 0 {
             return Ok(self.stop());
         }

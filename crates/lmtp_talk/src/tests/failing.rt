@@ -8,8 +8,8 @@ use std::alloc::Global;
 /// Which of its calls fail, counted from 1; none where that is 0.
 #[derive(Clone, Copy)]
 pub struct Faults {
-    pub read: u32,
-    pub write: u32,
+    pub read: u64,
+    pub write: u64,
     /// Each later call of that kind fails too.
     pub for_ever: bool,
 }
@@ -19,8 +19,8 @@ pub struct Faults {
 pub struct Failing<'a> {
     texts: &'a [&'a [u8]],
     faults: Faults,
-    reads: u32,
-    writes: u32,
+    reads: u64,
+    writes: u64,
     heard: Vec<u8>,
     failures: u64,
 }
@@ -49,13 +49,20 @@ impl<'a> Failing<'a> {
 }
 
 /// The call of that number fails.
-fn fails(call: u32, fault: u32, for_ever: bool) -> bool {
+fn fails(call: u64, fault: u64, for_ever: bool) -> bool {
     fault > 0 && (call == fault || for_ever && call > fault)
 }
 
 impl Peer for Failing<'_> {
-    ghost state = { λ p.
-        record { read = None; unread = None; written = None; failures = p.failures; stops = 0; holds = [] } };
+    ghost state = { λ p. record {
+      read = None;
+      unread = None;
+      written = None;
+      reads = p.reads;
+      failures = p.failures;
+      stops = 0;
+      holds = [];
+    } };
 
     fn read(&mut self, buffer: &mut [u8]) -> Result<Came, PeerFault> {
         self.reads = self.reads.saturating_add(1);

@@ -4,6 +4,7 @@ use super::failing::{Failing, Faults};
 use super::shelf::Shelf;
 use super::{GREETING, OFFER, site};
 use crate::{Dialogue, EndCause, serve};
+use mail_world::limits::READ_LIMIT;
 use std::alloc::Global;
 use std::process::Abort;
 use std::test::Fail;
@@ -43,7 +44,10 @@ fn check(
     let mut dialogue = Dialogue::new(alloc, site.clone()?)?;
     let mut peer = Failing::new(alloc, &TEXTS, faults);
     let mut shelf = Shelf::new(alloc, site);
-    assert_eq!(rt; serve(&mut dialogue, &mut peer, &mut shelf), end);
+    assert_eq!(rt;
+        serve(&mut dialogue, &mut peer, &mut shelf, READ_LIMIT),
+        end
+    );
     let mut told = Vec::new(alloc);
     for replies in REPLIES.iter().take(wants.0) {
         told.extend_from_slice(replies)?;
@@ -59,7 +63,7 @@ fn check(
 fn each_read_and_write_fails_in_turn(rt: HostRuntime) -> Result<(), Fail> {
     for for_ever in [false, true] {
         for (i, wants) in READS.iter().enumerate() {
-            let read = i as u32 + 1;
+            let read = i as u64 + 1;
             let faults = Faults {
                 read,
                 write: 0,
@@ -68,7 +72,7 @@ fn each_read_and_write_fails_in_turn(rt: HostRuntime) -> Result<(), Fail> {
             check(&rt, rt.alloc(), faults, EndCause::ReadFault, *wants)?;
         }
         for (i, wants) in WRITES.iter().enumerate() {
-            let write = i as u32 + 1;
+            let write = i as u64 + 1;
             let faults = Faults {
                 read: 0,
                 write,

@@ -1,6 +1,6 @@
 //! Clients that say anything, and as much as they like.
 
-use super::{GREETING, IN_DATA, STOPPING, check};
+use super::{GREETING, IN_DATA, LINE_BY_LINE, STOPPING, check, check_within};
 use crate::Then::{Ends, Repeats, Says, Stops};
 use crate::{EndCause, Turn};
 use std::alloc::{AllocError, Global};
@@ -46,6 +46,45 @@ fn a_flood_is_answered_once(rt: HostRuntime) -> Result<(), Fail> {
     ];
     for (turns, end, kept) in table {
         check(&rt, rt.alloc(), turns, end, kept)?;
+    }
+    Ok(())
+}
+
+/// A letter at each read, for ever.
+const LETTERS_FOR_EVER: [Turn; 2] = [(GREETING, Says(b"x")), (b"", Repeats(b"x", usize::MAX))];
+
+const LETTERS_IN_DATA_FOR_EVER: [Turn; 3] = [
+    (
+        GREETING,
+        Says(b"LHLO a\r\nMAIL FROM:<>\r\nRCPT TO:<anna>\r\nDATA\r\n"),
+    ),
+    (IN_DATA, Says(b"x")),
+    (b"", Repeats(b"x", usize::MAX)),
+];
+
+const IS_GREETED: [Turn; 1] = [(GREETING, Says(b"QUIT\r\n"))];
+
+#[test]
+fn a_conversation_ends_at_its_bound_on_reads(rt: HostRuntime) -> Result<(), Fail> {
+    let table: [(&[Turn], u32, EndCause, (&[u8], u32)); 4] = [
+        (&LETTERS_FOR_EVER, 1_000, EndCause::ReadBound, (b"", 0)),
+        (
+            &LETTERS_IN_DATA_FOR_EVER,
+            1_000,
+            EndCause::ReadBound,
+            (&[b'x'; 999], 1),
+        ),
+        (&IS_GREETED, 0, EndCause::ReadBound, (b"", 0)),
+        // QUIT comes with the last read
+        (
+            &LINE_BY_LINE,
+            9,
+            EndCause::Quit,
+            (b"Subject: hi\r\n\r\n.hello\r\n", 0),
+        ),
+    ];
+    for (turns, reads, end, kept) in table {
+        check_within(&rt, rt.alloc(), turns, end, kept, reads)?;
     }
     Ok(())
 }

@@ -25,6 +25,8 @@ pub struct Relay {
     pub heard: Vec<u8>,
     /// The cause for which its conversation ends where a call failed.
     pub fault: Option<EndCause>,
+    // how often it was read; it stays at its largest value
+    reads: u64,
     failures: u64,
     /// Whether the server is to stop once all was said, and how often it was told so.
     is_stopping: bool,
@@ -42,6 +44,7 @@ impl Relay {
             calls: 0,
             heard: Vec::new(alloc),
             fault: None,
+            reads: 0,
             failures: 0,
             is_stopping: false,
             stops: 0,
@@ -83,7 +86,8 @@ impl Relay {
 
     // Counts the call, and says whether it fails.
     fn call(&mut self) -> bool
-        ensures { (self.new.failures ≡ self.old.failures) × (self.new.stops ≡ self.old.stops) }
+        ensures { (self.new.failures ≡ self.old.failures) × (self.new.stops ≡ self.old.stops)
+            × (self.new.reads ≡ self.old.reads) }
     {
         let fails = self.faults.fail(self.calls);
         self.calls = self.calls.saturating_add(1);
@@ -92,7 +96,7 @@ impl Relay {
 
     fn fail(&mut self, fault: EndCause) -> PeerFault
         ensures failed { Rises self.old.failures self.new.failures }
-        ensures same { self.new.stops ≡ self.old.stops }
+        ensures same { (self.new.stops ≡ self.old.stops) × (self.new.reads ≡ self.old.reads) }
     {
         self.fault = Some(fault);
         self.failures = self.failures.saturating_add(1);
@@ -101,7 +105,7 @@ impl Relay {
 
     fn stop(&mut self) -> Came
         ensures came { result ≡ Came.Stop }
-        ensures same { self.new.failures ≡ self.old.failures }
+        ensures same { (self.new.failures ≡ self.old.failures) × (self.new.reads ≡ self.old.reads) }
         ensures stopped { Rises self.old.stops self.new.stops }
     {
         self.stops = self.stops.saturating_add(1);
@@ -114,12 +118,14 @@ impl Peer for Relay {
       read = None;
       unread = None;
       written = None;
+      reads = r.reads;
       failures = r.failures;
       stops = r.stops;
       holds = [];
     } };
 
     fn read(&mut self, buffer: &mut [u8]) -> Result<Came, PeerFault> {
+        self.reads = self.reads.saturating_add(1);
         if let Some(meeting) = &mut self.meeting {
             meeting.attend();
         }
@@ -161,6 +167,8 @@ pub struct Clients {
     next: Option<Relay>,
     guest: Option<Guest>,
     is_used: Option<Arc<AtomicBool>>,
+    // how many conversations have ended; it stays at its largest value
+    count: u64,
     out: bool,
     over: bool,
 }
@@ -173,6 +181,7 @@ impl Clients {
             next: client,
             guest: None,
             is_used: None,
+            count: 0,
             out: false,
             over: false,
         }
@@ -186,6 +195,7 @@ impl Clients {
             next: None,
             guest: None,
             is_used: Some(is_used),
+            count: 0,
             out: false,
             over: false,
         }
@@ -207,7 +217,7 @@ impl Visits for Clients {
 
     ghost MayGive = { λ clients peer. ⊤ };
 
-    ghost finished = { λ clients. None };
+    ghost finished = { λ clients. record { each = None; count = clients.count } };
 
     ghost out = { λ clients. clients.out };
 
@@ -226,6 +236,7 @@ impl Visits for Clients {
 
     fn done(&mut self, peer: Relay, end: EndCause) {
         self.guest = Some(Guest { client: peer, end });
+        self.count = self.count.saturating_add(1);
         self.out = false;
     }
 }

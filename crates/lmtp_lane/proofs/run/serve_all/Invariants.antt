@@ -1,5 +1,6 @@
 use Rattle.std.proofs.Common.{◌≡◌, false}
 use Rattle.lmtp_talk.specs.Peer.{PeerState}
+use Rattle.lmtp_talk.specs.Served.{terms}
 use Rattle.lmtp_lane.specs.LaneExchange.{ends_of}
 use Rattle.lmtp_lane.specs.LaneAccount.{AgreesWith, HasOffered}
 use Rattle.lmtp_lane.proofs.Visiting.{HasCalled}
@@ -13,7 +14,7 @@ invariant-loop g l =
       here : l.dialogue.session.site ≡ S.site;
       none_out : g.V.Visits.out l.visits ≡ false;
       others : (peer : PeerState) → g.V.Visits.MayGive l.visits peer → g.V.Visits.MayGive l.initial.visits peer;
-      called : HasCalled S.site (g.V.Visits.MayGive l.initial.visits) (g.V.Visits.finished l.initial.visits) (g.V.Visits.finished l.visits)
+      called : HasCalled (terms S.site l.reads) (g.V.Visits.MayGive l.initial.visits) (g.V.Visits.finished l.initial.visits) (g.V.Visits.finished l.visits)
           (λ n ts. HasOffered S.May l.delivery.accepted S.ends (ends_of l.delivery.exchange) n ts
           × AgreesWith (g.C.Clock.May l.delivery.clock.now) S.May) l.conversations;
     }

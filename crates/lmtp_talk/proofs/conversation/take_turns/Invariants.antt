@@ -1,7 +1,7 @@
 use Rattle.std.proofs.Common.{◌≡◌, ◌≤◌, ℕ, List, [], length}
 use Rattle.mail_world.specs.Site.{Site}
 use Rattle.lmtp_session.specs.Steps.{MayStop}
-use Rattle.lmtp_talk.specs.Peer.{PeerState}
+use Rattle.lmtp_talk.specs.Peer.{PeerState, WasRead}
 use Rattle.lmtp_talk.specs.Standing.{IsSoFar, standing, beginning}
 use Rattle.lmtp_talk.proofs.conversation.take_turns.Given as goal
 
@@ -13,6 +13,7 @@ invariant-loop-made g l = record {
   room : length l.buffer ≡ 4096;
   site : l.dialogue.session.site ≡ l.initial.dialogue.session.site;
   same : g.D.Delivery.site l.delivery ≡ g.D.Delivery.site l.initial.delivery;
+  reads : WasRead l._made (g.P.Peer.state l.initial.peer) (g.P.Peer.state l.peer);
   stands : (site : Site) (start : PeerState) (first : g.row.D.Denot) (handled : List ℕ)
       → IsSoFar (beginning site start (g.D.Delivery.HasCome first)) (standing l.initial.dialogue (g.P.Peer.state l.initial.peer) (g.D.Delivery.HasCome l.initial.delivery) (g.D.Delivery.IsDrafting l.initial.delivery)) handled handled
       → (all : List ℕ) × (l._made ≤ length all) × IsSoFar (beginning site start (g.D.Delivery.HasCome first)) (standing l.dialogue (g.P.Peer.state l.peer) (g.D.Delivery.HasCome l.delivery) (g.D.Delivery.IsDrafting l.delivery)) all all;

@@ -18,6 +18,7 @@ loop-at-preserved g c =
       within = fits;
       site = step.site ∙ c.loop-at.invariant.site;
       same = step.same ∙ c.loop-at.invariant.same;
+      reads = step.reads ∙ c.loop-at.invariant.reads;
       stands = subst (λ l. Advances HasCome IsDrafting (talk c.args.dialogue.now (g.P.Peer.state c.args.peer.now) c.args.delivery.now) (talk c.take_front.new.dialogue (g.P.Peer.state c.take_front.new.peer) c.take_front.new.delivery) l)
           (take_more at used piece c.loop-at.invariant.within)
           (subst (λ l. Advances HasCome IsDrafting (talk c.args.dialogue.now (g.P.Peer.state c.args.peer.now) c.args.delivery.now) (talk c.take_front.new.dialogue (g.P.Peer.state c.take_front.new.peer) c.take_front.new.delivery) (take at piece ++ take used l)) rest

@@ -12,6 +12,7 @@ returns-clause-ran g c = record {
     tallies = c.in-Ok.report.tallies.items;
   };
   each_lane = c.in_ok-visits.ensures.count;
+  none_ended = c.in_ok-visits.ensures.none_ended;
   ran = c.in-Ok.ensures.ran;
   faulty = c.has_failed.ensures ∙ ap (λ ts. list_any (λ t. t.faulty) ts) c.deref-2.ensures.value;
 }

@@ -2,8 +2,9 @@ use Rattle.std.proofs.Common.{false, subst, ap, sym, ◌∙◌}
 use Rattle.mail_world.specs.Site.{Site}
 use Rattle.mail_post.specs.Offered.{any_refused}
 use Rattle.lmtp_lane.specs.LaneExchange.{LaneEnds, ends_of}
+use Rattle.lmtp_talk.specs.Served.{terms}
 use Rattle.lmtp_lane.specs.LaneRun.{HasServed}
-use Rattle.lmtp_lane.proofs.run.lane_run.Goals as goal
+use Rattle.lmtp_lane.proofs.run.lane_run_at.Goals as goal
 
 pub lane_at-requires-clause-start : goal.lane_at-requires-clause-start
 lane_at-requires-clause-start g c =
@@ -14,7 +15,7 @@ pub returns : goal.returns
 returns g c =
     let V = g.V.Visits in
     let r = c.lane_at.result in
-    let P : Site → LaneEnds → Type 0 = λ s e. HasServed s (g.C.Clock.May c.args.clock.now) (V.MayGive c.args.visits)
+    let P : Site → LaneEnds → Type 0 = λ s e. HasServed (terms s c.args.reads) (g.C.Clock.May c.args.clock.now) (V.MayGive c.args.visits)
     (record {
       finished = V.finished c.args.visits;
       over = V.over c.args.visits;
