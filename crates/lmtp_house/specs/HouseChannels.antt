@@ -1,7 +1,7 @@
 -- All channels of one kind together: a grid of senders, and their receivers.
 use Rattle.std.specs.Prelude.{◌≡◌, ℕ, ◌<◌, false, List, [], ◌++◌, length, map, slice_get, Some}
 use Rattle.mail_post.specs.Channel.{Channel, Sender, Inbox, Sent, taken, new_senders, new_inbox, AreSendersOf}
-use Rattle.mail_post.specs.Channel.{TookSome, TookAll, lists as sent_by}
+use Rattle.mail_post.specs.Channel.{TookSome, TookAll, sent_by}
 use Rattle.mail_post.specs.declared.channel.Gone.TheVariants.{Closed}
 
 -- how many channels there are, and how many lanes each has

@@ -38,9 +38,9 @@ impl Model for Session {
 
     ghost Value = { View };
 
-    ghost use Rattle.lmtp_session.specs.Fields.{view_of, IsKept};
+    ghost use Rattle.lmtp_session.specs.Fields.{session_view, IsKept};
 
-    ghost view = { view_of };
+    ghost view = { session_view };
 
     ghost invariant = { IsKept };
 }

@@ -12,7 +12,7 @@ use Rattle.mail_world.specs.Session.{fresh}
 use Rattle.mail_world.specs.Conversation.{Disposition, Part, CommandLine, MailData, inputs_of, session_behind, parts, OutcomesFit, stop_at, inputs, IsAccount}
 use Rattle.mail_world.specs.Dispositions.{dispositions_of}
 use Rattle.mail_world.proofs.Places.{place_of_stands, place_of_least, StandsAt-more}
-use Rattle.mail_world.proofs.Handled.{HasNoPart, Handled, TakesLines as ReadsLines, handled_none, handled_line, handled_data, line_within, all_parts, all_accounted as accounted_at}
+use Rattle.mail_world.proofs.Handled.{HasNoPart, Handled, ReadsLines, handled_none, handled_line, handled_data, line_within, all_parts, all_accounted as accounted_at}
 use Rattle.lmtp_session.specs.Steps.{TakesLines}
 use Rattle.lmtp_talk.specs.Standing.{IsCutUp}
 

@@ -11,7 +11,7 @@ use Rattle.lmtp_wire.specs.declared.dot.Place.{Place}
 use Rattle.lmtp_wire.specs.declared.dot.Place.TheVariants.{InText, BehindCr, LineStart, BehindDot, BehindDotCr}
 use Rattle.lmtp_wire.specs.declared.dot.Effect.{Effect}
 use Rattle.lmtp_wire.specs.declared.dot.Effect.TheVariants.{Nothing, Byte, HeldCr, End}
-use Rattle.lmtp_wire.specs.Place.{came, in_doubt, held, is_cr, is_start, is_dot, begun, effect_of, without_dots_at, moved, IsAtPlace, IsDataEnd}
+use Rattle.lmtp_wire.specs.Place.{came, in_doubt, held_back, is_cr, is_start, is_dot, begun, effect_of, without_dots_at, moved, IsAtPlace, IsDataEnd}
 use Rattle.lmtp_wire.proofs.EndSteps.{end_in, text_other, cr_again, cr_other, start_cr, start_other, dot_other, dot_cr_again, dot_cr_other, moved_more, moved_none, moved_some}
 use Rattle.lmtp_wire.proofs.LastBytes.{eqb_comm, ends_more, fades, fades_cr}
 
@@ -118,7 +118,7 @@ ends_in_none u =
     ap (λ k. pointwise nat_eq [] (drop k u)) n ∙ ap (λ l. pointwise nat_eq [] (drop (length u) l)) (sym (append-nil u)) ∙ ap (λ l. pointwise nat_eq [] l) (drop-append_seam u [])
 
 stands_next : (p q : Place) (taken : List ℕ) (b : ℕ) (new : List ℕ) → IsAtPlace p taken → PlaceStep p q b new → (lead : List ℕ) → taken ++ b ∷ [] ≡ lead ++ in_doubt q
-    → unstuffed lead ≡ shown (taken ++ b ∷ []) → unstuffed (taken ++ b ∷ []) ≡ shown (taken ++ b ∷ []) ++ held q → IsAtPlace q (taken ++ b ∷ [])
+    → unstuffed lead ≡ shown (taken ++ b ∷ []) → unstuffed (taken ++ b ∷ []) ≡ shown (taken ++ b ∷ []) ++ held_back q → IsAtPlace q (taken ++ b ∷ [])
 stands_next p q taken b new s e lead whole content sure = record {
   before = s.before + e.gone;
   count = step_count s.before e.gone _ _ _ _ s.count e.count (length-append taken (b ∷ []));
@@ -134,8 +134,8 @@ stands_next p q taken b new s e lead whole content sure = record {
 }
 
 -- the byte is content
-adds_byte : (p q : Place) (taken : List ℕ) (b : ℕ) → IsAtPlace p taken → PlaceStep p q b (b ∷ []) → in_doubt q ≡ [] → held q ≡ [] → is_dot p && (cr == b) ≡ false
-    → Adds q taken b (held p ++ b ∷ [])
+adds_byte : (p q : Place) (taken : List ℕ) (b : ℕ) → IsAtPlace p taken → PlaceStep p q b (b ∷ []) → in_doubt q ≡ [] → held_back q ≡ [] → is_dot p && (cr == b) ≡ false
+    → Adds q taken b (held_back p ++ b ∷ [])
 adds_byte p q taken b s e doubt holds other =
     let all : shown (taken ++ b ∷ []) ≡ unstuffed (taken ++ b ∷ []) = shown_next p taken b s ∙ ap (λ t. unstuffed (cond t taken (taken ++ b ∷ []))) other in
     record {
@@ -143,7 +143,7 @@ adds_byte p q taken b s e doubt holds other =
           (sym (append-nil (taken ++ b ∷ [])) ∙ ap (λ l. (taken ++ b ∷ []) ++ l) (sym doubt))
           (sym all)
           (sym all ∙ sym (append-nil (shown (taken ++ b ∷ []))) ∙ ap (λ l. shown (taken ++ b ∷ []) ++ l) (sym holds));
-      shows = all ∙ step_unstuffed p q taken b (b ∷ []) s e ∙ ap (λ l. l ++ b ∷ []) s.sure ∙ append_assoc (shown taken) (held p) (b ∷ []);
+      shows = all ∙ step_unstuffed p q taken b (b ∷ []) s e ∙ ap (λ l. l ++ b ∷ []) s.sure ∙ append_assoc (shown taken) (held_back p) (b ∷ []);
     }
 
 -- a dot at a line's start is dropped
@@ -287,9 +287,9 @@ step_dot_cr b g h e f = record {
 
 -- a byte that doesn't go on with an end begins it at best
 begun_by : (p : Place) (taken : List ℕ) (b : ℕ) (t : Bool) → (b == cr) ≡ t → IsAtPlace p taken → PlaceStep p BehindCr cr (cr ∷ [])
-    → ((b == cr) ≡ false → (cr == b) ≡ false → PlaceStep p InText b (b ∷ [])) → is_dot p ≡ false → Adds (cond t BehindCr InText) taken b (held p ++ b ∷ [])
+    → ((b == cr) ≡ false → (cr == b) ≡ false → PlaceStep p InText b (b ∷ [])) → is_dot p ≡ false → Adds (cond t BehindCr InText) taken b (held_back p ++ b ∷ [])
 begun_by p taken b true e s again other none =
-    let P : ℕ → Type 0 = λ x. Adds BehindCr taken x (held p ++ x ∷ []) in
+    let P : ℕ → Type 0 = λ x. Adds BehindCr taken x (held_back p ++ x ∷ []) in
     subst P (sym (eqb-true b cr e)) (adds_byte p BehindCr taken cr s again refl refl (ap (λ x. x && true) none))
 begun_by p taken b false e s again other none =
     let f : (cr == b) ≡ false = eqb_comm cr b ∙ e in

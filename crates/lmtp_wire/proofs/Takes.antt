@@ -11,7 +11,7 @@ use Rattle.lmtp_wire.specs.declared.dot.Dot.{Dot}
 use Rattle.lmtp_wire.specs.declared.dot.Place.{Place}
 use Rattle.lmtp_wire.specs.declared.dot.Place.TheVariants.{InText}
 use Rattle.lmtp_wire.specs.Place.{IsAtPlace, IsDataEnd}
-use Rattle.lmtp_wire.specs.Dot.{HasMade, HasFed, bytes_of}
+use Rattle.lmtp_wire.specs.Dot.{HasMade, HasFed, owed_bytes}
 use Rattle.lmtp_wire.proofs.PlaceSteps.{stands_none, Adds, adds_run}
 
 pub drop-later : (i j : ℕ) (xs ys : List ℕ) → i ≤ j → drop i xs ≡ drop i ys → drop j xs ≡ drop j ys
@@ -33,28 +33,28 @@ text_before text None n h e = ap (λ k. has_byte (take k text) cr) e ∙ none_be
 text_before text (Some k) n h e = ap (λ m. has_byte (take m text) cr) e ∙ none_before text k h.0.before
 
 -- a byte that was owed is put first
-pub pays : (out : List ℕ) (byte : ℕ) (owed : Option ℕ) → 0 < length out → owed ≡ Some byte → take 1 (set out 0 byte) ≡ bytes_of owed
+pub pays : (out : List ℕ) (byte : ℕ) (owed : Option ℕ) → 0 < length out → owed ≡ Some byte → take 1 (set out 0 byte) ≡ owed_bytes owed
 pays [] byte owed h e = absurd (omega arith)
-pays (x ∷ out) byte owed h e = sym (ap bytes_of e)
+pays (x ∷ out) byte owed h e = sym (ap owed_bytes e)
 
-pub paid : (old new : Dot) (out : List ℕ) (n : ℕ) → new.owed ≡ None → new.place ≡ old.place → take n out ≡ bytes_of old.owed
+pub paid : (old new : Dot) (out : List ℕ) (n : ℕ) → new.owed ≡ None → new.place ≡ old.place → take n out ≡ owed_bytes old.owed
     → (taken made : List ℕ) → HasMade old taken made → HasMade new taken (made ++ take n out)
 paid old new out n none same bytes taken made h =
     let P : Place → Type 0 = λ p. IsAtPlace p taken in
     record {
       goes_on = h.goes_on;
-      shows = h.shows ∙ ap (λ l. made ++ l) (sym bytes) ∙ sym (append-nil (made ++ take n out)) ∙ ap (λ o. (made ++ take n out) ++ bytes_of o) (sym none);
+      shows = h.shows ∙ ap (λ l. made ++ l) (sym bytes) ∙ sym (append-nil (made ++ take n out)) ∙ ap (λ o. (made ++ take n out) ++ owed_bytes o) (sym none);
       stands = subst P (sym same) h.stands;
     }
 
 -- nothing was owed
 all_made : (dot : Dot) (taken made : List ℕ) → dot.owed ≡ None → HasMade dot taken made → shown taken ≡ made
-all_made dot taken made none h = h.shows ∙ ap (λ o. made ++ bytes_of o) none ∙ append-nil made
+all_made dot taken made none h = h.shows ∙ ap (λ o. made ++ owed_bytes o) none ∙ append-nil made
 
 -- a byte
 pub takes_byte : (old new : Dot) (piece out out' : List ℕ) (used m m' : ℕ) (add : List ℕ) → old.owed ≡ None → used < length piece
     → ((taken : List ℕ) → IsAtPlace old.place taken → Adds new.place taken (get_or piece used 0) add)
-    → take m' out' ++ bytes_of new.owed ≡ take m out ++ add
+    → take m' out' ++ owed_bytes new.owed ≡ take m out ++ add
     → (taken made : List ℕ) → HasMade old (taken ++ take used piece) (made ++ take m out) → HasMade new (taken ++ take (used + 1) piece) (made ++ take m' out')
 takes_byte old new piece out out' used m m' add none within adds bytes taken made h =
     let now : List ℕ = taken ++ take used piece in
@@ -66,7 +66,7 @@ takes_byte old new piece out out' used m m' add none within adds bytes taken mad
     record {
       goes_on = stands_none new.place (taken ++ take (used + 1) piece) stands;
       shows = ap shown (sym more) ∙ one.shows ∙ ap (λ l. l ++ add) (all_made old now (made ++ take m out) none h)
-          ∙ append_assoc made (take m out) add ∙ ap (λ l. made ++ l) (sym bytes) ∙ sym (append_assoc made (take m' out') (bytes_of new.owed));
+          ∙ append_assoc made (take m out) add ∙ ap (λ l. made ++ l) (sym bytes) ∙ sym (append_assoc made (take m' out') (owed_bytes new.owed));
       stands = stands;
     }
 
@@ -98,13 +98,13 @@ takes_run dot piece out out' used n m m' run none place is text bytes taken made
     record {
       goes_on = stands_none dot.place (taken ++ take (used + n) piece) stands;
       shows = ap shown (sym more) ∙ all.shows ∙ ap (λ l. l ++ run) (all_made dot now (made ++ take m out) none h)
-          ∙ append_assoc made (take m out) run ∙ ap (λ l. made ++ l) (sym bytes) ∙ sym (append-nil (made ++ take m' out')) ∙ ap (λ o. (made ++ take m' out') ++ bytes_of o) (sym none);
+          ∙ append_assoc made (take m out) run ∙ ap (λ l. made ++ l) (sym bytes) ∙ sym (append-nil (made ++ take m' out')) ∙ ap (λ o. (made ++ take m' out') ++ owed_bytes o) (sym none);
       stands = stands;
     }
 
 -- a byte is put where there is room
-pub puts_byte : (out : List ℕ) (m b : ℕ) (owed : Option ℕ) → owed ≡ None → m < length out → take (m + 1) (set out m b) ++ bytes_of owed ≡ take m out ++ b ∷ []
-puts_byte out m b owed none room = ap (λ o. take (m + 1) (set out m b) ++ bytes_of o) none ∙ append-nil (take (m + 1) (set out m b)) ∙ take_more_set out m b room
+pub puts_byte : (out : List ℕ) (m b : ℕ) (owed : Option ℕ) → owed ≡ None → m < length out → take (m + 1) (set out m b) ++ owed_bytes owed ≡ take m out ++ b ∷ []
+puts_byte out m b owed none room = ap (λ o. take (m + 1) (set out m b) ++ owed_bytes o) none ∙ append-nil (take (m + 1) (set out m b)) ∙ take_more_set out m b room
 
 -- what comes where the data goes on
 pub on_from : (dot : Dot) (taken made : List ℕ) (ended : Bool) → not ended ≡ true → HasFed dot taken made ended → HasMade dot taken made

@@ -6,14 +6,14 @@ use Rattle.lmtp_wire.specs.declared.dot.Fed.{Fed}
 use Rattle.lmtp_wire.specs.Place.{IsAtPlace, IsDataEnd}
 
 -- a byte, if there is one
-abbrev pub bytes_of : Option ℕ → List ℕ
-bytes_of None = []
-bytes_of (Some byte) = byte ∷ []
+abbrev pub owed_bytes : Option ℕ → List ℕ
+owed_bytes None = []
+owed_bytes (Some byte) = byte ∷ []
 
 -- this data was taken and hasn't ended, and this of the message was made; what is owed of it had no room
 pub record HasMade (dot : Dot) (taken made : List ℕ) : Type 0 where
   pub goes_on : data_end taken ≡ None
-  pub shows : shown taken ≡ made ++ bytes_of dot.owed
+  pub shows : shown taken ≡ made ++ owed_bytes dot.owed
   pub stands : IsAtPlace dot.place taken
 
 -- the data has ended, or goes on

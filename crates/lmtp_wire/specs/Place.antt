@@ -23,12 +23,12 @@ in_doubt LineStart = []
 in_doubt BehindDot = dot ∷ []
 in_doubt BehindDotCr = dot ∷ cr ∷ []
 
-abbrev pub held : Place → List ℕ
-held InText = []
-held BehindCr = []
-held LineStart = []
-held BehindDot = []
-held BehindDotCr = cr ∷ []
+abbrev pub held_back : Place → List ℕ
+held_back InText = []
+held_back BehindCr = []
+held_back LineStart = []
+held_back BehindDot = []
+held_back BehindDotCr = cr ∷ []
 
 -- the last byte is CR; the last two are CRLF; the last three are CRLF and a dot
 abbrev pub is_cr : Place → Bool
@@ -89,7 +89,7 @@ pub record IsAtPlace (place : Place) (taken : List ℕ) : Type 0 where
   pub lead : List ℕ
   pub whole : taken ≡ lead ++ in_doubt place
   pub content : unstuffed lead ≡ shown taken
-  pub sure : unstuffed taken ≡ shown taken ++ held place
+  pub sure : unstuffed taken ≡ shown taken ++ held_back place
 
 -- the data has ended with the last byte that was taken, and the message was made
 pub record IsDataEnd (taken made : List ℕ) : Type 0 where

@@ -3,7 +3,7 @@
 ghost use Rattle.std.specs.Prelude.{◌≡◌, ℕ, ◌+◌, ◌<◌, ◌≤◌, Bool, false, List, [], ◌∷◌, ◌++◌, length, take, drop};
 ghost use Rattle.mail_world.specs.Text.{cr, has_byte};
 ghost use Rattle.lmtp_wire.specs.Place.{begun, effect_of};
-ghost use Rattle.lmtp_wire.specs.Dot.{HasMade, HasFed, Feeds, bytes_of};
+ghost use Rattle.lmtp_wire.specs.Dot.{HasMade, HasFed, Feeds, owed_bytes};
 
 #[cfg(test)]
 mod tests;
@@ -103,7 +103,7 @@ impl Dot {
         ensures few { result ≤ 1 }
         ensures paid { self.new.owed ≡ None }
         ensures same { self.new.place ≡ self.old.place }
-        ensures bytes { take result out.new ≡ bytes_of self.old.owed }
+        ensures bytes { take result out.new ≡ owed_bytes self.old.owed }
     {
         match self.owed {
             None => 0,
@@ -226,7 +226,7 @@ impl Dot {
         ensures rest { drop result out.new ≡ drop result out.old }
         ensures owes { result < length out.new → self.new.owed ≡ None }
         ensures same { self.new.place ≡ self.old.place }
-        ensures bytes { take result out.new ++ bytes_of self.new.owed ≡ take made out.old ++ cr ∷ byte ∷ [] }
+        ensures bytes { take result out.new ++ owed_bytes self.new.owed ≡ take made out.old ++ cr ∷ byte ∷ [] }
     {
         out[made] = CR;
         if made + 1 < out.len() {

@@ -2,7 +2,7 @@
 
 ghost use Rattle.std.specs.Prelude.{◌≡◌};
 ghost use Rattle.lmtp_lane.specs.declared.tcp.listener.TimedListener.{TimedListener};
-ghost use Rattle.lmtpd_words.specs.Words.{given};
+ghost use Rattle.lmtpd_words.specs.Words.{as_texts};
 ghost use Rattle.lmtpd.specs.Program.{IsDone, IsServedAsAsked, exit_line, exit_status};
 ghost use Rattle.lmtpd_rehearse.specs.Rehearsal.{IsListed};
 
@@ -57,7 +57,7 @@ where
     W: Write + Drop + Send + 'static,
     E: Write,
     ensures done { IsDone (λ reader writer. record { unread = R.remaining reader; written = W.contents writer })
-        (IsServedAsAsked (TimedListener P.Listener) (⟦<FileSpool<P::File> as Spool>⟧.state)) (given words.entry.now)
+        (IsServedAsAsked (TimedListener P.Listener) (⟦<FileSpool<P::File> as Spool>⟧.state)) (as_texts words.entry.now)
         (record { unread = R.remaining reader; written = W.contents writer }) result.done }
     ensures status { result.exit.status ≡ exit_status result.done }
     ensures line { IsListed (exit_line result.done) (E.contents error.old) (E.contents error.new) result.exit.cut }
@@ -84,7 +84,7 @@ where
     R: Read + Drop + Send + 'static,
     W: Write + Drop + Send + 'static,
     ensures { IsDone (λ reader writer. record { unread = R.remaining reader; written = W.contents writer })
-        (IsServedAsAsked (TimedListener P.Listener) (⟦<FileSpool<P::File> as Spool>⟧.state)) (given words.entry.now)
+        (IsServedAsAsked (TimedListener P.Listener) (⟦<FileSpool<P::File> as Spool>⟧.state)) (as_texts words.entry.now)
         (record { unread = R.remaining reader; written = W.contents writer }) result }
 {
     match read_words(rt.alloc(), words) {

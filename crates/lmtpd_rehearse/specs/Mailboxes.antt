@@ -23,11 +23,11 @@ mailbox_line name size = codes "mailbox " ++ name ++ codes " " ++ decimal size +
 abbrev pub bytes_of_all : List MemorySpool → List (List ℕ)
 bytes_of_all spools = map (λ spool. spool.bytes) spools
 
-abbrev pub mailbox_text : List ℕ → List ℕ → List ℕ
-mailbox_text name bytes = mailbox_line name (length bytes) ++ bytes
+abbrev pub mailbox_output : List ℕ → List ℕ → List ℕ
+mailbox_output name bytes = mailbox_line name (length bytes) ++ bytes
 
 abbrev pub texts_of_mailboxes : List (List ℕ) → List (List ℕ) → List ℕ
-texts_of_mailboxes names texts = pair_texts mailbox_text names texts
+texts_of_mailboxes names texts = pair_texts mailbox_output names texts
 
 abbrev pub mailboxes_text : List (List ℕ) → List MailboxContent → List ℕ
 mailboxes_text names ks = texts_of_mailboxes names (map (λ k. k.bytes) ks)

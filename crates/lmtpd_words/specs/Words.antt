@@ -15,8 +15,8 @@ use Rattle.lmtpd_words.specs.declared.words.Words.{Words}
 use Rattle.lmtpd_words.specs.declared.words.Words.TheVariants.{Rehearse, Serve}
 
 -- the texts of words
-abbrev pub given : List (String Global) → List Text
-given words = map (λ word. string_bytes word) words
+abbrev pub as_texts : List (String Global) → List Text
+as_texts words = map (λ word. string_bytes word) words
 
 -- the number that a text writes in decimal
 abbrev pub number : Text → ℕ
@@ -27,8 +27,8 @@ abbrev pub IsNumber : Text → Type 0
 IsNumber text = IsNumeral 10 (without_leading_plus text) × (number text < 2 ^ 32)
 
 -- the texts that commas join
-abbrev pub parts : Text → List Text
-parts text = slice_split (λ b. b == 44) text
+abbrev pub listed : Text → List Text
+listed text = slice_split (λ b. b == 44) text
 
 -- the number of a text that is given, and else the usual one
 abbrev pub IsNumberOr : ℕ → Option Text → ℕ → Type 0
@@ -38,7 +38,7 @@ IsNumberOr usual (Some text) n = IsNumber text → n ≡ number text
 -- the site that the values of the arguments name
 pub record IsSiteRead (rows : List Row) (words : SiteWords) : Type 0 where
   pub host : first_of (codes "host") rows ≡ Some words.host.now
-  pub domains : texts words.domains.items ≡ option_map_or parts (first_of (codes "domains") rows) []
+  pub domains : texts words.domains.items ≡ option_map_or listed (first_of (codes "domains") rows) []
   pub boxes : all_of (codes "box") rows ≡ Some (texts words.boxes.items)
 
 -- what the values of a rehearsal's arguments ask for

@@ -4,7 +4,7 @@ ghost use Rattle.std.specs.Prelude.{◌≡◌, ◌⊎◌, [], true, IfOk, IfErr,
 ghost use Rattle.clap.specs.Words.{kind_of, subcommand_of, takes};
 ghost use Rattle.clap.specs.Words.{fault_of as kinds_for};
 ghost use Rattle.lmtpd_words.specs.CommandLine.{program_app};
-ghost use Rattle.lmtpd_words.specs.Words.{IsAsked, IsLacking, given};
+ghost use Rattle.lmtpd_words.specs.Words.{IsAsked, IsLacking, as_texts};
 
 use crate::command::program;
 use crate::values::words_of;
@@ -15,9 +15,9 @@ use std::alloc::{AllocError, Global};
 
 /// Reads the words, the program's own name first. The error is `clap`'s, a call for help among them.
 pub fn read_words<'a>(alloc: Global, words: &'a [String]) -> Result<Words<'a>, Error>
-    ensures taken { IfOk result (λ _. kinds_for program_app (given words.entry.now) ≡ []) }
-    ensures read { IfOk result (IsAsked (subcommand_of program_app (given words.entry.now))) }
-    ensures refused { let texts = given words.entry.now in IfErr result (λ e. takes program_app texts ≡ true
+    ensures taken { IfOk result (λ _. kinds_for program_app (as_texts words.entry.now) ≡ []) }
+    ensures read { IfOk result (IsAsked (subcommand_of program_app (as_texts words.entry.now))) }
+    ensures refused { let texts = as_texts words.entry.now in IfErr result (λ e. takes program_app texts ≡ true
         → (kind_of e ≡ ErrorKind.OutOfMemory) ⊎ IsLacking (subcommand_of program_app texts)) }
 {
     match called(alloc, words)? {
@@ -27,10 +27,10 @@ pub fn read_words<'a>(alloc: Global, words: &'a [String]) -> Result<Words<'a>, E
 }
 
 fn called<'a>(alloc: Global, words: &'a [String]) -> Result<Option<Words<'a>>, Error>
-    ensures taken { IfOk result (λ _. kinds_for program_app (given words.entry.now) ≡ []) }
-    ensures read { let call = subcommand_of program_app (given words.entry.now) in
+    ensures taken { IfOk result (λ _. kinds_for program_app (as_texts words.entry.now) ≡ []) }
+    ensures read { let call = subcommand_of program_app (as_texts words.entry.now) in
         IfOk result (λ read. MatchOption read (IsLacking call) (IsAsked call)) }
-    ensures refused { IfErr result (λ e. takes program_app (given words.entry.now) ≡ true
+    ensures refused { IfErr result (λ e. takes program_app (as_texts words.entry.now) ≡ true
         → kind_of e ≡ ErrorKind.OutOfMemory) }
 {
     let matches = program(alloc)?.try_get_matches_from(words)?;

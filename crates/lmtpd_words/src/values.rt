@@ -5,7 +5,7 @@ ghost use Rattle.clap.specs.Words.{Text, first_of, found_of, one_of, rows_of, su
 ghost use Rattle.std.specs.Option.{option_map, option_map_or};
 ghost use Rattle.lmtp_text.specs.Sites.{texts};
 ghost use Rattle.lmtpd_words.specs.Words.{IsAsked, IsNumberOr, IsRehearseRead, IsServeRead, IsSiteRead};
-ghost use Rattle.lmtpd_words.specs.Words.{IsLacking, LacksNumber, LacksRehearse, LacksServe, LacksSite, number, parts};
+ghost use Rattle.lmtpd_words.specs.Words.{IsLacking, LacksNumber, LacksRehearse, LacksServe, LacksSite, number, listed};
 
 use crate::words::{
     DEFAULT_BLOCKS, DEFAULT_CAPACITY, DEFAULT_LANES, DEFAULT_READS, DEFAULT_TIMEOUT, RehearseWords,
@@ -128,7 +128,7 @@ fn number_or(matches: &ArgMatches<'_>, name: &str, usual: u32) -> u32
 
 fn domains_of<'a>(alloc: Global, matches: &ArgMatches<'a>) -> Result<Vec<&'a str>, AllocError>
     ensures { let rows = rows_of (found_of matches.now) in
-        IfOk result (λ v. texts v.items ≡ option_map_or parts (first_of (codes "domains") rows) []) }
+        IfOk result (λ v. texts v.items ≡ option_map_or listed (first_of (codes "domains") rows) []) }
 {
     match matches.get_str("domains") {
         Some(list) => domains_in(alloc, list),
@@ -137,7 +137,7 @@ fn domains_of<'a>(alloc: Global, matches: &ArgMatches<'a>) -> Result<Vec<&'a str
 }
 
 fn domains_in<'a>(alloc: Global, list: &'a str) -> Result<Vec<&'a str>, AllocError>
-    ensures { IfOk result (λ v. texts v.items ≡ parts list.entry.now) }
+    ensures { IfOk result (λ v. texts v.items ≡ listed list.entry.now) }
 {
     list.split(',').collect(alloc)
 }

@@ -6,7 +6,7 @@ use Rattle.mail_post.specs.declared.rule.Parcel.TheVariants.{Copy, Mark}
 use Rattle.mail_post.specs.declared.rule.View.{View}
 use Rattle.mail_post.specs.declared.channel.Gone.{Gone}
 use Rattle.mail_post.specs.declared.channel.Gone.TheVariants.{Closed, Lost}
-use Rattle.mail_post.specs.Parcels.{copies, has_mark}
+use Rattle.mail_post.specs.Parcels.{messages, has_mark}
 use Rattle.mail_post.specs.Views.{taker, took}
 use Rattle.mail_post.specs.Rule.{IsFair}
 use Rattle.mail_post.specs.Channel.{IsInbox, channel_of}
@@ -34,8 +34,8 @@ module _ {M : Type 0} (lane : M → ℕ) where
     all = h.all;
   }
 
-  pub taken_copy : (v w : View M) (p : M) → (w ≡ took v (Copy p)) × IsFair lane w.lanes w.got → copies w.got ≡ copies v.got ++ p ∷ []
-  taken_copy v w p step = ap (λ (t : View M). copies t.got) step.0 ∙ copies-append lane v.got (Copy (p) ∷ [])
+  pub taken_copy : (v w : View M) (p : M) → (w ≡ took v (Copy p)) × IsFair lane w.lanes w.got → messages w.got ≡ messages v.got ++ p ∷ []
+  taken_copy v w p step = ap (λ (t : View M). messages t.got) step.0 ∙ copies-append lane v.got (Copy (p) ∷ [])
 
   -- a message that is taken is one of the lanes'
   pub copy_fits : (lanes : ℕ) (v w : View M) (p : M) → v ≡ taker lanes v.got → (w ≡ took v (Copy p)) × IsFair lane w.lanes w.got → lane p < lanes
@@ -55,8 +55,8 @@ module _ {M : Type 0} (lane : M → ℕ) where
         all = full;
       }
 
-  pub taken_mark : (v w : View M) (k : ℕ) → (w ≡ took v (Mark k)) × IsFair lane w.lanes w.got → copies w.got ≡ copies v.got
-  taken_mark v w k step = ap (λ (t : View M). copies t.got) step.0 ∙ copies-append lane v.got (Mark k ∷ []) ∙ append-nil (copies v.got)
+  pub taken_mark : (v w : View M) (k : ℕ) → (w ≡ took v (Mark k)) × IsFair lane w.lanes w.got → messages w.got ≡ messages v.got
+  taken_mark v w k step = ap (λ (t : View M). messages t.got) step.0 ∙ copies-append lane v.got (Mark k ∷ []) ∙ append-nil (messages v.got)
 
   -- a mark is one of the lanes'
   pub marks_fit : (lanes marks : ℕ) (gone : Option Gone) (v : View M) → IsInbox lane lanes marks gone v → marks ≤ lanes

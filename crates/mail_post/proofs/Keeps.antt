@@ -10,7 +10,7 @@ use Rattle.mail_post.specs.declared.rule.Parcel.{Parcel}
 use Rattle.mail_post.specs.declared.rule.Parcel.TheVariants.{Copy, Mark}
 use Rattle.mail_post.specs.declared.rule.View.{View}
 use Rattle.mail_post.specs.Views.{sender, taker, knower, settled, put, took}
-use Rattle.mail_post.specs.Parcels.{lane_of, part, copies, all_of_lane}
+use Rattle.mail_post.specs.Parcels.{lane_of, part, messages, all_of_lane}
 use Rattle.mail_post.specs.Rule.{Traffic, FitsKnown, Fits, Carries, IsFair, Agrees}
 use Rattle.mail_post.proofs.Parcels.{part-append, part-here, part-else, of-copies, copies-append, copies-all_of_lane, all_of_lane-put, all_of_lane-end, front, all-there, has_mark-part}
 
@@ -239,8 +239,8 @@ module _ {M : Type 0} (lane : M → ℕ) where
       let got : v.got ≡ h.traffic.got = (f.1 may).2 in
       let split : part lane k v.got ++ part lane k items ≡ all_of_lane k (h.traffic.sent k) (h.traffic.closed k) = (λ i. part lane k (got i) ++ part lane k items) ∙ sym (part-append lane k h.traffic.got items) ∙ h.order k in
       let sent : h.traffic.sent k ≡ slice_index_or v.known k [] = sym (f.2 k l).2 in
-      let rest : List M = copies (part lane k items) in
-      let both : copies (part lane k v.got) ++ rest ≡ h.traffic.sent k = sym (copies-append lane (part lane k v.got) (part lane k items)) ∙ ap copies split ∙ copies-all_of_lane lane k (h.traffic.sent k) (h.traffic.closed k) in (
+      let rest : List M = messages (part lane k items) in
+      let both : messages (part lane k v.got) ++ rest ≡ h.traffic.sent k = sym (copies-append lane (part lane k v.got) (part lane k items)) ∙ ap messages split ∙ copies-all_of_lane lane k (h.traffic.sent k) (h.traffic.closed k) in (
         record { rest = rest; whole = sym ((λ i. of-copies lane k v.got i ++ rest) ∙ both ∙ sent) },
         (λ mark. of-copies lane k v.got ∙ all-there lane k (part lane k v.got) (part lane k items) (h.traffic.sent k) (h.traffic.closed k) split (has_mark-part lane k v.got ∙ mark) ∙ sent),
       )

@@ -4,7 +4,7 @@ use Rattle.std.proofs.lemmas.Bool.{eq-eqb, ne_eqb, cond-true, cond-false}
 use Rattle.std.proofs.lemmas.List.Elements.{filter-append}
 use Rattle.mail_post.specs.declared.rule.Parcel.{Parcel}
 use Rattle.mail_post.specs.declared.rule.Parcel.TheVariants.{Copy, Mark}
-use Rattle.mail_post.specs.Parcels.{of, lane_of, part, copies, has_mark, all_of_lane}
+use Rattle.mail_post.specs.Parcels.{of, lane_of, part, messages, has_mark, all_of_lane}
 
 module _ {M : Type 0} (lane : M → ℕ) where
   pub part-append : (k : ℕ) (xs ys : List (Parcel M)) → part lane k (xs ++ ys) ≡ part lane k xs ++ part lane k ys
@@ -16,21 +16,21 @@ module _ {M : Type 0} (lane : M → ℕ) where
   pub part-else : (k : ℕ) (x : Parcel M) → lane_of lane x ≢ k → part lane k (x ∷ []) ≡ []
   part-else k x n = cond-false (lane_of lane x == k) (x ∷ []) [] (ne_eqb (lane_of lane x) k n)
 
-  pub copies-append : (xs ys : List (Parcel M)) → copies (xs ++ ys) ≡ copies xs ++ copies ys
+  pub copies-append : (xs ys : List (Parcel M)) → messages (xs ++ ys) ≡ messages xs ++ messages ys
   copies-append [] ys = refl
   copies-append (Copy n ∷ xs) ys = ap (λ l. n ∷ l) (copies-append xs ys)
   copies-append (Mark j ∷ xs) ys = copies-append xs ys
 
-  pub of-copies : (k : ℕ) (xs : List (Parcel M)) → of lane k (copies xs) ≡ copies (part lane k xs)
+  pub of-copies : (k : ℕ) (xs : List (Parcel M)) → of lane k (messages xs) ≡ messages (part lane k xs)
   of-copies k [] = refl
   of-copies k (Copy n ∷ xs) =
-      let more : of lane k (copies xs) ≡ copies (part lane k xs) = of-copies k xs in
-      elim (lane n == k) as (λ b. cond b (n ∷ of lane k (copies xs)) (of lane k (copies xs)) ≡ copies (cond b (Copy n ∷ part lane k xs) (part lane k xs))) [ true ↦ ap (λ l. n ∷ l) more | false ↦ more ]
+      let more : of lane k (messages xs) ≡ messages (part lane k xs) = of-copies k xs in
+      elim (lane n == k) as (λ b. cond b (n ∷ of lane k (messages xs)) (of lane k (messages xs)) ≡ messages (cond b (Copy n ∷ part lane k xs) (part lane k xs))) [ true ↦ ap (λ l. n ∷ l) more | false ↦ more ]
   of-copies k (Mark j ∷ xs) =
-      let more : of lane k (copies xs) ≡ copies (part lane k xs) = of-copies k xs in
-      elim (j == k) as (λ b. of lane k (copies xs) ≡ copies (cond b (Mark j ∷ part lane k xs) (part lane k xs))) [ true ↦ more | false ↦ more ]
+      let more : of lane k (messages xs) ≡ messages (part lane k xs) = of-copies k xs in
+      elim (j == k) as (λ b. of lane k (messages xs) ≡ messages (cond b (Mark j ∷ part lane k xs) (part lane k xs))) [ true ↦ more | false ↦ more ]
 
-  pub copies-all_of_lane : (k : ℕ) (s : List M) (b : Bool) → copies (all_of_lane k s b) ≡ s
+  pub copies-all_of_lane : (k : ℕ) (s : List M) (b : Bool) → messages (all_of_lane k s b) ≡ s
   copies-all_of_lane k [] false = refl
   copies-all_of_lane k [] true = refl
   copies-all_of_lane k (n ∷ ns) b = ap (λ l. n ∷ l) (copies-all_of_lane k ns b)
@@ -84,7 +84,7 @@ module _ {M : Type 0} (lane : M → ℕ) where
       front-has_mark k xs ys ns b rest (ap (λ y. has_mark k (y ∷ xs)) (sym i) ∙ h)
 
   -- all of a lane whose mark is among its steps
-  pub all-there : (k : ℕ) (xs ys : List (Parcel M)) (s : List M) (b : Bool) → xs ++ ys ≡ all_of_lane k s b → has_mark k xs ≡ true → copies xs ≡ s
+  pub all-there : (k : ℕ) (xs ys : List (Parcel M)) (s : List M) (b : Bool) → xs ++ ys ≡ all_of_lane k s b → has_mark k xs ≡ true → messages xs ≡ s
   all-there k xs ys s b e h =
       let none : ys ≡ [] = front-has_mark k xs ys s b e h in
-      ap copies (sym (append-nil xs) ∙ ap (λ l. xs ++ l) (sym none) ∙ e) ∙ copies-all_of_lane k s b
+      ap messages (sym (append-nil xs) ∙ ap (λ l. xs ++ l) (sym none) ∙ e) ∙ copies-all_of_lane k s b

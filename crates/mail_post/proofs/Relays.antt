@@ -2,7 +2,7 @@
 use Rattle.std.proofs.Common.{◌≡◌, false, ◌+◌, ◌<◌, ℕ, zero, suc, List, [], ◌∷◌, ◌++◌, length, refl, sym, ap, ◌∙◌, subst, append_assoc, add-zero, arith}
 use Rattle.std.proofs.lemmas.List.{map-append}
 use Rattle.mail_post.proofs.Senders.{length-new_senders}
-use Rattle.mail_post.specs.Channel.{Channel, Sender, lists, AreSenders, AreSendersFrom, new_senders}
+use Rattle.mail_post.specs.Channel.{Channel, Sender, sent_by, AreSenders, AreSendersFrom, new_senders}
 use Rattle.mail_post.specs.Relay.{Task, Job, tasks, dues, task_names, sender_names, job_lists, AreOfLane, AreReady, AreJobsFrom}
 
 pub nil_of : {A : Type 0} (xs : List A) → length xs ≡ 0 → xs ≡ []
@@ -13,7 +13,7 @@ module _ {M : Type 0} where
   lane_names_snoc : (xs : List (Sender M)) (y : Sender M) → sender_names (xs ++ y ∷ []) ≡ sender_names xs ++ (y.channel, y.number) ∷ []
   lane_names_snoc xs y = map-append (λ x. (x.channel, x.number)) xs (y ∷ [])
 
-  lists_snoc : (xs : List (Sender M)) (y : Sender M) → lists (xs ++ y ∷ []) ≡ lists xs ++ y.sent ∷ []
+  lists_snoc : (xs : List (Sender M)) (y : Sender M) → sent_by (xs ++ y ∷ []) ≡ sent_by xs ++ y.sent ∷ []
   lists_snoc xs y = map-append (λ x. x.sent) xs (y ∷ [])
 
   -- one more lane is joined
@@ -24,10 +24,10 @@ module _ {M : Type 0} where
       ∙ (λ i. sender_names xs ++ (a i, b i) ∷ task_names new) ∙ (λ i. sender_names xs ++ task_names (sym is i)) ∙ was
 
   pub lists_step : (xs ys : List (Sender M)) (y : Sender M) (old new : List (Task M)) (t : Task M) (all : List (List M)) → ys ≡ xs ++ y ∷ [] → old ≡ t ∷ new → y.sent ≡ t.due
-      → lists xs ++ dues old ≡ all → lists ys ++ dues new ≡ all
+      → sent_by xs ++ dues old ≡ all → sent_by ys ++ dues new ≡ all
   lists_step xs ys y old new t all pushed is a was =
-      (λ i. lists (pushed i) ++ dues new) ∙ (λ i. lists_snoc xs y i ++ dues new) ∙ append_assoc (lists xs) (y.sent ∷ []) (dues new)
-      ∙ (λ i. lists xs ++ a i ∷ dues new) ∙ (λ i. lists xs ++ dues (sym is i)) ∙ was
+      (λ i. sent_by (pushed i) ++ dues new) ∙ (λ i. lists_snoc xs y i ++ dues new) ∙ append_assoc (sent_by xs) (y.sent ∷ []) (dues new)
+      ∙ (λ i. sent_by xs ++ a i ∷ dues new) ∙ (λ i. sent_by xs ++ dues (sym is i)) ∙ was
 
   -- lanes i, i + 1, .. of one channel, which have sent nothing
   abbrev pub AreFresh : ℕ → Channel M → List (Sender M) → Type 0

@@ -1,7 +1,7 @@
 -- The senders of one channel, for callers.
 use Rattle.std.proofs.Common.{◌≡◌, false, ◌+◌, ◌<◌, ℕ, zero, suc, List, [], ◌∷◌, ◌++◌, length, get_or, set, refl, sym, ap, ◌∙◌, arith, add-zero, add-one, slice_index_or, ⊎_elim, ◌⊎◌, length-append}
 use Rattle.std.proofs.lemmas.List.{get_or_append_left, length-map}
-use Rattle.mail_post.specs.Channel.{Channel, Sender, AreSendersFrom, new_senders, lists}
+use Rattle.mail_post.specs.Channel.{Channel, Sender, AreSendersFrom, new_senders, sent_by}
 
 below_or_last : (k n : ℕ) → k < suc n → (k < n) ⊎ (k ≡ n)
 below_or_last k n l = grind arith
@@ -57,5 +57,5 @@ module _ {M : Type 0} where
   one_channel i a b [] l x y = absurd (omega arith)
   one_channel i a b (z ∷ xs) l x y = sym x.0 ∙ y.0
 
-  pub length-lists : (xs : List (Sender M)) → length (lists xs) ≡ length xs
+  pub length-lists : (xs : List (Sender M)) → length (sent_by xs) ≡ length xs
   length-lists xs = length-map xs (λ x. x.sent)

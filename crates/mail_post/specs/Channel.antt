@@ -10,7 +10,7 @@ use Rattle.mail_post.specs.declared.rule.Parcel.TheVariants.{Copy, Mark}
 use Rattle.mail_post.specs.declared.rule.View.{View}
 use Rattle.mail_post.specs.declared.channel.Gone.{Gone}
 use Rattle.mail_post.specs.declared.channel.Gone.TheVariants.{Closed}
-use Rattle.mail_post.specs.Parcels.{of, copies, has_mark}
+use Rattle.mail_post.specs.Parcels.{of, messages, has_mark}
 use Rattle.mail_post.specs.Views.{taker}
 use Rattle.mail_post.specs.Rule.{IsFair}
 
@@ -57,7 +57,7 @@ module _ {M : Type 0} where
 
   -- the messages that were taken
   abbrev pub taken : Inbox M → List M
-  taken r = copies r.got
+  taken r = messages r.got
 
   -- the first n lanes, which have sent nothing
   abbrev pub new_senders : Channel M → ℕ → List (Sender M)
@@ -83,8 +83,8 @@ module _ {M : Type 0} where
   AreSenders (x ∷ xs) = AreSendersOf x.channel (x ∷ xs)
 
   -- what each was told was accepted
-  abbrev pub lists : List (Sender M) → List (List M)
-  lists xs = map (λ x. x.sent) xs
+  abbrev pub sent_by : List (Sender M) → List (List M)
+  sent_by xs = map (λ x. x.sent) xs
 
   module _ (lane : M → ℕ) where
     -- the messages of lane k in front of its mark

@@ -4,7 +4,7 @@ use mathlib.Core.Option.{some}
 use lib.ListN.{get_elem?}
 use Rattle.mail_post.specs.declared.rule.Parcel.{Parcel}
 use Rattle.mail_post.specs.declared.rule.View.{View}
-use Rattle.mail_post.specs.Parcels.{of, copies}
+use Rattle.mail_post.specs.Parcels.{of, messages}
 use Rattle.mail_post.specs.Rule.{Carries}
 use Rattle.mail_post.specs.Channel.{before_mark}
 
@@ -12,12 +12,12 @@ module _ {M : Type 0} (lane : M → ℕ) where
   -- of each lane, what was taken and then what waits is what the lane was told was accepted
   abbrev pub IsInOrder : Type 0
   IsInOrder = (items : List (Parcel M)) (views : List (View M)) (h : Carries lane items views) (k : ℕ)
-      → of lane k (copies (h.traffic.got ++ items)) ≡ h.traffic.sent k
+      → of lane k (messages (h.traffic.got ++ items)) ≡ h.traffic.sent k
 
   -- nothing is of another than the lanes
   abbrev pub IsNothingElse : Type 0
   IsNothingElse = (items : List (Parcel M)) (views : List (View M)) (h : Carries lane items views) (k : ℕ)
-      → h.traffic.lanes ≤ k → of lane k (copies (h.traffic.got ++ items)) ≡ []
+      → h.traffic.lanes ≤ k → of lane k (messages (h.traffic.got ++ items)) ≡ []
 
   -- a mark that was put names all that its lane was told was accepted: nothing of the lane stands behind it
   abbrev pub NamesAll : Type 0

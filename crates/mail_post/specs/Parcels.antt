@@ -5,10 +5,10 @@ use Rattle.mail_post.specs.declared.rule.Parcel.TheVariants.{Copy, Mark}
 
 module _ {M : Type 0} where
   -- the messages among the parcels
-  abbrev pub copies : List (Parcel M) → List M
-  copies [] = []
-  copies (Copy m ∷ xs) = m ∷ copies xs
-  copies (Mark j ∷ xs) = copies xs
+  abbrev pub messages : List (Parcel M) → List M
+  messages [] = []
+  messages (Copy m ∷ xs) = m ∷ messages xs
+  messages (Mark j ∷ xs) = messages xs
 
   -- whether the closing mark of lane k is among them
   abbrev pub has_mark : ℕ → List (Parcel M) → Bool

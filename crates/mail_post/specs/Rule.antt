@@ -5,7 +5,7 @@ use lib.ListN.{get_elem?}
 use Rattle.mail_world.specs.Fronts.{IsFront}
 use Rattle.mail_post.specs.declared.rule.Parcel.{Parcel}
 use Rattle.mail_post.specs.declared.rule.View.{View}
-use Rattle.mail_post.specs.Parcels.{of, part, copies, has_mark, all_of_lane}
+use Rattle.mail_post.specs.Parcels.{of, part, messages, has_mark, all_of_lane}
 
 -- what has gone through a channel, and who knows of it
 pub record Traffic (M : Type 0) : Type 0 where
@@ -42,7 +42,7 @@ module _ {M : Type 0} where
     -- of a known lane, what was taken is the start of what it sent, and all of it where its mark was taken
     abbrev pub Agrees : View M → Type 0
     Agrees v = (k : ℕ) → k < length v.known
-        → IsFront (of lane k (copies v.got)) (slice_index_or v.known k []) × (has_mark k v.got ≡ true → of lane k (copies v.got) ≡ slice_index_or v.known k [])
+        → IsFront (of lane k (messages v.got)) (slice_index_or v.known k []) × (has_mark k v.got ≡ true → of lane k (messages v.got) ≡ slice_index_or v.known k [])
 
 -- the rule: the parcels of each lane, those taken and then those in the channel, are all that the lane was told was accepted, and behind that its mark
 -- where it has put it; and nothing is of another than the lanes

@@ -5,7 +5,7 @@ ghost use Rattle.crossbeam_channel.specs.Claims.{IsSeatAt};
 ghost use Rattle.crossbeam_channel.specs.Ends.{sends_on, receives_on};
 ghost use Rattle.mail_post.specs.Views.{sender};
 ghost use Rattle.mail_post.specs.Channel.{view_of, taken, IsNext, IsDrained, TookSome, TookAll};
-ghost use Rattle.mail_post.specs.Channel.{new_senders, new_inbox, AreSenders, AreSendersOf, lists};
+ghost use Rattle.mail_post.specs.Channel.{new_senders, new_inbox, AreSenders, AreSendersOf, sent_by};
 
 use crate::rule::{
     Ends, FromSender, LaneOrder, Lanes, Offers, Opens, Parcel, Settles, Takes, View,
@@ -294,7 +294,7 @@ pub fn close_channel<M: FromSender, R: Wait>(
 ) -> ChannelClosed<M>
     requires { AreSenders senders.items }
     ensures channel { AreSendersOf result.channel senders.items }
-    ensures sent { result.sent ≡ lists senders.items }
+    ensures sent { result.sent ≡ sent_by senders.items }
 {
     let mut rest = senders.into_iter();
     let Some(first) = rest.next() else {

@@ -2,7 +2,7 @@
 //! slips.
 
 ghost use Rattle.std.specs.Prelude.{◌≡◌, ◌<◌, [], IfOk};
-ghost use Rattle.mail_post.specs.Channel.{new_senders, new_inbox, AreSenders, AreSendersOf, lists};
+ghost use Rattle.mail_post.specs.Channel.{new_senders, new_inbox, AreSenders, AreSendersOf, sent_by};
 
 use crate::channel::{ChannelClosed, ChannelReceiver, ChannelSender, close_channel, open_channel};
 use crate::post::Post;
@@ -63,7 +63,7 @@ pub fn mail_line<N: DepotName>(
 pub fn close<N: DepotName, R: Wait>(senders: Vec<Sender<N>>, rt: &R) -> Closed<N>
     requires { AreSenders senders.items }
     ensures channel { AreSendersOf result.channel senders.items }
-    ensures sent { result.sent ≡ lists senders.items }
+    ensures sent { result.sent ≡ sent_by senders.items }
 {
     close_channel::<Post<N>, R>(senders, rt)
 }
@@ -81,7 +81,7 @@ pub fn slip_line(alloc: Global, workers: u32) -> Result<(Vec<SlipSender>, SlipRe
 pub fn close_slips<R: Wait>(senders: Vec<SlipSender>, rt: &R) -> SlipsClosed
     requires { AreSenders senders.items }
     ensures channel { AreSendersOf result.channel senders.items }
-    ensures sent { result.sent ≡ lists senders.items }
+    ensures sent { result.sent ≡ sent_by senders.items }
 {
     close_channel::<Slip, R>(senders, rt)
 }

@@ -107,14 +107,14 @@ handled_one site s at ps p n h is size within fit = record {
 }
 
 -- the states in which a line is read
-abbrev pub TakesLines : State → Type 0
-TakesLines Fresh = ⊤
-TakesLines Greeted = ⊤
-TakesLines Sender = ⊤
-TakesLines Recipients = ⊤
-TakesLines _ = ⊥
+abbrev pub ReadsLines : State → Type 0
+ReadsLines Fresh = ⊤
+ReadsLines Greeted = ⊤
+ReadsLines Sender = ⊤
+ReadsLines Recipients = ⊤
+ReadsLines _ = ⊥
 
-cut-line : (state : State) (s : List ℕ) (ds : List Disposition) → TakesLines state → cut state s ds ≡ cut_line s ds
+cut-line : (state : State) (s : List ℕ) (ds : List Disposition) → ReadsLines state → cut state s ds ≡ cut_line s ds
 cut-line Fresh s ds h = refl
 cut-line Greeted s ds h = refl
 cut-line Sender s ds h = refl
@@ -133,7 +133,7 @@ data_within s n e = let at = place_of_stands end_of_data (crlf ++ s) n e in
     omega (arith, at.place, ap length at.whole, length-append (at.front ++ end_of_data) at.rest, length-append at.front end_of_data, length-append crlf s)
 
 pub handled_line : (site : Site) (s : List ℕ) (at : ℕ) (ps : List Part) (n : ℕ) → Handled site s at ps
-    → TakesLines (session_behind site fresh ps).state → place_of crlf (drop at s) ≡ Some n
+    → ReadsLines (session_behind site fresh ps).state → place_of crlf (drop at s) ≡ Some n
     → Handled site s (at + (n + 2)) (ps ++ CommandLine (take n (drop at s)) ∷ [])
 handled_line site s at ps n h takes e =
     let long : n + 2 ≤ length (drop at s) = line_within (drop at s) n e in

@@ -4,12 +4,12 @@ use Rattle.std.proofs.lemmas.List.{length-drop, drop-drop}
 use Rattle.std.proofs.Math.Seq.{take-add}
 use Rattle.mbox_rd.specs.declared.pending.Step.{Step}
 use Rattle.mbox_rd.specs.Writing.{Pending, IsPending, bytes_owed}
-use Rattle.mbox_rd.specs.Steps.{IsWriterStep, weight}
+use Rattle.mbox_rd.specs.Steps.{IsWriterStep, pending_weight}
 
 -- the first n bytes as they are
 pub IsWriterStep-plain : (before next : Pending) (piece : List ℕ) (n : ℕ) (step : Step)
     → step.len ≡ n → step.taken ≡ n → step.extra.now ≡ [] → step.next ≡ next
-    → n ≤ length piece → IsPending next → 2 * (length piece - n) + weight next < 2 * length piece + weight before
+    → n ≤ length piece → IsPending next → 2 * (length piece - n) + pending_weight next < 2 * length piece + pending_weight before
     → ((rest : List ℕ) → take n piece ++ bytes_owed next (drop n piece ++ rest) ≡ bytes_owed before (piece ++ rest))
     → IsWriterStep before piece step
 IsWriterStep-plain before next piece n step a b c d within is smaller goes = record {

@@ -6,7 +6,7 @@ ghost use Rattle.mail_world.specs.Text.{unix, lf};
 ghost use Rattle.lmtp_text.specs.Calendar.{civil_at};
 ghost use Rattle.mbox_rd.specs.Envelope.{head_text};
 ghost use Rattle.mbox_rd.specs.Spool.{SpoolTook, SpoolFailed};
-ghost use Rattle.mbox_rd.specs.Steps.{written};
+ghost use Rattle.mbox_rd.specs.Steps.{step_text};
 ghost use Rattle.mbox_rd.specs.Writing.{bytes_owed, WritesPiece, FailsPiece};
 
 use crate::append::{append_all, append_each};
@@ -87,8 +87,8 @@ impl RecordWriter {
 
 fn write_step<S: Spool>(spool: &mut S, piece: &[u8], step: &Step) -> Result<(), SpoolFault>
     requires { step.now.len ≤ length piece.now }
-    ensures ok { OnOk result (SpoolTook (S.state spool.old) (S.state spool.new) (written step.now piece.now)) }
-    ensures err { OnErr result (SpoolFailed (S.state spool.old) (S.state spool.new) (written step.now piece.now)) }
+    ensures ok { OnOk result (SpoolTook (S.state spool.old) (S.state spool.new) (step_text step.now piece.now)) }
+    ensures err { OnErr result (SpoolFailed (S.state spool.old) (S.state spool.new) (step_text step.now piece.now)) }
 {
     append_all(spool, &piece[..step.len])?;
     append_all(spool, step.extra)

@@ -2,7 +2,7 @@
 
 ghost use Rattle.std.specs.Prelude.{◌≡◌, ◌<◌, ◌≤◌, ℕ, List, [], IfOk, length, vec_len, vec_capacity, map};
 ghost use Rattle.std.specs.List.{All, AllZip};
-ghost use Rattle.mail_post.specs.Channel.{Channel, AreSenders, AreSendersOf, lists as sent_by};
+ghost use Rattle.mail_post.specs.Channel.{Channel, AreSenders, AreSendersOf, sent_by};
 ghost use Rattle.lmtp_house.specs.HouseGrid.{lists, IsRoom};
 ghost use Rattle.lmtp_house.specs.HouseChannels.{IsNewChannel, AreRows, AreNewChannels, AreClosed, CanSettle};
 ghost use Rattle.lmtp_house.specs.HouseChannels.{IsSettled, IsShut, MayClose};

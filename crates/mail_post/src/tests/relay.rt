@@ -3,7 +3,7 @@
 
 ghost use Rattle.std.specs.Prelude.{◌≡◌, ◌<◌, ◌≤◌, ◌++◌, ◌^◌, [], Some, length, IfOk, IfSome, IsTrue};
 ghost use Rattle.std.specs.Prelude.{vec_len, vec_capacity};
-ghost use Rattle.mail_post.specs.Channel.{lists, taken, TookAll};
+ghost use Rattle.mail_post.specs.Channel.{sent_by, taken, TookAll};
 ghost use Rattle.mail_post.specs.Relay.{tasks, dues, task_names, sender_names, job_lists};
 ghost use Rattle.mail_post.specs.Relay.{AreOfLane, AreReady, AreJobsFrom};
 
@@ -209,7 +209,7 @@ fn join_lanes<M: FromSender, R: Threads>(
     requires empty { senders.items ≡ [] }
     requires room { vec_len running ≤ vec_capacity senders }
     ensures names { sender_names result.0.items ≡ task_names running.items }
-    ensures sent { IsTrue result.1 → lists result.0.items ≡ dues running.items }
+    ensures sent { IsTrue result.1 → sent_by result.0.items ≡ dues running.items }
 {
     let mut is_whole = true;
     for one in running {

@@ -1,25 +1,25 @@
 use Rattle.std.proofs.Common.{inl, inr, refl, subst}
 use Rattle.clap.specs.Words.{subcommand_of}
 use Rattle.lmtpd_words.specs.CommandLine.{program_app}
-use Rattle.lmtpd_words.specs.Words.{IsAsked, given}
+use Rattle.lmtpd_words.specs.Words.{IsAsked, as_texts}
 use Rattle.lmtpd.proofs.program.do_asked.Goals as goal
 
 pub returns-in-Ok : goal.returns-in-Ok
 returns-in-Ok g c =
-    let read = subst (λ w. IsAsked (subcommand_of program_app (given c.args.words.now)) w) c.in-Ok-Rehearse.field-0-is c.in-Ok-Rehearse.ensures.read in
+    let read = subst (λ w. IsAsked (subcommand_of program_app (as_texts c.args.words.now)) w) c.in-Ok-Rehearse.field-0-is c.in-Ok-Rehearse.ensures.read in
     (c.in-Ok-Rehearse.asked, read, c.in-Ok.ensures)
 
 pub returns-in-Ok-Rehearse : goal.returns-in-Ok-Rehearse
 returns-in-Ok-Rehearse g c =
-    let read = subst (λ w. IsAsked (subcommand_of program_app (given c.args.words.now)) w) c.in-Ok-Rehearse.field-0-is c.in-Ok-Rehearse.ensures.read in
+    let read = subst (λ w. IsAsked (subcommand_of program_app (as_texts c.args.words.now)) w) c.in-Ok-Rehearse.field-0-is c.in-Ok-Rehearse.ensures.read in
     inr (inl (c.in-Ok-Rehearse.asked, read, (c.in-Err-rehearse_asked.fault, refl, c.in-Err-rehearse_asked.ensures)))
 
 pub returns-in-Ok-serve_asked : goal.returns-in-Ok-serve_asked
 returns-in-Ok-serve_asked g c =
-    let read = subst (λ w. IsAsked (subcommand_of program_app (given c.args.words.now)) w) c.in-Ok-Serve.field-0-is c.in-Ok-Serve.ensures.read in
+    let read = subst (λ w. IsAsked (subcommand_of program_app (as_texts c.args.words.now)) w) c.in-Ok-Serve.field-0-is c.in-Ok-Serve.ensures.read in
     (c.in-Ok-Serve.asked, read, c.in-Ok-serve_asked.ensures)
 
 pub returns-in-Ok-Serve : goal.returns-in-Ok-Serve
 returns-in-Ok-Serve g c =
-    let read = subst (λ w. IsAsked (subcommand_of program_app (given c.args.words.now)) w) c.in-Ok-Serve.field-0-is c.in-Ok-Serve.ensures.read in
+    let read = subst (λ w. IsAsked (subcommand_of program_app (as_texts c.args.words.now)) w) c.in-Ok-Serve.field-0-is c.in-Ok-Serve.ensures.read in
     inr (inr (c.in-Ok-Serve.asked, read, c.in-Err-serve_asked.ensures))

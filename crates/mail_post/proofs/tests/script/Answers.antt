@@ -1,5 +1,5 @@
 use Rattle.std.proofs.Common.{◌≡◌, ◌∙◌, List, [], ◌∷◌, ◌++◌, get_or, set, ap, sym, subst, true, Result, Ok, Err, is_ok, OnOk}
-use Rattle.mail_post.specs.Channel.{Channel, Sender, new_senders, lists}
+use Rattle.mail_post.specs.Channel.{Channel, Sender, new_senders, sent_by}
 use Rattle.mail_post.proofs.tests.script.Goals as goal
 
 -- two lanes: a by the first, b by the second, c by the first
@@ -7,12 +7,12 @@ sent_by : {M : Type 0} (channel : Channel M) (xs : List (Sender M)) (first secon
     → first.sent ≡ (get_or xs 0 d).sent ++ a ∷ []
     → second.sent ≡ (get_or (set xs 0 first) 1 e).sent ++ b ∷ []
     → again.sent ≡ (get_or (set (set xs 0 first) 1 second) 0 f).sent ++ c ∷ []
-    → lists (set (set (set xs 0 first) 1 second) 0 again) ≡ (a ∷ c ∷ []) ∷ (b ∷ []) ∷ []
+    → sent_by (set (set (set xs 0 first) 1 second) 0 again) ≡ (a ∷ c ∷ []) ∷ (b ∷ []) ∷ []
 sent_by {M} channel xs first second again d e f a b c is =
     subst (λ (ys : List (Sender M)). first.sent ≡ (get_or ys 0 d).sent ++ a ∷ []
     → second.sent ≡ (get_or (set ys 0 first) 1 e).sent ++ b ∷ []
     → again.sent ≡ (get_or (set (set ys 0 first) 1 second) 0 f).sent ++ c ∷ []
-    → lists (set (set (set ys 0 first) 1 second) 0 again) ≡ (a ∷ c ∷ []) ∷ (b ∷ []) ∷ []) (sym is)
+    → sent_by (set (set (set ys 0 first) 1 second) 0 again) ≡ (a ∷ c ∷ []) ∷ (b ∷ []) ∷ []) (sym is)
     (λ x y z i. (z ∙ ap (λ s. s ++ c ∷ []) x) i ∷ y i ∷ [])
 
 told : {T E P : Type 0} (r : Result T E) → true ≡ is_ok r → OnOk r P → P

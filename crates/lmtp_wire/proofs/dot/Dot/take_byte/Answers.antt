@@ -1,5 +1,5 @@
 use Rattle.std.proofs.Common.{[], ◌++◌, ◌+◌, take, ap}
-use Rattle.lmtp_wire.specs.Dot.{bytes_of}
+use Rattle.lmtp_wire.specs.Dot.{owed_bytes}
 use Rattle.lmtp_wire.specs.declared.dot.Effect.TheVariants.{Nothing, Byte, HeldCr, End}
 use Rattle.lmtp_wire.proofs.PlaceSteps.{brings_as}
 use Rattle.lmtp_wire.proofs.Takes.{takes_byte, takes_last, puts_byte}
@@ -8,7 +8,7 @@ use Rattle.lmtp_wire.proofs.dot.Dot.take_byte.Goals as goal
 pub returns-in-Nothing-clause-comes : goal.returns-in-Nothing-clause-comes
 returns-in-Nothing-clause-comes c =
     takes_byte c.args.self.now _ c.args.piece.now c.args.out.now c.args.out.now c.args.fed.used c.args.fed.made c.args.fed.made [] c.requires.paid c.requires.piece (brings_as c.args.self.now.place _ (Nothing c.in-Nothing.place) c.in-Nothing.ensures)
-    (ap (λ o. take c.args.fed.made c.args.out.now ++ bytes_of o) c.requires.paid)
+    (ap (λ o. take c.args.fed.made c.args.out.now ++ owed_bytes o) c.requires.paid)
 
 pub returns-in-Byte-clause-comes : goal.returns-in-Byte-clause-comes
 returns-in-Byte-clause-comes c =

@@ -1,6 +1,6 @@
 use Rattle.std.proofs.Common.{◌≡◌, ◌++◌, [], sym, ◌∙◌, true≢false, append-nil, rules}
 use Rattle.std.specs.Vec.Iter.{into_iter_items}
-use Rattle.mail_post.specs.Channel.{lists}
+use Rattle.mail_post.specs.Channel.{sent_by}
 use Rattle.mail_post.specs.Relay.{dues}
 use Rattle.mail_post.proofs.Relays.{names_step, lists_step, nil_of}
 use Rattle.mail_post.proofs.tests.relay.join_lanes.Goals as goal
@@ -22,4 +22,4 @@ loop-one-preserved g c = record {
 pub returns-clause-sent : goal.returns-clause-sent
 returns-clause-sent g c all =
     let none : into_iter_items c.loop-one.one-iterator ≡ [] = nil_of _ (sym c.loop-one.one-iterator.rest.ok.0 ∙ c.in-None.ensures.steps.0) in
-    sym (append-nil (lists c.loop-one.senders.items)) ∙ (λ i. lists c.loop-one.senders.items ++ dues (sym none i)) ∙ c.loop-one.invariant.sent all
+    sym (append-nil (sent_by c.loop-one.senders.items)) ∙ (λ i. sent_by c.loop-one.senders.items ++ dues (sym none i)) ∙ c.loop-one.invariant.sent all

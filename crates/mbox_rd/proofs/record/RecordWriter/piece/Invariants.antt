@@ -1,5 +1,5 @@
 use Rattle.std.proofs.Common.{◌+◌, ◌*◌, length}
-use Rattle.mbox_rd.specs.Steps.{weight}
+use Rattle.mbox_rd.specs.Steps.{pending_weight}
 use Rattle.mbox_rd.proofs.Pieces.{TakesPiece}
 use Rattle.mbox_rd.proofs.record.RecordWriter.piece.Given as goal
 
@@ -7,4 +7,4 @@ abbrev pub invariant-loop-rest : goal.invariant-loop-rest
 invariant-loop-rest g l = TakesPiece (g.S.Spool.state l.initial.spool) (g.S.Spool.state l.spool) l.fn.self l.pending l.fn.piece l.rest
 
 abbrev pub decreases-loop-rest : goal.decreases-loop-rest
-decreases-loop-rest g l = 2 * length l.rest + weight l.pending
+decreases-loop-rest g l = 2 * length l.rest + pending_weight l.pending
