@@ -6,6 +6,7 @@ ghost use Rattle.mail_post.specs.Channel.{new_senders};
 ghost use Rattle.mail_post.specs.Offered.{HaveNumber};
 
 mod guests;
+mod last_generation;
 
 use crate::{Clock, Desk, LaneReport, lane_run};
 use guests::Guests;
@@ -39,6 +40,8 @@ const BLOCKS: u32 = 4;
 #[derive(Clone, Copy)]
 struct Others {
     blocks: u32,
+    /// How many messages were in the depot, one after another.
+    before: u32,
     /// Whether workers listen to the mailboxes' channels.
     listen: bool,
     /// For how many transactions the first copy's slip is in the lane's channel.
@@ -49,6 +52,7 @@ struct Others {
 
 const ALL_THERE: Others = Others {
     blocks: BLOCKS,
+    before: 0,
     listen: true,
     slips: 2,
     answer: true,
@@ -126,6 +130,7 @@ fn run_over<'a, N: DepotName, R: Wait + Abort>(
     requires { blank.table ≡ N.table }
 {
     let depot = blank.open::<N>();
+    last_generation::use_up(rt, &depot, others.before)?;
     let site = site(rt, alloc)?;
     let (senders, anna, ben) = ends::<N>(alloc)?;
     let anna = Some(anna).filter(|_| others.listen);
