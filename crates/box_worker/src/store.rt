@@ -1,6 +1,7 @@
 //! The record of a held message into a spool.
 
-ghost use Rattle.std.specs.Prelude.{◌≡◌, OnOk, OnErr, IfOk};
+ghost use Rattle.std.specs.Prelude.{◌≡◌, length, OnOk, OnErr, IfOk};
+ghost use Rattle.mail_world.specs.Counts.{counted};
 ghost use Rattle.lmtp_text.specs.Calendar.{civil_at};
 ghost use Rattle.mbox_rd.specs.Envelope.{record_text};
 ghost use Rattle.mbox_rd.specs.Spool.{SpoolTook, SpoolFailed};
@@ -8,7 +9,7 @@ ghost use Rattle.mbox_rd.specs.Writing.{WritesPiece, FailsPiece};
 ghost use Rattle.box_worker.specs.Stored.{HasKept, HasNotKept};
 
 use mail_world::limits::WORKER_BUFFER_SIZE;
-use mbox_rd::{Envelope, RecordWriter, Spool, SpoolFault};
+use mbox_rd::{CountSpool, Envelope, RecordWriter, Spool, SpoolFault};
 use msg_depot::{Depot, DepotName, Hold};
 use std::sync::Wait;
 
@@ -29,6 +30,24 @@ pub(crate) fn store<N: DepotName, S: Spool, R: Wait>(
 {
     append_record(rt, spool, depot, host, envelope, hold)?;
     spool.sync()
+}
+
+/// How many bytes the record of the held message has. The count stays at 2^64 - 1.
+pub(crate) fn record_size<N: DepotName, R: Wait>(
+    rt: &R,
+    depot: &Depot<N>,
+    host: &[u8],
+    envelope: &Envelope,
+    hold: &mut Hold<N>,
+) -> u64
+    ensures size { result ≡ counted (length (record_text civil_at host.now envelope.now hold.old.bytes)) }
+    ensures hold { hold.new ≡ hold.old }
+{
+    let mut count = CountSpool::new();
+    match append_record(rt, &mut count, depot, host, envelope, hold) {
+        Ok(()) => count.held(),
+        Err(_) => unreachable!(),
+    }
 }
 
 // Appends the record of the held message.

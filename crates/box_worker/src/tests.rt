@@ -4,6 +4,7 @@ ghost use Rattle.mail_post.specs.Offered.{HaveNumber};
 ghost use Rattle.box_worker.specs.Told.{worker_of};
 
 use super::*;
+use crate::store::record_size;
 use mail_post::{Post, Receiver, SlipReceiver, SlipSender, mail_line, slip_line};
 use mail_world::{Outcome, Slip, Txn};
 use mbox_rd::{Envelope, MemorySpool, Spool};
@@ -399,4 +400,26 @@ fn the_senders_are_gone(rt: HostRuntime) -> Result<(), Fail> {
     assert_eq!(rt; ran.spool.bytes(), STORED);
     assert_eq!(rt; ran.free_blocks, BLOCKS);
     Ok(())
+}
+
+#[test]
+fn a_held_message_is_measured_as_its_record(rt: HostRuntime) -> Result<(), Fail> {
+    let blank = Blank::new(rt.alloc(), BLOCKS, 2)?;
+    let size = size_of_the_record::<Brand, HostRuntime>(&rt, rt.alloc(), blank)?;
+    assert_eq!(rt; size, RECORD_LEN as u64);
+    Ok(())
+}
+
+fn size_of_the_record<N: DepotName, R: Wait>(
+    rt: &R,
+    alloc: Global,
+    blank: Blank,
+) -> Result<u64, Fail>
+    requires { blank.table ≡ N.table }
+{
+    let depot = blank.open::<N>();
+    let mut hold = sealed(rt, &depot, 1).ok_or("there is room")?;
+    let txn = Txn { lane: 0, number: 1 };
+    let envelope = Envelope::new(alloc, b"carl@a.example", b"relay.example", txn, 0);
+    Ok(record_size(rt, &depot, b"mx.example", &envelope, &mut hold))
 }

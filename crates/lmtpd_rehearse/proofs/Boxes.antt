@@ -17,7 +17,7 @@ use Rattle.lmtpd_rehearse.specs.Mailboxes.{MailboxContent, kept_all, kept_at, by
 
 -- a spool in memory as every spool is seen
 abbrev pub state_of : MemorySpool → SpoolState
-state_of spool = record { bytes = Some spool.bytes; failures = spool.failures; limit = Some (length spool.bytes + spool.room); synced = spool.synced }
+state_of spool = record { bytes = Some spool.bytes; failures = spool.failures; limit = Some (length spool.bytes + spool.room); synced = spool.synced; held = length spool.bytes }
 
 -- lists of one length
 pub get_some : {A : Type 0} (xs : List A) (n : ℕ) → n < length xs → (x : A) × (slice_get xs n ≡ Some x)

@@ -1,18 +1,26 @@
 -- Texts that a spool takes one after another.
-use Rattle.std.proofs.Common.{◌≡◌, ℕ, ◌+◌, ◌-◌, ◌<◌, List, [], ◌++◌, length, Option, Some, None, Result, Ok, Err, take, drop, get_or, sym, ap, ◌∙◌, subst, append_assoc}
-use Rattle.std.proofs.lemmas.List.{take-append-drop, take_rest, drop_more}
+use Rattle.std.proofs.Common.{◌≡◌, ℕ, ◌+◌, ◌-◌, ◌<◌, arith, List, ◌++◌, length, Option, Some, None, Result, Ok, Err, take, drop, get_or, sym, ap, ◌∙◌, subst, append_assoc}
+use Rattle.std.proofs.lemmas.List.{take-append-drop, take_rest, drop_more, length-append}
 use Rattle.std.proofs.lemmas.List.Concat.{flat_map-append}
 use Rattle.std.specs.List.{flat_map}
 use Rattle.std.specs.Result.{OnOk, OnErr}
 use Rattle.std.specs.Io.KnownBytes.{Appends}
+use Rattle.mail_world.specs.Counts.{counted}
 use Rattle.mail_world.specs.Failures.{Rises}
-use Rattle.mbox_rd.specs.Spool.{SpoolState, SpoolTook, SpoolFailed}
+use Rattle.mbox_rd.specs.Spool.{SpoolState, SpoolTook, SpoolFailed, Grows}
 
 Appends-then : (u v w : Option (List ℕ)) (a b : List ℕ) → Appends u v a → Appends v w b → Appends u w (a ++ b)
 Appends-then None v w a b x y = tt
 Appends-then (Some xs) None w a b x y = absurd x
 Appends-then (Some xs) (Some ys) None a b x y = y
 Appends-then (Some xs) (Some ys) (Some zs) a b x y = y ∙ ap (λ (t : List ℕ). t ++ b) x ∙ append_assoc xs a b
+
+-- first by m, then by n
+counted_then : (u v w m n : ℕ) → counted v ≡ counted (u + m) → counted w ≡ counted (v + n) → counted w ≡ counted (u + (m + n))
+counted_then u v w m n x y = grind (arith)
+
+Grows-then : (u v w : ℕ) (a b : List ℕ) → Grows u v (length a) → Grows v w (length b) → Grows u w (length (a ++ b))
+Grows-then u v w a b x y = rw (length-append a b) (counted_then u v w (length a) (length b) x y)
 
 pub OnErr-any : {T E Q : Type 0} (r : Result T E) → Q → OnErr r Q
 OnErr-any (Ok x) q = tt
@@ -39,6 +47,7 @@ SpoolTook-then s t u a b x y = record {
   sound = y.sound ∙ x.sound;
   limited = y.limited ∙ x.limited;
   covered = y.covered ∙ x.covered;
+  grown = Grows-then s.held t.held u.held a b x.grown y.grown;
 }
 
 -- a failure in the first text, in the second
@@ -51,6 +60,7 @@ SpoolFailed-first s t a b x = record {
   failed = x.failed;
   limited = x.limited;
   covered = x.covered;
+  grown = x.grown;
   full = x.full;
 }
 
@@ -63,6 +73,7 @@ SpoolFailed-later s t u a b x y = record {
   failed = let P : ℕ → Type 0 = λ n. Rises n u.failures in subst P x.sound y.failed;
   limited = y.limited ∙ x.limited;
   covered = y.covered ∙ x.covered;
+  grown = Grows-then s.held t.held u.held a y.front x.grown y.grown;
   full = y.full;
 }
 

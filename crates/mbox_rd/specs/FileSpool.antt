@@ -16,6 +16,8 @@ pub record FileSpool (F : Type 0) : Type 0 where
   -- how the file ended when it was opened
   pub tail : Tail
   pub failures : ℕ
+  -- how long the file was when it was opened, and the bytes taken since; it stays at 2^64 - 1
+  pub held : ℕ
 
 -- the file's bytes and then what waits, where the file's are known
 abbrev pub contents_of : {F : Type 0} → (F → Option (List ℕ)) → FileSpool F → Option (List ℕ)
@@ -47,6 +49,7 @@ pub record Breaks {F : Type 0} (contents : F → Option (List ℕ)) (old new : F
   pub broken : new.is_broken ≡ true
   pub tail : new.tail ≡ old.tail
   pub failed : new.failures ≡ min (old.failures + 1) (2 ^ 64 - 1)
+  pub held : new.held ≡ old.held
 
 -- it only counts one failure more
 abbrev pub failed_again : {F : Type 0} → FileSpool F → FileSpool F

@@ -2,6 +2,7 @@ pub mod Envelope
 pub mod Spool
 pub mod MemorySpool
 pub mod FileSpool
+pub mod CountSpool
 pub mod Mending
 pub mod Parts
 pub mod Writing

@@ -1,17 +1,23 @@
 -- What a spool took, by what it holds, how often it failed and what its syncs covered.
-use Rattle.std.specs.Prelude.{◌≡◌, ℕ, List, [], ◌∷◌, ◌++◌, length, if◌then◌else◌, Option, Some, None, ⊤}
+use Rattle.std.specs.Prelude.{◌≡◌, ℕ, ◌+◌, List, [], ◌∷◌, ◌++◌, length, if◌then◌else◌, Option, Some, None, ⊤}
 use Rattle.std.specs.Io.KnownBytes.{Appends, Keeps}
+use Rattle.mail_world.specs.Counts.{counted}
 use Rattle.mail_world.specs.Failures.{Rises}
 use Rattle.mail_world.specs.Text.{lf, ends_in}
 use Rattle.mbox_rd.specs.declared.spool.Tail.{Tail}
 use Rattle.mbox_rd.specs.declared.spool.Tail.TheVariants.{Empty, NoLf, OneLf, TwoLf}
 
--- What contracts see of a spool: what it holds and how many bytes it may hold, where it tells; how often it failed; how many of its first bytes the last good sync covered.
+-- What contracts see of a spool: what it holds and how many bytes it may hold, where it tells; how often it failed; how many of its first bytes the last good sync covered; how many bytes it holds.
 pub record SpoolState : Type 0 where
   pub bytes : Option (List ℕ)
   pub failures : ℕ
   pub limit : Option ℕ
   pub synced : ℕ
+  pub held : ℕ
+
+-- a number of bytes is larger by n, as far as 2^64 - 1 tells
+abbrev pub Grows : ℕ → ℕ → ℕ → Type 0
+Grows old new n = counted new ≡ counted (old + n)
 
 -- a spool with a limit holds as much as that
 abbrev pub IsFull : Option ℕ → Option (List ℕ) → Type 0
@@ -29,6 +35,7 @@ pub record SpoolTook (old new : SpoolState) (text : List ℕ) : Type 0 where
   pub sound : new.failures ≡ old.failures
   pub limited : new.limit ≡ old.limit
   pub covered : new.synced ≡ old.synced
+  pub grown : Grows old.held new.held (length text)
 
 -- the spool took a front of the text, and failed, which one with a limit does only once it is full
 pub record SpoolFailed (old new : SpoolState) (text : List ℕ) : Type 0 where
@@ -39,6 +46,7 @@ pub record SpoolFailed (old new : SpoolState) (text : List ℕ) : Type 0 where
   pub failed : Rises old.failures new.failures
   pub limited : new.limit ≡ old.limit
   pub covered : new.synced ≡ old.synced
+  pub grown : Grows old.held new.held (length front)
   pub full : IsFull new.limit new.bytes
 
 -- all that the spool holds is covered by a sync
@@ -47,6 +55,7 @@ pub record HasSynced (old new : SpoolState) : Type 0 where
   pub sound : new.failures ≡ old.failures
   pub limited : new.limit ≡ old.limit
   pub covered : CoversAll new.bytes new.synced
+  pub as_long : new.held ≡ old.held
 
 -- a sync failed, which one of a spool with a limit does only once it is full: the spool holds what it held, and no more of it is covered
 pub record HasNotSynced (old new : SpoolState) : Type 0 where
@@ -54,6 +63,7 @@ pub record HasNotSynced (old new : SpoolState) : Type 0 where
   pub failed : Rises old.failures new.failures
   pub limited : new.limit ≡ old.limit
   pub covered : new.synced ≡ old.synced
+  pub as_long : new.held ≡ old.held
   pub full : IsFull new.limit new.bytes
 
 -- how the bytes end

@@ -4,6 +4,7 @@ ghost use Rattle.std.specs.Prelude.{OnOk, OnErr};
 ghost use Rattle.std.specs.Io.Buffered.{writer_buffer, writer_contents};
 ghost use Rattle.std.specs.Io.KnownBytes.{Appends, Keeps};
 ghost use Rattle.std.specs.IoError.{error_kind};
+ghost use Rattle.mail_world.specs.Counts.{counted};
 ghost use Rattle.mail_world.specs.Failures.{Rises};
 ghost use Rattle.mbox_rd.specs.Spool.{SpoolTook, SpoolFailed, HasSynced, HasNotSynced};
 
@@ -60,6 +61,7 @@ pub struct FileSpool<F: Write + Drop> {
     sink: Sink<F>,
     tail: Tail,
     failures: u64,
+    held: u64,
 }
 
 #[derive(Drop)]
@@ -79,6 +81,7 @@ impl<F: Write + Drop> Model for FileSpool<F> {
       is_broken = is_broken s.sink;
       tail = s.tail;
       failures = s.failures;
+      held = s.held;
     } };
 }
 
@@ -103,12 +106,13 @@ impl<F: Read + Write + Seek + OpenFile + FileLock + Drop> FileSpool<F> {
     {
         let mut file = open_or_make(rt, path)?;
         file.try_lock()?;
-        let tail = tail_of_file(&mut file)?;
+        let end = end_of_file(&mut file)?;
         let writer = BufWriter::with_capacity(alloc, BUFFER_SIZE, file)?;
         Ok(FileSpool {
             sink: Sink::Sound(writer),
-            tail,
+            tail: end.tail,
             failures: 0,
+            held: end.at,
         })
     }
 }
@@ -140,15 +144,25 @@ fn folder_of(path: &str) -> &str {
     }
 }
 
-// A file's last two bytes tell how it ends.
-fn tail_of_file<F: Read + Seek>(file: &mut F) -> io::Result<Tail> {
-    let len = file.seek(SeekFrom::End(0))?;
-    let count = len.min(2);
-    file.seek(SeekFrom::Start(len - count))?;
+// Where a file ends, and how.
+#[derive(Drop)]
+struct FileEnd {
+    at: u64,
+    tail: Tail,
+}
+
+// The last two bytes tell how a file ends.
+fn end_of_file<F: Read + Seek>(file: &mut F) -> io::Result<FileEnd> {
+    let at = file.seek(SeekFrom::End(0))?;
+    let count = at.min(2);
+    file.seek(SeekFrom::Start(at - count))?;
     let mut last = [0; 2];
     let last = &mut last[..count as usize];
     file.read_exact(last)?;
-    Ok(tail_of(last))
+    Ok(FileEnd {
+        at,
+        tail: tail_of(last),
+    })
 }
 
 fn fault_of(error: io::Error) -> OpenFault
@@ -206,7 +220,7 @@ impl<F: Write + OpenFile + Drop> Spool for FileSpool<F> {
     ghost use Rattle.std.specs.Prelude.{None};
     ghost use Rattle.mbox_rd.specs.FileSpool.{StaysSound, Breaks, contents_of, failed_again};
 
-    ghost state = { λ s. record { bytes = None; failures = s.failures; limit = None; synced = 0 } };
+    ghost state = { λ s. record { bytes = None; failures = s.failures; limit = None; synced = 0; held = s.held } };
 
     /// Fills the buffer, and writes it where it is full.
     fn append(&mut self, piece: &[u8]) -> Result<usize, SpoolFault>
@@ -214,6 +228,7 @@ impl<F: Write + OpenFile + Drop> Spool for FileSpool<F> {
         ensures taken { IfOk result (λ n. Appends (contents_of F.contents self.old)
             (contents_of F.contents self.new) (take n piece.now)) }
         ensures sound { OnOk result (StaysSound self.old self.new) }
+        ensures held { IfOk result (λ n. self.new.held ≡ counted (self.old.held + n)) }
         ensures broken { OnErr result (Breaks F.contents self.old self.new) }
         ensures stays_broken { self.old.is_broken ≡ true → self.new ≡ failed_again self.old }
 
@@ -229,7 +244,10 @@ impl<F: Write + OpenFile + Drop> Spool for FileSpool<F> {
         };
         match writer.write(piece) {
             Ok(0) | Err(_) => Err(self.fail()),
-            Ok(n) => Ok(n),
+            Ok(n) => {
+                self.held = self.held.saturating_add(n as u64);
+                Ok(n)
+            }
         }
     }
 
@@ -239,6 +257,7 @@ impl<F: Write + OpenFile + Drop> Spool for FileSpool<F> {
             (contents_of F.contents self.new)) }
         ensures written { OnOk result (self.new.waiting ≡ []) }
         ensures sound { OnOk result (StaysSound self.old self.new) }
+        ensures held { self.new.held ≡ self.old.held }
         ensures broken { OnErr result (Breaks F.contents self.old self.new) }
         ensures stays_broken { self.old.is_broken ≡ true → self.new ≡ failed_again self.old }
 
@@ -261,5 +280,14 @@ impl<F: Write + OpenFile + Drop> Spool for FileSpool<F> {
         ensures { result ≡ self.now.tail }
     {
         self.tail
+    }
+
+    fn held(&self) -> u64
+        ensures exact { result ≡ self.now.held }
+
+        // what every spool ensures
+        ensures counted { result ≡ counted (⟦<FileSpool<F> as Spool>⟧.state self.now).held }
+    {
+        self.held
     }
 }

@@ -3,6 +3,7 @@
 #![tactic(auto)]
 
 mod append;
+mod count;
 mod envelope;
 mod file;
 mod head;
@@ -16,6 +17,7 @@ mod spool;
 #[cfg(test)]
 mod tests;
 
+pub use count::CountSpool;
 pub use envelope::Envelope;
 pub use file::{FileLock, FileSpool, OpenFault};
 pub use letter::Letter;

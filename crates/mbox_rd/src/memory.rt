@@ -2,6 +2,7 @@
 ghost use Rattle.std.specs.Prelude.{◌≡◌, ◌↔◌, ◌+◌, ◌-◌, ◌^◌, ◌<◌, ◌≤◌, ◌++◌, length, take, min, IsOk, IsErr, IfOk};
 ghost use Rattle.std.specs.Prelude.{OnOk, OnErr, Some};
 ghost use Rattle.std.specs.Option.{IfSome};
+ghost use Rattle.mail_world.specs.Counts.{counted};
 ghost use Rattle.mbox_rd.specs.Spool.{SpoolTook, SpoolFailed, HasSynced, HasNotSynced, tail_of};
 
 use crate::spool::{Spool, SpoolFault, Tail, tail_of};
@@ -67,6 +68,7 @@ impl Spool for MemorySpool {
       failures = s.failures;
       limit = Some (length s.bytes + s.room);
       synced = s.synced;
+      held = length s.bytes;
     } };
 
     /// Takes as much as there is room for, and fails where there is none.
@@ -126,5 +128,14 @@ impl Spool for MemorySpool {
         ensures known { IfSome (⟦<MemorySpool as Spool>⟧.state self.now).bytes (λ held. result ≡ tail_of held) }
     {
         tail_of(&self.bytes)
+    }
+
+    fn held(&self) -> u64
+        ensures exact { result ≡ counted (length self.now.bytes) }
+
+        // what every spool ensures
+        ensures known { IfSome (⟦<MemorySpool as Spool>⟧.state self.now).bytes (λ held. result ≡ counted (length held)) }
+    {
+        self.bytes.len() as u64
     }
 }

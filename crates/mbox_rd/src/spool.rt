@@ -1,6 +1,7 @@
 //! Where records go: a place that takes bytes at its end, and may fail.
 ghost use Rattle.std.specs.Prelude.{◌≡◌, ◌<◌, ◌≤◌, length, take, IfOk, OnOk, OnErr};
 ghost use Rattle.std.specs.Option.{IfSome};
+ghost use Rattle.mail_world.specs.Counts.{counted};
 ghost use Rattle.mbox_rd.specs.Spool.{SpoolState, SpoolTook, SpoolFailed, HasSynced, HasNotSynced, tail_of};
 
 use thiserror::Error;
@@ -45,6 +46,11 @@ pub trait Spool {
     /// How its bytes end.
     fn tail(&self) -> Tail
         ensures { IfSome (state self.now).bytes (λ held. result ≡ tail_of held) };
+
+    /// How many bytes it holds. The count stays at 2^64 - 1.
+    fn held(&self) -> u64
+        ensures exact { result ≡ counted (state self.now).held }
+        ensures known { IfSome (state self.now).bytes (λ held. result ≡ counted (length held)) };
 }
 
 // How these bytes end. The last two are enough.

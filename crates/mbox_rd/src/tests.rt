@@ -1,5 +1,5 @@
 //! Records as they stand in a mailbox, from messages in pieces, and spools that stop or take little at once.
-ghost use Rattle.std.specs.Prelude.{◌≤◌, length, None};
+ghost use Rattle.std.specs.Prelude.{◌≡◌, ◌≤◌, length, None};
 ghost use Rattle.mail_world.specs.Failures.{Rises};
 ghost use Rattle.mail_world.specs.declared.limits.TheConstants.{PATH_LIMIT};
 
@@ -164,6 +164,22 @@ fn a_spool_may_take_one_byte_at_once(rt: HostRuntime) -> Result<(), Fail> {
 }
 
 #[test]
+fn a_spool_says_how_many_bytes_it_holds(rt: HostRuntime) -> Result<(), Fail> {
+    for (old, mended, len) in [(b"abc".as_slice(), 5, 194), (b"", 0, 189)] {
+        let mut spool = MemorySpool::new(rt.alloc(), old, 1000)?;
+        assert_eq!(rt; spool.held(), old.len() as u64);
+        mend(&mut spool)?;
+        assert_eq!(rt; spool.held(), mended);
+        deliver(rt.alloc(), &mut spool, &[HELLO])?;
+        assert_eq!(rt; spool.held(), len);
+    }
+    let mut narrow = MemorySpool::new(rt.alloc(), b"", 40)?;
+    assert!(rt; deliver(rt.alloc(), &mut narrow, &[HELLO]).is_err());
+    assert_eq!(rt; narrow.held(), 40);
+    Ok(())
+}
+
+#[test]
 fn each_append_may_be_the_last(rt: HostRuntime) -> Result<(), Fail> {
     let mut whole = LazySpool::new(rt.alloc(), 1000, usize::MAX);
     deliver(rt.alloc(), &mut whole, &[HELLO])?;
@@ -197,7 +213,8 @@ impl LazySpool {
     }
 
     fn fail(&mut self) -> SpoolFault
-        ensures { Rises self.old.failures self.new.failures }
+        ensures failed { Rises self.old.failures self.new.failures }
+        ensures held { self.new.bytes.items ≡ self.old.bytes.items }
     {
         self.failures = self.failures.saturating_add(1);
         SpoolFault
@@ -205,7 +222,13 @@ impl LazySpool {
 }
 
 impl Spool for LazySpool {
-    ghost state = { λ s. record { bytes = None; failures = s.failures; limit = None; synced = 0 } };
+    ghost state = { λ s. record {
+      bytes = None;
+      failures = s.failures;
+      limit = None;
+      synced = 0;
+      held = length s.bytes.items;
+    } };
 
     fn append(&mut self, piece: &[u8]) -> Result<usize, SpoolFault> {
         if self.appends == self.most {
@@ -225,5 +248,9 @@ impl Spool for LazySpool {
 
     fn tail(&self) -> Tail {
         Tail::Empty
+    }
+
+    fn held(&self) -> u64 {
+        self.bytes.len() as u64
     }
 }

@@ -1,5 +1,5 @@
 //! A spool that fails once, and would go on.
-ghost use Rattle.std.specs.Prelude.{◌≡◌, None};
+ghost use Rattle.std.specs.Prelude.{◌≡◌, length, None};
 ghost use Rattle.mail_world.specs.Failures.{Rises};
 
 use mbox_rd::{MemorySpool, Spool, SpoolFault, Tail};
@@ -38,7 +38,8 @@ impl FailingSpool {
 
     // Counts the call, and says whether it is the one that fails.
     fn call(&mut self) -> bool
-        ensures { self.new.failures ≡ self.old.failures }
+        ensures failures { self.new.failures ≡ self.old.failures }
+        ensures held { self.new.held ≡ self.old.held }
     {
         let fails = self.calls == self.fails_at;
         self.calls = self.calls.saturating_add(1);
@@ -46,7 +47,8 @@ impl FailingSpool {
     }
 
     fn fail(&mut self) -> SpoolFault
-        ensures { Rises self.old.failures self.new.failures }
+        ensures failed { Rises self.old.failures self.new.failures }
+        ensures held { self.new.held ≡ self.old.held }
     {
         self.failures = self.failures.saturating_add(1);
         SpoolFault
@@ -54,7 +56,13 @@ impl FailingSpool {
 }
 
 impl Spool for FailingSpool {
-    ghost state = { λ s. record { bytes = None; failures = s.failures; limit = None; synced = 0 } };
+    ghost state = { λ s. record {
+      bytes = None;
+      failures = s.failures;
+      limit = None;
+      synced = 0;
+      held = length s.held.bytes;
+    } };
 
     fn append(&mut self, piece: &[u8]) -> Result<usize, SpoolFault> {
         if self.call() {
@@ -75,5 +83,9 @@ impl Spool for FailingSpool {
 
     fn tail(&self) -> Tail {
         self.held.tail()
+    }
+
+    fn held(&self) -> u64 {
+        self.held.held()
     }
 }

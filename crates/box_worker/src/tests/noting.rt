@@ -104,4 +104,8 @@ impl<'a, S: Spool> Spool for NotingSpool<'a, S> {
     fn tail(&self) -> Tail {
         self.spool.tail()
     }
+
+    fn held(&self) -> u64 {
+        self.spool.held()
+    }
 }

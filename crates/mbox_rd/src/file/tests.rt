@@ -59,6 +59,27 @@ fn a_record_stands_behind_what_was_there(rt: HostRuntime) -> Result<(), Fail> {
 }
 
 #[test]
+fn a_file_holds_its_length_when_it_was_opened_and_what_it_took(
+    rt: HostRuntime,
+) -> Result<(), Fail> {
+    let folder = folder(&rt, "long")?;
+    let path = format!(in rt.alloc(); "{}/a.mbox", folder)?;
+    fs::write(&rt, path.as_str(), b"abc".as_slice())?;
+    for (opened, mended, len) in [(3, 5, 194), (194, 194, 383)] {
+        let mut spool = FileSpool::at(&rt, rt.alloc(), &path)?;
+        assert_eq!(rt; spool.held(), opened);
+        mend(&mut spool)?;
+        assert_eq!(rt; spool.held(), mended);
+        deliver(rt.alloc(), &mut spool, &[HELLO])?;
+        assert_eq!(rt; spool.held(), len);
+        spool.sync()?;
+        assert_eq!(rt; spool.held(), fs::metadata(&rt, path.as_str())?.len());
+    }
+    fs::remove_dir_all(&rt, folder.as_str())?;
+    Ok(())
+}
+
+#[test]
 fn a_file_that_is_held_or_cannot_be_is_refused(rt: HostRuntime) -> Result<(), Fail> {
     let folder = folder(&rt, "held")?;
     let path = format!(in rt.alloc(); "{}/a.mbox", folder)?;

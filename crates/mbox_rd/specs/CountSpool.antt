@@ -1,0 +1,8 @@
+-- What contracts see of a spool that only counts.
+use Rattle.std.specs.Prelude.{ℕ}
+use Rattle.mbox_rd.specs.declared.spool.Tail.{Tail}
+
+pub record CountSpool : Type 0 where
+  -- how many bytes it took, which stays at 2^64 - 1
+  pub held : ℕ
+  pub tail : Tail

@@ -1,0 +1,107 @@
+//! A spool that keeps no bytes: it measures what is written to it.
+ghost use Rattle.std.specs.Prelude.{◌≡◌, ◌+◌, ◌<◌, ◌≤◌, ℕ, List, ◌++◌, length, take, None, Ok, IsOk, IfOk, OnOk, OnErr};
+ghost use Rattle.mail_world.specs.Counts.{counted};
+ghost use Rattle.mbox_rd.specs.Spool.{SpoolTook, SpoolFailed, HasSynced, HasNotSynced, tail_of};
+
+#[cfg(test)]
+mod tests;
+
+use crate::spool::{Spool, SpoolFault, Tail, tail_of};
+use std::marker::Model;
+
+/// A spool that counts the bytes that it takes, and knows how they end. It never fails, and takes no memory. Its count
+/// stays at 2^64 - 1.
+#[derive(Debug, Drop)]
+pub struct CountSpool {
+    held: u64,
+    tail: Tail,
+}
+
+impl Model for CountSpool {
+    ghost use Rattle.mbox_rd.specs.CountSpool.{CountSpool as Counted};
+
+    ghost Value = { Counted };
+
+    ghost view = { λ s. record { held = s.held; tail = s.tail } };
+}
+
+impl CountSpool {
+    /// An empty one.
+    pub fn new() -> CountSpool
+        ensures { result ≡ record { held = 0; tail = Tail.Empty } }
+    {
+        CountSpool {
+            held: 0,
+            tail: Tail::Empty,
+        }
+    }
+}
+
+const LF: &[u8] = b"\n";
+
+// How bytes that end so end with the piece behind them.
+fn tail_behind(tail: Tail, piece: &[u8]) -> Tail
+    requires { 0 < length piece.now }
+    ensures { (front : List ℕ) → tail ≡ tail_of front → result ≡ tail_of (front ++ piece.now) }
+{
+    if piece == LF {
+        match tail {
+            Tail::Empty | Tail::NoLf => Tail::OneLf,
+            Tail::OneLf | Tail::TwoLf => Tail::TwoLf,
+        }
+    } else {
+        tail_of(piece)
+    }
+}
+
+impl Spool for CountSpool {
+    ghost state = { λ s. record { bytes = None; failures = 0; limit = None; synced = 0; held = s.held } };
+
+    /// Takes the whole piece.
+    fn append(&mut self, piece: &[u8]) -> Result<usize, SpoolFault>
+        requires { 0 < length piece.now }
+        ensures whole { result ≡ Ok (length piece.now) }
+        ensures held { self.new.held ≡ counted (self.old.held + length piece.now) }
+        ensures tail { (front : List ℕ) → self.old.tail ≡ tail_of front → self.new.tail ≡ tail_of (front ++ piece.now) }
+
+        // what every spool ensures
+        ensures within { IfOk result (λ n. (1 ≤ n) × (n ≤ length piece.now)) }
+        ensures ok { IfOk result (λ n. SpoolTook (⟦<CountSpool as Spool>⟧.state self.old)
+            (⟦<CountSpool as Spool>⟧.state self.new) (take n piece.now)) }
+        ensures err { OnErr result (SpoolFailed (⟦<CountSpool as Spool>⟧.state self.old)
+            (⟦<CountSpool as Spool>⟧.state self.new) piece.now) }
+    {
+        self.held = self.held.saturating_add(piece.len() as u64);
+        self.tail = tail_behind(self.tail, piece);
+        Ok(piece.len())
+    }
+
+    /// There is nothing to keep.
+    fn sync(&mut self) -> Result<(), SpoolFault>
+        ensures sound { IsOk result }
+        ensures same { self.new ≡ self.old }
+
+        // what every spool ensures
+        ensures ok { OnOk result
+            (HasSynced (⟦<CountSpool as Spool>⟧.state self.old) (⟦<CountSpool as Spool>⟧.state self.new)) }
+        ensures err { OnErr result
+            (HasNotSynced (⟦<CountSpool as Spool>⟧.state self.old) (⟦<CountSpool as Spool>⟧.state self.new)) }
+    {
+        Ok(())
+    }
+
+    fn tail(&self) -> Tail
+        ensures { result ≡ self.now.tail }
+    {
+        self.tail
+    }
+
+    fn held(&self) -> u64
+        ensures exact { result ≡ self.now.held }
+
+        // what every spool ensures
+        ensures counted { result ≡ counted (⟦<CountSpool as Spool>⟧.state self.now).held }
+    {
+        self.held
+    }
+}
