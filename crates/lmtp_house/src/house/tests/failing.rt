@@ -1,6 +1,6 @@
 //! Faults of a relay or a spool, and a spool that has them.
 
-ghost use Rattle.std.specs.Prelude.{◌≡◌, None};
+ghost use Rattle.std.specs.Prelude.{◌≡◌, length, None};
 ghost use Rattle.mail_world.specs.Failures.{Rises};
 
 use mbox_rd::{MemorySpool, Spool, SpoolFault, Tail};
@@ -67,7 +67,8 @@ impl FailingSpool {
 
     // Counts the call, and says whether it fails.
     fn call(&mut self) -> bool
-        ensures { self.new.failures ≡ self.old.failures }
+        ensures failures { self.new.failures ≡ self.old.failures }
+        ensures held { self.new.held ≡ self.old.held }
     {
         self.is_used.store(true, Ordering::SeqCst);
         let fails = self.faults.fail(self.calls);
@@ -76,7 +77,8 @@ impl FailingSpool {
     }
 
     fn fail(&mut self) -> SpoolFault
-        ensures { Rises self.old.failures self.new.failures }
+        ensures failed { Rises self.old.failures self.new.failures }
+        ensures held { self.new.held ≡ self.old.held }
     {
         self.failures = self.failures.saturating_add(1);
         SpoolFault
@@ -84,7 +86,13 @@ impl FailingSpool {
 }
 
 impl Spool for FailingSpool {
-    ghost state = { λ s. record { bytes = None; failures = s.failures; limit = None; synced = 0 } };
+    ghost state = { λ s. record {
+      bytes = None;
+      failures = s.failures;
+      limit = None;
+      synced = 0;
+      held = length s.held.bytes;
+    } };
 
     fn append(&mut self, piece: &[u8]) -> Result<usize, SpoolFault> {
         if self.call() {
@@ -105,5 +113,9 @@ impl Spool for FailingSpool {
 
     fn tail(&self) -> Tail {
         self.held.tail()
+    }
+
+    fn held(&self) -> u64 {
+        self.held.held()
     }
 }
