@@ -7,8 +7,9 @@ ghost use Rattle.mail_post.specs.Offered.{HaveNumber};
 
 mod guests;
 mod last_generation;
+mod moving;
 
-use crate::{Clock, Desk, LaneReport, lane_run};
+use crate::{Clock, Desk, LaneReport, lane_run, lane_run_at};
 use guests::Guests;
 use lmtp_talk::Then::{Ends, Repeats, Says, Stops};
 use lmtp_talk::{EndCause, Script, Turn};
@@ -48,6 +49,8 @@ struct Others {
     slips: u32,
     /// Whether the workers' ends of that channel are there.
     answer: bool,
+    /// How many reads each conversation may make, where that is told.
+    reads: Option<u32>,
 }
 
 const ALL_THERE: Others = Others {
@@ -56,6 +59,7 @@ const ALL_THERE: Others = Others {
     listen: true,
     slips: 2,
     answer: true,
+    reads: None,
 };
 
 /// A copy that a mailbox's channel had.
@@ -140,17 +144,13 @@ fn run_over<'a, N: DepotName, R: Wait + Abort>(
     let desk = Desk::new(alloc, site.clone()?)?;
     let guests = Guests::new(alloc, clients)?;
     assert_eq!(rt; senders.len(), site.box_count() as usize);
-    let report = lane_run(
-        rt,
-        0,
-        &site,
-        desk,
-        guests,
-        &depot,
-        senders,
-        slips,
-        &Still(7),
-    );
+    let clock = Still(7);
+    let report = match others.reads {
+        None => lane_run(rt, 0, &site, desk, guests, &depot, senders, slips, &clock),
+        Some(reads) => lane_run_at(
+            rt, 0, &site, desk, guests, &depot, senders, slips, &clock, reads,
+        ),
+    };
     let LaneReport {
         visits,
         senders,
@@ -351,6 +351,41 @@ const STOPPED: [Turn; 3] = [
     (OFFER, Stops),
     (STOPPING, Ends),
 ];
+
+/// A letter at each read, for ever.
+const LETTERS: [Turn; 2] = [(GREETING, Says(b"x")), (b"", Repeats(b"x", usize::MAX))];
+
+/// The same inside data.
+const LETTERS_IN_DATA: [Turn; 4] = [
+    (GREETING, Says(b"LHLO relay.example\r\n")),
+    (
+        OFFER,
+        Says(b"MAIL FROM:<carl@a.example>\r\nRCPT TO:<anna@mx.example>\r\nDATA\r\n"),
+    ),
+    (DATA_FOR_ONE, Says(b"x")),
+    (b"", Repeats(b"x", usize::MAX)),
+];
+
+#[test]
+fn a_client_who_goes_on_for_ever_meets_the_bound_on_reads(rt: HostRuntime) -> Result<(), Fail> {
+    let table: [&[Turn]; 2] = [&LETTERS, &LETTERS_IN_DATA];
+    let others = Others {
+        reads: Some(1_000),
+        ..ALL_THERE
+    };
+    for turns in table {
+        let client = Script::new(rt.alloc(), turns, usize::MAX);
+        let clients = vec![in rt.alloc(); client]?;
+        let ran = run(&rt, rt.alloc(), clients, others)?;
+        assert!(rt; ran.served(1, EndCause::ReadBound) && !ran.gone);
+        for guest in ran.guests.served.iter() {
+            assert_eq!(rt; guest.client.reads, 1_000);
+        }
+        assert_eq!(rt; ran.taken.len(), 0);
+        assert_eq!(rt; ran.free_blocks, BLOCKS);
+    }
+    Ok(())
+}
 
 #[test]
 fn two_clients_share_the_numbers(rt: HostRuntime) -> Result<(), Fail> {
