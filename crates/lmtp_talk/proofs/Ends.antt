@@ -137,31 +137,41 @@ written_whole start now pending came text fails h none =
 written_broken : (start now : PeerState) (pending came text : List ℕ) (fails : Type 0) (h : HasSaid start now (record { pending = pending; broken = true }) came text) → fails → IsWritten text fails h.written
 written_broken start now pending came text fails h f = record { begins = h.is.begins; whole = λ g. absurd (g f) }
 
--- why the conversation ends, in the words of the session's state
-record EndsBy (reads : ℕ) (state : State) (stopped : Bool) (handled : List ℕ) (old new : PeerState) (end : EndCause) : Type 0 where
-  pub quit : end ≡ ends.Quit → state ≡ Ended
-  pub quits : state ≡ Ended → (end ≡ ends.Quit) ⊎ (end ≡ ends.WriteFault)
+-- where a conversation stands that ends: how many reads it might make, its session's state, whether it was stopped, the bytes handled
+record Final : Type 0 where
+  pub reads : ℕ
+  pub state : State
+  pub stopped : Bool
+  pub handled : List ℕ
+
+abbrev final : ℕ → State → Bool → List ℕ → Final
+final reads state stopped handled = record { reads = reads; state = state; stopped = stopped; handled = handled }
+
+-- why it ended, in the words of the session's state
+record EndsBy (at : Final) (old new : PeerState) (end : EndCause) : Type 0 where
+  pub quit : end ≡ ends.Quit → at.state ≡ Ended
+  pub quits : at.state ≡ Ended → (end ≡ ends.Quit) ⊎ (end ≡ ends.WriteFault)
   pub end_of_input : end ≡ ends.EndOfInput → IsAtEnd new.unread
-  pub read_bound : end ≡ ends.ReadBound → reads ≤ length handled
-  pub stop : end ≡ ends.Stopped → stopped ≡ true
-  pub stops : stopped ≡ true → (end ≡ ends.Stopped) ⊎ (end ≡ ends.WriteFault)
-  pub rose : stopped ≡ true → Rises old.stops new.stops
-  pub kept : stopped ≡ false → new.stops ≡ old.stops
+  pub read_bound : end ≡ ends.ReadBound → at.reads ≤ length at.handled
+  pub stop : end ≡ ends.Stopped → at.stopped ≡ true
+  pub stops : at.stopped ≡ true → (end ≡ ends.Stopped) ⊎ (end ≡ ends.WriteFault)
+  pub rose : at.stopped ≡ true → Rises old.stops new.stops
+  pub kept : at.stopped ≡ false → new.stops ≡ old.stops
   pub read_fault : end ≡ ends.ReadFault → Rises old.failures new.failures
   pub write_fault : end ≡ ends.WriteFault → Rises old.failures new.failures
   pub sound : (end ≡ ends.ReadFault → ⊥) → (end ≡ ends.WriteFault → ⊥) → new.failures ≡ old.failures
 
 -- all that came is handled, and its replies are written as far as they were
-record Finishes (reads : ℕ) (site : Site) (start now : PeerState) (stopped : Bool) (ps : List Part) (state : State) (handled : List ℕ) (end : EndCause) : Type 0 where
+record Finishes (site : Site) (at : Final) (ps : List Part) (start now : PeerState) (end : EndCause) : Type 0 where
   pub written : List ℕ
-  pub moved : HasMoved start now handled written
-  pub says : IsWritten (last_text site (last_inputs site ps stopped)) (end ≡ ends.WriteFault) written
-  pub causes : EndsBy reads state stopped handled start now end
+  pub moved : HasMoved start now at.handled written
+  pub says : IsWritten (last_text site (last_inputs site ps at.stopped)) (end ≡ ends.WriteFault) written
+  pub causes : EndsBy at start now end
 
 finished : (reads : ℕ) (site : Site) (start before now : PeerState) (Before Come Last : ℕ → List Transaction → Type 0) (Drafting : ℕ → List Transaction → List ℕ → Type 0)
     (dialogue : Dialogue) (handled : List ℕ) (stopped : Bool) (end : EndCause)
     → (h : IsSoFar (beginning site start Before) (standing dialogue before Come Drafting) handled handled) → Comes site h.done Before Last
-    → Finishes reads site start now stopped h.done dialogue.session.session.state handled end → IsServed (terms site reads) start now Before Last end
+    → Finishes site (final reads dialogue.session.session.state stopped handled) h.done start now end → IsServed (terms site reads) start now Before Last end
 finished reads site start before now Before Come Last Drafting dialogue handled stopped end h comes f =
     let c : Conversation = record { bytes = handled; dispositions = dispositions_of h.done; stopped = stopped } in
     let at : List ℕ → Conversation = λ l. record { bytes = l; dispositions = dispositions_of h.done; stopped = stopped } in
@@ -227,8 +237,8 @@ said_broken start now broken pending came text e h = subst (λ b. HasSaid start 
 
 finishes_quiet : (reads : ℕ) (site : Site) (start now : PeerState) (dialogue : Dialogue) (ps : List Part) (handled : List ℕ) (end : EndCause) → IsQuiet dialogue
     → HasSaid start now dialogue.outbox handled (last_text site (flat_map inputs_of ps))
-    → (now.failures ≡ start.failures → EndsBy reads dialogue.session.session.state false handled start now end)
-    → Finishes reads site start now false ps dialogue.session.session.state handled end
+    → (now.failures ≡ start.failures → EndsBy (final reads dialogue.session.session.state false handled) start now end)
+    → Finishes site (final reads dialogue.session.session.state false handled) ps start now end
 finishes_quiet reads site start now dialogue ps handled end q h causes =
     let s : HasSaid start now (record { pending = []; broken = false }) handled (last_text site (last_inputs site ps false)) =
     subst (λ l. HasSaid start now (record { pending = []; broken = false }) handled l) (text_not_stopped site ps) (said_whole start now dialogue handled (last_text site (flat_map inputs_of ps)) q h) in
@@ -236,7 +246,7 @@ finishes_quiet reads site start now dialogue ps handled end q h causes =
 
 finishes_broken : (reads : ℕ) (site : Site) (start now : PeerState) (broken : Bool) (pending : List ℕ) (state : State) (stopped : Bool) (ps : List Part) (handled text : List ℕ) → broken ≡ true
     → text ≡ last_text site (last_inputs site ps stopped) → (stopped ≡ true → Rises start.stops now.stops) → (stopped ≡ false → now.stops ≡ start.stops) → HasSaid start now (record { pending = pending; broken = broken }) handled text
-    → Finishes reads site start now stopped ps state handled ends.WriteFault
+    → Finishes site (final reads state stopped handled) ps start now ends.WriteFault
 finishes_broken reads site start now broken pending state stopped ps handled text e is rose kept h =
     let s : HasSaid start now (record { pending = pending; broken = true }) handled (last_text site (last_inputs site ps stopped)) =
     subst (λ l. HasSaid start now (record { pending = pending; broken = true }) handled l) is (said_broken start now broken pending handled text e h) in
@@ -260,7 +270,7 @@ finishes_broken reads site start now broken pending state stopped ps handled tex
     }
 
 -- the causes of a conversation that was not stopped
-quit_ends : (reads : ℕ) (state : State) (handled : List ℕ) (start now : PeerState) → state ≡ Ended → now.failures ≡ start.failures → now.stops ≡ start.stops → EndsBy reads state false handled start now ends.Quit
+quit_ends : (reads : ℕ) (state : State) (handled : List ℕ) (start now : PeerState) → state ≡ Ended → now.failures ≡ start.failures → now.stops ≡ start.stops → EndsBy (final reads state false handled) start now ends.Quit
 quit_ends reads state handled start now ended sound same = record {
   quit = λ f. ended;
   quits = λ f. inl refl;
@@ -275,7 +285,7 @@ quit_ends reads state handled start now ended sound same = record {
   sound = λ f g. sound;
 }
 
-input_ends : (reads : ℕ) (state : State) (handled : List ℕ) (start now : PeerState) → (state ≡ Ended → ⊥) → IsAtEnd now.unread → now.failures ≡ start.failures → now.stops ≡ start.stops → EndsBy reads state false handled start now ends.EndOfInput
+input_ends : (reads : ℕ) (state : State) (handled : List ℕ) (start now : PeerState) → (state ≡ Ended → ⊥) → IsAtEnd now.unread → now.failures ≡ start.failures → now.stops ≡ start.stops → EndsBy (final reads state false handled) start now ends.EndOfInput
 input_ends reads state handled start now open' none sound same = record {
   quit = λ f. cc;
   quits = λ f. absurd (open' f);
@@ -290,7 +300,7 @@ input_ends reads state handled start now open' none sound same = record {
   sound = λ f g. sound;
 }
 
-bound_ends : (reads : ℕ) (state : State) (handled : List ℕ) (start now : PeerState) → (state ≡ Ended → ⊥) → reads ≤ length handled → now.failures ≡ start.failures → now.stops ≡ start.stops → EndsBy reads state false handled start now ends.ReadBound
+bound_ends : (reads : ℕ) (state : State) (handled : List ℕ) (start now : PeerState) → (state ≡ Ended → ⊥) → reads ≤ length handled → now.failures ≡ start.failures → now.stops ≡ start.stops → EndsBy (final reads state false handled) start now ends.ReadBound
 bound_ends reads state handled start now open' long sound same = record {
   quit = λ f. cc;
   quits = λ f. absurd (open' f);
@@ -305,7 +315,7 @@ bound_ends reads state handled start now open' long sound same = record {
   sound = λ f g. sound;
 }
 
-fault_ends : (reads : ℕ) (state : State) (handled : List ℕ) (start now : PeerState) → (state ≡ Ended → ⊥) → Rises start.failures now.failures → now.stops ≡ start.stops → EndsBy reads state false handled start now ends.ReadFault
+fault_ends : (reads : ℕ) (state : State) (handled : List ℕ) (start now : PeerState) → (state ≡ Ended → ⊥) → Rises start.failures now.failures → now.stops ≡ start.stops → EndsBy (final reads state false handled) start now ends.ReadFault
 fault_ends reads state handled start now open' failed same = record {
   quit = λ f. cc;
   quits = λ f. absurd (open' f);
@@ -320,7 +330,7 @@ fault_ends reads state handled start now open' failed same = record {
   sound = λ f g. absurd (f refl);
 }
 
-stop_ends : (reads : ℕ) (state : State) (handled : List ℕ) (start now : PeerState) → (state ≡ Ended → ⊥) → Rises start.stops now.stops → now.failures ≡ start.failures → EndsBy reads state true handled start now ends.Stopped
+stop_ends : (reads : ℕ) (state : State) (handled : List ℕ) (start now : PeerState) → (state ≡ Ended → ⊥) → Rises start.stops now.stops → now.failures ≡ start.failures → EndsBy (final reads state true handled) start now ends.Stopped
 stop_ends reads state handled start now open' may sound = record {
   quit = λ f. cc;
   quits = λ f. absurd (open' f);
@@ -381,7 +391,7 @@ text_in_the_end site start before Before Come Drafting dialogue handled came h m
 
 stopped_by : (reads : ℕ) (broken : Bool) (site : Site) (start now : PeerState) (pending : List ℕ) (state : State) (ps : List Part) (handled text : List ℕ) → (state ≡ Ended → ⊥) → Rises start.stops now.stops
     → text ≡ last_text site (last_inputs site ps true) → pending ≡ [] → HasSaid start now (record { pending = pending; broken = broken }) handled text
-    → Finishes reads site start now true ps state handled (stopped_or broken)
+    → Finishes site (final reads state true handled) ps start now (stopped_or broken)
 stopped_by reads true site start now pending state ps handled text open' may is none h = finishes_broken reads site start now true pending state true ps handled text refl is (λ f. may) (λ f. cc) h
 stopped_by reads false site start now pending state ps handled text open' may is none h =
     let s : HasSaid start now (record { pending = pending; broken = false }) handled (last_text site (last_inputs site ps true)) = subst (λ l. HasSaid start now (record { pending = pending; broken = false }) handled l) is h in

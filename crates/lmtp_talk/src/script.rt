@@ -140,7 +140,15 @@ fn is_same(heard: &[u8], awaited: &[u8]) -> bool
 
 impl Peer for Script<'_> {
     ghost state = { λ s.
-        record { read = None; unread = None; written = None; reads = s.reads; failures = s.failures; stops = s.stops; holds = [] } };
+        record {
+          read = None;
+          unread = None;
+          written = None;
+          reads = s.reads;
+          failures = s.failures;
+          stops = s.stops;
+          holds = [];
+        } };
 
     fn read(&mut self, buffer: &mut [u8]) -> Result<Came, PeerFault> {
         self.reads = self.reads.saturating_add(1);

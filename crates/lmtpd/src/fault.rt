@@ -123,8 +123,8 @@ pub fn rehearsal_fault(ending: Ending) -> Option<Fault>
     }
 }
 
-/// What a server that ran lacks: a spool or a write that failed is a fault of a device, and comes before a listener that
-/// did.
+/// What a server that ran lacks: a spool or a write that failed is a fault of a device, and comes before a listener
+/// that did.
 pub fn server_fault(served: Served) -> Option<Fault>
     ensures { result ≡ server_fault served }
 {

@@ -134,7 +134,8 @@ impl Spool for MemorySpool {
         ensures exact { result ≡ counted (length self.now.bytes) }
 
         // what every spool ensures
-        ensures known { IfSome (⟦<MemorySpool as Spool>⟧.state self.now).bytes (λ held. result ≡ counted (length held)) }
+        ensures known { IfSome (⟦<MemorySpool as Spool>⟧.state self.now).bytes
+            (λ held. result ≡ counted (length held)) }
     {
         self.bytes.len() as u64
     }

@@ -110,7 +110,15 @@ impl<T: Read + Write> Peer for TcpPeer<T> {
     ghost use Rattle.lmtp_talk.specs.TcpPeer.{TakesRead, reading};
 
     ghost state = { λ p.
-        record { read = None; unread = None; written = None; reads = p.reads; failures = p.failures; stops = p.stops; holds = [] } };
+        record {
+          read = None;
+          unread = None;
+          written = None;
+          reads = p.reads;
+          failures = p.failures;
+          stops = p.stops;
+          holds = [];
+        } };
 
     /// What it handed out, what its buffer has and what the stream has left are, together, what buffer and
     /// stream had.

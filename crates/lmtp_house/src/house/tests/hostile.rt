@@ -1,5 +1,5 @@
-//! A message for two mailboxes and an unknown one, where the input ends anywhere, and where each call of the relay or of
-//! a spool fails in turn; and a message for a mailbox with too little room.
+//! A message for two mailboxes and an unknown one, where the input ends anywhere, and where each call of the relay or
+//! of a spool fails in turn; and a message for a mailbox with too little room.
 
 use super::*;
 
