@@ -9,6 +9,7 @@ import postfix_delivers  # noqa: F401
 import power_cut  # noqa: F401
 import readers_agree  # noqa: F401
 import several_servers  # noqa: F401
+import soak  # noqa: F401
 from cases import run_all
 
 sys.exit(0 if run_all(sys.argv[1:]) else 1)
