@@ -15,6 +15,7 @@ BOXES = [f"u{number}" for number in range(64)]
 CONVERSATIONS = 125  # of each connection, one connection a lane
 MESSAGES = 125  # of each conversation, for four mailboxes each, which are those of its connection alone
 RECIPIENTS = len(BOXES) // LANES
+DELIVERIES = LANES * CONVERSATIONS * MESSAGES * RECIPIENTS
 SIZE = 512
 LOAD = pathlib.Path(__file__).parents[2] / "bench/serve/load.rs"
 EVERY = 0.5  # seconds between two looks
@@ -98,7 +99,7 @@ def draw(looks):
     pathlib.Path(path).write_text(
         f'<svg xmlns="http://www.w3.org/2000/svg" width="{width}" height="{height}" font-family="sans-serif"'
         f' font-size="12">\n'
-        f"<title>Resident memory of lmtpd serve over {LANES * CONVERSATIONS * MESSAGES * RECIPIENTS:,} deliveries</title>\n"
+        f"<title>Resident memory of lmtpd serve over {DELIVERIES:,} deliveries</title>\n"
         f'<rect width="100%" height="100%" fill="white"/>\n'
         f'<text x="40" y="20">{most:,} KiB at most</text>\n'
         f'<text x="{width - 90}" y="{height - 10}">{last:.0f} seconds</text>\n'
