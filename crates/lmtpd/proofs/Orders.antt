@@ -10,7 +10,7 @@ use Rattle.lmtp_text.specs.declared.site.SiteFault.{SiteFault}
 use Rattle.lmtp_text.specs.declared.site.SiteFault.TheVariants as faults
 use Rattle.lmtpd.specs.declared.fault.Fault.{Fault}
 use Rattle.lmtpd.specs.declared.fault.Fault.TheVariants as fault
-use Rattle.lmtpd.specs.Faults.{first_fault, refusal, with_box}
+use Rattle.lmtpd.specs.Faults.{first_fault, refusal, site_of_one}
 
 abbrev has_bad_count : Site → Bool
 has_bad_count site = (length site.boxes == 0) || nat_lt BOX_LIMIT (length site.boxes)
@@ -60,7 +60,7 @@ box_of true true false x y e = cc
 box_of true true true x y e = refl
 
 -- a mailbox that does alone has a good name
-pub box_named : (host : List ℕ) (domains : List (Bor (List ℕ))) (name : List ℕ) → first_fault (with_box host domains name) ≡ None → is_box_name name ≡ true
+pub box_named : (host : List ℕ) (domains : List (Bor (List ℕ))) (name : List ℕ) → first_fault (site_of_one host domains name) ≡ None → is_box_name name ≡ true
 box_named host domains name e = box_of (is_host_name host) (list_all is_host_name (texts domains)) (is_box_name name) None None e
 
 lifted : (h d b all : Bool) (rest : Option Fault) (f : Fault) → (b ≡ false → all ≡ false)
@@ -73,7 +73,7 @@ lifted true true false all rest f bad e = rw (bad refl) e
 
 -- what a mailbox alone says, a site with it among others says too
 pub box_refused : (host : List ℕ) (domains boxes : List (Bor (List ℕ))) (name : List ℕ) (f : Fault)
-    → first_fault (with_box host domains name) ≡ Some f
+    → first_fault (site_of_one host domains name) ≡ Some f
     → (is_box_name name ≡ false → list_all is_box_name (texts boxes) ≡ false)
     → first_fault (site_of host domains boxes) ≡ Some f
 box_refused host domains boxes name f e bad =

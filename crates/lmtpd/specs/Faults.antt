@@ -79,8 +79,8 @@ first_fault site =
     else None
 
 -- the site of that host with those further domains and one mailbox
-abbrev pub with_box : List ℕ → List (Bor (List ℕ)) → List ℕ → Site
-with_box host domains name = record { host = host; domains = texts domains; boxes = name ∷ [] }
+abbrev pub site_of_one : List ℕ → List (Bor (List ℕ)) → List ℕ → Site
+site_of_one host domains name = record { host = host; domains = texts domains; boxes = name ∷ [] }
 
 -- why the program ends where clap answers so
 abbrev pub stop_for : Error → Stop
@@ -103,14 +103,14 @@ stop_status (stop.Fault f) = status_of f
 stop_status (stop.Unopened name) = 1
 
 -- a read or a write failed
-abbrev pub is_broken : EndCause → Bool
-is_broken ReadFault = true
-is_broken WriteFault = true
-is_broken _ = false
+abbrev pub is_read_or_write_fault : EndCause → Bool
+is_read_or_write_fault ReadFault = true
+is_read_or_write_fault WriteFault = true
+is_read_or_write_fault _ = false
 
 -- a rehearsal in which a device failed
 abbrev pub is_device_fault : Ending → Bool
-is_device_fault ending = ending.faulty || ending.cut || is_broken ending.end
+is_device_fault ending = ending.faulty || ending.cut || is_read_or_write_fault ending.end
 
 -- what a rehearsal that was held lacks
 abbrev pub rehearsal_fault : Ending → Option Fault

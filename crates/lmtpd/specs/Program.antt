@@ -119,13 +119,13 @@ IsStopped texts s = ((error : Error) × (s ≡ stop_for error)
 -- What the program did is what its words ask for: `streams` is what contracts see of a reader and a writer, and `IsRun` says
 -- which runs of a server its words ask for.
 module _ {R W : Type 0} where
-  abbrev pub IsDone : (R → W → Streams) → (ServeWords → ServedRun → Type 0) → List Text → Streams → Done R W → Type 0
-  IsDone streams IsRun texts old (Rehearsed it) =
+  abbrev pub IsDoneAsAsked : (R → W → Streams) → (ServeWords → ServedRun → Type 0) → List Text → Streams → Done R W → Type 0
+  IsDoneAsAsked streams IsRun texts old (Rehearsed it) =
       (words : RehearseWords) × IsAsked (subcommand_of program_app texts) (Rehearse words)
       × IsRehearsedAsAsked words old (streams it.reader it.writer) it.ending
-  IsDone streams IsRun texts old (Served it) =
+  IsDoneAsAsked streams IsRun texts old (Served it) =
       (words : ServeWords) × IsAsked (subcommand_of program_app texts) (Serve words) × IsRun words it
-  IsDone streams IsRun texts old (Stopped s) = IsStopped texts s
+  IsDoneAsAsked streams IsRun texts old (Stopped s) = IsStopped texts s
 
   -- the status of the program, and its line on standard error: 0 only for what was done with no fault, and for help
   abbrev pub exit_status : Done R W → ℕ

@@ -3,7 +3,7 @@
 ghost use Rattle.std.specs.Prelude.{◌≡◌};
 ghost use Rattle.lmtp_lane.specs.declared.tcp.listener.TimedListener.{TimedListener};
 ghost use Rattle.lmtpd_words.specs.Words.{as_texts};
-ghost use Rattle.lmtpd.specs.Program.{IsDone, IsServedAsAsked, exit_line, exit_status};
+ghost use Rattle.lmtpd.specs.Program.{IsDoneAsAsked, IsServedAsAsked, exit_line, exit_status};
 ghost use Rattle.lmtpd_rehearse.specs.Rehearsal.{IsListed};
 
 use crate::fault::{rehearsal_fault, server_fault};
@@ -56,7 +56,7 @@ where
     R: Read + Drop + Send + 'static,
     W: Write + Drop + Send + 'static,
     E: Write,
-    ensures done { IsDone (λ reader writer. record { unread = R.remaining reader; written = W.contents writer })
+    ensures done { IsDoneAsAsked (λ reader writer. record { unread = R.remaining reader; written = W.contents writer })
         (IsServedAsAsked (TimedListener P.Listener) (⟦<FileSpool<P::File> as Spool>⟧.state)) (as_texts words.entry.now)
         (record { unread = R.remaining reader; written = W.contents writer }) result.done }
     ensures status { result.exit.status ≡ exit_status result.done }
@@ -83,7 +83,7 @@ where
     H: Threads + Wait + Clock + Copy + Drop + Send + Sync + 'static,
     R: Read + Drop + Send + 'static,
     W: Write + Drop + Send + 'static,
-    ensures { IsDone (λ reader writer. record { unread = R.remaining reader; written = W.contents writer })
+    ensures { IsDoneAsAsked (λ reader writer. record { unread = R.remaining reader; written = W.contents writer })
         (IsServedAsAsked (TimedListener P.Listener) (⟦<FileSpool<P::File> as Spool>⟧.state)) (as_texts words.entry.now)
         (record { unread = R.remaining reader; written = W.contents writer }) result }
 {

@@ -6,7 +6,7 @@ ghost use Rattle.mail_world.specs.Site.{IsSite, is_box_name};
 ghost use Rattle.std.specs.List.{list_all};
 ghost use Rattle.lmtp_text.specs.Sites.{site_of, texts};
 ghost use Rattle.lmtpd_words.specs.Words.{named_site};
-ghost use Rattle.lmtpd.specs.Faults.{first_fault, with_box};
+ghost use Rattle.lmtpd.specs.Faults.{first_fault, site_of_one};
 
 use crate::fault::Fault;
 use lmtp_text::Site;
@@ -69,7 +69,7 @@ fn try_each_box(alloc: Global, host: &[u8], domains: &[&[u8]], boxes: &[&[u8]]) 
 }
 
 fn try_box(alloc: Global, host: &[u8], domains: &[&[u8]], name: &[u8]) -> Result<(), Fault>
-    ensures { let site = with_box host.now domains.now name.now in
+    ensures { let site = site_of_one host.now domains.now name.now in
         MatchResult result (λ _. first_fault site ≡ None)
         (λ fault. (fault ≡ Fault.Memory) ⊎ (first_fault site ≡ Some fault)) }
 {

@@ -148,17 +148,26 @@ record BoxAt (site : Site) (work : BoxWork) (spools : List MemorySpool) (tallies
   is : kept_at (kept_all spools tallies) b ≡ record { bytes = spool.bytes; failed = tally.faulty }
   did : IsBoxWork site work (state_of empty_spool) (state_of spool) tally
 
--- what lane and workers did for these transactions, at so many mailboxes
-record HaveWorked (site : Site) (ts : List Transaction) (heard : List Slip) (boxes : ℕ → BoxWork) (count : ℕ) (spools : List MemorySpool) (tallies : List Tally) : Type 0 where
-  answered : AllByRecursion (λ t. OutcomesIn 0 heard t t.disposition.verdict) ts
-  known : AllByRecursion (λ slip. slip.worker < count) heard
-  begun : (b : ℕ) → b < count → IsFrontOfOwed (λ k. (boxes k).stored) heard ts b
-  taken : (b : ℕ) → b < count → (boxes b).taken ≡ copies_owed 0 b ts
-  each : (b : ℕ) → b < count → BoxAt site (boxes b) spools tallies b
-  as_many : (length spools ≡ count) × (length tallies ≡ count)
+-- what the lane heard, and what each of so many workers did
+record AllWork : Type 0 where
+  heard : List Slip
+  boxes : ℕ → BoxWork
+  count : ℕ
+
+abbrev all_work : List Slip → (ℕ → BoxWork) → ℕ → AllWork
+all_work heard boxes count = record { heard = heard; boxes = boxes; count = count }
+
+-- what lane and workers did for these transactions
+record HaveWorked (site : Site) (ts : List Transaction) (work : AllWork) (spools : List MemorySpool) (tallies : List Tally) : Type 0 where
+  answered : AllByRecursion (λ t. OutcomesIn 0 work.heard t t.disposition.verdict) ts
+  known : AllByRecursion (λ slip. slip.worker < work.count) work.heard
+  begun : (b : ℕ) → b < work.count → IsFrontOfOwed (λ k. (work.boxes k).stored) work.heard ts b
+  taken : (b : ℕ) → b < work.count → (work.boxes b).taken ≡ copies_owed 0 b ts
+  each : (b : ℕ) → b < work.count → BoxAt site (work.boxes b) spools tallies b
+  as_many : (length spools ≡ work.count) × (length tallies ≡ work.count)
 
 delivered : (site : Site) (c : Conversation) (heard : List Slip) (boxes : ℕ → BoxWork) (count : ℕ) (spools : List MemorySpool) (tallies : List Tally) (faulty : Bool)
-    → c ≡ conversation c.bytes c.dispositions → IsAccount site c → HaveWorked site (transactions_in site 0 c) heard boxes count spools tallies → count ≡ length site.boxes
+    → c ≡ conversation c.bytes c.dispositions → IsAccount site c → HaveWorked site (transactions_in site 0 c) (all_work heard boxes count) spools tallies → count ≡ length site.boxes
     → faulty ≡ list_any (λ t. t.faulty) tallies
     → AreMailboxes site c.bytes c.dispositions (kept_all spools tallies) faulty
 delivered site c heard boxes count spools tallies faulty is accounted h size faulty_is =
@@ -222,7 +231,7 @@ module _ (site : Site) (moment : ℕ) {P : Type 0} (state : P → PeerState) (pe
 
   have_worked : (h : HasRunAlone site moment state peer count back) (c : Conversation)
       → conversations_of (h.lanes 0).visits ≡ c ∷ [] → AllByRecursion (λ t. OutcomesIn 0 (h.lanes 0).heard t t.disposition.verdict) (transactions_in site 0 c)
-      → HaveWorked site (transactions_in site 0 c) (h.lanes 0).heard h.boxes count back.spools back.tallies
+      → HaveWorked site (transactions_in site 0 c) (all_work (h.lanes 0).heard h.boxes count) back.spools back.tallies
   have_worked h c is answered =
       let ts : List Transaction = transactions_in site 0 c in
       let heard : List Slip = (h.lanes 0).heard in
