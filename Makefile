@@ -2,7 +2,7 @@
 
 PROGRAM := crates/lmtpd/out/lmtpd
 
-.PHONY: rehearse build install check test real benchmarks
+.PHONY: rehearse build install check test real wrong-bodies benchmarks
 
 # One conversation: the replies, and then the mailbox. Where no proved program stands yet, the sources are run with checks, unproved.
 rehearse:
@@ -42,6 +42,10 @@ test:
 # The server with the real programs of a site: relays and readers. It wants root and Debian's packages.
 real:
 	@tests/real/run.sh
+
+# The prover tries the further wrong bodies of tests/wrong_bodies, over what stands proved.
+wrong-bodies:
+	@tests/wrong_bodies/run.sh
 
 # Proves and builds what the benchmarks measure, and measures nothing.
 benchmarks:

@@ -1,0 +1,17 @@
+#!/usr/bin/env bash
+# Has the prover try the further wrong bodies of this folder, in a copy of the repository, over what stands proved
+# (make check). Each must be refused. usage: tests/wrong_bodies/run.sh [CRATE..]
+set -euo pipefail
+cd "$(dirname "$0")/../.."
+copy=$(mktemp -d)
+trap 'rm -rf "$copy"' EXIT
+git ls-files -z | xargs -0 cp --parents -t "$copy"
+for out in crates/*/out; do
+    cp -a "$out" "$copy/$out"
+done
+python3 tests/wrong_bodies/apply.py . "$copy"
+cd "$copy"
+git init -q .
+crates=("$@")
+[ $# -gt 0 ] || mapfile -t crates < <(find crates -mindepth 2 -maxdepth 2 -name must-fail -printf '%h\n' | xargs -n 1 basename | sort)
+rt must-fail "${crates[@]}"
