@@ -1,15 +1,13 @@
 -- Steps of a worker or of the house that have no result.
-use Rattle.std.proofs.Common.{◌≡◌, ◌≢◌, ℕ, ◌<◌, ◌≤◌, List, ◌++◌, length, drop, Bool, true, false, Some, None, ap, sym, ◌∙◌, subst, arith}
+use Rattle.std.proofs.Common.{◌≡◌, ◌≢◌, ℕ, ◌<◌, ◌≤◌, List, ◌++◌, length, drop, true, false, Some, None, refl, ap, sym, ◌∙◌, subst, arith}
 use Rattle.std.specs.Prelude.{slice_get}
 use Rattle.std.proofs.lemmas.Option.{slice_get_within}
-use Rattle.mail_world.specs.declared.Note.{Note}
 use Rattle.mail_world.specs.declared.Outcome.{Outcome}
 use Rattle.mail_world.specs.declared.Outcome.TheVariants.{Stored, Failed}
 use Rattle.mail_world.specs.Records.{record_of}
 use Rattle.mail_world.specs.Depot.{Key, Free, Draft, Sealed, Retired, held_under, weight_held}
 use Rattle.mail_world.specs.House.{House, Box, Copy}
-use Rattle.mail_world.specs.Events.{TakeStep, WriteStep, SyncStep, ReleaseStep, GiveSlipStep, ReclaimStep, CloseStep, BoxIs}
-use Rattle.mail_world.specs.Slips.{slip_of}
+use Rattle.mail_world.specs.Events.{TakeStep, WriteStep, SyncStep, ReleaseStep, GiveSlipStep, ReclaimStep, CloseStep, BoxIs, outcome_of}
 use Rattle.mail_world.proofs.WrongSteps.{not_both, none_some, same_box, same_copy, no_copy}
 
 pub take_with_copy : (h new : House) (w : ℕ) (box : Box) (copy : Copy) → BoxIs h w box → box.hand ≡ Some copy → TakeStep h w new → ⊥
@@ -79,24 +77,22 @@ slip_before_release h new w outcome box copy is hand there st =
     not_both st.copy.released st.let_go (ap (λ (x : Copy). x.released) (sym same) ∙ there)
 
 pub slip_that_lies : (h new : House) (w : ℕ) (outcome : Outcome) (box : Box) (copy : Copy) → BoxIs h w box → box.hand ≡ Some copy
-    → outcome ≢ (slip_of w copy.post.note copy.synced).outcome → GiveSlipStep h w outcome new → ⊥
+    → outcome ≢ outcome_of copy → GiveSlipStep h w outcome new → ⊥
 slip_that_lies h new w outcome box copy is hand lies st =
     let same = same_copy h w box st.box copy st.copy is st.is hand st.in_hand in
-    lies (subst (λ (x : Copy). outcome ≡ (slip_of w x.post.note x.synced).outcome) (sym same) st.says)
+    lies (subst (λ (x : Copy). outcome ≡ outcome_of x) (sym same) st.says)
 
-stored_by : (b : Bool) (w : ℕ) (note : Note) → b ≡ false → Stored ≢ (slip_of w note b).outcome
-stored_by true w note f e = cc
-stored_by false w note f e = let bad : Stored ≡ Failed = e in cc
+stored_by : (copy : Copy) → copy.synced ≡ false → Stored ≢ outcome_of copy
+stored_by copy unsynced e = let bad : Stored ≡ Failed = e ∙ rw unsynced refl in cc
 
-failed_by : (b : Bool) (w : ℕ) (note : Note) → b ≡ true → Failed ≢ (slip_of w note b).outcome
-failed_by true w note f e = let bad : Failed ≡ Stored = e in cc
-failed_by false w note f e = cc
+failed_by : (copy : Copy) → copy.synced ≡ true → Failed ≢ outcome_of copy
+failed_by copy synced e = let bad : Failed ≡ Stored = e ∙ rw synced refl in cc
 
 pub stored_without_sync : (h new : House) (w : ℕ) (box : Box) (copy : Copy) → BoxIs h w box → box.hand ≡ Some copy → copy.synced ≡ false → GiveSlipStep h w Stored new → ⊥
-stored_without_sync h new w box copy is hand unsynced st = slip_that_lies h new w Stored box copy is hand (stored_by copy.synced w copy.post.note unsynced) st
+stored_without_sync h new w box copy is hand unsynced st = slip_that_lies h new w Stored box copy is hand (stored_by copy unsynced) st
 
 pub failed_after_sync : (h new : House) (w : ℕ) (box : Box) (copy : Copy) → BoxIs h w box → box.hand ≡ Some copy → copy.synced ≡ true → GiveSlipStep h w Failed new → ⊥
-failed_after_sync h new w box copy is hand synced st = slip_that_lies h new w Failed box copy is hand (failed_by copy.synced w copy.post.note synced) st
+failed_after_sync h new w box copy is hand synced st = slip_that_lies h new w Failed box copy is hand (failed_by copy synced) st
 
 pub reclaim_of_held : (h new : House) (key : Key) (bytes blocks : List ℕ) (weight : ℕ) → held_under h.depot key ≡ Sealed bytes blocks weight → 0 < weight → ReclaimStep h key new → ⊥
 reclaim_of_held h new key bytes blocks weight held some st =

@@ -12,8 +12,7 @@ ghost use Rattle.mail_world.specs.Records.{record_of};
 ghost use Rattle.mail_world.specs.Depot.{Key, Slot, Free, Sealed, Retired, HasRoom, held_under, spent};
 ghost use Rattle.mail_world.specs.Depot as depot;
 ghost use Rattle.mail_world.specs.House.{House, Box, Lane, Copy, Hold, SealedMessage};
-ghost use Rattle.mail_world.specs.Events.{Step, MayHappen, HasCopy, BoxIs, LaneIs, sealed_up_to};
-ghost use Rattle.mail_world.specs.Slips.{slip_of};
+ghost use Rattle.mail_world.specs.Events.{Step, MayHappen, HasCopy, BoxIs, LaneIs, sealed_up_to, outcome_of};
 ghost use Rattle.mail_world.specs.Runs.{InEveryRun};
 
 /// A lane that has a draft may add bytes to it where enough blocks are free, seal it and drop it, a hold of weight 1
@@ -34,7 +33,7 @@ pub fn steps_of_holders_may_happen()
         → copy.released ≡ false → MayHappen h (Release w)) }
     ensures give_slip { InEveryRun
         (λ blocks events h. (w : ℕ) (box : Box) (copy : Copy) → BoxIs h w box → box.hand ≡ Some copy
-        → copy.released ≡ true → MayHappen h (GiveSlip w (slip_of w copy.post.note copy.synced).outcome)) }
+        → copy.released ≡ true → MayHappen h (GiveSlip w (outcome_of copy))) }
     ensures hand_back { InEveryRun
         (λ blocks events h. (k i m : ℕ) (lane : Lane) (hold : Hold) → LaneIs h k lane
         → slice_get lane.holds i ≡ Some hold → hold.weight ≡ 1 → MayHappen h (HandBack k i m)) }
@@ -148,7 +147,7 @@ pub fn wrong_steps_of_workers_have_no_result()
     ensures slip_before_release { (h new : House) (w : ℕ) (outcome : Outcome) (box : Box) (copy : Copy) → BoxIs h w box
         → box.hand ≡ Some copy → copy.released ≡ false → Step h (GiveSlip w outcome) new → ⊥ }
     ensures slip_that_lies { (h new : House) (w : ℕ) (outcome : Outcome) (box : Box) (copy : Copy) → BoxIs h w box
-        → box.hand ≡ Some copy → outcome ≢ (slip_of w copy.post.note copy.synced).outcome
+        → box.hand ≡ Some copy → outcome ≢ outcome_of copy
         → Step h (GiveSlip w outcome) new → ⊥ }
     ensures stored_without_sync { (h new : House) (w : ℕ) (box : Box) (copy : Copy) → BoxIs h w box
         → box.hand ≡ Some copy → copy.synced ≡ false → Step h (GiveSlip w Stored) new → ⊥ }
