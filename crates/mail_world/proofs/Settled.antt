@@ -41,7 +41,7 @@ all_settled (suc n) zero (x ∷ marks) h i = absurd (omega (arith, i))
 all_settled (suc n) (suc m) (x ∷ marks) h i = ap (λ l. (if x then Stored else OverQuota) ∷ l) (all_settled n m marks (omega (arith, h)) (omega (arith, i)))
 
 module _ (calendar : Calendar) (host : List ℕ) (quota : Option ℕ) where
-  length-kept_behind : (notes : List Note) (len : ℕ) → length (are_kept_behind calendar host quota len notes) ≡ length notes
+  pub length-kept_behind : (notes : List Note) (len : ℕ) → length (are_kept_behind calendar host quota len notes) ≡ length notes
   length-kept_behind [] len = refl
   length-kept_behind (note ∷ notes) len =
       let size = length (record_of calendar host note) in
