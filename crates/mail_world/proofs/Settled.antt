@@ -1,13 +1,20 @@
 -- What is told of copies of which the first so many were settled, one copy more at a time.
-use Rattle.std.proofs.Common.{◌≡◌, ℕ, zero, suc, ◌+◌, ◌≤◌, ◌<◌, List, [], ◌∷◌, ◌++◌, length, Bool, Option, refl, ap, ◌∙◌, arith}
-use Rattle.std.specs.Prelude.{if◌then◌else◌}
+use Rattle.std.proofs.Common.{◌≡◌, ℕ, zero, suc, ◌+◌, ◌≤◌, ◌<◌, List, [], ◌∷◌, ◌++◌, length, Bool, true, false, Option, refl, ap, sym, ◌∙◌, append-nil, append_assoc, arith}
+use Rattle.std.specs.Prelude.{if◌then◌else◌, flat_map}
+use Rattle.std.proofs.lemmas.Grind.{flat_map-append}
 use Rattle.mail_world.specs.declared.Note.{Note}
 use Rattle.mail_world.specs.declared.Outcome.{Outcome}
 use Rattle.mail_world.specs.declared.Outcome.TheVariants.{Stored, Failed, OverQuota}
 use Rattle.mail_world.specs.Records.{Calendar, record_of, mended, mailbox}
-use Rattle.mail_world.specs.Quotas.{fits, are_kept_behind, are_kept, kept, outcomes_settled}
+use Rattle.mail_world.specs.Quotas.{fits, are_kept_behind, are_kept, kept, marked, outcomes_settled}
 use Rattle.mail_world.specs.Slips.{slip_of, slips_from}
 use Rattle.mail_world.proofs.Quotas.{kept_next}
+
+pub mailbox-one_more : (calendar : Calendar) (host old : List ℕ) (notes : List Note) (note : Note)
+    → mailbox calendar host old (notes ++ note ∷ []) ≡ mailbox calendar host old notes ++ record_of calendar host note
+mailbox-one_more calendar host old notes note =
+    ap (λ l. (old ++ mended old) ++ l) (flat_map-append (record_of calendar host) notes (note ∷ []) ∙ ap (λ l. flat_map (record_of calendar host) notes ++ l) (append-nil (record_of calendar host note)))
+    ∙ sym (append_assoc (old ++ mended old) (flat_map (record_of calendar host) notes) (record_of calendar host note))
 
 pub slips_from-append : (w : ℕ) (outcomes : List Outcome) (outcome : Outcome) (notes : List Note) (note : Note) → length outcomes ≡ length notes
     → slips_from w (outcomes ++ outcome ∷ []) (notes ++ note ∷ []) ≡ slips_from w outcomes notes ++ slip_of w note outcome ∷ []
@@ -39,6 +46,15 @@ all_settled n m [] h i = refl
 all_settled zero m (x ∷ marks) h i = absurd (omega (arith, h))
 all_settled (suc n) zero (x ∷ marks) h i = absurd (omega (arith, i))
 all_settled (suc n) (suc m) (x ∷ marks) h i = ap (λ l. (if x then Stored else OverQuota) ∷ l) (all_settled n m marks (omega (arith, h)) (omega (arith, i)))
+
+pub marked-append : {A : Type 0} (marks : List Bool) (m : Bool) (xs : List A) (x : A) → length marks ≡ length xs
+    → marked (marks ++ m ∷ []) (xs ++ x ∷ []) ≡ marked marks xs ++ (if m then x ∷ [] else [])
+marked-append [] true [] x e = refl
+marked-append [] false [] x e = refl
+marked-append [] m (y ∷ ys) x e = cc
+marked-append (t ∷ marks) m [] x e = cc
+marked-append (true ∷ marks) m (y ∷ ys) x e = ap (λ l. y ∷ l) (marked-append marks m ys x (omega (arith, e)))
+marked-append (false ∷ marks) m (y ∷ ys) x e = marked-append marks m ys x (omega (arith, e))
 
 module _ (calendar : Calendar) (host : List ℕ) (quota : Option ℕ) where
   length-kept_behind : (notes : List Note) (len : ℕ) → length (are_kept_behind calendar host quota len notes) ≡ length notes
@@ -82,3 +98,25 @@ module _ (calendar : Calendar) (host : List ℕ) (quota : Option ℕ) where
   slips_settled w n m old notes h i =
       let e = length-are_kept old notes in
       ap (λ os. slips_from w os notes) (all_settled n m (are_kept calendar host quota old notes) (omega (arith, h, e)) (omega (arith, i, e)))
+
+  -- what the mailbox keeps of one copy more
+  pub keeps_more : (old : List ℕ) (notes : List Note) (note : Note)
+      → kept calendar host quota old (notes ++ note ∷ []) ≡ kept calendar host quota old notes ++ (if has_room old notes note then note ∷ [] else [])
+  keeps_more old notes note =
+      ap (λ marks. marked marks (notes ++ note ∷ [])) (kept_next calendar host quota old notes note)
+      ∙ marked-append (are_kept calendar host quota old notes) (has_room old notes note) notes note (length-are_kept old notes)
+
+  mailbox_by : (t : Bool) (old : List ℕ) (these : List Note) (note : Note)
+      → mailbox calendar host old (these ++ (if t then note ∷ [] else [])) ≡ mailbox calendar host old these ++ (if t then record_of calendar host note else [])
+  mailbox_by true old these note = mailbox-one_more calendar host old these note
+  mailbox_by false old these note = ap (mailbox calendar host old) (append-nil these) ∙ sym (append-nil (mailbox calendar host old these))
+
+  pub mailbox_more : (old : List ℕ) (notes : List Note) (note : Note)
+      → mailbox calendar host old (kept calendar host quota old (notes ++ note ∷ []))
+      ≡ mailbox calendar host old (kept calendar host quota old notes) ++ (if has_room old notes note then record_of calendar host note else [])
+  mailbox_more old notes note =
+      ap (mailbox calendar host old) (keeps_more old notes note) ∙ mailbox_by (has_room old notes note) old (kept calendar host quota old notes) note
+
+  pub kept_none : (old : List ℕ) → mailbox calendar host old (kept calendar host quota old []) ≡ old ++ mended old
+  unfolding are_kept
+  kept_none old = append-nil (old ++ mended old)
