@@ -1,7 +1,6 @@
 -- What is told of copies of which the first so many were settled, one copy more at a time.
-use Rattle.std.proofs.Common.{◌≡◌, ℕ, zero, suc, ◌+◌, ◌≤◌, ◌<◌, List, [], ◌∷◌, ◌++◌, length, Bool, true, false, Option, refl, ap, sym, ◌∙◌, append-nil, append_assoc, arith}
-use Rattle.std.specs.Prelude.{if◌then◌else◌, flat_map}
-use Rattle.std.proofs.lemmas.Grind.{flat_map-append}
+use Rattle.std.proofs.Common.{◌≡◌, ℕ, zero, suc, ◌+◌, ◌≤◌, ◌<◌, List, [], ◌∷◌, ◌++◌, length, Bool, true, false, Option, refl, ap, ◌∙◌, arith}
+use Rattle.std.specs.Prelude.{if◌then◌else◌}
 use Rattle.mail_world.specs.declared.Note.{Note}
 use Rattle.mail_world.specs.declared.Outcome.{Outcome}
 use Rattle.mail_world.specs.declared.Outcome.TheVariants.{Stored, Failed, OverQuota}
@@ -9,12 +8,6 @@ use Rattle.mail_world.specs.Records.{Calendar, record_of, mended, mailbox}
 use Rattle.mail_world.specs.Quotas.{fits, are_kept_behind, are_kept, kept, marked, outcomes_settled}
 use Rattle.mail_world.specs.Slips.{slip_of, slips_from}
 use Rattle.mail_world.proofs.Quotas.{kept_next}
-
-pub mailbox-one_more : (calendar : Calendar) (host old : List ℕ) (notes : List Note) (note : Note)
-    → mailbox calendar host old (notes ++ note ∷ []) ≡ mailbox calendar host old notes ++ record_of calendar host note
-mailbox-one_more calendar host old notes note =
-    ap (λ l. (old ++ mended old) ++ l) (flat_map-append (record_of calendar host) notes (note ∷ []) ∙ ap (λ l. flat_map (record_of calendar host) notes ++ l) (append-nil (record_of calendar host note)))
-    ∙ sym (append_assoc (old ++ mended old) (flat_map (record_of calendar host) notes) (record_of calendar host note))
 
 pub slips_from-append : (w : ℕ) (outcomes : List Outcome) (outcome : Outcome) (notes : List Note) (note : Note) → length outcomes ≡ length notes
     → slips_from w (outcomes ++ outcome ∷ []) (notes ++ note ∷ []) ≡ slips_from w outcomes notes ++ slip_of w note outcome ∷ []
@@ -68,8 +61,8 @@ module _ (calendar : Calendar) (host : List ℕ) (quota : Option ℕ) where
   length-are_kept old notes = length-kept_behind notes (length (old ++ mended old))
 
   -- the record of the note may stand behind those that the mailbox keeps of these
-  abbrev pub has_room : List ℕ → List Note → Note → Bool
-  has_room old notes note = fits quota (length (mailbox calendar host old (kept calendar host quota old notes))) (length (record_of calendar host note))
+  abbrev pub fits_after : List ℕ → List Note → Note → Bool
+  fits_after old notes note = fits quota (length (mailbox calendar host old (kept calendar host quota old notes))) (length (record_of calendar host note))
 
   abbrev outcomes : ℕ → List ℕ → List Note → List Outcome
   outcomes n old notes = outcomes_settled n (are_kept calendar host quota old notes)
@@ -82,16 +75,16 @@ module _ (calendar : Calendar) (host : List ℕ) (quota : Option ℕ) where
       ∙ slips_from-append w (outcomes n old notes) outcome notes note (length-outcomes n (are_kept calendar host quota old notes) ∙ length-are_kept old notes)
 
   pub settled_next : (n : ℕ) (old : List ℕ) (notes : List Note) (note : Note) → length notes < n
-      → outcomes n old (notes ++ note ∷ []) ≡ outcomes n old notes ++ (if has_room old notes note then Stored else OverQuota) ∷ []
+      → outcomes n old (notes ++ note ∷ []) ≡ outcomes n old notes ++ (if fits_after old notes note then Stored else OverQuota) ∷ []
   settled_next n old notes note h =
       ap (outcomes_settled n) (kept_next calendar host quota old notes note)
-      ∙ settled_more n (are_kept calendar host quota old notes) (has_room old notes note) (omega (arith, h, length-are_kept old notes))
+      ∙ settled_more n (are_kept calendar host quota old notes) (fits_after old notes note) (omega (arith, h, length-are_kept old notes))
 
   pub failed_next : (n : ℕ) (old : List ℕ) (notes : List Note) (note : Note) → n ≤ length notes
       → outcomes n old (notes ++ note ∷ []) ≡ outcomes n old notes ++ Failed ∷ []
   failed_next n old notes note h =
       ap (outcomes_settled n) (kept_next calendar host quota old notes note)
-      ∙ failed_more n (are_kept calendar host quota old notes) (has_room old notes note) (omega (arith, h, length-are_kept old notes))
+      ∙ failed_more n (are_kept calendar host quota old notes) (fits_after old notes note) (omega (arith, h, length-are_kept old notes))
 
   pub slips_settled : (w n m : ℕ) (old : List ℕ) (notes : List Note) → length notes ≤ n → length notes ≤ m
       → slips_from w (outcomes n old notes) notes ≡ slips_from w (outcomes m old notes) notes
@@ -101,22 +94,7 @@ module _ (calendar : Calendar) (host : List ℕ) (quota : Option ℕ) where
 
   -- what the mailbox keeps of one copy more
   pub keeps_more : (old : List ℕ) (notes : List Note) (note : Note)
-      → kept calendar host quota old (notes ++ note ∷ []) ≡ kept calendar host quota old notes ++ (if has_room old notes note then note ∷ [] else [])
+      → kept calendar host quota old (notes ++ note ∷ []) ≡ kept calendar host quota old notes ++ (if fits_after old notes note then note ∷ [] else [])
   keeps_more old notes note =
       ap (λ marks. marked marks (notes ++ note ∷ [])) (kept_next calendar host quota old notes note)
-      ∙ marked-append (are_kept calendar host quota old notes) (has_room old notes note) notes note (length-are_kept old notes)
-
-  mailbox_by : (t : Bool) (old : List ℕ) (these : List Note) (note : Note)
-      → mailbox calendar host old (these ++ (if t then note ∷ [] else [])) ≡ mailbox calendar host old these ++ (if t then record_of calendar host note else [])
-  mailbox_by true old these note = mailbox-one_more calendar host old these note
-  mailbox_by false old these note = ap (mailbox calendar host old) (append-nil these) ∙ sym (append-nil (mailbox calendar host old these))
-
-  pub mailbox_more : (old : List ℕ) (notes : List Note) (note : Note)
-      → mailbox calendar host old (kept calendar host quota old (notes ++ note ∷ []))
-      ≡ mailbox calendar host old (kept calendar host quota old notes) ++ (if has_room old notes note then record_of calendar host note else [])
-  mailbox_more old notes note =
-      ap (mailbox calendar host old) (keeps_more old notes note) ∙ mailbox_by (has_room old notes note) old (kept calendar host quota old notes) note
-
-  pub kept_none : (old : List ℕ) → mailbox calendar host old (kept calendar host quota old []) ≡ old ++ mended old
-  unfolding are_kept
-  kept_none old = append-nil (old ++ mended old)
+      ∙ marked-append (are_kept calendar host quota old notes) (fits_after old notes note) notes note (length-are_kept old notes)

@@ -8,7 +8,7 @@ use Rattle.mail_world.specs.House.{House, Box, Copy, is_settled, notes_of, IsSta
 use Rattle.mail_world.specs.Events.{WriteStep, GiveSlipStep, BoxIs, outcome_of}
 use Rattle.mail_world.specs.Runs.{Happened, Run, last_house, finished_by, fits_next}
 use Rattle.mail_world.proofs.WrongSteps.{not_both, same_box, same_copy}
-use Rattle.mail_world.proofs.Settled.{has_room}
+use Rattle.mail_world.proofs.Settled.{fits_after}
 use Rattle.mail_world.proofs.Spools.{AllSound, IsInHand, held}
 use Rattle.mail_world.proofs.Given.{told_run, told_start, failed_by}
 
@@ -20,7 +20,7 @@ fits_in_hand : (h : House) (box : Box) (copy : Copy) → box.hand ≡ Some copy 
 fits_in_hand h box copy hand k works =
     let one : k.before ≡ box.taken - 1 = let last = k.last in omega arith in
     k.measured works
-    ∙ ap (λ n. not (has_room h.calendar h.host h.quota box.old (notes_of (take n box.accepted)) copy.post.note)) (one ∙ ap (finished_by box.taken) (sym hand))
+    ∙ ap (λ n. not (fits_after h.calendar h.host h.quota box.old (notes_of (take n box.accepted)) copy.post.note)) (one ∙ ap (finished_by box.taken) (sym hand))
 
 -- a copy that is settled is over the quota just where it doesn't fit
 module _ (h : House) (all : AllSound h) (new : House) (w : ℕ) (box : Box) (at : BoxIs h w box) where
