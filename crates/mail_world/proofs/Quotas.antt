@@ -1,11 +1,20 @@
 -- What a mailbox with a quota keeps.
 use Rattle.std.proofs.Common.{◌≡◌, ℕ, ◌+◌, ◌≤◌, arith, Bool, true, false, List, [], ◌∷◌, ◌++◌, length, Option, Some, None, refl, sym, ap, ◌∙◌, subst}
+use Rattle.std.specs.List.{AllByRecursion}
 use Rattle.std.specs.Prelude.{if◌then◌else◌, flat_map, nat_le}
 use Rattle.std.proofs.lemmas.Bool.{leb-true}
 use Rattle.std.proofs.lemmas.List.{length-append}
 use Rattle.mail_world.specs.declared.Note.{Note}
 use Rattle.mail_world.specs.Records.{Calendar, record_of, mended, mailbox}
 use Rattle.mail_world.specs.Quotas.{fits, are_kept_behind, are_kept, marked, kept}
+
+-- what holds of all holds of those that are marked
+pub all_marked : {A : Type 0} (P : A → Type 0) (marks : List Bool) (xs : List A) → AllByRecursion P xs → AllByRecursion P (marked marks xs)
+all_marked P [] xs all = tt
+all_marked P (true ∷ marks) [] all = tt
+all_marked P (false ∷ marks) [] all = tt
+all_marked P (true ∷ marks) (x ∷ xs) all = (all.0, all_marked P marks xs all.1)
+all_marked P (false ∷ marks) (x ∷ xs) all = all_marked P marks xs all.1
 
 module _ (calendar : Calendar) (host : List ℕ) where
   abbrev size : Note → ℕ

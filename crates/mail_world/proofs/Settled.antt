@@ -1,11 +1,11 @@
 -- What is told of copies of which the first so many were settled, one copy more at a time.
-use Rattle.std.proofs.Common.{◌≡◌, ℕ, zero, suc, ◌+◌, ◌≤◌, ◌<◌, List, [], ◌∷◌, ◌++◌, length, Bool, Option, refl, ap, ◌∙◌, arith}
+use Rattle.std.proofs.Common.{◌≡◌, ℕ, zero, suc, ◌+◌, ◌≤◌, ◌<◌, List, [], ◌∷◌, ◌++◌, length, Bool, true, false, Option, refl, ap, ◌∙◌, arith}
 use Rattle.std.specs.Prelude.{if◌then◌else◌}
 use Rattle.mail_world.specs.declared.Note.{Note}
 use Rattle.mail_world.specs.declared.Outcome.{Outcome}
 use Rattle.mail_world.specs.declared.Outcome.TheVariants.{Stored, Failed, OverQuota}
 use Rattle.mail_world.specs.Records.{Calendar, record_of, mended, mailbox}
-use Rattle.mail_world.specs.Quotas.{fits, are_kept_behind, are_kept, kept, outcomes_settled}
+use Rattle.mail_world.specs.Quotas.{fits, are_kept_behind, are_kept, kept, marked, outcomes_settled}
 use Rattle.mail_world.specs.Slips.{slip_of, slips_from}
 use Rattle.mail_world.proofs.Quotas.{kept_next}
 
@@ -40,6 +40,15 @@ all_settled zero m (x ∷ marks) h i = absurd (omega (arith, h))
 all_settled (suc n) zero (x ∷ marks) h i = absurd (omega (arith, i))
 all_settled (suc n) (suc m) (x ∷ marks) h i = ap (λ l. (if x then Stored else OverQuota) ∷ l) (all_settled n m marks (omega (arith, h)) (omega (arith, i)))
 
+pub marked-append : {A : Type 0} (marks : List Bool) (m : Bool) (xs : List A) (x : A) → length marks ≡ length xs
+    → marked (marks ++ m ∷ []) (xs ++ x ∷ []) ≡ marked marks xs ++ (if m then x ∷ [] else [])
+marked-append [] true [] x e = refl
+marked-append [] false [] x e = refl
+marked-append [] m (y ∷ ys) x e = cc
+marked-append (t ∷ marks) m [] x e = cc
+marked-append (true ∷ marks) m (y ∷ ys) x e = ap (λ l. y ∷ l) (marked-append marks m ys x (omega (arith, e)))
+marked-append (false ∷ marks) m (y ∷ ys) x e = marked-append marks m ys x (omega (arith, e))
+
 module _ (calendar : Calendar) (host : List ℕ) (quota : Option ℕ) where
   pub length-kept_behind : (notes : List Note) (len : ℕ) → length (are_kept_behind calendar host quota len notes) ≡ length notes
   length-kept_behind [] len = refl
@@ -52,8 +61,8 @@ module _ (calendar : Calendar) (host : List ℕ) (quota : Option ℕ) where
   length-are_kept old notes = length-kept_behind notes (length (old ++ mended old))
 
   -- the record of the note may stand behind those that the mailbox keeps of these
-  abbrev pub has_room : List ℕ → List Note → Note → Bool
-  has_room old notes note = fits quota (length (mailbox calendar host old (kept calendar host quota old notes))) (length (record_of calendar host note))
+  abbrev pub fits_after : List ℕ → List Note → Note → Bool
+  fits_after old notes note = fits quota (length (mailbox calendar host old (kept calendar host quota old notes))) (length (record_of calendar host note))
 
   abbrev outcomes : ℕ → List ℕ → List Note → List Outcome
   outcomes n old notes = outcomes_settled n (are_kept calendar host quota old notes)
@@ -66,19 +75,26 @@ module _ (calendar : Calendar) (host : List ℕ) (quota : Option ℕ) where
       ∙ slips_from-append w (outcomes n old notes) outcome notes note (length-outcomes n (are_kept calendar host quota old notes) ∙ length-are_kept old notes)
 
   pub settled_next : (n : ℕ) (old : List ℕ) (notes : List Note) (note : Note) → length notes < n
-      → outcomes n old (notes ++ note ∷ []) ≡ outcomes n old notes ++ (if has_room old notes note then Stored else OverQuota) ∷ []
+      → outcomes n old (notes ++ note ∷ []) ≡ outcomes n old notes ++ (if fits_after old notes note then Stored else OverQuota) ∷ []
   settled_next n old notes note h =
       ap (outcomes_settled n) (kept_next calendar host quota old notes note)
-      ∙ settled_more n (are_kept calendar host quota old notes) (has_room old notes note) (omega (arith, h, length-are_kept old notes))
+      ∙ settled_more n (are_kept calendar host quota old notes) (fits_after old notes note) (omega (arith, h, length-are_kept old notes))
 
   pub failed_next : (n : ℕ) (old : List ℕ) (notes : List Note) (note : Note) → n ≤ length notes
       → outcomes n old (notes ++ note ∷ []) ≡ outcomes n old notes ++ Failed ∷ []
   failed_next n old notes note h =
       ap (outcomes_settled n) (kept_next calendar host quota old notes note)
-      ∙ failed_more n (are_kept calendar host quota old notes) (has_room old notes note) (omega (arith, h, length-are_kept old notes))
+      ∙ failed_more n (are_kept calendar host quota old notes) (fits_after old notes note) (omega (arith, h, length-are_kept old notes))
 
   pub slips_settled : (w n m : ℕ) (old : List ℕ) (notes : List Note) → length notes ≤ n → length notes ≤ m
       → slips_from w (outcomes n old notes) notes ≡ slips_from w (outcomes m old notes) notes
   slips_settled w n m old notes h i =
       let e = length-are_kept old notes in
       ap (λ os. slips_from w os notes) (all_settled n m (are_kept calendar host quota old notes) (omega (arith, h, e)) (omega (arith, i, e)))
+
+  -- what the mailbox keeps of one copy more
+  pub keeps_more : (old : List ℕ) (notes : List Note) (note : Note)
+      → kept calendar host quota old (notes ++ note ∷ []) ≡ kept calendar host quota old notes ++ (if fits_after old notes note then note ∷ [] else [])
+  keeps_more old notes note =
+      ap (λ marks. marked marks (notes ++ note ∷ [])) (kept_next calendar host quota old notes note)
+      ∙ marked-append (are_kept calendar host quota old notes) (fits_after old notes note) notes note (length-are_kept old notes)
