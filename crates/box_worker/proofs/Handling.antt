@@ -1,12 +1,16 @@
 -- One copy more that a worker handled.
-use Rattle.std.proofs.Common.{◌≡◌, ℕ, ◌+◌, ◌-◌, ◌^◌, min, List, [], ◌∷◌, ◌++◌, length, Bool, true, false, ◌||◌, Option, Some, None, IsSome, inl, inr, refl, ap, sym, ◌∙◌, subst, arith, length-append}
+use Rattle.std.proofs.Common.{◌≡◌, ℕ, zero, ◌+◌, ◌-◌, ◌≤◌, ◌^◌, min, List, [], ◌∷◌, ◌++◌, length, Bool, true, false, ◌||◌, Option, Some, None, IsSome, inl, inr, refl, ap, sym, ◌∙◌, subst, true≢false, arith, length-append}
+use Rattle.std.specs.Prelude.{if◌then◌else◌}
+use Rattle.std.specs.Option.{IfSome}
 use Rattle.mail_world.specs.declared.Note.{Note}
 use Rattle.mail_world.specs.declared.Slip.{Slip}
 use Rattle.mail_world.specs.declared.Outcome.{Outcome}
-use Rattle.mail_world.specs.declared.Outcome.TheVariants.{Stored, Failed, NoRoom, TooLarge}
+use Rattle.mail_world.specs.declared.Outcome.TheVariants.{Stored, Failed, NoRoom, TooLarge, OverQuota}
 use Rattle.mail_world.specs.Counts.{counted}
 use Rattle.mail_world.specs.Slips.{slip_of}
 use Rattle.mail_world.specs.Records.{Calendar, record_of}
+use Rattle.mail_world.specs.Quotas.{outcomes_settled}
+use Rattle.mail_world.proofs.Settled.{length-outcomes, settled_more, failed_more, all_settled}
 use Rattle.std.proofs.lemmas.Bool.{or_parts}
 use Rattle.mail_post.specs.Channel.{Sender, Inbox}
 use Rattle.mail_post.specs.declared.channel.Gone.{Gone}
@@ -16,92 +20,196 @@ use Rattle.mail_post.specs.Offered.{HaveNumber, IsOffered, any_refused}
 use Rattle.mail_post.proofs.Offered.{still_numbered, accepted_nothing, offered_more}
 use Rattle.mbox_rd.specs.Spool.{SpoolState}
 use Rattle.mbox_rd.specs.Envelope.{record_text}
-use Rattle.box_worker.specs.Stored.{kept, TakesCopy, HasStored}
+use Rattle.box_worker.specs.declared.limit.Limit.{Limit}
+use Rattle.box_worker.specs.Limits.{Setting, StartsAt, CountsTo, marks_behind}
+use Rattle.box_worker.specs.Stored.{MailboxState, mailbox_of, CountedMailbox, TakesCopy, HasStored, HasSettled}
 use Rattle.box_worker.specs.Told.{slip_by, owed_to}
-use Rattle.box_worker.specs.Worked.{Setting, WorkerState, idle, is_lost, HasHandled, HasWorked}
-use Rattle.box_worker.proofs.Storing.{stored_more, stored_not, stored_later}
-use Rattle.box_worker.proofs.Telling.{GivesOneMore, owes_stored, owes_failed, owed_more}
+use Rattle.box_worker.specs.Worked.{WorkerState, idle, is_lost, outcomes_behind, bytes_behind, HasHandled, IsCounting, HasWorked}
+use Rattle.box_worker.proofs.Counting.{let_in, kept_out}
+use Rattle.box_worker.proofs.Settling.{is_kept, marks_count, marks_next, bytes_one, bytes_none, settled_stored, settled_over, settled_not, settled_later}
+use Rattle.box_worker.proofs.Telling.{owed_more}
 
 -- no record tells its copy's place or mailbox
 pub text_of : (calendar : Calendar) (host : List ℕ) (note : Note) → record_text calendar host (envelope_of note) note.message ≡ record_of calendar host note
 unfolding record_of
 text_of calendar host note = refl
 
+-- each record ends with LF
+pub some_text : (calendar : Calendar) (host : List ℕ) (note : Note) → 1 ≤ length (record_of calendar host note)
+unfolding record_of
+some_text calendar host note = omega arith
+
 -- a count of one more
 counted_more : (n : ℕ) → min (counted n + 1) (2 ^ 64 - 1) ≡ counted (n + 1)
 counted_more n = omega arith
 
-module _ (at : Setting) (copies : List Note) (old now : WorkerState) (next : List (Sender Slip)) (spool : SpoolState) (note : Note) (accepted : Bool) (x : HasHandled at copies old now) where
+-- what is told of one copy more, which is settled or not
+module _ (at : Setting) (start : ℕ) (copies : List Note) (note : Note) where
+  abbrev told : ℕ → List Outcome
+  told n = outcomes_behind at start n copies
+
+  abbrev told_more : ℕ → List Outcome
+  told_more n = outcomes_behind at start n (copies ++ note ∷ [])
+
+  told_count : (n : ℕ) → length (told n) ≡ length copies
+  told_count n = length-outcomes n (marks_behind at start copies) ∙ marks_count at start copies note
+
+  tells_settled : (n : ℕ) (keeps : Bool) → n ≡ length copies → is_kept at start copies note ≡ keeps
+      → told_more (n + 1) ≡ told n ++ (if keeps then Stored else OverQuota) ∷ []
+  tells_settled n keeps all is =
+      let count = marks_count at start copies note in
+      let marks = marks_behind at start copies in
+      ap (outcomes_settled (n + 1)) (marks_next at start copies note) ∙ settled_more (n + 1) marks (is_kept at start copies note) (omega (arith, all, count))
+      ∙ ap (λ l. l ++ (if is_kept at start copies note then Stored else OverQuota) ∷ []) (all_settled (n + 1) n marks (omega (arith, all, count)) (omega (arith, all, count)))
+      ∙ ap (λ t. told n ++ (if t then Stored else OverQuota) ∷ []) is
+
+  tells_failed : (n : ℕ) → n ≤ length copies → told_more n ≡ told n ++ Failed ∷ []
+  tells_failed n within =
+      let count = marks_count at start copies note in
+      ap (outcomes_settled n) (marks_next at start copies note) ∙ failed_more n (marks_behind at start copies) (is_kept at start copies note) (omega (arith, within, count))
+
+module _ (at : Setting) (copies : List Note) (old now : WorkerState) (before : Option Limit) (next : List (Sender Slip)) (note : Note) (accepted : Bool) (x : IsCounting at copies old now before) where
+  abbrev h : HasHandled at copies old now
+  h = x.handled
+
   -- the worker behind the copy
-  abbrev behind : ℕ → Bool → WorkerState
-  behind count faulty = record { slips = next; mailbox = kept spool count faulty; taken = counted (now.taken + 1); lost = any_refused next }
+  abbrev behind : MailboxState → WorkerState
+  behind mailbox = record { slips = next; mailbox = mailbox; taken = counted (now.taken + 1); lost = any_refused next }
 
   -- the slips, by what the lane was told
-  handled_by : (n count : ℕ) (is_stored faulty : Bool) (outcome : Outcome) → outcome ≡ (slip_of at.worker note is_stored).outcome
-      → GivesOneMore at.worker x.stored n copies note is_stored
-      → HasStored at.calendar at.host (copies ++ note ∷ []) old.mailbox.state (kept spool n faulty) → count ≡ counted n
+  handled_by : (mailbox : MailboxState) (limit : Option Limit) (outcome : Outcome) (stored over : ℕ)
+      → outcomes_behind at h.start (stored + over) (copies ++ note ∷ []) ≡ outcomes_behind at h.start (h.stored + h.over) copies ++ outcome ∷ []
+      → HasSettled at h.start (copies ++ note ∷ []) old.mailbox.state (mailbox_of mailbox.state stored over mailbox.faulty)
+      → mailbox.stored ≡ counted stored → mailbox.over ≡ counted over
+      → (mailbox.faulty ≡ false → CountsTo at.quota (bytes_behind at h.start (copies ++ note ∷ [])) limit)
       → IsOffered note.txn.lane (slip_by note.txn note.place outcome) accepted now.slips next
-      → HasHandled at (copies ++ note ∷ []) old (behind count faulty)
-  handled_by n count is_stored faulty outcome says gives stored count_is offered =
-      let mine : offered.sender.number ≡ at.worker = x.numbered note.txn.lane offered.sender offered.is in
-      let slip_is : slip_by note.txn note.place outcome offered.sender ≡ slip_of at.worker note is_stored =
-      ap (λ (w : ℕ). let s : Slip = record { txn = note.txn; place = note.place; worker = w; outcome = outcome } in s) mine
-      ∙ ap (λ (o : Outcome). let s : Slip = record { txn = note.txn; place = note.place; worker = at.worker; outcome = o } in s) says in
+      → IsCounting at (copies ++ note ∷ []) old (behind mailbox) limit
+  handled_by mailbox limit outcome stored over tells settled stored_is over_is counts offered =
+      let mine : offered.sender.number ≡ at.worker = h.numbered note.txn.lane offered.sender offered.is in
+      let slip_is : slip_by note.txn note.place outcome offered.sender ≡ slip_of at.worker note outcome =
+      ap (λ (w : ℕ). let s : Slip = record { txn = note.txn; place = note.place; worker = w; outcome = outcome } in s) mine in
+      let first = outcomes_behind at h.start (h.stored + h.over) copies in
+      let all = outcomes_behind at h.start (stored + over) (copies ++ note ∷ []) in
       record {
-        stored = n;
-        spool = stored;
-        told = offered_more note.txn.lane (slip_by note.txn note.place outcome) old.slips now.slips next
-            (λ k. owed_to at.worker x.stored k copies) (λ k. owed_to at.worker n k (copies ++ note ∷ [])) accepted (slip_of at.worker note is_stored)
-            x.told offered slip_is (owed_more at.worker x.stored n copies note is_stored gives);
-        numbered = still_numbered at.worker note.txn.lane (slip_by note.txn note.place outcome) accepted now.slips next x.numbered offered;
-        taken_count = ap (λ m. counted (m + 1)) x.taken_count ∙ counted_more (length copies) ∙ ap counted (sym (length-append copies (note ∷ [])));
-        stored_count = count_is;
+        handled = record {
+          start = h.start;
+          stored = stored;
+          over = over;
+          settled = settled;
+          told = offered_more note.txn.lane (slip_by note.txn note.place outcome) old.slips now.slips next
+              (λ k. owed_to at.worker first k copies) (λ k. owed_to at.worker all k (copies ++ note ∷ [])) accepted (slip_of at.worker note outcome)
+              h.told offered slip_is (owed_more at.worker first all copies note outcome (told_count at h.start copies note (h.stored + h.over)) tells);
+          numbered = still_numbered at.worker note.txn.lane (slip_by note.txn note.place outcome) accepted now.slips next h.numbered offered;
+          taken_count = ap (λ m. counted (m + 1)) h.taken_count ∙ counted_more (length copies) ∙ ap counted (sym (length-append copies (note ∷ [])));
+          stored_count = stored_is;
+          over_count = over_is;
+        };
+        counts = counts;
       }
 
-  pub handled_more : (outcome : Outcome) (count : ℕ) (faulty : Bool)
-      → TakesCopy (record_of at.calendar at.host note) outcome now.mailbox (kept spool count faulty) → IsOffered note.txn.lane (slip_by note.txn note.place outcome) accepted now.slips next
-      → HasHandled at (copies ++ note ∷ []) old (behind count faulty)
-  handled_more Stored count faulty take told =
-      let P : Bool → Type 0 = λ b. HasStored at.calendar at.host copies old.mailbox.state (kept now.mailbox.state x.stored b) in
-      let Q : Bool → Type 0 = λ b. HasStored at.calendar at.host (copies ++ note ∷ []) old.mailbox.state (kept spool (x.stored + 1) b) in
-      let before = subst P take.0 x.spool in
-      handled_by (x.stored + 1) count true faulty Stored refl (owes_stored at.worker x.stored copies note (before.all refl))
-      (subst Q (sym take.1) (stored_more at.calendar at.host note old.mailbox.state now.mailbox.state spool copies x.stored before take.3))
-      (take.2 ∙ ap (λ m. counted (m + 1)) x.stored_count ∙ counted_more x.stored) told
-  handled_more Failed count faulty take told =
-      let P : Bool → Type 0 = λ b. HasStored at.calendar at.host copies old.mailbox.state (kept now.mailbox.state x.stored b) in
-      let Q : Bool → Type 0 = λ b. HasStored at.calendar at.host (copies ++ note ∷ []) old.mailbox.state (kept spool x.stored b) in
-      handled_by x.stored count false faulty Failed refl (owes_failed at.worker x.stored copies note x.spool.within)
-      (subst Q (sym take.0) (elim take.2 [
-        | inl before ↦ stored_later at.calendar at.host note old.mailbox.state now.mailbox.state spool copies x.stored (subst P before.0 x.spool) before.1
-        | inr now' ↦ stored_not at.calendar at.host note old.mailbox.state now.mailbox.state spool copies x.stored (subst P now'.0 x.spool) now'.1
+  abbrev size : ℕ
+  size = length (record_of at.calendar at.host note)
+
+  -- what was settled, where it is known whether the spool had failed
+  settled_at : (faulty : Bool) → now.mailbox.faulty ≡ faulty → HasSettled at h.start copies old.mailbox.state (mailbox_of now.mailbox.state h.stored h.over faulty)
+  settled_at faulty e = let P : Bool → Type 0 = λ b. HasSettled at h.start copies old.mailbox.state (mailbox_of now.mailbox.state h.stored h.over b) in subst P e h.settled
+
+  pub handled_more : (outcome : Outcome) (after : CountedMailbox)
+      → TakesCopy (record_of at.calendar at.host note) outcome (record { mailbox = now.mailbox; limit = before }) after
+      → IsOffered note.txn.lane (slip_by note.txn note.place outcome) accepted now.slips next
+      → IsCounting at (copies ++ note ∷ []) old (behind after.mailbox) after.limit
+  handled_more Stored after take told =
+      let was = settled_at false take.0 in
+      let fit = let_in at.quota (bytes_behind at h.start copies) size before after.limit (some_text at.calendar at.host note) (x.counts take.0) take.1 in
+      let now_is = settled_stored at h.start copies note old.mailbox.state now.mailbox.state after.mailbox.state h.stored h.over was fit.0 take.2 in
+      let P : Bool → Type 0 = λ b. HasSettled at h.start (copies ++ note ∷ []) old.mailbox.state (mailbox_of after.mailbox.state (h.stored + 1) h.over b) in
+      let count : h.stored + 1 + h.over ≡ h.stored + h.over + 1 = omega arith in
+      handled_by after.mailbox after.limit Stored (h.stored + 1) h.over
+      (ap (λ n. outcomes_behind at h.start n (copies ++ note ∷ [])) count ∙ tells_settled at h.start copies note (h.stored + h.over) true (was.all refl) fit.0)
+      (subst P (sym (ap (λ (m : MailboxState). m.faulty) take.3)) now_is)
+      (ap (λ (m : MailboxState). m.stored) take.3 ∙ ap (λ m. counted (m + 1)) h.stored_count ∙ counted_more h.stored)
+      (ap (λ (m : MailboxState). m.over) take.3 ∙ h.over_count)
+      (λ sound. let Q : ℕ → Type 0 = λ n. CountsTo at.quota n after.limit in subst Q (sym (bytes_one at h.start copies note fit.0)) fit.1)
+      told
+  handled_more OverQuota after take told =
+      let was = settled_at false take.0 in
+      let out = kept_out at.quota (bytes_behind at h.start copies) size before (x.counts take.0) take.1 in
+      let now_is = settled_over at h.start copies note old.mailbox.state now.mailbox.state after.mailbox.state h.stored h.over was out in
+      let P : MailboxState → Type 0 = λ m. HasSettled at h.start (copies ++ note ∷ []) old.mailbox.state (mailbox_of m.state h.stored (h.over + 1) m.faulty) in
+      let count : h.stored + (h.over + 1) ≡ h.stored + h.over + 1 = omega arith in
+      handled_by after.mailbox after.limit OverQuota h.stored (h.over + 1)
+      (ap (λ n. outcomes_behind at h.start n (copies ++ note ∷ [])) count ∙ tells_settled at h.start copies note (h.stored + h.over) false (was.all refl) out)
+      (subst P (sym take.3) now_is)
+      (ap (λ (m : MailboxState). m.stored) take.3 ∙ h.stored_count)
+      (ap (λ (m : MailboxState). m.over) take.3 ∙ ap (λ m. counted (m + 1)) h.over_count ∙ counted_more h.over)
+      (λ sound.
+      let Q : ℕ → Type 0 = λ n. CountsTo at.quota n after.limit in
+      let R : Option Limit → Type 0 = λ l. CountsTo at.quota (bytes_behind at h.start copies) l in
+      subst Q (sym (bytes_none at h.start copies note out)) (subst R (sym take.2) (x.counts take.0)))
+      told
+  handled_more Failed after take told =
+      let P : Bool → Type 0 = λ b. HasSettled at h.start (copies ++ note ∷ []) old.mailbox.state (mailbox_of after.mailbox.state h.stored h.over b) in
+      let faulty : after.mailbox.faulty ≡ true = ap (λ (m : MailboxState). m.faulty) take.0 in
+      handled_by after.mailbox after.limit Failed h.stored h.over
+      (tells_failed at h.start copies note (h.stored + h.over) h.settled.within)
+      (subst P (sym faulty) (elim take.1 [
+        | inl before' ↦ settled_later at h.start copies note old.mailbox.state now.mailbox.state after.mailbox.state h.stored h.over (settled_at true before'.0) before'.1
+        | inr fails ↦
+            let fit = let_in at.quota (bytes_behind at h.start copies) size before after.limit (some_text at.calendar at.host note) (x.counts fails.0) fails.1 in
+            settled_not at h.start copies note old.mailbox.state now.mailbox.state after.mailbox.state h.stored h.over (settled_at false fails.0) fit.0 fails.2
       ]))
-      (take.1 ∙ x.stored_count) told
-  handled_more NoRoom count faulty take told = absurd take
-  handled_more TooLarge count faulty take told = absurd take
+      (ap (λ (m : MailboxState). m.stored) take.0 ∙ h.stored_count)
+      (ap (λ (m : MailboxState). m.over) take.0 ∙ h.over_count)
+      (λ sound. absurd (true≢false (sym faulty ∙ sound)))
+      told
+  handled_more NoRoom after take told = absurd take
+  handled_more TooLarge after take told = absurd take
 
 -- a worker that took nothing
-pub handled_none : (at : Setting) (slips : List (Sender Slip)) (old spool : SpoolState) (faulty : Bool)
-    → HaveNumber at.worker slips → HasStored at.calendar at.host [] old (kept spool 0 faulty)
-    → HasHandled at [] (idle slips old) (record { slips = slips; mailbox = kept spool 0 faulty; taken = 0; lost = any_refused slips })
-handled_none at slips old spool faulty mine stored = record {
-  stored = 0;
-  spool = stored;
-  told = accepted_nothing (λ k. owed_to at.worker 0 k []) slips (λ k. refl);
-  numbered = mine;
-  taken_count = refl;
-  stored_count = refl;
-}
+pub counting_none : (at : Setting) (slips : List (Sender Slip)) (old : SpoolState) (mailbox : MailboxState) (limit : Option Limit)
+    → HaveNumber at.worker slips → HasStored at.calendar at.host [] old mailbox → (mailbox.stored ≡ 0) × (mailbox.over ≡ 0)
+    → ((start : ℕ) × IfSome at.quota (λ quota. StartsAt old start) × CountsTo at.quota start limit)
+    → IsCounting at [] (idle slips old) (record { slips = slips; mailbox = mailbox; taken = 0; lost = any_refused slips }) limit
+counting_none at slips old mailbox limit mine stored none begins =
+    let same : mailbox ≡ mailbox_of mailbox.state 0 0 mailbox.faulty =
+    ap (λ n. mailbox_of mailbox.state n mailbox.over mailbox.faulty) none.0 ∙ ap (λ n. mailbox_of mailbox.state 0 n mailbox.faulty) none.1 in
+    let P : MailboxState → Type 0 = λ m. HasStored at.calendar at.host [] old m in
+    let Q : ℕ → Type 0 = λ n. CountsTo at.quota n limit in
+    let start_is : begins.0 ≡ begins.0 + 0 = omega arith in
+    record {
+      handled = record {
+        start = begins.0;
+        stored = 0;
+        over = 0;
+        settled = record {
+          starts = begins.1;
+          within = omega arith;
+          all = λ sound. refl;
+          stored = refl;
+          next = λ failed. inl refl;
+          spool = subst P same stored;
+        };
+        told = accepted_nothing (λ k. owed_to at.worker (outcomes_behind at begins.0 0 []) k []) slips (λ k. refl);
+        numbered = mine;
+        taken_count = refl;
+        stored_count = none.0;
+        over_count = none.1;
+      };
+      counts = λ sound. subst Q start_is begins.2;
+    }
 
 -- nothing more was handled where nothing more was taken, though a channel may be found gone
 pub handled_lost : (at : Setting) (copies : List Note) (old now : WorkerState) (lost : Bool) → HasHandled at copies old now → HasHandled at copies old (record now { lost = lost })
 handled_lost at copies old now lost x = record {
+  start = x.start;
   stored = x.stored;
-  spool = x.spool;
+  over = x.over;
+  settled = x.settled;
   told = x.told;
   numbered = x.numbered;
   taken_count = x.taken_count;
   stored_count = x.stored_count;
+  over_count = x.over_count;
 }
 
 -- a worker that found no channel gone: no slip was handed back, and its own channel was closed

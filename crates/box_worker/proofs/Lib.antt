@@ -1,4 +1,6 @@
 pub mod Messages
 pub mod Storing
+pub mod Counting
+pub mod Settling
 pub mod Telling
 pub mod Handling

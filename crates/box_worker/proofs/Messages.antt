@@ -1,9 +1,16 @@
 -- A message that a writer gets piece by piece.
-use Rattle.std.proofs.Common.{◌≡◌, ℕ, ◌+◌, List, ◌++◌, take, drop, sym, ap, ◌∙◌, subst, append_assoc, take-append-drop}
+use Rattle.std.proofs.Common.{◌≡◌, ℕ, ◌+◌, ◌-◌, ◌<◌, ◌≤◌, ◌^◌, min, List, [], ◌∷◌, ◌++◌, length, take, drop, Option, Some, None, sym, ap, ◌∙◌, subst, append_assoc, append-nil, take-append-drop, arith, length-append}
+use Rattle.std.specs.Option.{SomeIff}
 use Rattle.std.proofs.Math.Seq.{take-add}
-use Rattle.mbox_rd.specs.Spool.{SpoolState}
+use Rattle.mail_world.specs.Counts.{counted}
+use Rattle.mail_world.specs.Records.{Calendar, quoted_text}
+use Rattle.mail_world.specs.Text.{lf, unix}
+use Rattle.mbox_rd.specs.Envelope.{Envelope, record_text, head_text}
+use Rattle.mbox_rd.specs.Spool.{SpoolState, SpoolTook, SpoolFailed}
 use Rattle.mbox_rd.specs.Writing.{Pending, bytes_owed, WritesPiece, FailsPiece}
-use Rattle.mbox_rd.proofs.Wholes.{WritesPiece-then, FailsPiece-then}
+use Rattle.mbox_rd.proofs.Parts.{record_split}
+use Rattle.mbox_rd.proofs.Taken.{SpoolTook-then, SpoolTook-as, SpoolFailed-first, SpoolFailed-later, SpoolFailed-as}
+use Rattle.mbox_rd.proofs.Wholes.{BeginsRecord, WritesPiece-then, FailsPiece-then}
 
 -- a failure in the front of a text is one in the text
 FailsPiece-more : (s t : SpoolState) (a : Pending) (p q : List ℕ) → FailsPiece s t a p → FailsPiece s t a (p ++ q)
@@ -27,3 +34,69 @@ fails_next s t u a b message p at n e x y =
     subst P (append_assoc (take at message) p (drop n (drop at message)) ∙ ap (λ l. take at message ++ (l ++ drop n (drop at message))) e
     ∙ ap (λ l. take at message ++ l) (take-append-drop n (drop at message)) ∙ take-append-drop at message)
     (FailsPiece-more s u a (take at message ++ p) (drop n (drop at message)) (FailsPiece-then s t u a b (take at message) p x y))
+
+-- what a writer writes of a message, and of the record's end
+text_parts : (s t : SpoolState) (first last : Pending) (message : List ℕ) (x : WritesPiece s t first last message)
+    → bytes_owed first message ++ lf ∷ [] ≡ x.text ++ (bytes_owed last [] ++ lf ∷ [])
+text_parts s t first last message x =
+    ap (λ (l : List ℕ). l ++ lf ∷ []) (ap (bytes_owed first) (sym (append-nil message)) ∙ sym (x.goes [])) ∙ append_assoc x.text (bytes_owed last []) (lf ∷ [])
+
+pub text_taken : (s t u : SpoolState) (first last : Pending) (message : List ℕ) → WritesPiece s t first last message
+    → SpoolTook t u (bytes_owed last [] ++ lf ∷ []) → SpoolTook s u (bytes_owed first message ++ lf ∷ [])
+text_taken s t u first last message x y =
+    SpoolTook-as s u _ _ (text_parts s t first last message x) (SpoolTook-then s t u x.text (bytes_owed last [] ++ lf ∷ []) x.taken y)
+
+pub text_failed : (s t : SpoolState) (first : Pending) (message : List ℕ) → FailsPiece s t first message → SpoolFailed s t (bytes_owed first message ++ lf ∷ [])
+text_failed s t first message x =
+    let front = x.sure [] in
+    let whole : bytes_owed first message ++ lf ∷ [] ≡ x.text ++ (front.rest ++ lf ∷ []) =
+    ap (λ (l : List ℕ). l ++ lf ∷ []) (ap (bytes_owed first) (sym (append-nil message)) ∙ front.whole) ∙ append_assoc x.text front.rest (lf ∷ []) in
+    SpoolFailed-as s t _ _ whole (SpoolFailed-first s t x.text (front.rest ++ lf ∷ []) x.failed)
+
+pub text_failed_at_end : (s t u : SpoolState) (first last : Pending) (message : List ℕ) → WritesPiece s t first last message
+    → SpoolFailed t u (bytes_owed last [] ++ lf ∷ []) → SpoolFailed s u (bytes_owed first message ++ lf ∷ [])
+text_failed_at_end s t u first last message x y =
+    SpoolFailed-as s u _ _ (text_parts s t first last message x) (SpoolFailed-later s t u x.text (bytes_owed last [] ++ lf ∷ []) x.taken y)
+
+-- the sum of two counts is exact where it fits, and fits where the whole does
+sum_of : (m n a b whole : ℕ) → a ≡ counted m → b ≡ counted n → whole ≡ m + n → 1 ≤ m → 1 ≤ n → (result : Option ℕ) → SomeIff result (a + b < 2 ^ 64) (a + b)
+    → SomeIff result (whole < 2 ^ 64) whole
+sum_of m n a b whole is_a is_b is some_m some_n None none = λ below. none (omega (arith, is_a, is_b, is, some_m, some_n, below))
+sum_of m n a b whole is_a is_b is some_m some_n (Some s) some =
+    let below = some.0 in
+    let same : a + b ≡ whole = omega (arith, is_a, is_b, is, some_m, some_n, below) in
+    (omega (arith, below, same), some.1 ∙ same)
+
+-- what a spool counts that held nothing and took a text
+pub counted_text : (s t : SpoolState) (text : List ℕ) (held : ℕ) → s.held ≡ 0 → SpoolTook s t text → held ≡ counted t.held → held ≡ counted (length text)
+counted_text s t text held none x says = let e : s.held + length text ≡ length text = omega (arith, none) in says ∙ x.grown ∙ ap counted e
+
+-- a head begins with `From `
+some_head : (calendar : Calendar) (host : List ℕ) (envelope : Envelope) → 1 ≤ length (head_text calendar host envelope)
+some_head calendar host envelope = omega arith
+
+-- a record is its head and its text
+module _ (calendar : Calendar) (host : List ℕ) (envelope : Envelope) (message : List ℕ) (first : Pending) (begins : BeginsRecord first) where
+  abbrev head : List ℕ
+  head = head_text calendar host envelope
+
+  abbrev rest : List ℕ
+  rest = bytes_owed first message ++ lf ∷ []
+
+  pub record_is : record_text calendar host envelope message ≡ head ++ rest
+  record_is = record_split calendar host envelope message ∙ append_assoc head (quoted_text (unix message)) (lf ∷ [])
+      ∙ ap (λ (l : List ℕ). head ++ (l ++ lf ∷ [])) (sym (begins message))
+
+  pub record_took : (s t u : SpoolState) → SpoolTook s t head → SpoolTook t u rest → SpoolTook s u (record_text calendar host envelope message)
+  record_took s t u x y = SpoolTook-as s u _ _ record_is (SpoolTook-then s t u head rest x y)
+
+  pub record_failed : (s t u : SpoolState) → SpoolTook s t head → SpoolFailed t u rest → SpoolFailed s u (record_text calendar host envelope message)
+  record_failed s t u x y = SpoolFailed-as s u _ _ record_is (SpoolFailed-later s t u head rest x y)
+
+  -- what two counts of the parts come to, which stay at their largest value
+  pub record_count : (a b : ℕ) → a ≡ counted (length head) → b ≡ counted (length rest) → (result : Option ℕ) → SomeIff result (a + b < 2 ^ 64) (a + b)
+      → SomeIff result (length (record_text calendar host envelope message) < 2 ^ 64) (length (record_text calendar host envelope message))
+  record_count a b is_a is_b result sum =
+      let long : length (record_text calendar host envelope message) ≡ length head + length rest = ap length record_is ∙ length-append head rest in
+      let last : length rest ≡ length (bytes_owed first message) + 1 = length-append (bytes_owed first message) (lf ∷ []) in
+      sum_of (length head) (length rest) a b _ is_a is_b long (some_head calendar host envelope) (omega (arith, last)) result sum

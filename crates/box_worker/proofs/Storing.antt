@@ -1,4 +1,4 @@
--- What a spool holds once its worker took one copy more.
+-- What a spool holds once its worker took one copy more that is kept.
 use Rattle.std.proofs.Common.{◌≡◌, ℕ, ◌+◌, ◌≤◌, List, [], ◌∷◌, ◌++◌, length, take, drop, true, false, Option, Some, None, inl, inr, refl, ap, sym, ◌∙◌, subst, true≢false, arith, length-append}
 use Rattle.std.proofs.lemmas.List.{take_all, take-append-le, drop-append-le, drop_all}
 use Rattle.std.specs.Option.{IfSome}
@@ -9,7 +9,7 @@ use Rattle.mail_world.specs.Records.{Calendar, record_of, mailbox}
 use Rattle.mail_world.specs.Deliveries.{IsTorn}
 use Rattle.mail_world.proofs.Spools.{mailbox-one_more}
 use Rattle.mbox_rd.specs.Spool.{SpoolState, CoversAll}
-use Rattle.box_worker.specs.Stored.{HasKept, HasNotKept, IsTornAt, kept, HasStored}
+use Rattle.box_worker.specs.Stored.{HasKept, HasNotKept, IsTornAt, mailbox_of, HasStored}
 
 one_more : (copies : List Note) (note : Note) → length (copies ++ note ∷ []) ≡ length copies + 1
 one_more copies note = length-append copies (note ∷ [])
@@ -89,9 +89,9 @@ module _ (calendar : Calendar) (host : List ℕ) (note : Note) where
   covered_later (Some held) copies n synced now within e h =
       e ∙ h ∙ ap (λ (l : List Note). length (mailbox calendar host held l)) (sym (take-append-le n copies (note ∷ []) within))
 
-  module _ (old s t : SpoolState) (copies : List Note) (n : ℕ) where
+  module _ (old s t : SpoolState) (copies : List Note) (n over : ℕ) where
     -- the copy is stored
-    pub stored_more : HasStored calendar host copies old (kept s n false) → HasKept s t text → HasStored calendar host (copies ++ note ∷ []) old (kept t (n + 1) false)
+    pub stored_more : HasStored calendar host copies old (mailbox_of s n over false) → HasKept s t text → HasStored calendar host (copies ++ note ∷ []) old (mailbox_of t (n + 1) over false)
     stored_more x y =
         let all : n ≡ length copies = x.all refl in
         let now : n + 1 ≡ length (copies ++ note ∷ []) = omega (arith, one_more copies note) in
@@ -110,7 +110,7 @@ module _ (calendar : Calendar) (host : List ℕ) (note : Note) where
         }
 
     -- the spool failed at the copy
-    pub stored_not : HasStored calendar host copies old (kept s n false) → HasNotKept s t text → HasStored calendar host (copies ++ note ∷ []) old (kept t n true)
+    pub stored_not : HasStored calendar host copies old (mailbox_of s n over false) → HasNotKept s t text → HasStored calendar host (copies ++ note ∷ []) old (mailbox_of t n over true)
     stored_not x y =
         let all : n ≡ length copies = x.all refl in
         let more = one_more copies note in
@@ -128,11 +128,11 @@ module _ (calendar : Calendar) (host : List ℕ) (note : Note) where
         }
 
     -- the spool had failed before
-    pub stored_later : HasStored calendar host copies old (kept s n true) → t ≡ s → HasStored calendar host (copies ++ note ∷ []) old (kept t n true)
+    pub stored_later : HasStored calendar host copies old (mailbox_of s n over true) → t ≡ s → HasStored calendar host (copies ++ note ∷ []) old (mailbox_of t n over true)
     stored_later x same =
         let more = one_more copies note in
         let within : n ≤ length copies = x.within in
-        let P : SpoolState → Type 0 = λ u. HasStored calendar host (copies ++ note ∷ []) old (kept u n true) in
+        let P : SpoolState → Type 0 = λ u. HasStored calendar host (copies ++ note ∷ []) old (mailbox_of u n over true) in
         subst P (sym same) (record {
           within = omega arith;
           all = λ e. absurd (true≢false e);
@@ -145,3 +145,18 @@ module _ (calendar : Calendar) (host : List ℕ) (note : Note) where
           covered = λ some. covered_later old.bytes copies n s.synced s.synced within refl (x.covered some);
           unsynced = x.unsynced;
         })
+
+    -- a copy over the quota leaves the spool alone
+    pub stored_over : (more : ℕ) → HasStored calendar host copies old (mailbox_of s n over false) → HasStored calendar host copies old (mailbox_of s n more false)
+    stored_over more x = record {
+      within = x.within;
+      all = x.all;
+      sound = x.sound;
+      failed = x.failed;
+      limited = x.limited;
+      full = x.full;
+      whole = x.whole;
+      torn = x.torn;
+      covered = x.covered;
+      unsynced = x.unsynced;
+    }

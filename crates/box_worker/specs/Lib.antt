@@ -1,3 +1,4 @@
+pub mod Limits
 pub mod Stored
 pub mod Told
 pub mod Worked

@@ -1,16 +1,18 @@
 -- What a mailbox's spool holds of the copies that its worker took.
-use Rattle.std.specs.Prelude.{◌≡◌, ◌⊎◌, ℕ, ◌+◌, ◌<◌, ◌≤◌, Bool, true, false, List, ◌++◌, length, take, drop, Some}
+use Rattle.std.specs.Prelude.{◌≡◌, ◌⊎◌, ℕ, ◌+◌, ◌<◌, ◌≤◌, Bool, true, false, List, ◌++◌, length, take, drop, Option, Some}
 use Rattle.std.specs.Option.{IfSome}
 use Rattle.std.specs.Io.KnownBytes.{Appends}
 use Rattle.mail_world.specs.declared.Note.{Note}
 use Rattle.mail_world.specs.declared.Outcome.{Outcome}
-use Rattle.mail_world.specs.declared.Outcome.TheVariants.{Stored, Failed}
+use Rattle.mail_world.specs.declared.Outcome.TheVariants.{Stored, Failed, OverQuota}
 use Rattle.mail_world.specs.Counts.{counted}
 use Rattle.mail_world.specs.Failures.{Rises}
 use Rattle.mail_world.specs.Records.{Calendar, mended, mailbox}
 use Rattle.mail_world.specs.Fronts.{IsFront}
 use Rattle.mail_world.specs.Deliveries.{IsTorn}
 use Rattle.mbox_rd.specs.Spool.{SpoolState, CoversAll, IsFull}
+use Rattle.box_worker.specs.declared.limit.Limit.{Limit}
+use Rattle.box_worker.specs.Limits.{Setting, kept_behind, StartsAt, IsLetIn, IsKeptOut}
 
 -- the spool took the text, and a sync covers all that it holds
 pub record HasKept (old new : SpoolState) (text : List ℕ) : Type 0 where
@@ -30,38 +32,67 @@ pub record HasNotKept (old new : SpoolState) (text : List ℕ) : Type 0 where
   pub full : IsFull new.limit new.bytes
   pub covered : new.synced ≡ old.synced
 
--- a mailbox: its spool, how many copies were stored, and whether the spool failed
+-- a mailbox: its spool, how many copies were stored and how many were over the quota, and whether the spool failed
 pub record MailboxState : Type 0 where
   pub state : SpoolState
   pub stored : ℕ
+  pub over : ℕ
   pub faulty : Bool
 
-abbrev pub kept : SpoolState → ℕ → Bool → MailboxState
-kept state stored faulty = record { state = state; stored = stored; faulty = faulty }
+abbrev pub mailbox_of : SpoolState → ℕ → ℕ → Bool → MailboxState
+mailbox_of state stored over faulty = record { state = state; stored = stored; over = over; faulty = faulty }
+
+-- a mailbox and its worker's count under a quota
+pub record CountedMailbox : Type 0 where
+  pub mailbox : MailboxState
+  pub limit : Option Limit
+
+-- whether a copy with a record of that size is let in, which changes nothing but the count
+abbrev pub IsMeasured : ℕ → Bool → CountedMailbox → CountedMailbox → Type 0
+IsMeasured size true old new = (new.mailbox ≡ old.mailbox) × IsLetIn old.limit size new.limit
+IsMeasured size false old new = (new ≡ old) × IsKeptOut old.limit size
 
 -- what a copy with that record makes of a mailbox, by what its lane is told: a mailbox whose spool failed is left alone
-abbrev pub TakesCopy : List ℕ → Outcome → MailboxState → MailboxState → Type 0
-TakesCopy text Stored old new = (old.faulty ≡ false) × (new.faulty ≡ false) × (new.stored ≡ counted (old.stored + 1)) × HasKept old.state new.state text
-TakesCopy text Failed old new = (new.faulty ≡ true) × (new.stored ≡ old.stored)
-    × (((old.faulty ≡ true) × (new.state ≡ old.state)) ⊎ ((old.faulty ≡ false) × HasNotKept old.state new.state text))
+abbrev pub TakesCopy : List ℕ → Outcome → CountedMailbox → CountedMailbox → Type 0
+TakesCopy text Stored old new = (old.mailbox.faulty ≡ false) × IsLetIn old.limit (length text) new.limit × HasKept old.mailbox.state new.mailbox.state text
+    × (new.mailbox ≡ mailbox_of new.mailbox.state (counted (old.mailbox.stored + 1)) old.mailbox.over false)
+TakesCopy text OverQuota old new = (old.mailbox.faulty ≡ false) × IsKeptOut old.limit (length text) × (new.limit ≡ old.limit)
+    × (new.mailbox ≡ mailbox_of old.mailbox.state old.mailbox.stored (counted (old.mailbox.over + 1)) false)
+TakesCopy text Failed old new = (new.mailbox ≡ mailbox_of new.mailbox.state old.mailbox.stored old.mailbox.over true)
+    × (((old.mailbox.faulty ≡ true) × (new.mailbox.state ≡ old.mailbox.state))
+    ⊎ ((old.mailbox.faulty ≡ false) × IsLetIn old.limit (length text) new.limit × HasNotKept old.mailbox.state new.mailbox.state text))
 TakesCopy text _ old new = ⊥
 
--- What a spool that held these bytes holds once its worker failed: the first copies' records and a front of that of the next one, which is lost, or a front of what mending wants.
+-- What a spool that held these bytes holds once its worker failed: the first notes' records and a front of that of the next one, which is lost, or a front of what mending wants.
 abbrev pub IsTornAt : Calendar → List ℕ → List ℕ → List Note → ℕ → List ℕ → Type 0
-IsTornAt calendar host old copies stored bytes =
-    ((torn : List ℕ) × (stored < length copies) × (bytes ≡ mailbox calendar host old (take stored copies) ++ torn) × IsTorn calendar host (drop stored copies) torn)
+IsTornAt calendar host old notes stored bytes =
+    ((torn : List ℕ) × (stored < length notes) × (bytes ≡ mailbox calendar host old (take stored notes) ++ torn) × IsTorn calendar host (drop stored notes) torn)
     ⊎ ((front : List ℕ) × (stored ≡ 0) × (bytes ≡ old ++ front) × IsFront front (mended old))
 
--- A spool took the records of the first copies, as many as are stored: of all of them unless it failed, and one with a limit that failed is full.
+-- A spool took the records of the first of these notes, as many as are stored: of all of them unless it failed, and one with a limit that failed is full.
 -- The last good sync covers them and nothing behind them, and where none is stored there was none.
-pub record HasStored (calendar : Calendar) (host : List ℕ) (copies : List Note) (old : SpoolState) (new : MailboxState) : Type 0 where
-  pub within : new.stored ≤ length copies
-  pub all : new.faulty ≡ false → new.stored ≡ length copies
+pub record HasStored (calendar : Calendar) (host : List ℕ) (notes : List Note) (old : SpoolState) (new : MailboxState) : Type 0 where
+  pub within : new.stored ≤ length notes
+  pub all : new.faulty ≡ false → new.stored ≡ length notes
   pub sound : new.faulty ≡ false → new.state.failures ≡ old.failures
   pub failed : new.faulty ≡ true → Rises old.failures new.state.failures
   pub limited : new.state.limit ≡ old.limit
   pub full : new.faulty ≡ true → IsFull new.state.limit new.state.bytes
-  pub whole : new.faulty ≡ false → IfSome old.bytes (λ held. new.state.bytes ≡ Some (mailbox calendar host held copies))
-  pub torn : new.faulty ≡ true → IfSome old.bytes (λ held. IfSome new.state.bytes (λ bytes. IsTornAt calendar host held copies new.stored bytes))
-  pub covered : 0 < new.stored → IfSome old.bytes (λ held. new.state.synced ≡ length (mailbox calendar host held (take new.stored copies)))
+  pub whole : new.faulty ≡ false → IfSome old.bytes (λ held. new.state.bytes ≡ Some (mailbox calendar host held notes))
+  pub torn : new.faulty ≡ true → IfSome old.bytes (λ held. IfSome new.state.bytes (λ bytes. IsTornAt calendar host held notes new.stored bytes))
+  pub covered : 0 < new.stored → IfSome old.bytes (λ held. new.state.synced ≡ length (mailbox calendar host held (take new.stored notes)))
   pub unsynced : new.stored ≡ 0 → new.state.synced ≡ old.synced
+
+-- behind the first n copies, of which so many are kept, stands one that is kept too
+abbrev pub IsKeptNext : Setting → ℕ → List Note → ℕ → ℕ → Type 0
+IsKeptNext at start copies n stored = (n < length copies) × (length (kept_behind at start (take (n + 1) copies)) ≡ stored + 1)
+
+-- The first copies that a worker took are settled: all of them unless the spool failed, which it did as it was mended or at the record of the next copy.
+-- Of those that are settled each that is kept under the quota is stored, and any other is over the quota and left no byte. So many bytes stand before the first record.
+pub record HasSettled (at : Setting) (start : ℕ) (copies : List Note) (old : SpoolState) (new : MailboxState) : Type 0 where
+  pub starts : IfSome at.quota (λ quota. StartsAt old start)
+  pub within : new.stored + new.over ≤ length copies
+  pub all : new.faulty ≡ false → new.stored + new.over ≡ length copies
+  pub stored : new.stored ≡ length (kept_behind at start (take (new.stored + new.over) copies))
+  pub next : new.faulty ≡ true → (new.stored + new.over ≡ 0) ⊎ IsKeptNext at start copies (new.stored + new.over) new.stored
+  pub spool : HasStored at.calendar at.host (kept_behind at start copies) old new

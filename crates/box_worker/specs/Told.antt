@@ -16,6 +16,6 @@ worker_of (sender ∷ senders) = sender.number
 abbrev pub slip_by : Txn → ℕ → Outcome → Sender Slip → Slip
 slip_by txn place outcome sender = record { txn = txn; place = place; worker = sender.number; outcome = outcome }
 
--- the slips that a worker owes lane k for these copies, of which so many were stored
-abbrev pub owed_to : ℕ → ℕ → ℕ → List Note → List Slip
-owed_to worker stored k copies = filter (λ slip. slip.txn.lane == k) (slips_from worker stored 0 copies)
+-- the slips that a worker owes lane k for these copies, each with its outcome
+abbrev pub owed_to : ℕ → List Outcome → ℕ → List Note → List Slip
+owed_to worker outcomes k copies = filter (λ slip. slip.txn.lane == k) (slips_from worker outcomes copies)

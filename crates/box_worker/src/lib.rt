@@ -3,6 +3,7 @@
 #![tactic(auto)]
 
 mod gate;
+mod limit;
 mod mailbox;
 mod release;
 mod report;

@@ -10,9 +10,11 @@ use msg_depot::DepotName;
 pub struct WorkerReport<N: DepotName, S: Spool, G: Gate> {
     pub spool: S,
     pub gate: G,
-    /// The copies that it took, and those of them that it stored. A count stays at its largest value.
+    /// The copies that it took, those of them that it stored, and those that were over the quota. A count stays at its
+    /// largest value.
     pub taken: u64,
     pub stored: u64,
+    pub over: u64,
     /// Whether the spool failed.
     pub faulty: bool,
     /// Whether a channel was found gone: the mailbox's before its closing marks came, or a lane's that handed a slip

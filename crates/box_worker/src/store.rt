@@ -1,11 +1,11 @@
 //! The record of a held message into a spool.
 
-ghost use Rattle.std.specs.Prelude.{◌≡◌, length, OnOk, OnErr, IfOk};
-ghost use Rattle.mail_world.specs.Counts.{counted};
+ghost use Rattle.std.specs.Prelude.{◌≡◌, ◌<◌, ◌^◌, [], ◌∷◌, ◌++◌, length, OnOk, OnErr, IfOk, SomeIff};
+ghost use Rattle.mail_world.specs.Text.{lf};
 ghost use Rattle.lmtp_text.specs.Calendar.{civil_at};
 ghost use Rattle.mbox_rd.specs.Envelope.{record_text};
 ghost use Rattle.mbox_rd.specs.Spool.{SpoolTook, SpoolFailed};
-ghost use Rattle.mbox_rd.specs.Writing.{WritesPiece, FailsPiece};
+ghost use Rattle.mbox_rd.specs.Writing.{bytes_owed, WritesPiece, FailsPiece};
 ghost use Rattle.box_worker.specs.Stored.{HasKept, HasNotKept};
 
 use mail_world::limits::WORKER_BUFFER_SIZE;
@@ -32,22 +32,27 @@ pub(crate) fn store<N: DepotName, S: Spool, R: Wait>(
     spool.sync()
 }
 
-/// How many bytes the record of the held message has. The count stays at 2^64 - 1.
+/// How many bytes the record of the held message has, unless they are 2^64 or more. The head and the text are counted
+/// apart, since a count stays at 2^64 - 1.
 pub(crate) fn record_size<N: DepotName, R: Wait>(
     rt: &R,
     depot: &Depot<N>,
     host: &[u8],
     envelope: &Envelope,
     hold: &mut Hold<N>,
-) -> u64
-    ensures size { result ≡ counted (length (record_text civil_at host.now envelope.now hold.old.bytes)) }
+) -> Option<u64>
+    ensures size { let size = length (record_text civil_at host.now envelope.now hold.old.bytes) in
+        SomeIff result (size < 2 ^ 64) size }
     ensures hold { hold.new ≡ hold.old }
 {
-    let mut count = CountSpool::new();
-    match append_record(rt, &mut count, depot, host, envelope, hold) {
-        Ok(()) => count.held(),
-        Err(_) => unreachable!(),
-    }
+    let (mut head, mut text) = (CountSpool::new(), CountSpool::new());
+    let Ok(begun) = RecordWriter::begin(&mut head, host, envelope) else {
+        unreachable!()
+    };
+    let Ok(()) = append_text(rt, &mut text, depot, hold, begun) else {
+        unreachable!()
+    };
+    head.held().checked_add(text.held())
 }
 
 // Appends the record of the held message.
@@ -66,6 +71,23 @@ fn append_record<N: DepotName, S: Spool, R: Wait>(
     ensures hold { hold.new ≡ hold.old }
 {
     let begun = RecordWriter::begin(spool, host, envelope)?;
+    append_text(rt, spool, depot, hold, begun)
+}
+
+// Gives the writer the whole message, and ends the record.
+fn append_text<N: DepotName, S: Spool, R: Wait>(
+    rt: &R,
+    spool: &mut S,
+    depot: &Depot<N>,
+    hold: &mut Hold<N>,
+    begun: RecordWriter,
+) -> Result<(), SpoolFault>
+    ensures ok { OnOk result
+        (SpoolTook (S.state spool.old) (S.state spool.new) (bytes_owed begun hold.old.bytes ++ lf ∷ [])) }
+    ensures err { OnErr result
+        (SpoolFailed (S.state spool.old) (S.state spool.new) (bytes_owed begun hold.old.bytes ++ lf ∷ [])) }
+    ensures hold { hold.new ≡ hold.old }
+{
     let written = append_message(rt, spool, depot, hold, begun)?;
     written.end(spool)
 }

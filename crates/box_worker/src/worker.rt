@@ -1,13 +1,13 @@
 //! A worker's thread.
 
-ghost use Rattle.std.specs.Prelude.{◌≡◌, ◌<◌, ◌||◌, ℕ, List, [], ◌∷◌, ◌++◌, length};
+ghost use Rattle.std.specs.Prelude.{◌≡◌, ◌<◌, ◌||◌, ℕ, List, [], ◌∷◌, ◌++◌, length, Option};
 ghost use Rattle.lmtp_text.specs.Calendar.{civil_at};
 ghost use Rattle.mail_world.specs.declared.Note.{Note};
 ghost use Rattle.mail_post.specs.Channel.{taken};
 ghost use Rattle.mail_post.specs.Offered.{HaveNumber, any_refused};
-ghost use Rattle.box_worker.specs.Stored.{kept};
+ghost use Rattle.box_worker.specs.Stored.{mailbox_of};
 ghost use Rattle.box_worker.specs.Told.{worker_of};
-ghost use Rattle.box_worker.specs.Worked.{WorkerState, idle, HasHandled, HasWorked};
+ghost use Rattle.box_worker.specs.Worked.{WorkerState, idle, IsCounting, HasWorked};
 
 use crate::gate::Gate;
 use crate::mailbox::Mailbox;
@@ -19,7 +19,8 @@ use msg_depot::{Depot, DepotName};
 use std::sync::Wait;
 
 /// Stores the copies that come, one after another, and gives each lane a slip for each of its own, until the channel is
-/// closed or lost. It takes no memory.
+/// closed or lost. Under a quota a copy whose record would bring the mailbox above so many bytes isn't stored, and its
+/// lane is told so. It takes no memory.
 pub fn worker_run<N: DepotName, S: Spool, G: Gate, R: Wait>(
     rt: &R,
     receiver: Receiver<N>,
@@ -28,22 +29,24 @@ pub fn worker_run<N: DepotName, S: Spool, G: Gate, R: Wait>(
     depot: &Depot<N>,
     gate: G,
     host: &[u8],
+    quota: Option<u64>,
 ) -> WorkerReport<N, S, G>
     requires fresh { taken receiver ≡ [] }
     requires lanes { length slips.items ≡ receiver.lanes }
     requires worker { HaveNumber (worker_of slips.items) slips.items }
-    ensures { HasWorked (record { calendar = civil_at; host = host.now; worker = worker_of slips.items })
+    ensures { HasWorked
+        (record { calendar = civil_at; host = host.now; quota = quota; worker = worker_of slips.items })
         receiver result.receiver (idle slips.items (S.state spool))
         (record {
           slips = result.slips.items;
-          mailbox = kept (S.state result.spool) result.stored result.faulty;
+          mailbox = mailbox_of (S.state result.spool) result.stored result.over result.faulty;
           taken = result.taken;
           lost = result.lost;
         }) }
 {
     let mut receiver = receiver;
     let mut worker = Worker {
-        mailbox: Mailbox::over(spool),
+        mailbox: Mailbox::on(spool, quota),
         gate,
         slips: SlipSenders::new(slips),
         taken: 0,
@@ -77,21 +80,22 @@ impl<S: Spool, G: Gate> Worker<S, G> {
         post: Post<N>,
     )
         requires lane { post.txn.lane < length self.old.slips }
-        ensures { (worker : ℕ) (copies : List Note) (old : WorkerState)
-            → HasHandled (record { calendar = civil_at; host = host.now; worker = worker }) copies old
+        ensures { (quota : Option ℕ) (worker : ℕ) (copies : List Note) (old : WorkerState)
+            → IsCounting (record { calendar = civil_at; host = host.now; quota = quota; worker = worker }) copies old
             (record {
               slips = self.old.slips;
-              mailbox = kept (S.state self.old.mailbox.spool) self.old.mailbox.stored self.old.mailbox.faulty;
+              mailbox = self.old.mailbox.mailbox;
               taken = self.old.taken;
               lost = any_refused self.old.slips;
-            })
-            → HasHandled (record { calendar = civil_at; host = host.now; worker = worker }) (copies ++ post ∷ []) old
+            }) self.old.mailbox.limit
+            → IsCounting (record { calendar = civil_at; host = host.now; quota = quota; worker = worker })
+            (copies ++ post ∷ []) old
             (record {
               slips = self.new.slips;
-              mailbox = kept (S.state self.new.mailbox.spool) self.new.mailbox.stored self.new.mailbox.faulty;
+              mailbox = self.new.mailbox.mailbox;
               taken = self.new.taken;
               lost = any_refused self.new.slips;
-            }) }
+            }) self.new.mailbox.limit }
     {
         let Parts {
             txn,
@@ -111,8 +115,9 @@ impl<S: Spool, G: Gate> Worker<S, G> {
     // What it hands back once nothing more comes.
     fn report<N: DepotName>(self, receiver: Receiver<N>, is_lost: bool) -> WorkerReport<N, S, G>
         ensures ends { (result.receiver ≡ receiver) × (result.slips.items ≡ self.slips) }
-        ensures counts { (result.taken ≡ self.taken) × (result.stored ≡ self.mailbox.stored) }
-        ensures spool { (S.state result.spool ≡ S.state self.mailbox.spool) × (result.faulty ≡ self.mailbox.faulty) }
+        ensures taken { result.taken ≡ self.taken }
+        ensures mailbox { mailbox_of (S.state result.spool) result.stored result.over result.faulty
+            ≡ self.mailbox.mailbox }
         ensures lost { result.lost ≡ (any_refused self.slips || is_lost) }
     {
         let Worker {
@@ -124,13 +129,16 @@ impl<S: Spool, G: Gate> Worker<S, G> {
         let Mailbox {
             spool,
             stored,
+            over,
             faulty,
+            ..
         } = mailbox;
         WorkerReport {
             spool,
             gate,
             taken,
             stored,
+            over,
             faulty,
             lost: slips.any_refused() || is_lost,
             receiver,

@@ -42,6 +42,7 @@ fn outcome_front(outcome: Outcome) -> &'static [u8]
         Outcome::Failed => b"451 4.3.0 Not stored for ",
         Outcome::NoRoom => b"452 4.3.1 No room for ",
         Outcome::TooLarge => b"552 5.3.4 Too large for ",
+        Outcome::OverQuota => b"452 4.2.2 Over quota for ",
     }
 }
 

@@ -7,7 +7,7 @@ use Rattle.mail_world.specs.Slips.{names, times_named, gather_for, txn_of, own_s
 use Rattle.mail_world.specs.House.{Post, Copy, Box, Lane, House, IsFreshBox, IsFreshLane, IsStart}
 use Rattle.mail_world.specs.declared.Event.{Event}
 use Rattle.mail_world.specs.declared.Event.TheVariants.{Begin, Put, Cancel, Seal, Split, Offer, HandBack, Collect, Take, Write, Sync, Release, GiveSlip, Reclaim, Close}
-use Rattle.mail_world.specs.Events.{Step, LaneIs, BoxIs, without_copy, sealed_up_to, with_heard}
+use Rattle.mail_world.specs.Events.{Step, LaneIs, BoxIs, without_copy, sealed_up_to, with_heard, outcome_of}
 use Rattle.mail_world.specs.Runs.{Happened, Run, last_house, finished_by, HearsOnce}
 use Rattle.mail_world.proofs.Accepted.{get_set, each_at}
 use Rattle.mail_world.proofs.Spools.{AllSound, sound_step, sound_fresh, held}
@@ -95,11 +95,11 @@ gave_by true told told' way way' old false f a b h = let bad : true ≡ false = 
 gave_by false told told' way way' old false f a b h = omega arith
 
 gave : (lane next : Lane) (w : ℕ) (copy : Copy) (bs ms : List Box) (txn : Txn) (p : ℕ)
-    → next.heard ≡ lane.heard → next.collected ≡ lane.collected → next.messages ≡ lane.messages → next.slips ≡ lane.slips ++ slip_of w copy.post.note copy.synced ∷ []
+    → next.heard ≡ lane.heard → next.collected ≡ lane.collected → next.messages ≡ lane.messages → next.slips ≡ lane.slips ++ slip_of w copy.post.note (outcome_of copy) ∷ []
     → times_on_way txn p bs ≡ times_on_way txn p ms + cond (is_of txn p copy.post) 1 0
     → IsBounded copy.post.note.txn.lane lane bs txn p → IsBounded copy.post.note.txn.lane next ms txn p
 gave lane next w copy bs ms txn p heard count ts slips way h =
-    let slip : Slip = slip_of w copy.post.note copy.synced in
+    let slip : Slip = slip_of w copy.post.note (outcome_of copy) in
     let more : times_told txn p next ≤ times_told txn p lane + cond (is_of txn p copy.post) 1 0 =
     rw (heard, count, slips) (omega (arith, count_one_more (names txn p) lane.collected lane.slips slip)) in
     rw (ts) (gave_by (is_of txn p copy.post) (times_told txn p lane) (times_told txn p next) (times_on_way txn p bs) (times_on_way txn p ms) _ (copy.post.note.txn.lane == txn.lane) (λ e. rw e refl) more way h)
@@ -158,8 +158,8 @@ bounded_step h (Sync w) new sound all st =
 bounded_step h (Release w) new sound all st =
     box_alone h new w st.box _ (ap (λ (x : House). x.boxes) st.after) (ap (λ (x : House). x.lanes) st.after) st.is (ap (λ hand. drop (finished_by st.box.taken hand) st.box.accepted) (sym st.in_hand)) all
 bounded_step h (GiveSlip w o) new sound all st =
-    let hand = held h.calendar h.host st.box st.copy st.in_hand (sound w st.box st.is) in
-    let next : Lane = record st.lane { slips = st.lane.slips ++ slip_of w st.copy.post.note st.copy.synced ∷ [] } in
+    let hand = held h.calendar h.host h.quota st.box st.copy st.in_hand (sound w st.box st.is) in
+    let next : Lane = record st.lane { slips = st.lane.slips ++ slip_of w st.copy.post.note (outcome_of st.copy) ∷ [] } in
     let boxes : new.boxes ≡ slice_set h.boxes w (record st.box { hand = None }) = ap (λ (x : House). x.boxes) st.after in
     let way : (txn : Txn) (p : ℕ) → times_on_way txn p h.boxes ≡ times_on_way txn p new.boxes + cond (is_of txn p st.copy.post) 1 0 =
     (λ txn p. rw (boxes) (way_gave txn p h.boxes w st.box st.copy hand.before st.is st.in_hand hand.last hand.at)) in
@@ -189,6 +189,6 @@ once_by false a b way old le h = omega arith
 
 pub every_run_hears_once : (blocks : ℕ) (start : House) (run : List Happened) → IsStart blocks start → Run start run → HearsOnce (last_house start run)
 every_run_hears_once blocks start run is r k lane at txn p =
-    let all = bounded_run start run (λ b box here. sound_fresh start.calendar start.host box (each_at IsFreshBox start.boxes b box is.boxes here)) (bounded_start blocks start is) r in
+    let all = bounded_run start run (λ b box here. sound_fresh start.calendar start.host start.quota box (each_at IsFreshBox start.boxes b box is.boxes here)) (bounded_start blocks start is) r in
     once_by (k == txn.lane) (times_named txn p lane.heard) (times_named txn p (drop lane.collected lane.slips)) _ _
     (given_once k (last_house start run) lane at (every_run_is_once blocks start run is r) txn.number p) (all k lane at txn p)

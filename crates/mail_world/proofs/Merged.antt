@@ -13,7 +13,7 @@ use Rattle.mail_world.specs.Depot.{Key}
 use Rattle.mail_world.specs.House.{Post, Box, SealedMessage, Lane, House, IsFreshBox, IsFreshLane, IsStart}
 use Rattle.mail_world.specs.declared.Event.{Event}
 use Rattle.mail_world.specs.declared.Event.TheVariants.{Begin, Put, Cancel, Seal, Split, Offer, HandBack, Collect, Take, Write, Sync, Release, GiveSlip, Reclaim, Close}
-use Rattle.mail_world.specs.Events.{Step, LaneIs, BoxIs, without_copy, sealed_up_to, with_heard}
+use Rattle.mail_world.specs.Events.{Step, LaneIs, BoxIs, without_copy, sealed_up_to, with_heard, outcome_of}
 use Rattle.mail_world.specs.Runs.{Happened, Run, last_house, events_of, times_copied, is_collect, handed_back_by, handed_back, IsOfMessage, IsHandedBack, HasHeard}
 use Rattle.mail_world.proofs.OneLine.{other_byte}
 use Rattle.mail_world.proofs.Accepted.{get_set, each_at}
@@ -272,7 +272,7 @@ so_far_step events h (Release w) new all st =
     no_lane events (Release w) h new (ap (λ (x : House). x.lanes) st.after) (one_box h new w st.box _ (ap (λ (x : House). x.boxes) st.after) st.is refl) (λ v. (refl, refl)) all
 so_far_step events h (GiveSlip w o) new all st =
     let k : ℕ = st.copy.post.note.txn.lane in
-    let slip : Slip = slip_of w st.copy.post.note st.copy.synced in
+    let slip : Slip = slip_of w st.copy.post.note (outcome_of st.copy) in
     let next : Lane = record st.lane { slips = st.lane.slips ++ slip ∷ [] } in
     let le : NoCopy h new = one_box h new w st.box (record st.box { hand = None }) (ap (λ (x : House). x.boxes) st.after) st.is refl in
     lane_alone events (GiveSlip w o) h new k st.lane next (ap (λ (x : House). x.lanes) st.after) st.to le (λ v ne. (refl, refl))

@@ -1,15 +1,14 @@
 -- Steps of a worker or of the house that have no result.
-use Rattle.std.proofs.Common.{◌≡◌, ◌≢◌, ℕ, ◌<◌, ◌≤◌, List, ◌++◌, length, drop, Bool, true, false, Some, None, ap, sym, ◌∙◌, subst, arith}
-use Rattle.std.specs.Prelude.{slice_get}
+use Rattle.std.proofs.Common.{◌≡◌, ◌≢◌, ℕ, ◌<◌, ◌≤◌, List, ◌++◌, length, drop, Bool, true, false, Some, None, ◌||◌, ◌⊎◌, inl, inr, ap, sym, ◌∙◌, subst, arith}
+use Rattle.std.specs.Prelude.{slice_get, if◌then◌else◌}
+use Rattle.std.proofs.lemmas.Bool.{or_parts}
 use Rattle.std.proofs.lemmas.Option.{slice_get_within}
-use Rattle.mail_world.specs.declared.Note.{Note}
 use Rattle.mail_world.specs.declared.Outcome.{Outcome}
-use Rattle.mail_world.specs.declared.Outcome.TheVariants.{Stored, Failed}
+use Rattle.mail_world.specs.declared.Outcome.TheVariants.{Stored, Failed, OverQuota}
 use Rattle.mail_world.specs.Records.{record_of}
 use Rattle.mail_world.specs.Depot.{Key, Free, Draft, Sealed, Retired, held_under, weight_held}
-use Rattle.mail_world.specs.House.{House, Box, Copy}
-use Rattle.mail_world.specs.Events.{TakeStep, WriteStep, SyncStep, ReleaseStep, GiveSlipStep, ReclaimStep, CloseStep, BoxIs}
-use Rattle.mail_world.specs.Slips.{slip_of}
+use Rattle.mail_world.specs.House.{House, Box, Copy, is_settled}
+use Rattle.mail_world.specs.Events.{TakeStep, WriteStep, SyncStep, ReleaseStep, GiveSlipStep, ReclaimStep, CloseStep, BoxIs, outcome_of}
 use Rattle.mail_world.proofs.WrongSteps.{not_both, none_some, same_box, same_copy, no_copy}
 
 pub take_with_copy : (h new : House) (w : ℕ) (box : Box) (copy : Copy) → BoxIs h w box → box.hand ≡ Some copy → TakeStep h w new → ⊥
@@ -57,10 +56,24 @@ sync_after_release h new w box copy is hand gone st =
     let same = same_copy h w box st.box copy st.copy is st.is hand st.in_hand in
     not_both st.copy.released (ap (λ (x : Copy). x.released) (sym same) ∙ gone) st.held
 
+-- the copy is settled, and the event needs one that isn't
+not_settled : (h : House) (w : ℕ) (box other : Box) (copy in_step : Copy) → BoxIs h w box → BoxIs h w other → box.hand ≡ Some copy → other.hand ≡ Some in_step
+    → is_settled in_step ≡ false → (copy.synced ≡ false) × (copy.over ≡ false)
+not_settled h w box other copy in_step is at hand in_hand unsettled =
+    let same = same_copy h w box other copy in_step is at hand in_hand in
+    or_parts copy.synced copy.over (ap is_settled same ∙ unsettled)
+
+pub write_after_sync : (h new : House) (w : ℕ) (bytes : List ℕ) (box : Box) (copy : Copy) → BoxIs h w box → box.hand ≡ Some copy → copy.synced ≡ true → WriteStep h w bytes new → ⊥
+write_after_sync h new w bytes box copy is hand synced st = not_both copy.synced synced (not_settled h w box st.box copy st.copy is st.is hand st.in_hand st.unsettled).0
+
+pub write_over_quota : (h new : House) (w : ℕ) (bytes : List ℕ) (box : Box) (copy : Copy) → BoxIs h w box → box.hand ≡ Some copy → copy.over ≡ true → WriteStep h w bytes new → ⊥
+write_over_quota h new w bytes box copy is hand over st = not_both copy.over over (not_settled h w box st.box copy st.copy is st.is hand st.in_hand st.unsettled).1
+
 pub sync_twice : (h new : House) (w : ℕ) (box : Box) (copy : Copy) → BoxIs h w box → box.hand ≡ Some copy → copy.synced ≡ true → SyncStep h w new → ⊥
-sync_twice h new w box copy is hand synced st =
-    let same = same_copy h w box st.box copy st.copy is st.is hand st.in_hand in
-    not_both st.copy.synced (ap (λ (x : Copy). x.synced) (sym same) ∙ synced) st.first
+sync_twice h new w box copy is hand synced st = not_both copy.synced synced (not_settled h w box st.box copy st.copy is st.is hand st.in_hand st.unsettled).0
+
+pub sync_over_quota : (h new : House) (w : ℕ) (box : Box) (copy : Copy) → BoxIs h w box → box.hand ≡ Some copy → copy.over ≡ true → SyncStep h w new → ⊥
+sync_over_quota h new w box copy is hand over st = not_both copy.over over (not_settled h w box st.box copy st.copy is st.is hand st.in_hand st.unsettled).1
 
 pub release_without_copy : (h new : House) (w : ℕ) (box : Box) → BoxIs h w box → box.hand ≡ None → ReleaseStep h w new → ⊥
 release_without_copy h new w box is none st = no_copy h w box st.box st.copy is st.is none st.in_hand
@@ -79,24 +92,50 @@ slip_before_release h new w outcome box copy is hand there st =
     not_both st.copy.released st.let_go (ap (λ (x : Copy). x.released) (sym same) ∙ there)
 
 pub slip_that_lies : (h new : House) (w : ℕ) (outcome : Outcome) (box : Box) (copy : Copy) → BoxIs h w box → box.hand ≡ Some copy
-    → outcome ≢ (slip_of w copy.post.note copy.synced).outcome → GiveSlipStep h w outcome new → ⊥
+    → outcome ≢ outcome_of copy → GiveSlipStep h w outcome new → ⊥
 slip_that_lies h new w outcome box copy is hand lies st =
     let same = same_copy h w box st.box copy st.copy is st.is hand st.in_hand in
-    lies (subst (λ (x : Copy). outcome ≡ (slip_of w x.post.note x.synced).outcome) (sym same) st.says)
+    lies (subst (λ (x : Copy). outcome ≡ outcome_of x) (sym same) st.says)
 
-stored_by : (b : Bool) (w : ℕ) (note : Note) → b ≡ false → Stored ≢ (slip_of w note b).outcome
-stored_by true w note f e = cc
-stored_by false w note f e = let bad : Stored ≡ Failed = e in cc
+-- what is said, by whether the copy was synced and whether it is over the quota
+abbrev said : Bool → Bool → Outcome
+said synced over = if synced || over then (if over then OverQuota else Stored) else Failed
 
-failed_by : (b : Bool) (w : ℕ) (note : Note) → b ≡ true → Failed ≢ (slip_of w note b).outcome
-failed_by true w note f e = let bad : Failed ≡ Stored = e in cc
-failed_by false w note f e = cc
+not_stored : (synced over : Bool) → synced ≡ false → Stored ≢ said synced over
+not_stored true over e says = cc
+not_stored false true e says = let bad : Stored ≡ OverQuota = says in cc
+not_stored false false e says = let bad : Stored ≡ Failed = says in cc
+
+not_failed : (synced over : Bool) → (synced ≡ true) ⊎ (over ≡ true) → Failed ≢ said synced over
+not_failed true true e says = let bad : Failed ≡ OverQuota = says in cc
+not_failed true false e says = let bad : Failed ≡ Stored = says in cc
+not_failed false true e says = let bad : Failed ≡ OverQuota = says in cc
+not_failed false false e says = elim e [ inl a ↦ cc | inr b ↦ cc ]
+
+stored_not_over : (synced over : Bool) → over ≡ true → Stored ≢ said synced over
+stored_not_over true true e says = let bad : Stored ≡ OverQuota = says in cc
+stored_not_over false true e says = let bad : Stored ≡ OverQuota = says in cc
+stored_not_over synced false e says = cc
+
+over_only : (synced over : Bool) → over ≡ false → OverQuota ≢ said synced over
+over_only synced true e says = cc
+over_only true false e says = let bad : OverQuota ≡ Stored = says in cc
+over_only false false e says = let bad : OverQuota ≡ Failed = says in cc
 
 pub stored_without_sync : (h new : House) (w : ℕ) (box : Box) (copy : Copy) → BoxIs h w box → box.hand ≡ Some copy → copy.synced ≡ false → GiveSlipStep h w Stored new → ⊥
-stored_without_sync h new w box copy is hand unsynced st = slip_that_lies h new w Stored box copy is hand (stored_by copy.synced w copy.post.note unsynced) st
+stored_without_sync h new w box copy is hand unsynced st = slip_that_lies h new w Stored box copy is hand (not_stored copy.synced copy.over unsynced) st
 
 pub failed_after_sync : (h new : House) (w : ℕ) (box : Box) (copy : Copy) → BoxIs h w box → box.hand ≡ Some copy → copy.synced ≡ true → GiveSlipStep h w Failed new → ⊥
-failed_after_sync h new w box copy is hand synced st = slip_that_lies h new w Failed box copy is hand (failed_by copy.synced w copy.post.note synced) st
+failed_after_sync h new w box copy is hand synced st = slip_that_lies h new w Failed box copy is hand (not_failed copy.synced copy.over (inl synced)) st
+
+pub stored_over_quota : (h new : House) (w : ℕ) (box : Box) (copy : Copy) → BoxIs h w box → box.hand ≡ Some copy → copy.over ≡ true → GiveSlipStep h w Stored new → ⊥
+stored_over_quota h new w box copy is hand over st = slip_that_lies h new w Stored box copy is hand (stored_not_over copy.synced copy.over over) st
+
+pub failed_over_quota : (h new : House) (w : ℕ) (box : Box) (copy : Copy) → BoxIs h w box → box.hand ≡ Some copy → copy.over ≡ true → GiveSlipStep h w Failed new → ⊥
+failed_over_quota h new w box copy is hand over st = slip_that_lies h new w Failed box copy is hand (not_failed copy.synced copy.over (inr over)) st
+
+pub over_quota_within : (h new : House) (w : ℕ) (box : Box) (copy : Copy) → BoxIs h w box → box.hand ≡ Some copy → copy.over ≡ false → GiveSlipStep h w OverQuota new → ⊥
+over_quota_within h new w box copy is hand within st = slip_that_lies h new w OverQuota box copy is hand (over_only copy.synced copy.over within) st
 
 pub reclaim_of_held : (h new : House) (key : Key) (bytes blocks : List ℕ) (weight : ℕ) → held_under h.depot key ≡ Sealed bytes blocks weight → 0 < weight → ReclaimStep h key new → ⊥
 reclaim_of_held h new key bytes blocks weight held some st =

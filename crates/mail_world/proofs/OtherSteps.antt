@@ -5,7 +5,7 @@ use Rattle.mail_world.specs.declared.Note.{Note}
 use Rattle.mail_world.specs.declared.Event.TheVariants.{Begin, Split, Offer, Collect, Take, Write, Sync, Reclaim, Close}
 use Rattle.mail_world.specs.Records.{record_of}
 use Rattle.mail_world.specs.Depot.{Key, Held, Free, Draft, Sealed, Slot, held_under, with_held, given_back}
-use Rattle.mail_world.specs.House.{House, Box, Lane, Copy, Hold}
+use Rattle.mail_world.specs.House.{House, Box, Lane, Copy, Hold, is_settled}
 use Rattle.mail_world.specs.Events.{MayHappen, HasCopy, BoxIs, LaneIs, sealed_up_to}
 use Rattle.mail_world.proofs.Depots.{times-append}
 
@@ -44,15 +44,15 @@ take h w box is none more =
     let front = there box.accepted box.taken more in
     (_, record { box = box; post = front.0; is = is; free_hand = none; front = front.1; after = refl })
 
-pub write : (h : House) (w : ℕ) (bytes more : List ℕ) (box : Box) (copy : Copy) → BoxIs h w box → box.hand ≡ Some copy → copy.released ≡ false → box.faulty ≡ false
+pub write : (h : House) (w : ℕ) (bytes more : List ℕ) (box : Box) (copy : Copy) → BoxIs h w box → box.hand ≡ Some copy → copy.released ≡ false → is_settled copy ≡ false → box.faulty ≡ false
     → drop copy.written (record_of h.calendar h.host copy.post.note) ≡ bytes ++ more → MayHappen h (Write w bytes)
-write h w bytes more box copy is hand held sound next =
-    (_, record { box = box; copy = copy; more = more; is = is; in_hand = hand; sound = sound; held = held; next = next; after = refl })
+write h w bytes more box copy is hand held unsettled sound next =
+    (_, record { box = box; copy = copy; more = more; is = is; in_hand = hand; sound = sound; held = held; unsettled = unsettled; next = next; after = refl })
 
-pub sync : (h : House) (w : ℕ) (box : Box) (copy : Copy) → BoxIs h w box → box.hand ≡ Some copy → copy.released ≡ false → box.faulty ≡ false → copy.synced ≡ false
+pub sync : (h : House) (w : ℕ) (box : Box) (copy : Copy) → BoxIs h w box → box.hand ≡ Some copy → copy.released ≡ false → is_settled copy ≡ false → box.faulty ≡ false
     → copy.written ≡ length (record_of h.calendar h.host copy.post.note) → MayHappen h (Sync w)
-sync h w box copy is hand held sound first whole =
-    (_, record { box = box; copy = copy; is = is; in_hand = hand; sound = sound; held = held; first = first; whole = whole; after = refl })
+sync h w box copy is hand held unsettled sound whole =
+    (_, record { box = box; copy = copy; is = is; in_hand = hand; sound = sound; held = held; unsettled = unsettled; whole = whole; after = refl })
 
 pub reclaim : (h : House) (key : Key) (bytes blocks : List ℕ) → held_under h.depot key ≡ Sealed bytes blocks 0 → MayHappen h (Reclaim key.slot key.generation)
 reclaim h key bytes blocks held =

@@ -1,5 +1,6 @@
 -- What a mailbox with a quota keeps.
 use Rattle.std.proofs.Common.{◌≡◌, ℕ, ◌+◌, ◌≤◌, arith, Bool, true, false, List, [], ◌∷◌, ◌++◌, length, Option, Some, None, refl, sym, ap, ◌∙◌, subst}
+use Rattle.std.specs.List.{AllByRecursion}
 use Rattle.std.specs.Prelude.{if◌then◌else◌, flat_map, nat_le}
 use Rattle.std.proofs.lemmas.Bool.{leb-true}
 use Rattle.std.proofs.lemmas.List.{length-append}
@@ -7,25 +8,33 @@ use Rattle.mail_world.specs.declared.Note.{Note}
 use Rattle.mail_world.specs.Records.{Calendar, record_of, mended, mailbox}
 use Rattle.mail_world.specs.Quotas.{fits, are_kept_behind, are_kept, marked, kept}
 
+-- what holds of all holds of those that are marked
+pub all_marked : {A : Type 0} (P : A → Type 0) (marks : List Bool) (xs : List A) → AllByRecursion P xs → AllByRecursion P (marked marks xs)
+all_marked P [] xs all = tt
+all_marked P (true ∷ marks) [] all = tt
+all_marked P (false ∷ marks) [] all = tt
+all_marked P (true ∷ marks) (x ∷ xs) all = (all.0, all_marked P marks xs all.1)
+all_marked P (false ∷ marks) (x ∷ xs) all = all_marked P marks xs all.1
+
 module _ (calendar : Calendar) (host : List ℕ) where
   abbrev size : Note → ℕ
   size note = length (record_of calendar host note)
 
-  abbrev total : List Note → ℕ
+  abbrev pub total : List Note → ℕ
   total notes = length (flat_map (record_of calendar host) notes)
 
   -- a note with its mark, and those behind it
-  grows_by : (t : Bool) (len : ℕ) (note : Note) (notes : List Note) (marks : List Bool)
+  pub grows_by : (t : Bool) (len : ℕ) (note : Note) (notes : List Note) (marks : List Bool)
       → (if t then len + size note else len) + total (marked marks notes) ≡ len + total (marked (t ∷ marks) (note ∷ notes))
   grows_by true len note notes marks =
       let e = length-append (record_of calendar host note) (flat_map (record_of calendar host) (marked marks notes)) in omega (arith, e)
   grows_by false len note notes marks = refl
 
   -- the bytes that stand there behind these notes
-  abbrev behind : Option ℕ → ℕ → List Note → ℕ
+  abbrev pub behind : Option ℕ → ℕ → List Note → ℕ
   behind quota len notes = len + total (marked (are_kept_behind calendar host quota len notes) notes)
 
-  next_behind : (quota : Option ℕ) (len : ℕ) (notes : List Note) (note : Note)
+  pub next_behind : (quota : Option ℕ) (len : ℕ) (notes : List Note) (note : Note)
       → are_kept_behind calendar host quota len (notes ++ note ∷ []) ≡ are_kept_behind calendar host quota len notes ++ fits quota (behind quota len notes) (size note) ∷ []
   next_behind quota len [] note = let e : len ≡ len + 0 = omega arith in ap (λ n. fits quota n (size note) ∷ []) e
   next_behind quota len (x ∷ notes) note =
@@ -36,7 +45,7 @@ module _ (calendar : Calendar) (host : List ℕ) where
       ∙ ap (λ n. are_kept_behind calendar host quota after notes ++ fits quota n (size note) ∷ []) (grows_by t len x notes (are_kept_behind calendar host quota after notes))
       )
 
-  all_behind : (len : ℕ) (notes : List Note) → marked (are_kept_behind calendar host None len notes) notes ≡ notes
+  pub all_behind : (len : ℕ) (notes : List Note) → marked (are_kept_behind calendar host None len notes) notes ≡ notes
   all_behind len [] = refl
   all_behind len (note ∷ notes) = ap (λ l. note ∷ l) (all_behind (len + size note) notes)
 

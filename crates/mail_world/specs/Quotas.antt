@@ -2,7 +2,7 @@
 use Rattle.std.specs.Prelude.{ℕ, zero, suc, ◌+◌, nat_le, Bool, true, false, List, [], ◌∷◌, ◌++◌, length, if◌then◌else◌, Option, Some, None}
 use Rattle.mail_world.specs.declared.Note.{Note}
 use Rattle.mail_world.specs.declared.Outcome.{Outcome}
-use Rattle.mail_world.specs.declared.Outcome.TheVariants.{Stored, Failed}
+use Rattle.mail_world.specs.declared.Outcome.TheVariants.{Stored, Failed, OverQuota}
 use Rattle.mail_world.specs.Records.{Calendar, record_of, mended}
 
 -- a record of that size may stand behind so many bytes
@@ -32,9 +32,8 @@ marked _ _ = []
 abbrev pub kept : Calendar → List ℕ → Option ℕ → List ℕ → List Note → List Note
 kept calendar host quota old notes = marked (are_kept calendar host quota old notes) notes
 
--- what is told of notes, by whether each is kept: the first so many were settled, so that a kept one is Stored and any other is over the quota; those behind are Failed
-abbrev pub outcomes_settled : Outcome → ℕ → List Bool → List Outcome
-outcomes_settled over_quota settled [] = []
-outcomes_settled over_quota zero (is_kept ∷ marks) = Failed ∷ outcomes_settled over_quota zero marks
-outcomes_settled over_quota (suc settled) (is_kept ∷ marks) =
-    (if is_kept then Stored else over_quota) ∷ outcomes_settled over_quota settled marks
+-- what is told of notes, by whether each is kept: the first so many were settled, so that a kept one is Stored and any other OverQuota; those behind are Failed
+abbrev pub outcomes_settled : ℕ → List Bool → List Outcome
+outcomes_settled settled [] = []
+outcomes_settled zero (is_kept ∷ marks) = Failed ∷ outcomes_settled zero marks
+outcomes_settled (suc settled) (is_kept ∷ marks) = (if is_kept then Stored else OverQuota) ∷ outcomes_settled settled marks

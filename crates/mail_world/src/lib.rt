@@ -24,6 +24,7 @@ pub enum Outcome {
     Failed,
     NoRoom,
     TooLarge,
+    OverQuota,
 }
 
 /// What one recipient's copy came to, as a worker or the lane itself reports it.

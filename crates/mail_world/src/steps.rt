@@ -7,14 +7,13 @@ ghost use Rattle.mail_world.specs.declared.Event.TheVariants.{Begin, Put, Cancel
 ghost use Rattle.mail_world.specs.declared.Event.TheVariants.{Collect, Take, Write, Sync, Release, GiveSlip, Reclaim};
 ghost use Rattle.mail_world.specs.declared.Event.TheVariants.{Close};
 ghost use Rattle.mail_world.specs.declared.Outcome.{Outcome};
-ghost use Rattle.mail_world.specs.declared.Outcome.TheVariants.{Stored, Failed};
+ghost use Rattle.mail_world.specs.declared.Outcome.TheVariants.{Stored, Failed, OverQuota};
 ghost use Rattle.mail_world.specs.Records.{record_of};
 ghost use Rattle.mail_world.specs.Depot.{Key, Slot, Free, Sealed, Retired, HasRoom, held_under, spent};
 ghost use Rattle.mail_world.specs.Depot as depot;
-ghost use Rattle.mail_world.specs.House.{House, Box, Lane, Copy, Hold, SealedMessage};
-ghost use Rattle.mail_world.specs.Events.{Step, MayHappen, HasCopy, BoxIs, LaneIs, sealed_up_to};
-ghost use Rattle.mail_world.specs.Slips.{slip_of};
-ghost use Rattle.mail_world.specs.Runs.{InEveryRun};
+ghost use Rattle.mail_world.specs.House.{House, Box, Lane, Copy, Hold, SealedMessage, is_settled};
+ghost use Rattle.mail_world.specs.Events.{Step, MayHappen, HasCopy, BoxIs, LaneIs, sealed_up_to, outcome_of};
+ghost use Rattle.mail_world.specs.Runs.{InEveryRun, fits_next};
 
 /// A lane that has a draft may add bytes to it where enough blocks are free, seal it and drop it, a hold of weight 1
 /// may be released, and what became of a copy may be told: in each house of each run, the depot and the lanes are as
@@ -34,7 +33,7 @@ pub fn steps_of_holders_may_happen()
         → copy.released ≡ false → MayHappen h (Release w)) }
     ensures give_slip { InEveryRun
         (λ blocks events h. (w : ℕ) (box : Box) (copy : Copy) → BoxIs h w box → box.hand ≡ Some copy
-        → copy.released ≡ true → MayHappen h (GiveSlip w (slip_of w copy.post.note copy.synced).outcome)) }
+        → copy.released ≡ true → MayHappen h (GiveSlip w (outcome_of copy))) }
     ensures hand_back { InEveryRun
         (λ blocks events h. (k i m : ℕ) (lane : Lane) (hold : Hold) → LaneIs h k lane
         → slice_get lane.holds i ≡ Some hold → hold.weight ≡ 1 → MayHappen h (HandBack k i m)) }
@@ -55,10 +54,10 @@ pub fn other_steps_may_happen()
     ensures take { (h : House) (w : ℕ) (box : Box) → BoxIs h w box → box.hand ≡ None → box.taken < length box.accepted
         → MayHappen h (Take w) }
     ensures write { (h : House) (w : ℕ) (bytes more : List ℕ) (box : Box) (copy : Copy) → BoxIs h w box
-        → box.hand ≡ Some copy → copy.released ≡ false → box.faulty ≡ false
+        → box.hand ≡ Some copy → copy.released ≡ false → is_settled copy ≡ false → box.faulty ≡ false
         → drop copy.written (record_of h.calendar h.host copy.post.note) ≡ bytes ++ more → MayHappen h (Write w bytes) }
     ensures sync { (h : House) (w : ℕ) (box : Box) (copy : Copy) → BoxIs h w box → box.hand ≡ Some copy
-        → copy.released ≡ false → box.faulty ≡ false → copy.synced ≡ false
+        → copy.released ≡ false → is_settled copy ≡ false → box.faulty ≡ false
         → copy.written ≡ length (record_of h.calendar h.host copy.post.note) → MayHappen h (Sync w) }
     ensures reclaim { (h : House) (key : Key) (bytes blocks : List ℕ) → held_under h.depot key ≡ spent bytes blocks
         → MayHappen h (Reclaim key.slot key.generation) }
@@ -129,6 +128,10 @@ pub fn wrong_steps_of_workers_have_no_result()
         → Step h (Write w bytes) new → ⊥ }
     ensures write_after_release { (h new : House) (w : ℕ) (bytes : List ℕ) (box : Box) (copy : Copy) → BoxIs h w box
         → box.hand ≡ Some copy → copy.released ≡ true → Step h (Write w bytes) new → ⊥ }
+    ensures write_after_sync { (h new : House) (w : ℕ) (bytes : List ℕ) (box : Box) (copy : Copy) → BoxIs h w box
+        → box.hand ≡ Some copy → copy.synced ≡ true → Step h (Write w bytes) new → ⊥ }
+    ensures write_over_quota { (h new : House) (w : ℕ) (bytes : List ℕ) (box : Box) (copy : Copy) → BoxIs h w box
+        → box.hand ≡ Some copy → copy.over ≡ true → Step h (Write w bytes) new → ⊥ }
     ensures sync_without_copy { (h new : House) (w : ℕ) (box : Box) → BoxIs h w box → box.hand ≡ None
         → Step h (Sync w) new → ⊥ }
     ensures sync_of_part { (h new : House) (w : ℕ) (box : Box) (copy : Copy) → BoxIs h w box → box.hand ≡ Some copy
@@ -139,6 +142,8 @@ pub fn wrong_steps_of_workers_have_no_result()
         → box.hand ≡ Some copy → copy.released ≡ true → Step h (Sync w) new → ⊥ }
     ensures sync_twice { (h new : House) (w : ℕ) (box : Box) (copy : Copy) → BoxIs h w box → box.hand ≡ Some copy
         → copy.synced ≡ true → Step h (Sync w) new → ⊥ }
+    ensures sync_over_quota { (h new : House) (w : ℕ) (box : Box) (copy : Copy) → BoxIs h w box → box.hand ≡ Some copy
+        → copy.over ≡ true → Step h (Sync w) new → ⊥ }
     ensures release_without_copy { (h new : House) (w : ℕ) (box : Box) → BoxIs h w box → box.hand ≡ None
         → Step h (Release w) new → ⊥ }
     ensures release_twice { (h new : House) (w : ℕ) (box : Box) (copy : Copy) → BoxIs h w box → box.hand ≡ Some copy
@@ -148,12 +153,18 @@ pub fn wrong_steps_of_workers_have_no_result()
     ensures slip_before_release { (h new : House) (w : ℕ) (outcome : Outcome) (box : Box) (copy : Copy) → BoxIs h w box
         → box.hand ≡ Some copy → copy.released ≡ false → Step h (GiveSlip w outcome) new → ⊥ }
     ensures slip_that_lies { (h new : House) (w : ℕ) (outcome : Outcome) (box : Box) (copy : Copy) → BoxIs h w box
-        → box.hand ≡ Some copy → outcome ≢ (slip_of w copy.post.note copy.synced).outcome
+        → box.hand ≡ Some copy → outcome ≢ outcome_of copy
         → Step h (GiveSlip w outcome) new → ⊥ }
     ensures stored_without_sync { (h new : House) (w : ℕ) (box : Box) (copy : Copy) → BoxIs h w box
         → box.hand ≡ Some copy → copy.synced ≡ false → Step h (GiveSlip w Stored) new → ⊥ }
     ensures failed_after_sync { (h new : House) (w : ℕ) (box : Box) (copy : Copy) → BoxIs h w box → box.hand ≡ Some copy
         → copy.synced ≡ true → Step h (GiveSlip w Failed) new → ⊥ }
+    ensures stored_over_quota { (h new : House) (w : ℕ) (box : Box) (copy : Copy) → BoxIs h w box
+        → box.hand ≡ Some copy → copy.over ≡ true → Step h (GiveSlip w Stored) new → ⊥ }
+    ensures failed_over_quota { (h new : House) (w : ℕ) (box : Box) (copy : Copy) → BoxIs h w box
+        → box.hand ≡ Some copy → copy.over ≡ true → Step h (GiveSlip w Failed) new → ⊥ }
+    ensures over_quota_within { (h new : House) (w : ℕ) (box : Box) (copy : Copy) → BoxIs h w box
+        → box.hand ≡ Some copy → copy.over ≡ false → Step h (GiveSlip w OverQuota) new → ⊥ }
     ensures reclaim_of_held { (h new : House) (key : Key) (bytes blocks : List ℕ) (weight : ℕ)
         → held_under h.depot key ≡ Sealed bytes blocks weight → 0 < weight
         → Step h (Reclaim key.slot key.generation) new → ⊥ }
@@ -165,4 +176,24 @@ pub fn wrong_steps_of_workers_have_no_result()
         → Step h (Reclaim key.slot key.generation) new → ⊥ }
     ensures close_twice { (h new : House) (b : ℕ) (box : Box) → BoxIs h b box → box.closed ≡ true → Step h (Close b) new
         → ⊥ }
+{}
+
+/// Steps of a worker that have no result in each house of each run: it writes nothing of a copy whose record doesn't
+/// fit, and what it says is Failed where it is faulty, else Stored or OverQuota as the record fits.
+pub fn wrong_steps_with_a_quota_have_no_result()
+    ensures write { InEveryRun
+        (λ blocks events h. (new : House) (w : ℕ) (bytes : List ℕ) (box : Box) (copy : Copy) → BoxIs h w box
+        → box.hand ≡ Some copy → fits_next h box copy.post.note ≡ false → Step h (Write w bytes) new → ⊥) }
+    ensures faulty { InEveryRun
+        (λ blocks events h. (new : House) (w : ℕ) (outcome : Outcome) (box : Box) → BoxIs h w box → box.faulty ≡ true
+        → outcome ≢ Failed → Step h (GiveSlip w outcome) new → ⊥) }
+    ensures sound { InEveryRun
+        (λ blocks events h. (new : House) (w : ℕ) (box : Box) → BoxIs h w box → box.faulty ≡ false
+        → Step h (GiveSlip w Failed) new → ⊥) }
+    ensures over_quota { InEveryRun
+        (λ blocks events h. (new : House) (w : ℕ) (box : Box) (copy : Copy) → BoxIs h w box → box.hand ≡ Some copy
+        → fits_next h box copy.post.note ≡ true → Step h (GiveSlip w OverQuota) new → ⊥) }
+    ensures stored { InEveryRun
+        (λ blocks events h. (new : House) (w : ℕ) (box : Box) (copy : Copy) → BoxIs h w box → box.hand ≡ Some copy
+        → fits_next h box copy.post.note ≡ false → Step h (GiveSlip w Stored) new → ⊥) }
 {}

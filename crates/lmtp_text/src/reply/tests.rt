@@ -51,7 +51,7 @@ const FIXED: [(Reply, &[u8]); 20] = [
     ),
 ];
 
-const NAMED: [(Reply, &[u8]); 8] = [
+const NAMED: [(Reply, &[u8]); 9] = [
     (Reply::Greeting, b"220 mx.example LMTP ready\r\n"),
     (
         Reply::Offer,
@@ -74,6 +74,10 @@ const NAMED: [(Reply, &[u8]); 8] = [
     (
         Reply::Result(Outcome::TooLarge, 1),
         b"552 5.3.4 Too large for ben\r\n",
+    ),
+    (
+        Reply::Result(Outcome::OverQuota, 0),
+        b"452 4.2.2 Over quota for anna\r\n",
     ),
 ];
 

@@ -1,40 +1,50 @@
-use Rattle.std.proofs.Common.{ℕ, List, [], Bool, false, true, ◌||◌, refl, sym, subst, rules}
+use Rattle.std.proofs.Common.{List, [], refl, sym, subst, true, ◌||◌, ◌∙◌, rules}
 use Rattle.lmtp_text.specs.Calendar.{civil_at}
 use Rattle.mail_world.specs.declared.Note.{Note}
 use Rattle.mail_world.specs.declared.Slip.{Slip}
 use Rattle.mail_post.specs.Channel.{Sender, taken}
 use Rattle.mail_post.specs.Offered.{any_refused}
-use Rattle.box_worker.specs.Stored.{kept}
+use Rattle.box_worker.specs.Limits.{Setting}
+use Rattle.box_worker.specs.Stored.{MailboxState}
 use Rattle.box_worker.specs.Told.{worker_of}
-use Rattle.box_worker.specs.Worked.{Setting, WorkerState, idle, HasHandled}
-use Rattle.box_worker.proofs.Handling.{handled_none, handled_lost}
+use Rattle.box_worker.specs.Worked.{WorkerState, idle, HasHandled, IsCounting}
+use Rattle.box_worker.proofs.Handling.{counting_none, handled_lost}
 use Rattle.box_worker.proofs.worker.worker_run.Goals as goal
 
 pub loop-init : goal.loop-init
 loop-init g c =
-    let at : Setting = record { calendar = civil_at; host = c.args.host.now; worker = worker_of c.args.slips.items } in
+    let at : Setting = record { calendar = civil_at; host = c.args.host.now; quota = c.args.quota; worker = worker_of c.args.slips.items } in
     let start : WorkerState = idle c.args.slips.items (g.S.Spool.state c.args.spool) in
-    let State : List (Sender Slip) → ℕ → WorkerState = λ slips stored. record { slips = slips; mailbox = kept (g.S.Spool.state c.over.result.spool) stored c.over.result.faulty; taken = 0; lost = any_refused slips } in
-    let P : List Note → Type 0 = λ copies. HasHandled at copies start (State c.new.result c.over.result.stored) in
-    let Q : ℕ → Type 0 = λ stored. HasHandled at [] start (State c.new.result stored) in
-    let R : List (Sender Slip) → Type 0 = λ slips. HasHandled at [] start (State slips 0) in
+    let State : List (Sender Slip) → WorkerState = λ slips. record { slips = slips; mailbox = c.on.result.mailbox; taken = 0; lost = any_refused slips } in
+    let P : List Note → Type 0 = λ copies. IsCounting at copies start (State c.new.result) c.on.result.limit in
+    let R : List (Sender Slip) → Type 0 = λ slips. IsCounting at [] start (State slips) c.on.result.limit in
     record {
       channel = refl;
       lanes = refl;
-      handled = subst P (sym c.requires.fresh) (subst Q (sym c.over.ensures.stored) (subst R (sym c.new.ensures)
-          (handled_none at c.args.slips.items (g.S.Spool.state c.args.spool) (g.S.Spool.state c.over.result.spool) c.over.result.faulty c.requires.worker
-          (c.over.ensures.mended c.args.host.now))));
+      counting = subst P (sym c.requires.fresh) (subst R (sym c.new.ensures)
+          (counting_none at c.args.slips.items (g.S.Spool.state c.args.spool) c.on.result.mailbox c.on.result.limit c.requires.worker
+          (c.on.ensures.mended c.args.host.now) c.on.ensures.none c.on.ensures.counts));
+    }
+
+pub loop-preserved : goal.loop-preserved
+loop-preserved g c =
+    let at : Setting = record { calendar = civil_at; host = c.args.host.now; quota = c.args.quota; worker = worker_of c.args.slips.items } in
+    let start : WorkerState = idle c.args.slips.items (g.S.Spool.state c.args.spool) in
+    let now = c.handle.new.self in
+    let P : List Note → Type 0 = λ copies. IsCounting at copies start (record { slips = now.slips; mailbox = now.mailbox.mailbox; taken = now.taken; lost = any_refused now.slips }) now.mailbox.limit in
+    record {
+      channel = c.take.ensures.same.0 ∙ c.loop.invariant.channel;
+      lanes = c.take.ensures.same.1 ∙ c.loop.invariant.lanes;
+      counting = subst P (sym c.in-Ok.ensures.post) (c.handle.ensures c.args.quota (worker_of c.args.slips.items) (taken c.loop.receiver) start c.loop.invariant.counting);
     }
 
 pub returns-in-Err-Lost : goal.returns-in-Err-Lost
 returns-in-Err-Lost g c =
     let worker = c.loop.worker in
-    let now : WorkerState = record {
-      slips = worker.slips;
-      mailbox = kept (g.S.Spool.state worker.mailbox.spool) worker.mailbox.stored worker.mailbox.faulty;
-      taken = worker.taken;
-      lost = any_refused worker.slips;
-    } in
-    let handled = handled_lost (record { calendar = civil_at; host = c.args.host.now; worker = worker_of c.args.slips.items }) (taken c.loop.receiver)
-    (idle c.args.slips.items (g.S.Spool.state c.args.spool)) now (any_refused worker.slips || true) c.loop.invariant.handled in
+    let at : Setting = record { calendar = civil_at; host = c.args.host.now; quota = c.args.quota; worker = worker_of c.args.slips.items } in
+    let start : WorkerState = idle c.args.slips.items (g.S.Spool.state c.args.spool) in
+    let now : WorkerState = record { slips = worker.slips; mailbox = worker.mailbox.mailbox; taken = worker.taken; lost = any_refused worker.slips } in
+    let P : MailboxState → Type 0 = λ mailbox. HasHandled at (taken c.loop.receiver) start (record now { mailbox = mailbox; lost = any_refused worker.slips || true }) in
+    let handled = subst P (sym c.report-in-Err-Lost.ensures.mailbox)
+    (handled_lost at (taken c.loop.receiver) start now (any_refused worker.slips || true) c.loop.invariant.counting.handled) in
     search rules

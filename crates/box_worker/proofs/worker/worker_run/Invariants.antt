@@ -2,9 +2,8 @@ use Rattle.std.proofs.Common.{◌≡◌}
 use Rattle.lmtp_text.specs.Calendar.{civil_at}
 use Rattle.mail_post.specs.Channel.{taken}
 use Rattle.mail_post.specs.Offered.{any_refused}
-use Rattle.box_worker.specs.Stored.{kept}
 use Rattle.box_worker.specs.Told.{worker_of}
-use Rattle.box_worker.specs.Worked.{idle, HasHandled}
+use Rattle.box_worker.specs.Worked.{idle, IsCounting}
 use Rattle.box_worker.proofs.worker.worker_run.Given as goal
 
 -- all that the channel gave so far is handled
@@ -12,11 +11,11 @@ abbrev pub invariant-loop : goal.invariant-loop
 invariant-loop g l = record {
   channel : l.receiver.channel ≡ l.fn.receiver.channel;
   lanes : l.receiver.lanes ≡ l.fn.receiver.lanes;
-  handled : HasHandled (record { calendar = civil_at; host = l.host; worker = worker_of l.fn.slips.items }) (taken l.receiver)
+  counting : IsCounting (record { calendar = civil_at; host = l.host; quota = l.fn.quota; worker = worker_of l.fn.slips.items }) (taken l.receiver)
       (idle l.fn.slips.items (g.S.Spool.state l.fn.spool)) (record {
         slips = l.worker.slips;
-        mailbox = kept (g.S.Spool.state l.worker.mailbox.spool) l.worker.mailbox.stored l.worker.mailbox.faulty;
+        mailbox = l.worker.mailbox.mailbox;
         taken = l.worker.taken;
         lost = any_refused l.worker.slips;
-      });
+      }) l.worker.mailbox.limit;
 }

@@ -1,0 +1,80 @@
+-- What a worker's count under a quota tells of the next record.
+use Rattle.std.proofs.Common.{◌≡◌, ℕ, ◌+◌, ◌-◌, ◌≤◌, ◌<◌, ◌^◌, min, Bool, true, false, List, [], ◌∷◌, ◌++◌, length, Option, Some, None, refl, ap, sym, ◌∙◌, subst, arith, length-append}
+use Rattle.std.specs.Prelude.{if◌then◌else◌, nat_le}
+use Rattle.std.specs.Option.{IfSome}
+use Rattle.std.proofs.lemmas.Bool.Decides.{nat_tests}
+use Rattle.mail_world.specs.Counts.{counted}
+use Rattle.mail_world.specs.Quotas.{fits}
+use Rattle.mail_world.specs.Records.{mended}
+use Rattle.mail_world.specs.Text.{lf, ends_in}
+use Rattle.mbox_rd.specs.Spool.{SpoolState, tail_of}
+use Rattle.mbox_rd.specs.declared.spool.Tail.{Tail}
+use Rattle.mbox_rd.specs.declared.spool.Tail.TheVariants.{Empty, NoLf, OneLf, TwoLf}
+use Rattle.box_worker.specs.declared.limit.Limit.{Limit}
+use Rattle.box_worker.specs.Limits.{CountsTo, StartsAt, missing, IsLetIn, IsKeptOut}
+
+-- a count that stays at its largest value is exact wherever something fits behind it
+exact : (quota n size : ℕ) → quota < 2 ^ 64 → 1 ≤ size → counted n + size ≤ quota → counted n ≡ n
+exact quota n size below some h = omega (arith, below, some, h)
+
+fitting : (quota n size : ℕ) → quota < 2 ^ 64 → 1 ≤ size → counted n + size ≤ quota → nat_le (n + size) quota ≡ true
+fitting quota n size below some h = let same = exact quota n size below some h in grind (arith, nat_tests, same, h)
+
+unfitting : (quota n size : ℕ) → quota < counted n + size → nat_le (n + size) quota ≡ false
+unfitting quota n size h = let most : counted n ≤ n = omega arith in grind (arith, nat_tests, most, h)
+
+pub let_in : (quota : Option ℕ) (n size : ℕ) (old new : Option Limit) → 1 ≤ size → CountsTo quota n old → IsLetIn old size new
+    → (fits quota n size ≡ true) × CountsTo quota (n + size) new
+let_in None n size old new some counts h = let P : Option Limit → Type 0 = λ l. IsLetIn l size new in (refl, subst P counts h)
+let_in (Some quota) n size old new some counts h =
+    let P : Option Limit → Type 0 = λ l. IsLetIn l size new in
+    let in' = subst P counts.1 h in
+    let same = exact quota n size counts.0 some in'.0 in
+    let after : counted n + size ≡ counted (n + size) = let below = counts.0 in let most = in'.0 in omega (arith, same, below, most) in
+    (fitting quota n size counts.0 some in'.0, (counts.0, in'.1 ∙ ap (λ (held : ℕ). let l : Limit = record { quota = quota; held = held } in Some l) after))
+
+pub kept_out : (quota : Option ℕ) (n size : ℕ) (old : Option Limit) → CountsTo quota n old → IsKeptOut old size → fits quota n size ≡ false
+kept_out None n size old counts h = let P : Option Limit → Type 0 = λ l. IsKeptOut l size in absurd (subst P counts h)
+kept_out (Some quota) n size old counts h = let P : Option Limit → Type 0 = λ l. IsKeptOut l size in unfitting quota n size (subst P counts.1 h)
+
+missing_by : (two one : Bool) → length (if two then [] else if one then lf ∷ [] else lf ∷ lf ∷ []) ≡ missing (if two then TwoLf else if one then OneLf else NoLf)
+missing_by true one = refl
+missing_by false true = refl
+missing_by false false = refl
+
+pub mending_size : (held : List ℕ) → length (mended held) ≡ missing (tail_of held)
+mending_size [] = refl
+mending_size (b ∷ held) = missing_by (ends_in (lf ∷ lf ∷ []) (b ∷ held)) (ends_in (lf ∷ []) (b ∷ held))
+
+missing_most : (tail : Tail) → missing tail ≤ 2
+missing_most Empty = omega arith
+missing_most NoLf = omega arith
+missing_most OneLf = omega arith
+missing_most TwoLf = omega arith
+
+-- what stands before the first record of a spool, by what the spool says
+pub record HasStart (spool : SpoolState) (tail : Tail) (held : ℕ) : Type 0 where
+  pub start : ℕ
+  pub is : StartsAt spool start
+  pub count : counted (held + missing tail) ≡ counted start
+
+start_by : (bytes : Option (List ℕ)) (failures : ℕ) (limit : Option ℕ) (synced had : ℕ) (tail : Tail) (held : ℕ)
+    → IfSome bytes (λ b. tail ≡ tail_of b) → held ≡ counted had → IfSome bytes (λ b. held ≡ counted (length b))
+    → HasStart (record { bytes = bytes; failures = failures; limit = limit; synced = synced; held = had }) tail held
+start_by None failures limit synced had tail held ends says known = record {
+  start = had + missing tail;
+  is = record { mending = missing tail; within = missing_most tail; grown = refl; known = tt };
+  count = rw says (omega arith);
+}
+start_by (Some b) failures limit synced had tail held ends says known =
+    let same : missing tail ≡ length (mended b) = ap missing ends ∙ sym (mending_size b) in
+    let long = length-append b (mended b) in
+    record {
+      start = length (b ++ mended b);
+      is = record { mending = missing tail; within = missing_most tail; grown = omega (arith, same, long, says, known); known = refl };
+      count = omega (arith, same, long, known);
+    }
+
+pub starts_at : (spool : SpoolState) (tail : Tail) (held : ℕ) → IfSome spool.bytes (λ b. tail ≡ tail_of b) → held ≡ counted spool.held
+    → IfSome spool.bytes (λ b. held ≡ counted (length b)) → HasStart spool tail held
+starts_at spool tail held ends says known = start_by spool.bytes spool.failures spool.limit spool.synced spool.held tail held ends says known

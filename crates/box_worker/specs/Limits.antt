@@ -1,0 +1,60 @@
+-- A quota on a mailbox: which copies are kept of those that its worker took, and what the worker counts.
+use Rattle.std.specs.Prelude.{◌≡◌, ℕ, ◌+◌, ◌<◌, ◌≤◌, ◌^◌, Bool, List, ◌++◌, length, Option, Some, None}
+use Rattle.std.specs.Option.{IfSome}
+use Rattle.mail_world.specs.declared.Note.{Note}
+use Rattle.mail_world.specs.Counts.{counted}
+use Rattle.mail_world.specs.Records.{Calendar, mended}
+use Rattle.mail_world.specs.Quotas.{are_kept_behind, marked}
+use Rattle.mbox_rd.specs.Spool.{SpoolState, Grows}
+use Rattle.mbox_rd.specs.declared.spool.Tail.{Tail}
+use Rattle.mbox_rd.specs.declared.spool.Tail.TheVariants.{Empty, NoLf, OneLf, TwoLf}
+use Rattle.box_worker.specs.declared.limit.Limit.{Limit}
+
+-- what stays while a worker runs: the calendar and the host of its records, the limit of bytes for its mailbox, and its number
+pub record Setting : Type 0 where
+  pub calendar : Calendar
+  pub host : List ℕ
+  pub quota : Option ℕ
+  pub worker : ℕ
+
+-- for each copy whether it is kept, where so many bytes stand before the first record
+abbrev pub marks_behind : Setting → ℕ → List Note → List Bool
+marks_behind at start copies = are_kept_behind at.calendar at.host at.quota start copies
+
+-- the copies that are kept
+abbrev pub kept_behind : Setting → ℕ → List Note → List Note
+kept_behind at start copies = marked (marks_behind at start copies) copies
+
+-- So many bytes stand before the first record: what the spool held, and what mends that, which is two bytes at most where the spool doesn't tell what it holds.
+pub record StartsAt (spool : SpoolState) (start : ℕ) : Type 0 where
+  pub mending : ℕ
+  pub within : mending ≤ 2
+  pub grown : Grows spool.held start mending
+  pub known : IfSome spool.bytes (λ held. start ≡ length (held ++ mended held))
+
+-- how many bytes mend a text that ends so
+abbrev pub missing : Tail → ℕ
+missing Empty = 0
+missing NoLf = 2
+missing OneLf = 1
+missing TwoLf = 0
+
+-- the count of a worker in whose mailbox so many bytes stand: there is none without a quota
+abbrev pub CountsTo : Option ℕ → ℕ → Option Limit → Type 0
+CountsTo None n limit = limit ≡ None
+CountsTo (Some quota) n limit = (quota < 2 ^ 64) × (limit ≡ Some (record { quota = quota; held = counted n }))
+
+-- a record of that size is let in, and counted
+abbrev pub IsLetIn : Option Limit → ℕ → Option Limit → Type 0
+IsLetIn None size new = new ≡ None
+IsLetIn (Some old) size new = (old.held + size ≤ old.quota) × (new ≡ Some (record { quota = old.quota; held = old.held + size }))
+
+-- and one is kept out
+abbrev pub IsKeptOut : Option Limit → ℕ → Type 0
+IsKeptOut None size = ⊥
+IsKeptOut (Some limit) size = limit.quota < limit.held + size
+
+-- what a count is behind a record of that size, if the record is let in
+abbrev pub Admits : Limit → ℕ → Option Limit → Type 0
+Admits old size None = IsKeptOut (Some old) size
+Admits old size (Some new) = IsLetIn (Some old) size (Some new)

@@ -1,0 +1,51 @@
+//! What a worker counts of its mailbox under a quota.
+
+ghost use Rattle.std.specs.Prelude.{◌≡◌, ◌<◌, ◌^◌, ℕ, SomeIff};
+ghost use Rattle.mail_world.specs.Counts.{counted};
+ghost use Rattle.box_worker.specs.Limits.{StartsAt, Admits, missing};
+
+use mbox_rd::{Spool, Tail};
+
+/// A quota of bytes, and how many stand in the mailbox by the worker's own count, which stays at 2^64 - 1.
+#[derive(Clone, Copy, Debug, PartialEq, Eq)]
+pub struct Limit {
+    pub quota: u64,
+    pub held: u64,
+}
+
+impl Limit {
+    /// For a spool before it is mended: what mending appends is counted already.
+    pub fn of<S: Spool>(spool: &S, quota: u64) -> Limit
+        ensures { (start : ℕ) × StartsAt (S.state spool.now) start
+            × (result ≡ record { quota = quota; held = counted start }) }
+    {
+        let mending = missing(spool.tail());
+        Limit {
+            quota,
+            held: spool.held().saturating_add(mending),
+        }
+    }
+
+    /// The count behind a record of that size too, if the quota lets it in. A record without a size has 2^64 bytes or
+    /// more.
+    pub fn admit(self, size: Option<u64>) -> Option<Limit>
+        ensures { (n : ℕ) → SomeIff size (n < 2 ^ 64) n → Admits self n result }
+    {
+        let held = self.held.checked_add(size?)?;
+        if held > self.quota {
+            return None;
+        }
+        Some(Limit { held, ..self })
+    }
+}
+
+// How many bytes end the last line, and the empty line behind it, where a mailbox ends so.
+fn missing(tail: Tail) -> u64
+    ensures { result ≡ missing tail }
+{
+    match tail {
+        Tail::Empty | Tail::TwoLf => 0,
+        Tail::OneLf => 1,
+        Tail::NoLf => 2,
+    }
+}
