@@ -11,9 +11,10 @@ use Rattle.mbox_rd.specs.Spool.{SpoolState}
 use Rattle.mail_post.specs.Channel.{Channel, Sender, Inbox, Sent}
 use Rattle.box_worker.specs.Told.{owed_to}
 use Rattle.lmtp_lane.specs.Visits.{conversations_of}
-use Rattle.lmtp_house.specs.House.{VisitsView, HandedIn, HasRun}
-use Rattle.lmtp_house.specs.HouseChannels.{Shape, channels_of, AreRows, AreClosed, MayClose, CanSettle, IsSettled}
-use Rattle.lmtp_house.specs.HouseTasks.{LanesGiven, LanesBack, WorkersGiven, WorkersBack, HaveServed, HaveServedAll, HaveWorked, HaveWorkedAll}
+use Rattle.lmtp_threads.specs.Works.{VisitsView}
+use Rattle.lmtp_house.specs.House.{HandedIn, HasRun}
+use Rattle.thread_crew.specs.Channels.{Shape, channels_of, AreRows, AreClosed, MayClose, CanSettle, IsSettled}
+use Rattle.lmtp_threads.specs.Tasks.{LanesGiven, LanesBack, WorkersGiven, WorkersBack, HaveServed, HaveServedAll, HaveWorked, HaveWorkedAll}
 use Rattle.lmtp_house.specs.HousePlan.{PlanState, IsPlanned}
 use Rattle.lmtp_house.proofs.HousePlan.{may_close}
 use Rattle.lmtp_house.proofs.HouseSettled.{can_settle, has_run}

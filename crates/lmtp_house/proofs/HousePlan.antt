@@ -6,12 +6,12 @@ use Rattle.std.proofs.lemmas.List.{length-map}
 use Rattle.std.proofs.lemmas.Option.{slice_get_within}
 use Rattle.mail_post.specs.Channel.{Sender, Inbox, taken}
 use Rattle.box_worker.specs.Told.{worker_of}
-use Rattle.lmtp_house.specs.HouseChannels.{Shape, channels_of, lane_at, AreRows, AreNewChannels, MayClose}
-use Rattle.lmtp_house.specs.HouseTasks.{lane_tasks, box_tasks, IsLaneReady, IsBoxReady}
+use Rattle.thread_crew.specs.Channels.{Shape, channels_of, lane_at, AreRows, AreNewChannels, MayClose}
+use Rattle.lmtp_threads.specs.Tasks.{lane_tasks, box_tasks, IsLaneReady, IsBoxReady}
 use Rattle.lmtp_house.specs.HousePlan.{PlanState, MayRun}
-use Rattle.lmtp_house.proofs.HouseChannels.{at, same_at, at_each, each_at}
-use Rattle.lmtp_house.proofs.HouseServed.{task_at}
-use Rattle.lmtp_house.proofs.HouseWorked.{task_at as box_task_at, numbered}
+use Rattle.thread_crew.proofs.ChannelRows.{at, same_at, at_each, each_at}
+use Rattle.lmtp_threads.proofs.ServedAll.{task_at}
+use Rattle.lmtp_threads.proofs.WorkedAll.{task_at as box_task_at, numbered}
 
 module _ {M : Type 0} where
   -- as many senders in a row as channels

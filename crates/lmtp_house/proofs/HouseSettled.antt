@@ -16,12 +16,13 @@ use Rattle.mail_post.specs.Parcels.{of}
 use Rattle.mbox_rd.specs.Spool.{SpoolState}
 use Rattle.box_worker.specs.Told.{owed_to}
 use Rattle.lmtp_lane.specs.Visits.{conversations_of}
-use Rattle.lmtp_house.specs.House.{VisitsView, HasRun}
-use Rattle.lmtp_house.specs.HouseChannels.{channels_of, AreNewChannels, IsClosedWith, AreClosed, CanSettle, IsSettled}
-use Rattle.lmtp_house.specs.HouseTasks.{LanesGiven, LanesBack, WorkersGiven, WorkersBack, HaveServed, HaveWorked}
+use Rattle.lmtp_threads.specs.Works.{VisitsView}
+use Rattle.lmtp_house.specs.House.{HasRun}
+use Rattle.thread_crew.specs.Channels.{channels_of, AreNewChannels, IsClosedWith, AreClosed, CanSettle, IsSettled}
+use Rattle.lmtp_threads.specs.Tasks.{LanesGiven, LanesBack, WorkersGiven, WorkersBack, HaveServed, HaveWorked}
 use Rattle.lmtp_house.proofs.AnsweredAll.{outcomes_are_answers}
 use Rattle.lmtp_house.proofs.NamedOnce.{named_once}
-use Rattle.lmtp_house.proofs.HouseChannels.{at, at_map, zip_at, at_zip}
+use Rattle.thread_crew.proofs.ChannelRows.{at, at_map, zip_at, at_zip}
 
 module _ {M : Type 0} (lane : M → ℕ) where
   -- where nothing is of a lane from n on, all is of lanes below n

@@ -1,11 +1,4 @@
 pub mod AnsweredAll
-pub mod HouseGrids
-pub mod HouseLists
-pub mod HousePairs
-pub mod TakenApart
-pub mod HouseChannels
-pub mod HouseServed
-pub mod HouseWorked
 pub mod HousePlan
 pub mod NamedOnce
 pub mod HouseSettled

@@ -22,7 +22,7 @@ use Rattle.mail_world.specs.Lists.{Transaction, is_content, accepted_after, tran
 use Rattle.mail_world.proofs.GivenAway.{count-append, count-cons}
 use Rattle.mail_world.proofs.Owed.{accepted_behind, same_behind_data}
 use Rattle.box_worker.specs.Told.{owed_to}
-use Rattle.lmtp_house.specs.House.{BoxWork}
+use Rattle.lmtp_threads.specs.Works.{BoxWork}
 
 module _ {X : Type 0} (f : X → Bool) where
   one_by : (x : X) (t : Bool) → count_by f (cond t (x ∷ []) []) ≡ cond t (cond (f x) 1 0) 0

@@ -1,23 +1,20 @@
 -- What a server's run comes to: its lanes and its workers taken together.
-use Rattle.std.specs.Prelude.{◌≡◌, ◌<◌, ◌≤◌, ℕ, Bool, true, List, length, slice_get, Some}
+use Rattle.std.specs.Prelude.{◌≡◌, ◌<◌, ◌≤◌, ℕ, true, List, length, slice_get, Some}
 use Rattle.std.specs.List.{AllByRecursion}
-use Rattle.mail_world.specs.declared.Note.{Note}
-use Rattle.mail_world.specs.declared.Slip.{Slip}
 use Rattle.mail_world.specs.declared.limits.TheConstants.{LANE_LIMIT, BLOCK_LIMIT, SLOT_LIMIT, CAPACITY_LIMIT, READ_LIMIT}
 use Rattle.mail_world.specs.Fronts.{IsFront}
 use Rattle.mail_world.specs.Site.{Site}
 use Rattle.mail_world.specs.Slips.{of_worker}
 use Rattle.mail_world.specs.Lists.{of_lane, due, transactions, VerdictsFit, OutcomesAreAnswers}
-use Rattle.lmtp_text.specs.Calendar.{civil_at}
 use Rattle.mbox_rd.specs.Spool.{SpoolState}
-use Rattle.box_worker.specs.Stored.{kept, HasStored}
 use Rattle.box_worker.specs.Told.{owed_to}
-use Rattle.lmtp_house.specs.declared.house.report.Tally.{Tally}
 use Rattle.lmtp_house.specs.declared.house.sizes.Sizes.{Sizes}
 use Rattle.mail_world.specs.Counts.{counted}
 use Rattle.lmtp_talk.specs.Peer.{PeerState}
 use Rattle.lmtp_talk.specs.Served.{terms}
-use Rattle.lmtp_lane.specs.Visits.{VisitsTold, Visit, HasVisited, conversations_of}
+use Rattle.lmtp_lane.specs.Visits.{HasVisited, conversations_of}
+use Rattle.lmtp_threads.specs.Works.{VisitsView, LaneWork, BoxWork, LaneTold, lane_told, IsBoxWork}
+use Rattle.lmtp_threads.specs.declared.tally.Tally.{Tally}
 
 -- the sizes that a server may have
 pub record IsSize (site : Site) (sizes : Sizes) (lanes spools gates : ℕ) : Type 0 where
@@ -27,13 +24,6 @@ pub record IsSize (site : Site) (sizes : Sizes) (lanes spools gates : ℕ) : Typ
   pub some_lanes : (1 ≤ lanes) × (lanes ≤ LANE_LIMIT)
   pub each_spool : spools ≡ length site.boxes
   pub each_gate : gates ≡ length site.boxes
-
--- what contracts see of one kind of clients: those that may come, the conversations that have ended, and whether no
--- client is left
-pub record VisitsView (V : Type 0) : Type 1 where
-  pub MayGive : V → PeerState → Type 0
-  pub finished : V → VisitsTold
-  pub over : V → Bool
 
 -- what is handed in: clients by lane, and spools by mailbox
 pub record HandedIn (V S : Type 0) : Type 0 where
@@ -47,32 +37,6 @@ pub record HandedBack (V S : Type 0) : Type 0 where
   pub conversations : List ℕ
   pub tallies : List Tally
 
--- what a lane did: the clients that it served, and the slips that it heard
-pub record LaneWork : Type 0 where
-  pub visits : List Visit
-  pub heard : List Slip
-
--- what a worker did: the copies that it took, and how many of them it stored
-pub record BoxWork : Type 0 where
-  pub taken : List Note
-  pub stored : ℕ
-
--- what is told of a lane's run: the conversations that had ended before it and behind it, whether no client was left,
--- and how many it held
-pub record LaneTold : Type 0 where
-  pub before : VisitsTold
-  pub after : VisitsTold
-  pub over : Bool
-  pub count : ℕ
-
-abbrev pub lane_told : {V : Type 0} → VisitsView V → V → V → ℕ → LaneTold
-lane_told view before after count = record {
-  before = view.finished before;
-  after = view.finished after;
-  over = view.over after;
-  count = count;
-}
-
 -- Lane k served these clients until there were no more: its verdicts fit, each moment is one that the clock may answer,
 -- and each outcome is that of the slip that it heard.
 pub record IsLaneWork (site : Site) (May : ℕ → Type 0) (MayCome : PeerState → Type 0) (k : ℕ) (work : LaneWork)
@@ -83,12 +47,6 @@ pub record IsLaneWork (site : Site) (May : ℕ → Type 0) (MayCome : PeerState 
   pub verdicts : VerdictsFit site (conversations_of work.visits)
   pub moments : AllByRecursion (λ t. May t.disposition.moment) (transactions site 0 (conversations_of work.visits))
   pub answered : OutcomesAreAnswers site k work.heard (conversations_of work.visits)
-
--- a mailbox's worker took these copies, and its spool holds the records of those that it stored
-pub record IsBoxWork (site : Site) (work : BoxWork) (old new : SpoolState) (tally : Tally) : Type 0 where
-  pub spool : HasStored civil_at site.host work.taken old (kept new work.stored tally.faulty)
-  pub taken : tally.taken ≡ counted (length work.taken)
-  pub stored : tally.stored ≡ counted work.stored
 
 -- However lanes and workers interleaved: each worker took of each lane just the copies that the lane's conversations owe
 -- its mailbox, in their order, and nothing else; and each lane heard of its copies the slips that their workers gave, and

@@ -6,9 +6,10 @@ use Rattle.mail_world.specs.declared.Slip.{Slip}
 use Rattle.mail_world.specs.Site.{Site}
 use Rattle.mbox_rd.specs.Spool.{SpoolState}
 use Rattle.mail_post.specs.Channel.{Sender, Inbox}
-use Rattle.lmtp_house.specs.House.{VisitsView, HandedIn, HandedBack, HasRun}
-use Rattle.lmtp_house.specs.HouseChannels.{Shape, AreNewChannels}
-use Rattle.lmtp_house.specs.HouseTasks.{LaneTask, lane_tasks, BoxTask, box_tasks}
+use Rattle.lmtp_threads.specs.Works.{VisitsView}
+use Rattle.lmtp_house.specs.House.{HandedIn, HandedBack, HasRun}
+use Rattle.thread_crew.specs.Channels.{Shape, AreNewChannels}
+use Rattle.lmtp_threads.specs.Tasks.{LaneTask, lane_tasks, BoxTask, box_tasks}
 
 -- lanes and workers before they run, and the channels that are to be closed: of mail, and of slips
 pub record PlanState (V S C : Type 0) : Type 0 where

@@ -3,7 +3,7 @@
 
 mod house;
 
-pub use house::{HouseFault, HouseReport, Sizes, Tally, has_failed, is_size, run_house};
+pub use house::{HouseFault, HouseReport, Sizes, has_failed, is_size, run_house};
 pub use lmtp_lane::{
     Clock, Desk, LaneReport, SystemClock, TcpVisits, TimedListener, Visits, lane_run, lane_run_at,
     tcp_visits,
@@ -11,3 +11,4 @@ pub use lmtp_lane::{
 pub use lmtp_talk::{
     Came, Delivery, Dialogue, EndCause, Outbox, Peer, PeerFault, ReadBuffer, TcpPeer, serve,
 };
+pub use lmtp_threads::Tally;

@@ -11,7 +11,7 @@ use Rattle.mail_world.specs.Deliveries.{is_none, HoldsCopies}
 use Rattle.mbox_rd.specs.MemorySpool.{MemorySpool}
 use Rattle.mbox_rd.specs.Spool.{SpoolState, IsFull}
 use Rattle.box_worker.specs.Stored.{kept, HasStored}
-use Rattle.lmtp_house.specs.declared.house.report.Tally.{Tally}
+use Rattle.lmtp_threads.specs.declared.tally.Tally.{Tally}
 use Rattle.lmtpd_rehearse.specs.declared.parts.TheConstants.{MAILBOX_ROOM}
 use Rattle.lmtpd_rehearse.specs.Mailboxes.{MailboxContent, kept_all, kept_at, bytes_of_all, empty_spool, IsCalm}
 

@@ -6,7 +6,7 @@ use Rattle.std.specs.declared.net.SocketAddr.{SocketAddr}
 use Rattle.mail_world.specs.Text.{lf}
 use Rattle.mail_world.specs.Site.{Site}
 use Rattle.mbox_rd.specs.Spool.{SpoolState}
-use Rattle.lmtp_house.specs.declared.house.report.Tally.{Tally}
+use Rattle.lmtp_threads.specs.declared.tally.Tally.{Tally}
 use Rattle.lmtp_house.specs.House.{HandedBack, HasRun}
 use Rattle.lmtp_lane.specs.TcpVisits.{conversations_ended, told_by, IsNewcomer, is_over}
 use Rattle.lmtp_lane.specs.declared.tcp.visits.TcpVisits.{TcpVisits}

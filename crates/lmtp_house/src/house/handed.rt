@@ -1,9 +1,4 @@
-//! What a server is made of: what is handed in, and what its threads share.
-
-use lmtp_text::Site;
-use msg_depot::{Depot, DepotName};
-use std::alloc::Global;
-use std::sync::Arc;
+//! What a server is handed.
 
 /// All that is handed in, by lane and by mailbox, and how many copies may wait for a mailbox's worker.
 #[derive(Drop)]
@@ -12,13 +7,4 @@ pub struct HandedIn<V, S, G> {
     pub spools: Vec<S>,
     pub gates: Vec<G>,
     pub capacity: usize,
-}
-
-/// What all lanes and workers share.
-#[derive(Drop)]
-pub struct Shared<N: DepotName, C> {
-    pub alloc: Global,
-    pub site: Arc<Site>,
-    pub clock: Arc<C>,
-    pub depot: Arc<Depot<N>>,
 }

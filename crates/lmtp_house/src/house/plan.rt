@@ -5,14 +5,12 @@ ghost use Rattle.std.specs.Arc.{arc_value};
 ghost use Rattle.mail_world.specs.declared.limits.TheConstants.{LANE_LIMIT};
 ghost use Rattle.lmtp_house.specs.HousePlan.{IsPlanned, MayRun, HasRunAll};
 
-use crate::house::channels::{Closing, open_channels, settle_all};
 use crate::house::fault::HouseFault;
-use crate::house::handed::{HandedIn, Shared};
-use crate::house::lanes::{Lanes, lane_jobs};
+use crate::house::handed::HandedIn;
 use crate::house::report::HouseReport;
-use crate::house::workers::{Workers, worker_jobs};
 use box_worker::Gate;
 use lmtp_lane::{Clock, Visits};
+use lmtp_threads::{Lanes, Shared, Workers, lane_jobs, worker_jobs};
 use mail_post::{Post, SLIP_CAPACITY};
 use mail_world::Slip;
 use mbox_rd::Spool;
@@ -20,6 +18,7 @@ use msg_depot::{Depot, DepotName};
 use std::alloc::AllocError;
 use std::sync::{Arc, Wait};
 use std::thread::Threads;
+use thread_crew::{Closing, open_channels, settle_all};
 
 /// The lanes and workers of a server, and what closes their channels.
 #[derive(Drop)]

@@ -3,16 +3,7 @@
 ghost use Rattle.std.specs.Prelude.{◌≡◌};
 ghost use Rattle.std.specs.List.{list_any};
 
-/// What a worker did. Counts stay at their largest value.
-#[derive(Clone, Copy, Debug, PartialEq, Eq)]
-pub struct Tally {
-    /// The copies that it took.
-    pub taken: u64,
-    /// Those of them that it stored.
-    pub stored: u64,
-    /// Whether its spool failed.
-    pub faulty: bool,
-}
+use lmtp_threads::Tally;
 
 /// Whether a worker's spool failed.
 pub fn has_failed(tallies: &[Tally]) -> bool

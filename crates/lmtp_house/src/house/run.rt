@@ -7,13 +7,14 @@ ghost use Rattle.mail_world.specs.declared.limits.TheConstants.{LANE_LIMIT};
 ghost use Rattle.lmtp_house.specs.House.{HasRun, IsSize};
 
 use crate::house::fault::HouseFault;
-use crate::house::handed::{HandedIn, Shared};
+use crate::house::handed::HandedIn;
 use crate::house::plan::Plan;
 use crate::house::report::HouseReport;
 use crate::house::sizes::{Sizes, is_size};
 use box_worker::Gate;
 use lmtp_lane::{Clock, Visits};
 use lmtp_text::Site;
+use lmtp_threads::Shared;
 use mbox_rd::Spool;
 use msg_depot::{Blank, DepotName};
 use std::alloc::Global;

@@ -1,6 +1,6 @@
 use Rattle.std.proofs.Common.{◌≡◌, false, vec_items}
 use Rattle.lmtp_house.specs.declared.house.tests.client.Clients.{Clients}
-use Rattle.lmtp_house.proofs.HouseLists.{each_more}
+use Rattle.thread_crew.proofs.MovedLists.{each_more}
 use Rattle.lmtp_house.proofs.house.tests.clients.Goals as goal
 
 pub loop-preserved : goal.loop-preserved

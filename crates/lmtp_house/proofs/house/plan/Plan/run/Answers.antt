@@ -1,8 +1,8 @@
 use Rattle.std.proofs.Common.{subst, vec_items}
-use Rattle.lmtp_house.specs.House.{VisitsView}
-use Rattle.lmtp_house.specs.HouseGrid.{lists}
+use Rattle.lmtp_threads.specs.Works.{VisitsView}
+use Rattle.thread_crew.specs.Grid.{lists}
 use Rattle.lmtp_house.specs.HousePlan.{PlanState}
-use Rattle.lmtp_house.specs.HouseTasks.{LanesBack, WorkersBack, HaveWorkedAll}
+use Rattle.lmtp_threads.specs.Tasks.{LanesBack, WorkersBack, HaveWorkedAll}
 use Rattle.lmtp_house.proofs.HousePlan.{lanes_ready, boxes_ready}
 use Rattle.lmtp_house.proofs.HouseEnd.{mail_may_close, mail_may_settle, slips_may_close, slips_may_settle, run_is}
 use Rattle.lmtp_house.proofs.house.plan.Plan.run.Goals as goal

@@ -1,0 +1,223 @@
+-- The lanes' reports, taken together.
+use Rattle.std.proofs.Common.{◌≡◌, ℕ, zero, suc, ◌+◌, ◌<◌, Bool, false, List, [], ◌∷◌, ◌++◌, length, map, append-nil, refl, sym, ap, ◌∙◌, subst, arith, Option, Some, None, inl, inr}
+use Rattle.std.specs.Prelude.{slice_get, flat_map}
+use Rattle.std.specs.List.{AllZip, AllByRecursion}
+use Rattle.std.proofs.lemmas.List.{length-map}
+use Rattle.std.proofs.lemmas.Option.{slice_get_within}
+use Rattle.mail_world.specs.declared.Note.{Note}
+use Rattle.mail_world.specs.declared.Slip.{Slip}
+use Rattle.mail_world.specs.Site.{Site}
+use Rattle.mail_world.specs.Conversation.{Conversation}
+use Rattle.mail_world.specs.Lists.{due, copies, transactions}
+use Rattle.mail_world.specs.Slips.{IsMerged}
+use Rattle.mail_post.specs.Channel.{Channel, Sender, Inbox, taken}
+use Rattle.mail_post.proofs.Offered.{none_refused}
+use Rattle.lmtp_lane.specs.LaneExchange.{for_box}
+use Rattle.mail_world.specs.declared.limits.TheConstants.{READ_LIMIT}
+use Rattle.lmtp_talk.specs.Served.{terms}
+use Rattle.lmtp_lane.specs.LaneRun.{HasServed}
+use Rattle.lmtp_lane.specs.Visits.{conversations_of}
+use Rattle.lmtp_threads.specs.Works.{VisitsView, LaneWork, lane_told}
+use Rattle.thread_crew.specs.Channels.{AreRows, none, HasGiven}
+use Rattle.lmtp_threads.specs.Tasks.{LaneTask, lane_task, lane_tasks, lane_before, LanesGiven, LanesBack, IsServedLane, HaveServed, TookSlips}
+use Rattle.thread_crew.proofs.Pairs.{AllZip-length, picks, picked}
+use Rattle.thread_crew.proofs.ChannelRows.{same_at, at_each, source, rows_given}
+
+abbrev pub lanes_given : {V : Type 0} → List V → List (List (Sender Note)) → List (Inbox Slip) → LanesGiven V
+lanes_given visits rows inboxes = record { visits = visits; rows = rows; inboxes = inboxes }
+
+module _ {V C : Type 0} where
+  -- the task of lane i + k, and what it was made of
+  pub record TaskAt (site : Site) (clock : C) (i : ℕ) (given : LanesGiven V) (k : ℕ) (task : LaneTask V C) : Type 0 where
+    pub visit : V
+    pub row : List (Sender Note)
+    pub inbox : Inbox Slip
+    pub visit_is : slice_get given.visits k ≡ Some visit
+    pub row_is : slice_get given.rows k ≡ Some row
+    pub inbox_is : slice_get given.inboxes k ≡ Some inbox
+    pub is : task ≡ lane_task site clock (i + k) visit row inbox
+
+  pub task_at : (site : Site) (clock : C) (i : ℕ) (visits : List V) (rows : List (List (Sender Note))) (inboxes : List (Inbox Slip))
+      (k : ℕ) (task : LaneTask V C) → slice_get (lane_tasks site clock i visits rows inboxes) k ≡ Some task
+      → TaskAt site clock i (lanes_given visits rows inboxes) k task
+  task_at site clock i [] rows inboxes k task e = let bad : ◌≡◌ {A = Option (LaneTask V C)} None (Some task) = e in absurd (cc)
+  task_at site clock i (v ∷ vs) [] inboxes k task e = let bad : ◌≡◌ {A = Option (LaneTask V C)} None (Some task) = e in absurd (cc)
+  task_at site clock i (v ∷ vs) (row ∷ rows) [] k task e = let bad : ◌≡◌ {A = Option (LaneTask V C)} None (Some task) = e in absurd (cc)
+  task_at site clock i (v ∷ vs) (row ∷ rows) (inbox ∷ inboxes) zero task e =
+      let s : ◌≡◌ {A = Option (LaneTask V C)} (Some (lane_task site clock i v row inbox)) (Some task) = e in
+      let t : lane_task site clock i v row inbox ≡ task = cc in
+      let n : i ≡ i + 0 = omega arith in record {
+        visit = v;
+        row = row;
+        inbox = inbox;
+        visit_is = refl;
+        row_is = refl;
+        inbox_is = refl;
+        is = sym t ∙ ap (λ j. lane_task site clock j v row inbox) n;
+      }
+  task_at site clock i (v ∷ vs) (row ∷ rows) (inbox ∷ inboxes) (suc k) task e =
+      let p = task_at site clock (i + 1) vs rows inboxes k task e in
+      let n : i + 1 + k ≡ i + suc k = omega arith in record {
+        visit = p.visit;
+        row = p.row;
+        inbox = p.inbox;
+        visit_is = p.visit_is;
+        row_is = p.row_is;
+        inbox_is = p.inbox_is;
+        is = p.is ∙ ap (λ j. lane_task site clock j p.visit p.row p.inbox) n;
+      }
+
+  pub tasks_count : (site : Site) (clock : C) (i : ℕ) (visits : List V) (rows : List (List (Sender Note))) (inboxes : List (Inbox Slip))
+      → length rows ≡ length visits → length inboxes ≡ length visits
+      → length (lane_tasks site clock i visits rows inboxes) ≡ length visits
+  tasks_count site clock i [] rows inboxes a b = refl
+  tasks_count site clock i (v ∷ vs) [] inboxes a b = absurd (omega arith)
+  tasks_count site clock i (v ∷ vs) (row ∷ rows) [] a b = absurd (omega arith)
+  tasks_count site clock i (v ∷ vs) (row ∷ rows) (inbox ∷ inboxes) a b =
+      ap suc (tasks_count site clock (i + 1) vs rows inboxes (omega arith) (omega arith))
+
+-- nothing was merged in
+merged_none : (came heard : List Slip) → IsMerged came [] heard → came ≡ heard
+merged_none came [] h = h.0
+merged_none came (slip ∷ heard) (inl h) = h.1 ∙ ap (λ l. slip ∷ l) (merged_none h.0 heard h.2)
+merged_none came (slip ∷ heard) (inr h) = let bad : [] ≡ slip ∷ h.0 = h.1 in absurd (cc)
+
+due_is : (site : Site) (lane b : ℕ) (cs : List Conversation) → for_box b (flat_map (copies lane) (transactions site 0 cs)) ≡ due site lane b cs
+unfolding due
+due_is site lane b cs = refl
+
+module _ {V C R : Type 0} (May : C → ℕ → Type 0) (view : VisitsView V)
+    (rv : R → V) (rs : R → List (Sender Note)) (rt : R → Inbox Slip) (rc : R → ℕ) (rg : R → Bool) where
+  abbrev pub LaneOk : LaneTask V C → R → Type 0
+  LaneOk j r = HasServed (terms j.site READ_LIMIT) (May j.clock) (view.MayGive j.visits) (lane_before view j) (record {
+    finished = view.finished (rv r);
+    over = view.over (rv r);
+    ends = record { lane = j.lane; senders = rs r; inbox = rt r; gone = rg r };
+    conversations = rc r;
+  })
+
+  abbrev lane_work : (j : LaneTask V C) (r : R) → LaneOk j r → LaneWork
+  lane_work j r h = record { visits = h.visits; heard = h.heard }
+
+  abbrev idle : LaneWork
+  idle = record { visits = []; heard = [] }
+
+  -- what reports tell together
+  abbrev pub lanes_back : List R → LanesBack V
+  lanes_back reports = record {
+    visits = map rv reports;
+    rows = map rs reports;
+    inboxes = map rt reports;
+    conversations = map rc reports;
+  }
+
+  module _ (site : Site) (clock : C) (channels : List (Channel Note)) (given : LanesGiven V) (reports : List R)
+      (inboxes_count : length given.inboxes ≡ length given.visits) (are : AreRows (length given.visits) channels none given.rows)
+      (all : AllZip LaneOk (lane_tasks site clock 0 given.visits given.rows given.inboxes) reports)
+      (sound : AllByRecursion (λ r. rg r ≡ false) reports) where
+    abbrev tasks : List (LaneTask V C)
+    tasks = lane_tasks site clock 0 given.visits given.rows given.inboxes
+
+    abbrev works : ℕ → LaneWork
+    works = picks LaneOk lane_work idle tasks reports all
+
+    count : length tasks ≡ length given.visits
+    count = tasks_count site clock 0 given.visits given.rows given.inboxes are.count inboxes_count
+
+    reports_count : length reports ≡ length given.visits
+    reports_count = sym (AllZip-length LaneOk tasks reports all) ∙ count
+
+    -- what is known of lane k
+    record LaneIs (k : ℕ) : Type 0 where
+      visit : V
+      row : List (Sender Note)
+      inbox : Inbox Slip
+      report : R
+      visit_is : slice_get given.visits k ≡ Some visit
+      row_is : slice_get given.rows k ≡ Some row
+      inbox_is : slice_get given.inboxes k ≡ Some inbox
+      report_is : slice_get reports k ≡ Some report
+      served : IsServedLane site (May clock) (view.MayGive visit) k (works k) (lane_told view visit (rv report) (rc report))
+      given_out : HasGiven (λ b. due site k b (conversations_of (works k).visits)) row (rs report)
+      heard : TookSlips (works k).heard inbox (rt report)
+
+    lane_is : (k : ℕ) → k < length given.visits → LaneIs k
+    lane_is k below =
+        let p = picked LaneOk lane_work idle tasks reports all k (omega (arith, count, below)) in
+        let t = task_at site clock 0 given.visits given.rows given.inboxes k p.left p.left_is in
+        let h = p.holds in
+        let no = at_each (λ r. rg r ≡ false) reports sound k p.right p.right_is in
+        let n : 0 + k ≡ k = omega arith in
+        let is : p.left ≡ lane_task site clock k t.visit t.row t.inbox = t.is ∙ ap (λ j. lane_task site clock j t.visit t.row t.inbox) n in
+        let x = h.exchanged in
+        let none_own = x.sound no in
+        let notes_due : flat_map (copies p.left.lane) (transactions p.left.site 0 (conversations_of h.visits)) ≡ x.accepted =
+        x.first ∙ (ap (λ l. x.accepted ++ l) (x.all (x.whole no)) ∙ append-nil x.accepted) in
+        let Served : LaneTask V C → LaneWork → Type 0 = λ j w.
+        IsServedLane j.site (May j.clock) (view.MayGive j.visits) j.lane w (lane_told view j.visits (rv p.right) (rc p.right)) in
+        let Given : LaneTask V C → LaneWork → Type 0 = λ j w. HasGiven (λ b. due j.site j.lane b (conversations_of w.visits)) j.senders (rs p.right) in
+        let Heard : LaneTask V C → LaneWork → Type 0 = λ j w. TookSlips w.heard j.slips (rt p.right) in
+        let served : Served p.left (lane_work p.left p.right h) = record {
+          visited = h.visited;
+          ended = h.ended no;
+          counts = h.counts;
+          verdicts = h.verdicts;
+          moments = h.moments;
+          answered = h.answered;
+        } in
+        let given_out : Given p.left (lane_work p.left p.right h) = record {
+          as_many = h.exchanged.offered.as_many;
+          each = λ b before after e f.
+              let o = x.offered.each b before after e f in
+              let sent : for_box b x.accepted ≡ due p.left.site p.left.lane b (conversations_of h.visits) =
+              ap (for_box b) (sym notes_due) ∙ due_is p.left.site p.left.lane b (conversations_of h.visits) in
+              (o.channel, o.number, o.sent ∙ ap (λ l. before.sent ++ l) sent, none_refused (rs p.right) b after (x.whole no) f);
+        } in
+        let heard : Heard p.left (lane_work p.left p.right h) = record {
+          channel = h.exchanged.channel;
+          lanes = h.exchanged.lanes;
+          took = h.exchanged.took ∙ ap (λ l. taken p.left.slips ++ l) (merged_none h.came h.heard (subst (λ l. IsMerged h.came l h.heard) none_own h.exchanged.merged));
+        } in record {
+          visit = t.visit;
+          row = t.row;
+          inbox = t.inbox;
+          report = p.right;
+          visit_is = t.visit_is;
+          row_is = t.row_is;
+          inbox_is = t.inbox_is;
+          report_is = p.right_is;
+          served = subst (λ j. Served j (works k)) is (subst (λ w. Served p.left w) (sym p.picked) served);
+          given_out = subst (λ j. Given j (works k)) is (subst (λ w. Given p.left w) (sym p.picked) given_out);
+          heard = subst (λ j. Heard j (works k)) is (subst (λ w. Heard p.left w) (sym p.picked) heard);
+        }
+
+    pub have_served : HaveServed site (May clock) view channels given (lanes_back reports)
+    have_served = record {
+      works = works;
+      as_many = (length-map reports rv ∙ reports_count, length-map reports rc ∙ reports_count, length-map reports rt ∙ reports_count);
+      served = λ k count old new a b c.
+          let l = lane_is k (slice_get_within given.visits k old a) in
+          let v = source rv reports k new b in
+          let n = source rc reports k count c in
+          let same_v : v.value ≡ l.report = same_at reports k v.value l.report v.is l.report_is in
+          let same_n : n.value ≡ l.report = same_at reports k n.value l.report n.is l.report_is in
+          let old_is : l.visit ≡ old = same_at given.visits k l.visit old l.visit_is a in
+          let new_is : rv l.report ≡ new = sym (v.gives ∙ ap rv same_v) in
+          let count_is : rc l.report ≡ count = sym (n.gives ∙ ap rc same_n) in
+          let Served : V → V → ℕ → Type 0 = λ x y m. IsServedLane site (May clock) (view.MayGive x) k (works k) (lane_told view x y m) in
+          subst (λ m. Served old new m) count_is (subst (λ y. Served old y (rc l.report)) new_is (subst (λ x. Served x (rv l.report) (rc l.report)) old_is l.served));
+      rows_are = rows_given (length given.visits) channels (λ k b. due site k b (conversations_of (works k).visits)) given.rows (map rs reports) are (length-map reports rs ∙ reports_count)
+          (λ k row row' a b.
+          let r = source rs reports k row' b in
+          let l = lane_is k (omega (arith, are.count, slice_get_within given.rows k row a)) in
+          let new_is : rs l.report ≡ row' = sym (r.gives ∙ ap rs (same_at reports k r.value l.report r.is l.report_is)) in
+          let old_is : l.row ≡ row = same_at given.rows k l.row row l.row_is a in
+          let Given : List (Sender Note) → List (Sender Note) → Type 0 = λ x y. HasGiven (λ b. due site k b (conversations_of (works k).visits)) x y in
+          subst (λ y. Given row y) new_is (subst (λ x. Given x (rs l.report)) old_is l.given_out));
+      heard = λ k old new a b.
+          let r = source rt reports k new b in
+          let l = lane_is k (omega (arith, inboxes_count, slice_get_within given.inboxes k old a)) in
+          let new_is : rt l.report ≡ new = sym (r.gives ∙ ap rt (same_at reports k r.value l.report r.is l.report_is)) in
+          let old_is : l.inbox ≡ old = same_at given.inboxes k l.inbox old l.inbox_is a in
+          subst (λ x. TookSlips (works k).heard old x) new_is (subst (λ x. TookSlips (works k).heard x (rt l.report)) old_is l.heard);
+    }

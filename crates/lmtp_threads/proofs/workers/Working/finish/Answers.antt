@@ -1,0 +1,35 @@
+use Rattle.std.proofs.Common.{arith, ◌≡◌, length, ◌∙◌, subst, vec_items, vec_len}
+use Rattle.std.specs.List.{AllZip}
+use Rattle.lmtp_threads.specs.Tasks.{box_tasks, tally_of}
+use Rattle.thread_crew.proofs.Pairs.{AllZip-length}
+use Rattle.lmtp_threads.proofs.WorkedAll.{BoxOk, have_worked}
+use Rattle.lmtp_threads.proofs.workers.Working.finish.Goals.{After-join}
+use Rattle.lmtp_threads.proofs.workers.Working.finish.Goals as goal
+
+-- as many reports as tasks
+reports_len : (g : _) (c : After-join g) → vec_len c.join.result ≡ length c.self.inside.crew.tasks
+reports_len g c = omega (arith, AllZip-length _ c.self.inside.crew.tasks (vec_items c.join.result) c.join.ensures, c.join.result.ok.0)
+
+pub take_all-requires-clause-receivers : goal.take_all-requires-clause-receivers
+take_all-requires-clause-receivers g c = let len = reports_len g c in record { empty = c.self.invariant.0.empty; room = omega (arith, len, c.self.invariant.0.room) }
+
+pub take_all-requires-clause-slips : goal.take_all-requires-clause-slips
+take_all-requires-clause-slips g c = let len = reports_len g c in record { empty = c.self.invariant.1.empty; room = omega (arith, len, c.self.invariant.1.room) }
+
+pub take_all-requires-clause-spools : goal.take_all-requires-clause-spools
+take_all-requires-clause-spools g c = let len = reports_len g c in record { empty = c.self.invariant.2.empty; room = omega (arith, len, c.self.invariant.2.room) }
+
+pub take_all-requires-clause-gates : goal.take_all-requires-clause-gates
+take_all-requires-clause-gates g c = let len = reports_len g c in record { empty = c.self.invariant.3.empty; room = omega (arith, len, c.self.invariant.3.room) }
+
+pub take_all-requires-clause-tallies : goal.take_all-requires-clause-tallies
+take_all-requires-clause-tallies g c = let len = reports_len g c in record { empty = c.self.invariant.4.empty; room = omega (arith, len, c.self.invariant.4.room) }
+
+pub returns : goal.returns
+returns g c not_lost site channels given is count some are =
+    let parts = c.take_all.ensures in
+    let reports = vec_items c.join.result in
+    let tasks_are : c.self.inside.crew.tasks ≡ box_tasks site.host given.inboxes given.rows given.spools = c.self.view_is ∙ is in
+    let all = subst (λ l. AllZip (BoxOk g.S.Spool.state (λ r. r.receiver) (λ r. vec_items r.slips) (λ r. r.spool) (λ r. tally_of r.taken r.stored r.faulty) (λ r. r.lost)) l reports) tasks_are c.join.ensures in
+    rw (parts.spools, parts.slips, parts.receivers, parts.tallies)
+    (have_worked g.S.Spool.state (λ r. r.receiver) (λ r. vec_items r.slips) (λ r. r.spool) (λ r. tally_of r.taken r.stored r.faulty) (λ r. r.lost) site channels given reports count some are all (parts.lost not_lost))

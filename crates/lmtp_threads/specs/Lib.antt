@@ -1,0 +1,2 @@
+pub mod Works
+pub mod Tasks

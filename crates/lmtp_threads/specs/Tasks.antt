@@ -1,0 +1,187 @@
+-- What the threads of a server are given, and what their reports say.
+use Rattle.std.specs.Prelude.{◌≡◌, ℕ, ◌+◌, ◌<◌, Bool, true, false, List, [], ◌∷◌, ◌++◌, length, slice_get, Some}
+use Rattle.std.specs.List.{AllByRecursion}
+use Rattle.mail_world.specs.declared.Note.{Note}
+use Rattle.mail_world.specs.declared.Slip.{Slip}
+use Rattle.mail_world.specs.declared.limits.TheConstants.{READ_LIMIT}
+use Rattle.mail_world.specs.Site.{Site}
+use Rattle.mail_world.specs.Lists.{due, transactions, VerdictsFit}
+use Rattle.mbox_rd.specs.Spool.{SpoolState}
+use Rattle.mail_post.specs.Channel.{Channel, Sender, Inbox, taken}
+use Rattle.mail_post.specs.Offered.{HaveNumber}
+use Rattle.mail_post.specs.declared.channel.Gone.TheVariants.{Closed}
+use Rattle.box_worker.specs.Told.{worker_of, owed_to}
+use Rattle.lmtp_threads.specs.declared.tally.Tally.{Tally}
+use Rattle.lmtp_talk.specs.Peer.{PeerState}
+use Rattle.lmtp_talk.specs.Served.{terms}
+use Rattle.mail_world.specs.Counts.{counted}
+use Rattle.lmtp_lane.specs.LaneAccount.{IsAnswered}
+use Rattle.lmtp_lane.specs.LaneRun.{LaneState}
+use Rattle.lmtp_lane.specs.Visits.{HasVisited, conversations_of}
+use Rattle.thread_crew.specs.Channels.{AreRows, none}
+use Rattle.lmtp_threads.specs.Works.{VisitsView, LaneWork, LaneTold, lane_told, BoxWork, IsBoxWork}
+
+-- what a lane is given
+pub record LaneTask (V C : Type 0) : Type 0 where
+  pub lane : ℕ
+  pub site : Site
+  pub desk_site : Site
+  pub clock : C
+  pub visits : V
+  pub senders : List (Sender Note)
+  pub slips : Inbox Slip
+
+module _ {V C : Type 0} where
+  abbrev pub lane_task : Site → C → ℕ → V → List (Sender Note) → Inbox Slip → LaneTask V C
+  lane_task site clock k visits senders slips = record {
+    lane = k;
+    site = site;
+    desk_site = site;
+    clock = clock;
+    visits = visits;
+    senders = senders;
+    slips = slips;
+  }
+
+  -- the tasks of the lanes from number k on
+  abbrev pub lane_tasks : Site → C → ℕ → List V → List (List (Sender Note)) → List (Inbox Slip) → List (LaneTask V C)
+  lane_tasks site clock k [] rows inboxes = []
+  lane_tasks site clock k (v ∷ vs) [] inboxes = []
+  lane_tasks site clock k (v ∷ vs) (row ∷ rows) [] = []
+  lane_tasks site clock k (v ∷ vs) (row ∷ rows) (inbox ∷ inboxes) =
+      lane_task site clock k v row inbox ∷ lane_tasks site clock (k + 1) vs rows inboxes
+
+  -- a lane may run
+  pub record IsLaneReady (out : V → Bool) (task : LaneTask V C) : Type 0 where
+    pub site : task.desk_site ≡ task.site
+    pub count : length task.senders ≡ length task.site.boxes
+    pub lane : HaveNumber task.lane task.senders
+    pub none_out : out task.visits ≡ false
+
+-- where its lane begins
+abbrev pub lane_before : {V C : Type 0} → VisitsView V → LaneTask V C → LaneState
+lane_before view task = record {
+  finished = view.finished task.visits;
+  over = view.over task.visits;
+  ends = record { lane = task.lane; senders = task.senders; inbox = task.slips; gone = false };
+  conversations = 0;
+}
+
+-- what a worker is given
+pub record BoxTask (S : Type 0) : Type 0 where
+  pub host : List ℕ
+  pub receiver : Inbox Note
+  pub slips : List (Sender Slip)
+  pub spool : S
+
+module _ {S : Type 0} where
+  abbrev pub box_task : List ℕ → Inbox Note → List (Sender Slip) → S → BoxTask S
+  box_task host receiver slips spool = record { host = host; receiver = receiver; slips = slips; spool = spool }
+
+  -- the tasks of the workers, in the mailboxes' order
+  abbrev pub box_tasks : List ℕ → List (Inbox Note) → List (List (Sender Slip)) → List S → List (BoxTask S)
+  box_tasks host [] rows spools = []
+  box_tasks host (inbox ∷ inboxes) [] spools = []
+  box_tasks host (inbox ∷ inboxes) (row ∷ rows) [] = []
+  box_tasks host (inbox ∷ inboxes) (row ∷ rows) (spool ∷ spools) =
+      box_task host inbox row spool ∷ box_tasks host inboxes rows spools
+
+  -- a worker may run
+  pub record IsBoxReady (task : BoxTask S) : Type 0 where
+    pub fresh : taken task.receiver ≡ []
+    pub lanes : length task.slips ≡ task.receiver.lanes
+    pub worker : HaveNumber (worker_of task.slips) task.slips
+
+-- as IsLaneWork, with the outcomes as they were gathered
+pub record IsServedLane (site : Site) (May : ℕ → Type 0) (MayCome : PeerState → Type 0) (k : ℕ) (work : LaneWork)
+    (told : LaneTold) : Type 0 where
+  pub visited : HasVisited (terms site READ_LIMIT) MayCome told.before told.after work.visits
+  pub ended : told.over ≡ true
+  pub counts : told.count ≡ counted (length work.visits)
+  pub verdicts : VerdictsFit site (conversations_of work.visits)
+  pub moments : AllByRecursion (λ t. May t.disposition.moment) (transactions site 0 (conversations_of work.visits))
+  pub answered : AllByRecursion (IsAnswered k work.heard) (transactions site 0 (conversations_of work.visits))
+
+-- a receiver took these more
+pub record TookSlips (heard : List Slip) (old new : Inbox Slip) : Type 0 where
+  pub channel : new.channel ≡ old.channel
+  pub lanes : new.lanes ≡ old.lanes
+  pub took : taken new ≡ taken old ++ heard
+
+-- a receiver took all of this up to its closing
+pub record TookAllNotes (all : List Note) (old new : Inbox Note) : Type 0 where
+  pub channel : new.channel ≡ old.channel
+  pub lanes : new.lanes ≡ old.lanes
+  pub took : taken new ≡ all
+  pub closed : new.gone ≡ Some Closed
+
+-- what lanes are given: their clients, a row of senders for each, and their receivers
+pub record LanesGiven (V : Type 0) : Type 0 where
+  pub visits : List V
+  pub rows : List (List (Sender Note))
+  pub inboxes : List (Inbox Slip)
+
+-- what they hand back, and how many conversations each held
+pub record LanesBack (V : Type 0) : Type 0 where
+  pub visits : List V
+  pub rows : List (List (Sender Note))
+  pub inboxes : List (Inbox Slip)
+  pub conversations : List ℕ
+
+-- what workers are given: their receivers, a row of senders for each, and their spools
+pub record WorkersGiven (S : Type 0) : Type 0 where
+  pub inboxes : List (Inbox Note)
+  pub rows : List (List (Sender Slip))
+  pub spools : List S
+
+-- what they hand back, and what each did
+pub record WorkersBack (S : Type 0) : Type 0 where
+  pub inboxes : List (Inbox Note)
+  pub rows : List (List (Sender Slip))
+  pub spools : List S
+  pub tallies : List Tally
+
+-- All lanes have ended, and none found a channel gone: what each did, with what its senders gave and its receiver took.
+pub record HaveServed {V : Type 0} (site : Site) (May : ℕ → Type 0) (view : VisitsView V)
+    (channels : List (Channel Note)) (old : LanesGiven V) (new : LanesBack V) : Type 0 where
+  pub works : ℕ → LaneWork
+  pub as_many : (length new.visits ≡ length old.visits) × (length new.conversations ≡ length old.visits)
+      × (length new.inboxes ≡ length old.visits)
+  pub served : (k count : ℕ) (before after : V) → slice_get old.visits k ≡ Some before
+      → slice_get new.visits k ≡ Some after → slice_get new.conversations k ≡ Some count
+      → IsServedLane site May (view.MayGive before) k (works k) (lane_told view before after count)
+  pub rows_are : AreRows (length old.visits) channels (λ k b. due site k b (conversations_of (works k).visits))
+      new.rows
+  pub heard : (k : ℕ) (before after : Inbox Slip) → slice_get old.inboxes k ≡ Some before
+      → slice_get new.inboxes k ≡ Some after → TookSlips (works k).heard before after
+
+-- All workers have ended, and none found a channel gone.
+pub record HaveWorked {S : Type 0} (site : Site) (state : S → SpoolState) (channels : List (Channel Slip))
+    (old : WorkersGiven S) (new : WorkersBack S) : Type 0 where
+  pub works : ℕ → BoxWork
+  pub as_many : (length new.spools ≡ length old.spools) × (length new.tallies ≡ length old.spools)
+      × (length new.inboxes ≡ length old.spools)
+  pub stored : (b : ℕ) (before after : S) (tally : Tally) → slice_get old.spools b ≡ Some before
+      → slice_get new.spools b ≡ Some after → slice_get new.tallies b ≡ Some tally
+      → IsBoxWork site (works b) (state before) (state after) tally
+  pub rows_are : AreRows (length old.spools) channels (λ b k. owed_to b (works b).stored k (works b).taken) new.rows
+  pub took : (b : ℕ) (before after : Inbox Note) → slice_get old.inboxes b ≡ Some before
+      → slice_get new.inboxes b ≡ Some after → TookAllNotes (works b).taken before after
+
+-- whatever these tasks were made of, all lanes have ended
+abbrev pub HaveServedAll : {V C : Type 0} → (C → ℕ → Type 0) → VisitsView V → List (LaneTask V C) → LanesBack V → Type 0
+HaveServedAll {V} {C} May view tasks new =
+    (site : Site) (clock : C) (channels : List (Channel Note)) (old : LanesGiven V)
+    → tasks ≡ lane_tasks site clock 0 old.visits old.rows old.inboxes → length old.inboxes ≡ length old.visits
+    → AreRows (length old.visits) channels none old.rows → HaveServed site (May clock) view channels old new
+
+-- whatever these tasks were made of, all workers have ended
+abbrev pub HaveWorkedAll : {S : Type 0} → (S → SpoolState) → List (BoxTask S) → WorkersBack S → Type 0
+HaveWorkedAll {S} state tasks new =
+    (site : Site) (channels : List (Channel Slip)) (old : WorkersGiven S)
+    → tasks ≡ box_tasks site.host old.inboxes old.rows old.spools → length old.inboxes ≡ length old.spools
+    → 0 < length channels → AreRows (length old.spools) channels none old.rows → HaveWorked site state channels old new
+
+-- a report's counts
+abbrev pub tally_of : ℕ → ℕ → Bool → Tally
+tally_of taken stored faulty = record { taken = taken; stored = stored; faulty = faulty }

@@ -1,0 +1,297 @@
+//! The lanes of a server.
+
+ghost use Rattle.std.specs.Prelude.{◌≡◌, ◌<◌, ◌≤◌, ◌||◌, ◌++◌, [], ◌∷◌, false, IfOk, length, vec_len, vec_capacity};
+ghost use Rattle.std.specs.Prelude.{map};
+ghost use Rattle.std.specs.List.{AllZip, AllByRecursion};
+ghost use Rattle.std.specs.Arc.{arc_value};
+ghost use Rattle.thread_crew.specs.Grid.{lists, IsRoom};
+ghost use Rattle.lmtp_threads.specs.Tasks.{lane_task, lane_tasks, lane_before, IsLaneReady, HaveServedAll};
+ghost use Rattle.mail_world.specs.declared.limits.TheConstants.{LANE_LIMIT};
+ghost use Rattle.mail_world.specs.declared.limits.TheConstants.{READ_LIMIT};
+ghost use Rattle.lmtp_talk.specs.Served.{terms};
+ghost use Rattle.lmtp_lane.specs.LaneRun.{HasServed};
+
+use crate::shared::Shared;
+use lmtp_lane::{Clock, Desk, LaneReport, Visits, lane_run};
+use lmtp_text::Site;
+use mail_post::{Sender, SlipReceiver};
+use msg_depot::{Depot, DepotName};
+use std::alloc::{AllocError, Global};
+use std::marker::Model;
+use std::sync::{Arc, Wait};
+use std::thread::Threads;
+use thread_crew::{Crew, Refused, Task};
+
+/// What a lane is given.
+#[derive(Drop)]
+pub struct LaneJob<N: DepotName, V: Visits, C: Clock> {
+    lane: u32,
+    site: Arc<Site>,
+    desk: Desk,
+    depot: Arc<Depot<N>>,
+    visits: V,
+    senders: Vec<Sender<N>>,
+    slips: SlipReceiver,
+    clock: Arc<C>,
+}
+
+impl<N: DepotName, V: Visits, C: Clock> Model for LaneJob<N, V, C> {
+    ghost use Rattle.std.specs.Arc.{arc_value};
+    ghost use Rattle.lmtp_threads.specs.Tasks.{LaneTask};
+
+    ghost Value = { LaneTask V C };
+
+    ghost view = { λ j. record {
+      lane = j.lane;
+      site = arc_value j.site;
+      desk_site = j.desk.dialogue.session.site;
+      clock = arc_value j.clock;
+      visits = j.visits;
+      senders = j.senders.items;
+      slips = j.slips;
+    } };
+}
+
+impl<N, V, C> Task for LaneJob<N, V, C>
+where
+    N: DepotName + Send + Sync + 'static,
+    V: Visits + Send + 'static,
+    V::P: Send + 'static,
+    C: Clock + Send + Sync + 'static,
+{
+    type Output = LaneReport<N, V>;
+
+    ghost ready = { λ job. IsLaneReady V.out job };
+
+    ghost done = { λ job r. HasServed (terms job.site READ_LIMIT) (C.May job.clock) (V.MayGive job.visits)
+        (lane_before (record { MayGive = V.MayGive; finished = V.finished; over = V.over }) job)
+        (record {
+          finished = V.finished r.visits;
+          over = V.over r.visits;
+          ends = record { lane = job.lane; senders = r.senders.items; inbox = r.slips; gone = r.gone };
+          conversations = r.conversations;
+        }) };
+
+    fn run<R: Wait>(self, rt: &R) -> LaneReport<N, V> {
+        let LaneJob {
+            lane,
+            site,
+            desk,
+            depot,
+            visits,
+            senders,
+            slips,
+            clock,
+        } = self;
+        let clock: &C = &clock;
+        lane_run(rt, lane, &site, desk, visits, &depot, senders, slips, clock)
+    }
+}
+
+// One lane's job, with a desk of its own.
+fn lane_job<N: DepotName, V: Visits, C: Clock>(
+    shared: &Shared<N, C>,
+    lane: u32,
+    visits: V,
+    senders: Vec<Sender<N>>,
+    slips: SlipReceiver,
+) -> Result<LaneJob<N, V, C>, AllocError>
+    ensures { IfOk result (λ job. job
+        ≡ lane_task (arc_value shared.now.site) (arc_value shared.now.clock) lane visits senders.items slips) }
+{
+    Ok(LaneJob {
+        lane,
+        site: Arc::try_clone(&shared.site)?,
+        desk: Desk::new(shared.alloc, Arc::try_clone(&shared.site)?)?,
+        depot: Arc::try_clone(&shared.depot)?,
+        visits,
+        senders,
+        slips,
+        clock: Arc::try_clone(&shared.clock)?,
+    })
+}
+
+/// The jobs of all lanes, in their order.
+pub fn lane_jobs<N: DepotName, V: Visits, C: Clock>(
+    shared: &Shared<N, C>,
+    visits: Vec<V>,
+    rows: Vec<Vec<Sender<N>>>,
+    takers: Vec<SlipReceiver>,
+) -> Result<Vec<LaneJob<N, V, C>>, AllocError>
+    requires few { vec_len visits ≤ LANE_LIMIT }
+    requires rows { vec_len rows ≡ vec_len visits }
+    requires takers { vec_len takers ≡ vec_len visits }
+    ensures { IfOk result (λ jobs. jobs.items ≡ lane_tasks (arc_value shared.now.site) (arc_value shared.now.clock) 0
+        visits.items (lists rows.items) takers.items) }
+{
+    let mut rows = rows.into_iter();
+    let mut takers = takers.into_iter();
+    let mut jobs = Vec::new(shared.alloc);
+    let mut lane = 0;
+    for visits in visits {
+        let Some(senders) = rows.next() else {
+            unreachable!()
+        };
+        let Some(slips) = takers.next() else {
+            unreachable!()
+        };
+        jobs.push(lane_job(shared, lane, visits, senders, slips)?)?;
+        lane += 1;
+    }
+    Ok(jobs)
+}
+
+/// What the lanes handed back, part by part.
+#[derive(Drop)]
+pub struct LaneReports<N: DepotName, V: Visits> {
+    pub visits: Vec<V>,
+    pub senders: Vec<Vec<Sender<N>>>,
+    pub slips: Vec<SlipReceiver>,
+    pub conversations: Vec<u64>,
+    /// A lane found a channel gone.
+    pub gone: bool,
+}
+
+impl<N: DepotName, V: Visits> LaneReports<N, V> {
+    // The memory for the parts of so many lanes.
+    fn with_capacity(alloc: Global, lanes: usize) -> Result<LaneReports<N, V>, AllocError>
+        ensures visits { IfOk result (λ ends. IsRoom lanes ends.visits) }
+        ensures senders { IfOk result (λ ends. IsRoom lanes ends.senders) }
+        ensures slips { IfOk result (λ ends. IsRoom lanes ends.slips) }
+        ensures conversations { IfOk result (λ ends. IsRoom lanes ends.conversations) }
+        ensures gone { IfOk result (λ ends. ends.gone ≡ false) }
+    {
+        Ok(LaneReports {
+            visits: Vec::with_capacity(alloc, lanes)?,
+            senders: Vec::with_capacity(alloc, lanes)?,
+            slips: Vec::with_capacity(alloc, lanes)?,
+            conversations: Vec::with_capacity(alloc, lanes)?,
+            gone: false,
+        })
+    }
+
+    // Takes one report apart. There is room.
+    fn take(&mut self, report: LaneReport<N, V>)
+        requires visits { vec_len self.old.visits < vec_capacity self.old.visits }
+        requires senders { vec_len self.old.senders < vec_capacity self.old.senders }
+        requires slips { vec_len self.old.slips < vec_capacity self.old.slips }
+        requires conversations { vec_len self.old.conversations < vec_capacity self.old.conversations }
+        ensures visits { self.new.visits.items ≡ self.old.visits.items ++ report.visits ∷ [] }
+        ensures senders { lists self.new.senders.items ≡ lists self.old.senders.items ++ report.senders.items ∷ [] }
+        ensures slips { self.new.slips.items ≡ self.old.slips.items ++ report.slips ∷ [] }
+        ensures conversations { self.new.conversations.items
+            ≡ self.old.conversations.items ++ report.conversations ∷ [] }
+        ensures gone { self.new.gone ≡ (self.old.gone || report.gone) }
+        ensures room { (vec_capacity self.old.visits ≤ vec_capacity self.new.visits)
+            × (vec_capacity self.old.senders ≤ vec_capacity self.new.senders)
+            × (vec_capacity self.old.slips ≤ vec_capacity self.new.slips)
+            × (vec_capacity self.old.conversations ≤ vec_capacity self.new.conversations) }
+    {
+        self.visits.push_reserved(report.visits);
+        self.senders.push_reserved(report.senders);
+        self.slips.push_reserved(report.slips);
+        self.conversations.push_reserved(report.conversations);
+        self.gone |= report.gone;
+    }
+
+    // Takes the reports apart. There is room.
+    fn take_all(self, reports: Vec<LaneReport<N, V>>) -> LaneReports<N, V>
+        requires visits { IsRoom (vec_len reports) self.visits }
+        requires senders { IsRoom (vec_len reports) self.senders }
+        requires slips { IsRoom (vec_len reports) self.slips }
+        requires conversations { IsRoom (vec_len reports) self.conversations }
+        ensures visits { result.visits.items ≡ map (λ r. r.visits) reports.items }
+        ensures senders { lists result.senders.items ≡ map (λ r. r.senders.items) reports.items }
+        ensures slips { result.slips.items ≡ map (λ r. r.slips) reports.items }
+        ensures conversations { result.conversations.items ≡ map (λ r. r.conversations) reports.items }
+        ensures gone { result.gone ≡ false → AllByRecursion (λ r. r.gone ≡ false) reports.items }
+    {
+        let mut ends = self;
+        for report in reports {
+            ends.take(report);
+        }
+        ends
+    }
+}
+
+/// The lanes before they run, with the memory for what they hand back.
+#[derive(Drop)]
+pub struct Lanes<N, V, C>
+where
+    N: DepotName + Send + Sync + 'static,
+    V: Visits + Send + 'static,
+    V::P: Send + 'static,
+    C: Clock + Send + Sync + 'static,
+{
+    jobs: Vec<LaneJob<N, V, C>>,
+    crew: Crew<LaneJob<N, V, C>>,
+    ends: LaneReports<N, V>,
+}
+
+impl<N, V, C> Model for Lanes<N, V, C>
+where
+    N: DepotName + Send + Sync + 'static,
+    V: Visits + Send + 'static,
+    V::P: Send + 'static,
+    C: Clock + Send + Sync + 'static,
+{
+    ghost use Rattle.std.specs.Prelude.{◌≡◌, [], List, vec_len};
+    ghost use Rattle.thread_crew.specs.Grid.{IsRoom};
+    ghost use Rattle.lmtp_threads.specs.Tasks.{LaneTask};
+
+    ghost Value = { List (LaneTask V C) };
+
+    ghost view = { λ l. l.jobs.items };
+
+    ghost invariant = { λ l. (l.crew ≡ record { tasks = []; room = vec_len l.jobs })
+        × IsRoom (vec_len l.jobs) l.ends.visits × IsRoom (vec_len l.jobs) l.ends.senders
+        × IsRoom (vec_len l.jobs) l.ends.slips × IsRoom (vec_len l.jobs) l.ends.conversations };
+}
+
+impl<N, V, C> Lanes<N, V, C>
+where
+    N: DepotName + Send + Sync + 'static,
+    V: Visits + Send + 'static,
+    V::P: Send + 'static,
+    C: Clock + Send + Sync + 'static,
+{
+    /// Lanes for these jobs.
+    pub fn new(alloc: Global, jobs: Vec<LaneJob<N, V, C>>) -> Result<Lanes<N, V, C>, AllocError>
+        ensures { IfOk result (λ lanes. lanes ≡ jobs.items) }
+    {
+        Ok(Lanes {
+            crew: Crew::with_capacity(alloc, jobs.len())?,
+            ends: LaneReports::with_capacity(alloc, jobs.len())?,
+            jobs,
+        })
+    }
+
+    /// Runs each lane in a thread, to its end. At `Err` those that had started have ended, and their senders are gone.
+    pub fn run<R: Threads + Wait + Copy + Send + 'static>(
+        self,
+        rt: R,
+    ) -> Result<LaneReports<N, V>, Refused>
+        requires { AllByRecursion (IsLaneReady V.out) self }
+        ensures { IfOk result (λ back. back.gone ≡ false → HaveServedAll C.May
+            (record { MayGive = V.MayGive; finished = V.finished; over = V.over }) self
+            (record {
+              visits = back.visits.items;
+              rows = lists back.senders.items;
+              inboxes = back.slips.items;
+              conversations = back.conversations.items;
+            })) }
+    {
+        let Lanes {
+            jobs,
+            mut crew,
+            ends,
+        } = self;
+        match crew.start_all(rt, jobs) {
+            Ok(()) => Ok(ends.take_all(crew.join(&rt))),
+            Err(refused) => {
+                drop(crew.join(&rt));
+                Err(refused)
+            }
+        }
+    }
+}

@@ -1,0 +1,12 @@
+//! What a worker says of its run.
+
+/// What a worker did. Counts stay at their largest value.
+#[derive(Clone, Copy, Debug, PartialEq, Eq)]
+pub struct Tally {
+    /// The copies that it took.
+    pub taken: u64,
+    /// Those of them that it stored.
+    pub stored: u64,
+    /// Whether its spool failed.
+    pub faulty: bool,
+}

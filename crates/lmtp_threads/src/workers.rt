@@ -1,0 +1,329 @@
+//! The workers of a server.
+
+ghost use Rattle.std.specs.Prelude.{◌≡◌, ◌<◌, ◌≤◌, ◌||◌, ◌++◌, [], ◌∷◌, false, IfOk, length, vec_len, vec_capacity};
+ghost use Rattle.std.specs.Prelude.{map};
+ghost use Rattle.std.specs.List.{AllByRecursion};
+ghost use Rattle.std.specs.Arc.{arc_value};
+ghost use Rattle.lmtp_text.specs.Calendar.{civil_at};
+ghost use Rattle.box_worker.specs.Told.{worker_of};
+ghost use Rattle.box_worker.specs.Stored.{kept};
+ghost use Rattle.box_worker.specs.Worked.{idle, HasWorked};
+ghost use Rattle.thread_crew.specs.Grid.{lists, IsRoom};
+ghost use Rattle.lmtp_threads.specs.Tasks.{box_task, box_tasks, tally_of, IsBoxReady, HaveWorkedAll};
+
+use crate::shared::Shared;
+use crate::tally::Tally;
+use box_worker::{Gate, WorkerReport, worker_run};
+use lmtp_text::Site;
+use mail_post::{Receiver, SlipSender};
+use mbox_rd::Spool;
+use msg_depot::{Depot, DepotName};
+use std::alloc::{AllocError, Global};
+use std::marker::Model;
+use std::sync::{Arc, Wait};
+use std::thread::Threads;
+use thread_crew::{Crew, Task};
+
+/// What a worker is given.
+#[derive(Drop)]
+pub struct WorkerJob<N: DepotName, S: Spool + Drop, G: Gate + Drop> {
+    site: Arc<Site>,
+    depot: Arc<Depot<N>>,
+    receiver: Receiver<N>,
+    slips: Vec<SlipSender>,
+    spool: S,
+    gate: G,
+}
+
+impl<N: DepotName, S: Spool + Drop, G: Gate + Drop> Model for WorkerJob<N, S, G> {
+    ghost use Rattle.std.specs.Arc.{arc_value};
+    ghost use Rattle.lmtp_threads.specs.Tasks.{BoxTask};
+
+    ghost Value = { BoxTask S };
+
+    ghost view = { λ j. record {
+      host = (arc_value j.site).host;
+      receiver = j.receiver;
+      slips = j.slips.items;
+      spool = j.spool;
+    } };
+}
+
+impl<N, S, G> Task for WorkerJob<N, S, G>
+where
+    N: DepotName + Send + Sync + 'static,
+    S: Spool + Drop + Send + 'static,
+    G: Gate + Drop + Send + 'static,
+{
+    type Output = WorkerReport<N, S, G>;
+
+    ghost ready = { λ job. IsBoxReady job };
+
+    ghost done = { λ job r. HasWorked
+        (record { calendar = civil_at; host = job.host; worker = worker_of job.slips }) job.receiver r.receiver
+        (idle job.slips (S.state job.spool))
+        (record {
+          slips = r.slips.items;
+          mailbox = kept (S.state r.spool) r.stored r.faulty;
+          taken = r.taken;
+          lost = r.lost;
+        }) };
+
+    fn run<R: Wait>(self, rt: &R) -> WorkerReport<N, S, G> {
+        let WorkerJob {
+            site,
+            depot,
+            receiver,
+            slips,
+            spool,
+            gate,
+        } = self;
+        worker_run(rt, receiver, slips, spool, &depot, gate, site.host())
+    }
+}
+
+/// The jobs of all workers, in the order of their mailboxes.
+pub fn worker_jobs<N: DepotName, S: Spool + Drop, G: Gate + Drop, C: Drop>(
+    shared: &Shared<N, C>,
+    receivers: Vec<Receiver<N>>,
+    rows: Vec<Vec<SlipSender>>,
+    spools: Vec<S>,
+    gates: Vec<G>,
+) -> Result<Vec<WorkerJob<N, S, G>>, AllocError>
+    requires rows { vec_len rows ≡ vec_len receivers }
+    requires spools { vec_len spools ≡ vec_len receivers }
+    requires gates { vec_len gates ≡ vec_len receivers }
+    ensures { IfOk result (λ jobs. jobs.items
+        ≡ box_tasks (arc_value shared.now.site).host receivers.items (lists rows.items) spools.items) }
+{
+    let mut rows = rows.into_iter();
+    let mut spools = spools.into_iter();
+    let mut gates = gates.into_iter();
+    let mut jobs = Vec::new(shared.alloc);
+    for receiver in receivers {
+        let Some(slips) = rows.next() else {
+            unreachable!()
+        };
+        let Some(spool) = spools.next() else {
+            unreachable!()
+        };
+        let Some(gate) = gates.next() else {
+            unreachable!()
+        };
+        jobs.push(WorkerJob {
+            site: Arc::try_clone(&shared.site)?,
+            depot: Arc::try_clone(&shared.depot)?,
+            receiver,
+            slips,
+            spool,
+            gate,
+        })?;
+    }
+    Ok(jobs)
+}
+
+/// What the workers handed back, part by part.
+#[derive(Drop)]
+pub struct WorkerReports<N: DepotName, S: Spool + Drop, G: Gate + Drop> {
+    pub receivers: Vec<Receiver<N>>,
+    pub slips: Vec<Vec<SlipSender>>,
+    pub spools: Vec<S>,
+    pub gates: Vec<G>,
+    pub tallies: Vec<Tally>,
+    /// A worker found a channel gone.
+    pub lost: bool,
+}
+
+impl<N: DepotName, S: Spool + Drop, G: Gate + Drop> WorkerReports<N, S, G> {
+    // The memory for the parts of so many workers.
+    fn with_capacity(alloc: Global, workers: usize) -> Result<WorkerReports<N, S, G>, AllocError>
+        ensures receivers { IfOk result (λ ends. IsRoom workers ends.receivers) }
+        ensures slips { IfOk result (λ ends. IsRoom workers ends.slips) }
+        ensures spools { IfOk result (λ ends. IsRoom workers ends.spools) }
+        ensures gates { IfOk result (λ ends. IsRoom workers ends.gates) }
+        ensures tallies { IfOk result (λ ends. IsRoom workers ends.tallies) }
+    {
+        Ok(WorkerReports {
+            receivers: Vec::with_capacity(alloc, workers)?,
+            slips: Vec::with_capacity(alloc, workers)?,
+            spools: Vec::with_capacity(alloc, workers)?,
+            gates: Vec::with_capacity(alloc, workers)?,
+            tallies: Vec::with_capacity(alloc, workers)?,
+            lost: false,
+        })
+    }
+
+    // Takes one report apart. There is room.
+    fn take(&mut self, report: WorkerReport<N, S, G>)
+        requires receivers { vec_len self.old.receivers < vec_capacity self.old.receivers }
+        requires slips { vec_len self.old.slips < vec_capacity self.old.slips }
+        requires spools { vec_len self.old.spools < vec_capacity self.old.spools }
+        requires gates { vec_len self.old.gates < vec_capacity self.old.gates }
+        requires tallies { vec_len self.old.tallies < vec_capacity self.old.tallies }
+        ensures receivers { self.new.receivers.items ≡ self.old.receivers.items ++ report.receiver ∷ [] }
+        ensures slips { lists self.new.slips.items ≡ lists self.old.slips.items ++ report.slips.items ∷ [] }
+        ensures spools { self.new.spools.items ≡ self.old.spools.items ++ report.spool ∷ [] }
+        ensures gates { self.new.gates.items ≡ self.old.gates.items ++ report.gate ∷ [] }
+        ensures tallies { self.new.tallies.items
+            ≡ self.old.tallies.items ++ tally_of report.taken report.stored report.faulty ∷ [] }
+        ensures lost { self.new.lost ≡ (self.old.lost || report.lost) }
+        ensures room { (vec_capacity self.old.receivers ≤ vec_capacity self.new.receivers)
+            × (vec_capacity self.old.slips ≤ vec_capacity self.new.slips)
+            × (vec_capacity self.old.spools ≤ vec_capacity self.new.spools)
+            × (vec_capacity self.old.gates ≤ vec_capacity self.new.gates)
+            × (vec_capacity self.old.tallies ≤ vec_capacity self.new.tallies) }
+    {
+        self.receivers.push_reserved(report.receiver);
+        self.slips.push_reserved(report.slips);
+        self.spools.push_reserved(report.spool);
+        self.gates.push_reserved(report.gate);
+        self.tallies.push_reserved(Tally {
+            taken: report.taken,
+            stored: report.stored,
+            faulty: report.faulty,
+        });
+        self.lost |= report.lost;
+    }
+
+    // Takes the reports apart. There is room.
+    fn take_all(self, reports: Vec<WorkerReport<N, S, G>>) -> WorkerReports<N, S, G>
+        requires receivers { IsRoom (vec_len reports) self.receivers }
+        requires slips { IsRoom (vec_len reports) self.slips }
+        requires spools { IsRoom (vec_len reports) self.spools }
+        requires gates { IsRoom (vec_len reports) self.gates }
+        requires tallies { IsRoom (vec_len reports) self.tallies }
+        ensures receivers { result.receivers.items ≡ map (λ r. r.receiver) reports.items }
+        ensures slips { lists result.slips.items ≡ map (λ r. r.slips.items) reports.items }
+        ensures spools { result.spools.items ≡ map (λ r. r.spool) reports.items }
+        ensures gates { result.gates.items ≡ map (λ r. r.gate) reports.items }
+        ensures tallies { result.tallies.items ≡ map (λ r. tally_of r.taken r.stored r.faulty) reports.items }
+        ensures lost { result.lost ≡ false → AllByRecursion (λ r. r.lost ≡ false) reports.items }
+    {
+        let mut ends = self;
+        for report in reports {
+            ends.take(report);
+        }
+        ends
+    }
+}
+
+/// The workers before they run, with the memory for what they hand back.
+#[derive(Drop)]
+pub struct Workers<N, S, G>
+where
+    N: DepotName + Send + Sync + 'static,
+    S: Spool + Drop + Send + 'static,
+    G: Gate + Drop + Send + 'static,
+{
+    jobs: Vec<WorkerJob<N, S, G>>,
+    crew: Crew<WorkerJob<N, S, G>>,
+    ends: WorkerReports<N, S, G>,
+}
+
+/// Workers that run.
+#[derive(Drop)]
+pub struct Working<N, S, G>
+where
+    N: DepotName + Send + Sync + 'static,
+    S: Spool + Drop + Send + 'static,
+    G: Gate + Drop + Send + 'static,
+{
+    crew: Crew<WorkerJob<N, S, G>>,
+    ends: WorkerReports<N, S, G>,
+}
+
+impl<N, S, G> Model for Workers<N, S, G>
+where
+    N: DepotName + Send + Sync + 'static,
+    S: Spool + Drop + Send + 'static,
+    G: Gate + Drop + Send + 'static,
+{
+    ghost use Rattle.std.specs.Prelude.{◌≡◌, [], List, vec_len};
+    ghost use Rattle.thread_crew.specs.Grid.{IsRoom};
+    ghost use Rattle.lmtp_threads.specs.Tasks.{BoxTask};
+
+    ghost Value = { List (BoxTask S) };
+
+    ghost view = { λ w. w.jobs.items };
+
+    ghost invariant = { λ w. (w.crew ≡ record { tasks = []; room = vec_len w.jobs })
+        × IsRoom (vec_len w.jobs) w.ends.receivers × IsRoom (vec_len w.jobs) w.ends.slips
+        × IsRoom (vec_len w.jobs) w.ends.spools × IsRoom (vec_len w.jobs) w.ends.gates
+        × IsRoom (vec_len w.jobs) w.ends.tallies };
+}
+
+impl<N, S, G> Model for Working<N, S, G>
+where
+    N: DepotName + Send + Sync + 'static,
+    S: Spool + Drop + Send + 'static,
+    G: Gate + Drop + Send + 'static,
+{
+    ghost use Rattle.std.specs.Prelude.{List, length};
+    ghost use Rattle.thread_crew.specs.Grid.{IsRoom};
+    ghost use Rattle.lmtp_threads.specs.Tasks.{BoxTask};
+
+    ghost Value = { List (BoxTask S) };
+
+    ghost view = { λ w. w.crew.tasks };
+
+    ghost invariant = { λ w. IsRoom (length w.crew.tasks) w.ends.receivers × IsRoom (length w.crew.tasks) w.ends.slips
+        × IsRoom (length w.crew.tasks) w.ends.spools × IsRoom (length w.crew.tasks) w.ends.gates
+        × IsRoom (length w.crew.tasks) w.ends.tallies };
+}
+
+impl<N, S, G> Workers<N, S, G>
+where
+    N: DepotName + Send + Sync + 'static,
+    S: Spool + Drop + Send + 'static,
+    G: Gate + Drop + Send + 'static,
+{
+    /// Workers for these jobs.
+    pub fn new(alloc: Global, jobs: Vec<WorkerJob<N, S, G>>) -> Result<Workers<N, S, G>, AllocError>
+        ensures { IfOk result (λ workers. workers ≡ jobs.items) }
+    {
+        Ok(Workers {
+            crew: Crew::with_capacity(alloc, jobs.len())?,
+            ends: WorkerReports::with_capacity(alloc, jobs.len())?,
+            jobs,
+        })
+    }
+
+    /// Starts each worker in a thread. At `Err` these have started, and one was refused.
+    pub fn start<R: Threads + Wait + Copy + Send + 'static>(
+        self,
+        rt: R,
+    ) -> Result<Working<N, S, G>, Crew<WorkerJob<N, S, G>>>
+        requires { AllByRecursion IsBoxReady self }
+        ensures { IfOk result (λ working. working ≡ self) }
+    {
+        let Workers {
+            jobs,
+            mut crew,
+            ends,
+        } = self;
+        match crew.start_all(rt, jobs) {
+            Ok(()) => Ok(Working { crew, ends }),
+            Err(_refused) => Err(crew),
+        }
+    }
+}
+
+impl<N, S, G> Working<N, S, G>
+where
+    N: DepotName + Send + Sync + 'static,
+    S: Spool + Drop + Send + 'static,
+    G: Gate + Drop + Send + 'static,
+{
+    /// Waits for each worker. Their channels are closed, or their senders are gone.
+    pub fn finish<R: Threads>(self, rt: &R) -> WorkerReports<N, S, G>
+        ensures { result.lost ≡ false → HaveWorkedAll S.state self (record {
+          inboxes = result.receivers.items;
+          rows = lists result.slips.items;
+          spools = result.spools.items;
+          tallies = result.tallies.items;
+        }) }
+    {
+        let Working { crew, ends } = self;
+        ends.take_all(crew.join(rt))
+    }
+}

@@ -1,0 +1,4 @@
+pub mod Grids
+pub mod MovedLists
+pub mod Pairs
+pub mod ChannelRows

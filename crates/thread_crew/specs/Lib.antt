@@ -1,0 +1,3 @@
+pub mod CrewTasks
+pub mod Grid
+pub mod Channels
