@@ -8,7 +8,7 @@ pub trait Gate {
     /// Nothing of the copy is in the spool yet.
     fn before(&mut self, txn: Txn, place: u32);
 
-    /// The copy is stored or lost, and its lane isn't told yet.
+    /// The copy is stored, over the quota or lost, and its lane isn't told yet.
     fn after(&mut self, txn: Txn, place: u32);
 }
 

@@ -7,7 +7,7 @@ use super::*;
 use crate::store::record_size;
 use mail_post::{Post, Receiver, SlipReceiver, SlipSender, mail_line, slip_line};
 use mail_world::{Outcome, Slip, Txn};
-use mbox_rd::{Envelope, MemorySpool, Spool};
+use mbox_rd::{Envelope, MemorySpool, Spool, SpoolFault, Tail};
 use msg_depot::{Blank, Depot, DepotName, Hold};
 use std::alloc::{AllocError, Global};
 use std::marker::Brand;
@@ -20,6 +20,7 @@ mod failing;
 use failing::FailingSpool;
 
 mod noting;
+mod quota;
 
 use noting::{Log, NotingGate, NotingSpool, Step};
 
@@ -80,6 +81,7 @@ struct Ran<S: Spool> {
     spool: S,
     taken: u64,
     stored: u64,
+    over: u64,
     faulty: bool,
     lost: bool,
     /// What each lane heard.
@@ -90,25 +92,32 @@ struct Ran<S: Spool> {
 impl<S: Spool> Ran<S> {
     // Whether the lanes were told that so many copies are stored, the first ones.
     fn tells(&self, stored: u64) -> bool {
-        let first = [slip(0, 0, stored > 0), slip(0, 1, stored > 1)];
-        let second = [slip(1, 0, stored > 2)];
+        let said = |place: u64| {
+            if stored > place {
+                Outcome::Stored
+            } else {
+                Outcome::Failed
+            }
+        };
+        self.stored == stored && self.over == 0 && self.says([said(0), said(1), said(2)])
+    }
+
+    // Whether the lanes were told this of their copies.
+    fn says(&self, outcomes: [Outcome; 3]) -> bool {
+        let first = [told(0, 0, outcomes[0]), told(0, 1, outcomes[1])];
+        let second = [told(1, 0, outcomes[2])];
         self.taken == 3
-            && self.stored == stored
             && self.heard.0.as_slice() == first.as_slice()
             && self.heard.1.as_slice() == second.as_slice()
     }
 }
 
-fn slip(lane: u32, place: u32, is_stored: bool) -> Slip {
+fn told(lane: u32, place: u32, outcome: Outcome) -> Slip {
     Slip {
         txn: Txn { lane, number: 1 },
         place,
         worker: 0,
-        outcome: if is_stored {
-            Outcome::Stored
-        } else {
-            Outcome::Failed
-        },
+        outcome,
     }
 }
 
@@ -119,7 +128,21 @@ struct Handed<S: Spool, G: Gate> {
     gate: G,
     slips: Vec<SlipSender>,
     lanes: (Option<SlipReceiver>, Option<SlipReceiver>),
+    limits: Limits,
 }
+
+/// What is asked of the mailbox, and how long its last copy is.
+#[derive(Clone, Copy)]
+struct Limits {
+    quota: Option<u64>,
+    /// Whether the last copy's message is empty.
+    ends_short: bool,
+}
+
+const NO_LIMIT: Limits = Limits {
+    quota: None,
+    ends_short: false,
+};
 
 fn run<S: Spool + Drop, R: Wait>(
     rt: &R,
@@ -127,12 +150,23 @@ fn run<S: Spool + Drop, R: Wait>(
     spool: S,
     others: Others,
 ) -> Result<Ran<S>, Fail> {
+    run_within(rt, alloc, spool, others, NO_LIMIT)
+}
+
+fn run_within<S: Spool + Drop, R: Wait>(
+    rt: &R,
+    alloc: Global,
+    spool: S,
+    others: Others,
+    limits: Limits,
+) -> Result<Ran<S>, Fail> {
     let (slips, first, second) = slip_ends(alloc)?;
     let handed = Handed {
         spool,
         gate: OpenGate,
         slips,
         lanes: (Some(first).filter(|_| others.listen), Some(second)),
+        limits,
     };
     run_by(rt, alloc, handed, others.close)
 }
@@ -162,19 +196,31 @@ fn run_over<N: DepotName, S: Spool + Drop, G: Gate + Drop, R: Wait>(
     requires worker { HaveNumber (worker_of handed.slips.items) handed.slips.items }
 {
     let depot = blank.open::<N>();
-    let receiver = copies(rt, alloc, &depot, close)?;
     let Handed {
         spool,
         gate,
         slips,
         lanes,
+        limits,
     } = handed;
-    let report = worker_run(rt, receiver, slips, spool, &depot, gate, b"mx.example");
+    let receiver = copies(rt, alloc, &depot, close, limits.ends_short)?;
+    let quota = limits.quota;
+    let report = worker_run(
+        rt,
+        receiver,
+        slips,
+        spool,
+        &depot,
+        gate,
+        b"mx.example",
+        quota,
+    );
     let WorkerReport {
         spool,
         gate: _,
         taken,
         stored,
+        over,
         faulty,
         lost,
         receiver: _,
@@ -185,6 +231,7 @@ fn run_over<N: DepotName, S: Spool + Drop, G: Gate + Drop, R: Wait>(
         spool,
         taken,
         stored,
+        over,
         faulty,
         lost,
         heard: (heard(rt, alloc, lanes.0)?, heard(rt, alloc, lanes.1)?),
@@ -198,13 +245,19 @@ fn copies<N: DepotName, R: Wait>(
     alloc: Global,
     depot: &Depot<N>,
     close: bool,
+    ends_short: bool,
 ) -> Result<Receiver<N>, Fail>
     ensures { IfOk result (λ receiver. (receiver.got ≡ []) × (receiver.lanes ≡ 2)) }
 {
     let (mut senders, receiver) = mail_line::<N>(alloc, CAPACITY, 2)?;
     let mut first = sealed(rt, depot, 2).ok_or("there is room")?;
     let second = depot.split_one(&mut first);
-    let third = sealed(rt, depot, 1).ok_or("there is room")?;
+    let third = if ends_short {
+        sealed_empty(rt, depot)
+    } else {
+        sealed(rt, depot, 1)
+    };
+    let third = third.ok_or("there is room")?;
     senders[0]
         .offer(rt, post(alloc, 0, 0, first))
         .ok()
@@ -232,6 +285,13 @@ fn sealed<N: DepotName, R: Wait>(rt: &R, depot: &Depot<N>, holds: u32) -> Option
     depot.put(rt, &mut draft, b"Subject: hi\r\n\r").ok()?;
     depot.put(rt, &mut draft, b"\nhello\r\n").ok()?;
     Some(depot.seal(rt, draft, holds))
+}
+
+fn sealed_empty<N: DepotName, R: Wait>(rt: &R, depot: &Depot<N>) -> Option<Hold<N>>
+    ensures { IfSome result (λ hold. hold.weight ≡ 1) }
+{
+    let draft = depot.draft(rt).ok()?;
+    Some(depot.seal(rt, draft, 1))
 }
 
 fn post<N: DepotName>(alloc: Global, lane: u32, place: u32, hold: Hold<N>) -> Post<N>
@@ -295,13 +355,14 @@ fn each_copy_goes_its_way_in_order(rt: HostRuntime) -> Result<(), Fail> {
         gate: NotingGate::new(&log, second),
         slips,
         lanes: (Some(first), None),
+        limits: NO_LIMIT,
     };
     let ran = run_by(&rt, rt.alloc(), handed, true)?;
     // Lane 1 goes within the gate's last call, so that only a slip given after that call comes back.
     assert!(rt; ran.lost && ran.taken == 3 && ran.stored == 3);
     assert_eq!(rt;
         ran.heard.0.as_slice(),
-        [slip(0, 0, true), slip(0, 1, true)].as_slice()
+        [told(0, 0, Outcome::Stored), told(0, 1, Outcome::Stored)].as_slice()
     );
     let steps = [
         Step::Before(0, 0),
@@ -383,7 +444,10 @@ fn a_lane_is_gone(rt: HostRuntime) -> Result<(), Fail> {
     assert!(rt; ran.lost && !ran.faulty && ran.stored == 3);
     assert_eq!(rt; ran.spool.bytes(), STORED);
     assert!(rt; ran.heard.0.is_empty());
-    assert_eq!(rt; ran.heard.1.as_slice(), [slip(1, 0, true)].as_slice());
+    assert_eq!(rt;
+        ran.heard.1.as_slice(),
+        [told(1, 0, Outcome::Stored)].as_slice()
+    );
     assert_eq!(rt; ran.free_blocks, BLOCKS);
     Ok(())
 }
@@ -406,7 +470,7 @@ fn the_senders_are_gone(rt: HostRuntime) -> Result<(), Fail> {
 fn a_held_message_is_measured_as_its_record(rt: HostRuntime) -> Result<(), Fail> {
     let blank = Blank::new(rt.alloc(), BLOCKS, 2)?;
     let size = size_of_the_record::<Brand, HostRuntime>(&rt, rt.alloc(), blank)?;
-    assert_eq!(rt; size, RECORD_LEN as u64);
+    assert_eq!(rt; size, Some(RECORD_LEN as u64));
     Ok(())
 }
 
@@ -414,7 +478,7 @@ fn size_of_the_record<N: DepotName, R: Wait>(
     rt: &R,
     alloc: Global,
     blank: Blank,
-) -> Result<u64, Fail>
+) -> Result<Option<u64>, Fail>
     requires { blank.table ≡ N.table }
 {
     let depot = blank.open::<N>();

@@ -35,7 +35,7 @@ module _ {V S C : Type 0} (May : C → ℕ → Type 0) (view : VisitsView V) (st
   lanes_given = record { visits = handed.visits; rows = p.mail_rows; inboxes = p.slips }
 
   abbrev boxes_given : WorkersGiven S
-  boxes_given = record { inboxes = p.mail; rows = p.slip_rows; spools = handed.spools }
+  boxes_given = record { inboxes = p.mail; rows = p.slip_rows; spools = handed.spools; quota = handed.quota }
 
   lanes_ran : HaveServed site (May clock) view (channels_of p.mail) lanes_given lanes
   lanes_ran = served site clock (channels_of p.mail) lanes_given p.lanes_are p.slips_new.counts p.mail_new.rows_are
@@ -55,7 +55,7 @@ module _ {V S C : Type 0} (May : C → ℕ → Type 0) (view : VisitsView V) (st
         (omega (arith, length-map p.slips (λ (i : Inbox Slip). i.channel), p.slips_new.counts, p.some_lanes)) p.slips_new.rows_are
 
     abbrev owed_slips : ℕ → ℕ → List Slip
-    owed_slips b k = owed_to b (boxes_ran.works b).stored k (boxes_ran.works b).taken
+    owed_slips b k = owed_to b (boxes_ran.works b).outcomes k (boxes_ran.works b).taken
 
     mail_shut : AreClosed (length handed.visits) (channels_of p.mail) owed_by mail_closed
     mail_shut =

@@ -6,6 +6,7 @@ use Rattle.std.proofs.lemmas.List.{length-map}
 use Rattle.std.proofs.lemmas.Option.{slice_get_within}
 use Rattle.mail_post.specs.Channel.{Sender, Inbox, taken}
 use Rattle.box_worker.specs.Told.{worker_of}
+use Rattle.lmtp_threads.specs.Works.{share_of}
 use Rattle.thread_crew.specs.Channels.{Shape, channels_of, lane_at, AreRows, AreNewChannels, MayClose}
 use Rattle.lmtp_threads.specs.Tasks.{lane_tasks, box_tasks, IsLaneReady, IsBoxReady}
 use Rattle.lmtp_house.specs.HousePlan.{PlanState, MayRun}
@@ -51,8 +52,8 @@ module _ {V S C : Type 0} (out : V → Bool) (plan : PlanState V S C) (may : May
   pub boxes_ready : AllByRecursion IsBoxReady plan.workers
   boxes_ready =
       let p = may.planned in
-      subst (λ l. AllByRecursion IsBoxReady l) (sym p.workers_are) (each_at IsBoxReady (box_tasks may.site.host p.mail p.slip_rows may.handed.spools) (λ k task e.
-      let t = box_task_at may.site.host p.mail p.slip_rows may.handed.spools k task e in
+      subst (λ l. AllByRecursion IsBoxReady l) (sym p.workers_are) (each_at IsBoxReady (box_tasks (share_of may.site may.handed.quota) p.mail p.slip_rows may.handed.spools) (λ k task e.
+      let t = box_task_at (share_of may.site may.handed.quota) p.mail p.slip_rows may.handed.spools k task e in
       let fresh = p.mail_new.inboxes_are k t.inbox t.inbox_is in
       let first = at (channels_of p.slips) 0 (omega (arith, length-map p.slips (λ (i : Inbox _). i.channel), p.slips_new.counts, p.some_lanes)) in
       let number : worker_of t.row ≡ k = numbered k first.value t.row (p.slips_new.rows_are.cells k 0 t.row first.value t.row_is first.is) in

@@ -91,14 +91,14 @@ module _ {V S : Type 0} (site : Site) (May : ℕ → Type 0) (view : VisitsView 
     (lanes : HaveServed site May view (channels_of old_boxes.inboxes) old_lanes new_lanes)
     (boxes : HaveWorked site state (channels_of old_lanes.inboxes) old_boxes new_boxes)
     (mail_shut : AreClosed (length old_lanes.visits) (channels_of old_boxes.inboxes) (λ k b. due site k b (conversations_of (lanes.works k).visits)) mail_closed)
-    (slips_shut : AreClosed (length old_boxes.spools) (channels_of old_lanes.inboxes) (λ b k. owed_to b (boxes.works b).stored k (boxes.works b).taken) slips_closed)
+    (slips_shut : AreClosed (length old_boxes.spools) (channels_of old_lanes.inboxes) (λ b k. owed_to b (boxes.works b).outcomes k (boxes.works b).taken) slips_closed)
     (mail_settled : AllZip (IsSettled (λ (n : Note). n.txn.lane)) new_boxes.inboxes mail_closed)
     (slips_settled : AllZip (IsSettled (λ (s : Slip). s.worker)) new_lanes.inboxes slips_closed) where
   abbrev owed_by : ℕ → ℕ → List Note
   owed_by k b = due site k b (conversations_of (lanes.works k).visits)
 
   abbrev owed_slips : ℕ → ℕ → List Slip
-  owed_slips b k = owed_to b (boxes.works b).stored k (boxes.works b).taken
+  owed_slips b k = owed_to b (boxes.works b).outcomes k (boxes.works b).taken
 
   -- what is known of mailbox b
   record BoxKnown (b : ℕ) : Type 0 where
@@ -138,7 +138,7 @@ module _ {V S : Type 0} (site : Site) (May : ℕ → Type 0) (view : VisitsView 
         only = front_below (λ (s : Slip). s.worker) (length old_boxes.spools) x.value.channel (λ b. owed_slips b k) c.value w (lanes.works k).heard front;
       }
 
-  pub has_run : HasRun site May view state (record { visits = old_lanes.visits; spools = old_boxes.spools })
+  pub has_run : HasRun site May view state (record { visits = old_lanes.visits; spools = old_boxes.spools; quota = old_boxes.quota })
       (record {
         visits = new_lanes.visits;
         spools = new_boxes.spools;

@@ -7,6 +7,7 @@ use Rattle.std.proofs.lemmas.List.Elements.{filter-append}
 use Rattle.mail_world.specs.declared.Txn.{Txn}
 use Rattle.mail_world.specs.declared.Note.{Note}
 use Rattle.mail_world.specs.declared.Slip.{Slip}
+use Rattle.mail_world.specs.declared.Outcome.{Outcome}
 use Rattle.mail_world.specs.declared.State.{State}
 use Rattle.mail_world.specs.declared.State.TheVariants.{Fresh, Greeted, Sender, Recipients, Content, Waiting, Ended}
 use Rattle.mail_world.specs.declared.Verdict.{Verdict}
@@ -89,15 +90,16 @@ abbrev is_copy : Txn → ℕ → Note → Bool
 is_copy txn place note = (note.txn.lane == txn.lane) && (note.txn.number == txn.number) && (note.place == place)
 
 -- slips are for copies
-slips_copy : (txn : Txn) (place b stored k i : ℕ) (notes : List Note)
-    → count_by (names txn place) (filter (λ slip. slip.txn.lane == k) (slips_from b stored i notes)) ≡ count_by (is_copy txn place) (filter (λ note. note.txn.lane == k) notes)
-slips_copy txn place b stored k i [] = refl
-slips_copy txn place b stored k i (note ∷ notes) =
+slips_copy : (txn : Txn) (place b k : ℕ) (outcomes : List Outcome) (notes : List Note)
+    → count_by (names txn place) (filter (λ slip. slip.txn.lane == k) (slips_from b outcomes notes)) ≤ count_by (is_copy txn place) (filter (λ note. note.txn.lane == k) notes)
+slips_copy txn place b k [] notes = omega arith
+slips_copy txn place b k (outcome ∷ outcomes) [] = omega arith
+slips_copy txn place b k (outcome ∷ outcomes) (note ∷ notes) =
     omega (
       arith,
-      filter_cons (names txn place) (λ slip. slip.txn.lane == k) (slip_of b note (nat_lt i stored)) (slips_from b stored (i + 1) notes),
+      filter_cons (names txn place) (λ slip. slip.txn.lane == k) (slip_of b note outcome) (slips_from b outcomes notes),
       filter_cons (is_copy txn place) (λ note. note.txn.lane == k) note notes,
-      slips_copy txn place b stored k (i + 1) notes,
+      slips_copy txn place b k outcomes notes,
     )
 
 -- a transaction has one copy for a place
@@ -249,7 +251,7 @@ due_counts site k b cs f = refl
 
 pub named_once : (site : Site) (k boxes : ℕ) (cs : List Conversation) (heard : List Slip) (works : ℕ → BoxWork)
     → AllByRecursion (λ slip. slip.worker < boxes) heard
-    → ((b : ℕ) → b < boxes → IsFront (of_worker b heard) (owed_to b (works b).stored k (works b).taken))
+    → ((b : ℕ) → b < boxes → IsFront (of_worker b heard) (owed_to b (works b).outcomes k (works b).taken))
     → ((b : ℕ) → b < boxes → of_lane k (works b).taken ≡ due site k b cs)
     → (txn : Txn) (place : ℕ) → times_named txn place heard ≤ 1
 named_once site k boxes cs heard works only each owed txn place =
@@ -261,7 +263,7 @@ named_once site k boxes cs heard works only each owed txn place =
       arith,
       count-append (names txn place) (of_worker b heard) front.rest,
       ap (count_by (names txn place)) front.whole,
-      slips_copy txn place b (works b).stored k 0 (works b).taken,
+      slips_copy txn place b k (works b).outcomes (works b).taken,
       ap (count_by (is_copy txn place)) (owed b low),
       due_counts site k b cs (is_copy txn place),
     ) in

@@ -1,5 +1,5 @@
 -- What a server's run comes to: its lanes and its workers taken together.
-use Rattle.std.specs.Prelude.{◌≡◌, ◌<◌, ◌≤◌, ℕ, true, List, length, slice_get, Some}
+use Rattle.std.specs.Prelude.{◌≡◌, ◌<◌, ◌≤◌, ℕ, true, List, length, slice_get, Option, Some}
 use Rattle.std.specs.List.{AllByRecursion}
 use Rattle.mail_world.specs.declared.limits.TheConstants.{LANE_LIMIT, BLOCK_LIMIT, SLOT_LIMIT, CAPACITY_LIMIT, READ_LIMIT}
 use Rattle.mail_world.specs.Fronts.{IsFront}
@@ -13,7 +13,7 @@ use Rattle.mail_world.specs.Counts.{counted}
 use Rattle.lmtp_talk.specs.Peer.{PeerState}
 use Rattle.lmtp_talk.specs.Served.{terms}
 use Rattle.lmtp_lane.specs.Visits.{HasVisited, conversations_of}
-use Rattle.lmtp_threads.specs.Works.{VisitsView, LaneWork, BoxWork, LaneTold, lane_told, IsBoxWork}
+use Rattle.lmtp_threads.specs.Works.{VisitsView, LaneWork, BoxWork, LaneTold, lane_told, share_of, setting_of, IsBoxWork}
 use Rattle.lmtp_threads.specs.declared.tally.Tally.{Tally}
 
 -- the sizes that a server may have
@@ -25,10 +25,11 @@ pub record IsSize (site : Site) (sizes : Sizes) (lanes spools gates : ℕ) : Typ
   pub each_spool : spools ≡ length site.boxes
   pub each_gate : gates ≡ length site.boxes
 
--- what is handed in: clients by lane, and spools by mailbox
+-- what is handed in: clients by lane, spools by mailbox, and the limit of bytes for each mailbox
 pub record HandedIn (V S : Type 0) : Type 0 where
   pub visits : List V
   pub spools : List S
+  pub quota : Option ℕ
 
 -- what is handed back, and what is told of it: how many conversations each lane held, and what each worker did
 pub record HandedBack (V S : Type 0) : Type 0 where
@@ -62,12 +63,12 @@ pub record HasRun {V S : Type 0} (site : Site) (May : ℕ → Type 0) (view : Vi
       → IsLaneWork site May (view.MayGive before) k (lanes k) (lane_told view before after count)
   pub stored : (b : ℕ) (before after : S) (tally : Tally) → slice_get old.spools b ≡ Some before
       → slice_get new.spools b ≡ Some after → slice_get new.tallies b ≡ Some tally
-      → IsBoxWork site (boxes b) (state before) (state after) tally
+      → IsBoxWork (setting_of (share_of site old.quota) b) (boxes b) (state before) (state after) tally
   pub owed : (k b : ℕ) → k < length old.visits → b < length old.spools
       → of_lane k (boxes b).taken ≡ due site k b (conversations_of (lanes k).visits)
   pub owed_only : (b : ℕ) → b < length old.spools
       → AllByRecursion (λ note. note.txn.lane < length old.visits) (boxes b).taken
   pub told : (k b : ℕ) → k < length old.visits → b < length old.spools
-      → IsFront (of_worker b (lanes k).heard) (owed_to b (boxes b).stored k (boxes b).taken)
+      → IsFront (of_worker b (lanes k).heard) (owed_to b (boxes b).outcomes k (boxes b).taken)
   pub told_only : (k : ℕ) → k < length old.visits
       → AllByRecursion (λ slip. slip.worker < length old.spools) (lanes k).heard

@@ -6,7 +6,7 @@ use Rattle.mail_world.specs.declared.Slip.{Slip}
 use Rattle.mail_world.specs.Site.{Site}
 use Rattle.mbox_rd.specs.Spool.{SpoolState}
 use Rattle.mail_post.specs.Channel.{Sender, Inbox}
-use Rattle.lmtp_threads.specs.Works.{VisitsView}
+use Rattle.lmtp_threads.specs.Works.{VisitsView, share_of}
 use Rattle.lmtp_house.specs.House.{HandedIn, HandedBack, HasRun}
 use Rattle.thread_crew.specs.Channels.{Shape, AreNewChannels}
 use Rattle.lmtp_threads.specs.Tasks.{LaneTask, lane_tasks, BoxTask, box_tasks}
@@ -27,7 +27,7 @@ pub record IsPlanned {V S C : Type 0} (site : Site) (clock : C) (handed : Handed
   pub slip_rows : List (List (Sender Slip))
   pub slips : List (Inbox Slip)
   pub lanes_are : plan.lanes ≡ lane_tasks site clock 0 handed.visits mail_rows slips
-  pub workers_are : plan.workers ≡ box_tasks site.host mail slip_rows handed.spools
+  pub workers_are : plan.workers ≡ box_tasks (share_of site handed.quota) mail slip_rows handed.spools
   pub mail_new : AreNewChannels (length handed.visits) (length handed.spools) mail_rows mail
   pub slips_new : AreNewChannels (length handed.spools) (length handed.visits) slip_rows slips
   pub mail_closes : plan.mail ≡ record { lanes = length handed.visits; count = length handed.spools }

@@ -1,5 +1,5 @@
 -- The workers' reports, taken together.
-use Rattle.std.proofs.Common.{◌≡◌, ℕ, zero, suc, ◌<◌, Bool, false, List, [], ◌∷◌, ◌++◌, length, map, refl, sym, ap, ◌∙◌, subst, arith, Option, Some, None}
+use Rattle.std.proofs.Common.{◌≡◌, ℕ, zero, suc, ◌+◌, ◌<◌, Bool, false, List, [], ◌∷◌, ◌++◌, length, map, refl, sym, ap, ◌∙◌, subst, arith, Option, Some, None}
 use Rattle.std.specs.Prelude.{slice_get}
 use Rattle.std.specs.List.{AllZip, AllByRecursion}
 use Rattle.std.proofs.lemmas.List.{length-map}
@@ -11,12 +11,12 @@ use Rattle.lmtp_text.specs.Calendar.{civil_at}
 use Rattle.mbox_rd.specs.Spool.{SpoolState}
 use Rattle.mail_post.specs.Channel.{Channel, Sender, Inbox, taken}
 use Rattle.box_worker.specs.Told.{worker_of, owed_to}
-use Rattle.box_worker.specs.Stored.{kept}
-use Rattle.box_worker.specs.Worked.{idle, HasWorked}
+use Rattle.box_worker.specs.Stored.{mailbox_of}
+use Rattle.box_worker.specs.Worked.{idle, outcomes_behind, HasWorked}
 use Rattle.box_worker.proofs.Handling.{was_closed, none_came_back}
 use Rattle.mail_post.proofs.Offered.{none_refused}
 use Rattle.lmtp_threads.specs.declared.tally.Tally.{Tally}
-use Rattle.lmtp_threads.specs.Works.{BoxWork, IsBoxWork}
+use Rattle.lmtp_threads.specs.Works.{WorkerShare, share_of, setting_of, BoxWork, IsBoxWork}
 use Rattle.thread_crew.specs.Channels.{AreRows, none, lane_at, HasGiven}
 use Rattle.lmtp_threads.specs.Tasks.{BoxTask, box_task, box_tasks, WorkersGiven, WorkersBack, HaveWorked, TookAllNotes}
 use Rattle.thread_crew.proofs.Pairs.{AllZip-length, picks, picked}
@@ -24,34 +24,34 @@ use Rattle.thread_crew.proofs.ChannelRows.{at, same_at, at_each, source, rows_gi
 
 module _ {S : Type 0} where
   -- the task of worker k, and what it was made of
-  pub record TaskAt (host : List ℕ) (inboxes : List (Inbox Note)) (rows : List (List (Sender Slip))) (spools : List S) (k : ℕ) (task : BoxTask S) : Type 0 where
+  pub record TaskAt (share : WorkerShare) (inboxes : List (Inbox Note)) (rows : List (List (Sender Slip))) (spools : List S) (k : ℕ) (task : BoxTask S) : Type 0 where
     pub inbox : Inbox Note
     pub row : List (Sender Slip)
     pub spool : S
     pub inbox_is : slice_get inboxes k ≡ Some inbox
     pub row_is : slice_get rows k ≡ Some row
     pub spool_is : slice_get spools k ≡ Some spool
-    pub is : task ≡ box_task host inbox row spool
+    pub is : task ≡ box_task share inbox row spool
 
-  pub task_at : (host : List ℕ) (inboxes : List (Inbox Note)) (rows : List (List (Sender Slip))) (spools : List S) (k : ℕ) (task : BoxTask S)
-      → slice_get (box_tasks host inboxes rows spools) k ≡ Some task → TaskAt host inboxes rows spools k task
-  task_at host [] rows spools k task e = let bad : ◌≡◌ {A = Option (BoxTask S)} None (Some task) = e in absurd (cc)
-  task_at host (inbox ∷ inboxes) [] spools k task e = let bad : ◌≡◌ {A = Option (BoxTask S)} None (Some task) = e in absurd (cc)
-  task_at host (inbox ∷ inboxes) (row ∷ rows) [] k task e = let bad : ◌≡◌ {A = Option (BoxTask S)} None (Some task) = e in absurd (cc)
-  task_at host (inbox ∷ inboxes) (row ∷ rows) (spool ∷ spools) zero task e =
-      let s : ◌≡◌ {A = Option (BoxTask S)} (Some (box_task host inbox row spool)) (Some task) = e in
-      let t : box_task host inbox row spool ≡ task = cc in
+  pub task_at : (share : WorkerShare) (inboxes : List (Inbox Note)) (rows : List (List (Sender Slip))) (spools : List S) (k : ℕ) (task : BoxTask S)
+      → slice_get (box_tasks share inboxes rows spools) k ≡ Some task → TaskAt share inboxes rows spools k task
+  task_at share [] rows spools k task e = let bad : ◌≡◌ {A = Option (BoxTask S)} None (Some task) = e in absurd (cc)
+  task_at share (inbox ∷ inboxes) [] spools k task e = let bad : ◌≡◌ {A = Option (BoxTask S)} None (Some task) = e in absurd (cc)
+  task_at share (inbox ∷ inboxes) (row ∷ rows) [] k task e = let bad : ◌≡◌ {A = Option (BoxTask S)} None (Some task) = e in absurd (cc)
+  task_at share (inbox ∷ inboxes) (row ∷ rows) (spool ∷ spools) zero task e =
+      let s : ◌≡◌ {A = Option (BoxTask S)} (Some (box_task share inbox row spool)) (Some task) = e in
+      let t : box_task share inbox row spool ≡ task = cc in
       record { inbox = inbox; row = row; spool = spool; inbox_is = refl; row_is = refl; spool_is = refl; is = sym t }
-  task_at host (inbox ∷ inboxes) (row ∷ rows) (spool ∷ spools) (suc k) task e =
-      let p = task_at host inboxes rows spools k task e in
+  task_at share (inbox ∷ inboxes) (row ∷ rows) (spool ∷ spools) (suc k) task e =
+      let p = task_at share inboxes rows spools k task e in
       record { inbox = p.inbox; row = p.row; spool = p.spool; inbox_is = p.inbox_is; row_is = p.row_is; spool_is = p.spool_is; is = p.is }
 
-  pub tasks_count : (host : List ℕ) (inboxes : List (Inbox Note)) (rows : List (List (Sender Slip))) (spools : List S) → length inboxes ≡ length spools → length rows ≡ length spools
-      → length (box_tasks host inboxes rows spools) ≡ length spools
-  tasks_count host [] rows spools a b = a
-  tasks_count host (inbox ∷ inboxes) [] spools a b = b
-  tasks_count host (inbox ∷ inboxes) (row ∷ rows) [] a b = refl
-  tasks_count host (inbox ∷ inboxes) (row ∷ rows) (spool ∷ spools) a b = ap suc (tasks_count host inboxes rows spools (omega arith) (omega arith))
+  pub tasks_count : (share : WorkerShare) (inboxes : List (Inbox Note)) (rows : List (List (Sender Slip))) (spools : List S) → length inboxes ≡ length spools → length rows ≡ length spools
+      → length (box_tasks share inboxes rows spools) ≡ length spools
+  tasks_count share [] rows spools a b = a
+  tasks_count share (inbox ∷ inboxes) [] spools a b = b
+  tasks_count share (inbox ∷ inboxes) (row ∷ rows) [] a b = refl
+  tasks_count share (inbox ∷ inboxes) (row ∷ rows) (spool ∷ spools) a b = ap suc (tasks_count share inboxes rows spools (omega arith) (omega arith))
 
 -- the number of the worker whose new senders these are
 pub numbered : (b : ℕ) (channel : Channel Slip) (row : List (Sender Slip)) → slice_get row 0 ≡ Some (lane_at channel b []) → worker_of row ≡ b
@@ -60,14 +60,20 @@ numbered b channel (x ∷ xs) e = let s : ◌≡◌ {A = Option (Sender Slip)} (
 
 module _ {S R : Type 0} (state : S → SpoolState) (rr : R → Inbox Note) (rs : R → List (Sender Slip)) (rp : R → S) (rt : R → Tally) (rl : R → Bool) where
   abbrev pub BoxOk : BoxTask S → R → Type 0
-  BoxOk j r = HasWorked (record { calendar = civil_at; host = j.host; worker = worker_of j.slips }) j.receiver (rr r) (idle j.slips (state j.spool))
-      (record { slips = rs r; mailbox = kept (state (rp r)) (rt r).stored (rt r).faulty; taken = (rt r).taken; lost = rl r })
+  BoxOk j r = HasWorked (setting_of j.share (worker_of j.slips)) j.receiver (rr r) (idle j.slips (state j.spool))
+      (record { slips = rs r; mailbox = mailbox_of (state (rp r)) (rt r).stored (rt r).over (rt r).faulty; taken = (rt r).taken; lost = rl r })
 
   abbrev box_work : (j : BoxTask S) (r : R) → BoxOk j r → BoxWork
-  box_work j r h = record { taken = taken (rr r); stored = h.handled.stored }
+  box_work j r h =
+      let handled = h.handled in
+      record {
+        taken = taken (rr r);
+        stored = handled.stored;
+        outcomes = outcomes_behind (setting_of j.share (worker_of j.slips)) handled.start (handled.stored + handled.over) (taken (rr r));
+      }
 
   abbrev no_work : BoxWork
-  no_work = record { taken = []; stored = 0 }
+  no_work = record { taken = []; stored = 0; outcomes = [] }
 
   -- what reports tell together
   abbrev pub workers_back : List R → WorkersBack S
@@ -80,15 +86,18 @@ module _ {S R : Type 0} (state : S → SpoolState) (rr : R → Inbox Note) (rs :
 
   module _ (site : Site) (channels : List (Channel Slip)) (given : WorkersGiven S) (reports : List R)
       (inboxes_count : length given.inboxes ≡ length given.spools) (some : 0 < length channels) (are : AreRows (length given.spools) channels none given.rows)
-      (all : AllZip BoxOk (box_tasks site.host given.inboxes given.rows given.spools) reports) (sound : AllByRecursion (λ r. rl r ≡ false) reports) where
+      (all : AllZip BoxOk (box_tasks (share_of site given.quota) given.inboxes given.rows given.spools) reports) (sound : AllByRecursion (λ r. rl r ≡ false) reports) where
+    abbrev share : WorkerShare
+    share = share_of site given.quota
+
     abbrev tasks : List (BoxTask S)
-    tasks = box_tasks site.host given.inboxes given.rows given.spools
+    tasks = box_tasks share given.inboxes given.rows given.spools
 
     abbrev works : ℕ → BoxWork
     works = picks BoxOk box_work no_work tasks reports all
 
     count : length tasks ≡ length given.spools
-    count = tasks_count site.host given.inboxes given.rows given.spools inboxes_count are.count
+    count = tasks_count share given.inboxes given.rows given.spools inboxes_count are.count
 
     reports_count : length reports ≡ length given.spools
     reports_count = sym (AllZip-length BoxOk tasks reports all) ∙ count
@@ -103,22 +112,33 @@ module _ {S R : Type 0} (state : S → SpoolState) (rr : R → Inbox Note) (rs :
       row_is : slice_get given.rows k ≡ Some row
       spool_is : slice_get given.spools k ≡ Some spool
       report_is : slice_get reports k ≡ Some report
-      stored : IsBoxWork site (works k) (state spool) (state (rp report)) (rt report)
-      given_out : HasGiven (λ j. owed_to k (works k).stored j (works k).taken) row (rs report)
+      stored : IsBoxWork (setting_of share k) (works k) (state spool) (state (rp report)) (rt report)
+      given_out : HasGiven (λ j. owed_to k (works k).outcomes j (works k).taken) row (rs report)
       took : TookAllNotes (works k).taken inbox (rr report)
 
     box_is : (k : ℕ) → k < length given.spools → BoxIs k
     box_is k below =
         let p = picked BoxOk box_work no_work tasks reports all k (omega (arith, count, below)) in
-        let t = task_at site.host given.inboxes given.rows given.spools k p.left p.left_is in
+        let t = task_at share given.inboxes given.rows given.spools k p.left p.left_is in
         let h = p.holds in
         let no = at_each (λ r. rl r ≡ false) reports sound k p.right p.right_is in
         let first = at channels 0 some in
         let worker_is : worker_of t.row ≡ k = numbered k first.value t.row (are.cells k 0 t.row first.value t.row_is first.is) in
-        let Stored : List ℕ → S → BoxWork → Type 0 = λ host spool w. IsBoxWork (record site { host = host }) w (state spool) (state (rp p.right)) (rt p.right) in
-        let Given : ℕ → List (Sender Slip) → BoxWork → Type 0 = λ b row w. HasGiven (λ j. owed_to b w.stored j w.taken) row (rs p.right) in
+        let Stored : WorkerShare → ℕ → S → BoxWork → Type 0 = λ by b spool w. IsBoxWork (setting_of by b) w (state spool) (state (rp p.right)) (rt p.right) in
+        let Given : ℕ → List (Sender Slip) → BoxWork → Type 0 = λ b row w. HasGiven (λ j. owed_to b w.outcomes j w.taken) row (rs p.right) in
         let Took : Inbox Note → BoxWork → Type 0 = λ inbox w. TookAllNotes w.taken inbox (rr p.right) in
-        let stored : Stored p.left.host p.left.spool (box_work p.left p.right h) = record { spool = h.handled.spool; taken = h.handled.taken_count; stored = h.handled.stored_count } in
+        let handled = h.handled in
+        let stored : Stored p.left.share (worker_of p.left.slips) p.left.spool (box_work p.left p.right h) = record {
+          start = handled.start;
+          over = handled.over;
+          settled = handled.settled;
+          outcomes = refl;
+          taken_count = handled.taken_count;
+          stored_count = handled.stored_count;
+          over_count = handled.over_count;
+        } in
+        let stored_at : Stored share (worker_of t.row) t.spool (works k) =
+        subst (λ (j : BoxTask S). Stored j.share (worker_of j.slips) j.spool (works k)) t.is (subst (λ w. Stored p.left.share (worker_of p.left.slips) p.left.spool w) (sym p.picked) stored) in
         let given_out : Given (worker_of p.left.slips) p.left.slips (box_work p.left p.right h) = record {
           as_many = h.handled.told.as_many;
           each = λ j before after e f.
@@ -137,7 +157,7 @@ module _ {S R : Type 0} (state : S → SpoolState) (rr : R → Inbox Note) (rs :
           row_is = t.row_is;
           spool_is = t.spool_is;
           report_is = p.right_is;
-          stored = subst (λ (j : BoxTask S). Stored j.host j.spool (works k)) t.is (subst (λ w. Stored p.left.host p.left.spool w) (sym p.picked) stored);
+          stored = subst (λ b. Stored share b t.spool (works k)) worker_is stored_at;
           given_out = subst (λ b. Given b t.row (works k)) worker_is given_at;
           took = subst (λ (j : BoxTask S). Took j.receiver (works k)) t.is (subst (λ w. Took p.left.receiver w) (sym p.picked) took);
         }
@@ -153,16 +173,16 @@ module _ {S R : Type 0} (state : S → SpoolState) (rr : R → Inbox Note) (rs :
           let old_is : l.spool ≡ old = same_at given.spools k l.spool old l.spool_is a in
           let new_is : rp l.report ≡ new = sym (v.gives ∙ ap rp (same_at reports k v.value l.report v.is l.report_is)) in
           let tally_is : rt l.report ≡ tally = sym (n.gives ∙ ap rt (same_at reports k n.value l.report n.is l.report_is)) in
-          subst (λ x. IsBoxWork site (works k) (state old) (state new) x) tally_is
-          (subst (λ x. IsBoxWork site (works k) (state old) (state x) (rt l.report)) new_is
-          (subst (λ x. IsBoxWork site (works k) (state x) (state (rp l.report)) (rt l.report)) old_is l.stored));
-      rows_are = rows_given (length given.spools) channels (λ b k. owed_to b (works b).stored k (works b).taken) given.rows (map rs reports) are (length-map reports rs ∙ reports_count)
+          subst (λ x. IsBoxWork (setting_of share k) (works k) (state old) (state new) x) tally_is
+          (subst (λ x. IsBoxWork (setting_of share k) (works k) (state old) (state x) (rt l.report)) new_is
+          (subst (λ x. IsBoxWork (setting_of share k) (works k) (state x) (state (rp l.report)) (rt l.report)) old_is l.stored));
+      rows_are = rows_given (length given.spools) channels (λ b k. owed_to b (works b).outcomes k (works b).taken) given.rows (map rs reports) are (length-map reports rs ∙ reports_count)
           (λ k row row' a b.
           let r = source rs reports k row' b in
           let l = box_is k (omega (arith, are.count, slice_get_within given.rows k row a)) in
           let new_is : rs l.report ≡ row' = sym (r.gives ∙ ap rs (same_at reports k r.value l.report r.is l.report_is)) in
           let old_is : l.row ≡ row = same_at given.rows k l.row row l.row_is a in
-          let Given : List (Sender Slip) → List (Sender Slip) → Type 0 = λ x y. HasGiven (λ j. owed_to k (works k).stored j (works k).taken) x y in
+          let Given : List (Sender Slip) → List (Sender Slip) → Type 0 = λ x y. HasGiven (λ j. owed_to k (works k).outcomes j (works k).taken) x y in
           subst (λ x. Given row x) new_is (subst (λ x. Given x (rs l.report)) old_is l.given_out));
       took = λ k old new a b.
           let r = source rr reports k new b in

@@ -1,5 +1,5 @@
 -- What the threads of a server are given, and what their reports say.
-use Rattle.std.specs.Prelude.{◌≡◌, ℕ, ◌+◌, ◌<◌, Bool, true, false, List, [], ◌∷◌, ◌++◌, length, slice_get, Some}
+use Rattle.std.specs.Prelude.{◌≡◌, ℕ, ◌+◌, ◌<◌, Bool, true, false, List, [], ◌∷◌, ◌++◌, length, slice_get, Option, Some}
 use Rattle.std.specs.List.{AllByRecursion}
 use Rattle.mail_world.specs.declared.Note.{Note}
 use Rattle.mail_world.specs.declared.Slip.{Slip}
@@ -19,7 +19,7 @@ use Rattle.lmtp_lane.specs.LaneAccount.{IsAnswered}
 use Rattle.lmtp_lane.specs.LaneRun.{LaneState}
 use Rattle.lmtp_lane.specs.Visits.{HasVisited, conversations_of}
 use Rattle.thread_crew.specs.Channels.{AreRows, none}
-use Rattle.lmtp_threads.specs.Works.{VisitsView, LaneWork, LaneTold, lane_told, BoxWork, IsBoxWork}
+use Rattle.lmtp_threads.specs.Works.{VisitsView, LaneWork, LaneTold, lane_told, WorkerShare, share_of, setting_of, BoxWork, IsBoxWork}
 
 -- what a lane is given
 pub record LaneTask (V C : Type 0) : Type 0 where
@@ -69,22 +69,22 @@ lane_before view task = record {
 
 -- what a worker is given
 pub record BoxTask (S : Type 0) : Type 0 where
-  pub host : List ℕ
+  pub share : WorkerShare
   pub receiver : Inbox Note
   pub slips : List (Sender Slip)
   pub spool : S
 
 module _ {S : Type 0} where
-  abbrev pub box_task : List ℕ → Inbox Note → List (Sender Slip) → S → BoxTask S
-  box_task host receiver slips spool = record { host = host; receiver = receiver; slips = slips; spool = spool }
+  abbrev pub box_task : WorkerShare → Inbox Note → List (Sender Slip) → S → BoxTask S
+  box_task share receiver slips spool = record { share = share; receiver = receiver; slips = slips; spool = spool }
 
   -- the tasks of the workers, in the mailboxes' order
-  abbrev pub box_tasks : List ℕ → List (Inbox Note) → List (List (Sender Slip)) → List S → List (BoxTask S)
-  box_tasks host [] rows spools = []
-  box_tasks host (inbox ∷ inboxes) [] spools = []
-  box_tasks host (inbox ∷ inboxes) (row ∷ rows) [] = []
-  box_tasks host (inbox ∷ inboxes) (row ∷ rows) (spool ∷ spools) =
-      box_task host inbox row spool ∷ box_tasks host inboxes rows spools
+  abbrev pub box_tasks : WorkerShare → List (Inbox Note) → List (List (Sender Slip)) → List S → List (BoxTask S)
+  box_tasks share [] rows spools = []
+  box_tasks share (inbox ∷ inboxes) [] spools = []
+  box_tasks share (inbox ∷ inboxes) (row ∷ rows) [] = []
+  box_tasks share (inbox ∷ inboxes) (row ∷ rows) (spool ∷ spools) =
+      box_task share inbox row spool ∷ box_tasks share inboxes rows spools
 
   -- a worker may run
   pub record IsBoxReady (task : BoxTask S) : Type 0 where
@@ -128,11 +128,12 @@ pub record LanesBack (V : Type 0) : Type 0 where
   pub inboxes : List (Inbox Slip)
   pub conversations : List ℕ
 
--- what workers are given: their receivers, a row of senders for each, and their spools
+-- what workers are given: their receivers, a row of senders for each, their spools, and the limit of bytes for each
 pub record WorkersGiven (S : Type 0) : Type 0 where
   pub inboxes : List (Inbox Note)
   pub rows : List (List (Sender Slip))
   pub spools : List S
+  pub quota : Option ℕ
 
 -- what they hand back, and what each did
 pub record WorkersBack (S : Type 0) : Type 0 where
@@ -163,8 +164,8 @@ pub record HaveWorked {S : Type 0} (site : Site) (state : S → SpoolState) (cha
       × (length new.inboxes ≡ length old.spools)
   pub stored : (b : ℕ) (before after : S) (tally : Tally) → slice_get old.spools b ≡ Some before
       → slice_get new.spools b ≡ Some after → slice_get new.tallies b ≡ Some tally
-      → IsBoxWork site (works b) (state before) (state after) tally
-  pub rows_are : AreRows (length old.spools) channels (λ b k. owed_to b (works b).stored k (works b).taken) new.rows
+      → IsBoxWork (setting_of (share_of site old.quota) b) (works b) (state before) (state after) tally
+  pub rows_are : AreRows (length old.spools) channels (λ b k. owed_to b (works b).outcomes k (works b).taken) new.rows
   pub took : (b : ℕ) (before after : Inbox Note) → slice_get old.inboxes b ≡ Some before
       → slice_get new.inboxes b ≡ Some after → TookAllNotes (works b).taken before after
 
@@ -179,9 +180,9 @@ HaveServedAll {V} {C} May view tasks new =
 abbrev pub HaveWorkedAll : {S : Type 0} → (S → SpoolState) → List (BoxTask S) → WorkersBack S → Type 0
 HaveWorkedAll {S} state tasks new =
     (site : Site) (channels : List (Channel Slip)) (old : WorkersGiven S)
-    → tasks ≡ box_tasks site.host old.inboxes old.rows old.spools → length old.inboxes ≡ length old.spools
+    → tasks ≡ box_tasks (share_of site old.quota) old.inboxes old.rows old.spools → length old.inboxes ≡ length old.spools
     → 0 < length channels → AreRows (length old.spools) channels none old.rows → HaveWorked site state channels old new
 
 -- a report's counts
-abbrev pub tally_of : ℕ → ℕ → Bool → Tally
-tally_of taken stored faulty = record { taken = taken; stored = stored; faulty = faulty }
+abbrev pub tally_of : ℕ → ℕ → ℕ → Bool → Tally
+tally_of taken stored over faulty = record { taken = taken; stored = stored; over = over; faulty = faulty }

@@ -1,12 +1,15 @@
 -- What one lane and one worker did, and what is told of it.
-use Rattle.std.specs.Prelude.{◌≡◌, ℕ, Bool, List, length}
+use Rattle.std.specs.Prelude.{◌≡◌, ℕ, ◌+◌, Bool, List, length, Option}
 use Rattle.mail_world.specs.declared.Note.{Note}
+use Rattle.mail_world.specs.declared.Outcome.{Outcome}
 use Rattle.mail_world.specs.declared.Slip.{Slip}
 use Rattle.mail_world.specs.Site.{Site}
 use Rattle.mail_world.specs.Counts.{counted}
 use Rattle.lmtp_text.specs.Calendar.{civil_at}
 use Rattle.mbox_rd.specs.Spool.{SpoolState}
-use Rattle.box_worker.specs.Stored.{kept, HasStored}
+use Rattle.box_worker.specs.Limits.{Setting}
+use Rattle.box_worker.specs.Stored.{mailbox_of, HasSettled}
+use Rattle.box_worker.specs.Worked.{outcomes_behind}
 use Rattle.lmtp_talk.specs.Peer.{PeerState}
 use Rattle.lmtp_lane.specs.Visits.{VisitsTold, Visit}
 use Rattle.lmtp_threads.specs.declared.tally.Tally.{Tally}
@@ -23,10 +26,23 @@ pub record LaneWork : Type 0 where
   pub visits : List Visit
   pub heard : List Slip
 
--- what a worker did: the copies that it took, and how many of them it stored
+-- what all workers share
+pub record WorkerShare : Type 0 where
+  pub host : List ℕ
+  pub quota : Option ℕ
+
+abbrev pub share_of : Site → Option ℕ → WorkerShare
+share_of site quota = record { host = site.host; quota = quota }
+
+-- what stays while worker b runs
+abbrev pub setting_of : WorkerShare → ℕ → Setting
+setting_of share b = record { calendar = civil_at; host = share.host; quota = share.quota; worker = b }
+
+-- what a worker did: the copies that it took, how many of them it stored, and what it told of each
 pub record BoxWork : Type 0 where
   pub taken : List Note
   pub stored : ℕ
+  pub outcomes : List Outcome
 
 -- what is told of a lane's run: the conversations that had ended before it and behind it, whether no client was left,
 -- and how many it held
@@ -44,8 +60,14 @@ lane_told view before after count = record {
   count = count;
 }
 
--- a mailbox's worker took these copies, and its spool holds the records of those that it stored
-pub record IsBoxWork (site : Site) (work : BoxWork) (old new : SpoolState) (tally : Tally) : Type 0 where
-  pub spool : HasStored civil_at site.host work.taken old (kept new work.stored tally.faulty)
-  pub taken : tally.taken ≡ counted (length work.taken)
-  pub stored : tally.stored ≡ counted work.stored
+-- A mailbox's worker took these copies, and its spool holds the records of those that it stored: each that is kept under
+-- the quota, unless the spool failed.
+pub record IsBoxWork (at : Setting) (work : BoxWork) (old new : SpoolState) (tally : Tally) : Type 0 where
+  -- how many bytes stand before the first record, and how many copies were over the quota
+  pub start : ℕ
+  pub over : ℕ
+  pub settled : HasSettled at start work.taken old (mailbox_of new work.stored over tally.faulty)
+  pub outcomes : work.outcomes ≡ outcomes_behind at start (work.stored + over) work.taken
+  pub taken_count : tally.taken ≡ counted (length work.taken)
+  pub stored_count : tally.stored ≡ counted work.stored
+  pub over_count : tally.over ≡ counted over

@@ -7,6 +7,8 @@ pub struct Tally {
     pub taken: u64,
     /// Those of them that it stored.
     pub stored: u64,
+    /// Those that were over the quota.
+    pub over: u64,
     /// Whether its spool failed.
     pub faulty: bool,
 }

@@ -4,10 +4,10 @@ ghost use Rattle.std.specs.Prelude.{◌≡◌, ◌<◌, ◌≤◌, ◌||◌, ◌
 ghost use Rattle.std.specs.Prelude.{map};
 ghost use Rattle.std.specs.List.{AllByRecursion};
 ghost use Rattle.std.specs.Arc.{arc_value};
-ghost use Rattle.lmtp_text.specs.Calendar.{civil_at};
 ghost use Rattle.box_worker.specs.Told.{worker_of};
-ghost use Rattle.box_worker.specs.Stored.{kept};
+ghost use Rattle.box_worker.specs.Stored.{mailbox_of};
 ghost use Rattle.box_worker.specs.Worked.{idle, HasWorked};
+ghost use Rattle.lmtp_threads.specs.Works.{share_of, setting_of};
 ghost use Rattle.thread_crew.specs.Grid.{lists, IsRoom};
 ghost use Rattle.lmtp_threads.specs.Tasks.{box_task, box_tasks, tally_of, IsBoxReady, HaveWorkedAll};
 
@@ -33,16 +33,18 @@ pub struct WorkerJob<N: DepotName, S: Spool + Drop, G: Gate + Drop> {
     slips: Vec<SlipSender>,
     spool: S,
     gate: G,
+    quota: Option<u64>,
 }
 
 impl<N: DepotName, S: Spool + Drop, G: Gate + Drop> Model for WorkerJob<N, S, G> {
     ghost use Rattle.std.specs.Arc.{arc_value};
+    ghost use Rattle.lmtp_threads.specs.Works.{share_of};
     ghost use Rattle.lmtp_threads.specs.Tasks.{BoxTask};
 
     ghost Value = { BoxTask S };
 
     ghost view = { λ j. record {
-      host = (arc_value j.site).host;
+      share = share_of (arc_value j.site) j.quota;
       receiver = j.receiver;
       slips = j.slips.items;
       spool = j.spool;
@@ -59,12 +61,11 @@ where
 
     ghost ready = { λ job. IsBoxReady job };
 
-    ghost done = { λ job r. HasWorked
-        (record { calendar = civil_at; host = job.host; worker = worker_of job.slips }) job.receiver r.receiver
+    ghost done = { λ job r. HasWorked (setting_of job.share (worker_of job.slips)) job.receiver r.receiver
         (idle job.slips (S.state job.spool))
         (record {
           slips = r.slips.items;
-          mailbox = kept (S.state r.spool) r.stored r.faulty;
+          mailbox = mailbox_of (S.state r.spool) r.stored r.over r.faulty;
           taken = r.taken;
           lost = r.lost;
         }) };
@@ -77,8 +78,9 @@ where
             slips,
             spool,
             gate,
+            quota,
         } = self;
-        worker_run(rt, receiver, slips, spool, &depot, gate, site.host())
+        worker_run(rt, receiver, slips, spool, &depot, gate, site.host(), quota)
     }
 }
 
@@ -89,12 +91,13 @@ pub fn worker_jobs<N: DepotName, S: Spool + Drop, G: Gate + Drop, C: Drop>(
     rows: Vec<Vec<SlipSender>>,
     spools: Vec<S>,
     gates: Vec<G>,
+    quota: Option<u64>,
 ) -> Result<Vec<WorkerJob<N, S, G>>, AllocError>
     requires rows { vec_len rows ≡ vec_len receivers }
     requires spools { vec_len spools ≡ vec_len receivers }
     requires gates { vec_len gates ≡ vec_len receivers }
     ensures { IfOk result (λ jobs. jobs.items
-        ≡ box_tasks (arc_value shared.now.site).host receivers.items (lists rows.items) spools.items) }
+        ≡ box_tasks (share_of (arc_value shared.now.site) quota) receivers.items (lists rows.items) spools.items) }
 {
     let mut rows = rows.into_iter();
     let mut spools = spools.into_iter();
@@ -117,6 +120,7 @@ pub fn worker_jobs<N: DepotName, S: Spool + Drop, G: Gate + Drop, C: Drop>(
             slips,
             spool,
             gate,
+            quota,
         })?;
     }
     Ok(jobs)
@@ -165,7 +169,7 @@ impl<N: DepotName, S: Spool + Drop, G: Gate + Drop> WorkerReports<N, S, G> {
         ensures spools { self.new.spools.items ≡ self.old.spools.items ++ report.spool ∷ [] }
         ensures gates { self.new.gates.items ≡ self.old.gates.items ++ report.gate ∷ [] }
         ensures tallies { self.new.tallies.items
-            ≡ self.old.tallies.items ++ tally_of report.taken report.stored report.faulty ∷ [] }
+            ≡ self.old.tallies.items ++ tally_of report.taken report.stored report.over report.faulty ∷ [] }
         ensures lost { self.new.lost ≡ (self.old.lost || report.lost) }
         ensures room { (vec_capacity self.old.receivers ≤ vec_capacity self.new.receivers)
             × (vec_capacity self.old.slips ≤ vec_capacity self.new.slips)
@@ -180,6 +184,7 @@ impl<N: DepotName, S: Spool + Drop, G: Gate + Drop> WorkerReports<N, S, G> {
         self.tallies.push_reserved(Tally {
             taken: report.taken,
             stored: report.stored,
+            over: report.over,
             faulty: report.faulty,
         });
         self.lost |= report.lost;
@@ -196,7 +201,7 @@ impl<N: DepotName, S: Spool + Drop, G: Gate + Drop> WorkerReports<N, S, G> {
         ensures slips { lists result.slips.items ≡ map (λ r. r.slips.items) reports.items }
         ensures spools { result.spools.items ≡ map (λ r. r.spool) reports.items }
         ensures gates { result.gates.items ≡ map (λ r. r.gate) reports.items }
-        ensures tallies { result.tallies.items ≡ map (λ r. tally_of r.taken r.stored r.faulty) reports.items }
+        ensures tallies { result.tallies.items ≡ map (λ r. tally_of r.taken r.stored r.over r.faulty) reports.items }
         ensures lost { result.lost ≡ false → AllByRecursion (λ r. r.lost ≡ false) reports.items }
     {
         let mut ends = self;

@@ -10,7 +10,7 @@ use Rattle.mail_world.specs.Records.{Calendar, mailbox}
 use Rattle.mail_world.specs.Deliveries.{is_none, HoldsCopies}
 use Rattle.mbox_rd.specs.MemorySpool.{MemorySpool}
 use Rattle.mbox_rd.specs.Spool.{SpoolState, IsFull}
-use Rattle.box_worker.specs.Stored.{kept, HasStored}
+use Rattle.box_worker.specs.Stored.{mailbox_of, HasStored}
 use Rattle.lmtp_threads.specs.declared.tally.Tally.{Tally}
 use Rattle.lmtpd_rehearse.specs.declared.parts.TheConstants.{MAILBOX_ROOM}
 use Rattle.lmtpd_rehearse.specs.Mailboxes.{MailboxContent, kept_all, kept_at, bytes_of_all, empty_spool, IsCalm}
@@ -94,14 +94,14 @@ no_front [] rest e = refl
 no_front (x ∷ front) rest e = cc
 
 pub is_full : (calendar : Calendar) (host : List ℕ) (spool : MemorySpool) (notes : List Note) (n : ℕ) (faulty : Bool)
-    → HasStored calendar host notes (state_of empty_spool) (kept (state_of spool) n faulty) → faulty ≡ true → length spool.bytes ≡ MAILBOX_ROOM
+    → HasStored calendar host notes (state_of empty_spool) (mailbox_of (state_of spool) n 0 faulty) → faulty ≡ true → length spool.bytes ≡ MAILBOX_ROOM
 is_full calendar host spool notes n faulty h e =
     let P : Option ℕ → Type 0 = λ limit. IsFull limit (Some spool.bytes) in
     let full : length spool.bytes ≡ 0 + MAILBOX_ROOM = subst P h.limited (h.full e) in
     omega (arith, full)
 
 pub holds_stored : (calendar : Calendar) (host : List ℕ) (spool : MemorySpool) (notes : List Note) (n : ℕ) (faulty : Bool)
-    → HasStored calendar host notes (state_of empty_spool) (kept (state_of spool) n faulty) → HoldsCopies calendar host notes (stored_and_not n notes) spool.bytes faulty
+    → HasStored calendar host notes (state_of empty_spool) (mailbox_of (state_of spool) n 0 faulty) → HoldsCopies calendar host notes (stored_and_not n notes) spool.bytes faulty
 holds_stored calendar host spool notes n false h =
     let all : n ≡ length notes = h.all refl in
     let whole : ◌≡◌ {A = Option (List ℕ)} (Some spool.bytes) (Some (mailbox calendar host [] notes)) = h.whole refl in

@@ -6,7 +6,8 @@ use Rattle.std.proofs.lemmas.Bool.Decides.{nat_tests}
 use Rattle.mail_world.specs.declared.Note.{Note}
 use Rattle.mail_world.specs.declared.Slip.{Slip}
 use Rattle.mail_world.specs.declared.Txn.{Txn}
-use Rattle.mail_world.specs.Slips.{names, of_worker, slip_of, slips_from}
+use Rattle.mail_world.specs.Slips.{names, of_worker}
+use Rattle.lmtpd_rehearse.proofs.Unlimited.{slip_if, slips_to}
 use Rattle.lmtpd_rehearse.proofs.Rising.{IsFrom, from_then, CopiesRise}
 
 -- lists of which all elements are such
@@ -86,25 +87,25 @@ module _ (stored : ℕ → ℕ) where
   -- the slips for all these copies, of which each mailbox stored so many, where it had so many copies before
   abbrev pub slips_all : (ℕ → ℕ) → List Note → List Slip
   slips_all count [] = []
-  slips_all count (x ∷ xs) = slip_of x.mailbox x (nat_lt (count x.mailbox) (stored x.mailbox)) ∷ slips_all (λ b. one_more count x.mailbox b) xs
+  slips_all count (x ∷ xs) = slip_if x.mailbox x (nat_lt (count x.mailbox) (stored x.mailbox)) ∷ slips_all (λ b. one_more count x.mailbox b) xs
 
   pub slips_all-append : (xs ys : List Note) (count : ℕ → ℕ) → slips_all count (xs ++ ys) ≡ slips_all count xs ++ slips_all (λ b. slips_behind stored count xs b) ys
   slips_all-append [] ys count = refl
   slips_all-append (x ∷ xs) ys count =
-      ap (λ l. slip_of x.mailbox x (nat_lt (count x.mailbox) (stored x.mailbox)) ∷ l) (slips_all-append xs ys (λ b. one_more count x.mailbox b))
+      ap (λ l. slip_if x.mailbox x (nat_lt (count x.mailbox) (stored x.mailbox)) ∷ l) (slips_all-append xs ys (λ b. one_more count x.mailbox b))
 
   -- the slips of one mailbox among them
-  slip_for : (t : Bool) (b : ℕ) (x : Note) (xs : List Note) (count : ℕ → ℕ) (rest : List Slip) → (x.mailbox == b) ≡ t → rest ≡ slips_from b (stored b) (one_more count x.mailbox b) xs
-      → cond t (slip_of x.mailbox x (nat_lt (count x.mailbox) (stored x.mailbox)) ∷ rest) rest ≡ slips_from b (stored b) (count b) (cond t (x ∷ xs) xs)
+  slip_for : (t : Bool) (b : ℕ) (x : Note) (xs : List Note) (count : ℕ → ℕ) (rest : List Slip) → (x.mailbox == b) ≡ t → rest ≡ slips_to b (stored b) (one_more count x.mailbox b) xs
+      → cond t (slip_if x.mailbox x (nat_lt (count x.mailbox) (stored x.mailbox)) ∷ rest) rest ≡ slips_to b (stored b) (count b) (cond t (x ∷ xs) xs)
   slip_for true b x xs count rest e more =
       let is : x.mailbox ≡ b = same_number x.mailbox b e in
       let next : one_more count x.mailbox b ≡ count b + 1 = ap (λ t. cond t (count b + 1) (count b)) e in
-      ap (λ m. slip_of m x (nat_lt (count m) (stored m)) ∷ rest) is
-      ∙ ap (λ l. slip_of b x (nat_lt (count b) (stored b)) ∷ l) (more ∙ ap (λ n. slips_from b (stored b) n xs) next)
-  slip_for false b x xs count rest e more = more ∙ ap (λ n. slips_from b (stored b) n xs) (ap (λ t. cond t (count b + 1) (count b)) e)
+      ap (λ m. slip_if m x (nat_lt (count m) (stored m)) ∷ rest) is
+      ∙ ap (λ l. slip_if b x (nat_lt (count b) (stored b)) ∷ l) (more ∙ ap (λ n. slips_to b (stored b) n xs) next)
+  slip_for false b x xs count rest e more = more ∙ ap (λ n. slips_to b (stored b) n xs) (ap (λ t. cond t (count b + 1) (count b)) e)
 
   pub slips_of_box : (b : ℕ) (notes : List Note) (count : ℕ → ℕ)
-      → of_worker b (slips_all count notes) ≡ slips_from b (stored b) (count b) (filter (λ note. note.mailbox == b) notes)
+      → of_worker b (slips_all count notes) ≡ slips_to b (stored b) (count b) (filter (λ note. note.mailbox == b) notes)
   slips_of_box b [] count = refl
   slips_of_box b (x ∷ xs) count =
       slip_for (x.mailbox == b) b x (filter (λ note. note.mailbox == b) xs) count (of_worker b (slips_all (λ k. one_more count x.mailbox k) xs)) refl
@@ -127,7 +128,7 @@ module _ (stored : ℕ → ℕ) where
   pub all_agree : (notes : List Note) (count : ℕ → ℕ) (n p : ℕ) → CopiesRise n p notes → AllByRecursion (λ slip. AllByRecursion (λ other. SayTheSame other slip) (slips_all count notes)) (slips_all count notes)
   all_agree [] count n p rise = tt
   all_agree (x ∷ xs) count n p rise =
-      let slip : Slip = slip_of x.mailbox x (nat_lt (count x.mailbox) (stored x.mailbox)) in
+      let slip : Slip = slip_if x.mailbox x (nat_lt (count x.mailbox) (stored x.mailbox)) in
       let rest : List Slip = slips_all (λ b. one_more count x.mailbox b) xs in
       let later : AllByRecursion (IsSlipFrom x.txn.number (x.place + 1)) rest = slips_rise xs (λ b. one_more count x.mailbox b) x.txn.number (x.place + 1) x.txn.number (x.place + 1) rise.1 (inr (refl, omega arith)) in (
         ((λ e. refl), all_map (IsSlipFrom x.txn.number (x.place + 1)) (λ other. SayTheSame other slip) rest (λ other from. agrees_earlier slip other from) later),

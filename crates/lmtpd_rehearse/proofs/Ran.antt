@@ -1,5 +1,5 @@
 -- A rehearsal from its parts: the run of the server, and how the mailboxes were written.
-use Rattle.std.proofs.Common.{◌≡◌, ℕ, cond, ◌<◌, ◌-◌, List, [], ◌∷◌, ◌++◌, length, map, take, drop, replicate, Bool, true, false, Option, Some, inl, inr, refl, ap, sym, ◌∙◌, subst, append-nil, arith}
+use Rattle.std.proofs.Common.{◌≡◌, ℕ, cond, ◌<◌, ◌-◌, List, [], ◌∷◌, ◌++◌, length, map, take, drop, replicate, Bool, true, false, Option, Some, None, inl, inr, refl, ap, sym, ◌∙◌, subst, append-nil, arith}
 use Rattle.std.specs.Prelude.{filter, ◌==◌, ◌^◌, slice_get}
 use Rattle.std.specs.List.{AllByRecursion, list_any}
 use Rattle.std.specs.Io.KnownBytes.{Appends, Consumes}
@@ -9,7 +9,6 @@ use Rattle.mail_world.specs.declared.Note.{Note}
 use Rattle.mail_world.specs.declared.Outcome.{Outcome}
 use Rattle.mail_world.specs.declared.Slip.{Slip}
 use Rattle.mail_world.specs.Fronts.{IsFront}
-use Rattle.mail_world.specs.Slips.{slips_from}
 use Rattle.mail_world.specs.Slips.{of_worker}
 use Rattle.mail_world.specs.declared.Outcome.TheVariants.{Stored, Failed}
 use Rattle.mail_world.specs.Failures.{Rises}
@@ -25,7 +24,7 @@ use Rattle.mbox_rd.specs.MemorySpool.{MemorySpool}
 use Rattle.lmtp_talk.specs.declared.ending.EndCause.{EndCause}
 use Rattle.lmtp_talk.specs.declared.ending.EndCause.TheVariants.{WriteFault}
 use Rattle.lmtp_threads.specs.declared.tally.Tally.{Tally}
-use Rattle.lmtp_threads.specs.Works.{IsBoxWork, LaneWork, BoxWork}
+use Rattle.lmtp_threads.specs.Works.{share_of, setting_of, IsBoxWork, LaneWork, BoxWork}
 use Rattle.lmtp_house.specs.House.{HandedBack, HasRun}
 use Rattle.lmtp_talk.specs.Peer.{PeerState}
 use Rattle.lmtp_talk.specs.Served.{terms, IsWritten, has_quit, transactions_in}
@@ -40,6 +39,7 @@ use Rattle.lmtpd_rehearse.specs.Rehearsal.{AreMailboxes, RehearsalEndsFor, HeldS
 use Rattle.lmtpd_rehearse.proofs.Boxes.{state_of, get_some, get_same, kept_is, length-kept, bytes_are, none_failed, all_calm, is_full, holds_stored}
 use Rattle.lmtpd_rehearse.proofs.Rising.{NumbersRise, numbers_rise}
 use Rattle.lmtpd_output.proofs.Written.{Appends-then}
+use Rattle.lmtpd_rehearse.proofs.Unlimited.{slips_to, holds, tells}
 use Rattle.lmtpd_rehearse.proofs.Telling.{IsFrontOfOwed, told_stored, all_stored}
 
 -- a peer that never says to stop
@@ -147,7 +147,7 @@ record BoxAt (site : Site) (work : BoxWork) (spools : List MemorySpool) (tallies
   spool : MemorySpool
   tally : Tally
   is : kept_at (kept_all spools tallies) b ≡ record { bytes = spool.bytes; failed = tally.faulty }
-  did : IsBoxWork site work (state_of empty_spool) (state_of spool) tally
+  did : IsBoxWork (setting_of (share_of site None) b) work (state_of empty_spool) (state_of spool) tally
 
 -- what the lane heard, and what each of so many workers did
 record AllWork : Type 0 where
@@ -190,7 +190,7 @@ delivered site c heard boxes count spools tallies faulty is accounted h size fau
     let T : List Outcome → Type 0 = λ os. HoldsCopies civil_at site.host (due site 0 box (c ∷ [])) os at.spool.bytes at.tally.faulty in
     let K : MailboxContent → Type 0 = λ k. H c box k.bytes k.failed in
     let C : Conversation → Type 0 = λ x. H x box (kept_at ks box).bytes (kept_at ks box).failed in
-    let first : P (copies_owed 0 box ts) = subst P (h.taken box low) (holds_stored civil_at site.host at.spool (boxes box).taken (stored box) at.tally.faulty at.did.spool) in
+    let first : P (copies_owed 0 box ts) = subst P (h.taken box low) (holds_stored civil_at site.host at.spool (boxes box).taken (stored box) at.tally.faulty (holds site box (boxes box) _ _ at.tally at.did)) in
     let told_so : Q (told_all box ts) = subst Q (sym (told_stored stored heard count 1 ts some (rising site c) h.answered h.known h.begun box)) first in
     subst C is (subst K (sym at.is) (subst T (sym (told_is site box c)) (subst D (sym (due_is site box c)) told_so))) in
     record {
@@ -200,14 +200,14 @@ delivered site c heard boxes count spools tallies faulty is accounted h size fau
           let low : box < count = omega (arith, size, within) in
           let at = h.each box low in
           ap (λ (k : MailboxContent). length k.bytes) at.is
-          ∙ is_full civil_at site.host at.spool (boxes box).taken (stored box) at.tally.faulty at.did.spool (sym (ap (λ (k : MailboxContent). k.failed) at.is) ∙ failed);
+          ∙ is_full civil_at site.host at.spool (boxes box).taken (stored box) at.tally.faulty (holds site box (boxes box) _ _ at.tally at.did) (sym (ap (λ (k : MailboxContent). k.failed) at.is) ∙ failed);
       sound = (calm, λ quiet. faulty_is ∙ all_calm spools tallies as_many quiet);
       stored = λ f.
           let S : List Disposition → Type 0 = λ ds. AllByRecursion IsAllStored ds in
           subst S told_it (all_stored stored heard count ts h.answered h.known h.begun (λ b low.
           let at = h.each b low in
           let sound : at.tally.faulty ≡ false = sym (ap (λ (k : MailboxContent). k.failed) at.is) ∙ calm f b (omega (arith, many, low)) in
-          at.did.spool.all sound ∙ ap length (h.taken b low)));
+          (holds site b (boxes b) _ _ at.tally at.did).all sound ∙ ap length (h.taken b low)));
       held = λ f box within.
           let failed : (kept_at ks box).failed ≡ false = calm f box (omega (arith, within, many, size)) in
           let B : Bool → Type 0 = λ b. H (conversation c.bytes c.dispositions) box (kept_at ks box).bytes b in
@@ -219,7 +219,7 @@ abbrev pub HasRunAlone : (site : Site) (moment : ℕ) {P : Type 0} (state : P �
     (back : HandedBack (OnlyClient P) MemorySpool) → Type 0
 HasRunAlone site moment state peer count back =
     HasRun site (λ m. m ≡ moment) (record { MayGive = λ c p. MayGive state c p; finished = λ c. told_by state c; over = λ c. is_over c }) state_of
-    (record { visits = Waiting peer ∷ []; spools = replicate count empty_spool }) back
+    (record { visits = Waiting peer ∷ []; spools = replicate count empty_spool; quota = None }) back
 
 module _ (site : Site) (moment : ℕ) {P : Type 0} (state : P → PeerState) (peer : P) (count : ℕ) (back : HandedBack (OnlyClient P) MemorySpool) where
   -- the client has left
@@ -246,8 +246,12 @@ module _ (site : Site) (moment : ℕ) {P : Type 0} (state : P → PeerState) (pe
         answered = answered;
         known = subst K many (h.told_only 0 one);
         begun = λ b low.
-            let B : List Note → Type 0 = λ notes. IsFront (of_worker b heard) (filter (λ slip. slip.txn.lane == 0) (slips_from b (h.boxes b).stored 0 notes)) in
-            subst B (taken b low) (h.told 0 b one (low_in b low));
+            let B : List Note → Type 0 = λ notes. IsFront (of_worker b heard) (filter (λ slip. slip.txn.lane == 0) (slips_to b (h.boxes b).stored 0 notes)) in
+            let F : List Slip → Type 0 = λ slips. IsFront (of_worker b heard) (filter (λ slip. slip.txn.lane == 0) slips) in
+            let spool = get_some back.spools b (omega (arith, many, low, h.as_many_boxes.0)) in
+            let tally = get_some back.tallies b (omega (arith, many, low, h.as_many_boxes.1)) in
+            let did = h.stored b empty_spool spool.0 tally.0 (get_same count b empty_spool low) spool.1 tally.1 in
+            subst B (taken b low) (subst F (tells site b (h.boxes b) _ _ tally.0 did b) (h.told 0 b one (low_in b low)));
         taken = taken;
         each = λ b low.
             let spool = get_some back.spools b (omega (arith, many, low, h.as_many_boxes.0)) in

@@ -16,7 +16,8 @@ use Rattle.mail_world.specs.declared.Verdict.TheVariants as verdicts
 use Rattle.mail_world.specs.Deliveries.{outcomes_for, told_if, told_all}
 use Rattle.mail_world.specs.Fronts.{IsFront}
 use Rattle.mail_world.specs.Lists.{Transaction, OutcomesIn, copies, copies_if, copies_from, copies_owed}
-use Rattle.mail_world.specs.Slips.{names, answer, of_worker, slip_of, slips_from}
+use Rattle.mail_world.specs.Slips.{names, answer, of_worker}
+use Rattle.lmtpd_rehearse.proofs.Unlimited.{slip_if, slips_to}
 use Rattle.mail_world.proofs.Deliveries.{copy_at}
 use Rattle.lmtpd_rehearse.specs.Account.{IsStoredIf, IsAllStored}
 use Rattle.lmtpd_rehearse.proofs.Rising.{NumbersRise, copies_rise}
@@ -81,7 +82,7 @@ one_outcome false o slip outcomes slips e f = f
 
 -- the outcomes of slips: the first copies are stored
 outcomes_from : (w stored n : ℕ) (notes : List Note)
-    → map (λ s. s.outcome) (slips_from w stored n notes) ≡ map (λ note. Stored) (take (stored - n) notes) ++ map (λ note. Failed) (drop (stored - n) notes)
+    → map (λ s. s.outcome) (slips_to w stored n notes) ≡ map (λ note. Stored) (take (stored - n) notes) ++ map (λ note. Failed) (drop (stored - n) notes)
 outcomes_from w stored n [] = nothing (stored - n)
   where
     nothing : (k : ℕ) → [] ≡ map (λ (note : Note). Stored) (take k []) ++ map (λ (note : Note). Failed) (drop k [])
@@ -90,8 +91,8 @@ outcomes_from w stored n [] = nothing (stored - n)
 outcomes_from w stored n (x ∷ notes) = next_outcome (nat_lt n stored) refl (outcomes_from w stored (n + 1) notes)
   where
     next_outcome : (t : Bool) → nat_lt n stored ≡ t
-        → map (λ s. s.outcome) (slips_from w stored (n + 1) notes) ≡ map (λ note. Stored) (take (stored - (n + 1)) notes) ++ map (λ note. Failed) (drop (stored - (n + 1)) notes)
-        → map (λ s. s.outcome) (slip_of w x t ∷ slips_from w stored (n + 1) notes) ≡ map (λ note. Stored) (take (stored - n) (x ∷ notes)) ++ map (λ note. Failed) (drop (stored - n) (x ∷ notes))
+        → map (λ s. s.outcome) (slips_to w stored (n + 1) notes) ≡ map (λ note. Stored) (take (stored - (n + 1)) notes) ++ map (λ note. Failed) (drop (stored - (n + 1)) notes)
+        → map (λ s. s.outcome) (slip_if w x t ∷ slips_to w stored (n + 1) notes) ≡ map (λ note. Stored) (take (stored - n) (x ∷ notes)) ++ map (λ note. Failed) (drop (stored - n) (x ∷ notes))
     next_outcome true e more =
         let low : n < stored = grind (arith, nat_tests, e) in
         let k : stored - n ≡ suc (stored - (n + 1)) = omega arith in
@@ -103,22 +104,22 @@ outcomes_from w stored n (x ∷ notes) = next_outcome (nat_lt n stored) refl (ou
         let rest = rw j at more in
         rw k (ap (λ l. Failed ∷ l) rest)
 
-slips_stored : (w stored n : ℕ) (notes : List Note) → n + length notes ≤ stored → AllByRecursion IsStored (slips_from w stored n notes)
+slips_stored : (w stored n : ℕ) (notes : List Note) → n + length notes ≤ stored → AllByRecursion IsStored (slips_to w stored n notes)
 slips_stored w stored n [] h = tt
 slips_stored w stored n (x ∷ notes) h =
     let low : nat_lt n stored ≡ true = grind (arith, nat_tests, h) in
     (rw low refl, slips_stored w stored (n + 1) notes (omega arith))
 
 outcomes_all : (w stored : ℕ) (notes : List Note)
-    → map (λ s. s.outcome) (slips_from w stored 0 notes) ≡ map (λ note. Stored) (take stored notes) ++ map (λ note. Failed) (drop stored notes)
+    → map (λ s. s.outcome) (slips_to w stored 0 notes) ≡ map (λ note. Stored) (take stored notes) ++ map (λ note. Failed) (drop stored notes)
 outcomes_all w stored notes =
-    let P : ℕ → Type 0 = λ k. map (λ (s : Slip). s.outcome) (slips_from w stored 0 notes) ≡ map (λ (note : Note). Stored) (take k notes) ++ map (λ (note : Note). Failed) (drop k notes) in
+    let P : ℕ → Type 0 = λ k. map (λ (s : Slip). s.outcome) (slips_to w stored 0 notes) ≡ map (λ (note : Note). Stored) (take k notes) ++ map (λ (note : Note). Failed) (drop k notes) in
     let e : stored - 0 ≡ stored = omega arith in
     subst P e (outcomes_from w stored 0 notes)
 
 -- the slips that one worker gave begin those that it owes
 abbrev pub IsFrontOfOwed : (ℕ → ℕ) → List Slip → List Transaction → ℕ → Type 0
-IsFrontOfOwed stored heard ts b = IsFront (of_worker b heard) (filter (λ slip. slip.txn.lane == 0) (slips_from b (stored b) 0 (copies_owed 0 b ts)))
+IsFrontOfOwed stored heard ts b = IsFront (of_worker b heard) (filter (λ slip. slip.txn.lane == 0) (slips_to b (stored b) 0 (copies_owed 0 b ts)))
 
 module _ (stored : ℕ → ℕ) (heard : List Slip) where
   told_copies : (b : ℕ) (t : Transaction) (boxes : List ℕ) (place : ℕ) (outcomes : List Outcome) (count : ℕ → ℕ)
@@ -130,7 +131,7 @@ module _ (stored : ℕ → ℕ) (heard : List Slip) where
   told_copies b t (r ∷ boxes) place [] count e h = cc
   told_copies b t (r ∷ boxes) place (o ∷ outcomes) count e h =
       let txn : Txn = record { lane = 0; number = t.number } in
-      let slip : Slip = slip_of r (copy_at 0 t place r) (nat_lt (count r) (stored r)) in
+      let slip : Slip = slip_if r (copy_at 0 t place r) (nat_lt (count r) (stored r)) in
       let first : answer txn heard place ≡ Some o = cc in
       let rest : map (λ (x : Outcome). Some x) outcomes ≡ map (answer txn heard) (range_with_len (place + 1) (length boxes)) = cc in
       one_outcome (r == b) o slip (outcomes_for b boxes outcomes) _ (answer_is heard slip o h.0 first)
@@ -161,11 +162,11 @@ module _ (stored : ℕ → ℕ) (heard : List Slip) where
 
   -- each slip that was heard is one that its worker owes
   heard_owed : (P : Slip → Type 0) (n : ℕ) (ts : List Transaction) → AllByRecursion (λ slip. slip.worker < n) heard → ((b : ℕ) → b < n → IsFrontOfOwed stored heard ts b)
-      → ((b : ℕ) → b < n → AllByRecursion P (slips_from b (stored b) 0 (copies_owed 0 b ts))) → AllByRecursion P heard
+      → ((b : ℕ) → b < n → AllByRecursion P (slips_to b (stored b) 0 (copies_owed 0 b ts))) → AllByRecursion P heard
   heard_owed P n ts known begun each = all_heard P n heard known (λ b low.
       let begins = begun b low in
       let Q : List Slip → Type 0 = λ l. AllByRecursion P l in
-      all_front P (of_worker b heard) begins.rest (subst Q begins.whole (all_filter P (λ slip. slip.txn.lane == 0) (slips_from b (stored b) 0 (copies_owed 0 b ts)) (each b low))))
+      all_front P (of_worker b heard) begins.rest (subst Q begins.whole (all_filter P (λ slip. slip.txn.lane == 0) (slips_to b (stored b) 0 (copies_owed 0 b ts)) (each b low))))
 
   -- what was told of a mailbox: its first copies are stored, and the others are not
   pub told_stored : (n m : ℕ) (ts : List Transaction) → 0 < m → NumbersRise m ts → AllByRecursion (λ t. OutcomesIn 0 heard t t.disposition.verdict) ts

@@ -1,6 +1,6 @@
 //! What a rehearsal hands to the server that it runs.
 
-ghost use Rattle.std.specs.Prelude.{◌≡◌, length, replicate, IfOk};
+ghost use Rattle.std.specs.Prelude.{◌≡◌, length, replicate, IfOk, None};
 ghost use Rattle.lmtpd_rehearse.specs.Mailboxes.{empty_spool};
 
 use box_worker::OpenGate;
@@ -17,12 +17,13 @@ const LANES: u32 = 1;
 
 /// The sizes of a rehearsal's server: a slot for each lane, and the usual number of copies that may wait.
 pub fn sizes(blocks: u32) -> Sizes
-    ensures { result ≡ record { blocks = blocks; slots = LANES; capacity = DEFAULT_CAPACITY } }
+    ensures { result ≡ record { blocks = blocks; slots = LANES; capacity = DEFAULT_CAPACITY; quota = None } }
 {
     Sizes {
         blocks,
         slots: LANES,
         capacity: DEFAULT_CAPACITY,
+        quota: None,
     }
 }
 

@@ -1,5 +1,5 @@
 -- What a server says on its standard output, and how its run ends.
-use Rattle.std.specs.Prelude.{◌≡◌, ◌<◌, ◌^◌, ℕ, List, [], ◌∷◌, ◌++◌, length, codes, decimal}
+use Rattle.std.specs.Prelude.{◌≡◌, ◌<◌, ◌^◌, ℕ, List, [], ◌∷◌, ◌++◌, length, codes, decimal, Option}
 use Rattle.std.specs.List.{AllByRecursion, list_any}
 use Rattle.std.specs.Net.Text.{socket_text}
 use Rattle.std.specs.declared.net.SocketAddr.{SocketAddr}
@@ -24,12 +24,17 @@ count_line name tally = name ++ codes " stored " ++ decimal tally.stored ++ (lf 
 abbrev pub counts_text : List (List ℕ) → List Tally → List ℕ
 counts_text names tallies = pair_texts count_line names tallies
 
--- A server ran with so many lanes, over clients of a listener, of whom it is told how many were handed back, and these spools; it is faulty exactly where a worker is.
-pub record IsServerRun (L : Type 0) {S : Type 0} (site : Site) (state : S → SpoolState) (lanes : ℕ) (spools : List S) (served : Served) : Type 0 where
+-- how many lanes a server has, and the limit of bytes for each mailbox
+pub record Extent : Type 0 where
+  pub lanes : ℕ
+  pub quota : Option ℕ
+
+-- A server of this extent ran, over clients of a listener, of whom it is told how many were handed back, and these spools; it is faulty exactly where a worker is.
+pub record IsServerRun (L : Type 0) {S : Type 0} (site : Site) (state : S → SpoolState) (extent : Extent) (spools : List S) (served : Served) : Type 0 where
   pub visits : List (TcpVisits L)
   pub back : HandedBack (TcpVisits L) S
-  pub each_lane : length visits ≡ lanes
+  pub each_lane : length visits ≡ extent.lanes
   pub none_ended : AllByRecursion (λ v. conversations_ended v ≡ 0) visits
   pub ran : HasRun site (λ moment. moment < 2 ^ 32) (record { MayGive = λ _ peer. IsNewcomer peer; finished = told_by; over = is_over })
-      state (record { visits = visits; spools = spools }) back
+      state (record { visits = visits; spools = spools; quota = extent.quota }) back
   pub faulty : served.faulty ≡ list_any (λ tally. tally.faulty) back.tallies

@@ -46,7 +46,8 @@ where
         result ≡ Err HouseFault.Size ↔ ¬ IsSize (arc_value site) sizes lanes count count }
     ensures sized { let count = length spools.items in
         (result ≡ Err HouseFault.Size) ⊎ IsSize (arc_value site) sizes lanes count count }
-    ensures ran { IfOk result (IsServerRun L (arc_value site) S.state lanes spools.items) }
+    ensures ran { IfOk result (IsServerRun L (arc_value site) S.state
+        (record { lanes = lanes; quota = sizes.quota }) spools.items) }
 {
     if !is_size(&site, sizes, lanes as usize, spools.len(), spools.len()) {
         return Err(HouseFault::Size);

@@ -19,6 +19,7 @@ const TWO_LANES: Sizes = Sizes {
     blocks: 64,
     slots: 2,
     capacity: 4,
+    quota: None,
 };
 
 /// The site with the mailbox anna alone.
@@ -201,6 +202,7 @@ fn a_size_is_told_before_anything_is_said(rt: HostRuntime) -> Result<(), Fail> {
             blocks,
             slots,
             capacity,
+            quota: None,
         };
         let listener = MemoryListener::new(2, true);
         let served = serve_run(

@@ -57,7 +57,7 @@ where
             × (length handed.spools.items ≡ length (arc_value shared.now.site).boxes) }
         requires gates { length handed.gates.items ≡ length handed.spools.items }
         ensures { IfOk result (λ plan. IsPlanned (arc_value shared.now.site) (arc_value shared.now.clock)
-            (record { visits = handed.visits.items; spools = handed.spools.items })
+            (record { visits = handed.visits.items; spools = handed.spools.items; quota = handed.quota })
             (record { lanes = plan.lanes; workers = plan.workers; mail = plan.mail; slips = plan.slips })) }
     {
         let HandedIn {
@@ -65,6 +65,7 @@ where
             spools,
             gates,
             capacity,
+            quota,
         } = handed;
         let alloc = shared.alloc;
         let lanes = visits.len();
@@ -73,7 +74,7 @@ where
         let (rows, receivers) = open_channels::<Post<N>>(alloc, capacity, lanes as u32, boxes)?;
         let (slip_rows, takers) = open_channels::<Slip>(alloc, SLIP_CAPACITY, box_count, lanes)?;
         let lane_jobs = lane_jobs(shared, visits, rows, takers)?;
-        let worker_jobs = worker_jobs(shared, receivers, slip_rows, spools, gates)?;
+        let worker_jobs = worker_jobs(shared, receivers, slip_rows, spools, gates, quota)?;
         Ok(Plan {
             lanes: Lanes::new(alloc, lane_jobs)?,
             workers: Workers::new(alloc, worker_jobs)?,

@@ -44,7 +44,7 @@ where
     requires none_out { AllByRecursion (λ v. V.out v ≡ false) visits.items }
     ensures ran { IfOk result (λ report. HasRun (arc_value site) (C.May clock)
         (record { MayGive = V.MayGive; finished = V.finished; over = V.over }) S.state
-        (record { visits = visits.items; spools = spools.items })
+        (record { visits = visits.items; spools = spools.items; quota = sizes.quota })
         (record {
           visits = report.visits.items;
           spools = report.spools.items;
@@ -64,6 +64,7 @@ where
         spools,
         gates,
         capacity: sizes.capacity as usize,
+        quota: sizes.quota,
     };
     run_at::<Brand, V, S, G, C, R>(rt, alloc, blank, site, clock, handed)
 }
@@ -94,7 +95,7 @@ where
     requires none_out { AllByRecursion (λ v. V.out v ≡ false) handed.visits.items }
     ensures ran { IfOk result (λ report. HasRun (arc_value site) (C.May (arc_value clock))
         (record { MayGive = V.MayGive; finished = V.finished; over = V.over }) S.state
-        (record { visits = handed.visits.items; spools = handed.spools.items })
+        (record { visits = handed.visits.items; spools = handed.spools.items; quota = handed.quota })
         (record {
           visits = report.visits.items;
           spools = report.spools.items;

@@ -15,6 +15,8 @@ pub struct Sizes {
     pub slots: u32,
     /// Copies that wait for a mailbox's worker, 1 to 1,024.
     pub capacity: u32,
+    /// A limit of bytes for each mailbox, if there is one.
+    pub quota: Option<u64>,
 }
 
 /// Whether a server may be made so.

@@ -29,6 +29,7 @@ const RIGHT: Sizes = Sizes {
     blocks: 8,
     slots: 2,
     capacity: 4,
+    quota: None,
 };
 
 const RECORD: &[u8] =

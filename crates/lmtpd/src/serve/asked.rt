@@ -82,5 +82,6 @@ fn sizes_asked(words: &ServeWords<'_>) -> Sizes
         blocks: words.blocks,
         slots: words.lanes,
         capacity: words.capacity,
+        quota: None,
     }
 }

@@ -1,5 +1,6 @@
 use Rattle.std.proofs.Common.{arith, ◌≡◌, length, ◌∙◌, subst, vec_items, vec_len}
 use Rattle.std.specs.List.{AllZip}
+use Rattle.lmtp_threads.specs.Works.{share_of}
 use Rattle.lmtp_threads.specs.Tasks.{box_tasks, tally_of}
 use Rattle.thread_crew.proofs.Pairs.{AllZip-length}
 use Rattle.lmtp_threads.proofs.WorkedAll.{BoxOk, have_worked}
@@ -29,7 +30,7 @@ pub returns : goal.returns
 returns g c not_lost site channels given is count some are =
     let parts = c.take_all.ensures in
     let reports = vec_items c.join.result in
-    let tasks_are : c.self.inside.crew.tasks ≡ box_tasks site.host given.inboxes given.rows given.spools = c.self.view_is ∙ is in
-    let all = subst (λ l. AllZip (BoxOk g.S.Spool.state (λ r. r.receiver) (λ r. vec_items r.slips) (λ r. r.spool) (λ r. tally_of r.taken r.stored r.faulty) (λ r. r.lost)) l reports) tasks_are c.join.ensures in
+    let tasks_are : c.self.inside.crew.tasks ≡ box_tasks (share_of site given.quota) given.inboxes given.rows given.spools = c.self.view_is ∙ is in
+    let all = subst (λ l. AllZip (BoxOk g.S.Spool.state (λ r. r.receiver) (λ r. vec_items r.slips) (λ r. r.spool) (λ r. tally_of r.taken r.stored r.over r.faulty) (λ r. r.lost)) l reports) tasks_are c.join.ensures in
     rw (parts.spools, parts.slips, parts.receivers, parts.tallies)
-    (have_worked g.S.Spool.state (λ r. r.receiver) (λ r. vec_items r.slips) (λ r. r.spool) (λ r. tally_of r.taken r.stored r.faulty) (λ r. r.lost) site channels given reports count some are all (parts.lost not_lost))
+    (have_worked g.S.Spool.state (λ r. r.receiver) (λ r. vec_items r.slips) (λ r. r.spool) (λ r. tally_of r.taken r.stored r.over r.faulty) (λ r. r.lost) site channels given reports count some are all (parts.lost not_lost))
