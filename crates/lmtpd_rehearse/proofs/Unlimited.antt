@@ -3,6 +3,7 @@ use Rattle.std.proofs.Common.{◌≡◌, ℕ, zero, suc, ◌+◌, ◌≤◌, Lis
 use Rattle.std.specs.Prelude.{nat_lt, if◌then◌else◌}
 use Rattle.std.proofs.lemmas.Bool.Decides.{nat_tests}
 use Rattle.mail_world.specs.declared.Note.{Note}
+use Rattle.mail_world.specs.declared.Outcome.{Outcome}
 use Rattle.mail_world.specs.declared.Outcome.TheVariants.{Stored, Failed}
 use Rattle.mail_world.specs.declared.Slip.{Slip}
 use Rattle.mail_world.specs.Records.{Calendar, record_of}
@@ -26,25 +27,27 @@ abbrev pub slips_to : ℕ → ℕ → ℕ → List Note → List Slip
 slips_to w stored n [] = []
 slips_to w stored n (note ∷ notes) = slip_if w note (nat_lt n stored) ∷ slips_to w stored (n + 1) notes
 
+-- from the n-th on none is stored
+none_stored : (w a b n : ℕ) (notes : List Note) → a ≤ n → b ≤ n → slips_to w a n notes ≡ slips_to w b n notes
+none_stored w a b n [] h i = refl
+none_stored w a b n (x ∷ notes) h i =
+    let p : nat_lt n a ≡ false = grind (arith, nat_tests, h) in
+    let q : nat_lt n b ≡ false = grind (arith, nat_tests, i) in
+    ap (λ t. slip_if w x t ∷ slips_to w a (n + 1) notes) (p ∙ sym q)
+    ∙ ap (λ l. slip_if w x (nat_lt n b) ∷ l) (none_stored w a b (n + 1) notes (omega (arith, h)) (omega (arith, i)))
+
 module _ (calendar : Calendar) (host : List ℕ) where
   slips_same : (w stored n len : ℕ) (notes : List Note)
       → slips_from w (outcomes_settled stored (are_kept_behind calendar host None len notes)) notes ≡ slips_to w (n + stored) n notes
-  slips_same w stored n len [] = refl
+  slips_same w stored n len [] = slips_of_none (outcomes_settled stored [])
+    where
+      slips_of_none : (outcomes : List Outcome) → slips_from w outcomes [] ≡ []
+      slips_of_none [] = refl
+      slips_of_none (o ∷ outcomes) = refl
   slips_same w zero n len (x ∷ notes) =
       let past : nat_lt n (n + 0) ≡ false = grind (arith, nat_tests) in
-      let same : n + 1 + 0 ≡ n + 0 + 1 = omega arith in
-      ap (λ l. slip_of w x Failed ∷ l) (slips_same w zero (n + 1) (len + length (record_of calendar host x)) notes ∙ later w n notes)
+      ap (λ l. slip_of w x Failed ∷ l) (slips_same w zero (n + 1) (len + length (record_of calendar host x)) notes ∙ none_stored w (n + 1 + 0) (n + 0) (n + 1) notes (omega arith) (omega arith))
       ∙ ap (λ t. slip_if w x t ∷ slips_to w (n + 0) (n + 1) notes) (sym past)
-    where
-      later : (w n : ℕ) (notes : List Note) → slips_to w (n + 1 + 0) (n + 1) notes ≡ slips_to w (n + 0) (n + 1) notes
-      later w n notes = none_to w (n + 1 + 0) (n + 0) (n + 1) notes (omega arith) (omega arith)
-        where
-          none_to : (w a b n : ℕ) (notes : List Note) → a ≤ n → b ≤ n → slips_to w a n notes ≡ slips_to w b n notes
-          none_to w a b n [] h i = refl
-          none_to w a b n (y ∷ notes) h i =
-              let p : nat_lt n a ≡ false = grind (arith, nat_tests, h) in
-              let q : nat_lt n b ≡ false = grind (arith, nat_tests, i) in
-              ap (λ t. slip_if w y t ∷ slips_to w a (n + 1) notes) (p ∙ sym q) ∙ ap (λ l. slip_if w y (nat_lt n b) ∷ l) (none_to w a b (n + 1) notes (omega (arith, h)) (omega (arith, i)))
   slips_same w (suc stored) n len (x ∷ notes) =
       let low : nat_lt n (n + suc stored) ≡ true = grind (arith, nat_tests) in
       let same : n + 1 + stored ≡ n + suc stored = omega arith in

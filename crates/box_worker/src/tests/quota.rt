@@ -48,7 +48,7 @@ fn a_copy_is_kept_where_it_fits(rt: HostRuntime) -> Result<(), Fail> {
             .filter(|outcome| **outcome == stored)
             .count();
         assert!(rt; ran.says(outcomes) && !ran.faulty && !ran.lost);
-        assert!(rt; ran.stored == kept as u64 && ran.stored + ran.over == 3);
+        assert!(rt; ran.stored == kept as u64 && ran.stored.saturating_add(ran.over) == 3);
         assert_eq!(rt; ran.spool.bytes().len(), len);
         assert_eq!(rt; ran.free_blocks, BLOCKS);
     }
@@ -160,7 +160,9 @@ fn counts_near_the_largest_are_exact(rt: HostRuntime) -> Result<(), Fail> {
             tail,
         };
         let ran = run_under(&rt, rt.alloc(), spool, u64::MAX - less, false)?;
-        assert!(rt; ran.stored == stored && ran.stored + ran.over == 3 && !ran.faulty);
+        assert!(rt;
+            ran.stored == stored && ran.stored.saturating_add(ran.over) == 3 && !ran.faulty
+        );
     }
     Ok(())
 }
