@@ -1,2 +1,3 @@
+pub mod ArgumentRows
 pub mod Calls
 pub mod Numbers
