@@ -10,6 +10,6 @@ pub one_more : (app : App) (all : List Argument) (i : ℕ) (none : Argument) →
     → with_rule (with_rules app (map argument_rule (take i all))) (argument_rule (get_or all i none)) ≡ with_rules app (map argument_rule (take (i + 1) all))
 one_more app all i none low =
     let more : map argument_rule (take (i + 1) all) ≡ map argument_rule (take i all) ++ argument_rule (get_or all i none) ∷ [] =
-        ap (map argument_rule) (take_more all i none low) ∙ map-append argument_rule (take i all) (get_or all i none ∷ []) in
+    ap (map argument_rule) (take_more all i none low) ∙ map-append argument_rule (take i all) (get_or all i none ∷ []) in
     ap (λ rules. record app { top = record app.top { rules = rules } })
-        (append_assoc app.top.rules (map argument_rule (take i all)) _ ∙ ap (λ rules. app.top.rules ++ rules) (sym more))
+    (append_assoc app.top.rules (map argument_rule (take i all)) _ ∙ ap (λ rules. app.top.rules ++ rules) (sym more))

@@ -12,10 +12,7 @@ use std::alloc::Global;
 pub enum ValueKind {
     Text,
     /// A number in decimal within these bounds.
-    Number {
-        least: u32,
-        most: u32,
-    },
+    Number { least: u32, most: u32 },
     /// One text or more, with no name before them.
     Texts,
 }

@@ -28,8 +28,9 @@ fn rehearse<'a>(alloc: Global) -> Result<Command<'a>, AllocError>
     ensures shape { IfOk result (λ c. app_of c ≡ rehearse_app) }
     ensures local { IfOk result (λ c. (fields_of c).has_globals ≡ false) }
 {
-    let rehearse = Command::new(alloc, "rehearse")
-        .about("Holds one conversation on standard input and output, and prints the mailboxes");
+    let rehearse = Command::new(alloc, "rehearse").about(
+        "Holds one conversation on standard input and output, and prints the mailboxes",
+    );
     with_arguments(alloc, rehearse, &REHEARSE)
 }
 
@@ -37,8 +38,9 @@ fn serve<'a>(alloc: Global) -> Result<Command<'a>, AllocError>
     ensures shape { IfOk result (λ c. app_of c ≡ serve_app) }
     ensures local { IfOk result (λ c. (fields_of c).has_globals ≡ false) }
 {
-    let serve = Command::new(alloc, "serve")
-        .about("Serves conversations over TCP, and delivers into mailbox files");
+    let serve = Command::new(alloc, "serve").about(
+        "Serves conversations over TCP, and delivers into mailbox files",
+    );
     with_arguments(alloc, serve, &SERVE)
 }
 
