@@ -7,11 +7,9 @@ use lmtp_text::SiteFault;
 use lmtpd_rehearse::{EndCause, Ending, HouseFault};
 use lmtpd_serve::Served;
 use std::alloc::{AllocError, AllocFailed};
-use thiserror::Error;
 
 /// Why the program did not do what its words ask for, in the order in which it looks for a cause.
-#[derive(Clone, Copy, Debug, PartialEq, Eq, Error)]
-#[error("{}", self.text())]
+#[derive(Clone, Copy, Debug, PartialEq, Eq)]
 pub enum Fault {
     Address,
     Port,
@@ -136,6 +134,3 @@ pub fn server_fault(served: Served) -> Option<Fault>
         None
     }
 }
-
-#[cfg(test)]
-mod tests;
