@@ -147,6 +147,20 @@ def conversations():
         {"anna": b"", "ben": b""},
     )
     yield Row(
+        "mailboxes of further domains",
+        [
+            *PROLOGUE,
+            b"RCPT TO:<anna@a.example>",
+            b"RCPT TO:<ben@b.example>",
+            b"RCPT TO:<ben@mx.example>",
+            b"RCPT TO:<anna@c.example>",
+            b"QUIT",
+        ],
+        [*OPENED, RECIPIENT_OK, RECIPIENT_OK, RECIPIENT_OK, b"550 5.1.1 No such mailbox", BYE],
+        {"anna": b"", "ben": b""},
+        ["--domains", "a.example,b.example"],
+    )
+    yield Row(
         "commands that change nothing",
         [b"VRFY anna", b"EXPN all", b"HELP", b"RSET", b"QUIT"],
         [

@@ -1,3 +1,4 @@
+mod FaultRows
+pub mod AsAsked
 pub mod Orders
 pub mod Unrun
-pub mod AsAsked

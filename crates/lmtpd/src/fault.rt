@@ -136,6 +136,3 @@ pub fn server_fault(served: Served) -> Option<Fault>
         None
     }
 }
-
-#[cfg(test)]
-mod tests;

@@ -76,6 +76,3 @@ fn try_box(alloc: Global, host: &[u8], domains: &[&[u8]], name: &[u8]) -> Result
     let _site = Site::new(alloc, host, domains, &[name])?;
     Ok(())
 }
-
-#[cfg(test)]
-mod tests;

@@ -1,2 +1,4 @@
+pub mod ArgumentRows
 pub mod Calls
 pub mod Numbers
+mod UsualNumbers

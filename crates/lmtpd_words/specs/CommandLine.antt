@@ -20,13 +20,15 @@ number_rule name least most = record (new_rule name) {
 abbrev pub must : Rule → Rule
 must rule = record rule { required = true }
 
--- one `BOX` or more
-abbrev pub box_rule : Rule
-box_rule = record (new_rule (codes "box")) {
+-- one `TEXT` or more
+abbrev pub texts_rule : List ℕ → Rule
+texts_rule name = record (new_rule name) {
   value_names = 1;
-  required = true;
   range = Some (record { start_inclusive = 1; end_inclusive = usize_max });
 }
+
+abbrev pub box_rule : Rule
+box_rule = must (texts_rule (codes "box"))
 
 abbrev pub host_rule : Rule
 host_rule = must (text_rule (codes "host"))

@@ -1,6 +1,7 @@
 //! The words of `lmtpd`: its command line, and what a call of it asks for.
 #![tactic(auto)]
 
+mod arguments;
 mod command;
 mod reading;
 mod values;

@@ -53,6 +53,3 @@ pub fn not_text(alloc: Global) -> Result<Error, AllocError>
         "invalid UTF-8 was detected in one or more arguments",
     )
 }
-
-#[cfg(test)]
-mod tests;

@@ -37,10 +37,31 @@ where
         (IsServedAsAsked (TimedListener P.Listener) (⟦<FileSpool<P::File> as Spool>⟧.state) words.now)
         (IsNotServed words.now) }
 {
-    let alloc = rt.alloc();
     let _input = null(rt);
     let _output = null(rt);
     let _error = null(rt);
+    serve_held(rt, threads, words, writer)
+}
+
+// The same, while the standard streams' places are held.
+fn serve_held<'a, P, H, W>(
+    rt: &P,
+    threads: H,
+    words: &ServeWords<'a>,
+    writer: W,
+) -> Result<Served, Stop<'a>>
+where
+    P: AllocGlobal + Files + Net,
+    P::File: FileLock + Send + 'static,
+    P::Listener: Send + Sync + 'static,
+    P::Stream: Send + 'static,
+    H: Threads + Wait + Clock + Copy + Drop + Send + Sync + 'static,
+    W: Write + Drop,
+    ensures { MatchResult result
+        (IsServedAsAsked (TimedListener P.Listener) (⟦<FileSpool<P::File> as Spool>⟧.state) words.now)
+        (IsNotServed words.now) }
+{
+    let alloc = rt.alloc();
     let address = address_of(words.listen)?;
     let site = shared_site(alloc, &words.site)?;
     let spools = open_mailboxes(rt, alloc, words.dir, &words.site.boxes)?;

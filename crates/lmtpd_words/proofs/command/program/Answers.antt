@@ -1,4 +1,5 @@
 use Rattle.std.proofs.Common.{◌∙◌, ◌≡◌, ap, ap₂, true}
+use Rattle.std.proofs.lemmas.Result.{IfOk-weaker}
 use Rattle.clap.specs.Simple.{App, app_of, app_of_fields, with_subcommand}
 use Rattle.lmtpd_words.specs.CommandLine.{bare_app}
 use Rattle.lmtpd_words.proofs.command.program.Goals as goal
@@ -8,4 +9,4 @@ returns c =
     let named = ap app_of_fields c.about.ensures ∙ c.new.ensures.app in
     let bare : app_of c.subcommand_required.result ≡ bare_app = ap app_of_fields c.subcommand_required.ensures ∙ ap (λ (a : App). record a { top = record a.top { subcommand_required = true } }) named in
     let one = c.in_ok-subcommand.ensures.shape c.in_ok-rehearse.ensures.local ∙ ap₂ with_subcommand bare (ap (λ (a : App). a.top) c.in_ok-rehearse.ensures.shape) in
-    c.in_ok-program.ensures.shape c.in_ok-serve.ensures.local ∙ ap₂ with_subcommand one (ap (λ (a : App). a.top) c.in_ok-serve.ensures.shape)
+    IfOk-weaker c.subcommand-2.result _ _ (λ command added. added.shape c.in_ok-serve.ensures.local ∙ ap₂ with_subcommand one (ap (λ (a : App). a.top) c.in_ok-serve.ensures.shape)) c.subcommand-2.ensures

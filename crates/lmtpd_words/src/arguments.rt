@@ -1,0 +1,183 @@
+//! The arguments of the command line: a row for each, and the two subcommands' lists.
+
+ghost use Rattle.std.specs.Prelude.{◌≡◌, false};
+ghost use Rattle.clap.specs.Words.{rule_of};
+ghost use Rattle.lmtpd_words.specs.Arguments.{argument_rule};
+
+use clap::Arg;
+use clap::builder::ValueParser;
+use std::alloc::Global;
+
+/// What is given for an argument.
+pub enum ValueKind {
+    Text,
+    /// A number in decimal within these bounds.
+    Number { least: u32, most: u32 },
+    /// One text or more, with no name before them.
+    Texts,
+}
+
+/// An argument of the command line.
+pub struct Argument {
+    pub name: &'static str,
+    /// What help calls its value.
+    pub value: &'static str,
+    pub help: &'static str,
+    pub is_required: bool,
+    pub kind: ValueKind,
+}
+
+impl Argument {
+    /// The argument as `clap` takes it.
+    pub fn arg<'a>(&self, alloc: Global) -> Arg<'a>
+        ensures rule { rule_of result ≡ argument_rule self.now }
+        ensures local { result.global ≡ false }
+    {
+        let arg = Arg::new(alloc, self.name)
+            .value_name(self.value)
+            .required(self.is_required)
+            .help(self.help);
+        match self.kind {
+            ValueKind::Text => arg.long(self.name),
+            ValueKind::Number { least, most } => arg
+                .long(self.name)
+                .value_parser(ValueParser::signed(i64::from(least), i64::from(most))),
+            ValueKind::Texts => arg.num_args(1..),
+        }
+    }
+}
+
+/// What a rehearsal takes.
+pub const REHEARSE: [Argument; 5] = [HOST, TIME, DOMAINS, BLOCKS, BOXES];
+
+/// What a server takes: what must be given, what may be, and the mailboxes.
+pub const SERVE: [Argument; 11] = [
+    HOST,
+    LISTEN,
+    DIR,
+    CONNECTIONS,
+    DOMAINS,
+    LANES,
+    BLOCKS,
+    CAPACITY,
+    READS,
+    TIMEOUT,
+    BOXES,
+];
+
+const HOST: Argument = Argument {
+    name: "host",
+    value: "HOST",
+    help: "The name of this host",
+    is_required: true,
+    kind: ValueKind::Text,
+};
+
+const LISTEN: Argument = Argument {
+    name: "listen",
+    value: "ADDRESS:PORT",
+    help: "Where to listen, such as 127.0.0.1:2003 or [::1]:2003; port 0 takes a free one, port 25 is refused",
+    is_required: true,
+    kind: ValueKind::Text,
+};
+
+const DIR: Argument = Argument {
+    name: "dir",
+    value: "FOLDER",
+    help: "The folder of the mailboxes, each a file BOX.mbox",
+    is_required: true,
+    kind: ValueKind::Text,
+};
+
+const CONNECTIONS: Argument = Argument {
+    name: "connections",
+    value: "N",
+    help: "How many conversations are served before the program ends, 1 to 1000000",
+    is_required: true,
+    kind: ValueKind::Number {
+        least: 1,
+        most: 1_000_000,
+    },
+};
+
+const TIME: Argument = Argument {
+    name: "time",
+    value: "SECONDS",
+    help: "The moment of each delivery, in seconds since 1970",
+    is_required: true,
+    kind: ValueKind::Number {
+        least: 0,
+        most: u32::MAX,
+    },
+};
+
+const DOMAINS: Argument = Argument {
+    name: "domains",
+    value: "DOMAIN,..",
+    help: "Further domains that are served here",
+    is_required: false,
+    kind: ValueKind::Text,
+};
+
+const LANES: Argument = Argument {
+    name: "lanes",
+    value: "LANES",
+    help: "Conversations at once, 1 to 16 [default: 4]",
+    is_required: false,
+    kind: ValueKind::Number {
+        least: 0,
+        most: u32::MAX,
+    },
+};
+
+const BLOCKS: Argument = Argument {
+    name: "blocks",
+    value: "BLOCKS",
+    help: "Blocks of 512 bytes for messages on their way, 1 to 65536 [default: 8192]",
+    is_required: false,
+    kind: ValueKind::Number {
+        least: 0,
+        most: u32::MAX,
+    },
+};
+
+const CAPACITY: Argument = Argument {
+    name: "capacity",
+    value: "COPIES",
+    help: "Copies that wait for a mailbox, 1 to 1024 [default: 16]",
+    is_required: false,
+    kind: ValueKind::Number {
+        least: 0,
+        most: u32::MAX,
+    },
+};
+
+const READS: Argument = Argument {
+    name: "reads",
+    value: "READS",
+    help: "Reads after which a conversation is stopped, 1 to 4294967294 [default: 1000000]",
+    is_required: false,
+    kind: ValueKind::Number {
+        least: 1,
+        most: 4_294_967_294,
+    },
+};
+
+const TIMEOUT: Argument = Argument {
+    name: "timeout",
+    value: "SECONDS",
+    help: "How long a client may say nothing, or take nothing, 1 to 86400 [default: 300]",
+    is_required: false,
+    kind: ValueKind::Number {
+        least: 1,
+        most: 86_400,
+    },
+};
+
+const BOXES: Argument = Argument {
+    name: "box",
+    value: "BOX",
+    help: "The mailboxes",
+    is_required: true,
+    kind: ValueKind::Texts,
+};
