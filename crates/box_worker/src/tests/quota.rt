@@ -110,6 +110,15 @@ fn a_worker_that_failed_says_so_of_each(rt: HostRuntime) -> Result<(), Fail> {
     Ok(())
 }
 
+#[test]
+fn a_copy_over_the_quota_is_told_before_the_spool_fails(rt: HostRuntime) -> Result<(), Fail> {
+    let spool = FailingSpool::new(rt.alloc(), 0)?;
+    let ran = run_under(&rt, rt.alloc(), spool, 188, true)?;
+    assert!(rt; ran.says([OVER, OVER, Outcome::Failed]) && ran.faulty);
+    assert_eq!(rt; ran.over, 2);
+    Ok(())
+}
+
 /// A spool that says that it holds very much. It keeps nothing, and its bytes end as they began.
 #[derive(Drop)]
 struct FarSpool {
