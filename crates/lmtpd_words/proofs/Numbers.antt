@@ -5,7 +5,7 @@ use Rattle.std.specs.Str.Parse.{ParsesUnsigned}
 use Rattle.std.proofs.lemmas.Result.{OkIff-at_err, OkIff-at_ok}
 use Rattle.clap.specs.Words.{ReadsOne, Text}
 use Rattle.std.specs.Option.{unwrap_or}
-use Rattle.lmtpd_words.specs.Words.{IsNumber, IsNumberOr, number}
+use Rattle.lmtpd_words.specs.Words.{IsByteCount, IsLimit, IsNumber, IsNumberOr, number}
 
 -- the number of a text, and none where it writes none
 pub number_read : {E : Type 0} (gives : Text → Result ℕ E → Type 0) → ((text : Text) (r : Result ℕ E) → gives text r → ParsesUnsigned 32 10 text r)
@@ -32,3 +32,16 @@ number_or_usual usual None None n h e = e
 number_or_usual usual None (Some m) n h e = cc
 number_or_usual usual (Some text) None n h e = λ is. absurd (h text refl is)
 number_or_usual usual (Some text) (Some m) n h e = λ is. cc
+
+-- the limit of bytes that a text names, and none where none is given
+pub limit_read : {E : Type 0} (gives : Text → Result ℕ E → Type 0) → ((text : Text) (r : Result ℕ E) → gives text r → ParsesUnsigned 64 10 text r)
+    → (given : Option Text) (r : Option ℕ) → (given ≡ None → r ≡ None) → ((text : Text) → given ≡ Some text → ReadsOne gives text r)
+    → IsLimit given r
+limit_read {E} gives parses None r none value = none refl
+limit_read {E} gives parses (Some t) None none value = λ is.
+    let got = value t refl in
+    let r : Result ℕ E = Err got.0 in
+    absurd (OkIff-at_err r (IsByteCount t) (number t) got.0 (parses t r got.1) refl is)
+limit_read {E} gives parses (Some t) (Some n) none value = λ is.
+    let r : Result ℕ E = Ok n in
+    ap Some (OkIff-at_ok r (IsByteCount t) (number t) n (parses t r (value t refl)) refl).1

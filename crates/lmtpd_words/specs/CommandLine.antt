@@ -16,6 +16,14 @@ number_rule name least most = record (new_rule name) {
   parser = Some (value.Signed (pos least) (pos most));
 }
 
+-- an argument `--NAME NUMBER` whose number is below 2^64
+abbrev pub bytes_rule : List ℕ → Rule
+bytes_rule name = record (new_rule name) {
+  long = Some name;
+  value_names = 1;
+  parser = Some (value.Unsigned 0 18446744073709551615);
+}
+
 -- an argument that must be given
 abbrev pub must : Rule → Rule
 must rule = record rule { required = true }
@@ -64,6 +72,9 @@ reads_rule = number_rule (codes "reads") 1 4294967294
 abbrev pub timeout_rule : Rule
 timeout_rule = number_rule (codes "timeout") 1 86400
 
+abbrev pub quota_rule : Rule
+quota_rule = bytes_rule (codes "quota")
+
 abbrev pub rehearse_app : App
 rehearse_app = with_rule (with_rule (with_rule (with_rule (with_rule (new_app (codes "rehearse")) host_rule) time_rule) domains_rule) blocks_rule) box_rule
 
@@ -72,7 +83,7 @@ abbrev pub required_app : App
 required_app = with_rule (with_rule (with_rule (with_rule (new_app (codes "serve")) host_rule) listen_rule) dir_rule) connections_rule
 
 abbrev pub serve_app : App
-serve_app = with_rule (with_rule (with_rule (with_rule (with_rule (with_rule (with_rule required_app domains_rule) lanes_rule) blocks_rule) capacity_rule) reads_rule) timeout_rule) box_rule
+serve_app = with_rule (with_rule (with_rule (with_rule (with_rule (with_rule (with_rule (with_rule required_app domains_rule) lanes_rule) blocks_rule) capacity_rule) reads_rule) timeout_rule) quota_rule) box_rule
 
 abbrev pub bare_app : App
 bare_app = record (new_app (codes "lmtpd")) { top = record (new_app (codes "lmtpd")).top { subcommand_required = true } }

@@ -26,6 +26,10 @@ number text = digits_value 10 (without_leading_plus text)
 abbrev pub IsNumber : Text → Type 0
 IsNumber text = IsNumeral 10 (without_leading_plus text) × (number text < 2 ^ 32)
 
+-- a text that writes a number below 2^64
+abbrev pub IsByteCount : Text → Type 0
+IsByteCount text = IsNumeral 10 (without_leading_plus text) × (number text < 2 ^ 64)
+
 -- the texts that commas join
 abbrev pub listed : Text → List Text
 listed text = slice_split (λ b. b == 44) text
@@ -34,6 +38,11 @@ listed text = slice_split (λ b. b == 44) text
 abbrev pub IsNumberOr : ℕ → Option Text → ℕ → Type 0
 IsNumberOr usual None n = n ≡ usual
 IsNumberOr usual (Some text) n = IsNumber text → n ≡ number text
+
+-- the limit of bytes that a text names, and none where none is given
+abbrev pub IsLimit : Option Text → Option ℕ → Type 0
+IsLimit None limit = limit ≡ None
+IsLimit (Some text) limit = IsByteCount text → limit ≡ Some (number text)
 
 -- the site that the values of the arguments name
 pub record IsSiteRead (rows : List Row) (words : SiteWords) : Type 0 where
@@ -58,6 +67,7 @@ pub record IsServeRead (rows : List Row) (words : ServeWords) : Type 0 where
   pub capacity : IsNumberOr DEFAULT_CAPACITY (one_of (codes "capacity") rows) words.capacity
   pub reads : IsNumberOr DEFAULT_READS (one_of (codes "reads") rows) words.reads
   pub timeout : IsNumberOr DEFAULT_TIMEOUT (one_of (codes "timeout") rows) words.timeout
+  pub quota : IsLimit (one_of (codes "quota") rows) words.quota
 
 -- an argument that must be given has no value, or no number
 abbrev pub LacksText : List ℕ → List Row → Type 0

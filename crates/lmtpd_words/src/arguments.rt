@@ -13,6 +13,8 @@ pub enum ValueKind {
     Text,
     /// A number in decimal within these bounds.
     Number { least: u32, most: u32 },
+    /// A number of bytes in decimal, below 2^64.
+    Bytes,
     /// One text or more, with no name before them.
     Texts,
 }
@@ -42,6 +44,9 @@ impl Argument {
             ValueKind::Number { least, most } => arg
                 .long(self.name)
                 .value_parser(ValueParser::signed(i64::from(least), i64::from(most))),
+            ValueKind::Bytes => arg
+                .long(self.name)
+                .value_parser(ValueParser::unsigned(0, u64::MAX)),
             ValueKind::Texts => arg.num_args(1..),
         }
     }
@@ -51,7 +56,7 @@ impl Argument {
 pub const REHEARSE: [Argument; 5] = [HOST, TIME, DOMAINS, BLOCKS, BOXES];
 
 /// What a server takes: what must be given, what may be, and the mailboxes.
-pub const SERVE: [Argument; 11] = [
+pub const SERVE: [Argument; 12] = [
     HOST,
     LISTEN,
     DIR,
@@ -62,6 +67,7 @@ pub const SERVE: [Argument; 11] = [
     CAPACITY,
     READS,
     TIMEOUT,
+    QUOTA,
     BOXES,
 ];
 
@@ -172,6 +178,14 @@ const TIMEOUT: Argument = Argument {
         least: 1,
         most: 86_400,
     },
+};
+
+const QUOTA: Argument = Argument {
+    name: "quota",
+    value: "BYTES",
+    help: "Bytes that a mailbox may hold; a letter that doesn't fit is refused [default: no limit]",
+    is_required: false,
+    kind: ValueKind::Bytes,
 };
 
 const BOXES: Argument = Argument {

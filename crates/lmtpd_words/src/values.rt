@@ -4,7 +4,7 @@ ghost use Rattle.std.specs.Prelude.{◌≡◌, [], codes, Some, IfOk, MatchOptio
 ghost use Rattle.clap.specs.Words.{Text, first_of, found_of, one_of, rows_of, subcommand_rows_of};
 ghost use Rattle.std.specs.Option.{option_map, option_map_or};
 ghost use Rattle.lmtp_text.specs.Sites.{texts};
-ghost use Rattle.lmtpd_words.specs.Words.{IsAsked, IsNumberOr, IsRehearseRead, IsServeRead, IsSiteRead};
+ghost use Rattle.lmtpd_words.specs.Words.{IsAsked, IsLimit, IsNumberOr, IsRehearseRead, IsServeRead, IsSiteRead};
 ghost use Rattle.lmtpd_words.specs.Words.{IsLacking, LacksNumber, LacksRehearse, LacksServe, LacksSite, number, listed};
 
 use crate::words::{
@@ -86,6 +86,7 @@ fn serve_words<'a>(
         capacity: number_or(matches, "capacity", DEFAULT_CAPACITY),
         reads: number_or(matches, "reads", DEFAULT_READS),
         timeout: number_or(matches, "timeout", DEFAULT_TIMEOUT),
+        quota: limit_of(matches, "quota"),
     }))
 }
 
@@ -124,6 +125,13 @@ fn number_or(matches: &ArgMatches<'_>, name: &str, usual: u32) -> u32
     ensures { IsNumberOr usual (one_of name.now (rows_of (found_of matches.now))) result }
 {
     number_of(matches, name).unwrap_or(usual)
+}
+
+// The limit of bytes that was given, and none where none was.
+fn limit_of(matches: &ArgMatches<'_>, name: &str) -> Option<u64>
+    ensures { IsLimit (one_of name.now (rows_of (found_of matches.now))) result }
+{
+    matches.get_one::<u64>(name)
 }
 
 fn domains_of<'a>(alloc: Global, matches: &ArgMatches<'a>) -> Result<Vec<&'a str>, AllocError>

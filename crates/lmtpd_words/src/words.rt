@@ -53,6 +53,8 @@ pub struct ServeWords<'a> {
     pub reads: u32,
     /// The seconds that a client may be silent.
     pub timeout: u32,
+    /// The bytes that a mailbox may hold, if there is a limit.
+    pub quota: Option<u64>,
 }
 
 /// What the program is asked to do.
