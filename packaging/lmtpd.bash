@@ -1,7 +1,7 @@
 # What bash completes of the words of lmtpd.
 _lmtpd() {
     local serve rehearse word=${COMP_WORDS[COMP_CWORD]} before=${COMP_WORDS[COMP_CWORD - 1]}
-    serve='--host --listen --dir --connections --domains --lanes --blocks --capacity --reads --timeout --help'
+    serve='--host --listen --dir --connections --domains --lanes --blocks --capacity --reads --timeout --quota --help'
     rehearse='--host --time --domains --blocks --help'
     COMPREPLY=()
     if [ "$before" = --dir ]; then

@@ -9,7 +9,7 @@ import subprocess
 
 import letters
 from cases import Absent, case, equal
-from clients import deliver_one
+from clients import Client, deliver_one
 from server import Server
 
 HARD_LINES = ["Subject: hard lines", "", "From here on", ">From there", "..a dot", "", "\ta tab", "end", ""]
@@ -126,3 +126,29 @@ def more_domains(folder):
                 client.mail("carl@a.example")
                 equal((domain, client.rcpt(f"anna@{domain}")[0]), (domain, code))
                 client.rset()
+
+
+@case
+def a_quota_is_kept(folder):
+    """--quota: the letter that fits to the byte is stored, the next one is refused, also once the server was started anew"""
+    stored, over = "250 2.0.0 Stored for anna", "452 4.2.2 Over quota for anna"
+    lines = ["Subject: hi", "", "hello"]
+    with Server(folder, ["anna"], 1, "--lanes", 1) as server:
+        equal(deliver_one(server.address, ["anna"], *lines), [stored])
+        server.end()
+    mailbox = folder / "anna.mbox"
+    size = len(mailbox.read_bytes())
+    with Server(folder, ["anna", "ben"], 1, "--lanes", 1, "--quota", 2 * size) as server:
+        with Client(server.address).greet() as client:
+            finals = [client.deliver(["anna"], *lines)[1] for _ in range(2)]
+            equal(finals, [[stored], [over]])
+            equal(client.deliver(["anna", "ben"], *lines)[1], [over, "250 2.0.0 Stored for ben"])
+            client.quit()
+        equal(vars(server.end()), {"status": 0, "said": ["anna stored 1", "ben stored 1"], "errors": []})
+    equal(len(mailbox.read_bytes()), 2 * size)
+    for quota in [2 * size, 3 * size - 1, size, 0]:
+        with Server(folder, ["anna"], 1, "--lanes", 1, "--quota", quota) as server:
+            equal(deliver_one(server.address, ["anna"], *lines), [over])
+            equal(vars(server.end()), {"status": 0, "said": ["anna stored 0"], "errors": []})
+    equal(len(mailbox.read_bytes()), 2 * size)
+    equal(len(letters.read(mailbox)), 2)

@@ -80,7 +80,7 @@ IsAddress text = (address : SocketAddr) × IsSocketText text address × (socket_
 
 -- the sizes that the words of a server ask for: a slot for each lane
 abbrev pub sizes_asked : ServeWords → Sizes
-sizes_asked words = record { blocks = words.blocks; slots = words.lanes; capacity = words.capacity; quota = None }
+sizes_asked words = record { blocks = words.blocks; slots = words.lanes; capacity = words.capacity; quota = words.quota }
 
 abbrev pub IsSizeAsked : ServeWords → Type 0
 IsSizeAsked words =
@@ -93,7 +93,7 @@ pub record IsServedAsAsked (L : Type 0) {S : Type 0} (state : S → SpoolState) 
   pub sizes : IsSizeAsked words
   pub spools : List S
   pub each_box : length spools ≡ length words.site.boxes.items
-  pub ran : IsServerRun L (named_site words.site) state (record { lanes = words.lanes; quota = None }) spools served
+  pub ran : IsServerRun L (named_site words.site) state (record { lanes = words.lanes; quota = words.quota }) spools served
 
 -- why none ran though its site is sound: a mailbox's file, the listener, or the server
 abbrev pub IsNotServedAt : ServeWords → Stop → Type 0

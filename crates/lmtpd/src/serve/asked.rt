@@ -103,6 +103,6 @@ fn sizes_asked(words: &ServeWords<'_>) -> Sizes
         blocks: words.blocks,
         slots: words.lanes,
         capacity: words.capacity,
-        quota: None,
+        quota: words.quota,
     }
 }
