@@ -3,7 +3,8 @@
 # these crates, refuses one allocation after another (tests/memory/refuse.c, preloaded): a maker's is answered
 # AllocError (a list's of the test itself AllocFailed), and once these are past the test ends well and asks for no
 # more. A call that has no such answer would fail in another way. Left out are tests with threads of their own, since
-# a thread's start takes memory too, and one whose gate and spool note what they are asked.
+# a thread's start takes memory too, one whose gate and spool note what they are asked, and one that makes the spools of
+# another 600 times over.
 set -euo pipefail
 cd "$(dirname "$0")/.."
 . tests/needs cc
@@ -23,7 +24,7 @@ refuses() {
     [ -s "$folder/told" ]
 }
 
-left_out='threads|sealed_here_and_read_there|a_full_channel_waits|each_copy_goes_its_way'
+left_out='threads|sealed_here_and_read_there|a_full_channel_waits|each_copy_goes_its_way|each_quota_is_kept'
 for crate in block_arena msg_depot mail_post box_worker; do
     program=crates/$crate/out/${crate}_tests
     [ -x "$program" ] || (cd "crates/$crate" && rt test) > "$folder/log" 2>&1 || { cat "$folder/log"; exit 1; }
