@@ -5,9 +5,10 @@ set -euo pipefail
 cd "$(dirname "$0")/../.."
 copy=$(mktemp -d)
 trap 'rm -rf "$copy"' EXIT
-git ls-files -z | xargs -0 cp --parents -t "$copy"
-for out in crates/*/out; do
-    cp -a "$out" "$copy/$out"
+git ls-files -z | xargs -0 cp -p --parents -t "$copy"
+for built in crates/*/out/rlib; do
+    mkdir -p "$copy/${built%/rlib}"
+    cp -a "$built" "$copy/$built"
 done
 python3 tests/wrong_bodies/apply.py . "$copy"
 cd "$copy"
