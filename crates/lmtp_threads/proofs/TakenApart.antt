@@ -1,5 +1,5 @@
 -- Reports that are taken apart one after another, with a list for each of their parts.
-use Rattle.std.proofs.Common.{◌≡◌, ◌+◌, ◌<◌, ◌≤◌, Bool, false, ◌||◌, ℕ, List, [], ◌∷◌, ◌++◌, length, map, ap, refl, arith}
+use Rattle.std.proofs.Common.{◌≡◌, ◌+◌, ◌<◌, ◌≤◌, Bool, false, ◌||◌, ℕ, List, [], ◌∷◌, ◌++◌, length, map, ap, arith}
 use Rattle.std.specs.List.{AllByRecursion}
 use Rattle.thread_crew.proofs.MovedLists.{move_one, moved_all, count_one_more, neither}
 

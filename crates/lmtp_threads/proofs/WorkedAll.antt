@@ -7,7 +7,6 @@ use Rattle.std.proofs.lemmas.Option.{slice_get_within}
 use Rattle.mail_world.specs.declared.Note.{Note}
 use Rattle.mail_world.specs.declared.Slip.{Slip}
 use Rattle.mail_world.specs.Site.{Site}
-use Rattle.lmtp_text.specs.Calendar.{civil_at}
 use Rattle.mbox_rd.specs.Spool.{SpoolState}
 use Rattle.mail_post.specs.Channel.{Channel, Sender, Inbox, taken}
 use Rattle.box_worker.specs.Told.{worker_of, owed_to}
