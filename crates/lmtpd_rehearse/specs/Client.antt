@@ -1,5 +1,5 @@
 -- What a lane sees of its only client.
-use Rattle.std.specs.Prelude.{◌≡◌, Bool, true, false, List, [], ◌∷◌, Option, Some}
+use Rattle.std.specs.Prelude.{◌≡◌, Bool, true, false, List, [], ◌∷◌, Some}
 use Rattle.lmtp_talk.specs.Peer.{PeerState}
 use Rattle.lmtp_lane.specs.Visits.{VisitsTold}
 use Rattle.lmtpd_rehearse.specs.declared.client.OnlyClient.{OnlyClient}
