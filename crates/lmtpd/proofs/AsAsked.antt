@@ -1,5 +1,5 @@
 -- A server that words ask for: what it comes to, and why it didn't run, cause by cause.
-use Rattle.std.proofs.Common.{◌≡◌, ◌⊎◌, inl, inr, ℕ, List, length, Some, None, refl, ap, sym, subst}
+use Rattle.std.proofs.Common.{◌≡◌, ◌⊎◌, inl, inr, ℕ, List, length, None, ap, sym, subst}
 use Rattle.std.specs.Prelude.{Err, Ok, Result}
 use Rattle.mail_world.specs.Site.{Site}
 use Rattle.mbox_rd.specs.Spool.{SpoolState}

@@ -1,6 +1,5 @@
 -- What the definitions of faults give, by computing: a row for each case that no run of the program reaches as easily.
 use Rattle.std.proofs.Common.{◌≡◌, refl, Bool, true, false, [], Some, None, codes}
-use Rattle.mail_world.specs.Site.{Site}
 use Rattle.lmtp_talk.specs.declared.ending.EndCause.{EndCause}
 use Rattle.lmtp_talk.specs.declared.ending.EndCause.TheVariants.{EndOfInput, Quit, ReadFault, WriteFault}
 use Rattle.lmtpd_rehearse.specs.declared.ending.Ending.{Ending}

@@ -4,11 +4,10 @@ use Rattle.std.specs.Prelude.{◌≡◌, ◌≢◌, ◌⊎◌, ℕ, true, List, 
 use Rattle.std.specs.Net.Socket.{socket_port}
 use Rattle.std.specs.Net.Grammar.{IsSocketText}
 use Rattle.std.specs.declared.net.SocketAddr.{SocketAddr}
-use Rattle.clap.specs.Words.{Row, Text, kind_of, subcommand_of, takes}
+use Rattle.clap.specs.Words.{Text, kind_of, subcommand_of, takes}
 use Rattle.clap.specs.declared.error.Error.{Error}
 use Rattle.clap.specs.declared.error.kind.ErrorKind.TheVariants.{OutOfMemory}
 use Rattle.mail_world.specs.Text.{lf}
-use Rattle.mail_world.specs.Site.{Site}
 use Rattle.mbox_rd.specs.Spool.{SpoolState}
 use Rattle.lmtp_house.specs.House.{IsSize}
 use Rattle.lmtp_house.specs.declared.house.sizes.Sizes.{Sizes}
@@ -21,7 +20,6 @@ use Rattle.lmtpd.specs.Address.{IsRefused}
 use Rattle.lmtpd.specs.Faults.{fault_text, first_fault, rehearsal_fault, server_fault, status_of, stop_for, stop_status}
 use Rattle.lmtpd_rehearse.specs.Rehearsal.{IsBlockCount, IsRehearsed, Streams}
 use Rattle.lmtpd_serve.specs.Served.{IsServerRun}
-use Rattle.lmtpd.specs.Unopened.{IsUnopened}
 use Rattle.lmtpd.specs.declared.fault.Fault.{Fault}
 use Rattle.lmtpd.specs.declared.fault.Fault.TheVariants as fault
 use Rattle.lmtpd.specs.declared.program.Done.{Done}
