@@ -6,6 +6,7 @@ import smtplib
 import socket
 import stat
 import subprocess
+from concurrent.futures import ThreadPoolExecutor
 
 import letters
 from cases import Absent, case, equal
@@ -152,3 +153,29 @@ def a_quota_is_kept(folder):
             equal(vars(server.end()), {"status": 0, "said": ["anna stored 0"], "errors": []})
     equal(len(mailbox.read_bytes()), 2 * size)
     equal(len(letters.read(mailbox)), 2)
+
+
+@case
+def lanes_share_a_quota(folder):
+    """two lanes at one mailbox whose quota lets half of their letters in: as many are told Stored as are read back"""
+    lines, count = ["Subject: hi", "", "hello"], 8
+    with Server(folder, ["anna"], 1, "--lanes", 1) as server:
+        deliver_one(server.address, ["anna"], *lines)
+        server.end()
+    mailbox = folder / "anna.mbox"
+    size = len(mailbox.read_bytes())
+    mailbox.write_bytes(b"")
+
+    def deliver_all(address):
+        with Client(address).greet() as client:
+            finals = [client.deliver(["anna"], *lines)[1] for _ in range(count)]
+            client.quit()
+        return [reply for replies in finals for reply in replies]
+
+    with Server(folder, ["anna"], 2, "--lanes", 2, "--quota", count * size) as server:
+        with ThreadPoolExecutor(2) as pool:
+            told = sum(pool.map(deliver_all, [server.address] * 2), [])
+        equal(vars(server.end()), {"status": 0, "said": [f"anna stored {count}"], "errors": []})
+    told_stored = told.count("250 2.0.0 Stored for anna")
+    equal((told_stored, told.count("452 4.2.2 Over quota for anna")), (count, count))
+    equal((len(letters.read(mailbox)), len(mailbox.read_bytes())), (count, count * size))
