@@ -6,6 +6,8 @@
 #   smtp-sink  Postfix's `smtp-sink -L`: the protocol, and nothing is stored
 #   dovecot    Dovecot's LMTP over mbox, mail_fsync=optimized, with a process for each connection
 #   ours       `serve` with 4 lanes and 8,192 blocks
+#   quota      the same with a quota that every letter fits, so that each record is measured before it is written;
+#              only where it is named
 # The works, by bench/serve/load.rs, which checks each reply:
 #   a, a1      4 connections, 2 KiB, one recipient: a mailbox each, and one for all
 #   b, b10     4 connections, 20 KiB, ten recipients: of 40 mailboxes, and the same ten for all

@@ -74,9 +74,10 @@ class Server:
         self.store = folder / "store"
         self.store.mkdir(parents=True)
         self.log = folder / "output"
-        self.port = 0 if name == "ours" else free_port()
+        self.port = 0 if name in ("ours", "quota") else free_port()
         words_of = {
             "ours": self.ours,
+            "quota": self.quota,
             "plain": self.plain,
             "smtp-sink": self.smtp_sink,
             "dovecot": self.dovecot,
@@ -106,6 +107,9 @@ class Server:
         boxes = [f"u{number}" for number in range(40)]
         words = ["--host", "mx.example", "--listen", "127.0.0.1:0", "--dir", str(self.store)]
         return [os.environ["LMTPD"], "serve", *words, "--connections", "1000000", *boxes]
+
+    def quota(self, folder, preload):
+        return [*self.ours(folder, preload), "--quota", str(2**64 - 1)]
 
     def plain(self, folder, _preload):
         return [str(folder.parent / "plain"), str(self.store), self.address]
