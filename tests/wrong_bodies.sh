@@ -3,4 +3,5 @@
 # tests/wrong_bodies, which `make wrong-bodies` tries (the prover takes half a minute for each).
 set -euo pipefail
 cd "$(dirname "$0")/.."
+. tests/needs python3
 python3 tests/wrong_bodies/apply.py .

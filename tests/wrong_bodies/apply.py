@@ -10,7 +10,7 @@ def fault_of(edit, crate):
     path, old, texts = None, None, {}
     for line in edit.read_text(encoding="utf-8").splitlines():
         word, _, rest = line.partition(":")
-        rest = rest.removeprefix(" ")
+        rest = rest[1:] if rest.startswith(" ") else rest
         if word == "file":
             path = rest.strip()
         elif word == "old":

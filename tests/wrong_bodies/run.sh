@@ -3,6 +3,7 @@
 # (make check). Each must be refused. usage: tests/wrong_bodies/run.sh [CRATE..]
 set -euo pipefail
 cd "$(dirname "$0")/../.."
+. tests/needs git python3
 copy=$(mktemp -d)
 trap 'rm -rf "$copy"' EXIT
 git ls-files -z | xargs -0 cp -p --parents -t "$copy"

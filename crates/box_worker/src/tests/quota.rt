@@ -149,8 +149,8 @@ impl Spool for FarSpool {
 
 #[test]
 fn counts_near_the_largest_are_exact(rt: HostRuntime) -> Result<(), Fail> {
-    // how many bytes below the largest count a spool holds, how its bytes end, the quota below that, and how many copies
-    // are stored
+    // how many bytes below the largest count a spool holds, how its bytes end, the quota below that, and how many
+    // copies are stored
     let table = [
         (0, Tail::TwoLf, 0, 0),
         (188, Tail::TwoLf, 0, 0),
