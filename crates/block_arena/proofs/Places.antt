@@ -8,7 +8,7 @@ use Rattle.block_arena.specs.declared.slot.Run.{Run}
 use Rattle.block_arena.specs.declared.slot.Place.{Place}
 use Rattle.block_arena.specs.declared.slot.Content.TheVariants.{Sealed}
 use Rattle.block_arena.specs.declared.slot.Slot.{Slot}
-use Rattle.block_arena.specs.Fields.{ArenaFields, chain, node, blocks_in, held, depot_of, reading, IsPlace, IsContent, IsRun, IsArena, IsReadable}
+use Rattle.block_arena.specs.Fields.{ArenaFields, chain, node, blocks_in, held, depot_of, run_read_at, IsPlace, IsContent, IsRun, IsArena, IsReadable}
 use Rattle.block_arena.proofs.Slots.{slot_at, relabelled, all_at}
 use Rattle.block_arena.proofs.Seen.{Sees, stands}
 use Rattle.block_arena.proofs.Labels.{held_behind, set_same}
@@ -54,17 +54,17 @@ block_there next run at p e = sym p.is ∙ ap (λ i. node i next run.first) e
 
 -- a message is read at another place: the depot stays as it is
 pub read_arena : (key : Key) (depot : d.Depot) (a : ArenaFields) (run : Run) (holds : ℕ) (place : Place) → Sees key depot a (Sealed run holds) → IsPlace a.next run place
-    → IsArena (record a { slots = slice_set a.slots key.slot (slot_at key.generation (Sealed (reading run place) holds)) })
+    → IsArena (record a { slots = slice_set a.slots key.slot (slot_at key.generation (Sealed (run_read_at run place) holds)) })
 read_arena key depot a run holds place s p =
     let was : slice_get a.slots key.slot ≡ Some (slot_at key.generation (Sealed run holds)) = stands key depot a (Sealed run holds) s (λ e. cc) in
     let is : IsRun a.next run = all_at (λ (slot : Slot). IsContent a.next slot.content) a.slots key.slot (slot_at key.generation (Sealed run holds)) s.arena.runs was in
-    relabelled a key.slot (slot_at key.generation (Sealed run holds)) (slot_at key.generation (Sealed (reading run place) holds)) s.arena was refl
+    relabelled a key.slot (slot_at key.generation (Sealed run holds)) (slot_at key.generation (Sealed (run_read_at run place) holds)) s.arena was refl
     (record { enough = is.enough; last = is.last; read = record { is = p.is; within = p.within } }) refl refl
 
 pub read_kept : (key : Key) (depot : d.Depot) (a : ArenaFields) (run : Run) (holds : ℕ) (place : Place) → Sees key depot a (Sealed run holds)
-    → depot_of (record a { slots = slice_set a.slots key.slot (slot_at key.generation (Sealed (reading run place) holds)) }) ≡ depot
+    → depot_of (record a { slots = slice_set a.slots key.slot (slot_at key.generation (Sealed (run_read_at run place) holds)) }) ≡ depot
 read_kept key depot a run holds place s =
-    held_behind key depot a (Sealed run holds) (Sealed (reading run place) holds) s
+    held_behind key depot a (Sealed run holds) (Sealed (run_read_at run place) holds) s
     ∙ ap (λ (ss : List d.Slot). record { slots = ss; free = depot.free })
     (set_same depot.slots key.slot (record { generation = key.generation; held = held a.store a.next (Sealed run holds) }) (depot_there key depot a (Sealed run holds) s (λ e. cc)))
 
@@ -73,7 +73,7 @@ pub place_read : (key : Key) (depot : d.Depot) (a : ArenaFields) (run : Run) (ho
 place_read key depot a run holds s =
     all_at (λ (slot : Slot). IsContent a.next slot.content) a.slots key.slot (slot_at key.generation (Sealed run holds)) s.arena.runs (stands key depot a (Sealed run holds) s (λ e. cc))
 
-pub read_on : (store : List (List ℕ)) (next : List ℕ) (run : Run) (place : Place) → IsReadable store next run → IsReadable store next (reading run place)
+pub read_on : (store : List (List ℕ)) (next : List ℕ) (run : Run) (place : Place) → IsReadable store next run → IsReadable store next (run_read_at run place)
 read_on store next run place r = record { sizes = r.sizes; count = r.count; low = r.low; enough = r.enough }
 
 pub block_at_byte : (run : Run) (at : ℕ) → run.length ≤ BLOCK_SIZE * run.blocks → at < run.length → at / BLOCK_SIZE < run.blocks

@@ -118,8 +118,8 @@ abbrev pub longer : Run → ℕ → Run
 longer run n = record { first = run.first; last = run.last; blocks = run.blocks; length = run.length + n; read = run.read }
 
 -- the same run, read at another place
-abbrev pub reading : Run → Place → Run
-reading run place = record { first = run.first; last = run.last; blocks = run.blocks; length = run.length; read = place }
+abbrev pub run_read_at : Run → Place → Run
+run_read_at run place = record { first = run.first; last = run.last; blocks = run.blocks; length = run.length; read = place }
 
 -- a run with a block more behind its last, and the links that make it one
 abbrev pub linked_run : Run → ℕ → Run

@@ -11,7 +11,7 @@ use Rattle.lmtp_wire.specs.declared.dot.Place.{Place}
 use Rattle.lmtp_wire.specs.declared.dot.Place.TheVariants.{InText, BehindCr, LineStart, BehindDot, BehindDotCr}
 use Rattle.lmtp_wire.specs.declared.dot.Effect.{Effect}
 use Rattle.lmtp_wire.specs.declared.dot.Effect.TheVariants.{Nothing, Byte, HeldCr, End}
-use Rattle.lmtp_wire.specs.Place.{came, in_doubt, held_back, is_cr, is_start, is_dot, begun, effect_of, without_dots_at, moved, IsAtPlace, IsDataEnd}
+use Rattle.lmtp_wire.specs.Place.{came, in_doubt, held_back, is_cr, is_start, is_dot, place_behind, effect_of, without_dots_at, moved, IsAtPlace, IsDataEnd}
 use Rattle.lmtp_wire.proofs.EndSteps.{end_in, text_other, cr_again, cr_other, start_cr, start_other, dot_other, dot_cr_again, dot_cr_other, moved_more, moved_none, moved_some}
 use Rattle.lmtp_wire.proofs.LastBytes.{eqb_comm, ends_more, fades, fades_cr}
 
@@ -295,44 +295,44 @@ begun_by p taken b false e s again other none =
     let f : (cr == b) ≡ false = eqb_comm cr b ∙ e in
     adds_byte p InText taken b s (other e f) refl refl (ap (λ x. x && (cr == b)) none)
 
-adds_text : (taken : List ℕ) (b : ℕ) → IsAtPlace InText taken → Adds (begun b) taken b (b ∷ [])
+adds_text : (taken : List ℕ) (b : ℕ) → IsAtPlace InText taken → Adds (place_behind b) taken b (b ∷ [])
 adds_text taken b s = begun_by InText taken b (b == cr) refl s step_text_cr (step_text b) refl
 
-adds_behind_cr : (taken : List ℕ) (b : ℕ) → (b == lf) ≡ false → IsAtPlace BehindCr taken → Adds (begun b) taken b (b ∷ [])
+adds_behind_cr : (taken : List ℕ) (b : ℕ) → (b == lf) ≡ false → IsAtPlace BehindCr taken → Adds (place_behind b) taken b (b ∷ [])
 adds_behind_cr taken b other s =
     begun_by BehindCr taken b (b == cr) refl s step_cr_cr (step_cr b (eqb_comm lf b ∙ other) other) refl
 
 adds_lf : (taken : List ℕ) → IsAtPlace BehindCr taken → Adds LineStart taken lf (lf ∷ [])
 adds_lf taken s = adds_byte BehindCr LineStart taken lf s step_cr_lf refl refl refl
 
-adds_start : (taken : List ℕ) (b : ℕ) → (b == dot) ≡ false → IsAtPlace LineStart taken → Adds (begun b) taken b (b ∷ [])
+adds_start : (taken : List ℕ) (b : ℕ) → (b == dot) ≡ false → IsAtPlace LineStart taken → Adds (place_behind b) taken b (b ∷ [])
 adds_start taken b other s =
     begun_by LineStart taken b (b == cr) refl s step_start_cr (step_start b (eqb_comm dot b ∙ other) other) refl
 
-adds_behind_dot : (taken : List ℕ) (b : ℕ) → (b == cr) ≡ false → IsAtPlace BehindDot taken → Adds (begun b) taken b (b ∷ [])
+adds_behind_dot : (taken : List ℕ) (b : ℕ) → (b == cr) ≡ false → IsAtPlace BehindDot taken → Adds (place_behind b) taken b (b ∷ [])
 adds_behind_dot taken b other s =
     let f : (cr == b) ≡ false = eqb_comm cr b ∙ other in
     let P : Bool → Type 0 = λ x. Adds (cond x BehindCr InText) taken b (b ∷ []) in
     subst P (sym other) (adds_byte BehindDot InText taken b s (step_behind_dot b other f) refl refl f)
 
-adds_behind_dot_cr : (taken : List ℕ) (b : ℕ) → (b == lf) ≡ false → IsAtPlace BehindDotCr taken → Adds (begun b) taken b (cr ∷ b ∷ [])
+adds_behind_dot_cr : (taken : List ℕ) (b : ℕ) → (b == lf) ≡ false → IsAtPlace BehindDotCr taken → Adds (place_behind b) taken b (cr ∷ b ∷ [])
 adds_behind_dot_cr taken b other s =
     begun_by BehindDotCr taken b (b == cr) refl s step_dot_cr_cr (step_dot_cr b (eqb_comm lf b ∙ other) other) refl
 
 -- the tests of a byte
-by_lf : (taken : List ℕ) (b : ℕ) (t : Bool) → (b == lf) ≡ t → IsAtPlace BehindCr taken → Brings taken b (cond t (Byte LineStart) (Byte (begun b)))
+by_lf : (taken : List ℕ) (b : ℕ) (t : Bool) → (b == lf) ≡ t → IsAtPlace BehindCr taken → Brings taken b (cond t (Byte LineStart) (Byte (place_behind b)))
 by_lf taken b true e s = let P : ℕ → Type 0 = λ x. Adds LineStart taken x (x ∷ []) in subst P (sym (eqb-true b lf e)) (adds_lf taken s)
 by_lf taken b false e s = adds_behind_cr taken b e s
 
-by_dot : (taken : List ℕ) (b : ℕ) (t : Bool) → (b == dot) ≡ t → IsAtPlace LineStart taken → Brings taken b (cond t (Nothing BehindDot) (Byte (begun b)))
+by_dot : (taken : List ℕ) (b : ℕ) (t : Bool) → (b == dot) ≡ t → IsAtPlace LineStart taken → Brings taken b (cond t (Nothing BehindDot) (Byte (place_behind b)))
 by_dot taken b true e s = let P : ℕ → Type 0 = λ x. Adds BehindDot taken x [] in subst P (sym (eqb-true b dot e)) (adds_dot taken s)
 by_dot taken b false e s = adds_start taken b e s
 
-by_cr : (taken : List ℕ) (b : ℕ) (t : Bool) → (b == cr) ≡ t → IsAtPlace BehindDot taken → Brings taken b (cond t (Nothing BehindDotCr) (Byte (begun b)))
+by_cr : (taken : List ℕ) (b : ℕ) (t : Bool) → (b == cr) ≡ t → IsAtPlace BehindDot taken → Brings taken b (cond t (Nothing BehindDotCr) (Byte (place_behind b)))
 by_cr taken b true e s = let P : ℕ → Type 0 = λ x. Adds BehindDotCr taken x [] in subst P (sym (eqb-true b cr e)) (adds_held taken s)
 by_cr taken b false e s = adds_behind_dot taken b e s
 
-by_last_lf : (taken : List ℕ) (b : ℕ) (t : Bool) → (b == lf) ≡ t → IsAtPlace BehindDotCr taken → Brings taken b (cond t End (HeldCr (begun b)))
+by_last_lf : (taken : List ℕ) (b : ℕ) (t : Bool) → (b == lf) ≡ t → IsAtPlace BehindDotCr taken → Brings taken b (cond t End (HeldCr (place_behind b)))
 by_last_lf taken b true e s = let P : ℕ → Type 0 = λ x. IsDataEnd (taken ++ x ∷ []) (shown taken) in subst P (sym (eqb-true b lf e)) (ends_data taken s)
 by_last_lf taken b false e s = adds_behind_dot_cr taken b e s
 

@@ -53,16 +53,16 @@ is_dot BehindDot = true
 is_dot BehindDotCr = false
 
 -- where data stands behind a byte that doesn't go on with an end
-abbrev pub begun : ℕ → Place
-begun byte = if byte == cr then BehindCr else InText
+abbrev pub place_behind : ℕ → Place
+place_behind byte = if byte == cr then BehindCr else InText
 
 -- what a byte makes of the message, and where it leaves the data
 abbrev pub effect_of : Place → ℕ → Effect
-effect_of InText byte = Byte (begun byte)
-effect_of BehindCr byte = if byte == lf then Byte LineStart else Byte (begun byte)
-effect_of LineStart byte = if byte == dot then Nothing BehindDot else Byte (begun byte)
-effect_of BehindDot byte = if byte == cr then Nothing BehindDotCr else Byte (begun byte)
-effect_of BehindDotCr byte = if byte == lf then End else HeldCr (begun byte)
+effect_of InText byte = Byte (place_behind byte)
+effect_of BehindCr byte = if byte == lf then Byte LineStart else Byte (place_behind byte)
+effect_of LineStart byte = if byte == dot then Nothing BehindDot else Byte (place_behind byte)
+effect_of BehindDot byte = if byte == cr then Nothing BehindDotCr else Byte (place_behind byte)
+effect_of BehindDotCr byte = if byte == lf then End else HeldCr (place_behind byte)
 
 -- the text behind that place, without its dots
 abbrev pub without_dots_at : Place → List ℕ → List ℕ

@@ -2,7 +2,7 @@
 
 ghost use Rattle.std.specs.Prelude.{◌≡◌, ℕ, ◌+◌, ◌<◌, ◌≤◌, Bool, false, List, [], ◌∷◌, ◌++◌, length, take, drop};
 ghost use Rattle.mail_world.specs.Text.{cr, has_byte};
-ghost use Rattle.lmtp_wire.specs.Place.{begun, effect_of};
+ghost use Rattle.lmtp_wire.specs.Place.{place_behind, effect_of};
 ghost use Rattle.lmtp_wire.specs.Dot.{HasMade, HasFed, Feeds, owed_bytes};
 
 #[cfg(test)]
@@ -263,29 +263,29 @@ fn step(place: Place, byte: u8) -> Effect
     ensures { result ≡ effect_of place byte }
 {
     match place {
-        Place::InText => Effect::Byte(begun(byte)),
+        Place::InText => Effect::Byte(place_behind(byte)),
         Place::BehindCr => match byte {
             LF => Effect::Byte(Place::LineStart),
-            _ => Effect::Byte(begun(byte)),
+            _ => Effect::Byte(place_behind(byte)),
         },
         Place::LineStart => match byte {
             DOT => Effect::Nothing(Place::BehindDot),
-            _ => Effect::Byte(begun(byte)),
+            _ => Effect::Byte(place_behind(byte)),
         },
         Place::BehindDot => match byte {
             CR => Effect::Nothing(Place::BehindDotCr),
-            _ => Effect::Byte(begun(byte)),
+            _ => Effect::Byte(place_behind(byte)),
         },
         Place::BehindDotCr => match byte {
             LF => Effect::End,
-            _ => Effect::HeldCr(begun(byte)),
+            _ => Effect::HeldCr(place_behind(byte)),
         },
     }
 }
 
 // Where data stands behind a byte that doesn't go on with an end of data.
-fn begun(byte: u8) -> Place
-    ensures { result ≡ begun byte }
+fn place_behind(byte: u8) -> Place
+    ensures { result ≡ place_behind byte }
 {
     match byte {
         CR => Place::BehindCr,

@@ -10,7 +10,7 @@ use Rattle.mail_world.specs.Reading.{Letter, IsLetter, AreLetters, letter_text, 
 use Rattle.mail_world.proofs.OneReading.{lines-each, quoted-each}
 use Rattle.mail_world.proofs.OneLine.{literal}
 use Rattle.mail_world.proofs.Places.{begins_with-front, begins_with-append}
-use Rattle.mbox_rd.specs.Letters.{is_boundary, letter_of, IsLineCut, IsBodyRead, IsLetterRead}
+use Rattle.mbox_rd.specs.Letters.{is_boundary, letter_headed, IsLineCut, IsBodyRead, IsLetterRead}
 use Rattle.mbox_rd.proofs.Bodies.{begins_from, same_cut, has_lf, tail-cons, inside, IsTail, IsTail-inside, IsTail-next}
 
 -- the text of a letter, its head first
@@ -25,10 +25,10 @@ behind_from text e = begins_with-front (codes "From ") text e ∙ ap (λ l. code
 
 -- a letter that is read is its head's line and its body's
 pub IsLetterRead-lines : (text head lines body rest : List ℕ) → begins_from text ≡ true → IsLineCut (take (length text - 5) (drop 5 text)) head lines → IsBodyRead lines body rest
-    → IsLetterRead text (letter_of head body) rest
+    → IsLetterRead text (letter_headed head body) rest
 IsLetterRead-lines text head lines body rest e cut read = record {
   is = record { head = cut.one; body = read.lines };
-  whole = behind_from text e ∙ ap (λ l. codes "From " ++ l) (cut.whole ∙ ap (λ l. head ++ lf ∷ l) read.whole) ∙ sym (letter-lines (letter_of head body) rest);
+  whole = behind_from text e ∙ ap (λ l. codes "From " ++ l) (cut.whole ∙ ap (λ l. head ++ lf ∷ l) read.whole) ∙ sym (letter-lines (letter_headed head body) rest);
   ends = read.ends;
 }
 

@@ -5,8 +5,8 @@ use Rattle.mail_world.specs.Text.{lf, begins_with, IsOneLine, EmptyOrEndsIn}
 use Rattle.mail_world.specs.Records.{is_from_line, quoted_text}
 use Rattle.mail_world.specs.Reading.{Letter, IsLetter, letter_text}
 
-abbrev pub letter_of : List ℕ → List ℕ → Letter
-letter_of first rest = record { head = first; body = rest }
+abbrev pub letter_headed : List ℕ → List ℕ → Letter
+letter_headed first rest = record { head = first; body = rest }
 
 -- where a letter may begin and the one before it end: nothing follows, or a From line does
 abbrev pub is_boundary : List ℕ → Bool

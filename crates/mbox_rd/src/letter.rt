@@ -2,7 +2,7 @@
 ghost use Rattle.std.specs.Prelude.{◌≡◌, ◌++◌, [], ◌∷◌};
 ghost use Rattle.mail_world.specs.Text.{lf, IsOneLine, EmptyOrEndsIn};
 ghost use Rattle.mail_world.specs.Reading.{IsLetter};
-ghost use Rattle.mbox_rd.specs.Letters.{letter_of};
+ghost use Rattle.mbox_rd.specs.Letters.{letter_headed};
 
 use std::marker::Model;
 
@@ -28,7 +28,7 @@ impl Letter {
     pub(crate) fn new(head: Vec<u8>, body: Vec<u8>) -> Letter
         requires one_line { IsOneLine head.items }
         requires lines { EmptyOrEndsIn (lf ∷ []) body.items }
-        ensures { result ≡ letter_of head.items body.items }
+        ensures { result ≡ letter_headed head.items body.items }
     {
         Letter { head, body }
     }

@@ -16,7 +16,7 @@ use Rattle.msg_depot.specs.declared.view.Entry.{Entry}
 use Rattle.msg_depot.specs.declared.view.Phase.TheVariants.{Free, Sealed}
 use Rattle.msg_depot.specs.Rules.{entry, free_slots, resting, word_of}
 use Rattle.msg_depot.specs.Moves.{entry_at, empty_entry, entered}
-use Rattle.msg_depot.specs.Entries.{entry_of, entries_of, phase_held, slot_behind, HasCount, IsKeeper}
+use Rattle.msg_depot.specs.Entries.{entry_of, entries_of, phase_held, slot_given_back, HasCount, IsKeeper}
 
 -- the entry of a slot that is there
 pub entry_there : (depot : Depot) (i : ℕ) (slot : Slot) → slice_get depot.slots i ≡ Some slot → entry_at (entries_of depot) i ≡ entry_of slot
@@ -101,14 +101,14 @@ seals_turned old key weight new more s = record {
   once = (seals_turn old key weight new s).blocks;
 }
 
-count_behind : (generation : ℕ) → HasCount (slot_behind generation).held
+count_behind : (generation : ℕ) → HasCount (slot_given_back generation).held
 count_behind generation = by (nat_lt generation last_generation)
   where
     by : (t : Bool) → HasCount (cond {A = Slot} t (record { generation = generation + 1; held = d.Free }) (record { generation = generation; held = d.Retired })).held
     by true = tt
     by false = tt
 
-behind_slots : (depot : Depot) (key : Key) (free : List ℕ) → (d.given_back depot key free).slots ≡ slice_set depot.slots key.slot (slot_behind key.generation)
+behind_slots : (depot : Depot) (key : Key) (free : List ℕ) → (d.given_back depot key free).slots ≡ slice_set depot.slots key.slot (slot_given_back key.generation)
 behind_slots depot key free = by (nat_lt key.generation last_generation)
   where
     by : (t : Bool) → (cond {A = Depot} t (record { slots = slice_set depot.slots key.slot (record { generation = key.generation + 1; held = d.Free }); free = free }) (d.with_held depot key d.Retired free)).slots ≡ slice_set depot.slots key.slot (cond {A = Slot} t (record { generation = key.generation + 1; held = d.Free }) (record { generation = key.generation; held = d.Retired }))
@@ -116,7 +116,7 @@ behind_slots depot key free = by (nat_lt key.generation last_generation)
     by false = refl
 
 drops_turned : (old : Depot) (key : Key) (held : List ℕ → List ℕ → Held) (new : Depot) → ((b blocks : List ℕ) → weight_held (held b blocks) ≡ 0) → ((b blocks : List ℕ) → blocks_of (held b blocks) ≡ blocks)
-    → ((b blocks : List ℕ) → (held b blocks ≡ d.Free) → ⊥) → GivesBack old key held new → Turned old new key.slot (slot_behind key.generation)
+    → ((b blocks : List ℕ) → (held b blocks ≡ d.Free) → ⊥) → GivesBack old key held new → Turned old new key.slot (slot_given_back key.generation)
 drops_turned old key held new light has filled p = record {
   within = slice_get_within old.slots key.slot _ (used old key _ p.message (filled p.bytes p.blocks));
   slots = ap (λ (x : Depot). x.slots) p.after ∙ behind_slots old key p.free;
@@ -124,7 +124,7 @@ drops_turned old key held new light has filled p = record {
   once = (drops_turn old key held new light has filled p).blocks;
 }
 
-pub cancels_turned : (old : Depot) (key : Key) (new : Depot) → d.Cancels old key new → Turned old new key.slot (slot_behind key.generation)
+pub cancels_turned : (old : Depot) (key : Key) (new : Depot) → d.Cancels old key new → Turned old new key.slot (slot_given_back key.generation)
 cancels_turned old key new p = drops_turned old key d.Draft new (λ b blocks. refl) (λ b blocks. refl) (λ b blocks e. cc) p
 
 -- holds that are given up change the slot alone
@@ -150,13 +150,13 @@ lighter (suc k) old key new r =
       once = λ n e. rest.once n ((releases_turn old key between one).blocks n e);
     }
 
-pub given_turned : (k : ℕ) (old : Depot) (key : Key) (new : Depot) → IsGivenBack k old key new true → Turned old new key.slot (slot_behind key.generation)
+pub given_turned : (k : ℕ) (old : Depot) (key : Key) (new : Depot) → IsGivenBack k old key new true → Turned old new key.slot (slot_given_back key.generation)
 given_turned k old key new g =
     let l = lighter k old key g.0 g.1 in
     let t = drops_turned g.0 key (λ b blocks. d.Sealed b blocks 0) new (λ b blocks. refl) (λ b blocks. refl) (λ b blocks e. cc) g.2 in
     record {
       within = subst (λ (n : ℕ). key.slot < n) l.long t.within;
-      slots = t.slots ∙ l.slots (slot_behind key.generation);
+      slots = t.slots ∙ l.slots (slot_given_back key.generation);
       count = t.count;
       once = λ n e. t.once n (l.once n e);
     }

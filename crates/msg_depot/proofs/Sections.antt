@@ -14,7 +14,7 @@ use Rattle.msg_depot.specs.declared.view.Kind.TheVariants.{Nothing, Draft}
 use Rattle.msg_depot.specs.declared.view.Phase.TheVariants.{Free, Drafted, Sealed}
 use Rattle.msg_depot.specs.Rules.{token, keeping, resting, entry, phase_of, word_of}
 use Rattle.msg_depot.specs.Moves.{entry_at, generation_at, entered, begun, put, sealed}
-use Rattle.msg_depot.specs.Entries.{entry_of, entries_of, slot_behind, IsKeeper}
+use Rattle.msg_depot.specs.Entries.{entry_of, entries_of, slot_given_back, IsKeeper}
 use Rattle.msg_depot.proofs.Entries.{entry_there, agreed, kept_on, Turned, begins_turned, puts_turned, seals_turned, IsSealed, sealed_under}
 
 abbrev pub Seen : Type 0
@@ -65,10 +65,10 @@ module _ (named t0 : TableId) (m0 : Seen) (old : Depot) (keeper : IsKeeper named
       (same3 ∙ same2 ∙ same1) (is3 ∙ ap (λ (m : Seen). (resting m.0.book, [])) is2 ∙ ap (λ (m : Seen). (resting (sealed m.0 w).book, [])) now) refl (sym place)
       (ap (λ (x : Entry). entry Sealed x.generation x.bytes) e)
 
-  pub free_kept : (new : Depot) → Turned old new key.slot (slot_behind key.generation) → (him : Seen) (t1 t2 : TableId) (m1 m2 : Seen) → t1 ≡ t0 → m1 ≡ (keeping m0.0.book him.0.kind him.0.claim, [])
-      → t2 ≡ t1 → m2 ≡ (resting (entered m1.0.book key.slot (entry_of (slot_behind key.generation))), []) → IsKeeper named t2 m2 new
+  pub free_kept : (new : Depot) → Turned old new key.slot (slot_given_back key.generation) → (him : Seen) (t1 t2 : TableId) (m1 m2 : Seen) → t1 ≡ t0 → m1 ≡ (keeping m0.0.book him.0.kind him.0.claim, [])
+      → t2 ≡ t1 → m2 ≡ (resting (entered m1.0.book key.slot (entry_of (slot_given_back key.generation))), []) → IsKeeper named t2 m2 new
   free_kept new t him t1 t2 m1 m2 same1 is1 same2 is2 =
-      let e : Entry = entry_of (slot_behind key.generation) in
+      let e : Entry = entry_of (slot_given_back key.generation) in
       kept_on named t0 t2 m0 m2 old new key.slot _ m0.0.book key.slot e keeper t (same2 ∙ same1) (is2 ∙ ap (λ (m : Seen). (resting (entered m.0.book key.slot e), [])) is1) refl refl refl
 
   -- the arena holds a joined hold's or Spent's message

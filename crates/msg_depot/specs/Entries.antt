@@ -30,8 +30,8 @@ abbrev pub entries_of : d.Depot → List Entry
 entries_of depot = map entry_of depot.slots
 
 -- the slot behind a message of that generation
-abbrev pub slot_behind : ℕ → d.Slot
-slot_behind generation = if nat_lt generation d.last_generation then record { generation = generation + 1; held = d.Free } else record { generation = generation; held = d.Retired }
+abbrev pub slot_given_back : ℕ → d.Slot
+slot_given_back generation = if nat_lt generation d.last_generation then record { generation = generation + 1; held = d.Free } else record { generation = generation; held = d.Retired }
 
 -- a message keeps the holds that it was sealed with in the arena's count, until it goes
 abbrev pub HasCount : d.Held → Type 0

@@ -7,7 +7,7 @@ ghost use Rattle.mail_world.specs.Depot as depot;
 ghost use Rattle.block_arena.specs.Calls.{IsUsed, IsGivenBack};
 ghost use Rattle.msg_depot.specs.Rules.{weighing, resting, keeping, word_of};
 ghost use Rattle.msg_depot.specs.Moves.{longer, entered, IsOver};
-ghost use Rattle.msg_depot.specs.Entries.{entry_of, key_of, slot_behind, IsKeeper};
+ghost use Rattle.msg_depot.specs.Entries.{entry_of, key_of, slot_given_back, IsKeeper};
 
 use crate::steps;
 use crate::token::{Board, DepotName, Draft, Hold, Place, Spent, seat_of};
@@ -188,7 +188,7 @@ fn free(board: &Board, seat: &mut Place, key: Key)
         × (key.generation ≡ seat.old.me.0.claim.generation) }
     requires over { IsOver seat.old.me.0.kind }
     ensures { (seat.new.table_id ≡ seat.old.table_id)
-        × (seat.new.me ≡ (resting (entered seat.old.me.0.book key.slot (entry_of (slot_behind key.generation))), [])) }
+        × (seat.new.me ≡ (resting (entered seat.old.me.0.book key.slot (entry_of (slot_given_back key.generation))), [])) }
 {
     let slot = key.slot;
     if key.generation < LAST_GENERATION {

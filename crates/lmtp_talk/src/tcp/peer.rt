@@ -68,12 +68,12 @@ impl<T> TcpPeer<T> {
 impl<T: Read> TcpPeer<T> {
     ghost use Rattle.lmtp_talk.specs.Peer.{PeerFailed};
     ghost use Rattle.lmtp_talk.specs.ReadBuffer.{waiting};
-    ghost use Rattle.lmtp_talk.specs.TcpPeer.{Fills, reading};
+    ghost use Rattle.lmtp_talk.specs.TcpPeer.{Fills, tcp_state};
 
     // Reads on where nothing waits, and says what the client did where it said nothing.
     fn fill(&mut self) -> Result<Option<Came>, PeerFault>
         ensures ok { IfOk result (Fills T.remaining self.old self.new) }
-        ensures err { OnErr result (PeerFailed (reading T.remaining self.old) (reading T.remaining self.new)) }
+        ensures err { OnErr result (PeerFailed (tcp_state T.remaining self.old) (tcp_state T.remaining self.new)) }
         ensures waits { 0 < length (waiting self.old.buffer) → (result ≡ Ok None) × (self.new ≡ self.old) }
         ensures same { (self.new.reads_left ≡ self.old.reads_left) × (self.new.reads ≡ self.old.reads) }
     {
@@ -107,7 +107,7 @@ impl<T: Read + OpenStream + Drop> TcpPeer<T> {
 impl<T: Read + Write> Peer for TcpPeer<T> {
     ghost use Rattle.std.specs.Prelude.{[], None};
     ghost use Rattle.lmtp_talk.specs.Peer.{WasRead, HasBrought, PeerFailed, HasWritten};
-    ghost use Rattle.lmtp_talk.specs.TcpPeer.{TakesRead, reading};
+    ghost use Rattle.lmtp_talk.specs.TcpPeer.{TakesRead, tcp_state};
 
     ghost state = { λ p.
         record {
@@ -124,10 +124,10 @@ impl<T: Read + Write> Peer for TcpPeer<T> {
     /// stream had.
     fn read(&mut self, buffer: &mut [u8]) -> Result<Came, PeerFault>
         requires { 0 < length buffer.old }
-        ensures reads { WasRead 1 (reading T.remaining self.old) (reading T.remaining self.new) }
+        ensures reads { WasRead 1 (tcp_state T.remaining self.old) (tcp_state T.remaining self.new) }
         ensures come { IfOk result
-            (λ came. HasBrought (reading T.remaining self.old) (reading T.remaining self.new) buffer.new came) }
-        ensures failed { OnErr result (PeerFailed (reading T.remaining self.old) (reading T.remaining self.new)) }
+            (λ came. HasBrought (tcp_state T.remaining self.old) (tcp_state T.remaining self.new) buffer.new came) }
+        ensures failed { OnErr result (PeerFailed (tcp_state T.remaining self.old) (tcp_state T.remaining self.new)) }
         ensures bound { TakesRead self.old self.new result }
     {
         self.reads = self.reads.saturating_add(1);

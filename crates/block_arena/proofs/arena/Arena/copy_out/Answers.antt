@@ -4,7 +4,7 @@ use Rattle.mail_world.specs.Depot as d
 use Rattle.block_arena.specs.declared.fault.ArenaFault.TheVariants as fault
 use Rattle.block_arena.specs.declared.slot.Content.TheVariants.{Sealed}
 use Rattle.block_arena.specs.Calls.{RefusesMessage, IsMessage}
-use Rattle.block_arena.specs.Fields.{blocks_in, reading, IsPlace}
+use Rattle.block_arena.specs.Fields.{blocks_in, run_read_at, IsPlace}
 use Rattle.block_arena.proofs.Seen.{Sees, sees, under, stale, readable, readable_as, bytes_seen, sealed_length}
 use Rattle.block_arena.proofs.Freed.{slot_within}
 use Rattle.block_arena.proofs.Places.{read_arena, read_kept, place_read, read_on, block_at_byte, message_owns, message_few}
@@ -35,7 +35,7 @@ index_mut-requires c =
 pub copy_run-requires-clause-run : goal.copy_run-requires-clause-run
 copy_run-requires-clause-run c =
     let s : Sees c.args.key c.args.self.now (fields_of c.self.inside) (Sealed c.in-Sealed.run' c.in-Sealed.holds) = sees c.args.key c.args.self.now (fields_of c.self.inside) c.deref.result.now c.content_under.result _ c.self.invariant c.self.view_is c.deref.ensures.value c.content_under.ensures c.in-Sealed.is in
-    readable_as _ _ _ _ (reading c.in-Sealed.run' c.place_at-read.result) c.deref-in-Sealed-2.ensures.value c.deref-in-Sealed-3.ensures.value
+    readable_as _ _ _ _ (run_read_at c.in-Sealed.run' c.place_at-read.result) c.deref-in-Sealed-2.ensures.value c.deref-in-Sealed-3.ensures.value
     (read_on c.self.inside.data.items c.self.inside.next.items c.in-Sealed.run' c.place_at-read.result (readable c.args.key c.args.self.now (fields_of c.self.inside) c.in-Sealed.run' c.in-Sealed.holds s))
 
 pub copy_run-requires-clause-there : goal.copy_run-requires-clause-there
