@@ -14,7 +14,7 @@ use Rattle.lmtp_lane.specs.Visits.{conversations_of}
 use Rattle.lmtp_threads.specs.Works.{VisitsView}
 use Rattle.lmtp_house.specs.House.{HandedIn, HasRun}
 use Rattle.thread_crew.specs.Channels.{Shape, channels_of, AreRows, AreClosed, MayClose, CanSettle, IsSettled}
-use Rattle.lmtp_threads.specs.Tasks.{LanesGiven, LanesBack, WorkersGiven, WorkersBack, HaveServed, HaveServedAll, HaveWorked, HaveWorkedAll}
+use Rattle.lmtp_threads.specs.Tasks.{BoxTask, LanesGiven, LanesBack, WorkersGiven, WorkersBack, HaveServed, HaveServedAll, HaveWorked, HaveWorkedAll}
 use Rattle.lmtp_house.specs.HousePlan.{PlanState, IsPlanned}
 use Rattle.lmtp_house.proofs.HousePlan.{may_close}
 use Rattle.lmtp_house.proofs.HouseSettled.{can_settle, has_run}
@@ -23,6 +23,10 @@ use Rattle.lmtp_house.proofs.HouseSettled.{can_settle, has_run}
 pub if_ok : {A E : Type 0} (P Q : A → Type 0) (r : Result A E) → IfOk r P → ((x : A) → P x → Q x) → IfOk r Q
 if_ok P Q (Ok x) h f = f x h
 if_ok P Q (Err e) h f = h
+
+-- workers that run are those that were planned
+pub worked_as : {S : Type 0} (state : S → SpoolState) (working tasks : List (BoxTask S)) (boxes : WorkersBack S) → working ≡ tasks → HaveWorkedAll state working boxes → HaveWorkedAll state tasks boxes
+worked_as state working tasks boxes same worked = subst (λ l. HaveWorkedAll state l boxes) same worked
 
 -- closing gives this
 abbrev pub Closes : {M : Type 0} → Shape → List (List (Sender M)) → List (Sent M) → Type 0

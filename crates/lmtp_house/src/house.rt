@@ -5,6 +5,7 @@ mod handed;
 mod plan;
 pub mod report;
 pub mod run;
+mod serving;
 pub mod sizes;
 
 pub use fault::HouseFault;

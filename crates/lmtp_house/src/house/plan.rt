@@ -8,6 +8,7 @@ ghost use Rattle.lmtp_house.specs.HousePlan.{IsPlanned, MayRun, HasRunAll};
 use crate::house::fault::HouseFault;
 use crate::house::handed::HandedIn;
 use crate::house::report::HouseReport;
+use crate::house::serving::{Ended, serve_all};
 use box_worker::Gate;
 use lmtp_lane::{Clock, Visits};
 use lmtp_threads::{Lanes, Shared, Workers, lane_jobs, worker_jobs};
@@ -108,23 +109,10 @@ where
             mail,
             slips: slip_closing,
         } = self;
-        let working = match workers.start(rt) {
-            Ok(working) => working,
-            Err(started) => {
-                drop(lanes);
-                drop(started.join(&rt));
-                return Err(HouseFault::NoThread);
-            }
-        };
-        let Ok(ends) = lanes.run(rt) else {
-            drop(working.finish(&rt));
-            return Err(HouseFault::NoThread);
-        };
-        if ends.gone {
-            drop(ends);
-            drop(working.finish(&rt));
-            return Err(HouseFault::ChannelGone);
-        }
+        let Ended {
+            lanes: ends,
+            workers: working,
+        } = serve_all(rt, lanes, workers)?;
         let closed = mail.close(&rt, ends.senders);
         let done = working.finish(&rt);
         if done.lost {

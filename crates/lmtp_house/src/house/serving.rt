@@ -1,0 +1,76 @@
+//! Lanes that serve all their clients, beside the workers that take what they offer.
+
+ghost use Rattle.std.specs.Prelude.{◌≡◌, ◌≢◌, IfOk, Err, false};
+ghost use Rattle.std.specs.List.{AllByRecursion};
+ghost use Rattle.thread_crew.specs.Grid.{lists};
+ghost use Rattle.lmtp_threads.specs.Tasks.{IsLaneReady, IsBoxReady, HaveServedAll};
+
+use crate::house::fault::HouseFault;
+use box_worker::Gate;
+use lmtp_lane::{Clock, Visits};
+use lmtp_threads::{LaneReports, Lanes, Workers, Working};
+use mbox_rd::Spool;
+use msg_depot::DepotName;
+use std::sync::Wait;
+use std::thread::Threads;
+
+/// What lanes that have ended handed back, and the workers, which still run.
+#[derive(Drop)]
+pub struct Ended<N, V, S, G>
+where
+    N: DepotName + Send + Sync + 'static,
+    V: Visits,
+    S: Spool + Drop + Send + 'static,
+    G: Gate + Drop + Send + 'static,
+{
+    pub lanes: LaneReports<N, V>,
+    pub workers: Working<N, S, G>,
+}
+
+/// Starts the workers and then the lanes, and waits until the lanes have no more clients. At `Err` all that had
+/// started have ended.
+pub fn serve_all<R, N, V, S, G, C>(
+    rt: R,
+    lanes: Lanes<N, V, C>,
+    workers: Workers<N, S, G>,
+) -> Result<Ended<N, V, S, G>, HouseFault>
+where
+    R: Threads + Wait + Copy + Send + 'static,
+    N: DepotName + Send + Sync + 'static,
+    V: Visits + Send + 'static,
+    V::P: Send + 'static,
+    S: Spool + Drop + Send + 'static,
+    G: Gate + Drop + Send + 'static,
+    C: Clock + Send + Sync + 'static,
+    requires lanes { AllByRecursion (IsLaneReady V.out) lanes }
+    requires workers { AllByRecursion IsBoxReady workers }
+    ensures served { IfOk result (λ ended. HaveServedAll C.May
+        (record { MayGive = V.MayGive; finished = V.finished; over = V.over }) lanes
+        (record {
+          visits = ended.lanes.visits.items;
+          rows = lists ended.lanes.senders.items;
+          inboxes = ended.lanes.slips.items;
+          conversations = ended.lanes.conversations.items;
+        })) }
+    ensures working { IfOk result (λ ended. ended.workers ≡ workers) }
+    ensures not_size { result ≢ Err HouseFault.Size }
+{
+    let workers = match workers.start(rt) {
+        Ok(working) => working,
+        Err(started) => {
+            drop(lanes);
+            drop(started.join(&rt));
+            return Err(HouseFault::NoThread);
+        }
+    };
+    let Ok(lanes) = lanes.run(rt) else {
+        drop(workers.finish(&rt));
+        return Err(HouseFault::NoThread);
+    };
+    if lanes.gone {
+        drop(lanes);
+        drop(workers.finish(&rt));
+        return Err(HouseFault::ChannelGone);
+    }
+    Ok(Ended { lanes, workers })
+}
