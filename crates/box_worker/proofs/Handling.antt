@@ -18,6 +18,7 @@ use Rattle.mail_post.specs.declared.channel.Gone.TheVariants.{Closed, Lost}
 use Rattle.mail_post.specs.Copies.{envelope_of}
 use Rattle.mail_post.specs.Offered.{HaveNumber, IsOffered, any_refused}
 use Rattle.mail_post.proofs.Offered.{still_numbered, accepted_nothing, offered_more}
+use Rattle.mbox_rd.specs.Mending.{HasNotMended}
 use Rattle.mbox_rd.specs.Spool.{SpoolState}
 use Rattle.mbox_rd.specs.Envelope.{record_text}
 use Rattle.box_worker.specs.declared.limit.Limit.{Limit}
@@ -167,10 +168,10 @@ module _ (at : Setting) (copies : List Note) (old now : WorkerState) (before : O
 
 -- a worker that took nothing
 pub counting_none : (at : Setting) (slips : List (Sender Slip)) (old : SpoolState) (mailbox : MailboxState) (limit : Option Limit)
-    → HaveNumber at.worker slips → HasStored at.calendar at.host [] old mailbox → (mailbox.stored ≡ 0) × (mailbox.over ≡ 0)
+    → HaveNumber at.worker slips → HasStored at.calendar at.host [] old mailbox → (mailbox.faulty ≡ true → HasNotMended old mailbox.state) → (mailbox.stored ≡ 0) × (mailbox.over ≡ 0)
     → ((start : ℕ) × IfSome at.quota (λ quota. StartsAt old start) × CountsTo at.quota start limit)
     → IsCounting at [] (idle slips old) (record { slips = slips; mailbox = mailbox; taken = 0; lost = any_refused slips }) limit
-counting_none at slips old mailbox limit mine stored none begins =
+counting_none at slips old mailbox limit mine stored broken none begins =
     let same : mailbox ≡ mailbox_of mailbox.state 0 0 mailbox.faulty =
     ap (λ n. mailbox_of mailbox.state n mailbox.over mailbox.faulty) none.0 ∙ ap (λ n. mailbox_of mailbox.state 0 n mailbox.faulty) none.1 in
     let P : MailboxState → Type 0 = λ m. HasStored at.calendar at.host [] old m in
@@ -186,7 +187,7 @@ counting_none at slips old mailbox limit mine stored none begins =
           within = omega arith;
           all = λ sound. refl;
           stored = refl;
-          next = λ failed. inl refl;
+          next = λ failed. inl (refl, broken failed);
           spool = subst P same stored;
         };
         told = accepted_nothing (λ k. owed_to at.worker (outcomes_behind at begins.0 0 []) k []) slips (λ k. refl);

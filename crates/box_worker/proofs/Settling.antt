@@ -10,7 +10,7 @@ use Rattle.mail_world.proofs.Quotas.{next_behind}
 use Rattle.mail_world.proofs.Settled.{length-kept_behind}
 use Rattle.mbox_rd.specs.Spool.{SpoolState}
 use Rattle.box_worker.specs.Limits.{Setting, marks_behind, kept_behind}
-use Rattle.box_worker.specs.Stored.{HasKept, HasNotKept, mailbox_of, HasStored, IsKeptNext, HasSettled}
+use Rattle.box_worker.specs.Stored.{HasKept, HasNotKept, mailbox_of, HasStored, HasFailedFirst, IsKeptNext, HasSettled}
 use Rattle.box_worker.specs.Worked.{bytes_behind}
 use Rattle.box_worker.proofs.Storing.{stored_more, stored_not, stored_later, stored_over}
 
@@ -125,9 +125,10 @@ module _ (at : Setting) (start : ℕ) (copies : List Note) (note : Note) where
           spool = stored_as old t stored over true (front ++ note ∷ []) (kept_one keeps) (stored_not at.calendar at.host note old s t front stored over x.spool y);
         }
 
-    next_later : (stored + over ≡ 0) ⊎ IsKeptNext at start copies (stored + over) stored → (stored + over ≡ 0) ⊎ IsKeptNext at start (copies ++ note ∷ []) (stored + over) stored
-    next_later h = elim h [
-      | inl none ↦ inl none
+    next_later : t ≡ s → HasFailedFirst old s (stored + over) ⊎ IsKeptNext at start copies (stored + over) stored
+        → HasFailedFirst old t (stored + over) ⊎ IsKeptNext at start (copies ++ note ∷ []) (stored + over) stored
+    next_later same h = elim h [
+      | inl none ↦ inl (let P : SpoolState → Type 0 = λ u. HasFailedFirst old u (stored + over) in subst P (sym same) none)
       | inr some ↦ inr (let below = some.0 in omega (arith, below, more), ap length (sym (front_kept (stored + over + 1) (let below = some.0 in omega (arith, below)))) ∙ some.1)
     ]
 
@@ -145,6 +146,6 @@ module _ (at : Setting) (start : ℕ) (copies : List Note) (note : Note) where
       within = let within = x.within in omega (arith, within, more);
       all = λ e. absurd (true≢false e);
       stored = x.stored ∙ ap length (front_kept (stored + over) x.within);
-      next = λ e. next_later (x.next refl);
+      next = λ e. next_later same (x.next refl);
       spool = spool_later is_kept refl same x.spool;
     }

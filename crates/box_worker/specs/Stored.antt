@@ -11,6 +11,7 @@ use Rattle.mail_world.specs.Records.{Calendar, mended, mailbox}
 use Rattle.mail_world.specs.Fronts.{IsFront}
 use Rattle.mail_world.specs.Deliveries.{IsTorn}
 use Rattle.mbox_rd.specs.Spool.{SpoolState, CoversAll, IsFull}
+use Rattle.mbox_rd.specs.Mending.{HasNotMended}
 use Rattle.box_worker.specs.declared.limit.Limit.{Limit}
 use Rattle.box_worker.specs.Limits.{Setting, kept_behind, StartsAt, IsLetIn, IsKeptOut}
 
@@ -87,6 +88,10 @@ pub record HasStored (calendar : Calendar) (host : List ℕ) (notes : List Note)
 abbrev pub IsKeptNext : Setting → ℕ → List Note → ℕ → ℕ → Type 0
 IsKeptNext at start copies n stored = (n < length copies) × (length (kept_behind at start (take (n + 1) copies)) ≡ stored + 1)
 
+-- the spool failed as it was mended, before any copy
+abbrev pub HasFailedFirst : SpoolState → SpoolState → ℕ → Type 0
+HasFailedFirst old new settled = (settled ≡ 0) × HasNotMended old new
+
 -- The first copies that a worker took are settled: all of them unless the spool failed, which it did as it was mended or at the record of the next copy.
 -- Of those that are settled each that is kept under the quota is stored, and any other is over the quota and left no byte. So many bytes stand before the first record.
 pub record HasSettled (at : Setting) (start : ℕ) (copies : List Note) (old : SpoolState) (new : MailboxState) : Type 0 where
@@ -94,5 +99,5 @@ pub record HasSettled (at : Setting) (start : ℕ) (copies : List Note) (old : S
   pub within : new.stored + new.over ≤ length copies
   pub all : new.faulty ≡ false → new.stored + new.over ≡ length copies
   pub stored : new.stored ≡ length (kept_behind at start (take (new.stored + new.over) copies))
-  pub next : new.faulty ≡ true → (new.stored + new.over ≡ 0) ⊎ IsKeptNext at start copies (new.stored + new.over) new.stored
+  pub next : new.faulty ≡ true → HasFailedFirst old new.state (new.stored + new.over) ⊎ IsKeptNext at start copies (new.stored + new.over) new.stored
   pub spool : HasStored at.calendar at.host (kept_behind at start copies) old new

@@ -1,9 +1,10 @@
 //! A mailbox: its spool, how many copies it has, and whether the spool failed.
 
-ghost use Rattle.std.specs.Prelude.{◌≡◌, ℕ, List, [], length};
+ghost use Rattle.std.specs.Prelude.{◌≡◌, ℕ, true, List, [], length};
 ghost use Rattle.std.specs.Option.{IfSome};
 ghost use Rattle.lmtp_text.specs.Calendar.{civil_at};
 ghost use Rattle.mbox_rd.specs.Envelope.{record_text};
+ghost use Rattle.mbox_rd.specs.Mending.{HasNotMended};
 ghost use Rattle.box_worker.specs.Limits.{CountsTo, StartsAt};
 ghost use Rattle.box_worker.specs.Stored.{HasStored, IsMeasured, TakesCopy};
 
@@ -41,6 +42,7 @@ impl<S: Spool> Mailbox<S> {
     /// Ends what the spool holds, so that a record may follow, whatever the quota.
     pub fn on(spool: S, quota: Option<u64>) -> Mailbox<S>
         ensures mended { (host : List ℕ) → HasStored civil_at host [] (S.state spool) result.mailbox }
+        ensures broken { result.mailbox.faulty ≡ true → HasNotMended (S.state spool) result.mailbox.state }
         ensures none { (result.mailbox.stored ≡ 0) × (result.mailbox.over ≡ 0) }
         ensures counts { (start : ℕ) × IfSome quota (λ q. StartsAt (S.state spool) start)
             × CountsTo quota start result.limit }

@@ -23,7 +23,7 @@ loop-init g c =
       lanes = refl;
       counting = subst P (sym c.requires.fresh) (subst R (sym c.new.ensures)
           (counting_none at c.args.slips.items (g.S.Spool.state c.args.spool) c.on.result.mailbox c.on.result.limit c.requires.worker
-          (c.on.ensures.mended c.args.host.now) c.on.ensures.none c.on.ensures.counts));
+          (c.on.ensures.mended c.args.host.now) c.on.ensures.broken c.on.ensures.none c.on.ensures.counts));
     }
 
 pub loop-preserved : goal.loop-preserved
