@@ -6,7 +6,7 @@ ghost use Rattle.lmtp_house.specs.House.{IsSize};
 ghost use Rattle.lmtpd_serve.specs.Served.{IsServerRun};
 
 use super::lines::{address_line, write_counts};
-use super::served::Served;
+use super::served::{Served, ServerEnding};
 use box_worker::OpenGate;
 use lmtp_house::{
     HouseFault, Sizes, SystemClock, Tally, has_failed, is_size, run_house, tcp_visits,
@@ -52,7 +52,7 @@ where
     if !is_size(&site, sizes, lanes as usize, spools.len(), spools.len()) {
         return Err(HouseFault::Size);
     }
-    let names = Arc::try_clone(&site)?;
+    let served_site = Arc::try_clone(&site)?;
     let gates = vec![in alloc; OpenGate; spools.len()]?;
     let announced = announce(alloc, &listener, &mut writer)?;
     let visits = tcp_visits(alloc, listener, lanes, connections, reads)?;
@@ -61,10 +61,15 @@ where
         Ok(report) => report,
         Err(fault) => return Err(fault),
     };
-    Ok(Served {
+    let ending = ServerEnding {
         faulty: has_failed(&report.tallies),
         failed: announced.is_unknown || report.visits.iter().any(|visits| visits.failed()),
-        cut: is_cut(announced.is_cut, &names, &report.tallies, &mut writer),
+        cut: is_cut(announced.is_cut, &served_site, &report.tallies, &mut writer),
+    };
+    Ok(Served {
+        ending,
+        site: served_site,
+        tallies: report.tallies,
     })
 }
 
