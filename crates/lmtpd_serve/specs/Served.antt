@@ -41,7 +41,8 @@ pub record Extent : Type 0 where
   pub lanes : ℕ
   pub quota : Option ℕ
 
--- A server of this extent ran for the site, over clients of a listener, of whom it is told how many were handed back, and these spools. What is told of each mailbox is what its worker counted, and the server is faulty exactly where a worker is.
+-- A server of this extent ran for the site, over clients of a listener, of whom it is told how many were handed back, and
+-- these spools; what is told of each mailbox is what its worker counted, and it is faulty exactly where a worker is.
 pub record IsServerRun (L : Type 0) {S : Type 0} (site : Site) (state : S → SpoolState) (extent : Extent) (spools : List S) (served : Served) : Type 0 where
   pub visits : List (TcpVisits L)
   pub back : HandedBack (TcpVisits L) S

@@ -6,7 +6,7 @@ mod run;
 mod served;
 
 pub use lines::write_over_lines;
-pub use lmtp_house::{Sizes, TimedListener};
+pub use lmtp_house::{Sizes, Tally, TimedListener};
 pub use run::serve_run;
 pub use served::{Served, ServerEnding};
 

@@ -58,8 +58,8 @@ where
     )?)
 }
 
-/// A listener with so many clients, who each send one message to anna, a number of conversations, room in her mailbox and
-/// its quota, and what is said, on standard error too, and answered.
+/// A listener with so many clients, who each send one message to anna, a number of conversations, room in her mailbox
+/// and its quota, and what is said, on standard error too, and answered.
 #[derive(Clone, Copy)]
 struct Case {
     clients: u64,
