@@ -145,14 +145,41 @@ def a_quota_is_kept(folder):
             equal(finals, [[stored], [over]])
             equal(client.deliver(["anna", "ben"], *lines)[1], [over, "250 2.0.0 Stored for ben"])
             client.quit()
-        equal(vars(server.end()), {"status": 0, "said": ["anna stored 1", "ben stored 1"], "errors": []})
+        errors = ["lmtpd: anna over quota 2"]
+        equal(vars(server.end()), {"status": 0, "said": ["anna stored 1", "ben stored 1"], "errors": errors})
     equal(len(mailbox.read_bytes()), 2 * size)
     for quota in [2 * size, 3 * size - 1, size, 0]:
         with Server(folder, ["anna"], 1, "--lanes", 1, "--quota", quota) as server:
             equal(deliver_one(server.address, ["anna"], *lines), [over])
-            equal(vars(server.end()), {"status": 0, "said": ["anna stored 0"], "errors": []})
+            errors = ["lmtpd: anna over quota 1"]
+            equal(vars(server.end()), {"status": 0, "said": ["anna stored 0"], "errors": errors})
     equal(len(mailbox.read_bytes()), 2 * size)
     equal(len(letters.read(mailbox)), 2)
+
+
+@case
+def each_mailbox_over_its_quota(folder):
+    """mailboxes over their quota: standard error has a line for each with its count, in the order of the site"""
+    names, lines = ["ben", "anna", "carla"], ["Subject: hi", "", "hello"]
+    (folder / "anna.mbox").write_bytes(b"x" * 998 + b"\n\n")
+    with Server(folder, names, 1, "--lanes", 1, "--quota", 1000) as server:
+        with Client(server.address).greet() as client:
+            # too large for any of them
+            client.deliver(["carla", "ben"], "", *["x" * 100] * 10)
+            for to in [["anna", "carla"], ["anna"], ["ben", "anna"]]:
+                client.deliver(to, *lines)
+            client.quit()
+        said = ["ben stored 1", "anna stored 0", "carla stored 1"]
+        errors = ["lmtpd: ben over quota 1", "lmtpd: anna over quota 3", "lmtpd: carla over quota 1"]
+        equal(vars(server.end()), {"status": 0, "said": said, "errors": errors})
+    with Server(folder, names, 1, "--lanes", 1, "--quota", 1000) as server:
+        # of the second letter anna alone is over
+        with Client(server.address).greet() as client:
+            for to in [["ben"], ["anna", "carla"]]:
+                client.deliver(to, *lines)
+            client.quit()
+        said = ["ben stored 1", "anna stored 0", "carla stored 1"]
+        equal(vars(server.end()), {"status": 0, "said": said, "errors": ["lmtpd: anna over quota 1"]})
 
 
 @case
@@ -175,7 +202,8 @@ def lanes_share_a_quota(folder):
     with Server(folder, ["anna"], 2, "--lanes", 2, "--quota", count * size) as server:
         with ThreadPoolExecutor(2) as pool:
             told = sum(pool.map(deliver_all, [server.address] * 2), [])
-        equal(vars(server.end()), {"status": 0, "said": [f"anna stored {count}"], "errors": []})
+        errors = [f"lmtpd: anna over quota {count}"]
+        equal(vars(server.end()), {"status": 0, "said": [f"anna stored {count}"], "errors": errors})
     told_stored = told.count("250 2.0.0 Stored for anna")
     equal((told_stored, told.count("452 4.2.2 Over quota for anna")), (count, count))
     equal((len(letters.read(mailbox)), len(mailbox.read_bytes())), (count, count * size))

@@ -37,6 +37,29 @@ def a_device_that_is_full(folder):
 
 
 @case
+def a_full_device_beside_a_quota(folder):
+    """a mailbox on /dev/full between two over their quota: their lines come before the fault, also where nothing can be told"""
+    names = ["anna", "ben", "carla"]
+    (folder / "ben.mbox").symlink_to("/dev/full")
+    for name in ["anna", "carla"]:
+        (folder / f"{name}.mbox").write_bytes(b"x" * 998 + b"\n\n")
+    over = {name: f"452 4.2.2 Over quota for {name}" for name in names}
+    finals = [over["anna"], "451 4.3.0 Not stored for ben", over["carla"]]
+    said = [f"{name} stored 0" for name in names]
+    errors = ["lmtpd: anna over quota 1", "lmtpd: carla over quota 1", "lmtpd: device fault"]
+    with Server(folder, names, 1, "--lanes", 1, "--quota", 1000) as server:
+        equal(deliver_one(server.address, names, "hello"), finals)
+        equal(vars(server.end()), {"status": 1, "said": said, "errors": errors})
+    for names, status in [(names, 1), (["anna", "carla"], 0)]:
+        with open("/dev/full", "wb", buffering=0) as full:
+            server = Server(folder, names, 1, "--lanes", 1, "--quota", 1000, errors=full)
+        with server:
+            deliver_one(server.address, names, "hello")
+            said = [f"{name} stored 0" for name in names]
+            equal(vars(server.end()), {"status": status, "said": said, "errors": []})
+
+
+@case
 def a_torn_tail(folder):
     """a tail that is torn is closed by the fewest LFs before the next letter"""
     closed_as = {b"abc": b"abc\n\n", b"abc\n": b"abc\n\n", b"abc\n\n": b"abc\n\n", b"x": b"x\n\n"}

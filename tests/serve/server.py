@@ -16,9 +16,9 @@ class Ended:
 class Server:
     """A server that listens, from its start to the end of a `with`, which ends it where it still runs."""
 
-    def __init__(self, folder, boxes, connections, *more, listen="127.0.0.1:0"):
+    def __init__(self, folder, boxes, connections, *more, listen="127.0.0.1:0", errors=subprocess.PIPE):
         self.folder = folder
-        self.process = start(words(folder, boxes, connections, *more, listen=listen))
+        self.process = start(words(folder, boxes, connections, *more, listen=listen), errors)
         try:
             self.first = self.process.stdout.readline()
         except BaseException:
@@ -47,7 +47,7 @@ class Server:
     def end(self):
         """How it ends by itself, once it has had all its clients."""
         said, errors = self.process.communicate(timeout=20)
-        return Ended(self.process.returncode, said.splitlines(), errors.splitlines())
+        return Ended(self.process.returncode, said.splitlines(), (errors or "").splitlines())
 
     def mailbox(self, name):
         return self.folder / f"{name}.mbox"
@@ -58,8 +58,8 @@ def words(folder, boxes, connections, *more, listen="127.0.0.1:0", host="mx.exam
     return ["serve", *fixed, *map(str, more), *boxes]
 
 
-def start(given):
-    ends = {"stdin": subprocess.DEVNULL, "stdout": subprocess.PIPE, "stderr": subprocess.PIPE}
+def start(given, errors=subprocess.PIPE):
+    ends = {"stdin": subprocess.DEVNULL, "stdout": subprocess.PIPE, "stderr": errors}
     return subprocess.Popen([os.environ["LMTPD"], *given], text=True, **ends)
 
 

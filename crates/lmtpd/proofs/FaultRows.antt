@@ -3,7 +3,7 @@ use Rattle.std.proofs.Common.{◌≡◌, refl, Bool, true, false, [], Some, None
 use Rattle.lmtp_talk.specs.declared.ending.EndCause.{EndCause}
 use Rattle.lmtp_talk.specs.declared.ending.EndCause.TheVariants.{EndOfInput, Quit, ReadFault, WriteFault}
 use Rattle.lmtpd_rehearse.specs.declared.ending.Ending.{Ending}
-use Rattle.lmtpd_serve.specs.declared.served.Served.{Served}
+use Rattle.lmtpd_serve.specs.declared.served.ServerEnding.{ServerEnding}
 use Rattle.lmtpd.specs.declared.fault.Fault.TheVariants as fault
 use Rattle.lmtpd.specs.Faults.{first_fault, rehearsal_fault, server_fault}
 
@@ -28,7 +28,7 @@ faulty_spool = refl
 pub cut_listing : rehearsal_fault (ended Quit false true) ≡ Some fault.Device
 cut_listing = refl
 
-abbrev pub served : Bool → Bool → Bool → Served
+abbrev pub served : Bool → Bool → Bool → ServerEnding
 served faulty failed cut = record { faulty = faulty; failed = failed; cut = cut }
 
 pub served_well : server_fault (served false false false) ≡ None

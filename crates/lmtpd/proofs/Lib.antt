@@ -1,4 +1,5 @@
 mod FaultRows
+pub mod Behind
 pub mod AsAsked
 pub mod Orders
 pub mod Unrun

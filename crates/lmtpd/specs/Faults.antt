@@ -8,7 +8,7 @@ use Rattle.lmtp_text.specs.Sites.{texts}
 use Rattle.lmtp_text.specs.declared.site.SiteFault.{SiteFault}
 use Rattle.lmtp_text.specs.declared.site.SiteFault.TheVariants as cause
 use Rattle.lmtpd_rehearse.specs.declared.ending.Ending.{Ending}
-use Rattle.lmtpd_serve.specs.declared.served.Served.{Served}
+use Rattle.lmtpd_serve.specs.declared.served.ServerEnding.{ServerEnding}
 use Rattle.lmtp_talk.specs.declared.ending.EndCause.{EndCause}
 use Rattle.lmtp_house.specs.declared.house.fault.HouseFault.{HouseFault}
 use Rattle.lmtp_house.specs.declared.house.fault.HouseFault.TheVariants as house
@@ -117,5 +117,5 @@ abbrev pub rehearsal_fault : Ending → Option Fault
 rehearsal_fault ending = if is_device_fault ending then Some fault.Device else None
 
 -- what a server that ran lacks: a device's fault comes before a listener's
-abbrev pub server_fault : Served → Option Fault
-server_fault served = if served.faulty || served.cut then Some fault.Device else if served.failed then Some fault.Listen else None
+abbrev pub server_fault : ServerEnding → Option Fault
+server_fault ending = if ending.faulty || ending.cut then Some fault.Device else if ending.failed then Some fault.Listen else None

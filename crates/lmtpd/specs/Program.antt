@@ -1,4 +1,4 @@
--- What a run of the program comes to: the words say what is asked for, and then come what was done, the line on standard
+-- What a run of the program comes to: the words say what is asked for, and then come what was done, the lines on standard
 -- error and the status.
 use Rattle.std.specs.Prelude.{◌≡◌, ◌≢◌, ◌⊎◌, ℕ, true, List, [], ◌∷◌, ◌++◌, length, codes, Option, Some, None, Contains}
 use Rattle.std.specs.Net.Socket.{socket_port}
@@ -19,7 +19,7 @@ use Rattle.lmtpd_words.specs.declared.words.Words.TheVariants.{Rehearse, Serve}
 use Rattle.lmtpd.specs.Address.{IsRefused}
 use Rattle.lmtpd.specs.Faults.{fault_text, first_fault, rehearsal_fault, server_fault, status_of, stop_for, stop_status}
 use Rattle.lmtpd_rehearse.specs.Rehearsal.{IsBlockCount, IsRehearsed, Streams}
-use Rattle.lmtpd_serve.specs.Served.{IsServerRun}
+use Rattle.lmtpd_serve.specs.Served.{IsServerRun, over_lines}
 use Rattle.lmtpd.specs.declared.fault.Fault.{Fault}
 use Rattle.lmtpd.specs.declared.fault.Fault.TheVariants as fault
 use Rattle.lmtpd.specs.declared.program.Done.{Done}
@@ -125,13 +125,14 @@ module _ {R W : Type 0} where
       (words : ServeWords) × IsAsked (subcommand_of program_app texts) (Serve words) × IsRun words it
   IsDoneAsAsked streams IsRun texts old (Stopped s) = IsStopped texts s
 
-  -- the status of the program, and its line on standard error: 0 only for what was done with no fault, and for help
+  -- the status of the program, and its lines on standard error: 0 only for what was done with no fault, and for help
   abbrev pub exit_status : Done R W → ℕ
   exit_status (Rehearsed it) = status_after (rehearsal_fault it.ending)
-  exit_status (Served it) = status_after (server_fault it)
+  exit_status (Served it) = status_after (server_fault it.ending)
   exit_status (Stopped s) = stop_status s
 
-  abbrev pub exit_line : Done R W → List ℕ
-  exit_line (Rehearsed it) = line_after (rehearsal_fault it.ending)
-  exit_line (Served it) = line_after (server_fault it)
-  exit_line (Stopped s) = stop_line s
+  -- a server's mailboxes that are over their quota come before its fault
+  abbrev pub exit_lines : Done R W → List ℕ
+  exit_lines (Rehearsed it) = line_after (rehearsal_fault it.ending)
+  exit_lines (Served it) = over_lines it ++ line_after (server_fault it.ending)
+  exit_lines (Stopped s) = stop_line s

@@ -5,7 +5,7 @@ ghost use Rattle.lmtpd.specs.Faults.{fault_text, house_refusal, refusal, rehears
 
 use lmtp_text::SiteFault;
 use lmtpd_rehearse::{EndCause, Ending, HouseFault};
-use lmtpd_serve::Served;
+use lmtpd_serve::ServerEnding;
 use std::alloc::{AllocError, AllocFailed};
 use thiserror::Error;
 
@@ -125,12 +125,12 @@ pub fn rehearsal_fault(ending: Ending) -> Option<Fault>
 
 /// What a server that ran lacks: a spool or a write that failed is a fault of a device, and comes before a listener
 /// that did.
-pub fn server_fault(served: Served) -> Option<Fault>
-    ensures { result ≡ server_fault served }
+pub fn server_fault(ending: ServerEnding) -> Option<Fault>
+    ensures { result ≡ server_fault ending }
 {
-    if served.faulty || served.cut {
+    if ending.faulty || ending.cut {
         Some(Fault::Device)
-    } else if served.failed {
+    } else if ending.failed {
         Some(Fault::Listen)
     } else {
         None

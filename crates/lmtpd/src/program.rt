@@ -1,14 +1,14 @@
-//! What the program does with its words, the line that it says where something went wrong, and its status.
+//! What the program does with its words, the lines that it says on standard error, and its status.
 
 ghost use Rattle.std.specs.Prelude.{◌≡◌};
 ghost use Rattle.lmtp_lane.specs.declared.tcp.listener.TimedListener.{TimedListener};
 ghost use Rattle.lmtpd_words.specs.Words.{as_texts};
-ghost use Rattle.lmtpd.specs.Program.{IsDoneAsAsked, IsServedAsAsked, exit_line, exit_status};
+ghost use Rattle.lmtpd.specs.Program.{IsDoneAsAsked, IsServedAsAsked, exit_lines, exit_status};
 ghost use Rattle.lmtpd_rehearse.specs.Rehearsal.{IsListed};
 
-use crate::fault::{rehearsal_fault, server_fault};
+use crate::fault::rehearsal_fault;
 use crate::rehearse::rehearse_asked;
-use crate::serve::serve_asked;
+use crate::serve::{report_served, serve_asked};
 use crate::stop::{Exit, Stop, report_fault};
 use lmtpd_rehearse::Rehearsed;
 use lmtpd_serve::Served;
@@ -60,7 +60,7 @@ where
         (IsServedAsAsked (TimedListener P.Listener) (⟦<FileSpool<P::File> as Spool>⟧.state)) (as_texts words.entry.now)
         (record { unread = R.remaining reader; written = W.contents writer }) result.done }
     ensures status { result.exit.status ≡ exit_status result.done }
-    ensures line { IsListed (exit_line result.done) (E.contents error.old) (E.contents error.new) result.exit.cut }
+    ensures lines { IsListed (exit_lines result.done) (E.contents error.old) (E.contents error.new) result.exit.cut }
 {
     let done = do_asked(rt, threads, words, reader, writer);
     let exit = report(rt, &done, error);
@@ -102,17 +102,17 @@ where
     }
 }
 
-// Says what went wrong, and gives the status.
+// Says what is to be known of the run, what went wrong last, and gives the status.
 fn report<P, R, W, E>(rt: &P, done: &Done<'_, R, W>, error: &mut E) -> Exit
 where
     P: Print + Eprint,
     E: Write,
     ensures status { result.status ≡ exit_status done.now }
-    ensures line { IsListed (exit_line done.now) (E.contents error.old) (E.contents error.new) result.cut }
+    ensures lines { IsListed (exit_lines done.now) (E.contents error.old) (E.contents error.new) result.cut }
 {
     match done {
         Done::Rehearsed(rehearsed) => report_fault(rehearsal_fault(rehearsed.ending), error),
-        Done::Served(served) => report_fault(server_fault(*served), error),
+        Done::Served(served) => report_served(served, error),
         Done::Stopped(stop) => stop.report(rt, error),
     }
 }

@@ -1,7 +1,9 @@
-//! The server that the program's words ask for: where it listens, its mailboxes, and its run.
+//! The server that the program's words ask for: where it listens, its mailboxes, its run, and what is said of that.
 
 mod address;
 mod asked;
 mod mailboxes;
+mod report;
 
 pub use asked::serve_asked;
+pub use report::report_served;

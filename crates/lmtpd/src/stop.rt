@@ -1,14 +1,16 @@
 //! Why the program ends before its work is done, and what it says then.
 
-ghost use Rattle.std.specs.Prelude.{◌≡◌, flat_map};
+ghost use Rattle.std.specs.Prelude.{◌≡◌, OnOk, OnErr};
+ghost use Rattle.std.specs.Io.KnownBytes.{Appends};
 ghost use Rattle.lmtpd.specs.Faults.{stop_for, stop_status, words_status};
 ghost use Rattle.lmtpd.specs.Program.{line_after, status_after, stop_line, unopened_line};
+ghost use Rattle.lmtpd_output.specs.Output.{IsCutOff};
 ghost use Rattle.lmtpd_rehearse.specs.Rehearsal.{IsListed};
 
 use crate::fault::Fault;
 use clap::Error;
 use clap::error::ErrorKind;
-use lmtpd_output::write_each;
+use lmtpd_output::{WriteFault, write_each};
 use std::io::Write;
 
 /// How the program ends.
@@ -70,20 +72,35 @@ impl Stop<'_> {
     }
 }
 
-/// Says on `error` what is lacking, if anything is.
+/// Says on `error` what is lacking, if anything is, and gives the status.
 pub fn report_fault<E: Write>(fault: Option<Fault>, error: &mut E) -> Exit
     ensures status { result.status ≡ status_after fault }
     ensures line { IsListed (line_after fault) (E.contents error.old) (E.contents error.new) result.cut }
 {
+    Exit {
+        status: status_after(fault),
+        cut: write_fault(fault, error).is_err(),
+    }
+}
+
+/// The status of a run that lacks this, if anything.
+pub fn status_after(fault: Option<Fault>) -> u8
+    ensures { result ≡ status_after fault }
+{
     match fault {
-        Some(fault) => Exit {
-            status: fault.status(),
-            cut: is_cut(error, &[b"lmtpd: ", fault.text().as_bytes(), b"\n"]),
-        },
-        None => Exit {
-            status: 0,
-            cut: false,
-        },
+        Some(fault) => fault.status(),
+        None => 0,
+    }
+}
+
+/// Says on `error` what is lacking, if anything is. After a fault of the writer it holds a front of that line more.
+pub fn write_fault<E: Write>(fault: Option<Fault>, error: &mut E) -> Result<(), WriteFault>
+    ensures ok { OnOk result (Appends (E.contents error.old) (E.contents error.new) (line_after fault)) }
+    ensures err { OnErr result (IsCutOff (E.contents error.old) (E.contents error.new) (line_after fault)) }
+{
+    match fault {
+        Some(fault) => write_each(error, &[b"lmtpd: ", fault.text().as_bytes(), b"\n"]),
+        None => Ok(()),
     }
 }
 
@@ -91,20 +108,11 @@ fn report_unopened<E: Write>(name: &str, error: &mut E) -> Exit
     ensures status { result.status ≡ 1 }
     ensures line { IsListed (unopened_line name.now) (E.contents error.old) (E.contents error.new) result.cut }
 {
+    let pieces: [&[u8]; 3] = [b"lmtpd: cannot open ", name.as_bytes(), b".mbox\n"];
     Exit {
         status: 1,
-        cut: is_cut(
-            error,
-            &[b"lmtpd: cannot open ", name.as_bytes(), b".mbox\n"],
-        ),
+        cut: write_each(error, &pieces).is_err(),
     }
-}
-
-// Writes the pieces of a line, and says whether a write fails.
-fn is_cut<E: Write>(error: &mut E, pieces: &[&[u8]]) -> bool
-    ensures { IsListed (flat_map (λ piece. piece.now) pieces.now) (E.contents error.old) (E.contents error.new) result }
-{
-    write_each(error, pieces).is_err()
 }
 
 fn words_status(kind: ErrorKind) -> u8

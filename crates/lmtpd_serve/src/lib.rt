@@ -5,9 +5,10 @@ mod lines;
 mod run;
 mod served;
 
-pub use lmtp_house::{Sizes, TimedListener};
+pub use lines::write_over_lines;
+pub use lmtp_house::{Sizes, Tally, TimedListener};
 pub use run::serve_run;
-pub use served::Served;
+pub use served::{Served, ServerEnding};
 
 #[cfg(test)]
 mod tests;

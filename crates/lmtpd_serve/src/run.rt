@@ -6,7 +6,7 @@ ghost use Rattle.lmtp_house.specs.House.{IsSize};
 ghost use Rattle.lmtpd_serve.specs.Served.{IsServerRun};
 
 use super::lines::{address_line, write_counts};
-use super::served::Served;
+use super::served::{Served, ServerEnding};
 use box_worker::OpenGate;
 use lmtp_house::{
     HouseFault, Sizes, SystemClock, Tally, has_failed, is_size, run_house, tcp_visits,
@@ -23,7 +23,8 @@ use std::time::Clock;
 
 /// Says where the server listens, runs it for that many conversations, which the lanes share, and says for each mailbox
 /// how many copies it stored. A conversation is stopped after so many reads. Nothing more is said once a write failed;
-/// the server runs all the same, as it does where the listener can't tell its address.
+/// the server runs all the same, as it does where the listener can't tell its address. What each mailbox's worker did is
+/// handed back.
 pub fn serve_run<L, S, W, H>(
     rt: H,
     alloc: Global,
@@ -52,7 +53,7 @@ where
     if !is_size(&site, sizes, lanes as usize, spools.len(), spools.len()) {
         return Err(HouseFault::Size);
     }
-    let names = Arc::try_clone(&site)?;
+    let served_site = Arc::try_clone(&site)?;
     let gates = vec![in alloc; OpenGate; spools.len()]?;
     let announced = announce(alloc, &listener, &mut writer)?;
     let visits = tcp_visits(alloc, listener, lanes, connections, reads)?;
@@ -61,10 +62,15 @@ where
         Ok(report) => report,
         Err(fault) => return Err(fault),
     };
-    Ok(Served {
+    let ending = ServerEnding {
         faulty: has_failed(&report.tallies),
         failed: announced.is_unknown || report.visits.iter().any(|visits| visits.failed()),
-        cut: is_cut(announced.is_cut, &names, &report.tallies, &mut writer),
+        cut: is_cut(announced.is_cut, &served_site, &report.tallies, &mut writer),
+    };
+    Ok(Served {
+        ending,
+        site: served_site,
+        tallies: report.tallies,
     })
 }
 

@@ -3,7 +3,7 @@
 mod fakes;
 mod loopback;
 
-use super::{Served, serve_run};
+use super::{Served, ServerEnding, serve_run, write_over_lines};
 use fakes::{BrokenWriter, MemoryListener};
 use lmtp_house::{HouseFault, Sizes};
 use lmtp_text::Site;
@@ -29,13 +29,14 @@ fn site_of_anna(alloc: Global) -> Result<Arc<Site>, Fail> {
     Ok(site)
 }
 
-/// Serves so many clients of the listener on two lanes, with a mailbox in memory that has so much room.
+/// Serves so many clients of the listener on two lanes, with a mailbox in memory that has so much room and this quota.
 fn serve_in_memory<H>(
     rt: H,
     alloc: Global,
     listener: MemoryListener,
     connections: u64,
     room: usize,
+    quota: Option<u64>,
     output: &mut Vec<u8>,
 ) -> Result<Served, Fail>
 where
@@ -47,7 +48,7 @@ where
         rt,
         alloc,
         site,
-        TWO_LANES,
+        Sizes { quota, ..TWO_LANES },
         2,
         connections,
         1_000,
@@ -57,27 +58,31 @@ where
     )?)
 }
 
-/// A listener with so many clients, who each send one message to anna, a number of conversations, room in her mailbox,
-/// and what is said and answered.
+/// A listener with so many clients, who each send one message to anna, a number of conversations, room in her mailbox
+/// and its quota, and what is said, on standard error too, and answered.
 #[derive(Clone, Copy)]
 struct Case {
     clients: u64,
     tells: bool,
     connections: u64,
     room: usize,
+    quota: Option<u64>,
     output: &'static str,
-    served: Served,
+    errors: &'static str,
+    ending: ServerEnding,
 }
 
-const CASES: [Case; 5] = [
+const CASES: [Case; 6] = [
     // The first lane has one client more.
     Case {
         clients: 3,
         tells: true,
         connections: 3,
         room: 1_000,
+        quota: None,
         output: "listening on 127.0.0.1:2003\nanna stored 3\n",
-        served: Served {
+        errors: "",
+        ending: ServerEnding {
             faulty: false,
             failed: false,
             cut: false,
@@ -89,8 +94,10 @@ const CASES: [Case; 5] = [
         tells: true,
         connections: 2,
         room: 1_000,
+        quota: None,
         output: "listening on 127.0.0.1:2003\nanna stored 2\n",
-        served: Served {
+        errors: "",
+        ending: ServerEnding {
             faulty: false,
             failed: false,
             cut: false,
@@ -102,8 +109,10 @@ const CASES: [Case; 5] = [
         tells: true,
         connections: 4,
         room: 1_000,
+        quota: None,
         output: "listening on 127.0.0.1:2003\nanna stored 1\n",
-        served: Served {
+        errors: "",
+        ending: ServerEnding {
             faulty: false,
             failed: true,
             cut: false,
@@ -114,8 +123,10 @@ const CASES: [Case; 5] = [
         tells: false,
         connections: 2,
         room: 1_000,
+        quota: None,
         output: "anna stored 2\n",
-        served: Served {
+        errors: "",
+        ending: ServerEnding {
             faulty: false,
             failed: true,
             cut: false,
@@ -126,10 +137,27 @@ const CASES: [Case; 5] = [
         tells: true,
         connections: 2,
         room: 100,
+        quota: None,
         output: "listening on 127.0.0.1:2003\nanna stored 0\n",
-        served: Served {
+        errors: "",
+        ending: ServerEnding {
             faulty: true,
             failed: true,
+            cut: false,
+        },
+    },
+    // No record fits.
+    Case {
+        clients: 2,
+        tells: true,
+        connections: 2,
+        room: 1_000,
+        quota: Some(100),
+        output: "listening on 127.0.0.1:2003\nanna stored 0\n",
+        errors: "lmtpd: anna over quota 2\n",
+        ending: ServerEnding {
+            faulty: false,
+            failed: false,
             cut: false,
         },
     },
@@ -146,10 +174,14 @@ fn each_failure_is_told_and_the_others_are_served(rt: HostRuntime) -> Result<(),
             listener,
             case.connections,
             case.room,
+            case.quota,
             &mut output,
         )?;
         assert_eq!(rt; output.as_slice(), case.output.as_bytes());
-        assert_eq!(rt; served, case.served);
+        assert_eq!(rt; served.ending, case.ending);
+        let mut errors = Vec::new(rt.alloc());
+        write_over_lines(&mut errors, &served)?;
+        assert_eq!(rt; errors.as_slice(), case.errors.as_bytes());
     }
     Ok(())
 }
@@ -174,8 +206,8 @@ fn a_writer_that_fails_is_written_to_once(rt: HostRuntime) -> Result<(), Fail> {
         &mut writer,
     )?;
     assert_eq!(rt;
-        served,
-        Served {
+        served.ending,
+        ServerEnding {
             faulty: false,
             failed: false,
             cut: true

@@ -76,8 +76,8 @@ fn two_clients_store_two_letters_and_two_more(rt: HostRuntime) -> Result<(), Fai
         let mut output = Vec::new(rt.alloc());
         let (served, heard) = serve_two(rt, rt, folder.as_str(), &mut output)?;
         assert_eq!(rt;
-            served,
-            Served {
+            served.ending,
+            ServerEnding {
                 faulty: false,
                 failed: false,
                 cut: false
@@ -102,8 +102,8 @@ fn clients_are_served_where_the_first_write_fails(rt: HostRuntime) -> Result<(),
     let mut writer = BrokenWriter { writes: 0 };
     let (served, heard) = serve_two(rt, rt, folder.as_str(), &mut writer)?;
     assert_eq!(rt;
-        served,
-        Served {
+        served.ending,
+        ServerEnding {
             faulty: false,
             failed: false,
             cut: true

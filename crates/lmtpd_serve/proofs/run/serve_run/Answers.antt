@@ -1,4 +1,4 @@
-use Rattle.std.proofs.Common.{◌∙◌, ap}
+use Rattle.std.proofs.Common.{◌∙◌, ap, refl, rules}
 use Rattle.std.specs.List.{list_any}
 use Rattle.lmtpd_serve.proofs.run.serve_run.Goals as goal
 
@@ -14,5 +14,7 @@ returns-clause-ran g c = record {
   each_lane = c.in_ok-visits.ensures.count;
   none_ended = c.in_ok-visits.ensures.none_ended;
   ran = c.in-Ok.ensures.ran;
+  same_site = search rules;
+  tallies = refl;
   faulty = c.has_failed.ensures ∙ ap (λ ts. list_any (λ t. t.faulty) ts) c.deref-2.ensures.value;
 }

@@ -1,0 +1,16 @@
+-- A line behind lines that were written.
+use Rattle.std.proofs.Common.{◌∙◌, ◌++◌, List, ℕ, Option, ap, append_assoc, sym}
+use Rattle.std.specs.Io.KnownBytes.{Appends}
+use Rattle.lmtpd_output.specs.Output.{IsCutOff}
+use Rattle.lmtpd_output.proofs.Written.{Appends-then}
+
+-- a text that was cut off behind one that was written whole
+pub cut_behind : (u v w : Option (List ℕ)) (before text : List ℕ) → Appends u v before → IsCutOff v w text → IsCutOff u w (before ++ text)
+cut_behind u v w before text written cut = record {
+  front = before ++ cut.front;
+  begins = record {
+    rest = cut.begins.rest;
+    whole = ap (λ (t : List ℕ). before ++ t) cut.begins.whole ∙ sym (append_assoc before cut.front cut.begins.rest);
+  };
+  appended = Appends-then u v w before cut.front written cut.appended;
+}

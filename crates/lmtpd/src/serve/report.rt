@@ -1,0 +1,43 @@
+//! What the program says of a server that ran.
+
+ghost use Rattle.std.specs.Prelude.{◌≡◌, ◌++◌, OnOk, OnErr};
+ghost use Rattle.std.specs.Io.KnownBytes.{Appends};
+ghost use Rattle.lmtpd.specs.Faults.{server_fault};
+ghost use Rattle.lmtpd.specs.Program.{line_after, status_after};
+ghost use Rattle.lmtpd_output.specs.Output.{IsCutOff};
+ghost use Rattle.lmtpd_rehearse.specs.Rehearsal.{IsListed};
+ghost use Rattle.lmtpd_serve.specs.Served.{over_lines};
+
+use crate::fault::{Fault, server_fault};
+use crate::stop::{Exit, status_after, write_fault};
+use lmtpd_output::WriteFault;
+use lmtpd_serve::{Served, write_over_lines};
+use std::io::Write;
+
+/// Says on `error` which mailboxes are over their quota, and then what is lacking, if anything is, and gives the status.
+pub fn report_served<E: Write>(served: &Served, error: &mut E) -> Exit
+    ensures status { result.status ≡ status_after (server_fault served.now.ending) }
+    ensures lines { IsListed (over_lines served.now ++ line_after (server_fault served.now.ending))
+        (E.contents error.old) (E.contents error.new) result.cut }
+{
+    let fault = server_fault(served.ending);
+    Exit {
+        status: status_after(fault),
+        cut: write_lines(served, fault, error).is_err(),
+    }
+}
+
+// Says both; behind a fault of the writer nothing.
+fn write_lines<E: Write>(
+    served: &Served,
+    fault: Option<Fault>,
+    error: &mut E,
+) -> Result<(), WriteFault>
+    ensures ok { OnOk result (Appends (E.contents error.old) (E.contents error.new)
+        (over_lines served.now ++ line_after fault)) }
+    ensures err { OnErr result (IsCutOff (E.contents error.old) (E.contents error.new)
+        (over_lines served.now ++ line_after fault)) }
+{
+    write_over_lines(error, served)?;
+    write_fault(fault, error)
+}
