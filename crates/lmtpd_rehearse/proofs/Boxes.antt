@@ -20,7 +20,7 @@ use Rattle.lmtp_threads.specs.declared.tally.Tally.{Tally}
 use Rattle.lmtpd_rehearse.specs.declared.parts.TheConstants.{MAILBOX_ROOM}
 use Rattle.lmtpd_rehearse.specs.Mailboxes.{MailboxContent, kept_all, kept_at, bytes_of_all, empty_spool, IsCalm}
 use Rattle.lmtpd_rehearse.specs.Copies.{HoldsCopies, kept_later}
-use Rattle.lmtpd_rehearse.proofs.Keeping.{kept_parts, length-marked, marked_none, same_marks}
+use Rattle.lmtpd_rehearse.proofs.Keeping.{kept_front, kept_parts, length-marked, marked_next, marked_none, same_marks}
 
 -- a spool in memory as every spool is seen
 abbrev pub state_of : MemorySpool → SpoolState
@@ -131,6 +131,21 @@ module _ (site : Site) (quota : Option ℕ) (b start : ℕ) (notes : List Note) 
   count_first : (faulty : Bool) → HoldsSettled faulty → stored ≡ length first
   count_first faulty h = h.stored ∙ ap length (kept_as faulty h (take (stored + over) notes))
 
+  next_kept : HoldsSettled true → 0 < stored + over → slice_get (are_kept civil_at site.host quota [] notes) (stored + over) ≡ Some true
+  next_kept h some = elim (h.next refl) [
+    | inl none ↦ absurd (omega (arith, none, some))
+    | inr one ↦ (
+        let marks : List Bool = are_kept civil_at site.host quota [] notes in
+        let n : ℕ = stored + over in
+        let next : suc n ≡ n + 1 = omega arith in
+        let now : length (marked (take (suc n) marks) (take (suc n) notes)) ≡ stored + 1 =
+        ap length (sym (kept_as true h (take (suc n) notes) ∙ kept_front civil_at site.host quota (suc n) notes))
+        ∙ ap (λ k. length (kept_behind at start (take k notes))) next ∙ one.1 in
+        let was : stored ≡ length (marked (take n marks) (take n notes)) = count_first true h ∙ ap length (kept_front civil_at site.host quota n notes) in
+        marked_next n marks notes (omega (arith, now, was))
+        )
+  ]
+
   holds_whole : HoldsSettled false → Holds false
   holds_whole h =
       let settled : stored + over ≡ length notes = h.all refl in
@@ -148,6 +163,7 @@ module _ (site : Site) (quota : Option ℕ) (b start : ℕ) (notes : List Note) 
         held = held ∙ ap (λ l. mailbox civil_at site.host [] (kept civil_at site.host quota [] l)) (sym taken) ∙ sym (append-nil (mailbox civil_at site.host [] first));
         tears = subst T (sym (ap (marked marks) none ∙ marked_none marks)) refl;
         fails = sym (grind (arith, nat_tests, settled));
+        next = λ e some. cc;
       }
 
   holds_front : HoldsSettled true → Holds true
@@ -171,6 +187,7 @@ module _ (site : Site) (quota : Option ℕ) (b start : ℕ) (notes : List Note) 
           held = some.2 ∙ ap (λ l. mailbox civil_at site.host [] l ++ some.0) taken;
           tears = subst T left some.3;
           fails = sym (grind (arith, nat_tests, low));
+          next = λ e some. next_kept h some;
         }
         )
     | inr none ↦ (

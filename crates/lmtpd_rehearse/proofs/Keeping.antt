@@ -1,10 +1,9 @@
 -- What a mailbox that was empty keeps of its copies under a quota, front by front.
-use Rattle.std.proofs.Common.{◌≡◌, ℕ, zero, suc, ◌+◌, ◌≤◌, List, [], ◌∷◌, ◌++◌, length, take, drop, Bool, true, false, Option, Some, None, inl, inr, refl, sym, ap, subst, arith}
-use Rattle.std.specs.Prelude.{if◌then◌else◌}
+use Rattle.std.proofs.Common.{◌≡◌, ℕ, zero, suc, ◌+◌, ◌≤◌, List, [], ◌∷◌, ◌++◌, length, take, drop, Bool, true, false, Option, Some, None, inl, inr, refl, sym, ap, ◌∙◌, subst, arith}
+use Rattle.std.specs.Prelude.{slice_get, if◌then◌else◌}
 use Rattle.std.specs.Option.{IfSome}
 use Rattle.std.specs.List.{AllByRecursion}
 use Rattle.mail_world.specs.declared.Note.{Note}
-use Rattle.mail_world.specs.declared.Outcome.{Outcome}
 use Rattle.mail_world.specs.declared.Outcome.TheVariants.{Stored, OverQuota}
 use Rattle.mail_world.specs.Records.{Calendar, record_of, mended}
 use Rattle.mail_world.specs.Quotas.{fits, are_kept_behind, are_kept, kept, marked, outcomes_settled}
@@ -35,6 +34,21 @@ length-marked (false ∷ marks) [] = omega arith
 length-marked (true ∷ marks) (x ∷ xs) = let rest = length-marked marks xs in omega (arith, rest)
 length-marked (false ∷ marks) (x ∷ xs) = let rest = length-marked marks xs in omega (arith, rest)
 
+-- a mark by which one more is kept
+pub marked_next : {A : Type 0} (n : ℕ) (marks : List Bool) (xs : List A)
+    → length (marked (take (suc n) marks) (take (suc n) xs)) ≡ length (marked (take n marks) (take n xs)) + 1 → slice_get marks n ≡ Some true
+marked_next zero [] [] e = absurd (omega (arith, e))
+marked_next (suc n) [] [] e = absurd (omega (arith, e))
+marked_next zero [] (x ∷ xs) e = absurd (omega (arith, e))
+marked_next (suc n) [] (x ∷ xs) e = absurd (omega (arith, e))
+marked_next zero (true ∷ marks) xs e = refl
+marked_next zero (false ∷ marks) [] e = absurd (omega (arith, e))
+marked_next zero (false ∷ marks) (x ∷ xs) e = absurd (omega (arith, e))
+marked_next (suc n) (true ∷ marks) [] e = absurd (omega (arith, e))
+marked_next (suc n) (false ∷ marks) [] e = absurd (omega (arith, e))
+marked_next (suc n) (true ∷ marks) (x ∷ xs) e = marked_next n marks xs (omega (arith, e))
+marked_next (suc n) (false ∷ marks) (x ∷ xs) e = marked_next n marks xs e
+
 module _ (calendar : Calendar) (host : List ℕ) where
   -- the marks of the first copies are the first marks
   marks_front : (quota : Option ℕ) (n len : ℕ) (notes : List Note) → are_kept_behind calendar host quota len (take n notes) ≡ take n (are_kept_behind calendar host quota len notes)
@@ -45,14 +59,13 @@ module _ (calendar : Calendar) (host : List ℕ) where
       let t = fits quota len size in
       ap (λ l. t ∷ l) (marks_front quota n (if t then len + size else len) notes)
 
+  pub kept_front : (quota : Option ℕ) (n : ℕ) (notes : List Note) → kept calendar host quota [] (take n notes) ≡ marked (take n (are_kept calendar host quota [] notes)) (take n notes)
+  unfolding are_kept
+  kept_front quota n notes = ap (λ marks. marked marks (take n notes)) (marks_front quota n 0 notes)
+
   -- what is kept of the first copies, and of the others
   pub kept_parts : (quota : Option ℕ) (n : ℕ) (notes : List Note) → kept calendar host quota [] notes ≡ kept calendar host quota [] (take n notes) ++ kept_later calendar host quota n notes
-  unfolding are_kept
-  kept_parts quota n notes =
-      let marks : List Bool = are_kept_behind calendar host quota 0 notes in
-      let front = marks_front quota n 0 notes in
-      let P : List Bool → Type 0 = λ ms. marked marks notes ≡ marked ms (take n notes) ++ marked (drop n marks) (drop n notes) in
-      subst P (sym front) (marked_parts n marks notes)
+  kept_parts quota n notes = marked_parts n (are_kept calendar host quota [] notes) notes ∙ ap (λ l. l ++ kept_later calendar host quota n notes) (sym (kept_front quota n notes))
 
   -- without a quota it makes no difference how many bytes stand before
   unlimited : (a b : ℕ) (notes : List Note) → are_kept_behind calendar host None a notes ≡ are_kept_behind calendar host None b notes
