@@ -2,7 +2,7 @@
 _lmtpd() {
     local serve rehearse word=${COMP_WORDS[COMP_CWORD]} before=${COMP_WORDS[COMP_CWORD - 1]}
     serve='--host --listen --dir --connections --domains --lanes --blocks --capacity --reads --timeout --quota --help'
-    rehearse='--host --time --domains --blocks --help'
+    rehearse='--host --time --domains --blocks --quota --help'
     COMPREPLY=()
     if [ "$before" = --dir ]; then
         compopt -o dirnames

@@ -43,6 +43,10 @@ try 1 'lmtpd: size' "${good[@]}" --blocks 0 anna
 try 1 'lmtpd: size' "${good[@]}" --blocks 65537 anna
 try 2 clap "${good[@]}" --blocks 4294967296 anna
 try 2 clap "${good[@]}" --blocks x anna
+try 2 clap "${good[@]}" --quota -1 anna
+try 2 clap "${good[@]}" --quota 18446744073709551616 anna
+try 2 clap "${good[@]}" --quota 1k anna
+try 2 clap "${good[@]}" --quota '' anna
 try 2 clap rehearse --host mx.example anna
 try 2 clap rehearse --host mx.example --time 4294967296 anna
 try 2 clap rehearse --host mx.example --time x anna
@@ -57,6 +61,7 @@ try 0 none --help
 try 0 none help
 try 0 none rehearse --help
 try 0 none "${good[@]}" anna
+try 0 none "${good[@]}" --quota 0 anna
 try 0 none "${good[@]}" --domains a.example,b.example anna ben
 try 0 none rehearse --host mx.example --time 4294967295 "${many[@]:1}"
 exit $failed

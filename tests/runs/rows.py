@@ -17,12 +17,17 @@ OPENED = [GREETING, *OFFER, SENDER_OK]
 
 PROLOGUE = [b"LHLO relay.example", b"MAIL FROM:<carl@a.example>"]
 TO_ANNA = b"RCPT TO:<anna@mx.example>"
+TO_BEN = b"RCPT TO:<ben@mx.example>"
 HELLO = [b"Subject: hi", b"", b"hello", b"."]
 HELLO_STORED = b"Subject: hi\n\nhello\n"
 
 
 def stored(box):
     return b"250 2.0.0 Stored for " + box.encode()
+
+
+def over(box):
+    return b"452 4.2.2 Over quota for " + box.encode()
 
 
 def head(number=1, sender=b"carl@a.example", moment=(b"Thu Jan  1 00:00:00 1970", b"Thu, 1 Jan 1970 00:00:00 +0000")):
@@ -72,6 +77,7 @@ def rows():
     yield from conversations()
     yield from texts()
     yield from limits()
+    yield from quotas()
     yield from moments()
     yield from smuggled()
 
@@ -85,7 +91,7 @@ def conversations():
     )
     yield Row(
         "two mailboxes, and one that there isn't",
-        [*PROLOGUE, TO_ANNA, b"RCPT TO:<zoe@mx.example>", b"RCPT TO:<ben@mx.example>", b"DATA", *HELLO, b"QUIT"],
+        [*PROLOGUE, TO_ANNA, b"RCPT TO:<zoe@mx.example>", TO_BEN, b"DATA", *HELLO, b"QUIT"],
         [*OPENED, RECIPIENT_OK, b"550 5.1.1 No such mailbox", RECIPIENT_OK, GO_AHEAD, stored("anna"), stored("ben"), BYE],
         {"anna": record(HELLO_STORED), "ben": record(HELLO_STORED)},
     )
@@ -254,6 +260,71 @@ def limits():
             BYE,
         ],
         {"anna": record(HELLO_STORED) * 100, "ben": b""},
+    )
+
+
+def quotas():
+    """The record of the message of `HELLO` has 189 bytes, that of a message with no bytes 170."""
+    for quota, reply, held in [
+        (189, stored("anna"), record(HELLO_STORED)),
+        (188, over("anna"), b""),
+        (0, over("anna"), b""),
+        (18_446_744_073_709_551_615, stored("anna"), record(HELLO_STORED)),
+    ]:
+        yield Row(
+            f"one message and a quota of {quota}",
+            [*PROLOGUE, TO_ANNA, b"DATA", *HELLO, b"QUIT"],
+            [*OPENED, RECIPIENT_OK, GO_AHEAD, reply, BYE],
+            {"anna": held},
+            ["--quota", str(quota)],
+        )
+    yield Row(
+        "a shorter message fits behind one that is over the quota",
+        [*PROLOGUE, TO_ANNA, TO_ANNA, b"DATA", *HELLO, PROLOGUE[1], TO_ANNA, b"DATA", b".", b"QUIT"],
+        [
+            *OPENED,
+            RECIPIENT_OK,
+            RECIPIENT_OK,
+            GO_AHEAD,
+            stored("anna"),
+            over("anna"),
+            SENDER_OK,
+            RECIPIENT_OK,
+            GO_AHEAD,
+            stored("anna"),
+            BYE,
+        ],
+        {"anna": record(HELLO_STORED) + record(b"", number=2), "ben": b""},
+        ["--quota", "359"],
+    )
+    yield Row(
+        "each mailbox has the whole quota",
+        [*PROLOGUE, TO_ANNA, TO_BEN, TO_ANNA, b"DATA", *HELLO, b"QUIT"],
+        [*OPENED, *[RECIPIENT_OK] * 3, GO_AHEAD, stored("anna"), stored("ben"), over("anna"), BYE],
+        {"anna": record(HELLO_STORED), "ben": record(HELLO_STORED)},
+        ["--quota", "189"],
+    )
+
+
+def keeps(quota, records):
+    """For each record whether a mailbox keeps it that was empty: it fits behind what is held by then."""
+    held = 0
+    for text in records:
+        fits = held + len(text) <= quota
+        held += len(text) if fits else 0
+        yield fits
+
+
+def twice_under(quota):
+    """One message for anna twice, of 378 bytes without a quota."""
+    records = [record(HELLO_STORED)] * 2
+    kept = list(keeps(quota, records))
+    return Row(
+        f"one mailbox twice and a quota of {quota}",
+        [*PROLOGUE, TO_ANNA, TO_ANNA, b"DATA", *HELLO, b"QUIT"],
+        [*OPENED, RECIPIENT_OK, RECIPIENT_OK, GO_AHEAD, *[stored("anna") if fits else over("anna") for fits in kept], BYE],
+        {"anna": b"".join(text for text, fits in zip(records, kept) if fits), "ben": b""},
+        ["--quota", str(quota)],
     )
 
 

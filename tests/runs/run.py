@@ -59,12 +59,22 @@ def tell(name, found, wanted):
     return found == wanted
 
 
+def wrong_quotas():
+    """The quotas from 0 to all that two records take under which a run isn't as the rule of quotas says."""
+    for quota in range(379):
+        row = rows.twice_under(quota)
+        found = play(row)
+        if found != (0, row.output(), b""):
+            yield quota, found
+
+
 def verdicts():
     for row in rows.rows():
         wanted = (0, row.output(), b"")
         yield tell(row.name, play(row), wanted)
         if len(row.input()) < 400:
             yield tell(f"{row.name}, byte by byte", play_in_pieces(row), wanted)
+    yield tell("one mailbox twice and each quota from 0 to 378", list(wrong_quotas()), [])
     first = next(rows.rows())
     yield tell("standard output is full", play_on_full(first), (1, b"", b"lmtpd: device fault\n"))
     for blocks in [0, 65_537]:

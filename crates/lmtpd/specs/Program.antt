@@ -60,11 +60,11 @@ IsNotRun IsSize fault.NoThread = IsSize
 IsNotRun IsSize fault.ChannelGone = IsSize
 IsNotRun IsSize _ = ⊥
 
--- A rehearsal that its words asked for was held: at the site that they name, at their moment, with as many blocks as they say.
+-- A rehearsal that its words asked for was held: at the site that they name, at their moment, with as many blocks and under the quota that they say.
 pub record IsRehearsedAsAsked (words : RehearseWords) (old new : Streams) (ending : Ending) : Type 0 where
   pub sound : first_fault (named_site words.site) ≡ None
   pub blocks : IsBlockCount words.blocks
-  pub rehearsed : IsRehearsed (named_site words.site) words.time old new ending
+  pub rehearsed : IsRehearsed (named_site words.site) words.quota words.time old new ending
 
 -- Why none was held: memory is wanting, and else the first fault of the site, and then one of the server that was to run.
 abbrev pub IsNotRehearsed : RehearseWords → Fault → Type 0

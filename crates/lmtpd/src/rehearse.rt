@@ -30,6 +30,15 @@ where
         (IsNotRehearsed words.now) }
 {
     let site = Arc::new(alloc, site_of(alloc, &words.site)?)?;
-    let rehearsed = rehearse_run(rt, alloc, site, words.blocks, words.time, reader, writer)?;
+    let rehearsed = rehearse_run(
+        rt,
+        alloc,
+        site,
+        words.blocks,
+        words.quota,
+        words.time,
+        reader,
+        writer,
+    )?;
     Ok(rehearsed)
 }

@@ -1,19 +1,26 @@
 -- The mailboxes of a server that has run, by their spools and what their workers say of them.
-use Rattle.std.proofs.Common.{◌≡◌, ℕ, zero, suc, ◌+◌, ◌<◌, List, [], ◌∷◌, ◌++◌, length, map, take, drop, replicate, Bool, true, false, Option, Some, inl, inr, refl, ap, sym, ◌∙◌, subst, arith}
-use Rattle.std.specs.Prelude.{not, slice_get, ◌||◌}
+use Rattle.std.proofs.Common.{◌≡◌, ℕ, zero, suc, ◌+◌, ◌<◌, ◌≤◌, List, [], ◌∷◌, ◌++◌, length, map, take, drop, replicate, Bool, true, false, Option, Some, inl, inr, refl, ap, sym, ◌∙◌, subst, arith}
+use Rattle.std.specs.Prelude.{slice_get, ◌||◌}
 use Rattle.std.specs.List.{list_any}
-use Rattle.std.proofs.lemmas.List.{append-nil, take-append-drop, take_all, drop_all}
+use Rattle.std.proofs.lemmas.Bool.Decides.{nat_tests}
+use Rattle.std.proofs.lemmas.List.{append-nil, length-append, length-drop, take_all, drop_all}
+use Rattle.std.proofs.Math.Seq.{take-append_seam, drop-append_seam}
 use Rattle.mail_world.specs.declared.Note.{Note}
-use Rattle.mail_world.specs.declared.Outcome.{Outcome}
-use Rattle.mail_world.specs.declared.Outcome.TheVariants.{Stored, Failed}
+use Rattle.mail_world.specs.Site.{Site}
 use Rattle.mail_world.specs.Records.{Calendar, mailbox}
-use Rattle.mail_world.specs.Deliveries.{is_none, HoldsCopies}
+use Rattle.mail_world.specs.Quotas.{are_kept, kept, marked, outcomes_settled}
+use Rattle.mail_world.specs.Deliveries.{IsTorn}
+use Rattle.lmtp_text.specs.Calendar.{civil_at}
 use Rattle.mbox_rd.specs.MemorySpool.{MemorySpool}
 use Rattle.mbox_rd.specs.Spool.{SpoolState, IsFull}
-use Rattle.box_worker.specs.Stored.{mailbox_of, HasStored}
+use Rattle.box_worker.specs.Limits.{Setting, kept_behind}
+use Rattle.box_worker.specs.Stored.{mailbox_of, HasStored, HasSettled}
+use Rattle.lmtp_threads.specs.Works.{share_of, setting_of}
 use Rattle.lmtp_threads.specs.declared.tally.Tally.{Tally}
 use Rattle.lmtpd_rehearse.specs.declared.parts.TheConstants.{MAILBOX_ROOM}
 use Rattle.lmtpd_rehearse.specs.Mailboxes.{MailboxContent, kept_all, kept_at, bytes_of_all, empty_spool, IsCalm}
+use Rattle.lmtpd_rehearse.specs.Copies.{HoldsCopies, kept_later}
+use Rattle.lmtpd_rehearse.proofs.Keeping.{kept_front, kept_parts, length-marked, marked_next, marked_none, same_marks}
 
 -- a spool in memory as every spool is seen
 abbrev pub state_of : MemorySpool → SpoolState
@@ -80,59 +87,117 @@ all_calm (s ∷ spools) (t ∷ tallies) size calm =
     any_first t tallies ∙ ap (λ b. b || list_any (λ x. x.faulty) tallies) (calm 0 (omega arith))
     ∙ all_calm spools tallies (omega arith) (calm_behind (record { bytes = s.bytes; failed = t.faulty }) (kept_all spools tallies) calm)
 
--- what a worker's spool holds of the copies that it took
-abbrev stored_and_not : ℕ → List Note → List Outcome
-stored_and_not n notes = map (λ note. Stored) (take n notes) ++ map (λ note. Failed) (drop n notes)
-
-some_lost : (n : ℕ) (notes : List Note) → n < length notes → true ≡ not (is_none (drop n notes))
-some_lost n [] h = absurd (omega arith)
-some_lost zero (x ∷ notes) h = refl
-some_lost (suc n) (x ∷ notes) h = some_lost n notes (omega arith)
-
+-- a front of nothing
 no_front : (front rest : List ℕ) → [] ≡ front ++ rest → front ≡ []
 no_front [] rest e = refl
 no_front (x ∷ front) rest e = cc
 
-pub is_full : (calendar : Calendar) (host : List ℕ) (spool : MemorySpool) (notes : List Note) (n : ℕ) (faulty : Bool)
-    → HasStored calendar host notes (state_of empty_spool) (mailbox_of (state_of spool) n 0 faulty) → faulty ≡ true → length spool.bytes ≡ MAILBOX_ROOM
-is_full calendar host spool notes n faulty h e =
+pub is_full : (calendar : Calendar) (host : List ℕ) (spool : MemorySpool) (notes : List Note) (stored over : ℕ) (faulty : Bool)
+    → HasStored calendar host notes (state_of empty_spool) (mailbox_of (state_of spool) stored over faulty) → faulty ≡ true → length spool.bytes ≡ MAILBOX_ROOM
+is_full calendar host spool notes stored over faulty h e =
     let P : Option ℕ → Type 0 = λ limit. IsFull limit (Some spool.bytes) in
     let full : length spool.bytes ≡ 0 + MAILBOX_ROOM = subst P h.limited (h.full e) in
     omega (arith, full)
 
-pub holds_stored : (calendar : Calendar) (host : List ℕ) (spool : MemorySpool) (notes : List Note) (n : ℕ) (faulty : Bool)
-    → HasStored calendar host notes (state_of empty_spool) (mailbox_of (state_of spool) n 0 faulty) → HoldsCopies calendar host notes (stored_and_not n notes) spool.bytes faulty
-holds_stored calendar host spool notes n false h =
-    let all : n ≡ length notes = h.all refl in
-    let whole : ◌≡◌ {A = Option (List ℕ)} (Some spool.bytes) (Some (mailbox calendar host [] notes)) = h.whole refl in
-    let held : spool.bytes ≡ mailbox calendar host [] notes = cc in
-    let none : drop n notes ≡ [] = drop_all n notes (omega arith) in
-    let taken : take n notes ≡ notes = take_all n notes (omega arith) in
-    record {
-      stored = notes;
-      lost = [];
-      torn = [];
-      all = sym (append-nil notes);
-      told = ap (λ l. map (λ (note : Note). Stored) l ++ map (λ (note : Note). Failed) (drop n notes)) taken ∙ ap (λ l. map (λ (note : Note). Stored) notes ++ map (λ (note : Note). Failed) l) none;
-      held = held ∙ sym (append-nil (mailbox calendar host [] notes));
-      tears = refl;
-      fails = refl;
-    }
-holds_stored calendar host spool notes n true h = elim (h.torn refl) [
-  | inl some ↦ record {
-    stored = take n notes;
-    lost = drop n notes;
-    torn = some.0;
-    all = sym (take-append-drop n notes);
-    told = refl;
-    held = some.2;
-    tears = some.3;
-    fails = some_lost n notes some.1;
-  }
-  | inr none ↦ (
-      let full = is_full calendar host spool notes n true h refl in
-      let nothing : none.0 ≡ [] = no_front none.0 none.3.rest none.3.whole in
-      let empty : length spool.bytes ≡ 0 = ap length (none.2 ∙ nothing) in
-      absurd (omega (arith, full, empty))
-      )
-]
+-- what a worker's spool holds of the copies that it took
+module _ (site : Site) (quota : Option ℕ) (b start : ℕ) (notes : List Note) (spool : MemorySpool) (stored over : ℕ) where
+  abbrev at : Setting
+  at = setting_of (share_of site quota) b
+
+  -- the copies that are kept, those of them that were settled, and the others
+  abbrev all : List Note
+  all = kept civil_at site.host quota [] notes
+
+  abbrev first : List Note
+  first = kept civil_at site.host quota [] (take (stored + over) notes)
+
+  abbrev later : List Note
+  later = kept_later civil_at site.host quota (stored + over) notes
+
+  abbrev pub HoldsSettled : Bool → Type 0
+  HoldsSettled faulty = HasSettled at start notes (state_of empty_spool) (mailbox_of (state_of spool) stored over faulty)
+
+  abbrev pub Holds : Bool → Type 0
+  Holds faulty = HoldsCopies civil_at site.host quota notes (outcomes_settled (stored + over) (are_kept civil_at site.host quota [] notes)) spool.bytes faulty
+
+  kept_as : (faulty : Bool) → HoldsSettled faulty → (xs : List Note) → kept_behind at start xs ≡ kept civil_at site.host quota [] xs
+  kept_as faulty h xs = ap (λ marks. marked marks xs) (same_marks civil_at site.host quota (state_of empty_spool) start xs refl h.starts)
+
+  pub spool_has : (faulty : Bool) → HoldsSettled faulty → HasStored civil_at site.host all (state_of empty_spool) (mailbox_of (state_of spool) stored over faulty)
+  spool_has faulty h =
+      let P : List Note → Type 0 = λ l. HasStored civil_at site.host l (state_of empty_spool) (mailbox_of (state_of spool) stored over faulty) in
+      subst P (kept_as faulty h notes) h.spool
+
+  count_first : (faulty : Bool) → HoldsSettled faulty → stored ≡ length first
+  count_first faulty h = h.stored ∙ ap length (kept_as faulty h (take (stored + over) notes))
+
+  next_kept : HoldsSettled true → 0 < stored + over → slice_get (are_kept civil_at site.host quota [] notes) (stored + over) ≡ Some true
+  next_kept h some = elim (h.next refl) [
+    | inl none ↦ absurd (omega (arith, none, some))
+    | inr one ↦ (
+        let marks : List Bool = are_kept civil_at site.host quota [] notes in
+        let n : ℕ = stored + over in
+        let next : suc n ≡ n + 1 = omega arith in
+        let now : length (marked (take (suc n) marks) (take (suc n) notes)) ≡ stored + 1 =
+        ap length (sym (kept_as true h (take (suc n) notes) ∙ kept_front civil_at site.host quota (suc n) notes))
+        ∙ ap (λ k. length (kept_behind at start (take k notes))) next ∙ one.1 in
+        let was : stored ≡ length (marked (take n marks) (take n notes)) = count_first true h ∙ ap length (kept_front civil_at site.host quota n notes) in
+        marked_next n marks notes (omega (arith, now, was))
+        )
+  ]
+
+  holds_whole : HoldsSettled false → Holds false
+  holds_whole h =
+      let settled : stored + over ≡ length notes = h.all refl in
+      let whole : ◌≡◌ {A = Option (List ℕ)} (Some spool.bytes) (Some (mailbox civil_at site.host [] all)) = (spool_has false h).whole refl in
+      let held : spool.bytes ≡ mailbox civil_at site.host [] all = cc in
+      let taken : take (stored + over) notes ≡ notes = take_all (stored + over) notes (omega (arith, settled)) in
+      let none : drop (stored + over) notes ≡ [] = drop_all (stored + over) notes (omega (arith, settled)) in
+      let marks : List Bool = drop (stored + over) (are_kept civil_at site.host quota [] notes) in
+      let T : List Note → Type 0 = λ l. IsTorn civil_at site.host l [] in
+      record {
+        settled = stored + over;
+        torn = [];
+        within = h.within;
+        told = refl;
+        held = held ∙ ap (λ l. mailbox civil_at site.host [] (kept civil_at site.host quota [] l)) (sym taken) ∙ sym (append-nil (mailbox civil_at site.host [] first));
+        tears = subst T (sym (ap (marked marks) none ∙ marked_none marks)) refl;
+        fails = sym (grind (arith, nat_tests, settled));
+        next = λ e some. cc;
+      }
+
+  holds_front : HoldsSettled true → Holds true
+  holds_front h = elim ((spool_has true h).torn refl) [
+    | inl some ↦ (
+        let count : stored ≡ length first = count_first true h in
+        let parts : all ≡ first ++ later = kept_parts civil_at site.host quota (stored + over) notes in
+        let taken : take stored all ≡ first = ap (take stored) parts ∙ ap (λ n. take n (first ++ later)) count ∙ take-append_seam first later in
+        let left : drop stored all ≡ later = ap (drop stored) parts ∙ ap (λ n. drop n (first ++ later)) count ∙ drop-append_seam first later in
+        let long : length all ≡ length first + length later = ap length parts ∙ length-append first later in
+        let few : length later ≤ length (drop (stored + over) notes) = length-marked (drop (stored + over) (are_kept civil_at site.host quota [] notes)) (drop (stored + over) notes) in
+        let rest = length-drop (stored + over) notes in
+        let more = some.1 in
+        let low : stored + over < length notes = omega (arith, count, long, few, rest, more) in
+        let T : List Note → Type 0 = λ l. IsTorn civil_at site.host l some.0 in
+        record {
+          settled = stored + over;
+          torn = some.0;
+          within = h.within;
+          told = refl;
+          held = some.2 ∙ ap (λ l. mailbox civil_at site.host [] l ++ some.0) taken;
+          tears = subst T left some.3;
+          fails = sym (grind (arith, nat_tests, low));
+          next = λ e some. next_kept h some;
+        }
+        )
+    | inr none ↦ (
+        let full = is_full civil_at site.host spool all stored over true (spool_has true h) refl in
+        let nothing : none.0 ≡ [] = no_front none.0 none.3.rest none.3.whole in
+        let empty : length spool.bytes ≡ 0 = ap length (none.2 ∙ nothing) in
+        absurd (omega (arith, full, empty))
+        )
+  ]
+
+  pub holds_settled : (faulty : Bool) → HoldsSettled faulty → Holds faulty
+  holds_settled false h = holds_whole h
+  holds_settled true h = holds_front h

@@ -1,5 +1,5 @@
 pub mod Listed
-pub mod Unlimited
+pub mod Keeping
 pub mod Rising
 pub mod Naming
 pub mod Telling

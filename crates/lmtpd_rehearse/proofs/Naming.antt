@@ -1,13 +1,14 @@
 -- The slips that are owed for all copies of a conversation: each names its copy, and no other names the same.
-use Rattle.std.proofs.Common.{◌≡◌, ℕ, ◌+◌, List, [], ◌∷◌, ◌++◌, Bool, true, false, cond, inl, inr, refl, ap, sym, ◌∙◌, arith}
-use Rattle.std.specs.Prelude.{filter, ◌==◌, ◌&&◌, nat_lt, if◌then◌else◌}
+use Rattle.std.proofs.Common.{◌≡◌, ℕ, suc, ◌+◌, List, [], ◌∷◌, ◌++◌, length, Bool, true, false, cond, inl, inr, refl, ap, sym, ◌∙◌, arith}
+use Rattle.std.specs.Prelude.{filter, ◌==◌, ◌&&◌, if◌then◌else◌}
 use Rattle.std.specs.List.{AllByRecursion}
 use Rattle.std.proofs.lemmas.Bool.Decides.{nat_tests}
 use Rattle.mail_world.specs.declared.Note.{Note}
+use Rattle.mail_world.specs.declared.Outcome.{Outcome}
+use Rattle.mail_world.specs.declared.Outcome.TheVariants.{Failed}
 use Rattle.mail_world.specs.declared.Slip.{Slip}
 use Rattle.mail_world.specs.declared.Txn.{Txn}
-use Rattle.mail_world.specs.Slips.{names, of_worker}
-use Rattle.lmtpd_rehearse.proofs.Unlimited.{slip_if, slips_to}
+use Rattle.mail_world.specs.Slips.{names, of_worker, slip_of, slips_from}
 use Rattle.lmtpd_rehearse.proofs.Rising.{IsFrom, from_then, CopiesRise}
 
 -- lists of which all elements are such
@@ -75,64 +76,91 @@ agrees_earlier slip other from e =
     let is = names_as other.txn other.place slip e in
     absurd (not_from slip.txn.number slip.place other.txn.number other.place from (sym is.0) (sym is.1))
 
--- how many copies a mailbox has behind one more of that mailbox
-abbrev pub one_more : (ℕ → ℕ) → ℕ → ℕ → ℕ
-one_more count mailbox b = if mailbox == b then count b + 1 else count b
+-- the outcome that a worker tells next, and those behind it
+abbrev pub next_of : List Outcome → Outcome
+next_of [] = Failed
+next_of (outcome ∷ outcomes) = outcome
 
-abbrev pub slips_behind : (ℕ → ℕ) → (ℕ → ℕ) → List Note → ℕ → ℕ
-slips_behind stored count [] b = count b
-slips_behind stored count (x ∷ xs) b = slips_behind stored (λ k. one_more count x.mailbox k) xs b
+abbrev pub behind_next : List Outcome → List Outcome
+behind_next [] = []
+behind_next (outcome ∷ outcomes) = outcomes
 
-module _ (stored : ℕ → ℕ) where
-  -- the slips for all these copies, of which each mailbox stored so many, where it had so many copies before
-  abbrev pub slips_all : (ℕ → ℕ) → List Note → List Slip
-  slips_all count [] = []
-  slips_all count (x ∷ xs) = slip_if x.mailbox x (nat_lt (count x.mailbox) (stored x.mailbox)) ∷ slips_all (λ b. one_more count x.mailbox b) xs
+-- what each worker has left to tell behind a copy for that mailbox
+abbrev pub left_behind : (ℕ → List Outcome) → ℕ → ℕ → List Outcome
+left_behind left mailbox b = if mailbox == b then behind_next (left b) else left b
 
-  pub slips_all-append : (xs ys : List Note) (count : ℕ → ℕ) → slips_all count (xs ++ ys) ≡ slips_all count xs ++ slips_all (λ b. slips_behind stored count xs b) ys
-  slips_all-append [] ys count = refl
-  slips_all-append (x ∷ xs) ys count =
-      ap (λ l. slip_if x.mailbox x (nat_lt (count x.mailbox) (stored x.mailbox)) ∷ l) (slips_all-append xs ys (λ b. one_more count x.mailbox b))
+-- and behind copies
+abbrev pub left_after : (ℕ → List Outcome) → List Note → ℕ → List Outcome
+left_after left [] b = left b
+left_after left (x ∷ xs) b = left_after (λ k. left_behind left x.mailbox k) xs b
 
-  -- the slips of one mailbox among them
-  slip_for : (t : Bool) (b : ℕ) (x : Note) (xs : List Note) (count : ℕ → ℕ) (rest : List Slip) → (x.mailbox == b) ≡ t → rest ≡ slips_to b (stored b) (one_more count x.mailbox b) xs
-      → cond t (slip_if x.mailbox x (nat_lt (count x.mailbox) (stored x.mailbox)) ∷ rest) rest ≡ slips_to b (stored b) (count b) (cond t (x ∷ xs) xs)
-  slip_for true b x xs count rest e more =
-      let is : x.mailbox ≡ b = same_number x.mailbox b e in
-      let next : one_more count x.mailbox b ≡ count b + 1 = ap (λ t. cond t (count b + 1) (count b)) e in
-      ap (λ m. slip_if m x (nat_lt (count m) (stored m)) ∷ rest) is
-      ∙ ap (λ l. slip_if b x (nat_lt (count b) (stored b)) ∷ l) (more ∙ ap (λ n. slips_to b (stored b) n xs) next)
-  slip_for false b x xs count rest e more = more ∙ ap (λ n. slips_to b (stored b) n xs) (ap (λ t. cond t (count b + 1) (count b)) e)
+-- the slips for all these copies, where each worker has these outcomes left to tell
+abbrev pub slips_all : (ℕ → List Outcome) → List Note → List Slip
+slips_all left [] = []
+slips_all left (x ∷ xs) = slip_of x.mailbox x (next_of (left x.mailbox)) ∷ slips_all (λ b. left_behind left x.mailbox b) xs
 
-  pub slips_of_box : (b : ℕ) (notes : List Note) (count : ℕ → ℕ)
-      → of_worker b (slips_all count notes) ≡ slips_to b (stored b) (count b) (filter (λ note. note.mailbox == b) notes)
-  slips_of_box b [] count = refl
-  slips_of_box b (x ∷ xs) count =
-      slip_for (x.mailbox == b) b x (filter (λ note. note.mailbox == b) xs) count (of_worker b (slips_all (λ k. one_more count x.mailbox k) xs)) refl
-      (slips_of_box b xs (λ k. one_more count x.mailbox k))
+pub slips_all-append : (xs ys : List Note) (left : ℕ → List Outcome) → slips_all left (xs ++ ys) ≡ slips_all left xs ++ slips_all (λ b. left_after left xs b) ys
+slips_all-append [] ys left = refl
+slips_all-append (x ∷ xs) ys left = ap (λ l. slip_of x.mailbox x (next_of (left x.mailbox)) ∷ l) (slips_all-append xs ys (λ b. left_behind left x.mailbox b))
 
-  -- they rise with their copies
-  abbrev IsSlipFrom : ℕ → ℕ → Slip → Type 0
-  IsSlipFrom n p slip = IsFrom n p slip.txn.number slip.place
+-- the slips of one mailbox among them
+slip_first : (b : ℕ) (x : Note) (xs : List Note) (outcomes : List Outcome) → length outcomes ≡ length (x ∷ xs)
+    → slip_of b x (next_of outcomes) ∷ slips_from b (behind_next outcomes) xs ≡ slips_from b outcomes (x ∷ xs)
+slip_first b x xs [] e = cc
+slip_first b x xs (outcome ∷ outcomes) e = refl
 
-  slips_rise : (notes : List Note) (count : ℕ → ℕ) (n p m q : ℕ) → CopiesRise m q notes → IsFrom n p m q → AllByRecursion (IsSlipFrom n p) (slips_all count notes)
-  slips_rise [] count n p m q rise from = tt
-  slips_rise (x ∷ xs) count n p m q rise from =
-      let here = from_then n p m q x.txn.number x.place from rise.0 in (
-        here,
-        slips_rise xs (λ b. one_more count x.mailbox b) n p x.txn.number (x.place + 1) rise.1
-            (from_then n p x.txn.number x.place x.txn.number (x.place + 1) here (inr (refl, omega arith))),
-      )
+one_fewer : (n : ℕ) (outcomes : List Outcome) → length outcomes ≡ suc n → length (behind_next outcomes) ≡ n
+one_fewer n [] e = absurd (omega (arith, e))
+one_fewer n (outcome ∷ outcomes) e = omega (arith, e)
 
-  -- each of them agrees with all
-  pub all_agree : (notes : List Note) (count : ℕ → ℕ) (n p : ℕ) → CopiesRise n p notes → AllByRecursion (λ slip. AllByRecursion (λ other. SayTheSame other slip) (slips_all count notes)) (slips_all count notes)
-  all_agree [] count n p rise = tt
-  all_agree (x ∷ xs) count n p rise =
-      let slip : Slip = slip_if x.mailbox x (nat_lt (count x.mailbox) (stored x.mailbox)) in
-      let rest : List Slip = slips_all (λ b. one_more count x.mailbox b) xs in
-      let later : AllByRecursion (IsSlipFrom x.txn.number (x.place + 1)) rest = slips_rise xs (λ b. one_more count x.mailbox b) x.txn.number (x.place + 1) x.txn.number (x.place + 1) rise.1 (inr (refl, omega arith)) in (
-        ((λ e. refl), all_map (IsSlipFrom x.txn.number (x.place + 1)) (λ other. SayTheSame other slip) rest (λ other from. agrees_earlier slip other from) later),
-        all_both (λ other. SayTheSame slip other) (λ other. AllByRecursion (λ third. SayTheSame third other) rest) rest
-            (all_map (IsSlipFrom x.txn.number (x.place + 1)) (λ other. SayTheSame slip other) rest (λ other from. agrees_later slip other from) later)
-            (all_agree xs (λ b. one_more count x.mailbox b) x.txn.number (x.place + 1) rise.1),
-      )
+slip_for : (t : Bool) (b : ℕ) (x : Note) (xs : List Note) (left : ℕ → List Outcome) (rest : List Slip) → (x.mailbox == b) ≡ t → length (left b) ≡ length (cond t (x ∷ xs) xs)
+    → (length (left_behind left x.mailbox b) ≡ length xs → rest ≡ slips_from b (left_behind left x.mailbox b) xs)
+    → cond t (slip_of x.mailbox x (next_of (left x.mailbox)) ∷ rest) rest ≡ slips_from b (left b) (cond t (x ∷ xs) xs)
+slip_for true b x xs left rest e size more =
+    let is : x.mailbox ≡ b = same_number x.mailbox b e in
+    let next : left_behind left x.mailbox b ≡ behind_next (left b) = ap (λ t. cond t (behind_next (left b)) (left b)) e in
+    let few : length (left_behind left x.mailbox b) ≡ length xs = ap length next ∙ one_fewer (length xs) (left b) size in
+    ap (λ m. slip_of m x (next_of (left m)) ∷ rest) is
+    ∙ ap (λ l. slip_of b x (next_of (left b)) ∷ l) (more few ∙ ap (λ os. slips_from b os xs) next)
+    ∙ slip_first b x xs (left b) size
+slip_for false b x xs left rest e size more =
+    let same : left_behind left x.mailbox b ≡ left b = ap (λ t. cond t (behind_next (left b)) (left b)) e in
+    more (ap length same ∙ size) ∙ ap (λ os. slips_from b os xs) same
+
+pub slips_of_box : (b : ℕ) (notes : List Note) (left : ℕ → List Outcome) → length (left b) ≡ length (filter (λ note. note.mailbox == b) notes)
+    → of_worker b (slips_all left notes) ≡ slips_from b (left b) (filter (λ note. note.mailbox == b) notes)
+slips_of_box b [] left size = none (left b)
+  where
+    none : (outcomes : List Outcome) → [] ≡ slips_from b outcomes []
+    none [] = refl
+    none (outcome ∷ outcomes) = refl
+slips_of_box b (x ∷ xs) left size =
+    slip_for (x.mailbox == b) b x (filter (λ note. note.mailbox == b) xs) left (of_worker b (slips_all (λ k. left_behind left x.mailbox k) xs)) refl size
+    (slips_of_box b xs (λ k. left_behind left x.mailbox k))
+
+-- they rise with their copies
+abbrev IsSlipFrom : ℕ → ℕ → Slip → Type 0
+IsSlipFrom n p slip = IsFrom n p slip.txn.number slip.place
+
+slips_rise : (notes : List Note) (left : ℕ → List Outcome) (n p m q : ℕ) → CopiesRise m q notes → IsFrom n p m q → AllByRecursion (IsSlipFrom n p) (slips_all left notes)
+slips_rise [] left n p m q rise from = tt
+slips_rise (x ∷ xs) left n p m q rise from =
+    let here = from_then n p m q x.txn.number x.place from rise.0 in (
+      here,
+      slips_rise xs (λ b. left_behind left x.mailbox b) n p x.txn.number (x.place + 1) rise.1
+          (from_then n p x.txn.number x.place x.txn.number (x.place + 1) here (inr (refl, omega arith))),
+    )
+
+-- each of them agrees with all
+pub all_agree : (notes : List Note) (left : ℕ → List Outcome) (n p : ℕ) → CopiesRise n p notes
+    → AllByRecursion (λ slip. AllByRecursion (λ other. SayTheSame other slip) (slips_all left notes)) (slips_all left notes)
+all_agree [] left n p rise = tt
+all_agree (x ∷ xs) left n p rise =
+    let slip : Slip = slip_of x.mailbox x (next_of (left x.mailbox)) in
+    let rest : List Slip = slips_all (λ b. left_behind left x.mailbox b) xs in
+    let later : AllByRecursion (IsSlipFrom x.txn.number (x.place + 1)) rest = slips_rise xs (λ b. left_behind left x.mailbox b) x.txn.number (x.place + 1) x.txn.number (x.place + 1) rise.1 (inr (refl, omega arith)) in (
+      ((λ e. refl), all_map (IsSlipFrom x.txn.number (x.place + 1)) (λ other. SayTheSame other slip) rest (λ other from. agrees_earlier slip other from) later),
+      all_both (λ other. SayTheSame slip other) (λ other. AllByRecursion (λ third. SayTheSame third other) rest) rest
+          (all_map (IsSlipFrom x.txn.number (x.place + 1)) (λ other. SayTheSame slip other) rest (λ other from. agrees_later slip other from) later)
+          (all_agree xs (λ b. left_behind left x.mailbox b) x.txn.number (x.place + 1) rise.1),
+    )

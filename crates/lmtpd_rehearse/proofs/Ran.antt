@@ -1,24 +1,26 @@
 -- A rehearsal from its parts: the run of the server, and how the mailboxes were written.
-use Rattle.std.proofs.Common.{◌≡◌, ℕ, cond, ◌<◌, ◌-◌, List, [], ◌∷◌, ◌++◌, length, map, take, drop, replicate, Bool, true, false, Option, Some, None, inl, inr, refl, ap, sym, ◌∙◌, subst, append-nil, arith}
-use Rattle.std.specs.Prelude.{filter, ◌==◌, ◌^◌, slice_get}
+use Rattle.std.proofs.Common.{◌≡◌, ℕ, cond, ◌<◌, ◌≤◌, ◌+◌, ◌-◌, List, [], ◌∷◌, ◌++◌, length, map, take, drop, replicate, Bool, true, false, Option, Some, inl, inr, refl, ap, sym, ◌∙◌, subst, append-nil, arith}
+use Rattle.std.specs.Prelude.{◌==◌, ◌^◌, nat_lt, slice_get}
 use Rattle.std.specs.List.{AllByRecursion, list_any}
 use Rattle.std.specs.Io.KnownBytes.{Appends, Consumes}
-use Rattle.std.proofs.lemmas.List.{length-map, length-replicate}
+use Rattle.std.proofs.lemmas.List.{length-map, length-replicate, take_all, drop_all}
 use Rattle.std.proofs.lemmas.Bool.Decides.{nat_tests}
 use Rattle.mail_world.specs.declared.Note.{Note}
 use Rattle.mail_world.specs.declared.Outcome.{Outcome}
 use Rattle.mail_world.specs.declared.Slip.{Slip}
 use Rattle.mail_world.specs.Fronts.{IsFront}
 use Rattle.mail_world.specs.Slips.{of_worker}
-use Rattle.mail_world.specs.declared.Outcome.TheVariants.{Stored, Failed}
 use Rattle.mail_world.specs.Failures.{Rises}
 use Rattle.mail_world.specs.Site.{Site}
 use Rattle.mail_world.specs.Session.{fresh}
 use Rattle.mail_world.specs.Conversation.{Disposition, Conversation, IsAccount, inputs, parts, replies}
 use Rattle.mail_world.specs.Lists.{Transaction, VerdictFits, OutcomesIn, of_lane, copies_owed, due, transactions}
-use Rattle.mail_world.specs.Deliveries.{HoldsCopies, outcomes_told, told_all}
+use Rattle.mail_world.specs.Records.{mailbox}
+use Rattle.mail_world.specs.Quotas.{are_kept_behind, are_kept, kept, marked, outcomes_settled}
+use Rattle.mail_world.specs.Deliveries.{IsTorn, outcomes_told, told_all}
 use Rattle.mail_world.proofs.Accounts.{account_told}
-use Rattle.mail_world.proofs.Deliveries.{holds_all}
+use Rattle.mail_world.proofs.Settled.{length-outcomes, length-kept_behind}
+use Rattle.box_worker.specs.Told.{owed_to}
 use Rattle.lmtp_text.specs.Calendar.{civil_at}
 use Rattle.mbox_rd.specs.MemorySpool.{MemorySpool}
 use Rattle.lmtp_talk.specs.declared.ending.EndCause.{EndCause}
@@ -32,15 +34,17 @@ use Rattle.mail_world.specs.declared.limits.TheConstants.{READ_LIMIT}
 use Rattle.lmtp_lane.specs.Visits.{Finished, Visit, IsVisit, conversations_of, finished_of}
 use Rattle.lmtpd_rehearse.specs.declared.client.OnlyClient.{OnlyClient}
 use Rattle.lmtpd_rehearse.specs.declared.client.OnlyClient.TheVariants.{Waiting, Over}
-use Rattle.lmtpd_rehearse.specs.Account.{conversation, IsAllStored}
+use Rattle.lmtpd_rehearse.specs.Account.{conversation, IsSettled, IsAllSettled}
+use Rattle.lmtpd_rehearse.specs.declared.parts.TheConstants.{MAILBOX_ROOM}
+use Rattle.lmtpd_rehearse.specs.Copies.{HoldsCopies, kept_later}
 use Rattle.lmtpd_rehearse.specs.Client.{MayGive, told as told_by, is_over, IsOnlyOver}
 use Rattle.lmtpd_rehearse.specs.Mailboxes.{MailboxContent, kept_all, kept_at, bytes_of_all, empty_spool, texts_of_mailboxes, IsCalm}
-use Rattle.lmtpd_rehearse.specs.Rehearsal.{AreMailboxes, RehearsalEndsFor, HeldState, IsHeld, IsListed, IsRehearsed, Streams}
-use Rattle.lmtpd_rehearse.proofs.Boxes.{state_of, get_some, get_same, kept_is, length-kept, bytes_are, none_failed, all_calm, is_full, holds_stored}
+use Rattle.lmtpd_rehearse.specs.Rehearsal.{AreMailboxes, copies_due, told_of_box, RehearsalEndsFor, HeldState, IsHeld, IsListed, IsRehearsed, Streams}
+use Rattle.lmtpd_rehearse.proofs.Boxes.{state_of, get_some, get_same, kept_is, length-kept, bytes_are, none_failed, all_calm, is_full, spool_has, holds_settled}
 use Rattle.lmtpd_rehearse.proofs.Rising.{NumbersRise, numbers_rise}
 use Rattle.lmtpd_output.proofs.Written.{Appends-then}
-use Rattle.lmtpd_rehearse.proofs.Unlimited.{slips_to, holds, tells}
-use Rattle.lmtpd_rehearse.proofs.Telling.{IsFrontOfOwed, told_stored, all_stored}
+use Rattle.lmtpd_rehearse.proofs.Keeping.{all_settled, marked_none, same_marks}
+use Rattle.lmtpd_rehearse.proofs.Telling.{IsFrontOfOwed, AreSized, told_as_said, all_told_settled}
 
 -- a peer that never says to stop
 never_rises : (n : ℕ) → n ≡ 0 → Rises 0 n → ⊥
@@ -143,11 +147,11 @@ held_by site moment old new v never still at h =
     }
 
 -- what a mailbox's worker did
-record BoxAt (site : Site) (work : BoxWork) (spools : List MemorySpool) (tallies : List Tally) (b : ℕ) : Type 0 where
+record BoxAt (site : Site) (quota : Option ℕ) (work : BoxWork) (spools : List MemorySpool) (tallies : List Tally) (b : ℕ) : Type 0 where
   spool : MemorySpool
   tally : Tally
   is : kept_at (kept_all spools tallies) b ≡ record { bytes = spool.bytes; failed = tally.faulty }
-  did : IsBoxWork (setting_of (share_of site None) b) work (state_of empty_spool) (state_of spool) tally
+  did : IsBoxWork (setting_of (share_of site quota) b) work (state_of empty_spool) (state_of spool) tally
 
 -- what the lane heard, and what each of so many workers did
 record AllWork : Type 0 where
@@ -159,80 +163,136 @@ abbrev all_work : List Slip → (ℕ → BoxWork) → ℕ → AllWork
 all_work heard boxes count = record { heard = heard; boxes = boxes; count = count }
 
 -- what lane and workers did for these transactions
-record HaveWorked (site : Site) (ts : List Transaction) (work : AllWork) (spools : List MemorySpool) (tallies : List Tally) : Type 0 where
+record HaveWorked (site : Site) (quota : Option ℕ) (ts : List Transaction) (work : AllWork) (spools : List MemorySpool) (tallies : List Tally) : Type 0 where
   answered : AllByRecursion (λ t. OutcomesIn 0 work.heard t t.disposition.verdict) ts
   known : AllByRecursion (λ slip. slip.worker < work.count) work.heard
-  begun : (b : ℕ) → b < work.count → IsFrontOfOwed (λ k. (work.boxes k).stored) work.heard ts b
+  begun : (b : ℕ) → b < work.count → IsFrontOfOwed (λ k. (work.boxes k).outcomes) work.heard ts b
   taken : (b : ℕ) → b < work.count → (work.boxes b).taken ≡ copies_owed 0 b ts
-  each : (b : ℕ) → b < work.count → BoxAt site (work.boxes b) spools tallies b
+  each : (b : ℕ) → b < work.count → BoxAt site quota (work.boxes b) spools tallies b
   as_many : (length spools ≡ work.count) × (length tallies ≡ work.count)
 
-delivered : (site : Site) (c : Conversation) (heard : List Slip) (boxes : ℕ → BoxWork) (count : ℕ) (spools : List MemorySpool) (tallies : List Tally) (faulty : Bool)
-    → c ≡ conversation c.bytes c.dispositions → IsAccount site c → HaveWorked site (transactions_in site 0 c) (all_work heard boxes count) spools tallies → count ≡ length site.boxes
+-- what a worker made of its mailbox, and what it told of its copies
+module _ (site : Site) (quota : Option ℕ) (b : ℕ) (work : BoxWork) (spool : MemorySpool) (tally : Tally)
+    (did : IsBoxWork (setting_of (share_of site quota) b) work (state_of empty_spool) (state_of spool) tally) where
+  abbrev marks : List Bool
+  marks = are_kept_behind civil_at site.host quota did.start work.taken
+
+  tells : work.outcomes ≡ outcomes_settled (work.stored + did.over) (are_kept civil_at site.host quota [] work.taken)
+  tells = did.outcomes ∙ ap (outcomes_settled (work.stored + did.over)) (same_marks civil_at site.host quota (state_of empty_spool) did.start work.taken refl did.settled.starts)
+
+  tells_each : length work.outcomes ≡ length work.taken
+  tells_each =
+      ap length did.outcomes ∙ length-outcomes (work.stored + did.over) marks ∙ length-kept_behind civil_at site.host quota work.taken did.start
+
+  tells_settled : tally.faulty ≡ false → AllByRecursion (IsSettled quota) work.outcomes
+  tells_settled sound =
+      let all : work.stored + did.over ≡ length work.taken = did.settled.all sound in
+      let P : List Outcome → Type 0 = λ os. AllByRecursion (IsSettled quota) os in
+      subst P (sym did.outcomes) (all_settled civil_at site.host quota did.start (work.stored + did.over) work.taken (omega (arith, all)))
+
+  holds : HoldsCopies civil_at site.host quota work.taken work.outcomes spool.bytes tally.faulty
+  holds =
+      let P : List Outcome → Type 0 = λ os. HoldsCopies civil_at site.host quota work.taken os spool.bytes tally.faulty in
+      subst P (sym tells) (holds_settled site quota b did.start work.taken spool work.stored did.over tally.faulty did.settled)
+
+  fills : tally.faulty ≡ true → length spool.bytes ≡ MAILBOX_ROOM
+  fills = is_full civil_at site.host spool _ work.stored did.over tally.faulty (spool_has site quota b did.start work.taken spool work.stored did.over tally.faulty did.settled)
+
+-- a mailbox that hasn't failed
+record HoldsAll (host : List ℕ) (quota : Option ℕ) (notes : List Note) (outcomes : List Outcome) (bytes : List ℕ) : Type 0 where
+  told : outcomes ≡ outcomes_settled (length notes) (are_kept civil_at host quota [] notes)
+  held : bytes ≡ mailbox civil_at host [] (kept civil_at host quota [] notes)
+
+all_if_sound : (settled size : ℕ) → settled ≤ size → false ≡ nat_lt settled size → settled ≡ size
+all_if_sound settled size within fails = let high : size ≤ settled = grind (arith, nat_tests, fails) in omega (arith, within, high)
+
+none_torn : (host : List ℕ) (notes : List Note) (torn : List ℕ) → notes ≡ [] → IsTorn civil_at host notes torn → torn ≡ []
+none_torn host [] torn e h = h
+none_torn host (x ∷ notes) torn e h = cc
+
+holds_all : (host : List ℕ) (quota : Option ℕ) (notes : List Note) (outcomes : List Outcome) (bytes : List ℕ)
+    → HoldsCopies civil_at host quota notes outcomes bytes false → HoldsAll host quota notes outcomes bytes
+holds_all host quota notes outcomes bytes h =
+    let all : h.settled ≡ length notes = all_if_sound h.settled (length notes) h.within h.fails in
+    let taken : take h.settled notes ≡ notes = take_all h.settled notes (omega (arith, all)) in
+    let marks : List Bool = drop h.settled (are_kept civil_at host quota [] notes) in
+    let none : kept_later civil_at host quota h.settled notes ≡ [] = ap (marked marks) (drop_all h.settled notes (omega (arith, all))) ∙ marked_none marks in
+    let whole : h.torn ≡ [] = none_torn host (kept_later civil_at host quota h.settled notes) h.torn none h.tears in
+    let held : List Note → List ℕ = λ l. mailbox civil_at host [] (kept civil_at host quota [] l) in
+    record {
+      told = h.told ∙ ap (λ n. outcomes_settled n (are_kept civil_at host quota [] notes)) all;
+      held = h.held ∙ ap (λ l. held (take h.settled notes) ++ l) whole ∙ append-nil (held (take h.settled notes)) ∙ ap held taken;
+    }
+
+delivered : (site : Site) (quota : Option ℕ) (c : Conversation) (work : AllWork) (spools : List MemorySpool) (tallies : List Tally) (faulty : Bool)
+    → c ≡ conversation c.bytes c.dispositions → IsAccount site c → HaveWorked site quota (transactions_in site 0 c) work spools tallies → work.count ≡ length site.boxes
     → faulty ≡ list_any (λ t. t.faulty) tallies
-    → AreMailboxes site c.bytes c.dispositions (kept_all spools tallies) faulty
-delivered site c heard boxes count spools tallies faulty is accounted h size faulty_is =
+    → AreMailboxes site quota c.bytes c.dispositions (kept_all spools tallies) faulty
+delivered site quota c work spools tallies faulty is accounted h size faulty_is =
     let ts : List Transaction = transactions_in site 0 c in
     let ks : List MailboxContent = kept_all spools tallies in
-    let stored : ℕ → ℕ = λ k. (boxes k).stored in
+    let told : ℕ → List Outcome = λ k. (work.boxes k).outcomes in
     let some : 0 < 1 = omega arith in
     let as_many : length tallies ≡ length spools = h.as_many.1 ∙ sym h.as_many.0 in
     let told_it : map (λ t. t.disposition) ts ≡ c.dispositions = account_told site 0 c accounted in
     let calm : faulty ≡ false → IsCalm ks = λ f. none_failed spools tallies as_many (sym faulty_is ∙ f) in
-    let many : length ks ≡ count = length-kept spools tallies as_many ∙ h.as_many.0 in
-    let H : Conversation → ℕ → List ℕ → Bool → Type 0 = λ x box bytes failed. HoldsCopies civil_at site.host (due site 0 box (x ∷ [])) (outcomes_told site box (x ∷ [])) bytes failed in
+    let many : length ks ≡ work.count = length-kept spools tallies as_many ∙ h.as_many.0 in
+    let sized : AreSized told ts work.count = λ b low. let at = h.each b low in tells_each site quota b (work.boxes b) at.spool at.tally at.did ∙ ap length (h.taken b low) in
+    let H : Conversation → ℕ → List ℕ → Bool → Type 0 = λ x box bytes failed. HoldsCopies civil_at site.host quota (due site 0 box (x ∷ [])) (outcomes_told site box (x ∷ [])) bytes failed in
     let each : (box : ℕ) → box < length site.boxes → H (conversation c.bytes c.dispositions) box (kept_at ks box).bytes (kept_at ks box).failed = λ box within.
-    let low : box < count = omega (arith, size, within) in
+    let low : box < work.count = omega (arith, size, within) in
     let at = h.each box low in
-    let P : List Note → Type 0 = λ notes. HoldsCopies civil_at site.host notes (map (λ (note : Note). Stored) (take (stored box) notes) ++ map (λ (note : Note). Failed) (drop (stored box) notes)) at.spool.bytes at.tally.faulty in
-    let Q : List Outcome → Type 0 = λ os. HoldsCopies civil_at site.host (copies_owed 0 box ts) os at.spool.bytes at.tally.faulty in
-    let D : List Note → Type 0 = λ notes. HoldsCopies civil_at site.host notes (told_all box ts) at.spool.bytes at.tally.faulty in
-    let T : List Outcome → Type 0 = λ os. HoldsCopies civil_at site.host (due site 0 box (c ∷ [])) os at.spool.bytes at.tally.faulty in
+    let P : List Note → Type 0 = λ notes. HoldsCopies civil_at site.host quota notes (told box) at.spool.bytes at.tally.faulty in
+    let Q : List Outcome → Type 0 = λ os. HoldsCopies civil_at site.host quota (copies_owed 0 box ts) os at.spool.bytes at.tally.faulty in
+    let D : List Note → Type 0 = λ notes. HoldsCopies civil_at site.host quota notes (told_all box ts) at.spool.bytes at.tally.faulty in
+    let T : List Outcome → Type 0 = λ os. HoldsCopies civil_at site.host quota (due site 0 box (c ∷ [])) os at.spool.bytes at.tally.faulty in
     let K : MailboxContent → Type 0 = λ k. H c box k.bytes k.failed in
     let C : Conversation → Type 0 = λ x. H x box (kept_at ks box).bytes (kept_at ks box).failed in
-    let first : P (copies_owed 0 box ts) = subst P (h.taken box low) (holds_stored civil_at site.host at.spool (boxes box).taken (stored box) at.tally.faulty (holds site box (boxes box) _ _ at.tally at.did)) in
-    let told_so : Q (told_all box ts) = subst Q (sym (told_stored stored heard count 1 ts some (rising site c) h.answered h.known h.begun box)) first in
+    let first : P (copies_owed 0 box ts) = subst P (h.taken box low) (holds site quota box (work.boxes box) at.spool at.tally at.did) in
+    let told_so : Q (told_all box ts) = subst Q (sym (told_as_said work.heard told work.count 1 ts some (rising site c) h.answered h.known h.begun sized box low)) first in
     subst C is (subst K (sym at.is) (subst T (sym (told_is site box c)) (subst D (sym (due_is site box c)) told_so))) in
+    let whole : faulty ≡ false → (box : ℕ) → box < length site.boxes
+    → HoldsAll site.host quota (copies_due site c.bytes c.dispositions box) (told_of_box site c.bytes c.dispositions box) (kept_at ks box).bytes = λ f box within.
+    let failed : (kept_at ks box).failed ≡ false = calm f box (omega (arith, within, many, size)) in
+    let B : Bool → Type 0 = λ b. H (conversation c.bytes c.dispositions) box (kept_at ks box).bytes b in
+    holds_all site.host quota _ _ (kept_at ks box).bytes (subst B failed (each box within)) in
     record {
       count = many ∙ size;
       each = each;
       full = λ box within failed.
-          let low : box < count = omega (arith, size, within) in
+          let low : box < work.count = omega (arith, size, within) in
           let at = h.each box low in
           ap (λ (k : MailboxContent). length k.bytes) at.is
-          ∙ is_full civil_at site.host at.spool (boxes box).taken (stored box) at.tally.faulty (holds site box (boxes box) _ _ at.tally at.did) (sym (ap (λ (k : MailboxContent). k.failed) at.is) ∙ failed);
+          ∙ fills site quota box (work.boxes box) at.spool at.tally at.did (sym (ap (λ (k : MailboxContent). k.failed) at.is) ∙ failed);
       sound = (calm, λ quiet. faulty_is ∙ all_calm spools tallies as_many quiet);
-      stored = λ f.
-          let S : List Disposition → Type 0 = λ ds. AllByRecursion IsAllStored ds in
-          subst S told_it (all_stored stored heard count ts h.answered h.known h.begun (λ b low.
+      settled = λ f.
+          let S : List Disposition → Type 0 = λ ds. AllByRecursion (IsAllSettled quota) ds in
+          subst S told_it (all_told_settled work.heard quota told work.count ts h.answered h.known h.begun (λ b low.
           let at = h.each b low in
-          let sound : at.tally.faulty ≡ false = sym (ap (λ (k : MailboxContent). k.failed) at.is) ∙ calm f b (omega (arith, many, low)) in
-          (holds site b (boxes b) _ _ at.tally at.did).all sound ∙ ap length (h.taken b low)));
-      held = λ f box within.
-          let failed : (kept_at ks box).failed ≡ false = calm f box (omega (arith, within, many, size)) in
-          let B : Bool → Type 0 = λ b. H (conversation c.bytes c.dispositions) box (kept_at ks box).bytes b in
-          (holds_all civil_at site.host _ _ (kept_at ks box).bytes (subst B failed (each box within))).held;
+          tells_settled site quota b (work.boxes b) at.spool at.tally at.did (sym (ap (λ (k : MailboxContent). k.failed) at.is) ∙ calm f b (omega (arith, many, low)))));
+      told = λ f box within. (whole f box within).told;
+      held = λ f box within. (whole f box within).held;
     }
 
 -- the run of a server whose only lane has one client, and whose spools are new
-abbrev pub HasRunAlone : (site : Site) (moment : ℕ) {P : Type 0} (state : P → PeerState) (peer : P) (count : ℕ)
+abbrev pub HasRunAlone : (site : Site) (quota : Option ℕ) (moment : ℕ) {P : Type 0} (state : P → PeerState) (peer : P) (count : ℕ)
     (back : HandedBack (OnlyClient P) MemorySpool) → Type 0
-HasRunAlone site moment state peer count back =
+HasRunAlone site quota moment state peer count back =
     HasRun site (λ m. m ≡ moment) (record { MayGive = λ c p. MayGive state c p; finished = λ c. told_by state c; over = λ c. is_over c }) state_of
-    (record { visits = Waiting peer ∷ []; spools = replicate count empty_spool; quota = None }) back
+    (record { visits = Waiting peer ∷ []; spools = replicate count empty_spool; quota = quota }) back
 
-module _ (site : Site) (moment : ℕ) {P : Type 0} (state : P → PeerState) (peer : P) (count : ℕ) (back : HandedBack (OnlyClient P) MemorySpool) where
+module _ (site : Site) (quota : Option ℕ) (moment : ℕ) {P : Type 0} (state : P → PeerState) (peer : P) (count : ℕ) (back : HandedBack (OnlyClient P) MemorySpool) where
   -- the client has left
-  pub only_over : HasRunAlone site moment state peer count back → IsOnlyOver back.visits
+  pub only_over : HasRunAlone site quota moment state peer count back → IsOnlyOver back.visits
   only_over h =
       let client = one_alone back.visits h.as_many_lanes.0 in
       let number = one_alone back.conversations h.as_many_lanes.1 in
       let work = h.served 0 number.0 (Waiting peer) client.0 refl (ap (λ l. slice_get l 0) client.1) (ap (λ l. slice_get l 0) number.1) in
       (client.0, client.1, work.ended)
 
-  have_worked : (h : HasRunAlone site moment state peer count back) (c : Conversation)
+  have_worked : (h : HasRunAlone site quota moment state peer count back) (c : Conversation)
       → conversations_of (h.lanes 0).visits ≡ c ∷ [] → AllByRecursion (λ t. OutcomesIn 0 (h.lanes 0).heard t t.disposition.verdict) (transactions_in site 0 c)
-      → HaveWorked site (transactions_in site 0 c) (all_work (h.lanes 0).heard h.boxes count) back.spools back.tallies
+      → HaveWorked site quota (transactions_in site 0 c) (all_work (h.lanes 0).heard h.boxes count) back.spools back.tallies
   have_worked h c is answered =
       let ts : List Transaction = transactions_in site 0 c in
       let heard : List Slip = (h.lanes 0).heard in
@@ -246,12 +306,8 @@ module _ (site : Site) (moment : ℕ) {P : Type 0} (state : P → PeerState) (pe
         answered = answered;
         known = subst K many (h.told_only 0 one);
         begun = λ b low.
-            let B : List Note → Type 0 = λ notes. IsFront (of_worker b heard) (filter (λ slip. slip.txn.lane == 0) (slips_to b (h.boxes b).stored 0 notes)) in
-            let F : List Slip → Type 0 = λ slips. IsFront (of_worker b heard) (filter (λ slip. slip.txn.lane == 0) slips) in
-            let spool = get_some back.spools b (omega (arith, many, low, h.as_many_boxes.0)) in
-            let tally = get_some back.tallies b (omega (arith, many, low, h.as_many_boxes.1)) in
-            let did = h.stored b empty_spool spool.0 tally.0 (get_same count b empty_spool low) spool.1 tally.1 in
-            subst B (taken b low) (subst F (tells site b (h.boxes b) _ _ tally.0 did b) (h.told 0 b one (low_in b low)));
+            let B : List Note → Type 0 = λ notes. IsFront (of_worker b heard) (owed_to b (h.boxes b).outcomes 0 notes) in
+            subst B (taken b low) (h.told 0 b one (low_in b low));
         taken = taken;
         each = λ b low.
             let spool = get_some back.spools b (omega (arith, many, low, h.as_many_boxes.0)) in
@@ -265,9 +321,9 @@ module _ (site : Site) (moment : ℕ) {P : Type 0} (state : P → PeerState) (pe
         as_many = (h.as_many_boxes.0 ∙ many, h.as_many_boxes.1 ∙ many);
       }
 
-  pub held : (last : P) (end : EndCause) (faulty : Bool) → HasRunAlone site moment state peer count back → back.visits ≡ Over last end ∷ [] → ((p : P) → (state p).stops ≡ 0)
+  pub held : (last : P) (end : EndCause) (faulty : Bool) → HasRunAlone site quota moment state peer count back → back.visits ≡ Over last end ∷ [] → ((p : P) → (state p).stops ≡ 0)
       → count ≡ length site.boxes → faulty ≡ list_any (λ t. t.faulty) back.tallies
-      → IsHeld site moment (streams_of (state peer)) (streams_of (state last)) (record { spools = back.spools; faulty = faulty; end = end })
+      → IsHeld site quota moment (streams_of (state peer)) (streams_of (state last)) (record { spools = back.spools; faulty = faulty; end = end })
   held last end faulty h after never size faulty_is =
       let lane : LaneWork = h.lanes 0 in
       let number = one_alone back.conversations h.as_many_lanes.1 in
@@ -299,7 +355,7 @@ module _ (site : Site) (moment : ℕ) {P : Type 0} (state : P → PeerState) (pe
           verdicts = subst N by.unstopped (subst W (ap (λ l. transactions site 0 l) are) work.verdicts);
         };
         mailboxes = kept_all back.spools back.tallies;
-        delivered = delivered site c lane.heard h.boxes count back.spools back.tallies faulty by.unstopped by.accounted worked size faulty_is;
+        delivered = delivered site quota c (all_work lane.heard h.boxes count) back.spools back.tallies faulty by.unstopped by.accounted worked size faulty_is;
         holds = bytes_are back.spools back.tallies (worked.as_many.1 ∙ sym worked.as_many.0);
         said = by.said;
         output = by.output;
@@ -308,10 +364,10 @@ module _ (site : Site) (moment : ℕ) {P : Type 0} (state : P → PeerState) (pe
       }
 
 -- the mailboxes behind the replies
-pub rehearsed : (site : Site) (moment : ℕ) (old between : Streams) (left : HeldState) (after : Option (List ℕ)) (cut : Bool)
-    → IsHeld site moment old between left → IsListed (texts_of_mailboxes site.boxes (bytes_of_all left.spools)) between.written after cut
-    → IsRehearsed site moment old (record { unread = between.unread; written = after }) (record { end = left.end; faulty = left.faulty; cut = cut })
-rehearsed site moment old between left after cut h w =
+pub rehearsed : (site : Site) (quota : Option ℕ) (moment : ℕ) (old between : Streams) (left : HeldState) (after : Option (List ℕ)) (cut : Bool)
+    → IsHeld site quota moment old between left → IsListed (texts_of_mailboxes site.boxes (bytes_of_all left.spools)) between.written after cut
+    → IsRehearsed site quota moment old (record { unread = between.unread; written = after }) (record { end = left.end; faulty = left.faulty; cut = cut })
+rehearsed site quota moment old between left after cut h w =
     let L : List (List ℕ) → Type 0 = λ texts. IsWritten (texts_of_mailboxes site.boxes texts) (cut ≡ true) w.listed in
     record {
       read = h.read;
@@ -329,6 +385,6 @@ rehearsed site moment old between left after cut h w =
     }
 
 -- there is a spool for each mailbox
-pub as_many_spools : (site : Site) (moment : ℕ) (old new : Streams) (left : HeldState) → IsHeld site moment old new left → length left.spools ≡ length site.boxes
-as_many_spools site moment old new left h =
+pub as_many_spools : (site : Site) (quota : Option ℕ) (moment : ℕ) (old new : Streams) (left : HeldState) → IsHeld site quota moment old new left → length left.spools ≡ length site.boxes
+as_many_spools site quota moment old new left h =
     sym (length-map left.spools (λ (x : MemorySpool). x.bytes)) ∙ ap length (sym h.holds) ∙ length-map h.mailboxes (λ (k : MailboxContent). k.bytes) ∙ h.delivered.count

@@ -1,7 +1,8 @@
 -- What became of the messages of a rehearsal.
-use Rattle.std.specs.Prelude.{◌≡◌, ⊤, ℕ, false, List}
+use Rattle.std.specs.Prelude.{◌≡◌, ◌⊎◌, ⊤, ℕ, false, List, Option, Some, None}
 use Rattle.std.specs.List.{AllByRecursion}
-use Rattle.mail_world.specs.declared.Outcome.TheVariants.{Stored}
+use Rattle.mail_world.specs.declared.Outcome.{Outcome}
+use Rattle.mail_world.specs.declared.Outcome.TheVariants.{Stored, OverQuota}
 use Rattle.mail_world.specs.declared.Verdict.{Verdict}
 use Rattle.mail_world.specs.declared.Verdict.TheVariants.{Whole}
 use Rattle.mail_world.specs.Conversation.{Disposition, Conversation}
@@ -10,10 +11,15 @@ use Rattle.mail_world.specs.Conversation.{Disposition, Conversation}
 abbrev pub conversation : List ℕ → List Disposition → Conversation
 conversation bytes ds = record { bytes = bytes; dispositions = ds; stopped = false }
 
--- each outcome of a whole message is Stored
-abbrev pub IsStoredIf : Disposition → Verdict → Type 0
-IsStoredIf d Whole = AllByRecursion (λ outcome. outcome ≡ Stored) d.outcomes
-IsStoredIf d _ = ⊤
+-- what is told of a copy that is settled: Stored, and under a quota it may be OverQuota
+abbrev pub IsSettled : Option ℕ → Outcome → Type 0
+IsSettled None outcome = outcome ≡ Stored
+IsSettled (Some quota) outcome = (outcome ≡ Stored) ⊎ (outcome ≡ OverQuota)
 
-abbrev pub IsAllStored : Disposition → Type 0
-IsAllStored d = IsStoredIf d d.verdict
+-- each outcome of a whole message is that of a copy that is settled
+abbrev pub IsSettledIf : Option ℕ → Disposition → Verdict → Type 0
+IsSettledIf quota d Whole = AllByRecursion (IsSettled quota) d.outcomes
+IsSettledIf quota d _ = ⊤
+
+abbrev pub IsAllSettled : Option ℕ → Disposition → Type 0
+IsAllSettled quota d = IsSettledIf quota d d.verdict

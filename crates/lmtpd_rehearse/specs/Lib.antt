@@ -1,4 +1,5 @@
 pub mod Mailboxes
 pub mod Client
 pub mod Account
+pub mod Copies
 pub mod Rehearsal

@@ -4,19 +4,23 @@ use Rattle.std.specs.List.{AllByRecursion}
 use Rattle.std.specs.Io.KnownBytes.{Consumes, Appends, IsAtEnd}
 use Rattle.mail_world.specs.declared.limits.TheConstants.{READ_LIMIT, BLOCK_LIMIT}
 use Rattle.lmtpd_rehearse.specs.declared.parts.TheConstants.{MAILBOX_ROOM}
+use Rattle.mail_world.specs.declared.Note.{Note}
+use Rattle.mail_world.specs.declared.Outcome.{Outcome}
 use Rattle.mail_world.specs.Site.{Site}
 use Rattle.mbox_rd.specs.MemorySpool.{MemorySpool}
 use Rattle.mail_world.specs.Conversation.{Disposition, IsAccount, inputs, replies}
 use Rattle.mail_world.specs.Lists.{VerdictFits, transactions, due}
 use Rattle.mail_world.specs.Records.{mailbox}
-use Rattle.mail_world.specs.Deliveries.{HoldsCopies, outcomes_told}
+use Rattle.mail_world.specs.Quotas.{are_kept, kept, outcomes_settled}
+use Rattle.mail_world.specs.Deliveries.{outcomes_told}
 use Rattle.lmtp_text.specs.Calendar.{civil_at}
 use Rattle.lmtp_talk.specs.declared.ending.EndCause.{EndCause}
 use Rattle.lmtp_talk.specs.declared.ending.EndCause.TheVariants.{Quit, EndOfInput, WriteFault, Stopped, ReadBound}
 use Rattle.lmtp_talk.specs.Served.{IsWritten, has_quit}
 use Rattle.lmtpd_rehearse.specs.declared.ending.Ending.{Ending}
 use Rattle.lmtpd_rehearse.specs.Mailboxes.{MailboxContent, kept_at, mailboxes_text, bytes_of_all, IsCalm}
-use Rattle.lmtpd_rehearse.specs.Account.{conversation, IsAllStored}
+use Rattle.lmtpd_rehearse.specs.Account.{conversation, IsAllSettled}
+use Rattle.lmtpd_rehearse.specs.Copies.{HoldsCopies}
 
 -- the account of a conversation whose bytes were read: what became of its data, each at that moment
 pub record IsAccountAt (site : Site) (moment : ℕ) (read : List ℕ) (account : List Disposition) : Type 0 where
@@ -25,19 +29,30 @@ pub record IsAccountAt (site : Site) (moment : ℕ) (read : List ℕ) (account :
   -- too large exactly where the message is above the limit and a number is left
   pub verdicts : AllByRecursion VerdictFits (transactions site 0 (conversation read account ∷ []))
 
--- the mailboxes, in the order of the site, by that account
-pub record AreMailboxes (site : Site) (read : List ℕ) (account : List Disposition) (mailboxes : List MailboxContent) (faulty : Bool) : Type 0 where
+-- the copies that the conversation owes a mailbox, and what was told of each
+abbrev pub copies_due : Site → List ℕ → List Disposition → ℕ → List Note
+copies_due site read account box = due site 0 box (conversation read account ∷ [])
+
+abbrev pub told_of_box : Site → List ℕ → List Disposition → ℕ → List Outcome
+told_of_box site read account box = outcomes_told site box (conversation read account ∷ [])
+
+-- the mailboxes, in the order of the site, by that account and under that quota
+pub record AreMailboxes (site : Site) (quota : Option ℕ) (read : List ℕ) (account : List Disposition) (mailboxes : List MailboxContent) (faulty : Bool) : Type 0 where
   pub count : length mailboxes ≡ length site.boxes
-  -- each holds the records of its first copies, which were told Stored; once its spool failed, the others were told Failed
+  -- each took the copies that were due to it: the first were settled, kept or over the quota; once its spool failed, the others were told Failed
   pub each : (box : ℕ) → box < length site.boxes
-      → HoldsCopies civil_at site.host (due site 0 box (conversation read account ∷ [])) (outcomes_told site box (conversation read account ∷ [])) (kept_at mailboxes box).bytes (kept_at mailboxes box).failed
+      → HoldsCopies civil_at site.host quota (copies_due site read account box) (told_of_box site read account box) (kept_at mailboxes box).bytes (kept_at mailboxes box).failed
   -- a spool failed only once its room was used up
   pub full : (box : ℕ) → box < length site.boxes → (kept_at mailboxes box).failed ≡ true → length (kept_at mailboxes box).bytes ≡ MAILBOX_ROOM
   -- a rehearsal is faulty exactly where a spool failed
   pub sound : (faulty ≡ false) ↔ IsCalm mailboxes
-  -- and where it isn't, every outcome is Stored and each mailbox has the records of all its copies
-  pub stored : faulty ≡ false → AllByRecursion IsAllStored account
-  pub held : faulty ≡ false → (box : ℕ) → box < length site.boxes → (kept_at mailboxes box).bytes ≡ mailbox civil_at site.host [] (due site 0 box (conversation read account ∷ []))
+  -- and where it isn't, every outcome is Stored, or under a quota OverQuota
+  pub settled : faulty ≡ false → AllByRecursion (IsAllSettled quota) account
+  -- which of the two says the quota, and each mailbox has the records of its copies that are kept
+  pub told : faulty ≡ false → (box : ℕ) → box < length site.boxes
+      → told_of_box site read account box ≡ outcomes_settled (length (copies_due site read account box)) (are_kept civil_at site.host quota [] (copies_due site read account box))
+  pub held : faulty ≡ false → (box : ℕ) → box < length site.boxes
+      → (kept_at mailboxes box).bytes ≡ mailbox civil_at site.host [] (kept civil_at site.host quota [] (copies_due site read account box))
 
 -- why the conversation ended
 pub record RehearsalEndsFor (site : Site) (read : List ℕ) (account : List Disposition) (left : Option (List ℕ)) (end : EndCause) : Type 0 where
@@ -52,14 +67,14 @@ pub record Streams : Type 0 where
   pub unread : Option (List ℕ)
   pub written : Option (List ℕ)
 
--- From a reader and a writer that stood so to ones that stand so.
-pub record IsRehearsed (site : Site) (moment : ℕ) (old new : Streams) (ending : Ending) : Type 0 where
+-- From a reader and a writer that stood so to ones that stand so, under a limit of bytes for each mailbox if there is one.
+pub record IsRehearsed (site : Site) (quota : Option ℕ) (moment : ℕ) (old new : Streams) (ending : Ending) : Type 0 where
   pub read : List ℕ
   pub input : Consumes old.unread new.unread read
   pub account : List Disposition
   pub accounted : IsAccountAt site moment read account
   pub mailboxes : List MailboxContent
-  pub delivered : AreMailboxes site read account mailboxes ending.faulty
+  pub delivered : AreMailboxes site quota read account mailboxes ending.faulty
   -- what was written of the replies, and then of the mailboxes
   pub said : List ℕ
   pub listed : List ℕ
@@ -75,13 +90,13 @@ pub record HeldState : Type 0 where
   pub end : EndCause
 
 -- A conversation that was held, from a reader and a writer that stood so to ones that stand so, and what it left.
-pub record IsHeld (site : Site) (moment : ℕ) (old new : Streams) (held : HeldState) : Type 0 where
+pub record IsHeld (site : Site) (quota : Option ℕ) (moment : ℕ) (old new : Streams) (held : HeldState) : Type 0 where
   pub read : List ℕ
   pub input : Consumes old.unread new.unread read
   pub account : List Disposition
   pub accounted : IsAccountAt site moment read account
   pub mailboxes : List MailboxContent
-  pub delivered : AreMailboxes site read account mailboxes held.faulty
+  pub delivered : AreMailboxes site quota read account mailboxes held.faulty
   pub holds : map (λ k. k.bytes) mailboxes ≡ bytes_of_all held.spools
   pub said : List ℕ
   pub output : Appends old.written new.written said

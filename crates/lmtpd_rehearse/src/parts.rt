@@ -1,6 +1,6 @@
 //! What a rehearsal hands to the server that it runs.
 
-ghost use Rattle.std.specs.Prelude.{◌≡◌, length, replicate, IfOk, None};
+ghost use Rattle.std.specs.Prelude.{◌≡◌, length, replicate, IfOk};
 ghost use Rattle.lmtpd_rehearse.specs.Mailboxes.{empty_spool};
 
 use box_worker::OpenGate;
@@ -16,14 +16,14 @@ pub const MAILBOX_ROOM: usize = 2_097_152;
 const LANES: u32 = 1;
 
 /// The sizes of a rehearsal's server: a slot for each lane, and the usual number of copies that may wait.
-pub fn sizes(blocks: u32) -> Sizes
-    ensures { result ≡ record { blocks = blocks; slots = LANES; capacity = DEFAULT_CAPACITY; quota = None } }
+pub fn sizes(blocks: u32, quota: Option<u64>) -> Sizes
+    ensures { result ≡ record { blocks = blocks; slots = LANES; capacity = DEFAULT_CAPACITY; quota = quota } }
 {
     Sizes {
         blocks,
         slots: LANES,
         capacity: DEFAULT_CAPACITY,
-        quota: None,
+        quota,
     }
 }
 

@@ -22,13 +22,15 @@ use std::sync::{Arc, Wait};
 use std::thread::Threads;
 
 /// Runs a server of one lane at the site for one conversation, and then writes the mailboxes, each behind the line
-/// `mailbox NAME LENGTH`. The mailboxes are empty at the start and lie in memory; every message is of the given moment,
-/// in seconds since 1970. All memory is taken first.
+/// `mailbox NAME LENGTH`. The mailboxes are empty at the start and lie in memory, and each keeps of its copies those that
+/// fit under the quota, if there is one; every message is of the given moment, in seconds since 1970. All memory is taken
+/// first.
 pub fn rehearse_run<R, W, H>(
     rt: H,
     alloc: Global,
     site: Arc<Site>,
     blocks: u32,
+    quota: Option<u64>,
     moment: u32,
     reader: R,
     writer: W,
@@ -37,7 +39,7 @@ where
     R: Read + Drop + Send + 'static,
     W: Write + Drop + Send + 'static,
     H: Threads + Wait + Copy + Send + 'static,
-    ensures rehearses { IfOk result (λ rehearsed. IsRehearsed (arc_value site) moment
+    ensures rehearses { IfOk result (λ rehearsed. IsRehearsed (arc_value site) quota moment
         (record { unread = R.remaining reader; written = W.contents writer })
         (record { unread = R.remaining rehearsed.reader; written = W.contents rehearsed.writer }) rehearsed.ending) }
     ensures only_size { result ≡ Err HouseFault.Size → ¬ IsBlockCount blocks }
@@ -49,7 +51,12 @@ where
         reads: 0,
         failures: 0,
     };
-    let held = hold(rt, alloc, site.clone()?, blocks, moment, peer)?;
+    let conditions = Conditions {
+        blocks,
+        quota,
+        moment,
+    };
+    let held = hold(rt, alloc, site.clone()?, conditions, peer)?;
     let StreamPeer {
         reader,
         mut writer,
@@ -68,6 +75,16 @@ where
     })
 }
 
+/// What a conversation is held under.
+#[derive(Clone, Copy)]
+struct Conditions {
+    blocks: u32,
+    /// The bytes that a mailbox may hold, if there is a limit.
+    quota: Option<u64>,
+    /// The seconds since 1970 at each delivery.
+    moment: u32,
+}
+
 /// A conversation that has ended, and the mailboxes behind it.
 #[derive(Drop)]
 struct Held<P> {
@@ -83,28 +100,41 @@ fn hold<R, W, H>(
     rt: H,
     alloc: Global,
     site: Arc<Site>,
-    blocks: u32,
-    moment: u32,
+    conditions: Conditions,
     peer: StreamPeer<R, W>,
 ) -> Result<Held<StreamPeer<R, W>>, HouseFault>
 where
     R: Read + Drop + Send + 'static,
     W: Write + Drop + Send + 'static,
     H: Threads + Wait + Copy + Send + 'static,
-    ensures held { IfOk result (λ held. IsHeld (arc_value site) moment
+    ensures held { IfOk result (λ held. IsHeld (arc_value site) conditions.quota conditions.moment
         (record { unread = R.remaining peer.reader; written = W.contents peer.writer })
         (record { unread = R.remaining held.peer.reader; written = W.contents held.peer.writer })
         (record { spools = held.spools.items; faulty = held.faulty; end = held.end })) }
-    ensures only_size { result ≡ Err HouseFault.Size → ¬ IsBlockCount blocks }
-    ensures size { ¬ IsBlockCount blocks → (result ≡ Err HouseFault.Size) ⊎ (result ≡ Err HouseFault.Memory) }
+    ensures only_size { result ≡ Err HouseFault.Size → ¬ IsBlockCount conditions.blocks }
+    ensures size { ¬ IsBlockCount conditions.blocks → (result ≡ Err HouseFault.Size) ⊎ (result ≡ Err HouseFault.Memory) }
 {
     let count = site.box_count();
     let spools = empty_spools(alloc, count)?;
     let gates = open_gates(alloc, count)?;
     let mut visits = Vec::with_capacity(alloc, 1)?;
     visits.push_reserved(OnlyClient::Waiting(peer));
+    let Conditions {
+        blocks,
+        quota,
+        moment,
+    } = conditions;
     let clock = FixedClock { moment };
-    let report = run_house(rt, alloc, site, sizes(blocks), visits, spools, gates, clock)?;
+    let report = run_house(
+        rt,
+        alloc,
+        site,
+        sizes(blocks, quota),
+        visits,
+        spools,
+        gates,
+        clock,
+    )?;
     let faulty = has_failed(&report.tallies);
     let (peer, end) = only_client(report.visits);
     Ok(Held {

@@ -98,7 +98,7 @@ where
 {
     let site = Site::new(alloc, b"mx.example", &[], boxes)?;
     let site = Arc::new(alloc, site).ok().ok_or(HouseFault::Memory)?;
-    Ok(rehearse_run(rt, alloc, site, blocks, 0, reader, writer))
+    Ok(rehearse_run(rt, alloc, site, blocks, None, 0, reader, writer))
 }
 
 fn rehearse<R, W, H>(

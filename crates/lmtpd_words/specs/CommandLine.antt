@@ -76,7 +76,7 @@ abbrev pub quota_rule : Rule
 quota_rule = bytes_rule (codes "quota")
 
 abbrev pub rehearse_app : App
-rehearse_app = with_rule (with_rule (with_rule (with_rule (with_rule (new_app (codes "rehearse")) host_rule) time_rule) domains_rule) blocks_rule) box_rule
+rehearse_app = with_rule (with_rule (with_rule (with_rule (with_rule (with_rule (new_app (codes "rehearse")) host_rule) time_rule) domains_rule) blocks_rule) quota_rule) box_rule
 
 -- what must be given, and then what may be
 abbrev pub required_app : App

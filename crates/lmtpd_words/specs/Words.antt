@@ -55,6 +55,7 @@ pub record IsRehearseRead (rows : List Row) (words : RehearseWords) : Type 0 whe
   pub site : IsSiteRead rows words.site
   pub time : option_map number (one_of (codes "time") rows) ≡ Some words.time
   pub blocks : IsNumberOr DEFAULT_BLOCKS (one_of (codes "blocks") rows) words.blocks
+  pub quota : IsLimit (one_of (codes "quota") rows) words.quota
 
 -- what the values of a server's arguments ask for
 pub record IsServeRead (rows : List Row) (words : ServeWords) : Type 0 where

@@ -53,7 +53,7 @@ impl Argument {
 }
 
 /// What a rehearsal takes.
-pub const REHEARSE: [Argument; 5] = [HOST, TIME, DOMAINS, BLOCKS, BOXES];
+pub const REHEARSE: [Argument; 6] = [HOST, TIME, DOMAINS, BLOCKS, QUOTA, BOXES];
 
 /// What a server takes: what must be given, what may be, and the mailboxes.
 pub const SERVE: [Argument; 12] = [

@@ -54,6 +54,7 @@ fn rehearse_words<'a>(
         site,
         time,
         blocks: number_or(matches, "blocks", DEFAULT_BLOCKS),
+        quota: quota_of(matches),
     }))
 }
 
@@ -86,7 +87,7 @@ fn serve_words<'a>(
         capacity: number_or(matches, "capacity", DEFAULT_CAPACITY),
         reads: number_or(matches, "reads", DEFAULT_READS),
         timeout: number_or(matches, "timeout", DEFAULT_TIMEOUT),
-        quota: limit_of(matches, "quota"),
+        quota: quota_of(matches),
     }))
 }
 
@@ -128,10 +129,10 @@ fn number_or(matches: &ArgMatches<'_>, name: &str, usual: u32) -> u32
 }
 
 // The limit of bytes that was given, and none where none was.
-fn limit_of(matches: &ArgMatches<'_>, name: &str) -> Option<u64>
-    ensures { IsLimit (one_of name.now (rows_of (found_of matches.now))) result }
+fn quota_of(matches: &ArgMatches<'_>) -> Option<u64>
+    ensures { IsLimit (one_of (codes "quota") (rows_of (found_of matches.now))) result }
 {
-    matches.get_one::<u64>(name)
+    matches.get_one::<u64>("quota")
 }
 
 fn domains_of<'a>(alloc: Global, matches: &ArgMatches<'a>) -> Result<Vec<&'a str>, AllocError>

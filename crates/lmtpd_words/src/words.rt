@@ -31,6 +31,8 @@ pub struct RehearseWords<'a> {
     pub time: u32,
     /// The blocks for messages on their way.
     pub blocks: u32,
+    /// The bytes that a mailbox may hold, if there is a limit.
+    pub quota: Option<u64>,
 }
 
 /// What a server is asked to do.

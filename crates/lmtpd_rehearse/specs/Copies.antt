@@ -1,0 +1,24 @@
+-- What became of the copies for one mailbox that was empty: which it holds, and what was told of each.
+use Rattle.std.specs.Prelude.{◌≡◌, ◌≤◌, ◌<◌, ℕ, nat_lt, Bool, true, List, [], ◌++◌, length, take, drop, slice_get, Option, Some}
+use Rattle.mail_world.specs.declared.Note.{Note}
+use Rattle.mail_world.specs.declared.Outcome.{Outcome}
+use Rattle.mail_world.specs.Records.{Calendar, mailbox}
+use Rattle.mail_world.specs.Quotas.{are_kept, kept, marked, outcomes_settled}
+use Rattle.mail_world.specs.Deliveries.{IsTorn}
+
+-- of the copies behind the first so many those that are kept
+abbrev pub kept_later : Calendar → List ℕ → Option ℕ → ℕ → List Note → List Note
+kept_later calendar host quota n notes = marked (drop n (are_kept calendar host quota [] notes)) (drop n notes)
+
+-- A mailbox that was empty took these copies under a quota, and told these outcomes: the first so many were settled, each that is kept Stored and any other OverQuota, and behind them all were told Failed.
+-- It holds the records of the kept among those that were settled, and behind them at most a front of that of the next one that is kept; it failed where not all were settled.
+pub record HoldsCopies (calendar : Calendar) (host : List ℕ) (quota : Option ℕ) (notes : List Note) (outcomes : List Outcome) (bytes : List ℕ) (failed : Bool) : Type 0 where
+  pub settled : ℕ
+  pub torn : List ℕ
+  pub within : settled ≤ length notes
+  pub told : outcomes ≡ outcomes_settled settled (are_kept calendar host quota [] notes)
+  pub held : bytes ≡ mailbox calendar host [] (kept calendar host quota [] (take settled notes)) ++ torn
+  pub tears : IsTorn calendar host (kept_later calendar host quota settled notes) torn
+  pub fails : failed ≡ nat_lt settled (length notes)
+  -- its spool failed at a copy that is kept; where none was settled that isn't said
+  pub next : failed ≡ true → 0 < settled → slice_get (are_kept calendar host quota [] notes) settled ≡ Some true
