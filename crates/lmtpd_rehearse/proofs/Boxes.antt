@@ -131,9 +131,16 @@ module _ (site : Site) (quota : Option ℕ) (b start : ℕ) (notes : List Note) 
   count_first : (faulty : Bool) → HoldsSettled faulty → stored ≡ length first
   count_first faulty h = h.stored ∙ ap length (kept_as faulty h (take (stored + over) notes))
 
-  next_kept : HoldsSettled true → 0 < stored + over → slice_get (are_kept civil_at site.host quota [] notes) (stored + over) ≡ Some true
-  next_kept h some = elim (h.next refl) [
-    | inl none ↦ absurd (omega (arith, none, some))
+  -- a spool that is mended where it is empty has nothing to fail at
+  next_kept : HoldsSettled true → slice_get (are_kept civil_at site.host quota [] notes) (stored + over) ≡ Some true
+  next_kept h = elim (h.next refl) [
+    | inl none ↦ (
+        let broken = none.1.failed in
+        let full = is_full civil_at site.host spool all stored over true (spool_has true h) refl in
+        let nothing : broken.front ≡ [] = no_front broken.front broken.rest (sym none.1.is ∙ broken.whole) in
+        let empty : length spool.bytes ≡ 0 = ap length (broken.appended ∙ nothing) in
+        absurd (omega (arith, full, empty))
+        )
     | inr one ↦ (
         let marks : List Bool = are_kept civil_at site.host quota [] notes in
         let n : ℕ = stored + over in
@@ -163,7 +170,7 @@ module _ (site : Site) (quota : Option ℕ) (b start : ℕ) (notes : List Note) 
         held = held ∙ ap (λ l. mailbox civil_at site.host [] (kept civil_at site.host quota [] l)) (sym taken) ∙ sym (append-nil (mailbox civil_at site.host [] first));
         tears = subst T (sym (ap (marked marks) none ∙ marked_none marks)) refl;
         fails = sym (grind (arith, nat_tests, settled));
-        next = λ e some. cc;
+        next = λ e. cc;
       }
 
   holds_front : HoldsSettled true → Holds true
@@ -187,7 +194,7 @@ module _ (site : Site) (quota : Option ℕ) (b start : ℕ) (notes : List Note) 
           held = some.2 ∙ ap (λ l. mailbox civil_at site.host [] l ++ some.0) taken;
           tears = subst T left some.3;
           fails = sym (grind (arith, nat_tests, low));
-          next = λ e some. next_kept h some;
+          next = λ e. next_kept h;
         }
         )
     | inr none ↦ (

@@ -1,5 +1,5 @@
 -- What became of the copies for one mailbox that was empty: which it holds, and what was told of each.
-use Rattle.std.specs.Prelude.{◌≡◌, ◌≤◌, ◌<◌, ℕ, nat_lt, Bool, true, List, [], ◌++◌, length, take, drop, slice_get, Option, Some}
+use Rattle.std.specs.Prelude.{◌≡◌, ◌≤◌, ℕ, nat_lt, Bool, true, List, [], ◌++◌, length, take, drop, slice_get, Option, Some}
 use Rattle.mail_world.specs.declared.Note.{Note}
 use Rattle.mail_world.specs.declared.Outcome.{Outcome}
 use Rattle.mail_world.specs.Records.{Calendar, mailbox}
@@ -20,5 +20,5 @@ pub record HoldsCopies (calendar : Calendar) (host : List ℕ) (quota : Option �
   pub held : bytes ≡ mailbox calendar host [] (kept calendar host quota [] (take settled notes)) ++ torn
   pub tears : IsTorn calendar host (kept_later calendar host quota settled notes) torn
   pub fails : failed ≡ nat_lt settled (length notes)
-  -- its spool failed at a copy that is kept; where none was settled that isn't said
-  pub next : failed ≡ true → 0 < settled → slice_get (are_kept calendar host quota [] notes) settled ≡ Some true
+  -- its spool failed at a copy that is kept
+  pub next : failed ≡ true → slice_get (are_kept calendar host quota [] notes) settled ≡ Some true
