@@ -8,6 +8,3 @@ mod served;
 pub use lmtp_house::{Sizes, TimedListener};
 pub use run::serve_run;
 pub use served::Served;
-
-#[cfg(test)]
-mod tests;
