@@ -12,6 +12,3 @@ pub use fault::HouseFault;
 pub use report::{HouseReport, has_failed};
 pub use run::run_house;
 pub use sizes::{Sizes, is_size};
-
-#[cfg(test)]
-mod tests;

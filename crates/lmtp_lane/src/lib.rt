@@ -10,8 +10,6 @@ mod report;
 mod run;
 mod setting;
 mod tcp;
-#[cfg(test)]
-mod tests;
 mod visits;
 
 pub use clock::Clock;

@@ -3,8 +3,6 @@
 mod clock;
 mod listener;
 mod share;
-#[cfg(test)]
-mod tests;
 mod visits;
 
 pub use clock::SystemClock;

@@ -10,8 +10,6 @@ mod outbox;
 mod peer;
 mod script;
 mod tcp;
-#[cfg(test)]
-mod tests;
 
 pub use conversation::serve;
 pub use delivery::Delivery;

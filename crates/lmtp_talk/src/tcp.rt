@@ -4,8 +4,6 @@ mod drain;
 mod peer;
 mod read_buffer;
 mod retry;
-#[cfg(test)]
-mod tests;
 
 pub use peer::TcpPeer;
 pub use read_buffer::ReadBuffer;

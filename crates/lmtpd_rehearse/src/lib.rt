@@ -12,6 +12,3 @@ mod run;
 pub use ending::{Ending, Rehearsed};
 pub use lmtp_house::{EndCause, HouseFault};
 pub use run::rehearse_run;
-
-#[cfg(test)]
-mod tests;

@@ -9,6 +9,3 @@ pub use lines::write_over_lines;
 pub use lmtp_house::{Sizes, Tally, TimedListener};
 pub use run::serve_run;
 pub use served::{Served, ServerEnding};
-
-#[cfg(test)]
-mod tests;

@@ -1,0 +1,19 @@
+#!/usr/bin/env bash
+# The tests of whole calls (tests/calls), over every crate but the program: compiled with checks and run, unproved. Each test
+# of the sources must have run and passed.
+# usage: tests/calls.sh [TEXT]: with a text only the tests in whose path it stands, as `house` or `hostile`
+set -euo pipefail
+cd "$(dirname "$0")/.."
+. tests/copies
+wanted=$(grep -rhE '^[[:space:]]*#\[test\]' tests/calls/src | wc -l)
+crates=$(grep -oE '^[a-z0-9_]+' crates.txt | grep -vx lmtpd | tr '\n' ' ')
+# shellcheck disable=SC2086
+copy_crates sources $crates
+add_crate calls tests/calls "$crates"
+
+status=0
+rt try --test --seconds 500 ${1:+-- "$1"} 2>&1 | tee "$folder/said" || status=$?
+passed=$(sed -nE 's/^test result: ok\. ([0-9]+) passed; 0 failed; 0 ignored.*/\1/p' "$folder/said")
+[ "$status" = 0 ] || { echo "rt try ended with status $status" >&2; exit 1; }
+[ "${passed:-0}" -gt 0 ] || { echo 'no test was run' >&2; exit 1; }
+[ -n "${1:-}" ] || [ "$passed" = "$wanted" ] || { echo "$passed of $wanted tests passed" >&2; exit 1; }
