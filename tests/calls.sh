@@ -1,6 +1,6 @@
 #!/usr/bin/env bash
-# The tests of whole calls (tests/calls), over every crate but the program: compiled with checks and run, unproved. Each test
-# of the sources must have run and passed.
+# The tests of whole calls (tests/calls), over every crate but the program: compiled with checks and run, unproved.
+# Each test of the sources must have run and passed.
 # usage: tests/calls.sh [TEXT]: with a text only the tests in whose path it stands, as `house` or `hostile`
 set -euo pipefail
 cd "$(dirname "$0")/.."
