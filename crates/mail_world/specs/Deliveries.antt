@@ -1,7 +1,6 @@
--- What became of the copies for one mailbox: its records hold the first of them, and the others were told Failed.
-use Rattle.std.specs.Prelude.{◌≡◌, ℕ, Bool, true, false, not, ◌==◌, List, [], ◌∷◌, ◌++◌, map, flat_map, if◌then◌else◌}
+-- What was told of the copies for one mailbox, and what may stand behind its whole records.
+use Rattle.std.specs.Prelude.{◌≡◌, ℕ, ◌==◌, List, [], ◌∷◌, flat_map, if◌then◌else◌}
 use Rattle.mail_world.specs.declared.Outcome.{Outcome}
-use Rattle.mail_world.specs.declared.Outcome.TheVariants.{Stored, Failed}
 use Rattle.mail_world.specs.declared.Verdict.{Verdict}
 use Rattle.mail_world.specs.declared.Verdict.TheVariants as verdicts
 use Rattle.mail_world.specs.declared.Note.{Note}
@@ -9,7 +8,7 @@ use Rattle.mail_world.specs.Fronts.{IsFront}
 use Rattle.mail_world.specs.Site.{Site}
 use Rattle.mail_world.specs.Conversation.{Conversation}
 use Rattle.mail_world.specs.Lists.{Transaction, transactions}
-use Rattle.mail_world.specs.Records.{Calendar, record_of, mailbox}
+use Rattle.mail_world.specs.Records.{Calendar, record_of}
 
 -- the outcomes of the recipients whose mailbox is that one, in the order of their commands
 abbrev pub outcomes_for : ℕ → List ℕ → List Outcome → List Outcome
@@ -31,22 +30,7 @@ told_all box ts = flat_map (told_of box) ts
 unfoldable pub outcomes_told : Site → ℕ → List Conversation → List Outcome
 outcomes_told site box cs = told_all box (transactions site 0 cs)
 
-abbrev pub is_none : List Note → Bool
-is_none [] = true
-is_none (note ∷ notes) = false
-
 -- behind the whole records there is nothing, or a front of the record of the first copy that is lost
 abbrev pub IsTorn : Calendar → List ℕ → List Note → List ℕ → Type 0
 IsTorn calendar host [] torn = torn ≡ []
 IsTorn calendar host (note ∷ lost) torn = IsFront torn (record_of calendar host note)
-
--- A mailbox that was empty took these copies and told these outcomes: the first copies were Stored and are there, the others Failed; it failed where there are others.
-pub record HoldsCopies (calendar : Calendar) (host : List ℕ) (notes : List Note) (outcomes : List Outcome) (bytes : List ℕ) (failed : Bool) : Type 0 where
-  pub stored : List Note
-  pub lost : List Note
-  pub torn : List ℕ
-  pub all : notes ≡ stored ++ lost
-  pub told : outcomes ≡ map (λ note. Stored) stored ++ map (λ note. Failed) lost
-  pub held : bytes ≡ mailbox calendar host [] stored ++ torn
-  pub tears : IsTorn calendar host lost torn
-  pub fails : failed ≡ not (is_none lost)
