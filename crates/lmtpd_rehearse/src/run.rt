@@ -22,9 +22,9 @@ use std::sync::{Arc, Wait};
 use std::thread::Threads;
 
 /// Runs a server of one lane at the site for one conversation, and then writes the mailboxes, each behind the line
-/// `mailbox NAME LENGTH`. The mailboxes are empty at the start and lie in memory, and each keeps of its copies those that
-/// fit under the quota, if there is one; every message is of the given moment, in seconds since 1970. All memory is taken
-/// first.
+/// `mailbox NAME LENGTH`. The mailboxes are empty at the start and lie in memory, and each keeps those of its copies
+/// that fit under the quota, if there is one; every message is of the given moment, in seconds since 1970. All memory
+/// is taken first.
 pub fn rehearse_run<R, W, H>(
     rt: H,
     alloc: Global,
@@ -112,7 +112,8 @@ where
         (record { unread = R.remaining held.peer.reader; written = W.contents held.peer.writer })
         (record { spools = held.spools.items; faulty = held.faulty; end = held.end })) }
     ensures only_size { result ≡ Err HouseFault.Size → ¬ IsBlockCount conditions.blocks }
-    ensures size { ¬ IsBlockCount conditions.blocks → (result ≡ Err HouseFault.Size) ⊎ (result ≡ Err HouseFault.Memory) }
+    ensures size { ¬ IsBlockCount conditions.blocks
+        → (result ≡ Err HouseFault.Size) ⊎ (result ≡ Err HouseFault.Memory) }
 {
     let count = site.box_count();
     let spools = empty_spools(alloc, count)?;

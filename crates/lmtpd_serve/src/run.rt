@@ -23,8 +23,8 @@ use std::time::Clock;
 
 /// Says where the server listens, runs it for that many conversations, which the lanes share, and says for each mailbox
 /// how many copies it stored. A conversation is stopped after so many reads. Nothing more is said once a write failed;
-/// the server runs all the same, as it does where the listener can't tell its address. What each mailbox's worker did is
-/// handed back.
+/// the server runs all the same, as it does where the listener can't tell its address. What each mailbox's worker did
+/// is handed back.
 pub fn serve_run<L, S, W, H>(
     rt: H,
     alloc: Global,

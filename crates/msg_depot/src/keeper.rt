@@ -188,7 +188,8 @@ fn free(board: &Board, seat: &mut Place, key: Key)
         × (key.generation ≡ seat.old.me.0.claim.generation) }
     requires over { IsOver seat.old.me.0.kind }
     ensures { (seat.new.table_id ≡ seat.old.table_id)
-        × (seat.new.me ≡ (resting (entered seat.old.me.0.book key.slot (entry_of (slot_given_back key.generation))), [])) }
+        × (seat.new.me
+        ≡ (resting (entered seat.old.me.0.book key.slot (entry_of (slot_given_back key.generation))), [])) }
 {
     let slot = key.slot;
     if key.generation < LAST_GENERATION {

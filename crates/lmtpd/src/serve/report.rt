@@ -14,7 +14,8 @@ use lmtpd_output::WriteFault;
 use lmtpd_serve::{Served, write_over_lines};
 use std::io::Write;
 
-/// Says on `error` which mailboxes are over their quota, and then what is lacking, if anything is, and gives the status.
+/// Says on `error` which mailboxes are over their quota, and then what is lacking, if anything is, and gives the
+/// status.
 pub fn report_served<E: Write>(served: &Served, error: &mut E) -> Exit
     ensures status { result.status ≡ status_after (server_fault served.now.ending) }
     ensures lines { IsListed (over_lines served.now ++ line_after (server_fault served.now.ending))
