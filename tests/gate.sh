@@ -1,6 +1,6 @@
 #!/usr/bin/env bash
 # The gate, from nothing. First `rt ci`: proves every crate and its tests, tries the must-fail edits, runs the
-# program and the tests. Then, over what that built, each script of tests/. A script that lacks something of the
+# program and the tests. Then, over what that built, the scripts of tests/, side by side. A script that lacks something of the
 # machine says so and ends with status 77: that is counted apart, as absent. The last line counts all: 'N passed,
 # M failed'. The benchmarks' programs are only compiled (tests/benchmarks.sh), and proved by `make benchmarks`: what
 # `rt ci` proved serves no other command, so it proves the crates below them once more.
@@ -22,37 +22,58 @@ count() {
     fi
 }
 
-# play COMMAND..: runs it, for ten minutes at most, and counts how it ended.
+# play SCRIPT: runs it, for ten minutes at most, and keeps what it said and how it ended.
 play() {
     local status=0
-    echo "== $*"
-    timeout --kill-after=10 600 "$@" < /dev/null 2>&1 || status=$?
-    case $status in
-    0) passed=$((passed + 1)) ;;
-    77) absent=$((absent + 1)) && echo "absent: $*" ;;
-    *) failed=$((failed + 1)) && echo "FAILED with status $status: $*" ;;
-    esac
+    timeout --kill-after=10 600 "$1" < /dev/null > "$said/$(basename "$1")" 2>&1 || status=$?
+    echo "$status" > "$said/$(basename "$1").status"
+}
+
+# play_all: plays each script of tests/, as many at a time as there are cores but one.
+play_all() {
+    local script room=$(($(nproc) > 2 ? $(nproc) - 1 : 1))
+    for script in tests/*.sh; do
+        [ "$script" != tests/gate.sh ] || continue
+        while [ "$(jobs -rp | wc -l)" -ge "$room" ]; do wait -n; done
+        play "$script" &
+    done
+    wait
+}
+
+# count_all: says what each script said, and adds how it ended.
+count_all() {
+    local script status
+    for script in tests/*.sh; do
+        [ "$script" != tests/gate.sh ] || continue
+        echo "== $script"
+        cat "$said/$(basename "$script")"
+        status=$(cat "$said/$(basename "$script").status")
+        case $status in
+        0) passed=$((passed + 1)) ;;
+        77) absent=$((absent + 1)) && echo "absent: $script" ;;
+        *) failed=$((failed + 1)) && echo "FAILED with status $status: $script" ;;
+        esac
+    done
 }
 
 # How many checks go on side by side: one a core, where each has 5 GiB of memory. `rt ci` by itself reckons with far more than
 # a check takes, and so has the largest crates wait while cores are idle.
-jobs() {
+jobs_at_once() {
     local available cores
     available=$(awk '$1 == "MemAvailable:" { print int($2 / 5242880) }' /proc/meminfo)
     cores=$(nproc)
     echo $((available < 1 ? 1 : available < cores ? available : cores))
 }
 
+said=$(mktemp -d)
+trap 'rm -rf "$said"' EXIT
 if [ "${1:-}" != --scripts ]; then
-    said=$(mktemp)
-    trap 'rm -f "$said"' EXIT
-    RT_JOBS=${RT_JOBS:-$(jobs)} rt ci 2>&1 | tee "$said"
-    count "$said"
+    RT_JOBS=${RT_JOBS:-$(jobs_at_once)} rt ci 2>&1 | tee "$said/rt"
+    count "$said/rt"
 fi
 if [ -x "$LMTPD" ]; then
-    for script in tests/*.sh; do
-        [ "$script" = tests/gate.sh ] || play "$script"
-    done
+    play_all
+    count_all
 else
     echo 'FAILED: no program was built, so no script was run'
     failed=$((failed + 1))

@@ -18,9 +18,6 @@ use std::marker::Model;
 
 mod drafts;
 mod messages;
-#[cfg(test)]
-mod tests;
-
 /// Messages in blocks. Contracts see the depot of the definitions: what each slot holds, and the blocks that are free.
 #[derive(Drop)]
 pub struct Arena {

@@ -8,8 +8,6 @@ mod mailbox;
 mod release;
 mod report;
 mod store;
-#[cfg(test)]
-mod tests;
 mod worker;
 
 pub use gate::{Gate, OpenGate};

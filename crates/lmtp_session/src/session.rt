@@ -18,9 +18,6 @@ use std::sync::Arc;
 mod commands;
 mod lists;
 mod messages;
-#[cfg(test)]
-mod tests;
-
 /// A session. Contracts see the site, what the definitions call a session, the replies that `reply_at` gives, and the
 /// room of its lists, which no call but `new` changes: the others take no memory.
 #[derive(Drop)]
@@ -46,7 +43,7 @@ impl Model for Session {
 }
 
 impl Session {
-    /// A session at that site, before its greeting, with memory for 100 recipients and their replies.
+    /// A session at that site, before its greeting, with memory for `RECIPIENT_LIMIT` recipients and their replies.
     pub fn new(alloc: Global, site: Arc<Site>) -> Result<Session, AllocError>
         ensures site { IfOk result (λ s. s.site ≡ arc_value site) }
         ensures session { IfOk result (λ s. s.session ≡ fresh) }

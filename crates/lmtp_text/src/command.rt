@@ -168,6 +168,3 @@ fn read_rcpt(rest: &[u8]) -> Result<Command, BadCommand>
     }
     Ok(Command::Rcpt(path.value.target))
 }
-
-#[cfg(test)]
-mod tests;

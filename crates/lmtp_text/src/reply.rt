@@ -112,6 +112,3 @@ pub fn write_reply(reply: Reply, site: &Site, out: &mut [u8]) -> usize
     let behind = put(out, named, name);
     put(out, behind, back)
 }
-
-#[cfg(test)]
-mod tests;

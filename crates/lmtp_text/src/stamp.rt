@@ -8,9 +8,6 @@ use jiff::Timestamp;
 use jiff::tz::Offset;
 use std::marker::Model;
 
-#[cfg(test)]
-mod tests;
-
 /// A second from 1970 on, on the calendar and the clock of UTC.
 #[derive(Clone, Copy)]
 pub struct Stamp {

@@ -5,9 +5,6 @@ ghost use Rattle.mail_world.specs.Text.{cr, has_byte};
 ghost use Rattle.lmtp_wire.specs.Place.{place_behind, effect_of};
 ghost use Rattle.lmtp_wire.specs.Dot.{HasMade, HasFed, Feeds, owed_bytes};
 
-#[cfg(test)]
-mod tests;
-
 use memchr::memchr;
 
 const CR: u8 = b'\r';
@@ -158,7 +155,8 @@ impl Dot {
         if run == 0 {
             return self.take_byte(piece, out, fed);
         }
-        let made = put(out, fed.made, &front[..run]);
+        let made = fed.made + run;
+        out[fed.made..made].copy_from_slice(&front[..run]);
         Fed {
             used: fed.used + run,
             made,
@@ -236,18 +234,6 @@ impl Dot {
         self.owed = Some(byte);
         made + 1
     }
-}
-
-// Writes the text at `at`, and says where it ends.
-fn put(out: &mut [u8], at: usize, text: &[u8]) -> usize
-    requires { at + length text.now ≤ length out.old }
-    ensures end { result ≡ at + length text.now }
-    ensures front { take result out.new ≡ take at out.old ++ text.now }
-    ensures rest { drop result out.new ≡ drop result out.old }
-{
-    let end = at + text.len();
-    out[at..end].copy_from_slice(text);
-    end
 }
 
 // How long the text is before the next CR.

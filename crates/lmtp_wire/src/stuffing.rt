@@ -5,9 +5,6 @@ ghost use Rattle.mail_world.specs.Data.{dot, stuffed, with_dots};
 ghost use Rattle.mail_world.specs.Text.{cr, lf, crlf, EmptyOrEndsIn};
 ghost use Rattle.lmtp_wire.specs.Runs.{CutsRun, GoesOnFrom};
 
-#[cfg(test)]
-mod tests;
-
 use memchr::memmem;
 use std::alloc::AllocError;
 

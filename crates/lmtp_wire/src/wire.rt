@@ -9,9 +9,6 @@ use memchr::memchr;
 use std::alloc::{AllocError, Global};
 use std::marker::Model;
 
-#[cfg(test)]
-mod tests;
-
 /// What the bytes of a piece came to.
 #[derive(Clone, Copy, Debug, PartialEq, Eq)]
 pub enum Got {

@@ -5,6 +5,5 @@ pub mod Inboxes
 pub mod Closes
 pub mod Names
 pub mod Senders
-pub mod Relays
 pub mod Gathers
 pub mod Offered

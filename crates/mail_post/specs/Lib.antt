@@ -4,7 +4,6 @@ pub mod Rule
 pub mod Channel
 pub mod Offered
 pub mod Order
-pub mod Relay
 pub mod Copies
 pub mod Gathering
 pub mod Places

@@ -8,8 +8,6 @@ mod kinds;
 pub mod laws;
 mod post;
 mod rule;
-#[cfg(test)]
-mod tests;
 
 pub use channel::{
     ChannelClosed, ChannelReceiver, ChannelSender, Gone, close_channel, open_channel, settle,

@@ -3,9 +3,6 @@ ghost use Rattle.std.specs.Prelude.{◌≡◌, ◌+◌, ◌<◌, ◌≤◌, ℕ,
 ghost use Rattle.mail_world.specs.Counts.{counted};
 ghost use Rattle.mbox_rd.specs.Spool.{SpoolTook, SpoolFailed, HasSynced, HasNotSynced, tail_of};
 
-#[cfg(test)]
-mod tests;
-
 use crate::spool::{Spool, SpoolFault, Tail, tail_of};
 use std::marker::Model;
 

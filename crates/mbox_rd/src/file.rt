@@ -8,9 +8,6 @@ ghost use Rattle.mail_world.specs.Counts.{counted};
 ghost use Rattle.mail_world.specs.Failures.{Rises};
 ghost use Rattle.mbox_rd.specs.Spool.{SpoolTook, SpoolFailed, HasSynced, HasNotSynced};
 
-#[cfg(test)]
-mod tests;
-
 use crate::spool::{Spool, SpoolFault, Tail, tail_of};
 use core::mem::replace_with;
 use std::alloc::Global;

@@ -14,8 +14,6 @@ mod pending;
 mod reading;
 mod record;
 mod spool;
-#[cfg(test)]
-mod tests;
 
 pub use count::CountSpool;
 pub use envelope::Envelope;

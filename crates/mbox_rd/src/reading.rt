@@ -165,6 +165,3 @@ fn is_from_line(line: &[u8]) -> bool
     }
     false
 }
-
-#[cfg(test)]
-mod tests;

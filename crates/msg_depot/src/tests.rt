@@ -22,7 +22,7 @@ fn fill_and_free<N: DepotName, R: Abort + Wait>(rt: &R, blank: Blank) -> Result<
 {
     let depot = blank.open::<N>();
     let mut a = depot.draft(rt)?;
-    depot.put(rt, &mut a, &[7; 513])?;
+    depot.put(rt, &mut a, &[7; 4_097])?;
     let mut b = depot.draft(rt)?;
     assert!(rt; depot.draft(rt).is_err(), "every slot is in use");
     assert!(rt; depot.put(rt, &mut b, b"b").is_err(), "no block is free");

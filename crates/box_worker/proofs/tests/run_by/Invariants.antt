@@ -1,5 +1,0 @@
-use Rattle.box_worker.proofs.tests.run_by.Given as goal
-
--- the table that was just made
-abbrev pub ghosts-run_over : goal.ghosts-run_over
-ghosts-run_over g a = record { table = a.blank.table }

@@ -1,0 +1,41 @@
+#!/usr/bin/env bash
+# The tests that stand beside their modules in files `tests.rt.in`, by crate and side by side: compiled with checks and
+# run, unproved. In a copy of the crates each file gets its name, and its module the line that names it. Each test of
+# the sources must have run and passed.
+# usage: tests/units.sh [CRATE..]
+set -euo pipefail
+cd "$(dirname "$0")/.."
+. tests/copies
+wanted=("$@")
+[ "$#" != 0 ] || mapfile -t wanted < <(find crates -name 'tests.rt.in' | cut -d/ -f2 | sort -u)
+# shellcheck disable=SC2046
+copy_crates sources $(grep -oE '^[a-z0-9_]+' crates.txt)
+cd "$folder"
+find crates -name '*.rt.in' | while read -r file; do
+    mv "$file" "${file%.in}"
+    [ "$(basename "$file")" = tests.rt.in ] || continue
+    module=$(dirname "$file").rt
+    [ -f "$module" ] || module=$(dirname "$file")/lib.rt
+    printf '\n#[cfg(test)]\nmod tests;\n' >> "$module"
+done
+
+declare -A running
+for crate in "${wanted[@]}"; do
+    (cd "crates/$crate" && rt try --test --seconds 300) > "$crate.said" 2>&1 &
+    running[$crate]=$!
+done
+failed=0
+for crate in "${wanted[@]}"; do
+    status=0
+    wait "${running[$crate]}" || status=$?
+    tests=$(grep -rhE '^[[:space:]]*#\[test\]' "crates/$crate/src" | wc -l)
+    passed=$(sed -nE 's/^test result: ok\. ([0-9]+) passed; 0 failed; 0 ignored.*/\1/p' "$crate.said")
+    if [ "$status" = 0 ] && [ "${passed:-0}" = "$tests" ]; then
+        echo "ok: $crate: $tests tests passed"
+    else
+        cat "$crate.said"
+        echo "FAILED: $crate: status $status, ${passed:-0} of $tests tests passed"
+        failed=1
+    fi
+done
+exit "$failed"
