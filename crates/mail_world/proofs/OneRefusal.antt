@@ -1,36 +1,28 @@
 -- A run in which a copy is over the mailbox's quota, and the next one is stored.
-use Rattle.std.proofs.Common.{ℕ, List, [], ◌∷◌, length, true, false, Some, None, inl, refl, lit≤, lit<}
-use Rattle.std.specs.Prelude.{codes}
-use Rattle.mail_world.specs.declared.Event.{Event}
+use Rattle.std.proofs.Common.{ℕ, List, [], ◌∷◌, length, true, false, Some, None, refl, lit≤, lit<}
 use Rattle.mail_world.specs.declared.Event.TheVariants.{Begin, Put, Seal, Offer, Take, Write, Sync, Release, Reclaim, GiveSlip, Collect}
 use Rattle.mail_world.specs.declared.Note.{Note}
 use Rattle.mail_world.specs.declared.Slip.{Slip}
 use Rattle.mail_world.specs.declared.Outcome.TheVariants.{Stored, OverQuota}
 use Rattle.mail_world.specs.Records.{record_of, mailbox}
-use Rattle.mail_world.specs.Depot.{Key, Free, Draft, Sealed, with_held, given_back}
+use Rattle.mail_world.specs.Depot.{Key, Draft, Sealed, with_held, given_back}
 use Rattle.mail_world.specs.House.{Post, Copy, Box, Lane, House, with_depot, with_box, with_lane, IsStart}
 use Rattle.mail_world.specs.Slips.{gather_for, slip_of}
 use Rattle.mail_world.specs.Events.{with_heard, with_taken, without_copy, sealed_up_to}
 use Rattle.mail_world.specs.Runs.{Happened, Run, HasSpoolAndPlaces, HasHeardSlips}
 use Rattle.mail_world.specs.Rows.{calendar, site}
 use Rattle.mail_world.proofs.Computed.{everything}
-use Rattle.mail_world.proofs.OneRun.{split, each_once}
-
-abbrev bytes : List ℕ
-bytes = codes "a\r\n"
-
-abbrev key : Key
-key = record { slot = 0; generation = 0 }
+use Rattle.mail_world.proofs.OneHouse.{bytes, key, only_copy, just_taken, lane₀, box₀, free_slot, house₀, lane₁, with_draft, with_bytes, then', split, each_once, starts}
 
 abbrev next : Key
 next = record { slot = 0; generation = 1 }
 
 -- the second copy is of an empty message, so that its record is shorter
 abbrev pub first : Note
-first = record { txn = record { lane = 0; number = 1 }; place = 0; mailbox = 0; sender = []; client = codes "c"; moment = 0; message = bytes }
+first = only_copy 1 bytes
 
 abbrev pub second : Note
-second = record { txn = record { lane = 0; number = 2 }; place = 0; mailbox = 0; sender = []; client = codes "c"; moment = 0; message = [] }
+second = only_copy 2 []
 
 abbrev post₁ : Post
 post₁ = record { note = first; key = key }
@@ -41,31 +33,14 @@ post₂ = record { note = second; key = next }
 abbrev text : List ℕ
 text = record_of calendar site.host second
 
-abbrev lane₀ : Lane
-lane₀ = record { number = 0; draft = None; messages = []; holds = []; gather = record { txn = record { lane = 0; number = 0 }; places = [] }; slips = []; collected = 0; heard = [] }
-
-abbrev box₀ : Box
-box₀ = record { old = []; accepted = []; taken = 0; settled = 0; closed = false; spool = []; hand = None; faulty = false }
-
 abbrev pub start : House
-start = record {
-  calendar = calendar;
-  host = site.host;
-  quota = Some (length text);
-  capacity = 1;
-  depot = record { slots = record { generation = 0; held = Free } ∷ []; free = 0 ∷ 1 ∷ [] };
-  boxes = box₀ ∷ [];
-  lanes = lane₀ ∷ [];
-}
-
-abbrev lane₁ : Lane
-lane₁ = record lane₀ { number = 1; draft = Some key }
+start = house₀ (Some (length text)) (free_slot ∷ [])
 
 abbrev house₁ : House
-house₁ = with_lane (with_depot start (with_held start.depot key (Draft [] []) (0 ∷ 1 ∷ []))) 0 lane₁
+house₁ = with_draft start
 
 abbrev house₂ : House
-house₂ = with_depot house₁ (with_held house₁.depot key (Draft bytes (0 ∷ [])) (1 ∷ []))
+house₂ = with_bytes house₁
 
 abbrev lane₃ : Lane
 lane₃ = record lane₁ {
@@ -156,7 +131,7 @@ abbrev house₁₃ : House
 house₁₃ = with_box house₁₂ 0 box₁₃
 
 abbrev copy₁₃ : Copy
-copy₁₃ = record { post = post₂; written = 0; synced = false; over = false; released = false }
+copy₁₃ = just_taken post₂
 
 abbrev copy₁₄ : Copy
 copy₁₄ = record copy₁₃ { written = length text }
@@ -200,9 +175,6 @@ lane₁₈ = record (with_heard lane₁₇ slip₂) { collected = 2 }
 abbrev pub house₁₈ : House
 house₁₈ = with_lane house₁₇ 0 lane₁₈
 
-abbrev then' : Event → House → Happened
-then' e h = record { event = e; house = h }
-
 abbrev pub one_run : List Happened
 one_run =
     then' (Begin 0) house₁ ∷ then' (Put 0 bytes) house₂ ∷ then' (Seal 0 1) house₃ ∷ then' (Offer 0 first) house₄ ∷ then' (Take 0) house₅
@@ -211,12 +183,7 @@ one_run =
     ∷ then' (Release 0) house₁₆ ∷ then' (GiveSlip 0 Stored) house₁₇ ∷ then' (Collect 0) house₁₈ ∷ []
 
 pub it_starts : IsStart 2 start
-it_starts = record {
-  boxes = (record { accepted = refl; taken = refl; settled = refl; closed = refl; hand = refl; spool = inl (refl, refl) }, tt);
-  lanes = (record { number = refl; draft = refl; messages = refl; holds = refl; places = refl; slips = refl; collected = refl; heard = refl }, tt);
-  slots = (record { held = refl; generation = lit≤ tt }, tt);
-  free = each_once;
-}
+it_starts = starts (Some (length text)) _ (record { held = refl; generation = lit≤ tt }, tt) each_once
 
 pub it_runs : Run start one_run
 unfolding everything

@@ -116,6 +116,10 @@ pub record Conversation : Type 0 where
   pub dispositions : List Disposition
   pub stopped : Bool
 
+-- a conversation that nobody stopped
+abbrev pub conversation : List ℕ → List Disposition → Conversation
+conversation bytes ds = record { bytes = bytes; dispositions = ds; stopped = false }
+
 abbrev pub stop_at : State → Bool → List Input
 stop_at Ended stopped = []
 stop_at _ stopped = if stopped then Stop ∷ [] else []

@@ -1,0 +1,81 @@
+-- The house of the computed runs: one lane, one mailbox and two blocks, up to its first draft.
+use Rattle.std.proofs.Common.{◌≡◌, ℕ, zero, suc, List, [], ◌∷◌, false, Option, Some, None, inl, refl, arith, ◌≤◌}
+use Rattle.std.specs.Prelude.{codes, nat_lt, if◌then◌else◌}
+use Rattle.std.specs.List.{AllByRecursion}
+use Rattle.std.proofs.lemmas.Bool.Decides.{nat_tests}
+use Rattle.mail_world.specs.declared.Event.{Event}
+use Rattle.mail_world.specs.declared.Note.{Note}
+use Rattle.mail_world.specs.Depot.{Key, Slot, Free, Draft, with_held, occurrences, IsSplitInto, HasEachBlockOnce}
+use Rattle.mail_world.specs.House.{Post, Copy, Box, Lane, House, with_depot, with_lane, IsFreshSlot, IsStart}
+use Rattle.mail_world.specs.Runs.{Happened}
+use Rattle.mail_world.specs.Rows.{calendar, site}
+use Rattle.mail_world.proofs.OneLine.{other_byte}
+
+abbrev pub bytes : List ℕ
+bytes = codes "a\r\n"
+
+abbrev pub key : Key
+key = record { slot = 0; generation = 0 }
+
+-- the only copy of the lane's transaction of that number
+abbrev pub only_copy : ℕ → List ℕ → Note
+only_copy number message = record { txn = record { lane = 0; number = number }; place = 0; mailbox = 0; sender = []; client = codes "c"; moment = 0; message = message }
+
+-- a copy of which nothing is written
+abbrev pub just_taken : Post → Copy
+just_taken post = record { post = post; written = 0; synced = false; over = false; released = false }
+
+abbrev pub lane₀ : Lane
+lane₀ = record { number = 0; draft = None; messages = []; holds = []; gather = record { txn = record { lane = 0; number = 0 }; places = [] }; slips = []; collected = 0; heard = [] }
+
+abbrev pub box₀ : Box
+box₀ = record { old = []; accepted = []; taken = 0; settled = 0; closed = false; spool = []; hand = None; faulty = false }
+
+abbrev pub free_slot : Slot
+free_slot = record { generation = 0; held = Free }
+
+abbrev pub house₀ : Option ℕ → List Slot → House
+house₀ quota slots = record {
+  calendar = calendar;
+  host = site.host;
+  quota = quota;
+  capacity = 1;
+  depot = record { slots = slots; free = 0 ∷ 1 ∷ [] };
+  boxes = box₀ ∷ [];
+  lanes = lane₀ ∷ [];
+}
+
+abbrev pub lane₁ : Lane
+lane₁ = record lane₀ { number = 1; draft = Some key }
+
+-- the lane's first draft, and its bytes
+abbrev pub with_draft : House → House
+with_draft h = with_lane (with_depot h (with_held h.depot key (Draft [] []) (0 ∷ 1 ∷ []))) 0 lane₁
+
+abbrev pub with_bytes : House → House
+with_bytes h = with_depot h (with_held h.depot key (Draft bytes (0 ∷ [])) (1 ∷ []))
+
+abbrev pub then' : Event → House → Happened
+then' e h = record { event = e; house = h }
+
+pub split : IsSplitInto (0 ∷ 1 ∷ []) (0 ∷ []) (1 ∷ [])
+split x = omega arith
+
+past : (n : ℕ) → 2 ≤ n → nat_lt n 2 ≡ false
+past n h = grind (arith, nat_tests)
+
+each_past : (n : ℕ) → 2 ≤ n → occurrences n (0 ∷ 1 ∷ []) ≡ (if nat_lt n 2 then 1 else 0)
+each_past n h = rw (past n h, other_byte 0 n (omega arith), other_byte 1 n (omega arith)) refl
+
+pub each_once : HasEachBlockOnce 2 (house₀ None (free_slot ∷ [])).depot
+each_once zero = refl
+each_once (suc zero) = refl
+each_once (suc (suc x)) = each_past (suc (suc x)) (omega arith)
+
+pub starts : (quota : Option ℕ) (slots : List Slot) → AllByRecursion IsFreshSlot slots → HasEachBlockOnce 2 (house₀ quota slots).depot → IsStart 2 (house₀ quota slots)
+starts quota slots fresh once = record {
+  boxes = (record { accepted = refl; taken = refl; settled = refl; closed = refl; hand = refl; spool = inl (refl, refl) }, tt);
+  lanes = (record { number = refl; draft = refl; messages = refl; holds = refl; places = refl; slips = refl; collected = refl; heard = refl }, tt);
+  slots = fresh;
+  free = once;
+}
