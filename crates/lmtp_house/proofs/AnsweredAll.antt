@@ -24,7 +24,7 @@ counted_by : (p : Slip → Bool) (x : Slip) (xs : List Slip) (o : Outcome) (t : 
 counted_by p x xs o true later e = omega arith
 counted_by p x xs o false later e = omega (arith, later e)
 
-found_counts : (p : Slip → Bool) (xs : List Slip) (o : Outcome) → outcome_found p xs ≡ Some o → 1 ≤ count_by p xs
+pub found_counts : (p : Slip → Bool) (xs : List Slip) (o : Outcome) → outcome_found p xs ≡ Some o → 1 ≤ count_by p xs
 found_counts p [] o e = let bad : ◌≡◌ {A = Option Outcome} None (Some o) = e in cc
 found_counts p (x ∷ xs) o e = omega (arith, counted_by p x xs o (p x) (found_counts p xs o) e, count-cons p x xs)
 

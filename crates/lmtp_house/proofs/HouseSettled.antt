@@ -10,7 +10,7 @@ use Rattle.mail_world.specs.declared.Slip.{Slip}
 use Rattle.mail_world.specs.Fronts.{IsFront}
 use Rattle.mail_world.specs.Site.{Site}
 use Rattle.mail_world.specs.Slips.{of_worker}
-use Rattle.mail_world.specs.Lists.{of_lane, due}
+use Rattle.mail_world.specs.Lists.{of_lane, due, OutcomesAreAnswers}
 use Rattle.mail_post.specs.Channel.{Channel, Sender, Inbox, Sent, taken, TookSome, TookAll}
 use Rattle.mail_post.specs.Parcels.{of}
 use Rattle.mbox_rd.specs.Spool.{SpoolState}
@@ -21,6 +21,7 @@ use Rattle.lmtp_house.specs.House.{HasRun}
 use Rattle.thread_crew.specs.Channels.{channels_of, AreNewChannels, IsClosedWith, AreClosed, CanSettle, IsSettled}
 use Rattle.lmtp_threads.specs.Tasks.{LanesGiven, LanesBack, WorkersGiven, WorkersBack, HaveServed, HaveWorked}
 use Rattle.lmtp_house.proofs.AnsweredAll.{outcomes_are_answers}
+use Rattle.lmtp_house.proofs.HeardAll.{heard_all}
 use Rattle.lmtp_house.proofs.NamedOnce.{named_once}
 use Rattle.thread_crew.proofs.ChannelRows.{at, at_map, zip_at, at_zip}
 
@@ -138,6 +139,18 @@ module _ {V S : Type 0} (site : Site) (May : ℕ → Type 0) (view : VisitsView 
         only = front_below (λ (s : Slip). s.worker) (length old_boxes.spools) x.value.channel (λ b. owed_slips b k) c.value w (lanes.works k).heard front;
       }
 
+  -- the lane's outcomes are those of all that it heard
+  lane_outcomes : (k : ℕ) → k < length old_lanes.visits → OutcomesAreAnswers site k (lanes.works k).heard (conversations_of (lanes.works k).visits)
+  lane_outcomes k below =
+      let x = at old_lanes.visits k below in
+      let y = at new_lanes.visits k (omega (arith, lanes.as_many.0, below)) in
+      let c = at new_lanes.conversations k (omega (arith, lanes.as_many.1, below)) in
+      let l = lane_known k below in
+      let cs = conversations_of (lanes.works k).visits in
+      outcomes_are_answers site k (lanes.works k).heard cs
+      (named_once site k (length old_boxes.spools) cs (lanes.works k).heard boxes.works l.only l.each (λ b box. (box_known b box).each k below))
+      (lanes.served k c.value x.value y.value x.is y.is c.is).answered
+
   pub has_run : HasRun site May view state (record { visits = old_lanes.visits; spools = old_boxes.spools; quota = old_boxes.quota })
       (record {
         visits = new_lanes.visits;
@@ -152,20 +165,19 @@ module _ {V S : Type 0} (site : Site) (May : ℕ → Type 0) (view : VisitsView 
     as_many_boxes = (boxes.as_many.0, boxes.as_many.1);
     served = λ k count old new a b c.
         let s = lanes.served k count old new a b c in
-        let below = slice_get_within old_lanes.visits k old a in
-        let l = lane_known k below in
-        let cs = conversations_of (lanes.works k).visits in record {
+        record {
           visited = s.visited;
           ended = s.ended;
           counts = s.counts;
           verdicts = s.verdicts;
           moments = s.moments;
-          answered = outcomes_are_answers site k (lanes.works k).heard cs
-              (named_once site k (length old_boxes.spools) cs (lanes.works k).heard boxes.works l.only l.each (λ b box. (box_known b box).each k below)) s.answered;
+          answered = lane_outcomes k (slice_get_within old_lanes.visits k old a);
         };
     stored = boxes.stored;
     owed = λ k b below box. (box_known b box).each k below;
     owed_only = λ b box. (box_known b box).only;
-    told = λ k b below box. (lane_known k below).each b box;
+    told = λ k b below box.
+        let l = lane_known k below in
+        heard_all site k (length old_boxes.spools) (conversations_of (lanes.works k).visits) (lanes.works k).heard boxes.works l.only l.each (λ c low. (box_known c low).each k below) (lane_outcomes k below) b box;
     told_only = λ k below. (lane_known k below).only;
   }

@@ -86,11 +86,11 @@ no_more f g key mark boxes xs ys all each =
     omega (arith, all_below f key boxes xs all, up_to, fewer g (λ y. nat_lt (mark y) boxes) ys)
 
 -- the copy is of the transaction and the place
-abbrev is_copy : Txn → ℕ → Note → Bool
+abbrev pub is_copy : Txn → ℕ → Note → Bool
 is_copy txn place note = (note.txn.lane == txn.lane) && (note.txn.number == txn.number) && (note.place == place)
 
 -- slips are for copies
-slips_copy : (txn : Txn) (place b k : ℕ) (outcomes : List Outcome) (notes : List Note)
+pub slips_copy : (txn : Txn) (place b k : ℕ) (outcomes : List Outcome) (notes : List Note)
     → count_by (names txn place) (filter (λ slip. slip.txn.lane == k) (slips_from b outcomes notes)) ≤ count_by (is_copy txn place) (filter (λ note. note.txn.lane == k) notes)
 slips_copy txn place b k [] notes = omega arith
 slips_copy txn place b k (outcome ∷ outcomes) [] = omega arith
@@ -245,7 +245,7 @@ at_most_one : (t : Bool) (n : ℕ) → n ≤ cond t 1 0 → n ≤ 1
 at_most_one true n le = le
 at_most_one false n le = omega (arith, le)
 
-due_counts : (site : Site) (k b : ℕ) (cs : List Conversation) (f : Note → Bool) → count_by f (due site k b cs) ≡ count_by f (filter (λ note. note.mailbox == b) (flat_map (copies k) (transactions site 0 cs)))
+pub due_counts : (site : Site) (k b : ℕ) (cs : List Conversation) (f : Note → Bool) → count_by f (due site k b cs) ≡ count_by f (filter (λ note. note.mailbox == b) (flat_map (copies k) (transactions site 0 cs)))
 unfolding due
 due_counts site k b cs f = refl
 

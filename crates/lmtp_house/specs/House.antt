@@ -2,7 +2,6 @@
 use Rattle.std.specs.Prelude.{◌≡◌, ◌<◌, ◌≤◌, ℕ, true, List, length, slice_get, Option, Some}
 use Rattle.std.specs.List.{AllByRecursion}
 use Rattle.mail_world.specs.declared.limits.TheConstants.{LANE_LIMIT, BLOCK_LIMIT, SLOT_LIMIT, CAPACITY_LIMIT, READ_LIMIT}
-use Rattle.mail_world.specs.Fronts.{IsFront}
 use Rattle.mail_world.specs.Site.{Site}
 use Rattle.mail_world.specs.Slips.{of_worker}
 use Rattle.mail_world.specs.Lists.{of_lane, due, transactions, VerdictsFit, OutcomesAreAnswers}
@@ -50,8 +49,8 @@ pub record IsLaneWork (site : Site) (May : ℕ → Type 0) (MayCome : PeerState 
   pub answered : OutcomesAreAnswers site k work.heard (conversations_of work.visits)
 
 -- However lanes and workers interleaved: each worker took of each lane just the copies that the lane's conversations owe
--- its mailbox, in their order, and nothing else; and each lane heard of its copies the slips that their workers gave, and
--- nothing else.
+-- its mailbox, in their order, and nothing else; and each lane heard of its copies every slip that their workers gave, and
+-- nothing else, so that its channel is empty when it is closed.
 pub record HasRun {V S : Type 0} (site : Site) (May : ℕ → Type 0) (view : VisitsView V) (state : S → SpoolState)
     (old : HandedIn V S) (new : HandedBack V S) : Type 0 where
   pub lanes : ℕ → LaneWork
@@ -69,6 +68,6 @@ pub record HasRun {V S : Type 0} (site : Site) (May : ℕ → Type 0) (view : Vi
   pub owed_only : (b : ℕ) → b < length old.spools
       → AllByRecursion (λ note. note.txn.lane < length old.visits) (boxes b).taken
   pub told : (k b : ℕ) → k < length old.visits → b < length old.spools
-      → IsFront (of_worker b (lanes k).heard) (owed_to b (boxes b).outcomes k (boxes b).taken)
+      → of_worker b (lanes k).heard ≡ owed_to b (boxes b).outcomes k (boxes b).taken
   pub told_only : (k : ℕ) → k < length old.visits
       → AllByRecursion (λ slip. slip.worker < length old.spools) (lanes k).heard

@@ -13,7 +13,7 @@ use Rattle.mail_world.specs.Slips.{of_worker}
 use Rattle.mail_world.specs.Failures.{Rises}
 use Rattle.mail_world.specs.Site.{Site}
 use Rattle.mail_world.specs.Session.{fresh}
-use Rattle.mail_world.specs.Conversation.{Disposition, Conversation, IsAccount, inputs, parts, replies}
+use Rattle.mail_world.specs.Conversation.{Disposition, Conversation, IsAccount, conversation, inputs, parts, replies}
 use Rattle.mail_world.specs.Lists.{Transaction, VerdictFits, OutcomesIn, of_lane, copies_owed, due, transactions}
 use Rattle.mail_world.specs.Records.{mailbox}
 use Rattle.mail_world.specs.Quotas.{are_kept_behind, are_kept, kept, marked, outcomes_settled}
@@ -34,7 +34,7 @@ use Rattle.mail_world.specs.declared.limits.TheConstants.{READ_LIMIT}
 use Rattle.lmtp_lane.specs.Visits.{Finished, Visit, IsVisit, conversations_of, finished_of}
 use Rattle.lmtpd_rehearse.specs.declared.client.OnlyClient.{OnlyClient}
 use Rattle.lmtpd_rehearse.specs.declared.client.OnlyClient.TheVariants.{Waiting, Over}
-use Rattle.lmtpd_rehearse.specs.Account.{conversation, IsSettled, IsAllSettled}
+use Rattle.lmtpd_rehearse.specs.Account.{IsSettled, IsAllSettled}
 use Rattle.lmtpd_rehearse.specs.declared.parts.TheConstants.{MAILBOX_ROOM}
 use Rattle.lmtpd_rehearse.specs.Copies.{HoldsCopies, kept_later}
 use Rattle.lmtpd_rehearse.specs.Client.{MayGive, told as told_by, is_over, IsOnlyOver}
@@ -307,7 +307,7 @@ module _ (site : Site) (quota : Option ℕ) (moment : ℕ) {P : Type 0} (state :
         known = subst K many (h.told_only 0 one);
         begun = λ b low.
             let B : List Note → Type 0 = λ notes. IsFront (of_worker b heard) (owed_to b (h.boxes b).outcomes 0 notes) in
-            subst B (taken b low) (h.told 0 b one (low_in b low));
+            subst B (taken b low) (record { rest = []; whole = sym (h.told 0 b one (low_in b low)) ∙ sym (append-nil (of_worker b heard)) });
         taken = taken;
         each = λ b low.
             let spool = get_some back.spools b (omega (arith, many, low, h.as_many_boxes.0)) in

@@ -1,15 +1,11 @@
 -- What became of the messages of a rehearsal.
-use Rattle.std.specs.Prelude.{◌≡◌, ◌⊎◌, ⊤, ℕ, false, List, Option, Some, None}
+use Rattle.std.specs.Prelude.{◌≡◌, ◌⊎◌, ⊤, ℕ, Option, Some, None}
 use Rattle.std.specs.List.{AllByRecursion}
 use Rattle.mail_world.specs.declared.Outcome.{Outcome}
 use Rattle.mail_world.specs.declared.Outcome.TheVariants.{Stored, OverQuota}
 use Rattle.mail_world.specs.declared.Verdict.{Verdict}
 use Rattle.mail_world.specs.declared.Verdict.TheVariants.{Whole}
-use Rattle.mail_world.specs.Conversation.{Disposition, Conversation}
-
--- a conversation that nobody stopped
-abbrev pub conversation : List ℕ → List Disposition → Conversation
-conversation bytes ds = record { bytes = bytes; dispositions = ds; stopped = false }
+use Rattle.mail_world.specs.Conversation.{Disposition}
 
 -- what is told of a copy that is settled: Stored, and under a quota it may be OverQuota
 abbrev pub IsSettled : Option ℕ → Outcome → Type 0

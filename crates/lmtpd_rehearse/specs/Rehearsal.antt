@@ -8,7 +8,7 @@ use Rattle.mail_world.specs.declared.Note.{Note}
 use Rattle.mail_world.specs.declared.Outcome.{Outcome}
 use Rattle.mail_world.specs.Site.{Site}
 use Rattle.mbox_rd.specs.MemorySpool.{MemorySpool}
-use Rattle.mail_world.specs.Conversation.{Disposition, IsAccount, inputs, replies}
+use Rattle.mail_world.specs.Conversation.{Disposition, IsAccount, conversation, inputs, replies}
 use Rattle.mail_world.specs.Lists.{VerdictFits, transactions, due}
 use Rattle.mail_world.specs.Records.{mailbox}
 use Rattle.mail_world.specs.Quotas.{are_kept, kept, outcomes_settled}
@@ -19,7 +19,7 @@ use Rattle.lmtp_talk.specs.declared.ending.EndCause.TheVariants.{Quit, EndOfInpu
 use Rattle.lmtp_talk.specs.Served.{IsWritten, has_quit}
 use Rattle.lmtpd_rehearse.specs.declared.ending.Ending.{Ending}
 use Rattle.lmtpd_rehearse.specs.Mailboxes.{MailboxContent, kept_at, mailboxes_text, bytes_of_all, IsCalm}
-use Rattle.lmtpd_rehearse.specs.Account.{conversation, IsAllSettled}
+use Rattle.lmtpd_rehearse.specs.Account.{IsAllSettled}
 use Rattle.lmtpd_rehearse.specs.Copies.{HoldsCopies}
 
 -- the account of a conversation whose bytes were read: what became of its data, each at that moment
