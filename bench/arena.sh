@@ -2,8 +2,8 @@
 # How long the arena takes for 64 MiB, beside `memcpy` of the same bytes (std's `copy_from_slice`), in pieces of 512 bytes:
 #   put       `Arena::put` of every piece, into drafts of 1 MiB
 #   copy_out  `Arena::copy_out` of every piece of the sealed messages
-# The largest arena has 32 MiB, so that 64 MiB are two rounds. Prints the best of RUNS times of each (9 if it isn't set)
-# and put's and copy_out's time over memcpy's. Fails where a ratio is above 3.0.
+# Prints the best of RUNS times of each (9 if it isn't set), and put's and copy_out's time over memcpy's. Fails where a
+# ratio is above 3.0.
 # usage: bench/arena.sh [--build | --try]: with a word it only makes what it measures with, proved or unproved (bench/program)
 set -euo pipefail
 cd "$(dirname "$0")/.."
@@ -19,13 +19,10 @@ PROGRAM, RUNS = sys.argv[1], int(sys.argv[2])
 
 
 def run():
-    """By name the microseconds of both rounds."""
+    """By name the microseconds."""
     said = subprocess.run([PROGRAM], check=True, capture_output=True, text=True).stdout
-    took = {}
-    for line in said.splitlines():
-        name, number = line.split(" ")
-        took[name] = took.get(name, 0) + int(number)
-    return took
+    rows = [line.split(" ") for line in said.splitlines()]
+    return {name: int(number) for name, number in rows}
 
 
 runs = [run() for _ in range(RUNS)]

@@ -5,7 +5,7 @@
 #              appends, syncs and answers (bench/serve/plain.rs)
 #   smtp-sink  Postfix's `smtp-sink -L`: the protocol, and nothing is stored
 #   dovecot    Dovecot's LMTP over mbox, mail_fsync=optimized, with a process for each connection
-#   ours       `serve` with 4 lanes and 8,192 blocks
+#   ours       `serve` with 4 lanes and its other numbers as they are without words
 #   quota      the same with a quota that every letter fits, so that each record is measured before it is written;
 #              only where it is named
 # The works, by bench/serve/load.rs, which checks each reply:

@@ -27,7 +27,7 @@ try() {
 
 good=(rehearse --host mx.example --time 0)
 many=()
-for i in {1..65}; do many+=("box$i"); done
+for i in {1..257}; do many+=("box$i"); done
 
 try 2 'lmtpd: bad host' rehearse --host mx_example --time 0 anna
 try 2 'lmtpd: bad host' rehearse --host mx_example --time 0 --domains a_b Anna

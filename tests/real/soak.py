@@ -6,51 +6,82 @@ import re
 import shutil
 import subprocess
 import time
+from typing import NamedTuple
 
 from cases import Absent, case, equal
 from server import Server
 
-LANES = 16
-BOXES = [f"u{number}" for number in range(64)]
-CONVERSATIONS = 125  # of each connection, one connection a lane
-MESSAGES = 125  # of each conversation, for four mailboxes each, which are those of its connection alone
-RECIPIENTS = len(BOXES) // LANES
-DELIVERIES = LANES * CONVERSATIONS * MESSAGES * RECIPIENTS
+RECIPIENTS = 4  # of each message: the mailboxes of its connection, which are those of no other
 SIZE = 512
 LOAD = pathlib.Path(__file__).parents[2] / "bench/serve/load.rs"
 EVERY = 0.5  # seconds between two looks
 SETTLED = 10  # per cent of the looks behind which nothing grows with what is delivered
-LEAK = DELIVERIES * (100 - SETTLED) // 100 // 2 // 1024  # KiB: half a byte for each delivery since
 ID = re.compile(rb"^Message-ID: <soak\.(\d+)\.(\d+)@load>$", re.MULTILINE)
+
+
+class Work(NamedTuple):
+    """Connections, one a lane, each of so many conversations of so many messages."""
+
+    lanes: int
+    conversations: int
+    messages: int
+
+    @property
+    def boxes(self):
+        return [f"u{number}" for number in range(self.lanes * RECIPIENTS)]
+
+    @property
+    def stored(self):
+        """Of each mailbox."""
+        return self.conversations * self.messages
+
+    @property
+    def deliveries(self):
+        return self.lanes * RECIPIENTS * self.stored
+
+    @property
+    def leak(self):
+        """KiB: half a byte for each delivery behind the looks of the start."""
+        return self.deliveries * (100 - SETTLED) // 100 // 2 // 1024
 
 
 @case
 def a_million_deliveries(folder):
     """a million deliveries over 16 lanes to 64 mailboxes: each letter once, in order, and nothing leaks"""
-    load = compiled(folder)
-    mailboxes = folder / "mailboxes"
-    mailboxes.mkdir()
-    with Server(mailboxes, BOXES, LANES * CONVERSATIONS, "--lanes", LANES) as server:
-        looks = watch(server.process.pid, deliver(load, server.text))
-        ended = server.end()
-    stored = CONVERSATIONS * MESSAGES
-    equal((ended.status, ended.errors), (0, []))
-    equal(ended.said, [f"{name} stored {stored}" for name in BOXES])
-    for number, name in enumerate(BOXES):
-        found = ID.findall((mailboxes / f"{name}.mbox").read_bytes())
-        connection = b"%d" % (number // RECIPIENTS)
-        equal(found, [(connection, b"%d" % message) for message in range(stored)])
-    settled = looks[len(looks) * SETTLED // 100 :]
-    memory = [look.memory for look in settled]
-    draw(looks)
-    print(f"{DELIVERIES} deliveries in {looks[-1].seconds:.0f} s; resident {memory[0]} KiB, {max(memory)} at most")
-    assert max(memory) - memory[0] < LEAK, f"from {memory[0]} to {max(memory)} KiB"
-    # one for each client, who comes and goes
-    most = max(look.descriptors for look in settled)
-    assert most <= min(look.descriptors for look in settled) + LANES, most
+    soak(folder, Work(lanes=16, conversations=125, messages=125))
+
+
+@case
+def a_million_deliveries_over_all_lanes(folder):
+    """a million deliveries over 64 lanes to 256 mailboxes: each letter once, in order, and nothing leaks"""
+    soak(folder, Work(lanes=64, conversations=125, messages=32))
 
 
 a_million_deliveries.seconds = 900
+a_million_deliveries_over_all_lanes.seconds = 900
+
+
+def soak(folder, work):
+    load = compiled(folder)
+    mailboxes = folder / "mailboxes"
+    mailboxes.mkdir()
+    with Server(mailboxes, work.boxes, work.lanes * work.conversations, "--lanes", work.lanes) as server:
+        looks = watch(server.process.pid, deliver(load, server.text, work))
+        ended = server.end()
+    equal((ended.status, ended.errors), (0, []))
+    equal(ended.said, [f"{name} stored {work.stored}" for name in work.boxes])
+    for number, name in enumerate(work.boxes):
+        found = ID.findall((mailboxes / f"{name}.mbox").read_bytes())
+        connection = b"%d" % (number // RECIPIENTS)
+        equal(found, [(connection, b"%d" % message) for message in range(work.stored)])
+    settled = looks[len(looks) * SETTLED // 100 :]
+    memory = [look.memory for look in settled]
+    draw(looks, work)
+    print(f"{work.deliveries} deliveries in {looks[-1].seconds:.0f} s; resident {memory[0]} KiB, {max(memory)} at most")
+    assert max(memory) - memory[0] < work.leak, f"from {memory[0]} to {max(memory)} KiB"
+    # one for each client, who comes and goes
+    most = max(look.descriptors for look in settled)
+    assert most <= min(look.descriptors for look in settled) + work.lanes, most
 
 
 def compiled(folder):
@@ -61,8 +92,8 @@ def compiled(folder):
     return load
 
 
-def deliver(load, address):
-    words = ["soak", LANES, CONVERSATIONS, MESSAGES, RECIPIENTS, SIZE, len(BOXES)]
+def deliver(load, address, work):
+    words = ["soak", work.lanes, work.conversations, work.messages, RECIPIENTS, SIZE, len(work.boxes)]
     return subprocess.Popen([load, address, *map(str, words)], stdout=subprocess.DEVNULL)
 
 
@@ -89,10 +120,10 @@ def watch(pid, load):
     return looks
 
 
-def draw(looks):
-    """Resident memory over time, as an SVG at the path that SOAK_GRAPH names."""
-    path = os.environ.get("SOAK_GRAPH")
-    if path is None:
+def draw(looks, work):
+    """Resident memory over time, as an SVG in the folder that SOAK_GRAPHS names."""
+    graphs = os.environ.get("SOAK_GRAPHS")
+    if graphs is None:
         return
     width, height, most = 640, 240, max(look.memory for look in looks)
     last = max(looks[-1].seconds, 1)
@@ -100,10 +131,10 @@ def draw(looks):
         f"{40 + (width - 60) * look.seconds / last:.1f},{height - 30 - (height - 60) * look.memory / most:.1f}"
         for look in looks
     )
-    pathlib.Path(path).write_text(
+    pathlib.Path(graphs, f"soak-{work.lanes}.svg").write_text(
         f'<svg xmlns="http://www.w3.org/2000/svg" width="{width}" height="{height}" font-family="sans-serif"'
         f' font-size="12">\n'
-        f"<title>Resident memory of lmtpd serve over {DELIVERIES:,} deliveries</title>\n"
+        f"<title>Resident memory of lmtpd serve over {work.deliveries:,} deliveries</title>\n"
         f'<rect width="100%" height="100%" fill="white"/>\n'
         f'<text x="40" y="20">{most:,} KiB at most</text>\n'
         f'<text x="{width - 90}" y="{height - 10}">{last:.0f} seconds</text>\n'

@@ -190,7 +190,8 @@ def texts():
         [b"From x", b">From x", b">>From x", b"From:x", bytearray(b"a\nFrom y\r\n.\r\n")],
         b">From x\n>>From x\n>>>From x\nFrom:x\na\n>From y\n",
     )
-    for size in range(505, 514):
+    # near the end of what a lane and a worker take at once, and of a block
+    for size in [*range(505, 514), *range(4_089, 4_098)]:
         yield message(
             f"a quoted line behind {size} bytes",
             [b"x" * (size - 2), b">>>From q", b"."],
@@ -219,7 +220,7 @@ def limits():
     )
     yield Row(
         "no room, and room for the next one",
-        [*PROLOGUE, TO_ANNA, b"DATA", b"x" + line, *[line] * 15, b".", PROLOGUE[1], TO_ANNA, b"DATA", *[line] * 16, b".", b"QUIT"],
+        [*PROLOGUE, TO_ANNA, b"DATA", b"x" + line, *[line] * 127, b".", PROLOGUE[1], TO_ANNA, b"DATA", *[line] * 128, b".", b"QUIT"],
         [
             *OPENED,
             RECIPIENT_OK,
@@ -231,7 +232,7 @@ def limits():
             stored("anna"),
             BYE,
         ],
-        {"anna": record((line + b"\n") * 16, number=2)},
+        {"anna": record((line + b"\n") * 128, number=2)},
         ["--blocks", "2"],
     )
     yield Row(
@@ -249,17 +250,17 @@ def limits():
         {"anna": b"", "ben": b""},
     )
     yield Row(
-        "101 recipients",
-        [*PROLOGUE, *[b"RCPT TO:<anna>"] * 101, b"DATA", *HELLO, b"QUIT"],
+        "1,001 recipients",
+        [*PROLOGUE, *[b"RCPT TO:<anna>"] * 1_001, b"DATA", *HELLO, b"QUIT"],
         [
             *OPENED,
-            *[RECIPIENT_OK] * 100,
+            *[RECIPIENT_OK] * 1_000,
             b"452 4.5.3 Too many recipients",
             GO_AHEAD,
-            *[stored("anna")] * 100,
+            *[stored("anna")] * 1_000,
             BYE,
         ],
-        {"anna": record(HELLO_STORED) * 100, "ben": b""},
+        {"anna": record(HELLO_STORED) * 1_000, "ben": b""},
     )
 
 

@@ -117,7 +117,7 @@ def no_room_in_the_depot(folder):
     """a message for which the blocks don't do: 452, and the next one is stored"""
     with Server(folder, ["anna"], 1, "--lanes", 1, "--blocks", 2) as server:
         with Client(server.address).greet() as client:
-            equal(client.deliver(["anna"], "x" * 1500)[1], ["452 4.3.1 No room for anna"])
+            equal(client.deliver(["anna"], "x" * 9000)[1], ["452 4.3.1 No room for anna"])
             equal(client.deliver(["anna"], "hello")[1], ["250 2.0.0 Stored for anna"])
             equal(client.quit(), "221 2.0.0 mx.example closing")
         equal(vars(server.end()), {"status": 0, "said": ["anna stored 1"], "errors": []})

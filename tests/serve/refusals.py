@@ -3,7 +3,7 @@
 from cases import case, equal
 from server import run, taken_port, words
 
-MANY = [f"box{number}" for number in range(65)]
+MANY = [f"box{number}" for number in range(257)]
 GOOD, BAD = "127.0.0.1:0", "127.0.0.1"
 # Each row breaks the rule that is named, keeps those above it, and where it can breaks some below it:
 # the status, the line, the host, what to listen on, further words, the mailboxes.
@@ -20,13 +20,13 @@ ROWS = [
     (2, "bad box", "mx.example", GOOD, [], [*MANY[1:], "Anna"]),
     (2, "too many boxes", "mx.example", GOOD, [], MANY),
     (2, "too many boxes", "mx.example", GOOD, [], [*MANY, "box1"]),
-    (2, "box named twice", "mx.example", GOOD, ["--lanes", 17], ["anna", "ben", "anna"]),
+    (2, "box named twice", "mx.example", GOOD, ["--lanes", 65], ["anna", "ben", "anna"]),
 ]
 # Where the folder has a folder in anna's place, and PORT is taken.
 LATER_ROWS = [
-    ("cannot open anna.mbox", "PORT", ["--lanes", 17], ["ben", "anna", "carl"]),
-    ("cannot listen", "PORT", ["--lanes", 17], ["ben"]),
-    ("size", GOOD, ["--lanes", 17], ["ben"]),
+    ("cannot open anna.mbox", "PORT", ["--lanes", 65], ["ben", "anna", "carl"]),
+    ("cannot listen", "PORT", ["--lanes", 65], ["ben"]),
+    ("size", GOOD, ["--lanes", 65], ["ben"]),
     ("size", GOOD, ["--lanes", 0], ["ben"]),
     ("size", GOOD, ["--blocks", 0], ["ben"]),
     ("size", GOOD, ["--blocks", 65537], ["ben"]),

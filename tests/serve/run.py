@@ -6,6 +6,7 @@ import conversations  # noqa: F401  (each adds its cases)
 import deliveries  # noqa: F401
 import failing  # noqa: F401
 import files  # noqa: F401
+import largest  # noqa: F401
 import refusals  # noqa: F401
 from cases import run_all
 

@@ -1,11 +1,12 @@
--- The numbers that a server has where the words name none, as the help tells them.
+-- The limits of a server, and its numbers where the words name none, as the help tells them.
 use Rattle.std.proofs.Common.{◌≡◌, refl}
+use Rattle.mail_world.specs.declared.limits.TheConstants.{BLOCK_SIZE, BLOCK_LIMIT, LANE_LIMIT, CAPACITY_LIMIT}
 use Rattle.lmtpd_words.specs.declared.words.TheConstants.{DEFAULT_BLOCKS, DEFAULT_CAPACITY, DEFAULT_LANES, DEFAULT_READS, DEFAULT_TIMEOUT}
 
 pub lanes : DEFAULT_LANES ≡ 4
 lanes = refl
 
-pub blocks : DEFAULT_BLOCKS ≡ 8192
+pub blocks : DEFAULT_BLOCKS ≡ 1024
 blocks = refl
 
 pub capacity : DEFAULT_CAPACITY ≡ 16
@@ -16,3 +17,15 @@ reads = refl
 
 pub timeout : DEFAULT_TIMEOUT ≡ 300
 timeout = refl
+
+pub most_lanes : LANE_LIMIT ≡ 64
+most_lanes = refl
+
+pub block_size : BLOCK_SIZE ≡ 4096
+block_size = refl
+
+pub most_blocks : BLOCK_LIMIT ≡ 65536
+most_blocks = refl
+
+pub most_capacity : CAPACITY_LIMIT ≡ 1024
+most_capacity = refl

@@ -128,7 +128,7 @@ const DOMAINS: Argument = Argument {
 const LANES: Argument = Argument {
     name: "lanes",
     value: "LANES",
-    help: "Conversations at once, 1 to 16 [default: 4]",
+    help: "Conversations at once, 1 to 64 [default: 4]",
     is_required: false,
     kind: ValueKind::Number {
         least: 0,
@@ -139,7 +139,7 @@ const LANES: Argument = Argument {
 const BLOCKS: Argument = Argument {
     name: "blocks",
     value: "BLOCKS",
-    help: "Blocks of 512 bytes for messages on their way, 1 to 65536 [default: 8192]",
+    help: "Blocks of 4096 bytes for messages on their way, 1 to 65536 [default: 1024]",
     is_required: false,
     kind: ValueKind::Number {
         least: 0,

@@ -1,7 +1,7 @@
 //! What the words ask for, and the numbers where they name none.
 
 /// The blocks for messages on their way where the words name no number of them.
-pub const DEFAULT_BLOCKS: u32 = 8_192;
+pub const DEFAULT_BLOCKS: u32 = 1_024;
 
 /// The conversations that a server holds at once.
 pub const DEFAULT_LANES: u32 = 4;

@@ -19,10 +19,10 @@ pub const MESSAGE_LIMIT: usize = 1_048_576;
 pub const SIZE_DIGIT_LIMIT: usize = 20;
 
 /// The recipients of one transaction.
-pub const RECIPIENT_LIMIT: usize = 100;
+pub const RECIPIENT_LIMIT: usize = 1_000;
 
 /// The mailboxes of a site.
-pub const BOX_LIMIT: usize = 64;
+pub const BOX_LIMIT: usize = 256;
 
 /// The transactions that one lane may number, from 1.
 pub const NUMBER_LIMIT: u32 = 4_294_967_295;
@@ -31,10 +31,10 @@ pub const NUMBER_LIMIT: u32 = 4_294_967_295;
 pub const READ_LIMIT: u32 = 4_294_967_295;
 
 /// The lanes of a server.
-pub const LANE_LIMIT: u32 = 16;
+pub const LANE_LIMIT: u32 = 64;
 
 /// The bytes of a block.
-pub const BLOCK_SIZE: usize = 512;
+pub const BLOCK_SIZE: usize = 4096;
 
 /// The blocks of an arena.
 pub const BLOCK_LIMIT: u32 = 65_536;
