@@ -64,6 +64,8 @@ def absent(name):
         return "dovecot-lmtpd isn't installed"
     if name == "smtp-sink" and shutil.which("smtp-sink", path=SEARCHED) is None:
         return "postfix isn't installed"
+    if name == "before" and "LMTPD_BEFORE" not in os.environ:
+        return "LMTPD_BEFORE names no program"
     return None
 
 
@@ -74,10 +76,11 @@ class Server:
         self.store = folder / "store"
         self.store.mkdir(parents=True)
         self.log = folder / "output"
-        self.port = 0 if name in ("ours", "quota") else free_port()
+        self.port = 0 if name in ("ours", "quota", "before") else free_port()
         words_of = {
             "ours": self.ours,
             "quota": self.quota,
+            "before": self.before,
             "plain": self.plain,
             "smtp-sink": self.smtp_sink,
             "dovecot": self.dovecot,
@@ -107,6 +110,9 @@ class Server:
         boxes = [f"u{number}" for number in range(40)]
         words = ["--host", "mx.example", "--listen", "127.0.0.1:0", "--dir", str(self.store)]
         return [os.environ["LMTPD"], "serve", *words, "--connections", "1000000", *boxes]
+
+    def before(self, folder, preload):
+        return [os.environ["LMTPD_BEFORE"], *self.ours(folder, preload)[1:]]
 
     def quota(self, folder, preload):
         return [*self.ours(folder, preload), "--quota", str(2**64 - 1)]

@@ -1,4 +1,4 @@
-"""usage: rounds.py FOLDER [--rounds N] [--works a,b,..] [--peers floor,ours,..] [--slow-sync]
+"""usage: rounds.py FOLDER [--rounds N] [--works a,b,..] [--peers floor,ours,..] [--slow-sync] [--picture FILE.svg]
 
 The rounds and the table of bench/serve.sh, which built `load`, `floor`, `plain` and slowsync.so in FOLDER.
 """
@@ -15,6 +15,7 @@ import time
 from dataclasses import dataclass, field
 
 import peers
+import picture
 
 PEERS = ["floor", "plain", "smtp-sink", "dovecot", "ours"]
 
@@ -62,6 +63,7 @@ def main():
     options.add_argument("--works", default=",".join(WORKS))
     options.add_argument("--peers", default=",".join(PEERS))
     options.add_argument("--slow-sync", action="store_true")
+    options.add_argument("--picture", type=pathlib.Path)
     given = options.parse_args()
     signal.signal(signal.SIGTERM, lambda *_: sys.exit(143))
     # Dovecot's processes and smtp-sink aren't root's, and pass through the folder.
@@ -77,7 +79,15 @@ def main():
             for name in there[number % len(there) :] + there[: number % len(there)]:
                 runs[work, name, number] = bench.run(work, name)
                 say_run(number, work, name, runs[work, name, number])
+    if given.picture:
+        given.picture.write_text(picture.drawn(works, there, medians(works, there, runs, given.rounds)))
     return print_tables(works, there, given, runs)
+
+
+def medians(works, names, runs, rounds):
+    """Deliveries a second, by work and peer."""
+    pairs = [(work, name) for work in works for name in names]
+    return {pair: statistics.median(runs[(*pair, number)].rate for number in range(rounds)) for pair in pairs}
 
 
 def say_absent(name):
@@ -184,7 +194,7 @@ def print_tables(works, names, given, runs):
     for work in works:
         wanted = WANTED_SLOW.get(work, {}) if given.slow_sync else WORKS[work].wanted
         for name, other in ((name, other) for name in ("ours", "plain") for other in names):
-            if name not in names or other == name or (name, other) == ("plain", "ours"):
+            if name not in names or other == name or (name, other) in (("plain", "ours"), ("plain", "before")):
                 continue
             ratios = [runs[work, name, n].rate / runs[work, other, n].rate for n in range(given.rounds)]
             missed += print_ratio(work, name, other, ratios, wanted.get(other) if name == "ours" else None)
