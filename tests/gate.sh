@@ -1,10 +1,11 @@
 #!/usr/bin/env bash
 # The gate, from nothing. First `rt ci`: proves every crate and its tests, tries the must-fail edits, runs the
-# program and the tests. Then, over what that built, the scripts of tests/, side by side. A script that lacks something of the
-# machine says so and ends with status 77: that is counted apart, as absent. The last line counts all: 'N passed,
-# M failed'. The benchmarks' programs are only compiled (tests/benchmarks.sh), and proved by `make benchmarks`: what
-# `rt ci` proved serves no other command, so it proves the crates below them once more.
-# usage: tests/gate.sh [--scripts]: with the word only what comes behind `rt ci`, on what stands built
+# program and the tests; and beside it, on the cores that it leaves idle, the scripts of tests/ that want the sources
+# alone. Then, over what was built, the other scripts, side by side. A script that lacks something of the machine says
+# so and ends with status 77: that is counted apart, as absent. The last line counts all: 'N passed, M failed'. The
+# benchmarks' programs are only compiled (tests/benchmarks.sh), and proved by `make benchmarks`: what `rt ci` proved
+# serves no other command, so it proves the crates below them once more.
+# usage: tests/gate.sh [--scripts]: with the word only the scripts, on what stands built
 set -uo pipefail
 cd "$(dirname "$0")/.."
 export LMTPD=$PWD/crates/lmtpd/out/lmtpd
@@ -22,20 +23,26 @@ count() {
     fi
 }
 
-# play SCRIPT: runs it, for ten minutes at most, and keeps what it said and how it ended.
+# play SCRIPT SECONDS: runs it, for so long at most, and keeps what it said and how it ended.
 play() {
     local status=0
-    timeout --kill-after=10 600 "$1" < /dev/null > "$said/$(basename "$1")" 2>&1 || status=$?
+    timeout --kill-after=10 "$2" "$1" < /dev/null > "$said/$(basename "$1")" 2>&1 || status=$?
     echo "$status" > "$said/$(basename "$1").status"
 }
 
-# play_all: plays each script of tests/, as many at a time as there are cores but one.
-play_all() {
+# play_on_sources: plays those that want the sources alone, one after the other.
+play_on_sources() {
+    local script
+    for script in tests/{calls,units,benchmarks,wrong_bodies}.sh; do play "$script" 3600; done
+}
+
+# play_others: plays each script of tests/ that wasn't, as many at a time as there are cores but one.
+play_others() {
     local script room=$(($(nproc) > 2 ? $(nproc) - 1 : 1))
     for script in tests/*.sh; do
-        [ "$script" != tests/gate.sh ] || continue
+        [ "$script" != tests/gate.sh ] && [ ! -e "$said/$(basename "$script").status" ] || continue
         while [ "$(jobs -rp | wc -l)" -ge "$room" ]; do wait -n; done
-        play "$script" &
+        play "$script" 600 &
     done
     wait
 }
@@ -68,11 +75,13 @@ jobs_at_once() {
 said=$(mktemp -d)
 trap 'rm -rf "$said"' EXIT
 if [ "${1:-}" != --scripts ]; then
+    play_on_sources &
     RT_JOBS=${RT_JOBS:-$(jobs_at_once)} rt ci 2>&1 | tee "$said/rt"
     count "$said/rt"
+    wait
 fi
 if [ -x "$LMTPD" ]; then
-    play_all
+    play_others
     count_all
 else
     echo 'FAILED: no program was built, so no script was run'

@@ -21,7 +21,7 @@ done
 
 declare -A running
 for crate in "${wanted[@]}"; do
-    (cd "crates/$crate" && rt try --test --seconds 300) > "$crate.said" 2>&1 &
+    (cd "crates/$crate" && rt try --test --seconds 2000) > "$crate.said" 2>&1 &
     running[$crate]=$!
 done
 failed=0
