@@ -1,5 +1,5 @@
 -- Whether bytes have the form of a mailbox (RFC 4155, Appendix A), and the first place at which they don't.
-use Rattle.std.specs.Prelude.{◌≡◌, ◌↔◌, ◌<◌, ◌≤◌, ℕ, suc, List, ◌++◌, length, take, false, Option, None, Some}
+use Rattle.std.specs.Prelude.{◌≡◌, ◌<◌, ◌≤◌, ℕ, suc, List, ◌++◌, length, take, true, false, Option, None, Some, ⊤}
 use Rattle.mail_world.specs.Counts.{counted}
 use Rattle.mail_world.specs.Reading.{Letter, AreLetters, written}
 use Rattle.mbox_rd.specs.Letters.{is_boundary}

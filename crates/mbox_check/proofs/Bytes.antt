@@ -1,0 +1,157 @@
+-- What comes of a byte.
+use Rattle.std.proofs.Common.{◌≡◌, ℕ, suc, Bool, true, false, cond, ◌==◌, List, [], ◌∷◌, ◌++◌, length, Option, Some, None, sym, ap, subst, ◌∙◌, refl, append_assoc, append-nil}
+use Rattle.std.specs.Prelude.{codes}
+use Rattle.std.proofs.lemmas.Bool.{eqb-true}
+use Rattle.mail_world.specs.Counts.{counted}
+use Rattle.mail_world.specs.Text.{lf, IsOneLine}
+use Rattle.mail_world.specs.Reading.{Letter, AreLetters, written}
+use Rattle.mail_world.proofs.OneLine.{one_line-cons, one_line-append, literal}
+use Rattle.mbox_rd.specs.Letters.{is_boundary}
+use Rattle.mbox_check.specs.declared.place.Part.{Part}
+use Rattle.mbox_check.specs.declared.place.Part.TheVariants.{Nothing, F, Fr, Fro, From}
+use Rattle.mbox_check.specs.declared.place.Place.{Place}
+use Rattle.mbox_check.specs.declared.place.Place.TheVariants.{Front, Open, Line, Inside}
+use Rattle.mbox_check.specs.declared.place.Effect.{Effect}
+use Rattle.mbox_check.specs.declared.place.Effect.TheVariants.{To, Begin, Break}
+use Rattle.mbox_check.specs.Form.{IsBad}
+use Rattle.mbox_check.specs.Places.{part_text, next_byte, longer, is_nothing, line_place, front_with, open_with, line_with, effect_of, bad_at}
+use Rattle.mbox_check.specs.SoFar.{EndsInLine, IsBody, IsOpen, IsLine, IsInside, IsAt}
+use Rattle.mbox_check.proofs.Bodies.{ends_behind, line_ends, body_line, body_ended, body_first, boundary-written}
+use Rattle.mbox_check.proofs.Begins.{part_one, part_grown, part_else, ends_in_part, IsStarted, open_started, line_started, started_begins, started_line}
+use Rattle.mbox_check.proofs.Breaks.{front_breaks, line_breaks}
+
+-- the text with the byte
+abbrev pub LeadsTo : Place → List ℕ → ℕ → ℕ → Effect → Type 0
+LeadsTo from text n b (To place) = IsAt (text ++ b ∷ []) n place
+LeadsTo from text n b Begin = IsAt (text ++ b ∷ []) (suc n) Inside
+LeadsTo from text n b Break = (more : List ℕ) (taken : ℕ) → taken ≡ counted (length text) → IsBad (text ++ b ∷ more) (bad_at from taken)
+
+-- ---- a letter begins
+
+letter_begins : (text start : List ℕ) (n : ℕ) (letters : List Letter) → AreLetters letters → start ≡ written letters → n ≡ length letters → text ≡ start ++ codes "From "
+    → IsInside text (suc n)
+letter_begins text start n letters are e count whole = record {
+  ends = subst EndsInLine (sym whole) (ends_behind start (codes "From ") (record { front = codes "From"; last = 32; whole = refl; other = refl }));
+  begins = λ more.
+      ap is_boundary (ap (λ (l : List ℕ). l ++ more) (whole ∙ ap (λ (l : List ℕ). l ++ codes "From ") e) ∙ append_assoc (written letters) (codes "From ") more)
+      ∙ boundary-written letters (codes "From " ++ more) refl;
+  goes = λ more one.
+      let same : text ++ (more ++ lf ∷ []) ≡ start ++ (codes "From " ++ (more ++ lf ∷ [])) =
+      ap (λ (l : List ℕ). l ++ (more ++ lf ∷ [])) whole ∙ append_assoc start (codes "From ") (more ++ lf ∷ []) in
+      let body = body_first start letters more are e one in record {
+        letters = body.letters;
+        are = body.are;
+        count = ap (λ k. suc k) count ∙ body.count;
+        head = body.head;
+        headed = body.headed;
+        ls = body.ls;
+        one = body.one;
+        whole = same ∙ body.whole;
+      };
+}
+
+-- ---- inside a line
+
+pub inside_more : (text : List ℕ) (n b : ℕ) (piece : List ℕ) → IsInside text n → IsOneLine (b ∷ piece) → IsInside (text ++ b ∷ piece) n
+inside_more text n b piece i one = record {
+  ends = ends_behind text (b ∷ piece) (line_ends b piece one);
+  begins = λ more. ap is_boundary (append_assoc text (b ∷ piece) more) ∙ i.begins (b ∷ (piece ++ more));
+  goes = λ more h.
+      subst (λ (l : List ℕ). IsBody l n)
+      (ap (λ (l : List ℕ). text ++ l) (append_assoc (b ∷ piece) more (lf ∷ [])) ∙ sym (append_assoc text (b ∷ piece) (more ++ lf ∷ [])))
+      (i.goes (b ∷ (piece ++ more)) (one_line-append (b ∷ piece) more one h));
+}
+
+pub inside_lf : (text : List ℕ) (n : ℕ) → IsInside text n → IsLine (text ++ lf ∷ []) n Nothing
+inside_lf text n i = record { before = text; ends = i.ends; body = i.goes [] (literal [] refl); whole = sym (append-nil (text ++ lf ∷ [])) }
+
+inside_byte : (text : List ℕ) (n b : ℕ) → IsInside text n → (t : Bool) → (b == lf) ≡ t → LeadsTo Inside text n b (cond t (To (Line Nothing)) (To Inside))
+inside_byte text n b i true e = subst (λ c. IsLine (text ++ c ∷ []) n Nothing) (sym (eqb-true b lf e)) (inside_lf text n i)
+inside_byte text n b i false e = inside_more text n b [] i (one_line-cons b [] e (literal [] refl))
+
+-- ---- in a line that may be free
+
+-- behind an empty line, or behind one that isn't
+started_line_lf : (part : Part) (text : List ℕ) (n : ℕ) → IsStarted text n part → is_nothing part ≡ false → IsLine (text ++ lf ∷ []) n Nothing
+started_line_lf part text n s e = record {
+  before = text;
+  ends = ends_in_part part text s.start s.whole e;
+  body = started_line text n part s;
+  whole = sym (append-nil (text ++ lf ∷ []));
+}
+
+started_lf : (part : Part) (text : List ℕ) (n : ℕ) → IsStarted text n part → IsAt (text ++ lf ∷ []) n (cond (is_nothing part) (Open Nothing) (Line Nothing))
+started_lf Nothing text n s = record {
+  before = text;
+  body = subst (λ (l : List ℕ). IsBody l n) (sym (s.whole ∙ append-nil s.start)) s.body;
+  whole = sym (append-nil (text ++ lf ∷ []));
+}
+started_lf F text n s = started_line_lf F text n s refl
+started_lf Fr text n s = started_line_lf Fr text n s refl
+started_lf Fro text n s = started_line_lf Fro text n s refl
+started_lf From text n s = started_line_lf From text n s refl
+
+started_else : (part : Part) (text : List ℕ) (n b : ℕ) → IsStarted text n part → (next_byte part == b) ≡ false → (b == lf) ≡ false → IsInside (text ++ b ∷ []) n
+started_else part text n b s e f = record {
+  ends = record { front = text; last = b; whole = refl; other = f };
+  begins = λ more. ap is_boundary (append_assoc text (b ∷ []) more) ∙ started_begins text n part (b ∷ more) s;
+  goes = λ more one.
+      let line : List ℕ = part_text part ++ b ∷ more in
+      subst (λ (l : List ℕ). IsBody l n)
+      (
+        ap (λ (l : List ℕ). s.start ++ l) (append_assoc (part_text part) (b ∷ more) (lf ∷ []))
+        ∙ sym (append_assoc s.start (part_text part) (b ∷ (more ++ lf ∷ [])))
+        ∙ ap (λ (l : List ℕ). l ++ b ∷ (more ++ lf ∷ [])) (sym s.whole)
+        ∙ sym (append_assoc text (b ∷ []) (more ++ lf ∷ []))
+      )
+      (body_line s.start n line s.body (one_line-append (part_text part) (b ∷ more) (part_one part) (one_line-cons b more f one)) (part_else part b more e));
+}
+
+started_byte : (part : Part) (text : List ℕ) (n b : ℕ) → IsStarted text n part → (next_byte part == b) ≡ false → (t : Bool) → (b == lf) ≡ t
+    → IsAt (text ++ b ∷ []) n (cond t (cond (is_nothing part) (Open Nothing) (Line Nothing)) Inside)
+started_byte part text n b s e true f =
+    subst (λ c. IsAt (text ++ c ∷ []) n (cond (is_nothing part) (Open Nothing) (Line Nothing))) (sym (eqb-true b lf f)) (started_lf part text n s)
+started_byte part text n b s e false f = started_else part text n b s e f
+
+-- ---- at each place
+
+front_option : (part : Part) (text : List ℕ) (n b : ℕ) → IsAt text n (Front part) → next_byte part ≡ b → (o : Option Part) → longer part ≡ o
+    → LeadsTo (Front part) text n b (front_with o)
+front_option part text n b at e (Some more) f = (at.0, part_grown part text [] b (Some more) at.1 e f)
+front_option part text n b at e None f = letter_begins (text ++ b ∷ []) [] n [] tt refl at.0 (part_grown part text [] b None at.1 e f)
+
+front_byte : (part : Part) (text : List ℕ) (n b : ℕ) → IsAt text n (Front part) → (t : Bool) → (next_byte part == b) ≡ t
+    → LeadsTo (Front part) text n b (cond t (front_with (longer part)) Break)
+front_byte part text n b at true e = front_option part text n b at (eqb-true (next_byte part) b e) (longer part) refl
+front_byte part text n b at false e = λ more taken t. front_breaks part text more n b taken t at e
+
+open_option : (part : Part) (text : List ℕ) (n b : ℕ) → IsOpen text n part → next_byte part ≡ b → (o : Option Part) → longer part ≡ o
+    → LeadsTo (Open part) text n b (open_with o)
+open_option part text n b at e (Some more) f =
+    record { before = at.before; body = at.body; whole = part_grown part text (at.before ++ lf ∷ []) b (Some more) at.whole e f }
+open_option part text n b at e None f =
+    let ended = body_ended at.before n at.body in
+    letter_begins (text ++ b ∷ []) (at.before ++ lf ∷ []) n ended.letters ended.is.are (sym ended.is.whole) ended.count
+    (part_grown part text (at.before ++ lf ∷ []) b None at.whole e f)
+
+open_byte : (part : Part) (text : List ℕ) (n b : ℕ) → IsOpen text n part → (t : Bool) → (next_byte part == b) ≡ t
+    → LeadsTo (Open part) text n b (cond t (open_with (longer part)) (To (line_place part b)))
+open_byte part text n b at true e = open_option part text n b at (eqb-true (next_byte part) b e) (longer part) refl
+open_byte part text n b at false e = started_byte part text n b (open_started text n part at) e (b == lf) refl
+
+line_option : (part : Part) (text : List ℕ) (n b : ℕ) → IsLine text n part → next_byte part ≡ b → (o : Option Part) → longer part ≡ o
+    → LeadsTo (Line part) text n b (line_with o)
+line_option part text n b at e (Some more) f =
+    record { before = at.before; ends = at.ends; body = at.body; whole = part_grown part text (at.before ++ lf ∷ []) b (Some more) at.whole e f }
+line_option part text n b at e None f = λ more taken t. line_breaks part text more n b taken t at e f
+
+line_byte : (part : Part) (text : List ℕ) (n b : ℕ) → IsLine text n part → (t : Bool) → (next_byte part == b) ≡ t
+    → LeadsTo (Line part) text n b (cond t (line_with (longer part)) (To (line_place part b)))
+line_byte part text n b at true e = line_option part text n b at (eqb-true (next_byte part) b e) (longer part) refl
+line_byte part text n b at false e = started_byte part text n b (line_started text n part at) e (b == lf) refl
+
+pub byte_leads : (place : Place) (text : List ℕ) (n b : ℕ) → IsAt text n place → LeadsTo place text n b (effect_of place b)
+byte_leads (Front part) text n b at = front_byte part text n b at (next_byte part == b) refl
+byte_leads (Open part) text n b at = open_byte part text n b at (next_byte part == b) refl
+byte_leads (Line part) text n b at = line_byte part text n b at (next_byte part == b) refl
+byte_leads Inside text n b at = inside_byte text n b at (b == lf) refl

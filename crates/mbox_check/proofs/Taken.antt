@@ -1,0 +1,173 @@
+-- Pieces that are taken, whatever came before.
+use Rattle.std.proofs.Common.{◌≡◌, ℕ, suc, ◌+◌, ◌-◌, ◌<◌, ◌≤◌, arith, Bool, true, false, ◌==◌, List, [], ◌∷◌, ◌++◌, length, take, drop, sym, ap, subst, ◌∙◌, refl, append_assoc, append-nil, true≢false}
+use Rattle.std.specs.Prelude.{slice_index, min, ◌^◌}
+use Rattle.std.proofs.lemmas.Bool.{eqb-true, false≢true}
+use Rattle.std.proofs.lemmas.List.{length-append, length-take-le, take_more, take_all, take_rest, take-append-drop}
+use Rattle.memchr.specs.Find.{Nowhere, NoneBefore, Passes, is_byte}
+use Rattle.mail_world.specs.Counts.{counted}
+use Rattle.mail_world.specs.Text.{lf, IsOneLine}
+use Rattle.mbox_rd.proofs.LineCuts.{IsLineCut-found, has_no_lf}
+use Rattle.mbox_check.specs.declared.fault.BadForm.{BadForm}
+use Rattle.mbox_check.specs.declared.form.FormCheck.{FormCheck}
+use Rattle.mbox_check.specs.declared.place.Part.{Part}
+use Rattle.mbox_check.specs.declared.place.Part.TheVariants.{Nothing, F, Fr, Fro, From}
+use Rattle.mbox_check.specs.declared.place.Place.{Place}
+use Rattle.mbox_check.specs.declared.place.Place.TheVariants.{Front, Open, Line, Inside}
+use Rattle.mbox_check.specs.declared.place.Effect.TheVariants.{To, Begin, Break}
+use Rattle.mbox_check.specs.Form.{IsMailbox, IsBad, IsLetterCount}
+use Rattle.mbox_check.specs.Places.{part_text, is_nothing, is_whole, effect_of, bad_at}
+use Rattle.mbox_check.specs.SoFar.{IsInside, IsLine, IsAt, IsReadSoFar, HasTaken, BreaksIn}
+use Rattle.mbox_check.proofs.Bodies.{body_ended}
+use Rattle.mbox_check.proofs.Breaks.{bad_end}
+use Rattle.mbox_check.proofs.Bytes.{LeadsTo, byte_leads, inside_more, inside_lf}
+
+-- ---- counts
+
+taken_on : (text bytes : List ℕ) (taken k : ℕ) → taken ≡ counted (length text) → length bytes ≡ k → counted (taken + k) ≡ counted (length (text ++ bytes))
+taken_on text bytes taken k t e = let long : length (text ++ bytes) ≡ length text + length bytes = length-append text bytes in omega arith
+
+one_more : (letters n : ℕ) → letters ≡ counted n → counted (letters + 1) ≡ counted (suc n)
+one_more letters n e = omega arith
+
+-- ---- a byte
+
+pub byte_to : (form : FormCheck) (b : ℕ) (place : Place) → effect_of form.place b ≡ To place
+    → HasTaken form (record form { place = place; taken = counted (form.taken + 1) }) (b ∷ [])
+byte_to form b place e = record {
+  goes = λ front s. record {
+    n = s.n;
+    count = s.count;
+    taken = taken_on front (b ∷ []) form.taken 1 s.taken refl;
+    at = subst (λ x. LeadsTo form.place front s.n b x) e (byte_leads form.place front s.n b s.at);
+  };
+}
+
+pub byte_begin : (form : FormCheck) (b : ℕ) → effect_of form.place b ≡ Begin
+    → HasTaken form (record form { letters = counted (form.letters + 1); place = Inside; taken = counted (form.taken + 1) }) (b ∷ [])
+byte_begin form b e = record {
+  goes = λ front s. record {
+    n = suc s.n;
+    count = one_more form.letters s.n s.count;
+    taken = taken_on front (b ∷ []) form.taken 1 s.taken refl;
+    at = subst (λ x. LeadsTo form.place front s.n b x) e (byte_leads form.place front s.n b s.at);
+  };
+}
+
+pub byte_break : (form : FormCheck) (b : ℕ) → effect_of form.place b ≡ Break → BreaksIn form (b ∷ []) (bad_at form.place form.taken)
+byte_break form b e = record {
+  goes = λ front more s. subst (λ x. LeadsTo form.place front s.n b x) e (byte_leads form.place front s.n b s.at) more form.taken s.taken;
+}
+
+-- the first byte of a text
+pub front_taken : (old new : FormCheck) (text : List ℕ) → 0 < length text → HasTaken old new (slice_index text 0 ∷ []) → HasTaken old new (take 1 text)
+front_taken old new [] some h = absurd (omega arith)
+front_taken old new (b ∷ text) some h = h
+
+pub front_breaks_in : (old : FormCheck) (text : List ℕ) (bad : BadForm) → 0 < length text → BreaksIn old (slice_index text 0 ∷ []) bad → BreaksIn old text bad
+front_breaks_in old [] bad some h = absurd (omega arith)
+front_breaks_in old (b ∷ text) bad some h = record { goes = λ front more s. h.goes front (text ++ more) s }
+
+-- ---- a line's rest
+
+inside_line : (text line : List ℕ) (n : ℕ) → IsInside text n → IsOneLine line → IsLine (text ++ (line ++ lf ∷ [])) n Nothing
+inside_line text [] n i one = inside_lf text n i
+inside_line text (b ∷ line) n i one =
+    subst (λ (l : List ℕ). IsLine l n Nothing) (append_assoc text (b ∷ line) (lf ∷ [])) (inside_lf (text ++ b ∷ line) n (inside_more text n b line i one))
+
+inside_on : (text piece : List ℕ) (n : ℕ) → 0 < length piece → IsInside text n → IsOneLine piece → IsInside (text ++ piece) n
+inside_on text [] n some i one = absurd (omega arith)
+inside_on text (b ∷ piece) n some i one = inside_more text n b piece i one
+
+pub line_taken : (form : FormCheck) (text : List ℕ) (k : ℕ) → form.place ≡ Inside → NoneBefore (Passes (is_byte 10) text) 0 (length text) k → Passes (is_byte 10) text k
+    → HasTaken form (record form { place = Line Nothing; taken = counted (form.taken + (k + 1)) }) (take (k + 1) text)
+line_taken form text k e none here =
+    let cut = IsLineCut-found text k none here in
+    let high : k < length text = none.high in
+    let whole : take (k + 1) text ≡ take k text ++ lf ∷ [] = take_more text k 0 high ∙ ap (λ b. take k text ++ b ∷ []) (eqb-true (slice_index text k) lf here) in
+    record {
+      goes = λ front s. record {
+        n = s.n;
+        count = s.count;
+        taken = taken_on front (take (k + 1) text) form.taken (k + 1) s.taken (length-take-le (k + 1) text (omega arith));
+        at = subst (λ (l : List ℕ). IsLine (front ++ l) s.n Nothing) (sym whole)
+            (inside_line front (take k text) s.n (subst (λ p. IsAt front s.n p) e s.at) cut.one);
+      };
+    }
+
+pub rest_taken : (form : FormCheck) (text : List ℕ) → form.place ≡ Inside → 0 < length text → Nowhere (Passes (is_byte 10) text) 0 (length text)
+    → HasTaken form (record form { place = Inside; taken = counted (form.taken + length text) }) (take (length text) text)
+rest_taken form text e some none =
+    let whole : take (length text) text ≡ text = take_all (length text) text (omega arith) in
+    record {
+      goes = λ front s. record {
+        n = s.n;
+        count = s.count;
+        taken = taken_on front (take (length text) text) form.taken (length text) s.taken (ap (λ (l : List ℕ). length l) whole);
+        at = subst (λ (l : List ℕ). IsInside (front ++ l) s.n) (sym whole)
+            (inside_on front text s.n some (subst (λ p. IsAt front s.n p) e s.at) (record { no_lf = has_no_lf text none }));
+      };
+    }
+
+-- ---- a piece, up to a rest of it
+
+pub record IsTakenUpTo (old new : FormCheck) (piece rest : List ℕ) : Type 0 where
+  pub used : List ℕ
+  pub whole : piece ≡ used ++ rest
+  pub taken : HasTaken old new used
+
+pub taken_none : (form : FormCheck) (piece : List ℕ) → IsTakenUpTo form form piece piece
+taken_none form piece = record {
+  used = [];
+  whole = refl;
+  taken = record { goes = λ front s. subst (λ (l : List ℕ). IsReadSoFar l form) (sym (append-nil front)) s };
+}
+
+pub taken_more : (old mid new : FormCheck) (piece rest : List ℕ) (n : ℕ) → IsTakenUpTo old mid piece rest → HasTaken mid new (take n rest)
+    → IsTakenUpTo old new piece (take (length rest - n) (drop n rest))
+taken_more old mid new piece rest n t h = record {
+  used = t.used ++ take n rest;
+  whole = t.whole ∙ ap (λ (l : List ℕ). t.used ++ l) (sym (take-append-drop n rest) ∙ ap (λ (l : List ℕ). take n rest ++ l) (sym (take_rest rest n)))
+      ∙ sym (append_assoc t.used (take n rest) (take (length rest - n) (drop n rest)));
+  taken = record {
+    goes = λ front s. subst (λ (l : List ℕ). IsReadSoFar l new) (append_assoc front t.used (take n rest)) (h.goes (front ++ t.used) (t.taken.goes front s));
+  };
+}
+
+pub taken_all : (old new : FormCheck) (piece rest : List ℕ) → IsTakenUpTo old new piece rest → rest ≡ [] → HasTaken old new piece
+taken_all old new piece rest t e =
+    let whole : piece ≡ t.used = t.whole ∙ ap (λ (l : List ℕ). t.used ++ l) e ∙ append-nil t.used in
+    record { goes = λ front s. subst (λ (l : List ℕ). IsReadSoFar (front ++ l) new) (sym whole) (t.taken.goes front s) }
+
+pub taken_breaks : (old mid : FormCheck) (piece rest : List ℕ) (bad : BadForm) → IsTakenUpTo old mid piece rest → BreaksIn mid rest bad → BreaksIn old piece bad
+taken_breaks old mid piece rest bad t h = record {
+  goes = λ front more s.
+      let whole : (front ++ t.used) ++ (rest ++ more) ≡ front ++ (piece ++ more) =
+      append_assoc front t.used (rest ++ more)
+      ∙ ap (λ (l : List ℕ). front ++ l) (sym (append_assoc t.used rest more) ∙ ap (λ (l : List ℕ). l ++ more) (sym t.whole)) in
+      subst (λ (l : List ℕ). IsBad l bad) whole (h.goes (front ++ t.used) more (t.taken.goes front s));
+}
+
+-- ---- the end
+
+nothing_text : (part : Part) → is_nothing part ≡ true → part_text part ≡ []
+nothing_text Nothing e = refl
+nothing_text F e = absurd (false≢true e)
+nothing_text Fr e = absurd (false≢true e)
+nothing_text Fro e = absurd (false≢true e)
+nothing_text From e = absurd (false≢true e)
+
+whole_at : (place : Place) (text : List ℕ) (n letters : ℕ) → letters ≡ counted n → IsAt text n place → is_whole place ≡ true → IsLetterCount text letters
+whole_at (Front part) text n letters e at f =
+    ([], record { are = tt; whole = sym (at.1 ∙ nothing_text part f) }, e ∙ ap (λ k. counted k) at.0)
+whole_at (Open part) text n letters e at f =
+    let ended = body_ended at.before n at.body in
+    let whole : text ≡ at.before ++ lf ∷ [] = at.whole ∙ ap (λ (l : List ℕ). (at.before ++ lf ∷ []) ++ l) (nothing_text part f) ∙ append-nil (at.before ++ lf ∷ []) in
+    (ended.letters, subst (λ (l : List ℕ). IsMailbox l ended.letters) (sym whole) ended.is, e ∙ ap (λ k. counted k) ended.count)
+whole_at (Line part) text n letters e at f = absurd (false≢true f)
+whole_at Inside text n letters e at f = absurd (false≢true f)
+
+pub end_count : (form : FormCheck) → is_whole form.place ≡ true → (text : List ℕ) → IsReadSoFar text form → IsLetterCount text form.letters
+end_count form f text s = whole_at form.place text s.n form.letters s.count s.at f
+
+pub end_bad : (form : FormCheck) → is_whole form.place ≡ false → (text : List ℕ) → IsReadSoFar text form → IsBad text (bad_at form.place form.taken)
+end_bad form f text s = bad_end form.place text s.n form.taken s.taken s.at f

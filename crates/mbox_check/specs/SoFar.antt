@@ -1,0 +1,73 @@
+-- What a reader of a mailbox has read so far.
+use Rattle.std.specs.Prelude.{◌≡◌, ℕ, suc, true, false, ◌==◌, List, [], ◌∷◌, ◌++◌, map, length, codes}
+use Rattle.std.specs.List.{AllByRecursion}
+use Rattle.mail_world.specs.Counts.{counted}
+use Rattle.mail_world.specs.Text.{lf, with_lf, IsOneLine}
+use Rattle.mail_world.specs.Records.{quoted}
+use Rattle.mail_world.specs.Reading.{Letter, AreLetters, written}
+use Rattle.mbox_rd.specs.Letters.{is_boundary}
+use Rattle.mbox_check.specs.declared.fault.BadForm.{BadForm}
+use Rattle.mbox_check.specs.declared.form.FormCheck.{FormCheck}
+use Rattle.mbox_check.specs.declared.place.Part.{Part}
+use Rattle.mbox_check.specs.declared.place.Place.{Place}
+use Rattle.mbox_check.specs.declared.place.Place.TheVariants.{Front, Open, Line, Inside}
+use Rattle.mbox_check.specs.Form.{IsBad}
+use Rattle.mbox_check.specs.Places.{part_text}
+
+-- the last byte isn't LF
+pub record EndsInLine (text : List ℕ) : Type 0 where
+  pub front : List ℕ
+  pub last : ℕ
+  pub whole : text ≡ front ++ last ∷ []
+  pub other : (last == lf) ≡ false
+
+-- n letters have begun, and the text ends behind a line of the last
+pub record IsBody (text : List ℕ) (n : ℕ) : Type 0 where
+  pub letters : List Letter
+  pub are : AreLetters letters
+  pub count : n ≡ suc (length letters)
+  pub head : List ℕ
+  pub headed : IsOneLine head
+  pub ls : List (List ℕ)
+  pub one : AllByRecursion IsOneLine ls
+  pub whole : text ≡ written letters ++ (codes "From " ++ (head ++ lf ∷ with_lf (map quoted ls)))
+
+-- a part of `From ` stands behind an empty line
+pub record IsOpen (text : List ℕ) (n : ℕ) (part : Part) : Type 0 where
+  pub before : List ℕ
+  pub body : IsBody before n
+  pub whole : text ≡ (before ++ lf ∷ []) ++ part_text part
+
+-- it stands behind a line that isn't empty
+pub record IsLine (text : List ℕ) (n : ℕ) (part : Part) : Type 0 where
+  pub before : List ℕ
+  pub ends : EndsInLine before
+  pub body : IsBody (before ++ lf ∷ []) n
+  pub whole : text ≡ (before ++ lf ∷ []) ++ part_text part
+
+-- whatever ends the line makes it a line of the last letter
+pub record IsInside (text : List ℕ) (n : ℕ) : Type 0 where
+  pub ends : EndsInLine text
+  pub begins : (more : List ℕ) → is_boundary (text ++ more) ≡ true
+  pub goes : (more : List ℕ) → IsOneLine more → IsBody (text ++ (more ++ lf ∷ [])) n
+
+-- the text, in which n letters have begun, ends at the place
+abbrev pub IsAt : List ℕ → ℕ → Place → Type 0
+IsAt text n (Front part) = (n ≡ 0) × (text ≡ part_text part)
+IsAt text n (Open part) = IsOpen text n part
+IsAt text n (Line part) = IsLine text n part
+IsAt text n Inside = IsInside text n
+
+pub record IsReadSoFar (text : List ℕ) (form : FormCheck) : Type 0 where
+  pub n : ℕ
+  pub count : form.letters ≡ counted n
+  pub taken : form.taken ≡ counted (length text)
+  pub at : IsAt text n form.place
+
+-- whatever came before, the bytes came behind it
+pub record HasTaken (old new : FormCheck) (bytes : List ℕ) : Type 0 where
+  pub goes : (front : List ℕ) → IsReadSoFar front old → IsReadSoFar (front ++ bytes) new
+
+-- whatever came before, and whatever comes behind them, the bytes break the form
+pub record BreaksIn (old : FormCheck) (bytes : List ℕ) (bad : BadForm) : Type 0 where
+  pub goes : (front more : List ℕ) → IsReadSoFar front old → IsBad (front ++ (bytes ++ more)) bad

@@ -1,0 +1,138 @@
+//! The form of a mailbox, checked as its bytes come.
+ghost use Rattle.std.specs.Prelude.{◌≡◌, ◌+◌, ◌<◌, ◌≤◌, ℕ, List, [], ◌∷◌, length, take, IfOk, IfErr, OnOk};
+ghost use Rattle.mail_world.specs.Counts.{counted};
+ghost use Rattle.mbox_check.specs.Form.{IsBad, IsLetterCount};
+ghost use Rattle.mbox_check.specs.Places.{bad_at};
+ghost use Rattle.mbox_check.specs.SoFar.{IsReadSoFar, HasTaken, BreaksIn};
+
+use crate::fault::BadForm;
+use crate::place::{Effect, Part, Place, effect_of, is_whole};
+use memchr::memchr;
+
+/// How far the bytes that came have the form of a mailbox.
+#[derive(Clone, Copy, Debug)]
+pub(crate) struct FormCheck {
+    // How many letters have begun, and how many bytes were taken; both stay at 2^64 - 1.
+    letters: u64,
+    taken: u64,
+    place: Place,
+}
+
+impl FormCheck {
+    pub(crate) fn new() -> FormCheck
+        ensures { IsReadSoFar [] result }
+    {
+        FormCheck {
+            letters: 0,
+            taken: 0,
+            place: Place::Front(Part::Nothing),
+        }
+    }
+
+    /// Takes the bytes that come next. After an error it is of no use.
+    pub(crate) fn piece(&mut self, piece: &[u8]) -> Result<(), BadForm>
+        ensures ok { OnOk result (HasTaken self.old self.new piece.now) }
+        ensures err { IfErr result (λ bad. BreaksIn self.old piece.now bad) }
+    {
+        let mut rest = piece;
+        while !rest.is_empty() {
+            let size = self.turn(rest)?;
+            rest = &rest[size..];
+        }
+        Ok(())
+    }
+
+    /// Ends the text: its letters were so many.
+    pub(crate) fn end(&self) -> Result<u64, BadForm>
+        ensures ok { IfOk result (λ count. (text : List ℕ) → IsReadSoFar text self.now → IsLetterCount text count) }
+        ensures err { IfErr result (λ bad. (text : List ℕ) → IsReadSoFar text self.now → IsBad text bad) }
+    {
+        if is_whole(self.place) {
+            Ok(self.letters)
+        } else {
+            Err(self.bad())
+        }
+    }
+
+    // Takes bytes at the front of the text, one at least, and says how many.
+    fn turn(&mut self, text: &[u8]) -> Result<usize, BadForm>
+        requires { 0 < length text.now }
+        ensures within { IfOk result (λ n. (1 ≤ n) × (n ≤ length text.now)) }
+        ensures ok { IfOk result (λ n. HasTaken self.old self.new (take n text.now)) }
+        ensures err { IfErr result (λ bad. BreaksIn self.old text.now bad) }
+    {
+        match self.place {
+            Place::Inside => Ok(self.rest_of_line(text)),
+            _ => {
+                self.byte(text[0])?;
+                Ok(1)
+            }
+        }
+    }
+
+    // Takes the line's rest up to its LF, or all of the text, and says how many bytes these are.
+    fn rest_of_line(&mut self, text: &[u8]) -> usize
+        requires inside { self.old.place ≡ Place.Inside }
+        requires some { 0 < length text.now }
+        ensures within { (1 ≤ result) × (result ≤ length text.now) }
+        ensures ok { HasTaken self.old self.new (take result text.now) }
+    {
+        match memchr(b'\n', text) {
+            Some(at) => {
+                self.go(Place::Line(Part::Nothing), at + 1);
+                at + 1
+            }
+            None => {
+                self.go(Place::Inside, text.len());
+                text.len()
+            }
+        }
+    }
+
+    fn byte(&mut self, byte: u8) -> Result<(), BadForm>
+        ensures ok { OnOk result (HasTaken self.old self.new (byte ∷ [])) }
+        ensures err { IfErr result (λ bad. BreaksIn self.old (byte ∷ []) bad) }
+    {
+        match effect_of(self.place, byte) {
+            Effect::To(place) => {
+                self.go(place, 1);
+                Ok(())
+            }
+            Effect::Begin => {
+                self.begin();
+                Ok(())
+            }
+            Effect::Break => Err(self.bad()),
+        }
+    }
+
+    // So many bytes lead to the place.
+    fn go(&mut self, place: Place, size: usize)
+        ensures { self.new ≡ record self.old { place = place; taken = counted (self.old.taken + size) } }
+    {
+        self.place = place;
+        self.taken = self.taken.saturating_add(size as u64);
+    }
+
+    // A byte begins a letter.
+    fn begin(&mut self)
+        ensures { self.new ≡ record self.old {
+            letters = counted (self.old.letters + 1);
+            place = Place.Inside;
+            taken = counted (self.old.taken + 1);
+        } }
+    {
+        self.letters = self.letters.saturating_add(1);
+        self.go(Place::Inside, 1);
+    }
+
+    // What is wrong where the text ends or breaks here.
+    fn bad(&self) -> BadForm
+        ensures { result ≡ bad_at self.now.place self.now.taken }
+    {
+        match self.place {
+            Place::Front(_) => BadForm::NoFromLine { place: self.taken },
+            Place::Open(_) | Place::Line(_) | Place::Inside => BadForm::NoEmptyLine { place: self.taken },
+        }
+    }
+}
