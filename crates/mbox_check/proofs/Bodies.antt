@@ -1,21 +1,21 @@
 -- A letter that has begun: lines more, its end, the next letter.
-use Rattle.std.proofs.Common.{◌≡◌, ◌⊎◌, inl, inr, ℕ, suc, Bool, true, false, cond, ◌&&◌, ◌==◌, List, [], ◌∷◌, ◌++◌, map, length, sym, ap, subst, ◌∙◌, refl, append_assoc, append-nil, true≢false}
+use Rattle.std.proofs.Common.{◌≡◌, inl, inr, ℕ, suc, Bool, true, false, cond, ◌&&◌, ◌==◌, List, [], ◌∷◌, ◌++◌, map, length, sym, ap, subst, ◌∙◌, refl, append_assoc, append-nil, true≢false}
 use Rattle.std.specs.Prelude.{codes}
 use Rattle.std.specs.List.{AllByRecursion}
 use Rattle.std.specs.Str.{byte}
 use Rattle.std.proofs.lemmas.Bool.{and_parts, or_from, eqb-true}
 use Rattle.std.proofs.lemmas.List.{map-append, same_from_push}
 use Rattle.std.proofs.lemmas.Grind.{flat_map-append}
-use Rattle.mail_world.specs.Text.{lf, lines, with_lf, IsOneLine, EmptyOrEndsIn}
+use Rattle.mail_world.specs.Text.{lf, lines, with_lf, IsOneLine}
 use Rattle.mail_world.specs.Records.{is_from_line, quoted, unquoted, quoted_text}
 use Rattle.mail_world.specs.Reading.{Letter, IsLetter, AreLetters, letter_text, written}
-use Rattle.mail_world.proofs.OneLine.{one_line-tail, one_line-append, head_byte, literal}
+use Rattle.mail_world.proofs.OneLine.{one_line-tail, head_byte}
 use Rattle.mail_world.proofs.Letters.{lines-with_lf, ends-with_lf}
 use Rattle.mail_world.proofs.OneReading.{all-append}
 use Rattle.mbox_rd.specs.Letters.{is_boundary}
 use Rattle.mbox_rd.proofs.Bodies.{begins_from}
 use Rattle.mbox_check.specs.Form.{IsMailbox, BeginsMailbox}
-use Rattle.mbox_check.specs.SoFar.{EndsInLine, IsBody, IsInside}
+use Rattle.mbox_check.specs.SoFar.{EndsInLine, IsBody}
 use Rattle.mbox_check.proofs.MailLines.{no_nil, written_end}
 
 -- ---- a text whose last byte isn't LF

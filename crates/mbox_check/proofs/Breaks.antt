@@ -1,5 +1,5 @@
 -- The place that breaks the form.
-use Rattle.std.proofs.Common.{◌≡◌, ◌⊎◌, inl, inr, ℕ, suc, ◌+◌, ◌<◌, ◌≤◌, arith, Bool, true, false, ◌==◌, List, [], ◌∷◌, ◌++◌, length, take, Option, None, sym, ap, subst, ◌∙◌, refl, append_assoc, append-nil, true≢false}
+use Rattle.std.proofs.Common.{◌≡◌, inl, inr, ℕ, suc, ◌+◌, arith, true, false, ◌==◌, List, [], ◌∷◌, ◌++◌, length, take, None, sym, ap, subst, ◌∙◌, refl, append_assoc, append-nil, true≢false}
 use Rattle.std.specs.Prelude.{codes}
 use Rattle.std.proofs.lemmas.List.{length-append, take_all}
 use Rattle.mail_world.specs.Counts.{counted}
@@ -12,7 +12,7 @@ use Rattle.mbox_check.specs.declared.place.Place.TheVariants.{Front, Open, Line,
 use Rattle.mbox_check.specs.declared.fault.BadForm.TheVariants.{NoFromLine, NoEmptyLine}
 use Rattle.mbox_check.specs.Form.{IsMailbox, BeginsMailbox, BreaksAt, IsBad}
 use Rattle.mbox_check.specs.Places.{part_text, next_byte, longer, is_whole, bad_at}
-use Rattle.mbox_check.specs.SoFar.{EndsInLine, IsLine, IsAt}
+use Rattle.mbox_check.specs.SoFar.{IsLine, IsAt}
 use Rattle.mbox_check.proofs.MailLines.{from_behind}
 use Rattle.mbox_check.proofs.Bodies.{ends_not_lf, ends_not_empty, boundary-written}
 use Rattle.mbox_check.proofs.Begins.{part_grown, boundary_else, line_started, started_begins, at_begins, at_short, front_bad, open_good, line_good, inside_good}
@@ -66,11 +66,10 @@ no_front part text b e f m =
 
 pub front_breaks : (part : Part) (text more : List ℕ) (n b taken : ℕ) → taken ≡ counted (length text) → IsAt text n (Front part) → (next_byte part == b) ≡ false
     → IsBad (text ++ b ∷ more) (NoFromLine taken)
-front_breaks part text more n b taken t at e =
-    (
-      ap (λ (l : List ℕ). is_boundary (l ++ b ∷ more)) at.1 ∙ boundary_else part b more e,
-      (length text, t, breaks_next text more b (at_begins (Front part) text n at) (no_front part text b at.1 e)),
-    )
+front_breaks part text more n b taken t at e = (
+  ap (λ (l : List ℕ). is_boundary (l ++ b ∷ more)) at.1 ∙ boundary_else part b more e,
+  (length text, t, breaks_next text more b (at_begins (Front part) text n at) (no_front part text b at.1 e)),
+)
 
 -- nor has it a From line behind a line that isn't empty
 no_line : (part : Part) (text : List ℕ) (n b : ℕ) → IsLine text n part → next_byte part ≡ b → longer part ≡ None → BeginsMailbox (text ++ b ∷ []) → ⊥
@@ -83,8 +82,7 @@ no_line part text n b l e f m =
 
 pub line_breaks : (part : Part) (text more : List ℕ) (n b taken : ℕ) → taken ≡ counted (length text) → IsLine text n part → next_byte part ≡ b → longer part ≡ None
     → IsBad (text ++ b ∷ more) (NoEmptyLine taken)
-line_breaks part text more n b taken t l e f =
-    (
-      started_begins text n part (b ∷ more) (line_started text n part l),
-      (length text, t, breaks_next text more b (at_begins (Line part) text n l) (no_line part text n b l e f)),
-    )
+line_breaks part text more n b taken t l e f = (
+  started_begins text n part (b ∷ more) (line_started text n part l),
+  (length text, t, breaks_next text more b (at_begins (Line part) text n l) (no_line part text n b l e f)),
+)

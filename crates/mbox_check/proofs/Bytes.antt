@@ -99,10 +99,10 @@ started_else part text n b s e f = record {
       let line : List ℕ = part_text part ++ b ∷ more in
       subst (λ (l : List ℕ). IsBody l n)
       (
-        ap (λ (l : List ℕ). s.start ++ l) (append_assoc (part_text part) (b ∷ more) (lf ∷ []))
-        ∙ sym (append_assoc s.start (part_text part) (b ∷ (more ++ lf ∷ [])))
-        ∙ ap (λ (l : List ℕ). l ++ b ∷ (more ++ lf ∷ [])) (sym s.whole)
-        ∙ sym (append_assoc text (b ∷ []) (more ++ lf ∷ []))
+      ap (λ (l : List ℕ). s.start ++ l) (append_assoc (part_text part) (b ∷ more) (lf ∷ []))
+      ∙ sym (append_assoc s.start (part_text part) (b ∷ (more ++ lf ∷ [])))
+      ∙ ap (λ (l : List ℕ). l ++ b ∷ (more ++ lf ∷ [])) (sym s.whole)
+      ∙ sym (append_assoc text (b ∷ []) (more ++ lf ∷ []))
       )
       (body_line s.start n line s.body (one_line-append (part_text part) (b ∷ more) (part_one part) (one_line-cons b more f one)) (part_else part b more e));
 }

@@ -126,9 +126,11 @@ letter_end_by first body h =
     elim h [
       | inl e ↦
           (first, ap (λ (l : List ℕ). line ++ l ++ (lf ∷ [])) e ∙ ap (λ (l : List ℕ). l ++ (lf ∷ [])) (append-nil line) ∙ append_assoc first (lf ∷ []) (lf ∷ []))
-      | inr f ↦
-          (line ++ f.0, ap (λ (l : List ℕ). line ++ l ++ (lf ∷ [])) f.1 ∙ ap (λ (l : List ℕ). l ++ (lf ∷ [])) (sym (append_assoc line f.0 (lf ∷ [])))
-          ∙ append_assoc (line ++ f.0) (lf ∷ []) (lf ∷ []))
+      | inr f ↦ (
+        line ++ f.0,
+        ap (λ (l : List ℕ). line ++ l ++ (lf ∷ [])) f.1 ∙ ap (λ (l : List ℕ). l ++ (lf ∷ [])) (sym (append_assoc line f.0 (lf ∷ [])))
+            ∙ append_assoc (line ++ f.0) (lf ∷ []) (lf ∷ []),
+      )
     ]
 
 letter_end : (l : Letter) → EndsEmpty (letter_text l)

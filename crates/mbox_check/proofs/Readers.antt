@@ -1,13 +1,12 @@
 -- What a reader gave so far.
-use Rattle.std.proofs.Common.{◌≡◌, ℕ, ◌<◌, List, [], ◌++◌, length, take, Option, Some, None, sym, ap, subst, ◌∙◌, refl, append_assoc, append-nil}
+use Rattle.std.proofs.Common.{◌≡◌, ℕ, ◌<◌, List, [], ◌++◌, length, take, Option, Some, None, sym, ap, subst, ◌∙◌, append_assoc, append-nil}
 use Rattle.std.specs.Prelude.{⊤}
-use Rattle.std.specs.Io.KnownBytes.{Keeps, Consumes, IsAtEnd}
-use Rattle.std.proofs.KnownBytes.{Consumes-nil, Consumes-trans}
+use Rattle.std.specs.Io.KnownBytes.{Consumes, IsAtEnd}
+use Rattle.std.proofs.KnownBytes.{Consumes-trans}
 use Rattle.mbox_check.specs.declared.fault.BadForm.{BadForm}
-use Rattle.mbox_check.specs.declared.fault.CheckFault.{CheckFault}
-use Rattle.mbox_check.specs.declared.fault.CheckFault.TheVariants.{Unread, Form}
+use Rattle.mbox_check.specs.declared.fault.CheckFault.TheVariants.{Form}
 use Rattle.mbox_check.specs.declared.form.FormCheck.{FormCheck}
-use Rattle.mbox_check.specs.Form.{IsBad, IsLetterCount, IsCountOf, IsFaultOf}
+use Rattle.mbox_check.specs.Form.{IsBad, IsFaultOf}
 use Rattle.mbox_check.specs.SoFar.{IsReadSoFar, HasTaken, BreaksIn}
 
 -- what the reader had is what came, and then what it has
@@ -15,9 +14,6 @@ pub record IsReadUpTo (old new : Option (List ℕ)) (form : FormCheck) : Type 0 
   pub front : List ℕ
   pub came : Consumes old new front
   pub read : IsReadSoFar front form
-
-pub read_none : (old : Option (List ℕ)) (form : FormCheck) → IsReadSoFar [] form → IsReadUpTo old old form
-read_none old form s = record { front = []; came = Consumes-nil old; read = s }
 
 pub read_more : (old mid new : Option (List ℕ)) (form next : FormCheck) (piece : List ℕ) → IsReadUpTo old mid form → Consumes mid new piece → HasTaken form next piece → IsReadUpTo old new next
 read_more old mid new form next piece r c h =
@@ -41,10 +37,6 @@ pub read_end : (old mid new : Option (List ℕ)) (form : FormCheck) (n : ℕ) (b
 read_end old mid new form n buffer r c e some =
     all_read old mid new r.front form r.came (subst (λ k. Consumes mid new (take k buffer)) e c.0) (c.1 e some) r.read
 
-pub read_count : (old : Option (List ℕ)) (form : FormCheck) (count : ℕ) → IsAllRead old form → ((text : List ℕ) → IsReadSoFar text form → IsLetterCount text count) → IsCountOf old count
-read_count None form count s h = tt
-read_count (Some xs) form count s h = h xs s
-
 pub read_bad : (old : Option (List ℕ)) (form : FormCheck) (bad : BadForm) → IsAllRead old form → ((text : List ℕ) → IsReadSoFar text form → IsBad text bad) → IsFaultOf old (Form bad)
 read_bad None form bad s h = tt
 read_bad (Some xs) form bad s h = h xs s
@@ -60,7 +52,3 @@ pub read_broken : (old mid new : Option (List ℕ)) (form : FormCheck) (piece : 
 read_broken None mid new form piece bad r c h = tt
 read_broken (Some xs) mid new form piece bad r c h =
     broken_at xs new form r.front piece bad (Consumes-trans (Some xs) mid new r.front piece r.came c) r.read h
-
-pub unread : (old : Option (List ℕ)) (fault : CheckFault) → fault ≡ Unread → IsFaultOf old fault
-unread None fault e = tt
-unread (Some xs) fault e = subst (λ f. IsFaultOf (Some xs) f) (sym e) tt

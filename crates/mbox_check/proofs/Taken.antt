@@ -1,6 +1,6 @@
 -- Pieces that are taken, whatever came before.
-use Rattle.std.proofs.Common.{◌≡◌, ℕ, suc, ◌+◌, ◌-◌, ◌<◌, ◌≤◌, arith, Bool, true, false, ◌==◌, List, [], ◌∷◌, ◌++◌, length, take, drop, sym, ap, subst, ◌∙◌, refl, append_assoc, append-nil, true≢false}
-use Rattle.std.specs.Prelude.{slice_index, min, ◌^◌}
+use Rattle.std.proofs.Common.{◌≡◌, ℕ, suc, ◌+◌, ◌-◌, ◌<◌, arith, true, false, List, [], ◌∷◌, ◌++◌, length, take, drop, sym, ap, subst, ◌∙◌, refl, append_assoc, append-nil}
+use Rattle.std.specs.Prelude.{slice_index}
 use Rattle.std.proofs.lemmas.Bool.{eqb-true, false≢true}
 use Rattle.std.proofs.lemmas.List.{length-append, length-take-le, take_more, take_all, take_rest, take-append-drop}
 use Rattle.memchr.specs.Find.{Nowhere, NoneBefore, Passes, is_byte}
@@ -58,15 +58,6 @@ byte_break form b e = record {
   goes = λ front more s. subst (λ x. LeadsTo form.place front s.n b x) e (byte_leads form.place front s.n b s.at) more form.taken s.taken;
 }
 
--- the first byte of a text
-pub front_taken : (old new : FormCheck) (text : List ℕ) → 0 < length text → HasTaken old new (slice_index text 0 ∷ []) → HasTaken old new (take 1 text)
-front_taken old new [] some h = absurd (omega arith)
-front_taken old new (b ∷ text) some h = h
-
-pub front_breaks_in : (old : FormCheck) (text : List ℕ) (bad : BadForm) → 0 < length text → BreaksIn old (slice_index text 0 ∷ []) bad → BreaksIn old text bad
-front_breaks_in old [] bad some h = absurd (omega arith)
-front_breaks_in old (b ∷ text) bad some h = record { goes = λ front more s. h.goes front (text ++ more) s }
-
 -- ---- a line's rest
 
 inside_line : (text line : List ℕ) (n : ℕ) → IsInside text n → IsOneLine line → IsLine (text ++ (line ++ lf ∷ [])) n Nothing
@@ -115,13 +106,6 @@ pub record IsTakenUpTo (old new : FormCheck) (piece rest : List ℕ) : Type 0 wh
   pub whole : piece ≡ used ++ rest
   pub taken : HasTaken old new used
 
-pub taken_none : (form : FormCheck) (piece : List ℕ) → IsTakenUpTo form form piece piece
-taken_none form piece = record {
-  used = [];
-  whole = refl;
-  taken = record { goes = λ front s. subst (λ (l : List ℕ). IsReadSoFar l form) (sym (append-nil front)) s };
-}
-
 pub taken_more : (old mid new : FormCheck) (piece rest : List ℕ) (n : ℕ) → IsTakenUpTo old mid piece rest → HasTaken mid new (take n rest)
     → IsTakenUpTo old new piece (take (length rest - n) (drop n rest))
 taken_more old mid new piece rest n t h = record {
@@ -132,11 +116,6 @@ taken_more old mid new piece rest n t h = record {
     goes = λ front s. subst (λ (l : List ℕ). IsReadSoFar l new) (append_assoc front t.used (take n rest)) (h.goes (front ++ t.used) (t.taken.goes front s));
   };
 }
-
-pub taken_all : (old new : FormCheck) (piece rest : List ℕ) → IsTakenUpTo old new piece rest → rest ≡ [] → HasTaken old new piece
-taken_all old new piece rest t e =
-    let whole : piece ≡ t.used = t.whole ∙ ap (λ (l : List ℕ). t.used ++ l) e ∙ append-nil t.used in
-    record { goes = λ front s. subst (λ (l : List ℕ). IsReadSoFar (front ++ l) new) (sym whole) (t.taken.goes front s) }
 
 pub taken_breaks : (old mid : FormCheck) (piece rest : List ℕ) (bad : BadForm) → IsTakenUpTo old mid piece rest → BreaksIn mid rest bad → BreaksIn old piece bad
 taken_breaks old mid piece rest bad t h = record {

@@ -4,8 +4,8 @@ ghost use Rattle.std.specs.Prelude.{◌≡◌};
 
 use thiserror::Error;
 
-/// What is wrong with a mailbox, and the first byte with which it is: see the definition `BreaksAt`. Places count from 0
-/// and stay at 2^64 - 1.
+/// What is wrong with a mailbox, and the first byte with which it is: see the definition `BreaksAt`. Places count from
+/// 0 and stay at 2^64 - 1.
 #[derive(Clone, Copy, Debug, PartialEq, Eq, Error)]
 pub enum BadForm {
     /// It doesn't begin with a From line.
@@ -22,6 +22,7 @@ pub enum CheckFault {
     /// The reader failed, for another cause than `ErrorKind::Interrupted`, or gave no end in 2^64 - 1 reads.
     #[error("the mailbox can't be read")]
     Unread,
+    /// It isn't a mailbox.
     #[error(transparent)]
     Form(BadForm),
 }

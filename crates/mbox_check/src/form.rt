@@ -117,9 +117,9 @@ impl FormCheck {
     // A byte begins a letter.
     fn begin(&mut self)
         ensures { self.new ≡ record self.old {
-            letters = counted (self.old.letters + 1);
-            place = Place.Inside;
-            taken = counted (self.old.taken + 1);
+          letters = counted (self.old.letters + 1);
+          place = Place.Inside;
+          taken = counted (self.old.taken + 1);
         } }
     {
         self.letters = self.letters.saturating_add(1);
@@ -132,7 +132,9 @@ impl FormCheck {
     {
         match self.place {
             Place::Front(_) => BadForm::NoFromLine { place: self.taken },
-            Place::Open(_) | Place::Line(_) | Place::Inside => BadForm::NoEmptyLine { place: self.taken },
+            Place::Open(_) | Place::Line(_) | Place::Inside => BadForm::NoEmptyLine {
+                place: self.taken,
+            },
         }
     }
 }
