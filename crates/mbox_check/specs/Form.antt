@@ -19,8 +19,8 @@ pub record BeginsMailbox (text : List ℕ) : Type 0 where
   pub letters : List Letter
   pub is : IsMailbox (text ++ more) letters
 
--- The least place that breaks the form: a mailbox begins with the bytes before it, and none with these and the byte at it. It is the
--- end of the text where a mailbox begins with all of it and it isn't one.
+-- The least place that breaks the form: a mailbox begins with the bytes before it, and none with these and the byte at
+-- it. It is the end of the text where a mailbox begins with all of it and it isn't one.
 pub record BreaksAt (text : List ℕ) (place : ℕ) : Type 0 where
   pub within : place ≤ length text
   pub before : BeginsMailbox (take place text)
