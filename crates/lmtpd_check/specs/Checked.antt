@@ -1,0 +1,52 @@
+-- What is found of files, and the lines that say it.
+use Rattle.std.specs.Prelude.{◌≡◌, ◌≤◌, ℕ, Bool, true, false, List, [], ◌∷◌, ◌++◌, length, codes, decimal, All, Option, ⊤}
+use Rattle.std.specs.Io.KnownBytes.{Appends}
+use Rattle.mail_world.specs.Text.{lf}
+use Rattle.mbox_check.specs.Form.{IsCountOf, IsFaultOf}
+use Rattle.mbox_check.specs.declared.fault.BadForm.{BadForm}
+use Rattle.mbox_check.specs.declared.fault.BadForm.TheVariants.{NoFromLine, NoEmptyLine}
+use Rattle.mbox_check.specs.declared.fault.CheckFault.TheVariants as fault
+use Rattle.lmtpd_output.specs.Output.{IsCutOff, pair_texts}
+use Rattle.lmtpd_check.specs.declared.checked.Finding.{Finding}
+use Rattle.lmtpd_check.specs.declared.checked.Finding.TheVariants.{Letters, Form, Unread}
+
+-- the line of a file, with what is said of it and a number
+abbrev pub number_line : List ℕ → List ℕ → ℕ → List ℕ
+number_line name said number = name ++ said ++ decimal number ++ (lf ∷ [])
+
+-- the line of a file that breaks the form, with the place
+abbrev pub bad_line : List ℕ → BadForm → List ℕ
+bad_line name (NoFromLine place) = number_line name (codes " no From line at ") place
+bad_line name (NoEmptyLine place) = number_line name (codes " no empty line at ") place
+
+-- the line of a file of that name
+abbrev pub finding_line : List ℕ → Finding → List ℕ
+finding_line name (Letters count) = number_line name (codes " letters ") count
+finding_line name (Form bad) = bad_line name bad
+finding_line name Unread = name ++ (codes " cannot read" ++ (lf ∷ []))
+
+-- a count of letters, and nothing wrong
+abbrev pub is_letters : Finding → Bool
+is_letters (Letters count) = true
+is_letters (Form bad) = false
+is_letters Unread = false
+
+-- a line for each finding, with the name in its place
+abbrev pub finding_lines : List (List ℕ) → List Finding → List ℕ
+finding_lines names findings = pair_texts finding_line names findings
+
+module _ {F : Type 0} (remaining : F → Option (List ℕ)) where
+  -- what is found of some file, of which `remaining` is what its reads give; nothing of one that can't be read
+  abbrev pub IsFindingOf : Finding → Type 0
+  IsFindingOf (Letters count) = (file : F) × IsCountOf (remaining file) count
+  IsFindingOf (Form bad) = (file : F) × IsFaultOf (remaining file) (fault.Form bad)
+  IsFindingOf Unread = ⊤
+
+  -- What was found of the files of these names, and written of it from one state of a writer to the next: for each a finding
+  -- and its line, unless a write failed. Then of the first ones, and a front of their lines.
+  pub record IsChecked (names : List (List ℕ)) (before after : Option (List ℕ)) (findings : List Finding) (cut : Bool) : Type 0 where
+    pub within : length findings ≤ length names
+    pub complete : cut ≡ false → length findings ≡ length names
+    pub each : All IsFindingOf findings
+    pub whole : cut ≡ false → Appends before after (finding_lines names findings)
+    pub broken : cut ≡ true → IsCutOff before after (finding_lines names findings)

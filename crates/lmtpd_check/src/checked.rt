@@ -1,0 +1,35 @@
+//! What was found of files.
+
+ghost use Rattle.std.specs.Prelude.{◌≡◌};
+ghost use Rattle.lmtpd_check.specs.Checked.{is_letters};
+
+use mbox_check::BadForm;
+
+/// What was found of a file.
+#[derive(Clone, Copy, Debug, PartialEq, Eq)]
+pub enum Finding {
+    /// A mailbox of so many letters, a count that stays at 2^64 - 1.
+    Letters(u64),
+    /// What breaks the form of a mailbox.
+    Form(BadForm),
+    /// It can't be opened, or not read to its end.
+    Unread,
+}
+
+impl Finding {
+    /// Whether the file's letters were counted, and so nothing is wrong with it.
+    pub fn is_letters(&self) -> bool
+        ensures { result ≡ is_letters self.now }
+    {
+        matches!(self, Finding::Letters(_))
+    }
+}
+
+/// What was found of files, in their order, and the writer that has their lines.
+#[derive(Drop)]
+pub struct Checked<W> {
+    pub writer: W,
+    pub findings: Vec<Finding>,
+    /// Whether a write failed; nothing was written or read after it.
+    pub cut: bool,
+}

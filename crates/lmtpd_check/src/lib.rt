@@ -1,0 +1,10 @@
+//! What `lmtpd check` does: it reads mailbox files, one after another, and says of each what it found.
+#![tactic(auto)]
+
+mod checked;
+mod files;
+mod lines;
+
+pub use checked::{Checked, Finding};
+pub use files::check_files;
+pub use mbox_check::BadForm;

@@ -1,0 +1,78 @@
+//! The line of a file, with what was found of it.
+
+ghost use Rattle.std.specs.Prelude.{◌≡◌, OnOk, OnErr};
+ghost use Rattle.std.specs.Io.KnownBytes.{Appends, Keeps};
+ghost use Rattle.lmtpd_output.specs.Output.{IsCutOff};
+ghost use Rattle.lmtpd_check.specs.Checked.{bad_line, finding_line, number_line};
+
+use crate::checked::Finding;
+use itoa::Buffer;
+use lmtpd_output::{WriteFault, write_each};
+use mbox_check::BadForm;
+use std::io::Write;
+
+/// Writes a file's line, and has the writer hand it on. After a fault the writer holds a front of the line more.
+#[tactic(auto, using(crate::proofs::Handed::whole_kept, crate::proofs::Handed::whole_cut))]
+pub fn write_finding<W: Write>(
+    writer: &mut W,
+    name: &str,
+    finding: Finding,
+) -> Result<(), WriteFault>
+    ensures ok { OnOk result (Appends (W.contents writer.old) (W.contents writer.new)
+        (finding_line name.now finding)) }
+    ensures err { OnErr result (IsCutOff (W.contents writer.old) (W.contents writer.new)
+        (finding_line name.now finding)) }
+{
+    write_line(writer, name, finding)?;
+    hand_on(writer)
+}
+
+// What a writer holds back would be told too late where a large file follows.
+fn hand_on<W: Write>(writer: &mut W) -> Result<(), WriteFault>
+    ensures { Keeps (W.contents writer.old) (W.contents writer.new) }
+{
+    match writer.flush() {
+        Ok(()) => Ok(()),
+        Err(_) => Err(WriteFault),
+    }
+}
+
+fn write_line<W: Write>(writer: &mut W, name: &str, finding: Finding) -> Result<(), WriteFault>
+    ensures ok { OnOk result (Appends (W.contents writer.old) (W.contents writer.new)
+        (finding_line name.now finding)) }
+    ensures err { OnErr result (IsCutOff (W.contents writer.old) (W.contents writer.new)
+        (finding_line name.now finding)) }
+{
+    match finding {
+        Finding::Letters(count) => write_number(writer, name, b" letters ", count),
+        Finding::Form(bad) => write_bad(writer, name, bad),
+        Finding::Unread => write_each(writer, &[name.as_bytes(), b" cannot read\n"]),
+    }
+}
+
+fn write_bad<W: Write>(writer: &mut W, name: &str, bad: BadForm) -> Result<(), WriteFault>
+    ensures ok { OnOk result (Appends (W.contents writer.old) (W.contents writer.new) (bad_line name.now bad)) }
+    ensures err { OnErr result (IsCutOff (W.contents writer.old) (W.contents writer.new) (bad_line name.now bad)) }
+{
+    match bad {
+        BadForm::NoFromLine { place } => write_number(writer, name, b" no From line at ", place),
+        BadForm::NoEmptyLine { place } => write_number(writer, name, b" no empty line at ", place),
+    }
+}
+
+// A line that ends in a number.
+fn write_number<W: Write>(
+    writer: &mut W,
+    name: &str,
+    said: &[u8],
+    number: u64,
+) -> Result<(), WriteFault>
+    ensures ok { OnOk result (Appends (W.contents writer.old) (W.contents writer.new)
+        (number_line name.now said.now number)) }
+    ensures err { OnErr result (IsCutOff (W.contents writer.old) (W.contents writer.new)
+        (number_line name.now said.now number)) }
+{
+    let mut digits = Buffer::new();
+    let number = digits.format(number);
+    write_each(writer, &[name.as_bytes(), said, number.as_bytes(), b"\n"])
+}
