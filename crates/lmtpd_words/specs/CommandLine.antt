@@ -85,9 +85,15 @@ required_app = with_rule (with_rule (with_rule (with_rule (new_app (codes "serve
 abbrev pub serve_app : App
 serve_app = with_rule (with_rule (with_rule (with_rule (with_rule (with_rule (with_rule (with_rule required_app domains_rule) lanes_rule) blocks_rule) capacity_rule) reads_rule) timeout_rule) quota_rule) box_rule
 
+abbrev pub file_rule : Rule
+file_rule = must (texts_rule (codes "file"))
+
+abbrev pub check_app : App
+check_app = with_rule (new_app (codes "check")) file_rule
+
 abbrev pub bare_app : App
 bare_app = record (new_app (codes "lmtpd")) { top = record (new_app (codes "lmtpd")).top { subcommand_required = true } }
 
 -- the whole command line
 abbrev pub program_app : App
-program_app = with_subcommand (with_subcommand bare_app rehearse_app.top) serve_app.top
+program_app = with_subcommand (with_subcommand (with_subcommand bare_app rehearse_app.top) serve_app.top) check_app.top

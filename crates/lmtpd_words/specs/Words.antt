@@ -11,8 +11,9 @@ use Rattle.lmtpd_words.specs.declared.words.TheConstants.{DEFAULT_BLOCKS, DEFAUL
 use Rattle.lmtpd_words.specs.declared.words.SiteWords.{SiteWords}
 use Rattle.lmtpd_words.specs.declared.words.RehearseWords.{RehearseWords}
 use Rattle.lmtpd_words.specs.declared.words.ServeWords.{ServeWords}
+use Rattle.lmtpd_words.specs.declared.words.CheckWords.{CheckWords}
 use Rattle.lmtpd_words.specs.declared.words.Words.{Words}
-use Rattle.lmtpd_words.specs.declared.words.Words.TheVariants.{Rehearse, Serve}
+use Rattle.lmtpd_words.specs.declared.words.Words.TheVariants.{Rehearse, Serve, Check}
 
 -- the texts of words
 abbrev pub as_texts : List (String Global) → List Text
@@ -70,6 +71,10 @@ pub record IsServeRead (rows : List Row) (words : ServeWords) : Type 0 where
   pub timeout : IsNumberOr DEFAULT_TIMEOUT (one_of (codes "timeout") rows) words.timeout
   pub quota : IsLimit (one_of (codes "quota") rows) words.quota
 
+-- what the values of a check's argument ask for
+pub record IsCheckRead (rows : List Row) (words : CheckWords) : Type 0 where
+  pub files : all_of (codes "file") rows ≡ Some (texts words.files.items)
+
 -- an argument that must be given has no value, or no number
 abbrev pub LacksText : List ℕ → List Row → Type 0
 LacksText name rows = first_of name rows ≡ None
@@ -86,15 +91,20 @@ LacksRehearse rows = LacksNumber (codes "time") rows ⊎ LacksSite rows
 abbrev pub LacksServe : List Row → Type 0
 LacksServe rows = LacksText (codes "listen") rows ⊎ (LacksText (codes "dir") rows ⊎ (LacksNumber (codes "connections") rows ⊎ LacksSite rows))
 
+abbrev pub LacksCheck : List Row → Type 0
+LacksCheck rows = all_of (codes "file") rows ≡ None
+
 -- what a subcommand's call asks for: its name and the rows that its arguments get
 abbrev pub IsAsked : Option (Text × List Row) → Words → Type 0
 IsAsked call (Rehearse words) = (rows : List Row) × (call ≡ Some (codes "rehearse", rows)) × IsRehearseRead rows words
 IsAsked call (Serve words) = (rows : List Row) × (call ≡ Some (codes "serve", rows)) × IsServeRead rows words
+IsAsked call (Check words) = (rows : List Row) × (call ≡ Some (codes "check", rows)) × IsCheckRead rows words
 
--- a call of either lacks something
+-- a call of any of them lacks something
 pub record IsLacking (call : Option (Text × List Row)) : Type 0 where
   pub rehearse : (rows : List Row) → call ≡ Some (codes "rehearse", rows) → LacksRehearse rows
   pub serve : (rows : List Row) → call ≡ Some (codes "serve", rows) → LacksServe rows
+  pub check : (rows : List Row) → call ≡ Some (codes "check", rows) → LacksCheck rows
 
 -- the site that they name
 abbrev pub named_site : SiteWords → Site

@@ -1,4 +1,4 @@
-//! The arguments of the command line: a row for each, and the two subcommands' lists.
+//! The arguments of the command line: a row for each, and the three subcommands' lists.
 
 ghost use Rattle.std.specs.Prelude.{◌≡◌, false};
 ghost use Rattle.clap.specs.Words.{rule_of};
@@ -70,6 +70,9 @@ pub const SERVE: [Argument; 12] = [
     QUOTA,
     BOXES,
 ];
+
+/// What a check takes.
+pub const CHECK: [Argument; 1] = [FILES];
 
 const HOST: Argument = Argument {
     name: "host",
@@ -192,6 +195,14 @@ const BOXES: Argument = Argument {
     name: "box",
     value: "BOX",
     help: "The mailboxes",
+    is_required: true,
+    kind: ValueKind::Texts,
+};
+
+const FILES: Argument = Argument {
+    name: "file",
+    value: "FILE",
+    help: "The mailbox files",
     is_required: true,
     kind: ValueKind::Texts,
 };

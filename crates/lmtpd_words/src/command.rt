@@ -5,9 +5,9 @@ ghost use Rattle.clap.specs.Simple.{new_app};
 ghost use Rattle.clap.specs.Words.{app_of};
 ghost use Rattle.clap.specs.declared.builder.command.Command.TheViews.{out-Command as fields_of};
 ghost use Rattle.lmtpd_words.specs.Arguments.{argument_rule, with_rules};
-ghost use Rattle.lmtpd_words.specs.CommandLine.{program_app, rehearse_app, serve_app};
+ghost use Rattle.lmtpd_words.specs.CommandLine.{check_app, program_app, rehearse_app, serve_app};
 
-use crate::arguments::{Argument, REHEARSE, SERVE};
+use crate::arguments::{Argument, CHECK, REHEARSE, SERVE};
 use clap::Command;
 use std::alloc::{AllocError, Global};
 
@@ -17,11 +17,13 @@ pub fn program<'a>(alloc: Global) -> Result<Command<'a>, AllocError>
 {
     let rehearse = rehearse(alloc)?;
     let serve = serve(alloc)?;
+    let check = check(alloc)?;
     Command::new(alloc, "lmtpd")
         .about("An LMTP server (RFC 2033) that delivers into mailboxes (RFC 4155)")
         .subcommand_required(true)
         .subcommand(rehearse)?
-        .subcommand(serve)
+        .subcommand(serve)?
+        .subcommand(check)
 }
 
 fn rehearse<'a>(alloc: Global) -> Result<Command<'a>, AllocError>
@@ -42,6 +44,16 @@ fn serve<'a>(alloc: Global) -> Result<Command<'a>, AllocError>
         "Serves conversations over TCP, and delivers into mailbox files",
     );
     with_arguments(alloc, serve, &SERVE)
+}
+
+fn check<'a>(alloc: Global) -> Result<Command<'a>, AllocError>
+    ensures shape { IfOk result (λ c. app_of c ≡ check_app) }
+    ensures local { IfOk result (λ c. (fields_of c).has_globals ≡ false) }
+{
+    let check = Command::new(alloc, "check").about(
+        "Counts the letters in mailbox files, or says at which byte a file breaks the form",
+    );
+    with_arguments(alloc, check, &CHECK)
 }
 
 fn with_arguments<'a>(

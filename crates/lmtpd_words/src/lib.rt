@@ -9,6 +9,6 @@ mod words;
 
 pub use reading::{not_text, read_words};
 pub use words::{
-    DEFAULT_BLOCKS, DEFAULT_CAPACITY, DEFAULT_LANES, DEFAULT_READS, DEFAULT_TIMEOUT, RehearseWords,
-    ServeWords, SiteWords, Words,
+    CheckWords, DEFAULT_BLOCKS, DEFAULT_CAPACITY, DEFAULT_LANES, DEFAULT_READS, DEFAULT_TIMEOUT,
+    RehearseWords, ServeWords, SiteWords, Words,
 };

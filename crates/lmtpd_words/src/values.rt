@@ -4,12 +4,14 @@ ghost use Rattle.std.specs.Prelude.{◌≡◌, [], codes, Some, IfOk, MatchOptio
 ghost use Rattle.clap.specs.Words.{Text, first_of, found_of, one_of, rows_of, subcommand_rows_of};
 ghost use Rattle.std.specs.Option.{option_map, option_map_or};
 ghost use Rattle.lmtp_text.specs.Sites.{texts};
-ghost use Rattle.lmtpd_words.specs.Words.{IsAsked, IsLimit, IsNumberOr, IsRehearseRead, IsServeRead, IsSiteRead};
-ghost use Rattle.lmtpd_words.specs.Words.{IsLacking, LacksNumber, LacksRehearse, LacksServe, LacksSite, number, listed};
+ghost use Rattle.lmtpd_words.specs.Words.{IsAsked, IsCheckRead, IsLimit, IsNumberOr, IsRehearseRead, IsServeRead};
+ghost use Rattle.lmtpd_words.specs.Words.{IsSiteRead};
+ghost use Rattle.lmtpd_words.specs.Words.{IsLacking, LacksCheck, LacksNumber, LacksRehearse, LacksServe, LacksSite};
+ghost use Rattle.lmtpd_words.specs.Words.{number, listed};
 
 use crate::words::{
-    DEFAULT_BLOCKS, DEFAULT_CAPACITY, DEFAULT_LANES, DEFAULT_READS, DEFAULT_TIMEOUT, RehearseWords,
-    ServeWords, SiteWords, Words,
+    CheckWords, DEFAULT_BLOCKS, DEFAULT_CAPACITY, DEFAULT_LANES, DEFAULT_READS, DEFAULT_TIMEOUT,
+    RehearseWords, ServeWords, SiteWords, Words,
 };
 use clap::ArgMatches;
 use std::alloc::{AllocError, Global};
@@ -32,7 +34,13 @@ pub fn words_of<'a>(
                 Some(read) => Ok(Some(Words::Serve(read))),
                 None => Ok(None),
             },
-            None => Ok(None),
+            None => match matches.subcommand_matches("check") {
+                Some(check) => match check_words(alloc, check)? {
+                    Some(read) => Ok(Some(Words::Check(read))),
+                    None => Ok(None),
+                },
+                None => Ok(None),
+            },
         },
     }
 }
@@ -89,6 +97,20 @@ fn serve_words<'a>(
         timeout: number_or(matches, "timeout", DEFAULT_TIMEOUT),
         quota: quota_of(matches),
     }))
+}
+
+fn check_words<'a>(
+    alloc: Global,
+    matches: &ArgMatches<'a>,
+) -> Result<Option<CheckWords<'a>>, AllocError>
+    ensures { let rows = rows_of (found_of matches.now) in
+        IfOk result (λ read. MatchOption read (LacksCheck rows) (IsCheckRead rows)) }
+{
+    let Some(files) = matches.get_strs("file") else {
+        return Ok(None);
+    };
+    let files = files.to_vec(alloc)?;
+    Ok(Some(CheckWords { files }))
 }
 
 fn site_words<'a>(

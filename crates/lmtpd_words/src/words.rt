@@ -59,9 +59,17 @@ pub struct ServeWords<'a> {
     pub quota: Option<u64>,
 }
 
+/// What a check is asked to do.
+#[derive(Debug, Drop)]
+pub struct CheckWords<'a> {
+    /// The mailbox files, by their paths.
+    pub files: Vec<&'a str>,
+}
+
 /// What the program is asked to do.
 #[derive(Debug, Drop)]
 pub enum Words<'a> {
     Rehearse(RehearseWords<'a>),
     Serve(ServeWords<'a>),
+    Check(CheckWords<'a>),
 }

@@ -9,4 +9,5 @@ returns c =
     let named = ap app_of_fields c.about.ensures ∙ c.new.ensures.app in
     let bare : app_of c.subcommand_required.result ≡ bare_app = ap app_of_fields c.subcommand_required.ensures ∙ ap (λ (a : App). record a { top = record a.top { subcommand_required = true } }) named in
     let one = c.in_ok-subcommand.ensures.shape c.in_ok-rehearse.ensures.local ∙ ap₂ with_subcommand bare (ap (λ (a : App). a.top) c.in_ok-rehearse.ensures.shape) in
-    IfOk-weaker c.subcommand-2.result _ _ (λ command added. added.shape c.in_ok-serve.ensures.local ∙ ap₂ with_subcommand one (ap (λ (a : App). a.top) c.in_ok-serve.ensures.shape)) c.subcommand-2.ensures
+    let two = c.in_ok-subcommand-2.ensures.shape c.in_ok-serve.ensures.local ∙ ap₂ with_subcommand one (ap (λ (a : App). a.top) c.in_ok-serve.ensures.shape) in
+    IfOk-weaker c.subcommand-3.result _ _ (λ command added. added.shape c.in_ok-check.ensures.local ∙ ap₂ with_subcommand two (ap (λ (a : App). a.top) c.in_ok-check.ensures.shape)) c.subcommand-3.ensures
