@@ -1,5 +1,5 @@
 -- What the program's words may lack, and what the program then answers.
-use Rattle.std.specs.Prelude.{ℕ, Bool, true, false, not, ◌||◌, nat_lt, ◌==◌, List, [], ◌∷◌, length, if◌then◌else◌, Option, Some, None, codes}
+use Rattle.std.specs.Prelude.{ℕ, Bool, true, false, not, ◌||◌, ◌&&◌, nat_lt, ◌==◌, List, [], ◌∷◌, length, if◌then◌else◌, Option, Some, None, codes}
 use Rattle.std.specs.Borrow.{Bor}
 use Rattle.std.specs.List.{list_all}
 use Rattle.mail_world.specs.declared.limits.TheConstants.{BOX_LIMIT}
@@ -13,6 +13,8 @@ use Rattle.lmtp_talk.specs.declared.ending.EndCause.{EndCause}
 use Rattle.lmtp_house.specs.declared.house.fault.HouseFault.{HouseFault}
 use Rattle.lmtp_house.specs.declared.house.fault.HouseFault.TheVariants as house
 use Rattle.lmtp_talk.specs.declared.ending.EndCause.TheVariants.{ReadFault, WriteFault}
+use Rattle.lmtpd_check.specs.Checked.{is_letters}
+use Rattle.lmtpd_check.specs.declared.checked.Finding.{Finding}
 use Rattle.lmtpd.specs.declared.fault.Fault.{Fault}
 use Rattle.lmtpd.specs.declared.fault.Fault.TheVariants as fault
 use Rattle.lmtpd.specs.declared.stop.Stop.{Stop}
@@ -119,3 +121,11 @@ rehearsal_fault ending = if is_device_fault ending then Some fault.Device else N
 -- what a server that ran lacks: a device's fault comes before a listener's
 abbrev pub server_fault : ServerEnding → Option Fault
 server_fault ending = if ending.faulty || ending.cut then Some fault.Device else if ending.failed then Some fault.Listen else None
+
+-- what a check of files lacks
+abbrev pub check_fault : Bool → Option Fault
+check_fault cut = if cut then Some fault.Device else None
+
+-- the exit status of a check: 0 only where all was said, and of each file how many letters it has
+abbrev pub check_status : List Finding → Bool → ℕ
+check_status findings cut = if not cut && list_all is_letters findings then 0 else 1

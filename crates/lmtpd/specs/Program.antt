@@ -8,6 +8,7 @@ use Rattle.clap.specs.Words.{Text, kind_of, subcommand_of, takes}
 use Rattle.clap.specs.declared.error.Error.{Error}
 use Rattle.clap.specs.declared.error.kind.ErrorKind.TheVariants.{OutOfMemory}
 use Rattle.mail_world.specs.Text.{lf}
+use Rattle.lmtp_text.specs.Sites.{texts}
 use Rattle.mbox_rd.specs.Spool.{SpoolState}
 use Rattle.lmtp_house.specs.House.{IsSize}
 use Rattle.lmtp_house.specs.declared.house.sizes.Sizes.{Sizes}
@@ -15,15 +16,18 @@ use Rattle.lmtpd_words.specs.CommandLine.{program_app}
 use Rattle.lmtpd_words.specs.Words.{IsAsked, IsLacking, named_site}
 use Rattle.lmtpd_words.specs.declared.words.RehearseWords.{RehearseWords}
 use Rattle.lmtpd_words.specs.declared.words.ServeWords.{ServeWords}
-use Rattle.lmtpd_words.specs.declared.words.Words.TheVariants.{Rehearse, Serve}
+use Rattle.lmtpd_words.specs.declared.words.CheckWords.{CheckWords}
+use Rattle.lmtpd_words.specs.declared.words.Words.TheVariants.{Rehearse, Serve, Check}
 use Rattle.lmtpd.specs.Address.{IsRefused}
-use Rattle.lmtpd.specs.Faults.{fault_text, first_fault, rehearsal_fault, server_fault, status_of, stop_for, stop_status}
+use Rattle.lmtpd.specs.Faults.{check_fault, check_status, fault_text, first_fault, rehearsal_fault, server_fault, status_of, stop_for, stop_status}
+use Rattle.lmtpd_check.specs.Checked.{IsChecked}
+use Rattle.lmtpd_check.specs.declared.checked.Checked.{Checked as CheckedFiles}
 use Rattle.lmtpd_rehearse.specs.Rehearsal.{IsBlockCount, IsRehearsed, Streams}
 use Rattle.lmtpd_serve.specs.Served.{IsServerRun, over_lines}
 use Rattle.lmtpd.specs.declared.fault.Fault.{Fault}
 use Rattle.lmtpd.specs.declared.fault.Fault.TheVariants as fault
 use Rattle.lmtpd.specs.declared.program.Done.{Done}
-use Rattle.lmtpd.specs.declared.program.Done.TheVariants.{Rehearsed, Served, Stopped}
+use Rattle.lmtpd.specs.declared.program.Done.TheVariants.{Rehearsed, Served, Checked, Stopped}
 use Rattle.lmtpd_rehearse.specs.declared.ending.Ending.{Ending}
 use Rattle.lmtpd_serve.specs.declared.served.Served.{Served as ServedRun}
 use Rattle.lmtpd.specs.declared.serve.address.TheConstants.{SMTP_PORT}
@@ -106,33 +110,44 @@ IsNotServed words s = (s ≡ stop.Fault fault.Memory)
     ⊎ (IsAddress words.listen.now × (((f : Fault) × (s ≡ stop.Fault f) × (first_fault (named_site words.site) ≡ Some f))
     ⊎ ((first_fault (named_site words.site) ≡ None) × IsNotServedAt words s))))
 
--- why the program stopped early: clap's answer to its words, or why there was no rehearsal or no server
+-- The files that its words name were checked: `remaining` is what contracts see of a file, `contents` of a writer, and `before` what
+-- the writer held.
+abbrev pub IsCheckedAsAsked : {F W : Type 0} → (F → Option (List ℕ)) → (W → Option (List ℕ)) → Option (List ℕ) → CheckWords → CheckedFiles W → Type 0
+IsCheckedAsAsked remaining contents before words checked =
+    IsChecked remaining (texts words.files.items) before (contents checked.writer) checked.findings.items checked.cut
+
+-- why the program stopped early: clap's answer to its words, why there was no rehearsal or no server, or want of memory for a check
 abbrev pub IsStopped : List Text → Stop → Type 0
 IsStopped texts s = ((error : Error) × (s ≡ stop_for error)
     × (takes program_app texts ≡ true → (kind_of error ≡ OutOfMemory) ⊎ IsLacking (subcommand_of program_app texts)))
     ⊎ (((words : RehearseWords) × IsAsked (subcommand_of program_app texts) (Rehearse words)
     × ((f : Fault) × (s ≡ stop.Fault f) × IsNotRehearsed words f))
-    ⊎ ((words : ServeWords) × IsAsked (subcommand_of program_app texts) (Serve words) × IsNotServed words s))
+    ⊎ (((words : ServeWords) × IsAsked (subcommand_of program_app texts) (Serve words) × IsNotServed words s)
+    ⊎ ((words : CheckWords) × IsAsked (subcommand_of program_app texts) (Check words) × (s ≡ stop.Fault fault.Memory))))
 
--- What the program did is what its words ask for: `streams` is what contracts see of a reader and a writer, and `IsRun` says
--- which runs of a server its words ask for.
+-- What the program did is what its words ask for: `streams` is what contracts see of a reader and a writer, `IsRun` says which runs of
+-- a server its words ask for, and `IsCheck` which checks of files.
 module _ {R W : Type 0} where
-  abbrev pub IsDoneAsAsked : (R → W → Streams) → (ServeWords → ServedRun → Type 0) → List Text → Streams → Done R W → Type 0
-  IsDoneAsAsked streams IsRun texts old (Rehearsed it) =
+  abbrev pub IsDoneAsAsked : (R → W → Streams) → (ServeWords → ServedRun → Type 0) → (CheckWords → CheckedFiles W → Type 0) → List Text → Streams → Done R W → Type 0
+  IsDoneAsAsked streams IsRun IsCheck texts old (Rehearsed it) =
       (words : RehearseWords) × IsAsked (subcommand_of program_app texts) (Rehearse words)
       × IsRehearsedAsAsked words old (streams it.reader it.writer) it.ending
-  IsDoneAsAsked streams IsRun texts old (Served it) =
+  IsDoneAsAsked streams IsRun IsCheck texts old (Served it) =
       (words : ServeWords) × IsAsked (subcommand_of program_app texts) (Serve words) × IsRun words it
-  IsDoneAsAsked streams IsRun texts old (Stopped s) = IsStopped texts s
+  IsDoneAsAsked streams IsRun IsCheck texts old (Checked it) =
+      (words : CheckWords) × IsAsked (subcommand_of program_app texts) (Check words) × IsCheck words it
+  IsDoneAsAsked streams IsRun IsCheck texts old (Stopped s) = IsStopped texts s
 
-  -- the status of the program, and its lines on standard error: 0 only for what was done with no fault, and for help
+  -- the status of the program, and its lines on standard error: 0 only for what was done with no fault, sound files, and for help
   abbrev pub exit_status : Done R W → ℕ
   exit_status (Rehearsed it) = status_after (rehearsal_fault it.ending)
   exit_status (Served it) = status_after (server_fault it.ending)
+  exit_status (Checked it) = check_status it.findings.items it.cut
   exit_status (Stopped s) = stop_status s
 
   -- a server's mailboxes that are over their quota come before its fault
   abbrev pub exit_lines : Done R W → List ℕ
   exit_lines (Rehearsed it) = line_after (rehearsal_fault it.ending)
   exit_lines (Served it) = over_lines it ++ line_after (server_fault it.ending)
+  exit_lines (Checked it) = line_after (check_fault it.cut)
   exit_lines (Stopped s) = stop_line s

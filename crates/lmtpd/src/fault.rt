@@ -1,7 +1,8 @@
 //! What the program says on standard error, and the status that it then ends with.
 
 ghost use Rattle.std.specs.Prelude.{◌≡◌};
-ghost use Rattle.lmtpd.specs.Faults.{fault_text, house_refusal, refusal, rehearsal_fault, server_fault, status_of};
+ghost use Rattle.lmtpd.specs.Faults.{check_fault, fault_text, house_refusal, refusal, rehearsal_fault, server_fault};
+ghost use Rattle.lmtpd.specs.Faults.{status_of};
 
 use lmtp_text::SiteFault;
 use lmtpd_rehearse::{EndCause, Ending, HouseFault};
@@ -135,4 +136,11 @@ pub fn server_fault(ending: ServerEnding) -> Option<Fault>
     } else {
         None
     }
+}
+
+/// What a check of files lacks: a write that failed is a fault of a device.
+pub fn check_fault(cut: bool) -> Option<Fault>
+    ensures { result ≡ check_fault cut }
+{
+    if cut { Some(Fault::Device) } else { None }
 }

@@ -3,13 +3,15 @@
 ghost use Rattle.std.specs.Prelude.{◌≡◌};
 ghost use Rattle.lmtp_lane.specs.declared.tcp.listener.TimedListener.{TimedListener};
 ghost use Rattle.lmtpd_words.specs.Words.{as_texts};
-ghost use Rattle.lmtpd.specs.Program.{IsDoneAsAsked, IsServedAsAsked, exit_lines, exit_status};
+ghost use Rattle.lmtpd.specs.Program.{IsCheckedAsAsked, IsDoneAsAsked, IsServedAsAsked, exit_lines, exit_status};
 ghost use Rattle.lmtpd_rehearse.specs.Rehearsal.{IsListed};
 
+use crate::check::{check_asked, report_checked};
 use crate::fault::rehearsal_fault;
 use crate::rehearse::rehearse_asked;
 use crate::serve::{report_served, serve_asked};
 use crate::stop::{Exit, Stop, report_fault};
+use lmtpd_check::Checked;
 use lmtpd_rehearse::Rehearsed;
 use lmtpd_serve::Served;
 use lmtpd_words::{Words, read_words};
@@ -26,6 +28,7 @@ use std::time::Clock;
 pub enum Done<'a, R, W> {
     Rehearsed(Rehearsed<R, W>),
     Served(Served),
+    Checked(Checked<W>),
     /// It stopped before its work was done.
     Stopped(Stop<'a>),
 }
@@ -57,7 +60,8 @@ where
     W: Write + Drop + Send + 'static,
     E: Write,
     ensures done { IsDoneAsAsked (λ reader writer. record { unread = R.remaining reader; written = W.contents writer })
-        (IsServedAsAsked (TimedListener P.Listener) (⟦<FileSpool<P::File> as Spool>⟧.state)) (as_texts words.entry.now)
+        (IsServedAsAsked (TimedListener P.Listener) (⟦<FileSpool<P::File> as Spool>⟧.state))
+        (IsCheckedAsAsked P.File.remaining W.contents (W.contents writer)) (as_texts words.entry.now)
         (record { unread = R.remaining reader; written = W.contents writer }) result.done }
     ensures status { result.exit.status ≡ exit_status result.done }
     ensures lines { IsListed (exit_lines result.done) (E.contents error.old) (E.contents error.new) result.exit.cut }
@@ -84,7 +88,8 @@ where
     R: Read + Drop + Send + 'static,
     W: Write + Drop + Send + 'static,
     ensures { IsDoneAsAsked (λ reader writer. record { unread = R.remaining reader; written = W.contents writer })
-        (IsServedAsAsked (TimedListener P.Listener) (⟦<FileSpool<P::File> as Spool>⟧.state)) (as_texts words.entry.now)
+        (IsServedAsAsked (TimedListener P.Listener) (⟦<FileSpool<P::File> as Spool>⟧.state))
+        (IsCheckedAsAsked P.File.remaining W.contents (W.contents writer)) (as_texts words.entry.now)
         (record { unread = R.remaining reader; written = W.contents writer }) result }
 {
     match read_words(rt.alloc(), words) {
@@ -97,6 +102,10 @@ where
         Ok(Words::Serve(asked)) => match serve_asked(rt, threads, &asked, writer) {
             Ok(served) => Done::Served(served),
             Err(stop) => Done::Stopped(stop),
+        },
+        Ok(Words::Check(asked)) => match check_asked(rt, &asked, writer) {
+            Ok(checked) => Done::Checked(checked),
+            Err(fault) => Done::Stopped(Stop::Fault(fault)),
         },
         Err(refused) => Done::Stopped(Stop::from(refused)),
     }
@@ -113,6 +122,7 @@ where
     match done {
         Done::Rehearsed(rehearsed) => report_fault(rehearsal_fault(rehearsed.ending), error),
         Done::Served(served) => report_served(served, error),
+        Done::Checked(checked) => report_checked(checked, error),
         Done::Stopped(stop) => stop.report(rt, error),
     }
 }

@@ -1,7 +1,8 @@
-use Rattle.std.proofs.Common.{inl, inr, refl, subst}
+use Rattle.std.proofs.Common.{ap, inl, inr, refl, subst}
 use Rattle.clap.specs.Words.{subcommand_of}
 use Rattle.lmtpd_words.specs.CommandLine.{program_app}
 use Rattle.lmtpd_words.specs.Words.{IsAsked, as_texts}
+use Rattle.lmtpd.specs.declared.stop.Stop.TheVariants as stop
 use Rattle.lmtpd.proofs.program.do_asked.Goals as goal
 
 pub returns-in-Ok : goal.returns-in-Ok
@@ -22,4 +23,14 @@ returns-in-Ok-serve_asked g c =
 pub returns-in-Ok-Serve : goal.returns-in-Ok-Serve
 returns-in-Ok-Serve g c =
     let read = subst (λ w. IsAsked (subcommand_of program_app (as_texts c.args.words.now)) w) c.in-Ok-Serve.field-0-is c.in-Ok-Serve.ensures.read in
-    inr (inr (c.in-Ok-Serve.asked, read, c.in-Err-serve_asked.ensures))
+    inr (inr (inl (c.in-Ok-Serve.asked, read, c.in-Err-serve_asked.ensures)))
+
+pub returns-in-Ok-check_asked : goal.returns-in-Ok-check_asked
+returns-in-Ok-check_asked g c =
+    let read = subst (λ w. IsAsked (subcommand_of program_app (as_texts c.args.words.now)) w) c.in-Ok-Check.field-0-is c.in-Ok-Check.ensures.read in
+    (c.in-Ok-Check.asked, read, c.in-Ok-check_asked.ensures)
+
+pub returns-in-Ok-Check : goal.returns-in-Ok-Check
+returns-in-Ok-Check g c =
+    let read = subst (λ w. IsAsked (subcommand_of program_app (as_texts c.args.words.now)) w) c.in-Ok-Check.field-0-is c.in-Ok-Check.ensures.read in
+    inr (inr (inr (c.in-Ok-Check.asked, read, ap stop.Fault c.in-Err-check_asked.ensures)))
