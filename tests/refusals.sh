@@ -57,9 +57,14 @@ try 2 clap receive
 try 2 clap "${good[@]}" --shout anna
 try 2 clap "${good[@]}" --host mx.example anna
 try 2 clap "${good[@]}" $'\xff'
+try 2 clap check
+try 2 clap check --quota 1 anna.mbox
 try 0 none --help
 try 0 none help
 try 0 none rehearse --help
+try 0 none check --help
+try 0 none check /dev/null
+try 1 none check /nowhere/anna.mbox
 try 0 none "${good[@]}" anna
 try 0 none "${good[@]}" --quota 0 anna
 try 0 none "${good[@]}" --domains a.example,b.example anna ben

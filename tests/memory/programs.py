@@ -1,4 +1,4 @@
-"""Refuses each allocation and each thread of a rehearsal and of a server in turn, for tests/no_memory.sh."""
+"""Refuses each allocation and each thread of a rehearsal, of a server and of a check in turn, for tests/no_memory.sh."""
 
 import os
 import pathlib
@@ -91,6 +91,20 @@ def serve(refusing):
     return what
 
 
+def check(refusing):
+    with tempfile.TemporaryDirectory() as folder:
+        mailbox = pathlib.Path(folder, "anna.mbox")
+        mailbox.write_bytes(b"From a\n\n")
+        process = refusing.start(["check", str(mailbox), str(mailbox)])
+        output, errors = process.communicate(timeout=SECONDS)
+    ended, what = (process.returncode, output, errors), refusing.refused()
+    if is_refused(what, ended, refusing.is_all):
+        check_refused(what, ended, [b""])
+    elif ended != (0, f"{mailbox} letters 1\n".encode() * 2, b""):
+        raise Wrong(f"not refused: {ended!r:.300}")
+    return what
+
+
 def check_kept(errors, heard, files):
     """Nothing was taken; where a lane had started before a thread was refused, its clients are served: as many letters lie in
     the mailboxes as were told Stored."""
@@ -136,6 +150,7 @@ try:
     for is_all in [False, True]:
         in_turn("rehearse", rehearse, is_all)
         in_turn("serve", serve, is_all)
+        in_turn("check", check, is_all)
 except Wrong as wrong:
     print(f"FAILED: {wrong}")
     sys.exit(1)

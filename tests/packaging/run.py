@@ -51,7 +51,7 @@ def completed(line):
 
 
 def check_words():
-    for command, letter in [("serve", "s"), ("rehearse", "r")]:
+    for command, letter in [("serve", "s"), ("rehearse", "r"), ("check", "c")]:
         told, listed = help_of(command), options_of_page(letter)
         wanted = set(told) - {"--help"}
         assert set(listed) == wanted, (command, set(listed) ^ wanted)
@@ -63,7 +63,7 @@ def check_words():
         assert completed(f"lmtpd {command} --") == set(told), command
         synopsis = PAGE.split(f".Cm {command}\n")[1].split(".Nm")[0].split(".Sh")[0]
         assert set(re.findall(r"Fl -([a-z]+)", synopsis)) == {name[2:] for name in wanted}, command
-    assert completed("lmtpd ") == {"serve", "rehearse", "help", "--help"}
+    assert completed("lmtpd ") == {"serve", "rehearse", "check", "help", "--help"}
     assert completed("lmtpd s") == {"serve"}
 
 

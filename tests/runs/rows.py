@@ -1,4 +1,4 @@
-"""The worked examples, as runs of `lmtpd rehearse`: what goes in, and every byte that comes out.
+"""The worked examples, as runs of `lmtpd rehearse` and `lmtpd check`: what goes in, and every byte that comes out.
 
 What is expected is written out here by the rules of the standards and by hand; nothing is taken from the program."""
 
@@ -367,3 +367,65 @@ def smuggled():
     for end, text in texts_of.items():
         data = bytearray(b"a" + end + b"QUIT\r\nMAIL FROM:<eve@e.example>\r\n.\r\n")
         yield message(f"{end!r} ends no data", [data], b"a" + text + b"QUIT\nMAIL FROM:<eve@e.example>\n")
+
+
+@dataclass
+class Check:
+    """Files that are checked: the name of each, its bytes (none where it is missing) and what is said of it."""
+
+    name: str
+    files: list
+
+    def output(self):
+        return "".join(f"{name} {said}\n" for name, _, said in self.files).encode()
+
+    def status(self):
+        return 0 if all(said.startswith("letters ") for _, _, said in self.files) else 1
+
+
+def checks():
+    """A From line begins a letter at the front, and behind an empty line. Places count from 0: the first byte that no mailbox has
+    there, and at the end of the bytes the end itself."""
+    letter = record(HELLO_STORED)
+    rows = [
+        ("no bytes", b"", "letters 0"),
+        ("two letters", letter * 2, "letters 2"),
+        ("letters beyond a buffer", letter * 1_000, "letters 1000"),
+        ("a letter with no lines", b"From a\n\n", "letters 1"),
+        ("an empty line inside a letter", b"From a\n\n\nFrom b\n\n", "letters 2"),
+        ("lines that look like From lines", b"From a\n>From b\n>>From c\n\nFromage\nFrom\n\n", "letters 1"),
+        ("text that is no mailbox", b"hello\n", "no From line at 0"),
+        ("an empty line at the front", b"\n", "no From line at 0"),
+        ("a front of From", b"Fro", "no From line at 3"),
+        ("a frog", b"Frog\n\n", "no From line at 3"),
+        ("From with no space", b"From\n\n", "no From line at 4"),
+        ("a From line that breaks off", b"From a", "no empty line at 6"),
+        ("a From line alone", b"From a x\n", "no empty line at 9"),
+        ("a last line with no line feed", letter[:-2], "no empty line at 187"),
+        ("no empty line at the end", letter[:-1], "no empty line at 188"),
+        ("a second letter that breaks off", letter + letter[:-1], "no empty line at 377"),
+        ("a From line behind a line", b"From a\nb\nFrom c\n\n", "no empty line at 13"),
+        ("a From line behind a From line", b"From a\nFrom b\n\n", "no empty line at 11"),
+        ("bytes above 127, NUL and CR", b"From \xff\n\0\r\n\r\n\n", "letters 1"),
+    ]
+    for name, text, said in rows:
+        yield Check(name, [("anna.mbox", text, said)])
+    # a second From line around the end of what is read at once
+    for place in range(65_529, 65_539):
+        front = b"From a\n" + b"x" * (place - 9)
+        yield Check(f"an empty line, and a From line at {place}", [("a", front + b"\n\nFrom b\n\n", "letters 2")])
+        broken = front + b"x\nFrom b\n\n"
+        yield Check(f"a line, and a From line at {place}", [("a", broken, f"no empty line at {place + 4}")])
+    yield Check("a missing file", [("nobody.mbox", None, "cannot read")])
+    yield Check(
+        "several files, in the order of the words",
+        [
+            ("ben.mbox", letter, "letters 1"),
+            ("./anna.mbox", b"hello\n", "no From line at 0"),
+            ("carla mbox", letter[:-1], "no empty line at 188"),
+            ("nobody.mbox", None, "cannot read"),
+            ("ben.mbox", letter, "letters 1"),
+            ("dora", b"", "letters 0"),
+        ],
+    )
+    yield Check("more files than may be open at once", [("anna.mbox", letter, "letters 1")] * 40)

@@ -1,13 +1,15 @@
 """Plays the worked examples on the built program, for tests/runs.sh: whole at once, and in pieces."""
 
 import os
+import pathlib
+import resource
 import subprocess
 import sys
 import tempfile
 
 import rows
 
-LMTPD = os.environ["LMTPD"]
+LMTPD = os.path.abspath(os.environ["LMTPD"])
 SECONDS = 60  # that a run may take
 
 
@@ -52,6 +54,37 @@ def play_with_blocks(row, blocks):
     return ended.returncode, ended.stdout, ended.stderr, read
 
 
+def check(row, said=subprocess.PIPE):
+    """Checks the files of the row, in a folder of their own, with twenty open files at most."""
+    with tempfile.TemporaryDirectory() as folder:
+        for name, text, _ in row.files:
+            if text is not None:
+                pathlib.Path(folder, name).write_bytes(text)
+        ended = subprocess.run(
+            [LMTPD, "check", *(name for name, _, _ in row.files)],
+            cwd=folder,
+            stdout=said,
+            stderr=subprocess.PIPE,
+            preexec_fn=lambda: resource.setrlimit(resource.RLIMIT_NOFILE, (20, 20)),
+            timeout=SECONDS,
+        )
+        changed = [name for name, text, _ in row.files if text is not None and pathlib.Path(folder, name).read_bytes() != text]
+    assert not changed, changed
+    return ended.returncode, ended.stdout, ended.stderr
+
+
+def check_on_full(row):
+    """Standard output is a device that is full."""
+    with open("/dev/full", "wb", buffering=0) as full:
+        return check(row, full)
+
+
+def check_folder():
+    """A folder in place of a file."""
+    ended = subprocess.run([LMTPD, "check", "/"], capture_output=True, timeout=SECONDS)
+    return ended.returncode, ended.stdout, ended.stderr
+
+
 def tell(name, found, wanted):
     print(f"{'ok' if found == wanted else 'FAILED'}: {name}", flush=True)
     if found != wanted:
@@ -80,6 +113,10 @@ def verdicts():
     for blocks in [0, 65_537]:
         found = play_with_blocks(first, blocks)
         yield tell(f"{blocks} blocks: nothing is read or written", found, (1, b"", b"lmtpd: size\n", 0))
+    for row in rows.checks():
+        yield tell(f"check: {row.name}", check(row), (row.status(), row.output(), b""))
+        yield tell(f"check: {row.name}, standard output is full", check_on_full(row), (1, None, b"lmtpd: device fault\n"))
+    yield tell("check: a folder", check_folder(), (1, b"/ cannot read\n", b""))
 
 
 found = list(verdicts())
