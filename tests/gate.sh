@@ -42,7 +42,7 @@ play_others() {
     for script in tests/*.sh; do
         [ "$script" != tests/gate.sh ] && [ ! -e "$said/$(basename "$script").status" ] || continue
         while [ "$(jobs -rp | wc -l)" -ge "$room" ]; do wait -n; done
-        play "$script" 600 &
+        play "$script" 1800 &
     done
     wait
 }
@@ -63,8 +63,8 @@ count_all() {
     done
 }
 
-# How many checks go on side by side: one a core, where each has 5 GiB of memory. `rt ci` by itself reckons with far more than
-# a check takes, and so has the largest crates wait while cores are idle.
+# How many checks go on side by side: one a core, where each has 5 GiB of memory. `rt ci` by itself reckons with far
+# more than a check takes, and so has the largest crates wait while cores are idle.
 jobs_at_once() {
     local available cores
     available=$(awk '$1 == "MemAvailable:" { print int($2 / 5242880) }' /proc/meminfo)
