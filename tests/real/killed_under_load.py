@@ -16,7 +16,7 @@ ROUNDS = 100
 
 @case
 def killed_a_hundred_times(folder):
-    """SIGKILL a hundred times under load: each copy that was told 250 is whole in its mailbox, and read by both readers"""
+    """SIGKILL a hundred times under load: each copy that was told 250 is whole in its mailbox, for both readers"""
     chance = random.Random(1)
     told = {name: [] for name in BOXES}
     for number in range(ROUNDS):
