@@ -80,7 +80,8 @@ a_service_that_is_killed_begins_again.seconds = 180
 def machine(folder):
     """With the sources in place that `make install` wants, and the built program."""
     want_root()
-    program("postfix", "postfix")
+    for name in ["make", "postfix"]:
+        program(name, name)
     site = folder / "site"
     shutil.copytree(ROOT / "packaging", site / "packaging")
     shutil.copy(ROOT / "Makefile", site)
