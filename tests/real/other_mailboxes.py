@@ -54,8 +54,9 @@ def dovecot_quotes_nothing(folder):
     path = folder / "inbox"
     path.touch()
     with Dovecot(folder, path) as dovecot:
-        for name in ["one", "two"]:
-            dovecot.deliver(message(name, *MARKS))
+        dovecot.deliver(message("one", *MARKS))
+        with dovecot.login() as client:
+            client.append("INBOX", None, None, message("two", *MARKS))
         said = path.read_text()
         # of each letter two lines behind an empty one look like the next letter's first
         equal((said.count("\n\n" + "\n".join(LINES) + "\n\n"), checked(path)), (2, "letters 6"))

@@ -67,6 +67,10 @@ def a_service_that_is_killed_begins_again(folder):
         there.run("systemctl kill --signal=KILL lmtpd")
         wait_for_letter(there, "behind")
         assert time.monotonic() - begun > 4, "it didn't wait"
+        begun = time.monotonic()
+        equal(there.run("systemctl stop lmtpd"), (0, ""))
+        time.sleep(1)
+        equal((there.run("systemctl is-active lmtpd")[1], time.monotonic() - begun < 4), ("inactive\n", True))
         there.run("sed -i 's/^BOXES=.*/BOXES=anna anna/' /etc/lmtpd.conf; systemctl restart lmtpd")
         time.sleep(7)
         equal(there.run("systemctl is-failed lmtpd"), (0, "failed\n"))
@@ -74,6 +78,26 @@ def a_service_that_is_killed_begins_again(folder):
 
 
 a_service_that_is_killed_begins_again.seconds = 180
+
+
+@case
+def a_service_that_lacks_something(folder):
+    """systemd tries a server again each 5 s while its folder is away, and leaves it where /etc/lmtpd.conf is missing"""
+    with machine(folder) as there:
+        type_lines(there)
+        there.run("mv /var/mail/lmtpd /var/mail/away; systemctl restart lmtpd")
+        time.sleep(8)
+        equal((restarts(there) in [1, 2], restarts(there)), (True, restarts(there)))
+        equal("lmtpd: cannot open anna.mbox" in there.run("journalctl -u lmtpd --no-pager")[1], True)
+        there.run("mv /var/mail/away /var/mail/lmtpd")
+        wait_for_letter(there, "behind")
+        there.run("mv /etc/lmtpd.conf /root; systemctl restart lmtpd")
+        time.sleep(15)
+        equal(there.run("systemctl is-failed lmtpd"), (0, "failed\n"))
+        equal(there.run("mv /root/lmtpd.conf /etc; systemctl reset-failed lmtpd; systemctl start lmtpd"), (0, ""))
+
+
+a_service_that_lacks_something.seconds = 180
 
 
 @contextlib.contextmanager
