@@ -62,7 +62,10 @@ class Machine:
         self.nsenter = program("nsenter", "util-linux")
 
     def __enter__(self):
-        self.group.mkdir()
+        try:
+            self.group.mkdir()
+        except OSError as fault:
+            raise Absent(f"no control group can be made: {fault}") from fault
         given = [self.files, self.site, PATH, SYSTEMD]
         words = ["unshare", "--fork", "--kill-child", *APART, "sh", "-c", BEGIN, "sh", *given]
         enter = f'echo $$ > "{self.group}/cgroup.procs"; exec "$@"'
@@ -97,9 +100,12 @@ class Machine:
     def first(self):
         """The number that its first process has here, once that is systemd."""
         pid = self.process.pid
-        for child in pathlib.Path(f"/proc/{pid}/task/{pid}/children").read_text().split():
-            if pathlib.Path(f"/proc/{child}/comm").read_text() == "systemd\n":
-                return child
+        try:
+            for child in pathlib.Path(f"/proc/{pid}/task/{pid}/children").read_text().split():
+                if pathlib.Path(f"/proc/{child}/comm").read_text() == "systemd\n":
+                    return child
+        except OSError:  # it has ended meanwhile
+            pass
         return None
 
     def run(self, line, seconds=60):
