@@ -6,7 +6,7 @@ import subprocess
 
 from cases import Absent, case, equal
 from mail import equal_mailbox, message
-from packages import unpacked, want_root
+from packages import install, unpacked, want_root
 from server import Server
 
 CONFIGURATION = """
@@ -41,6 +41,7 @@ begin retry
 def exim_delivers(folder):
     """Exim by protocol = lmtp: 250 for one recipient, 550 for another, in its log too; the letter byte for byte"""
     want_root()
+    install("libidn12")  # the library of its that nothing else may have brought
     exim = next(unpacked("exim4-daemon-light", folder / "exim").glob("usr/sbin/exim*"), None)
     if exim is None:
         raise Absent("the package has no exim")

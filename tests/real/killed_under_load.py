@@ -1,5 +1,6 @@
 """The server is killed while several clients deliver."""
 
+import collections
 import random
 import threading
 import time
@@ -16,7 +17,7 @@ ROUNDS = 100
 
 @case
 def killed_a_hundred_times(folder):
-    """SIGKILL a hundred times under load: each copy that was told 250 is whole in its mailbox, and read by both readers"""
+    """SIGKILL a hundred times under load: each copy that was told 250 is whole in its mailbox, for both readers"""
     chance = random.Random(1)
     told = {name: [] for name in BOXES}
     for number in range(ROUNDS):
@@ -37,7 +38,8 @@ def killed_a_hundred_times(folder):
         texts = list(letters.by_git(server.mailbox(name)))
         equal(list(letters.by_python(server.mailbox(name))), texts)
         found = [text.partition(b" +0000\n")[2] for text in texts]
-        equal([one[:40] for one in told[name] if found.count(one) != 1], [])
+        times = collections.Counter(found)
+        equal([one[:40] for one in told[name] if times[one] != 1], [])
         equal((len(told[name]) > ROUNDS, found[-1]), (True, b"last\n"))
 
 

@@ -1,19 +1,14 @@
 """Other programs read the mailboxes that `lmtpd serve` wrote."""
 
-import imaplib
 import os
-import pathlib
 import re
-import shutil
-import socket
 import subprocess
-import time
 
 import letters
 from cases import Absent, case, equal
 from clients import deliver_one
-from packages import install, program, want_root
-from postfix import free_port
+from dovecot import Dovecot
+from packages import install, program
 from server import Server
 
 # What a reader may take for the start of a letter, or for its end.
@@ -89,87 +84,17 @@ def quote(text):
     return "'" + text.replace("'", "'\\''") + "'"
 
 
-DOVECOT = """
-base_dir = {folder}/run
-state_dir = {folder}/state
-log_path = {folder}/log
-protocols = imap
-listen = 127.0.0.1
-ssl = no
-disable_plaintext_auth = no
-mail_location = mbox:{folder}/home:INBOX={path}
-mbox_read_locks = fcntl
-mbox_write_locks = fcntl
-first_valid_uid = 0
-first_valid_gid = 0
-default_internal_user = dovecot
-default_login_user = dovenull
-service imap-login {{
-  inet_listener imap {{
-    address = 127.0.0.1
-    port = {port}
-  }}
-  inet_listener imaps {{
-    port = 0
-  }}
-}}
-service stats {{
-  unix_listener stats-writer {{
-    mode = 0666
-  }}
-}}
-passdb {{
-  driver = static
-  args = password=x
-}}
-userdb {{
-  driver = static
-  args = uid=mail gid=mail home={folder}/home
-}}
-namespace inbox {{
-  inbox = yes
-}}
-"""
-
-
 @case
 def dovecot_reads(folder):
     """Dovecot's IMAP over the same file finds as many letters, with the same subjects and bodies"""
-    want_root()
     path = filled(folder)
-    program("imap", "dovecot-imapd")
-    home = folder / "home"
-    home.mkdir()
-    folder.chmod(0o755)
-    for place in [home, path]:
-        shutil.chown(place, "mail", "mail")
-    port = free_port()
-    conf = folder / "dovecot.conf"
-    conf.write_text(DOVECOT.format(folder=folder, path=path, port=port))
-    server = subprocess.Popen([program("dovecot", "dovecot-core"), "-F", "-c", conf], stderr=subprocess.DEVNULL)
-    try:
-        wait_for(port, folder / "log")
-        with imaplib.IMAP4("127.0.0.1", port) as client:
-            client.login("anna", "x")
-            _, [count] = client.select("INBOX", readonly=True)
-            equal(int(count), COUNT)
-            for number, body in enumerate(BODIES):
-                _, [(_, found), _] = client.fetch(str(number + 1), "(BODY.PEEK[TEXT])")
-                # it shows the quoting that it doesn't undo
-                shown = re.sub(r"(?m)^(>*From )", r">\1", body)
-                equal((number, found.decode().rstrip("\r\n")), (number, shown))
-                _, [(_, head), _] = client.fetch(str(number + 1), "(BODY.PEEK[HEADER.FIELDS (SUBJECT)])")
-                equal(head.decode().strip(), f"Subject: letter {number}")
-    finally:
-        server.terminate()
-        server.wait(10)
-
-
-def wait_for(port, log):
-    until = time.monotonic() + 15
-    while time.monotonic() < until:
-        with socket.socket() as probe:
-            if probe.connect_ex(("127.0.0.1", port)) == 0:
-                return
-        time.sleep(0.1)
-    raise RuntimeError(pathlib.Path(log).read_text()[-500:])
+    with Dovecot(folder, path) as dovecot, dovecot.login() as client:
+        _, [count] = client.select("INBOX", readonly=True)
+        equal(int(count), COUNT)
+        for number, body in enumerate(BODIES):
+            _, [(_, found), _] = client.fetch(str(number + 1), "(BODY.PEEK[TEXT])")
+            # it shows the quoting that it doesn't undo
+            shown = re.sub(r"(?m)^(>*From )", r">\1", body)
+            equal((number, found.decode().rstrip("\r\n")), (number, shown))
+            _, [(_, head), _] = client.fetch(str(number + 1), "(BODY.PEEK[HEADER.FIELDS (SUBJECT)])")
+            equal(head.decode().strip(), f"Subject: letter {number}")

@@ -5,11 +5,13 @@ import sys
 import exim_delivers  # noqa: F401  (each adds its cases)
 import killed_under_load  # noqa: F401
 import odd_clients  # noqa: F401
+import other_mailboxes  # noqa: F401
 import postfix_delivers  # noqa: F401
 import power_cut  # noqa: F401
 import readers_agree  # noqa: F401
 import several_servers  # noqa: F401
 import soak  # noqa: F401
+import ten_lines  # noqa: F401
 from cases import run_all
 
 sys.exit(0 if run_all(sys.argv[1:]) else 1)

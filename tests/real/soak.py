@@ -1,4 +1,4 @@
-"""A million deliveries, and what the server's memory and descriptors come to meanwhile."""
+"""A million deliveries, and what the server's memory and descriptors come to meanwhile and behind them."""
 
 import os
 import pathlib
@@ -9,6 +9,7 @@ import time
 from typing import NamedTuple
 
 from cases import Absent, case, equal
+from clients import Client
 from server import Server
 
 RECIPIENTS = 4  # of each message: the mailboxes of its connection, which are those of no other
@@ -65,23 +66,42 @@ def soak(folder, work):
     load = compiled(folder)
     mailboxes = folder / "mailboxes"
     mailboxes.mkdir()
-    with Server(mailboxes, work.boxes, work.lanes * work.conversations, "--lanes", work.lanes) as server:
-        looks = watch(server.process.pid, deliver(load, server.text, work))
+    # a conversation more for each lane, so that the server is still there behind the load
+    conversations = work.lanes * (work.conversations + 1)
+    with Server(mailboxes, work.boxes, conversations, "--lanes", work.lanes) as server:
+        time.sleep(EVERY)  # its threads start behind the line that says that it listens
+        begun, pid = time.monotonic(), server.process.pid
+        before = Look(begun, pid)
+        looks = watch(begun, pid, deliver(load, server.text, work))
+        behind = look_behind(begun, pid, before)
+        say_goodbye(server.address, work.lanes)
         ended = server.end()
     equal((ended.status, ended.errors), (0, []))
     equal(ended.said, [f"{name} stored {work.stored}" for name in work.boxes])
+    equal_ids(mailboxes, work)
+    draw([*looks, behind], work)
+    judge(before, looks, behind, work)
+
+
+def equal_ids(mailboxes, work):
+    """Each mailbox has the ids of its connection's messages, each once and in order."""
     for number, name in enumerate(work.boxes):
         found = ID.findall((mailboxes / f"{name}.mbox").read_bytes())
         connection = b"%d" % (number // RECIPIENTS)
         equal(found, [(connection, b"%d" % message) for message in range(work.stored)])
-    settled = looks[len(looks) * SETTLED // 100 :]
-    memory = [look.memory for look in settled]
-    draw(looks, work)
-    print(f"{work.deliveries} deliveries in {looks[-1].seconds:.0f} s; resident {memory[0]} KiB, {max(memory)} at most")
-    assert max(memory) - memory[0] < work.leak, f"from {memory[0]} to {max(memory)} KiB"
+
+
+def judge(before, looks, behind, work):
+    """Neither memory nor descriptors grow with what is delivered, and no descriptor is left."""
+    settled = [*looks[len(looks) * SETTLED // 100 :], behind]
+    first, most = settled[0].memory, max(look.memory for look in settled)
+    print(f"{work.deliveries} deliveries in {behind.seconds:.0f} s; resident {first} KiB behind a tenth,", end=" ")
+    print(f"{behind.memory} at the end, {most} at most;", end=" ")
+    print(f"descriptors {before.descriptors} before, {behind.descriptors} behind")
+    assert most - first < work.leak, f"from {first} to {most} KiB"
     # one for each client, who comes and goes
-    most = max(look.descriptors for look in settled)
-    assert most <= min(look.descriptors for look in settled) + work.lanes, most
+    assert max(look.descriptors for look in looks) <= before.descriptors + work.lanes, "more than the clients'"
+    equal(behind.descriptors, before.descriptors)
 
 
 def compiled(folder):
@@ -107,17 +127,31 @@ class Look:
         self.descriptors = len(os.listdir(f"/proc/{pid}/fd"))
 
 
-def watch(pid, load):
+def watch(begun, pid, load):
     """Looks at the server until the load has ended, all of whose replies were those that are due."""
-    begun, looks = time.monotonic(), []
+    looks = []
     while load.poll() is None:
-        try:
-            looks.append(Look(begun, pid))
-        except (OSError, TypeError):  # it has ended
-            break
+        looks.append(Look(begun, pid))
         time.sleep(EVERY)
     equal(load.wait(), 0)
     return looks
+
+
+def look_behind(begun, pid, before):
+    """The look behind the last client, for whose connection to be closed it waits a while."""
+    until = time.monotonic() + 5
+    while True:
+        look = Look(begun, pid)
+        if look.descriptors == before.descriptors or time.monotonic() > until:
+            return look
+        time.sleep(0.1)
+
+
+def say_goodbye(address, count):
+    """So many conversations without a message."""
+    for _ in range(count):
+        with Client(address).greet() as client:
+            client.quit()
 
 
 def draw(looks, work):
@@ -134,7 +168,7 @@ def draw(looks, work):
     pathlib.Path(graphs, f"soak-{work.lanes}.svg").write_text(
         f'<svg xmlns="http://www.w3.org/2000/svg" width="{width}" height="{height}" font-family="sans-serif"'
         f' font-size="12">\n'
-        f"<title>Resident memory of lmtpd serve over {work.deliveries:,} deliveries</title>\n"
+        f"<title>Resident memory of lmtpd serve over {work.deliveries:,} deliveries, {work.lanes} lanes</title>\n"
         f'<rect width="100%" height="100%" fill="white"/>\n'
         f'<text x="40" y="20">{most:,} KiB at most</text>\n'
         f'<text x="{width - 90}" y="{height - 10}">{last:.0f} seconds</text>\n'
