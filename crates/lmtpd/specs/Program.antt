@@ -89,13 +89,13 @@ IsSizeAsked words =
     IsSize (named_site words.site) (sizes_asked words) words.lanes (length words.site.boxes.items) (length words.site.boxes.items)
 
 -- A server that its words asked for ran: where they say, at the site that they name, with their sizes, over a spool for each mailbox.
-pub record IsServedAsAsked (L : Type 0) {S : Type 0} (state : S → SpoolState) (words : ServeWords) (served : ServedRun) : Type 0 where
+pub record IsServedAsAsked (L G C : Type 0) {S : Type 0} (state : S → SpoolState) (words : ServeWords) (served : ServedRun) : Type 0 where
   pub address : IsAddress words.listen.now
   pub sound : first_fault (named_site words.site) ≡ None
   pub sizes : IsSizeAsked words
   pub spools : List S
   pub each_box : length spools ≡ length words.site.boxes.items
-  pub ran : IsServerRun L (named_site words.site) state (record { lanes = words.lanes; quota = words.quota }) spools served
+  pub ran : IsServerRun L G C (named_site words.site) state (record { lanes = words.lanes; quota = words.quota }) spools served
 
 -- why none ran though its site is sound: a mailbox's file, the listener, or the server
 abbrev pub IsNotServedAt : ServeWords → Stop → Type 0

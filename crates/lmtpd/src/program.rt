@@ -1,6 +1,9 @@
 //! What the program does with its words, the lines that it says on standard error, and its status.
 
 ghost use Rattle.std.specs.Prelude.{◌≡◌};
+ghost use Rattle.log.specs.declared.handle.Handle.{Handle};
+ghost use Rattle.log.specs.declared.handle.Root.{Root};
+ghost use Rattle.log.specs.declared.sink.Console.{Console};
 ghost use Rattle.lmtp_lane.specs.declared.tcp.listener.TimedListener.{TimedListener};
 ghost use Rattle.lmtpd_words.specs.Words.{as_texts};
 ghost use Rattle.lmtpd.specs.Program.{IsCheckedAsAsked, IsDoneAsAsked, IsServedAsAsked, exit_lines, exit_status};
@@ -12,9 +15,12 @@ use crate::rehearse::rehearse_asked;
 use crate::serve::{report_served, serve_asked};
 use crate::stop::{Exit, Stop, report_fault};
 use lmtpd_check::Checked;
+use lmtpd_log::LoggedMailbox;
 use lmtpd_rehearse::Rehearsed;
 use lmtpd_serve::Served;
 use lmtpd_words::{Words, read_words};
+use log::Logged;
+use log::sink::Console;
 use mbox_rd::{FileLock, FileSpool, Spool};
 use std::fs::Files;
 use std::io::{Read, Write};
@@ -55,12 +61,13 @@ where
     P::File: FileLock + Send + 'static,
     P::Listener: Send + Sync + 'static,
     P::Stream: Send + 'static,
-    H: Threads + Wait + Clock + Copy + Drop + Send + Sync + 'static,
+    H: Threads + Wait + Clock + Eprint + Copy + Drop + Send + Sync + 'static,
     R: Read + Drop + Send + 'static,
     W: Write + Drop + Send + 'static,
     E: Write,
     ensures done { IsDoneAsAsked (λ reader writer. record { unread = R.remaining reader; written = W.contents writer })
-        (IsServedAsAsked (TimedListener P.Listener) (⟦<FileSpool<P::File> as Spool>⟧.state))
+        (IsServedAsAsked (TimedListener P.Listener) (Handle H (Root (Console H))) H
+        (⟦<LoggedMailbox<FileSpool<P::File>, Logged<H, Console<H>>> as Spool>⟧.state))
         (IsCheckedAsAsked P.File.remaining W.contents (W.contents writer)) (as_texts words.entry.now)
         (record { unread = R.remaining reader; written = W.contents writer }) result.done }
     ensures status { result.exit.status ≡ exit_status result.done }
@@ -84,11 +91,12 @@ where
     P::File: FileLock + Send + 'static,
     P::Listener: Send + Sync + 'static,
     P::Stream: Send + 'static,
-    H: Threads + Wait + Clock + Copy + Drop + Send + Sync + 'static,
+    H: Threads + Wait + Clock + Eprint + Copy + Drop + Send + Sync + 'static,
     R: Read + Drop + Send + 'static,
     W: Write + Drop + Send + 'static,
     ensures { IsDoneAsAsked (λ reader writer. record { unread = R.remaining reader; written = W.contents writer })
-        (IsServedAsAsked (TimedListener P.Listener) (⟦<FileSpool<P::File> as Spool>⟧.state))
+        (IsServedAsAsked (TimedListener P.Listener) (Handle H (Root (Console H))) H
+        (⟦<LoggedMailbox<FileSpool<P::File>, Logged<H, Console<H>>> as Spool>⟧.state))
         (IsCheckedAsAsked P.File.remaining W.contents (W.contents writer)) (as_texts words.entry.now)
         (record { unread = R.remaining reader; written = W.contents writer }) result }
 {

@@ -10,7 +10,8 @@ use Rattle.mbox_rd.specs.Spool.{SpoolState}
 use Rattle.lmtp_threads.specs.declared.tally.Tally.{Tally}
 use Rattle.lmtp_house.specs.House.{HandedBack, HasRun}
 use Rattle.lmtp_lane.specs.TcpVisits.{conversations_ended, told_by, IsNewcomer, is_over}
-use Rattle.lmtp_lane.specs.declared.tcp.visits.TcpVisits.{TcpVisits}
+use Rattle.lmtpd_log.specs.Logged.{visits_in}
+use Rattle.lmtpd_log.specs.declared.visits.LoggedVisits.{LoggedVisits}
 use Rattle.lmtpd_output.specs.Output.{pair_texts}
 use Rattle.lmtpd_serve.specs.declared.served.Served.{Served}
 
@@ -41,14 +42,14 @@ pub record Extent : Type 0 where
   pub lanes : ℕ
   pub quota : Option ℕ
 
--- A server of this extent ran for the site, over clients of a listener, of whom it is told how many were handed back, and
+-- A server of this extent ran for the site, over clients of a listener whose conversations are logged, of whom it is told how many were handed back, and
 -- these spools; what is told of each mailbox is what its worker counted, and it is faulty exactly where a worker is.
-pub record IsServerRun (L : Type 0) {S : Type 0} (site : Site) (state : S → SpoolState) (extent : Extent) (spools : List S) (served : Served) : Type 0 where
-  pub visits : List (TcpVisits L)
-  pub back : HandedBack (TcpVisits L) S
+pub record IsServerRun (L G C : Type 0) {S : Type 0} (site : Site) (state : S → SpoolState) (extent : Extent) (spools : List S) (served : Served) : Type 0 where
+  pub visits : List (LoggedVisits L G C)
+  pub back : HandedBack (LoggedVisits L G C) S
   pub each_lane : length visits ≡ extent.lanes
-  pub none_ended : AllByRecursion (λ v. conversations_ended v ≡ 0) visits
-  pub ran : HasRun site (λ moment. moment < 2 ^ 32) (record { MayGive = λ _ peer. IsNewcomer peer; finished = told_by; over = is_over })
+  pub none_ended : AllByRecursion (λ v. conversations_ended (visits_in v) ≡ 0) visits
+  pub ran : HasRun site (λ moment. moment < 2 ^ 32) (record { MayGive = λ _ peer. IsNewcomer peer; finished = λ v. told_by (visits_in v); over = λ v. is_over (visits_in v) })
       state (record { visits = visits; spools = spools; quota = extent.quota }) back
   pub same_site : arc_value served.site ≡ site
   pub tallies : served.tallies.items ≡ back.tallies

@@ -1,10 +1,12 @@
 //! A server's run over a listener and spools, and what it says of it.
 #![tactic(auto)]
 
+mod conversations;
 mod lines;
 mod run;
 mod served;
 
+pub use conversations::Conversations;
 pub use lines::write_over_lines;
 pub use lmtp_house::{Sizes, Tally, TimedListener};
 pub use run::serve_run;

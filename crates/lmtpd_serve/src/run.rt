@@ -1,10 +1,14 @@
 //! A server's run, from the line that says where it listens to the lines that say what was stored.
 
-ghost use Rattle.std.specs.Prelude.{◌≡◌, ◌↔◌, ◌⊎◌, IfOk, Err, length};
+ghost use Rattle.std.specs.Prelude.{◌≡◌, ◌↔◌, ◌⊎◌, IfOk, Err, length, false};
+ghost use Rattle.std.specs.List.{AllByRecursion};
 ghost use Rattle.std.specs.Arc.{arc_value};
+ghost use Rattle.lmtp_lane.specs.TcpVisits.{conversations_ended, is_out};
 ghost use Rattle.lmtp_house.specs.House.{IsSize};
+ghost use Rattle.lmtpd_log.specs.Logged.{visits_in};
 ghost use Rattle.lmtpd_serve.specs.Served.{IsServerRun};
 
+use super::conversations::Conversations;
 use super::lines::{address_line, write_counts};
 use super::served::{Served, ServerEnding};
 use box_worker::OpenGate;
@@ -12,7 +16,9 @@ use lmtp_house::{
     HouseFault, Sizes, SystemClock, Tally, has_failed, is_size, run_house, tcp_visits,
 };
 use lmtp_text::Site;
+use lmtpd_log::{CountedListener, LoggedVisits, logged_visits};
 use lmtpd_output::write_bytes;
+use log::Log;
 use mbox_rd::Spool;
 use std::alloc::{AllocError, Global};
 use std::io::{Read, Write};
@@ -22,41 +28,42 @@ use std::thread::Threads;
 use std::time::Clock;
 
 /// Says where the server listens, runs it for that many conversations, which the lanes share, and says for each mailbox
-/// how many copies it stored. A conversation is stopped after so many reads. Nothing more is said once a write failed;
-/// the server runs all the same, as it does where the listener can't tell its address. What each mailbox's worker did
-/// is handed back.
-pub fn serve_run<L, S, W, H>(
+/// how many copies it stored. A line is logged for each conversation that ended. Nothing more is said once a write
+/// failed; the server runs all the same, as it does where the listener can't tell its address. What each mailbox's
+/// worker did is handed back.
+pub fn serve_run<L, S, G, W, H>(
     rt: H,
     alloc: Global,
     site: Arc<Site>,
     sizes: Sizes,
-    lanes: u32,
-    connections: u64,
-    reads: u64,
+    conversations: Conversations,
     listener: L,
     spools: Vec<S>,
+    log: G,
     mut writer: W,
 ) -> Result<Served, HouseFault>
 where
     L: OpenListener + Drop + Send + Sync + 'static,
     L::Stream: Read + Write + OpenStream + Drop + Send + 'static,
     S: Spool + Drop + Send + 'static,
+    G: Log + Copy + Drop + Send + 'static,
     W: Write + Drop,
     H: Threads + Wait + Clock + Copy + Drop + Send + Sync + 'static,
     ensures size { let count = length spools.items in
-        result ≡ Err HouseFault.Size ↔ ¬ IsSize (arc_value site) sizes lanes count count }
+        result ≡ Err HouseFault.Size ↔ ¬ IsSize (arc_value site) sizes conversations.lanes count count }
     ensures sized { let count = length spools.items in
-        (result ≡ Err HouseFault.Size) ⊎ IsSize (arc_value site) sizes lanes count count }
-    ensures ran { IfOk result (IsServerRun L (arc_value site) S.state
-        (record { lanes = lanes; quota = sizes.quota }) spools.items) }
+        (result ≡ Err HouseFault.Size) ⊎ IsSize (arc_value site) sizes conversations.lanes count count }
+    ensures ran { IfOk result (IsServerRun L G H (arc_value site) S.state
+        (record { lanes = conversations.lanes; quota = sizes.quota }) spools.items) }
 {
-    if !is_size(&site, sizes, lanes as usize, spools.len(), spools.len()) {
+    let lanes = conversations.lanes as usize;
+    if !is_size(&site, sizes, lanes, spools.len(), spools.len()) {
         return Err(HouseFault::Size);
     }
     let served_site = Arc::try_clone(&site)?;
     let gates = vec![in alloc; OpenGate; spools.len()]?;
     let announced = announce(alloc, &listener, &mut writer)?;
-    let visits = tcp_visits(alloc, listener, lanes, connections, reads)?;
+    let visits = visits_of(rt, alloc, conversations, listener, log)?;
     let clock = SystemClock::new(rt);
     let report = match run_house(rt, alloc, site, sizes, visits, spools, gates, clock) {
         Ok(report) => report,
@@ -72,6 +79,29 @@ where
         site: served_site,
         tallies: report.tallies,
     })
+}
+
+// The clients of all lanes.
+fn visits_of<L: Drop, G: Copy + Drop, H: Copy + Drop>(
+    rt: H,
+    alloc: Global,
+    conversations: Conversations,
+    listener: L,
+    log: G,
+) -> Result<Vec<LoggedVisits<L, G, H>>, AllocError>
+    ensures each_lane { IfOk result (λ visits. length visits.items ≡ conversations.lanes) }
+    ensures none_ended { IfOk result
+        (λ visits. AllByRecursion (λ v. conversations_ended (visits_in v) ≡ 0) visits.items) }
+    ensures none_out { IfOk result (λ visits. AllByRecursion (λ v. is_out (visits_in v) ≡ false) visits.items) }
+{
+    let Conversations {
+        lanes,
+        count,
+        reads,
+    } = conversations;
+    let listener = CountedListener::new(listener, rt);
+    let visits = tcp_visits(alloc, listener, lanes, count, reads)?;
+    logged_visits(alloc, visits, log, rt)
 }
 
 /// How it went to say where the server listens.

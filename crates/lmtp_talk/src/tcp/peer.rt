@@ -45,6 +45,13 @@ impl<T> TcpPeer<T> {
         }
     }
 
+    /// The stream that its bytes come and go over.
+    pub fn stream(&self) -> &T
+        ensures { result.now ≡ self.now.stream }
+    {
+        &self.stream
+    }
+
     // Counts a stop.
     fn stop(&mut self) -> Came
         ensures came { result ≡ Came.Stop }

@@ -1,6 +1,9 @@
 //! The server that the program's words ask for.
 
 ghost use Rattle.std.specs.Prelude.{◌≡◌, MatchResult};
+ghost use Rattle.log.specs.declared.handle.Handle.{Handle};
+ghost use Rattle.log.specs.declared.handle.Root.{Root};
+ghost use Rattle.log.specs.declared.sink.Console.{Console};
 ghost use Rattle.lmtp_lane.specs.declared.tcp.listener.TimedListener.{TimedListener};
 ghost use Rattle.lmtpd.specs.Program.{IsNotServed, IsServedAsAsked, sizes_asked};
 
@@ -9,8 +12,11 @@ use super::mailboxes::open_mailboxes;
 use crate::fault::Fault;
 use crate::site::shared_site;
 use crate::stop::Stop;
-use lmtpd_serve::{Served, Sizes, TimedListener, serve_run};
+use lmtpd_log::LoggedMailbox;
+use lmtpd_serve::{Conversations, Served, Sizes, TimedListener, serve_run};
 use lmtpd_words::ServeWords;
+use log::Logged;
+use log::sink::Console;
 use mbox_rd::{FileLock, FileSpool, Spool};
 use std::fs::{Files, OpenOptions};
 use std::io::Write;
@@ -31,10 +37,11 @@ where
     P::File: FileLock + Send + 'static,
     P::Listener: Send + Sync + 'static,
     P::Stream: Send + 'static,
-    H: Threads + Wait + Clock + Copy + Drop + Send + Sync + 'static,
+    H: Threads + Wait + Clock + Eprint + Copy + Drop + Send + Sync + 'static,
     W: Write + Drop,
     ensures { MatchResult result
-        (IsServedAsAsked (TimedListener P.Listener) (⟦<FileSpool<P::File> as Spool>⟧.state) words.now)
+        (IsServedAsAsked (TimedListener P.Listener) (Handle H (Root (Console H))) H
+        (⟦<LoggedMailbox<FileSpool<P::File>, Logged<H, Console<H>>> as Spool>⟧.state) words.now)
         (IsNotServed words.now) }
 {
     let _input = null(rt);
@@ -55,16 +62,18 @@ where
     P::File: FileLock + Send + 'static,
     P::Listener: Send + Sync + 'static,
     P::Stream: Send + 'static,
-    H: Threads + Wait + Clock + Copy + Drop + Send + Sync + 'static,
+    H: Threads + Wait + Clock + Eprint + Copy + Drop + Send + Sync + 'static,
     W: Write + Drop,
     ensures { MatchResult result
-        (IsServedAsAsked (TimedListener P.Listener) (⟦<FileSpool<P::File> as Spool>⟧.state) words.now)
+        (IsServedAsAsked (TimedListener P.Listener) (Handle H (Root (Console H))) H
+        (⟦<LoggedMailbox<FileSpool<P::File>, Logged<H, Console<H>>> as Spool>⟧.state) words.now)
         (IsNotServed words.now) }
 {
     let alloc = rt.alloc();
     let address = address_of(words.listen)?;
     let site = shared_site(alloc, &words.site)?;
-    let spools = open_mailboxes(rt, alloc, words.dir, &words.site.boxes)?;
+    let log = Logged::new(threads, words.log, Console(threads));
+    let spools = open_mailboxes(rt, alloc, words.dir, &words.site.boxes, log)?;
     let Ok(listener) = TcpListener::bind(rt, address) else {
         return Err(Stop::Fault(Fault::Listen));
     };
@@ -73,11 +82,10 @@ where
         alloc,
         site,
         sizes_asked(words),
-        words.lanes,
-        u64::from(words.connections),
-        u64::from(words.reads),
+        conversations_asked(words),
         TimedListener::new(listener, words.timeout),
         spools,
+        log,
         writer,
     ) {
         Ok(served) => Ok(served),
@@ -93,6 +101,16 @@ fn null<P: Files>(rt: &P) -> Option<P::File> {
         .write(true)
         .open(rt, "/dev/null")
         .ok()
+}
+
+fn conversations_asked(words: &ServeWords<'_>) -> Conversations
+    ensures { result ≡ record { lanes = words.now.lanes; count = words.now.connections; reads = words.now.reads } }
+{
+    Conversations {
+        lanes: words.lanes,
+        count: u64::from(words.connections),
+        reads: u64::from(words.reads),
+    }
 }
 
 // A slot for each lane.

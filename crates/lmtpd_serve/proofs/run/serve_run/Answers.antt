@@ -11,7 +11,7 @@ returns-clause-ran g c = record {
     conversations = c.in-Ok.report.conversations.items;
     tallies = c.in-Ok.report.tallies.items;
   };
-  each_lane = c.in_ok-visits.ensures.count;
+  each_lane = c.in_ok-visits.ensures.each_lane;
   none_ended = c.in_ok-visits.ensures.none_ended;
   ran = c.in-Ok.ensures.ran;
   same_site = search rules;

@@ -7,7 +7,7 @@ use Rattle.lmtpd.proofs.serve.asked.serve_held.Goals as goal
 
 pub returns-in-Ok-serve_run : goal.returns-in-Ok-serve_run
 returns-in-Ok-serve_run g c =
-    served_as_asked _ _ c.args.words.now c.in-Ok-serve_run.served (arc_value c.in_ok-site.site) c.sizes_asked.result c.in_ok-spools.spools.items
+    served_as_asked _ _ _ _ c.args.words.now c.in-Ok-serve_run.served (arc_value c.in_ok-site.site) c.sizes_asked.result c.in_ok-spools.spools.items
     (c.in_ok-address.address, c.in_ok-address.ensures.0, c.in_ok-address.ensures.1) c.in_ok-site.ensures c.sizes_asked.ensures (sym c.in_ok-spools.spools.ok.0 ∙ c.in_ok-spools.ensures.count ∙ ap length c.deref.ensures.value)
     c.in-Ok-serve_run.ensures.sized c.in-Ok-serve_run.ensures.ran
 
