@@ -1,6 +1,6 @@
 //! A lane's clients, of whom each conversation that ended is logged.
 
-ghost use Rattle.std.specs.Prelude.{◌≡◌, map, codes, IfOk, true, false};
+ghost use Rattle.std.specs.Prelude.{◌≡◌, map, IfOk};
 ghost use Rattle.lmtpd_log.specs.Logged.{cause_text, visits_in};
 
 use crate::listener::CountedListener;
@@ -125,16 +125,12 @@ where
 
     ghost over = { λ visits. is_over (visits_in visits) };
 
-    fn next<R: Wait>(&mut self, rt: &R) -> Option<TcpPeer<CountedStream<L::Stream>>>
-        requires { is_out (visits_in self.old) ≡ false }
-    {
+    fn next<R: Wait>(&mut self, rt: &R) -> Option<TcpPeer<CountedStream<L::Stream>>> {
         self.visits.next(rt)
     }
 
     /// The connection is closed before the line is logged.
-    fn done(&mut self, peer: TcpPeer<CountedStream<L::Stream>>, end: EndCause)
-        requires { is_out (visits_in self.old) ≡ true }
-    {
+    fn done(&mut self, peer: TcpPeer<CountedStream<L::Stream>>, end: EndCause) {
         let traffic = peer.stream().traffic();
         self.visits.done(peer, end);
         self.tell(traffic, end);
