@@ -9,7 +9,7 @@ wanted=$(grep -rhE '^[[:space:]]*#\[test\]' tests/calls/src | wc -l)
 crates=$(grep -oE '^[a-z0-9_]+' crates.txt | grep -vx lmtpd | tr '\n' ' ')
 # shellcheck disable=SC2086
 copy_crates sources $crates
-add_crate calls tests/calls "$crates"
+add_crate calls tests/calls "$crates log"
 
 status=0
 rt try --test --seconds 2000 ${1:+-- "$1"} 2>&1 | tee "$folder/said" || status=$?

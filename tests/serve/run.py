@@ -7,6 +7,7 @@ import deliveries  # noqa: F401
 import failing  # noqa: F401
 import files  # noqa: F401
 import largest  # noqa: F401
+import logs  # noqa: F401
 import refusals  # noqa: F401
 from cases import run_all
 

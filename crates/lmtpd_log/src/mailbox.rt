@@ -1,6 +1,6 @@
 //! A mailbox of which it is logged once that it failed.
 
-ghost use Rattle.std.specs.Prelude.{◌≡◌};
+ghost use Rattle.std.specs.Prelude.{◌≡◌, false};
 ghost use Rattle.lmtpd_log.specs.Logged.{spool_in};
 
 use log::{Log, error};
@@ -20,6 +20,7 @@ impl<S, G> LoggedMailbox<S, G> {
     pub fn new(spool: S, name: String, log: G) -> LoggedMailbox<S, G>
         ensures over { spool_in result ≡ spool }
         ensures name { result.name ≡ name }
+        ensures none { result.has_failed ≡ false }
     {
         LoggedMailbox {
             spool,

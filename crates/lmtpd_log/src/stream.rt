@@ -67,7 +67,8 @@ impl<T: Read> Read for CountedStream<T> {
         ensures same { self.new.traffic ≡ record self.old.traffic { read = self.new.traffic.read } }
     {
         let size = self.stream.read(buffer)?;
-        self.traffic.read = self.traffic.read.saturating_add(size as u64);
+        let traffic = &mut self.traffic;
+        traffic.read = traffic.read.saturating_add(size as u64);
         Ok(size)
     }
 }
@@ -85,7 +86,8 @@ impl<T: Write> Write for CountedStream<T> {
         ensures same { self.new.traffic ≡ record self.old.traffic { written = self.new.traffic.written } }
     {
         let size = self.stream.write(bytes)?;
-        self.traffic.written = self.traffic.written.saturating_add(size as u64);
+        let traffic = &mut self.traffic;
+        traffic.written = traffic.written.saturating_add(size as u64);
         Ok(size)
     }
 

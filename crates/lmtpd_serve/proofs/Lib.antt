@@ -1,1 +1,2 @@
 mod OverLines
+mod Unmapped

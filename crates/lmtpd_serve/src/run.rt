@@ -101,7 +101,8 @@ fn visits_of<L: Drop, G: Copy + Drop, H: Copy + Drop>(
     } = conversations;
     let listener = CountedListener::new(listener, rt);
     let visits = tcp_visits(alloc, listener, lanes, count, reads)?;
-    logged_visits(alloc, visits, log, rt)
+    let logged = logged_visits(alloc, visits, log, rt)?;
+    Ok(logged)
 }
 
 /// How it went to say where the server listens.

@@ -95,7 +95,6 @@ fn serve_words<'a>(
         capacity: number_or(matches, "capacity", DEFAULT_CAPACITY),
         reads: number_or(matches, "reads", DEFAULT_READS),
         timeout: number_or(matches, "timeout", DEFAULT_TIMEOUT),
-        log: log::LevelFilter::Info,
         quota: quota_of(matches),
     }))
 }

@@ -1,7 +1,5 @@
 //! What the words ask for, and the numbers where they name none.
 
-use log::LevelFilter;
-
 /// The blocks for messages on their way where the words name no number of them.
 pub const DEFAULT_BLOCKS: u32 = 1_024;
 
@@ -57,8 +55,6 @@ pub struct ServeWords<'a> {
     pub reads: u32,
     /// The seconds that a client may be silent.
     pub timeout: u32,
-    /// What is logged.
-    pub log: LevelFilter,
     /// The bytes that a mailbox may hold, if there is a limit.
     pub quota: Option<u64>,
 }

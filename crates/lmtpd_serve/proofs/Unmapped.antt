@@ -1,0 +1,7 @@
+-- What holds of each that was made of an element holds of each element.
+use Rattle.std.proofs.Common.{List, [], ◌∷◌, map}
+use Rattle.std.specs.List.{AllByRecursion}
+
+pub all_unmapped : {A B : Type 0} (P : B → Type 0) (f : A → B) (xs : List A) → AllByRecursion P (map f xs) → AllByRecursion (λ x. P (f x)) xs
+all_unmapped P f [] h = tt
+all_unmapped P f (x ∷ xs) h = (h.0, all_unmapped P f xs h.1)

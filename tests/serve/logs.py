@@ -1,0 +1,154 @@
+"""What the server logs on standard error."""
+
+import re
+
+import failing
+from cases import case, equal
+from clients import Client, deliver_one
+from server import Server, run, words
+
+LINE = re.compile(
+    r"\[INFO  lmtpd\] conversation ended lane=(\d+) client=(\S+) cause=(\S+) read=(\d+) written=(\d+) seconds=(\d+\.\d{3})"
+)
+LETTER = ["Subject: a secret", "", "hello"]
+# what the client of `deliver_one` says and hears
+SAID = (
+    "LHLO relay.example\r\nMAIL FROM:<carl@a.example>\r\nRCPT TO:<anna@mx.example>\r\nDATA\r\n"
+    "Subject: a secret\r\n\r\nhello\r\n.\r\nQUIT\r\n"
+)
+HEARD = (
+    "220 mx.example LMTP ready\r\n250-mx.example\r\n250-PIPELINING\r\n250-ENHANCEDSTATUSCODES\r\n250-8BITMIME\r\n"
+    "250 SIZE 1048576\r\n250 2.1.0 Sender ok\r\n250 2.1.5 Recipient ok\r\n354 End with a lone dot\r\n"
+    "250 2.0.0 Stored for anna\r\n221 2.0.0 mx.example closing\r\n"
+)
+
+
+def conversation(line):
+    """Lane, client, cause, bytes read and written, and seconds, of a line of the log."""
+    found = LINE.fullmatch(line)
+    assert found, line
+    lane, client, cause, read, written, seconds = found.groups()
+    return int(lane), client, cause, int(read), int(written), float(seconds)
+
+
+def one_conversation(folder, hold, *more, listen="127.0.0.1:0"):
+    """What is logged of a conversation that the client holds so, on one lane."""
+    with Server(folder, ["anna"], 1, "--lanes", 1, "--log", "info", *more, listen=listen) as server:
+        hold(server.address)
+        ended = server.end()
+    equal((ended.status, len(ended.errors)), (0, 1))
+    return conversation(ended.errors[0])
+
+
+@case
+def nothing_is_logged_unless_asked(folder):
+    """without --log, with off and with error nothing is logged of a conversation"""
+    for more in [], ["--log", "off"], ["--log", "error"]:
+        with Server(folder, ["anna"], 1, *more) as server:
+            deliver_one(server.address, ["anna"], *LETTER)
+            equal(server.end().errors, [])
+
+
+@case
+def conversations_are_logged(folder):
+    """a conversation that ended is logged with its lane, client, cause and bytes, and with no address and no subject"""
+    logged = one_conversation(folder, lambda address: deliver_one(address, ["anna"], *LETTER))
+    equal(logged[:5], (0, "127.0.0.1", "quit", len(SAID), len(HEARD)))
+    assert 0 <= logged[5] < 5, logged
+
+
+@case
+def clients_of_the_other_version(folder):
+    """a client over IPv6 is logged by its address"""
+    logged = one_conversation(folder, lambda address: deliver_one(address, ["anna"], *LETTER), listen="[::1]:0")
+    equal(logged[1], "::1")
+
+
+@case
+def each_lane_logs(folder):
+    """two conversations at once are logged with the numbers of their lanes, and each once"""
+    with Server(folder, ["anna"], 2, "--lanes", 2, "--log", "info") as server:
+        with Client(server.address).greet() as one, Client(server.address).greet() as other:
+            other.quit()
+            one.quit()
+        ended = server.end()
+    equal(sorted(conversation(line)[0] for line in ended.errors), [0, 1])
+
+
+@case
+def an_end_of_input_is_logged(folder):
+    """a client that goes away in mid-message is logged as end-of-input"""
+
+    def leave(address):
+        with Client(address).greet() as client:
+            client.start_message("anna", "half a line")
+
+    equal(one_conversation(folder, leave)[2], "end-of-input")
+
+
+@case
+def a_fault_is_logged(folder):
+    """a client that resets the connection is logged as read-fault or write-fault"""
+
+    def reset(address):
+        client = Client(address).greet()
+        client.start_message("anna", "half a line")
+        client.reset()
+
+    cause = one_conversation(folder, reset)[2]
+    assert cause in ["read-fault", "write-fault"], cause
+
+
+@case
+def a_silent_client_is_logged(folder):
+    """a client that says nothing for its time is logged as stopped, with that time"""
+
+    def be_silent(address):
+        with Client(address).greet() as client:
+            assert client.hear().startswith("421 ")
+
+    logged = one_conversation(folder, be_silent, "--timeout", 1)
+    equal(logged[2], "stopped")
+    assert 1 <= logged[5] < 10, logged
+
+
+@case
+def too_many_reads_are_logged(folder):
+    """a client that was read as often as it may be is logged as read-bound or stopped"""
+
+    def talk(address):
+        with Client(address).greet() as client:
+            assert client.ask("NOOP").startswith("250 ")
+            client.send("NOOP")
+            client.hear()
+
+    cause = one_conversation(folder, talk, "--reads", 2)[2]
+    assert cause in ["read-bound", "stopped"], cause
+
+
+@case
+def a_mailbox_that_fails_is_logged_once(folder):
+    """a mailbox that fails is logged once, at error and at info"""
+    library = failing.built(folder)
+    for level, conversations in ("error", 0), ("info", 2):
+        place = folder / level
+        place.mkdir()
+        given = {"LD_PRELOAD": library, "FAIL_FILE": "/anna.mbox", "FAIL_CALL": 12, "FAIL_ALL": 1}
+        with failing.environment({name: str(value) for name, value in given.items()}):
+            server = Server(place, ["anna", "ben"], 2, "--lanes", 1, "--log", level)
+        with server:
+            answers = [deliver_one(server.address, ["anna", "ben"], *LETTER) for _ in range(2)]
+            ended = server.end()
+        assert answers[1] == ["451 4.3.0 Not stored for anna", "250 2.0.0 Stored for ben"], answers
+        equal(ended.errors.count("[ERROR lmtpd] mailbox failed mailbox=anna"), 1)
+        equal(ended.errors[-1], "lmtpd: device fault")
+        equal(len(ended.errors), 2 + conversations)
+
+
+@case
+def other_levels_are_refused(folder):
+    """a level that isn't off, error or info is refused, and nothing is opened"""
+    for level in ["", "warn", "debug", "trace", "on", "1"]:
+        ended = run(words(folder, ["anna"], 1, "--log", level))
+        equal((ended.status, ended.said), (2, []))
+    equal(list(folder.iterdir()), [])
