@@ -22,7 +22,7 @@ pub fn read_words<'a>(alloc: Global, words: &'a [String]) -> Result<Words<'a>, E
 {
     match called(alloc, words)? {
         Some(read) => Ok(read),
-        None => Err(missing(alloc)?),
+        None => Err(unusable(alloc)?),
     }
 }
 
@@ -38,10 +38,14 @@ fn called<'a>(alloc: Global, words: &'a [String]) -> Result<Option<Words<'a>>, E
     Ok(read)
 }
 
-fn missing(alloc: Global) -> Result<Error, AllocError>
-    ensures { IfOk result (λ e. kind_of e ≡ ErrorKind.MissingRequiredArgument) }
+// The error for a call that clap takes and that lacks something still: of all values clap leaves the level alone to us.
+fn unusable(alloc: Global) -> Result<Error, AllocError>
+    ensures { IfOk result (λ e. kind_of e ≡ ErrorKind.InvalidValue) }
 {
-    program(alloc)?.error(ErrorKind::MissingRequiredArgument, "a word is missing")
+    program(alloc)?.error(
+        ErrorKind::InvalidValue,
+        "invalid value for '--log <LEVEL>': it is off, error or info",
+    )
 }
 
 /// The error for words that aren't UTF-8.
