@@ -1,7 +1,14 @@
-//! The version, and what help says behind the words: examples, and what each exit status means.
+//! The version, the errors that `clap` leaves to us, and what help says behind the words: examples, and what each exit
+//! status means.
 
 /// The program's version, and the toolchain that proves it, as `rt version` names it.
 pub const VERSION: &str = "0.1.0 (rattle-kit-13b, logic dac8208d650f15bf)";
+
+/// The error for a level that is none.
+pub const BAD_LEVEL: &str = "invalid value for '--log <LEVEL>': it is off, error or info";
+
+/// The error for words that aren't UTF-8.
+pub const BAD_TEXT: &str = "invalid UTF-8 was detected in one or more arguments";
 
 /// Behind the subcommands.
 pub const BEHIND_PROGRAM: &str = "\
