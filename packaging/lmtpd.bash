@@ -1,14 +1,16 @@
 # What bash completes of the words of lmtpd.
 _lmtpd() {
     local serve rehearse check word=${COMP_WORDS[COMP_CWORD]} before=${COMP_WORDS[COMP_CWORD - 1]}
-    serve='--host --listen --dir --connections --domains --lanes --blocks --capacity --reads --timeout --quota --help'
+    serve='--host --listen --dir --connections --domains --lanes --blocks --capacity --reads --timeout --log --quota --help'
     rehearse='--host --time --domains --blocks --quota --help'
     check='--help'
     COMPREPLY=()
     if [ "$before" = --dir ]; then
         compopt -o dirnames
+    elif [ "$before" = --log ]; then
+        mapfile -t COMPREPLY < <(compgen -W 'off error info' -- "$word")
     elif [ "$COMP_CWORD" = 1 ]; then
-        mapfile -t COMPREPLY < <(compgen -W 'serve rehearse check help --help' -- "$word")
+        mapfile -t COMPREPLY < <(compgen -W 'serve rehearse check help --help --version' -- "$word")
     elif [[ $word = -* ]]; then
         case ${COMP_WORDS[1]} in
         serve) mapfile -t COMPREPLY < <(compgen -W "$serve" -- "$word") ;;

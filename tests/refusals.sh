@@ -59,10 +59,17 @@ try 2 clap "${good[@]}" --host mx.example anna
 try 2 clap "${good[@]}" $'\xff'
 try 2 clap check
 try 2 clap check --quota 1 anna.mbox
+try 2 clap "${good[@]}" --log info anna
+try 2 clap check --log info anna.mbox
+try 2 clap rehearse --version
 try 0 none --help
+try 0 none --version
+try 0 none -V
 try 0 none help
 try 0 none rehearse --help
+try 0 none serve --help
 try 0 none check --help
+try 0 none help serve
 try 0 none check /dev/null
 try 1 none check /nowhere/anna.mbox
 try 0 none "${good[@]}" anna

@@ -28,10 +28,13 @@ def said_by(*words, **more):
 
 
 def help_of(command):
-    """By option the text that the help has behind it."""
-    status, said = said_by(LMTPD, command, "--help")
+    """By option the text that the help has behind it. It has examples and the three statuses too."""
+    status, said = said_by(LMTPD, *command.split(), "--help")
     assert status == 0, said
-    found = re.findall(r"^ +(?:-h, )?(--[a-z]+)(?: <[^>]*>)? +(.*)$", said, re.MULTILINE)
+    examples = re.findall(r"^  (?:printf .* \| )?lmtpd (.*)$", said, re.MULTILINE)
+    assert examples and all(example.startswith(command) for example in examples), examples
+    assert re.findall(r"^  ([0-9])  ", said.split("Exit status:\n")[1], re.MULTILINE) == ["0", "1", "2"], said
+    found = re.findall(r"^ +(?:-[hV], )?(--[a-z]+)(?: <[^>]*>)? +(.*)$", said, re.MULTILINE)
     return dict(found)
 
 
@@ -63,8 +66,20 @@ def check_words():
         assert completed(f"lmtpd {command} --") == set(told), command
         synopsis = PAGE.split(f".Cm {command}\n")[1].split(".Nm")[0].split(".Sh")[0]
         assert set(re.findall(r"Fl -([a-z]+)", synopsis)) == {name[2:] for name in wanted}, command
-    assert completed("lmtpd ") == {"serve", "rehearse", "check", "help", "--help"}
+    assert set(help_of("")) == {"--help", "--version"}
+    assert completed("lmtpd ") == {"serve", "rehearse", "check", "help", "--help", "--version"}
     assert completed("lmtpd s") == {"serve"}
+    assert completed("lmtpd serve --log ") == {"off", "error", "info"}
+    assert completed("lmtpd serve --log i") == {"info"}
+
+
+def check_version():
+    """The version names the toolchain as the toolchain itself does, where it is there."""
+    status, said = said_by(LMTPD, "--version")
+    kit = r"lmtpd [0-9.]+ \((rattle-kit-\w+), (logic [0-9a-f]{16})\)\n"
+    assert status == 0 and re.fullmatch(kit, said), said
+    if shutil.which("rt"):
+        assert said_by("rt", "version")[1].strip() == " ".join(re.fullmatch(kit, said).groups()), said
 
 
 def check_install(folder):
@@ -77,6 +92,7 @@ def check_install(folder):
     assert found == sorted(INSTALLED), found
     unit = prefix / "lib/systemd/system/lmtpd.service"
     assert f"ExecStart={prefix}/bin/lmtpd serve " in unit.read_text()
+    assert " --log info " in unit.read_text()
     if shutil.which("systemd-analyze"):
         # what this machine's own units say isn't ours
         _, said = said_by("systemd-analyze", "verify", "--man=no", str(unit))
@@ -88,7 +104,8 @@ def check_install(folder):
 
 
 check_words()
+check_version()
 with tempfile.TemporaryDirectory() as room:
     check_install(pathlib.Path(room))
-print("ok: page, completion, unit and install")
+print("ok: page, completion, version, unit and install")
 sys.exit(0)

@@ -33,7 +33,7 @@ LATER_ROWS = [
     ("size", GOOD, ["--capacity", 0], ["ben"]),
     ("size", GOOD, ["--capacity", 1025], ["ben"]),
 ]
-# Numbers, and words that are missing or unknown: clap has texts of its own.
+# Numbers and levels, and words that are missing or unknown: a text of clap's form.
 NUMBERS = [
     ("--connections", 0),
     ("--connections", 1_000_001),
@@ -47,6 +47,14 @@ NUMBERS = [
     ("--quota", 18_446_744_073_709_551_616),
     ("--quota", "1k"),
     ("--quota", ""),
+    ("--log", ""),
+    ("--log", "debug"),
+    ("--log", "trace"),
+    ("--log", "warn"),
+    ("--log", "INFO?"),
+    ("--log", "info "),
+    ("--log", "lmtpd=info"),
+    ("--log", "3"),
     ("--shout", 1),
 ]
 
@@ -83,7 +91,7 @@ def no_folder(folder):
 
 @case
 def numbers_out_of_range(folder):
-    """numbers and words that clap refuses: a text of clap's, status 2"""
+    """numbers, levels and words that are refused as clap does: a text in its form, status 2, and no mailbox is made"""
     good = words(folder, ["anna"], 1)
     for name, value in NUMBERS:
         given = good + [name, str(value)]
@@ -96,10 +104,33 @@ def numbers_out_of_range(folder):
         at = good.index(missing)
         equal((missing, run(good[:at] + good[at + 2 :]).status), (missing, 2))
     equal(run(good[:-1]).status, 2)
+    ended = run([*good, "--log", "off", "--log", "info"])
+    equal((ended.status, ended.errors[0].split("'")[0]), (2, "error: the argument "))
+    equal(run([*good, "--log", "warn"]).errors[0], "error: invalid value for '--log <LEVEL>': it is off, error or info")
+    equal(list(folder.iterdir()), [])
+
+
+@case
+def the_levels(folder):
+    """each level, in any case: the words are taken, and what is told is the next thing that is wrong"""
+    for level in ["off", "error", "info", "OFF", "Error", "iNFO"]:
+        wants(words(folder, ["anna"], 1, "--log", level, listen=BAD), 2, "bad address")
 
 
 @case
 def help_is_no_refusal(_folder):
-    """--help: status 0, and nothing on standard error"""
-    ended = run(["serve", "--help"])
+    """--help, and help: status 0, nothing on standard error, and each limit and each usual value"""
+    for asked in [["serve", "--help"], ["serve", "-h"], ["help", "serve"]]:
+        ended = run(asked)
+        equal((ended.status, ended.errors), (0, []))
+        told = "\n".join(ended.said)
+        for text in ["1 to 64 [default: 4]", "off, error or info [default: off]", "lmtpd serve --host", "Exit status:"]:
+            assert text in told, (asked, text)
+
+
+@case
+def version_is_no_refusal(_folder):
+    """--version: status 0, one line that names program, version and toolchain, and nothing on standard error"""
+    ended = run(["--version"])
     equal((ended.status, ended.errors), (0, []))
+    equal(ended.said, ["lmtpd 0.1.0 (rattle-kit-13b, logic dac8208d650f15bf)"])

@@ -1,7 +1,8 @@
--- The limits of a server, and its numbers where the words name none, as the help tells them.
+-- The limits of a server, and its numbers and level where the words name none, as the help tells them.
 use Rattle.std.proofs.Common.{◌≡◌, refl}
 use Rattle.mail_world.specs.declared.limits.TheConstants.{BLOCK_SIZE, BLOCK_LIMIT, LANE_LIMIT, CAPACITY_LIMIT}
-use Rattle.lmtpd_words.specs.declared.words.TheConstants.{DEFAULT_BLOCKS, DEFAULT_CAPACITY, DEFAULT_LANES, DEFAULT_READS, DEFAULT_TIMEOUT}
+use Rattle.log.specs.declared.level.LevelFilter.TheVariants as filter
+use Rattle.lmtpd_words.specs.declared.words.TheConstants.{DEFAULT_BLOCKS, DEFAULT_CAPACITY, DEFAULT_LANES, DEFAULT_LOG, DEFAULT_READS, DEFAULT_TIMEOUT}
 
 pub lanes : DEFAULT_LANES ≡ 4
 lanes = refl
@@ -17,6 +18,9 @@ reads = refl
 
 pub timeout : DEFAULT_TIMEOUT ≡ 300
 timeout = refl
+
+pub log : DEFAULT_LOG ≡ filter.Off
+log = refl
 
 pub most_lanes : LANE_LIMIT ≡ 64
 most_lanes = refl

@@ -1,13 +1,16 @@
 -- What the program's words ask for.
-use Rattle.std.specs.Prelude.{◌≡◌, ◌⊎◌, ◌<◌, ◌^◌, ◌==◌, ℕ, List, [], Option, Some, None, option_map, map, codes, String, string_bytes}
+use Rattle.std.specs.Prelude.{◌≡◌, ◌⊎◌, ◌<◌, ◌^◌, ◌==◌, ℕ, Bool, true, false, List, [], Option, Some, None, option_map, map, codes, String, string_bytes}
 use Rattle.std.specs.declared.alloc.Global.{Global}
 use Rattle.std.specs.Option.{option_map_or}
 use Rattle.std.specs.List.{slice_split}
 use Rattle.std.specs.Str.Parse.{IsNumeral, digits_value, without_leading_plus}
 use Rattle.clap.specs.Words.{Row, Text, all_of, first_of, one_of}
+use Rattle.log.specs.Level.{parse_filter}
+use Rattle.log.specs.declared.level.LevelFilter.{LevelFilter}
+use Rattle.log.specs.declared.level.LevelFilter.TheVariants as filter
 use Rattle.mail_world.specs.Site.{Site}
 use Rattle.lmtp_text.specs.Sites.{site_of, texts}
-use Rattle.lmtpd_words.specs.declared.words.TheConstants.{DEFAULT_BLOCKS, DEFAULT_CAPACITY, DEFAULT_LANES, DEFAULT_READS, DEFAULT_TIMEOUT}
+use Rattle.lmtpd_words.specs.declared.words.TheConstants.{DEFAULT_BLOCKS, DEFAULT_CAPACITY, DEFAULT_LANES, DEFAULT_LOG, DEFAULT_READS, DEFAULT_TIMEOUT}
 use Rattle.lmtpd_words.specs.declared.words.SiteWords.{SiteWords}
 use Rattle.lmtpd_words.specs.declared.words.RehearseWords.{RehearseWords}
 use Rattle.lmtpd_words.specs.declared.words.ServeWords.{ServeWords}
@@ -45,6 +48,22 @@ abbrev pub IsLimit : Option Text → Option ℕ → Type 0
 IsLimit None limit = limit ≡ None
 IsLimit (Some text) limit = IsByteCount text → limit ≡ Some (number text)
 
+-- a server logs at these levels alone
+abbrev pub is_log_level : LevelFilter → Bool
+is_log_level filter.Off = true
+is_log_level filter.Error = true
+is_log_level filter.Info = true
+is_log_level _ = false
+
+-- the level that a text names, in any case, and else the usual one
+abbrev pub IsLevel : Option Text → LevelFilter → Type 0
+IsLevel None level = level ≡ DEFAULT_LOG
+IsLevel (Some text) level = (parse_filter text ≡ Some level) × (is_log_level level ≡ true)
+
+-- a text is given that names none of them
+abbrev pub IsNoLevel : Option Text → Type 0
+IsNoLevel given = (level : LevelFilter) → IsLevel given level → ⊥
+
 -- the site that the values of the arguments name
 pub record IsSiteRead (rows : List Row) (words : SiteWords) : Type 0 where
   pub host : first_of (codes "host") rows ≡ Some words.host.now
@@ -69,13 +88,14 @@ pub record IsServeRead (rows : List Row) (words : ServeWords) : Type 0 where
   pub capacity : IsNumberOr DEFAULT_CAPACITY (one_of (codes "capacity") rows) words.capacity
   pub reads : IsNumberOr DEFAULT_READS (one_of (codes "reads") rows) words.reads
   pub timeout : IsNumberOr DEFAULT_TIMEOUT (one_of (codes "timeout") rows) words.timeout
+  pub log : IsLevel (first_of (codes "log") rows) words.log
   pub quota : IsLimit (one_of (codes "quota") rows) words.quota
 
 -- what the values of a check's argument ask for
 pub record IsCheckRead (rows : List Row) (words : CheckWords) : Type 0 where
   pub files : all_of (codes "file") rows ≡ Some (texts words.files.items)
 
--- an argument that must be given has no value, or no number
+-- an argument that must be given has no value, or no number; or the level is none
 abbrev pub LacksText : List ℕ → List Row → Type 0
 LacksText name rows = first_of name rows ≡ None
 
@@ -89,7 +109,8 @@ abbrev pub LacksRehearse : List Row → Type 0
 LacksRehearse rows = LacksNumber (codes "time") rows ⊎ LacksSite rows
 
 abbrev pub LacksServe : List Row → Type 0
-LacksServe rows = LacksText (codes "listen") rows ⊎ (LacksText (codes "dir") rows ⊎ (LacksNumber (codes "connections") rows ⊎ LacksSite rows))
+LacksServe rows = LacksText (codes "listen") rows ⊎ (LacksText (codes "dir") rows ⊎ (LacksNumber (codes "connections") rows
+    ⊎ (IsNoLevel (first_of (codes "log") rows) ⊎ LacksSite rows)))
 
 abbrev pub LacksCheck : List Row → Type 0
 LacksCheck rows = all_of (codes "file") rows ≡ None

@@ -56,7 +56,7 @@ impl Argument {
 pub const REHEARSE: [Argument; 6] = [HOST, TIME, DOMAINS, BLOCKS, QUOTA, BOXES];
 
 /// What a server takes: what must be given, what may be, and the mailboxes.
-pub const SERVE: [Argument; 12] = [
+pub const SERVE: [Argument; 13] = [
     HOST,
     LISTEN,
     DIR,
@@ -67,6 +67,7 @@ pub const SERVE: [Argument; 12] = [
     CAPACITY,
     READS,
     TIMEOUT,
+    LOG,
     QUOTA,
     BOXES,
 ];
@@ -77,7 +78,7 @@ pub const CHECK: [Argument; 1] = [FILES];
 const HOST: Argument = Argument {
     name: "host",
     value: "HOST",
-    help: "The name of this host",
+    help: "The name of this host, 1 to 255 letters, digits, - and .",
     is_required: true,
     kind: ValueKind::Text,
 };
@@ -93,7 +94,7 @@ const LISTEN: Argument = Argument {
 const DIR: Argument = Argument {
     name: "dir",
     value: "FOLDER",
-    help: "The folder of the mailboxes, each a file BOX.mbox",
+    help: "The folder of the mailboxes, which must be there; each is a file BOX.mbox in it",
     is_required: true,
     kind: ValueKind::Text,
 };
@@ -112,7 +113,7 @@ const CONNECTIONS: Argument = Argument {
 const TIME: Argument = Argument {
     name: "time",
     value: "SECONDS",
-    help: "The moment of each delivery, in seconds since 1970",
+    help: "The moment of each delivery, in seconds since 1970, 0 to 4294967295",
     is_required: true,
     kind: ValueKind::Number {
         least: 0,
@@ -123,7 +124,7 @@ const TIME: Argument = Argument {
 const DOMAINS: Argument = Argument {
     name: "domains",
     value: "DOMAIN,..",
-    help: "Further domains that are served here",
+    help: "Further domains that are served here, joined by commas, each as HOST [default: none]",
     is_required: false,
     kind: ValueKind::Text,
 };
@@ -183,10 +184,18 @@ const TIMEOUT: Argument = Argument {
     },
 };
 
+const LOG: Argument = Argument {
+    name: "log",
+    value: "LEVEL",
+    help: "What is logged on standard error: off, error or info [default: off]",
+    is_required: false,
+    kind: ValueKind::Text,
+};
+
 const QUOTA: Argument = Argument {
     name: "quota",
     value: "BYTES",
-    help: "Bytes that a mailbox may hold; a letter that doesn't fit is refused [default: no limit]",
+    help: "Bytes that a mailbox may hold, 0 to 18446744073709551615; a letter that doesn't fit is refused [default: no limit]",
     is_required: false,
     kind: ValueKind::Bytes,
 };
@@ -194,7 +203,7 @@ const QUOTA: Argument = Argument {
 const BOXES: Argument = Argument {
     name: "box",
     value: "BOX",
-    help: "The mailboxes",
+    help: "The mailboxes, 1 to 256 names of 1 to 32 of a to z, 0 to 9, -, _ and ., which doesn't begin a name",
     is_required: true,
     kind: ValueKind::Texts,
 };
@@ -202,7 +211,7 @@ const BOXES: Argument = Argument {
 const FILES: Argument = Argument {
     name: "file",
     value: "FILE",
-    help: "The mailbox files",
+    help: "The mailbox files, of any size, which are read in this order",
     is_required: true,
     kind: ValueKind::Texts,
 };

@@ -8,6 +8,7 @@ ghost use Rattle.lmtpd_words.specs.Arguments.{argument_rule, with_rules};
 ghost use Rattle.lmtpd_words.specs.CommandLine.{check_app, program_app, rehearse_app, serve_app};
 
 use crate::arguments::{Argument, CHECK, REHEARSE, SERVE};
+use crate::texts::{BEHIND_CHECK, BEHIND_PROGRAM, BEHIND_REHEARSE, BEHIND_SERVE, VERSION};
 use clap::Command;
 use std::alloc::{AllocError, Global};
 
@@ -20,6 +21,8 @@ pub fn program<'a>(alloc: Global) -> Result<Command<'a>, AllocError>
     let check = check(alloc)?;
     Command::new(alloc, "lmtpd")
         .about("An LMTP server (RFC 2033) that delivers into mailboxes (RFC 4155)")
+        .version(VERSION)
+        .after_help(BEHIND_PROGRAM)
         .subcommand_required(true)
         .subcommand(rehearse)?
         .subcommand(serve)?
@@ -30,9 +33,9 @@ fn rehearse<'a>(alloc: Global) -> Result<Command<'a>, AllocError>
     ensures shape { IfOk result (λ c. app_of c ≡ rehearse_app) }
     ensures local { IfOk result (λ c. (fields_of c).has_globals ≡ false) }
 {
-    let rehearse = Command::new(alloc, "rehearse").about(
-        "Holds one conversation on standard input and output, and prints the mailboxes",
-    );
+    let rehearse = Command::new(alloc, "rehearse")
+        .about("Holds one conversation on standard input and output, and prints the mailboxes")
+        .after_help(BEHIND_REHEARSE);
     with_arguments(alloc, rehearse, &REHEARSE)
 }
 
@@ -40,9 +43,9 @@ fn serve<'a>(alloc: Global) -> Result<Command<'a>, AllocError>
     ensures shape { IfOk result (λ c. app_of c ≡ serve_app) }
     ensures local { IfOk result (λ c. (fields_of c).has_globals ≡ false) }
 {
-    let serve = Command::new(alloc, "serve").about(
-        "Serves conversations over TCP, and delivers into mailbox files",
-    );
+    let serve = Command::new(alloc, "serve")
+        .about("Serves conversations over TCP, and delivers into mailbox files")
+        .after_help(BEHIND_SERVE);
     with_arguments(alloc, serve, &SERVE)
 }
 
@@ -50,9 +53,9 @@ fn check<'a>(alloc: Global) -> Result<Command<'a>, AllocError>
     ensures shape { IfOk result (λ c. app_of c ≡ check_app) }
     ensures local { IfOk result (λ c. (fields_of c).has_globals ≡ false) }
 {
-    let check = Command::new(alloc, "check").about(
-        "Counts the letters in mailbox files, or says at which byte a file breaks the form",
-    );
+    let check = Command::new(alloc, "check")
+        .about("Counts the letters in mailbox files, or says at which byte a file breaks the form")
+        .after_help(BEHIND_CHECK);
     with_arguments(alloc, check, &CHECK)
 }
 

@@ -4,11 +4,12 @@
 mod arguments;
 mod command;
 mod reading;
+mod texts;
 mod values;
 mod words;
 
 pub use reading::{not_text, read_words};
 pub use words::{
-    CheckWords, DEFAULT_BLOCKS, DEFAULT_CAPACITY, DEFAULT_LANES, DEFAULT_READS, DEFAULT_TIMEOUT,
-    RehearseWords, ServeWords, SiteWords, Words,
+    CheckWords, DEFAULT_BLOCKS, DEFAULT_CAPACITY, DEFAULT_LANES, DEFAULT_LOG, DEFAULT_READS,
+    DEFAULT_TIMEOUT, RehearseWords, ServeWords, SiteWords, Words,
 };

@@ -7,6 +7,7 @@ ghost use Rattle.lmtpd_words.specs.CommandLine.{program_app};
 ghost use Rattle.lmtpd_words.specs.Words.{IsAsked, IsLacking, as_texts};
 
 use crate::command::program;
+use crate::texts::{BAD_LEVEL, BAD_TEXT};
 use crate::values::words_of;
 use crate::words::Words;
 use clap::Error;
@@ -22,7 +23,7 @@ pub fn read_words<'a>(alloc: Global, words: &'a [String]) -> Result<Words<'a>, E
 {
     match called(alloc, words)? {
         Some(read) => Ok(read),
-        None => Err(missing(alloc)?),
+        None => Err(unusable(alloc, BAD_LEVEL)?),
     }
 }
 
@@ -38,18 +39,16 @@ fn called<'a>(alloc: Global, words: &'a [String]) -> Result<Option<Words<'a>>, E
     Ok(read)
 }
 
-fn missing(alloc: Global) -> Result<Error, AllocError>
-    ensures { IfOk result (λ e. kind_of e ≡ ErrorKind.MissingRequiredArgument) }
-{
-    program(alloc)?.error(ErrorKind::MissingRequiredArgument, "a word is missing")
-}
-
 /// The error for words that aren't UTF-8.
 pub fn not_text(alloc: Global) -> Result<Error, AllocError>
     ensures { IfOk result (λ e. kind_of e ≡ ErrorKind.InvalidValue) }
 {
-    program(alloc)?.error(
-        ErrorKind::InvalidValue,
-        "invalid UTF-8 was detected in one or more arguments",
-    )
+    unusable(alloc, BAD_TEXT)
+}
+
+// The error for a value that clap doesn't judge: words that aren't UTF-8, and the level.
+fn unusable(alloc: Global, why: &str) -> Result<Error, AllocError>
+    ensures { IfOk result (λ e. kind_of e ≡ ErrorKind.InvalidValue) }
+{
+    program(alloc)?.error(ErrorKind::InvalidValue, why)
 }

@@ -5,18 +5,19 @@ ghost use Rattle.clap.specs.Words.{Text, first_of, found_of, one_of, rows_of, su
 ghost use Rattle.std.specs.Option.{option_map, option_map_or};
 ghost use Rattle.lmtp_text.specs.Sites.{texts};
 ghost use Rattle.lmtpd_words.specs.Words.{IsAsked, IsCheckRead, IsLimit, IsNumberOr, IsRehearseRead, IsServeRead};
-ghost use Rattle.lmtpd_words.specs.Words.{IsSiteRead};
+ghost use Rattle.lmtpd_words.specs.Words.{IsLevel, IsNoLevel, IsSiteRead, is_log_level};
 ghost use Rattle.lmtpd_words.specs.Words.{IsLacking, LacksCheck, LacksNumber, LacksRehearse, LacksServe, LacksSite};
 ghost use Rattle.lmtpd_words.specs.Words.{number, listed};
 
 use crate::words::{
-    CheckWords, DEFAULT_BLOCKS, DEFAULT_CAPACITY, DEFAULT_LANES, DEFAULT_READS, DEFAULT_TIMEOUT,
-    RehearseWords, ServeWords, SiteWords, Words,
+    CheckWords, DEFAULT_BLOCKS, DEFAULT_CAPACITY, DEFAULT_LANES, DEFAULT_LOG, DEFAULT_READS,
+    DEFAULT_TIMEOUT, RehearseWords, ServeWords, SiteWords, Words,
 };
 use clap::ArgMatches;
+use log::LevelFilter;
 use std::alloc::{AllocError, Global};
 
-/// What the subcommand asks for, and none where a value is missing.
+/// What the subcommand asks for, and none where a value is missing or the level is none.
 pub fn words_of<'a>(
     alloc: Global,
     matches: &ArgMatches<'a>,
@@ -82,6 +83,9 @@ fn serve_words<'a>(
     let Some(connections) = number_of(matches, "connections") else {
         return Ok(None);
     };
+    let Some(log) = log_of(matches) else {
+        return Ok(None);
+    };
     let Some(site) = site_words(alloc, matches)? else {
         return Ok(None);
     };
@@ -95,6 +99,7 @@ fn serve_words<'a>(
         capacity: number_or(matches, "capacity", DEFAULT_CAPACITY),
         reads: number_or(matches, "reads", DEFAULT_READS),
         timeout: number_or(matches, "timeout", DEFAULT_TIMEOUT),
+        log,
         quota: quota_of(matches),
     }))
 }
@@ -155,6 +160,38 @@ fn quota_of(matches: &ArgMatches<'_>) -> Option<u64>
     ensures { IsLimit (one_of (codes "quota") (rows_of (found_of matches.now))) result }
 {
     matches.get_one::<u64>("quota")
+}
+
+// The level that was given, and else the usual one; none where the text names no level of ours.
+fn log_of(matches: &ArgMatches<'_>) -> Option<LevelFilter>
+    ensures { let given = first_of (codes "log") (rows_of (found_of matches.now)) in
+        MatchOption result (IsNoLevel given) (IsLevel given) }
+{
+    match matches.get_str("log") {
+        Some(name) => level_of(name),
+        None => Some(DEFAULT_LOG),
+    }
+}
+
+fn level_of(name: &str) -> Option<LevelFilter>
+    ensures { MatchOption result (IsNoLevel (Some name.now)) (IsLevel (Some name.now)) }
+{
+    let level = name.parse::<LevelFilter>().ok()?;
+    if is_log_level(level) {
+        Some(level)
+    } else {
+        None
+    }
+}
+
+// A server has lines of these alone.
+fn is_log_level(level: LevelFilter) -> bool
+    ensures { result ≡ is_log_level level }
+{
+    matches!(
+        level,
+        LevelFilter::Off | LevelFilter::Error | LevelFilter::Info
+    )
 }
 
 fn domains_of<'a>(alloc: Global, matches: &ArgMatches<'a>) -> Result<Vec<&'a str>, AllocError>

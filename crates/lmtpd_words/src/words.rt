@@ -1,4 +1,6 @@
-//! What the words ask for, and the numbers where they name none.
+//! What the words ask for, and the numbers and the level where they name none.
+
+use log::LevelFilter;
 
 /// The blocks for messages on their way where the words name no number of them.
 pub const DEFAULT_BLOCKS: u32 = 1_024;
@@ -14,6 +16,9 @@ pub const DEFAULT_READS: u32 = 1_000_000;
 
 /// The seconds that a client may be silent.
 pub const DEFAULT_TIMEOUT: u32 = 300;
+
+/// What is logged.
+pub const DEFAULT_LOG: LevelFilter = LevelFilter::Off;
 
 /// The site that the words name.
 #[derive(Debug, Drop)]
@@ -55,6 +60,8 @@ pub struct ServeWords<'a> {
     pub reads: u32,
     /// The seconds that a client may be silent.
     pub timeout: u32,
+    /// What is logged.
+    pub log: LevelFilter,
     /// The bytes that a mailbox may hold, if there is a limit.
     pub quota: Option<u64>,
 }

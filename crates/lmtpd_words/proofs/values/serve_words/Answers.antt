@@ -23,5 +23,6 @@ returns c =
       capacity = c.number_or-3.ensures;
       reads = c.number_or-4.ensures;
       timeout = c.number_or-5.ensures;
+      log = c.in-Some-log_of.ensures;
       quota = c.quota_of.ensures;
     }

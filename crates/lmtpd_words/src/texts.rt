@@ -1,0 +1,54 @@
+//! The version, the errors that `clap` leaves to us, and what help says behind the words: examples, and what each exit
+//! status means.
+
+/// The program's version, and the toolchain that proves it, as `rt version` names it.
+pub const VERSION: &str = "0.1.0 (rattle-kit-13b, logic dac8208d650f15bf)";
+
+/// The error for a level that is none.
+pub const BAD_LEVEL: &str = "invalid value for '--log <LEVEL>': it is off, error or info";
+
+/// The error for words that aren't UTF-8.
+pub const BAD_TEXT: &str = "invalid UTF-8 was detected in one or more arguments";
+
+/// Behind the subcommands.
+pub const BEHIND_PROGRAM: &str = "\
+Examples:
+  lmtpd serve --host mx.example --listen 127.0.0.1:2003 --dir mail --connections 1000000 anna ben
+  lmtpd check mail/anna.mbox mail/ben.mbox
+  lmtpd help serve
+
+Exit status:
+  0  All was done that was asked for
+  1  The machine or a file was wanting, and a line says what
+  2  A word can't be used, and nothing was done";
+
+/// Behind a rehearsal's words.
+pub const BEHIND_REHEARSE: &str = "\
+Example:
+  printf 'LHLO relay.example\\r\\nQUIT\\r\\n' | lmtpd rehearse --host mx.example --time 0 anna ben
+
+Exit status:
+  0  The conversation was held, and the mailboxes were printed
+  1  Memory, threads, the blocks, a mailbox's room, reading or writing was wanting; standard error says which
+  2  A word can't be used, and nothing was done";
+
+/// Behind a server's words.
+pub const BEHIND_SERVE: &str = "\
+Examples:
+  lmtpd serve --host mx.example --listen 127.0.0.1:2003 --dir mail --connections 1000000 anna ben
+  lmtpd serve --host mx.example --listen [::1]:2003 --dir mail --connections 1 --log info anna
+
+Exit status:
+  0  The conversations were served, and the program ended
+  1  A mailbox's file, the listener, a thread, memory or a size was wanting; standard error says which
+  2  A word can't be used, and nothing was done";
+
+/// Behind the words of a check.
+pub const BEHIND_CHECK: &str = "\
+Example:
+  lmtpd check mail/anna.mbox mail/ben.mbox
+
+Exit status:
+  0  Each file is a mailbox
+  1  A file breaks the form or can't be read, as its line says; or memory or standard output was wanting
+  2  A word can't be used, and nothing was done";
