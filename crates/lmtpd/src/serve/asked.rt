@@ -77,12 +77,17 @@ where
     let Ok(listener) = TcpListener::bind(rt, address) else {
         return Err(Stop::Fault(Fault::Listen));
     };
+    let conversations = Conversations {
+        lanes: words.lanes,
+        count: u64::from(words.connections),
+        reads: u64::from(words.reads),
+    };
     match serve_run(
         threads,
         alloc,
         site,
         sizes_asked(words),
-        conversations_asked(words),
+        conversations,
         TimedListener::new(listener, words.timeout),
         spools,
         log,
@@ -101,16 +106,6 @@ fn null<P: Files>(rt: &P) -> Option<P::File> {
         .write(true)
         .open(rt, "/dev/null")
         .ok()
-}
-
-fn conversations_asked(words: &ServeWords<'_>) -> Conversations
-    ensures { result ≡ record { lanes = words.now.lanes; count = words.now.connections; reads = words.now.reads } }
-{
-    Conversations {
-        lanes: words.lanes,
-        count: u64::from(words.connections),
-        reads: u64::from(words.reads),
-    }
 }
 
 // A slot for each lane.
