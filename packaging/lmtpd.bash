@@ -1,7 +1,8 @@
 # What bash completes of the words of lmtpd.
 _lmtpd() {
     local serve rehearse check word=${COMP_WORDS[COMP_CWORD]} before=${COMP_WORDS[COMP_CWORD - 1]}
-    serve='--host --listen --dir --connections --domains --lanes --blocks --capacity --reads --timeout --log --quota --help'
+    serve='--host --listen --dir --connections --domains --lanes --blocks --capacity --reads --timeout'
+    serve+=' --log --quota --help'
     rehearse='--host --time --domains --blocks --quota --help'
     check='--help'
     COMPREPLY=()
