@@ -127,21 +127,29 @@ def too_many_reads_are_logged(folder):
 
 @case
 def a_mailbox_that_fails_is_logged_once(folder):
-    """a mailbox that fails is logged once, at error and at info"""
+    """a mailbox whose calls all fail from some letter on is logged once, at error and at info"""
     library = failing.built(folder)
     for level, conversations in ("error", 0), ("info", 2):
-        place = folder / level
-        place.mkdir()
-        given = {"LD_PRELOAD": library, "FAIL_FILE": "/anna.mbox", "FAIL_CALL": 12, "FAIL_ALL": 1}
-        with failing.environment({name: str(value) for name, value in given.items()}):
-            server = Server(place, ["anna", "ben"], 2, "--lanes", 1, "--log", level)
-        with server:
-            answers = [deliver_one(server.address, ["anna", "ben"], *LETTER) for _ in range(2)]
-            ended = server.end()
+        answers, ended = next(filter(None, (failed_run(folder, library, level, call) for call in range(1, 30))))
         assert answers[1] == ["451 4.3.0 Not stored for anna", "250 2.0.0 Stored for ben"], answers
         equal(ended.errors.count("[ERROR lmtpd] mailbox failed mailbox=anna"), 1)
-        equal(ended.errors[-1], "lmtpd: device fault")
-        equal(len(ended.errors), 2 + conversations)
+        equal((len(ended.errors), ended.errors[-1]), (2 + conversations, "lmtpd: device fault"))
+
+
+def failed_run(folder, library, level, call):
+    """What two conversations were told, and how the server ended whose calls on a mailbox fail from this one on; none
+    where the mailbox couldn't be opened, or never failed."""
+    place = folder / f"{level}{call}"
+    place.mkdir()
+    given = {"LD_PRELOAD": library, "FAIL_FILE": "/anna.mbox", "FAIL_CALL": call, "FAIL_ALL": 1}
+    with failing.environment({name: str(value) for name, value in given.items()}):
+        server = Server(place, ["anna", "ben"], 2, "--lanes", 1, "--log", level)
+    with server:
+        if not server.first:
+            return None
+        answers = [deliver_one(server.address, ["anna", "ben"], *LETTER) for _ in range(2)]
+        ended = server.end()
+    return (answers, ended) if ended.status else None
 
 
 @case
