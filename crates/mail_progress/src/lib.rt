@@ -1,0 +1,4 @@
+//! Whatever is under way in the house of `mail_world` can finish.
+#![tactic(auto)]
+
+pub mod orderly;
