@@ -1,1 +1,4 @@
 pub mod Started
+pub mod Still
+pub mod NoCapacity
+pub mod NoRoomForSlips

@@ -1,1 +1,3 @@
 pub mod Orderly
+pub mod GoingOn
+pub mod Remaining

@@ -2,3 +2,4 @@
 #![tactic(auto)]
 
 pub mod orderly;
+pub mod standing;
