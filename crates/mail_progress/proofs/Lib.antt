@@ -2,3 +2,5 @@ pub mod Started
 pub mod Still
 pub mod NoCapacity
 pub mod NoRoomForSlips
+pub mod Sums
+pub mod Within

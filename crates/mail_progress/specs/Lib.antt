@@ -1,3 +1,4 @@
 pub mod Orderly
 pub mod GoingOn
 pub mod Remaining
+pub mod OrderlyRuns

@@ -1,5 +1,6 @@
 //! Whatever is under way in the house of `mail_world` can finish.
 #![tactic(auto)]
 
+pub mod finds_room;
 pub mod orderly;
 pub mod standing;
