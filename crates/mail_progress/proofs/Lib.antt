@@ -4,3 +4,5 @@ pub mod NoCapacity
 pub mod NoRoomForSlips
 pub mod Sums
 pub mod Within
+pub mod Pigeons
+pub mod Lowered

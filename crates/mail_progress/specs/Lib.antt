@@ -2,3 +2,4 @@ pub mod Orderly
 pub mod GoingOn
 pub mod Remaining
 pub mod OrderlyRuns
+pub mod StepsLeft
