@@ -6,3 +6,5 @@ pub mod Sums
 pub mod Within
 pub mod Pigeons
 pub mod Lowered
+pub mod Kept
+pub mod Movers

@@ -3,3 +3,4 @@ pub mod GoingOn
 pub mod Remaining
 pub mod OrderlyRuns
 pub mod StepsLeft
+pub mod NothingStuck

@@ -3,5 +3,6 @@
 
 pub mod ends;
 pub mod finds_room;
+pub mod moved;
 pub mod orderly;
 pub mod standing;
