@@ -17,7 +17,7 @@ use Rattle.mail_world.proofs.Holds.{every_run_holds}
 use Rattle.mail_world.proofs.MayHappen.{seal_happens, release_happens, hand_back_happens}
 use Rattle.mail_progress.specs.Orderly.{uncollected, not_taken, IsOrderly}
 use Rattle.mail_progress.specs.OrderlyRuns.{SlipsFindRoom}
-use Rattle.mail_progress.specs.NothingStuck.{Mover, LaneOf, WorkerOf, AnyHolder, IsMovedBy, TheLane, TheWorker, LaneOrWorker, Anyone, AreThere, NothingStuck, NothingIsStuck}
+use Rattle.mail_progress.specs.NothingStuck.{Mover, LaneOf, WorkerOf, AnyHolder, IsMovedBy, TheLane, TheWorker, LaneOrWorker, Anyone, AreThere, AreClosed, NothingStuck, NothingIsStuck, NothingIsStuckWhenClosed}
 use Rattle.mail_progress.proofs.Within.{slips_find_room}
 use Rattle.mail_progress.proofs.Kept.{HasKept, every_run_keeps, capacity_run}
 
@@ -185,16 +185,19 @@ pub offers_move : (room blocks : ℕ) (next : ℕ → ℕ) (h : House) → IsRea
 offers_move room blocks next h f c all k lane at some = holds_by room blocks next h f c all k lane at lane.holds refl some
 
 -- a slip to collect
-collect_by : (room blocks : ℕ) (next : ℕ → ℕ) (h : House) → IsReached room blocks h → 1 ≤ h.capacity → AreThere next h → (k : ℕ) (lane : Lane) → LaneIs h k lane → lane.collected < length lane.slips → (holds : List Hold) → lane.holds ≡ holds → IsMovedBy (LaneOrWorker next k) room next h
-collect_by room blocks next h f c all k lane at some [] e =
+collect_moves : (room : ℕ) (next : ℕ → ℕ) (h : House) (k : ℕ) (lane : Lane) → LaneIs h k lane → lane.collected < length lane.slips → lane.holds ≡ [] → IsMovedBy (TheLane k) room next h
+collect_moves room next h k lane at some e =
     let front = there_is lane.slips lane.collected some in
     record {
       event = Collect k;
-      by = inl refl;
+      by = refl;
       goes_on = tt;
       in_order = subst (λ o. IfSome o (λ (l : Lane). l.holds ≡ [])) (sym at) e;
       happens = (_, record { lane = lane; slip = front.0; is = at; front = front.1; after = refl });
     }
+
+collect_by : (room blocks : ℕ) (next : ℕ → ℕ) (h : House) → IsReached room blocks h → 1 ≤ h.capacity → AreThere next h → (k : ℕ) (lane : Lane) → LaneIs h k lane → lane.collected < length lane.slips → (holds : List Hold) → lane.holds ≡ holds → IsMovedBy (LaneOrWorker next k) room next h
+collect_by room blocks next h f c all k lane at some [] e = widen (TheLane k) (LaneOrWorker next k) room next h (λ who by. inl by) (collect_moves room next h k lane at some e)
 collect_by room blocks next h f c all k lane at some (hold ∷ holds) e = holds_by room blocks next h f c all k lane at (hold ∷ holds) e (λ bad. cc)
 
 pub collects_move : (room blocks : ℕ) (next : ℕ → ℕ) (h : House) → IsReached room blocks h → 1 ≤ h.capacity → AreThere next h → (k : ℕ) (lane : Lane) → LaneIs h k lane → lane.collected < length lane.slips → IsMovedBy (LaneOrWorker next k) room next h
@@ -260,8 +263,12 @@ any_lane k room next h m = widen (LaneOrWorker next k) Anyone room next h (λ wh
 under : (h : House) (i : ℕ) (slot : Slot) → slice_get h.depot.slots i ≡ Some slot → held_under h.depot (record { slot = i; generation = slot.generation }) ≡ slot.held
 under h i slot at = rw (at, eq-eqb slot.generation slot.generation refl) refl
 
-sealed_by : (room blocks : ℕ) (next : ℕ → ℕ) (h : House) → IsReached room blocks h → 1 ≤ h.capacity → AreThere next h → (i : ℕ) (slot : Slot) (bytes its : List ℕ) (weight : ℕ) → slice_get h.depot.slots i ≡ Some slot → slot.held ≡ Sealed bytes its weight → IsMovedBy Anyone room next h
-sealed_by room blocks next h f c all i slot bytes its zero at e =
+-- a copy to offer is moved by someone
+abbrev pub OffersMove : ℕ → (ℕ → ℕ) → House → Type 0
+OffersMove room next h = (k : ℕ) (lane : Lane) → LaneIs h k lane → lane.holds ≢ [] → IsMovedBy Anyone room next h
+
+sealed_by : (room blocks : ℕ) (next : ℕ → ℕ) (h : House) → IsReached room blocks h → OffersMove room next h → (i : ℕ) (slot : Slot) (bytes its : List ℕ) (weight : ℕ) → slice_get h.depot.slots i ≡ Some slot → slot.held ≡ Sealed bytes its weight → IsMovedBy Anyone room next h
+sealed_by room blocks next h f offers i slot bytes its zero at e =
     let key : Key = record { slot = i; generation = slot.generation } in
     record {
       event = Reclaim i slot.generation;
@@ -270,11 +277,11 @@ sealed_by room blocks next h f c all i slot bytes its zero at e =
       in_order = tt;
       happens = (_, (given_back h.depot key (its ++ h.depot.free), record { bytes = bytes; blocks = its; free = its ++ h.depot.free; message = under h i slot at ∙ e; given = λ x. times-append x its h.depot.free; after = refl }, refl));
     }
-sealed_by room blocks next h f c all i slot bytes its (suc weight) at e =
+sealed_by room blocks next h f offers i slot bytes its (suc weight) at e =
     let key : Key = record { slot = i; generation = slot.generation } in
     let heavy : weight_under h.depot key ≡ suc weight = ap weight_held (under h i slot at ∙ e) in
     elim (search_in (λ (lane : Lane). lane.holds) (λ (lane : Lane). lane.holds ≢ []) some_holds h.lanes) [
-      | inl there ↦ any_lane there.0 room next h (offers_move room blocks next h f c all there.0 there.1 there.2 there.3)
+      | inl there ↦ offers there.0 there.1 there.2 there.3
       | inr no_lane ↦ elim (search_in (λ (box : Box). map hold_of (posts_of box)) IsBusy busy_posts h.boxes) [
         | inl there ↦ any_worker there.0 room next h (busy_moves room blocks next h f there.0 there.1 there.2 there.3)
         | inr no_box ↦
@@ -296,5 +303,36 @@ nothing_is_stuck room blocks start run is r o some capacity next all =
       accepted = accepted_moves room blocks next h f;
       in_hand = hand_moves room blocks next h f;
       to_collect = collects_move room blocks next h f c all;
-      sealed = sealed_by room blocks next h f c all;
+      sealed = sealed_by room blocks next h f (λ k lane at some. any_lane k room next h (offers_move room blocks next h f c all k lane at some));
+    }
+
+-- where all channels are closed
+closed_weight : (room blocks : ℕ) (next : ℕ → ℕ) (h : House) → IsReached room blocks h → AreThere next h → AreClosed h → (k : ℕ) (lane : Lane) (hold : Hold) → LaneIs h k lane → slice_get lane.holds 0 ≡ Some hold → (n : ℕ) → hold.weight ≡ n → IsMovedBy (TheLane k) room next h
+closed_weight room blocks next h f all shut k lane hold at there zero e = let some = f.kept.some k lane 0 hold at there in absurd (omega arith)
+closed_weight room blocks next h f all shut k lane hold at there (suc zero) e =
+    let b = all k lane at in back_moves room blocks next h f k lane hold b.0 at there e b.1 (shut (next k) b.0 b.1)
+closed_weight room blocks next h f all shut k lane hold at there (suc (suc n)) e =
+    let its : slice_get lane.holds 0 ≡ Some (record { key = hold.key; weight = suc n + 1 }) = there ∙ ap (λ m. let x : Hold = record { key = hold.key; weight = m } in Some x) (let s : hold.weight ≡ suc n + 1 = omega arith in s) in
+    split_moves room next h k lane hold.key (suc n) at its (omega arith)
+
+closed_offers : (room blocks : ℕ) (next : ℕ → ℕ) (h : House) → IsReached room blocks h → AreThere next h → AreClosed h → (k : ℕ) (lane : Lane) → LaneIs h k lane → (holds : List Hold) → lane.holds ≡ holds → holds ≢ [] → IsMovedBy (TheLane k) room next h
+closed_offers room blocks next h f all shut k lane at [] e some = absurd (some refl)
+closed_offers room blocks next h f all shut k lane at (hold ∷ holds) e some = closed_weight room blocks next h f all shut k lane hold at (ap (λ hs. slice_get hs 0) e) hold.weight refl
+
+closed_collects : (room blocks : ℕ) (next : ℕ → ℕ) (h : House) → IsReached room blocks h → AreThere next h → AreClosed h → (k : ℕ) (lane : Lane) → LaneIs h k lane → lane.collected < length lane.slips → (holds : List Hold) → lane.holds ≡ holds → IsMovedBy (TheLane k) room next h
+closed_collects room blocks next h f all shut k lane at some [] e = collect_moves room next h k lane at some e
+closed_collects room blocks next h f all shut k lane at some (hold ∷ holds) e = closed_offers room blocks next h f all shut k lane at (hold ∷ holds) e (λ bad. cc)
+
+pub nothing_is_stuck_when_closed : NothingIsStuckWhenClosed
+nothing_is_stuck_when_closed room blocks start run is r o some next all shut =
+    let h = last_house start run in
+    let f = reached room blocks start run is r o some in
+    record {
+      draft = draft_moves room blocks next h f;
+      to_offer = λ k lane at some'. closed_offers room blocks next h f all shut k lane at lane.holds refl some';
+      accepted = accepted_moves room blocks next h f;
+      in_hand = hand_moves room blocks next h f;
+      to_collect = λ k lane at some'. closed_collects room blocks next h f all shut k lane at some' lane.holds refl;
+      sealed = sealed_by room blocks next h f
+          (λ k lane at some'. widen (TheLane k) Anyone room next h (λ who by. inr (inl (k, by))) (closed_offers room blocks next h f all shut k lane at lane.holds refl some'));
     }

@@ -1,5 +1,5 @@
 -- Whatever is under way can be moved, and by whom.
-use Rattle.std.specs.Prelude.{◌≡◌, ◌≢◌, ◌⊎◌, ℕ, ◌<◌, ◌≤◌, List, [], length, Option, Some, None, slice_get}
+use Rattle.std.specs.Prelude.{◌≡◌, ◌≢◌, ◌⊎◌, ℕ, ◌<◌, ◌≤◌, List, [], length, true, Option, Some, None, slice_get}
 use Rattle.mail_world.specs.declared.Event.{Event}
 use Rattle.mail_world.specs.declared.Event.TheVariants.{Begin, Put, Cancel, Seal, Split, Offer, HandBack, Collect, Take, Write, Sync, Release, GiveSlip, Reclaim, Close}
 use Rattle.mail_world.specs.Depot.{Key, Slot, Sealed}
@@ -58,21 +58,30 @@ Anyone who = (who ≡ AnyHolder) ⊎ (((k : ℕ) × (who ≡ LaneOf k)) ⊎ ((w 
 abbrev pub AreThere : (ℕ → ℕ) → House → Type 0
 AreThere next h = (k : ℕ) (lane : Lane) → LaneIs h k lane → (box : Box) × BoxIs h (next k) box
 
-pub record NothingStuck (room : ℕ) (next : ℕ → ℕ) (h : House) : Type 0 where
+-- who moves each thing that is under way, where these move what a lane has to offer or to collect
+pub record NothingStuck (Movers : ℕ → Mover → Type 0) (room : ℕ) (next : ℕ → ℕ) (h : House) : Type 0 where
   -- a draft
   pub draft : (k : ℕ) (lane : Lane) (key : Key) → LaneIs h k lane → lane.draft ≡ Some key → IsMovedBy (TheLane k) room next h
   -- a copy to offer
-  pub to_offer : (k : ℕ) (lane : Lane) → LaneIs h k lane → lane.holds ≢ [] → IsMovedBy (LaneOrWorker next k) room next h
+  pub to_offer : (k : ℕ) (lane : Lane) → LaneIs h k lane → lane.holds ≢ [] → IsMovedBy (Movers k) room next h
   -- a copy accepted
   pub accepted : (w : ℕ) (box : Box) → BoxIs h w box → box.taken < length box.accepted → IsMovedBy (TheWorker w) room next h
   -- a copy taken, in hand or released, and so a slip to give
   pub in_hand : (w : ℕ) (box : Box) (copy : Copy) → BoxIs h w box → box.hand ≡ Some copy → IsMovedBy (TheWorker w) room next h
   -- a slip to collect
-  pub to_collect : (k : ℕ) (lane : Lane) → LaneIs h k lane → lane.collected < length lane.slips → IsMovedBy (LaneOrWorker next k) room next h
+  pub to_collect : (k : ℕ) (lane : Lane) → LaneIs h k lane → lane.collected < length lane.slips → IsMovedBy (Movers k) room next h
   -- a message sealed and not reclaimed
   pub sealed : (i : ℕ) (slot : Slot) (bytes blocks : List ℕ) (weight : ℕ) → slice_get h.depot.slots i ≡ Some slot → slot.held ≡ Sealed bytes blocks weight → IsMovedBy Anyone room next h
 
 -- so it is in each house of each orderly run, where channels have a capacity and lanes room for slips
 abbrev pub NothingIsStuck : Type 0
 NothingIsStuck = (room blocks : ℕ) (start : House) (run : List Happened) → IsStart blocks start → Run start run → IsOrderly room start run → 1 ≤ room → 1 ≤ start.capacity
-    → (next : ℕ → ℕ) → AreThere next (last_house start run) → NothingStuck room next (last_house start run)
+    → (next : ℕ → ℕ) → AreThere next (last_house start run) → NothingStuck (LaneOrWorker next) room next (last_house start run)
+
+abbrev pub AreClosed : House → Type 0
+AreClosed h = (b : ℕ) (box : Box) → BoxIs h b box → box.closed ≡ true
+
+-- where all channels are closed, a lane waits for nobody, and no capacity is wanted
+abbrev pub NothingIsStuckWhenClosed : Type 0
+NothingIsStuckWhenClosed = (room blocks : ℕ) (start : House) (run : List Happened) → IsStart blocks start → Run start run → IsOrderly room start run → 1 ≤ room
+    → (next : ℕ → ℕ) → AreThere next (last_house start run) → AreClosed (last_house start run) → NothingStuck TheLane room next (last_house start run)
