@@ -3,6 +3,7 @@ use Rattle.std.proofs.Common.{◌≡◌, ◌≢◌, ◌⊎◌, ℕ, zero, suc, �
 use Rattle.std.specs.Prelude.{slice_get, slice_set, remove}
 use Rattle.std.specs.List.{AllByRecursion}
 use Rattle.std.proofs.lemmas.List.{length-drop}
+use Rattle.std.proofs.lemmas.Option.{slice_get_within}
 use Rattle.mail_world.specs.declared.Event.{Event}
 use Rattle.mail_world.specs.declared.Event.TheVariants.{Begin, Put, Cancel, Seal, Split, Offer, HandBack, Collect, Take, Write, Sync, Release, GiveSlip, Reclaim, Close}
 use Rattle.mail_world.specs.House.{Hold, Post, Copy, Box, Lane, House, IsFreshBox, IsFreshLane, IsStart}
@@ -55,23 +56,24 @@ stay_set ls ms v old new was e k there = elim (same_or_not v k) [
 ]
 
 -- the posts of a mailbox are of lanes, and no more of the copy in hand is written than there is
-abbrev OfLanes : List Lane → Post → Type 0
+abbrev pub OfLanes : List Lane → Post → Type 0
 OfLanes ls post = HasLane ls post.note.txn.lane
 
-abbrev HandIsRight : House → Option Copy → Type 0
+abbrev pub HandIsRight : House → Option Copy → Type 0
 HandIsRight h None = Unit {0}
 HandIsRight h (Some copy) = HasLane h.lanes copy.post.note.txn.lane × (copy.written ≤ size h copy.post.note)
 
-record IsBoxRight (h : House) (box : Box) : Type 0 where
-  posts : AllByRecursion (OfLanes h.lanes) box.accepted
-  hand : HandIsRight h box.hand
+pub record IsBoxRight (h : House) (box : Box) : Type 0 where
+  pub posts : AllByRecursion (OfLanes h.lanes) box.accepted
+  pub hand : HandIsRight h box.hand
+  pub front : box.taken ≤ length box.accepted
 
-abbrev IsSome : Hold → Type 0
+abbrev pub IsSome : Hold → Type 0
 IsSome hold = 1 ≤ hold.weight
 
-record IsKept (h : House) : Type 0 where
-  boxes : AllByRecursion (IsBoxRight h) h.boxes
-  lanes : AllByRecursion (λ (lane : Lane). AllByRecursion IsSome lane.holds) h.lanes
+pub record IsKept (h : House) : Type 0 where
+  pub boxes : AllByRecursion (IsBoxRight h) h.boxes
+  pub lanes : AllByRecursion (λ (lane : Lane). AllByRecursion IsSome lane.holds) h.lanes
 
 -- how a house follows another: the same texts, and all lanes
 record Follows (h new : House) : Type 0 where
@@ -86,6 +88,7 @@ box_right : (h new : House) → Follows h new → (box : Box) → IsBoxRight h b
 box_right h new f box r = record {
   posts = weaken (OfLanes h.lanes) (OfLanes new.lanes) (λ post there. f.stay post.note.txn.lane there) box.accepted r.posts;
   hand = hand_right h new f box.hand r.hand;
+  front = r.front;
 }
 
 all_remove : {A : Type 0} (P : A → Type 0) (xs : List A) (i : ℕ) → AllByRecursion P xs → AllByRecursion P (remove xs i)
@@ -138,7 +141,7 @@ kept_both h new w old next k was after s sizes there here boxes lanes ok fine =
 hand_of : (h : House) (box : Box) (copy : Copy) → box.hand ≡ Some copy → HandIsRight h box.hand → HasLane h.lanes copy.post.note.txn.lane × (copy.written ≤ size h copy.post.note)
 hand_of h box copy e r = subst (HandIsRight h) e r
 
-kept_step : (h : House) (e : Event) (new : House) → IsKept h → Step h e new → IsKept new
+pub kept_step : (h : House) (e : Event) (new : House) → IsKept h → Step h e new → IsKept new
 kept_step h (Begin k) new s st = subst IsKept (sym st.after) (kept_lane h _ k st.lane _ s (λ note. refl) st.is refl refl (λ ok. ok))
 kept_step h (Put k bytes) new s st = subst IsKept (sym st.after) (kept_none h _ s (λ note. refl) refl refl)
 kept_step h (Cancel k) new s st = subst IsKept (sym st.after) (kept_lane h _ k st.lane _ s (λ note. refl) st.is refl refl (λ ok. ok))
@@ -153,25 +156,26 @@ kept_step h (Offer k note) new s st =
     (λ ok. record {
       posts = all_more (OfLanes _) st.box.accepted (record { note = note; key = st.key }) ok.posts (subst (HasLane _) (sym st.own) (_, set_at h.lanes k _ st.lane st.is));
       hand = ok.hand;
+      front = let l = length-append st.box.accepted (record { note = note; key = st.key } ∷ []) in let low = ok.front in omega arith;
     })
     (λ ok. all_remove IsSome st.lane.holds st.at ok))
 kept_step h (HandBack k i b) new s st = subst IsKept (sym st.after) (kept_lane h _ k st.lane _ s (λ note. refl) st.is refl refl (λ ok. all_remove IsSome st.lane.holds i ok))
 kept_step h (Collect k) new s st = subst IsKept (sym st.after) (kept_lane h _ k st.lane _ s (λ note. refl) st.is refl refl (λ ok. ok))
 kept_step h (Take w) new s st =
     subst IsKept (sym st.after) (kept_box h _ w st.box _ s (λ note. refl) st.is refl refl
-    (λ ok. record { posts = ok.posts; hand = (each_at (OfLanes h.lanes) st.box.accepted st.box.taken st.post ok.posts st.front, omega arith) }))
+    (λ ok. record { posts = ok.posts; hand = (each_at (OfLanes h.lanes) st.box.accepted st.box.taken st.post ok.posts st.front, omega arith); front = let below = slice_get_within st.box.accepted st.box.taken st.post st.front in omega arith }))
 kept_step h (Write w bytes) new s st =
     let len : size h st.copy.post.note - st.copy.written ≡ length bytes + length st.more = sym (length-drop st.copy.written _) ∙ ap length st.next ∙ length-append bytes st.more in
     subst IsKept (sym st.after) (kept_box h _ w st.box _ s (λ note. refl) st.is refl refl
-    (λ ok. let r = hand_of h st.box st.copy st.in_hand ok.hand in let low = r.1 in record { posts = ok.posts; hand = (r.0, omega (arith, len, low)) }))
+    (λ ok. let r = hand_of h st.box st.copy st.in_hand ok.hand in let low = r.1 in record { posts = ok.posts; hand = (r.0, omega (arith, len, low)); front = ok.front }))
 kept_step h (Sync w) new s st =
-    subst IsKept (sym st.after) (kept_box h _ w st.box _ s (λ note. refl) st.is refl refl (λ ok. record { posts = ok.posts; hand = hand_of h st.box st.copy st.in_hand ok.hand }))
+    subst IsKept (sym st.after) (kept_box h _ w st.box _ s (λ note. refl) st.is refl refl (λ ok. record { posts = ok.posts; hand = hand_of h st.box st.copy st.in_hand ok.hand; front = ok.front }))
 kept_step h (Release w) new s st =
-    subst IsKept (sym st.after) (kept_box h _ w st.box _ s (λ note. refl) st.is refl refl (λ ok. record { posts = ok.posts; hand = hand_of h st.box st.copy st.in_hand ok.hand }))
+    subst IsKept (sym st.after) (kept_box h _ w st.box _ s (λ note. refl) st.is refl refl (λ ok. record { posts = ok.posts; hand = hand_of h st.box st.copy st.in_hand ok.hand; front = ok.front }))
 kept_step h (GiveSlip w o) new s st =
-    subst IsKept (sym st.after) (kept_both h _ w st.box _ st.copy.post.note.txn.lane st.lane _ s (λ note. refl) st.is st.to refl refl (λ ok. record { posts = ok.posts; hand = tt }) (λ ok. ok))
+    subst IsKept (sym st.after) (kept_both h _ w st.box _ st.copy.post.note.txn.lane st.lane _ s (λ note. refl) st.is st.to refl refl (λ ok. record { posts = ok.posts; hand = tt; front = ok.front }) (λ ok. ok))
 kept_step h (Reclaim slot generation) new s st = subst IsKept (sym st.2) (kept_none h _ s (λ note. refl) refl refl)
-kept_step h (Close b) new s st = subst IsKept (sym st.3) (kept_box h _ b st.0 _ s (λ note. refl) st.1 refl refl (λ ok. record { posts = ok.posts; hand = ok.hand }))
+kept_step h (Close b) new s st = subst IsKept (sym st.3) (kept_box h _ b st.0 _ s (λ note. refl) st.1 refl refl (λ ok. record { posts = ok.posts; hand = ok.hand; front = ok.front }))
 
 kept_run : (h : House) (run : List Happened) → IsKept h → Run h run → IsKept (last_house h run)
 kept_run h [] s r = s
@@ -180,9 +184,9 @@ kept_run h (x ∷ xs) s r = kept_run x.house xs (kept_step h x.event x.house s r
 all_of : {A : Type 0} (P Q : A → Type 0) → ((x : A) → P x → Q x) → (xs : List A) → AllByRecursion P xs → AllByRecursion Q xs
 all_of P Q f xs all = weaken P Q f xs all
 
-kept_start : (blocks : ℕ) (h : House) → IsStart blocks h → IsKept h
+pub kept_start : (blocks : ℕ) (h : House) → IsStart blocks h → IsKept h
 kept_start blocks h start = record {
-  boxes = all_of IsFreshBox (IsBoxRight h) (λ box f. record { posts = subst (AllByRecursion (OfLanes h.lanes)) (sym f.accepted) tt; hand = subst (HandIsRight h) (sym f.hand) tt }) h.boxes start.boxes;
+  boxes = all_of IsFreshBox (IsBoxRight h) (λ box f. record { posts = subst (AllByRecursion (OfLanes h.lanes)) (sym f.accepted) tt; hand = subst (HandIsRight h) (sym f.hand) tt; front = let t = f.taken in omega arith }) h.boxes start.boxes;
   lanes = all_of IsFreshLane (λ (lane : Lane). AllByRecursion IsSome lane.holds) (λ lane f. subst (AllByRecursion IsSome) (sym f.holds) tt) h.lanes start.lanes;
 }
 

@@ -8,3 +8,4 @@ pub mod Pigeons
 pub mod Lowered
 pub mod Kept
 pub mod Movers
+pub mod Tracked

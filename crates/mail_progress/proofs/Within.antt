@@ -166,7 +166,7 @@ begin_within room k lane next bs done holds slips count gather s =
     let b = s.bound in
     record { below = omega arith; bound = omega arith; drafting = λ key e. omega arith }
 
-within_step : (room : ℕ) (h : House) (e : Event) (new : House) → AllWithin room h → Step h e new → IsInOrder room h e → AllWithin room new
+pub within_step : (room : ℕ) (h : House) (e : Event) (new : House) → AllWithin room h → Step h e new → IsInOrder room h e → AllWithin room new
 within_step room h (Begin k) new s st o =
     let done : IsDone st.lane = subst (λ p. IfSome p IsDone) st.is o in
     lane_alone room h new k st.lane _ (ap (λ (x : House). x.boxes) st.after) (ap (λ (x : House). x.lanes) st.after) st.is (λ w. begin_within room k st.lane _ h.boxes done refl refl refl refl w) s
