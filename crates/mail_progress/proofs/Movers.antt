@@ -1,6 +1,16 @@
 -- In an orderly run whatever is under way is moved.
 use Rattle.std.proofs.Common.{◌≡◌, ◌≢◌, ◌⊎◌, ℕ, zero, suc, ◌+◌, ◌-◌, ◌<◌, ◌≤◌, List, [], ◌∷◌, ◌++◌, length, drop, map, Bool, true, false, not, ◌||◌, Option, Some, None, inl, inr, refl, ap, sym, ◌∙◌, subst, arith, append-nil}
-use Rattle.std.specs.Prelude.{slice_get, flat_map, IfSome}
+use Rattle.std.specs.Prelude.{slice_get, flat_map, IfSome, sum_by, count_by, find, option_map, nat_lt, cond}
+use Rattle.std.specs.List.{AllByRecursion, range_with_len}
+use Rattle.std.proofs.lemmas.Bool.Decides.{nat_tests}
+use Rattle.std.proofs.lemmas.Option.{slice_get_within}
+use Rattle.mail_world.specs.declared.Outcome.{Outcome}
+use Rattle.mail_world.specs.declared.Slip.{Slip}
+use Rattle.mail_world.specs.Slips.{txn_of, names, times_named, answer, answers}
+use Rattle.mail_world.proofs.GivenAway.{is_given, count-cons, count_some}
+use Rattle.mail_world.proofs.Heard.{every_run_answers}
+use Rattle.mail_world.proofs.LastSeal.{every_run_for_last}
+use Rattle.mail_progress.proofs.Tracked.{copy_at, way_at, IsTracked, AllTracked, last_there, every_orderly_tracked}
 use Rattle.std.proofs.lemmas.Bool.{eq-eqb}
 use Rattle.std.proofs.lemmas.List.{length-drop, drop_all}
 use Rattle.mail_world.specs.declared.Note.{Note}
@@ -10,15 +20,16 @@ use Rattle.mail_world.specs.Records.{record_of}
 use Rattle.mail_world.specs.Depot.{Key, Slot, Sealed, held_under, weight_held, weight_under, occurrences, given_back, Depot}
 use Rattle.mail_world.specs.House.{Hold, Post, Copy, Box, SealedMessage, Lane, House, is_settled, IsStart}
 use Rattle.mail_world.specs.Events.{MayHappen, LaneIs, BoxIs, outcome_of}
-use Rattle.mail_world.specs.Runs.{Happened, Run, last_house, hold_of, post_in_hand, posts_of, weight_of, holds_of, HasHolds}
-use Rattle.mail_world.proofs.Accepted.{each_at}
+use Rattle.mail_world.specs.Runs.{Happened, Run, last_house, hold_of, post_in_hand, posts_of, weight_of, holds_of, HasHolds, HasAnswers}
+use Rattle.mail_world.proofs.Accepted.{each_at, every_run_accepts}
 use Rattle.mail_world.proofs.Depots.{times-append}
 use Rattle.mail_world.proofs.Holds.{every_run_holds}
 use Rattle.mail_world.proofs.MayHappen.{seal_happens, release_happens, hand_back_happens}
-use Rattle.mail_progress.specs.Orderly.{uncollected, not_taken, IsOrderly}
+use Rattle.mail_progress.specs.Orderly.{IsAnswered, uncollected, not_taken, IsOrderly}
 use Rattle.mail_progress.specs.OrderlyRuns.{SlipsFindRoom}
-use Rattle.mail_progress.specs.NothingStuck.{Mover, LaneOf, WorkerOf, AnyHolder, IsMovedBy, TheLane, TheWorker, LaneOrWorker, Anyone, AreThere, AreClosed, NothingStuck, NothingIsStuck, NothingIsStuckWhenClosed}
-use Rattle.mail_progress.proofs.Within.{slips_find_room}
+use Rattle.mail_progress.specs.NothingStuck.{Mover, LaneOf, WorkerOf, AnyHolder, IsMovedBy, TheLane, TheWorker, LaneOrWorker, Anyone, AreThere, AreClosed, NothingStuck, NothingIsStuck, NothingIsStuckWhenClosed, IsFinished, EndsFinished}
+use Rattle.mail_progress.specs.GoingOn.{MayGoOn}
+use Rattle.mail_progress.proofs.Within.{on_way, to_give, slips_find_room}
 use Rattle.mail_progress.proofs.Kept.{HasKept, every_run_keeps, capacity_run}
 
 -- what is known of a house in an orderly run
@@ -30,6 +41,9 @@ pub record IsReached (room blocks : ℕ) (h : House) : Type 0 where
   pub releases : (w : ℕ) (box : Box) (copy : Copy) → BoxIs h w box → box.hand ≡ Some copy → copy.released ≡ false → MayHappen h (Release w)
   pub backs : (k m : ℕ) (lane : Lane) (hold : Hold) → LaneIs h k lane → slice_get lane.holds 0 ≡ Some hold → hold.weight ≡ 1 → MayHappen h (HandBack k 0 m)
   pub some_room : 1 ≤ room
+  pub tracked : AllTracked h
+  pub answers : HasAnswers h
+  pub for_last : (k : ℕ) (lane : Lane) (i : ℕ) (t : SealedMessage) → LaneIs h k lane → slice_get lane.messages i ≡ Some t → length lane.messages ≡ i + 1 → lane.gather.txn ≡ txn_of k t.number
 
 pub reached : (room blocks : ℕ) (start : House) (run : List Happened) → IsStart blocks start → Run start run → IsOrderly room start run → 1 ≤ room → IsReached room blocks (last_house start run)
 reached room blocks start run is r o some = record {
@@ -40,6 +54,9 @@ reached room blocks start run is r o some = record {
   releases = λ w box copy at hand held. release_happens blocks start run is r w box copy at hand held;
   backs = λ k m lane hold at there one. hand_back_happens blocks start run is r k 0 m lane hold at there one;
   some_room = some;
+  tracked = every_orderly_tracked room blocks start run is r o;
+  answers = every_run_answers blocks start run is r;
+  for_last = (every_run_for_last blocks start run is r).txn;
 }
 
 pub widen : (P Q : Mover → Type 0) (room : ℕ) (next : ℕ → ℕ) (h : House) → ((who : Mover) → P who → Q who) → IsMovedBy P room next h → IsMovedBy Q room next h
@@ -292,6 +309,66 @@ sealed_by room blocks next h f offers i slot bytes its (suc weight) at e =
       ]
     ]
 
+-- an answer that isn't given
+nth_of : (f : ℕ → Option Outcome) (a n p : ℕ) (y : Option Outcome) → slice_get (map f (range_with_len a n)) p ≡ Some y → f (a + p) ≡ y
+nth_of f a zero p y e = cc
+nth_of f a (suc n) zero y e = let z : a + 0 ≡ a = omega arith in let same : f a ≡ y = cc in ap f z ∙ same
+nth_of f a (suc n) (suc p) y e = let z : a + suc p ≡ a + 1 + p = omega arith in ap f z ∙ nth_of f (a + 1) n p y e
+
+none_found : (f : Slip → Bool) (slips : List Slip) → option_map (λ (slip : Slip). slip.outcome) (find f slips) ≡ None → count_by f slips ≡ 0
+none_found f [] e = refl
+none_found f (x ∷ slips) e = by (f x) refl e (none_found f slips)
+  where
+    by : (t : Bool) → f x ≡ t → option_map (λ (slip : Slip). slip.outcome) (cond t (Some x) (find f slips)) ≡ None → (option_map (λ (slip : Slip). slip.outcome) (find f slips) ≡ None → count_by f slips ≡ 0) → count_by f (x ∷ slips) ≡ 0
+    by true is none rest = cc
+    by false is none rest =
+        let zero' : ◌≡◌ {A = ℕ} (cond (f x) 1 0) 0 = ap (λ b. cond b 1 0) is in
+        let none' = rest none in omega (arith, count-cons f x slips)
+
+given_there : (t : SealedMessage) (p : ℕ) → p < t.offered → is_given t.number p t ≡ true
+given_there t p low = let under' : nat_lt p t.offered ≡ true = grind (arith, nat_tests) in rw (eq-eqb t.number t.number refl, under') refl
+
+no_answer : (k : ℕ) (d : Depot) (lane : Lane) (boxes : List Box) (p : ℕ) → IsTracked k d lane boxes → lane.gather.places ≡ answers lane.gather.txn (length lane.gather.places) lane.heard
+    → ((i : ℕ) (t : SealedMessage) → slice_get lane.messages i ≡ Some t → length lane.messages ≡ i + 1 → lane.gather.txn ≡ txn_of k t.number)
+    → lane.holds ≡ [] → length lane.slips ≤ lane.collected → flat_map on_way boxes ≡ [] → slice_get lane.gather.places p ≡ Some None → (ts : List SealedMessage) → lane.messages ≡ ts → ⊥
+no_answer k d lane boxes p s answered for_last idle all none at [] e =
+    let low = slice_get_within lane.gather.places p None at in
+    let few = s.none (ap length e) in absurd (omega arith)
+no_answer k d lane boxes p s answered for_last idle all none at (t ∷ ts) e =
+    let z = last_there (t ∷ ts) 0 t refl in
+    let is : slice_get lane.messages z.0 ≡ Some z.1 = ap (λ xs. slice_get xs z.0) e ∙ z.2 in
+    let top : length lane.messages ≡ z.0 + 1 = ap length e ∙ z.3 in
+    let low = slice_get_within lane.gather.places p None at in
+    let whole = (s.last z.0 z.1 is top).all in
+    let give : to_give lane.holds ≡ 0 = ap to_give idle in
+    let given = s.given z.1.number p in
+    let some = count_some (is_given z.1.number p) lane.messages z.0 z.1 is (given_there z.1 p (omega arith)) in
+    let no_slips : times_named (txn_of k z.1.number) p (drop lane.collected lane.slips) ≡ 0 = ap (times_named (txn_of k z.1.number) p) (drop_all lane.collected lane.slips all) in
+    let no_way : way_at k z.1.number p boxes ≡ 0 = ap (sum_by (copy_at k z.1.number p)) none in
+    let empty : answer lane.gather.txn lane.heard p ≡ None = ap (answer lane.gather.txn lane.heard) (let z : p ≡ 0 + p = omega arith in z) ∙ nth_of (answer lane.gather.txn lane.heard) 0 (length lane.gather.places) p None (ap (λ xs. slice_get xs p) (sym answered) ∙ at) in
+    let its : answer (txn_of k z.1.number) lane.heard p ≡ None = subst (λ txn. answer txn lane.heard p ≡ None) (for_last z.0 z.1 is top) empty in
+    let unheard = none_found (names (txn_of k z.1.number) p) lane.heard its in
+    absurd (omega arith)
+
+busy_way : (box : Box) → IsBusy box ⊎ (on_way box ≡ [])
+busy_way box = elim (busy_or_free box) [
+  | inl busy ↦ inl busy
+  | inr free ↦ inr (rw (free.0, free.1) refl)
+]
+
+unanswered_by : (room blocks : ℕ) (next : ℕ → ℕ) (h : House) → IsReached room blocks h → OffersMove room next h → ((k : ℕ) (lane : Lane) → LaneIs h k lane → lane.collected < length lane.slips → IsMovedBy Anyone room next h)
+    → (k : ℕ) (lane : Lane) (p : ℕ) → LaneIs h k lane → slice_get lane.gather.places p ≡ Some None → IsMovedBy Anyone room next h
+unanswered_by room blocks next h f offers collects k lane p at open' = elim (some_holds lane) [
+  | inl some ↦ offers k lane at some
+  | inr idle ↦ elim (low_or_full lane.collected (length lane.slips)) [
+    | inl low ↦ collects k lane at low
+    | inr all ↦ elim (search_in on_way IsBusy busy_way h.boxes) [
+      | inl there ↦ any_worker there.0 room next h (busy_moves room blocks next h f there.0 there.1 there.2 there.3)
+      | inr none ↦ absurd (no_answer k h.depot lane h.boxes p (f.tracked k lane at) (f.answers k lane at) (λ i t is top. f.for_last k lane i t at is top) idle all none open' lane.messages refl)
+    ]
+  ]
+]
+
 pub nothing_is_stuck : NothingIsStuck
 nothing_is_stuck room blocks start run is r o some capacity next all =
     let h = last_house start run in
@@ -303,6 +380,8 @@ nothing_is_stuck room blocks start run is r o some capacity next all =
       accepted = accepted_moves room blocks next h f;
       in_hand = hand_moves room blocks next h f;
       to_collect = collects_move room blocks next h f c all;
+      unanswered = unanswered_by room blocks next h f (λ k lane at some. any_lane k room next h (offers_move room blocks next h f c all k lane at some))
+          (λ k lane at some. any_lane k room next h (collects_move room blocks next h f c all k lane at some));
       sealed = sealed_by room blocks next h f (λ k lane at some. any_lane k room next h (offers_move room blocks next h f c all k lane at some));
     }
 
@@ -333,6 +412,59 @@ nothing_is_stuck_when_closed room blocks start run is r o some next all shut =
       accepted = accepted_moves room blocks next h f;
       in_hand = hand_moves room blocks next h f;
       to_collect = λ k lane at some'. closed_collects room blocks next h f all shut k lane at some' lane.holds refl;
+      unanswered = unanswered_by room blocks next h f
+          (λ k lane at some'. widen (TheLane k) Anyone room next h (λ who by. inr (inl (k, by))) (closed_offers room blocks next h f all shut k lane at lane.holds refl some'))
+          (λ k lane at some'. widen (TheLane k) Anyone room next h (λ who by. inr (inl (k, by))) (closed_collects room blocks next h f all shut k lane at some' lane.holds refl));
       sealed = sealed_by room blocks next h f
           (λ k lane at some'. widen (TheLane k) Anyone room next h (λ who by. inr (inl (k, by))) (closed_offers room blocks next h f all shut k lane at lane.holds refl some'));
     }
+
+-- where nothing goes on, all is finished
+goes_on : (P : Mover → Type 0) (room : ℕ) (next : ℕ → ℕ) (h : House) → IsMovedBy P room next h → MayGoOn room next h
+goes_on P room next h m = record { event = m.event; goes_on = m.goes_on; in_order = m.in_order; happens = m.happens }
+
+no_key : (draft : Option Key) → ((key : Key) → draft ≡ Some key → ⊥) → draft ≡ None
+no_key None f = refl
+no_key (Some key) f = absurd (f key refl)
+
+no_copy : (hand : Option Copy) → ((copy : Copy) → hand ≡ Some copy → ⊥) → hand ≡ None
+no_copy None f = refl
+no_copy (Some copy) f = absurd (f copy refl)
+
+no_holds : (holds : List Hold) → (holds ≢ [] → ⊥) → holds ≡ []
+no_holds [] f = refl
+no_holds (x ∷ holds) f = absurd (f (λ e. cc))
+
+all_answered : (places : List (Option Outcome)) → ((p : ℕ) → slice_get places p ≡ Some None → ⊥) → AllByRecursion IsAnswered places
+all_answered [] f = tt
+all_answered (None ∷ places) f = absurd (f 0 refl)
+all_answered (Some o ∷ places) f = (tt, all_answered places (λ p e. f (suc p) e))
+
+finished_by : (Movers : ℕ → Mover → Type 0) (room : ℕ) (next : ℕ → ℕ) (h : House) → HasKept h → ((b : ℕ) (box : Box) → BoxIs h b box → box.taken ≤ length box.accepted) → ((k : ℕ) (lane : Lane) → LaneIs h k lane → lane.collected ≤ length lane.slips)
+    → NothingStuck Movers room next h → (MayGoOn room next h → ⊥) → IsFinished h
+finished_by Movers room next h kept fronts slips n still = record {
+  no_draft = λ k lane at. no_key lane.draft (λ key e. still (goes_on (TheLane k) room next h (n.draft k lane key at e)));
+  none_to_offer = λ k lane at. no_holds lane.holds (λ some. still (goes_on (Movers k) room next h (n.to_offer k lane at some)));
+  drained = λ w box at. elim (low_or_full box.taken (length box.accepted)) [
+    | inl low ↦ absurd (still (goes_on (TheWorker w) room next h (n.accepted w box at low)))
+    | inr all ↦ let front = fronts w box at in omega arith
+  ];
+  free_hand = λ w box at. no_copy box.hand (λ copy e. still (goes_on (TheWorker w) room next h (n.in_hand w box copy at e)));
+  collected = λ k lane at. elim (low_or_full lane.collected (length lane.slips)) [
+    | inl low ↦ absurd (still (goes_on (Movers k) room next h (n.to_collect k lane at low)))
+    | inr all ↦ let front = slips k lane at in omega arith
+  ];
+  answered = λ k lane at. all_answered lane.gather.places (λ p e. still (goes_on Anyone room next h (n.unanswered k lane p at e)));
+  reclaimed = λ i slot bytes its weight at e. still (goes_on Anyone room next h (n.sealed i slot bytes its weight at e));
+}
+
+pub ends_finished : EndsFinished
+ends_finished room blocks start run is r o some capable next all still =
+    let h = last_house start run in
+    let f = reached room blocks start run is r o some in
+    let fronts = (every_run_accepts blocks start run is r).front in
+    let slips : (k : ℕ) (lane : Lane) → LaneIs h k lane → lane.collected ≤ length lane.slips = λ k lane at. (f.tracked k lane at).front in
+    elim capable [
+      | inl capacity ↦ finished_by (LaneOrWorker next) room next h f.kept fronts slips (nothing_is_stuck room blocks start run is r o some capacity next all) still
+      | inr shut ↦ finished_by TheLane room next h f.kept fronts slips (nothing_is_stuck_when_closed room blocks start run is r o some next all shut) still
+    ]

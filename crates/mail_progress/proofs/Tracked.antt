@@ -165,7 +165,7 @@ all_remove P [] (suc i) h = tt
 all_remove P (x ∷ xs) zero h = h.1
 all_remove P (x ∷ xs) (suc i) h = (h.0, all_remove P xs i h.1)
 
-last_there : {A : Type 0} (xs : List A) (i : ℕ) (x : A) → slice_get xs i ≡ Some x → (j : ℕ) × (y : A) × (slice_get xs j ≡ Some y) × (length xs ≡ j + 1)
+pub last_there : {A : Type 0} (xs : List A) (i : ℕ) (x : A) → slice_get xs i ≡ Some x → (j : ℕ) × (y : A) × (slice_get xs j ≡ Some y) × (length xs ≡ j + 1)
 last_there [] i x e = cc
 last_there (y ∷ []) i x e = (0, y, refl, refl)
 last_there (y ∷ z ∷ xs) i x e = let rest = last_there (z ∷ xs) 0 z refl in (suc rest.0, rest.1, rest.2, (let f : length (z ∷ xs) ≡ rest.0 + 1 = rest.3 in omega arith))
