@@ -46,7 +46,7 @@ LanesStay ls ms = (k : ℕ) → HasLane ls k → HasLane ms k
 stay_same : (ls ms : List Lane) → ms ≡ ls → LanesStay ls ms
 stay_same ls ms e k there = (there.0, ap (λ xs. slice_get xs k) e ∙ there.1)
 
-same_or_not : (k at : ℕ) → (k ≡ at) ⊎ (k ≢ at)
+pub same_or_not : (k at : ℕ) → (k ≡ at) ⊎ (k ≢ at)
 same_or_not k at = grind arith
 
 stay_set : (ls ms : List Lane) (v : ℕ) (old new : Lane) → slice_get ls v ≡ Some old → ms ≡ slice_set ls v new → LanesStay ls ms

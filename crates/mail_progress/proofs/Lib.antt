@@ -9,3 +9,4 @@ pub mod Lowered
 pub mod Kept
 pub mod Movers
 pub mod Tracked
+pub mod Owners
