@@ -1,0 +1,207 @@
+-- What the house keeps in every run, so that steps may be taken: the capacity, the lanes of the copies, weights of 1 or more, and no more written than there is.
+use Rattle.std.proofs.Common.{◌≡◌, ◌≢◌, ◌⊎◌, ℕ, zero, suc, ◌+◌, ◌-◌, ◌<◌, ◌≤◌, List, [], ◌∷◌, ◌++◌, length, drop, Option, Some, None, inl, inr, refl, ap, sym, ◌∙◌, subst, arith, length-append}
+use Rattle.std.specs.Prelude.{slice_get, slice_set, remove}
+use Rattle.std.specs.List.{AllByRecursion}
+use Rattle.std.proofs.lemmas.List.{length-drop}
+use Rattle.std.proofs.lemmas.Option.{slice_get_within}
+use Rattle.mail_world.specs.declared.Event.{Event}
+use Rattle.mail_world.specs.declared.Event.TheVariants.{Begin, Put, Cancel, Seal, Split, Offer, HandBack, Collect, Take, Write, Sync, Release, GiveSlip, Reclaim, Close}
+use Rattle.mail_world.specs.House.{Hold, Post, Copy, Box, Lane, House, IsFreshBox, IsFreshLane, IsStart}
+use Rattle.mail_world.specs.Events.{Step, LaneIs, BoxIs}
+use Rattle.mail_world.specs.Runs.{Happened, Run, last_house}
+use Rattle.mail_world.proofs.Accepted.{get_set, each_at}
+use Rattle.mail_world.proofs.Heard.{all_more, all_set, weaken}
+use Rattle.mail_world.proofs.Depots.{set_at, set_past}
+use Rattle.mail_progress.specs.StepsLeft.{size}
+
+-- the capacity
+capacity_step : (h : House) (e : Event) (new : House) → Step h e new → new.capacity ≡ h.capacity
+capacity_step h (Begin k) new st = ap (λ (x : House). x.capacity) st.after
+capacity_step h (Put k bytes) new st = ap (λ (x : House). x.capacity) st.after
+capacity_step h (Cancel k) new st = ap (λ (x : House). x.capacity) st.after
+capacity_step h (Seal k n) new st = ap (λ (x : House). x.capacity) st.after
+capacity_step h (Split k i) new st = ap (λ (x : House). x.capacity) st.after
+capacity_step h (Offer k note) new st = ap (λ (x : House). x.capacity) st.after
+capacity_step h (HandBack k i b) new st = ap (λ (x : House). x.capacity) st.after
+capacity_step h (Collect k) new st = ap (λ (x : House). x.capacity) st.after
+capacity_step h (Take w) new st = ap (λ (x : House). x.capacity) st.after
+capacity_step h (Write w bytes) new st = ap (λ (x : House). x.capacity) st.after
+capacity_step h (Sync w) new st = ap (λ (x : House). x.capacity) st.after
+capacity_step h (Release w) new st = ap (λ (x : House). x.capacity) st.after
+capacity_step h (GiveSlip w o) new st = ap (λ (x : House). x.capacity) st.after
+capacity_step h (Reclaim slot generation) new st = ap (λ (x : House). x.capacity) st.2
+capacity_step h (Close b) new st = ap (λ (x : House). x.capacity) st.3
+
+pub capacity_run : (h : House) (run : List Happened) → Run h run → (last_house h run).capacity ≡ h.capacity
+capacity_run h [] r = refl
+capacity_run h (x ∷ xs) r = capacity_run x.house xs r.1 ∙ capacity_step h x.event x.house r.0
+
+-- a lane that was there stays
+abbrev pub HasLane : List Lane → ℕ → Type 0
+HasLane lanes k = (lane : Lane) × (slice_get lanes k ≡ Some lane)
+
+abbrev LanesStay : List Lane → List Lane → Type 0
+LanesStay ls ms = (k : ℕ) → HasLane ls k → HasLane ms k
+
+stay_same : (ls ms : List Lane) → ms ≡ ls → LanesStay ls ms
+stay_same ls ms e k there = (there.0, ap (λ xs. slice_get xs k) e ∙ there.1)
+
+pub same_or_not : (k at : ℕ) → (k ≡ at) ⊎ (k ≢ at)
+same_or_not k at = grind arith
+
+stay_set : (ls ms : List Lane) (v : ℕ) (old new : Lane) → slice_get ls v ≡ Some old → ms ≡ slice_set ls v new → LanesStay ls ms
+stay_set ls ms v old new was e k there = elim (same_or_not v k) [
+  | inl same ↦ (new, ap (λ xs. slice_get xs k) e ∙ ap (slice_get (slice_set ls v new)) (sym same) ∙ set_at ls v new old was)
+  | inr other ↦ (there.0, ap (λ xs. slice_get xs k) e ∙ set_past ls v k new other ∙ there.1)
+]
+
+-- the posts of a mailbox are of lanes, and no more of the copy in hand is written than there is
+abbrev pub OfLanes : List Lane → Post → Type 0
+OfLanes ls post = HasLane ls post.note.txn.lane
+
+abbrev pub HandIsRight : House → Option Copy → Type 0
+HandIsRight h None = Unit {0}
+HandIsRight h (Some copy) = HasLane h.lanes copy.post.note.txn.lane × (copy.written ≤ size h copy.post.note)
+
+pub record IsBoxRight (h : House) (box : Box) : Type 0 where
+  pub posts : AllByRecursion (OfLanes h.lanes) box.accepted
+  pub hand : HandIsRight h box.hand
+  pub front : box.taken ≤ length box.accepted
+
+abbrev pub IsSome : Hold → Type 0
+IsSome hold = 1 ≤ hold.weight
+
+pub record IsKept (h : House) : Type 0 where
+  pub boxes : AllByRecursion (IsBoxRight h) h.boxes
+  pub lanes : AllByRecursion (λ (lane : Lane). AllByRecursion IsSome lane.holds) h.lanes
+
+-- how a house follows another: the same texts, and all lanes
+record Follows (h new : House) : Type 0 where
+  sizes : (note : _) → size new note ≡ size h note
+  stay : LanesStay h.lanes new.lanes
+
+hand_right : (h new : House) → Follows h new → (hand : Option Copy) → HandIsRight h hand → HandIsRight new hand
+hand_right h new f None r = tt
+hand_right h new f (Some copy) r = (f.stay copy.post.note.txn.lane r.0, let e = f.sizes copy.post.note in let le = r.1 in omega arith)
+
+box_right : (h new : House) → Follows h new → (box : Box) → IsBoxRight h box → IsBoxRight new box
+box_right h new f box r = record {
+  posts = weaken (OfLanes h.lanes) (OfLanes new.lanes) (λ post there. f.stay post.note.txn.lane there) box.accepted r.posts;
+  hand = hand_right h new f box.hand r.hand;
+  front = r.front;
+}
+
+all_remove : {A : Type 0} (P : A → Type 0) (xs : List A) (i : ℕ) → AllByRecursion P xs → AllByRecursion P (remove xs i)
+all_remove P [] zero h = tt
+all_remove P [] (suc i) h = tt
+all_remove P (x ∷ xs) zero h = h.1
+all_remove P (x ∷ xs) (suc i) h = (h.0, all_remove P xs i h.1)
+
+-- a lane changes, and perhaps a mailbox
+kept_lane : (h new : House) (k : ℕ) (old next : Lane) → IsKept h → ((note : _) → size new note ≡ size h note) → LaneIs h k old → new.boxes ≡ h.boxes → new.lanes ≡ slice_set h.lanes k next
+    → (AllByRecursion IsSome old.holds → AllByRecursion IsSome next.holds) → IsKept new
+kept_lane h new k old next s sizes was boxes lanes ok =
+    let P : Lane → Type 0 = λ lane. AllByRecursion IsSome lane.holds in
+    let f : Follows h new = record { sizes = sizes; stay = stay_set h.lanes new.lanes k old next was lanes } in
+    record {
+      boxes = subst (AllByRecursion (IsBoxRight new)) (sym boxes) (weaken (IsBoxRight h) (IsBoxRight new) (box_right h new f) h.boxes s.boxes);
+      lanes = subst (AllByRecursion P) (sym lanes) (all_set P h.lanes k next s.lanes (ok (each_at P h.lanes k old s.lanes was)));
+    }
+
+kept_none : (h new : House) → IsKept h → ((note : _) → size new note ≡ size h note) → new.boxes ≡ h.boxes → new.lanes ≡ h.lanes → IsKept new
+kept_none h new s sizes boxes lanes =
+    let P : Lane → Type 0 = λ lane. AllByRecursion IsSome lane.holds in
+    let f : Follows h new = record { sizes = sizes; stay = stay_same h.lanes new.lanes lanes } in
+    record {
+      boxes = subst (AllByRecursion (IsBoxRight new)) (sym boxes) (weaken (IsBoxRight h) (IsBoxRight new) (box_right h new f) h.boxes s.boxes);
+      lanes = subst (AllByRecursion P) (sym lanes) s.lanes;
+    }
+
+kept_box : (h new : House) (w : ℕ) (old next : Box) → IsKept h → ((note : _) → size new note ≡ size h note) → BoxIs h w old → new.lanes ≡ h.lanes → new.boxes ≡ slice_set h.boxes w next → (IsBoxRight new old → IsBoxRight new next) → IsKept new
+kept_box h new w old next s sizes was lanes boxes ok =
+    let P : Lane → Type 0 = λ lane. AllByRecursion IsSome lane.holds in
+    let f : Follows h new = record { sizes = sizes; stay = stay_same h.lanes new.lanes lanes } in
+    record {
+      boxes = subst (AllByRecursion (IsBoxRight new)) (sym boxes)
+          (all_set (IsBoxRight new) h.boxes w next (weaken (IsBoxRight h) (IsBoxRight new) (box_right h new f) h.boxes s.boxes) (ok (box_right h new f old (each_at (IsBoxRight h) h.boxes w old s.boxes was))));
+      lanes = subst (AllByRecursion P) (sym lanes) s.lanes;
+    }
+
+kept_both : (h new : House) (w : ℕ) (old next : Box) (k : ℕ) (was after : Lane) → IsKept h → ((note : _) → size new note ≡ size h note) → BoxIs h w old → LaneIs h k was → new.boxes ≡ slice_set h.boxes w next → new.lanes ≡ slice_set h.lanes k after
+    → (IsBoxRight new old → IsBoxRight new next) → (AllByRecursion IsSome was.holds → AllByRecursion IsSome after.holds) → IsKept new
+kept_both h new w old next k was after s sizes there here boxes lanes ok fine =
+    let P : Lane → Type 0 = λ lane. AllByRecursion IsSome lane.holds in
+    let f : Follows h new = record { sizes = sizes; stay = stay_set h.lanes new.lanes k was after here lanes } in
+    record {
+      boxes = subst (AllByRecursion (IsBoxRight new)) (sym boxes)
+          (all_set (IsBoxRight new) h.boxes w next (weaken (IsBoxRight h) (IsBoxRight new) (box_right h new f) h.boxes s.boxes) (ok (box_right h new f old (each_at (IsBoxRight h) h.boxes w old s.boxes there))));
+      lanes = subst (AllByRecursion P) (sym lanes) (all_set P h.lanes k after s.lanes (fine (each_at P h.lanes k was s.lanes here)));
+    }
+
+hand_of : (h : House) (box : Box) (copy : Copy) → box.hand ≡ Some copy → HandIsRight h box.hand → HasLane h.lanes copy.post.note.txn.lane × (copy.written ≤ size h copy.post.note)
+hand_of h box copy e r = subst (HandIsRight h) e r
+
+pub kept_step : (h : House) (e : Event) (new : House) → IsKept h → Step h e new → IsKept new
+kept_step h (Begin k) new s st = subst IsKept (sym st.after) (kept_lane h _ k st.lane _ s (λ note. refl) st.is refl refl (λ ok. ok))
+kept_step h (Put k bytes) new s st = subst IsKept (sym st.after) (kept_none h _ s (λ note. refl) refl refl)
+kept_step h (Cancel k) new s st = subst IsKept (sym st.after) (kept_lane h _ k st.lane _ s (λ note. refl) st.is refl refl (λ ok. ok))
+kept_step h (Seal k n) new s st =
+    subst IsKept (sym st.after) (kept_lane h _ k st.lane _ s (λ note. refl) st.is refl refl (λ ok. all_more IsSome st.lane.holds (record { key = st.key; weight = n }) ok st.some))
+kept_step h (Split k i) new s st =
+    let rest : Hold = record { key = st.key; weight = st.weight } in
+    let one : Hold = record { key = st.key; weight = 1 } in
+    subst IsKept (sym st.after) (kept_lane h _ k st.lane _ s (λ note. refl) st.is refl refl (λ ok. all_more IsSome (slice_set st.lane.holds i rest) one (all_set IsSome st.lane.holds i rest ok st.above) (omega arith)))
+kept_step h (Offer k note) new s st =
+    subst IsKept (sym st.after) (kept_both h _ note.mailbox st.box _ k st.lane _ s (λ note. refl) st.channel st.is refl refl
+    (λ ok. record {
+      posts = all_more (OfLanes _) st.box.accepted (record { note = note; key = st.key }) ok.posts (subst (HasLane _) (sym st.own) (_, set_at h.lanes k _ st.lane st.is));
+      hand = ok.hand;
+      front = let l = length-append st.box.accepted (record { note = note; key = st.key } ∷ []) in let low = ok.front in omega arith;
+    })
+    (λ ok. all_remove IsSome st.lane.holds st.at ok))
+kept_step h (HandBack k i b) new s st = subst IsKept (sym st.after) (kept_lane h _ k st.lane _ s (λ note. refl) st.is refl refl (λ ok. all_remove IsSome st.lane.holds i ok))
+kept_step h (Collect k) new s st = subst IsKept (sym st.after) (kept_lane h _ k st.lane _ s (λ note. refl) st.is refl refl (λ ok. ok))
+kept_step h (Take w) new s st =
+    subst IsKept (sym st.after) (kept_box h _ w st.box _ s (λ note. refl) st.is refl refl
+    (λ ok. record { posts = ok.posts; hand = (each_at (OfLanes h.lanes) st.box.accepted st.box.taken st.post ok.posts st.front, omega arith); front = let below = slice_get_within st.box.accepted st.box.taken st.post st.front in omega arith }))
+kept_step h (Write w bytes) new s st =
+    let len : size h st.copy.post.note - st.copy.written ≡ length bytes + length st.more = sym (length-drop st.copy.written _) ∙ ap length st.next ∙ length-append bytes st.more in
+    subst IsKept (sym st.after) (kept_box h _ w st.box _ s (λ note. refl) st.is refl refl
+    (λ ok. let r = hand_of h st.box st.copy st.in_hand ok.hand in let low = r.1 in record { posts = ok.posts; hand = (r.0, omega (arith, len, low)); front = ok.front }))
+kept_step h (Sync w) new s st =
+    subst IsKept (sym st.after) (kept_box h _ w st.box _ s (λ note. refl) st.is refl refl (λ ok. record { posts = ok.posts; hand = hand_of h st.box st.copy st.in_hand ok.hand; front = ok.front }))
+kept_step h (Release w) new s st =
+    subst IsKept (sym st.after) (kept_box h _ w st.box _ s (λ note. refl) st.is refl refl (λ ok. record { posts = ok.posts; hand = hand_of h st.box st.copy st.in_hand ok.hand; front = ok.front }))
+kept_step h (GiveSlip w o) new s st =
+    subst IsKept (sym st.after) (kept_both h _ w st.box _ st.copy.post.note.txn.lane st.lane _ s (λ note. refl) st.is st.to refl refl (λ ok. record { posts = ok.posts; hand = tt; front = ok.front }) (λ ok. ok))
+kept_step h (Reclaim slot generation) new s st = subst IsKept (sym st.2) (kept_none h _ s (λ note. refl) refl refl)
+kept_step h (Close b) new s st = subst IsKept (sym st.3) (kept_box h _ b st.0 _ s (λ note. refl) st.1 refl refl (λ ok. record { posts = ok.posts; hand = ok.hand; front = ok.front }))
+
+kept_run : (h : House) (run : List Happened) → IsKept h → Run h run → IsKept (last_house h run)
+kept_run h [] s r = s
+kept_run h (x ∷ xs) s r = kept_run x.house xs (kept_step h x.event x.house s r.0) r.1
+
+all_of : {A : Type 0} (P Q : A → Type 0) → ((x : A) → P x → Q x) → (xs : List A) → AllByRecursion P xs → AllByRecursion Q xs
+all_of P Q f xs all = weaken P Q f xs all
+
+pub kept_start : (blocks : ℕ) (h : House) → IsStart blocks h → IsKept h
+kept_start blocks h start = record {
+  boxes = all_of IsFreshBox (IsBoxRight h) (λ box f. record { posts = subst (AllByRecursion (OfLanes h.lanes)) (sym f.accepted) tt; hand = subst (HandIsRight h) (sym f.hand) tt; front = let t = f.taken in omega arith }) h.boxes start.boxes;
+  lanes = all_of IsFreshLane (λ (lane : Lane). AllByRecursion IsSome lane.holds) (λ lane f. subst (AllByRecursion IsSome) (sym f.holds) tt) h.lanes start.lanes;
+}
+
+-- what follows of it
+pub record HasKept (h : House) : Type 0 where
+  pub lane_there : (w : ℕ) (box : Box) (copy : Copy) → BoxIs h w box → box.hand ≡ Some copy → HasLane h.lanes copy.post.note.txn.lane
+  pub written : (w : ℕ) (box : Box) (copy : Copy) → BoxIs h w box → box.hand ≡ Some copy → copy.written ≤ size h copy.post.note
+  pub some : (k : ℕ) (lane : Lane) (i : ℕ) (hold : Hold) → LaneIs h k lane → slice_get lane.holds i ≡ Some hold → 1 ≤ hold.weight
+
+pub every_run_keeps : (blocks : ℕ) (start : House) (run : List Happened) → IsStart blocks start → Run start run → HasKept (last_house start run)
+every_run_keeps blocks start run is r =
+    let h = last_house start run in
+    let s = kept_run start run (kept_start blocks start is) r in
+    record {
+      lane_there = λ w box copy at e. (hand_of h box copy e (each_at (IsBoxRight h) h.boxes w box s.boxes at).hand).0;
+      written = λ w box copy at e. (hand_of h box copy e (each_at (IsBoxRight h) h.boxes w box s.boxes at).hand).1;
+      some = λ k lane i hold at e. each_at IsSome lane.holds i hold (each_at (λ (l : Lane). AllByRecursion IsSome l.holds) h.lanes k lane s.lanes at) e;
+    }

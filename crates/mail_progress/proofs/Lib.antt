@@ -1,0 +1,12 @@
+pub mod Started
+pub mod Still
+pub mod NoCapacity
+pub mod NoRoomForSlips
+pub mod Sums
+pub mod Within
+pub mod Pigeons
+pub mod Lowered
+pub mod Kept
+pub mod Movers
+pub mod Tracked
+pub mod Owners

@@ -1,0 +1,470 @@
+-- In an orderly run whatever is under way is moved.
+use Rattle.std.proofs.Common.{◌≡◌, ◌≢◌, ◌⊎◌, ℕ, zero, suc, ◌+◌, ◌-◌, ◌<◌, ◌≤◌, List, [], ◌∷◌, ◌++◌, length, drop, map, Bool, true, false, not, ◌||◌, Option, Some, None, inl, inr, refl, ap, sym, ◌∙◌, subst, arith, append-nil}
+use Rattle.std.specs.Prelude.{slice_get, flat_map, IfSome, sum_by, count_by, find, option_map, nat_lt, cond}
+use Rattle.std.specs.List.{AllByRecursion, range_with_len}
+use Rattle.std.proofs.lemmas.Bool.Decides.{nat_tests}
+use Rattle.std.proofs.lemmas.Option.{slice_get_within}
+use Rattle.mail_world.specs.declared.Outcome.{Outcome}
+use Rattle.mail_world.specs.declared.Slip.{Slip}
+use Rattle.mail_world.specs.Slips.{txn_of, names, times_named, answer, answers}
+use Rattle.mail_world.proofs.GivenAway.{is_given, count-cons, count_some}
+use Rattle.mail_world.proofs.Heard.{every_run_answers}
+use Rattle.mail_world.proofs.LastSeal.{every_run_for_last}
+use Rattle.mail_progress.proofs.Tracked.{copy_at, way_at, IsTracked, AllTracked, last_there, every_orderly_tracked}
+use Rattle.std.proofs.lemmas.Bool.{eq-eqb}
+use Rattle.std.proofs.lemmas.List.{length-drop, drop_all}
+use Rattle.mail_world.specs.declared.Note.{Note}
+use Rattle.mail_world.specs.declared.Event.{Event}
+use Rattle.mail_world.specs.declared.Event.TheVariants.{Seal, Split, Offer, HandBack, Collect, Take, Write, Sync, Release, GiveSlip, Reclaim}
+use Rattle.mail_world.specs.Records.{record_of}
+use Rattle.mail_world.specs.Depot.{Key, Slot, Sealed, held_under, weight_held, weight_under, occurrences, given_back, Depot}
+use Rattle.mail_world.specs.House.{Hold, Post, Copy, Box, SealedMessage, Lane, House, is_settled, IsStart}
+use Rattle.mail_world.specs.Events.{MayHappen, LaneIs, BoxIs, outcome_of}
+use Rattle.mail_world.specs.Runs.{Happened, Run, last_house, hold_of, post_in_hand, posts_of, weight_of, holds_of, HasHolds, HasAnswers}
+use Rattle.mail_world.proofs.Accepted.{each_at, every_run_accepts}
+use Rattle.mail_world.proofs.Depots.{times-append}
+use Rattle.mail_world.proofs.Holds.{every_run_holds}
+use Rattle.mail_world.proofs.MayHappen.{seal_happens, release_happens, hand_back_happens}
+use Rattle.mail_progress.specs.Orderly.{IsAnswered, uncollected, not_taken, IsOrderly}
+use Rattle.mail_progress.specs.OrderlyRuns.{SlipsFindRoom}
+use Rattle.mail_progress.specs.NothingStuck.{Mover, LaneOf, WorkerOf, AnyHolder, IsMovedBy, TheLane, TheWorker, LaneOrWorker, Anyone, AreThere, AreClosed, NothingStuck, NothingIsStuck, NothingIsStuckWhenClosed, IsFinished, EndsFinished}
+use Rattle.mail_progress.specs.GoingOn.{MayGoOn}
+use Rattle.mail_progress.proofs.Within.{on_way, to_give, slips_find_room}
+use Rattle.mail_progress.proofs.Kept.{HasKept, every_run_keeps, capacity_run}
+
+-- what is known of a house in an orderly run
+pub record IsReached (room blocks : ℕ) (h : House) : Type 0 where
+  pub slips : SlipsFindRoom room h
+  pub kept : HasKept h
+  pub holds : HasHolds blocks h
+  pub seals : (k : ℕ) (lane : Lane) (key : Key) → LaneIs h k lane → lane.draft ≡ Some key → MayHappen h (Seal k 1)
+  pub releases : (w : ℕ) (box : Box) (copy : Copy) → BoxIs h w box → box.hand ≡ Some copy → copy.released ≡ false → MayHappen h (Release w)
+  pub backs : (k m : ℕ) (lane : Lane) (hold : Hold) → LaneIs h k lane → slice_get lane.holds 0 ≡ Some hold → hold.weight ≡ 1 → MayHappen h (HandBack k 0 m)
+  pub some_room : 1 ≤ room
+  pub tracked : AllTracked h
+  pub answers : HasAnswers h
+  pub for_last : (k : ℕ) (lane : Lane) (i : ℕ) (t : SealedMessage) → LaneIs h k lane → slice_get lane.messages i ≡ Some t → length lane.messages ≡ i + 1 → lane.gather.txn ≡ txn_of k t.number
+
+pub reached : (room blocks : ℕ) (start : House) (run : List Happened) → IsStart blocks start → Run start run → IsOrderly room start run → 1 ≤ room → IsReached room blocks (last_house start run)
+reached room blocks start run is r o some = record {
+  slips = slips_find_room room blocks start run is r o;
+  kept = every_run_keeps blocks start run is r;
+  holds = every_run_holds blocks start run is r;
+  seals = λ k lane key at draft. seal_happens blocks start run is r k 1 lane key at draft (omega arith);
+  releases = λ w box copy at hand held. release_happens blocks start run is r w box copy at hand held;
+  backs = λ k m lane hold at there one. hand_back_happens blocks start run is r k 0 m lane hold at there one;
+  some_room = some;
+  tracked = every_orderly_tracked room blocks start run is r o;
+  answers = every_run_answers blocks start run is r;
+  for_last = (every_run_for_last blocks start run is r).txn;
+}
+
+pub widen : (P Q : Mover → Type 0) (room : ℕ) (next : ℕ → ℕ) (h : House) → ((who : Mover) → P who → Q who) → IsMovedBy P room next h → IsMovedBy Q room next h
+widen P Q room next h f m = record { event = m.event; by = f _ m.by; goes_on = m.goes_on; in_order = m.in_order; happens = m.happens }
+
+-- a copy in hand
+or_false : (a b : Bool) → (a || b) ≡ false → (a ≡ false) × (b ≡ false)
+or_false true b e = cc
+or_false false b e = (refl, e)
+
+give_moves : (room blocks : ℕ) (next : ℕ → ℕ) (h : House) → IsReached room blocks h → (w : ℕ) (box : Box) (copy : Copy) → BoxIs h w box → box.hand ≡ Some copy → copy.released ≡ true → IsMovedBy (TheWorker w) room next h
+give_moves room blocks next h f w box copy at hand released =
+    let there = f.kept.lane_there w box copy at hand in
+    let below : uncollected there.0 < room = f.slips w box copy there.0 at hand released there.1 in
+    let P : Copy → Type 0 = λ c. IfSome (slice_get h.lanes c.post.note.txn.lane) (λ lane. uncollected lane < room) in
+    let in_lane : P copy = subst (λ o. IfSome o (λ (lane : Lane). uncollected lane < room)) (sym there.1) below in
+    let in_hand : IfSome box.hand P = subst (λ o. IfSome o P) (sym hand) in_lane in
+    record {
+      event = GiveSlip w (outcome_of copy);
+      by = refl;
+      goes_on = tt;
+      in_order = subst (λ o. IfSome o (λ (b : Box). IfSome b.hand P)) (sym at) in_hand;
+      happens = (_, record { box = box; copy = copy; lane = there.0; is = at; in_hand = hand; let_go = released; says = refl; to = there.1; after = refl });
+    }
+
+release_moves : (room blocks : ℕ) (next : ℕ → ℕ) (h : House) → IsReached room blocks h → (w : ℕ) (box : Box) (copy : Copy) → BoxIs h w box → box.hand ≡ Some copy → copy.released ≡ false → (is_settled copy || box.faulty) ≡ true
+    → IsMovedBy (TheWorker w) room next h
+release_moves room blocks next h f w box copy at hand held may =
+    let P : Box → Copy → Type 0 = λ b c. (is_settled c || b.faulty) ≡ true in
+    let in_hand : IfSome box.hand (P box) = subst (λ o. IfSome o (P box)) (sym hand) may in
+    record {
+      event = Release w;
+      by = refl;
+      goes_on = subst (λ o. IfSome o (λ (b : Box). IfSome b.hand (P b))) (sym at) in_hand;
+      in_order = tt;
+      happens = f.releases w box copy at hand held;
+    }
+
+write_moves : (room blocks : ℕ) (next : ℕ → ℕ) (h : House) → IsReached room blocks h → (w : ℕ) (box : Box) (copy : Copy) → BoxIs h w box → box.hand ≡ Some copy → copy.released ≡ false → is_settled copy ≡ false → box.faulty ≡ false
+    → (rest : List ℕ) → drop copy.written (record_of h.calendar h.host copy.post.note) ≡ rest → IsMovedBy (TheWorker w) room next h
+write_moves room blocks next h f w box copy at hand held unsettled sound [] e =
+    let low = f.kept.written w box copy at hand in
+    let none : length (record_of h.calendar h.host copy.post.note) - copy.written ≡ 0 = sym (length-drop copy.written _) ∙ ap length e in
+    record {
+      event = Sync w;
+      by = refl;
+      goes_on = tt;
+      in_order = tt;
+      happens = (_, record { box = box; copy = copy; is = at; in_hand = hand; sound = sound; held = held; unsettled = unsettled; whole = omega arith; after = refl });
+    }
+write_moves room blocks next h f w box copy at hand held unsettled sound (x ∷ xs) e =
+    let P : Copy → Type 0 = λ c. drop c.written (record_of h.calendar h.host c.post.note) ≡ x ∷ xs in
+    let in_hand : IfSome box.hand P = subst (λ o. IfSome o P) (sym hand) e in
+    record {
+      event = Write w (x ∷ xs);
+      by = refl;
+      goes_on = (omega arith, subst (λ o. IfSome o (λ (b : Box). IfSome b.hand P)) (sym at) in_hand);
+      in_order = tt;
+      happens = (_, record { box = box; copy = copy; more = []; is = at; in_hand = hand; sound = sound; held = held; unsettled = unsettled; next = e ∙ sym (append-nil (x ∷ xs)); after = refl });
+    }
+
+held_moves : (room blocks : ℕ) (next : ℕ → ℕ) (h : House) → IsReached room blocks h → (w : ℕ) (box : Box) (copy : Copy) → BoxIs h w box → box.hand ≡ Some copy → copy.released ≡ false
+    → (t : Bool) → (is_settled copy || box.faulty) ≡ t → IsMovedBy (TheWorker w) room next h
+held_moves room blocks next h f w box copy at hand held true e = release_moves room blocks next h f w box copy at hand held e
+held_moves room blocks next h f w box copy at hand held false e =
+    let both = or_false (is_settled copy) box.faulty e in
+    write_moves room blocks next h f w box copy at hand held both.0 both.1 (drop copy.written (record_of h.calendar h.host copy.post.note)) refl
+
+hand_by : (room blocks : ℕ) (next : ℕ → ℕ) (h : House) → IsReached room blocks h → (w : ℕ) (box : Box) (copy : Copy) → BoxIs h w box → box.hand ≡ Some copy → (t : Bool) → copy.released ≡ t → IsMovedBy (TheWorker w) room next h
+hand_by room blocks next h f w box copy at hand true e = give_moves room blocks next h f w box copy at hand e
+hand_by room blocks next h f w box copy at hand false e = held_moves room blocks next h f w box copy at hand e (is_settled copy || box.faulty) refl
+
+pub hand_moves : (room blocks : ℕ) (next : ℕ → ℕ) (h : House) → IsReached room blocks h → (w : ℕ) (box : Box) (copy : Copy) → BoxIs h w box → box.hand ≡ Some copy → IsMovedBy (TheWorker w) room next h
+hand_moves room blocks next h f w box copy at hand = hand_by room blocks next h f w box copy at hand copy.released refl
+
+-- a copy that is accepted
+there_is : {A : Type 0} (xs : List A) (i : ℕ) → i < length xs → (x : A) × (slice_get xs i ≡ Some x)
+there_is [] i le = absurd (omega arith)
+there_is (x ∷ xs) zero le = (x, refl)
+there_is (x ∷ xs) (suc i) le = there_is xs i (omega arith)
+
+accepted_by : (room blocks : ℕ) (next : ℕ → ℕ) (h : House) → IsReached room blocks h → (w : ℕ) (box : Box) → BoxIs h w box → box.taken < length box.accepted → (hand : Option Copy) → box.hand ≡ hand → IsMovedBy (TheWorker w) room next h
+accepted_by room blocks next h f w box at some None e =
+    let front = there_is box.accepted box.taken some in
+    record { event = Take w; by = refl; goes_on = tt; in_order = tt; happens = (_, record { box = box; post = front.0; is = at; free_hand = e; front = front.1; after = refl }) }
+accepted_by room blocks next h f w box at some (Some copy) e = hand_moves room blocks next h f w box copy at e
+
+pub accepted_moves : (room blocks : ℕ) (next : ℕ → ℕ) (h : House) → IsReached room blocks h → (w : ℕ) (box : Box) → BoxIs h w box → box.taken < length box.accepted → IsMovedBy (TheWorker w) room next h
+accepted_moves room blocks next h f w box at some = accepted_by room blocks next h f w box at some box.hand refl
+
+-- a copy to offer
+split_moves : (room : ℕ) (next : ℕ → ℕ) (h : House) (k : ℕ) (lane : Lane) (key : Key) (weight : ℕ) → LaneIs h k lane → slice_get lane.holds 0 ≡ Some (record { key = key; weight = weight + 1 }) → 1 ≤ weight → IsMovedBy (TheLane k) room next h
+split_moves room next h k lane key weight at there some =
+    record { event = Split k 0; by = refl; goes_on = tt; in_order = tt; happens = (_, record { lane = lane; key = key; weight = weight; is = at; hold = there; above = some; after = refl }) }
+
+offer_moves : (room blocks : ℕ) (next : ℕ → ℕ) (h : House) → IsReached room blocks h → 1 ≤ h.capacity → (k : ℕ) (lane : Lane) (hold : Hold) (box : Box) → LaneIs h k lane → slice_get lane.holds 0 ≡ Some hold → hold.weight ≡ 1
+    → BoxIs h (next k) box → box.closed ≡ false → length box.accepted < box.taken + h.capacity → IsMovedBy (TheLane k) room next h
+offer_moves room blocks next h f c k lane hold box at there one channel opened low =
+    let of = each_at _ lane.holds 0 hold (f.holds.of_lanes k lane at) there in
+    let m : SealedMessage = of.message in
+    let note : Note = record { txn = record { lane = k; number = m.number }; place = m.offered; mailbox = next k; sender = []; client = []; moment = 0; message = m.message } in
+    let its : slice_get lane.holds 0 ≡ Some (record { key = hold.key; weight = 1 }) = there ∙ ap (λ n. let x : Hold = record { key = hold.key; weight = n } in Some x) one in
+    let message : slice_get lane.messages of.place ≡ Some (record { number = m.number; key = hold.key; message = m.message; offered = m.offered }) =
+    of.is ∙ ap (λ key. let x : SealedMessage = record { number = m.number; key = key; message = m.message; offered = m.offered } in Some x) (sym of.key) in
+    let below : not_taken box < h.capacity = omega arith in
+    record {
+      event = Offer k note;
+      by = refl;
+      goes_on = refl;
+      in_order = subst (λ o. IfSome o (λ (b : Box). not_taken b < h.capacity)) (sym channel) below;
+      happens = (_, record { lane = lane; box = box; at = 0; t = of.place; key = hold.key; is = at; copy = record { hold = its; is = message }; own = refl; channel = channel; still_open = opened; room = low; after = refl });
+    }
+
+back_moves : (room blocks : ℕ) (next : ℕ → ℕ) (h : House) → IsReached room blocks h → (k : ℕ) (lane : Lane) (hold : Hold) (box : Box) → LaneIs h k lane → slice_get lane.holds 0 ≡ Some hold → hold.weight ≡ 1
+    → BoxIs h (next k) box → box.closed ≡ true → IsMovedBy (TheLane k) room next h
+back_moves room blocks next h f k lane hold box at there one channel closed =
+    record { event = HandBack k 0 (next k); by = refl; goes_on = (refl, (box, channel, closed)); in_order = tt; happens = f.backs k (next k) lane hold at there one }
+
+low_or_full : (a b : ℕ) → (a < b) ⊎ (b ≤ a)
+low_or_full a b = grind arith
+
+one_moves : (room blocks : ℕ) (next : ℕ → ℕ) (h : House) → IsReached room blocks h → 1 ≤ h.capacity → (k : ℕ) (lane : Lane) (hold : Hold) (box : Box) → LaneIs h k lane → slice_get lane.holds 0 ≡ Some hold → hold.weight ≡ 1
+    → BoxIs h (next k) box → (t : Bool) → box.closed ≡ t → IsMovedBy (LaneOrWorker next k) room next h
+one_moves room blocks next h f c k lane hold box at there one channel true e =
+    widen (TheLane k) (LaneOrWorker next k) room next h (λ who by. inl by) (back_moves room blocks next h f k lane hold box at there one channel e)
+one_moves room blocks next h f c k lane hold box at there one channel false e = elim (low_or_full (length box.accepted) (box.taken + h.capacity)) [
+  | inl low ↦ widen (TheLane k) (LaneOrWorker next k) room next h (λ who by. inl by) (offer_moves room blocks next h f c k lane hold box at there one channel e low)
+  | inr full ↦ widen (TheWorker (next k)) (LaneOrWorker next k) room next h (λ who by. inr by) (accepted_moves room blocks next h f (next k) box channel (omega arith))
+]
+
+weight_moves : (room blocks : ℕ) (next : ℕ → ℕ) (h : House) → IsReached room blocks h → 1 ≤ h.capacity → AreThere next h → (k : ℕ) (lane : Lane) (hold : Hold) → LaneIs h k lane → slice_get lane.holds 0 ≡ Some hold → (n : ℕ) → hold.weight ≡ n → IsMovedBy (LaneOrWorker next k) room next h
+weight_moves room blocks next h f c all k lane hold at there zero e = let some = f.kept.some k lane 0 hold at there in absurd (omega arith)
+weight_moves room blocks next h f c all k lane hold at there (suc zero) e = let b = all k lane at in one_moves room blocks next h f c k lane hold b.0 at there e b.1 b.0.closed refl
+weight_moves room blocks next h f c all k lane hold at there (suc (suc n)) e =
+    let its : slice_get lane.holds 0 ≡ Some (record { key = hold.key; weight = suc n + 1 }) = there ∙ ap (λ m. let x : Hold = record { key = hold.key; weight = m } in Some x) (let s : hold.weight ≡ suc n + 1 = omega arith in s) in
+    widen (TheLane k) (LaneOrWorker next k) room next h (λ who by. inl by) (split_moves room next h k lane hold.key (suc n) at its (omega arith))
+
+holds_by : (room blocks : ℕ) (next : ℕ → ℕ) (h : House) → IsReached room blocks h → 1 ≤ h.capacity → AreThere next h → (k : ℕ) (lane : Lane) → LaneIs h k lane → (holds : List Hold) → lane.holds ≡ holds → holds ≢ [] → IsMovedBy (LaneOrWorker next k) room next h
+holds_by room blocks next h f c all k lane at [] e some = absurd (some refl)
+holds_by room blocks next h f c all k lane at (hold ∷ holds) e some = weight_moves room blocks next h f c all k lane hold at (ap (λ hs. slice_get hs 0) e) hold.weight refl
+
+pub offers_move : (room blocks : ℕ) (next : ℕ → ℕ) (h : House) → IsReached room blocks h → 1 ≤ h.capacity → AreThere next h → (k : ℕ) (lane : Lane) → LaneIs h k lane → lane.holds ≢ [] → IsMovedBy (LaneOrWorker next k) room next h
+offers_move room blocks next h f c all k lane at some = holds_by room blocks next h f c all k lane at lane.holds refl some
+
+-- a slip to collect
+collect_moves : (room : ℕ) (next : ℕ → ℕ) (h : House) (k : ℕ) (lane : Lane) → LaneIs h k lane → lane.collected < length lane.slips → lane.holds ≡ [] → IsMovedBy (TheLane k) room next h
+collect_moves room next h k lane at some e =
+    let front = there_is lane.slips lane.collected some in
+    record {
+      event = Collect k;
+      by = refl;
+      goes_on = tt;
+      in_order = subst (λ o. IfSome o (λ (l : Lane). l.holds ≡ [])) (sym at) e;
+      happens = (_, record { lane = lane; slip = front.0; is = at; front = front.1; after = refl });
+    }
+
+collect_by : (room blocks : ℕ) (next : ℕ → ℕ) (h : House) → IsReached room blocks h → 1 ≤ h.capacity → AreThere next h → (k : ℕ) (lane : Lane) → LaneIs h k lane → lane.collected < length lane.slips → (holds : List Hold) → lane.holds ≡ holds → IsMovedBy (LaneOrWorker next k) room next h
+collect_by room blocks next h f c all k lane at some [] e = widen (TheLane k) (LaneOrWorker next k) room next h (λ who by. inl by) (collect_moves room next h k lane at some e)
+collect_by room blocks next h f c all k lane at some (hold ∷ holds) e = holds_by room blocks next h f c all k lane at (hold ∷ holds) e (λ bad. cc)
+
+pub collects_move : (room blocks : ℕ) (next : ℕ → ℕ) (h : House) → IsReached room blocks h → 1 ≤ h.capacity → AreThere next h → (k : ℕ) (lane : Lane) → LaneIs h k lane → lane.collected < length lane.slips → IsMovedBy (LaneOrWorker next k) room next h
+collects_move room blocks next h f c all k lane at some = collect_by room blocks next h f c all k lane at some lane.holds refl
+
+-- a draft
+pub draft_moves : (room blocks : ℕ) (next : ℕ → ℕ) (h : House) → IsReached room blocks h → (k : ℕ) (lane : Lane) (key : Key) → LaneIs h k lane → lane.draft ≡ Some key → IsMovedBy (TheLane k) room next h
+draft_moves room blocks next h f k lane key at draft = record { event = Seal k 1; by = refl; goes_on = tt; in_order = f.some_room; happens = f.seals k lane key at draft }
+
+-- an element with something in it, or none has
+pub search_in : {A B : Type 0} (g : A → List B) (P : A → Type 0) → ((x : A) → P x ⊎ (g x ≡ [])) → (xs : List A) → ((i : ℕ) × (x : A) × (slice_get xs i ≡ Some x) × P x) ⊎ (flat_map g xs ≡ [])
+search_in g P each [] = inr refl
+search_in g P each (x ∷ xs) = elim (each x) [
+  | inl here ↦ inl (0, x, refl, here)
+  | inr none ↦ elim (search_in g P each xs) [
+    | inl there ↦ inl (suc there.0, there.1, there.2, there.3)
+    | inr rest ↦ inr (rw (none) rest)
+  ]
+]
+
+some_holds : (lane : Lane) → (lane.holds ≢ []) ⊎ (lane.holds ≡ [])
+some_holds lane = by lane.holds
+  where
+    by : (holds : List Hold) → (holds ≢ []) ⊎ (holds ≡ [])
+    by [] = inr refl
+    by (x ∷ xs) = inl (λ e. cc)
+
+-- a mailbox has a copy in hand or to take
+abbrev pub IsBusy : Box → Type 0
+IsBusy box = (box.taken < length box.accepted) ⊎ ((copy : Copy) × (box.hand ≡ Some copy))
+
+pub busy_or_free : (box : Box) → IsBusy box ⊎ ((box.hand ≡ None) × (drop box.taken box.accepted ≡ []))
+busy_or_free box = elim (low_or_full box.taken (length box.accepted)) [
+  | inl low ↦ inl (inl low)
+  | inr all ↦ by box.hand refl all
+]
+  where
+    by : (hand : Option Copy) → box.hand ≡ hand → length box.accepted ≤ box.taken → IsBusy box ⊎ ((box.hand ≡ None) × (drop box.taken box.accepted ≡ []))
+    by None e all = inr (e, drop_all box.taken box.accepted all)
+    by (Some copy) e all = inl (inr (copy, e))
+
+busy_posts : (box : Box) → IsBusy box ⊎ (map hold_of (posts_of box) ≡ [])
+busy_posts box = elim (busy_or_free box) [
+  | inl busy ↦ inl busy
+  | inr free ↦ inr (rw (free.0, free.1) refl)
+]
+
+pub busy_moves : (room blocks : ℕ) (next : ℕ → ℕ) (h : House) → IsReached room blocks h → (w : ℕ) (box : Box) → BoxIs h w box → IsBusy box → IsMovedBy (TheWorker w) room next h
+busy_moves room blocks next h f w box at (inl low) = accepted_moves room blocks next h f w box at low
+busy_moves room blocks next h f w box at (inr hand) = hand_moves room blocks next h f w box hand.0 at hand.1
+
+pub any_worker : (w : ℕ) (room : ℕ) (next : ℕ → ℕ) (h : House) → IsMovedBy (TheWorker w) room next h → IsMovedBy Anyone room next h
+any_worker w room next h m = widen (TheWorker w) Anyone room next h (λ who by. inr (inr (w, by))) m
+
+pub any_lane : (k : ℕ) (room : ℕ) (next : ℕ → ℕ) (h : House) → IsMovedBy (LaneOrWorker next k) room next h → IsMovedBy Anyone room next h
+any_lane k room next h m = widen (LaneOrWorker next k) Anyone room next h (λ who by. either who by) m
+  where
+    either : (who : Mover) → LaneOrWorker next k who → Anyone who
+    either who (inl lane) = inr (inl (k, lane))
+    either who (inr worker) = inr (inr (next k, worker))
+
+-- a message that is sealed
+under : (h : House) (i : ℕ) (slot : Slot) → slice_get h.depot.slots i ≡ Some slot → held_under h.depot (record { slot = i; generation = slot.generation }) ≡ slot.held
+under h i slot at = rw (at, eq-eqb slot.generation slot.generation refl) refl
+
+-- a copy to offer is moved by someone
+abbrev pub OffersMove : ℕ → (ℕ → ℕ) → House → Type 0
+OffersMove room next h = (k : ℕ) (lane : Lane) → LaneIs h k lane → lane.holds ≢ [] → IsMovedBy Anyone room next h
+
+sealed_by : (room blocks : ℕ) (next : ℕ → ℕ) (h : House) → IsReached room blocks h → OffersMove room next h → (i : ℕ) (slot : Slot) (bytes its : List ℕ) (weight : ℕ) → slice_get h.depot.slots i ≡ Some slot → slot.held ≡ Sealed bytes its weight → IsMovedBy Anyone room next h
+sealed_by room blocks next h f offers i slot bytes its zero at e =
+    let key : Key = record { slot = i; generation = slot.generation } in
+    record {
+      event = Reclaim i slot.generation;
+      by = inl refl;
+      goes_on = tt;
+      in_order = tt;
+      happens = (_, (given_back h.depot key (its ++ h.depot.free), record { bytes = bytes; blocks = its; free = its ++ h.depot.free; message = under h i slot at ∙ e; given = λ x. times-append x its h.depot.free; after = refl }, refl));
+    }
+sealed_by room blocks next h f offers i slot bytes its (suc weight) at e =
+    let key : Key = record { slot = i; generation = slot.generation } in
+    let heavy : weight_under h.depot key ≡ suc weight = ap weight_held (under h i slot at ∙ e) in
+    elim (search_in (λ (lane : Lane). lane.holds) (λ (lane : Lane). lane.holds ≢ []) some_holds h.lanes) [
+      | inl there ↦ offers there.0 there.1 there.2 there.3
+      | inr no_lane ↦ elim (search_in (λ (box : Box). map hold_of (posts_of box)) IsBusy busy_posts h.boxes) [
+        | inl there ↦ any_worker there.0 room next h (busy_moves room blocks next h f there.0 there.1 there.2 there.3)
+        | inr no_box ↦
+            let none : holds_of h ≡ [] = rw (no_lane, no_box) refl in
+            let light : weight_of key (holds_of h) ≡ 0 = ap (weight_of key) none in
+            let sum = f.holds.sum key in
+            absurd (omega arith)
+      ]
+    ]
+
+-- an answer that isn't given
+nth_of : (f : ℕ → Option Outcome) (a n p : ℕ) (y : Option Outcome) → slice_get (map f (range_with_len a n)) p ≡ Some y → f (a + p) ≡ y
+nth_of f a zero p y e = cc
+nth_of f a (suc n) zero y e = let z : a + 0 ≡ a = omega arith in let same : f a ≡ y = cc in ap f z ∙ same
+nth_of f a (suc n) (suc p) y e = let z : a + suc p ≡ a + 1 + p = omega arith in ap f z ∙ nth_of f (a + 1) n p y e
+
+none_found : (f : Slip → Bool) (slips : List Slip) → option_map (λ (slip : Slip). slip.outcome) (find f slips) ≡ None → count_by f slips ≡ 0
+none_found f [] e = refl
+none_found f (x ∷ slips) e = by (f x) refl e (none_found f slips)
+  where
+    by : (t : Bool) → f x ≡ t → option_map (λ (slip : Slip). slip.outcome) (cond t (Some x) (find f slips)) ≡ None → (option_map (λ (slip : Slip). slip.outcome) (find f slips) ≡ None → count_by f slips ≡ 0) → count_by f (x ∷ slips) ≡ 0
+    by true is none rest = cc
+    by false is none rest =
+        let zero' : ◌≡◌ {A = ℕ} (cond (f x) 1 0) 0 = ap (λ b. cond b 1 0) is in
+        let none' = rest none in omega (arith, count-cons f x slips)
+
+given_there : (t : SealedMessage) (p : ℕ) → p < t.offered → is_given t.number p t ≡ true
+given_there t p low = let under' : nat_lt p t.offered ≡ true = grind (arith, nat_tests) in rw (eq-eqb t.number t.number refl, under') refl
+
+no_answer : (k : ℕ) (d : Depot) (lane : Lane) (boxes : List Box) (p : ℕ) → IsTracked k d lane boxes → lane.gather.places ≡ answers lane.gather.txn (length lane.gather.places) lane.heard
+    → ((i : ℕ) (t : SealedMessage) → slice_get lane.messages i ≡ Some t → length lane.messages ≡ i + 1 → lane.gather.txn ≡ txn_of k t.number)
+    → lane.holds ≡ [] → length lane.slips ≤ lane.collected → flat_map on_way boxes ≡ [] → slice_get lane.gather.places p ≡ Some None → (ts : List SealedMessage) → lane.messages ≡ ts → ⊥
+no_answer k d lane boxes p s answered for_last idle all none at [] e =
+    let low = slice_get_within lane.gather.places p None at in
+    let few = s.none (ap length e) in absurd (omega arith)
+no_answer k d lane boxes p s answered for_last idle all none at (t ∷ ts) e =
+    let z = last_there (t ∷ ts) 0 t refl in
+    let is : slice_get lane.messages z.0 ≡ Some z.1 = ap (λ xs. slice_get xs z.0) e ∙ z.2 in
+    let top : length lane.messages ≡ z.0 + 1 = ap length e ∙ z.3 in
+    let low = slice_get_within lane.gather.places p None at in
+    let whole = (s.last z.0 z.1 is top).all in
+    let give : to_give lane.holds ≡ 0 = ap to_give idle in
+    let given = s.given z.1.number p in
+    let some = count_some (is_given z.1.number p) lane.messages z.0 z.1 is (given_there z.1 p (omega arith)) in
+    let no_slips : times_named (txn_of k z.1.number) p (drop lane.collected lane.slips) ≡ 0 = ap (times_named (txn_of k z.1.number) p) (drop_all lane.collected lane.slips all) in
+    let no_way : way_at k z.1.number p boxes ≡ 0 = ap (sum_by (copy_at k z.1.number p)) none in
+    let empty : answer lane.gather.txn lane.heard p ≡ None = ap (answer lane.gather.txn lane.heard) (let z : p ≡ 0 + p = omega arith in z) ∙ nth_of (answer lane.gather.txn lane.heard) 0 (length lane.gather.places) p None (ap (λ xs. slice_get xs p) (sym answered) ∙ at) in
+    let its : answer (txn_of k z.1.number) lane.heard p ≡ None = subst (λ txn. answer txn lane.heard p ≡ None) (for_last z.0 z.1 is top) empty in
+    let unheard = none_found (names (txn_of k z.1.number) p) lane.heard its in
+    absurd (omega arith)
+
+busy_way : (box : Box) → IsBusy box ⊎ (on_way box ≡ [])
+busy_way box = elim (busy_or_free box) [
+  | inl busy ↦ inl busy
+  | inr free ↦ inr (rw (free.0, free.1) refl)
+]
+
+unanswered_by : (room blocks : ℕ) (next : ℕ → ℕ) (h : House) → IsReached room blocks h → OffersMove room next h → ((k : ℕ) (lane : Lane) → LaneIs h k lane → lane.collected < length lane.slips → IsMovedBy Anyone room next h)
+    → (k : ℕ) (lane : Lane) (p : ℕ) → LaneIs h k lane → slice_get lane.gather.places p ≡ Some None → IsMovedBy Anyone room next h
+unanswered_by room blocks next h f offers collects k lane p at open' = elim (some_holds lane) [
+  | inl some ↦ offers k lane at some
+  | inr idle ↦ elim (low_or_full lane.collected (length lane.slips)) [
+    | inl low ↦ collects k lane at low
+    | inr all ↦ elim (search_in on_way IsBusy busy_way h.boxes) [
+      | inl there ↦ any_worker there.0 room next h (busy_moves room blocks next h f there.0 there.1 there.2 there.3)
+      | inr none ↦ absurd (no_answer k h.depot lane h.boxes p (f.tracked k lane at) (f.answers k lane at) (λ i t is top. f.for_last k lane i t at is top) idle all none open' lane.messages refl)
+    ]
+  ]
+]
+
+pub nothing_is_stuck : NothingIsStuck
+nothing_is_stuck room blocks start run is r o some capacity next all =
+    let h = last_house start run in
+    let f = reached room blocks start run is r o some in
+    let c : 1 ≤ h.capacity = let e = capacity_run start run r in omega arith in
+    record {
+      draft = draft_moves room blocks next h f;
+      to_offer = offers_move room blocks next h f c all;
+      accepted = accepted_moves room blocks next h f;
+      in_hand = hand_moves room blocks next h f;
+      to_collect = collects_move room blocks next h f c all;
+      unanswered = unanswered_by room blocks next h f (λ k lane at some. any_lane k room next h (offers_move room blocks next h f c all k lane at some))
+          (λ k lane at some. any_lane k room next h (collects_move room blocks next h f c all k lane at some));
+      sealed = sealed_by room blocks next h f (λ k lane at some. any_lane k room next h (offers_move room blocks next h f c all k lane at some));
+    }
+
+-- where all channels are closed
+closed_weight : (room blocks : ℕ) (next : ℕ → ℕ) (h : House) → IsReached room blocks h → AreThere next h → AreClosed h → (k : ℕ) (lane : Lane) (hold : Hold) → LaneIs h k lane → slice_get lane.holds 0 ≡ Some hold → (n : ℕ) → hold.weight ≡ n → IsMovedBy (TheLane k) room next h
+closed_weight room blocks next h f all shut k lane hold at there zero e = let some = f.kept.some k lane 0 hold at there in absurd (omega arith)
+closed_weight room blocks next h f all shut k lane hold at there (suc zero) e =
+    let b = all k lane at in back_moves room blocks next h f k lane hold b.0 at there e b.1 (shut (next k) b.0 b.1)
+closed_weight room blocks next h f all shut k lane hold at there (suc (suc n)) e =
+    let its : slice_get lane.holds 0 ≡ Some (record { key = hold.key; weight = suc n + 1 }) = there ∙ ap (λ m. let x : Hold = record { key = hold.key; weight = m } in Some x) (let s : hold.weight ≡ suc n + 1 = omega arith in s) in
+    split_moves room next h k lane hold.key (suc n) at its (omega arith)
+
+closed_offers : (room blocks : ℕ) (next : ℕ → ℕ) (h : House) → IsReached room blocks h → AreThere next h → AreClosed h → (k : ℕ) (lane : Lane) → LaneIs h k lane → (holds : List Hold) → lane.holds ≡ holds → holds ≢ [] → IsMovedBy (TheLane k) room next h
+closed_offers room blocks next h f all shut k lane at [] e some = absurd (some refl)
+closed_offers room blocks next h f all shut k lane at (hold ∷ holds) e some = closed_weight room blocks next h f all shut k lane hold at (ap (λ hs. slice_get hs 0) e) hold.weight refl
+
+closed_collects : (room blocks : ℕ) (next : ℕ → ℕ) (h : House) → IsReached room blocks h → AreThere next h → AreClosed h → (k : ℕ) (lane : Lane) → LaneIs h k lane → lane.collected < length lane.slips → (holds : List Hold) → lane.holds ≡ holds → IsMovedBy (TheLane k) room next h
+closed_collects room blocks next h f all shut k lane at some [] e = collect_moves room next h k lane at some e
+closed_collects room blocks next h f all shut k lane at some (hold ∷ holds) e = closed_offers room blocks next h f all shut k lane at (hold ∷ holds) e (λ bad. cc)
+
+pub nothing_is_stuck_when_closed : NothingIsStuckWhenClosed
+nothing_is_stuck_when_closed room blocks start run is r o some next all shut =
+    let h = last_house start run in
+    let f = reached room blocks start run is r o some in
+    record {
+      draft = draft_moves room blocks next h f;
+      to_offer = λ k lane at some'. closed_offers room blocks next h f all shut k lane at lane.holds refl some';
+      accepted = accepted_moves room blocks next h f;
+      in_hand = hand_moves room blocks next h f;
+      to_collect = λ k lane at some'. closed_collects room blocks next h f all shut k lane at some' lane.holds refl;
+      unanswered = unanswered_by room blocks next h f
+          (λ k lane at some'. widen (TheLane k) Anyone room next h (λ who by. inr (inl (k, by))) (closed_offers room blocks next h f all shut k lane at lane.holds refl some'))
+          (λ k lane at some'. widen (TheLane k) Anyone room next h (λ who by. inr (inl (k, by))) (closed_collects room blocks next h f all shut k lane at some' lane.holds refl));
+      sealed = sealed_by room blocks next h f
+          (λ k lane at some'. widen (TheLane k) Anyone room next h (λ who by. inr (inl (k, by))) (closed_offers room blocks next h f all shut k lane at lane.holds refl some'));
+    }
+
+-- where nothing goes on, all is finished
+goes_on : (P : Mover → Type 0) (room : ℕ) (next : ℕ → ℕ) (h : House) → IsMovedBy P room next h → MayGoOn room next h
+goes_on P room next h m = record { event = m.event; goes_on = m.goes_on; in_order = m.in_order; happens = m.happens }
+
+no_key : (draft : Option Key) → ((key : Key) → draft ≡ Some key → ⊥) → draft ≡ None
+no_key None f = refl
+no_key (Some key) f = absurd (f key refl)
+
+no_copy : (hand : Option Copy) → ((copy : Copy) → hand ≡ Some copy → ⊥) → hand ≡ None
+no_copy None f = refl
+no_copy (Some copy) f = absurd (f copy refl)
+
+no_holds : (holds : List Hold) → (holds ≢ [] → ⊥) → holds ≡ []
+no_holds [] f = refl
+no_holds (x ∷ holds) f = absurd (f (λ e. cc))
+
+all_answered : (places : List (Option Outcome)) → ((p : ℕ) → slice_get places p ≡ Some None → ⊥) → AllByRecursion IsAnswered places
+all_answered [] f = tt
+all_answered (None ∷ places) f = absurd (f 0 refl)
+all_answered (Some o ∷ places) f = (tt, all_answered places (λ p e. f (suc p) e))
+
+finished_by : (Movers : ℕ → Mover → Type 0) (room : ℕ) (next : ℕ → ℕ) (h : House) → HasKept h → ((b : ℕ) (box : Box) → BoxIs h b box → box.taken ≤ length box.accepted) → ((k : ℕ) (lane : Lane) → LaneIs h k lane → lane.collected ≤ length lane.slips)
+    → NothingStuck Movers room next h → (MayGoOn room next h → ⊥) → IsFinished h
+finished_by Movers room next h kept fronts slips n still = record {
+  no_draft = λ k lane at. no_key lane.draft (λ key e. still (goes_on (TheLane k) room next h (n.draft k lane key at e)));
+  none_to_offer = λ k lane at. no_holds lane.holds (λ some. still (goes_on (Movers k) room next h (n.to_offer k lane at some)));
+  drained = λ w box at. elim (low_or_full box.taken (length box.accepted)) [
+    | inl low ↦ absurd (still (goes_on (TheWorker w) room next h (n.accepted w box at low)))
+    | inr all ↦ let front = fronts w box at in omega arith
+  ];
+  free_hand = λ w box at. no_copy box.hand (λ copy e. still (goes_on (TheWorker w) room next h (n.in_hand w box copy at e)));
+  collected = λ k lane at. elim (low_or_full lane.collected (length lane.slips)) [
+    | inl low ↦ absurd (still (goes_on (Movers k) room next h (n.to_collect k lane at low)))
+    | inr all ↦ let front = slips k lane at in omega arith
+  ];
+  answered = λ k lane at. all_answered lane.gather.places (λ p e. still (goes_on Anyone room next h (n.unanswered k lane p at e)));
+  reclaimed = λ i slot bytes its weight at e. still (goes_on Anyone room next h (n.sealed i slot bytes its weight at e));
+}
+
+pub ends_finished : EndsFinished
+ends_finished room blocks start run is r o some capable next all still =
+    let h = last_house start run in
+    let f = reached room blocks start run is r o some in
+    let fronts = (every_run_accepts blocks start run is r).front in
+    let slips : (k : ℕ) (lane : Lane) → LaneIs h k lane → lane.collected ≤ length lane.slips = λ k lane at. (f.tracked k lane at).front in
+    elim capable [
+      | inl capacity ↦ finished_by (LaneOrWorker next) room next h f.kept fronts slips (nothing_is_stuck room blocks start run is r o some capacity next all) still
+      | inr shut ↦ finished_by TheLane room next h f.kept fronts slips (nothing_is_stuck_when_closed room blocks start run is r o some next all shut) still
+    ]

@@ -1,0 +1,6 @@
+pub mod Orderly
+pub mod GoingOn
+pub mod Remaining
+pub mod OrderlyRuns
+pub mod StepsLeft
+pub mod NothingStuck

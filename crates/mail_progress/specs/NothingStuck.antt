@@ -1,0 +1,106 @@
+-- Whatever is under way can be moved, and by whom.
+use Rattle.std.specs.Prelude.{◌≡◌, ◌≢◌, ◌⊎◌, ℕ, ◌<◌, ◌≤◌, List, [], length, true, Option, Some, None, slice_get}
+use Rattle.std.specs.List.{AllByRecursion}
+use Rattle.mail_world.specs.declared.Event.{Event}
+use Rattle.mail_world.specs.declared.Event.TheVariants.{Begin, Put, Cancel, Seal, Split, Offer, HandBack, Collect, Take, Write, Sync, Release, GiveSlip, Reclaim, Close}
+use Rattle.mail_world.specs.Depot.{Key, Slot, Sealed}
+use Rattle.mail_world.specs.House.{Copy, Box, Lane, House, IsStart}
+use Rattle.mail_world.specs.Events.{LaneIs, BoxIs, MayHappen}
+use Rattle.mail_world.specs.Runs.{Happened, Run, last_house}
+use Rattle.mail_progress.specs.Orderly.{IsAnswered, IsInOrder, IsOrderly}
+use Rattle.mail_progress.specs.GoingOn.{GoesOn, MayGoOn}
+
+-- who takes the step
+pub data Mover : Type 0 where
+  LaneOf : (k : ℕ) → Mover
+  WorkerOf : (w : ℕ) → Mover
+  AnyHolder : Mover
+  Outside : Mover
+
+abbrev pub mover : Event → Mover
+mover (Begin k) = LaneOf k
+mover (Put k bytes) = LaneOf k
+mover (Cancel k) = LaneOf k
+mover (Seal k n) = LaneOf k
+mover (Split k i) = LaneOf k
+mover (Offer k note) = LaneOf k
+mover (HandBack k i b) = LaneOf k
+mover (Collect k) = LaneOf k
+mover (Take w) = WorkerOf w
+mover (Write w bytes) = WorkerOf w
+mover (Sync w) = WorkerOf w
+mover (Release w) = WorkerOf w
+mover (GiveSlip w outcome) = WorkerOf w
+mover (Reclaim slot generation) = AnyHolder
+mover (Close b) = Outside
+
+-- one of these takes a step that goes on
+pub record IsMovedBy (Movers : Mover → Type 0) (room : ℕ) (next : ℕ → ℕ) (h : House) : Type 0 where
+  pub event : Event
+  pub by : Movers (mover event)
+  pub goes_on : GoesOn next h event
+  pub in_order : IsInOrder room h event
+  pub happens : MayHappen h event
+
+abbrev pub TheLane : ℕ → Mover → Type 0
+TheLane k who = who ≡ LaneOf k
+
+abbrev pub TheWorker : ℕ → Mover → Type 0
+TheWorker w who = who ≡ WorkerOf w
+
+-- the lane, or the worker of the mailbox that its next copy is for
+abbrev pub LaneOrWorker : (ℕ → ℕ) → ℕ → Mover → Type 0
+LaneOrWorker next k who = (who ≡ LaneOf k) ⊎ (who ≡ WorkerOf (next k))
+
+abbrev pub Anyone : Mover → Type 0
+Anyone who = (who ≡ AnyHolder) ⊎ (((k : ℕ) × (who ≡ LaneOf k)) ⊎ ((w : ℕ) × (who ≡ WorkerOf w)))
+
+-- the next copies are for mailboxes of the house
+abbrev pub AreThere : (ℕ → ℕ) → House → Type 0
+AreThere next h = (k : ℕ) (lane : Lane) → LaneIs h k lane → (box : Box) × BoxIs h (next k) box
+
+-- who moves each thing that is under way, where these move what a lane has to offer or to collect
+pub record NothingStuck (Movers : ℕ → Mover → Type 0) (room : ℕ) (next : ℕ → ℕ) (h : House) : Type 0 where
+  -- a draft
+  pub draft : (k : ℕ) (lane : Lane) (key : Key) → LaneIs h k lane → lane.draft ≡ Some key → IsMovedBy (TheLane k) room next h
+  -- a copy to offer
+  pub to_offer : (k : ℕ) (lane : Lane) → LaneIs h k lane → lane.holds ≢ [] → IsMovedBy (Movers k) room next h
+  -- a copy accepted
+  pub accepted : (w : ℕ) (box : Box) → BoxIs h w box → box.taken < length box.accepted → IsMovedBy (TheWorker w) room next h
+  -- a copy taken, in hand or released, and so a slip to give
+  pub in_hand : (w : ℕ) (box : Box) (copy : Copy) → BoxIs h w box → box.hand ≡ Some copy → IsMovedBy (TheWorker w) room next h
+  -- a slip to collect
+  pub to_collect : (k : ℕ) (lane : Lane) → LaneIs h k lane → lane.collected < length lane.slips → IsMovedBy (Movers k) room next h
+  -- an answer not given, in a place of the lane's last message: those of the ones before were given when the next one began
+  pub unanswered : (k : ℕ) (lane : Lane) (place : ℕ) → LaneIs h k lane → slice_get lane.gather.places place ≡ Some None → IsMovedBy Anyone room next h
+  -- a message sealed and not reclaimed
+  pub sealed : (i : ℕ) (slot : Slot) (bytes blocks : List ℕ) (weight : ℕ) → slice_get h.depot.slots i ≡ Some slot → slot.held ≡ Sealed bytes blocks weight → IsMovedBy Anyone room next h
+
+-- so it is in each house of each orderly run, where channels have a capacity and lanes room for slips
+abbrev pub NothingIsStuck : Type 0
+NothingIsStuck = (room blocks : ℕ) (start : House) (run : List Happened) → IsStart blocks start → Run start run → IsOrderly room start run → 1 ≤ room → 1 ≤ start.capacity
+    → (next : ℕ → ℕ) → AreThere next (last_house start run) → NothingStuck (LaneOrWorker next) room next (last_house start run)
+
+abbrev pub AreClosed : House → Type 0
+AreClosed h = (b : ℕ) (box : Box) → BoxIs h b box → box.closed ≡ true
+
+-- where all channels are closed, a lane waits for nobody, and no capacity is wanted
+abbrev pub NothingIsStuckWhenClosed : Type 0
+NothingIsStuckWhenClosed = (room blocks : ℕ) (start : House) (run : List Happened) → IsStart blocks start → Run start run → IsOrderly room start run → 1 ≤ room
+    → (next : ℕ → ℕ) → AreThere next (last_house start run) → AreClosed (last_house start run) → NothingStuck TheLane room next (last_house start run)
+
+-- nothing is under way
+pub record IsFinished (h : House) : Type 0 where
+  pub no_draft : (k : ℕ) (lane : Lane) → LaneIs h k lane → lane.draft ≡ None
+  pub none_to_offer : (k : ℕ) (lane : Lane) → LaneIs h k lane → lane.holds ≡ []
+  pub drained : (w : ℕ) (box : Box) → BoxIs h w box → box.taken ≡ length box.accepted
+  pub free_hand : (w : ℕ) (box : Box) → BoxIs h w box → box.hand ≡ None
+  pub collected : (k : ℕ) (lane : Lane) → LaneIs h k lane → lane.collected ≡ length lane.slips
+  pub answered : (k : ℕ) (lane : Lane) → LaneIs h k lane → AllByRecursion IsAnswered lane.gather.places
+  pub reclaimed : (i : ℕ) (slot : Slot) (bytes blocks : List ℕ) (weight : ℕ) → slice_get h.depot.slots i ≡ Some slot → slot.held ≡ Sealed bytes blocks weight → ⊥
+
+-- where none of these events may follow, all is finished
+abbrev pub EndsFinished : Type 0
+EndsFinished = (room blocks : ℕ) (start : House) (run : List Happened) → IsStart blocks start → Run start run → IsOrderly room start run → 1 ≤ room
+    → let h = last_house start run in (1 ≤ start.capacity) ⊎ AreClosed h
+    → (next : ℕ → ℕ) → AreThere next h → (MayGoOn room next h → ⊥) → IsFinished h

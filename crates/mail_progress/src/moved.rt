@@ -1,0 +1,23 @@
+//! Nothing is stuck, and nobody gives up.
+
+ghost use Rattle.mail_progress.specs.NothingStuck.{NothingIsStuck, NothingIsStuckWhenClosed, EndsFinished};
+
+/// In each house of each orderly run, whatever mailbox each lane's next copy is for: a draft is moved by its lane; a
+/// copy to offer and a slip to collect by their lane or the worker of the mailbox that its next copy is for; a copy
+/// that is accepted, taken, in hand or released, and so a slip to give, by its worker; a message that is sealed and not
+/// reclaimed, and an answer that isn't given, by someone. None of these steps gives up.
+pub fn nothing_is_stuck()
+    ensures { NothingIsStuck }
+{}
+
+/// The same where all channels are closed. Then a lane alone moves what it has to offer or to collect, and channels need
+/// no capacity.
+pub fn nothing_is_stuck_when_closed()
+    ensures { NothingIsStuckWhenClosed }
+{}
+
+/// Where none of these steps may follow, nothing is under way: there is no draft and no copy to offer, every channel is
+/// drained, every slip is collected, every place is answered, and every message is reclaimed.
+pub fn where_nothing_goes_on_all_is_finished()
+    ensures { EndsFinished }
+{}
