@@ -10,3 +10,4 @@ pub mod Kept
 pub mod Movers
 pub mod Tracked
 pub mod Owners
+pub mod AllFinished

@@ -27,8 +27,7 @@ use Rattle.mail_world.proofs.Holds.{every_run_holds}
 use Rattle.mail_world.proofs.MayHappen.{seal_happens, release_happens, hand_back_happens}
 use Rattle.mail_progress.specs.Orderly.{IsAnswered, uncollected, not_taken, IsOrderly}
 use Rattle.mail_progress.specs.OrderlyRuns.{SlipsFindRoom}
-use Rattle.mail_progress.specs.NothingStuck.{Mover, LaneOf, WorkerOf, AnyHolder, IsMovedBy, TheLane, TheWorker, LaneOrWorker, Anyone, AreThere, AreClosed, NothingStuck, NothingIsStuck, NothingIsStuckWhenClosed, IsFinished, EndsFinished}
-use Rattle.mail_progress.specs.GoingOn.{MayGoOn}
+use Rattle.mail_progress.specs.NothingStuck.{Mover, LaneOf, WorkerOf, AnyHolder, IsMovedBy, TheLane, TheWorker, LaneOrWorker, Anyone, AreThere, AreClosed, NothingStuck, NothingIsStuck, NothingIsStuckWhenClosed}
 use Rattle.mail_progress.proofs.Within.{on_way, to_give, slips_find_room}
 use Rattle.mail_progress.proofs.Kept.{HasKept, every_run_keeps, capacity_run}
 
@@ -175,7 +174,7 @@ back_moves : (room blocks : ℕ) (next : ℕ → ℕ) (h : House) → IsReached 
 back_moves room blocks next h f k lane hold box at there one channel closed =
     record { event = HandBack k 0 (next k); by = refl; goes_on = (refl, (box, channel, closed)); in_order = tt; happens = f.backs k (next k) lane hold at there one }
 
-low_or_full : (a b : ℕ) → (a < b) ⊎ (b ≤ a)
+pub low_or_full : (a b : ℕ) → (a < b) ⊎ (b ≤ a)
 low_or_full a b = grind arith
 
 one_moves : (room blocks : ℕ) (next : ℕ → ℕ) (h : House) → IsReached room blocks h → 1 ≤ h.capacity → (k : ℕ) (lane : Lane) (hold : Hold) (box : Box) → LaneIs h k lane → slice_get lane.holds 0 ≡ Some hold → hold.weight ≡ 1
@@ -418,53 +417,3 @@ nothing_is_stuck_when_closed room blocks start run is r o some next all shut =
       sealed = sealed_by room blocks next h f
           (λ k lane at some'. widen (TheLane k) Anyone room next h (λ who by. inr (inl (k, by))) (closed_offers room blocks next h f all shut k lane at lane.holds refl some'));
     }
-
--- where nothing goes on, all is finished
-goes_on : (P : Mover → Type 0) (room : ℕ) (next : ℕ → ℕ) (h : House) → IsMovedBy P room next h → MayGoOn room next h
-goes_on P room next h m = record { event = m.event; goes_on = m.goes_on; in_order = m.in_order; happens = m.happens }
-
-no_key : (draft : Option Key) → ((key : Key) → draft ≡ Some key → ⊥) → draft ≡ None
-no_key None f = refl
-no_key (Some key) f = absurd (f key refl)
-
-no_copy : (hand : Option Copy) → ((copy : Copy) → hand ≡ Some copy → ⊥) → hand ≡ None
-no_copy None f = refl
-no_copy (Some copy) f = absurd (f copy refl)
-
-no_holds : (holds : List Hold) → (holds ≢ [] → ⊥) → holds ≡ []
-no_holds [] f = refl
-no_holds (x ∷ holds) f = absurd (f (λ e. cc))
-
-all_answered : (places : List (Option Outcome)) → ((p : ℕ) → slice_get places p ≡ Some None → ⊥) → AllByRecursion IsAnswered places
-all_answered [] f = tt
-all_answered (None ∷ places) f = absurd (f 0 refl)
-all_answered (Some o ∷ places) f = (tt, all_answered places (λ p e. f (suc p) e))
-
-finished_by : (Movers : ℕ → Mover → Type 0) (room : ℕ) (next : ℕ → ℕ) (h : House) → HasKept h → ((b : ℕ) (box : Box) → BoxIs h b box → box.taken ≤ length box.accepted) → ((k : ℕ) (lane : Lane) → LaneIs h k lane → lane.collected ≤ length lane.slips)
-    → NothingStuck Movers room next h → (MayGoOn room next h → ⊥) → IsFinished h
-finished_by Movers room next h kept fronts slips n still = record {
-  no_draft = λ k lane at. no_key lane.draft (λ key e. still (goes_on (TheLane k) room next h (n.draft k lane key at e)));
-  none_to_offer = λ k lane at. no_holds lane.holds (λ some. still (goes_on (Movers k) room next h (n.to_offer k lane at some)));
-  drained = λ w box at. elim (low_or_full box.taken (length box.accepted)) [
-    | inl low ↦ absurd (still (goes_on (TheWorker w) room next h (n.accepted w box at low)))
-    | inr all ↦ let front = fronts w box at in omega arith
-  ];
-  free_hand = λ w box at. no_copy box.hand (λ copy e. still (goes_on (TheWorker w) room next h (n.in_hand w box copy at e)));
-  collected = λ k lane at. elim (low_or_full lane.collected (length lane.slips)) [
-    | inl low ↦ absurd (still (goes_on (Movers k) room next h (n.to_collect k lane at low)))
-    | inr all ↦ let front = slips k lane at in omega arith
-  ];
-  answered = λ k lane at. all_answered lane.gather.places (λ p e. still (goes_on Anyone room next h (n.unanswered k lane p at e)));
-  reclaimed = λ i slot bytes its weight at e. still (goes_on Anyone room next h (n.sealed i slot bytes its weight at e));
-}
-
-pub ends_finished : EndsFinished
-ends_finished room blocks start run is r o some capable next all still =
-    let h = last_house start run in
-    let f = reached room blocks start run is r o some in
-    let fronts = (every_run_accepts blocks start run is r).front in
-    let slips : (k : ℕ) (lane : Lane) → LaneIs h k lane → lane.collected ≤ length lane.slips = λ k lane at. (f.tracked k lane at).front in
-    elim capable [
-      | inl capacity ↦ finished_by (LaneOrWorker next) room next h f.kept fronts slips (nothing_is_stuck room blocks start run is r o some capacity next all) still
-      | inr shut ↦ finished_by TheLane room next h f.kept fronts slips (nothing_is_stuck_when_closed room blocks start run is r o some next all shut) still
-    ]

@@ -4,3 +4,4 @@ pub mod Remaining
 pub mod OrderlyRuns
 pub mod StepsLeft
 pub mod NothingStuck
+pub mod Finished

@@ -1,14 +1,13 @@
 -- Whatever is under way can be moved, and by whom.
 use Rattle.std.specs.Prelude.{◌≡◌, ◌≢◌, ◌⊎◌, ℕ, ◌<◌, ◌≤◌, List, [], length, true, Option, Some, None, slice_get}
-use Rattle.std.specs.List.{AllByRecursion}
 use Rattle.mail_world.specs.declared.Event.{Event}
 use Rattle.mail_world.specs.declared.Event.TheVariants.{Begin, Put, Cancel, Seal, Split, Offer, HandBack, Collect, Take, Write, Sync, Release, GiveSlip, Reclaim, Close}
 use Rattle.mail_world.specs.Depot.{Key, Slot, Sealed}
 use Rattle.mail_world.specs.House.{Copy, Box, Lane, House, IsStart}
 use Rattle.mail_world.specs.Events.{LaneIs, BoxIs, MayHappen}
 use Rattle.mail_world.specs.Runs.{Happened, Run, last_house}
-use Rattle.mail_progress.specs.Orderly.{IsAnswered, IsInOrder, IsOrderly}
-use Rattle.mail_progress.specs.GoingOn.{GoesOn, MayGoOn}
+use Rattle.mail_progress.specs.Orderly.{IsInOrder, IsOrderly}
+use Rattle.mail_progress.specs.GoingOn.{GoesOn}
 
 -- who takes the step
 pub data Mover : Type 0 where
@@ -88,19 +87,3 @@ AreClosed h = (b : ℕ) (box : Box) → BoxIs h b box → box.closed ≡ true
 abbrev pub NothingIsStuckWhenClosed : Type 0
 NothingIsStuckWhenClosed = (room blocks : ℕ) (start : House) (run : List Happened) → IsStart blocks start → Run start run → IsOrderly room start run → 1 ≤ room
     → (next : ℕ → ℕ) → AreThere next (last_house start run) → AreClosed (last_house start run) → NothingStuck TheLane room next (last_house start run)
-
--- nothing is under way
-pub record IsFinished (h : House) : Type 0 where
-  pub no_draft : (k : ℕ) (lane : Lane) → LaneIs h k lane → lane.draft ≡ None
-  pub none_to_offer : (k : ℕ) (lane : Lane) → LaneIs h k lane → lane.holds ≡ []
-  pub drained : (w : ℕ) (box : Box) → BoxIs h w box → box.taken ≡ length box.accepted
-  pub free_hand : (w : ℕ) (box : Box) → BoxIs h w box → box.hand ≡ None
-  pub collected : (k : ℕ) (lane : Lane) → LaneIs h k lane → lane.collected ≡ length lane.slips
-  pub answered : (k : ℕ) (lane : Lane) → LaneIs h k lane → AllByRecursion IsAnswered lane.gather.places
-  pub reclaimed : (i : ℕ) (slot : Slot) (bytes blocks : List ℕ) (weight : ℕ) → slice_get h.depot.slots i ≡ Some slot → slot.held ≡ Sealed bytes blocks weight → ⊥
-
--- where none of these events may follow, all is finished
-abbrev pub EndsFinished : Type 0
-EndsFinished = (room blocks : ℕ) (start : House) (run : List Happened) → IsStart blocks start → Run start run → IsOrderly room start run → 1 ≤ room
-    → let h = last_house start run in (1 ≤ start.capacity) ⊎ AreClosed h
-    → (next : ℕ → ℕ) → AreThere next h → (MayGoOn room next h → ⊥) → IsFinished h

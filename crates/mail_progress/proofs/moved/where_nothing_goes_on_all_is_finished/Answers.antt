@@ -1,4 +1,4 @@
-use Rattle.mail_progress.proofs.Movers.{ends_finished}
+use Rattle.mail_progress.proofs.AllFinished.{ends_finished}
 use Rattle.mail_progress.proofs.moved.where_nothing_goes_on_all_is_finished.Goals as goal
 
 pub returns : goal.returns

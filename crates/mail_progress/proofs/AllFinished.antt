@@ -1,0 +1,71 @@
+-- Where nothing goes on, all is finished.
+use Rattle.std.proofs.Common.{◌≡◌, ◌≢◌, ◌⊎◌, ℕ, suc, ◌+◌, ◌<◌, ◌≤◌, List, [], ◌∷◌, ◌++◌, length, Option, Some, None, inl, inr, refl, ap, sym, ◌∙◌, arith, append-nil}
+use Rattle.std.specs.Prelude.{slice_get}
+use Rattle.std.specs.List.{AllByRecursion}
+use Rattle.mail_world.specs.declared.Outcome.{Outcome}
+use Rattle.mail_world.specs.Depot.{Key, occurrences, blocks_in_use, HasEachBlockOnce}
+use Rattle.mail_world.specs.House.{Hold, Copy, Box, Lane, House, IsStart}
+use Rattle.mail_world.specs.Events.{LaneIs, BoxIs}
+use Rattle.mail_world.specs.Runs.{Happened, Run, last_house}
+use Rattle.mail_world.proofs.Accepted.{every_run_accepts}
+use Rattle.mail_progress.specs.Orderly.{IsAnswered}
+use Rattle.mail_progress.specs.GoingOn.{MayGoOn}
+use Rattle.mail_progress.specs.NothingStuck.{Mover, IsMovedBy, TheLane, TheWorker, LaneOrWorker, Anyone, NothingStuck}
+use Rattle.mail_progress.specs.Finished.{IsFinished, EndsFinished}
+use Rattle.mail_progress.proofs.Owners.{AllOwned, every_run_owns, none_in_use}
+use Rattle.mail_progress.proofs.Movers.{reached, low_or_full, nothing_is_stuck, nothing_is_stuck_when_closed}
+
+goes_on : (P : Mover → Type 0) (room : ℕ) (next : ℕ → ℕ) (h : House) → IsMovedBy P room next h → MayGoOn room next h
+goes_on P room next h m = record { event = m.event; goes_on = m.goes_on; in_order = m.in_order; happens = m.happens }
+
+no_key : (draft : Option Key) → ((key : Key) → draft ≡ Some key → ⊥) → draft ≡ None
+no_key None f = refl
+no_key (Some key) f = absurd (f key refl)
+
+no_copy : (hand : Option Copy) → ((copy : Copy) → hand ≡ Some copy → ⊥) → hand ≡ None
+no_copy None f = refl
+no_copy (Some copy) f = absurd (f copy refl)
+
+no_holds : (holds : List Hold) → (holds ≢ [] → ⊥) → holds ≡ []
+no_holds [] f = refl
+no_holds (x ∷ holds) f = absurd (f (λ e. cc))
+
+all_answered : (places : List (Option Outcome)) → ((p : ℕ) → slice_get places p ≡ Some None → ⊥) → AllByRecursion IsAnswered places
+all_answered [] f = tt
+all_answered (None ∷ places) f = absurd (f 0 refl)
+all_answered (Some o ∷ places) f = (tt, all_answered places (λ p e. f (suc p) e))
+
+finished_by : (Movers : ℕ → Mover → Type 0) (room blocks : ℕ) (next : ℕ → ℕ) (h : House) → HasEachBlockOnce blocks h.depot → AllOwned h → ((b : ℕ) (box : Box) → BoxIs h b box → box.taken ≤ length box.accepted) → ((k : ℕ) (lane : Lane) → LaneIs h k lane → lane.collected ≤ length lane.slips)
+    → NothingStuck Movers room next h → (MayGoOn room next h → ⊥) → IsFinished blocks h
+finished_by Movers room blocks next h each owned fronts slips n still = record {
+  no_draft = λ k lane at. no_key lane.draft (λ key e. still (goes_on (TheLane k) room next h (n.draft k lane key at e)));
+  none_to_offer = λ k lane at. no_holds lane.holds (λ some. still (goes_on (Movers k) room next h (n.to_offer k lane at some)));
+  drained = λ w box at. elim (low_or_full box.taken (length box.accepted)) [
+    | inl low ↦ absurd (still (goes_on (TheWorker w) room next h (n.accepted w box at low)))
+    | inr all ↦ let front = fronts w box at in omega arith
+  ];
+  free_hand = λ w box at. no_copy box.hand (λ copy e. still (goes_on (TheWorker w) room next h (n.in_hand w box copy at e)));
+  collected = λ k lane at. elim (low_or_full lane.collected (length lane.slips)) [
+    | inl low ↦ absurd (still (goes_on (Movers k) room next h (n.to_collect k lane at low)))
+    | inr all ↦ let front = slips k lane at in omega arith
+  ];
+  answered = λ k lane at. all_answered lane.gather.places (λ p e. still (goes_on Anyone room next h (n.unanswered k lane p at e)));
+  reclaimed = λ i slot bytes its weight at e. still (goes_on Anyone room next h (n.sealed i slot bytes its weight at e));
+  all_free = λ x.
+      let none : blocks_in_use h.depot ≡ [] = none_in_use h.depot.slots
+          (λ i slot bytes its at e. let o = owned i slot bytes its at e in still (goes_on (TheLane o.0) room next h (n.draft o.0 o.1 _ o.2 o.3)))
+          (λ i slot bytes its weight at e. still (goes_on Anyone room next h (n.sealed i slot bytes its weight at e))) in
+      ap (occurrences x) (sym (append-nil h.depot.free) ∙ ap (λ used'. h.depot.free ++ used') (sym none)) ∙ each x;
+}
+
+pub ends_finished : EndsFinished
+ends_finished room blocks start run is r o some capable next all still =
+    let h = last_house start run in
+    let f = reached room blocks start run is r o some in
+    let owned = every_run_owns blocks start run is r in
+    let fronts = (every_run_accepts blocks start run is r).front in
+    let slips : (k : ℕ) (lane : Lane) → LaneIs h k lane → lane.collected ≤ length lane.slips = λ k lane at. (f.tracked k lane at).front in
+    elim capable [
+      | inl capacity ↦ finished_by (LaneOrWorker next) room blocks next h f.holds.each_block owned fronts slips (nothing_is_stuck room blocks start run is r o some capacity next all) still
+      | inr shut ↦ finished_by TheLane room blocks next h f.holds.each_block owned fronts slips (nothing_is_stuck_when_closed room blocks start run is r o some next all shut) still
+    ]
