@@ -195,7 +195,7 @@ const LOG: Argument = Argument {
 const QUOTA: Argument = Argument {
     name: "quota",
     value: "BYTES",
-    help: "Bytes that a mailbox may hold, 0 to 18446744073709551615; a letter that doesn't fit is refused [default: no limit]",
+    help: "Bytes that a mailbox may hold, 0 to 18446744073709551615; a letter beyond is refused [default: no limit]",
     is_required: false,
     kind: ValueKind::Bytes,
 };

@@ -11,8 +11,8 @@ pub fn nothing_is_stuck()
     ensures { NothingIsStuck }
 {}
 
-/// The same where all channels are closed. Then a lane alone moves what it has to offer or to collect, and channels need
-/// no capacity.
+/// The same where all channels are closed. Then a lane alone moves what it has to offer or to collect, and channels
+/// need no capacity.
 pub fn nothing_is_stuck_when_closed()
     ensures { NothingIsStuckWhenClosed }
 {}
