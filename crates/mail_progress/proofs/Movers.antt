@@ -324,7 +324,7 @@ none_found f (x ∷ slips) e = by (f x) refl e (none_found f slips)
         let zero' : ◌≡◌ {A = ℕ} (cond (f x) 1 0) 0 = ap (λ b. cond b 1 0) is in
         let none' = rest none in omega (arith, count-cons f x slips)
 
-given_there : (t : SealedMessage) (p : ℕ) → p < t.offered → is_given t.number p t ≡ true
+pub given_there : (t : SealedMessage) (p : ℕ) → p < t.offered → is_given t.number p t ≡ true
 given_there t p low = let under' : nat_lt p t.offered ≡ true = grind (arith, nat_tests) in rw (eq-eqb t.number t.number refl, under') refl
 
 no_answer : (k : ℕ) (d : Depot) (lane : Lane) (boxes : List Box) (p : ℕ) → IsTracked k d lane boxes → lane.gather.places ≡ answers lane.gather.txn (length lane.gather.places) lane.heard
@@ -349,7 +349,7 @@ no_answer k d lane boxes p s answered for_last idle all none at (t ∷ ts) e =
     let unheard = none_found (names (txn_of k z.1.number) p) lane.heard its in
     absurd (omega arith)
 
-busy_way : (box : Box) → IsBusy box ⊎ (on_way box ≡ [])
+pub busy_way : (box : Box) → IsBusy box ⊎ (on_way box ≡ [])
 busy_way box = elim (busy_or_free box) [
   | inl busy ↦ inl busy
   | inr free ↦ inr (rw (free.0, free.1) refl)
