@@ -1,12 +1,12 @@
 -- Where nothing goes on, all is finished.
-use Rattle.std.proofs.Common.{◌≡◌, ◌≢◌, ◌⊎◌, ℕ, suc, ◌+◌, ◌<◌, ◌≤◌, List, [], ◌∷◌, ◌++◌, length, drop, Option, Some, None, inl, inr, refl, ap, sym, ◌∙◌, arith, append-nil}
+use Rattle.std.proofs.Common.{◌≡◌, ◌≢◌, ℕ, suc, ◌≤◌, List, [], ◌∷◌, ◌++◌, length, drop, Option, Some, None, inl, inr, refl, ap, sym, ◌∙◌, arith, append-nil}
 use Rattle.std.specs.Prelude.{slice_get, flat_map, sum_by}
 use Rattle.std.specs.List.{AllByRecursion}
 use Rattle.mail_world.specs.declared.Outcome.{Outcome}
 use Rattle.mail_world.specs.Depot.{Key, occurrences, blocks_in_use, HasEachBlockOnce}
-use Rattle.mail_world.specs.House.{Hold, Copy, Box, Lane, House, IsStart}
+use Rattle.mail_world.specs.House.{Hold, Copy, Box, Lane, House}
 use Rattle.mail_world.specs.Events.{LaneIs, BoxIs}
-use Rattle.mail_world.specs.Runs.{Happened, Run, last_house}
+use Rattle.mail_world.specs.Runs.{last_house}
 use Rattle.mail_world.proofs.Accepted.{every_run_accepts}
 use Rattle.mail_progress.specs.Orderly.{IsAnswered}
 use Rattle.mail_progress.specs.GoingOn.{MayGoOn}
@@ -74,8 +74,8 @@ finished_by Movers room blocks next h each owned tracked fronts slips n still = 
   reclaimed = λ i slot bytes its weight at e. still (goes_on Anyone room next h (n.sealed i slot bytes its weight at e));
   all_free = λ x.
       let none : blocks_in_use h.depot ≡ [] = none_in_use h.depot.slots
-          (λ i slot bytes its at e. let o = owned i slot bytes its at e in still (goes_on (TheLane o.0) room next h (n.draft o.0 o.1 _ o.2 o.3)))
-          (λ i slot bytes its weight at e. still (goes_on Anyone room next h (n.sealed i slot bytes its weight at e))) in
+      (λ i slot bytes its at e. let o = owned i slot bytes its at e in still (goes_on (TheLane o.0) room next h (n.draft o.0 o.1 _ o.2 o.3)))
+      (λ i slot bytes its weight at e. still (goes_on Anyone room next h (n.sealed i slot bytes its weight at e))) in
       ap (occurrences x) (sym (append-nil h.depot.free) ∙ ap (λ used'. h.depot.free ++ used') (sym none)) ∙ each x;
 }
   where

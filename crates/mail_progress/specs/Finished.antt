@@ -1,5 +1,5 @@
 -- What a house has come to where nothing is under way.
-use Rattle.std.specs.Prelude.{◌≡◌, ◌⊎◌, ℕ, ◌<◌, ◌≤◌, List, [], length, Option, Some, None, slice_get, nat_lt, if◌then◌else◌}
+use Rattle.std.specs.Prelude.{◌≡◌, ◌⊎◌, ℕ, ◌<◌, ◌≤◌, List, [], length, Some, None, slice_get, nat_lt, if◌then◌else◌}
 use Rattle.std.specs.List.{AllByRecursion}
 use Rattle.mail_world.specs.Depot.{Slot, Sealed, occurrences}
 use Rattle.mail_world.specs.House.{Box, SealedMessage, Lane, House, IsStart}
