@@ -83,6 +83,10 @@ NothingIsStuck = (room blocks : ℕ) (start : House) (run : List Happened) → I
 abbrev pub AreClosed : House → Type 0
 AreClosed h = (b : ℕ) (box : Box) → BoxIs h b box → box.closed ≡ true
 
+-- closed channels stay so, whatever follows
+abbrev pub ClosedStays : Type 0
+ClosedStays = (h : House) (run : List Happened) → Run h run → AreClosed h → AreClosed (last_house h run)
+
 -- where all channels are closed, a lane waits for nobody, and no capacity is wanted
 abbrev pub NothingIsStuckWhenClosed : Type 0
 NothingIsStuckWhenClosed = (room blocks : ℕ) (start : House) (run : List Happened) → IsStart blocks start → Run start run → IsOrderly room start run → 1 ≤ room
