@@ -1,5 +1,5 @@
 -- What the house keeps in every run, so that steps may be taken: the capacity, the lanes of the copies, weights of 1 or more, and no more written than there is.
-use Rattle.std.proofs.Common.{◌≡◌, ◌≢◌, ◌⊎◌, ℕ, zero, suc, ◌+◌, ◌-◌, ◌<◌, ◌≤◌, List, [], ◌∷◌, ◌++◌, length, drop, Option, Some, None, inl, inr, refl, ap, sym, ◌∙◌, subst, arith, length-append}
+use Rattle.std.proofs.Common.{◌≡◌, ◌≢◌, ◌⊎◌, ℕ, zero, suc, ◌+◌, ◌-◌, ◌≤◌, List, [], ◌∷◌, length, Option, Some, None, inl, inr, refl, ap, sym, ◌∙◌, subst, arith, length-append}
 use Rattle.std.specs.Prelude.{slice_get, slice_set, remove}
 use Rattle.std.specs.List.{AllByRecursion}
 use Rattle.std.proofs.lemmas.List.{length-drop}
@@ -9,7 +9,7 @@ use Rattle.mail_world.specs.declared.Event.TheVariants.{Begin, Put, Cancel, Seal
 use Rattle.mail_world.specs.House.{Hold, Post, Copy, Box, Lane, House, IsFreshBox, IsFreshLane, IsStart}
 use Rattle.mail_world.specs.Events.{Step, LaneIs, BoxIs}
 use Rattle.mail_world.specs.Runs.{Happened, Run, last_house}
-use Rattle.mail_world.proofs.Accepted.{get_set, each_at}
+use Rattle.mail_world.proofs.Accepted.{each_at}
 use Rattle.mail_world.proofs.Heard.{all_more, all_set, weaken}
 use Rattle.mail_world.proofs.Depots.{set_at, set_past}
 use Rattle.mail_progress.specs.StepsLeft.{size}

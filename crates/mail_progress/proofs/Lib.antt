@@ -11,3 +11,4 @@ pub mod Movers
 pub mod Tracked
 pub mod Owners
 pub mod AllFinished
+pub mod Shut

@@ -1,24 +1,23 @@
 -- Each event but Begin, and a Put or Write of no bytes, lowers the number of the steps that are left.
-use Rattle.std.proofs.Common.{◌≡◌, ℕ, zero, suc, ◌+◌, ◌-◌, ◌*◌, ◌/◌, ◌<◌, ◌≤◌, List, [], ◌∷◌, ◌++◌, length, drop, Bool, true, false, cond, not, ◌||◌, ◌==◌, Option, Some, None, refl, ap, sym, ◌∙◌, subst, arith, add-one, length-append}
+use Rattle.std.proofs.Common.{◌≡◌, ℕ, zero, suc, ◌+◌, ◌-◌, ◌*◌, ◌<◌, ◌≤◌, List, [], ◌∷◌, ◌++◌, length, drop, Bool, true, false, cond, not, ◌||◌, ◌==◌, Some, None, refl, ap, sym, ◌∙◌, subst, arith, add-one, length-append}
 use Rattle.std.specs.Prelude.{slice_get, slice_set, flat_map, sum_by, remove, nat_lt, if◌then◌else◌}
 use Rattle.std.proofs.lemmas.List.Sums.{sum_by-append, sum_by-cons}
 use Rattle.std.proofs.lemmas.List.{length-drop}
 use Rattle.std.proofs.lemmas.Option.{slice_get_within}
 use Rattle.std.proofs.Math.Nat.{mul-le-mul_right}
 use Rattle.mail_world.specs.declared.limits.TheConstants.{BLOCK_SIZE}
-use Rattle.mail_world.specs.declared.Note.{Note}
 use Rattle.mail_world.specs.declared.Event.{Event}
 use Rattle.mail_world.specs.declared.Event.TheVariants.{Begin, Put, Cancel, Seal, Split, Offer, HandBack, Collect, Take, Write, Sync, Release, GiveSlip, Reclaim, Close}
 use Rattle.mail_world.specs.Slips.{slip_of, own_slip, txn_of, gather_for}
-use Rattle.mail_world.specs.Depot.{Key, Slot, Held, Free, Draft, Sealed, Retired, Depot, held_under, with_held, given_back, last_generation, blocks_for, occurrences, blocks_of, blocks_in_use, HasEachBlockOnce, Puts, GivesBack}
-use Rattle.mail_world.specs.House.{Hold, Post, Copy, Box, Lane, House, is_settled, IsStart}
+use Rattle.mail_world.specs.Depot.{Key, Slot, Held, Free, Draft, Sealed, Retired, Depot, held_under, with_held, last_generation, blocks_for, occurrences, blocks_of, blocks_in_use, HasEachBlockOnce, Puts, GivesBack}
+use Rattle.mail_world.specs.House.{Hold, Post, Copy, Box, House, is_settled}
 use Rattle.mail_world.specs.Events.{Step, outcome_of, is_over_quota, without_copy, sealed_up_to, with_heard, with_taken}
 use Rattle.mail_world.specs.Runs.{Happened, Run, last_house}
 use Rattle.mail_world.proofs.Depots.{set_at, used, times-append, begins_turn, puts_turn, seals_turn, releases_turn, drops_turn}
 use Rattle.mail_world.proofs.Holds.{drop_get}
-use Rattle.mail_progress.specs.Orderly.{uncollected, IsInOrder, IsOrderly}
+use Rattle.mail_progress.specs.Orderly.{IsInOrder, IsOrderly}
 use Rattle.mail_progress.specs.StepsLeft.{size, steps_of_copy, steps_in_hand, steps_of_one, steps_of_hold, steps_of_lane, steps_of_box, steps_of_slot, steps_left, IsBounded, AreBounded, EachLowers, Ends}
-use Rattle.mail_progress.proofs.Sums.{sum_set, sum_remove, sum_last, sum_one_more, sum_part}
+use Rattle.mail_progress.proofs.Sums.{sum_set, sum_remove, sum_last, sum_one_more}
 use Rattle.mail_progress.proofs.Pigeons.{few}
 
 -- each block stays in one place

@@ -1,7 +1,7 @@
 -- In an orderly run whatever is under way is moved.
-use Rattle.std.proofs.Common.{◌≡◌, ◌≢◌, ◌⊎◌, ℕ, zero, suc, ◌+◌, ◌-◌, ◌<◌, ◌≤◌, List, [], ◌∷◌, ◌++◌, length, drop, map, Bool, true, false, not, ◌||◌, Option, Some, None, inl, inr, refl, ap, sym, ◌∙◌, subst, arith, append-nil}
+use Rattle.std.proofs.Common.{◌≡◌, ◌≢◌, ◌⊎◌, ℕ, zero, suc, ◌+◌, ◌-◌, ◌<◌, ◌≤◌, List, [], ◌∷◌, ◌++◌, length, drop, map, Bool, true, false, ◌||◌, Option, Some, None, inl, inr, refl, ap, sym, ◌∙◌, subst, arith, append-nil}
 use Rattle.std.specs.Prelude.{slice_get, flat_map, IfSome, sum_by, count_by, find, option_map, nat_lt, cond}
-use Rattle.std.specs.List.{AllByRecursion, range_with_len}
+use Rattle.std.specs.List.{range_with_len}
 use Rattle.std.proofs.lemmas.Bool.Decides.{nat_tests}
 use Rattle.std.proofs.lemmas.Option.{slice_get_within}
 use Rattle.mail_world.specs.declared.Outcome.{Outcome}
@@ -14,20 +14,19 @@ use Rattle.mail_progress.proofs.Tracked.{copy_at, way_at, IsTracked, AllTracked,
 use Rattle.std.proofs.lemmas.Bool.{eq-eqb}
 use Rattle.std.proofs.lemmas.List.{length-drop, drop_all}
 use Rattle.mail_world.specs.declared.Note.{Note}
-use Rattle.mail_world.specs.declared.Event.{Event}
 use Rattle.mail_world.specs.declared.Event.TheVariants.{Seal, Split, Offer, HandBack, Collect, Take, Write, Sync, Release, GiveSlip, Reclaim}
 use Rattle.mail_world.specs.Records.{record_of}
-use Rattle.mail_world.specs.Depot.{Key, Slot, Sealed, held_under, weight_held, weight_under, occurrences, given_back, Depot}
-use Rattle.mail_world.specs.House.{Hold, Post, Copy, Box, SealedMessage, Lane, House, is_settled, IsStart}
+use Rattle.mail_world.specs.Depot.{Key, Slot, Sealed, held_under, weight_held, weight_under, given_back, Depot}
+use Rattle.mail_world.specs.House.{Hold, Copy, Box, SealedMessage, Lane, House, is_settled, IsStart}
 use Rattle.mail_world.specs.Events.{MayHappen, LaneIs, BoxIs, outcome_of}
-use Rattle.mail_world.specs.Runs.{Happened, Run, last_house, hold_of, post_in_hand, posts_of, weight_of, holds_of, HasHolds, HasAnswers}
-use Rattle.mail_world.proofs.Accepted.{each_at, every_run_accepts}
+use Rattle.mail_world.specs.Runs.{Happened, Run, last_house, hold_of, posts_of, weight_of, holds_of, HasHolds, HasAnswers}
+use Rattle.mail_world.proofs.Accepted.{each_at}
 use Rattle.mail_world.proofs.Depots.{times-append}
 use Rattle.mail_world.proofs.Holds.{every_run_holds}
 use Rattle.mail_world.proofs.MayHappen.{seal_happens, release_happens, hand_back_happens}
-use Rattle.mail_progress.specs.Orderly.{IsAnswered, uncollected, not_taken, IsOrderly}
+use Rattle.mail_progress.specs.Orderly.{uncollected, not_taken, IsOrderly}
 use Rattle.mail_progress.specs.OrderlyRuns.{SlipsFindRoom}
-use Rattle.mail_progress.specs.NothingStuck.{Mover, LaneOf, WorkerOf, AnyHolder, IsMovedBy, TheLane, TheWorker, LaneOrWorker, Anyone, AreThere, AreClosed, NothingStuck, NothingIsStuck, NothingIsStuckWhenClosed}
+use Rattle.mail_progress.specs.NothingStuck.{Mover, IsMovedBy, TheLane, TheWorker, LaneOrWorker, Anyone, AreThere, AreClosed, NothingIsStuck, NothingIsStuckWhenClosed}
 use Rattle.mail_progress.proofs.Within.{on_way, to_give, slips_find_room}
 use Rattle.mail_progress.proofs.Kept.{HasKept, every_run_keeps, capacity_run}
 
@@ -324,7 +323,7 @@ none_found f (x ∷ slips) e = by (f x) refl e (none_found f slips)
         let zero' : ◌≡◌ {A = ℕ} (cond (f x) 1 0) 0 = ap (λ b. cond b 1 0) is in
         let none' = rest none in omega (arith, count-cons f x slips)
 
-given_there : (t : SealedMessage) (p : ℕ) → p < t.offered → is_given t.number p t ≡ true
+pub given_there : (t : SealedMessage) (p : ℕ) → p < t.offered → is_given t.number p t ≡ true
 given_there t p low = let under' : nat_lt p t.offered ≡ true = grind (arith, nat_tests) in rw (eq-eqb t.number t.number refl, under') refl
 
 no_answer : (k : ℕ) (d : Depot) (lane : Lane) (boxes : List Box) (p : ℕ) → IsTracked k d lane boxes → lane.gather.places ≡ answers lane.gather.txn (length lane.gather.places) lane.heard
@@ -349,7 +348,7 @@ no_answer k d lane boxes p s answered for_last idle all none at (t ∷ ts) e =
     let unheard = none_found (names (txn_of k z.1.number) p) lane.heard its in
     absurd (omega arith)
 
-busy_way : (box : Box) → IsBusy box ⊎ (on_way box ≡ [])
+pub busy_way : (box : Box) → IsBusy box ⊎ (on_way box ≡ [])
 busy_way box = elim (busy_or_free box) [
   | inl busy ↦ inl busy
   | inr free ↦ inr (rw (free.0, free.1) refl)

@@ -1,5 +1,5 @@
 -- A run after which nothing goes on, since the channel has no capacity.
-use Rattle.std.proofs.Common.{ℕ, zero, suc, List, [], ◌∷◌, Some, None, inl, refl, lit≤, lit<}
+use Rattle.std.proofs.Common.{List, [], ◌∷◌, None, inl, refl, lit≤, lit<}
 use Rattle.mail_world.specs.declared.Event.TheVariants.{Begin, Put, Seal}
 use Rattle.mail_world.specs.Depot.{Sealed, with_held}
 use Rattle.mail_world.specs.House.{Lane, House, with_depot, with_lane, IsStart}
@@ -9,7 +9,7 @@ use Rattle.mail_world.proofs.OneHouse.{bytes, key, lane₀, box₀, free_slot, h
 use Rattle.mail_progress.specs.Orderly.{IsOrderly}
 use Rattle.mail_progress.specs.GoingOn.{StandsStill}
 use Rattle.mail_progress.specs.Remaining.{Remains}
-use Rattle.mail_progress.proofs.Still.{IsStill, stands}
+use Rattle.mail_progress.proofs.Still.{stands}
 
 abbrev pub start : House
 start = record (house₀ None (free_slot ∷ [])) { capacity = 0 }

@@ -1,5 +1,5 @@
 -- A run after which nothing goes on, since a message has more copies than the lane's channel has room for slips.
-use Rattle.std.proofs.Common.{ℕ, zero, suc, List, [], ◌∷◌, ◌++◌, length, true, Some, None, inr, refl, lit≤, lit<}
+use Rattle.std.proofs.Common.{ℕ, List, [], ◌∷◌, ◌++◌, length, true, Some, None, inr, refl, lit≤, lit<}
 use Rattle.mail_world.specs.declared.Note.{Note}
 use Rattle.mail_world.specs.declared.Slip.{Slip}
 use Rattle.mail_world.specs.declared.Outcome.TheVariants.{Stored}
@@ -17,7 +17,7 @@ use Rattle.mail_world.proofs.OneHouse as one_house
 use Rattle.mail_progress.specs.Orderly.{IsOrderly}
 use Rattle.mail_progress.specs.GoingOn.{StandsStill}
 use Rattle.mail_progress.specs.Remaining.{Remains, HasReleased}
-use Rattle.mail_progress.proofs.Still.{IsStill, stands}
+use Rattle.mail_progress.proofs.Still.{stands}
 
 -- the copy for the place
 abbrev note : ℕ → Note

@@ -1,14 +1,14 @@
 -- Each draft in the depot is a lane's.
-use Rattle.std.proofs.Common.{◌≡◌, ◌≢◌, ◌⊎◌, ℕ, suc, ◌+◌, ◌≤◌, List, [], ◌∷◌, ◌++◌, Bool, true, false, cond, Option, Some, None, inl, inr, refl, ap, sym, ◌∙◌, subst, arith}
-use Rattle.std.specs.Prelude.{slice_get, slice_set, flat_map, nat_lt, if◌then◌else◌}
+use Rattle.std.proofs.Common.{◌≡◌, ◌≢◌, ℕ, suc, ◌+◌, List, [], ◌∷◌, ◌++◌, Bool, true, false, cond, Some, None, inl, inr, refl, ap, sym, ◌∙◌, subst}
+use Rattle.std.specs.Prelude.{slice_get, slice_set, flat_map, nat_lt}
 use Rattle.mail_world.specs.declared.Event.{Event}
 use Rattle.mail_world.specs.declared.Event.TheVariants.{Begin, Put, Cancel, Seal, Split, Offer, HandBack, Collect, Take, Write, Sync, Release, GiveSlip, Reclaim, Close}
-use Rattle.mail_world.specs.Depot.{Key, Depot, Slot, Held, Free, Draft, Sealed, Retired, with_held, last_generation, GivesBack, blocks_of, blocks_in_use}
+use Rattle.mail_world.specs.Depot.{Key, Depot, Slot, Held, Free, Draft, Sealed, Retired, with_held, last_generation, GivesBack, blocks_of}
 use Rattle.mail_world.specs.House.{Lane, House, IsFreshSlot, IsStart}
 use Rattle.mail_world.specs.Events.{Step}
 use Rattle.mail_world.specs.Runs.{Happened, Run, last_house}
 use Rattle.mail_world.proofs.Accepted.{get_set, each_at}
-use Rattle.mail_world.proofs.Depots.{key_at, set_at, set_past, used}
+use Rattle.mail_world.proofs.Depots.{key_at, set_at, set_past}
 use Rattle.mail_world.proofs.WrongSteps.{same_some}
 use Rattle.mail_progress.proofs.Kept.{same_or_not}
 

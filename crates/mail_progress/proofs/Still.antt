@@ -1,15 +1,15 @@
 -- What makes a house of one lane and one mailbox stand still.
-use Rattle.std.proofs.Common.{◌≡◌, ◌⊎◌, ℕ, zero, suc, ◌+◌, ◌<◌, ◌≤◌, List, [], ◌∷◌, length, true, false, Option, Some, None, inl, inr, refl, ap, sym, ◌∙◌, subst, arith}
+use Rattle.std.proofs.Common.{◌≡◌, ◌⊎◌, ℕ, zero, suc, ◌+◌, ◌<◌, ◌≤◌, List, [], ◌∷◌, length, true, false, Some, None, inl, inr, ap, sym, ◌∙◌, subst, arith}
 use Rattle.std.specs.Prelude.{slice_get, IfSome}
 use Rattle.std.proofs.lemmas.Option.{slice_get_within}
 use Rattle.mail_world.specs.declared.Event.{Event}
 use Rattle.mail_world.specs.declared.Event.TheVariants.{Begin, Put, Cancel, Seal, Split, Offer, HandBack, Collect, Take, Write, Sync, Release, GiveSlip, Reclaim, Close}
-use Rattle.mail_world.specs.Depot.{Key, Slot, Sealed, Held, spent}
+use Rattle.mail_world.specs.Depot.{Key, Slot, Sealed}
 use Rattle.mail_world.specs.House.{Hold, Copy, Box, Lane, House}
 use Rattle.mail_world.specs.Events.{Step}
 use Rattle.mail_world.proofs.Depots.{used}
 use Rattle.mail_progress.specs.Orderly.{uncollected, IsInOrder, OfLane}
-use Rattle.mail_progress.specs.GoingOn.{GoesOn, MayGoOn, StandsStill}
+use Rattle.mail_progress.specs.GoingOn.{GoesOn, StandsStill}
 
 -- the only element
 pub only : {A : Type 0} (x y : A) (i : ℕ) → slice_get (x ∷ []) i ≡ Some y → x ≡ y

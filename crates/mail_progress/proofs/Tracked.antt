@@ -1,6 +1,6 @@
 -- In an orderly run each place of a lane's last message has a copy to offer, a copy on its way, a slip to collect, or its answer.
-use Rattle.std.proofs.Common.{◌≡◌, ◌≢◌, ◌⊎◌, ℕ, zero, suc, ◌+◌, ◌-◌, ◌<◌, ◌≤◌, List, [], ◌∷◌, ◌++◌, length, drop, Bool, true, false, cond, ◌&&◌, ◌==◌, Option, Some, None, inl, inr, refl, ap, sym, ◌∙◌, subst, arith, add-one, length-append}
-use Rattle.std.specs.Prelude.{slice_get, slice_set, flat_map, sum_by, count_by, remove, replicate, nat_lt}
+use Rattle.std.proofs.Common.{◌≡◌, ◌≢◌, ℕ, zero, suc, ◌+◌, ◌≤◌, List, [], ◌∷◌, ◌++◌, length, drop, Bool, true, false, cond, ◌&&◌, ◌==◌, Option, Some, None, inl, inr, refl, ap, sym, ◌∙◌, subst, arith, add-one, length-append}
+use Rattle.std.specs.Prelude.{slice_get, slice_set, flat_map, sum_by, count_by, remove, nat_lt}
 use Rattle.std.specs.List.{AllByRecursion}
 use Rattle.std.proofs.lemmas.Bool.{eq-eqb}
 use Rattle.std.proofs.lemmas.Bool.Decides.{nat_tests}
@@ -12,9 +12,9 @@ use Rattle.mail_world.specs.declared.Slip.{Slip}
 use Rattle.mail_world.specs.declared.Event.{Event}
 use Rattle.mail_world.specs.declared.Event.TheVariants.{Begin, Put, Cancel, Seal, Split, Offer, HandBack, Collect, Take, Write, Sync, Release, GiveSlip, Reclaim, Close}
 use Rattle.mail_world.specs.Slips.{Gather, names, times_named, txn_of, place_outcome, is_same_txn, gathered, own_slip, slip_of}
-use Rattle.mail_world.specs.Depot.{Key, Depot, Slot, Held, Draft, Sealed, held_under}
-use Rattle.mail_world.specs.House.{Hold, Post, Copy, Box, SealedMessage, Lane, House, IsFreshBox, IsFreshLane, IsStart}
-use Rattle.mail_world.specs.Events.{Step, LaneIs, BoxIs, outcome_of}
+use Rattle.mail_world.specs.Depot.{Key, Depot, Slot, Draft, Sealed, held_under}
+use Rattle.mail_world.specs.House.{Hold, Post, Copy, Box, SealedMessage, Lane, House, IsFreshLane, IsStart}
+use Rattle.mail_world.specs.Events.{Step, LaneIs, outcome_of}
 use Rattle.mail_world.specs.Runs.{Happened, Run, last_house}
 use Rattle.mail_world.proofs.Accepted.{get_set, each_at}
 use Rattle.mail_world.proofs.Heard.{weaken, all_more, all_set}
@@ -24,8 +24,8 @@ use Rattle.mail_world.proofs.LastSeal.{length_set}
 use Rattle.mail_world.proofs.Holds.{drop_get}
 use Rattle.mail_world.proofs.GivenAway.{is_given, count-append, count-cons}
 use Rattle.mail_world.proofs.WrongSteps.{same_some}
-use Rattle.mail_world.proofs.Depots.{total_set, used, FitsSlot, KeepsBytes, Turn, begins_turn, puts_turn, seals_turn, releases_turn, drops_turn, seals_fits}
-use Rattle.mail_progress.specs.Orderly.{IsInOrder, IsOrderly}
+use Rattle.mail_world.proofs.Depots.{total_set, used, FitsSlot, KeepsBytes, begins_turn, puts_turn, seals_turn, releases_turn, drops_turn, seals_fits}
+use Rattle.mail_progress.specs.Orderly.{IsOrderly}
 use Rattle.mail_progress.proofs.Sums.{sum_set, sum_remove, sum_last}
 use Rattle.mail_progress.proofs.Within.{post_of, on_way, to_give, AllWithin, within_step, within_start}
 use Rattle.mail_progress.proofs.Kept.{IsSome, IsKept, IsBoxRight, kept_step, kept_start}

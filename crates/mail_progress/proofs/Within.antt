@@ -1,6 +1,6 @@
 -- In an orderly run no lane has more copies and slips under way than unanswered places, so that a released copy's slip finds room.
-use Rattle.std.proofs.Common.{◌≡◌, ◌≢◌, ℕ, zero, suc, ◌+◌, ◌-◌, ◌<◌, ◌≤◌, List, [], ◌∷◌, ◌++◌, length, drop, Bool, true, false, cond, ◌==◌, Option, Some, None, inl, inr, refl, ap, sym, ◌∙◌, subst, arith, add-one, length-append}
-use Rattle.std.specs.Prelude.{slice_get, slice_set, flat_map, sum_by, remove, replicate, IfSome}
+use Rattle.std.proofs.Common.{◌≡◌, ◌≢◌, ℕ, suc, ◌+◌, ◌≤◌, List, [], ◌∷◌, ◌++◌, drop, Bool, true, false, cond, ◌==◌, Option, Some, None, inl, inr, refl, ap, sym, ◌∙◌, subst, arith, add-one, length-append}
+use Rattle.std.specs.Prelude.{slice_get, slice_set, flat_map, sum_by, replicate, IfSome}
 use Rattle.std.specs.List.{AllByRecursion}
 use Rattle.std.proofs.lemmas.Bool.{eq-eqb}
 use Rattle.std.proofs.lemmas.List.Sums.{sum_by-append, sum_by-cons}
@@ -20,7 +20,7 @@ use Rattle.mail_world.proofs.Depots.{total_set}
 use Rattle.mail_world.proofs.Holds.{drop_get}
 use Rattle.mail_progress.specs.Orderly.{IsAnswered, IsDone, uncollected, IsInOrder, IsOrderly}
 use Rattle.mail_progress.specs.OrderlyRuns.{SlipsFindRoom}
-use Rattle.mail_progress.proofs.Sums.{sum_set, sum_remove, sum_last, sum_one_more, sum_part, sum_replicate}
+use Rattle.mail_progress.proofs.Sums.{sum_set, sum_remove, sum_last, sum_one_more, sum_replicate}
 
 -- the copies that a mailbox has of a lane, accepted or in hand
 abbrev pub post_of : Option Copy → List Post

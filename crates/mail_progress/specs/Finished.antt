@@ -1,8 +1,9 @@
 -- What a house has come to where nothing is under way.
-use Rattle.std.specs.Prelude.{◌≡◌, ◌⊎◌, ℕ, ◌≤◌, List, [], length, Option, Some, None, slice_get, nat_lt, if◌then◌else◌}
+use Rattle.std.specs.Prelude.{◌≡◌, ◌⊎◌, ℕ, ◌<◌, ◌≤◌, List, [], length, Some, None, slice_get, nat_lt, if◌then◌else◌}
 use Rattle.std.specs.List.{AllByRecursion}
 use Rattle.mail_world.specs.Depot.{Slot, Sealed, occurrences}
-use Rattle.mail_world.specs.House.{Box, Lane, House, IsStart}
+use Rattle.mail_world.specs.House.{Box, SealedMessage, Lane, House, IsStart}
+use Rattle.mail_world.specs.Slips.{times_named, txn_of}
 use Rattle.mail_world.specs.Events.{LaneIs, BoxIs}
 use Rattle.mail_world.specs.Runs.{Happened, Run, last_house}
 use Rattle.mail_progress.specs.Orderly.{IsAnswered, IsOrderly}
@@ -17,6 +18,8 @@ pub record IsFinished (blocks : ℕ) (h : House) : Type 0 where
   pub free_hand : (w : ℕ) (box : Box) → BoxIs h w box → box.hand ≡ None
   pub collected : (k : ℕ) (lane : Lane) → LaneIs h k lane → lane.collected ≡ length lane.slips
   pub answered : (k : ℕ) (lane : Lane) → LaneIs h k lane → AllByRecursion IsAnswered lane.gather.places
+  -- each copy that was given away, of whichever message, was heard of
+  pub heard : (k : ℕ) (lane : Lane) (i place : ℕ) (t : SealedMessage) → LaneIs h k lane → slice_get lane.messages i ≡ Some t → place < t.offered → 1 ≤ times_named (txn_of k t.number) place lane.heard
   pub reclaimed : (i : ℕ) (slot : Slot) (bytes its : List ℕ) (weight : ℕ) → slice_get h.depot.slots i ≡ Some slot → slot.held ≡ Sealed bytes its weight → ⊥
   pub all_free : (x : ℕ) → occurrences x h.depot.free ≡ (if nat_lt x blocks then 1 else 0)
 

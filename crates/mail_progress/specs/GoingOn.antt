@@ -1,5 +1,5 @@
 -- Which events take further what is under way.
-use Rattle.std.specs.Prelude.{◌≡◌, ⊤, ℕ, ◌≤◌, true, false, ◌||◌, length, drop, Option, Some, None, slice_get, IfSome}
+use Rattle.std.specs.Prelude.{◌≡◌, ⊤, ℕ, ◌≤◌, true, ◌||◌, length, drop, IfSome}
 use Rattle.mail_world.specs.declared.Event.{Event}
 use Rattle.mail_world.specs.declared.Event.TheVariants.{Begin, Put, Offer, HandBack, Write, Release, Close}
 use Rattle.mail_world.specs.Records.{record_of}

@@ -1,5 +1,5 @@
 -- Whatever is under way can be moved, and by whom.
-use Rattle.std.specs.Prelude.{◌≡◌, ◌≢◌, ◌⊎◌, ℕ, ◌<◌, ◌≤◌, List, [], length, true, Option, Some, None, slice_get}
+use Rattle.std.specs.Prelude.{◌≡◌, ◌≢◌, ◌⊎◌, ℕ, ◌<◌, ◌≤◌, List, [], length, true, Some, None, slice_get}
 use Rattle.mail_world.specs.declared.Event.{Event}
 use Rattle.mail_world.specs.declared.Event.TheVariants.{Begin, Put, Cancel, Seal, Split, Offer, HandBack, Collect, Take, Write, Sync, Release, GiveSlip, Reclaim, Close}
 use Rattle.mail_world.specs.Depot.{Key, Slot, Sealed}
@@ -82,6 +82,10 @@ NothingIsStuck = (room blocks : ℕ) (start : House) (run : List Happened) → I
 
 abbrev pub AreClosed : House → Type 0
 AreClosed h = (b : ℕ) (box : Box) → BoxIs h b box → box.closed ≡ true
+
+-- closed channels stay so, whatever follows
+abbrev pub ClosedStays : Type 0
+ClosedStays = (h : House) (run : List Happened) → Run h run → AreClosed h → AreClosed (last_house h run)
 
 -- where all channels are closed, a lane waits for nobody, and no capacity is wanted
 abbrev pub NothingIsStuckWhenClosed : Type 0

@@ -1,5 +1,5 @@
 -- What remains in the house of a computed run that stands still: one lane, one mailbox.
-use Rattle.std.specs.Prelude.{◌≡◌, ℕ, true, length, Option, Some}
+use Rattle.std.specs.Prelude.{◌≡◌, ℕ, true, length, Some}
 use Rattle.mail_world.specs.House.{Copy, Box, Lane, House}
 use Rattle.mail_world.specs.Events.{LaneIs, BoxIs}
 use Rattle.mail_progress.specs.Orderly.{uncollected, not_taken}

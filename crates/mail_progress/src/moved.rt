@@ -1,6 +1,6 @@
 //! Nothing is stuck, and nobody gives up.
 
-ghost use Rattle.mail_progress.specs.NothingStuck.{NothingIsStuck, NothingIsStuckWhenClosed};
+ghost use Rattle.mail_progress.specs.NothingStuck.{NothingIsStuck, NothingIsStuckWhenClosed, ClosedStays};
 ghost use Rattle.mail_progress.specs.Finished.{EndsFinished};
 
 /// In each house of each orderly run, whatever mailbox each lane's next copy is for: a draft is moved by its lane; a
@@ -11,10 +11,11 @@ pub fn nothing_is_stuck()
     ensures { NothingIsStuck }
 {}
 
-/// The same where all channels are closed. Then a lane alone moves what it has to offer or to collect, and channels
-/// need no capacity.
+/// The same from a house whose channels are all closed, which they stay. Then a lane alone moves what it has to offer
+/// or to collect, and channels need no capacity.
 pub fn nothing_is_stuck_when_closed()
-    ensures { NothingIsStuckWhenClosed }
+    ensures moved { NothingIsStuckWhenClosed }
+    ensures stays { ClosedStays }
 {}
 
 /// Where none of these steps may follow, nothing is under way: there is no draft and no copy to offer, every channel is
