@@ -8,14 +8,13 @@ use Rattle.mail_world.specs.House.{Hold, Copy, Box, Lane, House}
 use Rattle.mail_world.specs.Events.{LaneIs, BoxIs}
 use Rattle.mail_world.specs.Runs.{last_house}
 use Rattle.mail_world.proofs.Accepted.{every_run_accepts}
-use Rattle.mail_progress.specs.Orderly.{IsAnswered}
+use Rattle.mail_progress.specs.Orderly.{IsAnswered, on_way}
 use Rattle.mail_progress.specs.GoingOn.{MayGoOn}
-use Rattle.mail_progress.specs.NothingStuck.{Mover, IsMovedBy, TheLane, TheWorker, LaneOrWorker, Anyone, NothingStuck}
+use Rattle.mail_progress.specs.NothingStuck.{Mover, IsMovedBy, TheLane, TheWorker, LaneOrWorker, NothingStuck}
 use Rattle.mail_progress.specs.Finished.{IsFinished, EndsFinished}
 use Rattle.mail_world.specs.Slips.{txn_of, times_named}
 use Rattle.mail_world.proofs.GivenAway.{is_given, count_some}
 use Rattle.std.proofs.lemmas.List.{drop_all}
-use Rattle.mail_progress.proofs.Within.{on_way}
 use Rattle.mail_progress.proofs.Tracked.{copy_at, way_at, AllTracked}
 use Rattle.mail_progress.proofs.Owners.{AllOwned, every_run_owns, none_in_use}
 use Rattle.mail_progress.proofs.Movers.{reached, low_or_full, search_in, IsBusy, busy_way, given_there, nothing_is_stuck, nothing_is_stuck_when_closed}
@@ -54,7 +53,7 @@ finished_by Movers room blocks next h each owned tracked fronts slips n still = 
     | inl low ↦ absurd (still (goes_on (Movers k) room next h (n.to_collect k lane at low)))
     | inr all ↦ let front = slips k lane at in omega arith
   ];
-  answered = λ k lane at. all_answered lane.gather.places (λ p e. still (goes_on Anyone room next h (n.unanswered k lane p at e)));
+  answered = λ k lane at. all_answered lane.gather.places (λ p e. still (goes_on _ room next h (n.unanswered k lane p at e)));
   heard = λ k lane i place t at is low.
       let s = tracked k lane at in
       let number = t.number in
@@ -71,11 +70,11 @@ finished_by Movers room blocks next h each owned tracked fronts slips n still = 
       ] in
       let no_way : way_at k number place h.boxes ≡ 0 = ap (sum_by (copy_at k number place)) none in
       omega arith;
-  reclaimed = λ i slot bytes its weight at e. still (goes_on Anyone room next h (n.sealed i slot bytes its weight at e));
+  reclaimed = λ i slot bytes its weight at e. still (goes_on _ room next h (n.sealed i slot bytes its weight at e));
   all_free = λ x.
       let none : blocks_in_use h.depot ≡ [] = none_in_use h.depot.slots
       (λ i slot bytes its at e. let o = owned i slot bytes its at e in still (goes_on (TheLane o.0) room next h (n.draft o.0 o.1 _ o.2 o.3)))
-      (λ i slot bytes its weight at e. still (goes_on Anyone room next h (n.sealed i slot bytes its weight at e))) in
+      (λ i slot bytes its weight at e. still (goes_on _ room next h (n.sealed i slot bytes its weight at e))) in
       ap (occurrences x) (sym (append-nil h.depot.free) ∙ ap (λ used'. h.depot.free ++ used') (sym none)) ∙ each x;
 }
   where

@@ -4,6 +4,7 @@ pub mod NoCapacity
 pub mod NoRoomForSlips
 pub mod Sums
 pub mod Within
+pub mod Found
 pub mod Pigeons
 pub mod Lowered
 pub mod Kept

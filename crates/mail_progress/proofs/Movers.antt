@@ -1,33 +1,37 @@
 -- In an orderly run whatever is under way is moved.
 use Rattle.std.proofs.Common.{◌≡◌, ◌≢◌, ◌⊎◌, ℕ, zero, suc, ◌+◌, ◌-◌, ◌<◌, ◌≤◌, List, [], ◌∷◌, ◌++◌, length, drop, map, Bool, true, false, ◌||◌, Option, Some, None, inl, inr, refl, ap, sym, ◌∙◌, subst, arith, append-nil}
 use Rattle.std.specs.Prelude.{slice_get, flat_map, IfSome, sum_by, count_by, find, option_map, nat_lt, cond}
-use Rattle.std.specs.List.{range_with_len}
+use Rattle.std.specs.List.{list_any, range_with_len}
+use Rattle.std.proofs.lemmas.List.Sums.{sum_by-append}
 use Rattle.std.proofs.lemmas.Bool.Decides.{nat_tests}
 use Rattle.std.proofs.lemmas.Option.{slice_get_within}
 use Rattle.mail_world.specs.declared.Outcome.{Outcome}
 use Rattle.mail_world.specs.declared.Slip.{Slip}
+use Rattle.mail_world.specs.declared.Txn.{Txn}
 use Rattle.mail_world.specs.Slips.{txn_of, names, times_named, answer, answers}
 use Rattle.mail_world.proofs.GivenAway.{is_given, count-cons, count_some}
 use Rattle.mail_world.proofs.Heard.{every_run_answers}
 use Rattle.mail_world.proofs.LastSeal.{every_run_for_last}
-use Rattle.mail_progress.proofs.Tracked.{copy_at, way_at, IsTracked, AllTracked, last_there, every_orderly_tracked}
+use Rattle.mail_progress.proofs.Tracked.{way_at, IsTracked, AllTracked, last_there, every_orderly_tracked}
 use Rattle.std.proofs.lemmas.Bool.{eq-eqb}
 use Rattle.std.proofs.lemmas.List.{length-drop, drop_all}
 use Rattle.mail_world.specs.declared.Note.{Note}
 use Rattle.mail_world.specs.declared.Event.TheVariants.{Seal, Split, Offer, HandBack, Collect, Take, Write, Sync, Release, GiveSlip, Reclaim}
 use Rattle.mail_world.specs.Records.{record_of}
 use Rattle.mail_world.specs.Depot.{Key, Slot, Sealed, held_under, weight_held, weight_under, given_back, Depot}
-use Rattle.mail_world.specs.House.{Hold, Copy, Box, SealedMessage, Lane, House, is_settled, IsStart}
+use Rattle.mail_world.specs.House.{Hold, Post, Copy, Box, SealedMessage, Lane, House, is_settled, IsStart}
 use Rattle.mail_world.specs.Events.{MayHappen, LaneIs, BoxIs, outcome_of}
-use Rattle.mail_world.specs.Runs.{Happened, Run, last_house, hold_of, posts_of, weight_of, holds_of, HasHolds, HasAnswers}
+use Rattle.mail_world.specs.Runs.{Happened, Run, last_house, hold_of, posts_of, is_same_key, weight_of, holds_of, HasHolds, HasAnswers}
 use Rattle.mail_world.proofs.Accepted.{each_at}
 use Rattle.mail_world.proofs.Depots.{times-append}
 use Rattle.mail_world.proofs.Holds.{every_run_holds}
+use Rattle.mail_world.proofs.Once.{is_copy}
 use Rattle.mail_world.proofs.MayHappen.{seal_happens, release_happens, hand_back_happens}
-use Rattle.mail_progress.specs.Orderly.{uncollected, not_taken, IsOrderly}
+use Rattle.mail_progress.specs.Orderly.{uncollected, not_taken, on_way, IsOrderly}
 use Rattle.mail_progress.specs.OrderlyRuns.{SlipsFindRoom}
-use Rattle.mail_progress.specs.NothingStuck.{Mover, IsMovedBy, TheLane, TheWorker, LaneOrWorker, Anyone, AreThere, AreClosed, NothingIsStuck, NothingIsStuckWhenClosed}
-use Rattle.mail_progress.proofs.Within.{on_way, to_give, slips_find_room}
+use Rattle.mail_progress.specs.NothingStuck.{Mover, AnyHolder, IsMovedBy, TheLane, TheWorker, LaneOrWorker, HasHold, IsHolder, HasCopyFor, AreThere, AreClosed, NothingIsStuck, NothingIsStuckWhenClosed}
+use Rattle.mail_progress.proofs.Within.{to_give, slips_find_room}
+use Rattle.mail_progress.proofs.Found.{found_in}
 use Rattle.mail_progress.proofs.Kept.{HasKept, every_run_keeps, capacity_run}
 
 -- what is known of a house in an orderly run
@@ -264,45 +268,57 @@ pub busy_moves : (room blocks : ℕ) (next : ℕ → ℕ) (h : House) → IsReac
 busy_moves room blocks next h f w box at (inl low) = accepted_moves room blocks next h f w box at low
 busy_moves room blocks next h f w box at (inr hand) = hand_moves room blocks next h f w box hand.0 at hand.1
 
-pub any_worker : (w : ℕ) (room : ℕ) (next : ℕ → ℕ) (h : House) → IsMovedBy (TheWorker w) room next h → IsMovedBy Anyone room next h
-any_worker w room next h m = widen (TheWorker w) Anyone room next h (λ who by. inr (inr (w, by))) m
-
-pub any_lane : (k : ℕ) (room : ℕ) (next : ℕ → ℕ) (h : House) → IsMovedBy (LaneOrWorker next k) room next h → IsMovedBy Anyone room next h
-any_lane k room next h m = widen (LaneOrWorker next k) Anyone room next h (λ who by. either who by) m
-  where
-    either : (who : Mover) → LaneOrWorker next k who → Anyone who
-    either who (inl lane) = inr (inl (k, lane))
-    either who (inr worker) = inr (inr (next k, worker))
-
 -- a message that is sealed
 under : (h : House) (i : ℕ) (slot : Slot) → slice_get h.depot.slots i ≡ Some slot → held_under h.depot (record { slot = i; generation = slot.generation }) ≡ slot.held
 under h i slot at = rw (at, eq-eqb slot.generation slot.generation refl) refl
 
--- a copy to offer is moved by someone
-abbrev pub OffersMove : ℕ → (ℕ → ℕ) → House → Type 0
-OffersMove room next h = (k : ℕ) (lane : Lane) → LaneIs h k lane → lane.holds ≢ [] → IsMovedBy Anyone room next h
+-- a copy to offer is moved
+abbrev pub OffersMove : (ℕ → Mover → Type 0) → ℕ → (ℕ → ℕ) → House → Type 0
+OffersMove Movers room next h = (k : ℕ) (lane : Lane) → LaneIs h k lane → lane.holds ≢ [] → IsMovedBy (Movers k) room next h
 
-sealed_by : (room blocks : ℕ) (next : ℕ → ℕ) (h : House) → IsReached room blocks h → OffersMove room next h → (i : ℕ) (slot : Slot) (bytes its : List ℕ) (weight : ℕ) → slice_get h.depot.slots i ≡ Some slot → slot.held ≡ Sealed bytes its weight → IsMovedBy Anyone room next h
-sealed_by room blocks next h f offers i slot bytes its zero at e =
+has_some : (key : Key) (holds : List Hold) → HasHold key holds → holds ≢ []
+has_some key holds has e = let none : HasHold key [] = subst (HasHold key) e has in cc
+
+has_busy : (key : Key) (box : Box) → HasHold key (map hold_of (posts_of box)) → IsBusy box
+has_busy key box has = elim (busy_posts box) [
+  | inl busy ↦ busy
+  | inr none ↦ absurd (has_some key _ has none)
+]
+
+-- who moves a message under the key
+abbrev pub SealedMovers : (ℕ → Mover → Type 0) → House → Key → ℕ → Mover → Type 0
+SealedMovers Movers h key weight who = ((weight ≡ 0) × (who ≡ AnyHolder)) ⊎ IsHolder Movers h key who
+
+no_weight : (key : Key) (hold : Hold) → is_same_key hold.key key ≡ false → cond (is_same_key hold.key key) hold.weight 0 ≡ 0
+no_weight key hold e = ap (λ t. cond t hold.weight 0) e
+
+sealed_by : (Movers : ℕ → Mover → Type 0) (room blocks : ℕ) (next : ℕ → ℕ) (h : House) → IsReached room blocks h → OffersMove Movers room next h → (i : ℕ) (slot : Slot) (bytes its : List ℕ) (weight : ℕ) → slice_get h.depot.slots i ≡ Some slot → slot.held ≡ Sealed bytes its weight
+    → IsMovedBy (SealedMovers Movers h (record { slot = i; generation = slot.generation }) weight) room next h
+sealed_by Movers room blocks next h f offers i slot bytes its zero at e =
     let key : Key = record { slot = i; generation = slot.generation } in
     record {
       event = Reclaim i slot.generation;
-      by = inl refl;
+      by = inl (refl, refl);
       goes_on = tt;
       in_order = tt;
       happens = (_, (given_back h.depot key (its ++ h.depot.free), record { bytes = bytes; blocks = its; free = its ++ h.depot.free; message = under h i slot at ∙ e; given = λ x. times-append x its h.depot.free; after = refl }, refl));
     }
-sealed_by room blocks next h f offers i slot bytes its (suc weight) at e =
+sealed_by Movers room blocks next h f offers i slot bytes its (suc weight) at e =
     let key : Key = record { slot = i; generation = slot.generation } in
+    let Q : Mover → Type 0 = SealedMovers Movers h key (suc weight) in
     let heavy : weight_under h.depot key ≡ suc weight = ap weight_held (under h i slot at ∙ e) in
-    elim (search_in (λ (lane : Lane). lane.holds) (λ (lane : Lane). lane.holds ≢ []) some_holds h.lanes) [
-      | inl there ↦ offers there.0 there.1 there.2 there.3
-      | inr no_lane ↦ elim (search_in (λ (box : Box). map hold_of (posts_of box)) IsBusy busy_posts h.boxes) [
-        | inl there ↦ any_worker there.0 room next h (busy_moves room blocks next h f there.0 there.1 there.2 there.3)
+    let test : Hold → Bool = λ hold. is_same_key hold.key key in
+    let g : Hold → ℕ = λ hold. cond (is_same_key hold.key key) hold.weight 0 in
+    let lanes : Lane → List Hold = λ lane. lane.holds in
+    let boxes : Box → List Hold = λ box. map hold_of (posts_of box) in
+    elim (found_in lanes test g (no_weight key) h.lanes) [
+      | inl there ↦ widen (Movers there.0) Q room next h (λ who by. inr (inl (there.0, there.1, there.2, there.3, by))) (offers there.0 there.1 there.2 (has_some key _ there.3))
+      | inr no_lane ↦ elim (found_in boxes test g (no_weight key) h.boxes) [
+        | inl there ↦ widen (TheWorker there.0) Q room next h (λ who by. inr (inr (there.0, there.1, there.2, there.3, by)))
+            (busy_moves room blocks next h f there.0 there.1 there.2 (has_busy key there.1 there.3))
         | inr no_box ↦
-            let none : holds_of h ≡ [] = rw (no_lane, no_box) refl in
-            let light : weight_of key (holds_of h) ≡ 0 = ap (weight_of key) none in
-            let sum = f.holds.sum key in
+            let sum : weight_of key (holds_of h) ≡ weight_under h.depot key = f.holds.sum key in
+            let parts : weight_of key (holds_of h) ≡ sum_by g (flat_map lanes h.lanes) + sum_by g (flat_map boxes h.boxes) = sum_by-append g (flat_map lanes h.lanes) (flat_map boxes h.boxes) in
             absurd (omega arith)
       ]
     ]
@@ -328,7 +344,7 @@ given_there t p low = let under' : nat_lt p t.offered ≡ true = grind (arith, n
 
 no_answer : (k : ℕ) (d : Depot) (lane : Lane) (boxes : List Box) (p : ℕ) → IsTracked k d lane boxes → lane.gather.places ≡ answers lane.gather.txn (length lane.gather.places) lane.heard
     → ((i : ℕ) (t : SealedMessage) → slice_get lane.messages i ≡ Some t → length lane.messages ≡ i + 1 → lane.gather.txn ≡ txn_of k t.number)
-    → lane.holds ≡ [] → length lane.slips ≤ lane.collected → flat_map on_way boxes ≡ [] → slice_get lane.gather.places p ≡ Some None → (ts : List SealedMessage) → lane.messages ≡ ts → ⊥
+    → lane.holds ≡ [] → length lane.slips ≤ lane.collected → sum_by (λ (post : Post). cond (is_copy lane.gather.txn p post.note) 1 0) (flat_map on_way boxes) ≡ 0 → slice_get lane.gather.places p ≡ Some None → (ts : List SealedMessage) → lane.messages ≡ ts → ⊥
 no_answer k d lane boxes p s answered for_last idle all none at [] e =
     let low = slice_get_within lane.gather.places p None at in
     let few = s.none (ap length e) in absurd (omega arith)
@@ -342,7 +358,7 @@ no_answer k d lane boxes p s answered for_last idle all none at (t ∷ ts) e =
     let given = s.given z.1.number p in
     let some = count_some (is_given z.1.number p) lane.messages z.0 z.1 is (given_there z.1 p (omega arith)) in
     let no_slips : times_named (txn_of k z.1.number) p (drop lane.collected lane.slips) ≡ 0 = ap (times_named (txn_of k z.1.number) p) (drop_all lane.collected lane.slips all) in
-    let no_way : way_at k z.1.number p boxes ≡ 0 = ap (sum_by (copy_at k z.1.number p)) none in
+    let no_way : way_at k z.1.number p boxes ≡ 0 = subst (λ txn. sum_by (λ (post : Post). cond (is_copy txn p post.note) 1 0) (flat_map on_way boxes) ≡ 0) (for_last z.0 z.1 is top) none in
     let empty : answer lane.gather.txn lane.heard p ≡ None = ap (answer lane.gather.txn lane.heard) (let z : p ≡ 0 + p = omega arith in z) ∙ nth_of (answer lane.gather.txn lane.heard) 0 (length lane.gather.places) p None (ap (λ xs. slice_get xs p) (sym answered) ∙ at) in
     let its : answer (txn_of k z.1.number) lane.heard p ≡ None = subst (λ txn. answer txn lane.heard p ≡ None) (for_last z.0 z.1 is top) empty in
     let unheard = none_found (names (txn_of k z.1.number) p) lane.heard its in
@@ -354,18 +370,33 @@ busy_way box = elim (busy_or_free box) [
   | inr free ↦ inr (rw (free.0, free.1) refl)
 ]
 
-unanswered_by : (room blocks : ℕ) (next : ℕ → ℕ) (h : House) → IsReached room blocks h → OffersMove room next h → ((k : ℕ) (lane : Lane) → LaneIs h k lane → lane.collected < length lane.slips → IsMovedBy Anyone room next h)
-    → (k : ℕ) (lane : Lane) (p : ℕ) → LaneIs h k lane → slice_get lane.gather.places p ≡ Some None → IsMovedBy Anyone room next h
-unanswered_by room blocks next h f offers collects k lane p at open' = elim (some_holds lane) [
-  | inl some ↦ offers k lane at some
-  | inr idle ↦ elim (low_or_full lane.collected (length lane.slips)) [
-    | inl low ↦ collects k lane at low
-    | inr all ↦ elim (search_in on_way IsBusy busy_way h.boxes) [
-      | inl there ↦ any_worker there.0 room next h (busy_moves room blocks next h f there.0 there.1 there.2 there.3)
-      | inr none ↦ absurd (no_answer k h.depot lane h.boxes p (f.tracked k lane at) (f.answers k lane at) (λ i t is top. f.for_last k lane i t at is top) idle all none open' lane.messages refl)
-    ]
-  ]
+way_busy : (test : Post → Bool) (box : Box) → list_any test (on_way box) ≡ true → IsBusy box
+way_busy test box has = elim (busy_way box) [
+  | inl busy ↦ busy
+  | inr none ↦ let bad : list_any test [] ≡ true = subst (λ (posts : List Post). list_any test posts ≡ true) none has in cc
 ]
+
+no_one : (txn : Txn) (p : ℕ) (post : Post) → is_copy txn p post.note ≡ false → ◌≡◌ {A = ℕ} (cond (is_copy txn p post.note) 1 0) 0
+no_one txn p post e = ap (λ t. cond t 1 0) e
+
+unanswered_by : (Movers : ℕ → Mover → Type 0) (room blocks : ℕ) (next : ℕ → ℕ) (h : House) → IsReached room blocks h → OffersMove Movers room next h
+    → ((k : ℕ) (lane : Lane) → LaneIs h k lane → lane.collected < length lane.slips → IsMovedBy (Movers k) room next h)
+    → (k : ℕ) (lane : Lane) (p : ℕ) → LaneIs h k lane → slice_get lane.gather.places p ≡ Some None → IsMovedBy (λ who. Movers k who ⊎ HasCopyFor h lane p who) room next h
+unanswered_by Movers room blocks next h f offers collects k lane p at open' =
+    let Q : Mover → Type 0 = λ who. Movers k who ⊎ HasCopyFor h lane p who in
+    let test : Post → Bool = λ post. is_copy lane.gather.txn p post.note in
+    let g : Post → ℕ = λ post. cond (is_copy lane.gather.txn p post.note) 1 0 in
+    elim (some_holds lane) [
+      | inl some ↦ widen (Movers k) Q room next h (λ who by. inl by) (offers k lane at some)
+      | inr idle ↦ elim (low_or_full lane.collected (length lane.slips)) [
+        | inl low ↦ widen (Movers k) Q room next h (λ who by. inl by) (collects k lane at low)
+        | inr all ↦ elim (found_in on_way test g (no_one lane.gather.txn p) h.boxes) [
+          | inl there ↦ widen (TheWorker there.0) Q room next h (λ who by. inr (there.0, there.1, there.2, there.3, by))
+              (busy_moves room blocks next h f there.0 there.1 there.2 (way_busy test there.1 there.3))
+          | inr none ↦ absurd (no_answer k h.depot lane h.boxes p (f.tracked k lane at) (f.answers k lane at) (λ i t is top. f.for_last k lane i t at is top) idle all none open' lane.messages refl)
+        ]
+      ]
+    ]
 
 pub nothing_is_stuck : NothingIsStuck
 nothing_is_stuck room blocks start run is r o some capacity next all =
@@ -378,9 +409,8 @@ nothing_is_stuck room blocks start run is r o some capacity next all =
       accepted = accepted_moves room blocks next h f;
       in_hand = hand_moves room blocks next h f;
       to_collect = collects_move room blocks next h f c all;
-      unanswered = unanswered_by room blocks next h f (λ k lane at some. any_lane k room next h (offers_move room blocks next h f c all k lane at some))
-          (λ k lane at some. any_lane k room next h (collects_move room blocks next h f c all k lane at some));
-      sealed = sealed_by room blocks next h f (λ k lane at some. any_lane k room next h (offers_move room blocks next h f c all k lane at some));
+      unanswered = unanswered_by (LaneOrWorker next) room blocks next h f (offers_move room blocks next h f c all) (collects_move room blocks next h f c all);
+      sealed = sealed_by (LaneOrWorker next) room blocks next h f (offers_move room blocks next h f c all);
     }
 
 -- where all channels are closed
@@ -404,15 +434,15 @@ pub nothing_is_stuck_when_closed : NothingIsStuckWhenClosed
 nothing_is_stuck_when_closed room blocks start run is r o some next all shut =
     let h = last_house start run in
     let f = reached room blocks start run is r o some in
+    let offers : OffersMove TheLane room next h = λ k lane at some'. closed_offers room blocks next h f all shut k lane at lane.holds refl some' in
+    let collects : (k : ℕ) (lane : Lane) → LaneIs h k lane → lane.collected < length lane.slips → IsMovedBy (TheLane k) room next h =
+    λ k lane at some'. closed_collects room blocks next h f all shut k lane at some' lane.holds refl in
     record {
       draft = draft_moves room blocks next h f;
-      to_offer = λ k lane at some'. closed_offers room blocks next h f all shut k lane at lane.holds refl some';
+      to_offer = offers;
       accepted = accepted_moves room blocks next h f;
       in_hand = hand_moves room blocks next h f;
-      to_collect = λ k lane at some'. closed_collects room blocks next h f all shut k lane at some' lane.holds refl;
-      unanswered = unanswered_by room blocks next h f
-          (λ k lane at some'. widen (TheLane k) Anyone room next h (λ who by. inr (inl (k, by))) (closed_offers room blocks next h f all shut k lane at lane.holds refl some'))
-          (λ k lane at some'. widen (TheLane k) Anyone room next h (λ who by. inr (inl (k, by))) (closed_collects room blocks next h f all shut k lane at some' lane.holds refl));
-      sealed = sealed_by room blocks next h f
-          (λ k lane at some'. widen (TheLane k) Anyone room next h (λ who by. inr (inl (k, by))) (closed_offers room blocks next h f all shut k lane at lane.holds refl some'));
+      to_collect = collects;
+      unanswered = unanswered_by TheLane room blocks next h f offers collects;
+      sealed = sealed_by TheLane room blocks next h f offers;
     }

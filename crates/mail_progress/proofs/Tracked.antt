@@ -25,9 +25,9 @@ use Rattle.mail_world.proofs.Holds.{drop_get}
 use Rattle.mail_world.proofs.GivenAway.{is_given, count-append, count-cons}
 use Rattle.mail_world.proofs.WrongSteps.{same_some}
 use Rattle.mail_world.proofs.Depots.{total_set, used, FitsSlot, KeepsBytes, begins_turn, puts_turn, seals_turn, releases_turn, drops_turn, seals_fits}
-use Rattle.mail_progress.specs.Orderly.{IsOrderly}
+use Rattle.mail_progress.specs.Orderly.{IsOrderly, post_of, on_way}
 use Rattle.mail_progress.proofs.Sums.{sum_set, sum_remove, sum_last}
-use Rattle.mail_progress.proofs.Within.{post_of, on_way, to_give, AllWithin, within_step, within_start}
+use Rattle.mail_progress.proofs.Within.{to_give, AllWithin, within_step, within_start}
 use Rattle.mail_progress.proofs.Kept.{IsSome, IsKept, IsBoxRight, kept_step, kept_start}
 
 -- the copies of a transaction and a place on their way, and the slips that name them

@@ -18,18 +18,11 @@ use Rattle.mail_world.proofs.OneLine.{other_byte}
 use Rattle.mail_world.proofs.Accepted.{get_set, each_at}
 use Rattle.mail_world.proofs.Depots.{total_set}
 use Rattle.mail_world.proofs.Holds.{drop_get}
-use Rattle.mail_progress.specs.Orderly.{IsAnswered, IsDone, uncollected, IsInOrder, IsOrderly}
+use Rattle.mail_progress.specs.Orderly.{IsAnswered, IsDone, uncollected, IsInOrder, IsOrderly, post_of, on_way}
 use Rattle.mail_progress.specs.OrderlyRuns.{SlipsFindRoom}
 use Rattle.mail_progress.proofs.Sums.{sum_set, sum_remove, sum_last, sum_one_more, sum_replicate}
 
--- the copies that a mailbox has of a lane, accepted or in hand
-abbrev pub post_of : Option Copy → List Post
-post_of None = []
-post_of (Some copy) = copy.post ∷ []
-
-abbrev pub on_way : Box → List Post
-on_way box = post_of box.hand ++ drop box.taken box.accepted
-
+-- the copies that a mailbox has of a lane, to take or in hand
 abbrev pub one_of : ℕ → Post → ℕ
 one_of k post = cond (post.note.txn.lane == k) 1 0
 

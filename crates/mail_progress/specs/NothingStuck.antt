@@ -1,12 +1,14 @@
 -- Whatever is under way can be moved, and by whom.
-use Rattle.std.specs.Prelude.{◌≡◌, ◌≢◌, ◌⊎◌, ℕ, ◌<◌, ◌≤◌, List, [], length, true, Some, None, slice_get}
+use Rattle.std.specs.Prelude.{◌≡◌, ◌≢◌, ◌⊎◌, ℕ, ◌<◌, ◌≤◌, List, [], length, true, Some, None, slice_get, ◌==◌, ◌&&◌, map}
+use Rattle.std.specs.List.{list_any}
 use Rattle.mail_world.specs.declared.Event.{Event}
 use Rattle.mail_world.specs.declared.Event.TheVariants.{Begin, Put, Cancel, Seal, Split, Offer, HandBack, Collect, Take, Write, Sync, Release, GiveSlip, Reclaim, Close}
 use Rattle.mail_world.specs.Depot.{Key, Slot, Sealed}
-use Rattle.mail_world.specs.House.{Copy, Box, Lane, House, IsStart}
+use Rattle.mail_world.specs.House.{Hold, Post, Copy, Box, Lane, House, IsStart}
 use Rattle.mail_world.specs.Events.{LaneIs, BoxIs, MayHappen}
-use Rattle.mail_world.specs.Runs.{Happened, Run, last_house}
-use Rattle.mail_progress.specs.Orderly.{IsInOrder, IsOrderly}
+use Rattle.mail_world.specs.Runs.{Happened, Run, last_house, hold_of, posts_of, is_same_key}
+use Rattle.mail_world.specs.Slips.{is_same_txn}
+use Rattle.mail_progress.specs.Orderly.{IsInOrder, IsOrderly, on_way}
 use Rattle.mail_progress.specs.GoingOn.{GoesOn}
 
 -- who takes the step
@@ -51,8 +53,19 @@ TheWorker w who = who ≡ WorkerOf w
 abbrev pub LaneOrWorker : (ℕ → ℕ) → ℕ → Mover → Type 0
 LaneOrWorker next k who = (who ≡ LaneOf k) ⊎ (who ≡ WorkerOf (next k))
 
-abbrev pub Anyone : Mover → Type 0
-Anyone who = (who ≡ AnyHolder) ⊎ (((k : ℕ) × (who ≡ LaneOf k)) ⊎ ((w : ℕ) × (who ≡ WorkerOf w)))
+-- one of the holds is of the message under the key
+abbrev pub HasHold : Key → List Hold → Type 0
+HasHold key holds = list_any (λ (hold : Hold). is_same_key hold.key key) holds ≡ true
+
+-- those who move a lane that holds the message under the key, or the worker of a mailbox with a copy of it
+abbrev pub IsHolder : (ℕ → Mover → Type 0) → House → Key → Mover → Type 0
+IsHolder Movers h key who = ((k : ℕ) × (lane : Lane) × LaneIs h k lane × HasHold key lane.holds × Movers k who)
+    ⊎ ((w : ℕ) × (box : Box) × BoxIs h w box × HasHold key (map hold_of (posts_of box)) × (who ≡ WorkerOf w))
+
+-- a worker that has the copy for that place of the lane's last message, in hand or to take
+abbrev pub HasCopyFor : House → Lane → ℕ → Mover → Type 0
+HasCopyFor h lane place who = (w : ℕ) × (box : Box) × BoxIs h w box
+    × (list_any (λ (post : Post). is_same_txn post.note.txn lane.gather.txn && (post.note.place == place)) (on_way box) ≡ true) × (who ≡ WorkerOf w)
 
 -- the next copies are for mailboxes of the house
 abbrev pub AreThere : (ℕ → ℕ) → House → Type 0
@@ -71,9 +84,11 @@ pub record NothingStuck (Movers : ℕ → Mover → Type 0) (room : ℕ) (next :
   -- a slip to collect
   pub to_collect : (k : ℕ) (lane : Lane) → LaneIs h k lane → lane.collected < length lane.slips → IsMovedBy (Movers k) room next h
   -- an answer not given, in a place of the lane's last message: those of the ones before were given when the next one began
-  pub unanswered : (k : ℕ) (lane : Lane) (place : ℕ) → LaneIs h k lane → slice_get lane.gather.places place ≡ Some None → IsMovedBy Anyone room next h
-  -- a message sealed and not reclaimed
-  pub sealed : (i : ℕ) (slot : Slot) (bytes blocks : List ℕ) (weight : ℕ) → slice_get h.depot.slots i ≡ Some slot → slot.held ≡ Sealed bytes blocks weight → IsMovedBy Anyone room next h
+  pub unanswered : (k : ℕ) (lane : Lane) (place : ℕ) → LaneIs h k lane → slice_get lane.gather.places place ≡ Some None
+      → IsMovedBy (λ who. Movers k who ⊎ HasCopyFor h lane place who) room next h
+  -- a message sealed and not reclaimed: a holder lets go of it, and behind the last one it is reclaimed
+  pub sealed : (i : ℕ) (slot : Slot) (bytes blocks : List ℕ) (weight : ℕ) → slice_get h.depot.slots i ≡ Some slot → slot.held ≡ Sealed bytes blocks weight
+      → IsMovedBy (λ who. ((weight ≡ 0) × (who ≡ AnyHolder)) ⊎ IsHolder Movers h (record { slot = i; generation = slot.generation }) who) room next h
 
 -- so it is in each house of each orderly run, where channels have a capacity and lanes room for slips
 abbrev pub NothingIsStuck : Type 0

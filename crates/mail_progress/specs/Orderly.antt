@@ -1,10 +1,10 @@
 -- Orderly runs: the order in which a running lane goes, over channels with room.
-use Rattle.std.specs.Prelude.{◌≡◌, ⊤, ℕ, ◌-◌, ◌<◌, ◌≤◌, List, [], ◌∷◌, length, Option, Some, None, slice_get, IfSome}
+use Rattle.std.specs.Prelude.{◌≡◌, ⊤, ℕ, ◌-◌, ◌<◌, ◌≤◌, List, [], ◌∷◌, ◌++◌, length, drop, Option, Some, None, slice_get, IfSome}
 use Rattle.std.specs.List.{AllByRecursion}
 use Rattle.mail_world.specs.declared.Outcome.{Outcome}
 use Rattle.mail_world.specs.declared.Event.{Event}
 use Rattle.mail_world.specs.declared.Event.TheVariants.{Begin, Seal, Offer, Collect, GiveSlip}
-use Rattle.mail_world.specs.House.{Box, Lane, House}
+use Rattle.mail_world.specs.House.{Post, Copy, Box, Lane, House}
 use Rattle.mail_world.specs.Runs.{Happened}
 
 abbrev pub OfLane : House → ℕ → (Lane → Type 0) → Type 0
@@ -30,6 +30,14 @@ uncollected lane = length lane.slips - lane.collected
 -- how many copies the mailbox's channel has
 abbrev pub not_taken : Box → ℕ
 not_taken box = length box.accepted - box.taken
+
+-- the copies that a mailbox has, in hand or to take
+abbrev pub post_of : Option Copy → List Post
+post_of None = []
+post_of (Some copy) = copy.post ∷ []
+
+abbrev pub on_way : Box → List Post
+on_way box = post_of box.hand ++ drop box.taken box.accepted
 
 -- the event finds the house as the order wants it, where a lane's channel has room for so many slips
 abbrev pub IsInOrder : ℕ → House → Event → Type 0

@@ -5,8 +5,9 @@ ghost use Rattle.mail_progress.specs.Finished.{EndsFinished};
 
 /// In each house of each orderly run, whatever mailbox each lane's next copy is for: a draft is moved by its lane; a
 /// copy to offer and a slip to collect by their lane or the worker of the mailbox that its next copy is for; a copy
-/// that is accepted, taken, in hand or released, and so a slip to give, by its worker; a message that is sealed and not
-/// reclaimed, and an answer that isn't given, by someone. None of these steps gives up.
+/// that is accepted, taken, in hand or released, and so a slip to give, by its worker; an answer that isn't given by
+/// its lane, that worker, or a worker that has the copy for its place; a message that is sealed and not reclaimed by
+/// those who hold it, and once nobody does by anyone. None of these steps gives up.
 pub fn nothing_is_stuck()
     ensures { NothingIsStuck }
 {}
