@@ -47,6 +47,29 @@ def a_full_disk_keeps_the_queue(folder):
             equal(said.endswith(LONG.replace(b"\r\n", b"\n") + b"\n"), True)
 
 
+@case
+def a_quota_keeps_the_queue(folder):
+    """Postfix and a mailbox over its quota: 452, the copy stays queued, and is sent once there is room and the server began anew"""
+    listen = f"127.0.0.1:{free_port()}"
+    mail = folder / "mail"
+    mail.mkdir()
+    (mail / "anna.mbox").write_bytes(b"From carl@a.example Mon Nov 23 10:00:00 2026\n\n" + b"x" * 3000 + b"\n\n")
+    with Postfix(folder, f"virtual_transport = lmtp:inet:{listen}") as postfix:
+        with Server(mail, ["anna"], 100, "--quota", 10_000, listen=listen):
+            postfix.send(["anna@mx.example"], message("late") + LONG)
+            word, text = postfix.fate("anna@mx.example")
+            equal((word, "452 4.2.2 Over quota for anna" in text), ("deferred", True))
+        (mail / "anna.mbox").write_bytes(b"")
+        with Server(mail, ["anna"], 100, "--quota", 10_000, listen=listen) as server:
+            postfix.flush()
+            equal(postfix.fate("anna@mx.example", 2), ("sent", "250 2.0.0 Stored for anna"))
+            equal(sum(word == "sent" for word, _ in postfix.fates("anna@mx.example")), 1)
+            said = server.mailbox("anna").read_bytes()
+            # nothing of it was written before
+            equal((said.startswith(b"From carl@a.example "), said.count(b"Subject: late\n")), (True, 1))
+            equal(said.endswith(LONG.replace(b"\r\n", b"\n") + b"\n"), True)
+
+
 @contextlib.contextmanager
 def small_disk(path):
     """A file system of 64 KiB in memory."""

@@ -8,6 +8,7 @@ import odd_clients  # noqa: F401
 import other_mailboxes  # noqa: F401
 import postfix_delivers  # noqa: F401
 import power_cut  # noqa: F401
+import read_only  # noqa: F401
 import readers_agree  # noqa: F401
 import several_servers  # noqa: F401
 import soak  # noqa: F401

@@ -1,0 +1,49 @@
+"""A mailbox on a file system that goes read-only."""
+
+import subprocess
+
+import letters
+from cases import Absent, case, equal
+from clients import deliver_one
+from packages import program, want_root
+from power_cut import SIZE, mounted
+from server import Server, run, words
+
+STORED = ["250 2.0.0 Stored for anna", "250 2.0.0 Stored for ben"]
+
+
+@case
+def a_file_system_gone_read_only(folder):
+    """a file system goes read-only: its mailbox is told 451, the other 250; none begins on it, and behind it mail goes on"""
+    want_root()
+    disk, mail = folder / "disk", folder / "mail"
+    with disk.open("wb") as file:
+        file.truncate(SIZE)
+    subprocess.run([program("mkfs.ext4", "e2fsprogs"), "-q", "-F", disk], check=True)
+    mail.mkdir()
+    (mail / "anna.mbox").symlink_to(folder / "other" / "anna.mbox")
+    with mounted(disk, folder / "other") as other:
+        (other / "anna.mbox").touch()
+        with Server(mail, ["anna", "ben"], 100, "--lanes", 2) as server:
+            equal(deliver_one(server.address, ["anna", "ben"], "one"), STORED)
+            go_read_only(other)
+            for text in ["two", "three"]:
+                finals = deliver_one(server.address, ["anna", "ben"], text)
+                equal(finals, ["451 4.3.0 Not stored for anna", STORED[1]])
+        ended = run(words(mail, ["anna", "ben"], 1))
+        equal(vars(ended), {"status": 1, "said": [], "errors": ["lmtpd: cannot open anna.mbox"]})
+    with mounted(disk, folder / "other"):
+        with Server(mail, ["anna", "ben"], 100) as server:
+            equal(deliver_one(server.address, ["anna", "ben"], "four"), STORED)
+            equal(letters.messages(server.mailbox("anna")), [b"one\n", b"four\n"])
+            equal(letters.messages(server.mailbox("ben")), [b"one\n", b"two\n", b"three\n", b"four\n"])
+
+
+def go_read_only(path):
+    """As the kernel does behind an error of the disk's, with files open that are written to."""
+    subprocess.run(["mount", "-o", "remount,abort", path], stderr=subprocess.DEVNULL)
+    try:
+        (path / "probe").write_bytes(b"x")
+    except OSError:
+        return
+    raise Absent("no file system can be made read-only with files open")
