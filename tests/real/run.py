@@ -5,6 +5,7 @@ import sys
 import exim_delivers  # noqa: F401  (each adds its cases)
 import killed_under_load  # noqa: F401
 import odd_clients  # noqa: F401
+import opensmtpd_delivers  # noqa: F401
 import other_mailboxes  # noqa: F401
 import postfix_delivers  # noqa: F401
 import power_cut  # noqa: F401

@@ -1,0 +1,90 @@
+"""OpenSMTPD delivers to `lmtpd serve`. Its package can't stand beside Postfix's, so its files are only unpacked, and what
+it wants at a fixed place is there as long as the case runs."""
+
+import contextlib
+import pathlib
+import shutil
+import smtplib
+import subprocess
+import time
+
+from cases import Absent, case, equal
+from exim_delivers import user
+from mail import equal_mailbox, message
+from packages import install, unpacked, want_root
+from postfix import free_port
+from server import Server
+
+CONFIGURATION = """
+listen on 127.0.0.1 port {port} hostname relay.example
+table boxes {{ "@mx.example" = nobody }}
+action "lmtp" lmtp "{text}" rcpt-to virtual <boxes>
+match from any for domain "mx.example" action "lmtp"
+"""
+HELPERS = pathlib.Path("/usr/libexec/opensmtpd")
+HOME = pathlib.Path("/var/lib/opensmtpd")
+SPOOL = pathlib.Path("/var/spool/smtpd")  # which it makes itself
+
+
+@case
+def opensmtpd_delivers(folder):
+    """OpenSMTPD by action lmtp: 250 for one recipient, 550 for another, in its log too; the letter byte for byte"""
+    want_root()
+    install("libevent-2.1-7")
+    files = unpacked("opensmtpd", folder / "opensmtpd")
+    with user("opensmtpd"), user("opensmtpq"), places(files), Server(folder, ["anna"], 100) as server:
+        port = free_port()
+        conf = folder / "smtpd.conf"
+        conf.write_text(CONFIGURATION.format(port=port, text=server.text))
+        log = folder / "smtpd.log"
+        with log.open("wb") as file:
+            smtpd = subprocess.Popen([files / "usr/sbin/smtpd", "-d", "-f", conf], stdout=file, stderr=file)
+        try:
+            send(port, log)
+            equal(" result=Ok " in tried(log, "anna"), True)
+            equal("550 5.1.1 No such mailbox" in tried(log, "nobody"), True)
+            equal_mailbox(server.mailbox("anna"), ["one"])
+        finally:
+            smtpd.terminate()
+            smtpd.wait(timeout=20)
+
+
+def send(port, log):
+    until = time.monotonic() + 20
+    while True:
+        try:
+            with smtplib.SMTP("127.0.0.1", port, local_hostname="client.example", timeout=20) as client:
+                client.sendmail("carl@a.example", ["anna@mx.example", "nobody@mx.example"], message("one"))
+            return
+        except ConnectionRefusedError:
+            text = log.read_text()
+            if "error while loading shared libraries" in text:
+                raise Absent(text.strip()) from None
+            if time.monotonic() > until:
+                raise RuntimeError(text[-800:]) from None
+            time.sleep(0.1)
+
+
+def tried(log, name):
+    """Its line on the first try at that recipient, once there is one."""
+    until = time.monotonic() + 20
+    while time.monotonic() < until:
+        for line in log.read_text().splitlines():
+            if f"to=<{name}@mx.example>" in line and " result=" in line:
+                return line
+        time.sleep(0.1)
+    raise RuntimeError(log.read_text()[-800:])
+
+
+@contextlib.contextmanager
+def places(files):
+    """The folders that it wants, with the program that it delivers by."""
+    new = [path for path in [HELPERS, HOME, SPOOL] if not path.exists()]
+    try:
+        for path in [HELPERS, HOME / "empty"]:
+            path.mkdir(parents=True, exist_ok=True)
+        shutil.copy(files / "usr/libexec/opensmtpd/mail.lmtp", HELPERS)
+        yield
+    finally:
+        for path in new:
+            shutil.rmtree(path, ignore_errors=True)
