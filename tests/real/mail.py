@@ -26,7 +26,8 @@ LINES = [
 ]
 
 # A relay's own lines, each of which may go on over several.
-OF_RELAYS = re.compile(rb"\A(?:(?:Received|Return-Path|Delivered-To|Envelope-to|Delivery-date):[^\n]*\n(?:[ \t][^\n]*\n)*)*")
+NAMES = b"Received|Return-Path|Delivered-To|Envelope-to|Delivery-date"
+OF_RELAYS = re.compile(rb"\A(?:(?:" + NAMES + rb"):[^\n]*\n(?:[ \t][^\n]*\n)*)*")
 
 
 def message(name):

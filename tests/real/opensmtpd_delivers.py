@@ -1,5 +1,5 @@
-"""OpenSMTPD delivers to `lmtpd serve`. Its package can't stand beside Postfix's, so its files are only unpacked, and what
-it wants at a fixed place is there as long as the case runs."""
+"""OpenSMTPD delivers to `lmtpd serve`. Its package can't stand beside Postfix's, so its files are only unpacked, and
+what it wants at a fixed place is there as long as the case runs."""
 
 import contextlib
 import pathlib

@@ -49,7 +49,7 @@ def a_full_disk_keeps_the_queue(folder):
 
 @case
 def a_quota_keeps_the_queue(folder):
-    """Postfix and a mailbox over its quota: 452, the copy stays queued, and is sent once there is room and the server began anew"""
+    """Postfix and a mailbox over its quota: 452, the copy stays queued, and is sent once there is room"""
     listen = f"127.0.0.1:{free_port()}"
     mail = folder / "mail"
     mail.mkdir()

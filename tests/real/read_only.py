@@ -14,7 +14,7 @@ STORED = ["250 2.0.0 Stored for anna", "250 2.0.0 Stored for ben"]
 
 @case
 def a_file_system_gone_read_only(folder):
-    """a file system goes read-only: its mailbox is told 451, the other 250; none begins on it, and behind it mail goes on"""
+    """a file system goes read-only: its mailbox is told 451, the other 250; none begins there till it may be written"""
     want_root()
     disk, mail = folder / "disk", folder / "mail"
     with disk.open("wb") as file:
