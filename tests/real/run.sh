@@ -1,5 +1,5 @@
 #!/usr/bin/env bash
-# `serve` with the programs that a site has: relays that deliver to it (Postfix, Exim) and readers of its mailboxes
+# `serve` with the programs that a site has: relays that deliver to it (Postfix, Exim, OpenSMTPD) and readers of its mailboxes
 # (git, Python, Perl, formail, mutt, Dovecot's IMAP), under systemd by the lines of docs/OPERATING.md, and behind the
 # mailboxes of others. Each case starts what it needs in a folder of its own, on loopback, and ends it again. What isn't
 # installed is fetched with apt-get where that may be (root, Debian), and else the case is left out, and that is said.
