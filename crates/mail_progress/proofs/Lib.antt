@@ -10,6 +10,7 @@ pub mod Lowered
 pub mod Kept
 pub mod Movers
 pub mod Tracked
+pub mod CopiesGiven
 pub mod Owners
 pub mod AllFinished
 pub mod Shut

@@ -329,7 +329,7 @@ nth_of f a zero p y e = cc
 nth_of f a (suc n) zero y e = let z : a + 0 ≡ a = omega arith in let same : f a ≡ y = cc in ap f z ∙ same
 nth_of f a (suc n) (suc p) y e = let z : a + suc p ≡ a + 1 + p = omega arith in ap f z ∙ nth_of f (a + 1) n p y e
 
-none_found : (f : Slip → Bool) (slips : List Slip) → option_map (λ (slip : Slip). slip.outcome) (find f slips) ≡ None → count_by f slips ≡ 0
+pub none_found : (f : Slip → Bool) (slips : List Slip) → option_map (λ (slip : Slip). slip.outcome) (find f slips) ≡ None → count_by f slips ≡ 0
 none_found f [] e = refl
 none_found f (x ∷ slips) e = by (f x) refl e (none_found f slips)
   where

@@ -170,33 +170,37 @@ last_there [] i x e = cc
 last_there (y ∷ []) i x e = (0, y, refl, refl)
 last_there (y ∷ z ∷ xs) i x e = let rest = last_there (z ∷ xs) 0 z refl in (suc rest.0, rest.1, rest.2, (let f : length (z ∷ xs) ≡ rest.0 + 1 = rest.3 in omega arith))
 
--- a copy of a message goes: it is the last one
+-- a hold of a message's key: the message is the last one
+pub last_of_its_key : (ts : List SealedMessage) (holds : List Hold) (n i at : ℕ) (t : SealedMessage) → slice_get holds at ≡ Some (record { key = t.key; weight = 1 }) → slice_get ts i ≡ Some t → AreLast ts holds n → length ts ≡ i + 1
+last_of_its_key ts holds n i at t hold is s =
+    let z = last_there ts i t is in
+    let l = s z.0 z.1 z.2 z.3 in
+    let key : t.key ≡ z.1.key = each_at (λ (x : Hold). x.key ≡ z.1.key) holds at (record { key = t.key; weight = 1 }) l.own hold in
+    z.3 ∙ ap (λ j. j + 1) (sym (l.alone i t is key))
+
+-- a copy of a message goes
 away_last : (ts : List SealedMessage) (holds : List Hold) (n m i at : ℕ) (t : SealedMessage) → slice_get holds at ≡ Some (record { key = t.key; weight = 1 }) → slice_get ts i ≡ Some t → m ≡ n → AreLast ts holds n
     → AreLast (slice_set ts i (record t { offered = t.offered + 1 })) (remove holds at) m
 away_last ts holds n m i at t hold is same s j u there top =
     let len : length ts ≡ j + 1 = sym (length_set ts i (record t { offered = t.offered + 1 })) ∙ top in
-    let z = last_there ts i t is in
-    let last_at : z.0 ≡ j = let e : length ts ≡ z.0 + 1 = z.3 in omega arith in
-    let l = s z.0 z.1 z.2 z.3 in
-    let key : t.key ≡ z.1.key = each_at (λ (x : Hold). x.key ≡ z.1.key) holds at (record { key = t.key; weight = 1 }) l.own hold in
-    let here : i ≡ z.0 = l.alone i t is key in
-    let whole : t ≡ z.1 = same_some (slice_get ts i) t z.1 is (ap (slice_get ts) here ∙ z.2) in
+    let mine : length ts ≡ i + 1 = last_of_its_key ts holds n i at t hold is s in
+    let same_place : i ≡ j = omega arith in
+    let l = s i t is mine in
     elim (get_set ts i j (record t { offered = t.offered + 1 }) u there) [
       | inl now ↦
           let offered : t.offered + 1 ≡ u.offered = ap (λ (x : SealedMessage). x.offered) now.1 in
           let its : t.key ≡ u.key = ap (λ (x : SealedMessage). x.key) now.1 in
           let give = sum_remove (λ (x : Hold). x.weight) holds at (record { key = t.key; weight = 1 }) hold in
-          let all : n ≤ z.1.offered + to_give holds = l.all in
-          let count : t.offered ≡ z.1.offered = ap (λ (x : SealedMessage). x.offered) whole in
+          let all : n ≤ t.offered + to_give holds = l.all in
           record {
-            own = all_remove (λ (x : Hold). x.key ≡ u.key) holds at (weaken (λ (x : Hold). x.key ≡ z.1.key) (λ (x : Hold). x.key ≡ u.key) (λ x e. e ∙ sym key ∙ its) holds l.own);
+            own = all_remove (λ (x : Hold). x.key ≡ u.key) holds at (weaken (λ (x : Hold). x.key ≡ t.key) (λ (x : Hold). x.key ≡ u.key) (λ x e. e ∙ its) holds l.own);
             alone = λ a v there' e. elim (get_set ts i a (record t { offered = t.offered + 1 }) v there') [
-              | inl self ↦ self.0 ∙ here ∙ last_at
-              | inr past ↦ l.alone a v past.1 (e ∙ sym its ∙ key) ∙ last_at
+              | inl self ↦ self.0 ∙ same_place
+              | inr past ↦ l.alone a v past.1 (e ∙ sym its) ∙ same_place
             ];
             all = omega arith;
           }
-      | inr other ↦ absurd (other.0 (sym last_at ∙ sym here))
+      | inr other ↦ absurd (other.0 (sym same_place))
     ]
 
 length_placed : (places : List (Option Outcome)) (p : ℕ) (o : Outcome) (at : Option (Option Outcome)) → length (place_outcome places p o at) ≡ length places
@@ -212,7 +216,7 @@ length_gathered : (g : Gather) (slip : Slip) → length (gathered g slip).places
 length_gathered g slip = gathered_by g slip (is_same_txn slip.txn g.txn)
 
 -- holds without weight are none
-no_hold : (holds : List Hold) → AllByRecursion IsSome holds → to_give holds ≤ 0 → holds ≡ []
+pub no_hold : (holds : List Hold) → AllByRecursion IsSome holds → to_give holds ≤ 0 → holds ≡ []
 no_hold [] all none = refl
 no_hold (x ∷ holds) all none = let some : 1 ≤ x.weight = all.0 in absurd (omega (arith, sum_by-cons (λ (hold : Hold). hold.weight) x holds))
 
@@ -322,7 +326,7 @@ lane_after h d bs k old changed was f here way all = one_lane h (record h { depo
 none_after : (h : House) (d : Depot) (bs : List Box) → Keeps h.depot d → ((v : ℕ) → NoFewer v h.boxes bs) → AllTracked h → AllTracked (record h { depot = d; boxes = bs })
 none_after h d bs f way all = no_lane h (record h { depot = d; boxes = bs }) refl f way all
 
-tracked_step : (room : ℕ) (h : House) (e : Event) (new : House) → AllWithin room h → IsKept h → AllTracked h → Step h e new → AllTracked new
+pub tracked_step : (room : ℕ) (h : House) (e : Event) (new : House) → AllWithin room h → IsKept h → AllTracked h → Step h e new → AllTracked new
 tracked_step room h (Begin k) new w kept s st =
     let f : Keeps h.depot new.depot = subst (λ (x : House). Keeps h.depot x.depot) (sym st.after) (begins_turn h.depot st.key st.depot st.begins).fits in
     let boxes = ap (λ (x : House). x.boxes) st.after in
@@ -415,7 +419,7 @@ tracked_run room h [] w kept s r o = s
 tracked_run room h (x ∷ xs) w kept s r o =
     tracked_run room x.house xs (within_step room h x.event x.house w r.0 o.0) (kept_step h x.event x.house kept r.0) (tracked_step room h x.event x.house w kept s r.0) r.1 o.1
 
-tracked_start : (blocks : ℕ) (h : House) → IsStart blocks h → AllTracked h
+pub tracked_start : (blocks : ℕ) (h : House) → IsStart blocks h → AllTracked h
 tracked_start blocks h start k lane is =
     let f = each_at IsFreshLane h.lanes k lane start.lanes is in
     record {

@@ -20,8 +20,8 @@ pub fn nothing_is_stuck_when_closed()
 {}
 
 /// Where none of these steps may follow, nothing is under way: there is no draft and no copy to offer, every channel is
-/// drained, every slip is collected, every place of a lane's last message is answered, every copy that was given away
-/// was heard of, every message is reclaimed, and every block is free.
+/// drained, every slip is collected, of every message that was sealed each copy was given away and each place is
+/// answered, every message is reclaimed, and every block is free.
 pub fn where_nothing_goes_on_all_is_finished()
     ensures { EndsFinished }
 {}
