@@ -19,7 +19,7 @@ use Rattle.mail_world.specs.Slips.{txn_of, names, times_named, answer}
 use Rattle.mail_world.proofs.GivenAway.{is_given, count_some}
 use Rattle.std.proofs.lemmas.List.{drop_all}
 use Rattle.mail_progress.proofs.Within.{to_give}
-use Rattle.mail_progress.proofs.CopiesGiven.{AreGiven, AllGiven, every_orderly_given, all_given}
+use Rattle.mail_progress.proofs.CopiesGiven.{AreSealedFor, AllSealedFor, every_orderly_sealed_for, all_given}
 use Rattle.mail_progress.proofs.Tracked.{copy_at, way_at, AllTracked}
 use Rattle.mail_progress.proofs.Owners.{AllOwned, every_run_owns, none_in_use}
 use Rattle.mail_progress.proofs.Movers.{reached, low_or_full, search_in, IsBusy, busy_way, none_found, given_there, nothing_is_stuck, nothing_is_stuck_when_closed}
@@ -61,7 +61,7 @@ record IsStill (Movers : ℕ → Mover → Type 0) (room blocks : ℕ) (next : �
   each : HasEachBlockOnce blocks h.depot
   owned : AllOwned h
   tracked : AllTracked h
-  given : AllGiven (λ k. copies_sealed k events) h
+  given : AllSealedFor (λ k. copies_sealed k events) h
   fronts : (b : ℕ) (box : Box) → BoxIs h b box → box.taken ≤ length box.accepted
   moved : NothingStuck Movers room next h
   still : MayGoOn room next h → ⊥
@@ -108,7 +108,7 @@ finished_by Movers room blocks next events h s = record {
   collected = λ k lane at. let all = all_collected Movers room blocks next events h s k lane at in let front = (s.tracked k lane at).front in omega arith;
   given_away = λ k lane at.
       let idle : to_give lane.holds ≡ 0 = ap to_give (idle_lane Movers room blocks next events h s k lane at) in
-      all_given lane.messages (copies_sealed k events) (subst (λ w. AreGiven lane.messages w (copies_sealed k events)) idle (s.given k lane at));
+      all_given lane.messages (copies_sealed k events) (subst (λ w. AreSealedFor lane.messages w (copies_sealed k events)) idle (s.given k lane at));
   answered = λ k lane i t at is. all_named (txn_of k t.number) lane.heard 0 t.offered (λ p low. heard_of Movers room blocks next events h s k lane i p t at is (omega arith));
   gathered = λ k lane at. all_answered lane.gather.places (λ p e. s.still (goes_on _ room next h (s.moved.unanswered k lane p at e)));
   reclaimed = λ i slot bytes its weight at e. s.still (goes_on _ room next h (s.moved.sealed i slot bytes its weight at e));
@@ -132,7 +132,7 @@ ends_finished room blocks start run is r o some capable next all still = elim ca
           each = f.holds.each_block;
           owned = every_run_owns blocks start run is r;
           tracked = f.tracked;
-          given = every_orderly_given room blocks start run is r o;
+          given = every_orderly_sealed_for room blocks start run is r o;
           fronts = (every_run_accepts blocks start run is r).front;
           moved = moved;
           still = still;

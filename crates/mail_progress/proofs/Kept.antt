@@ -1,6 +1,6 @@
 -- What the house keeps in every run, so that steps may be taken: the capacity, the lanes of the copies, weights of 1 or more, and no more written than there is.
-use Rattle.std.proofs.Common.{◌≡◌, ◌≢◌, ◌⊎◌, ℕ, zero, suc, ◌+◌, ◌-◌, ◌≤◌, List, [], ◌∷◌, length, Option, Some, None, inl, inr, refl, ap, sym, ◌∙◌, subst, arith, length-append}
-use Rattle.std.specs.Prelude.{slice_get, slice_set, remove}
+use Rattle.std.proofs.Common.{◌≡◌, ℕ, ◌+◌, ◌-◌, ◌≤◌, List, [], ◌∷◌, length, Option, Some, None, inl, inr, refl, ap, sym, ◌∙◌, subst, arith, length-append}
+use Rattle.std.specs.Prelude.{slice_get, slice_set}
 use Rattle.std.specs.List.{AllByRecursion}
 use Rattle.std.proofs.lemmas.List.{length-drop}
 use Rattle.std.proofs.lemmas.Option.{slice_get_within}
@@ -11,6 +11,8 @@ use Rattle.mail_world.specs.Events.{Step, LaneIs, BoxIs}
 use Rattle.mail_world.specs.Runs.{Happened, Run, last_house}
 use Rattle.mail_world.proofs.Accepted.{each_at}
 use Rattle.mail_world.proofs.Heard.{all_more, all_set, weaken}
+use Rattle.mail_world.proofs.Holds.{all_remove}
+use Rattle.mail_world.proofs.Merged.{same_or_not}
 use Rattle.mail_world.proofs.Depots.{set_at, set_past}
 use Rattle.mail_progress.specs.StepsLeft.{size}
 
@@ -45,9 +47,6 @@ LanesStay ls ms = (k : ℕ) → HasLane ls k → HasLane ms k
 
 stay_same : (ls ms : List Lane) → ms ≡ ls → LanesStay ls ms
 stay_same ls ms e k there = (there.0, ap (λ xs. slice_get xs k) e ∙ there.1)
-
-pub same_or_not : (k at : ℕ) → (k ≡ at) ⊎ (k ≢ at)
-same_or_not k at = grind arith
 
 stay_set : (ls ms : List Lane) (v : ℕ) (old new : Lane) → slice_get ls v ≡ Some old → ms ≡ slice_set ls v new → LanesStay ls ms
 stay_set ls ms v old new was e k there = elim (same_or_not v k) [
@@ -90,12 +89,6 @@ box_right h new f box r = record {
   hand = hand_right h new f box.hand r.hand;
   front = r.front;
 }
-
-all_remove : {A : Type 0} (P : A → Type 0) (xs : List A) (i : ℕ) → AllByRecursion P xs → AllByRecursion P (remove xs i)
-all_remove P [] zero h = tt
-all_remove P [] (suc i) h = tt
-all_remove P (x ∷ xs) zero h = h.1
-all_remove P (x ∷ xs) (suc i) h = (h.0, all_remove P xs i h.1)
 
 -- a lane changes, and perhaps a mailbox
 kept_lane : (h new : House) (k : ℕ) (old next : Lane) → IsKept h → ((note : _) → size new note ≡ size h note) → LaneIs h k old → new.boxes ≡ h.boxes → new.lanes ≡ slice_set h.lanes k next
@@ -181,13 +174,10 @@ kept_run : (h : House) (run : List Happened) → IsKept h → Run h run → IsKe
 kept_run h [] s r = s
 kept_run h (x ∷ xs) s r = kept_run x.house xs (kept_step h x.event x.house s r.0) r.1
 
-all_of : {A : Type 0} (P Q : A → Type 0) → ((x : A) → P x → Q x) → (xs : List A) → AllByRecursion P xs → AllByRecursion Q xs
-all_of P Q f xs all = weaken P Q f xs all
-
 pub kept_start : (blocks : ℕ) (h : House) → IsStart blocks h → IsKept h
 kept_start blocks h start = record {
-  boxes = all_of IsFreshBox (IsBoxRight h) (λ box f. record { posts = subst (AllByRecursion (OfLanes h.lanes)) (sym f.accepted) tt; hand = subst (HandIsRight h) (sym f.hand) tt; front = let t = f.taken in omega arith }) h.boxes start.boxes;
-  lanes = all_of IsFreshLane (λ (lane : Lane). AllByRecursion IsSome lane.holds) (λ lane f. subst (AllByRecursion IsSome) (sym f.holds) tt) h.lanes start.lanes;
+  boxes = weaken IsFreshBox (IsBoxRight h) (λ box f. record { posts = subst (AllByRecursion (OfLanes h.lanes)) (sym f.accepted) tt; hand = subst (HandIsRight h) (sym f.hand) tt; front = let t = f.taken in omega arith }) h.boxes start.boxes;
+  lanes = weaken IsFreshLane (λ (lane : Lane). AllByRecursion IsSome lane.holds) (λ lane f. subst (AllByRecursion IsSome) (sym f.holds) tt) h.lanes start.lanes;
 }
 
 -- what follows of it

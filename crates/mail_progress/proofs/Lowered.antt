@@ -1,7 +1,7 @@
 -- Each event but Begin, and a Put or Write of no bytes, lowers the number of the steps that are left.
-use Rattle.std.proofs.Common.{◌≡◌, ℕ, zero, suc, ◌+◌, ◌-◌, ◌*◌, ◌<◌, ◌≤◌, List, [], ◌∷◌, ◌++◌, length, drop, Bool, true, false, cond, not, ◌||◌, ◌==◌, Some, None, refl, ap, sym, ◌∙◌, subst, arith, add-one, length-append}
-use Rattle.std.specs.Prelude.{slice_get, slice_set, flat_map, sum_by, remove, nat_lt, if◌then◌else◌}
-use Rattle.std.proofs.lemmas.List.Sums.{sum_by-append, sum_by-cons}
+use Rattle.std.proofs.Common.{◌≡◌, ℕ, ◌+◌, ◌-◌, ◌*◌, ◌<◌, ◌≤◌, List, [], ◌∷◌, ◌++◌, length, drop, Bool, true, false, cond, not, ◌||◌, ◌==◌, Some, None, refl, ap, sym, ◌∙◌, subst, arith, add-one, length-append}
+use Rattle.std.specs.Prelude.{slice_get, slice_set, sum_by, remove, nat_lt, if◌then◌else◌}
+use Rattle.std.proofs.lemmas.List.Sums.{sum_by-cons}
 use Rattle.std.proofs.lemmas.List.{length-drop}
 use Rattle.std.proofs.lemmas.Option.{slice_get_within}
 use Rattle.std.proofs.Math.Nat.{mul-le-mul_right}
@@ -17,7 +17,8 @@ use Rattle.mail_world.proofs.Depots.{set_at, used, times-append, begins_turn, pu
 use Rattle.mail_world.proofs.Holds.{drop_get}
 use Rattle.mail_progress.specs.Orderly.{IsInOrder, IsOrderly}
 use Rattle.mail_progress.specs.StepsLeft.{size, steps_of_copy, steps_in_hand, steps_of_one, steps_of_hold, steps_of_lane, steps_of_box, steps_of_slot, steps_left, IsBounded, AreBounded, EachLowers, Ends}
-use Rattle.mail_progress.proofs.Sums.{sum_set, sum_remove, sum_last, sum_one_more}
+use Rattle.mail_world.proofs.Holds.{sum_set, sum_remove, part_le}
+use Rattle.mail_progress.proofs.Sums.{sum_last, sum_one_more}
 use Rattle.mail_progress.proofs.Pigeons.{few}
 
 -- each block stays in one place
@@ -72,18 +73,10 @@ drop_steps blocks room bound d key held new r filled =
     ∙ given_steps blocks room bound d key (held r.bytes r.blocks) r.free (nat_lt key.generation last_generation) r.message (filled r.bytes r.blocks)
 
 -- a draft's bytes fit in the blocks
-flat_part : {A B : Type 0} (f : B → ℕ) (g : A → List B) (xs : List A) (i : ℕ) (x : A) → slice_get xs i ≡ Some x → sum_by f (g x) ≤ sum_by f (flat_map g xs)
-flat_part f g [] i x e = cc
-flat_part f g (y ∷ xs) zero x e =
-    let same : y ≡ x = cc in
-    let count : sum_by f (g y) ≡ sum_by f (g x) = ap (λ z. sum_by f (g z)) same in
-    omega (arith, sum_by-append f (g y) (flat_map g xs))
-flat_part f g (y ∷ xs) (suc i) x e = omega (arith, flat_part f g xs i x e, sum_by-append f (g y) (flat_map g xs))
-
 few_blocks : (n : ℕ) (d : Depot) (i : ℕ) (slot : Slot) → HasEachBlockOnce n d → slice_get d.slots i ≡ Some slot → length (blocks_of slot.held) ≤ n
 few_blocks n d i slot each at = few n (blocks_of slot.held) (λ x.
     let one : occurrences x (d.free ++ blocks_in_use d) ≡ (if nat_lt x n then 1 else 0) = each x in
-    let p = flat_part (λ y. cond (y == x) 1 0) (λ (s : Slot). blocks_of s.held) d.slots i slot at in
+    let p = part_le (λ y. cond (y == x) 1 0) (λ (s : Slot). blocks_of s.held) d.slots i slot at in
     omega (arith, times-append x d.free (blocks_in_use d)))
 
 fits_blocks : (n len blocks : ℕ) → blocks ≡ blocks_for len → blocks ≤ n → len ≤ n * BLOCK_SIZE

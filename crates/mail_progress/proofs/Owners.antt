@@ -10,7 +10,7 @@ use Rattle.mail_world.specs.Runs.{Happened, Run, last_house}
 use Rattle.mail_world.proofs.Accepted.{get_set, each_at}
 use Rattle.mail_world.proofs.Depots.{key_at, set_at, set_past}
 use Rattle.mail_world.proofs.WrongSteps.{same_some}
-use Rattle.mail_progress.proofs.Kept.{same_or_not}
+use Rattle.mail_world.proofs.Merged.{same_or_not}
 
 abbrev pub HasOwner : List Lane → Key → Type 0
 HasOwner ls key = (k : ℕ) × (lane : Lane) × (slice_get ls k ≡ Some lane) × (lane.draft ≡ Some key)

@@ -1,23 +1,7 @@
 -- Sums over lists of which one element changes, goes or is added.
 use Rattle.std.proofs.Common.{◌≡◌, ℕ, zero, suc, ◌+◌, ◌≤◌, List, [], ◌∷◌, ◌++◌, drop, Some, refl, ap, arith}
-use Rattle.std.specs.Prelude.{slice_get, slice_set, sum_by, remove, replicate}
+use Rattle.std.specs.Prelude.{slice_get, sum_by, replicate}
 use Rattle.std.proofs.lemmas.List.Sums.{sum_by-append, sum_by-cons}
-
-pub sum_set : {A : Type 0} (f : A → ℕ) (xs : List A) (i : ℕ) (old new : A) → slice_get xs i ≡ Some old → sum_by f (slice_set xs i new) + f old ≡ sum_by f xs + f new
-sum_set f [] i old new e = cc
-sum_set f (x ∷ xs) zero old new e =
-    let same : x ≡ old = cc in
-    let count : f x ≡ f old = ap f same in
-    omega (arith, sum_by-cons f new xs, sum_by-cons f x xs)
-sum_set f (x ∷ xs) (suc i) old new e = omega (arith, sum_set f xs i old new e, sum_by-cons f x (slice_set xs i new), sum_by-cons f x xs)
-
-pub sum_remove : {A : Type 0} (f : A → ℕ) (xs : List A) (i : ℕ) (old : A) → slice_get xs i ≡ Some old → sum_by f (remove xs i) + f old ≡ sum_by f xs
-sum_remove f [] i old e = cc
-sum_remove f (x ∷ xs) zero old e =
-    let same : x ≡ old = cc in
-    let count : f x ≡ f old = ap f same in
-    omega (arith, sum_by-cons f x xs)
-sum_remove f (x ∷ xs) (suc i) old e = omega (arith, sum_remove f xs i old e, sum_by-cons f x (remove xs i), sum_by-cons f x xs)
 
 -- one element more at the end
 pub sum_last : {A : Type 0} (f : A → ℕ) (xs : List A) (x : A) → sum_by f (xs ++ x ∷ []) ≡ sum_by f xs + f x

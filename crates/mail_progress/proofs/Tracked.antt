@@ -1,9 +1,8 @@
 -- In an orderly run each place of a lane's last message has a copy to offer, a copy on its way, a slip to collect, or its answer.
-use Rattle.std.proofs.Common.{◌≡◌, ◌≢◌, ℕ, zero, suc, ◌+◌, ◌≤◌, List, [], ◌∷◌, ◌++◌, length, drop, Bool, true, false, cond, ◌&&◌, ◌==◌, Option, Some, None, inl, inr, refl, ap, sym, ◌∙◌, subst, arith, add-one, length-append}
-use Rattle.std.specs.Prelude.{slice_get, slice_set, flat_map, sum_by, count_by, remove, nat_lt}
+use Rattle.std.proofs.Common.{◌≡◌, ◌≢◌, ℕ, suc, ◌+◌, ◌≤◌, List, [], ◌∷◌, ◌++◌, length, drop, Bool, cond, ◌&&◌, ◌==◌, Option, Some, None, inl, inr, refl, ap, sym, ◌∙◌, subst, arith, add-one, length-append}
+use Rattle.std.specs.Prelude.{slice_get, slice_set, flat_map, sum_by, count_by, remove}
 use Rattle.std.specs.List.{AllByRecursion}
 use Rattle.std.proofs.lemmas.Bool.{eq-eqb}
-use Rattle.std.proofs.lemmas.Bool.Decides.{nat_tests}
 use Rattle.std.proofs.lemmas.List.{drop-append-le, length-replicate}
 use Rattle.std.proofs.lemmas.List.Sums.{sum_by-append, sum_by-cons}
 use Rattle.std.proofs.lemmas.Option.{slice_get_within}
@@ -11,7 +10,7 @@ use Rattle.mail_world.specs.declared.Outcome.{Outcome}
 use Rattle.mail_world.specs.declared.Slip.{Slip}
 use Rattle.mail_world.specs.declared.Event.{Event}
 use Rattle.mail_world.specs.declared.Event.TheVariants.{Begin, Put, Cancel, Seal, Split, Offer, HandBack, Collect, Take, Write, Sync, Release, GiveSlip, Reclaim, Close}
-use Rattle.mail_world.specs.Slips.{Gather, names, times_named, txn_of, place_outcome, is_same_txn, gathered, own_slip, slip_of}
+use Rattle.mail_world.specs.Slips.{Gather, names, times_named, txn_of, gathered, own_slip, slip_of}
 use Rattle.mail_world.specs.Depot.{Key, Depot, Slot, Draft, Sealed, held_under}
 use Rattle.mail_world.specs.House.{Hold, Post, Copy, Box, SealedMessage, Lane, House, IsFreshLane, IsStart}
 use Rattle.mail_world.specs.Events.{Step, LaneIs, outcome_of}
@@ -20,13 +19,13 @@ use Rattle.mail_world.proofs.Accepted.{get_set, each_at}
 use Rattle.mail_world.proofs.Heard.{weaken, all_more, all_set}
 use Rattle.mail_world.proofs.Once.{is_copy, get_more}
 use Rattle.mail_world.proofs.OneLine.{other_byte}
-use Rattle.mail_world.proofs.LastSeal.{length_set}
-use Rattle.mail_world.proofs.Holds.{drop_get}
-use Rattle.mail_world.proofs.GivenAway.{is_given, count-append, count-cons}
+use Rattle.mail_world.proofs.LastSeal.{length_set, keeps_gathered}
+use Rattle.mail_world.proofs.Holds.{drop_get, sum_set, sum_remove, all_remove}
+use Rattle.mail_world.proofs.GivenAway.{is_given, count-append, count-cons, count_given, count_sealed}
 use Rattle.mail_world.proofs.WrongSteps.{same_some}
 use Rattle.mail_world.proofs.Depots.{total_set, used, FitsSlot, KeepsBytes, begins_turn, puts_turn, seals_turn, releases_turn, drops_turn, seals_fits}
 use Rattle.mail_progress.specs.Orderly.{IsOrderly, post_of, on_way}
-use Rattle.mail_progress.proofs.Sums.{sum_set, sum_remove, sum_last}
+use Rattle.mail_progress.proofs.Sums.{sum_last}
 use Rattle.mail_progress.proofs.Within.{to_give, AllWithin, within_step, within_start}
 use Rattle.mail_progress.proofs.Kept.{IsSome, IsKept, IsBoxRight, kept_step, kept_start}
 
@@ -143,27 +142,9 @@ way_gave v number p bs w box copy was hand =
 not_there : (v k number p : ℕ) (post : Post) → post.note.txn.lane ≡ k → v ≢ k → copy_at v number p post ≡ 0
 not_there v k number p post e ne = rw (other_byte post.note.txn.lane v (λ same. ne (sym same ∙ e))) refl
 
--- one place more is given away
-lt_more : (p n : ℕ) → ◌≡◌ {A = ℕ} (cond (nat_lt p (n + 1)) 1 0) (cond (nat_lt p n) 1 0 + cond (n == p) 1 0)
-lt_more p n = grind (arith, nat_tests)
-
-given_by : (t : Bool) (p place : ℕ) → cond (t && nat_lt p (place + 1)) 1 0 ≡ cond (t && nat_lt p place) 1 0 + cond (t && (place == p)) 1 0
-given_by true p place = lt_more p place
-given_by false p place = refl
-
-count_given : (ts : List SealedMessage) (i : ℕ) (t : SealedMessage) (number p : ℕ) → slice_get ts i ≡ Some t
-    → count_by (is_given number p) (slice_set ts i (record t { offered = t.offered + 1 })) ≡ count_by (is_given number p) ts + cond ((t.number == number) && (t.offered == p)) 1 0
-count_given ts i t number p at =
-    omega (arith, given_by (t.number == number) p t.offered, sum_set (λ (x : SealedMessage). cond (is_given number p x) 1 0) ts i t (record t { offered = t.offered + 1 }) at)
-
+-- a slip that a lane gave itself, or a copy for its place
 own_match : (a k x y : ℕ) (t : Bool) → a ≡ k → ◌≡◌ {A = ℕ} (cond (((a == k) && (x == y)) && t) 1 0) (cond ((x == y) && t) 1 0)
 own_match a k x y t e = rw (eq-eqb a k e) refl
-
-all_remove : {A : Type 0} (P : A → Type 0) (xs : List A) (i : ℕ) → AllByRecursion P xs → AllByRecursion P (remove xs i)
-all_remove P [] zero h = tt
-all_remove P [] (suc i) h = tt
-all_remove P (x ∷ xs) zero h = h.1
-all_remove P (x ∷ xs) (suc i) h = (h.0, all_remove P xs i h.1)
 
 pub last_there : {A : Type 0} (xs : List A) (i : ℕ) (x : A) → slice_get xs i ≡ Some x → (j : ℕ) × (y : A) × (slice_get xs j ≡ Some y) × (length xs ≡ j + 1)
 last_there [] i x e = cc
@@ -203,17 +184,8 @@ away_last ts holds n m i at t hold is same s j u there top =
       | inr other ↦ absurd (other.0 (sym same_place))
     ]
 
-length_placed : (places : List (Option Outcome)) (p : ℕ) (o : Outcome) (at : Option (Option Outcome)) → length (place_outcome places p o at) ≡ length places
-length_placed places p o None = refl
-length_placed places p o (Some None) = length_set places p (Some o)
-length_placed places p o (Some (Some x)) = refl
-
-gathered_by : (g : Gather) (slip : Slip) (t : Bool) → let next : Gather = cond t (record { txn = g.txn; places = place_outcome g.places slip.place slip.outcome (slice_get g.places slip.place) }) g in length next.places ≡ length g.places
-gathered_by g slip true = length_placed g.places slip.place slip.outcome (slice_get g.places slip.place)
-gathered_by g slip false = refl
-
 length_gathered : (g : Gather) (slip : Slip) → length (gathered g slip).places ≡ length g.places
-length_gathered g slip = gathered_by g slip (is_same_txn slip.txn g.txn)
+length_gathered g slip = (keeps_gathered g slip).places
 
 -- holds without weight are none
 pub no_hold : (holds : List Hold) → AllByRecursion IsSome holds → to_give holds ≤ 0 → holds ≡ []
@@ -227,16 +199,6 @@ no_message d key bytes blocks sealed draft s =
     let same = same_some (slice_get d.slots key.slot) s.slot (record { generation = key.generation; held = Draft bytes blocks }) s.is there in
     let fits = subst (λ (x : Slot). FitsSlot key.generation sealed x) same s.fits in
     elim fits [ inl low ↦ absurd (omega (arith, low)) | inr held ↦ held.1 ]
-
-none_given : (ts : List SealedMessage) (key : Key) (number n p : ℕ) (message : List ℕ) → count_by (is_given n p) (ts ++ record { number = number; key = key; message = message; offered = 0 } ∷ []) ≡ count_by (is_given n p) ts
-none_given ts key number n p message =
-    let past : nat_lt p 0 ≡ false = grind (arith, nat_tests) in
-    let none : ◌≡◌ {A = ℕ} (cond (is_given n p (record { number = number; key = key; message = message; offered = 0 })) 1 0) 0 = by (number == n) past in
-    omega (arith, count-append (is_given n p) ts (record { number = number; key = key; message = message; offered = 0 } ∷ []))
-  where
-    by : (t : Bool) → nat_lt p 0 ≡ false → ◌≡◌ {A = ℕ} (cond (t && nat_lt p 0) 1 0) 0
-    by true e = rw e refl
-    by false e = refl
 
 -- the events of a lane
 seal_tracked : (k n : ℕ) (d new : Depot) (lane next : Lane) (bs : List Box) (key : Key) (message bytes blocks : List ℕ) → Keeps d new → held_under d key ≡ Draft bytes blocks → KeepsBytes new key message
@@ -270,7 +232,7 @@ seal_tracked k n d new lane next bs key message bytes blocks f draft there idle 
       none = λ e. let len : length next.messages ≡ length lane.messages + 1 = ap length messages ∙ length-append lane.messages (t ∷ []) in absurd (omega arith);
       given = λ number p.
           let a = s.given number p in
-          let e : count_by (is_given number p) next.messages ≡ count_by (is_given number p) lane.messages = ap (count_by (is_given number p)) messages ∙ none_given lane.messages key lane.number number p message in
+          let e : count_by (is_given number p) next.messages ≡ count_by (is_given number p) lane.messages = ap (count_by (is_given number p)) messages ∙ count_sealed lane.messages key lane.number number p message in
           let told : told_at k number p next ≡ told_at k number p lane = rw (slips, count, heard) refl in omega arith;
     }
 
@@ -312,7 +274,7 @@ away_tracked k i at d new lane next bs ms t f hold is messages holds places fron
           let a = s.given number p in
           let b = told number p in
           let e : count_by (is_given number p) next.messages ≡ count_by (is_given number p) (slice_set lane.messages i more) = ap (count_by (is_given number p)) messages in
-          omega (arith, e, count_given lane.messages i t number p is);
+          omega (arith, e, count_given lane.messages i t.key t.number number p t.offered t.message is);
     }
 
 same_depot : (d : Depot) → Keeps d d

@@ -20,7 +20,8 @@ use Rattle.mail_world.proofs.Depots.{total_set}
 use Rattle.mail_world.proofs.Holds.{drop_get}
 use Rattle.mail_progress.specs.Orderly.{IsAnswered, IsDone, uncollected, IsInOrder, IsOrderly, post_of, on_way}
 use Rattle.mail_progress.specs.OrderlyRuns.{SlipsFindRoom}
-use Rattle.mail_progress.proofs.Sums.{sum_set, sum_remove, sum_last, sum_one_more, sum_replicate}
+use Rattle.mail_world.proofs.Holds.{sum_set, sum_remove}
+use Rattle.mail_progress.proofs.Sums.{sum_last, sum_one_more, sum_replicate}
 
 -- the copies that a mailbox has of a lane, to take or in hand
 abbrev pub one_of : ℕ → Post → ℕ

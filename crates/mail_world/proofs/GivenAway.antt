@@ -80,7 +80,7 @@ one_given key number n p place message = by (number == n)
     by true = lt_more p place
     by false = refl
 
-count_given : (ts : List SealedMessage) (t : ℕ) (key : Key) (number n p place : ℕ) (message : List ℕ) → slice_get ts t ≡ Some (record { number = number; key = key; message = message; offered = place })
+pub count_given : (ts : List SealedMessage) (t : ℕ) (key : Key) (number n p place : ℕ) (message : List ℕ) → slice_get ts t ≡ Some (record { number = number; key = key; message = message; offered = place })
     → count_by (is_given n p) (slice_set ts t (record { number = number; key = key; message = message; offered = place + 1 })) ≡ count_by (is_given n p) ts + cond ((number == n) && (place == p)) 1 0
 count_given ts t key number n p place message at =
     omega (
@@ -93,7 +93,7 @@ count_given ts t key number n p place message at =
 none_before_zero : (p : ℕ) → nat_lt p 0 ≡ false
 none_before_zero p = grind (arith, nat_tests)
 
-count_sealed : (ts : List SealedMessage) (key : Key) (number n p : ℕ) (message : List ℕ) → count_by (is_given n p) (ts ++ record { number = number; key = key; message = message; offered = 0 } ∷ []) ≡ count_by (is_given n p) ts
+pub count_sealed : (ts : List SealedMessage) (key : Key) (number n p : ℕ) (message : List ℕ) → count_by (is_given n p) (ts ++ record { number = number; key = key; message = message; offered = 0 } ∷ []) ≡ count_by (is_given n p) ts
 count_sealed ts key number n p message =
     let none : ◌≡◌ {A = ℕ} (cond (is_given n p (record { number = number; key = key; message = message; offered = 0 })) 1 0) 0 = by (number == n) in
     omega (arith, count-append (is_given n p) ts (record { number = number; key = key; message = message; offered = 0 } ∷ []))

@@ -18,19 +18,15 @@ use Rattle.mail_world.specs.Runs.{Happened, Run, last_house, events_of, times_co
 use Rattle.mail_world.proofs.OneLine.{other_byte}
 use Rattle.mail_world.proofs.Accepted.{get_set, each_at}
 use Rattle.mail_world.proofs.Spools.{take_one_more, slice_get-append}
-use Rattle.mail_world.proofs.Heard.{all_more}
+use Rattle.mail_world.proofs.Heard.{weaken, all_more}
 use Rattle.mail_world.proofs.Depots.{set_at, set_past}
 use Rattle.mail_world.proofs.WrongSteps.{same_some}
 use Rattle.mail_world.proofs.Holds.{all_of}
 use Rattle.mail_world.proofs.Once.{accepted_in, is_copy, times_same, times_offer, IsOnce, every_run_is_once}
 use Rattle.mail_world.proofs.GivenAway.{count-append, count_some, AreGiven, given_fewer, given_none, given_seal, given_back, given_offer, given_elsewhere, given_once}
 
-same_or_not : (k at : ℕ) → (k ≡ at) ⊎ (k ≢ at)
+pub same_or_not : (k at : ℕ) → (k ≡ at) ⊎ (k ≢ at)
 same_or_not k at = grind arith
-
-all_kept : {A : Type 0} (P Q : A → Type 0) → ((x : A) → P x → Q x) → (xs : List A) → AllByRecursion P xs → AllByRecursion Q xs
-all_kept P Q keeps [] all = tt
-all_kept P Q keeps (x ∷ xs) all = (keeps x all.0, all_kept P Q keeps xs all.1)
 
 -- one more at the end of a merged list
 pub merged_front : (front own heard : List Slip) (x : Slip) → IsMerged front own heard → IsMerged (front ++ x ∷ []) own (heard ++ x ∷ [])
@@ -127,7 +123,7 @@ quiet_lane events e k lane next bs ms more q heard count slips of given s =
       collected = let was = s.collected in omega (arith, count_more k events e false q.1);
       handed = handed_more k events e [] q.0 ∙ append-nil (handed_back k events) ∙ s.handed;
       made = s.made;
-      sealed = all_kept (IsOfMessage lane.messages) (IsOfMessage next.messages) of s.own s.sealed;
+      sealed = weaken (IsOfMessage lane.messages) (IsOfMessage next.messages) of s.own s.sealed;
       given = λ txn p. given txn p (times_named txn p s.own) (s.given txn p);
     }
 
@@ -158,7 +154,7 @@ own_lane events k i m lane next bs t key number place message at slips count hea
       handed = handed_more k events (HandBack k i m) (m ∷ []) (rw (eq-eqb k k refl) refl) ∙ ap (λ l. l ++ m ∷ []) s.handed ∙ sym (map-append (λ x. x.worker) s.own (slip ∷ []));
       made = all_more (IsMade k) s.own slip s.made refl;
       sealed = all_more (IsOfMessage next.messages) s.own slip
-          (all_kept (IsOfMessage lane.messages) (IsOfMessage next.messages) (λ x o. subst (λ ms. IsOfMessage ms x) (sym ts) (of_set lane.messages t _ x at o)) s.own s.sealed)
+          (weaken (IsOfMessage lane.messages) (IsOfMessage next.messages) (λ x o. subst (λ ms. IsOfMessage ms x) (sym ts) (of_set lane.messages t _ x at o)) s.own s.sealed)
           (subst (λ ms. IsOfMessage ms slip) (sym ts) (of_given lane.messages t _ slip at refl refl));
       given = λ txn p. rw (ts) (given_back k txn p (times_named txn p s.own) (times_named txn p (s.own ++ slip ∷ [])) (copied txn p bs) lane.messages t key number place m message at
           (omega (arith, count-append (names txn p) s.own (slip ∷ []))) (s.given txn p));

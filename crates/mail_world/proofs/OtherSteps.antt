@@ -10,7 +10,7 @@ use Rattle.mail_world.specs.Events.{MayHappen, HasCopy, BoxIs, LaneIs, sealed_up
 use Rattle.mail_world.proofs.Depots.{times-append}
 
 -- what stands at an index within the list
-there : {A : Type 0} (xs : List A) (i : ℕ) → i < length xs → (x : A) × (slice_get xs i ≡ Some x)
+pub there : {A : Type 0} (xs : List A) (i : ℕ) → i < length xs → (x : A) × (slice_get xs i ≡ Some x)
 there [] i low = absurd (omega arith)
 there (x ∷ xs) zero low = (x, refl)
 there (x ∷ xs) (suc i) low = there xs i (omega arith)
