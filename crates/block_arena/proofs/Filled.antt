@@ -13,7 +13,9 @@ use Rattle.block_arena.specs.declared.slot.Content.TheVariants.{Free, Draft, Sea
 use Rattle.block_arena.specs.declared.slot.Slot.{Slot}
 use Rattle.block_arena.specs.Fields.{ArenaFields, chain, blocks_in, bytes_in, held, slot_of, run_of, longer, IsContent, IsRun}
 use Rattle.block_arena.specs.Calls.{IsDraft}
-use Rattle.block_arena.proofs.Slots.{slot_at, Turn, all_set, all_at}
+use Rattle.mail_world.proofs.Heard.{all_set}
+use Rattle.mail_world.proofs.Accepted.{each_at}
+use Rattle.block_arena.proofs.Slots.{slot_at, Turn}
 use Rattle.block_arena.proofs.Seen.{Sees, stands, run_low, full_length}
 use Rattle.block_arena.proofs.Frames.{Without, none_else, map_kept}
 use Rattle.block_arena.proofs.Freed.{Owns, IsLast, last_in}
@@ -37,7 +39,7 @@ pub draft_last : (key : Key) (depot : d.Depot) (a : ArenaFields) (run : Run)
     → Sees key depot a (Draft run) → 0 < run.length % BLOCK_SIZE → (0 < run.blocks) × IsLast a.next a.free a.free_count (run.blocks - 1) run.first run.last
 draft_last key depot a run s some =
     let was : slice_get a.slots key.slot ≡ Some (slot_at key.generation (Draft run)) = stands key depot a (Draft run) s (λ e. cc) in
-    let is : IsRun a.next run = all_at (λ (slot : Slot). IsContent a.next slot.content) a.slots key.slot (slot_at key.generation (Draft run)) s.arena.runs was in
+    let is : IsRun a.next run = each_at (λ (slot : Slot). IsContent a.next slot.content) a.slots key.slot (slot_at key.generation (Draft run)) s.arena.runs was in
     let there : 0 < run.blocks = some_block run.length run.blocks is.enough some in
     (there, last_in key depot a (Draft run) run s (draft_owns a.store a.next run) there)
 
@@ -47,7 +49,7 @@ pub fill_turn : (key : Key) (depot : d.Depot) (a : ArenaFields) (run : Run) (n :
     (record a { store = set a.store run.last row; slots = slice_set a.slots key.slot (slot_at key.generation (Draft (longer run n))) })
 fill_turn key depot a run n row s some fits size =
     let was : slice_get a.slots key.slot ≡ Some (slot_at key.generation (Draft run)) = stands key depot a (Draft run) s (λ e. cc) in
-    let is : IsRun a.next run = all_at (λ (slot : Slot). IsContent a.next slot.content) a.slots key.slot (slot_at key.generation (Draft run)) s.arena.runs was in
+    let is : IsRun a.next run = each_at (λ (slot : Slot). IsContent a.next slot.content) a.slots key.slot (slot_at key.generation (Draft run)) s.arena.runs was in
     let l : (0 < run.blocks) × IsLast a.next a.free a.free_count (run.blocks - 1) run.first run.last = draft_last key depot a run s some in
     let has : 0 < run.blocks = l.0 in
     let one : suc (run.blocks - 1) ≡ run.blocks = omega (arith, has) in
@@ -60,7 +62,7 @@ fill_turn key depot a run n row s some fits size =
       sizes = All-set (λ (bytes : List ℕ). length bytes ≡ BLOCK_SIZE) a.store run.last row size s.arena.sizes;
       blocks_stay = length-set a.store run.last row;
       next_stay = refl;
-      generation = all_at (λ (slot : Slot). slot.generation ≤ d.last_generation) a.slots key.slot (slot_at key.generation (Draft run)) s.arena.generations was;
+      generation = each_at (λ (slot : Slot). slot.generation ≤ d.last_generation) a.slots key.slot (slot_at key.generation (Draft run)) s.arena.generations was;
       count = refl;
       others = map_kept (slot_of a.store a.next) (slot_of (set a.store run.last row) a.next) (Without a.store a.next run.last) a.slots key.slot (slot_at key.generation (Draft (longer run n))) (slot_at 0 Free) else' (slot_stays a.store a.next run.last row);
       runs = all_set (λ (slot : Slot). IsContent a.next slot.content) a.slots key.slot (slot_at key.generation (Draft (longer run n))) s.arena.runs (longer_run a.next run n is some fits);
@@ -80,7 +82,7 @@ pub filled_bytes : (key : Key) (depot : d.Depot) (a : ArenaFields) (run : Run) (
     → bytes_in (set a.store run.last (take (run.length % BLOCK_SIZE) (get_or a.store run.last []) ++ piece ++ drop (run.length % BLOCK_SIZE + n) (get_or a.store run.last []))) a.next (longer run n) ≡ bytes_in a.store a.next run ++ piece
 filled_bytes key depot a run n piece s some fits size =
     let was : slice_get a.slots key.slot ≡ Some (slot_at key.generation (Draft run)) = stands key depot a (Draft run) s (λ e. cc) in
-    let is : IsRun a.next run = all_at (λ (slot : Slot). IsContent a.next slot.content) a.slots key.slot (slot_at key.generation (Draft run)) s.arena.runs was in
+    let is : IsRun a.next run = each_at (λ (slot : Slot). IsContent a.next slot.content) a.slots key.slot (slot_at key.generation (Draft run)) s.arena.runs was in
     let l : (0 < run.blocks) × IsLast a.next a.free a.free_count (run.blocks - 1) run.first run.last = draft_last key depot a run s some in
     let has : 0 < run.blocks = l.0 in
     let one : run.blocks ≡ suc (run.blocks - 1) = omega (arith, has) in

@@ -14,7 +14,10 @@ use Rattle.block_arena.specs.declared.slot.Slot.{Slot}
 use Rattle.block_arena.specs.Fields.{ArenaFields, chain, node, held, slot_of, depot_of, slot_behind, run_of, block_count, IsContent, IsRun, IsArena}
 use Rattle.block_arena.specs.Calls.{depot_key, IsInUse, Frees}
 use Rattle.block_arena.proofs.Chains.{chain_last, splice}
-use Rattle.block_arena.proofs.Slots.{slot_at, Turn, turned, map_set, all_set, all_at, sum_set, get_within}
+use Rattle.mail_world.proofs.Heard.{all_set}
+use Rattle.mail_world.proofs.Accepted.{each_at}
+use Rattle.mail_world.proofs.Holds.{sum_set}
+use Rattle.block_arena.proofs.Slots.{slot_at, Turn, turned, map_set, get_within}
 use Rattle.block_arena.proofs.Seen.{Sees, under, stands, run_times}
 use Rattle.block_arena.proofs.Frames.{Without, none_else, map_kept, all_kept, slot_keeps, content_keeps}
 use Rattle.mail_world.specs.declared.limits.TheConstants.{BLOCK_LIMIT}
@@ -75,7 +78,7 @@ empty_turn key depot a content run s o none =
       sizes = s.arena.sizes;
       blocks_stay = refl;
       next_stay = refl;
-      generation = behind_generation (nat_lt key.generation d.last_generation) key.generation refl (all_at (λ (slot : Slot). slot.generation ≤ d.last_generation) a.slots key.slot (slot_at key.generation content) s.arena.generations was);
+      generation = behind_generation (nat_lt key.generation d.last_generation) key.generation refl (each_at (λ (slot : Slot). slot.generation ≤ d.last_generation) a.slots key.slot (slot_at key.generation content) s.arena.generations was);
       count = omega (arith, behind_count (nat_lt key.generation d.last_generation) (key.generation + 1) key.generation, o.count, none);
       others = map_set (slot_of a.store a.next) a.slots key.slot (slot_behind key.generation);
       runs = all_set (λ (slot : Slot). IsContent a.next slot.content) a.slots key.slot (slot_behind key.generation) s.arena.runs (behind_content (nat_lt key.generation d.last_generation) a.next (key.generation + 1) key.generation);
@@ -129,7 +132,7 @@ pub last_in : (key : Key) (depot : d.Depot) (a : ArenaFields) (content : Content
     → Sees key depot a content → Owns a.store a.next content run → 0 < run.blocks → IsLast a.next a.free a.free_count (run.blocks - 1) run.first run.last
 last_in key depot a content run s o some =
     let was : slice_get a.slots key.slot ≡ Some (slot_at key.generation content) = stands key depot a content s o.filled in
-    let is : IsRun a.next run = o.is (all_at (λ (slot : Slot). IsContent a.next slot.content) a.slots key.slot (slot_at key.generation content) s.arena.runs was) in
+    let is : IsRun a.next run = o.is (each_at (λ (slot : Slot). IsContent a.next slot.content) a.slots key.slot (slot_at key.generation content) s.arena.runs was) in
     let one : suc (run.blocks - 1) ≡ run.blocks = omega (arith, some) in
     let same : occurrences run.last (d.blocks_of (held a.store a.next content)) ≡ occurrences run.last (chain (suc (run.blocks - 1)) a.next run.first) = ap (occurrences run.last) o.blocks ∙ ap (λ k. occurrences run.last (chain k a.next run.first)) (sym one) in
     last_of a.next a.free a.free_count (run.blocks - 1) run.first run.last (is.last some) (omega (arith, same, run_times a key.slot (slot_at key.generation content) s.arena was run.last))
@@ -151,7 +154,7 @@ freed_turn key depot a content run s o some =
       sizes = s.arena.sizes;
       blocks_stay = refl;
       next_stay = length-set a.next run.last a.free;
-      generation = behind_generation (nat_lt key.generation d.last_generation) key.generation refl (all_at (λ (slot : Slot). slot.generation ≤ d.last_generation) a.slots key.slot (slot_at key.generation content) s.arena.generations was);
+      generation = behind_generation (nat_lt key.generation d.last_generation) key.generation refl (each_at (λ (slot : Slot). slot.generation ≤ d.last_generation) a.slots key.slot (slot_at key.generation content) s.arena.generations was);
       count = omega (arith, behind_count (nat_lt key.generation d.last_generation) (key.generation + 1) key.generation, o.count);
       others = map_kept (slot_of a.store a.next) (slot_of a.store (set a.next run.last a.free)) (Without a.store a.next run.last) a.slots key.slot (slot_behind key.generation) (slot_at 0 Free) else' (slot_keeps a.store a.next run.last a.free);
       runs = all_kept (Without a.store a.next run.last) (λ (slot : Slot). IsContent a.next slot.content) (λ (slot : Slot). IsContent (set a.next run.last a.free) slot.content) a.slots key.slot (slot_behind key.generation) (slot_at 0 Free) else' s.arena.runs
@@ -215,7 +218,7 @@ slot_within key depot a content run s o = get_within a.slots key.slot (slot_at k
 
 pub generation_within : (key : Key) (depot : d.Depot) (a : ArenaFields) (content : Content) (run : Run)
     → Sees key depot a content → Owns a.store a.next content run → key.generation ≤ d.last_generation
-generation_within key depot a content run s o = all_at (λ (slot : Slot). slot.generation ≤ d.last_generation) a.slots key.slot (slot_at key.generation content) s.arena.generations (stands key depot a content s o.filled)
+generation_within key depot a content run s o = each_at (λ (slot : Slot). slot.generation ≤ d.last_generation) a.slots key.slot (slot_at key.generation content) s.arena.generations (stands key depot a content s o.filled)
 
 pub sum_within : (key : Key) (depot : d.Depot) (a : ArenaFields) (content : Content) (run : Run)
     → Sees key depot a content → Owns a.store a.next content run → a.free_count + run.blocks ≤ BLOCK_LIMIT

@@ -11,7 +11,8 @@ use Rattle.block_arena.specs.declared.slot.Content.TheVariants.{Draft, Sealed}
 use Rattle.block_arena.specs.declared.slot.Slot.{Slot}
 use Rattle.block_arena.specs.Fields.{ArenaFields, held, slot_of, depot_of, blocks_in, bytes_in, IsContent, IsArena}
 use Rattle.block_arena.specs.Calls.{depot_key, ReleasesAll}
-use Rattle.block_arena.proofs.Slots.{slot_at, relabelled, map_set, all_at}
+use Rattle.mail_world.proofs.Accepted.{each_at}
+use Rattle.block_arena.proofs.Slots.{slot_at, relabelled, map_set}
 use Rattle.block_arena.proofs.Seen.{Sees, under, stands}
 
 -- the depot behind such a call
@@ -25,7 +26,7 @@ pub sealed_arena : (key : Key) (depot : d.Depot) (a : ArenaFields) (run : Run) (
 sealed_arena key depot a run n s =
     let was : slice_get a.slots key.slot ≡ Some (slot_at key.generation (Draft run)) = stands key depot a (Draft run) s (λ e. cc) in
     relabelled a key.slot (slot_at key.generation (Draft run)) (slot_at key.generation (Sealed run n)) s.arena was refl
-    (all_at (λ (slot : Slot). IsContent a.next slot.content) a.slots key.slot (slot_at key.generation (Draft run)) s.arena.runs was) refl refl
+    (each_at (λ (slot : Slot). IsContent a.next slot.content) a.slots key.slot (slot_at key.generation (Draft run)) s.arena.runs was) refl refl
 
 pub seals : (key : Key) (depot : d.Depot) (a : ArenaFields) (run : Run) (n : ℕ) → Sees key depot a (Draft run) → d.Seals depot (depot_key key) n (depot_of (record a { slots = slice_set a.slots key.slot (slot_at key.generation (Sealed run n)) }))
 seals key depot a run n s = record {
@@ -39,7 +40,7 @@ pub lighter_arena : (key : Key) (depot : d.Depot) (a : ArenaFields) (run : Run) 
 lighter_arena key depot a run holds n s =
     let was : slice_get a.slots key.slot ≡ Some (slot_at key.generation (Sealed run holds)) = stands key depot a (Sealed run holds) s (λ e. cc) in
     relabelled a key.slot (slot_at key.generation (Sealed run holds)) (slot_at key.generation (Sealed run n)) s.arena was refl
-    (all_at (λ (slot : Slot). IsContent a.next slot.content) a.slots key.slot (slot_at key.generation (Sealed run holds)) s.arena.runs was) refl refl
+    (each_at (λ (slot : Slot). IsContent a.next slot.content) a.slots key.slot (slot_at key.generation (Sealed run holds)) s.arena.runs was) refl refl
 
 abbrev pub depot_slot : ℕ → d.Held → d.Slot
 depot_slot generation held = record { generation = generation; held = held }

@@ -16,7 +16,9 @@ use Rattle.block_arena.specs.declared.slot.Slot.{Slot}
 use Rattle.block_arena.specs.Fields.{ArenaFields, chain, node, bytes_in, slot_of, depot_of, longer, linked_run, linked_next, IsContent, IsRun, IsArena}
 use Rattle.block_arena.specs.Calls.{depot_key}
 use Rattle.block_arena.proofs.Chains.{times_cons, apart, chain_keeps, chain_length, splice, node_splice}
-use Rattle.block_arena.proofs.Slots.{slot_at, Turn, map_set, all_set, all_at}
+use Rattle.mail_world.proofs.Heard.{all_set}
+use Rattle.mail_world.proofs.Accepted.{each_at}
+use Rattle.block_arena.proofs.Slots.{slot_at, Turn, map_set}
 use Rattle.block_arena.proofs.Frames.{Without, none_by, none_else, at_most, map_same, map_kept, all_kept, slot_keeps, content_keeps}
 use Rattle.block_arena.proofs.Seen.{Sees, stands, run_low, free_low, full_length}
 use Rattle.block_arena.proofs.Freed.{IsLast, last_in}
@@ -144,7 +146,7 @@ linked_is : (key : Key) (depot : d.Depot) (a : ArenaFields) (run : Run) (n : ℕ
     → IsRun (linked_next a.next run a.free) (longer (linked_run run a.free) n)
 linked_is key depot a run n piece row s f =
     let was : slice_get a.slots key.slot ≡ Some (slot_at key.generation (Draft run)) = stands key depot a (Draft run) s (λ e. cc) in
-    let is : IsRun a.next run = all_at (λ (slot : Slot). IsContent a.next slot.content) a.slots key.slot (slot_at key.generation (Draft run)) s.arena.runs was in
+    let is : IsRun a.next run = each_at (λ (slot : Slot). IsContent a.next slot.content) a.slots key.slot (slot_at key.generation (Draft run)) s.arena.runs was in
     let l : Links a key.slot run (linked_next a.next run a.free) ((linked_run run a.free).first) = links key depot a run s f.free in
     let back : run.blocks + 1 - 1 ≡ run.blocks = omega arith in
     record {
@@ -166,7 +168,7 @@ linked_turn key depot a run n piece row s f =
       sizes = s.arena.sizes;
       blocks_stay = refl;
       next_stay = l.stay;
-      generation = all_at (λ (slot : Slot). slot.generation ≤ d.last_generation) a.slots key.slot (slot_at key.generation (Draft run)) s.arena.generations was;
+      generation = each_at (λ (slot : Slot). slot.generation ≤ d.last_generation) a.slots key.slot (slot_at key.generation (Draft run)) s.arena.generations was;
       count = omega (arith, f.free);
       others = l.others (slot_at key.generation (Draft (longer (linked_run run a.free) n)));
       runs = l.runs (slot_at key.generation (Draft (longer (linked_run run a.free) n))) (linked_is key depot a run n piece row s f);
@@ -186,7 +188,7 @@ pub linked_bytes : (key : Key) (depot : d.Depot) (a : ArenaFields) (run : Run) (
     → bytes_in a.store (linked_next a.next run a.free) (longer (linked_run run a.free) n) ≡ bytes_in a.store a.next run ++ piece
 linked_bytes key depot a run n piece row s f there =
     let was : slice_get a.slots key.slot ≡ Some (slot_at key.generation (Draft run)) = stands key depot a (Draft run) s (λ e. cc) in
-    let is : IsRun a.next run = all_at (λ (slot : Slot). IsContent a.next slot.content) a.slots key.slot (slot_at key.generation (Draft run)) s.arena.runs was in
+    let is : IsRun a.next run = each_at (λ (slot : Slot). IsContent a.next slot.content) a.slots key.slot (slot_at key.generation (Draft run)) s.arena.runs was in
     let l : Links a key.slot run (linked_next a.next run a.free) ((linked_run run a.free).first) = links key depot a run s f.free in
     let size : length (flat a.store (chain run.blocks a.next run.first)) ≡ run.length =
     full_length a.store (length a.next) (chain run.blocks a.next run.first) s.arena.count s.arena.sizes (run_low a key.slot (slot_at key.generation (Draft run)) s.arena was)
@@ -221,7 +223,7 @@ pub some_free : (key : Key) (depot : d.Depot) (a : ArenaFields) (run : Run) (byt
     → d.HasRoom depot (depot_key key) bytes → 0 < length bytes → run.length % BLOCK_SIZE ≡ 0 → 1 ≤ a.free_count
 some_free key depot a run bytes s room some full =
     let was : slice_get a.slots key.slot ≡ Some (slot_at key.generation (Draft run)) = stands key depot a (Draft run) s (λ e. cc) in
-    let is : IsRun a.next run = all_at (λ (slot : Slot). IsContent a.next slot.content) a.slots key.slot (slot_at key.generation (Draft run)) s.arena.runs was in
+    let is : IsRun a.next run = each_at (λ (slot : Slot). IsContent a.next slot.content) a.slots key.slot (slot_at key.generation (Draft run)) s.arena.runs was in
     room_left run.blocks run.length (length bytes) a.free_count is.enough full some (room_to key depot a run bytes s room)
 
 pub free_there : (key : Key) (depot : d.Depot) (a : ArenaFields) (content : Content) → Sees key depot a content → 1 ≤ a.free_count → a.free < length a.next

@@ -10,7 +10,8 @@ use Rattle.block_arena.specs.declared.slot.Content.TheVariants.{Draft}
 use Rattle.block_arena.specs.declared.slot.Slot.{Slot}
 use Rattle.block_arena.specs.Fields.{ArenaFields, content_at, depot_of, run_of, longer, linked_run, linked_next, IsContent, IsRun, IsArena}
 use Rattle.block_arena.specs.Calls.{depot_key, IsDraft}
-use Rattle.block_arena.proofs.Slots.{slot_at, all_at}
+use Rattle.mail_world.proofs.Accepted.{each_at}
+use Rattle.block_arena.proofs.Slots.{slot_at}
 use Rattle.block_arena.proofs.Seen.{Sees, sees, under, stands, enough_room}
 use Rattle.block_arena.proofs.Freed.{last_in, slot_within, sum_within}
 use Rattle.block_arena.proofs.Filled.{draft_is, draft_owns, draft_last, filled_by, filled_gains, get_any, IsFilled}
@@ -121,7 +122,7 @@ link_low key depot a run n bytes k some = (last_in key depot a (Draft run) run k
 pub run_few : (key : Key) (depot : d.Depot) (a : ArenaFields) (run : Run) → Sees key depot a (Draft run) → (a.free_count + run.blocks ≤ BLOCK_LIMIT) × (run.length ≤ BLOCK_SIZE * run.blocks)
 run_few key depot a run s =
     let was : slice_get a.slots key.slot ≡ Some (slot_at key.generation (Draft run)) = stands key depot a (Draft run) s (λ e. cc) in
-    let is : IsRun a.next run = all_at (λ (slot : Slot). IsContent a.next slot.content) a.slots key.slot (slot_at key.generation (Draft run)) s.arena.runs was in
+    let is : IsRun a.next run = each_at (λ (slot : Slot). IsContent a.next slot.content) a.slots key.slot (slot_at key.generation (Draft run)) s.arena.runs was in
     (sum_within key depot a (Draft run) run s (draft_owns a.store a.next run), enough_room run.length run.blocks is.enough)
 
 pub few : (key : Key) (depot : d.Depot) (a : ArenaFields) (run : Run) (n : ℕ) (bytes : List ℕ) → Knows key depot a run n bytes → (a.free_count + run.blocks ≤ BLOCK_LIMIT) × (run.length ≤ BLOCK_SIZE * run.blocks) × (n ≤ BLOCK_SIZE)
@@ -140,7 +141,7 @@ room_is key depot a run bytes s = (
   was = stands key depot a (Draft run) s (λ e. cc)
 
   is : IsRun a.next run
-  is = all_at (λ (slot : Slot). IsContent a.next slot.content) a.slots key.slot (slot_at key.generation (Draft run)) s.arena.runs was
+  is = each_at (λ (slot : Slot). IsContent a.next slot.content) a.slots key.slot (slot_at key.generation (Draft run)) s.arena.runs was
 
   within : run.length ≤ BLOCK_SIZE * run.blocks
   within = enough_room run.length run.blocks is.enough

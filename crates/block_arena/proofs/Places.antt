@@ -9,7 +9,8 @@ use Rattle.block_arena.specs.declared.slot.Place.{Place}
 use Rattle.block_arena.specs.declared.slot.Content.TheVariants.{Sealed}
 use Rattle.block_arena.specs.declared.slot.Slot.{Slot}
 use Rattle.block_arena.specs.Fields.{ArenaFields, chain, node, blocks_in, held, depot_of, run_read_at, IsPlace, IsContent, IsRun, IsArena, IsReadable}
-use Rattle.block_arena.proofs.Slots.{slot_at, relabelled, all_at}
+use Rattle.mail_world.proofs.Accepted.{each_at}
+use Rattle.block_arena.proofs.Slots.{slot_at, relabelled}
 use Rattle.block_arena.proofs.Seen.{Sees, stands}
 use Rattle.block_arena.proofs.Labels.{held_behind, set_same}
 use Rattle.block_arena.proofs.GivenBack.{depot_there}
@@ -57,7 +58,7 @@ pub read_arena : (key : Key) (depot : d.Depot) (a : ArenaFields) (run : Run) (ho
     → IsArena (record a { slots = slice_set a.slots key.slot (slot_at key.generation (Sealed (run_read_at run place) holds)) })
 read_arena key depot a run holds place s p =
     let was : slice_get a.slots key.slot ≡ Some (slot_at key.generation (Sealed run holds)) = stands key depot a (Sealed run holds) s (λ e. cc) in
-    let is : IsRun a.next run = all_at (λ (slot : Slot). IsContent a.next slot.content) a.slots key.slot (slot_at key.generation (Sealed run holds)) s.arena.runs was in
+    let is : IsRun a.next run = each_at (λ (slot : Slot). IsContent a.next slot.content) a.slots key.slot (slot_at key.generation (Sealed run holds)) s.arena.runs was in
     relabelled a key.slot (slot_at key.generation (Sealed run holds)) (slot_at key.generation (Sealed (run_read_at run place) holds)) s.arena was refl
     (record { enough = is.enough; last = is.last; read = record { is = p.is; within = p.within } }) refl refl
 
@@ -71,7 +72,7 @@ read_kept key depot a run holds place s =
 -- what the code knows of a message that it reads
 pub place_read : (key : Key) (depot : d.Depot) (a : ArenaFields) (run : Run) (holds : ℕ) → Sees key depot a (Sealed run holds) → IsRun a.next run
 place_read key depot a run holds s =
-    all_at (λ (slot : Slot). IsContent a.next slot.content) a.slots key.slot (slot_at key.generation (Sealed run holds)) s.arena.runs (stands key depot a (Sealed run holds) s (λ e. cc))
+    each_at (λ (slot : Slot). IsContent a.next slot.content) a.slots key.slot (slot_at key.generation (Sealed run holds)) s.arena.runs (stands key depot a (Sealed run holds) s (λ e. cc))
 
 pub read_on : (store : List (List ℕ)) (next : List ℕ) (run : Run) (place : Place) → IsReadable store next run → IsReadable store next (run_read_at run place)
 read_on store next run place r = record { sizes = r.sizes; count = r.count; low = r.low; enough = r.enough }

@@ -13,7 +13,8 @@ use Rattle.block_arena.specs.declared.slot.Slot.{Slot}
 use Rattle.block_arena.specs.Fields.{ArenaFields, content_at, chain, blocks_in, bytes_in, depot_of, IsContent, IsRun}
 use Rattle.block_arena.specs.Calls.{depot_key}
 use Rattle.block_arena.proofs.Chains.{chain_length}
-use Rattle.block_arena.proofs.Slots.{slot_at, Turn, turned, turned_at, all_at}
+use Rattle.mail_world.proofs.Accepted.{each_at}
+use Rattle.block_arena.proofs.Slots.{slot_at, Turn, turned, turned_at}
 use Rattle.block_arena.proofs.Seen.{Sees, under, stands, run_low, run_length, draft_length}
 use Rattle.block_arena.proofs.Labels.{set_same, set_twice, held_there}
 
@@ -63,7 +64,7 @@ pub gained_puts : (key : Key) (depot : d.Depot) (a : ArenaFields) (run run' : Ru
 gained_puts key depot a run run' piece a' s g =
     let there : slice_get a'.slots key.slot ≡ Some (slot_at key.generation (Draft run')) = turned_at a key.slot (slot_at key.generation (Draft run)) (slot_at key.generation (Draft run')) a' g.turn in
     let new : Sees key (depot_of a') a' (Draft run') = sees_new key depot a run run' a' g.turn in
-    let is : IsRun a'.next run' = all_at (λ (slot : Slot). IsContent a'.next slot.content) a'.slots key.slot (slot_at key.generation (Draft run')) g.turn.runs there in
+    let is : IsRun a'.next run' = each_at (λ (slot : Slot). IsContent a'.next slot.content) a'.slots key.slot (slot_at key.generation (Draft run')) g.turn.runs there in
     let long : run'.length ≡ length (bytes_in a'.store a'.next run') = run_length a'.store a'.next run' new.arena.count new.arena.sizes is (run_low a' key.slot (slot_at key.generation (Draft run')) new.arena there) in
     record {
       bytes = bytes_in a.store a.next run;
@@ -95,7 +96,7 @@ gained_room key depot a run run' n bytes a' s g size short room =
 pub puts_none : (key : Key) (depot : d.Depot) (a : ArenaFields) (run : Run) → Sees key depot a (Draft run) → d.Puts depot (depot_key key) [] depot
 puts_none key depot a run s =
     let was : slice_get a.slots key.slot ≡ Some (slot_at key.generation (Draft run)) = stands key depot a (Draft run) s (λ e. cc) in
-    let is : IsRun a.next run = all_at (λ (slot : Slot). IsContent a.next slot.content) a.slots key.slot (slot_at key.generation (Draft run)) s.arena.runs was in
+    let is : IsRun a.next run = each_at (λ (slot : Slot). IsContent a.next slot.content) a.slots key.slot (slot_at key.generation (Draft run)) s.arena.runs was in
     let here : d.held_under depot (depot_key key) ≡ d.Draft (bytes_in a.store a.next run) (blocks_in a.next run) = under key depot a (Draft run) s in
     let long : run.length ≡ length (bytes_in a.store a.next run) = run_length a.store a.next run s.arena.count s.arena.sizes is (run_low a key.slot (slot_at key.generation (Draft run)) s.arena was) in
     record {

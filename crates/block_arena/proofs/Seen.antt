@@ -16,7 +16,8 @@ use Rattle.block_arena.specs.declared.slot.Slot.{Slot}
 use Rattle.block_arena.specs.Fields.{ArenaFields, content_at, chain, blocks_in, bytes_in, held, slot_of, depot_of, IsContent, IsRun, IsArena, IsReadable}
 use Rattle.block_arena.specs.Calls.{depot_key, RefusesDraft, RefusesMessage}
 use Rattle.block_arena.proofs.Chains.{times_cons, chain_length}
-use Rattle.block_arena.proofs.Slots.{get_map, found, all_at}
+use Rattle.mail_world.proofs.Accepted.{each_at}
+use Rattle.block_arena.proofs.Slots.{get_map, found}
 
 get_mapped : {A B : Type 0} (f : A → B) (xs : List A) (i : ℕ) → slice_get (map f xs) i ≡ option_map f (slice_get xs i)
 get_mapped f [] i = refl
@@ -109,14 +110,14 @@ pub draft_length : (key : Key) (depot : d.Depot) (a : ArenaFields) (run : Run)
     → Sees key depot a (Draft run) → run.length ≡ length (d.bytes_of (d.held_under depot (depot_key key)))
 draft_length key depot a run s =
     let was : slice_get a.slots key.slot ≡ Some (record { generation = key.generation; content = Draft run }) = stands key depot a (Draft run) s (λ e. cc) in
-    run_length a.store a.next run s.arena.count s.arena.sizes (all_at (λ (slot : Slot). IsContent a.next slot.content) a.slots key.slot (record { generation = key.generation; content = Draft run }) s.arena.runs was) (run_low a key.slot (record { generation = key.generation; content = Draft run }) s.arena was)
+    run_length a.store a.next run s.arena.count s.arena.sizes (each_at (λ (slot : Slot). IsContent a.next slot.content) a.slots key.slot (record { generation = key.generation; content = Draft run }) s.arena.runs was) (run_low a key.slot (record { generation = key.generation; content = Draft run }) s.arena was)
     ∙ ap (λ h. length (d.bytes_of h)) (sym (under key depot a (Draft run) s))
 
 pub sealed_length : (key : Key) (depot : d.Depot) (a : ArenaFields) (run : Run) (holds : ℕ)
     → Sees key depot a (Sealed run holds) → run.length ≡ length (d.bytes_of (d.held_under depot (depot_key key)))
 sealed_length key depot a run holds s =
     let was : slice_get a.slots key.slot ≡ Some (record { generation = key.generation; content = Sealed run holds }) = stands key depot a (Sealed run holds) s (λ e. cc) in
-    run_length a.store a.next run s.arena.count s.arena.sizes (all_at (λ (slot : Slot). IsContent a.next slot.content) a.slots key.slot (record { generation = key.generation; content = Sealed run holds }) s.arena.runs was) (run_low a key.slot (record { generation = key.generation; content = Sealed run holds }) s.arena was)
+    run_length a.store a.next run s.arena.count s.arena.sizes (each_at (λ (slot : Slot). IsContent a.next slot.content) a.slots key.slot (record { generation = key.generation; content = Sealed run holds }) s.arena.runs was) (run_low a key.slot (record { generation = key.generation; content = Sealed run holds }) s.arena was)
     ∙ ap (λ h. length (d.bytes_of h)) (sym (under key depot a (Sealed run holds) s))
 
 pub stale : (IsFull : Type 0) (key : Key) (depot : d.Depot) (a : ArenaFields) (items : List Slot) (result : Content)
@@ -133,7 +134,7 @@ pub readable : (key : Key) (depot : d.Depot) (a : ArenaFields) (run : Run) (hold
     → Sees key depot a (Sealed run holds) → IsReadable a.store a.next run
 readable key depot a run holds s =
     let was : slice_get a.slots key.slot ≡ Some (record { generation = key.generation; content = Sealed run holds }) = stands key depot a (Sealed run holds) s (λ e. cc) in
-    let is : IsRun a.next run = all_at (λ (slot : Slot). IsContent a.next slot.content) a.slots key.slot (record { generation = key.generation; content = Sealed run holds }) s.arena.runs was in
+    let is : IsRun a.next run = each_at (λ (slot : Slot). IsContent a.next slot.content) a.slots key.slot (record { generation = key.generation; content = Sealed run holds }) s.arena.runs was in
     record {
       sizes = s.arena.sizes;
       count = s.arena.count;

@@ -3,10 +3,13 @@ use Rattle.std.proofs.Common.{◌≡◌, ℕ, zero, suc, ◌+◌, ◌<◌, ◌�
 use Rattle.std.specs.Prelude.{slice_get, slice_set, flat_map, sum_by, nat_lt}
 use Rattle.std.specs.List.{All, AllByRecursion}
 use Rattle.std.proofs.lemmas.Bool.{eqb-true}
-use Rattle.std.proofs.lemmas.List.Sums.{sum_by-cons}
 use Rattle.mail_world.specs.Depot as d
 use Rattle.mail_world.specs.Depot.{occurrences}
 use Rattle.mail_world.specs.declared.limits.TheConstants.{BLOCK_SIZE}
+use Rattle.mail_world.proofs.Accepted.{each_at}
+use Rattle.mail_world.proofs.Heard.{all_set}
+use Rattle.mail_world.proofs.Holds.{sum_set}
+use Rattle.mail_world.proofs.LastSeal.{length_set}
 use Rattle.mail_world.proofs.Depots.{set_at, times-append, total_set}
 use Rattle.block_arena.specs.declared.slot.Content.{Content}
 use Rattle.block_arena.specs.declared.slot.Content.TheVariants.{Free}
@@ -23,34 +26,10 @@ get_within [] i x e = cc
 get_within (y ∷ xs) zero x e = omega arith
 get_within (y ∷ xs) (suc i) x e = let h : i < length xs = get_within xs i x e in omega (arith, h)
 
-pub all_at : {A : Type 0} (P : A → Type 0) (xs : List A) (i : ℕ) (x : A) → AllByRecursion P xs → slice_get xs i ≡ Some x → P x
-all_at P [] i x h e = cc
-all_at P (y ∷ xs) zero x h e = let same : y ≡ x = cc in subst P same h.0
-all_at P (y ∷ xs) (suc i) x h e = all_at P xs i x h.1 e
-
 pub map_set : {A B : Type 0} (f : A → B) (xs : List A) (i : ℕ) (x : A) → map f (slice_set xs i x) ≡ slice_set (map f xs) i (f x)
 map_set f [] i x = refl
 map_set f (y ∷ xs) zero x = refl
 map_set f (y ∷ xs) (suc i) x = ap (λ t. f y ∷ t) (map_set f xs i x)
-
-pub all_set : {A : Type 0} (P : A → Type 0) (xs : List A) (i : ℕ) (x : A) → AllByRecursion P xs → P x → AllByRecursion P (slice_set xs i x)
-all_set P [] i x h p = h
-all_set P (y ∷ xs) zero x h p = (p, h.1)
-all_set P (y ∷ xs) (suc i) x h p = (h.0, all_set P xs i x h.1 p)
-
-pub length_set : {A : Type 0} (xs : List A) (i : ℕ) (x : A) → length (slice_set xs i x) ≡ length xs
-length_set [] i x = refl
-length_set (y ∷ xs) zero x = refl
-length_set (y ∷ xs) (suc i) x = ap (λ n. suc n) (length_set xs i x)
-
-pub sum_set : {A : Type 0} (f : A → ℕ) (xs : List A) (i : ℕ) (old new : A) → slice_get xs i ≡ Some old → sum_by f (slice_set xs i new) + f old ≡ sum_by f xs + f new
-sum_set f [] i old new e = cc
-sum_set f (x ∷ xs) zero old new e =
-    let same : x ≡ old = cc in
-    let count : f x ≡ f old = ap f same in
-    omega (arith, count, sum_by-cons f new xs, sum_by-cons f x xs)
-sum_set f (x ∷ xs) (suc i) old new e =
-    omega (arith, sum_set f xs i old new e, sum_by-cons f x (slice_set xs i new), sum_by-cons f x xs)
 
 -- what is not free under a generation lies in the slot
 found_if : (g k : ℕ) (t : Bool) (c content : Content) → (g == k) ≡ t → cond t c Free ≡ content → ((content ≡ Free) → ⊥) → (g ≡ k) × (c ≡ content)
@@ -129,7 +108,7 @@ relabelled a i old s arena was generation content count same = turned a i old s 
   sizes = arena.sizes;
   blocks_stay = refl;
   next_stay = refl;
-  generation = let h : old.generation ≤ d.last_generation = all_at (λ (slot : Slot). slot.generation ≤ d.last_generation) a.slots i old arena.generations was in let P : ℕ → Type 0 = λ n. n ≤ d.last_generation in subst P (sym generation) h;
+  generation = let h : old.generation ≤ d.last_generation = each_at (λ (slot : Slot). slot.generation ≤ d.last_generation) a.slots i old arena.generations was in let P : ℕ → Type 0 = λ n. n ≤ d.last_generation in subst P (sym generation) h;
   count = ap (λ n. a.free_count + n) count;
   others = map_set (slot_of a.store a.next) a.slots i s;
   runs = all_set (λ (slot : Slot). IsContent a.next slot.content) a.slots i s arena.runs content;

@@ -19,6 +19,7 @@ use Rattle.mail_world.specs.Slips.{of_worker, names, times_named, answer, txn_of
 use Rattle.mail_world.proofs.GivenAway.{count-append, count-cons}
 use Rattle.box_worker.specs.Told.{owed_to}
 use Rattle.lmtp_threads.specs.Works.{BoxWork}
+use Rattle.mail_world.proofs.Merged.{own_named}
 use Rattle.lmtp_house.proofs.AnsweredAll.{found_counts}
 use Rattle.lmtp_house.proofs.NamedOnce.{is_copy, slips_copy, fewer, due_counts, named_once}
 
@@ -102,11 +103,8 @@ all_more P [] y h p = (p, tt)
 all_more P (x ∷ xs) y h p = (h.0, all_more P xs y h.1 p)
 
 -- a slip names its own transaction and place
-names_itself : (slip : Slip) → names slip.txn slip.place slip ≡ true
-names_itself slip = grind (arith, nat_tests)
-
 counts_itself : (slip : Slip) → ◌≡◌ {A = ℕ} (cond (names slip.txn slip.place slip) 1 0) 1
-counts_itself slip = ap {B = ℕ} (λ t. cond t 1 0) (names_itself slip)
+counts_itself slip = ap {B = ℕ} (λ t. cond t 1 0) (own_named slip)
 
 module _ (site : Site) (k boxes : ℕ) (cs : List Conversation) (heard : List Slip) (works : ℕ → BoxWork)
     (only : AllByRecursion (λ slip. slip.worker < boxes) heard)

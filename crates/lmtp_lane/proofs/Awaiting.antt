@@ -14,6 +14,7 @@ use Rattle.mail_world.specs.Session.{Session}
 use Rattle.mail_world.specs.Lists.{Transaction, copies_from}
 use Rattle.mail_post.specs.Channel.{Inbox, taken}
 use Rattle.mail_post.specs.Gathering.{HasGathered, IsAwaited}
+use Rattle.mail_world.proofs.LastSeal.{length_placed}
 use Rattle.lmtp_lane.specs.LaneExchange.{LaneEnds, Sending, found_gone, is_silent, KeepsRoom, IsAmong, own_slip_of, HasExchanged, IsUnderWay, Continues, Awaits, Sends, TakesOne, sent_as, copy_at}
 use Rattle.lmtp_lane.proofs.Exchanging.{HearsSlip, sending, with_inbox, no_episode, joined_none, way_failed, way_heard, way_gone}
 
@@ -155,13 +156,8 @@ sent_way number session moment message places ends gather b c same count begun f
     subst W same (second moment message notes (length session.recipients) past old) (first notes (length session.recipients) past old start)
 
 -- a slip changes no number of places
-same_length : (ps : List (Option Outcome)) (p : ℕ) (o : Outcome) (at : Option (Option Outcome)) → length (place_outcome ps p o at) ≡ length ps
-same_length ps p o None = refl
-same_length ps p o (Some None) = length-set ps p (Some o)
-same_length ps p o (Some (Some v)) = refl
-
 same_by : (g : Gather) (slip : Slip) (t : Bool) → length (cond t (record { txn = g.txn; places = place_outcome g.places slip.place slip.outcome (slice_get g.places slip.place) }) g).places ≡ length g.places
-same_by g slip true = same_length g.places slip.place slip.outcome (slice_get g.places slip.place)
+same_by g slip true = length_placed g.places slip.place slip.outcome (slice_get g.places slip.place)
 same_by g slip false = refl
 
 pub same_places : (old new : Gather) (slip : Slip) → new ≡ gathered old slip → length new.places ≡ length old.places

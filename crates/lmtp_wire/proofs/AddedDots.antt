@@ -2,6 +2,7 @@
 use Rattle.std.proofs.Common.{◌≡◌, ℕ, suc, ◌+◌, List, [], ◌∷◌, ◌++◌, take, drop, Bool, true, false, cond, ◌&&◌, ◌==◌, Option, Some, None, length, subst, length-append, append_assoc, take_all, length-drop, ◌-◌, ◌≤◌, refl, sym, ap, ◌∙◌, arith}
 use Rattle.std.specs.Prelude.{option_map}
 use Rattle.std.proofs.lemmas.Bool.Decides.{nat_tests}
+use Rattle.mail_world.proofs.Shortest.{same_window}
 use Rattle.lmtp_wire.specs.Runs.{CutsRun}
 use Rattle.mail_world.specs.Text.{cr, lf, crlf, place_of, begins_with}
 use Rattle.mail_world.specs.Data.{dot, with_dots, stuffed}
@@ -103,10 +104,6 @@ cuts_run text r n some fits h = record {
 }
 
 -- the byte before the last counts only where it is CR
-same_window : (a a' b : ℕ) (text : List ℕ) → (a == cr) ≡ false → (a' == cr) ≡ false → with_dots a b text ≡ with_dots a' b text
-same_window a a' b [] e f = refl
-same_window a a' b (c ∷ text) e f = rw (e, f) refl
-
 -- a message that begins with a dot, or doesn't
 pub dot_first : (text : List ℕ) → begins_with (dot ∷ []) text ≡ true → with_dots cr lf text ≡ dot ∷ with_dots lf dot text
 dot_first text e =

@@ -9,6 +9,7 @@ use Rattle.std.proofs.lemmas.Bool.Decides.{eqb_tells}
 use Rattle.mail_world.specs.Text.{cr, lf, ends_in}
 use Rattle.mail_world.specs.Data.{without_dots}
 use Rattle.mail_world.proofs.OneLine.{other_byte}
+use Rattle.mail_world.proofs.Stuffed.{same_window}
 
 pub eqb_comm : (a b : ℕ) → (a == b) ≡ (b == a)
 eqb_comm a b = elim (eqb_tells a b) [
@@ -45,10 +46,6 @@ ends_more xs u c b =
     ∙ same_more xs (drop (length u - length xs) u) c b
 
 -- the byte before the last counts only where it is CR
-same_window : (a a' b : ℕ) (text : List ℕ) → (a == cr) ≡ false → (a' == cr) ≡ false → without_dots a b text ≡ without_dots a' b text
-same_window a a' b [] e f = refl
-same_window a a' b (c ∷ text) e f = rw (e, f) refl
-
 -- behind text, nothing of the end of data
 pub fades : (a b : ℕ) (text : List ℕ) → (b == cr) ≡ false → ((a == cr) && (b == lf)) ≡ false → without_dots a b text ≡ without_dots 0 0 text
 fades a b [] e f = refl

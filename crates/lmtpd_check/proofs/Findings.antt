@@ -6,7 +6,8 @@ use Rattle.std.proofs.lemmas.List.{get_or-map, length-map}
 use Rattle.std.proofs.lemmas.List.Elements.{All-nil, All-push}
 use Rattle.lmtp_text.specs.Sites.{texts}
 use Rattle.lmtpd_output.specs.Output.{IsCutOff, pair_texts}
-use Rattle.lmtpd_output.proofs.Written.{Appends-nil, Appends-then, breaks_next}
+use Rattle.mbox_rd.proofs.Taken.{Appends-then}
+use Rattle.lmtpd_output.proofs.Written.{Appends-nil, breaks_next}
 use Rattle.lmtpd_check.specs.Checked.{finding_line, finding_lines, IsFindingOf, IsChecked}
 use Rattle.lmtpd_check.specs.declared.checked.Finding.{Finding}
 

@@ -3,18 +3,13 @@ use Rattle.std.proofs.Common.{◌≡◌, ℕ, ◌+◌, ◌-◌, ◌<◌, List, [
 use Rattle.std.proofs.lemmas.List.{take-append-drop, take_rest, drop_more}
 use Rattle.std.specs.List.{flat_map}
 use Rattle.std.specs.Io.KnownBytes.{Appends, Keeps}
+use Rattle.mbox_rd.proofs.Taken.{Appends-then}
 use Rattle.lmtpd_output.specs.Output.{IsCutOff}
 
 -- a writer
 pub Appends-nil : (u : Option (List ℕ)) → Appends u u []
 Appends-nil None = tt
 Appends-nil (Some xs) = sym (append-nil xs)
-
-pub Appends-then : (u v w : Option (List ℕ)) (a b : List ℕ) → Appends u v a → Appends v w b → Appends u w (a ++ b)
-Appends-then None v w a b x y = tt
-Appends-then (Some xs) None w a b x y = absurd x
-Appends-then (Some xs) (Some ys) None a b x y = y
-Appends-then (Some xs) (Some ys) (Some zs) a b x y = y ∙ ap (λ (t : List ℕ). t ++ b) x ∙ append_assoc xs a b
 
 pub Appends-keeps : (u v w : Option (List ℕ)) (a : List ℕ) → Appends u v a → Keeps v w → Appends u w a
 Appends-keeps None v w a x y = tt

@@ -12,6 +12,7 @@ use Rattle.mail_world.specs.declared.Txn.{Txn}
 use Rattle.mail_world.specs.declared.Slip.{Slip}
 use Rattle.mail_world.specs.Slips.{answer, answers, Gather, place_outcome, is_same_txn, gathered, gather_for}
 use Rattle.mail_world.proofs.Answered.{gathered-answers, answers-none, NoneNamed}
+use Rattle.mail_world.proofs.LastSeal.{length_placed}
 use Rattle.mail_post.specs.Gathering.{Gathering, IsDone, IsStranger, IsOwn, IsDouble, IsAwaited, NoneNames, HasGathered}
 use Rattle.mail_post.specs.Places.{places_of, gathering_of, IsGather}
 use Rattle.mail_post.specs.declared.gather.Gather.TheInside.{Inside}
@@ -130,17 +131,12 @@ gathered-awaited : (g : Gather) (slip : Slip) → IsAwaited g slip → gathered 
 gathered-awaited g slip h = rw (is_same slip.txn g.txn h.0, h.1) refl
 
 -- a gatherer keeps its transaction and the number of its places
-length-outcome : (ps : List (Option Outcome)) (p : ℕ) (o : Outcome) (at : Option (Option Outcome)) → length (place_outcome ps p o at) ≡ length ps
-length-outcome ps p o None = refl
-length-outcome ps p o (Some None) = length-set ps p (Some o)
-length-outcome ps p o (Some (Some v)) = refl
-
 keeps_txn : (g : Gather) (slip : Slip) (at : Option (Option Outcome)) (t : Bool) → (by_txn g slip at t).txn ≡ g.txn
 keeps_txn g slip at true = refl
 keeps_txn g slip at false = refl
 
 keeps_length : (g : Gather) (slip : Slip) (at : Option (Option Outcome)) (t : Bool) → length (by_txn g slip at t).places ≡ length g.places
-keeps_length g slip at true = length-outcome g.places slip.place slip.outcome at
+keeps_length g slip at true = length_placed g.places slip.place slip.outcome at
 keeps_length g slip at false = refl
 
 -- one more slip was heard

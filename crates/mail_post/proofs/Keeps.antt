@@ -11,7 +11,7 @@ use Rattle.mail_post.specs.declared.rule.Parcel.TheVariants.{Copy, Mark}
 use Rattle.mail_post.specs.declared.rule.View.{View}
 use Rattle.mail_post.specs.Views.{sender, taker, knower, settled, put, took}
 use Rattle.mail_post.specs.Parcels.{lane_of, part, messages, all_of_lane}
-use Rattle.mail_post.specs.Rule.{Traffic, FitsKnown, Fits, Carries, IsFair, Agrees}
+use Rattle.mail_post.specs.Rule.{FitsKnown, Fits, Carries, IsFair, Agrees}
 use Rattle.mail_post.proofs.Parcels.{part-append, part-here, part-else, of-copies, copies-append, copies-all_of_lane, all_of_lane-put, all_of_lane-end, front, all-there, has_mark-part}
 
 module _ {M : Type 0} (lane : M → ℕ) where

@@ -308,7 +308,7 @@ never_by : (t : Bool) (told way old : ℕ) → t ≡ true → 1 ≤ told → old
 never_by true told way old e some most h = omega arith
 never_by false told way old e some most h = cc
 
-own_named : (slip : Slip) → names slip.txn slip.place slip ≡ true
+pub own_named : (slip : Slip) → names slip.txn slip.place slip ≡ true
 own_named slip = rw (eq-eqb slip.txn.lane slip.txn.lane refl, eq-eqb slip.txn.number slip.txn.number refl, eq-eqb slip.place slip.place refl) refl
 
 is_own : (h : House) (k : ℕ) (lane : Lane) (events : List Event) → LaneIs h k lane → IsOnce h → (s : IsSoFar events k lane h.boxes) → (i : ℕ) (slip : Slip) → slice_get s.own i ≡ Some slip → IsHandedBack k h lane slip

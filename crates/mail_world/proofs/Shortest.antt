@@ -12,7 +12,7 @@ abbrev again : ℕ → ℕ → List ℕ → List ℕ
 again a b text = with_dots a b (without_dots a b text)
 
 -- the byte before the last counts only where it is CR
-same_window : (a a' b : ℕ) (text : List ℕ) → (a == cr) ≡ false → (a' == cr) ≡ false → with_dots a b text ≡ with_dots a' b text
+pub same_window : (a a' b : ℕ) (text : List ℕ) → (a == cr) ≡ false → (a' == cr) ≡ false → with_dots a b text ≡ with_dots a' b text
 same_window a a' b [] e f = refl
 same_window a a' b (c ∷ text) e f = rw (e, f) refl
 

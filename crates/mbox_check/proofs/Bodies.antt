@@ -1,19 +1,19 @@
 -- A letter that has begun: lines more, its end, the next letter.
 use Rattle.std.proofs.Common.{◌≡◌, inl, inr, ℕ, suc, Bool, true, false, cond, ◌&&◌, ◌==◌, List, [], ◌∷◌, ◌++◌, map, length, sym, ap, subst, ◌∙◌, refl, append_assoc, append-nil, true≢false}
 use Rattle.std.specs.Prelude.{codes}
-use Rattle.std.specs.List.{AllByRecursion}
 use Rattle.std.specs.Str.{byte}
 use Rattle.std.proofs.lemmas.Bool.{and_parts, or_from, eqb-true}
 use Rattle.std.proofs.lemmas.List.{map-append, same_from_push}
 use Rattle.std.proofs.lemmas.Grind.{flat_map-append}
-use Rattle.mail_world.specs.Text.{lf, lines, with_lf, IsOneLine}
+use Rattle.mail_world.specs.Text.{lf, with_lf, IsOneLine}
 use Rattle.mail_world.specs.Records.{is_from_line, quoted, unquoted, quoted_text}
 use Rattle.mail_world.specs.Reading.{Letter, IsLetter, AreLetters, letter_text, written}
 use Rattle.mail_world.proofs.OneLine.{one_line-tail, head_byte}
-use Rattle.mail_world.proofs.Letters.{lines-with_lf, ends-with_lf}
+use Rattle.mail_world.proofs.Letters.{ends-with_lf}
 use Rattle.mail_world.proofs.OneReading.{all-append}
 use Rattle.mbox_rd.specs.Letters.{is_boundary}
-use Rattle.mbox_rd.proofs.Bodies.{begins_from}
+use Rattle.mbox_rd.proofs.Bodies.{begins_from, lines-whole}
+use Rattle.mbox_rd.proofs.Mailboxes.{letter-lines, boundary-letters}
 use Rattle.mbox_check.specs.Form.{IsMailbox, BeginsMailbox}
 use Rattle.mbox_check.specs.SoFar.{EndsInLine, IsBody}
 use Rattle.mbox_check.proofs.MailLines.{no_nil, written_end}
@@ -64,18 +64,8 @@ length-push : (ls : List Letter) (l : Letter) → length (ls ++ l ∷ []) ≡ su
 length-push [] l = refl
 length-push (x ∷ ls) l = ap (λ n. suc n) (length-push ls l)
 
-letter-lines : (letter : Letter) (rest : List ℕ) → letter_text letter ++ rest ≡ codes "From " ++ (letter.head ++ lf ∷ (quoted_text letter.body ++ lf ∷ rest))
-letter-lines letter rest =
-    append_assoc (codes "From " ++ letter.head ++ (lf ∷ []) ++ quoted_text letter.body) (lf ∷ []) rest
-    ∙ append_assoc (codes "From " ++ letter.head ++ (lf ∷ [])) (quoted_text letter.body) (lf ∷ rest)
-    ∙ append_assoc (codes "From " ++ letter.head) (lf ∷ []) (quoted_text letter.body ++ lf ∷ rest)
-
 written-push : (ls : List Letter) (l : Letter) → written (ls ++ l ∷ []) ≡ written ls ++ (codes "From " ++ (l.head ++ lf ∷ (quoted_text l.body ++ lf ∷ [])))
 written-push ls l = flat_map-append letter_text ls (l ∷ []) ∙ ap (λ t. written ls ++ t) (letter-lines l [])
-
-pub boundary-written : (ls : List Letter) (rest : List ℕ) → is_boundary rest ≡ true → is_boundary (written ls ++ rest) ≡ true
-boundary-written [] rest e = e
-boundary-written (l ∷ ls) rest e = refl
 
 -- ---- a line more
 
@@ -129,9 +119,6 @@ body_line text n line b h plain = record {
 
 -- ---- its end
 
-lines-whole : (ls : List (List ℕ)) → AllByRecursion IsOneLine ls → lines (with_lf ls) ≡ ls
-lines-whole ls one = ap lines (sym (append-nil (with_lf ls))) ∙ lines-with_lf ls [] one ∙ append-nil ls
-
 -- the letters of a mailbox that ends here
 pub record IsEnded (text : List ℕ) (n : ℕ) : Type 0 where
   pub letters : List Letter
@@ -171,7 +158,7 @@ body_first text letters head are e h = record {
 pub body_begins : (text : List ℕ) (n : ℕ) (more : List ℕ) → IsBody text n → is_boundary (text ++ more) ≡ true
 body_begins text n more b =
     let first : List ℕ = codes "From " ++ (b.head ++ lf ∷ with_lf (map quoted b.ls)) in
-    ap is_boundary (ap (λ (l : List ℕ). l ++ more) b.whole ∙ append_assoc (written b.letters) first more) ∙ boundary-written b.letters (first ++ more) refl
+    ap is_boundary (ap (λ (l : List ℕ). l ++ more) b.whole ∙ append_assoc (written b.letters) first more) ∙ boundary-letters b.letters (first ++ more) refl
 
 -- ---- what a mailbox begins with
 

@@ -14,7 +14,8 @@ use Rattle.mbox_check.specs.Form.{IsMailbox, BeginsMailbox, BreaksAt, IsBad}
 use Rattle.mbox_check.specs.Places.{part_text, next_byte, longer, is_whole, bad_at}
 use Rattle.mbox_check.specs.SoFar.{IsLine, IsAt}
 use Rattle.mbox_check.proofs.MailLines.{from_behind}
-use Rattle.mbox_check.proofs.Bodies.{ends_not_lf, ends_not_empty, boundary-written}
+use Rattle.mbox_rd.proofs.Mailboxes.{boundary-letters}
+use Rattle.mbox_check.proofs.Bodies.{ends_not_lf, ends_not_empty}
 use Rattle.mbox_check.proofs.Begins.{part_grown, boundary_else, line_started, started_begins, at_begins, at_short, front_bad, open_good, line_good, inside_good}
 
 take_front : (text more : List ℕ) → take (length text) (text ++ more) ≡ text
@@ -60,7 +61,7 @@ bad_end Inside text n taken t at e =
 -- a mailbox doesn't begin with something else than a From line
 no_front : (part : Part) (text : List ℕ) (b : ℕ) → text ≡ part_text part → (next_byte part == b) ≡ false → BeginsMailbox (text ++ b ∷ []) → ⊥
 no_front part text b e f m =
-    let good : is_boundary (written m.letters) ≡ true = ap is_boundary (sym (append-nil (written m.letters))) ∙ boundary-written m.letters [] refl in
+    let good : is_boundary (written m.letters) ≡ true = ap is_boundary (sym (append-nil (written m.letters))) ∙ boundary-letters m.letters [] refl in
     let bad : is_boundary (text ++ b ∷ m.more) ≡ false = ap (λ (l : List ℕ). is_boundary (l ++ b ∷ m.more)) e ∙ boundary_else part b m.more f in
     true≢false (sym good ∙ ap is_boundary (m.is.whole ∙ append_assoc text (b ∷ []) m.more) ∙ bad)
 

@@ -16,7 +16,8 @@ use Rattle.mbox_check.specs.declared.place.Effect.TheVariants.{To, Begin, Break}
 use Rattle.mbox_check.specs.Form.{IsBad}
 use Rattle.mbox_check.specs.Places.{part_text, next_byte, longer, is_nothing, line_place, front_with, open_with, line_with, effect_of, bad_at}
 use Rattle.mbox_check.specs.SoFar.{EndsInLine, IsBody, IsOpen, IsLine, IsInside, IsAt}
-use Rattle.mbox_check.proofs.Bodies.{ends_behind, line_ends, body_line, body_ended, body_first, boundary-written}
+use Rattle.mbox_rd.proofs.Mailboxes.{boundary-letters}
+use Rattle.mbox_check.proofs.Bodies.{ends_behind, line_ends, body_line, body_ended, body_first}
 use Rattle.mbox_check.proofs.Begins.{part_one, part_grown, part_else, ends_in_part, IsStarted, open_started, line_started, started_begins, started_line}
 use Rattle.mbox_check.proofs.Breaks.{front_breaks, line_breaks}
 
@@ -34,7 +35,7 @@ letter_begins text start n letters are e count whole = record {
   ends = subst EndsInLine (sym whole) (ends_behind start (codes "From ") (record { front = codes "From"; last = 32; whole = refl; other = refl }));
   begins = λ more.
       ap is_boundary (ap (λ (l : List ℕ). l ++ more) (whole ∙ ap (λ (l : List ℕ). l ++ codes "From ") e) ∙ append_assoc (written letters) (codes "From ") more)
-      ∙ boundary-written letters (codes "From " ++ more) refl;
+      ∙ boundary-letters letters (codes "From " ++ more) refl;
   goes = λ more one.
       let same : text ++ (more ++ lf ∷ []) ≡ start ++ (codes "From " ++ (more ++ lf ∷ [])) =
       ap (λ (l : List ℕ). l ++ (more ++ lf ∷ [])) whole ∙ append_assoc start (codes "From ") (more ++ lf ∷ []) in

@@ -1,49 +1,20 @@
 -- The lines of a mailbox: each From line but the first stands behind an empty line, and the last line is empty.
 use Rattle.std.proofs.Common.{◌≡◌, ◌⊎◌, inl, inr, ℕ, Bool, true, false, ◌==◌, List, [], ◌∷◌, ◌++◌, map, sym, ap, ◌∙◌, refl, append_assoc, append-nil, true≢false}
-use Rattle.std.specs.Prelude.{codes, flat_map}
+use Rattle.std.specs.Prelude.{codes}
 use Rattle.std.specs.List.{AllByRecursion}
 use Rattle.std.proofs.lemmas.Bool.{eqb-true, false≢true}
-use Rattle.std.proofs.lemmas.Grind.{flat_map-append}
 use Rattle.mail_world.specs.Text.{lf, lines, with_lf, IsOneLine, EmptyOrEndsIn}
 use Rattle.mail_world.specs.Records.{is_from_line, quoted, quoted_text}
-use Rattle.mail_world.specs.Reading.{Letter, IsLetter, AreLetters, letter_text, written}
-use Rattle.mail_world.proofs.OneLine.{one_line-append, one_line-cons, literal}
+use Rattle.mail_world.specs.Reading.{Letter, AreLetters, letter_text, written}
+use Rattle.mail_world.proofs.OneLine.{one_line-cons, literal}
 use Rattle.mail_world.proofs.Letters.{ends-with_lf}
-use Rattle.mail_world.proofs.OneReading.{lines-each, quoted-each, quoted-not_from_by, all-append}
+use Rattle.mail_world.proofs.OneReading.{letters_lines, written-lines, letters_lines-each, quoted-not_from_by}
 use Rattle.mail_world.proofs.Places.{begins_with-append}
-use Rattle.mbox_rd.proofs.Bodies.{begins_from, same_cut}
+use Rattle.mbox_rd.proofs.Bodies.{begins_from, same_cut, from-line}
 
 pub no_nil : (xs ys : List ℕ) (b : ℕ) → [] ≡ xs ++ b ∷ ys → ⊥
 no_nil [] ys b e = cc
 no_nil (x ∷ xs) ys b e = cc
-
--- the lines of letters
-abbrev pub letter_lines : Letter → List (List ℕ)
-letter_lines l = (codes "From " ++ l.head) ∷ (map quoted (lines l.body) ++ [] ∷ [])
-
-abbrev pub mail_lines : List Letter → List (List ℕ)
-mail_lines ls = flat_map letter_lines ls
-
-letter_text-lines : (l : Letter) → letter_text l ≡ with_lf (letter_lines l)
-letter_text-lines l =
-    let first : List ℕ = codes "From " ++ l.head ++ (lf ∷ []) in
-    append_assoc first (quoted_text l.body) (lf ∷ []) ∙ ap (λ more. first ++ more) (sym (flat_map-append (λ x. x ++ lf ∷ []) (map quoted (lines l.body)) ([] ∷ [])))
-
-written-lines : (ls : List Letter) → written ls ≡ with_lf (mail_lines ls)
-written-lines [] = refl
-written-lines (l ∷ ls) =
-    ap (λ text. text ++ written ls) (letter_text-lines l) ∙ ap (λ text. with_lf (letter_lines l) ++ text) (written-lines ls)
-    ∙ sym (flat_map-append (λ x. x ++ lf ∷ []) (letter_lines l) (mail_lines ls))
-
-letter_lines-each : (l : Letter) → IsLetter l → AllByRecursion IsOneLine (letter_lines l)
-letter_lines-each l h = (
-  one_line-append (codes "From ") l.head (literal (codes "From ") refl) h.head,
-  all-append (map quoted (lines l.body)) ([] ∷ []) (quoted-each (lines l.body) (lines-each l.body)) (literal [] refl, tt),
-)
-
-mail_lines-each : (ls : List Letter) → AreLetters ls → AllByRecursion IsOneLine (mail_lines ls)
-mail_lines-each [] h = tt
-mail_lines-each (l ∷ ls) h = all-append (letter_lines l) (mail_lines ls) (letter_lines-each l h.0) (mail_lines-each ls h.1)
 
 -- each From line stands behind an empty one; the line before the first is given
 abbrev IsSpaced : List ℕ → List (List ℕ) → Type 0
@@ -55,9 +26,9 @@ spaced_body before [] rest h = (λ e. absurd (false≢true e), h)
 spaced_body before (l ∷ ls) rest h =
     (λ e. absurd (true≢false (sym e ∙ quoted-not_from_by l (is_from_line l) refl)), spaced_body (quoted l) ls rest h)
 
-spaced_mail : (ls : List Letter) → IsSpaced [] (mail_lines ls)
+spaced_mail : (ls : List Letter) → IsSpaced [] (letters_lines ls)
 spaced_mail [] = tt
-spaced_mail (l ∷ ls) = (λ e. refl, spaced_body (codes "From " ++ l.head) (lines l.body) (mail_lines ls) (spaced_mail ls))
+spaced_mail (l ∷ ls) = (λ e. refl, spaced_body (codes "From " ++ l.head) (lines l.body) (letters_lines ls) (spaced_mail ls))
 
 -- a text has no LF, or a first line
 record HasLine (text : List ℕ) : Type 0 where
@@ -75,15 +46,6 @@ first_by b text false e (inr cut) =
 first_line : (text : List ℕ) → IsOneLine text ⊎ HasLine text
 first_line [] = inl (literal [] refl)
 first_line (b ∷ text) = first_by b text (b == lf) refl (first_line text)
-
--- whether a From line stands in front is told by the first line
-from-line : (line more : List ℕ) → begins_from (line ++ lf ∷ more) ≡ begins_from line
-from-line [] more = refl
-from-line (a ∷ []) more = refl
-from-line (a ∷ b ∷ []) more = refl
-from-line (a ∷ b ∷ c ∷ []) more = refl
-from-line (a ∷ b ∷ c ∷ d ∷ []) more = refl
-from-line (a ∷ b ∷ c ∷ d ∷ e ∷ line) more = refl
 
 first_is : (before : List ℕ) (ls : List (List ℕ)) (more : List ℕ) → IsSpaced before ls → with_lf ls ≡ codes "From " ++ more → before ≡ []
 first_is before [] more s e = cc
@@ -114,7 +76,7 @@ behind_empty before (l ∷ ls) text more h s e = behind_by l ls text more h.0 s.
 
 -- a From line behind other bytes stands behind an empty line
 pub from_behind : (letters : List Letter) (text more : List ℕ) → AreLetters letters → written letters ≡ text ++ lf ∷ (codes "From " ++ more) → EmptyOrEndsIn (lf ∷ []) text
-from_behind letters text more h e = behind_empty [] (mail_lines letters) text more (mail_lines-each letters h) (spaced_mail letters) (sym (written-lines letters) ∙ e)
+from_behind letters text more h e = behind_empty [] (letters_lines letters) text more (letters_lines-each letters h) (spaced_mail letters) (sym (written-lines letters) ∙ e)
 
 -- the last line is empty
 abbrev pub EndsEmpty : List ℕ → Type 0

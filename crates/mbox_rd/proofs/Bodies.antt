@@ -28,7 +28,7 @@ same_cut (a ∷ x) (b ∷ y) v w h k e =
     (ap (λ c. c ∷ x) same ∙ ap (λ l. b ∷ l) more.0, more.1)
 
 -- whether a From line stands in front is told by the first line
-from-line : (line more : List ℕ) → begins_from (line ++ lf ∷ more) ≡ begins_from line
+pub from-line : (line more : List ℕ) → begins_from (line ++ lf ∷ more) ≡ begins_from line
 from-line [] more = refl
 from-line (a ∷ []) more = refl
 from-line (a ∷ b ∷ []) more = refl
@@ -169,7 +169,7 @@ IsBodyUpTo-quoted text body run rest line more front copied b cut plain open' q 
     }
 
 -- at the empty line behind the body
-lines-whole : (ls : List (List ℕ)) → AllByRecursion IsOneLine ls → lines (with_lf ls) ≡ ls
+pub lines-whole : (ls : List (List ℕ)) → AllByRecursion IsOneLine ls → lines (with_lf ls) ≡ ls
 lines-whole ls one = ap lines (sym (append-nil (with_lf ls))) ∙ lines-with_lf ls [] one ∙ append-nil ls
 
 pub IsBodyUpTo-end : (text body run rest line more front copied : List ℕ) → IsBodyUpTo text body run rest → IsLineCut rest line more → line ≡ [] → is_boundary more ≡ true

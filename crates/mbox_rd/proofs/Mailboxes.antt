@@ -14,7 +14,7 @@ use Rattle.mbox_rd.specs.Letters.{is_boundary, letter_headed, IsLineCut, IsBodyR
 use Rattle.mbox_rd.proofs.Bodies.{begins_from, same_cut, has_lf, tail-cons, inside, IsTail, IsTail-inside, IsTail-next}
 
 -- the text of a letter, its head first
-letter-lines : (letter : Letter) (rest : List ℕ) → letter_text letter ++ rest ≡ codes "From " ++ (letter.head ++ lf ∷ (quoted_text letter.body ++ lf ∷ rest))
+pub letter-lines : (letter : Letter) (rest : List ℕ) → letter_text letter ++ rest ≡ codes "From " ++ (letter.head ++ lf ∷ (quoted_text letter.body ++ lf ∷ rest))
 letter-lines letter rest =
     append_assoc (codes "From " ++ letter.head ++ (lf ∷ []) ++ quoted_text letter.body) (lf ∷ []) rest
     ∙ append_assoc (codes "From " ++ letter.head ++ (lf ∷ [])) (quoted_text letter.body) (lf ∷ rest)
@@ -54,7 +54,7 @@ boundary-written : (ls : List Letter) → is_boundary (written ls) ≡ true
 boundary-written [] = refl
 boundary-written (l ∷ ls) = begins_with-append (codes "From ") l.head
 
-boundary-letters : (ls : List Letter) (rest : List ℕ) → is_boundary rest ≡ true → is_boundary (written ls ++ rest) ≡ true
+pub boundary-letters : (ls : List Letter) (rest : List ℕ) → is_boundary rest ≡ true → is_boundary (written ls ++ rest) ≡ true
 boundary-letters [] rest e = e
 boundary-letters (l ∷ ls) rest e = begins_with-append (codes "From ") l.head
 

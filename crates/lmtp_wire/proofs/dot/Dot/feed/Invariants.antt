@@ -1,4 +1,4 @@
-use Rattle.std.proofs.Common.{◌≡◌, ◌<◌, ◌≤◌, length, ℕ, ◌-◌, List, ◌++◌, take, drop, None, ◌∷◌, false}
+use Rattle.std.proofs.Common.{◌≡◌, ◌<◌, ◌≤◌, length, ℕ, ◌-◌, List, ◌++◌, take, drop, None, false}
 use Rattle.lmtp_wire.specs.Dot.{HasMade, HasFed}
 use Rattle.lmtp_wire.proofs.dot.Dot.feed.Given as goal
 
