@@ -12,7 +12,7 @@ use Rattle.mail_world.specs.Events.{Step}
 use Rattle.mail_world.specs.Runs.{Happened, Run}
 use Rattle.mail_world.specs.Rows.{calendar, site}
 use Rattle.mail_world.proofs.Computed.{everything}
-use Rattle.mail_world.proofs.OneHouse.{bytes, key, just_taken, lane₀, box₀, free_slot, house₀, lane₁, with_draft, with_bytes, then', split, each_once, starts}
+use Rattle.mail_world.proofs.OneHouse.{bytes, key, just_taken, lane₀, box₀, free_slot, with_draft, with_bytes, with_message, then', each_once, starts, fresh, begins, puts, seals}
 use Rattle.mail_world.proofs.OneHouse as one_house
 use Rattle.mail_progress.specs.Orderly.{IsOrderly}
 use Rattle.mail_progress.specs.GoingOn.{StandsStill}
@@ -58,7 +58,7 @@ lane holds offered slips = record lane₀ {
 }
 
 abbrev pub start : House
-start = house₀ None (free_slot ∷ [])
+start = fresh 1 None []
 
 -- the house with the message of that weight
 abbrev sealed : ℕ → Lane → Box → House
@@ -77,7 +77,7 @@ abbrev house₂ : House
 house₂ = with_bytes house₁
 
 abbrev house₃ : House
-house₃ = sealed 4 (lane (of_weight 4 ∷ []) 0 ([])) (box₀)
+house₃ = with_message 4 house₂
 
 abbrev house₄ : House
 house₄ = sealed 4 (lane (of_weight 3 ∷ one ∷ []) 0 ([])) (box₀)
@@ -130,21 +130,9 @@ run =
     ∷ then' (Seal 0 4) house₃ ∷ then' (Split 0 0) house₄ ∷ then' (Split 0 0) house₅ ∷ then' (Split 0 0) house₆ ∷ then' (Offer 0 (note 0)) house₇ ∷ then' (Take 0) house₈ ∷ then' (Write 0 text) house₉ ∷ then' (Sync 0) house₁₀ ∷ then' (Release 0) house₁₁ ∷ then' (GiveSlip 0 Stored) house₁₂ ∷ then' (Offer 0 (note 1)) house₁₃ ∷ then' (Take 0) house₁₄ ∷ then' (Write 0 text) house₁₅ ∷ then' (Sync 0) house₁₆ ∷ then' (Release 0) house₁₇ ∷ then' (Offer 0 (note 2)) house₁₈ ∷ []
 
 pub it_starts : IsStart 2 start
-it_starts = starts None (free_slot ∷ []) (record { held = refl; generation = lit≤ tt }, tt) each_once
+it_starts = starts 1 None (free_slot ∷ []) (record { held = refl; generation = lit≤ tt }, tt) each_once
 
 -- the steps, each for itself
-step₁ : Step start (Begin 0) house₁
-unfolding everything
-step₁ = record { lane = lane₀; key = key; number = 1; depot = house₁.depot; is = refl; no_draft = refl; later = lit< tt; begins = (refl, refl); after = refl }
-
-step₂ : Step house₁ (Put 0 bytes) house₂
-unfolding everything
-step₂ = record { lane = lane₁; key = key; depot = house₂.depot; is = refl; draft = refl; puts = record { bytes = []; blocks = []; picked = 0 ∷ []; rest = 1 ∷ []; draft = refl; enough = refl; taken = split; after = refl }; after = refl }
-
-step₃ : Step house₂ (Seal 0 4) house₃
-unfolding everything
-step₃ = record { lane = lane₁; key = key; depot = house₃.depot; is = refl; draft = refl; some = lit≤ tt; seals = record { bytes = bytes; blocks = 0 ∷ []; draft = refl; after = refl }; after = refl }
-
 step₄ : Step house₃ (Split 0 0) house₄
 unfolding everything
 step₄ = record { lane = lane (of_weight 4 ∷ []) 0 ([]); key = key; weight = 3; is = refl; hold = refl; above = lit≤ tt; after = refl }
@@ -206,7 +194,7 @@ unfolding everything
 step₁₈ = record { lane = lane (one ∷ one ∷ []) 2 (slip ∷ []); box = holding (channel (post 0 ∷ post 1 ∷ []) 2 2 (text ++ text)) (released 1); at = 0; t = 0; key = key; is = refl; copy = record { hold = refl; is = refl }; own = refl; channel = refl; still_open = refl; room = lit< tt; after = refl }
 
 pub it_runs : Run start run
-it_runs = (step₁, (step₂, (step₃, (step₄, (step₅, (step₆, (step₇, (step₈, (step₉, (step₁₀, (step₁₁, (step₁₂, (step₁₃, (step₁₄, (step₁₅, (step₁₆, (step₁₇, (step₁₈, tt))))))))))))))))))
+it_runs = (begins 1 None [], (puts 1 None [], (seals 1 None [] 4 (lit≤ tt), (step₄, (step₅, (step₆, (step₇, (step₈, (step₉, (step₁₀, (step₁₁, (step₁₂, (step₁₃, (step₁₄, (step₁₅, (step₁₆, (step₁₇, (step₁₈, tt))))))))))))))))))
 
 pub it_is_orderly : IsOrderly 4 start run
 it_is_orderly = (record { given_away = refl; answered = tt }, (tt, (lit≤ tt, (tt, (tt, (tt, (lit< tt, (tt, (tt, (tt, (tt, (lit< tt, (lit< tt, (tt, (tt, (tt, (tt, (lit< tt, tt))))))))))))))))))

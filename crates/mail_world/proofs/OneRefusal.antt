@@ -12,7 +12,7 @@ use Rattle.mail_world.specs.Events.{with_heard, with_taken, without_copy, sealed
 use Rattle.mail_world.specs.Runs.{Happened, Run, HasSpoolAndPlaces, HasHeardSlips}
 use Rattle.mail_world.specs.Rows.{calendar, site}
 use Rattle.mail_world.proofs.Computed.{everything}
-use Rattle.mail_world.proofs.OneHouse.{bytes, key, only_copy, just_taken, lane₀, box₀, free_slot, house₀, lane₁, with_draft, with_bytes, then', split, each_once, starts}
+use Rattle.mail_world.proofs.OneHouse.{bytes, key, only_copy, just_taken, box₀, with_draft, with_bytes, lane_sealed, with_message, then', split, each_once, starts, fresh, begins, puts, seals}
 
 abbrev next : Key
 next = record { slot = 0; generation = 1 }
@@ -34,7 +34,7 @@ abbrev text : List ℕ
 text = record_of calendar site.host second
 
 abbrev pub start : House
-start = house₀ (Some (length text)) (free_slot ∷ [])
+start = fresh 1 (Some (length text)) []
 
 abbrev house₁ : House
 house₁ = with_draft start
@@ -43,15 +43,10 @@ abbrev house₂ : House
 house₂ = with_bytes house₁
 
 abbrev lane₃ : Lane
-lane₃ = record lane₁ {
-  draft = None;
-  messages = record { number = 1; key = key; message = bytes; offered = 0 } ∷ [];
-  holds = record { key = key; weight = 1 } ∷ [];
-  gather = gather_for (record { lane = 0; number = 1 }) 1;
-}
+lane₃ = lane_sealed 1
 
 abbrev house₃ : House
-house₃ = with_lane (with_depot house₂ (with_held house₂.depot key (Sealed bytes (0 ∷ []) 1) (1 ∷ []))) 0 lane₃
+house₃ = with_message 1 house₂
 
 abbrev lane₄ : Lane
 lane₄ = without_copy lane₃ 0 0 (sealed_up_to key 1 bytes 0)
@@ -183,16 +178,16 @@ one_run =
     ∷ then' (Release 0) house₁₆ ∷ then' (GiveSlip 0 Stored) house₁₇ ∷ then' (Collect 0) house₁₈ ∷ []
 
 pub it_starts : IsStart 2 start
-it_starts = starts (Some (length text)) _ (record { held = refl; generation = lit≤ tt }, tt) each_once
+it_starts = starts 1 (Some (length text)) _ (record { held = refl; generation = lit≤ tt }, tt) each_once
 
 pub it_runs : Run start one_run
 unfolding everything
 it_runs = (
-  record { lane = lane₀; key = key; number = 1; depot = house₁.depot; is = refl; no_draft = refl; later = lit< tt; begins = (refl, refl); after = refl },
+  begins 1 (Some (length text)) [],
   (
-    record { lane = lane₁; key = key; depot = house₂.depot; is = refl; draft = refl; puts = record { bytes = []; blocks = []; picked = 0 ∷ []; rest = 1 ∷ []; draft = refl; enough = refl; taken = split; after = refl }; after = refl },
+    puts 1 (Some (length text)) [],
     (
-      record { lane = lane₁; key = key; depot = house₃.depot; is = refl; draft = refl; some = lit≤ tt; seals = record { bytes = bytes; blocks = 0 ∷ []; draft = refl; after = refl }; after = refl },
+      seals 1 (Some (length text)) [] 1 (lit≤ tt),
       (
         record { lane = lane₃; box = box₀; at = 0; t = 0; key = key; is = refl; copy = record { hold = refl; is = refl }; own = refl; channel = refl; still_open = refl; room = lit< tt; after = refl },
         (
