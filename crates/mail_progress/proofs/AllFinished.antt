@@ -19,7 +19,7 @@ use Rattle.mail_progress.proofs.Tracked.{copy_at, way_at, AllTracked}
 use Rattle.mail_progress.proofs.Owners.{AllOwned, every_run_owns, none_in_use}
 use Rattle.mail_progress.proofs.Movers.{reached, low_or_full, search_in, IsBusy, busy_way, given_there, nothing_is_stuck, nothing_is_stuck_when_closed}
 
-goes_on : (P : Mover → Type 0) (room : ℕ) (next : ℕ → ℕ) (h : House) → IsMovedBy P room next h → MayGoOn room next h
+abbrev pub goes_on : (P : Mover → Type 0) (room : ℕ) (next : ℕ → ℕ) (h : House) → IsMovedBy P room next h → MayGoOn room next h
 goes_on P room next h m = record { event = m.event; goes_on = m.goes_on; in_order = m.in_order; happens = m.happens }
 
 no_key : (draft : Option Key) → ((key : Key) → draft ≡ Some key → ⊥) → draft ≡ None

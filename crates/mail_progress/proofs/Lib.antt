@@ -5,6 +5,7 @@ pub mod NoRoomForSlips
 pub mod Sums
 pub mod Within
 pub mod Found
+pub mod Search
 pub mod Pigeons
 pub mod Lowered
 pub mod Kept
@@ -13,3 +14,7 @@ pub mod Tracked
 pub mod Owners
 pub mod AllFinished
 pub mod Shut
+pub mod Ranks
+pub mod LaneRanks
+pub mod WorkerRanks
+pub mod InTurn
