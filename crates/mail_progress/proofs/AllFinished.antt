@@ -1,6 +1,6 @@
 -- Where nothing goes on, all is finished.
 use Rattle.std.proofs.Common.{◌≡◌, ◌≢◌, ℕ, suc, ◌≤◌, List, [], ◌∷◌, ◌++◌, length, drop, Option, Some, None, inl, inr, refl, ap, sym, ◌∙◌, arith, append-nil}
-use Rattle.std.specs.Prelude.{slice_get, flat_map, sum_by}
+use Rattle.std.specs.Prelude.{slice_get, sum_by}
 use Rattle.std.specs.List.{AllByRecursion}
 use Rattle.mail_world.specs.declared.Outcome.{Outcome}
 use Rattle.mail_world.specs.Depot.{Key, occurrences, blocks_in_use, HasEachBlockOnce}
@@ -15,9 +15,11 @@ use Rattle.mail_progress.specs.Finished.{IsFinished, EndsFinished}
 use Rattle.mail_world.specs.Slips.{txn_of, times_named}
 use Rattle.mail_world.proofs.GivenAway.{is_given, count_some}
 use Rattle.std.proofs.lemmas.List.{drop_all}
+use Rattle.mail_progress.proofs.Search.{search_list}
+use Rattle.mail_progress.proofs.Sums.{sum_none}
 use Rattle.mail_progress.proofs.Tracked.{copy_at, way_at, AllTracked}
 use Rattle.mail_progress.proofs.Owners.{AllOwned, every_run_owns, none_in_use}
-use Rattle.mail_progress.proofs.Movers.{reached, low_or_full, search_in, IsBusy, busy_way, given_there, nothing_is_stuck, nothing_is_stuck_when_closed}
+use Rattle.mail_progress.proofs.Movers.{reached, low_or_full, IsBusy, busy_way, given_there, nothing_is_stuck, nothing_is_stuck_when_closed}
 
 abbrev pub goes_on : (P : Mover → Type 0) (room : ℕ) (next : ℕ → ℕ) (h : House) → IsMovedBy P room next h → MayGoOn room next h
 goes_on P room next h m = record { event = m.event; goes_on = m.goes_on; in_order = m.in_order; happens = m.happens }
@@ -64,11 +66,10 @@ finished_by Movers room blocks next h each owned tracked fronts slips n still = 
         | inr all ↦ all
       ] in
       let no_slips : times_named (txn_of k number) place (drop lane.collected lane.slips) ≡ 0 = ap (times_named (txn_of k number) place) (drop_all lane.collected lane.slips all) in
-      let none : flat_map on_way h.boxes ≡ [] = elim (search_in on_way IsBusy busy_way h.boxes) [
+      let no_way : way_at k number place h.boxes ≡ 0 = elim (search_list (λ w box. IsBusy box) (λ w box. on_way box ≡ []) h.boxes (λ w box is. busy_way box)) [
         | inl there ↦ absurd (busy_still there.0 there.1 there.2 there.3)
-        | inr none ↦ none
+        | inr none ↦ sum_none on_way (copy_at k number place) h.boxes (λ w box is. ap (sum_by (copy_at k number place)) (none w box is))
       ] in
-      let no_way : way_at k number place h.boxes ≡ 0 = ap (sum_by (copy_at k number place)) none in
       omega arith;
   reclaimed = λ i slot bytes its weight at e. still (goes_on _ room next h (n.sealed i slot bytes its weight at e));
   all_free = λ x.

@@ -1,5 +1,5 @@
 -- Tried in order, the steps that go on give a first one, or all is finished.
-use Rattle.std.proofs.Common.{◌≡◌, ◌⊎◌, ℕ, ◌+◌, ◌≤◌, inl, inr, arith}
+use Rattle.std.proofs.Common.{◌⊎◌, ℕ, inl, inr, arith}
 use Rattle.mail_world.specs.House.{House}
 use Rattle.mail_world.specs.Runs.{last_house}
 use Rattle.mail_progress.specs.GoingOn.{MayGoOn}

@@ -229,17 +229,6 @@ collects_move room blocks next h f c all k lane at some = collect_by room blocks
 unfoldable pub draft_moves : (room blocks : ℕ) (next : ℕ → ℕ) (h : House) → IsReached room blocks h → (k : ℕ) (lane : Lane) (key : Key) → LaneIs h k lane → lane.draft ≡ Some key → IsMovedBy (TheLane k) room next h
 draft_moves room blocks next h f k lane key at draft = record { event = Seal k 1; by = refl; goes_on = tt; in_order = f.some_room; happens = f.seals k lane key at draft }
 
--- an element with something in it, or none has
-pub search_in : {A B : Type 0} (g : A → List B) (P : A → Type 0) → ((x : A) → P x ⊎ (g x ≡ [])) → (xs : List A) → ((i : ℕ) × (x : A) × (slice_get xs i ≡ Some x) × P x) ⊎ (flat_map g xs ≡ [])
-search_in g P each [] = inr refl
-search_in g P each (x ∷ xs) = elim (each x) [
-  | inl here ↦ inl (0, x, refl, here)
-  | inr none ↦ elim (search_in g P each xs) [
-    | inl there ↦ inl (suc there.0, there.1, there.2, there.3)
-    | inr rest ↦ inr (rw (none) rest)
-  ]
-]
-
 pub some_holds : (lane : Lane) → (lane.holds ≢ []) ⊎ (lane.holds ≡ [])
 some_holds lane = by lane.holds
   where

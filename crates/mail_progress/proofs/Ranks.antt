@@ -1,7 +1,7 @@
 -- From one rank to the next: the first event is found, or none is of the rank.
 use Rattle.std.proofs.Common.{◌≡◌, ◌⊎◌, ℕ, ◌+◌, ◌≤◌, inl, inr, arith}
 use Rattle.mail_world.specs.declared.Event.{Event}
-use Rattle.mail_world.specs.declared.Event.TheVariants.{Begin, Put, Cancel, Seal, Split, Offer, HandBack, Collect, Take, Write, Sync, Release, GiveSlip, Reclaim, Close}
+use Rattle.mail_world.specs.declared.Event.TheVariants.{Begin, Put, Close}
 use Rattle.mail_world.specs.House.{House}
 use Rattle.mail_progress.specs.GoingOn.{GoesOn, MayGoOn}
 use Rattle.mail_progress.specs.InTurn.{rank, IsFirst}

@@ -1,19 +1,22 @@
 -- The steps of workers, by rank: one of the rank goes on, or none does.
-use Rattle.std.proofs.Common.{◌≡◌, ◌⊎◌, ℕ, ◌<◌, ◌≤◌, List, [], ◌∷◌, length, drop, Bool, true, false, ◌||◌, Option, Some, None, inl, inr, refl, ap, subst, arith, ◌++◌, length-append}
+use Rattle.std.proofs.Common.{◌≡◌, ℕ, ◌<◌, ◌≤◌, List, [], ◌∷◌, length, drop, true, false, ◌||◌, Option, Some, None, inl, inr, refl, ap, subst, arith, ◌++◌, length-append}
 use Rattle.std.specs.Prelude.{IfSome}
 use Rattle.std.proofs.lemmas.List.{length-drop}
 use Rattle.std.proofs.lemmas.Option.{slice_get_within}
+use Rattle.std.proofs.Math.Bool.{Bool-discrete}
+use Rattle.std.proofs.Math.Decide.{dec_le, dec_lt, ℕ_discrete}
+use Rattle.std.proofs.Math.Logic.Dec
 use Rattle.mail_world.specs.declared.Event.{Event}
-use Rattle.mail_world.specs.declared.Event.TheVariants.{Begin, Put, Cancel, Seal, Split, Offer, HandBack, Collect, Take, Write, Sync, Release, GiveSlip, Reclaim, Close}
+use Rattle.mail_world.specs.declared.Event.TheVariants.{Take, Write, Sync, Release, GiveSlip}
 use Rattle.mail_world.specs.Records.{record_of}
 use Rattle.mail_world.specs.House.{Copy, Box, House, is_settled}
 use Rattle.mail_world.specs.Events.{MayHappen, BoxIs}
 use Rattle.mail_world.proofs.WrongSteps.{same_some}
-use Rattle.mail_progress.specs.GoingOn.{GoesOn, MayGoOn}
+use Rattle.mail_progress.specs.GoingOn.{GoesOn}
 use Rattle.mail_progress.specs.NothingStuck.{TheWorker}
 use Rattle.mail_progress.specs.InTurn.{rank}
-use Rattle.mail_progress.proofs.Search.{search_list}
-use Rattle.mail_progress.proofs.Movers.{IsReached, low_or_full, take_moves, write_moves, release_moves, give_moves}
+use Rattle.mail_progress.proofs.Search.{search_for}
+use Rattle.mail_progress.proofs.Movers.{IsReached, take_moves, write_moves, release_moves, give_moves}
 use Rattle.mail_progress.proofs.AllFinished.{goes_on}
 use Rattle.mail_progress.proofs.Ranks.{HasRank, NoRank, IsDecided}
 
@@ -22,9 +25,9 @@ abbrev NoBox : House → (Box → Type 0) → Type 0
 NoBox h P = (w : ℕ) (box : Box) → BoxIs h w box → P box → ⊥
 
 -- mailboxes are searched
-by_boxes : (room : ℕ) (next : ℕ → ℕ) (h : House) (r : ℕ) (P : Box → Type 0) → ((box : Box) → P box ⊎ (P box → ⊥)) → ((w : ℕ) (box : Box) → BoxIs h w box → P box → HasRank room next h r)
+by_boxes : (room : ℕ) (next : ℕ → ℕ) (h : House) (r : ℕ) (P : Box → Type 0) → ((box : Box) → Dec (P box)) → ((w : ℕ) (box : Box) → BoxIs h w box → P box → HasRank room next h r)
     → (NoBox h P → NoRank room next h r) → IsDecided room next h r
-by_boxes room next h r P each has none = elim (search_list (λ w box. P box) (λ w box. P box → ⊥) h.boxes (λ w box at. each box)) [
+by_boxes room next h r P each has none = elim (search_for (λ w box. P box) h.boxes (λ w box at. each box)) [
   | inl there ↦ inl (has there.0 there.1 there.2 there.3)
   | inr no_box ↦ inr (none no_box)
 ]
@@ -33,41 +36,26 @@ by_boxes room next h r P each has none = elim (search_list (λ w box. P box) (λ
 abbrev InHand : (Copy → Type 0) → Box → Type 0
 InHand P box = (copy : Copy) × (box.hand ≡ Some copy) × P copy
 
-in_hand : (P : Copy → Type 0) → ((copy : Copy) → P copy ⊎ (P copy → ⊥)) → (box : Box) → InHand P box ⊎ (InHand P box → ⊥)
+in_hand : (P : Copy → Type 0) → ((copy : Copy) → Dec (P copy)) → (box : Box) → Dec (InHand P box)
 in_hand P each box = by box.hand refl
   where
-    by : (hand : Option Copy) → box.hand ≡ hand → InHand P box ⊎ (InHand P box → ⊥)
-    by None e = inr (λ has. let is = has.1 in cc)
+    by : (hand : Option Copy) → box.hand ≡ hand → Dec (InHand P box)
+    by None e = no (λ has. let is = has.1 in cc)
     by (Some copy) e = elim (each copy) [
-      | inl here ↦ inl (copy, e, here)
-      | inr none ↦ inr (λ has. let same : has.0 ≡ copy = same_some box.hand has.0 copy has.1 e in none (subst P same has.2))
+      | yes here ↦ yes (copy, e, here)
+      | no bad ↦ no (λ has. bad (subst P (same_some box.hand has.0 copy has.1 e) has.2))
     ]
-
-is_true : (t : Bool) → (t ≡ true) ⊎ (t ≡ true → ⊥)
-is_true true = inl refl
-is_true false = inr (λ e. cc)
-
-is_false : (t : Bool) → (t ≡ false) ⊎ (t ≡ false → ⊥)
-is_false false = inl refl
-is_false true = inr (λ e. cc)
-
-both : {A B : Type 0} → A ⊎ (A → ⊥) → B ⊎ (B → ⊥) → (A × B) ⊎ (A × B → ⊥)
-both (inl a) (inl b) = inl (a, b)
-both (inl a) (inr bad) = inr (λ ab. bad ab.1)
-both (inr bad) b = inr (λ ab. bad ab.0)
 
 -- a copy to take
 abbrev HasFront : Box → Type 0
 HasFront box = (box.taken < length box.accepted) × (box.hand ≡ None)
 
-has_front : (box : Box) → HasFront box ⊎ (HasFront box → ⊥)
-has_front box = both (low box.taken (length box.accepted)) (free box.hand)
+has_front : (box : Box) → Dec (HasFront box)
+has_front box = Dec.and (dec_lt box.taken (length box.accepted)) (free box.hand)
   where
-    low : (a b : ℕ) → (a < b) ⊎ (a < b → ⊥)
-    low a b = elim (low_or_full a b) [ inl less ↦ inl less | inr full ↦ inr (λ less. absurd (omega arith)) ]
-    free : (hand : Option Copy) → (hand ≡ None) ⊎ (hand ≡ None → ⊥)
-    free None = inl refl
-    free (Some copy) = inr (λ e. cc)
+    free : (hand : Option Copy) → Dec (hand ≡ None)
+    free None = yes refl
+    free (Some copy) = no (λ e. cc)
 
 no_front : (h : House) → NoBox h HasFront → (event : Event) → MayHappen h event → rank event ≡ 3 → ⊥
 no_front h none (Take w) happens e =
@@ -95,14 +83,8 @@ HasMore h box = InHand (λ copy. IsToWrite box copy × (1 ≤ length (rest_of h 
 abbrev IsWhole : House → Box → Type 0
 IsWhole h box = InHand (λ copy. IsToWrite box copy × (length (rest_of h copy) ≡ 0)) box
 
-is_to_write : (box : Box) (copy : Copy) → IsToWrite box copy ⊎ (IsToWrite box copy → ⊥)
-is_to_write box copy = both (is_false copy.released) (both (is_false (is_settled copy)) (is_false box.faulty))
-
-some_or_none : (n : ℕ) → (1 ≤ n) ⊎ (1 ≤ n → ⊥)
-some_or_none n = elim (low_or_full 0 n) [ inl some ↦ inl (omega arith) | inr none ↦ inr (λ some. absurd (omega arith)) ]
-
-none_or_some : (n : ℕ) → (n ≡ 0) ⊎ (n ≡ 0 → ⊥)
-none_or_some n = elim (low_or_full 0 n) [ inl some ↦ inr (λ none. absurd (omega arith)) | inr none ↦ inl (omega arith) ]
+is_to_write : (box : Box) (copy : Copy) → Dec (IsToWrite box copy)
+is_to_write box copy = Dec.and (Bool-discrete copy.released false) (Dec.and (Bool-discrete (is_settled copy) false) (Bool-discrete box.faulty false))
 
 no_more : (next : ℕ → ℕ) (h : House) → NoBox h (HasMore h) → (event : Event) → GoesOn next h event → MayHappen h event → rank event ≡ 4 → ⊥
 no_more next h none (Write w bytes) g happens e =
@@ -132,12 +114,12 @@ whole_ranks room blocks next h f w box at has (x ∷ xs) e = let none = has.2.1 
 
 pub writes_decided : (room blocks : ℕ) (next : ℕ → ℕ) (h : House) → IsReached room blocks h → IsDecided room next h 4
 writes_decided room blocks next h f =
-    by_boxes room next h 4 (HasMore h) (λ box. in_hand _ (λ copy. both (is_to_write box copy) (some_or_none (length (rest_of h copy)))) box)
+    by_boxes room next h 4 (HasMore h) (λ box. in_hand _ (λ copy. Dec.and (is_to_write box copy) (dec_le 1 (length (rest_of h copy)))) box)
     (λ w box at has. more_ranks room blocks next h f w box at has (rest_of h has.0) refl) (λ none m e. no_more next h none m.event m.goes_on m.happens e)
 
 pub syncs_decided : (room blocks : ℕ) (next : ℕ → ℕ) (h : House) → IsReached room blocks h → IsDecided room next h 5
 syncs_decided room blocks next h f =
-    by_boxes room next h 5 (IsWhole h) (λ box. in_hand _ (λ copy. both (is_to_write box copy) (none_or_some (length (rest_of h copy)))) box)
+    by_boxes room next h 5 (IsWhole h) (λ box. in_hand _ (λ copy. Dec.and (is_to_write box copy) (ℕ_discrete (length (rest_of h copy)) 0)) box)
     (λ w box at has. whole_ranks room blocks next h f w box at has (rest_of h has.0) refl) (λ none m e. not_whole h none m.event m.happens e)
 
 -- a copy to let go of
@@ -158,7 +140,7 @@ release_ranks room blocks next h f w box at has = (goes_on (TheWorker w) room ne
 
 pub releases_decided : (room blocks : ℕ) (next : ℕ → ℕ) (h : House) → IsReached room blocks h → IsDecided room next h 6
 releases_decided room blocks next h f =
-    by_boxes room next h 6 IsToLetGo (λ box. in_hand _ (λ copy. both (is_false copy.released) (is_true (is_settled copy || box.faulty))) box)
+    by_boxes room next h 6 IsToLetGo (λ box. in_hand _ (λ copy. Dec.and (Bool-discrete copy.released false) (Bool-discrete (is_settled copy || box.faulty) true)) box)
     (release_ranks room blocks next h f) (λ none m e. no_release next h none m.event m.goes_on m.happens e)
 
 -- a copy whose slip is to give
@@ -175,4 +157,4 @@ give_ranks room blocks next h f w box at has = (goes_on (TheWorker w) room next 
 
 pub gives_decided : (room blocks : ℕ) (next : ℕ → ℕ) (h : House) → IsReached room blocks h → IsDecided room next h 7
 gives_decided room blocks next h f =
-    by_boxes room next h 7 HasLetGo (λ box. in_hand _ (λ copy. is_true copy.released) box) (give_ranks room blocks next h f) (λ none m e. no_give h none m.event m.happens e)
+    by_boxes room next h 7 HasLetGo (λ box. in_hand _ (λ copy. Bool-discrete copy.released true) box) (give_ranks room blocks next h f) (λ none m e. no_give h none m.event m.happens e)
