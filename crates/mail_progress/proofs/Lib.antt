@@ -7,7 +7,10 @@ pub mod Within
 pub mod Found
 pub mod Search
 pub mod Pigeons
+pub mod Slots
 pub mod Lowered
+pub mod CopiesLeft
+pub mod AlwaysFinishes
 pub mod Kept
 pub mod Movers
 pub mod Tracked

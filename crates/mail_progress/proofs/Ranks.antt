@@ -30,8 +30,8 @@ is_first room next h r below has =
     let same = has.1 in
     (m.event, record { goes_on = m.goes_on; in_order = m.in_order; happens = m.happens; first = λ other. let low = below other in omega arith })
 
-one_more : (room : ℕ) (next : ℕ → ℕ) (h : House) (r : ℕ) → NoneBelow room next h r → NoRank room next h r → NoneBelow room next h (r + 1)
-one_more room next h r below none m = elim (low_or_full (r + 1) (rank m.event + 1)) [
+none_of_rank : (room : ℕ) (next : ℕ → ℕ) (h : House) (r : ℕ) → NoneBelow room next h r → NoRank room next h r → NoneBelow room next h (r + 1)
+none_of_rank room next h r below none m = elim (low_or_full (r + 1) (rank m.event + 1)) [
   | inl low ↦ omega arith
   | inr full ↦ let low = below m in absurd (none m (omega arith))
 ]
@@ -40,7 +40,7 @@ pub next_rank : (room : ℕ) (next : ℕ → ℕ) (h : House) (r : ℕ) → HasF
 next_rank room next h r (inl first) decide = inl first
 next_rank room next h r (inr below) decide = elim (decide below) [
   | inl has ↦ inl (is_first room next h r below has)
-  | inr none ↦ inr (one_more room next h r below none)
+  | inr none ↦ inr (none_of_rank room next h r below none)
 ]
 
 -- what goes on has one of the ten ranks

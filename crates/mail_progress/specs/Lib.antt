@@ -6,3 +6,4 @@ pub mod StepsLeft
 pub mod NothingStuck
 pub mod Finished
 pub mod InTurn
+pub mod Finishes
