@@ -11,6 +11,7 @@ pub mod Slots
 pub mod Lowered
 pub mod CopiesLeft
 pub mod AlwaysFinishes
+pub mod ThereStays
 pub mod Kept
 pub mod Movers
 pub mod Tracked

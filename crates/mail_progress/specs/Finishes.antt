@@ -30,7 +30,11 @@ AreFirst room next h (x ∷ xs) = IsFirst room (next h) h x.event × AreFirst ro
 abbrev pub AreAlwaysThere : (House → ℕ → ℕ) → House → Type 0
 AreAlwaysThere next h = (run : List Happened) → Run h run → let new = last_house h run in AreThere (next new) new
 
--- so from each the first steps, one behind the other, are an orderly run to a house where all is finished
+-- mailboxes stay, so it is so where each lane's next copy is always for the same one
+abbrev pub ThereStays : Type 0
+ThereStays = (next : ℕ → ℕ) (h : House) → AreThere next h → AreAlwaysThere (λ new. next) h
+
+-- so from each house of an orderly run the first steps, one behind the other, are an orderly run to a house where all is finished
 abbrev pub FinishesInTurn : Type 0
 FinishesInTurn = (room blocks : ℕ) (start : House) (run : List Happened) → IsStart blocks start → Run start run → IsOrderly room start run → 1 ≤ room
     → let h = last_house start run in (1 ≤ start.capacity) ⊎ AreClosed h
