@@ -1,6 +1,6 @@
 -- Where nothing goes on, all is finished.
 use Rattle.std.proofs.Common.{◌≡◌, ◌≢◌, ℕ, zero, suc, ◌+◌, ◌<◌, ◌≤◌, List, [], ◌∷◌, ◌++◌, length, drop, map, Option, Some, None, inl, inr, refl, ap, sym, ◌∙◌, subst, arith, append-nil}
-use Rattle.std.specs.Prelude.{slice_get, flat_map, sum_by}
+use Rattle.std.specs.Prelude.{slice_get, sum_by}
 use Rattle.std.specs.List.{AllByRecursion, range_with_len}
 use Rattle.mail_world.specs.declared.Outcome.{Outcome}
 use Rattle.mail_world.specs.Depot.{Key, occurrences, blocks_in_use, HasEachBlockOnce}
@@ -19,12 +19,14 @@ use Rattle.mail_world.specs.Slips.{txn_of, names, times_named, answer}
 use Rattle.mail_world.proofs.GivenAway.{is_given, count_some}
 use Rattle.std.proofs.lemmas.List.{drop_all}
 use Rattle.mail_progress.proofs.Within.{to_give}
+use Rattle.mail_progress.proofs.Search.{search_list}
+use Rattle.mail_progress.proofs.Sums.{sum_none}
 use Rattle.mail_progress.proofs.CopiesGiven.{AreSealedFor, AllSealedFor, every_orderly_sealed_for, all_given}
 use Rattle.mail_progress.proofs.Tracked.{copy_at, way_at, AllTracked}
 use Rattle.mail_progress.proofs.Owners.{AllOwned, every_run_owns, none_in_use}
-use Rattle.mail_progress.proofs.Movers.{reached, low_or_full, search_in, IsBusy, busy_way, none_found, given_there, nothing_is_stuck, nothing_is_stuck_when_closed}
+use Rattle.mail_progress.proofs.Movers.{reached, low_or_full, IsBusy, busy_way, none_found, given_there, nothing_is_stuck, nothing_is_stuck_when_closed}
 
-goes_on : (P : Mover → Type 0) (room : ℕ) (next : ℕ → ℕ) (h : House) → IsMovedBy P room next h → MayGoOn room next h
+abbrev pub goes_on : (P : Mover → Type 0) (room : ℕ) (next : ℕ → ℕ) (h : House) → IsMovedBy P room next h → MayGoOn room next h
 goes_on P room next h m = record { event = m.event; goes_on = m.goes_on; in_order = m.in_order; happens = m.happens }
 
 no_key : (draft : Option Key) → ((key : Key) → draft ≡ Some key → ⊥) → draft ≡ None
@@ -75,10 +77,10 @@ all_collected Movers room blocks next events h s k lane at = elim (low_or_full l
   | inr all ↦ all
 ]
 
-none_on_way : (Movers : ℕ → Mover → Type 0) (room blocks : ℕ) (next : ℕ → ℕ) (events : List Event) (h : House) → IsStill Movers room blocks next events h → flat_map on_way h.boxes ≡ []
-none_on_way Movers room blocks next events h s = elim (search_in on_way IsBusy busy_way h.boxes) [
+none_on_way : (Movers : ℕ → Mover → Type 0) (room blocks : ℕ) (next : ℕ → ℕ) (events : List Event) (h : House) → IsStill Movers room blocks next events h → (k number p : ℕ) → way_at k number p h.boxes ≡ 0
+none_on_way Movers room blocks next events h s k number p = elim (search_list (λ w box. IsBusy box) (λ w box. on_way box ≡ []) h.boxes (λ w box is. busy_way box)) [
   | inl there ↦ absurd (busy there.0 there.1 there.2 there.3)
-  | inr none ↦ none
+  | inr none ↦ sum_none on_way (copy_at k number p) h.boxes (λ w box is. ap (sum_by (copy_at k number p)) (none w box is))
 ]
   where
     busy : (w : ℕ) (box : Box) → BoxIs h w box → IsBusy box → ⊥
@@ -93,7 +95,7 @@ heard_of Movers room blocks next events h s k lane i place t at is low =
     let given = (s.tracked k lane at).given number place in
     let some = count_some (is_given number place) lane.messages i t is (given_there t place low) in
     let no_slips : times_named (txn_of k number) place (drop lane.collected lane.slips) ≡ 0 = ap (times_named (txn_of k number) place) (drop_all lane.collected lane.slips (all_collected Movers room blocks next events h s k lane at)) in
-    let no_way : way_at k number place h.boxes ≡ 0 = ap (sum_by (copy_at k number place)) (none_on_way Movers room blocks next events h s) in
+    let no_way = none_on_way Movers room blocks next events h s k number place in
     omega arith
 
 finished_by : (Movers : ℕ → Mover → Type 0) (room blocks : ℕ) (next : ℕ → ℕ) (events : List Event) (h : House) → IsStill Movers room blocks next events h → IsFinished blocks events h

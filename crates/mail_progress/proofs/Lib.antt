@@ -5,8 +5,13 @@ pub mod NoRoomForSlips
 pub mod Sums
 pub mod Within
 pub mod Found
+pub mod Search
 pub mod Pigeons
+pub mod Slots
 pub mod Lowered
+pub mod CopiesLeft
+pub mod AlwaysFinishes
+pub mod ThereStays
 pub mod Kept
 pub mod Movers
 pub mod Tracked
@@ -14,3 +19,7 @@ pub mod CopiesGiven
 pub mod Owners
 pub mod AllFinished
 pub mod Shut
+pub mod Ranks
+pub mod LaneRanks
+pub mod WorkerRanks
+pub mod InTurn

@@ -9,7 +9,7 @@ use Rattle.mail_world.specs.declared.limits.TheConstants.{BLOCK_SIZE}
 use Rattle.mail_world.specs.declared.Event.{Event}
 use Rattle.mail_world.specs.declared.Event.TheVariants.{Begin, Put, Cancel, Seal, Split, Offer, HandBack, Collect, Take, Write, Sync, Release, GiveSlip, Reclaim, Close}
 use Rattle.mail_world.specs.Slips.{slip_of, own_slip, txn_of, gather_for}
-use Rattle.mail_world.specs.Depot.{Key, Slot, Held, Free, Draft, Sealed, Retired, Depot, held_under, with_held, last_generation, blocks_for, occurrences, blocks_of, blocks_in_use, HasEachBlockOnce, Puts, GivesBack}
+use Rattle.mail_world.specs.Depot.{Key, Slot, Draft, Sealed, Depot, blocks_for, occurrences, blocks_of, blocks_in_use, HasEachBlockOnce, Puts}
 use Rattle.mail_world.specs.House.{Hold, Post, Copy, Box, House, is_settled}
 use Rattle.mail_world.specs.Events.{Step, outcome_of, is_over_quota, without_copy, sealed_up_to, with_heard, with_taken}
 use Rattle.mail_world.specs.Runs.{Happened, Run, last_house}
@@ -19,6 +19,7 @@ use Rattle.mail_progress.specs.Orderly.{IsInOrder, IsOrderly}
 use Rattle.mail_progress.specs.StepsLeft.{size, steps_of_copy, steps_in_hand, steps_of_one, steps_of_hold, steps_of_lane, steps_of_box, steps_of_slot, steps_left, IsBounded, AreBounded, EachLowers, Ends}
 use Rattle.mail_world.proofs.Holds.{sum_set, sum_remove, part_le}
 use Rattle.mail_progress.proofs.Sums.{sum_last, sum_one_more}
+use Rattle.mail_progress.proofs.Slots.{held_changes, held_goes}
 use Rattle.mail_progress.proofs.Pigeons.{few}
 
 -- each block stays in one place
@@ -45,32 +46,6 @@ each_step n h (Close b) new s st = subst (λ (x : House). HasEachBlockOnce n x.d
 pub each_run : (n : ℕ) (h : House) (run : List Happened) → HasEachBlockOnce n h.depot → Run h run → HasEachBlockOnce n (last_house h run).depot
 each_run n h [] s r = s
 each_run n h (x ∷ xs) s r = each_run n x.house xs (each_step n h x.event x.house s r.0) r.1
-
--- what the depot counts, after one slot changed
-abbrev slot_steps : ℕ → ℕ → ℕ → Slot → ℕ
-slot_steps blocks room bound slot = steps_of_slot blocks room bound slot.held
-
-abbrev in_slots : ℕ → ℕ → ℕ → Depot → ℕ
-in_slots blocks room bound d = sum_by (slot_steps blocks room bound) d.slots
-
-held_steps : (blocks room bound : ℕ) (d new : Depot) (key : Key) (old held : Held) (free : List ℕ) → held_under d key ≡ old → ((old ≡ Free) → ⊥) → new ≡ with_held d key held free
-    → in_slots blocks room bound new + steps_of_slot blocks room bound old ≡ in_slots blocks room bound d + steps_of_slot blocks room bound held
-held_steps blocks room bound d new key old held free is filled after =
-    let s = sum_set (slot_steps blocks room bound) d.slots key.slot (record { generation = key.generation; held = old }) (record { generation = key.generation; held = held }) (used d key old is filled) in
-    ap (λ (x : Depot). in_slots blocks room bound x + steps_of_slot blocks room bound old) after ∙ s
-
-given_steps : (blocks room bound : ℕ) (d : Depot) (key : Key) (old : Held) (free : List ℕ) (t : Bool) → held_under d key ≡ old → ((old ≡ Free) → ⊥)
-    → in_slots blocks room bound (cond t (record { slots = slice_set d.slots key.slot (record { generation = key.generation + 1; held = Free }); free = free }) (with_held d key Retired free)) + steps_of_slot blocks room bound old ≡ in_slots blocks room bound d
-given_steps blocks room bound d key old free true is filled =
-    omega (arith, sum_set (slot_steps blocks room bound) d.slots key.slot (record { generation = key.generation; held = old }) (record { generation = key.generation + 1; held = Free }) (used d key old is filled))
-given_steps blocks room bound d key old free false is filled =
-    omega (arith, sum_set (slot_steps blocks room bound) d.slots key.slot (record { generation = key.generation; held = old }) (record { generation = key.generation; held = Retired }) (used d key old is filled))
-
-drop_steps : (blocks room bound : ℕ) (d : Depot) (key : Key) (held : List ℕ → List ℕ → Held) (new : Depot) (r : GivesBack d key held new) → ((b bl : List ℕ) → (held b bl ≡ Free) → ⊥)
-    → in_slots blocks room bound new + steps_of_slot blocks room bound (held r.bytes r.blocks) ≡ in_slots blocks room bound d
-drop_steps blocks room bound d key held new r filled =
-    ap (λ (x : Depot). in_slots blocks room bound x + steps_of_slot blocks room bound (held r.bytes r.blocks)) r.after
-    ∙ given_steps blocks room bound d key (held r.bytes r.blocks) r.free (nat_lt key.generation last_generation) r.message (filled r.bytes r.blocks)
 
 -- a draft's bytes fit in the blocks
 few_blocks : (n : ℕ) (d : Depot) (i : ℕ) (slot : Slot) → HasEachBlockOnce n d → slice_get d.slots i ≡ Some slot → length (blocks_of slot.held) ≤ n
@@ -150,22 +125,22 @@ taken_less h post false = omega arith
 abbrev Left : ℕ → ℕ → ℕ → House → House → Type 0
 Left blocks room bound h new = steps_left blocks room bound new < steps_left blocks room bound h
 
-lowers : (blocks room bound : ℕ) (h : House) (e : Event) (new : House) → HasEachBlockOnce blocks h.depot → Step h e new → IsInOrder room h e → IsBounded bound h e → Left blocks room bound h new
+pub lowers : (blocks room bound : ℕ) (h : House) (e : Event) (new : House) → HasEachBlockOnce blocks h.depot → Step h e new → IsInOrder room h e → IsBounded bound h e → Left blocks room bound h new
 lowers blocks room bound h (Begin k) new s st o b = absurd b
 lowers blocks room bound h (Put k bytes) new s st o b =
     let each = (puts_turn h.depot st.key bytes st.depot st.puts).blocks blocks s in
     let p = st.puts in
     let fits = put_fits blocks h.depot st.key bytes st.depot p each in
     let len = length-append p.bytes bytes in
-    let slots = held_steps blocks room bound h.depot st.depot st.key (Draft p.bytes p.blocks) (Draft (p.bytes ++ bytes) (p.blocks ++ p.picked)) p.rest p.draft (λ e. cc) p.after in
+    let slots = held_changes (steps_of_slot blocks room bound) h.depot st.depot st.key (Draft p.bytes p.blocks) (Draft (p.bytes ++ bytes) (p.blocks ++ p.picked)) p.rest p.draft (λ e. cc) p.after in
     subst (Left blocks room bound h) (sym st.after) (omega (arith, slots, len, fits, b))
 lowers blocks room bound h (Cancel k) new s st o b =
-    let slots = drop_steps blocks room bound h.depot st.key Draft st.depot st.cancels (λ x y e. cc) in
+    let slots = held_goes (steps_of_slot blocks room bound) refl refl h.depot st.key Draft st.depot st.cancels (λ x y e. cc) in
     let lanes = sum_set (steps_of_lane bound) h.lanes k st.lane (record st.lane { draft = None }) st.is in
     subst (Left blocks room bound h) (sym st.after) (omega (arith, slots, lanes))
 lowers blocks room bound h (Seal k n) new s st o b =
     let p = st.seals in
-    let slots = held_steps blocks room bound h.depot st.depot st.key (Draft p.bytes p.blocks) (Sealed p.bytes p.blocks n) h.depot.free p.draft (λ e. cc) p.after in
+    let slots = held_changes (steps_of_slot blocks room bound) h.depot st.depot st.key (Draft p.bytes p.blocks) (Sealed p.bytes p.blocks n) h.depot.free p.draft (λ e. cc) p.after in
     let hold : Hold = record { key = st.key; weight = n } in
     let more = sum_last (steps_of_hold bound) st.lane.holds hold in
     let most : n * steps_of_one bound ≤ room * steps_of_one bound = mul-le-mul_right (steps_of_one bound) o in
@@ -188,7 +163,7 @@ lowers blocks room bound h (Offer k note) new s st o b =
     subst (Left blocks room bound h) (sym st.after) (omega (arith, less, lanes, boxes, waiting_offer h st.box post, b))
 lowers blocks room bound h (HandBack k i m) new s st o b =
     let r = st.releases in
-    let slots = held_steps blocks room bound h.depot st.depot st.sealed.key (Sealed r.bytes r.blocks (r.weight + 1)) (Sealed r.bytes r.blocks r.weight) h.depot.free r.message (λ e. cc) r.after in
+    let slots = held_changes (steps_of_slot blocks room bound) h.depot st.depot st.sealed.key (Sealed r.bytes r.blocks (r.weight + 1)) (Sealed r.bytes r.blocks r.weight) h.depot.free r.message (λ e. cc) r.after in
     let less = holds_fewer bound st.lane.holds i st.sealed.key st.copy.hold in
     let lanes = sum_set (steps_of_lane bound) h.lanes k st.lane (with_heard (without_copy st.lane i st.t st.sealed) (own_slip k st.sealed.number st.sealed.offered m)) st.is in
     subst (Left blocks room bound h) (sym st.after) (omega (arith, slots, less, lanes))
@@ -212,7 +187,7 @@ lowers blocks room bound h (Sync w) new s st o b =
     subst (Left blocks room bound h) (sym st.after) (omega (arith, boxes, in_hand_by h st.box st.copy st.in_hand, unsettled_steps h st.copy st.held st.unsettled, now))
 lowers blocks room bound h (Release w) new s st o b =
     let r = st.releases in
-    let slots = held_steps blocks room bound h.depot st.depot st.copy.post.key (Sealed r.bytes r.blocks (r.weight + 1)) (Sealed r.bytes r.blocks r.weight) h.depot.free r.message (λ e. cc) r.after in
+    let slots = held_changes (steps_of_slot blocks room bound) h.depot st.depot st.copy.post.key (Sealed r.bytes r.blocks (r.weight + 1)) (Sealed r.bytes r.blocks r.weight) h.depot.free r.message (λ e. cc) r.after in
     let boxes = sum_set (steps_of_box h) h.boxes w st.box (record st.box { faulty = st.box.faulty || not (is_settled st.copy); hand = Some (record st.copy { released = true }) }) st.is in
     subst (Left blocks room bound h) (sym st.after) (omega (arith, slots, boxes, in_hand_by h st.box st.copy st.in_hand, held_more h st.copy st.held))
 lowers blocks room bound h (GiveSlip w outcome) new s st o b =
@@ -221,7 +196,7 @@ lowers blocks room bound h (GiveSlip w outcome) new s st o b =
     let boxes = sum_set (steps_of_box h) h.boxes w st.box (record st.box { hand = None }) st.is in
     subst (Left blocks room bound h) (sym st.after) (omega (arith, len, lanes, boxes, in_hand_by h st.box st.copy st.in_hand, released_steps h st.copy st.let_go))
 lowers blocks room bound h (Reclaim slot generation) new s st o b =
-    let slots = drop_steps blocks room bound h.depot (record { slot = slot; generation = generation }) (λ x y. Sealed x y 0) st.0 st.1 (λ x y e. cc) in
+    let slots = held_goes (steps_of_slot blocks room bound) refl refl h.depot (record { slot = slot; generation = generation }) (λ x y. Sealed x y 0) st.0 st.1 (λ x y e. cc) in
     subst (Left blocks room bound h) (sym st.2) (omega (arith, slots))
 lowers blocks room bound h (Close m) new s st o b =
     let open' : ◌≡◌ {A = ℕ} (if st.0.closed then 0 else 1) 1 = rw (st.2) refl in

@@ -26,6 +26,7 @@ use Rattle.mail_world.proofs.Accepted.{each_at}
 use Rattle.mail_world.proofs.Depots.{times-append}
 use Rattle.mail_world.proofs.Holds.{every_run_holds}
 use Rattle.mail_world.proofs.Once.{is_copy}
+use Rattle.mail_world.proofs.OtherSteps.{there_is}
 use Rattle.mail_world.proofs.MayHappen.{seal_happens, release_happens, hand_back_happens}
 use Rattle.mail_progress.specs.Orderly.{uncollected, not_taken, on_way, IsOrderly}
 use Rattle.mail_progress.specs.OrderlyRuns.{SlipsFindRoom}
@@ -69,7 +70,7 @@ or_false : (a b : Bool) → (a || b) ≡ false → (a ≡ false) × (b ≡ false
 or_false true b e = cc
 or_false false b e = (refl, e)
 
-give_moves : (room blocks : ℕ) (next : ℕ → ℕ) (h : House) → IsReached room blocks h → (w : ℕ) (box : Box) (copy : Copy) → BoxIs h w box → box.hand ≡ Some copy → copy.released ≡ true → IsMovedBy (TheWorker w) room next h
+unfoldable pub give_moves : (room blocks : ℕ) (next : ℕ → ℕ) (h : House) → IsReached room blocks h → (w : ℕ) (box : Box) (copy : Copy) → BoxIs h w box → box.hand ≡ Some copy → copy.released ≡ true → IsMovedBy (TheWorker w) room next h
 give_moves room blocks next h f w box copy at hand released =
     let there = f.kept.lane_there w box copy at hand in
     let below : uncollected there.0 < room = f.slips w box copy there.0 at hand released there.1 in
@@ -84,7 +85,7 @@ give_moves room blocks next h f w box copy at hand released =
       happens = (_, record { box = box; copy = copy; lane = there.0; is = at; in_hand = hand; let_go = released; says = refl; to = there.1; after = refl });
     }
 
-release_moves : (room blocks : ℕ) (next : ℕ → ℕ) (h : House) → IsReached room blocks h → (w : ℕ) (box : Box) (copy : Copy) → BoxIs h w box → box.hand ≡ Some copy → copy.released ≡ false → (is_settled copy || box.faulty) ≡ true
+unfoldable pub release_moves : (room blocks : ℕ) (next : ℕ → ℕ) (h : House) → IsReached room blocks h → (w : ℕ) (box : Box) (copy : Copy) → BoxIs h w box → box.hand ≡ Some copy → copy.released ≡ false → (is_settled copy || box.faulty) ≡ true
     → IsMovedBy (TheWorker w) room next h
 release_moves room blocks next h f w box copy at hand held may =
     let P : Box → Copy → Type 0 = λ b c. (is_settled c || b.faulty) ≡ true in
@@ -97,7 +98,7 @@ release_moves room blocks next h f w box copy at hand held may =
       happens = f.releases w box copy at hand held;
     }
 
-write_moves : (room blocks : ℕ) (next : ℕ → ℕ) (h : House) → IsReached room blocks h → (w : ℕ) (box : Box) (copy : Copy) → BoxIs h w box → box.hand ≡ Some copy → copy.released ≡ false → is_settled copy ≡ false → box.faulty ≡ false
+unfoldable pub write_moves : (room blocks : ℕ) (next : ℕ → ℕ) (h : House) → IsReached room blocks h → (w : ℕ) (box : Box) (copy : Copy) → BoxIs h w box → box.hand ≡ Some copy → copy.released ≡ false → is_settled copy ≡ false → box.faulty ≡ false
     → (rest : List ℕ) → drop copy.written (record_of h.calendar h.host copy.post.note) ≡ rest → IsMovedBy (TheWorker w) room next h
 write_moves room blocks next h f w box copy at hand held unsettled sound [] e =
     let low = f.kept.written w box copy at hand in
@@ -135,26 +136,25 @@ pub hand_moves : (room blocks : ℕ) (next : ℕ → ℕ) (h : House) → IsReac
 hand_moves room blocks next h f w box copy at hand = hand_by room blocks next h f w box copy at hand copy.released refl
 
 -- a copy that is accepted
-there_is : {A : Type 0} (xs : List A) (i : ℕ) → i < length xs → (x : A) × (slice_get xs i ≡ Some x)
-there_is [] i le = absurd (omega arith)
-there_is (x ∷ xs) zero le = (x, refl)
-there_is (x ∷ xs) (suc i) le = there_is xs i (omega arith)
-
-accepted_by : (room blocks : ℕ) (next : ℕ → ℕ) (h : House) → IsReached room blocks h → (w : ℕ) (box : Box) → BoxIs h w box → box.taken < length box.accepted → (hand : Option Copy) → box.hand ≡ hand → IsMovedBy (TheWorker w) room next h
-accepted_by room blocks next h f w box at some None e =
+unfoldable pub take_moves : (room : ℕ) (next : ℕ → ℕ) (h : House) (w : ℕ) (box : Box) → BoxIs h w box → box.taken < length box.accepted → box.hand ≡ None → IsMovedBy (TheWorker w) room next h
+take_moves room next h w box at some e =
     let front = there_is box.accepted box.taken some in
     record { event = Take w; by = refl; goes_on = tt; in_order = tt; happens = (_, record { box = box; post = front.0; is = at; free_hand = e; front = front.1; after = refl }) }
+
+accepted_by : (room blocks : ℕ) (next : ℕ → ℕ) (h : House) → IsReached room blocks h → (w : ℕ) (box : Box) → BoxIs h w box → box.taken < length box.accepted → (hand : Option Copy) → box.hand ≡ hand → IsMovedBy (TheWorker w) room next h
+accepted_by room blocks next h f w box at some None e = take_moves room next h w box at some e
 accepted_by room blocks next h f w box at some (Some copy) e = hand_moves room blocks next h f w box copy at e
 
 pub accepted_moves : (room blocks : ℕ) (next : ℕ → ℕ) (h : House) → IsReached room blocks h → (w : ℕ) (box : Box) → BoxIs h w box → box.taken < length box.accepted → IsMovedBy (TheWorker w) room next h
 accepted_moves room blocks next h f w box at some = accepted_by room blocks next h f w box at some box.hand refl
 
 -- a copy to offer
-split_moves : (room : ℕ) (next : ℕ → ℕ) (h : House) (k : ℕ) (lane : Lane) (key : Key) (weight : ℕ) → LaneIs h k lane → slice_get lane.holds 0 ≡ Some (record { key = key; weight = weight + 1 }) → 1 ≤ weight → IsMovedBy (TheLane k) room next h
-split_moves room next h k lane key weight at there some =
-    record { event = Split k 0; by = refl; goes_on = tt; in_order = tt; happens = (_, record { lane = lane; key = key; weight = weight; is = at; hold = there; above = some; after = refl }) }
+unfoldable pub split_moves : (room : ℕ) (next : ℕ → ℕ) (h : House) (k i : ℕ) (lane : Lane) (hold : Hold) → LaneIs h k lane → slice_get lane.holds i ≡ Some hold → 2 ≤ hold.weight → IsMovedBy (TheLane k) room next h
+split_moves room next h k i lane hold at there heavy =
+    let its : slice_get lane.holds i ≡ Some (record { key = hold.key; weight = hold.weight - 1 + 1 }) = there ∙ ap (λ m. let x : Hold = record { key = hold.key; weight = m } in Some x) (let s : hold.weight ≡ hold.weight - 1 + 1 = omega arith in s) in
+    record { event = Split k i; by = refl; goes_on = tt; in_order = tt; happens = (_, record { lane = lane; key = hold.key; weight = hold.weight - 1; is = at; hold = its; above = omega arith; after = refl }) }
 
-offer_moves : (room blocks : ℕ) (next : ℕ → ℕ) (h : House) → IsReached room blocks h → 1 ≤ h.capacity → (k : ℕ) (lane : Lane) (hold : Hold) (box : Box) → LaneIs h k lane → slice_get lane.holds 0 ≡ Some hold → hold.weight ≡ 1
+unfoldable pub offer_moves : (room blocks : ℕ) (next : ℕ → ℕ) (h : House) → IsReached room blocks h → 1 ≤ h.capacity → (k : ℕ) (lane : Lane) (hold : Hold) (box : Box) → LaneIs h k lane → slice_get lane.holds 0 ≡ Some hold → hold.weight ≡ 1
     → BoxIs h (next k) box → box.closed ≡ false → length box.accepted < box.taken + h.capacity → IsMovedBy (TheLane k) room next h
 offer_moves room blocks next h f c k lane hold box at there one channel opened low =
     let of = each_at _ lane.holds 0 hold (f.holds.of_lanes k lane at) there in
@@ -172,7 +172,7 @@ offer_moves room blocks next h f c k lane hold box at there one channel opened l
       happens = (_, record { lane = lane; box = box; at = 0; t = of.place; key = hold.key; is = at; copy = record { hold = its; is = message }; own = refl; channel = channel; still_open = opened; room = low; after = refl });
     }
 
-back_moves : (room blocks : ℕ) (next : ℕ → ℕ) (h : House) → IsReached room blocks h → (k : ℕ) (lane : Lane) (hold : Hold) (box : Box) → LaneIs h k lane → slice_get lane.holds 0 ≡ Some hold → hold.weight ≡ 1
+unfoldable pub back_moves : (room blocks : ℕ) (next : ℕ → ℕ) (h : House) → IsReached room blocks h → (k : ℕ) (lane : Lane) (hold : Hold) (box : Box) → LaneIs h k lane → slice_get lane.holds 0 ≡ Some hold → hold.weight ≡ 1
     → BoxIs h (next k) box → box.closed ≡ true → IsMovedBy (TheLane k) room next h
 back_moves room blocks next h f k lane hold box at there one channel closed =
     record { event = HandBack k 0 (next k); by = refl; goes_on = (refl, (box, channel, closed)); in_order = tt; happens = f.backs k (next k) lane hold at there one }
@@ -193,8 +193,7 @@ weight_moves : (room blocks : ℕ) (next : ℕ → ℕ) (h : House) → IsReache
 weight_moves room blocks next h f c all k lane hold at there zero e = let some = f.kept.some k lane 0 hold at there in absurd (omega arith)
 weight_moves room blocks next h f c all k lane hold at there (suc zero) e = let b = all k lane at in one_moves room blocks next h f c k lane hold b.0 at there e b.1 b.0.closed refl
 weight_moves room blocks next h f c all k lane hold at there (suc (suc n)) e =
-    let its : slice_get lane.holds 0 ≡ Some (record { key = hold.key; weight = suc n + 1 }) = there ∙ ap (λ m. let x : Hold = record { key = hold.key; weight = m } in Some x) (let s : hold.weight ≡ suc n + 1 = omega arith in s) in
-    widen (TheLane k) (LaneOrWorker next k) room next h (λ who by. inl by) (split_moves room next h k lane hold.key (suc n) at its (omega arith))
+    widen (TheLane k) (LaneOrWorker next k) room next h (λ who by. inl by) (split_moves room next h k 0 lane hold at there (omega arith))
 
 holds_by : (room blocks : ℕ) (next : ℕ → ℕ) (h : House) → IsReached room blocks h → 1 ≤ h.capacity → AreThere next h → (k : ℕ) (lane : Lane) → LaneIs h k lane → (holds : List Hold) → lane.holds ≡ holds → holds ≢ [] → IsMovedBy (LaneOrWorker next k) room next h
 holds_by room blocks next h f c all k lane at [] e some = absurd (some refl)
@@ -204,7 +203,7 @@ pub offers_move : (room blocks : ℕ) (next : ℕ → ℕ) (h : House) → IsRea
 offers_move room blocks next h f c all k lane at some = holds_by room blocks next h f c all k lane at lane.holds refl some
 
 -- a slip to collect
-collect_moves : (room : ℕ) (next : ℕ → ℕ) (h : House) (k : ℕ) (lane : Lane) → LaneIs h k lane → lane.collected < length lane.slips → lane.holds ≡ [] → IsMovedBy (TheLane k) room next h
+unfoldable pub collect_moves : (room : ℕ) (next : ℕ → ℕ) (h : House) (k : ℕ) (lane : Lane) → LaneIs h k lane → lane.collected < length lane.slips → lane.holds ≡ [] → IsMovedBy (TheLane k) room next h
 collect_moves room next h k lane at some e =
     let front = there_is lane.slips lane.collected some in
     record {
@@ -223,21 +222,10 @@ pub collects_move : (room blocks : ℕ) (next : ℕ → ℕ) (h : House) → IsR
 collects_move room blocks next h f c all k lane at some = collect_by room blocks next h f c all k lane at some lane.holds refl
 
 -- a draft
-pub draft_moves : (room blocks : ℕ) (next : ℕ → ℕ) (h : House) → IsReached room blocks h → (k : ℕ) (lane : Lane) (key : Key) → LaneIs h k lane → lane.draft ≡ Some key → IsMovedBy (TheLane k) room next h
+unfoldable pub draft_moves : (room blocks : ℕ) (next : ℕ → ℕ) (h : House) → IsReached room blocks h → (k : ℕ) (lane : Lane) (key : Key) → LaneIs h k lane → lane.draft ≡ Some key → IsMovedBy (TheLane k) room next h
 draft_moves room blocks next h f k lane key at draft = record { event = Seal k 1; by = refl; goes_on = tt; in_order = f.some_room; happens = f.seals k lane key at draft }
 
--- an element with something in it, or none has
-pub search_in : {A B : Type 0} (g : A → List B) (P : A → Type 0) → ((x : A) → P x ⊎ (g x ≡ [])) → (xs : List A) → ((i : ℕ) × (x : A) × (slice_get xs i ≡ Some x) × P x) ⊎ (flat_map g xs ≡ [])
-search_in g P each [] = inr refl
-search_in g P each (x ∷ xs) = elim (each x) [
-  | inl here ↦ inl (0, x, refl, here)
-  | inr none ↦ elim (search_in g P each xs) [
-    | inl there ↦ inl (suc there.0, there.1, there.2, there.3)
-    | inr rest ↦ inr (rw (none) rest)
-  ]
-]
-
-some_holds : (lane : Lane) → (lane.holds ≢ []) ⊎ (lane.holds ≡ [])
+pub some_holds : (lane : Lane) → (lane.holds ≢ []) ⊎ (lane.holds ≡ [])
 some_holds lane = by lane.holds
   where
     by : (holds : List Hold) → (holds ≢ []) ⊎ (holds ≡ [])
@@ -269,7 +257,7 @@ busy_moves room blocks next h f w box at (inl low) = accepted_moves room blocks 
 busy_moves room blocks next h f w box at (inr hand) = hand_moves room blocks next h f w box hand.0 at hand.1
 
 -- a message that is sealed
-under : (h : House) (i : ℕ) (slot : Slot) → slice_get h.depot.slots i ≡ Some slot → held_under h.depot (record { slot = i; generation = slot.generation }) ≡ slot.held
+pub under : (h : House) (i : ℕ) (slot : Slot) → slice_get h.depot.slots i ≡ Some slot → held_under h.depot (record { slot = i; generation = slot.generation }) ≡ slot.held
 under h i slot at = rw (at, eq-eqb slot.generation slot.generation refl) refl
 
 -- a copy to offer is moved
@@ -292,17 +280,22 @@ SealedMovers Movers h key weight who = ((weight ≡ 0) × (who ≡ AnyHolder)) �
 no_weight : (key : Key) (hold : Hold) → is_same_key hold.key key ≡ false → cond (is_same_key hold.key key) hold.weight 0 ≡ 0
 no_weight key hold e = ap (λ t. cond t hold.weight 0) e
 
-sealed_by : (Movers : ℕ → Mover → Type 0) (room blocks : ℕ) (next : ℕ → ℕ) (h : House) → IsReached room blocks h → OffersMove Movers room next h → (i : ℕ) (slot : Slot) (bytes its : List ℕ) (weight : ℕ) → slice_get h.depot.slots i ≡ Some slot → slot.held ≡ Sealed bytes its weight
-    → IsMovedBy (SealedMovers Movers h (record { slot = i; generation = slot.generation }) weight) room next h
-sealed_by Movers room blocks next h f offers i slot bytes its zero at e =
+unfoldable pub reclaim_moves : (room : ℕ) (next : ℕ → ℕ) (h : House) (i : ℕ) (slot : Slot) (bytes its : List ℕ) → slice_get h.depot.slots i ≡ Some slot → slot.held ≡ Sealed bytes its 0 → IsMovedBy (λ who. who ≡ AnyHolder) room next h
+reclaim_moves room next h i slot bytes its at e =
     let key : Key = record { slot = i; generation = slot.generation } in
     record {
       event = Reclaim i slot.generation;
-      by = inl (refl, refl);
+      by = refl;
       goes_on = tt;
       in_order = tt;
       happens = (_, (given_back h.depot key (its ++ h.depot.free), record { bytes = bytes; blocks = its; free = its ++ h.depot.free; message = under h i slot at ∙ e; given = λ x. times-append x its h.depot.free; after = refl }, refl));
     }
+
+sealed_by : (Movers : ℕ → Mover → Type 0) (room blocks : ℕ) (next : ℕ → ℕ) (h : House) → IsReached room blocks h → OffersMove Movers room next h → (i : ℕ) (slot : Slot) (bytes its : List ℕ) (weight : ℕ) → slice_get h.depot.slots i ≡ Some slot → slot.held ≡ Sealed bytes its weight
+    → IsMovedBy (SealedMovers Movers h (record { slot = i; generation = slot.generation }) weight) room next h
+sealed_by Movers room blocks next h f offers i slot bytes its zero at e =
+    let Q : Mover → Type 0 = SealedMovers Movers h (record { slot = i; generation = slot.generation }) 0 in
+    widen (λ who. who ≡ AnyHolder) Q room next h (λ who by. inl (refl, by)) (reclaim_moves room next h i slot bytes its at e)
 sealed_by Movers room blocks next h f offers i slot bytes its (suc weight) at e =
     let key : Key = record { slot = i; generation = slot.generation } in
     let Q : Mover → Type 0 = SealedMovers Movers h key (suc weight) in
@@ -418,9 +411,7 @@ closed_weight : (room blocks : ℕ) (next : ℕ → ℕ) (h : House) → IsReach
 closed_weight room blocks next h f all shut k lane hold at there zero e = let some = f.kept.some k lane 0 hold at there in absurd (omega arith)
 closed_weight room blocks next h f all shut k lane hold at there (suc zero) e =
     let b = all k lane at in back_moves room blocks next h f k lane hold b.0 at there e b.1 (shut (next k) b.0 b.1)
-closed_weight room blocks next h f all shut k lane hold at there (suc (suc n)) e =
-    let its : slice_get lane.holds 0 ≡ Some (record { key = hold.key; weight = suc n + 1 }) = there ∙ ap (λ m. let x : Hold = record { key = hold.key; weight = m } in Some x) (let s : hold.weight ≡ suc n + 1 = omega arith in s) in
-    split_moves room next h k lane hold.key (suc n) at its (omega arith)
+closed_weight room blocks next h f all shut k lane hold at there (suc (suc n)) e = split_moves room next h k 0 lane hold at there (omega arith)
 
 closed_offers : (room blocks : ℕ) (next : ℕ → ℕ) (h : House) → IsReached room blocks h → AreThere next h → AreClosed h → (k : ℕ) (lane : Lane) → LaneIs h k lane → (holds : List Hold) → lane.holds ≡ holds → holds ≢ [] → IsMovedBy (TheLane k) room next h
 closed_offers room blocks next h f all shut k lane at [] e some = absurd (some refl)

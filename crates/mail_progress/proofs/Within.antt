@@ -1,5 +1,5 @@
 -- In an orderly run no lane has more copies and slips under way than unanswered places, so that a released copy's slip finds room.
-use Rattle.std.proofs.Common.{◌≡◌, ◌≢◌, ℕ, suc, ◌+◌, ◌≤◌, List, [], ◌∷◌, ◌++◌, drop, Bool, true, false, cond, ◌==◌, Option, Some, None, inl, inr, refl, ap, sym, ◌∙◌, subst, arith, add-one, length-append}
+use Rattle.std.proofs.Common.{◌≡◌, ◌≢◌, ℕ, ◌+◌, ◌≤◌, List, [], ◌∷◌, ◌++◌, drop, Bool, true, false, cond, ◌==◌, Option, Some, None, inl, inr, refl, ap, sym, ◌∙◌, subst, arith, add-one, length-append}
 use Rattle.std.specs.Prelude.{slice_get, slice_set, flat_map, sum_by, replicate, IfSome}
 use Rattle.std.specs.List.{AllByRecursion}
 use Rattle.std.proofs.lemmas.Bool.{eq-eqb}
@@ -21,7 +21,7 @@ use Rattle.mail_world.proofs.Holds.{drop_get}
 use Rattle.mail_progress.specs.Orderly.{IsAnswered, IsDone, uncollected, IsInOrder, IsOrderly, post_of, on_way}
 use Rattle.mail_progress.specs.OrderlyRuns.{SlipsFindRoom}
 use Rattle.mail_world.proofs.Holds.{sum_set, sum_remove}
-use Rattle.mail_progress.proofs.Sums.{sum_last, sum_one_more, sum_replicate}
+use Rattle.mail_progress.proofs.Sums.{sum_last, sum_one_more, sum_replicate, sum_none}
 
 -- the copies that a mailbox has of a lane, to take or in hand
 abbrev pub one_of : ℕ → Post → ℕ
@@ -225,16 +225,10 @@ pub within_run : (room : ℕ) (h : House) (run : List Happened) → AllWithin ro
 within_run room h [] s r o = s
 within_run room h (x ∷ xs) s r o = within_run room x.house xs (within_step room h x.event x.house s r.0 o.0) r.1 o.1
 
-no_way : (k : ℕ) (bs : List Box) → ((b : ℕ) (box : Box) → slice_get bs b ≡ Some box → on_way box ≡ []) → way k bs ≡ 0
-no_way k [] f = refl
-no_way k (x ∷ bs) f =
-    let first : way_in k x ≡ 0 = ap (sum_by (one_of k)) (f 0 x refl) in
-    omega (arith, sum_by-append (one_of k) (on_way x) (flat_map on_way bs), no_way k bs (λ b box at. f (suc b) box at))
-
 pub within_start : (room blocks : ℕ) (h : House) → IsStart blocks h → AllWithin room h
 within_start room blocks h start k lane is =
     let f = each_at IsFreshLane h.lanes k lane start.lanes is in
-    let none : way k h.boxes ≡ 0 = no_way k h.boxes (λ b box at. let g = each_at IsFreshBox h.boxes b box start.boxes at in rw (g.hand, g.taken, g.accepted) refl) in
+    let none : way k h.boxes ≡ 0 = sum_none on_way (one_of k) h.boxes (λ b box at. let g = each_at IsFreshBox h.boxes b box start.boxes at in rw (g.hand, g.taken, g.accepted) refl) in
     let give : to_give lane.holds ≡ 0 = ap to_give f.holds in
     let slips : uncollected lane ≡ 0 = rw (f.slips, f.collected) refl in
     let places : open_places lane ≡ 0 = ap unanswered f.places in

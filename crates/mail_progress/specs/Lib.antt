@@ -5,3 +5,5 @@ pub mod OrderlyRuns
 pub mod StepsLeft
 pub mod NothingStuck
 pub mod Finished
+pub mod InTurn
+pub mod Finishes

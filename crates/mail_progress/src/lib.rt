@@ -3,6 +3,7 @@
 
 pub mod ends;
 pub mod finds_room;
+pub mod in_turn;
 pub mod moved;
 pub mod orderly;
 pub mod standing;

@@ -10,10 +10,10 @@ use Rattle.mail_world.specs.Events.{MayHappen, HasCopy, BoxIs, LaneIs, sealed_up
 use Rattle.mail_world.proofs.Depots.{times-append}
 
 -- what stands at an index within the list
-pub there : {A : Type 0} (xs : List A) (i : ℕ) → i < length xs → (x : A) × (slice_get xs i ≡ Some x)
-there [] i low = absurd (omega arith)
-there (x ∷ xs) zero low = (x, refl)
-there (x ∷ xs) (suc i) low = there xs i (omega arith)
+pub there_is : {A : Type 0} (xs : List A) (i : ℕ) → i < length xs → (x : A) × (slice_get xs i ≡ Some x)
+there_is [] i low = absurd (omega arith)
+there_is (x ∷ xs) zero low = (x, refl)
+there_is (x ∷ xs) (suc i) low = there_is xs i (omega arith)
 
 pub begin : (h : House) (k i : ℕ) (lane : Lane) (slot : Slot) → LaneIs h k lane → lane.draft ≡ None → slice_get h.depot.slots i ≡ Some slot → slot.held ≡ Free → MayHappen h (Begin k)
 begin h k i lane slot is none at empty =
@@ -36,12 +36,12 @@ offer h k i t key note lane box is copy own channel still_open room =
 
 pub collect : (h : House) (k : ℕ) (lane : Lane) → LaneIs h k lane → lane.collected < length lane.slips → MayHappen h (Collect k)
 collect h k lane is more =
-    let front = there lane.slips lane.collected more in
+    let front = there_is lane.slips lane.collected more in
     (_, record { lane = lane; slip = front.0; is = is; front = front.1; after = refl })
 
 pub take : (h : House) (w : ℕ) (box : Box) → BoxIs h w box → box.hand ≡ None → box.taken < length box.accepted → MayHappen h (Take w)
 take h w box is none more =
-    let front = there box.accepted box.taken more in
+    let front = there_is box.accepted box.taken more in
     (_, record { box = box; post = front.0; is = is; free_hand = none; front = front.1; after = refl })
 
 pub write : (h : House) (w : ℕ) (bytes more : List ℕ) (box : Box) (copy : Copy) → BoxIs h w box → box.hand ≡ Some copy → copy.released ≡ false → is_settled copy ≡ false → box.faulty ≡ false
