@@ -18,6 +18,7 @@ pub mod Tracked
 pub mod CopiesGiven
 pub mod Owners
 pub mod AllFinished
+pub mod NothingFollows
 pub mod Shut
 pub mod Ranks
 pub mod LaneRanks

@@ -40,3 +40,7 @@ abbrev pub EndsFinished : Type 0
 EndsFinished = (room blocks : ℕ) (start : House) (run : List Happened) → IsStart blocks start → Run start run → IsOrderly room start run → 1 ≤ room
     → let h = last_house start run in (1 ≤ start.capacity) ⊎ AreClosed h
     → (next : ℕ → ℕ) → AreThere next h → (MayGoOn room next h → ⊥) → IsFinished blocks (events_of run) h
+
+-- and where all is finished, none of them may
+abbrev pub FinishedIsStill : Type 0
+FinishedIsStill = (room blocks : ℕ) (next : ℕ → ℕ) (events : List Event) (h : House) → IsFinished blocks events h → MayGoOn room next h → ⊥

@@ -1,7 +1,7 @@
 //! Nothing is stuck, and nobody gives up.
 
 ghost use Rattle.mail_progress.specs.NothingStuck.{NothingIsStuck, NothingIsStuckWhenClosed, ClosedStays};
-ghost use Rattle.mail_progress.specs.Finished.{EndsFinished};
+ghost use Rattle.mail_progress.specs.Finished.{EndsFinished, FinishedIsStill};
 
 /// In each house of each orderly run, whatever mailbox each lane's next copy is for: a draft is moved by its lane; a
 /// copy to offer and a slip to collect by their lane or the worker of the mailbox that its next copy is for; a copy
@@ -21,7 +21,8 @@ pub fn nothing_is_stuck_when_closed()
 
 /// Where none of these steps may follow, nothing is under way: there is no draft and no copy to offer, every channel is
 /// drained, every slip is collected, of every message that was sealed each copy was given away and each place is
-/// answered, every message is reclaimed, and every block is free.
+/// answered, every message is reclaimed, and every block is free. Where it is so, none of them may follow.
 pub fn where_nothing_goes_on_all_is_finished()
-    ensures { EndsFinished }
+    ensures finished { EndsFinished }
+    ensures still { FinishedIsStill }
 {}
