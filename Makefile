@@ -4,7 +4,8 @@ PROGRAM := crates/lmtpd/out/lmtpd
 
 .PHONY: rehearse build install check test real wrong-bodies benchmarks
 
-# One conversation: the replies, and then the mailbox. Where no proved program stands yet, the sources are run with checks, unproved.
+# One conversation: the replies, and then the mailbox. Where no proved program stands yet, the sources are run with
+# checks, unproved.
 rehearse:
 	@if [ -x $(PROGRAM) ]; then \
 	    ./$(PROGRAM) $$(cat crates/lmtpd/args) < crates/lmtpd/stdin; \
@@ -17,8 +18,8 @@ rehearse:
 build:
 	cd crates/lmtpd && rt run -- $$(cat args) < stdin > /dev/null
 
-# Installs the program that `make build` made, its manual page, its unit for systemd with the user and the folder that it
-# wants, and what bash completes. DESTDIR stands before all paths.
+# Installs the program that `make build` made, its manual page, its unit for systemd with the user and the folder that
+# it wants, and what bash completes. DESTDIR stands before all paths.
 PREFIX ?= /usr/local
 install:
 	@[ -x $(PROGRAM) ] || { echo 'make install: no proved program is built yet (make build)' >&2; exit 1; }

@@ -1,10 +1,10 @@
 #!/usr/bin/env bash
-# How long the arena takes for 64 MiB, beside `memcpy` of the same bytes (std's `copy_from_slice`), in pieces of 512 bytes:
+# How long the arena takes for 64 MiB in pieces of 512 bytes, beside `memcpy` of the same (std's `copy_from_slice`):
 #   put       `Arena::put` of every piece, into drafts of 1 MiB
 #   copy_out  `Arena::copy_out` of every piece of the sealed messages
 # Prints the best of RUNS times of each (9 if it isn't set), and put's and copy_out's time over memcpy's. Fails where a
 # ratio is above 3.0.
-# usage: bench/arena.sh [--build | --try]: with a word it only makes what it measures with, proved or unproved (bench/program)
+# usage: bench/arena.sh [--build | --try]: with a word it only makes its programs, proved or unproved (bench/program)
 set -euo pipefail
 cd "$(dirname "$0")/.."
 . tests/needs python3

@@ -1,18 +1,19 @@
 #!/usr/bin/env bash
 # How fast copies and slips go through the channels between lanes and workers, beside std::sync::mpsc::sync_channel
 # doing the same with an Arc of the message in a hold's place (bench/post/channels.rs, by `rustc -O`):
-#   posts L   copies of sealed messages, 100 of each, from 1, 2 and 4 lane threads to one receiver, at capacity 16: how many a
-#             second. A lane seals each message, splits a hold off for each copy and offers it with an envelope of its own;
-#             the receiver releases each hold, and gives the blocks back behind a message's last one
+#   posts L   copies of sealed messages, 100 of each, from 1, 2 and 4 lane threads to one receiver, at capacity 16: how
+#             many a second. A lane seals each message, splits a hold off for each copy and offers it with an envelope
+#             of its own; the receiver releases each hold, and gives the blocks back behind a message's last one
 #   trips     such a copy to a worker's thread, which releases it, and its slip back: microseconds a trip
 # Prints the best of RUNS times of each (9 if it isn't set) and std's time over ours. Fails where the counts differ.
 # Both run by turns, so that a ratio means something on a machine that does other work.
-# usage: bench/post.sh [--build | --try]: with a word it only makes what it measures with, proved or unproved (bench/program)
+# usage: bench/post.sh [--build | --try]: with a word it only makes its programs, proved or unproved (bench/program)
 set -euo pipefail
 cd "$(dirname "$0")/.."
 . tests/needs rustc python3
 . bench/program
-make_program post post "mail_world mbox_rd msg_depot mail_post anyhow" "${1:-}" mail_world lmtp_text mbox_rd block_arena msg_depot mail_post
+crates=(mail_world lmtp_text mbox_rd block_arena msg_depot mail_post)
+make_program post post "mail_world mbox_rd msg_depot mail_post anyhow" "${1:-}" "${crates[@]}"
 
 python3 - out/post "$folder/channels" "${RUNS:-9}" <<'PYTHON'
 import subprocess

@@ -46,7 +46,8 @@ def converse(given, size):
 
 
 def run(given, said):
-    """The seconds that the program took, and its peak of memory. This process stays small, since a child begins with its peak."""
+    """The seconds that the program took, and its peak of memory. This process stays small, since a child begins with
+    its peak."""
     given.seek(0)
     began = time.monotonic()
     child = subprocess.Popen(WORDS, stdin=given, stdout=said)

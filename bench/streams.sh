@@ -7,7 +7,7 @@
 # Prints the best of RUNS times of each (9 if it isn't set) and the loop's time over ours, and the appends that a piece
 # of a record makes. Fails where the counts differ or a ratio is below 1.0.
 # Both run by turns, so that a ratio means something on a machine that does other work.
-# usage: bench/streams.sh [--build | --try]: with a word it only makes what it measures with, proved or unproved (bench/program)
+# usage: bench/streams.sh [--build | --try]: with a word it only makes its programs, proved or unproved (bench/program)
 set -euo pipefail
 cd "$(dirname "$0")/.."
 . tests/needs rustc python3

@@ -1,7 +1,7 @@
 #!/usr/bin/env bash
-# A worker tells a lane of a copy only once it has given the copy's hold back, and tells it then: a body that tells first, one
-# that sends a slip past `tell`, and one that doesn't tell, don't compile. Tries them on a copy of the crate, and wants the
-# compiler's refusals.
+# A worker tells a lane of a copy only once it has given the copy's hold back, and tells it then: a body that tells
+# first, one that sends a slip past `tell`, and one that doesn't tell, don't compile. Tries them on a copy of the crate,
+# and wants the compiler's refusals.
 set -euo pipefail
 cd "$(dirname "$0")/.."
 . tests/needs python3

@@ -1,6 +1,6 @@
 #!/usr/bin/env bash
-# Each benchmark's program compiles against the crates as they stand, so that none is left behind. They are compiled side by
-# side, with checks and unproved (`bench/program`); `make benchmarks` proves and builds them.
+# Each benchmark's program compiles against the crates as they stand, so that none is left behind. They are compiled
+# side by side, with checks and unproved (`bench/program`); `make benchmarks` proves and builds them.
 set -uo pipefail
 cd "$(dirname "$0")/.."
 . tests/needs rustc

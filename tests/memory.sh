@@ -1,9 +1,9 @@
 #!/usr/bin/env bash
-# Only makers take memory: no call of a depot, and so of its arena, does once it is made (of a whole server: no_memory.sh
-# and serve_memory.sh). For each test of the depot, refuses one allocation after another (tests/memory/refuse.c,
-# preloaded): a maker's is answered AllocError (a list's of the test itself AllocFailed), and once these are past the
-# test ends well and asks for no more. A call that has no such answer would fail in another way. Left out are tests with
-# threads of their own, since a thread's start takes memory too.
+# Only makers take memory: no call of a depot, and so of its arena, does once it is made (of a whole server:
+# no_memory.sh and serve_memory.sh). For each test of the depot, refuses one allocation after another
+# (tests/memory/refuse.c, preloaded): a maker's is answered AllocError (a list's of the test itself AllocFailed), and
+# once these are past the test ends well and asks for no more. A call that has no such answer would fail in another way.
+# Left out are tests with threads of their own, since a thread's start takes memory too.
 set -euo pipefail
 cd "$(dirname "$0")/.."
 . tests/needs cc
@@ -15,7 +15,9 @@ cc -O2 -shared -fPIC -o "$folder/refuse.so" tests/memory/refuse.c
 refuses() {
     local status=0 said
     : > "$folder/told"
-    said=$(REFUSE=$3 REFUSE_TOLD=9 LD_PRELOAD="$folder/refuse.so" timeout 60 "$1" "$2" 2>&1 9> "$folder/told") || status=$?
+    said=$(
+        REFUSE=$3 REFUSE_TOLD=9 LD_PRELOAD="$folder/refuse.so" timeout 60 "$1" "$2" 2>&1 9> "$folder/told"
+    ) || status=$?
     if [ "$status" != 0 ] && ! [[ $said =~ error:\ Alloc(Error|Failed) && -s $folder/told ]]; then
         echo "FAILED: $2, allocation $3 refused: status $status, $said"
         exit 1

@@ -1,6 +1,7 @@
 #!/usr/bin/env bash
-# Only the keeper's module can make a NoRoom: a depot that makes one of its own doesn't compile. Tries just that on a copy of
-# the crate, a Depot::draft and a Depot::put that answer a NoRoom that they made, and wants the compiler's refusal of its private field.
+# Only the keeper's module can make a NoRoom: a depot that makes one of its own doesn't compile. Tries just that on a
+# copy of the crate, a Depot::draft and a Depot::put that answer a NoRoom that they made, and wants the compiler's
+# refusal of its private field.
 set -euo pipefail
 cd "$(dirname "$0")/.."
 . tests/needs python3

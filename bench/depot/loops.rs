@@ -1,5 +1,5 @@
-//! The same work in plain Rust: a message in a Vec under a Mutex that several threads read in pieces, and an Arc of its own
-//! for each thread, cloned and dropped. Prints the same lines as src/main.rt does.
+//! The same work in plain Rust: a message in a Vec under a Mutex that several threads read in pieces, and an Arc of its
+//! own for each thread, cloned and dropped. Prints the same lines as src/main.rt does.
 
 use std::hint::black_box;
 use std::sync::{Arc, Mutex};

@@ -1,5 +1,5 @@
-//! The same work as src/, over std's channels and with an Arc in a hold's place: what ours are measured against. Prints the same
-//! lines as src/main.rt does.
+//! The same work as src/, over std's channels and with an Arc in a hold's place: what ours are measured against. Prints
+//! the same lines as src/main.rt does.
 
 use std::hint::black_box;
 use std::sync::Arc;

@@ -1,7 +1,15 @@
 """Random conversations: made by the grammar, and then broken."""
 
 CLIENTS = [b"relay.example", b"[127.0.0.1]", b"x", b"a" * 255, b"a" * 256, b"", b"a b", b"<a>"]
-SENDERS = [b"<carl@a.example>", b"<>", b"<@r.example:d@e.example>", b'<"a b\\"c"@d.example>', b"carl@a.example", b"<a@b", b"< >"]
+SENDERS = [
+    b"<carl@a.example>",
+    b"<>",
+    b"<@r.example:d@e.example>",
+    b'<"a b\\"c"@d.example>',
+    b"carl@a.example",
+    b"<a@b",
+    b"< >",
+]
 RECIPIENTS = [
     b"<anna>",
     b"<ben@mx.example>",
@@ -12,7 +20,17 @@ RECIPIENTS = [
     b"<anna@other.example>",
     b"anna",
 ]
-PARAMETERS = [b"", b" SIZE=10", b" size=1048577", b" BODY=8BITMIME", b" SIZE=1 SIZE=2", b" SIZE", b" =", b" RET=FULL", b"  "]
+PARAMETERS = [
+    b"",
+    b" SIZE=10",
+    b" size=1048577",
+    b" BODY=8BITMIME",
+    b" SIZE=1 SIZE=2",
+    b" SIZE",
+    b" =",
+    b" RET=FULL",
+    b"  ",
+]
 LINES = [
     b"hello",
     b"",
@@ -33,7 +51,22 @@ LINES = [
     b"mailbox anna 7",
     b"QUIT",
 ]
-ALONE = [b"RSET", b"NOOP", b"NOOP x", b"VRFY anna", b"EXPN all", b"HELP", b"HELO a", b"EHLO a", b"DATA", b"QUIT x", b"", b" ", b"AUTH", b"x" * 1022]
+ALONE = [
+    b"RSET",
+    b"NOOP",
+    b"NOOP x",
+    b"VRFY anna",
+    b"EXPN all",
+    b"HELP",
+    b"HELO a",
+    b"EHLO a",
+    b"DATA",
+    b"QUIT x",
+    b"",
+    b" ",
+    b"AUTH",
+    b"x" * 1022,
+]
 INSERTED = [b"\r", b"\n", b"\0", b"\r\n", b".", b"\r\n.\r\n", b"\n.\n", b"\r.\r", b"From ", b" ", b"\xff"]
 
 
@@ -48,10 +81,16 @@ def made(random):
         yield b"QUIT"
 
 
+def one_of_the_first(random, options, counts):
+    """One of the first options: of so many as one of the counts says, so that the first ones come more often."""
+    return random.choice(options[: random.choice(counts)])
+
+
 def transaction(random):
-    yield b"MAIL FROM:" + random.choice(SENDERS[: random.choice([1, 3, len(SENDERS)])]) + random.choice(PARAMETERS[: random.choice([1, 4, len(PARAMETERS)])])
+    sender = one_of_the_first(random, SENDERS, [1, 3, len(SENDERS)])
+    yield b"MAIL FROM:" + sender + one_of_the_first(random, PARAMETERS, [1, 4, len(PARAMETERS)])
     for _ in range(random.choice([0, 1, 1, 2, 3, 8, 101 if random.random() < 0.02 else 1])):
-        yield b"RCPT TO:" + random.choice(RECIPIENTS[: random.choice([2, len(RECIPIENTS)])])
+        yield b"RCPT TO:" + one_of_the_first(random, RECIPIENTS, [2, len(RECIPIENTS)])
     yield b"DATA"
     for _ in range(random.choice([0, 1, 3, 10])):
         line = random.choice(LINES)

@@ -1,4 +1,4 @@
-"""Refuses each allocation and each thread of a rehearsal, of a server and of a check in turn, for tests/no_memory.sh."""
+"""Refuses each allocation and each thread of a rehearsal, a server and a check in turn, for tests/no_memory.sh."""
 
 import os
 import pathlib
@@ -14,6 +14,7 @@ MEMORY, NO_THREAD = b"lmtpd: memory\n", b"lmtpd: no thread\n"
 COMMANDS = b"LHLO relay.example\r\nMAIL FROM:<carl@a.example>\r\nRCPT TO:<anna>\r\nRCPT TO:<ben>\r\nDATA\r\n"
 GIVEN = COMMANDS + b"Subject: hi\r\n\r\nhello\r\n.\r\nQUIT\r\n"
 STORED = b"250 2.0.0 Stored for anna\r\n250 2.0.0 Stored for ben\r\n221 2.0.0 mx.example closing\r\n"
+COUNTED = b"anna stored 2\nben stored 2\n"
 
 
 class Wrong(Exception):
@@ -76,8 +77,8 @@ def rehearse(refusing):
 
 def serve(refusing):
     with tempfile.TemporaryDirectory() as folder:
-        fixed = ["--host", "mx.example", "--listen", "127.0.0.1:0", "--dir", folder, "--connections", "2", "--lanes", "2"]
-        process = refusing.start(["serve", *fixed, "anna", "ben"])
+        place = ["--host", "mx.example", "--listen", "127.0.0.1:0", "--dir", folder]
+        process = refusing.start(["serve", *place, "--connections", "2", "--lanes", "2", "anna", "ben"])
         first = process.stdout.readline()
         heard = [converse(first), converse(first)]
         output, errors = process.communicate(timeout=SECONDS)
@@ -86,7 +87,7 @@ def serve(refusing):
     if is_refused(what, ended, refusing.is_all):
         check_refused(what, ended, [b"", first])
         check_kept(ended[2], heard, files)
-    elif ended[0] != 0 or errors or output != b"anna stored 2\nben stored 2\n" or any(STORED not in text for text in heard):
+    elif ended[0] != 0 or errors or output != COUNTED or any(STORED not in text for text in heard):
         raise Wrong(f"not refused: {ended!r:.300}, {heard!r:.300}")
     return what
 
@@ -106,8 +107,8 @@ def check(refusing):
 
 
 def check_kept(errors, heard, files):
-    """Nothing was taken; where a lane had started before a thread was refused, its clients are served: as many letters lie in
-    the mailboxes as were told Stored."""
+    """Nothing was taken; where a lane had started before a thread was refused, its clients are served: as many letters
+    lie in the mailboxes as were told Stored."""
     told = sum(text.count(b"Stored for") for text in heard)
     if errors == MEMORY and (any(files) or any(b"354 " in text for text in heard)):
         raise Wrong(f"want of memory, and yet {heard!r:.300}, {files!r:.300}")
@@ -140,7 +141,8 @@ def in_turn(name, run, is_all):
             raise Wrong(f"{name}, call {number}{' and all later ones' if is_all else ''}: {wrong}") from None
         if not what:
             later = " and all later ones" if is_all else ""
-            print(f"ok: {name}: each of {counts[b'r']} allocations and {counts[b't']} threads refused in turn{later}", flush=True)
+            refused = f"each of {counts[b'r']} allocations and {counts[b't']} threads refused in turn{later}"
+            print(f"ok: {name}: {refused}", flush=True)
             return
         counts[what[:1]] += 1
     raise Wrong(f"{name}: no end after {MOST} calls")

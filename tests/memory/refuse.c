@@ -65,10 +65,12 @@ void *realloc(void *old, size_t size) {
     return is_refused(__builtin_return_address(0), "r") ? NULL : __libc_realloc(old, size);
 }
 
+typedef int (*create_thread)(pthread_t *, const pthread_attr_t *, void *(*)(void *), void *);
+
 int pthread_create(pthread_t *thread, const pthread_attr_t *attributes, void *(*start)(void *), void *argument) {
-    static int (*_Atomic next)(pthread_t *, const pthread_attr_t *, void *(*)(void *), void *);
+    static _Atomic create_thread next;
     if (!next) {
-        next = (int (*)(pthread_t *, const pthread_attr_t *, void *(*)(void *), void *))dlsym(RTLD_NEXT, "pthread_create");
+        next = (create_thread)dlsym(RTLD_NEXT, "pthread_create");
     }
     return is_refused(__builtin_return_address(0), "t") ? EAGAIN : next(thread, attributes, start, argument);
 }

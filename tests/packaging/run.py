@@ -40,7 +40,8 @@ def help_of(command):
 
 def options_of_page(letter):
     """The options that the page lists for that command, with their texts."""
-    listed = re.findall(r"^\.It Fl -([a-z]+) (?:Ar [^\n]*)?\n\.Pq ([sr, ]+)\n(.*?)(?=^\.It|^\.El)", PAGE, re.MULTILINE | re.DOTALL)
+    item = r"^\.It Fl -([a-z]+) (?:Ar [^\n]*)?\n\.Pq ([sr, ]+)\n(.*?)(?=^\.It|^\.El)"
+    listed = re.findall(item, PAGE, re.MULTILINE | re.DOTALL)
     return {f"--{name}": text for name, letters, text in listed if letter in letters.split(", ")}
 
 

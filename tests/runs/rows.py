@@ -60,7 +60,8 @@ class Row:
 
     def output(self):
         said = b"".join(reply + CRLF for reply in self.replies)
-        return said + b"".join(b"mailbox %s %d\n" % (box.encode(), len(text)) + text for box, text in self.mailboxes.items())
+        titled = (b"mailbox %s %d\n" % (box.encode(), len(text)) + text for box, text in self.mailboxes.items())
+        return said + b"".join(titled)
 
 
 def message(name, data, text, **more):
@@ -92,7 +93,16 @@ def conversations():
     yield Row(
         "two mailboxes, and one that there isn't",
         [*PROLOGUE, TO_ANNA, b"RCPT TO:<zoe@mx.example>", TO_BEN, b"DATA", *HELLO, b"QUIT"],
-        [*OPENED, RECIPIENT_OK, b"550 5.1.1 No such mailbox", RECIPIENT_OK, GO_AHEAD, stored("anna"), stored("ben"), BYE],
+        [
+            *OPENED,
+            RECIPIENT_OK,
+            b"550 5.1.1 No such mailbox",
+            RECIPIENT_OK,
+            GO_AHEAD,
+            stored("anna"),
+            stored("ben"),
+            BYE,
+        ],
         {"anna": record(HELLO_STORED), "ben": record(HELLO_STORED)},
     )
     yield Row(
@@ -218,9 +228,11 @@ def limits():
         [GREETING, *OFFER, b"552 5.3.4 Message too large", SENDER_OK, BYE],
         {"anna": b"", "ben": b""},
     )
+    too_much = [b"x" + line, *[line] * 127, b"."]
+    just_fits = [*[line] * 128, b"."]
     yield Row(
         "no room, and room for the next one",
-        [*PROLOGUE, TO_ANNA, b"DATA", b"x" + line, *[line] * 127, b".", PROLOGUE[1], TO_ANNA, b"DATA", *[line] * 128, b".", b"QUIT"],
+        [*PROLOGUE, TO_ANNA, b"DATA", *too_much, PROLOGUE[1], TO_ANNA, b"DATA", *just_fits, b"QUIT"],
         [
             *OPENED,
             RECIPIENT_OK,
@@ -320,10 +332,11 @@ def twice_under(quota):
     """One message for anna twice, of 378 bytes without a quota."""
     records = [record(HELLO_STORED)] * 2
     kept = list(keeps(quota, records))
+    answers = [stored("anna") if fits else over("anna") for fits in kept]
     return Row(
         f"one mailbox twice and a quota of {quota}",
         [*PROLOGUE, TO_ANNA, TO_ANNA, b"DATA", *HELLO, b"QUIT"],
-        [*OPENED, RECIPIENT_OK, RECIPIENT_OK, GO_AHEAD, *[stored("anna") if fits else over("anna") for fits in kept], BYE],
+        [*OPENED, RECIPIENT_OK, RECIPIENT_OK, GO_AHEAD, *answers, BYE],
         {"anna": b"".join(text for text, fits in zip(records, kept) if fits), "ben": b""},
         ["--quota", str(quota)],
     )
@@ -347,8 +360,8 @@ def moments():
 
 
 def smuggled():
-    """What looks like the end of the data and isn't: QUIT behind it is content. By the rule a dot directly behind CRLF is dropped,
-    and a CR directly before LF."""
+    """What looks like the end of the data and isn't: QUIT behind it is content. By the rule a dot directly behind CRLF
+    is dropped, and a CR directly before LF."""
     texts_of = {
         b"\n.\n": b"\n.\n",
         b"\n.\r\n": b"\n.\n",
@@ -384,8 +397,8 @@ class Check:
 
 
 def checks():
-    """A From line begins a letter at the front, and behind an empty line. Places count from 0: the first byte that no mailbox has
-    there, and at the end of the bytes the end itself."""
+    """A From line begins a letter at the front, and behind an empty line. Places count from 0: the first byte that no
+    mailbox has there, and at the end of the bytes the end itself."""
     letter = record(HELLO_STORED)
     rows = [
         ("no bytes", b"", "letters 0"),

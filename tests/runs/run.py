@@ -57,9 +57,9 @@ def play_with_blocks(row, blocks):
 def check(row, said=subprocess.PIPE):
     """Checks the files of the row, in a folder of their own, with twenty open files at most."""
     with tempfile.TemporaryDirectory() as folder:
-        for name, text, _ in row.files:
-            if text is not None:
-                pathlib.Path(folder, name).write_bytes(text)
+        texts = {pathlib.Path(folder, name): text for name, text, _ in row.files if text is not None}
+        for path, text in texts.items():
+            path.write_bytes(text)
         ended = subprocess.run(
             [LMTPD, "check", *(name for name, _, _ in row.files)],
             cwd=folder,
@@ -68,7 +68,7 @@ def check(row, said=subprocess.PIPE):
             preexec_fn=lambda: resource.setrlimit(resource.RLIMIT_NOFILE, (20, 20)),
             timeout=SECONDS,
         )
-        changed = [name for name, text, _ in row.files if text is not None and pathlib.Path(folder, name).read_bytes() != text]
+        changed = [path.name for path, text in texts.items() if path.read_bytes() != text]
     assert not changed, changed
     return ended.returncode, ended.stdout, ended.stderr
 
@@ -115,7 +115,8 @@ def verdicts():
         yield tell(f"{blocks} blocks: nothing is read or written", found, (1, b"", b"lmtpd: size\n", 0))
     for row in rows.checks():
         yield tell(f"check: {row.name}", check(row), (row.status(), row.output(), b""))
-        yield tell(f"check: {row.name}, standard output is full", check_on_full(row), (1, None, b"lmtpd: device fault\n"))
+        found = check_on_full(row)
+        yield tell(f"check: {row.name}, standard output is full", found, (1, None, b"lmtpd: device fault\n"))
     yield tell("check: a folder", check_folder(), (1, b"/ cannot read\n", b""))
 
 

@@ -131,7 +131,8 @@ def more_domains(folder):
 
 @case
 def a_quota_is_kept(folder):
-    """--quota: the letter that fits to the byte is stored, the next one is refused, also once the server was started anew"""
+    """--quota: the letter that fits to the byte is stored, the next one is refused, also once the server was
+    started anew"""
     stored, over = "250 2.0.0 Stored for anna", "452 4.2.2 Over quota for anna"
     lines = ["Subject: hi", "", "hello"]
     with Server(folder, ["anna"], 1, "--lanes", 1) as server:

@@ -1,7 +1,8 @@
-// Has calls fail in a program that is started with this library preloaded: those on one file, whose path ends with FAIL_FILE (opening,
-// its mode, locking, seeking, reading, writing, syncing), or, with FAIL_SOCKETS set, those on sockets (making, binding, listening,
-// accepting, their options, receiving, sending, shutting down). Counted from 1, the one of number FAIL_CALL fails with EIO, and with
-// FAIL_ALL set all later ones too. The file FAIL_TOLD, where it is named, is made once a call failed.
+// Has calls fail in a program that is started with this library preloaded: those on one file, whose path ends with
+// FAIL_FILE (opening, its mode, locking, seeking, reading, writing, syncing), or, with FAIL_SOCKETS set, those on
+// sockets (making, binding, listening, accepting, their options, receiving, sending, shutting down). Counted from 1,
+// the one of number FAIL_CALL fails with EIO, and with FAIL_ALL set all later ones too. The file FAIL_TOLD, where it is
+// named, is made once a call failed.
 #define _GNU_SOURCE
 #include <dlfcn.h>
 #include <errno.h>

@@ -38,7 +38,8 @@ def a_device_that_is_full(folder):
 
 @case
 def a_full_device_beside_a_quota(folder):
-    """a mailbox on /dev/full between two over their quota: their lines come before the fault, also where nothing can be told"""
+    """a mailbox on /dev/full between two over their quota: their lines come before the fault, also where nothing
+    can be told"""
     names = ["anna", "ben", "carla"]
     (folder / "ben.mbox").symlink_to("/dev/full")
     for name in ["anna", "carla"]:

@@ -8,7 +8,8 @@ from clients import Client, deliver_one
 from server import Server, run, words
 
 LINE = re.compile(
-    r"\[INFO  lmtpd\] conversation ended lane=(\d+) client=(\S+) cause=(\S+) read=(\d+) written=(\d+) seconds=(\d+\.\d{3})"
+    r"\[INFO  lmtpd\] conversation ended"
+    r" lane=(\d+) client=(\S+) cause=(\S+) read=(\d+) written=(\d+) seconds=(\d+\.\d{3})"
 )
 LETTER = ["Subject: a secret", "", "hello"]
 # what the client of `deliver_one` says and hears

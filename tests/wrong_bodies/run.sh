@@ -15,5 +15,9 @@ python3 tests/wrong_bodies/apply.py . "$copy"
 cd "$copy"
 git init -q .
 crates=("$@")
-[ $# -gt 0 ] || mapfile -t crates < <(find crates -mindepth 2 -maxdepth 2 -name must-fail -printf '%h\n' | xargs -n 1 basename | sort)
+if [ $# = 0 ]; then
+    crates=(crates/*/must-fail)
+    crates=("${crates[@]#crates/}")
+    crates=("${crates[@]%/must-fail}")
+fi
 rt must-fail "${crates[@]}"
