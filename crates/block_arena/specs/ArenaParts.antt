@@ -3,4 +3,10 @@ use Rattle.block_arena.specs.declared.arena.Arena.TheInside.{Inside}
 use Rattle.block_arena.specs.Fields.{ArenaFields}
 
 abbrev pub fields_of : Inside → ArenaFields
-fields_of a = record { store = a.data.items; next = a.next.items; slots = a.slots.items; free = a.free; free_count = a.free_count }
+fields_of a = record {
+  store = a.data.items;
+  next = a.next.items;
+  slots = a.slots.items;
+  free = a.free;
+  free_count = a.free_count;
+}

@@ -21,7 +21,9 @@ links first (suc n) = first ∷ links (first + 1) n
 
 -- a slot whose message of that generation went
 abbrev pub slot_behind : ℕ → Slot
-slot_behind generation = if nat_lt generation d.last_generation then record { generation = generation + 1; content = Free } else record { generation = generation; content = Retired }
+slot_behind generation =
+    if nat_lt generation d.last_generation then record { generation = generation + 1; content = Free }
+    else record { generation = generation; content = Retired }
 
 -- n blocks from the first on, each followed by its next one
 abbrev pub chain : ℕ → List ℕ → ℕ → List ℕ
@@ -115,15 +117,33 @@ pub record IsReadable (blocks : List (List ℕ)) (next : List ℕ) (run : Run) :
 
 -- a run of the same blocks, with so many bytes more
 abbrev pub longer : Run → ℕ → Run
-longer run n = record { first = run.first; last = run.last; blocks = run.blocks; length = run.length + n; read = run.read }
+longer run n = record {
+  first = run.first;
+  last = run.last;
+  blocks = run.blocks;
+  length = run.length + n;
+  read = run.read;
+}
 
 -- the same run, read at another place
 abbrev pub run_read_at : Run → Place → Run
-run_read_at run place = record { first = run.first; last = run.last; blocks = run.blocks; length = run.length; read = place }
+run_read_at run place = record {
+  first = run.first;
+  last = run.last;
+  blocks = run.blocks;
+  length = run.length;
+  read = place;
+}
 
 -- a run with a block more behind its last, and the links that make it one
 abbrev pub linked_run : Run → ℕ → Run
-linked_run run block = record { first = if run.blocks == 0 then block else run.first; last = block; blocks = run.blocks + 1; length = run.length; read = record { index = 0; block = if run.blocks == 0 then block else run.first } }
+linked_run run block = record {
+  first = if run.blocks == 0 then block else run.first;
+  last = block;
+  blocks = run.blocks + 1;
+  length = run.length;
+  read = record { index = 0; block = if run.blocks == 0 then block else run.first };
+}
 
 abbrev pub linked_next : List ℕ → Run → ℕ → List ℕ
 linked_next next run block = if run.blocks == 0 then next else slice_set next run.last block

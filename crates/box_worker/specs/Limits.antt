@@ -10,7 +10,8 @@ use Rattle.mbox_rd.specs.declared.spool.Tail.{Tail}
 use Rattle.mbox_rd.specs.declared.spool.Tail.TheVariants.{Empty, NoLf, OneLf, TwoLf}
 use Rattle.box_worker.specs.declared.limit.Limit.{Limit}
 
--- what stays while a worker runs: the calendar and the host of its records, the limit of bytes for its mailbox, and its number
+-- what stays while a worker runs: the calendar and the host of its records, the limit of bytes for its mailbox, and its
+-- number
 pub record Setting : Type 0 where
   pub calendar : Calendar
   pub host : List ℕ
@@ -25,7 +26,8 @@ marks_behind at start copies = are_kept_behind at.calendar at.host at.quota star
 abbrev pub kept_behind : Setting → ℕ → List Note → List Note
 kept_behind at start copies = marked (marks_behind at start copies) copies
 
--- So many bytes stand before the first record: what the spool held, and what mends that, which is two bytes at most where the spool doesn't tell what it holds.
+-- So many bytes stand before the first record: what the spool held, and what mends that, which is two bytes at most
+-- where the spool doesn't tell what it holds.
 pub record StartsAt (spool : SpoolState) (start : ℕ) : Type 0 where
   pub mending : ℕ
   pub within : mending ≤ 2
@@ -47,7 +49,8 @@ CountsTo (Some quota) n limit = (quota < 2 ^ 64) × (limit ≡ Some (record { qu
 -- a record of that size is let in, and counted
 abbrev pub IsLetIn : Option Limit → ℕ → Option Limit → Type 0
 IsLetIn None size new = new ≡ None
-IsLetIn (Some old) size new = (old.held + size ≤ old.quota) × (new ≡ Some (record { quota = old.quota; held = old.held + size }))
+IsLetIn (Some old) size new = (old.held + size ≤ old.quota)
+    × (new ≡ Some (record { quota = old.quota; held = old.held + size }))
 
 -- and one is kept out
 abbrev pub IsKeptOut : Option Limit → ℕ → Type 0

@@ -55,24 +55,29 @@ IsMeasured size false old new = (new ≡ old) × IsKeptOut old.limit size
 
 -- what a copy with that record makes of a mailbox, by what its lane is told: a mailbox whose spool failed is left alone
 abbrev pub TakesCopy : List ℕ → Outcome → CountedMailbox → CountedMailbox → Type 0
-TakesCopy text Stored old new = (old.mailbox.faulty ≡ false) × IsLetIn old.limit (length text) new.limit × HasKept old.mailbox.state new.mailbox.state text
+TakesCopy text Stored old new = (old.mailbox.faulty ≡ false) × IsLetIn old.limit (length text) new.limit
+    × HasKept old.mailbox.state new.mailbox.state text
     × (new.mailbox ≡ mailbox_of new.mailbox.state (counted (old.mailbox.stored + 1)) old.mailbox.over false)
-TakesCopy text OverQuota old new = (old.mailbox.faulty ≡ false) × IsKeptOut old.limit (length text) × (new.limit ≡ old.limit)
+TakesCopy text OverQuota old new = (old.mailbox.faulty ≡ false) × IsKeptOut old.limit (length text)
+    × (new.limit ≡ old.limit)
     × (new.mailbox ≡ mailbox_of old.mailbox.state old.mailbox.stored (counted (old.mailbox.over + 1)) false)
 TakesCopy text Failed old new = (new.mailbox ≡ mailbox_of new.mailbox.state old.mailbox.stored old.mailbox.over true)
     × (((old.mailbox.faulty ≡ true) × (new.mailbox.state ≡ old.mailbox.state))
     ⊎ ((old.mailbox.faulty ≡ false) × IsLetIn old.limit (length text) new.limit × HasNotKept old.mailbox.state new.mailbox.state text))
 TakesCopy text _ old new = ⊥
 
--- What a spool that held these bytes holds once its worker failed: the first notes' records and a front of that of the next one, which is lost, or a front of what mending wants.
+-- What a spool that held these bytes holds once its worker failed: the first notes' records and a front of that of the
+-- next one, which is lost, or a front of what mending wants.
 abbrev pub IsTornAt : Calendar → List ℕ → List ℕ → List Note → ℕ → List ℕ → Type 0
 IsTornAt calendar host old notes stored bytes =
     ((torn : List ℕ) × (stored < length notes) × (bytes ≡ mailbox calendar host old (take stored notes) ++ torn) × IsTorn calendar host (drop stored notes) torn)
     ⊎ ((front : List ℕ) × (stored ≡ 0) × (bytes ≡ old ++ front) × IsFront front (mended old))
 
--- A spool took the records of the first of these notes, as many as are stored: of all of them unless it failed, and one with a limit that failed is full.
--- The last good sync covers them and nothing behind them, and where none is stored there was none.
-pub record HasStored (calendar : Calendar) (host : List ℕ) (notes : List Note) (old : SpoolState) (new : MailboxState) : Type 0 where
+-- A spool took the records of the first of these notes, as many as are stored: of all of them unless it failed, and one
+-- with a limit that failed is full. The last good sync covers them and nothing behind them, and where none is stored
+-- there was none.
+pub record HasStored (calendar : Calendar) (host : List ℕ) (notes : List Note) (old : SpoolState)
+    (new : MailboxState) : Type 0 where
   pub within : new.stored ≤ length notes
   pub all : new.faulty ≡ false → new.stored ≡ length notes
   pub sound : new.faulty ≡ false → new.state.failures ≡ old.failures
@@ -86,18 +91,22 @@ pub record HasStored (calendar : Calendar) (host : List ℕ) (notes : List Note)
 
 -- behind the first n copies, of which so many are kept, stands one that is kept too
 abbrev pub IsKeptNext : Setting → ℕ → List Note → ℕ → ℕ → Type 0
-IsKeptNext at start copies n stored = (n < length copies) × (length (kept_behind at start (take (n + 1) copies)) ≡ stored + 1)
+IsKeptNext at start copies n stored = (n < length copies)
+    × (length (kept_behind at start (take (n + 1) copies)) ≡ stored + 1)
 
 -- the spool failed as it was mended, before any copy
 abbrev pub HasFailedFirst : SpoolState → SpoolState → ℕ → Type 0
 HasFailedFirst old new settled = (settled ≡ 0) × HasNotMended old new
 
--- The first copies that a worker took are settled: all of them unless the spool failed, which it did as it was mended or at the record of the next copy.
--- Of those that are settled each that is kept under the quota is stored, and any other is over the quota and left no byte. So many bytes stand before the first record.
-pub record HasSettled (at : Setting) (start : ℕ) (copies : List Note) (old : SpoolState) (new : MailboxState) : Type 0 where
+-- The first copies that a worker took are settled: all of them unless the spool failed, which it did as it was mended
+-- or at the record of the next copy. Of those that are settled each that is kept under the quota is stored, and any
+-- other is over the quota and left no byte. So many bytes stand before the first record.
+pub record HasSettled (at : Setting) (start : ℕ) (copies : List Note) (old : SpoolState)
+    (new : MailboxState) : Type 0 where
   pub starts : IfSome at.quota (λ quota. StartsAt old start)
   pub within : new.stored + new.over ≤ length copies
   pub all : new.faulty ≡ false → new.stored + new.over ≡ length copies
   pub stored : new.stored ≡ length (kept_behind at start (take (new.stored + new.over) copies))
-  pub next : new.faulty ≡ true → HasFailedFirst old new.state (new.stored + new.over) ⊎ IsKeptNext at start copies (new.stored + new.over) new.stored
+  pub next : new.faulty ≡ true → HasFailedFirst old new.state (new.stored + new.over)
+      ⊎ IsKeptNext at start copies (new.stored + new.over) new.stored
   pub spool : HasStored at.calendar at.host (kept_behind at start copies) old new

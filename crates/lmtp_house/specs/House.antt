@@ -48,9 +48,9 @@ pub record IsLaneWork (site : Site) (May : ℕ → Type 0) (MayCome : PeerState 
   pub moments : AllByRecursion (λ t. May t.disposition.moment) (transactions site 0 (conversations_of work.visits))
   pub answered : OutcomesAreAnswers site k work.heard (conversations_of work.visits)
 
--- However lanes and workers interleaved: each worker took of each lane just the copies that the lane's conversations owe
--- its mailbox, in their order, and nothing else; and each lane heard of its copies every slip that their workers gave, and
--- nothing else, so that its channel is empty when it is closed.
+-- However lanes and workers interleaved: each worker took of each lane just the copies that the lane's conversations
+-- owe its mailbox, in their order, and nothing else; and each lane heard of its copies every slip that their workers
+-- gave, and nothing else, so that its channel is empty when it is closed.
 pub record HasRun {V S : Type 0} (site : Site) (May : ℕ → Type 0) (view : VisitsView V) (state : S → SpoolState)
     (old : HandedIn V S) (new : HandedBack V S) : Type 0 where
   pub lanes : ℕ → LaneWork

@@ -106,9 +106,9 @@ abbrev pub joined : Episode → Episode → Episode
 joined a b = record { came = a.came ++ b.came; own = a.own ++ b.own; heard = a.heard ++ b.heard }
 
 -- What a lane that owed these copies gave to the channels: the first so many, and once a channel handed one back no
--- more. And what it heard: slips that its channel gave, in their order, and between them its own, each of a copy that was
--- left, or of one whose slip can't come any more. It says that a channel is gone just where one is, unless the channel of
--- slips was silent from the first.
+-- more. And what it heard: slips that its channel gave, in their order, and between them its own, each of a copy that
+-- was left, or of one whose slip can't come any more. It says that a channel is gone just where one is, unless the
+-- channel of slips was silent from the first.
 pub record HasExchanged (notes : List Note) (e : Episode) (old new : LaneEnds) : Type 0 where
   pub lane : new.lane ≡ old.lane
   pub accepted : List Note

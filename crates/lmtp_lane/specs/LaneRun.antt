@@ -18,8 +18,8 @@ pub record LaneState : Type 0 where
   pub conversations : ℕ
 
 -- A lane served these clients: each conversation's replies are those to its inputs, the senders gave the mailboxes what
--- the conversations owe them, up to a copy that was handed back, the outcomes are those of the slips that were heard, and
--- each moment is one that the clock may answer. Without a gone channel it ended because there was no client more.
+-- the conversations owe them, up to a copy that was handed back, the outcomes are those of the slips that were heard,
+-- and each moment is one that the clock may answer. Without a gone channel it ended because there was no client more.
 pub record HasServed (by : Terms) (May : ℕ → Type 0) (MayCome : PeerState → Type 0) (old new : LaneState) : Type 0 where
   pub visits : List Visit
   pub visited : HasVisited by MayCome old.finished new.finished visits

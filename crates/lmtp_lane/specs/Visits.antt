@@ -13,8 +13,8 @@ pub record Finished : Type 0 where
   pub peer : PeerState
   pub cause : EndCause
 
--- what a Visits tells of the conversations that have ended: each of them, where it tells them, and how many these are; the
--- count stays at its largest value
+-- what a Visits tells of the conversations that have ended: each of them, where it tells them, and how many these are;
+-- the count stays at its largest value
 pub record VisitsTold : Type 0 where
   pub each : Option (List Finished)
   pub count : ℕ
@@ -32,8 +32,8 @@ pub record Visit : Type 0 where
   pub conversation : Conversation
   pub cause : EndCause
 
--- the client is one that may come; no more reads were made of it than may be, and each was counted; what was read and written is the conversation, whose account has an entry for each data
--- that ended; and it ended for that cause
+-- the client is one that may come; no more reads were made of it than may be, and each was counted; what was read and
+-- written is the conversation, whose account has an entry for each data that ended; and it ended for that cause
 pub record IsVisit (by : Terms) (MayCome : PeerState → Type 0) (v : Visit) : Type 0 where
   pub client : MayCome v.before
   pub reads : HasRead by.reads v.before v.after v.cause

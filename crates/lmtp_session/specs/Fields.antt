@@ -9,12 +9,22 @@ use Rattle.lmtp_session.specs.View.{View, Room, reserved}
 use Rattle.lmtp_session.specs.declared.session.Session.TheInside.{Inside}
 
 abbrev pub room_of : Inside → Room
-room_of a = record { client = a.client.capacity; sender = a.sender.capacity; recipients = a.recipients.capacity; answers = vec_capacity a.answers }
+room_of a = record {
+  client = a.client.capacity;
+  sender = a.sender.capacity;
+  recipients = a.recipients.capacity;
+  answers = vec_capacity a.answers;
+}
 
 abbrev pub session_view : Inside → View
 session_view a = record {
   site = arc_value a.site;
-  session = record { state = a.state; client = a.client.items; sender = a.sender.items; recipients = a.recipients.items };
+  session = record {
+    state = a.state;
+    client = a.client.items;
+    sender = a.sender.items;
+    recipients = a.recipients.items;
+  };
   answers = a.answers.items;
   room = room_of a;
 }

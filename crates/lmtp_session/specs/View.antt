@@ -5,7 +5,8 @@ use Rattle.mail_world.specs.declared.limits.TheConstants.{RECIPIENT_LIMIT}
 use Rattle.mail_world.specs.Site.{Site}
 use Rattle.mail_world.specs.Session.{Session}
 
--- how many bytes of the client's name and of the sender, how many recipients and how many replies fit without an allocation
+-- how many bytes of the client's name and of the sender, how many recipients and how many replies fit without an
+-- allocation
 pub record Room : Type 0 where
   pub client : ℕ
   pub sender : ℕ

@@ -14,4 +14,5 @@ ended_so (Err verdict) moment told = record { verdict = verdict; moment = moment
 
 -- the draft is one transaction more: of this session, with this message, and this became of it
 abbrev pub EndsDraft : (ℕ → List Transaction → Type 0) → ℕ → List Transaction → Session → List ℕ → Disposition → Type 0
-EndsDraft HasCome n ts session message disposition = HasCome n (ts ++ record { number = n; session = session; message = message; disposition = disposition } ∷ [])
+EndsDraft HasCome n ts session message disposition =
+    HasCome n (ts ++ record { number = n; session = session; message = message; disposition = disposition } ∷ [])

@@ -5,7 +5,9 @@ use Rattle.mail_world.specs.Failures.{Rises}
 use Rattle.lmtp_talk.specs.declared.peer.Came.{Came}
 use Rattle.lmtp_talk.specs.declared.peer.Came.TheVariants.{Bytes, End, Stop}
 
--- the bytes that were read of it, those that are still to come and those that it was given, each where it tells; how often it was read, which stays at its largest value; how often it failed; how often it said that the server is to stop; the names of the borrows that it holds
+-- the bytes that were read of it, those that are still to come and those that it was given, each where it tells; how
+-- often it was read, which stays at its largest value; how often it failed; how often it said that the server is to
+-- stop; the names of the borrows that it holds
 pub record PeerState : Type 0 where
   pub read : Option (List ℕ)
   pub unread : Option (List ℕ)

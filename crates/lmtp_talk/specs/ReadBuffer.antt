@@ -13,7 +13,8 @@ Refills old new result waits = MatchResult result
     (λ n. (n ≡ length waits) × Consumes old new waits × (n ≡ 0 → IsAtEnd new))
     (λ _. Keeps old new × (waits ≡ []))
 
--- what waited was n bytes, which stand at the front of the buffer, and what waits now; none only where none waited or there is no room
+-- what waited was n bytes, which stand at the front of the buffer, and what waits now; none only where none waited or
+-- there is no room
 pub record HandsOut (old new buffer : List ℕ) (n : ℕ) : Type 0 where
   pub handed : old ≡ take n buffer ++ new
   pub within : n ≤ length buffer

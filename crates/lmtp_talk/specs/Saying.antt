@@ -43,11 +43,13 @@ pub record HasSaid (start now : PeerState) (outbox : OutboxView) (came text : Li
 
 -- whatever was said before, this text was said behind it
 abbrev pub Says : PeerState → PeerState → OutboxView → OutboxView → List ℕ → Type 0
-Says before after old new more = (start : PeerState) (came text : List ℕ) → HasSaid start before old came text → HasSaid start after new came (text ++ more)
+Says before after old new more = (start : PeerState) (came text : List ℕ) → HasSaid start before old came text
+    → HasSaid start after new came (text ++ more)
 
 -- whatever was said before, nothing was said behind it
 abbrev pub SaysNoMore : PeerState → PeerState → OutboxView → OutboxView → Type 0
-SaysNoMore before after old new = (start : PeerState) (came text : List ℕ) → HasSaid start before old came text → HasSaid start after new came text
+SaysNoMore before after old new = (start : PeerState) (came text : List ℕ) → HasSaid start before old came text
+    → HasSaid start after new came text
 
 -- the replies that an act says, where these are kept for the recipients
 abbrev pub said : Act → List Reply → List Reply

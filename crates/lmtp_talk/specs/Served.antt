@@ -69,13 +69,16 @@ pub record HasRead (reads : ℕ) (old new : PeerState) (end : EndCause) : Type 0
   pub read_bound : end ≡ ends.ReadBound → made ≡ reads
 
 -- From a peer that stood so to one that stands so, and from what the delivery had come to, to what it has come to.
-pub record IsServed (by : Terms) (old new : PeerState) (Before After : ℕ → List Transaction → Type 0) (end : EndCause) : Type 0 where
+pub record IsServed (by : Terms) (old new : PeerState) (Before After : ℕ → List Transaction → Type 0)
+    (end : EndCause) : Type 0 where
   pub conversation : Conversation
   pub said : List ℕ
   pub moved : HasMoved old new conversation.bytes said
   -- an entry for each data that ended
   pub accounted : IsAccount by.site conversation
   pub says : IsWritten (replies by.site (inputs by.site conversation)) (end ≡ ends.WriteFault) said
-  -- the delivery got just these messages, each in its session, in their order, and its outcomes are those of the account
-  pub delivered : (n : ℕ) (ts : List Transaction) → Before n ts → After (accepted_behind_all by.site n conversation) (ts ++ transactions_in by.site n conversation)
+  -- the delivery got just these messages, each in its session, in their order, and its outcomes are those of the
+  -- account
+  pub delivered : (n : ℕ) (ts : List Transaction) → Before n ts
+      → After (accepted_behind_all by.site n conversation) (ts ++ transactions_in by.site n conversation)
   pub causes : EndsFor by conversation old new end

@@ -18,7 +18,9 @@ use Rattle.lmtp_talk.specs.Served.{has_quit}
 
 -- these parts stand at the front, whatever follows them
 pub record IsCutUp (site : Site) (done : List ℕ) (ps : List Part) : Type 0 where
-  pub goes : (more : List ℕ) (ds : List Disposition) → parts site fresh (done ++ more) (dispositions_of ps ++ ds) ≡ ps ++ parts site (session_behind site fresh ps) more ds
+  pub goes : (more : List ℕ) (ds : List Disposition)
+      → parts site fresh (done ++ more) (dispositions_of ps ++ ds) ≡ ps
+      ++ parts site (session_behind site fresh ps) more ds
   pub size : sum_by size_of ps ≡ length done
   pub fit : AllFit site fresh ps
 
@@ -29,7 +31,8 @@ pub record QuitsWith (state : State) (xs : List Input) : Type 0 where
 
 -- what a delivery has come to behind the parts, from what it had come to before them
 abbrev pub Comes : Site → List Part → (ℕ → List Transaction → Type 0) → (ℕ → List Transaction → Type 0) → Type 0
-Comes site ps Before Now = (n : ℕ) (ts : List Transaction) → Before n ts → Now (accepted_after site n fresh ps) (ts ++ transactions_of site n fresh ps)
+Comes site ps Before Now = (n : ℕ) (ts : List Transaction) → Before n ts
+    → Now (accepted_after site n fresh ps) (ts ++ transactions_of site n fresh ps)
 
 -- inside a line, of which these bytes were taken
 pub record InLine (dialogue : Dialogue) (rest : List ℕ) (come : Type 0) : Type 0 where
@@ -65,7 +68,8 @@ pub record Standing : Type 1 where
   pub come : ℕ → List Transaction → Type 0
   pub drafting : ℕ → List Transaction → List ℕ → Type 0
 
-abbrev pub standing : Dialogue → PeerState → (ℕ → List Transaction → Type 0) → (ℕ → List Transaction → List ℕ → Type 0) → Standing
+abbrev pub standing : Dialogue → PeerState → (ℕ → List Transaction → Type 0) → (ℕ → List Transaction → List ℕ → Type 0)
+    → Standing
 standing dialogue peer come drafting = record { dialogue = dialogue; peer = peer; come = come; drafting = drafting }
 
 -- Of the bytes that came since the beginning of the conversation, these are handled.

@@ -29,21 +29,26 @@ pub record Talk (D : Type 0) : Type 0 where
 abbrev pub talk : {D : Type 0} → Dialogue → PeerState → D → Talk D
 talk dialogue peer delivery = record { dialogue = dialogue; peer = peer; delivery = delivery }
 
-abbrev pub standing_of : {D : Type 0} → (D → ℕ → List Transaction → Type 0) → (D → ℕ → List Transaction → List ℕ → Type 0) → Talk D → Standing
+abbrev pub standing_of : {D : Type 0} → (D → ℕ → List Transaction → Type 0)
+    → (D → ℕ → List Transaction → List ℕ → Type 0) → Talk D → Standing
 standing_of HasCome IsDrafting now = standing now.dialogue now.peer (HasCome now.delivery) (IsDrafting now.delivery)
 
 -- a draft begins where the data is asked for, and else the delivery stays as it was
-abbrev pub BeginsIf : {D : Type 0} → (D → ℕ → List Transaction → Type 0) → (D → ℕ → List Transaction → List ℕ → Type 0) → Bool → D → Talk D → Type 0
-BeginsIf HasCome IsDrafting true before new = HasMade new.dialogue.dot [] [] × ((n : ℕ) (ts : List Transaction) → HasCome before n ts → IsDrafting new.delivery (n + 1) ts [])
+abbrev pub BeginsIf : {D : Type 0} → (D → ℕ → List Transaction → Type 0) → (D → ℕ → List Transaction → List ℕ → Type 0)
+    → Bool → D → Talk D → Type 0
+BeginsIf HasCome IsDrafting true before new = HasMade new.dialogue.dot [] []
+    × ((n : ℕ) (ts : List Transaction) → HasCome before n ts → IsDrafting new.delivery (n + 1) ts [])
 BeginsIf HasCome IsDrafting false before new = new.delivery ≡ before
 
 -- a line is taken
-pub record TakesLine {D : Type 0} (HasCome : D → ℕ → List Transaction → Type 0) (IsDrafting : D → ℕ → List Transaction → List ℕ → Type 0) (input : Input) (old new : Talk D) : Type 0 where
+pub record TakesLine {D : Type 0} (HasCome : D → ℕ → List Transaction → Type 0)
+    (IsDrafting : D → ℕ → List Transaction → List ℕ → Type 0) (input : Input) (old new : Talk D) : Type 0 where
   pub takes : TakesInputs (input ∷ []) old.dialogue new.dialogue old.peer new.peer
   pub begins : BeginsIf HasCome IsDrafting (is_content new.dialogue.session.session.state) old.delivery new
 
 -- the data ends
-pub record EndsData {D : Type 0} (HasCome : D → ℕ → List Transaction → Type 0) (IsDrafting : D → ℕ → List Transaction → List ℕ → Type 0) (old new : Talk D) : Type 0 where
+pub record EndsData {D : Type 0} (HasCome : D → ℕ → List Transaction → Type 0)
+    (IsDrafting : D → ℕ → List Transaction → List ℕ → Type 0) (old new : Talk D) : Type 0 where
   pub disposition : Disposition
   pub takes : TakesInputs (DataEnded disposition.verdict ∷ outcomes_of disposition disposition.verdict) old.dialogue new.dialogue old.peer new.peer
   pub fits : OutcomesFit old.dialogue.session.session.recipients disposition disposition.verdict
@@ -51,7 +56,8 @@ pub record EndsData {D : Type 0} (HasCome : D → ℕ → List Transaction → T
       → EndsDraft (HasCome new.delivery) n ts old.dialogue.session.session message disposition
 
 -- wherever the conversation stood before, it stands with these bytes more
-abbrev pub Advances : {D : Type 0} → (D → ℕ → List Transaction → Type 0) → (D → ℕ → List Transaction → List ℕ → Type 0) → Talk D → Talk D → List ℕ → Type 0
+abbrev pub Advances : {D : Type 0} → (D → ℕ → List Transaction → Type 0) → (D → ℕ → List Transaction → List ℕ → Type 0)
+    → Talk D → Talk D → List ℕ → Type 0
 Advances {D} HasCome IsDrafting old new more = (site : Site) (start : PeerState) (first : D) (handled came : List ℕ)
     → IsSoFar (beginning site start (HasCome first)) (standing_of HasCome IsDrafting old) handled came
     → IsSoFar (beginning site start (HasCome first)) (standing_of HasCome IsDrafting new) (handled ++ more) came

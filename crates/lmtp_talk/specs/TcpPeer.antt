@@ -7,16 +7,27 @@ use Rattle.lmtp_talk.specs.declared.tcp.peer.TcpPeer.{TcpPeer}
 use Rattle.lmtp_talk.specs.Peer.{PeerState, HasBrought, HasTransferred}
 use Rattle.lmtp_talk.specs.ReadBuffer.{waiting}
 
--- what its buffer has and then what the stream has left, where the stream tells it; how often it was read, failed and said stop
+-- what its buffer has and then what the stream has left, where the stream tells it; how often it was read, failed and
+-- said stop
 abbrev pub tcp_state : {T : Type 0} → (T → Option (List ℕ)) → TcpPeer T → PeerState
-tcp_state remaining p = record { read = None; unread = prepend_known (waiting p.buffer) (remaining p.stream); written = None; reads = p.reads; failures = p.failures; stops = p.stops; holds = [] }
+tcp_state remaining p = record {
+  read = None;
+  unread = prepend_known (waiting p.buffer) (remaining p.stream);
+  written = None;
+  reads = p.reads;
+  failures = p.failures;
+  stops = p.stops;
+  holds = [];
+}
 
 -- something waits, and nothing was handed out; or nothing came, and what the client did is so
 abbrev pub Fills : {T : Type 0} → (T → Option (List ℕ)) → TcpPeer T → TcpPeer T → Option Came → Type 0
-Fills remaining old new None = (0 < length (waiting new.buffer)) × HasTransferred (tcp_state remaining old) (tcp_state remaining new) [] []
+Fills remaining old new None = (0 < length (waiting new.buffer))
+    × HasTransferred (tcp_state remaining old) (tcp_state remaining new) [] []
 Fills remaining old new (Some came) = HasBrought (tcp_state remaining old) (tcp_state remaining new) [] came
 
--- one read fewer is left; where none was left, it says stop; what waits is handed out first; in neither case is the stream touched
+-- one read fewer is left; where none was left, it says stop; what waits is handed out first; in neither case is the
+-- stream touched
 pub record TakesRead {T E : Type 0} (old new : TcpPeer T) (result : Result Came E) : Type 0 where
   pub counts : new.reads_left ≡ old.reads_left - 1
   pub stops : old.reads_left ≡ 0 → result ≡ Ok Stop

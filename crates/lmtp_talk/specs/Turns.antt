@@ -26,7 +26,8 @@ pub record Greets (old new : Dialogue) (before after : PeerState) : Type 0 where
   pub said : HasSaid before after new.outbox [] (reply_text old.session.site Greeting)
 
 -- a draft is dropped, and where there is none all stays as it was
-abbrev pub Leaves : Bool → (ℕ → List Transaction → Type 0) → (ℕ → List Transaction → List ℕ → Type 0) → (ℕ → List Transaction → Type 0) → Type 0
+abbrev pub Leaves : Bool → (ℕ → List Transaction → Type 0) → (ℕ → List Transaction → List ℕ → Type 0)
+    → (ℕ → List Transaction → Type 0) → Type 0
 Leaves true Come Drafting Last = (n : ℕ) (ts : List Transaction) (message : List ℕ) → Drafting n ts message → Last n ts
 Leaves false Come Drafting Last = (n : ℕ) (ts : List Transaction) → Come n ts → Last n ts
 
@@ -37,19 +38,22 @@ pub record IsFurther (first : Beginning) (now : Standing) (handled : List ℕ) :
   pub stands : IsSoFar first now (handled ++ more) (handled ++ more)
 
 -- a turn after which the conversation goes on
-abbrev pub TakesTurn : {D : Type 0} → (D → ℕ → List Transaction → Type 0) → (D → ℕ → List Transaction → List ℕ → Type 0) → Talk D → Talk D → Type 0
+abbrev pub TakesTurn : {D : Type 0} → (D → ℕ → List Transaction → Type 0)
+    → (D → ℕ → List Transaction → List ℕ → Type 0) → Talk D → Talk D → Type 0
 TakesTurn {D} HasCome IsDrafting old new = (site : Site) (start : PeerState) (first : D) (handled : List ℕ)
     → IsSoFar (beginning site start (HasCome first)) (standing_of HasCome IsDrafting old) handled handled
     → IsFurther (beginning site start (HasCome first)) (standing_of HasCome IsDrafting new) handled
 
 -- what is behind the last turn of a conversation that may make so many reads
-abbrev pub EndsTurn : {D : Type 0} → (D → ℕ → List Transaction → Type 0) → (D → ℕ → List Transaction → List ℕ → Type 0) → ℕ → Talk D → Talk D → EndCause → Type 0
+abbrev pub EndsTurn : {D : Type 0} → (D → ℕ → List Transaction → Type 0) → (D → ℕ → List Transaction → List ℕ → Type 0)
+    → ℕ → Talk D → Talk D → EndCause → Type 0
 EndsTurn {D} HasCome IsDrafting reads old new end = (site : Site) (start : PeerState) (first : D) (handled : List ℕ)
     → IsSoFar (beginning site start (HasCome first)) (standing_of HasCome IsDrafting old) handled handled
     → IsServed (terms site reads) start new.peer (HasCome first) (HasCome new.delivery) end
 
 -- the bytes that have come are handled, and the conversation goes on, or it has ended with them
-abbrev pub HandlesPiece : {D : Type 0} → (D → ℕ → List Transaction → Type 0) → (D → ℕ → List Transaction → List ℕ → Type 0) → Talk D → Talk D → List ℕ → Type 0
+abbrev pub HandlesPiece : {D : Type 0} → (D → ℕ → List Transaction → Type 0)
+    → (D → ℕ → List Transaction → List ℕ → Type 0) → Talk D → Talk D → List ℕ → Type 0
 HandlesPiece {D} HasCome IsDrafting old new piece = (site : Site) (start : PeerState) (first : D) (handled : List ℕ)
     → IsSoFar (beginning site start (HasCome first)) (standing_of HasCome IsDrafting old) handled (handled ++ piece)
     → IsSoFar (beginning site start (HasCome first)) (standing_of HasCome IsDrafting new) (handled ++ piece) (handled ++ piece)

@@ -17,7 +17,8 @@ seen_parameter p = record { keyword = p.keyword.now; value = seen_value p.value 
 abbrev pub count_of : List ℕ → List m.Parameter → ℕ
 count_of word ps = length (filter (m.has_keyword word) ps)
 
--- the tally of these parameters: what is wrong counts only where all are known, what is too large only where none is wrong
+-- the tally of these parameters: what is wrong counts only where all are known, what is too large only where none is
+-- wrong
 pub record Tallies (t : Tally) (ps : List m.Parameter) : Type 0 where
   pub unknown : t.unknown ≡ not (list_all m.is_known ps)
   pub has_size : t.has_size ≡ nat_lt 0 (count_of (codes "SIZE") ps)

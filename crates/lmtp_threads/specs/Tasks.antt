@@ -180,7 +180,8 @@ HaveServedAll {V} {C} May view tasks new =
 abbrev pub HaveWorkedAll : {S : Type 0} → (S → SpoolState) → List (BoxTask S) → WorkersBack S → Type 0
 HaveWorkedAll {S} state tasks new =
     (site : Site) (channels : List (Channel Slip)) (old : WorkersGiven S)
-    → tasks ≡ box_tasks (share_of site old.quota) old.inboxes old.rows old.spools → length old.inboxes ≡ length old.spools
+    → tasks ≡ box_tasks (share_of site old.quota) old.inboxes old.rows old.spools
+    → length old.inboxes ≡ length old.spools
     → 0 < length channels → AreRows (length old.spools) channels none old.rows → HaveWorked site state channels old new
 
 -- a report's counts

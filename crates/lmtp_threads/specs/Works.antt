@@ -60,8 +60,8 @@ lane_told view before after count = record {
   count = count;
 }
 
--- A mailbox's worker took these copies, and its spool holds the records of those that it stored: each that is kept under
--- the quota, unless the spool failed.
+-- A mailbox's worker took these copies, and its spool holds the records of those that it stored: each that is kept
+-- under the quota, unless the spool failed.
 pub record IsBoxWork (at : Setting) (work : BoxWork) (old new : SpoolState) (tally : Tally) : Type 0 where
   -- how many bytes stand before the first record, and how many copies were over the quota
   pub start : ℕ

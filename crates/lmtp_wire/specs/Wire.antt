@@ -14,11 +14,13 @@ pub record WireView : Type 0 where
   pub line : List ℕ
   pub stage : Stage
 
--- what is kept of the bytes of a line: all while they are no more than a line may have, then only whether the last is CR
+-- what is kept of the bytes of a line: all while they are no more than a line may have, then only whether the last is
+-- CR
 abbrev pub Keeps : Stage → List ℕ → List ℕ → Type 0
 Keeps Between line taken = taken ≡ []
 Keeps Within line taken = (line ≡ taken) × (length taken ≤ LINE_LIMIT)
-Keeps (Beyond ends_in_cr) line taken = (line ≡ []) × (LINE_LIMIT < length taken) × (ends_in_cr ≡ ends_in (cr ∷ []) taken)
+Keeps (Beyond ends_in_cr) line taken = (line ≡ []) × (LINE_LIMIT < length taken)
+    × (ends_in_cr ≡ ends_in (cr ∷ []) taken)
 
 -- these bytes of a line were taken, and the line hasn't ended
 pub record IsBehind (wire : WireView) (taken : List ℕ) : Type 0 where
@@ -38,16 +40,20 @@ pub record EndsLine (new : WireView) (bytes : List ℕ) (before used end : ℕ) 
 
 abbrev pub TakesBy : Got → WireView → List ℕ → ℕ → ℕ → ℕ → Type 0
 TakesBy More new bytes before piece used = LineGoesOn new bytes piece used
-TakesBy Line new bytes before piece used = (end : ℕ) × EndsLine new bytes before used end × (end + 2 ≤ LINE_LIMIT) × (new.line ≡ take end bytes)
-TakesBy TooLong new bytes before piece used = (end : ℕ) × EndsLine new bytes before used end × (LINE_LIMIT < end + 2) × (new.line ≡ [])
+TakesBy Line new bytes before piece used = (end : ℕ) × EndsLine new bytes before used end × (end + 2 ≤ LINE_LIMIT)
+    × (new.line ≡ take end bytes)
+TakesBy TooLong new bytes before piece used = (end : ℕ) × EndsLine new bytes before used end × (LINE_LIMIT < end + 2)
+    × (new.line ≡ [])
 
 abbrev pub Takes : WireView → List ℕ → ℕ → ℕ → Took → Type 0
 Takes new bytes before piece took = TakesBy took.got new bytes before piece took.used
 
--- whether the line that began with the bytes taken ends in the piece, and how many bytes of the piece it then has, its CRLF among them
+-- whether the line that began with the bytes taken ends in the piece, and how many bytes of the piece it then has, its
+-- CRLF among them
 abbrev pub EndsIn : List ℕ → List ℕ → Option ℕ → Type 0
 EndsIn taken piece None = place_of crlf (taken ++ piece) ≡ None
-EndsIn taken piece (Some used) = (end : ℕ) × (place_of crlf (taken ++ piece) ≡ Some end) × (length taken + used ≡ end + 2)
+EndsIn taken piece (Some used) = (end : ℕ) × (place_of crlf (taken ++ piece) ≡ Some end)
+    × (length taken + used ≡ end + 2)
 
 -- what is answered to a line of these bytes, with its CRLF at their end
 abbrev pub IsLineEnd : Got → WireView → List ℕ → Type 0

@@ -120,7 +120,8 @@ rehearsal_fault ending = if is_device_fault ending then Some fault.Device else N
 
 -- what a server that ran lacks: a device's fault comes before a listener's
 abbrev pub server_fault : ServerEnding → Option Fault
-server_fault ending = if ending.faulty || ending.cut then Some fault.Device else if ending.failed then Some fault.Listen else None
+server_fault ending =
+    if ending.faulty || ending.cut then Some fault.Device else if ending.failed then Some fault.Listen else None
 
 -- what a check of files lacks
 abbrev pub check_fault : Bool → Option Fault

@@ -1,5 +1,5 @@
--- What a run of the program comes to: the words say what is asked for, and then come what was done, the lines on standard
--- error and the status.
+-- What a run of the program comes to: the words say what is asked for, and then come what was done, the lines on
+-- standard error and the status.
 use Rattle.std.specs.Prelude.{◌≡◌, ◌≢◌, ◌⊎◌, ℕ, true, List, [], ◌∷◌, ◌++◌, length, codes, Option, Some, None, Contains}
 use Rattle.std.specs.Net.Socket.{socket_port}
 use Rattle.std.specs.Net.Grammar.{IsSocketText}
@@ -64,13 +64,15 @@ IsNotRun IsSize fault.NoThread = IsSize
 IsNotRun IsSize fault.ChannelGone = IsSize
 IsNotRun IsSize _ = ⊥
 
--- A rehearsal that its words asked for was held: at the site that they name, at their moment, with as many blocks and under the quota that they say.
+-- A rehearsal that its words asked for was held: at the site that they name, at their moment, with as many blocks and
+-- under the quota that they say.
 pub record IsRehearsedAsAsked (words : RehearseWords) (old new : Streams) (ending : Ending) : Type 0 where
   pub sound : first_fault (named_site words.site) ≡ None
   pub blocks : IsBlockCount words.blocks
   pub rehearsed : IsRehearsed (named_site words.site) words.quota words.time old new ending
 
--- Why none was held: memory is wanting, and else the first fault of the site, and then one of the server that was to run.
+-- Why none was held: memory is wanting, and else the first fault of the site, and then one of the server that was to
+-- run.
 abbrev pub IsNotRehearsed : RehearseWords → Fault → Type 0
 IsNotRehearsed words f = (f ≡ fault.Memory)
     ⊎ ((first_fault (named_site words.site) ≡ Some f)
@@ -82,14 +84,21 @@ IsAddress text = (address : SocketAddr) × IsSocketText text address × (socket_
 
 -- the sizes that the words of a server ask for: a slot for each lane
 abbrev pub sizes_asked : ServeWords → Sizes
-sizes_asked words = record { blocks = words.blocks; slots = words.lanes; capacity = words.capacity; quota = words.quota }
+sizes_asked words = record {
+  blocks = words.blocks;
+  slots = words.lanes;
+  capacity = words.capacity;
+  quota = words.quota;
+}
 
 abbrev pub IsSizeAsked : ServeWords → Type 0
 IsSizeAsked words =
     IsSize (named_site words.site) (sizes_asked words) words.lanes (length words.site.boxes.items) (length words.site.boxes.items)
 
--- A server that its words asked for ran: where they say, at the site that they name, with their sizes, over a spool for each mailbox.
-pub record IsServedAsAsked (L G C : Type 0) {S : Type 0} (state : S → SpoolState) (words : ServeWords) (served : ServedRun) : Type 0 where
+-- A server that its words asked for ran: where they say, at the site that they name, with their sizes, over a spool for
+-- each mailbox.
+pub record IsServedAsAsked (L G C : Type 0) {S : Type 0} (state : S → SpoolState) (words : ServeWords)
+    (served : ServedRun) : Type 0 where
   pub address : IsAddress words.listen.now
   pub sound : first_fault (named_site words.site) ≡ None
   pub sizes : IsSizeAsked words
@@ -103,20 +112,23 @@ IsNotServedAt words (stop.Words error) = ⊥
 IsNotServedAt words (stop.Unopened name) = Contains words.site.boxes.items name
 IsNotServedAt words (stop.Fault f) = (f ≡ fault.Listen) ⊎ IsNotRun (IsSizeAsked words) f
 
--- Why none ran: memory is wanting, and else the first of the address, the site, the files, the listener and the server itself.
+-- Why none ran: memory is wanting, and else the first of the address, the site, the files, the listener and the server
+-- itself.
 abbrev pub IsNotServed : ServeWords → Stop → Type 0
 IsNotServed words s = (s ≡ stop.Fault fault.Memory)
     ⊎ (((f : Fault) × (s ≡ stop.Fault f) × IsRefused words.listen.now f)
     ⊎ (IsAddress words.listen.now × (((f : Fault) × (s ≡ stop.Fault f) × (first_fault (named_site words.site) ≡ Some f))
     ⊎ ((first_fault (named_site words.site) ≡ None) × IsNotServedAt words s))))
 
--- The files that its words name were checked: `remaining` is what contracts see of a file, `contents` of a writer, and `before` what
--- the writer held.
-abbrev pub IsCheckedAsAsked : {F W : Type 0} → (F → Option (List ℕ)) → (W → Option (List ℕ)) → Option (List ℕ) → CheckWords → CheckedFiles W → Type 0
+-- The files that its words name were checked: `remaining` is what contracts see of a file, `contents` of a writer, and
+-- `before` what the writer held.
+abbrev pub IsCheckedAsAsked : {F W : Type 0} → (F → Option (List ℕ)) → (W → Option (List ℕ)) → Option (List ℕ)
+    → CheckWords → CheckedFiles W → Type 0
 IsCheckedAsAsked remaining contents before words checked =
     IsChecked remaining (texts words.files.items) before (contents checked.writer) checked.findings.items checked.cut
 
--- why the program stopped early: clap's answer to its words, why there was no rehearsal or no server, or want of memory for a check
+-- why the program stopped early: clap's answer to its words, why there was no rehearsal or no server, or want of memory
+-- for a check
 abbrev pub IsStopped : List Text → Stop → Type 0
 IsStopped texts s = ((error : Error) × (s ≡ stop_for error)
     × (takes program_app texts ≡ true → (kind_of error ≡ OutOfMemory) ⊎ IsLacking (subcommand_of program_app texts)))
@@ -125,10 +137,11 @@ IsStopped texts s = ((error : Error) × (s ≡ stop_for error)
     ⊎ (((words : ServeWords) × IsAsked (subcommand_of program_app texts) (Serve words) × IsNotServed words s)
     ⊎ ((words : CheckWords) × IsAsked (subcommand_of program_app texts) (Check words) × (s ≡ stop.Fault fault.Memory))))
 
--- What the program did is what its words ask for: `streams` is what contracts see of a reader and a writer, `IsRun` says which runs of
--- a server its words ask for, and `IsCheck` which checks of files.
+-- What the program did is what its words ask for: `streams` is what contracts see of a reader and a writer, `IsRun`
+-- says which runs of a server its words ask for, and `IsCheck` which checks of files.
 module _ {R W : Type 0} where
-  abbrev pub IsDoneAsAsked : (R → W → Streams) → (ServeWords → ServedRun → Type 0) → (CheckWords → CheckedFiles W → Type 0) → List Text → Streams → Done R W → Type 0
+  abbrev pub IsDoneAsAsked : (R → W → Streams) → (ServeWords → ServedRun → Type 0)
+      → (CheckWords → CheckedFiles W → Type 0) → List Text → Streams → Done R W → Type 0
   IsDoneAsAsked streams IsRun IsCheck texts old (Rehearsed it) =
       (words : RehearseWords) × IsAsked (subcommand_of program_app texts) (Rehearse words)
       × IsRehearsedAsAsked words old (streams it.reader it.writer) it.ending
@@ -138,7 +151,8 @@ module _ {R W : Type 0} where
       (words : CheckWords) × IsAsked (subcommand_of program_app texts) (Check words) × IsCheck words it
   IsDoneAsAsked streams IsRun IsCheck texts old (Stopped s) = IsStopped texts s
 
-  -- the status of the program, and its lines on standard error: 0 only for what was done with no fault, sound files, and for help
+  -- the status of the program, and its lines on standard error: 0 only for what was done with no fault, sound files,
+  -- and for help
   abbrev pub exit_status : Done R W → ℕ
   exit_status (Rehearsed it) = status_after (rehearsal_fault it.ending)
   exit_status (Served it) = status_after (server_fault it.ending)

@@ -42,9 +42,10 @@ module _ {F : Type 0} (remaining : F → Option (List ℕ)) where
   IsFindingOf (Form bad) = (file : F) × IsFaultOf (remaining file) (fault.Form bad)
   IsFindingOf Unread = ⊤
 
-  -- What was found of the files of these names, and written of it from one state of a writer to the next: for each a finding
-  -- and its line, unless a write failed. Then of the first ones, and a front of their lines.
-  pub record IsChecked (names : List (List ℕ)) (before after : Option (List ℕ)) (findings : List Finding) (cut : Bool) : Type 0 where
+  -- What was found of the files of these names, and written of it from one state of a writer to the next: for each a
+  -- finding and its line, unless a write failed. Then of the first ones, and a front of their lines.
+  pub record IsChecked (names : List (List ℕ)) (before after : Option (List ℕ)) (findings : List Finding)
+      (cut : Bool) : Type 0 where
     pub within : length findings ≤ length names
     pub complete : cut ≡ false → length findings ≡ length names
     pub each : All IsFindingOf findings

@@ -13,7 +13,8 @@ pub record MailboxContent : Type 0 where
 
 -- a mailbox's spool, and what its worker says of it
 abbrev pub kept_all : List MemorySpool → List Tally → List MailboxContent
-kept_all (spool ∷ spools) (tally ∷ tallies) = record { bytes = spool.bytes; failed = tally.faulty } ∷ kept_all spools tallies
+kept_all (spool ∷ spools) (tally ∷ tallies) =
+    record { bytes = spool.bytes; failed = tally.faulty } ∷ kept_all spools tallies
 kept_all _ _ = []
 
 -- the line before a mailbox's bytes, and the bytes

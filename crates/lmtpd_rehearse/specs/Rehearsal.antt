@@ -37,13 +37,16 @@ abbrev pub told_of_box : Site → List ℕ → List Disposition → ℕ → List
 told_of_box site read account box = outcomes_told site box (conversation read account ∷ [])
 
 -- the mailboxes, in the order of the site, by that account and under that quota
-pub record AreMailboxes (site : Site) (quota : Option ℕ) (read : List ℕ) (account : List Disposition) (mailboxes : List MailboxContent) (faulty : Bool) : Type 0 where
+pub record AreMailboxes (site : Site) (quota : Option ℕ) (read : List ℕ) (account : List Disposition)
+    (mailboxes : List MailboxContent) (faulty : Bool) : Type 0 where
   pub count : length mailboxes ≡ length site.boxes
-  -- each took the copies that were due to it: the first were settled, kept or over the quota; once its spool failed, the others were told Failed
+  -- each took the copies that were due to it: the first were settled, kept or over the quota; once its spool failed,
+  -- the others were told Failed
   pub each : (box : ℕ) → box < length site.boxes
       → HoldsCopies civil_at site.host quota (copies_due site read account box) (told_of_box site read account box) (kept_at mailboxes box).bytes (kept_at mailboxes box).failed
   -- a spool failed only once its room was used up
-  pub full : (box : ℕ) → box < length site.boxes → (kept_at mailboxes box).failed ≡ true → length (kept_at mailboxes box).bytes ≡ MAILBOX_ROOM
+  pub full : (box : ℕ) → box < length site.boxes → (kept_at mailboxes box).failed ≡ true
+      → length (kept_at mailboxes box).bytes ≡ MAILBOX_ROOM
   -- a rehearsal is faulty exactly where a spool failed
   pub sound : (faulty ≡ false) ↔ IsCalm mailboxes
   -- and where it isn't, every outcome is Stored, or under a quota OverQuota
@@ -55,7 +58,8 @@ pub record AreMailboxes (site : Site) (quota : Option ℕ) (read : List ℕ) (ac
       → (kept_at mailboxes box).bytes ≡ mailbox civil_at site.host [] (kept civil_at site.host quota [] (copies_due site read account box))
 
 -- why the conversation ended
-pub record RehearsalEndsFor (site : Site) (read : List ℕ) (account : List Disposition) (left : Option (List ℕ)) (end : EndCause) : Type 0 where
+pub record RehearsalEndsFor (site : Site) (read : List ℕ) (account : List Disposition) (left : Option (List ℕ))
+    (end : EndCause) : Type 0 where
   pub quit : end ≡ Quit → has_quit (inputs site (conversation read account)) ≡ true
   pub quits : has_quit (inputs site (conversation read account)) ≡ true → (end ≡ Quit) ⊎ (end ≡ WriteFault)
   pub end_of_input : end ≡ EndOfInput → IsAtEnd left
@@ -67,8 +71,10 @@ pub record Streams : Type 0 where
   pub unread : Option (List ℕ)
   pub written : Option (List ℕ)
 
--- From a reader and a writer that stood so to ones that stand so, under a limit of bytes for each mailbox if there is one.
-pub record IsRehearsed (site : Site) (quota : Option ℕ) (moment : ℕ) (old new : Streams) (ending : Ending) : Type 0 where
+-- From a reader and a writer that stood so to ones that stand so, under a limit of bytes for each mailbox if there is
+-- one.
+pub record IsRehearsed (site : Site) (quota : Option ℕ) (moment : ℕ) (old new : Streams)
+    (ending : Ending) : Type 0 where
   pub read : List ℕ
   pub input : Consumes old.unread new.unread read
   pub account : List Disposition

@@ -42,9 +42,11 @@ pub record Extent : Type 0 where
   pub lanes : ℕ
   pub quota : Option ℕ
 
--- A server of this extent ran for the site, over clients of a listener whose conversations are logged, of whom it is told how many were handed back, and
--- these spools; what is told of each mailbox is what its worker counted, and it is faulty exactly where a worker is.
-pub record IsServerRun (L G C : Type 0) {S : Type 0} (site : Site) (state : S → SpoolState) (extent : Extent) (spools : List S) (served : Served) : Type 0 where
+-- A server of this extent ran for the site, over clients of a listener whose conversations are logged, of whom it is
+-- told how many were handed back, and these spools; what is told of each mailbox is what its worker counted, and it is
+-- faulty exactly where a worker is.
+pub record IsServerRun (L G C : Type 0) {S : Type 0} (site : Site) (state : S → SpoolState) (extent : Extent)
+    (spools : List S) (served : Served) : Type 0 where
   pub visits : List (LoggedVisits L G C)
   pub back : HandedBack (LoggedVisits L G C) S
   pub each_lane : length visits ≡ extent.lanes

@@ -79,14 +79,17 @@ abbrev pub quota_rule : Rule
 quota_rule = bytes_rule (codes "quota")
 
 abbrev pub rehearse_app : App
-rehearse_app = with_rule (with_rule (with_rule (with_rule (with_rule (with_rule (new_app (codes "rehearse")) host_rule) time_rule) domains_rule) blocks_rule) quota_rule) box_rule
+rehearse_app =
+    with_rule (with_rule (with_rule (with_rule (with_rule (with_rule (new_app (codes "rehearse")) host_rule) time_rule) domains_rule) blocks_rule) quota_rule) box_rule
 
 -- what must be given, and then what may be
 abbrev pub required_app : App
-required_app = with_rule (with_rule (with_rule (with_rule (new_app (codes "serve")) host_rule) listen_rule) dir_rule) connections_rule
+required_app =
+    with_rule (with_rule (with_rule (with_rule (new_app (codes "serve")) host_rule) listen_rule) dir_rule) connections_rule
 
 abbrev pub serve_app : App
-serve_app = with_rule (with_rule (with_rule (with_rule (with_rule (with_rule (with_rule (with_rule (with_rule required_app domains_rule) lanes_rule) blocks_rule) capacity_rule) reads_rule) timeout_rule) log_rule) quota_rule) box_rule
+serve_app =
+    with_rule (with_rule (with_rule (with_rule (with_rule (with_rule (with_rule (with_rule (with_rule required_app domains_rule) lanes_rule) blocks_rule) capacity_rule) reads_rule) timeout_rule) log_rule) quota_rule) box_rule
 
 abbrev pub file_rule : Rule
 file_rule = must (texts_rule (codes "file"))
@@ -95,7 +98,8 @@ abbrev pub check_app : App
 check_app = with_rule (new_app (codes "check")) file_rule
 
 abbrev pub bare_app : App
-bare_app = record (new_app (codes "lmtpd")) { top = record (new_app (codes "lmtpd")).top { has_version = true; subcommand_required = true } }
+bare_app =
+    record (new_app (codes "lmtpd")) { top = record (new_app (codes "lmtpd")).top { has_version = true; subcommand_required = true } }
 
 -- the whole command line
 abbrev pub program_app : App

@@ -109,7 +109,8 @@ abbrev pub LacksRehearse : List Row → Type 0
 LacksRehearse rows = LacksNumber (codes "time") rows ⊎ LacksSite rows
 
 abbrev pub LacksServe : List Row → Type 0
-LacksServe rows = LacksText (codes "listen") rows ⊎ (LacksText (codes "dir") rows ⊎ (LacksNumber (codes "connections") rows
+LacksServe rows =
+    LacksText (codes "listen") rows ⊎ (LacksText (codes "dir") rows ⊎ (LacksNumber (codes "connections") rows
     ⊎ (IsNoLevel (first_of (codes "log") rows) ⊎ LacksSite rows)))
 
 abbrev pub LacksCheck : List Row → Type 0

@@ -62,7 +62,8 @@ module _ {M : Type 0} where
   -- the first n lanes, which have sent nothing
   abbrev pub new_senders : Channel M → ℕ → List (Sender M)
   new_senders channel zero = []
-  new_senders channel (suc n) = new_senders channel n ++ record { channel = channel; number = n; sent = []; refused = false } ∷ []
+  new_senders channel (suc n) =
+      new_senders channel n ++ record { channel = channel; number = n; sent = []; refused = false } ∷ []
 
   -- the receiver that a channel begins with
   abbrev pub new_inbox : Channel M → ℕ → Inbox M
@@ -93,8 +94,8 @@ module _ {M : Type 0} where
     before_mark k (Copy m ∷ xs) = if lane m == k then with m (before_mark k xs) else before_mark k xs
     before_mark k (Mark j ∷ xs) = if j == k then Some [] else before_mark k xs
 
-    -- all lanes' marks were taken, and no message of a lane behind its mark. A mark carries its lane's number alone; that the messages in
-    -- front of it are all that the lane was told was accepted is the law NamesAll
+    -- all lanes' marks were taken, and no message of a lane behind its mark. A mark carries its lane's number alone;
+    -- that the messages in front of it are all that the lane was told was accepted is the law NamesAll
     abbrev pub IsDrained : Inbox M → Type 0
     IsDrained r = (k : ℕ) → k < r.lanes → before_mark k r.got ≡ Some (of lane k (taken r))
 
@@ -112,7 +113,8 @@ module _ {M : Type 0} where
     IsNext old new (Some (Ok post)) = (new.gone ≡ None) × (taken new ≡ taken old ++ post ∷ []) × (lane post < old.lanes)
     IsNext old new (Some (Err why)) = (new.gone ≡ Some why) × (taken new ≡ taken old) × (why ≡ Closed → IsDrained new)
 
--- what a receiver keeps of what its pass knows: the marks taken are counted, and it is closed only with those of all lanes
+-- what a receiver keeps of what its pass knows: the marks taken are counted, and it is closed only with those of all
+-- lanes
 pub record IsInbox {M : Type 0} (lane : M → ℕ) (lanes marks : ℕ) (gone : Option Gone) (v : View M) : Type 0 where
   pub knows : v ≡ taker lanes v.got
   pub fair : IsFair lane lanes v.got

@@ -34,7 +34,8 @@ IsAwaited g slip = (slip.txn ≡ g.txn) × (slice_get g.places slip.place ≡ So
 abbrev pub NoneNames : Txn → List Slip → Type 0
 NoneNames txn slips = AllByRecursion (λ slip. slip.txn ≢ txn) slips
 
--- the gatherer is for that transaction with n recipients, and each place has the outcome of the first of these slips that names it
+-- the gatherer is for that transaction with n recipients, and each place has the outcome of the first of these slips
+-- that names it
 pub record HasGathered (txn : Txn) (n : ℕ) (heard : List Slip) (g : Gather) : Type 0 where
   pub same : g.txn ≡ txn
   pub places : g.places ≡ answers txn n heard

@@ -23,8 +23,10 @@ module _ {M : Type 0} where
   given sender message true = record sender { sent = sender.sent ++ message ∷ [] }
   given sender message false = record sender { refused = true }
 
--- The sender at that place was offered the message, which its channel accepted, or handed back. A message may name its sender's number.
-pub record IsOffered {M : Type 0} (at : ℕ) (message : Sender M → M) (accepted : Bool) (old new : List (Sender M)) : Type 0 where
+-- The sender at that place was offered the message, which its channel accepted, or handed back. A message may name its
+-- sender's number.
+pub record IsOffered {M : Type 0} (at : ℕ) (message : Sender M → M) (accepted : Bool)
+    (old new : List (Sender M)) : Type 0 where
   pub sender : Sender M
   pub is : slice_get old at ≡ Some sender
   pub after : new ≡ slice_set old at (given sender (message sender) accepted)

@@ -26,5 +26,6 @@ module _ {M : Type 0} (lane : M → ℕ) where
 
   -- each lane's end knows just what the lane was told was accepted, and the receiver's what was taken
   abbrev pub AreTold : Type 0
-  AreTold = (items : List (Parcel M)) (views : List (View M)) (h : Carries lane items views) (pass : ℕ) (v : View M) → get_elem? views pass ≡ some v
+  AreTold = (items : List (Parcel M)) (views : List (View M)) (h : Carries lane items views) (pass : ℕ) (v : View M)
+      → get_elem? views pass ≡ some v
       → (v.sends ≡ true → h.traffic.sent v.lane ≡ v.sent) × (v.takes ≡ true → h.traffic.got ≡ v.got)

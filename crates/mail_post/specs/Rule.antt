@@ -21,7 +21,8 @@ pub record Traffic (M : Type 0) : Type 0 where
 module _ {M : Type 0} where
   -- the one pass of a lane knows what the lane was told was accepted, and whether it is closed
   abbrev pub FitsLane : Traffic M → ℕ → View M → Type 0
-  FitsLane t pass v = v.sends ≡ true → (t.seat v.lane ≡ some pass) × (t.sent v.lane ≡ v.sent) × (t.closed v.lane ≡ v.shut)
+  FitsLane t pass v = v.sends ≡ true → (t.seat v.lane ≡ some pass) × (t.sent v.lane ≡ v.sent)
+      × (t.closed v.lane ≡ v.shut)
 
   -- the receiver's pass knows how many lanes there are, and what was taken
   abbrev pub FitsTaker : Traffic M → ℕ → View M → Type 0
@@ -29,7 +30,8 @@ module _ {M : Type 0} where
 
   -- a lane of which all is known has no pass
   abbrev pub FitsKnown : Traffic M → View M → Type 0
-  FitsKnown t v = (k : ℕ) → k < length v.known → (k < t.lanes) × (t.seat k ≡ none) × (slice_index_or v.known k [] ≡ t.sent k)
+  FitsKnown t v = (k : ℕ) → k < length v.known → (k < t.lanes) × (t.seat k ≡ none)
+      × (slice_index_or v.known k [] ≡ t.sent k)
 
   abbrev pub Fits : Traffic M → ℕ → View M → Type 0
   Fits t pass v = FitsLane t pass v × FitsTaker t pass v × FitsKnown t v
@@ -37,17 +39,20 @@ module _ {M : Type 0} where
   module _ (lane : M → ℕ) where
     -- what was taken of a lane is messages, and behind them at most its mark; of other lanes nothing was taken
     abbrev pub IsFair : ℕ → List (Parcel M) → Type 0
-    IsFair lanes got = (k : ℕ) → ((s : List M) × (b : Bool) × (part lane k got ≡ all_of_lane k s b)) × (lanes ≤ k → part lane k got ≡ [])
+    IsFair lanes got = (k : ℕ) → ((s : List M) × (b : Bool) × (part lane k got ≡ all_of_lane k s b))
+        × (lanes ≤ k → part lane k got ≡ [])
 
     -- of a known lane, what was taken is the start of what it sent, and all of it where its mark was taken
     abbrev pub Agrees : View M → Type 0
     Agrees v = (k : ℕ) → k < length v.known
-        → IsFront (of lane k (messages v.got)) (slice_index_or v.known k []) × (has_mark k v.got ≡ true → of lane k (messages v.got) ≡ slice_index_or v.known k [])
+        → IsFront (of lane k (messages v.got)) (slice_index_or v.known k [])
+        × (has_mark k v.got ≡ true → of lane k (messages v.got) ≡ slice_index_or v.known k [])
 
--- the rule: the parcels of each lane, those taken and then those in the channel, are all that the lane was told was accepted, and behind that its mark
--- where it has put it; and nothing is of another than the lanes
+-- the rule: the parcels of each lane, those taken and then those in the channel, are all that the lane was told was
+-- accepted, and behind that its mark where it has put it; and nothing is of another than the lanes
 pub record Carries {M : Type 0} (lane : M → ℕ) (items : List (Parcel M)) (views : List (View M)) : Type 0 where
   pub traffic : Traffic M
   pub order : (k : ℕ) → part lane k (traffic.got ++ items) ≡ all_of_lane k (traffic.sent k) (traffic.closed k)
-  pub others : (k : ℕ) → traffic.lanes ≤ k → (traffic.seat k ≡ none) × (traffic.sent k ≡ []) × (traffic.closed k ≡ false)
+  pub others : (k : ℕ) → traffic.lanes ≤ k → (traffic.seat k ≡ none) × (traffic.sent k ≡ [])
+      × (traffic.closed k ≡ false)
   pub fits : (pass : ℕ) (v : View M) → get_elem? views pass ≡ some v → Fits traffic pass v

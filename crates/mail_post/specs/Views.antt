@@ -15,10 +15,28 @@ module _ {M : Type 0} where
 
   -- one that knows what the first lanes sent
   abbrev pub knower : List (List M) → View M
-  knower ls = record { sends = false; lane = 0; sent = []; shut = false; takes = false; lanes = 0; got = []; known = ls }
+  knower ls = record {
+    sends = false;
+    lane = 0;
+    sent = [];
+    shut = false;
+    takes = false;
+    lanes = 0;
+    got = [];
+    known = ls;
+  }
 
   abbrev pub settled : ℕ → List (Parcel M) → List (List M) → View M
-  settled n g ls = record { sends = false; lane = 0; sent = []; shut = false; takes = true; lanes = n; got = g; known = ls }
+  settled n g ls = record {
+    sends = false;
+    lane = 0;
+    sent = [];
+    shut = false;
+    takes = true;
+    lanes = n;
+    got = g;
+    known = ls;
+  }
 
   -- a lane's pass after its parcel
   abbrev pub put : View M → Parcel M → View M

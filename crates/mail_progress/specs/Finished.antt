@@ -29,18 +29,23 @@ pub record IsFinished (blocks : ℕ) (events : List Event) (h : House) : Type 0 
   pub collected : (k : ℕ) (lane : Lane) → LaneIs h k lane → lane.collected ≡ length lane.slips
   -- of each message as many copies were given away as it was sealed for, and each place has its answer
   pub given_away : (k : ℕ) (lane : Lane) → LaneIs h k lane → map (λ t. t.offered) lane.messages ≡ copies_sealed k events
-  pub answered : (k : ℕ) (lane : Lane) (i : ℕ) (t : SealedMessage) → LaneIs h k lane → slice_get lane.messages i ≡ Some t → AllByRecursion IsAnswered (answers (txn_of k t.number) t.offered lane.heard)
+  pub answered : (k : ℕ) (lane : Lane) (i : ℕ) (t : SealedMessage) → LaneIs h k lane
+      → slice_get lane.messages i ≡ Some t
+      → AllByRecursion IsAnswered (answers (txn_of k t.number) t.offered lane.heard)
   -- those of the last one are with the gatherer
   pub gathered : (k : ℕ) (lane : Lane) → LaneIs h k lane → AllByRecursion IsAnswered lane.gather.places
-  pub reclaimed : (i : ℕ) (slot : Slot) (bytes its : List ℕ) (weight : ℕ) → slice_get h.depot.slots i ≡ Some slot → slot.held ≡ Sealed bytes its weight → ⊥
+  pub reclaimed : (i : ℕ) (slot : Slot) (bytes its : List ℕ) (weight : ℕ) → slice_get h.depot.slots i ≡ Some slot
+      → slot.held ≡ Sealed bytes its weight → ⊥
   pub all_free : (x : ℕ) → occurrences x h.depot.free ≡ (if nat_lt x blocks then 1 else 0)
 
 -- where none of these events may follow, all is finished
 abbrev pub EndsFinished : Type 0
-EndsFinished = (room blocks : ℕ) (start : House) (run : List Happened) → IsStart blocks start → Run start run → IsOrderly room start run → 1 ≤ room
+EndsFinished = (room blocks : ℕ) (start : House) (run : List Happened) → IsStart blocks start → Run start run
+    → IsOrderly room start run → 1 ≤ room
     → let h = last_house start run in (1 ≤ start.capacity) ⊎ AreClosed h
     → (next : ℕ → ℕ) → AreThere next h → (MayGoOn room next h → ⊥) → IsFinished blocks (events_of run) h
 
 -- and where all is finished, none of them may
 abbrev pub FinishedIsStill : Type 0
-FinishedIsStill = (room blocks : ℕ) (next : ℕ → ℕ) (events : List Event) (h : House) → IsFinished blocks events h → MayGoOn room next h → ⊥
+FinishedIsStill = (room blocks : ℕ) (next : ℕ → ℕ) (events : List Event) (h : House) → IsFinished blocks events h
+    → MayGoOn room next h → ⊥

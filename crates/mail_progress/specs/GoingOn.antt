@@ -1,16 +1,21 @@
 -- Which events take further what is under way.
-use Rattle.std.specs.Prelude.{◌≡◌, ⊤, ℕ, ◌≤◌, true, ◌||◌, length, drop, IfSome}
+use Rattle.std.specs.Prelude.{◌≡◌, ⊤, ℕ, ◌≤◌, true, ◌||◌, List, length, drop, IfSome}
 use Rattle.mail_world.specs.declared.Event.{Event}
 use Rattle.mail_world.specs.declared.Event.TheVariants.{Begin, Put, Offer, HandBack, Write, Release, Close}
 use Rattle.mail_world.specs.Records.{record_of}
-use Rattle.mail_world.specs.House.{Box, House, is_settled}
+use Rattle.mail_world.specs.House.{Copy, Box, House, is_settled}
 use Rattle.mail_world.specs.Events.{BoxIs, MayHappen}
 use Rattle.mail_progress.specs.Orderly.{OfBox, IsInOrder}
 
 abbrev pub IsClosed : House → ℕ → Type 0
 IsClosed h b = (box : Box) × BoxIs h b box × (box.closed ≡ true)
 
--- The event does so, where each lane's next copy is for the mailbox in `next`. A lane hands back only what is for a closed channel, a worker writes all that
+-- what is still to be written of the copy's record
+abbrev rest_of : House → Copy → List ℕ
+rest_of h copy = drop copy.written (record_of h.calendar h.host copy.post.note)
+
+-- The event does so, where each lane's next copy is for the mailbox in `next`. A lane hands back only what is for a
+-- closed channel, a worker writes all that
 -- remains and lets go only of a copy that is synced, over its quota or a faulty worker's: to give up is no way out.
 abbrev pub GoesOn : (ℕ → ℕ) → House → Event → Type 0
 GoesOn next h (Begin k) = ⊥
@@ -18,7 +23,8 @@ GoesOn next h (Put k bytes) = ⊥
 GoesOn next h (Close b) = ⊥
 GoesOn next h (Offer k note) = note.mailbox ≡ next k
 GoesOn next h (HandBack k i b) = (b ≡ next k) × IsClosed h b
-GoesOn next h (Write w bytes) = (1 ≤ length bytes) × OfBox h w (λ box. IfSome box.hand (λ copy. drop copy.written (record_of h.calendar h.host copy.post.note) ≡ bytes))
+GoesOn next h (Write w bytes) = (1 ≤ length bytes)
+    × OfBox h w (λ box. IfSome box.hand (λ copy. rest_of h copy ≡ bytes))
 GoesOn next h (Release w) = OfBox h w (λ box. IfSome box.hand (λ copy. is_settled copy || box.faulty ≡ true))
 GoesOn next h _ = ⊤
 

@@ -10,7 +10,8 @@ use Rattle.mail_progress.specs.GoingOn.{GoesOn, MayGoOn}
 use Rattle.mail_progress.specs.NothingStuck.{AreThere, AreClosed}
 use Rattle.mail_progress.specs.Finished.{IsFinished}
 
--- The lower is tried first: a lane's draft, its copies one by one, then what the workers have, from the channel to the slip, then what the lanes collect,
+-- The lower is tried first: a lane's draft, its copies one by one, then what the workers have, from the channel to the
+-- slip, then what the lanes collect,
 -- and at last the messages that nobody holds. The events of the last rank never go on.
 abbrev pub rank : Event → ℕ
 rank (Seal k n) = 0
@@ -38,6 +39,8 @@ pub record IsFirst (room : ℕ) (next : ℕ → ℕ) (h : House) (event : Event)
 
 -- in each house of each orderly run all is finished, or there is a first event
 abbrev pub TriedInTurn : Type 0
-TriedInTurn = (room blocks : ℕ) (start : House) (run : List Happened) → IsStart blocks start → Run start run → IsOrderly room start run → 1 ≤ room
+TriedInTurn = (room blocks : ℕ) (start : House) (run : List Happened) → IsStart blocks start → Run start run
+    → IsOrderly room start run → 1 ≤ room
     → let h = last_house start run in (1 ≤ start.capacity) ⊎ AreClosed h
-    → (next : ℕ → ℕ) → AreThere next h → IsFinished blocks (events_of run) h ⊎ ((event : Event) × IsFirst room next h event)
+    → (next : ℕ → ℕ) → AreThere next h → IsFinished blocks (events_of run) h
+    ⊎ ((event : Event) × IsFirst room next h event)

@@ -1,6 +1,7 @@
 -- Whatever is under way can be moved, and by whom.
-use Rattle.std.specs.Prelude.{◌≡◌, ◌≢◌, ◌⊎◌, ℕ, ◌<◌, ◌≤◌, List, [], length, true, Some, None, slice_get, ◌==◌, ◌&&◌, map}
+use Rattle.std.specs.Prelude.{◌≡◌, ◌≢◌, ◌⊎◌, ℕ, Bool, ◌<◌, ◌≤◌, List, [], length, true, Some, None, slice_get, ◌==◌, ◌&&◌, map}
 use Rattle.std.specs.List.{list_any}
+use Rattle.mail_world.specs.declared.Txn.{Txn}
 use Rattle.mail_world.specs.declared.Event.{Event}
 use Rattle.mail_world.specs.declared.Event.TheVariants.{Begin, Put, Cancel, Seal, Split, Offer, HandBack, Collect, Take, Write, Sync, Release, GiveSlip, Reclaim, Close}
 use Rattle.mail_world.specs.Depot.{Key, Slot, Sealed}
@@ -62,10 +63,14 @@ abbrev pub IsHolder : (ℕ → Mover → Type 0) → House → Key → Mover →
 IsHolder Movers h key who = ((k : ℕ) × (lane : Lane) × LaneIs h k lane × HasHold key lane.holds × Movers k who)
     ⊎ ((w : ℕ) × (box : Box) × BoxIs h w box × HasHold key (map hold_of (posts_of box)) × (who ≡ WorkerOf w))
 
+-- a copy of the transaction for the place
+abbrev is_for : Txn → ℕ → Post → Bool
+is_for txn place post = is_same_txn post.note.txn txn && (post.note.place == place)
+
 -- a worker that has the copy for that place of the lane's last message, in hand or to take
 abbrev pub HasCopyFor : House → Lane → ℕ → Mover → Type 0
 HasCopyFor h lane place who = (w : ℕ) × (box : Box) × BoxIs h w box
-    × (list_any (λ (post : Post). is_same_txn post.note.txn lane.gather.txn && (post.note.place == place)) (on_way box) ≡ true) × (who ≡ WorkerOf w)
+    × (list_any (is_for lane.gather.txn place) (on_way box) ≡ true) × (who ≡ WorkerOf w)
 
 -- the next copies are for mailboxes of the house
 abbrev pub AreThere : (ℕ → ℕ) → House → Type 0
@@ -74,26 +79,34 @@ AreThere next h = (k : ℕ) (lane : Lane) → LaneIs h k lane → (box : Box) ×
 -- who moves each thing that is under way, where these move what a lane has to offer or to collect
 pub record NothingStuck (Movers : ℕ → Mover → Type 0) (room : ℕ) (next : ℕ → ℕ) (h : House) : Type 0 where
   -- a draft
-  pub draft : (k : ℕ) (lane : Lane) (key : Key) → LaneIs h k lane → lane.draft ≡ Some key → IsMovedBy (TheLane k) room next h
+  pub draft : (k : ℕ) (lane : Lane) (key : Key) → LaneIs h k lane → lane.draft ≡ Some key
+      → IsMovedBy (TheLane k) room next h
   -- a copy to offer
   pub to_offer : (k : ℕ) (lane : Lane) → LaneIs h k lane → lane.holds ≢ [] → IsMovedBy (Movers k) room next h
   -- a copy accepted
-  pub accepted : (w : ℕ) (box : Box) → BoxIs h w box → box.taken < length box.accepted → IsMovedBy (TheWorker w) room next h
+  pub accepted : (w : ℕ) (box : Box) → BoxIs h w box → box.taken < length box.accepted
+      → IsMovedBy (TheWorker w) room next h
   -- a copy taken, in hand or released, and so a slip to give
-  pub in_hand : (w : ℕ) (box : Box) (copy : Copy) → BoxIs h w box → box.hand ≡ Some copy → IsMovedBy (TheWorker w) room next h
+  pub in_hand : (w : ℕ) (box : Box) (copy : Copy) → BoxIs h w box → box.hand ≡ Some copy
+      → IsMovedBy (TheWorker w) room next h
   -- a slip to collect
-  pub to_collect : (k : ℕ) (lane : Lane) → LaneIs h k lane → lane.collected < length lane.slips → IsMovedBy (Movers k) room next h
-  -- an answer not given, in a place of the lane's last message: those of the ones before were given when the next one began
+  pub to_collect : (k : ℕ) (lane : Lane) → LaneIs h k lane → lane.collected < length lane.slips
+      → IsMovedBy (Movers k) room next h
+  -- an answer not given, in a place of the lane's last message: those before were given when the next one began
   pub unanswered : (k : ℕ) (lane : Lane) (place : ℕ) → LaneIs h k lane → slice_get lane.gather.places place ≡ Some None
       → IsMovedBy (λ who. Movers k who ⊎ HasCopyFor h lane place who) room next h
   -- a message sealed and not reclaimed: a holder lets go of it, and behind the last one it is reclaimed
-  pub sealed : (i : ℕ) (slot : Slot) (bytes blocks : List ℕ) (weight : ℕ) → slice_get h.depot.slots i ≡ Some slot → slot.held ≡ Sealed bytes blocks weight
-      → IsMovedBy (λ who. ((weight ≡ 0) × (who ≡ AnyHolder)) ⊎ IsHolder Movers h (record { slot = i; generation = slot.generation }) who) room next h
+  pub sealed : (i : ℕ) (slot : Slot) (bytes blocks : List ℕ) (weight : ℕ) → slice_get h.depot.slots i ≡ Some slot
+      → slot.held ≡ Sealed bytes blocks weight
+      → let key : Key = record { slot = i; generation = slot.generation } in
+      IsMovedBy (λ who. ((weight ≡ 0) × (who ≡ AnyHolder)) ⊎ IsHolder Movers h key who) room next h
 
 -- so it is in each house of each orderly run, where channels have a capacity and lanes room for slips
 abbrev pub NothingIsStuck : Type 0
-NothingIsStuck = (room blocks : ℕ) (start : House) (run : List Happened) → IsStart blocks start → Run start run → IsOrderly room start run → 1 ≤ room → 1 ≤ start.capacity
-    → (next : ℕ → ℕ) → AreThere next (last_house start run) → NothingStuck (LaneOrWorker next) room next (last_house start run)
+NothingIsStuck = (room blocks : ℕ) (start : House) (run : List Happened) → IsStart blocks start → Run start run
+    → IsOrderly room start run → 1 ≤ room → 1 ≤ start.capacity
+    → (next : ℕ → ℕ) → AreThere next (last_house start run)
+    → NothingStuck (LaneOrWorker next) room next (last_house start run)
 
 abbrev pub AreClosed : House → Type 0
 AreClosed h = (b : ℕ) (box : Box) → BoxIs h b box → box.closed ≡ true
@@ -104,5 +117,7 @@ ClosedStays = (h : House) (run : List Happened) → Run h run → AreClosed h �
 
 -- where all channels are closed, a lane waits for nobody, and no capacity is wanted
 abbrev pub NothingIsStuckWhenClosed : Type 0
-NothingIsStuckWhenClosed = (room blocks : ℕ) (start : House) (run : List Happened) → IsStart blocks start → Run start run → IsOrderly room start run → 1 ≤ room
-    → (next : ℕ → ℕ) → AreThere next (last_house start run) → AreClosed (last_house start run) → NothingStuck TheLane room next (last_house start run)
+NothingIsStuckWhenClosed = (room blocks : ℕ) (start : House) (run : List Happened) → IsStart blocks start
+    → Run start run → IsOrderly room start run → 1 ≤ room
+    → (next : ℕ → ℕ) → AreThere next (last_house start run) → AreClosed (last_house start run)
+    → NothingStuck TheLane room next (last_house start run)

@@ -42,7 +42,8 @@ on_way box = post_of box.hand ++ drop box.taken box.accepted
 -- the event finds the house as the order wants it, where a lane's channel has room for so many slips
 abbrev pub IsInOrder : ℕ → House → Event → Type 0
 IsInOrder room h (Offer k note) = OfBox h note.mailbox (λ box. not_taken box < h.capacity)
-IsInOrder room h (GiveSlip w outcome) = OfBox h w (λ box. IfSome box.hand (λ copy. OfLane h copy.post.note.txn.lane (λ lane. uncollected lane < room)))
+IsInOrder room h (GiveSlip w outcome) =
+    OfBox h w (λ box. IfSome box.hand (λ copy. OfLane h copy.post.note.txn.lane (λ lane. uncollected lane < room)))
 IsInOrder room h (Seal k n) = n ≤ room
 IsInOrder room h (Begin k) = OfLane h k IsDone
 IsInOrder room h (Collect k) = OfLane h k (λ lane. lane.holds ≡ [])

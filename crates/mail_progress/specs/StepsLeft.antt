@@ -14,13 +14,17 @@ use Rattle.mail_progress.specs.Orderly.{uncollected, IsInOrder, IsOrderly}
 abbrev pub size : House → Note → ℕ
 size h note = length (record_of h.calendar h.host note)
 
--- a copy that a channel accepted is taken, written by one byte at a time at the least, synced and released, and its slip is given and collected
+-- a copy that a channel accepted is taken, written by one byte at a time at the least, synced and released, and its
+-- slip is given and collected
 abbrev pub steps_of_copy : ℕ → ℕ
 steps_of_copy size = size + 5
 
 abbrev pub steps_in_hand : House → Option Copy → ℕ
 steps_in_hand h None = 0
-steps_in_hand h (Some copy) = if copy.released then 2 else if is_settled copy then 3 else (size h copy.post.note - copy.written) + 4
+steps_in_hand h (Some copy) =
+    if copy.released then 2
+    else if is_settled copy then 3
+    else (size h copy.post.note - copy.written) + 4
 
 -- a hold's weight is split into ones, and each is a copy to offer
 abbrev pub steps_of_one : ℕ → ℕ
@@ -33,20 +37,26 @@ abbrev pub steps_of_lane : ℕ → Lane → ℕ
 steps_of_lane bound lane = sum_by (steps_of_hold bound) lane.holds + uncollected lane
 
 abbrev pub steps_of_box : House → Box → ℕ
-steps_of_box h box = sum_by (λ post. steps_of_copy (size h post.note)) (drop box.taken box.accepted) + steps_in_hand h box.hand + (if box.closed then 0 else 1)
+steps_of_box h box =
+    sum_by (λ post. steps_of_copy (size h post.note)) (drop box.taken box.accepted) + steps_in_hand h box.hand
+    + (if box.closed then 0 else 1)
 
--- a draft grows by one byte at a time at the least, is sealed with at most so many copies as there is room for slips, and is reclaimed
+-- a draft grows by one byte at a time at the least, is sealed with at most so many copies as there is room for slips,
+-- and is reclaimed
 abbrev pub steps_of_slot : ℕ → ℕ → ℕ → Held → ℕ
 steps_of_slot blocks room bound Free = 0
-steps_of_slot blocks room bound (Draft bytes in_blocks) = (blocks * BLOCK_SIZE - length bytes) + room * steps_of_one bound + 2
+steps_of_slot blocks room bound (Draft bytes in_blocks) =
+    (blocks * BLOCK_SIZE - length bytes) + room * steps_of_one bound + 2
 steps_of_slot blocks room bound (Sealed bytes in_blocks weight) = 1
 steps_of_slot blocks room bound Retired = 0
 
 abbrev pub steps_left : ℕ → ℕ → ℕ → House → ℕ
 steps_left blocks room bound h =
-    sum_by (λ slot. steps_of_slot blocks room bound slot.held) h.depot.slots + sum_by (steps_of_lane bound) h.lanes + sum_by (steps_of_box h) h.boxes
+    sum_by (λ slot. steps_of_slot blocks room bound slot.held) h.depot.slots
+    + sum_by (steps_of_lane bound) h.lanes + sum_by (steps_of_box h) h.boxes
 
--- the event begins no message and adds some bytes where it adds bytes, and a copy that it offers has a record within the bound
+-- the event begins no message and adds some bytes where it adds bytes, and a copy that it offers has a record within
+-- the bound
 abbrev pub IsBounded : ℕ → House → Event → Type 0
 IsBounded bound h (Begin k) = ⊥
 IsBounded bound h (Put k bytes) = 1 ≤ length bytes
@@ -60,10 +70,14 @@ AreBounded bound h (x ∷ xs) = IsBounded bound h x.event × AreBounded bound x.
 
 -- each such event of an orderly run lowers the number
 abbrev pub EachLowers : Type 0
-EachLowers = (room blocks bound : ℕ) (start : House) (run : List Happened) (event : Event) (new : House) → IsStart blocks start → Run start run → IsOrderly room start run
-    → let h = last_house start run in Step h event new → IsInOrder room h event → IsBounded bound h event → steps_left blocks room bound new < steps_left blocks room bound h
+EachLowers = (room blocks bound : ℕ) (start : House) (run : List Happened) (event : Event) (new : House)
+    → IsStart blocks start → Run start run → IsOrderly room start run
+    → let h = last_house start run in Step h event new → IsInOrder room h event → IsBounded bound h event
+    → steps_left blocks room bound new < steps_left blocks room bound h
 
 -- so there are at most so many of them
 abbrev pub Ends : Type 0
-Ends = (room blocks bound : ℕ) (start : House) (before after : List Happened) → IsStart blocks start → Run start (before ++ after) → IsOrderly room start (before ++ after)
-    → let h = last_house start before in AreBounded bound h after → length after + steps_left blocks room bound (last_house h after) ≤ steps_left blocks room bound h
+Ends = (room blocks bound : ℕ) (start : House) (before after : List Happened) → IsStart blocks start
+    → Run start (before ++ after) → IsOrderly room start (before ++ after)
+    → let h = last_house start before in AreBounded bound h after
+    → length after + steps_left blocks room bound (last_house h after) ≤ steps_left blocks room bound h

@@ -1,4 +1,5 @@
--- What a command line means (RFC 5321, 4.1.1; RFC 2033, 4.1; RFC 1870, 3; RFC 6152, 2). The first rule that fits decides.
+-- What a command line means (RFC 5321, 4.1.1; RFC 2033, 4.1; RFC 1870, 3; RFC 6152, 2). The first rule that fits
+-- decides.
 use Rattle.std.specs.Prelude.{ℕ, ◌-◌, Bool, false, not, ◌&&◌, ◌||◌, ◌==◌, nat_lt, List, [], ◌∷◌, length, take, drop, filter, if◌then◌else◌, Option, Some, None, Result, Ok, Err, codes}
 use Rattle.std.specs.List.{list_any, list_all, prefix_len, suffix_len, before_first, after_first, slice_split, filter_map}
 use Rattle.std.specs.Char.{is_ascii_digit}
@@ -38,11 +39,13 @@ is_word word text = str_eq_ignore_ascii_case text word
 
 -- what stands behind `FROM:` or `TO:` and spaces, if the text begins so
 abbrev pub behind_label : List ℕ → List ℕ → Option (List ℕ)
-behind_label label text = if is_word label (take (length label) text) then Some (behind_spaces (drop (length label) text)) else None
+behind_label label text =
+    if is_word label (take (length label) text) then Some (behind_spaces (drop (length label) text)) else None
 
 -- `LHLO` names the client
 abbrev pub is_client_name : List ℕ → Bool
-is_client_name text = is_between 1 NAME_LIMIT (length text) && list_all (λ b. is_visible b && not (has_byte (codes "()<>;,\"\\") b)) text
+is_client_name text =
+    is_between 1 NAME_LIMIT (length text) && list_all (λ b. is_visible b && not (has_byte (codes "()<>;,\"\\") b)) text
 
 -- parameters: what stands before the first equals sign, and what stands behind it if there is one
 pub record Parameter : Type 0 where
@@ -59,7 +62,8 @@ abbrev pub is_empty : List ℕ → Bool
 is_empty text = length text == 0
 
 abbrev pub parameters : List ℕ → List Parameter
-parameters text = filter_map (λ piece. if is_empty piece then None else Some (parameter piece)) (slice_split (λ b. b == space) text)
+parameters text =
+    filter_map (λ piece. if is_empty piece then None else Some (parameter piece)) (slice_split (λ b. b == space) text)
 
 abbrev pub has_keyword : List ℕ → Parameter → Bool
 has_keyword word p = is_word word p.keyword
@@ -93,7 +97,8 @@ is_too_large p = has_keyword (codes "SIZE") p && is_above_limit p.value
 abbrev pub mail_with : List ℕ → List Parameter → Answer
 mail_with sender ps =
     if not (list_all is_known ps) then Err bad.Parameter
-    else if not (list_all is_well_valued ps) || stands_twice (codes "SIZE") ps || stands_twice (codes "BODY") ps then Err bad.Arguments
+    else if not (list_all is_well_valued ps) || stands_twice (codes "SIZE") ps
+    || stands_twice (codes "BODY") ps then Err bad.Arguments
     else if list_any is_too_large ps then Err bad.TooLarge
     else Ok (Mail sender)
 
@@ -108,11 +113,13 @@ ends_path rest = is_empty rest || begins space rest
 -- what stands behind `FROM:`, behind `TO:`
 abbrev pub mail_path : Option (Found (List ℕ)) → Answer
 mail_path None = Err bad.SenderSyntax
-mail_path (Some found) = if ends_path found.rest then mail_with found.value (parameters found.rest) else Err bad.SenderSyntax
+mail_path (Some found) =
+    if ends_path found.rest then mail_with found.value (parameters found.rest) else Err bad.SenderSyntax
 
 abbrev pub rcpt_path : Option (Found Path) → Answer
 rcpt_path None = Err bad.RecipientSyntax
-rcpt_path (Some found) = if ends_path found.rest then rcpt_with found.value.target (parameters found.rest) else Err bad.RecipientSyntax
+rcpt_path (Some found) =
+    if ends_path found.rest then rcpt_with found.value.target (parameters found.rest) else Err bad.RecipientSyntax
 
 abbrev pub mail : Option (List ℕ) → Answer
 mail None = Err bad.Arguments
@@ -143,4 +150,5 @@ by_verb verb rest =
 
 -- the verb stands before the first space, the rest behind it and behind further spaces
 unfoldable pub command : List ℕ → Answer
-command line = let w = trimmed line in by_verb (before_first (λ b. b == space) w) (behind_spaces (after_first (λ b. b == space) w))
+command line =
+    let w = trimmed line in by_verb (before_first (λ b. b == space) w) (behind_spaces (after_first (λ b. b == space) w))

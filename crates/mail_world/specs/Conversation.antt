@@ -32,11 +32,13 @@ pub record Cut : Type 0 where
   pub dispositions : List Disposition
 
 abbrev pub cut_line : List ℕ → List Disposition → Option Cut
-cut_line s ds = option_map (λ n. record { part = CommandLine (take n s); size = n + 2; dispositions = ds }) (place_of crlf s)
+cut_line s ds =
+    option_map (λ n. record { part = CommandLine (take n s); size = n + 2; dispositions = ds }) (place_of crlf s)
 
 abbrev pub cut_data : List ℕ → List Disposition → Option Cut
 cut_data s [] = None
-cut_data s (d ∷ ds) = option_map (λ n. record { part = MailData (take (n + 3) s) d; size = n + 3; dispositions = ds }) (data_end s)
+cut_data s (d ∷ ds) =
+    option_map (λ n. record { part = MailData (take (n + 3) s) d; size = n + 3; dispositions = ds }) (data_end s)
 
 -- the part that stands at the front, if it has ended
 abbrev pub cut : State → List ℕ → List Disposition → Option Cut
@@ -98,7 +100,8 @@ OutcomesFit recipients d _ = ⊤
 abbrev pub AllFit : Site → Session → List Part → Type 0
 AllFit site session [] = ⊤
 AllFit site session (CommandLine text ∷ ps) = AllFit site (session_after site session (inputs_of (CommandLine text))) ps
-AllFit site session (MailData text d ∷ ps) = OutcomesFit session.recipients d d.verdict × AllFit site (session_after site session (inputs_of (MailData text d))) ps
+AllFit site session (MailData text d ∷ ps) = OutcomesFit session.recipients d d.verdict
+    × AllFit site (session_after site session (inputs_of (MailData text d))) ps
 
 abbrev pub NoDataEnded : State → List ℕ → Type 0
 NoDataEnded Content s = data_end s ≡ None

@@ -12,7 +12,8 @@ use Rattle.mail_world.specs.Records.{Calendar, record_of}
 
 -- the outcomes of the recipients whose mailbox is that one, in the order of their commands
 abbrev pub outcomes_for : ℕ → List ℕ → List Outcome → List Outcome
-outcomes_for box (b ∷ boxes) (o ∷ outcomes) = if b == box then o ∷ outcomes_for box boxes outcomes else outcomes_for box boxes outcomes
+outcomes_for box (b ∷ boxes) (o ∷ outcomes) =
+    if b == box then o ∷ outcomes_for box boxes outcomes else outcomes_for box boxes outcomes
 outcomes_for box _ _ = []
 
 -- what the recipients of a transaction were told of the copies that it owed the mailbox (RFC 2033, 4.2)

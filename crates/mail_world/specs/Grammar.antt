@@ -36,13 +36,14 @@ pub record IsSomeOf (p : ℕ → Bool) (text : List ℕ) : Type 0 where
   pub nonempty : 0 < length text
   pub each : list_all p text ≡ true
 
--- what stands between the quotes of a local part: bytes from 32 to 126, a quote only behind a backslash, and each backslash before the byte that it goes with.
--- `escaped`: such a backslash stands before the text
+-- what stands between the quotes of a local part: bytes from 32 to 126, a quote only behind a backslash, and each
+-- backslash before the byte that it goes with. `escaped`: such a backslash stands before the text
 abbrev pub IsQuotedText : Bool → List ℕ → Type 0
 IsQuotedText false [] = ⊤
 IsQuotedText true [] = ⊥
 IsQuotedText true (b ∷ text) = (is_between 32 126 b ≡ true) × IsQuotedText false text
-IsQuotedText false (b ∷ text) = ((b == byte "\"") ≡ false) × (is_between 32 126 b ≡ true) × IsQuotedText (b == byte "\\") text
+IsQuotedText false (b ∷ text) = ((b == byte "\"") ≡ false) × (is_between 32 126 b ≡ true)
+    × IsQuotedText (b == byte "\\") text
 
 abbrev pub IsLocalPart : Bool → List ℕ → Type 0
 IsLocalPart false text = IsSomeOf is_plain text

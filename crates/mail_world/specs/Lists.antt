@@ -83,7 +83,8 @@ copies_owed lane box ts = filter (λ note. note.mailbox == box) (flat_map (copie
 unfoldable pub due : Site → ℕ → ℕ → List Conversation → List Note
 due site lane box cs = copies_owed lane box (transactions site 0 cs)
 
--- the verdict is TooLarge exactly where the message is above the limit and the lane had a number left for it; once it has none the verdict is NoRoom
+-- the verdict is TooLarge exactly where the message is above the limit and the lane had a number left for it; once it
+-- has none the verdict is NoRoom
 pub record VerdictFits (t : Transaction) : Type 0 where
   pub too_large : (t.disposition.verdict ≡ verdicts.TooLarge) ↔ ((MESSAGE_LIMIT < length t.message) × (t.number ≤ NUMBER_LIMIT))
   pub no_number : NUMBER_LIMIT < t.number → t.disposition.verdict ≡ verdicts.NoRoom
@@ -99,4 +100,5 @@ abbrev pub VerdictsFit : Site → List Conversation → Type 0
 VerdictsFit site cs = AllByRecursion VerdictFits (transactions site 0 cs)
 
 abbrev pub OutcomesAreAnswers : Site → ℕ → List Slip → List Conversation → Type 0
-OutcomesAreAnswers site lane slips cs = AllByRecursion (λ t. OutcomesIn lane slips t t.disposition.verdict) (transactions site 0 cs)
+OutcomesAreAnswers site lane slips cs =
+    AllByRecursion (λ t. OutcomesIn lane slips t t.disposition.verdict) (transactions site 0 cs)

@@ -32,8 +32,10 @@ marked _ _ = []
 abbrev pub kept : Calendar → List ℕ → Option ℕ → List ℕ → List Note → List Note
 kept calendar host quota old notes = marked (are_kept calendar host quota old notes) notes
 
--- what is told of notes, by whether each is kept: the first so many were settled, so that a kept one is Stored and any other OverQuota; those behind are Failed
+-- what is told of notes, by whether each is kept: the first so many were settled, so that a kept one is Stored and any
+-- other OverQuota; those behind are Failed
 abbrev pub outcomes_settled : ℕ → List Bool → List Outcome
 outcomes_settled settled [] = []
 outcomes_settled zero (is_kept ∷ marks) = Failed ∷ outcomes_settled zero marks
-outcomes_settled (suc settled) (is_kept ∷ marks) = (if is_kept then Stored else OverQuota) ∷ outcomes_settled settled marks
+outcomes_settled (suc settled) (is_kept ∷ marks) =
+    (if is_kept then Stored else OverQuota) ∷ outcomes_settled settled marks

@@ -1,4 +1,5 @@
--- The session (RFC 5321, 4.1.4, for the order of commands; RFC 2033, 4.2, for a reply to each recipient after the data).
+-- The session (RFC 5321, 4.1.4, for the order of commands; RFC 2033, 4.2, for a reply to each recipient after the
+-- data).
 use Rattle.std.specs.Prelude.{ℕ, nat_lt, List, [], ◌∷◌, ◌++◌, length, zip, map, if◌then◌else◌, Option, Some, None, Result, Ok, Err}
 use Rattle.mail_world.specs.declared.Outcome.{Outcome}
 use Rattle.mail_world.specs.declared.Outcome.TheVariants as outcomes
@@ -24,7 +25,8 @@ pub record Session : Type 0 where
 abbrev pub fresh : Session
 fresh = record { state = Fresh; client = []; sender = []; recipients = [] }
 
--- what a session is given: a line without its CRLF, a line that is too long, what was found at the end of data, what became of the copies, the order to stop
+-- what a session is given: a line without its CRLF, a line that is too long, what was found at the end of data, what
+-- became of the copies, the order to stop
 pub data Input : Type 0 where
   Line : (text : List ℕ) → Input
   LongLine : Input
@@ -49,7 +51,8 @@ abbrev pub greeted : List ℕ → Session
 greeted client = record { state = Greeted; client = client; sender = []; recipients = [] }
 
 abbrev pub on_mail : State → Session → List ℕ → Transition
-on_mail Greeted s sender = says replies.SenderOk (record { state = Sender; client = s.client; sender = sender; recipients = [] })
+on_mail Greeted s sender =
+    says replies.SenderOk (record { state = Sender; client = s.client; sender = sender; recipients = [] })
 on_mail _ s sender = says replies.OutOfOrder s
 
 -- a recipient whose mailbox is known, or isn't
@@ -94,10 +97,14 @@ result_for_all o boxes = map (λ box. replies.Result o box) boxes
 
 abbrev pub on_verdict : Session → Verdict → Transition
 on_verdict s verdicts.Whole = record { replies = []; next = moved_to Waiting s }
-on_verdict s verdicts.TooLarge = record { replies = result_for_all outcomes.TooLarge s.recipients; next = greeted s.client }
+on_verdict s verdicts.TooLarge = record {
+  replies = result_for_all outcomes.TooLarge s.recipients;
+  next = greeted s.client;
+}
 on_verdict s verdicts.NoRoom = record { replies = result_for_all outcomes.NoRoom s.recipients; next = greeted s.client }
 
--- The table. A line comes in the first four states, a verdict in Content, outcomes in Waiting, one for each recipient, and stop in any of the first five.
+-- The table. A line comes in the first four states, a verdict in Content, outcomes in Waiting, one for each recipient,
+-- and stop in any of the first five.
 abbrev pub step : Site → Session → Input → Transition
 step site s (Line text) = on_command site s (command text)
 step site s LongLine = says replies.LineTooLong s

@@ -18,7 +18,9 @@ box_name site n = unwrap_or (slice_get site.boxes n) []
 
 -- a host or a domain that a site may have: letters, digits, dashes and dots (RFC 5321, 2.3.5)
 abbrev pub is_host_name : List ℕ → Bool
-is_host_name text = nat_le 1 (length text) && nat_le (length text) NAME_LIMIT && list_all (λ b. is_ascii_alphanumeric b || has_byte (codes "-.") b) text
+is_host_name text =
+    nat_le 1 (length text) && nat_le (length text) NAME_LIMIT
+    && list_all (λ b. is_ascii_alphanumeric b || has_byte (codes "-.") b) text
 
 -- a mailbox's name, which is a file's name too
 abbrev pub is_box_name : List ℕ → Bool

@@ -7,7 +7,8 @@ use Rattle.mail_world.specs.Text.{lf, ends_in}
 use Rattle.mbox_rd.specs.declared.spool.Tail.{Tail}
 use Rattle.mbox_rd.specs.declared.spool.Tail.TheVariants.{Empty, NoLf, OneLf, TwoLf}
 
--- What contracts see of a spool: what it holds and how many bytes it may hold, where it tells; how often it failed; how many of its first bytes the last good sync covered; how many bytes it holds.
+-- What contracts see of a spool: what it holds and how many bytes it may hold, where it tells; how often it failed; how
+-- many of its first bytes the last good sync covered; how many bytes it holds.
 pub record SpoolState : Type 0 where
   pub bytes : Option (List ℕ)
   pub failures : ℕ
@@ -57,7 +58,8 @@ pub record HasSynced (old new : SpoolState) : Type 0 where
   pub covered : CoversAll new.bytes new.synced
   pub as_long : new.held ≡ old.held
 
--- a sync failed, which one of a spool with a limit does only once it is full: the spool holds what it held, and no more of it is covered
+-- a sync failed, which one of a spool with a limit does only once it is full: the spool holds what it held, and no more
+-- of it is covered
 pub record HasNotSynced (old new : SpoolState) : Type 0 where
   pub kept : Keeps old.bytes new.bytes
   pub failed : Rises old.failures new.failures

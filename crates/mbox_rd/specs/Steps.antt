@@ -18,4 +18,5 @@ pub record IsWriterStep (before : Pending) (piece : List ℕ) (step : Step) : Ty
   pub taken : step.taken ≤ length piece
   pub next : IsPending step.next
   pub smaller : 2 * (length piece - step.taken) + pending_weight step.next < 2 * length piece + pending_weight before
-  pub goes : (rest : List ℕ) → step_text step piece ++ bytes_owed step.next (drop step.taken piece ++ rest) ≡ bytes_owed before (piece ++ rest)
+  pub goes : (rest : List ℕ) → step_text step piece
+      ++ bytes_owed step.next (drop step.taken piece ++ rest) ≡ bytes_owed before (piece ++ rest)

@@ -31,7 +31,9 @@ entries_of depot = map entry_of depot.slots
 
 -- the slot behind a message of that generation
 abbrev pub slot_given_back : ℕ → d.Slot
-slot_given_back generation = if nat_lt generation d.last_generation then record { generation = generation + 1; held = d.Free } else record { generation = generation; held = d.Retired }
+slot_given_back generation =
+    if nat_lt generation d.last_generation then record { generation = generation + 1; held = d.Free }
+    else record { generation = generation; held = d.Retired }
 
 -- a message keeps the holds that it was sealed with in the arena's count, until it goes
 abbrev pub HasCount : d.Held → Type 0
@@ -45,8 +47,8 @@ pub record Unnamed : Type 0 where
   pub table : TableId
   pub depot : d.Depot
 
--- The keeper's seat is of the named table and knows the arena's messages, in as many slots as there are words for. Each block is
--- in one message or free, and stands there once.
+-- The keeper's seat is of the named table and knows the arena's messages, in as many slots as there are words for. Each
+-- block is in one message or free, and stands there once.
 pub record IsKeeper (named table : TableId) (me : Me (Unit {0}) View) (depot : d.Depot) : Type 0 where
   pub same_table : table ≡ named
   pub knows : me ≡ (resting (entries_of depot), [])

@@ -66,7 +66,8 @@ generation_at es i = (entry_at es i).generation
 
 -- the keeper's view with a new draft in a slot
 abbrev pub begun : View → ℕ → View
-begun v i = keeping (entered v.book i (entry Drafted (generation_at v.book i) [])) Draft (claim i (generation_at v.book i) [] 0)
+begun v i =
+    keeping (entered v.book i (entry Drafted (generation_at v.book i) [])) Draft (claim i (generation_at v.book i) [] 0)
 
 -- a step that begins one in the slot of its word
 abbrev pub Begun : Step (Unit {0}) → Me (Unit {0}) View → ℕ → Me (Unit {0}) View → Type 0
@@ -78,7 +79,8 @@ longer c bs = claim c.slot c.generation (c.bytes ++ bs) c.weight
 
 -- the keeper's view with more bytes in the draft that it has joined
 abbrev pub put : View → List ℕ → View
-put v bs = keeping (entered v.book v.claim.slot (entry Drafted v.claim.generation (v.claim.bytes ++ bs))) Draft (longer v.claim bs)
+put v bs =
+    keeping (entered v.book v.claim.slot (entry Drafted v.claim.generation (v.claim.bytes ++ bs))) Draft (longer v.claim bs)
 
 -- a step that adds them
 abbrev pub Put : List ℕ → Step (Unit {0}) → Me (Unit {0}) View → ℕ → Me (Unit {0}) View → Type 0
@@ -86,7 +88,8 @@ Put bs st me n me' = me' ≡ (put me.0 bs, me.1)
 
 -- the keeper's view with the draft that it has joined as a message of a weight
 abbrev pub sealed : View → ℕ → View
-sealed v n = keeping (entered v.book v.claim.slot (entry Sealed v.claim.generation v.claim.bytes)) Hold (weighing v.claim n)
+sealed v n =
+    keeping (entered v.book v.claim.slot (entry Sealed v.claim.generation v.claim.bytes)) Hold (weighing v.claim n)
 
 -- a step that adds that weight to the word
 abbrev pub SealedBy : Step (Unit {0}) → Me (Unit {0}) View → ℕ → Me (Unit {0}) View → Type 0

@@ -104,7 +104,9 @@ Weighs Spent n = n ≡ 0
 
 -- what a view claims is the keeper's entry of that slot
 abbrev pub MatchesEntry : List Entry → View → Type 0
-MatchesEntry book v = (v.kind ≢ Nothing → get_elem? book v.claim.slot ≡ some (entry (phase_of v.kind) v.claim.generation v.claim.bytes)) × Weighs v.kind v.claim.weight
+MatchesEntry book v =
+    (v.kind ≢ Nothing → get_elem? book v.claim.slot ≡ some (entry (phase_of v.kind) v.claim.generation v.claim.bytes))
+    × Weighs v.kind v.claim.weight
 
 -- a free slot has no claim; a slot in use has one Draft's view, or a weight above 0, or one Spent's view with weight 0
 abbrev pub Used : Phase → ℕ → ℕ → ℕ → Type 0
@@ -119,7 +121,8 @@ word_of i = (i + 1) * WORDS_PER_SLOT
 
 -- a slot's word is its generation and its weight
 abbrev pub IsWordOf : Entry → ℕ → ℕ → ℕ → ℕ → Type 0
-IsWordOf e n w d s = (n ≡ e.generation * GENERATION_UNIT + w) × (w ≤ RECIPIENT_LIMIT) × (e.generation ≤ last_generation) × Used e.phase w d s
+IsWordOf e n w d s = (n ≡ e.generation * GENERATION_UNIT + w) × (w ≤ RECIPIENT_LIMIT)
+    × (e.generation ≤ last_generation) × Used e.phase w d s
 
 -- The rule. One seat at most is the keeper's, and what it knows is the book, which has an entry for each slot; what any
 -- seat claims is an entry of the book; and each slot's word, entry and claims go together.
@@ -129,7 +132,8 @@ pub record ObeysHoldRule (words : List ℕ) (views : List View) : Type 0 where
   pub long : length words ≡ word_of (length book)
   pub keeper : (j : ℕ) (v : View) → get_elem? views j ≡ some v → v.keeps ≡ true → (j ≡ seat) × (v.book ≡ book)
   pub fits : (j : ℕ) (v : View) → get_elem? views j ≡ some v → MatchesEntry book v
-  pub stands : (i : ℕ) (e : Entry) → get_elem? book i ≡ some e → IsWordOf e (slice_index words (word_of i)) (total (at i weight) views) (total (at i drafts) views) (total (at i spents) views)
+  pub stands : (i : ℕ) (e : Entry) → get_elem? book i ≡ some e
+      → IsWordOf e (slice_index words (word_of i)) (total (at i weight) views) (total (at i drafts) views) (total (at i spents) views)
 
 -- the entries of slots that have had no message
 abbrev pub free_slots : ℕ → ℕ → List Entry
