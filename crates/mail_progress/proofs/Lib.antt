@@ -1,4 +1,5 @@
 pub mod Started
+pub mod EndsOfRuns
 pub mod Still
 pub mod NoCapacity
 pub mod NoRoomForSlips
