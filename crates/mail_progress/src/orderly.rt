@@ -10,7 +10,8 @@ ghost use Rattle.mail_progress.specs.Orderly.{IsOrderly};
 ghost use Rattle.mail_progress.specs.Finished.{IsFinished};
 ghost use Rattle.std.specs.Prelude.{take};
 
-/// Orderly runs exist. In one, with room for one slip, a copy is delivered, its channel is drained, and all is finished.
+/// Orderly runs exist. In one, with room for one slip, a copy is delivered, its channel is drained, and all is
+/// finished.
 pub fn an_orderly_run_delivers()
     ensures { (start : House) × (run : List Happened) × (note : Note) × IsStart 2 start × Run start run
         × IsOrderly 1 start run
