@@ -53,3 +53,9 @@ pub const SLOT_LIMIT: u32 = 64;
 
 /// The copies that a mailbox's channel may hold.
 pub const CAPACITY_LIMIT: u32 = 1024;
+
+/// The seconds that a turn at a mailbox is waited for.
+pub const LOCK_WAIT_LIMIT: u32 = 3_600;
+
+/// The permission bits that a mailbox's file may have.
+pub const MODE_LIMIT: u32 = 0o777;
