@@ -1,5 +1,5 @@
 -- Texts that a spool takes one after another.
-use Rattle.std.proofs.Common.{◌≡◌, ℕ, ◌+◌, ◌-◌, ◌<◌, arith, List, ◌++◌, length, Option, Some, None, Result, Ok, Err, take, drop, get_or, sym, ap, ◌∙◌, subst, append_assoc}
+use Rattle.std.proofs.Common.{◌≡◌, ◌||◌, ℕ, ◌+◌, ◌-◌, ◌<◌, arith, List, ◌++◌, length, Option, Some, None, Result, Ok, Err, take, drop, get_or, sym, ap, ◌∙◌, subst, append_assoc}
 use Rattle.std.proofs.lemmas.List.{take-append-drop, take_rest, drop_more, length-append}
 use Rattle.std.proofs.lemmas.List.Concat.{flat_map-append}
 use Rattle.std.specs.List.{flat_map}
@@ -7,7 +7,8 @@ use Rattle.std.specs.Result.{OnOk, OnErr}
 use Rattle.std.specs.Io.KnownBytes.{Appends}
 use Rattle.mail_world.specs.Counts.{counted}
 use Rattle.mail_world.specs.Failures.{Rises}
-use Rattle.mbox_rd.specs.Spool.{SpoolState, SpoolTook, SpoolFailed, Grows}
+use Rattle.mbox_rd.specs.Sharing.{Sharing}
+use Rattle.mbox_rd.specs.Spool.{SpoolState, SpoolTook, SpoolFailed, IsSameTurn, FailsTurn, Grows}
 
 pub Appends-then : (u v w : Option (List ℕ)) (a b : List ℕ) → Appends u v a → Appends v w b → Appends u w (a ++ b)
 Appends-then None v w a b x y = tt
@@ -21,6 +22,14 @@ counted_then u v w m n x y = grind (arith)
 
 Grows-then : (u v w : ℕ) (a b : List ℕ) → Grows u v (length a) → Grows v w (length b) → Grows u w (length (a ++ b))
 Grows-then u v w a b x y = rw (length-append a b) (counted_then u v w (length a) (length b) x y)
+
+-- a turn stays, and then stays or fails
+IsSameTurn-then : (s t u : Sharing) → IsSameTurn s t → IsSameTurn t u → IsSameTurn s u
+IsSameTurn-then s t u x y = y ∙ ap (λ (v : Sharing). record v { is_unsynced = u.is_unsynced }) x
+
+FailsTurn-then : (s t u : Sharing) → IsSameTurn s t → FailsTurn t u → FailsTurn s u
+FailsTurn-then s t u x y =
+    y ∙ ap (λ (v : Sharing). record v { has_failed = v.has_failed || v.in_turn; is_unsynced = u.is_unsynced }) x
 
 pub OnErr-any : {T E Q : Type 0} (r : Result T E) → Q → OnErr r Q
 OnErr-any (Ok x) q = tt
@@ -48,6 +57,7 @@ SpoolTook-then s t u a b x y = record {
   limited = y.limited ∙ x.limited;
   covered = y.covered ∙ x.covered;
   grown = Grows-then s.held t.held u.held a b x.grown y.grown;
+  turn = IsSameTurn-then s.sharing t.sharing u.sharing x.turn y.turn;
 }
 
 -- a failure in the first text, in the second
@@ -62,6 +72,7 @@ SpoolFailed-first s t a b x = record {
   covered = x.covered;
   grown = x.grown;
   full = x.full;
+  turn = x.turn;
 }
 
 pub SpoolFailed-later : (s t u : SpoolState) (a b : List ℕ) → SpoolTook s t a → SpoolFailed t u b → SpoolFailed s u (a ++ b)
@@ -75,6 +86,7 @@ SpoolFailed-later s t u a b x y = record {
   covered = y.covered ∙ x.covered;
   grown = Grows-then s.held t.held u.held a y.front x.grown y.grown;
   full = y.full;
+  turn = FailsTurn-then s.sharing t.sharing u.sharing x.turn y.turn;
 }
 
 -- the spool took the text up to the rest

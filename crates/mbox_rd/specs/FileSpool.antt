@@ -18,6 +18,8 @@ pub record FileSpool (F : Type 0) : Type 0 where
   pub failures : ℕ
   -- how long the file was when it was opened, and the bytes taken since; it stays at 2^64 - 1
   pub held : ℕ
+  -- an append stands after the last good sync
+  pub is_unsynced : Bool
 
 -- the file's bytes and then what waits, where the file's are known
 abbrev pub contents_of : {F : Type 0} → (F → Option (List ℕ)) → FileSpool F → Option (List ℕ)

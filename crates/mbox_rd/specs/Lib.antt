@@ -1,4 +1,5 @@
 pub mod Envelope
+pub mod Sharing
 pub mod Spool
 pub mod MemorySpool
 pub mod FileSpool

@@ -1,5 +1,5 @@
 -- What contracts see of a spool in memory.
-use Rattle.std.specs.Prelude.{ℕ, List}
+use Rattle.std.specs.Prelude.{ℕ, Bool, List}
 
 pub record MemorySpool : Type 0 where
   pub bytes : List ℕ
@@ -8,3 +8,5 @@ pub record MemorySpool : Type 0 where
   pub failures : ℕ
   -- how many of its first bytes the last sync covered
   pub synced : ℕ
+  -- an append stands after the last sync
+  pub is_unsynced : Bool

@@ -1,5 +1,5 @@
 //! A mailbox in a file: what it takes waits in a buffer, and a sync writes it and has it kept.
-ghost use Rattle.std.specs.Prelude.{◌≡◌, ◌↔◌, ◌+◌, ◌-◌, ◌^◌, ◌<◌, ◌≤◌, [], true, min, length, take, None, IsErr, IfOk};
+ghost use Rattle.std.specs.Prelude.{◌≡◌, ◌↔◌, ◌+◌, ◌-◌, ◌^◌, ◌<◌, ◌≤◌, [], true, false, min, length, take, None, IsErr, IfOk};
 ghost use Rattle.std.specs.Prelude.{OnOk, OnErr};
 ghost use Rattle.std.specs.Io.Buffered.{writer_buffer, writer_contents};
 ghost use Rattle.std.specs.Io.KnownBytes.{Appends, Keeps};
@@ -8,7 +8,7 @@ ghost use Rattle.mail_world.specs.Counts.{counted};
 ghost use Rattle.mail_world.specs.Failures.{Rises};
 ghost use Rattle.mbox_rd.specs.Spool.{SpoolTook, SpoolFailed, HasSynced, HasNotSynced};
 
-use crate::spool::{Spool, SpoolFault, Tail, tail_of};
+use crate::spool::{InUse, Spool, SpoolFault, Tail, tail_of};
 use core::mem::replace_with;
 use std::alloc::Global;
 use std::fs::{File, Files, OpenFile, OpenOptions};
@@ -59,6 +59,7 @@ pub struct FileSpool<F: Write + Drop> {
     tail: Tail,
     failures: u64,
     held: u64,
+    is_unsynced: bool,
 }
 
 #[derive(Drop)]
@@ -79,6 +80,7 @@ impl<F: Write + Drop> Model for FileSpool<F> {
       tail = s.tail;
       failures = s.failures;
       held = s.held;
+      is_unsynced = s.is_unsynced;
     } };
 }
 
@@ -110,6 +112,7 @@ impl<F: Read + Write + Seek + OpenFile + FileLock + Drop> FileSpool<F> {
             tail: end.tail,
             failures: 0,
             held: end.at,
+            is_unsynced: false,
         })
     }
 }
@@ -215,9 +218,28 @@ fn write_and_keep<F: Write + OpenFile + Drop>(writer: &mut BufWriter<F>) -> io::
 
 impl<F: Write + OpenFile + Drop> Spool for FileSpool<F> {
     ghost use Rattle.std.specs.Prelude.{None};
+    ghost use Rattle.mbox_rd.specs.Sharing.{alone};
     ghost use Rattle.mbox_rd.specs.FileSpool.{StaysSound, Breaks, contents_of, failed_again};
 
-    ghost state = { λ s. record { bytes = None; failures = s.failures; limit = None; synced = 0; held = s.held } };
+    ghost state = { λ s. record {
+      bytes = None;
+      failures = s.failures;
+      limit = None;
+      synced = 0;
+      held = s.held;
+      sharing = alone s.is_unsynced;
+    } };
+
+    /// Other programs that lock as mail programs do aren't kept out, so that it has to be nobody else's.
+    fn is_shared(&self) -> bool {
+        false
+    }
+
+    fn lock(&mut self) -> Result<Option<u64>, InUse> {
+        Ok(None)
+    }
+
+    fn unlock(&mut self) {}
 
     /// Fills the buffer, and writes it where it is full.
     fn append(&mut self, piece: &[u8]) -> Result<usize, SpoolFault>
@@ -235,6 +257,9 @@ impl<F: Write + OpenFile + Drop> Spool for FileSpool<F> {
             (⟦<FileSpool<F> as Spool>⟧.state self.new) (take n piece.now)) }
         ensures err { OnErr result (SpoolFailed (⟦<FileSpool<F> as Spool>⟧.state self.old)
             (⟦<FileSpool<F> as Spool>⟧.state self.new) piece.now) }
+        ensures unsynced { OnOk result ((⟦<FileSpool<F> as Spool>⟧.state self.new).sharing.is_unsynced ≡ true) }
+        ensures outside { (⟦<FileSpool<F> as Spool>⟧.state self.old).sharing.is_shared ≡ true
+            → (⟦<FileSpool<F> as Spool>⟧.state self.old).sharing.in_turn ≡ false → IsErr result }
     {
         let Sink::Sound(writer) = &mut self.sink else {
             return Err(self.fail());
@@ -243,6 +268,7 @@ impl<F: Write + OpenFile + Drop> Spool for FileSpool<F> {
             Ok(0) | Err(_) => Err(self.fail()),
             Ok(n) => {
                 self.held = self.held.saturating_add(n as u64);
+                self.is_unsynced = true;
                 Ok(n)
             }
         }
@@ -263,11 +289,16 @@ impl<F: Write + OpenFile + Drop> Spool for FileSpool<F> {
             (⟦<FileSpool<F> as Spool>⟧.state self.new)) }
         ensures err { OnErr result (HasNotSynced (⟦<FileSpool<F> as Spool>⟧.state self.old)
             (⟦<FileSpool<F> as Spool>⟧.state self.new)) }
+        ensures outside { (⟦<FileSpool<F> as Spool>⟧.state self.old).sharing.is_shared ≡ true
+            → (⟦<FileSpool<F> as Spool>⟧.state self.old).sharing.in_turn ≡ false → IsErr result }
     {
         match &mut self.sink {
             Sink::Broken(_) => Err(self.fail()),
             Sink::Sound(writer) => match write_and_keep(writer) {
-                Ok(()) => Ok(()),
+                Ok(()) => {
+                    self.is_unsynced = false;
+                    Ok(())
+                }
                 Err(_) => Err(self.fail()),
             },
         }

@@ -23,4 +23,4 @@ pub use memory::MemorySpool;
 pub use mending::mend;
 pub use reading::{BadMailbox, read_mailbox};
 pub use record::RecordWriter;
-pub use spool::{Spool, SpoolFault, Tail};
+pub use spool::{InUse, Spool, SpoolFault, Tail};

@@ -1,11 +1,12 @@
 //! A spool in memory, with a bound on what it takes.
 ghost use Rattle.std.specs.Prelude.{◌≡◌, ◌↔◌, ◌+◌, ◌-◌, ◌^◌, ◌<◌, ◌≤◌, ◌++◌, length, take, min, IsOk, IsErr, IfOk};
-ghost use Rattle.std.specs.Prelude.{OnOk, OnErr, Some};
+ghost use Rattle.std.specs.Prelude.{OnOk, OnErr, Some, true, false};
 ghost use Rattle.std.specs.Option.{IfSome};
 ghost use Rattle.mail_world.specs.Counts.{counted};
 ghost use Rattle.mbox_rd.specs.Spool.{SpoolTook, SpoolFailed, HasSynced, HasNotSynced, tail_of};
+ghost use Rattle.mbox_rd.specs.Sharing.{alone};
 
-use crate::spool::{Spool, SpoolFault, Tail, tail_of};
+use crate::spool::{InUse, Spool, SpoolFault, Tail, tail_of};
 use std::alloc::{AllocError, Global};
 use std::marker::Model;
 
@@ -16,6 +17,7 @@ pub struct MemorySpool {
     room: usize,
     failures: u64,
     synced: usize,
+    is_unsynced: bool,
 }
 
 impl Model for MemorySpool {
@@ -29,6 +31,7 @@ impl Model for MemorySpool {
       room = s.room;
       failures = s.failures;
       synced = s.synced;
+      is_unsynced = s.is_unsynced;
     } };
 
     ghost invariant = { λ s. vec_len s.bytes + s.room ≤ vec_capacity s.bytes };
@@ -42,6 +45,7 @@ impl MemorySpool {
           room = room;
           failures = 0;
           synced = 0;
+          is_unsynced = false;
         }) }
     {
         let mut bytes = Vec::from_slice(alloc, old)?;
@@ -51,6 +55,7 @@ impl MemorySpool {
             room,
             failures: 0,
             synced: 0,
+            is_unsynced: false,
         })
     }
 
@@ -69,7 +74,18 @@ impl Spool for MemorySpool {
       limit = Some (length s.bytes + s.room);
       synced = s.synced;
       held = length s.bytes;
+      sharing = alone s.is_unsynced;
     } };
+
+    fn is_shared(&self) -> bool {
+        false
+    }
+
+    fn lock(&mut self) -> Result<Option<u64>, InUse> {
+        Ok(None)
+    }
+
+    fn unlock(&mut self) {}
 
     /// Takes as much as there is room for, and fails where there is none.
     fn append(&mut self, piece: &[u8]) -> Result<usize, SpoolFault>
@@ -81,6 +97,7 @@ impl Spool for MemorySpool {
           room = self.old.room - n;
           failures = self.old.failures;
           synced = self.old.synced;
+          is_unsynced = true;
         }) }
         ensures failed { OnErr result (self.new
             ≡ record self.old { failures = min (self.old.failures + 1) (2 ^ 64 - 1) }) }
@@ -93,6 +110,9 @@ impl Spool for MemorySpool {
         ensures err { OnErr result
             (SpoolFailed (⟦<MemorySpool as Spool>⟧.state self.old)
             (⟦<MemorySpool as Spool>⟧.state self.new) piece.now) }
+        ensures unsynced { OnOk result ((⟦<MemorySpool as Spool>⟧.state self.new).sharing.is_unsynced ≡ true) }
+        ensures outside { (⟦<MemorySpool as Spool>⟧.state self.old).sharing.is_shared ≡ true
+            → (⟦<MemorySpool as Spool>⟧.state self.old).sharing.in_turn ≡ false → IsErr result }
     {
         if self.room == 0 {
             self.failures = self.failures.saturating_add(1);
@@ -103,21 +123,25 @@ impl Spool for MemorySpool {
             unreachable!();
         }
         self.room -= n;
+        self.is_unsynced = true;
         Ok(n)
     }
 
     /// Covers all that it holds.
     fn sync(&mut self) -> Result<(), SpoolFault>
         ensures sound { IsOk result }
-        ensures new { self.new ≡ record self.old { synced = length self.old.bytes } }
+        ensures new { self.new ≡ record self.old { synced = length self.old.bytes; is_unsynced = false } }
 
         // what every spool ensures
         ensures ok { OnOk result
             (HasSynced (⟦<MemorySpool as Spool>⟧.state self.old) (⟦<MemorySpool as Spool>⟧.state self.new)) }
         ensures err { OnErr result
             (HasNotSynced (⟦<MemorySpool as Spool>⟧.state self.old) (⟦<MemorySpool as Spool>⟧.state self.new)) }
+        ensures outside { (⟦<MemorySpool as Spool>⟧.state self.old).sharing.is_shared ≡ true
+            → (⟦<MemorySpool as Spool>⟧.state self.old).sharing.in_turn ≡ false → IsErr result }
     {
         self.synced = self.bytes.len();
+        self.is_unsynced = false;
         Ok(())
     }
 
