@@ -7,6 +7,7 @@ use Rattle.mail_world.specs.Counts.{counted}
 use Rattle.mail_world.specs.Quotas.{fits}
 use Rattle.mail_world.specs.Records.{mended}
 use Rattle.mail_world.specs.Text.{lf, ends_in}
+use Rattle.mbox_rd.specs.Sharing.{Sharing}
 use Rattle.mbox_rd.specs.Spool.{SpoolState, tail_of}
 use Rattle.mbox_rd.specs.declared.spool.Tail.{Tail}
 use Rattle.mbox_rd.specs.declared.spool.Tail.TheVariants.{Empty, NoLf, OneLf, TwoLf}
@@ -58,15 +59,15 @@ pub record HasStart (spool : SpoolState) (tail : Tail) (held : ℕ) : Type 0 whe
   pub is : StartsAt spool start
   pub count : counted (held + missing tail) ≡ counted start
 
-start_by : (bytes : Option (List ℕ)) (failures : ℕ) (limit : Option ℕ) (synced had : ℕ) (tail : Tail) (held : ℕ)
+start_by : (bytes : Option (List ℕ)) (failures : ℕ) (limit : Option ℕ) (synced had : ℕ) (sharing : Sharing) (tail : Tail) (held : ℕ)
     → IfSome bytes (λ b. tail ≡ tail_of b) → held ≡ counted had → IfSome bytes (λ b. held ≡ counted (length b))
-    → HasStart (record { bytes = bytes; failures = failures; limit = limit; synced = synced; held = had }) tail held
-start_by None failures limit synced had tail held ends says known = record {
+    → HasStart (record { bytes = bytes; failures = failures; limit = limit; synced = synced; held = had; sharing = sharing }) tail held
+start_by None failures limit synced had sharing tail held ends says known = record {
   start = had + missing tail;
   is = record { mending = missing tail; within = missing_most tail; grown = refl; known = tt };
   count = rw says (omega arith);
 }
-start_by (Some b) failures limit synced had tail held ends says known =
+start_by (Some b) failures limit synced had sharing tail held ends says known =
     let same : missing tail ≡ length (mended b) = ap missing ends ∙ sym (mending_size b) in
     let long = length-append b (mended b) in
     record {
@@ -77,4 +78,4 @@ start_by (Some b) failures limit synced had tail held ends says known =
 
 pub starts_at : (spool : SpoolState) (tail : Tail) (held : ℕ) → IfSome spool.bytes (λ b. tail ≡ tail_of b) → held ≡ counted spool.held
     → IfSome spool.bytes (λ b. held ≡ counted (length b)) → HasStart spool tail held
-starts_at spool tail held ends says known = start_by spool.bytes spool.failures spool.limit spool.synced spool.held tail held ends says known
+starts_at spool tail held ends says known = start_by spool.bytes spool.failures spool.limit spool.synced spool.held spool.sharing tail held ends says known

@@ -4,3 +4,4 @@ pub mod Counting
 pub mod Settling
 pub mod Telling
 pub mod Handling
+pub mod Turning

@@ -75,6 +75,13 @@ counted_text s t text held none x says = let e : s.held + length text ≡ length
 some_head : (calendar : Calendar) (host : List ℕ) (envelope : Envelope) → 1 ≤ length (head_text calendar host envelope)
 some_head calendar host envelope = omega arith
 
+-- a record ends with LF
+pub some_record : (calendar : Calendar) (host : List ℕ) (envelope : Envelope) (message : List ℕ) → 1 ≤ length (record_text calendar host envelope message)
+some_record calendar host envelope message =
+    let long = ap length (record_split calendar host envelope message) in
+    let last = length-append (head_text calendar host envelope ++ quoted_text (unix message)) (lf ∷ []) in
+    omega (arith, long, last)
+
 -- a record is its head and its text
 module _ (calendar : Calendar) (host : List ℕ) (envelope : Envelope) (message : List ℕ) (first : Pending) (begins : BeginsRecord first) where
   abbrev head : List ℕ

@@ -8,8 +8,11 @@ use Rattle.mail_world.specs.Failures.{Rises}
 use Rattle.mail_world.specs.Records.{Calendar, record_of, mailbox}
 use Rattle.mail_world.specs.Deliveries.{IsTorn}
 use Rattle.mail_world.proofs.Spools.{mailbox-one_more}
+use Rattle.mbox_rd.specs.Sharing.{Sharing}
 use Rattle.mbox_rd.specs.Spool.{SpoolState, CoversAll}
-use Rattle.box_worker.specs.Stored.{HasKept, HasNotKept, IsTornAt, mailbox_of, HasStored}
+use Rattle.mail_world.specs.declared.Outcome.{Outcome}
+use Rattle.mail_world.specs.declared.Outcome.TheVariants.{Stored, Failed, NoRoom, TooLarge, OverQuota}
+use Rattle.box_worker.specs.Stored.{HasKept, HasNotKept, IsTornAt, MailboxState, mailbox_of, CountedMailbox, TakesCopy, Tallies, HasStored}
 
 one_more : (copies : List Note) (note : Note) → length (copies ++ note ∷ []) ≡ length copies + 1
 one_more copies note = length-append copies (note ∷ [])
@@ -107,6 +110,7 @@ module _ (calendar : Calendar) (host : List ℕ) (note : Note) where
           torn = λ e. not_both e;
           covered = λ some. covered_all old.bytes t.bytes (copies ++ note ∷ []) (n + 1) t.synced now whole y.covered;
           unsynced = λ none. absurd (omega arith);
+          kept = λ sound some. ap (λ (h : Sharing). h.is_unsynced) y.turn;
         }
 
     -- the spool failed at the copy
@@ -125,6 +129,7 @@ module _ (calendar : Calendar) (host : List ℕ) (note : Note) where
           torn = λ e. torn_first old.bytes s.bytes t.bytes copies n y.front y.rest all y.whole (x.whole refl) y.appended;
           covered = λ some. covered_later old.bytes copies n s.synced t.synced (omega arith) y.covered (x.covered some);
           unsynced = λ none. y.covered ∙ x.unsynced none;
+          kept = λ e. absurd (true≢false e);
         }
 
     -- the spool had failed before
@@ -144,6 +149,7 @@ module _ (calendar : Calendar) (host : List ℕ) (note : Note) where
           torn = λ e. torn_later old.bytes s.bytes copies n within (x.torn e);
           covered = λ some. covered_later old.bytes copies n s.synced s.synced within refl (x.covered some);
           unsynced = x.unsynced;
+          kept = λ e. absurd (true≢false e);
         })
 
     -- a copy over the quota leaves the spool alone
@@ -159,4 +165,13 @@ module _ (calendar : Calendar) (host : List ℕ) (note : Note) where
       torn = x.torn;
       covered = x.covered;
       unsynced = x.unsynced;
+      kept = x.kept;
     }
+
+-- what is counted follows from what is done
+pub tallies_of : (text : List ℕ) (outcome : Outcome) (old new : CountedMailbox) → TakesCopy text outcome old new → Tallies outcome old.mailbox new.mailbox
+tallies_of text Stored old new take = (ap (λ (m : MailboxState). m.stored) take.3, ap (λ (m : MailboxState). m.over) take.3)
+tallies_of text OverQuota old new take = (ap (λ (m : MailboxState). m.stored) take.3, ap (λ (m : MailboxState). m.over) take.3)
+tallies_of text Failed old new take = (ap (λ (m : MailboxState). m.stored) take.0, ap (λ (m : MailboxState). m.over) take.0)
+tallies_of text NoRoom old new take = absurd take
+tallies_of text TooLarge old new take = absurd take

@@ -1,4 +1,5 @@
 pub mod Limits
 pub mod Stored
 pub mod Told
+pub mod Turned
 pub mod Worked

@@ -10,7 +10,7 @@ use Rattle.mail_world.specs.Failures.{Rises}
 use Rattle.mail_world.specs.Records.{Calendar, mended, mailbox}
 use Rattle.mail_world.specs.Fronts.{IsFront}
 use Rattle.mail_world.specs.Deliveries.{IsTorn}
-use Rattle.mbox_rd.specs.Spool.{SpoolState, CoversAll, IsFull}
+use Rattle.mbox_rd.specs.Spool.{SpoolState, CoversAll, IsFull, FailsTurn}
 use Rattle.mbox_rd.specs.Mending.{HasNotMended}
 use Rattle.box_worker.specs.declared.limit.Limit.{Limit}
 use Rattle.box_worker.specs.Limits.{Setting, kept_behind, StartsAt, IsLetIn, IsKeptOut}
@@ -21,6 +21,7 @@ pub record HasKept (old new : SpoolState) (text : List ℕ) : Type 0 where
   pub sound : new.failures ≡ old.failures
   pub limited : new.limit ≡ old.limit
   pub covered : CoversAll new.bytes new.synced
+  pub turn : new.sharing ≡ record old.sharing { is_unsynced = false }
 
 -- the spool failed before a sync covered the text, of which it took a front; one with a limit is full
 pub record HasNotKept (old new : SpoolState) (text : List ℕ) : Type 0 where
@@ -32,6 +33,7 @@ pub record HasNotKept (old new : SpoolState) (text : List ℕ) : Type 0 where
   pub limited : new.limit ≡ old.limit
   pub full : IsFull new.limit new.bytes
   pub covered : new.synced ≡ old.synced
+  pub turn : FailsTurn old.sharing new.sharing
 
 -- a mailbox: its spool, how many copies were stored and how many were over the quota, and whether the spool failed
 pub record MailboxState : Type 0 where
@@ -43,14 +45,16 @@ pub record MailboxState : Type 0 where
 abbrev pub mailbox_of : SpoolState → ℕ → ℕ → Bool → MailboxState
 mailbox_of state stored over faulty = record { state = state; stored = stored; over = over; faulty = faulty }
 
--- a mailbox and its worker's count under a quota
+-- a mailbox, its worker's count under a quota, and how many turns weren't had
 pub record CountedMailbox : Type 0 where
   pub mailbox : MailboxState
   pub limit : Option Limit
+  pub in_use : ℕ
 
 -- whether a copy with a record of that size is let in, which changes nothing but the count
 abbrev pub IsMeasured : ℕ → Bool → CountedMailbox → CountedMailbox → Type 0
 IsMeasured size true old new = (new.mailbox ≡ old.mailbox) × IsLetIn old.limit size new.limit
+    × (new.in_use ≡ old.in_use)
 IsMeasured size false old new = (new ≡ old) × IsKeptOut old.limit size
 
 -- what a copy with that record makes of a mailbox, by what its lane is told: a mailbox whose spool failed is left alone
@@ -65,6 +69,12 @@ TakesCopy text Failed old new = (new.mailbox ≡ mailbox_of new.mailbox.state ol
     × (((old.mailbox.faulty ≡ true) × (new.mailbox.state ≡ old.mailbox.state))
     ⊎ ((old.mailbox.faulty ≡ false) × IsLetIn old.limit (length text) new.limit × HasNotKept old.mailbox.state new.mailbox.state text))
 TakesCopy text _ old new = ⊥
+
+-- what is counted of a copy by what its lane is told
+abbrev pub Tallies : Outcome → MailboxState → MailboxState → Type 0
+Tallies Stored old new = (new.stored ≡ counted (old.stored + 1)) × (new.over ≡ old.over)
+Tallies OverQuota old new = (new.stored ≡ old.stored) × (new.over ≡ counted (old.over + 1))
+Tallies _ old new = (new.stored ≡ old.stored) × (new.over ≡ old.over)
 
 -- What a spool that held these bytes holds once its worker failed: the first notes' records and a front of that of the
 -- next one, which is lost, or a front of what mending wants.
@@ -88,6 +98,8 @@ pub record HasStored (calendar : Calendar) (host : List ℕ) (notes : List Note)
   pub torn : new.faulty ≡ true → IfSome old.bytes (λ held. IfSome new.state.bytes (λ bytes. IsTornAt calendar host held notes new.stored bytes))
   pub covered : 0 < new.stored → IfSome old.bytes (λ held. new.state.synced ≡ length (mailbox calendar host held (take new.stored notes)))
   pub unsynced : new.stored ≡ 0 → new.state.synced ≡ old.synced
+  -- no append stands after the last sync
+  pub kept : new.faulty ≡ false → 0 < new.stored → new.state.sharing.is_unsynced ≡ false
 
 -- behind the first n copies, of which so many are kept, stands one that is kept too
 abbrev pub IsKeptNext : Setting → ℕ → List Note → ℕ → ℕ → Type 0

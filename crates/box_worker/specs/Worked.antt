@@ -1,5 +1,6 @@
 -- What a worker comes to: what its spool holds of the copies that it took, and what it told the lanes of each.
 use Rattle.std.specs.Prelude.{◌≡◌, ◌||◌, ℕ, ◌+◌, Bool, true, false, List, length, flat_map, Option, Some, None, IsSome}
+use Rattle.std.specs.List.{count_by}
 use Rattle.mail_world.specs.declared.Note.{Note}
 use Rattle.mail_world.specs.declared.Slip.{Slip}
 use Rattle.mail_world.specs.declared.Outcome.{Outcome}
@@ -13,46 +14,98 @@ use Rattle.mail_post.specs.declared.channel.Gone.{Gone}
 use Rattle.mail_post.specs.declared.channel.Gone.TheVariants.{Closed, Lost}
 use Rattle.box_worker.specs.declared.limit.Limit.{Limit}
 use Rattle.box_worker.specs.Limits.{Setting, marks_behind, kept_behind, CountsTo}
-use Rattle.box_worker.specs.Stored.{MailboxState, mailbox_of, HasSettled}
-use Rattle.box_worker.specs.Told.{owed_to}
+use Rattle.box_worker.specs.Stored.{MailboxState, mailbox_of, CountedMailbox, HasSettled}
+use Rattle.box_worker.specs.Turned.{shared_of, HaveTurned, HasTurned}
+use Rattle.box_worker.specs.Told.{owed_to, is_stored, is_over}
 
--- a worker: its senders of slips, its mailbox, how many copies it took, and whether a channel was found gone
+-- a worker: its senders of slips, its mailbox, how many turns weren't had, how many copies it took, and whether a
+-- channel was found gone
 pub record WorkerState : Type 0 where
   pub slips : List (Sender Slip)
   pub mailbox : MailboxState
+  pub in_use : ℕ
   pub taken : ℕ
   pub lost : Bool
 
+-- its mailbox, with what it counts there
+abbrev pub counted_of : WorkerState → Option Limit → CountedMailbox
+counted_of worker limit = record { mailbox = worker.mailbox; limit = limit; in_use = worker.in_use }
+
 -- one that took nothing yet
 abbrev pub idle : List (Sender Slip) → SpoolState → WorkerState
-idle slips spool = record { slips = slips; mailbox = mailbox_of spool 0 0 false; taken = 0; lost = false }
+idle slips spool =
+    record { slips = slips; mailbox = mailbox_of spool 0 0 false; in_use = 0; taken = 0; lost = false }
 
 -- what is told of these copies, where so many bytes stand before the first record and so many copies are settled
 abbrev pub outcomes_behind : Setting → ℕ → ℕ → List Note → List Outcome
 outcomes_behind at start settled copies = outcomes_settled settled (marks_behind at start copies)
 
--- what became of these copies, the first that a worker took
-pub record HasHandled (at : Setting) (copies : List Note) (old new : WorkerState) : Type 0 where
+-- how many bytes stand behind the records of these copies, where so many stand before the first
+abbrev pub bytes_behind : Setting → ℕ → List Note → ℕ
+bytes_behind at start copies = start + length (flat_map (record_of at.calendar at.host) (kept_behind at start copies))
+
+-- Of a private mailbox: the outcomes of these copies, the first that its worker took, are those of what was stored and
+-- of what was over the quota.
+pub record IsAccounted (at : Setting) (copies : List Note) (outcomes : List Outcome) (old : SpoolState)
+    (new : MailboxState) : Type 0 where
   -- how many bytes stand before the first record, as far as a quota counts them
   pub start : ℕ
   -- how many of the copies were stored, and how many were over the quota
   pub stored : ℕ
   pub over : ℕ
-  pub settled : HasSettled at start copies old.mailbox.state (mailbox_of new.mailbox.state stored over new.mailbox.faulty)
-  pub told : HaveAccepted (λ k. owed_to at.worker (outcomes_behind at start (stored + over) copies) k copies) old.slips new.slips
+  pub settled : HasSettled at start copies old (mailbox_of new.state stored over new.faulty)
+  pub told : outcomes ≡ outcomes_behind at start (stored + over) copies
+  pub stored_count : new.stored ≡ counted stored
+  pub over_count : new.over ≡ counted over
+
+-- a private mailbox has no turn that isn't had
+pub record IsAlone (at : Setting) (copies : List Note) (outcomes : List Outcome) (old : SpoolState)
+    (new : MailboxState) (in_use : ℕ) : Type 0 where
+  pub accounted : IsAccounted at copies outcomes old new
+  pub never_in_use : in_use ≡ 0
+
+-- What became of these copies, the first that a worker took: each has one outcome, and its lane a slip that says so.
+pub record HasHandled (at : Setting) (copies : List Note) (old new : WorkerState) : Type 0 where
+  pub outcomes : List Outcome
+  pub each : length outcomes ≡ length copies
+  pub told : HaveAccepted (λ k. owed_to at.worker outcomes k copies) old.slips new.slips
   pub numbered : HaveNumber at.worker new.slips
   pub taken_count : new.taken ≡ counted (length copies)
-  pub stored_count : new.mailbox.stored ≡ counted stored
-  pub over_count : new.mailbox.over ≡ counted over
+  pub stored_count : new.mailbox.stored ≡ counted (count_by is_stored outcomes)
+  pub over_count : new.mailbox.over ≡ counted (count_by is_over outcomes)
+  pub alone : old.mailbox.state.sharing.is_shared ≡ false
+      → IsAlone at copies outcomes old.mailbox.state new.mailbox new.in_use
+  pub shared : old.mailbox.state.sharing.is_shared ≡ true
+      → HasTurned at copies outcomes (shared_of old.mailbox.state false 0)
+      (shared_of new.mailbox.state new.mailbox.faulty new.in_use)
 
--- how many bytes stand behind the records of these copies, where so many stand before the first
-abbrev pub bytes_behind : Setting → ℕ → List Note → ℕ
-bytes_behind at start copies = start + length (flat_map (record_of at.calendar at.host) (kept_behind at start copies))
+-- a private mailbox between two copies: until its spool fails its worker counts what stands there
+pub record IsCounted (at : Setting) (copies : List Note) (outcomes : List Outcome) (old : SpoolState)
+    (new : MailboxState) (limit : Option Limit) : Type 0 where
+  pub accounted : IsAccounted at copies outcomes old new
+  pub counts : new.faulty ≡ false → CountsTo at.quota (bytes_behind at accounted.start copies) limit
 
--- a worker between two copies: until its spool fails it counts what stands there
+-- a mailbox between two copies, and what its worker counted last
+pub record IsTended (at : Setting) (copies : List Note) (outcomes : List Outcome) (old : SpoolState)
+    (new : CountedMailbox) : Type 0 where
+  pub whose : new.mailbox.state.sharing.is_shared ≡ old.sharing.is_shared
+  pub alone : old.sharing.is_shared ≡ false → IsCounted at copies outcomes old new.mailbox new.limit
+  pub never_in_use : old.sharing.is_shared ≡ false → new.in_use ≡ 0
+  pub shared : old.sharing.is_shared ≡ true
+      → HaveTurned at copies outcomes (shared_of old false 0)
+      (shared_of new.mailbox.state new.mailbox.faulty new.in_use)
+  pub counts : old.sharing.is_shared ≡ true → ((n : ℕ) × CountsTo at.quota n new.limit)
+
+-- and a worker
 pub record IsCounting (at : Setting) (copies : List Note) (old new : WorkerState) (limit : Option Limit) : Type 0 where
-  pub handled : HasHandled at copies old new
-  pub counts : new.mailbox.faulty ≡ false → CountsTo at.quota (bytes_behind at handled.start copies) limit
+  pub outcomes : List Outcome
+  pub each : length outcomes ≡ length copies
+  pub told : HaveAccepted (λ k. owed_to at.worker outcomes k copies) old.slips new.slips
+  pub numbered : HaveNumber at.worker new.slips
+  pub taken_count : new.taken ≡ counted (length copies)
+  pub stored_count : new.mailbox.stored ≡ counted (count_by is_stored outcomes)
+  pub over_count : new.mailbox.over ≡ counted (count_by is_over outcomes)
+  pub tended : IsTended at copies outcomes old.mailbox.state (counted_of new limit)
 
 -- whether its channel was found gone before it was closed
 abbrev pub is_lost : Option Gone → Bool

@@ -1,6 +1,6 @@
 //! What a worker counts of its mailbox under a quota.
 
-ghost use Rattle.std.specs.Prelude.{◌≡◌, ◌<◌, ◌^◌, ℕ, SomeIff};
+ghost use Rattle.std.specs.Prelude.{◌≡◌, ◌+◌, ◌<◌, ◌^◌, ℕ, SomeIff};
 ghost use Rattle.mail_world.specs.Counts.{counted};
 ghost use Rattle.box_worker.specs.Limits.{StartsAt, Admits, missing};
 
@@ -19,10 +19,16 @@ impl Limit {
         ensures { (start : ℕ) × StartsAt (S.state spool.now) start
             × (result ≡ record { quota = quota; held = counted start }) }
     {
-        let mending = missing(spool.tail());
+        Limit::at(quota, spool.held(), spool.tail())
+    }
+
+    /// For a mailbox of so many bytes that end so: what mends it is counted already.
+    pub fn at(quota: u64, held: u64, tail: Tail) -> Limit
+        ensures { result ≡ record { quota = quota; held = counted (held + missing tail) } }
+    {
         Limit {
             quota,
-            held: spool.held().saturating_add(mending),
+            held: held.saturating_add(missing(tail)),
         }
     }
 

@@ -1,28 +1,31 @@
 //! A mailbox: its spool, how many copies it has, and whether the spool failed.
 
-ghost use Rattle.std.specs.Prelude.{◌≡◌, ℕ, true, List, [], length};
+ghost use Rattle.std.specs.Prelude.{◌≡◌, ℕ, true, false, List, [], length};
 ghost use Rattle.std.specs.Option.{IfSome};
 ghost use Rattle.lmtp_text.specs.Calendar.{civil_at};
 ghost use Rattle.mbox_rd.specs.Envelope.{record_text};
 ghost use Rattle.mbox_rd.specs.Mending.{HasNotMended};
+ghost use Rattle.mail_world.specs.Counts.{counted};
 ghost use Rattle.box_worker.specs.Limits.{CountsTo, StartsAt};
-ghost use Rattle.box_worker.specs.Stored.{HasStored, IsMeasured, TakesCopy};
+ghost use Rattle.box_worker.specs.Stored.{mailbox_of, HasStored, IsMeasured, TakesCopy, Tallies};
+ghost use Rattle.box_worker.specs.Turned.{MeasuresAnew, DoesInTurn, EndsInTurn, CountsInTurn, TurnsCopy};
 
 use crate::limit::Limit;
-use crate::store::{record_size, store};
+use crate::store::{mend_and_store, record_size, store};
 use mail_world::Outcome;
 use mbox_rd::{Envelope, Spool, mend};
 use msg_depot::{Depot, DepotName, Hold};
 use std::marker::Model;
 use std::sync::Wait;
 
-/// A spool, the number of records that it took and has kept, that of copies over the quota, and whether the spool
-/// failed. Once it has, it is left alone.
+/// A spool, the number of records that it took and has kept, that of copies over the quota, that of turns that weren't
+/// had, and whether the spool failed. Once it has, it is left alone.
 #[derive(Drop)]
 pub struct Mailbox<S: Spool> {
     pub spool: S,
     pub stored: u64,
     pub over: u64,
+    pub in_use: u64,
     pub faulty: bool,
     limit: Option<Limit>,
 }
@@ -35,34 +38,43 @@ impl<S: Spool> Model for Mailbox<S> {
     ghost view = { λ m. record {
       mailbox = mailbox_of (S.state m.spool) m.stored m.over m.faulty;
       limit = m.limit;
+      in_use = m.in_use;
     } };
 }
 
 impl<S: Spool> Mailbox<S> {
-    /// Ends what the spool holds, so that a record may follow, whatever the quota.
+    /// Ends what a private spool holds, so that a record may follow, whatever the quota. A shared one is ended in its
+    /// turns alone.
     pub fn on(spool: S, quota: Option<u64>) -> Mailbox<S>
-        ensures mended { (host : List ℕ) → HasStored civil_at host [] (S.state spool) result.mailbox }
-        ensures broken { result.mailbox.faulty ≡ true → HasNotMended (S.state spool) result.mailbox.state }
-        ensures none { (result.mailbox.stored ≡ 0) × (result.mailbox.over ≡ 0) }
+        ensures mended { (S.state spool).sharing.is_shared ≡ false
+            → (host : List ℕ) → HasStored civil_at host [] (S.state spool) result.mailbox }
+        ensures broken { (S.state spool).sharing.is_shared ≡ false → result.mailbox.faulty ≡ true
+            → HasNotMended (S.state spool) result.mailbox.state }
+        ensures left_alone { (S.state spool).sharing.is_shared ≡ true
+            → result.mailbox ≡ mailbox_of (S.state spool) 0 0 false }
+        ensures none { (result.mailbox.stored ≡ 0) × (result.mailbox.over ≡ 0) × (result.in_use ≡ 0) }
         ensures counts { (start : ℕ) × IfSome quota (λ q. StartsAt (S.state spool) start)
             × CountsTo quota start result.limit }
+        ensures whose { result.mailbox.state.sharing.is_shared ≡ (S.state spool).sharing.is_shared }
     {
         let limit = match quota {
             Some(quota) => Some(Limit::of(&spool, quota)),
             None => None,
         };
         let mut spool = spool;
-        let faulty = mend(&mut spool).is_err();
+        let faulty = !spool.is_shared() && mend(&mut spool).is_err();
         Mailbox {
             spool,
             stored: 0,
             over: 0,
+            in_use: 0,
             faulty,
             limit,
         }
     }
 
-    /// Stores a copy of the held message, or says that it is over the quota or lost.
+    /// Stores a copy of the held message in a turn of its own, or says that it is over the quota or lost. Where the turn
+    /// isn't had nothing is appended, and this copy alone is lost: the next one is tried anew.
     pub fn take<N: DepotName, R: Wait>(
         &mut self,
         rt: &R,
@@ -71,12 +83,67 @@ impl<S: Spool> Mailbox<S> {
         envelope: &Envelope,
         hold: &mut Hold<N>,
     ) -> Outcome
-        ensures takes { TakesCopy (record_text civil_at host.now envelope.now hold.old.bytes) result self.old self.new }
+        ensures tallied { Tallies result self.old.mailbox self.new.mailbox }
+        ensures whose { self.new.mailbox.state.sharing.is_shared ≡ self.old.mailbox.state.sharing.is_shared }
+        ensures alone { self.old.mailbox.state.sharing.is_shared ≡ false
+            → TakesCopy (record_text civil_at host.now envelope.now hold.old.bytes) result self.old self.new }
+        ensures never_in_use { self.old.mailbox.state.sharing.is_shared ≡ false → self.new.in_use ≡ self.old.in_use }
+        ensures shared { self.old.mailbox.state.sharing.is_shared ≡ true
+            → TurnsCopy (record_text civil_at host.now envelope.now hold.old.bytes) result self.old self.new }
         ensures hold { hold.new ≡ hold.old }
     {
         if self.faulty {
             return Outcome::Failed;
         }
+        match self.spool.lock() {
+            Ok(None) => self.take_alone(rt, depot, host, envelope, hold),
+            Ok(Some(held)) => {
+                self.measure(held);
+                self.take_in_turn(rt, depot, host, envelope, hold)
+            }
+            Err(_) => {
+                self.in_use = self.in_use.saturating_add(1);
+                Outcome::Failed
+            }
+        }
+    }
+
+    // The same of a private spool, which is nobody else's.
+    fn take_alone<N: DepotName, R: Wait>(
+        &mut self,
+        rt: &R,
+        depot: &Depot<N>,
+        host: &[u8],
+        envelope: &Envelope,
+        hold: &mut Hold<N>,
+    ) -> Outcome
+        requires private { self.old.mailbox.state.sharing.is_shared ≡ false }
+        requires sound { self.old.mailbox.faulty ≡ false }
+        ensures tallied { Tallies result self.old.mailbox self.new.mailbox }
+        ensures takes { TakesCopy (record_text civil_at host.now envelope.now hold.old.bytes) result self.old self.new }
+        ensures in_use { self.new.in_use ≡ self.old.in_use }
+        ensures hold { hold.new ≡ hold.old }
+    {
+        let outcome = self.settle(rt, depot, host, envelope, hold);
+        self.spool.unlock();
+        outcome
+    }
+
+    #[tactic(auto, using(crate::proofs::Storing::tallies_of))]
+    fn settle<N: DepotName, R: Wait>(
+        &mut self,
+        rt: &R,
+        depot: &Depot<N>,
+        host: &[u8],
+        envelope: &Envelope,
+        hold: &mut Hold<N>,
+    ) -> Outcome
+        requires sound { self.old.mailbox.faulty ≡ false }
+        ensures tallied { Tallies result self.old.mailbox self.new.mailbox }
+        ensures takes { TakesCopy (record_text civil_at host.now envelope.now hold.old.bytes) result self.old self.new }
+        ensures in_use { self.new.in_use ≡ self.old.in_use }
+        ensures hold { hold.new ≡ hold.old }
+    {
         if !self.lets_in(rt, depot, host, envelope, hold) {
             self.over = self.over.saturating_add(1);
             return Outcome::OverQuota;
@@ -93,7 +160,77 @@ impl<S: Spool> Mailbox<S> {
         }
     }
 
-    // Whether the record of the held message may stand behind what the mailbox holds. One that may is counted.
+    // Counts from what stands in the mailbox at the lock, and what mends it.
+    fn measure(&mut self, held: u64)
+        ensures same { self.new ≡ record self.old { limit = self.new.limit } }
+        ensures counts { held ≡ counted self.old.mailbox.state.held
+            → IfSome self.old.mailbox.state.bytes (λ bytes. held ≡ counted (length bytes))
+            → MeasuresAnew self.old.mailbox.state self.old.limit self.new.limit }
+    {
+        if let Some(limit) = self.limit {
+            self.limit = Some(Limit::at(limit.quota, held, self.spool.tail()));
+        }
+    }
+
+    // The copy in a turn, from the count to the unlock.
+    fn take_in_turn<N: DepotName, R: Wait>(
+        &mut self,
+        rt: &R,
+        depot: &Depot<N>,
+        host: &[u8],
+        envelope: &Envelope,
+        hold: &mut Hold<N>,
+    ) -> Outcome
+        requires sound { self.old.mailbox.faulty ≡ false }
+        requires turn { self.old.mailbox.state.sharing.in_turn ≡ true }
+        ensures tallied { Tallies result self.old.mailbox self.new.mailbox }
+        ensures whose { self.new.mailbox.state.sharing.is_shared ≡ self.old.mailbox.state.sharing.is_shared }
+        ensures ends { CountsInTurn (λ quota.
+            EndsInTurn quota (record_text civil_at host.now envelope.now hold.old.bytes) result
+            self.old.mailbox self.new.mailbox) self.old self.new }
+        ensures in_use { self.new.in_use ≡ self.old.in_use }
+        ensures hold { hold.new ≡ hold.old }
+    {
+        let outcome = self.settle_in_turn(rt, depot, host, envelope, hold);
+        self.spool.unlock();
+        outcome
+    }
+
+    fn settle_in_turn<N: DepotName, R: Wait>(
+        &mut self,
+        rt: &R,
+        depot: &Depot<N>,
+        host: &[u8],
+        envelope: &Envelope,
+        hold: &mut Hold<N>,
+    ) -> Outcome
+        requires sound { self.old.mailbox.faulty ≡ false }
+        ensures tallied { Tallies result self.old.mailbox self.new.mailbox }
+        ensures turn { (self.new.mailbox.state.sharing.is_shared ≡ self.old.mailbox.state.sharing.is_shared)
+            × (self.new.mailbox.state.sharing.in_turn ≡ self.old.mailbox.state.sharing.in_turn) }
+        ensures does { CountsInTurn (λ quota.
+            DoesInTurn quota (record_text civil_at host.now envelope.now hold.old.bytes) result
+            self.old.mailbox self.new.mailbox) self.old self.new }
+        ensures in_use { self.new.in_use ≡ self.old.in_use }
+        ensures hold { hold.new ≡ hold.old }
+    {
+        if !self.lets_in(rt, depot, host, envelope, hold) {
+            self.over = self.over.saturating_add(1);
+            return Outcome::OverQuota;
+        }
+        match mend_and_store(rt, &mut self.spool, depot, host, envelope, hold) {
+            Ok(()) => {
+                self.stored = self.stored.saturating_add(1);
+                Outcome::Stored
+            }
+            Err(_) => {
+                self.faulty = true;
+                Outcome::Failed
+            }
+        }
+    }
+
+    // Whether the record of the held message may stand after what the mailbox holds. One that may is counted.
     fn lets_in<N: DepotName, R: Wait>(
         &mut self,
         rt: &R,

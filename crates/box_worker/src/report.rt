@@ -10,11 +10,12 @@ use msg_depot::DepotName;
 pub struct WorkerReport<N: DepotName, S: Spool, G: Gate> {
     pub spool: S,
     pub gate: G,
-    /// The copies that it took, those of them that it stored, and those that were over the quota. A count stays at its
-    /// largest value.
+    /// The copies that it took, those of them that it stored, those that were over the quota, and those whose turn at
+    /// the mailbox wasn't had. A count stays at its largest value.
     pub taken: u64,
     pub stored: u64,
     pub over: u64,
+    pub in_use: u64,
     /// Whether the spool failed.
     pub faulty: bool,
     /// Whether a channel was found gone: the mailbox's before its closing marks came, or a lane's that handed a slip

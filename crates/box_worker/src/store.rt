@@ -7,9 +7,10 @@ ghost use Rattle.mbox_rd.specs.Envelope.{record_text};
 ghost use Rattle.mbox_rd.specs.Spool.{SpoolTook, SpoolFailed};
 ghost use Rattle.mbox_rd.specs.Writing.{bytes_owed, WritesPiece, FailsPiece};
 ghost use Rattle.box_worker.specs.Stored.{HasKept, HasNotKept};
+ghost use Rattle.box_worker.specs.Turned.{HasKeptMended, HasNotKeptMended};
 
 use mail_world::limits::WORKER_BUFFER_SIZE;
-use mbox_rd::{CountSpool, Envelope, RecordWriter, Spool, SpoolFault};
+use mbox_rd::{CountSpool, Envelope, RecordWriter, Spool, SpoolFault, mend};
 use msg_depot::{Depot, DepotName, Hold};
 use std::sync::Wait;
 
@@ -30,6 +31,26 @@ pub(crate) fn store<N: DepotName, S: Spool, R: Wait>(
 {
     append_record(rt, spool, depot, host, envelope, hold)?;
     spool.sync()
+}
+
+/// Appends what mends the spool and then the record of the held message, and has both kept. After a fault the spool
+/// holds a prefix of them more.
+pub(crate) fn mend_and_store<N: DepotName, S: Spool, R: Wait>(
+    rt: &R,
+    spool: &mut S,
+    depot: &Depot<N>,
+    host: &[u8],
+    envelope: &Envelope,
+    hold: &mut Hold<N>,
+) -> Result<(), SpoolFault>
+    ensures ok { OnOk result (HasKeptMended (S.state spool.old) (S.state spool.new)
+        (record_text civil_at host.now envelope.now hold.old.bytes)) }
+    ensures err { OnErr result (HasNotKeptMended (S.state spool.old) (S.state spool.new)
+        (record_text civil_at host.now envelope.now hold.old.bytes)) }
+    ensures hold { hold.new ≡ hold.old }
+{
+    mend(spool)?;
+    store(rt, spool, depot, host, envelope, hold)
 }
 
 /// How many bytes the record of the held message has, unless they are 2^64 or more. The head and the text are counted

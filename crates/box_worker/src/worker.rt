@@ -20,7 +20,8 @@ use std::sync::Wait;
 
 /// Stores the copies that come, one after another, and gives each lane a slip for each of its own, until the channel is
 /// closed or lost. Under a quota a copy whose record would bring the mailbox above so many bytes isn't stored, and its
-/// lane is told so. It takes no memory.
+/// lane is told so. At a mailbox that other programs use too each copy has a turn, from a lock to an unlock; one whose
+/// turn isn't had is told Failed, and the next is tried anew. It takes no memory.
 pub fn worker_run<N: DepotName, S: Spool, G: Gate, R: Wait>(
     rt: &R,
     receiver: Receiver<N>,
@@ -40,6 +41,7 @@ pub fn worker_run<N: DepotName, S: Spool, G: Gate, R: Wait>(
         (record {
           slips = result.slips.items;
           mailbox = mailbox_of (S.state result.spool) result.stored result.over result.faulty;
+          in_use = result.in_use;
           taken = result.taken;
           lost = result.lost;
         }) }
@@ -85,6 +87,7 @@ impl<S: Spool, G: Gate> Worker<S, G> {
             (record {
               slips = self.old.slips;
               mailbox = self.old.mailbox.mailbox;
+              in_use = self.old.mailbox.in_use;
               taken = self.old.taken;
               lost = any_refused self.old.slips;
             }) self.old.mailbox.limit
@@ -93,6 +96,7 @@ impl<S: Spool, G: Gate> Worker<S, G> {
             (record {
               slips = self.new.slips;
               mailbox = self.new.mailbox.mailbox;
+              in_use = self.new.mailbox.in_use;
               taken = self.new.taken;
               lost = any_refused self.new.slips;
             }) self.new.mailbox.limit }
@@ -118,6 +122,7 @@ impl<S: Spool, G: Gate> Worker<S, G> {
         ensures taken { result.taken ≡ self.taken }
         ensures mailbox { mailbox_of (S.state result.spool) result.stored result.over result.faulty
             ≡ self.mailbox.mailbox }
+        ensures in_use { result.in_use ≡ self.mailbox.in_use }
         ensures lost { result.lost ≡ (any_refused self.slips || is_lost) }
     {
         let Worker {
@@ -130,6 +135,7 @@ impl<S: Spool, G: Gate> Worker<S, G> {
             spool,
             stored,
             over,
+            in_use,
             faulty,
             ..
         } = mailbox;
@@ -139,6 +145,7 @@ impl<S: Spool, G: Gate> Worker<S, G> {
             taken,
             stored,
             over,
+            in_use,
             faulty,
             lost: slips.any_refused() || is_lost,
             receiver,

@@ -11,7 +11,7 @@ use Rattle.mbox_rd.specs.Spool.{SpoolState}
 use Rattle.mail_post.specs.Channel.{Channel, Sender, Inbox, taken}
 use Rattle.box_worker.specs.Told.{worker_of, owed_to}
 use Rattle.box_worker.specs.Stored.{mailbox_of}
-use Rattle.box_worker.specs.Worked.{idle, outcomes_behind, HasWorked}
+use Rattle.box_worker.specs.Worked.{idle, HasWorked}
 use Rattle.box_worker.proofs.Handling.{was_closed, none_came_back}
 use Rattle.mail_post.proofs.Offered.{none_refused}
 use Rattle.lmtp_threads.specs.declared.tally.Tally.{Tally}
@@ -67,12 +67,11 @@ module _ {S R : Type 0} (state : S → SpoolState) (rr : R → Inbox Note) (rs :
       let handled = h.handled in
       record {
         taken = taken (rr r);
-        stored = handled.stored;
-        outcomes = outcomes_behind (setting_of j.share (worker_of j.slips)) handled.start (handled.stored + handled.over) (taken (rr r));
+        outcomes = handled.outcomes;
       }
 
   abbrev no_work : BoxWork
-  no_work = record { taken = []; stored = 0; outcomes = [] }
+  no_work = record { taken = []; outcomes = [] }
 
   -- what reports tell together
   abbrev pub workers_back : List R → WorkersBack S
@@ -128,13 +127,11 @@ module _ {S R : Type 0} (state : S → SpoolState) (rr : R → Inbox Note) (rs :
         let Took : Inbox Note → BoxWork → Type 0 = λ inbox w. TookAllNotes w.taken inbox (rr p.right) in
         let handled = h.handled in
         let stored : Stored p.left.share (worker_of p.left.slips) p.left.spool (box_work p.left p.right h) = record {
-          start = handled.start;
-          over = handled.over;
-          settled = handled.settled;
-          outcomes = refl;
+          each = handled.each;
           taken_count = handled.taken_count;
           stored_count = handled.stored_count;
           over_count = handled.over_count;
+          known = handled.known;
         } in
         let stored_at : Stored share (worker_of t.row) t.spool (works k) =
         subst (λ (j : BoxTask S). Stored j.share (worker_of j.slips) j.spool (works k)) t.is (subst (λ w. Stored p.left.share (worker_of p.left.slips) p.left.spool w) (sym p.picked) stored) in

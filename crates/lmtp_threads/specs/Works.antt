@@ -1,5 +1,7 @@
 -- What one lane and one worker did, and what is told of it.
 use Rattle.std.specs.Prelude.{◌≡◌, ℕ, ◌+◌, Bool, List, length, Option}
+use Rattle.std.specs.Option.{IfSome}
+use Rattle.std.specs.List.{count_by}
 use Rattle.mail_world.specs.declared.Note.{Note}
 use Rattle.mail_world.specs.declared.Outcome.{Outcome}
 use Rattle.mail_world.specs.declared.Slip.{Slip}
@@ -8,8 +10,9 @@ use Rattle.mail_world.specs.Counts.{counted}
 use Rattle.lmtp_text.specs.Calendar.{civil_at}
 use Rattle.mbox_rd.specs.Spool.{SpoolState}
 use Rattle.box_worker.specs.Limits.{Setting}
-use Rattle.box_worker.specs.Stored.{mailbox_of, HasSettled}
-use Rattle.box_worker.specs.Worked.{outcomes_behind}
+use Rattle.box_worker.specs.Stored.{mailbox_of}
+use Rattle.box_worker.specs.Told.{is_stored, is_over}
+use Rattle.box_worker.specs.Worked.{IsAccounted}
 use Rattle.lmtp_talk.specs.Peer.{PeerState}
 use Rattle.lmtp_lane.specs.Visits.{VisitsTold, Visit}
 use Rattle.lmtp_threads.specs.declared.tally.Tally.{Tally}
@@ -38,10 +41,9 @@ share_of site quota = record { host = site.host; quota = quota }
 abbrev pub setting_of : WorkerShare → ℕ → Setting
 setting_of share b = record { calendar = civil_at; host = share.host; quota = share.quota; worker = b }
 
--- what a worker did: the copies that it took, how many of them it stored, and what it told of each
+-- what a worker did: the copies that it took, and what it told of each
 pub record BoxWork : Type 0 where
   pub taken : List Note
-  pub stored : ℕ
   pub outcomes : List Outcome
 
 -- what is told of a lane's run: the conversations that had ended before it and behind it, whether no client was left,
@@ -60,14 +62,12 @@ lane_told view before after count = record {
   count = count;
 }
 
--- A mailbox's worker took these copies, and its spool holds the records of those that it stored: each that is kept
--- under the quota, unless the spool failed.
+-- A mailbox's worker took these copies, and told an outcome of each. A spool that tells its bytes holds the records of
+-- those that it stored: each that is kept under the quota, unless the spool failed.
 pub record IsBoxWork (at : Setting) (work : BoxWork) (old new : SpoolState) (tally : Tally) : Type 0 where
-  -- how many bytes stand before the first record, and how many copies were over the quota
-  pub start : ℕ
-  pub over : ℕ
-  pub settled : HasSettled at start work.taken old (mailbox_of new work.stored over tally.faulty)
-  pub outcomes : work.outcomes ≡ outcomes_behind at start (work.stored + over) work.taken
+  pub each : length work.outcomes ≡ length work.taken
   pub taken_count : tally.taken ≡ counted (length work.taken)
-  pub stored_count : tally.stored ≡ counted work.stored
-  pub over_count : tally.over ≡ counted over
+  pub stored_count : tally.stored ≡ counted (count_by is_stored work.outcomes)
+  pub over_count : tally.over ≡ counted (count_by is_over work.outcomes)
+  pub known : IfSome old.bytes (λ bytes. IsAccounted at work.taken work.outcomes old
+      (mailbox_of new tally.stored tally.over tally.faulty))

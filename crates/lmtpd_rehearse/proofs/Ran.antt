@@ -20,7 +20,9 @@ use Rattle.mail_world.specs.Quotas.{are_kept_behind, are_kept, kept, marked, out
 use Rattle.mail_world.specs.Deliveries.{IsTorn, outcomes_told, told_all}
 use Rattle.mail_world.proofs.Accounts.{account_told}
 use Rattle.mail_world.proofs.Settled.{length-outcomes, length-kept_behind}
+use Rattle.box_worker.specs.Stored.{mailbox_of}
 use Rattle.box_worker.specs.Told.{owed_to}
+use Rattle.box_worker.specs.Worked.{IsAccounted}
 use Rattle.lmtp_text.specs.Calendar.{civil_at}
 use Rattle.mbox_rd.specs.MemorySpool.{MemorySpool}
 use Rattle.lmtp_talk.specs.declared.ending.EndCause.{EndCause}
@@ -174,29 +176,32 @@ record HaveWorked (site : Site) (quota : Option ℕ) (ts : List Transaction) (wo
 -- what a worker made of its mailbox, and what it told of its copies
 module _ (site : Site) (quota : Option ℕ) (b : ℕ) (work : BoxWork) (spool : MemorySpool) (tally : Tally)
     (did : IsBoxWork (setting_of (share_of site quota) b) work (state_of empty_spool) (state_of spool) tally) where
-  abbrev marks : List Bool
-  marks = are_kept_behind civil_at site.host quota did.start work.taken
+  -- the spool tells its bytes
+  abbrev acc : IsAccounted (setting_of (share_of site quota) b) work.taken work.outcomes (state_of empty_spool) (mailbox_of (state_of spool) tally.stored tally.over tally.faulty)
+  acc = did.known
 
-  tells : work.outcomes ≡ outcomes_settled (work.stored + did.over) (are_kept civil_at site.host quota [] work.taken)
-  tells = did.outcomes ∙ ap (outcomes_settled (work.stored + did.over)) (same_marks civil_at site.host quota (state_of empty_spool) did.start work.taken refl did.settled.starts)
+  abbrev marks : List Bool
+  marks = are_kept_behind civil_at site.host quota acc.start work.taken
+
+  tells : work.outcomes ≡ outcomes_settled (acc.stored + acc.over) (are_kept civil_at site.host quota [] work.taken)
+  tells = acc.told ∙ ap (outcomes_settled (acc.stored + acc.over)) (same_marks civil_at site.host quota (state_of empty_spool) acc.start work.taken refl acc.settled.starts)
 
   tells_each : length work.outcomes ≡ length work.taken
-  tells_each =
-      ap length did.outcomes ∙ length-outcomes (work.stored + did.over) marks ∙ length-kept_behind civil_at site.host quota work.taken did.start
+  tells_each = did.each
 
   tells_settled : tally.faulty ≡ false → AllByRecursion (IsSettled quota) work.outcomes
   tells_settled sound =
-      let all : work.stored + did.over ≡ length work.taken = did.settled.all sound in
+      let all : acc.stored + acc.over ≡ length work.taken = acc.settled.all sound in
       let P : List Outcome → Type 0 = λ os. AllByRecursion (IsSettled quota) os in
-      subst P (sym did.outcomes) (all_settled civil_at site.host quota did.start (work.stored + did.over) work.taken (omega (arith, all)))
+      subst P (sym acc.told) (all_settled civil_at site.host quota acc.start (acc.stored + acc.over) work.taken (omega (arith, all)))
 
   holds : HoldsCopies civil_at site.host quota work.taken work.outcomes spool.bytes tally.faulty
   holds =
       let P : List Outcome → Type 0 = λ os. HoldsCopies civil_at site.host quota work.taken os spool.bytes tally.faulty in
-      subst P (sym tells) (holds_settled site quota b did.start work.taken spool work.stored did.over tally.faulty did.settled)
+      subst P (sym tells) (holds_settled site quota b acc.start work.taken spool acc.stored acc.over tally.faulty acc.settled)
 
   fills : tally.faulty ≡ true → length spool.bytes ≡ MAILBOX_ROOM
-  fills = is_full civil_at site.host spool _ work.stored did.over tally.faulty (spool_has site quota b did.start work.taken spool work.stored did.over tally.faulty did.settled)
+  fills = is_full civil_at site.host spool _ acc.stored acc.over tally.faulty (spool_has site quota b acc.start work.taken spool acc.stored acc.over tally.faulty acc.settled)
 
 -- a mailbox that hasn't failed
 record HoldsAll (host : List ℕ) (quota : Option ℕ) (notes : List Note) (outcomes : List Outcome) (bytes : List ℕ) : Type 0 where

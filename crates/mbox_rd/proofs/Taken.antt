@@ -27,7 +27,7 @@ Grows-then u v w a b x y = rw (length-append a b) (counted_then u v w (length a)
 IsSameTurn-then : (s t u : Sharing) → IsSameTurn s t → IsSameTurn t u → IsSameTurn s u
 IsSameTurn-then s t u x y = y ∙ ap (λ (v : Sharing). record v { is_unsynced = u.is_unsynced }) x
 
-FailsTurn-then : (s t u : Sharing) → IsSameTurn s t → FailsTurn t u → FailsTurn s u
+pub FailsTurn-then : (s t u : Sharing) → IsSameTurn s t → FailsTurn t u → FailsTurn s u
 FailsTurn-then s t u x y =
     y ∙ ap (λ (v : Sharing). record v { has_failed = v.has_failed || v.in_turn; is_unsynced = u.is_unsynced }) x
 

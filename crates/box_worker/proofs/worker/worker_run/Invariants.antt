@@ -15,6 +15,7 @@ invariant-loop g l = record {
       (idle l.fn.slips.items (g.S.Spool.state l.fn.spool)) (record {
         slips = l.worker.slips;
         mailbox = l.worker.mailbox.mailbox;
+        in_use = l.worker.mailbox.in_use;
         taken = l.worker.taken;
         lost = any_refused l.worker.slips;
       }) l.worker.mailbox.limit;

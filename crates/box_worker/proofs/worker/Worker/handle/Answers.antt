@@ -7,6 +7,7 @@ use Rattle.mail_post.specs.Offered.{IsOffered, any_refused}
 use Rattle.mbox_rd.specs.Envelope.{Envelope, record_text}
 use Rattle.box_worker.specs.Limits.{Setting}
 use Rattle.box_worker.specs.Stored.{TakesCopy}
+use Rattle.box_worker.specs.Turned.{TurnsCopy}
 use Rattle.box_worker.specs.Told.{slip_by}
 use Rattle.box_worker.specs.Worked.{WorkerState, IsCounting}
 use Rattle.box_worker.proofs.Handling.{text_of, handled_more}
@@ -19,12 +20,13 @@ returns g c quota worker copies old x =
     let took = c.take-outcome in
     let told = c.tell in
     let at : Setting = record { calendar = civil_at; host = host; quota = quota; worker = worker } in
-    let now : WorkerState = record { slips = self.slips; mailbox = self.mailbox.mailbox; taken = self.taken; lost = any_refused self.slips } in
+    let now : WorkerState = record { slips = self.slips; mailbox = self.mailbox.mailbox; in_use = self.mailbox.in_use; taken = self.taken; lost = any_refused self.slips } in
     let parts = c.parts-place in
     let text : record_text civil_at host parts.result.envelope parts.result.hold.bytes ≡ record_of civil_at host c.args.post =
     ap (λ (e : Envelope). record_text civil_at host e parts.result.hold.bytes) parts.ensures.envelope
     ∙ ap (λ (m : List ℕ). record_text civil_at host (envelope_of c.args.post) m) parts.ensures.hold.0 ∙ text_of civil_at host c.args.post in
     let P : List ℕ → Type 0 = λ t. TakesCopy t took.result self.mailbox took.new.self in
+    let K : List ℕ → Type 0 = λ t. TurnsCopy t took.result self.mailbox took.new.self in
     let gone = c.release-released.ensures in
     let accepted : Bool = told.ensures.0 in
     let Q : Txn → Type 0 = λ t. IsOffered t.lane (slip_by t c.release-released.result.place took.result) accepted now.slips told.new.self in
@@ -32,9 +34,10 @@ returns g c quota worker copies old x =
     let H : ℕ → Type 0 = λ n. IsCounting at (copies ++ c.args.post ∷ []) old (record {
       slips = told.new.self;
       mailbox = took.new.self.mailbox;
+      in_use = took.new.self.in_use;
       taken = n;
       lost = any_refused told.new.self;
     }) took.new.self.limit in
     subst H (sym c.saturating_add-self.ensures)
     (handled_more at copies old now self.mailbox.limit told.new.self c.args.post accepted x took.result took.new.self
-    (subst P text took.ensures.takes) (subst R (gone.1 ∙ parts.ensures.names.1) (subst Q (gone.0 ∙ parts.ensures.names.0) told.ensures.1)))
+    took.ensures.tallied took.ensures.whose (λ e. subst P text (took.ensures.alone e)) took.ensures.never_in_use (λ e. subst K text (took.ensures.shared e)) (subst R (gone.1 ∙ parts.ensures.names.1) (subst Q (gone.0 ∙ parts.ensures.names.0) told.ensures.1)))
