@@ -60,7 +60,7 @@ numbered b channel (x ∷ xs) e = let s : ◌≡◌ {A = Option (Sender Slip)} (
 module _ {S R : Type 0} (state : S → SpoolState) (rr : R → Inbox Note) (rs : R → List (Sender Slip)) (rp : R → S) (rt : R → Tally) (rl : R → Bool) where
   abbrev pub BoxOk : BoxTask S → R → Type 0
   BoxOk j r = HasWorked (setting_of j.share (worker_of j.slips)) j.receiver (rr r) (idle j.slips (state j.spool))
-      (record { slips = rs r; mailbox = mailbox_of (state (rp r)) (rt r).stored (rt r).over (rt r).faulty; taken = (rt r).taken; lost = rl r })
+      (record { slips = rs r; mailbox = mailbox_of (state (rp r)) (rt r).stored (rt r).over (rt r).faulty; in_use = (rt r).in_use; taken = (rt r).taken; lost = rl r })
 
   abbrev box_work : (j : BoxTask S) (r : R) → BoxOk j r → BoxWork
   box_work j r h =
@@ -131,7 +131,8 @@ module _ {S R : Type 0} (state : S → SpoolState) (rr : R → Inbox Note) (rs :
           taken_count = handled.taken_count;
           stored_count = handled.stored_count;
           over_count = handled.over_count;
-          known = handled.known;
+          alone = handled.alone;
+          shared = handled.shared;
         } in
         let stored_at : Stored share (worker_of t.row) t.spool (works k) =
         subst (λ (j : BoxTask S). Stored j.share (worker_of j.slips) j.spool (works k)) t.is (subst (λ w. Stored p.left.share (worker_of p.left.slips) p.left.spool w) (sym p.picked) stored) in

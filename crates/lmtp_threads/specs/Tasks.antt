@@ -185,5 +185,6 @@ HaveWorkedAll {S} state tasks new =
     → 0 < length channels → AreRows (length old.spools) channels none old.rows → HaveWorked site state channels old new
 
 -- a report's counts
-abbrev pub tally_of : ℕ → ℕ → ℕ → Bool → Tally
-tally_of taken stored over faulty = record { taken = taken; stored = stored; over = over; faulty = faulty }
+abbrev pub tally_of : ℕ → ℕ → ℕ → ℕ → Bool → Tally
+tally_of taken stored over in_use faulty =
+    record { taken = taken; stored = stored; over = over; in_use = in_use; faulty = faulty }

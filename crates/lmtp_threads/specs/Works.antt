@@ -1,6 +1,5 @@
 -- What one lane and one worker did, and what is told of it.
-use Rattle.std.specs.Prelude.{◌≡◌, ℕ, ◌+◌, Bool, List, length, Option}
-use Rattle.std.specs.Option.{IfSome}
+use Rattle.std.specs.Prelude.{◌≡◌, ℕ, ◌+◌, Bool, true, false, List, length, Option}
 use Rattle.std.specs.List.{count_by}
 use Rattle.mail_world.specs.declared.Note.{Note}
 use Rattle.mail_world.specs.declared.Outcome.{Outcome}
@@ -12,7 +11,8 @@ use Rattle.mbox_rd.specs.Spool.{SpoolState}
 use Rattle.box_worker.specs.Limits.{Setting}
 use Rattle.box_worker.specs.Stored.{mailbox_of}
 use Rattle.box_worker.specs.Told.{is_stored, is_over}
-use Rattle.box_worker.specs.Worked.{IsAccounted}
+use Rattle.box_worker.specs.Turned.{shared_of, HasTurned}
+use Rattle.box_worker.specs.Worked.{IsAlone}
 use Rattle.lmtp_talk.specs.Peer.{PeerState}
 use Rattle.lmtp_lane.specs.Visits.{VisitsTold, Visit}
 use Rattle.lmtp_threads.specs.declared.tally.Tally.{Tally}
@@ -62,12 +62,14 @@ lane_told view before after count = record {
   count = count;
 }
 
--- A mailbox's worker took these copies, and told an outcome of each. A spool that tells its bytes holds the records of
--- those that it stored: each that is kept under the quota, unless the spool failed.
+-- A mailbox's worker took these copies, and told an outcome of each. A private spool holds the records of those that it
+-- stored: each that is kept under the quota, unless the spool failed. A shared one had a turn for each.
 pub record IsBoxWork (at : Setting) (work : BoxWork) (old new : SpoolState) (tally : Tally) : Type 0 where
   pub each : length work.outcomes ≡ length work.taken
   pub taken_count : tally.taken ≡ counted (length work.taken)
   pub stored_count : tally.stored ≡ counted (count_by is_stored work.outcomes)
   pub over_count : tally.over ≡ counted (count_by is_over work.outcomes)
-  pub known : IfSome old.bytes (λ bytes. IsAccounted at work.taken work.outcomes old
-      (mailbox_of new tally.stored tally.over tally.faulty))
+  pub alone : old.sharing.is_shared ≡ false → IsAlone at work.taken work.outcomes old
+      (mailbox_of new tally.stored tally.over tally.faulty) tally.in_use
+  pub shared : old.sharing.is_shared ≡ true → HasTurned at work.taken work.outcomes (shared_of old false 0)
+      (shared_of new tally.faulty tally.in_use)

@@ -23,7 +23,7 @@ use Rattle.lmtpd.specs.Faults.{check_fault, check_status, fault_text, first_faul
 use Rattle.lmtpd_check.specs.Checked.{IsChecked}
 use Rattle.lmtpd_check.specs.declared.checked.Checked.{Checked as CheckedFiles}
 use Rattle.lmtpd_rehearse.specs.Rehearsal.{IsBlockCount, IsRehearsed, Streams}
-use Rattle.lmtpd_serve.specs.Served.{IsServerRun, over_lines}
+use Rattle.lmtpd_serve.specs.Served.{IsServerRun, trouble_lines}
 use Rattle.lmtpd.specs.declared.fault.Fault.{Fault}
 use Rattle.lmtpd.specs.declared.fault.Fault.TheVariants as fault
 use Rattle.lmtpd.specs.declared.program.Done.{Done}
@@ -162,6 +162,6 @@ module _ {R W : Type 0} where
   -- a server's mailboxes that are over their quota come before its fault
   abbrev pub exit_lines : Done R W → List ℕ
   exit_lines (Rehearsed it) = line_after (rehearsal_fault it.ending)
-  exit_lines (Served it) = over_lines it ++ line_after (server_fault it.ending)
+  exit_lines (Served it) = trouble_lines it ++ line_after (server_fault it.ending)
   exit_lines (Checked it) = line_after (check_fault it.cut)
   exit_lines (Stopped s) = stop_line s

@@ -1,18 +1,21 @@
-//! A mailbox of which it is logged once that it failed.
+//! A mailbox of which it is logged once that it failed, and that it is in use and when it is free again.
 
 ghost use Rattle.std.specs.Prelude.{◌≡◌, false};
 ghost use Rattle.lmtpd_log.specs.Logged.{spool_in};
 
 use log::{Log, error};
-use mbox_rd::{Spool, SpoolFault, Tail};
+use mbox_rd::{InUse, Spool, SpoolFault, Tail};
+use std::io;
 
-/// A spool whose first fault is logged, by the name of its mailbox.
+/// A spool whose first fault is logged, by the name of its mailbox; and the first of its turns that isn't had, and the
+/// next that is.
 #[derive(Drop)]
 pub struct LoggedMailbox<S, G> {
     spool: S,
     name: String,
     log: G,
     has_failed: bool,
+    is_in_use: bool,
 }
 
 impl<S, G> LoggedMailbox<S, G> {
@@ -20,13 +23,14 @@ impl<S, G> LoggedMailbox<S, G> {
     pub fn new(spool: S, name: String, log: G) -> LoggedMailbox<S, G>
         ensures over { spool_in result ≡ spool }
         ensures name { result.name ≡ name }
-        ensures none { result.has_failed ≡ false }
+        ensures none { (result.has_failed ≡ false) × (result.is_in_use ≡ false) }
     {
         LoggedMailbox {
             spool,
             name,
             log,
             has_failed: false,
+            is_in_use: false,
         }
     }
 }
@@ -43,10 +47,59 @@ impl<S, G: Log> LoggedMailbox<S, G> {
         let mailbox = self.name.as_str();
         error!(self.log; target: "lmtpd", mailbox; "mailbox failed");
     }
+
+    // Logs that a turn wasn't had, and why, unless the one before wasn't either.
+    fn tell_in_use(&mut self, in_use: InUse)
+        ensures { spool_in self.new ≡ spool_in self.old }
+    {
+        if self.is_in_use {
+            return;
+        }
+        self.is_in_use = true;
+        let mailbox = self.name.as_str();
+        match in_use {
+            InUse::System(code) => {
+                let reason = io::Error::from_raw_os_error(code);
+                error!(self.log; target: "lmtpd", mailbox, reason:%; "mailbox in use");
+            }
+            InUse::Locked | InUse::NotPlain => {
+                error!(self.log; target: "lmtpd", mailbox, reason:% = in_use; "mailbox in use");
+            }
+        }
+    }
+
+    // Logs that a turn was had again, if the one before wasn't.
+    fn tell_free(&mut self)
+        ensures { spool_in self.new ≡ spool_in self.old }
+    {
+        if !self.is_in_use {
+            return;
+        }
+        self.is_in_use = false;
+        let mailbox = self.name.as_str();
+        error!(self.log; target: "lmtpd", mailbox; "mailbox free again");
+    }
 }
 
 impl<S: Spool, G: Log> Spool for LoggedMailbox<S, G> {
     ghost state = { λ mailbox. S.state (spool_in mailbox) };
+
+    fn is_shared(&self) -> bool {
+        self.spool.is_shared()
+    }
+
+    fn lock(&mut self) -> Result<Option<u64>, InUse> {
+        let locked = self.spool.lock();
+        match locked {
+            Ok(_) => self.tell_free(),
+            Err(in_use) => self.tell_in_use(in_use),
+        }
+        locked
+    }
+
+    fn unlock(&mut self) {
+        self.spool.unlock();
+    }
 
     fn append(&mut self, piece: &[u8]) -> Result<usize, SpoolFault> {
         let took = self.spool.append(piece);

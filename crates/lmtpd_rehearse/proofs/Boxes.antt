@@ -17,6 +17,7 @@ use Rattle.box_worker.specs.Limits.{Setting, kept_behind}
 use Rattle.box_worker.specs.Stored.{mailbox_of, HasStored, HasSettled}
 use Rattle.lmtp_threads.specs.Works.{share_of, setting_of}
 use Rattle.lmtp_threads.specs.declared.tally.Tally.{Tally}
+use Rattle.mbox_rd.specs.Sharing.{alone}
 use Rattle.lmtpd_rehearse.specs.declared.parts.TheConstants.{MAILBOX_ROOM}
 use Rattle.lmtpd_rehearse.specs.Mailboxes.{MailboxContent, kept_all, kept_at, bytes_of_all, empty_spool, IsCalm}
 use Rattle.lmtpd_rehearse.specs.Copies.{HoldsCopies, kept_later}
@@ -24,7 +25,7 @@ use Rattle.lmtpd_rehearse.proofs.Keeping.{kept_front, kept_parts, length-marked,
 
 -- a spool in memory as every spool is seen
 abbrev pub state_of : MemorySpool → SpoolState
-state_of spool = record { bytes = Some spool.bytes; failures = spool.failures; limit = Some (length spool.bytes + spool.room); synced = spool.synced; held = length spool.bytes }
+state_of spool = record { bytes = Some spool.bytes; failures = spool.failures; limit = Some (length spool.bytes + spool.room); synced = spool.synced; held = length spool.bytes; sharing = alone spool.is_unsynced }
 
 -- lists of one length
 pub get_some : {A : Type 0} (xs : List A) (n : ℕ) → n < length xs → (x : A) × (slice_get xs n ≡ Some x)

@@ -176,9 +176,9 @@ record HaveWorked (site : Site) (quota : Option ℕ) (ts : List Transaction) (wo
 -- what a worker made of its mailbox, and what it told of its copies
 module _ (site : Site) (quota : Option ℕ) (b : ℕ) (work : BoxWork) (spool : MemorySpool) (tally : Tally)
     (did : IsBoxWork (setting_of (share_of site quota) b) work (state_of empty_spool) (state_of spool) tally) where
-  -- the spool tells its bytes
+  -- the spool is nobody else's
   abbrev acc : IsAccounted (setting_of (share_of site quota) b) work.taken work.outcomes (state_of empty_spool) (mailbox_of (state_of spool) tally.stored tally.over tally.faulty)
-  acc = did.known
+  acc = (did.alone refl).accounted
 
   abbrev marks : List Bool
   marks = are_kept_behind civil_at site.host quota acc.start work.taken

@@ -45,4 +45,4 @@ IsCalm ks = (n : ℕ) → n < length ks → (kept_at ks n).failed ≡ false
 
 -- a spool that holds nothing, with room for a mailbox
 abbrev pub empty_spool : MemorySpool
-empty_spool = record { bytes = []; room = MAILBOX_ROOM; failures = 0; synced = 0 }
+empty_spool = record { bytes = []; room = MAILBOX_ROOM; failures = 0; synced = 0; is_unsynced = false }

@@ -1,2 +1,2 @@
-mod OverLines
+mod TroubleLines
 mod Unmapped

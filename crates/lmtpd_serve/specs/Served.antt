@@ -13,6 +13,8 @@ use Rattle.lmtp_lane.specs.TcpVisits.{conversations_ended, told_by, IsNewcomer, 
 use Rattle.lmtpd_log.specs.Logged.{visits_in}
 use Rattle.lmtpd_log.specs.declared.visits.LoggedVisits.{LoggedVisits}
 use Rattle.lmtpd_output.specs.Output.{pair_texts}
+use Rattle.lmtpd_serve.specs.declared.lines.Trouble.{Trouble}
+use Rattle.lmtpd_serve.specs.declared.lines.Trouble.TheVariants.{InUse, OverQuota}
 use Rattle.lmtpd_serve.specs.declared.served.Served.{Served}
 
 -- the line that says where the server listens
@@ -26,16 +28,29 @@ count_line name tally = name ++ codes " stored " ++ decimal tally.stored ++ (lf 
 abbrev pub counts_text : List (List ℕ) → List Tally → List ℕ
 counts_text names tallies = pair_texts count_line names tallies
 
--- the line of a mailbox with so many copies over its quota
-abbrev pub over_line : List ℕ → ℕ → List ℕ
-over_line name over = codes "lmtpd: " ++ (name ++ codes " over quota " ++ decimal over ++ (lf ∷ []))
+-- the copies of a mailbox that an administrator is told of: those whose turn wasn't had, or those over the quota
+abbrev pub count_of : Trouble → Tally → ℕ
+count_of InUse tally = tally.in_use
+count_of OverQuota tally = tally.over
 
--- what is said of a mailbox: its line where copies were over its quota, and else nothing
-abbrev pub over_told : List ℕ → Tally → List ℕ
-over_told name tally = if tally.over == 0 then [] else over_line name tally.over
+abbrev pub words_of : Trouble → List ℕ
+words_of InUse = codes " in use "
+words_of OverQuota = codes " over quota "
 
-abbrev pub over_lines : Served → List ℕ
-over_lines served = pair_texts over_told (arc_value served.site).boxes served.tallies.items
+-- the line of a mailbox with as many of them
+abbrev pub trouble_line : Trouble → List ℕ → ℕ → List ℕ
+trouble_line trouble name count = codes "lmtpd: " ++ (name ++ words_of trouble ++ decimal count ++ (lf ∷ []))
+
+-- what is said of a mailbox: its line where there were any, and else nothing
+abbrev pub trouble_told : Trouble → List ℕ → Tally → List ℕ
+trouble_told trouble name tally =
+    if count_of trouble tally == 0 then [] else trouble_line trouble name (count_of trouble tally)
+
+abbrev pub lines_of : Trouble → Served → List ℕ
+lines_of trouble served = pair_texts (trouble_told trouble) (arc_value served.site).boxes served.tallies.items
+
+abbrev pub trouble_lines : Served → List ℕ
+trouble_lines served = lines_of InUse served ++ lines_of OverQuota served
 
 -- how many lanes a server has, and the limit of bytes for each mailbox
 pub record Extent : Type 0 where

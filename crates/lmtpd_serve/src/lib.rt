@@ -7,7 +7,7 @@ mod run;
 mod served;
 
 pub use conversations::Conversations;
-pub use lines::write_over_lines;
+pub use lines::{Trouble, write_trouble_lines};
 pub use lmtp_house::{Sizes, Tally, TimedListener};
 pub use run::serve_run;
 pub use served::{Served, ServerEnding};

@@ -1,9 +1,11 @@
-//! What a server says: on standard output where it listens and what it stored, on standard error what was over quotas.
+//! What a server says: on standard output where it listens and what it stored, on standard error which turns weren't had
+//! and what was over quotas.
 
 ghost use Rattle.std.specs.Prelude.{◌≡◌, length, string_bytes, IfOk, OnOk, OnErr};
 ghost use Rattle.std.specs.Io.KnownBytes.{Appends};
 ghost use Rattle.lmtpd_output.specs.Output.{IsCutOff};
-ghost use Rattle.lmtpd_serve.specs.Served.{address_line, count_line, counts_text, over_line, over_lines, over_told};
+ghost use Rattle.lmtpd_serve.specs.Served.{address_line, count_line, counts_text, count_of, words_of, trouble_line};
+ghost use Rattle.lmtpd_serve.specs.Served.{trouble_told, lines_of, trouble_lines};
 
 use super::served::Served;
 use itoa::Buffer;
@@ -53,41 +55,99 @@ pub fn write_counts<W: Write>(
     Ok(())
 }
 
-// The line of a mailbox with so many copies over its quota.
-fn write_over_line<W: Write>(writer: &mut W, name: &[u8], over: u64) -> Result<(), WriteFault>
-    ensures ok { OnOk result (Appends (W.contents writer.old) (W.contents writer.new) (over_line name.now over)) }
-    ensures err { OnErr result (IsCutOff (W.contents writer.old) (W.contents writer.new) (over_line name.now over)) }
+/// The copies of a mailbox that an administrator is told of: those whose turn wasn't had while other programs had the
+/// mailbox locked, or those over the quota.
+#[derive(Clone, Copy, Debug, PartialEq, Eq)]
+pub enum Trouble {
+    InUse,
+    OverQuota,
+}
+
+impl Trouble {
+    fn count(self, tally: &Tally) -> u64
+        ensures { result ≡ count_of self tally.now }
+    {
+        match self {
+            Trouble::InUse => tally.in_use,
+            Trouble::OverQuota => tally.over,
+        }
+    }
+
+    fn words(self) -> &'static [u8]
+        ensures { result.now ≡ words_of self }
+    {
+        match self {
+            Trouble::InUse => b" in use ",
+            Trouble::OverQuota => b" over quota ",
+        }
+    }
+}
+
+// The line of a mailbox with as many of these copies.
+fn write_trouble_line<W: Write>(
+    writer: &mut W,
+    trouble: Trouble,
+    name: &[u8],
+    count: u64,
+) -> Result<(), WriteFault>
+    ensures ok { OnOk result (Appends (W.contents writer.old) (W.contents writer.new)
+        (trouble_line trouble name.now count)) }
+    ensures err { OnErr result (IsCutOff (W.contents writer.old) (W.contents writer.new)
+        (trouble_line trouble name.now count)) }
 {
     let mut digits = Buffer::new();
-    let count = digits.format(over);
+    let count = digits.format(count);
     write_each(
         writer,
-        &[b"lmtpd: ", name, b" over quota ", count.as_bytes(), b"\n"],
+        &[b"lmtpd: ", name, trouble.words(), count.as_bytes(), b"\n"],
     )
 }
 
-// Says of a mailbox how many copies were over its quota, unless none was.
-fn write_over<W: Write>(writer: &mut W, name: &[u8], tally: &Tally) -> Result<(), WriteFault>
-    ensures ok { OnOk result (Appends (W.contents writer.old) (W.contents writer.new) (over_told name.now tally.now)) }
+// Says of a mailbox how many of these copies it had, unless it had none.
+fn write_trouble<W: Write>(
+    writer: &mut W,
+    trouble: Trouble,
+    name: &[u8],
+    tally: &Tally,
+) -> Result<(), WriteFault>
+    ensures ok { OnOk result (Appends (W.contents writer.old) (W.contents writer.new)
+        (trouble_told trouble name.now tally.now)) }
     ensures err { OnErr result (IsCutOff (W.contents writer.old) (W.contents writer.new)
-        (over_told name.now tally.now)) }
+        (trouble_told trouble name.now tally.now)) }
 {
-    if tally.over == 0 {
+    let count = trouble.count(tally);
+    if count == 0 {
         return Ok(());
     }
-    write_over_line(writer, name, tally.over)
+    write_trouble_line(writer, trouble, name, count)
 }
 
-/// Says of each mailbox with copies over its quota, in the order of the site, how many these were. After a fault the
-/// writer holds a front of these lines more.
-pub fn write_over_lines<W: Write>(writer: &mut W, served: &Served) -> Result<(), WriteFault>
-    ensures ok { OnOk result (Appends (W.contents writer.old) (W.contents writer.new) (over_lines served.now)) }
-    ensures err { OnErr result (IsCutOff (W.contents writer.old) (W.contents writer.new) (over_lines served.now)) }
+// The same of each mailbox, in the order of the site.
+fn write_all_of<W: Write>(
+    writer: &mut W,
+    trouble: Trouble,
+    served: &Served,
+) -> Result<(), WriteFault>
+    ensures ok { OnOk result (Appends (W.contents writer.old) (W.contents writer.new)
+        (lines_of trouble served.now)) }
+    ensures err { OnErr result (IsCutOff (W.contents writer.old) (W.contents writer.new)
+        (lines_of trouble served.now)) }
 {
     let site: &Site = &served.site;
     for number in 0..site.box_count() {
         let tally = &served.tallies[number as usize];
-        write_over(writer, site.box_name(number), tally)?;
+        write_trouble(writer, trouble, site.box_name(number), tally)?;
     }
     Ok(())
+}
+
+/// Says of each mailbox, in the order of the site, how many turns weren't had, unless none was missed, and then of each
+/// how many copies were over its quota, unless none was. After a fault the writer holds a prefix of these lines more.
+pub fn write_trouble_lines<W: Write>(writer: &mut W, served: &Served) -> Result<(), WriteFault>
+    ensures ok { OnOk result (Appends (W.contents writer.old) (W.contents writer.new) (trouble_lines served.now)) }
+    ensures err { OnErr result (IsCutOff (W.contents writer.old) (W.contents writer.new)
+        (trouble_lines served.now)) }
+{
+    write_all_of(writer, Trouble::InUse, served)?;
+    write_all_of(writer, Trouble::OverQuota, served)
 }

@@ -6,19 +6,19 @@ ghost use Rattle.lmtpd.specs.Faults.{server_fault};
 ghost use Rattle.lmtpd.specs.Program.{line_after, status_after};
 ghost use Rattle.lmtpd_output.specs.Output.{IsCutOff};
 ghost use Rattle.lmtpd_rehearse.specs.Rehearsal.{IsListed};
-ghost use Rattle.lmtpd_serve.specs.Served.{over_lines};
+ghost use Rattle.lmtpd_serve.specs.Served.{trouble_lines};
 
 use crate::fault::{Fault, server_fault};
 use crate::stop::{Exit, status_after, write_fault};
 use lmtpd_output::WriteFault;
-use lmtpd_serve::{Served, write_over_lines};
+use lmtpd_serve::{Served, write_trouble_lines};
 use std::io::Write;
 
 /// Says on `error` which mailboxes are over their quota, and then what is lacking, if anything is, and gives the
 /// status.
 pub fn report_served<E: Write>(served: &Served, error: &mut E) -> Exit
     ensures status { result.status ≡ status_after (server_fault served.now.ending) }
-    ensures lines { IsListed (over_lines served.now ++ line_after (server_fault served.now.ending))
+    ensures lines { IsListed (trouble_lines served.now ++ line_after (server_fault served.now.ending))
         (E.contents error.old) (E.contents error.new) result.cut }
 {
     let fault = server_fault(served.ending);
@@ -36,10 +36,10 @@ fn write_lines<E: Write>(
     error: &mut E,
 ) -> Result<(), WriteFault>
     ensures ok { OnOk result (Appends (E.contents error.old) (E.contents error.new)
-        (over_lines served.now ++ line_after fault)) }
+        (trouble_lines served.now ++ line_after fault)) }
     ensures err { OnErr result (IsCutOff (E.contents error.old) (E.contents error.new)
-        (over_lines served.now ++ line_after fault)) }
+        (trouble_lines served.now ++ line_after fault)) }
 {
-    write_over_lines(error, served)?;
+    write_trouble_lines(error, served)?;
     write_fault(fault, error)
 }

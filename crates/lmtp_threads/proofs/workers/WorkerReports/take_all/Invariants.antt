@@ -14,6 +14,6 @@ invariant-loop-report g l =
       slips : IsApart (λ r. vec_items r.slips) (lists (vec_items l.ends.slips)) (vec_capacity l.ends.slips) rest all;
       spools : IsApart (λ r. r.spool) (vec_items l.ends.spools) (vec_capacity l.ends.spools) rest all;
       gates : IsApart (λ r. r.gate) (vec_items l.ends.gates) (vec_capacity l.ends.gates) rest all;
-      tallies : IsApart (λ r. tally_of r.taken r.stored r.over r.faulty) (vec_items l.ends.tallies) (vec_capacity l.ends.tallies) rest all;
+      tallies : IsApart (λ r. tally_of r.taken r.stored r.over r.in_use r.faulty) (vec_items l.ends.tallies) (vec_capacity l.ends.tallies) rest all;
       lost : IsTold (λ r. r.lost) l.ends.lost rest all;
     }

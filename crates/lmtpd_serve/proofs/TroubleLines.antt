@@ -1,4 +1,4 @@
--- The lines of mailboxes with copies over their quota.
+-- The lines of mailboxes with copies that an administrator is told of.
 use Rattle.std.proofs.Common.{◌≡◌, ◌∙◌, ◌++◌, ◌<◌, List, ℕ, [], ◌∷◌, ap, append_assoc, get_or, length, subst}
 use Rattle.std.specs.Arc.{arc_value}
 use Rattle.mail_world.specs.Site.{Site, box_name}
@@ -8,9 +8,9 @@ use Rattle.lmtpd_output.proofs.Listed.{IsPairAt}
 use Rattle.lmtpd_serve.specs.declared.served.Served.{Served}
 
 -- the pieces of a line
-pub joined : (front name middle digits number : List ℕ) → digits ≡ number
-    → front ++ (name ++ (middle ++ (digits ++ (lf ∷ [])))) ≡ front ++ (name ++ middle ++ number ++ (lf ∷ []))
-joined front name middle digits number e = rw e (simp append_assoc)
+pub joined : (first name middle words digits number : List ℕ) → middle ≡ words → digits ≡ number
+    → first ++ (name ++ (middle ++ (digits ++ (lf ∷ [])))) ≡ first ++ (name ++ words ++ number ++ (lf ∷ []))
+joined first name middle words digits number d e = rw (d, e) (simp append_assoc)
 
 -- the mailbox at this place, and what its worker did
 pub told_at : (served : Served) (site : Site) (k : ℕ) (name : List ℕ) (tally : Tally) → site ≡ arc_value served.site → k < length site.boxes
