@@ -85,8 +85,8 @@ listed old locked done new held at_lock at_end begins is_locked is_done began tu
     let before : done.sharing.turns ≡ old.sharing.turns = turns ∙ ap (λ (s : Sharing). s.turns) begins.sharing in
     let all : (left : List ℕ) → new.bytes ≡ Some left → new.sharing.turns ≡ old.sharing.turns ++ Had (stood at_lock locked) (stood left new) ∷ [] =
     λ left e. ap (λ (s : Sharing). s.turns) ends.sharing ∙ ap (λ (l : List Turn). l ++ had done.sharing.began (standing new)) before
-        ∙ ap (λ o. old.sharing.turns ++ had o (standing new)) first
-        ∙ ap (λ o. old.sharing.turns ++ had (Some (stood at_lock locked)) o) (standing_is new left e) in
+    ∙ ap (λ o. old.sharing.turns ++ had o (standing new)) first
+    ∙ ap (λ o. old.sharing.turns ++ had (Some (stood at_lock locked)) o) (standing_is new left e) in
     elim ends.left [
       | inl stays ↦ record { left = at_end; bytes = stays.0 ∙ is_done; added = all at_end (stays.0 ∙ is_done); stays = inl (refl, stays.1) }
       | inr cut ↦

@@ -38,13 +38,13 @@ words_of InUse = codes " in use "
 words_of OverQuota = codes " over quota "
 
 -- the line of a mailbox with as many of them
-abbrev pub trouble_line : Trouble → List ℕ → ℕ → List ℕ
-trouble_line trouble name count = codes "lmtpd: " ++ (name ++ words_of trouble ++ decimal count ++ (lf ∷ []))
+abbrev pub trouble_line : List ℕ → List ℕ → ℕ → List ℕ
+trouble_line words name count = codes "lmtpd: " ++ (name ++ words ++ decimal count ++ (lf ∷ []))
 
 -- what is said of a mailbox: its line where there were any, and else nothing
 abbrev pub trouble_told : Trouble → List ℕ → Tally → List ℕ
 trouble_told trouble name tally =
-    if count_of trouble tally == 0 then [] else trouble_line trouble name (count_of trouble tally)
+    if count_of trouble tally == 0 then [] else trouble_line (words_of trouble) name (count_of trouble tally)
 
 abbrev pub lines_of : Trouble → Served → List ℕ
 lines_of trouble served = pair_texts (trouble_told trouble) (arc_value served.site).boxes served.tallies.items

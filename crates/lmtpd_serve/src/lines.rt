@@ -83,24 +83,21 @@ impl Trouble {
     }
 }
 
-// The line of a mailbox with as many of these copies.
+// The line of a mailbox with as many of the copies that these words name.
 fn write_trouble_line<W: Write>(
     writer: &mut W,
-    trouble: Trouble,
     name: &[u8],
+    words: &[u8],
     count: u64,
 ) -> Result<(), WriteFault>
     ensures ok { OnOk result (Appends (W.contents writer.old) (W.contents writer.new)
-        (trouble_line trouble name.now count)) }
+        (trouble_line words.now name.now count)) }
     ensures err { OnErr result (IsCutOff (W.contents writer.old) (W.contents writer.new)
-        (trouble_line trouble name.now count)) }
+        (trouble_line words.now name.now count)) }
 {
     let mut digits = Buffer::new();
     let count = digits.format(count);
-    write_each(
-        writer,
-        &[b"lmtpd: ", name, trouble.words(), count.as_bytes(), b"\n"],
-    )
+    write_each(writer, &[b"lmtpd: ", name, words, count.as_bytes(), b"\n"])
 }
 
 // Says of a mailbox how many of these copies it had, unless it had none.
@@ -119,7 +116,7 @@ fn write_trouble<W: Write>(
     if count == 0 {
         return Ok(());
     }
-    write_trouble_line(writer, trouble, name, count)
+    write_trouble_line(writer, name, trouble.words(), count)
 }
 
 // The same of each mailbox, in the order of the site.

@@ -80,5 +80,5 @@ AreTurns calendar host quota [] [] [] broken = broken ≡ false
 AreTurns calendar host quota (note ∷ notes) (outcome ∷ outcomes) (turn ∷ turns) broken =
     IsTurn calendar host quota note outcome turn
     × MatchBool (breaks outcome turn) ((broken ≡ true) × (turns ≡ []) × AllFailed notes outcomes)
-        (AreTurns calendar host quota notes outcomes turns broken)
+    (AreTurns calendar host quota notes outcomes turns broken)
 AreTurns calendar host quota _ _ _ broken = ⊥
