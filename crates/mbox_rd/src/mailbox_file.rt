@@ -1,5 +1,5 @@
 //! The file under a shared spool, as a trait, so that a test can stand in for it and a proof can speak of it.
-ghost use Rattle.std.specs.Prelude.{◌≡◌, Bool, true, IfOk, OnOk, OnErr};
+ghost use Rattle.std.specs.Prelude.{◌≡◌, Bool, true, false, IfOk, OnOk, OnErr};
 ghost use Rattle.mbox_rd.specs.MailboxFile.{FileState, HasMadeLockFile, HasNotMadeLockFile, HasRemovedLockFile};
 ghost use Rattle.mbox_rd.specs.MailboxFile.{HasLockedRange, HasNotLockedRange, HasReopened, HasRefused, HasLooked};
 ghost use Rattle.mbox_rd.specs.MailboxFile.{HasFoundEnd, HasWritten, HasNotWritten, HasKept, HasNotKept, HasCut, HasNotCut};

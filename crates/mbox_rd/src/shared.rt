@@ -1,6 +1,6 @@
 //! A mailbox in a file that other programs read and empty too: it takes bytes in turns, and what stands there is looked
 //! at anew in each.
-ghost use Rattle.std.specs.Prelude.{◌≡◌, ◌⊎◌, ◌↔◌, ◌+◌, ◌-◌, ◌^◌, ◌<◌, ◌≤◌, [], List, ◌++◌, true, false, min, length, take};
+ghost use Rattle.std.specs.Prelude.{◌≡◌, ◌⊎◌, ◌↔◌, ℕ, ◌+◌, ◌-◌, ◌^◌, ◌<◌, ◌≤◌, [], List, ◌++◌, true, false, min, length, take};
 ghost use Rattle.std.specs.Prelude.{None, IsErr, IfOk, OnOk, OnErr};
 ghost use Rattle.std.specs.Option.{IfSome};
 ghost use Rattle.mail_world.specs.Counts.{counted};
@@ -42,7 +42,6 @@ pub struct SharedSpool<F: MailboxFile + Drop, C: Clock + Drop> {
 impl<F: MailboxFile + Drop, C: Clock + Drop> Model for SharedSpool<F, C> {
     ghost use Rattle.std.specs.Prelude.{◌≤◌, vec_len, vec_capacity};
     ghost use Rattle.mbox_rd.specs.SharedSpool.{SharedSpool as Held};
-    ghost use Rattle.mbox_rd.specs.declared.TheConstants.{BUFFER_SIZE};
 
     ghost Value = { Held F };
 
@@ -93,7 +92,6 @@ impl<F: MailboxFile + Drop, C: Clock + Drop> SharedSpool<F, C> {
 
 impl<F: MailboxFile + Drop, C: Clock + Drop> SharedSpool<F, C> {
     ghost use Rattle.mbox_rd.specs.MailboxFile.{HasWritten, HasNotWritten};
-    ghost use Rattle.mbox_rd.specs.Turn.{HasBegun};
     ghost use Rattle.mbox_rd.specs.SharedSpool.{KeepsAll, HasLost, failed_again};
 
     // Counts a failure, and throws away what waits.

@@ -1,13 +1,13 @@
 //! Lock files that nobody has: their process is no more, or they are older than any turn.
-ghost use Rattle.std.specs.Prelude.{◌≤◌, length, IfSome};
+ghost use Rattle.std.specs.Prelude.{◌≤◌, length, IfOk};
 
 use crate::plain::node_of;
 use std::alloc::{AllocError, Global};
-use std::fs;
 use std::fs::{File, Files, Metadata, OpenFile};
 use std::io::Read;
 use std::os::unix::fs::MetadataExt;
 use std::time::Clock;
+use std::{fs, io};
 
 /// A lock file that is older is left behind, where no process of this host has it.
 const STALE_SECONDS: u64 = 300;
@@ -41,35 +41,60 @@ pub(crate) fn is_stale<R: Files + Clock>(
     owner: &str,
 ) -> bool {
     let mut bytes = [0; TEXT_SIZE];
-    let text = match read_text(rt, lock_path, found, &mut bytes) {
-        Some(n) => str::from_utf8(&bytes[..n]).unwrap_or(""),
-        None => "",
-    };
-    let text = text.trim();
-    let (process, host) = text.split_once(':').unwrap_or((text, ""));
-    let (own_process, own_host) = owner.split_once(':').unwrap_or((owner, ""));
+    let n = read_text(rt, lock_path, found, &mut bytes);
+    let (process, host) = parts_of(text_of(&bytes[..n]));
+    let (own_process, own_host) = parts_of(owner);
     let is_own_user = found.uid() == libc::geteuid();
-    if is_own_user && host == own_host && !host.is_empty() {
-        if process == own_process || is_gone(rt, process) {
-            return true;
-        }
+    let is_own_host = !host.is_empty() && host == own_host;
+    if is_own_user && is_own_host && (process == own_process || is_gone(rt, process)) {
+        return true;
     }
-    let may_be_here = host.is_empty() || host == own_host;
+    let may_be_here = host.is_empty() || is_own_host;
     is_old(rt, found) && !(may_be_here && is_alive(rt, process))
 }
 
-// How many bytes the lock file has, up to the room for them. What is no plain file isn't opened, since that could wait.
-fn read_text<R: Files>(rt: &R, lock_path: &str, found: &Metadata, bytes: &mut [u8]) -> Option<usize>
-    ensures { IfSome result (λ n. n ≤ length bytes.new) }
+fn text_of<'a>(bytes: &'a [u8]) -> &'a str {
+    match str::from_utf8(bytes) {
+        Ok(text) => text.trim(),
+        Err(_) => "",
+    }
+}
+
+// The process and its host; a lock file may name no host.
+fn parts_of<'a>(owner: &'a str) -> (&'a str, &'a str) {
+    match owner.split_once(':') {
+        Some(parts) => parts,
+        None => (owner, ""),
+    }
+}
+
+// How many bytes were read of the lock file, as far as there is room. What is no plain file isn't opened, since that could
+// wait.
+fn read_text<R: Files>(rt: &R, lock_path: &str, found: &Metadata, bytes: &mut [u8]) -> usize
+    ensures { result ≤ length bytes.new }
 {
     if !found.is_file() {
-        return None;
+        return 0;
     }
-    let mut file = File::open(rt, lock_path).ok()?;
-    if node_of(&file.metadata().ok()?) != node_of(found) {
-        return None;
+    match read_found(rt, lock_path, found, bytes) {
+        Ok(n) => n,
+        Err(_) => 0,
     }
-    file.read(bytes).ok()
+}
+
+fn read_found<R: Files>(
+    rt: &R,
+    lock_path: &str,
+    found: &Metadata,
+    bytes: &mut [u8],
+) -> io::Result<usize>
+    ensures { IfOk result (λ n. n ≤ length bytes.new) }
+{
+    let mut file = File::open(rt, lock_path)?;
+    if node_of(&file.metadata()?) != node_of(found) {
+        return Ok(0);
+    }
+    file.read(bytes)
 }
 
 fn is_old<R: Clock>(rt: &R, found: &Metadata) -> bool {

@@ -44,8 +44,9 @@ pub(crate) fn wait_for_turn<F: MailboxFile, C: Clock>(
 {
     for pauses in 1..tries {
         match begin_turn(file) {
+            Ok(end) => return Ok(end),
             Err(InUse::Locked) => clock.sleep(pause_after(pauses)),
-            answer => return answer,
+            Err(in_use) => return Err(in_use),
         }
     }
     begin_turn(file)
@@ -70,7 +71,10 @@ fn begin_turn<F: MailboxFile>(file: &mut F) -> Result<FileEnd, InUse>
             return Ok(end);
         }
     }
-    begin_or_reopen(file)?.ok_or(InUse::Locked)
+    match begin_or_reopen(file)? {
+        Some(end) => Ok(end),
+        None => Err(InUse::Locked),
+    }
 }
 
 // With both locks it is looked whether they are on the file that the path names. None: they weren't, and were given
