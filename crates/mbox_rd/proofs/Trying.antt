@@ -1,9 +1,9 @@
 -- What is left of earlier tries for a turn.
-use Rattle.std.proofs.Common.{◌≡◌, ℕ, ◌≤◌, ◌<◌, Bool, false, arith, refl, ◌∙◌, inl, inr}
+use Rattle.std.proofs.Common.{◌≡◌, ℕ, ◌≤◌, ◌<◌, Bool, false, arith, refl, ◌∙◌, subst, inl, inr, Option, Some, None}
 use Rattle.mail_world.specs.Failures.{Rises}
 use Rattle.mbox_rd.specs.declared.file.FileEnd.{FileEnd}
 use Rattle.mbox_rd.specs.MailboxFile.{FileState, LeavesNoLockFile}
-use Rattle.mbox_rd.specs.Turn.{HasBegun, HasMissed, IsBetweenTries}
+use Rattle.mbox_rd.specs.Turn.{HasBegun, HasMissed, HasTried, IsBetweenTries}
 
 -- from a count that is no larger
 Rises-from : (u v w : ℕ) → u ≤ v → Rises v w → Rises u w
@@ -51,3 +51,10 @@ missed-then s t u x y = record {
   unchanged = y.unchanged ∙ x.unchanged;
   sound = y.sound ∙ x.sound;
 }
+
+-- what one try came to, by its answer
+pub tried-some : (s t : FileState) (seen : Option FileEnd) (end : FileEnd) → seen ≡ Some end → HasTried s t seen → HasBegun s t end
+tried-some s t seen end is x = let P : Option FileEnd → Type 0 = λ v. HasTried s t v in subst P is x
+
+pub tried-none : (s t : FileState) (seen : Option FileEnd) → seen ≡ None → HasTried s t seen → HasMissed s t
+tried-none s t seen is x = let P : Option FileEnd → Type 0 = λ v. HasTried s t v in subst P is x
