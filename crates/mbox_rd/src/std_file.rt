@@ -125,15 +125,26 @@ where
         if !self.is_named()? {
             return Ok(false);
         }
-        let again = fs::symlink_metadata(&self.rt, self.lock_path.as_str()).map_err(system_fault)?;
-        let is_same = node_of(&again) == node_of(found)
-            && again.mtime() == found.mtime()
-            && again.mtime_nsec() == found.mtime_nsec();
-        if is_same {
-            fs::remove_file(&self.rt, self.lock_path.as_str()).map_err(system_fault)?;
+        let removed = match fs::symlink_metadata(&self.rt, self.lock_path.as_str()) {
+            Ok(again) if is_same(&again, found) => {
+                fs::remove_file(&self.rt, self.lock_path.as_str())
+            }
+            Ok(_) => return Ok(false),
+            Err(error) => Err(error),
+        };
+        match removed {
+            Ok(()) => Ok(true),
+            Err(error) if error.kind() == ErrorKind::NotFound => Ok(true),
+            Err(error) => Err(system_fault(error)),
         }
-        Ok(is_same)
     }
+}
+
+// A number may be given again to a file that is made after another one was removed.
+fn is_same(again: &Metadata, found: &Metadata) -> bool {
+    node_of(again) == node_of(found)
+        && again.mtime() == found.mtime()
+        && again.mtime_nsec() == found.mtime_nsec()
 }
 
 // What a file that can't be opened for a turn is at the start.
