@@ -3,6 +3,9 @@ pub mod Sharing
 pub mod Spool
 pub mod MemorySpool
 pub mod FileSpool
+pub mod MailboxFile
+pub mod Turn
+pub mod SharedSpool
 pub mod CountSpool
 pub mod Mending
 pub mod Parts

@@ -11,18 +11,18 @@ ghost use Rattle.mbox_rd.specs.Spool.{SpoolTook, SpoolFailed, HasSynced, HasNotS
 use crate::spool::{InUse, Spool, SpoolFault, Tail, tail_of};
 use core::mem::replace_with;
 use std::alloc::Global;
-use std::fs::{File, Files, OpenFile, OpenOptions};
+use std::fs::{File, Files, OpenFile, OpenOptions, Permissions};
 use std::io;
 use std::io::{BufWriter, ErrorKind, Read, Seek, SeekFrom, Write};
 use std::marker::Model;
-use std::os::unix::fs::OpenOptionsExt;
+use std::os::unix::fs::{OpenOptionsExt, PermissionsExt};
 use thiserror::Error;
 
 /// The bytes that wait at most before they are written.
-const BUFFER_SIZE: usize = 65_536;
+pub(crate) const BUFFER_SIZE: usize = 65_536;
 
 /// The permission bits of a file that is made: its owner reads and writes it, and nobody else.
-const OWNER_ONLY: u32 = 0o600;
+pub(crate) const OWNER_ONLY: u32 = 0o600;
 
 /// Why a mailbox's file can't be used.
 #[derive(Clone, Copy, Debug, PartialEq, Eq, Error)]
@@ -103,7 +103,7 @@ impl<F: Read + Write + Seek + OpenFile + FileLock + Drop> FileSpool<F> {
     fn open<R: Files<File = F>>(rt: &R, alloc: Global, path: &str) -> io::Result<FileSpool<F>>
         ensures { IfOk result IsOpened }
     {
-        let mut file = open_or_make(rt, path)?;
+        let mut file = open_or_make(rt, path, OWNER_ONLY)?;
         file.try_lock()?;
         let end = end_of_file(&mut file)?;
         let writer = BufWriter::with_capacity(alloc, BUFFER_SIZE, file)?;
@@ -117,15 +117,19 @@ impl<F: Read + Write + Seek + OpenFile + FileLock + Drop> FileSpool<F> {
     }
 }
 
-fn open_or_make<R: Files>(rt: &R, path: &str) -> io::Result<R::File> {
+pub(crate) fn open_or_make<R: Files>(rt: &R, path: &str, mode: u32) -> io::Result<R::File> {
     let made = OpenOptions::new()
         .read(true)
         .append(true)
         .create_new(true)
-        .mode(OWNER_ONLY)
+        .mode(mode)
         .open(rt, path);
     match made {
         Ok(file) => {
+            if mode != OWNER_ONLY {
+                // what the process's mask took away
+                file.set_permissions(Permissions::from_mode(mode))?;
+            }
             File::open(rt, folder_of(path))?.sync_all()?;
             Ok(file)
         }
@@ -144,15 +148,15 @@ fn folder_of(path: &str) -> &str {
     }
 }
 
-// Where a file ends, and how.
-#[derive(Drop)]
-struct FileEnd {
-    at: u64,
-    tail: Tail,
+/// Where a file ends, and how.
+#[derive(Clone, Copy, Debug, PartialEq, Eq)]
+pub struct FileEnd {
+    pub at: u64,
+    pub tail: Tail,
 }
 
 // The last two bytes tell how a file ends.
-fn end_of_file<F: Read + Seek>(file: &mut F) -> io::Result<FileEnd> {
+pub(crate) fn end_of_file<F: Read + Seek>(file: &mut F) -> io::Result<FileEnd> {
     let at = file.seek(SeekFrom::End(0))?;
     let count = at.min(2);
     file.seek(SeekFrom::Start(at - count))?;
@@ -165,7 +169,7 @@ fn end_of_file<F: Read + Seek>(file: &mut F) -> io::Result<FileEnd> {
     })
 }
 
-fn fault_of(error: io::Error) -> OpenFault
+pub(crate) fn fault_of(error: io::Error) -> OpenFault
     ensures { (result ≡ OpenFault.Memory) ↔ (error_kind error ≡ ErrorKind.OutOfMemory) }
 {
     match error.kind() {

@@ -1,0 +1,5 @@
+use Rattle.mbox_rd.proofs.Trying.{between-start, between-missed, begun-then, missed-then}
+use Rattle.mbox_rd.proofs.turn.wait_for_turn.Goals as goal
+
+pub loop-pauses-init : goal.loop-pauses-init
+loop-pauses-init g c = λ t. between-start _

@@ -1,0 +1,69 @@
+-- How a turn at the file of a shared spool begins and ends.
+use Rattle.std.specs.Prelude.{◌≡◌, ◌⊎◌, ℕ, ◌≤◌, Bool, true, false, List, length, take, Option, Some, None}
+use Rattle.mail_world.specs.Failures.{Rises}
+use Rattle.mbox_rd.specs.declared.file.FileEnd.{FileEnd}
+use Rattle.mbox_rd.specs.MailboxFile.{FileState, IsSharedSince, LeavesNoLockFile, HasRefused, IsEnd}
+
+-- Both locks are held, on the file that the path names, and its end is known. Nothing was written.
+pub record HasBegun (old new : FileState) (end : FileEnd) : Type 0 where
+  pub lock_file : new.has_lock_file ≡ true
+  pub range_lock : new.has_range_lock ≡ true
+  pub named : new.is_named ≡ true
+  pub is_end : IsEnd new end
+  pub unchanged : new.changes ≡ old.changes
+  pub sound : new.faults ≡ old.faults
+
+-- Something was refused, no lock is left but where the lock file couldn't be removed, and nothing was written.
+pub record HasMissed (old new : FileState) : Type 0 where
+  pub range_lock : old.has_range_lock ≡ false → new.has_range_lock ≡ false
+  pub free : LeavesNoLockFile old new
+  pub refused : Rises old.refusals new.refusals
+  pub unchanged : new.changes ≡ old.changes
+  pub sound : new.faults ≡ old.faults
+
+-- both locks were taken
+abbrev pub HasTakenLocks : FileState → FileState → Type 0
+HasTakenLocks old new = IsSharedSince (record old { has_lock_file = true; has_range_lock = true }) new
+
+-- both were given back, but the lock file where it couldn't be removed
+pub record HasLetGo (old new : FileState) : Type 0 where
+  pub same : new ≡ record old {
+    has_lock_file = new.has_lock_file;
+    has_range_lock = false;
+    unremoved = new.unremoved;
+  }
+  pub free : LeavesNoLockFile old new
+
+-- the path names the open file, which ends so
+pub record HasFoundOwnEnd (old new : FileState) (end : FileEnd) : Type 0 where
+  pub same : new ≡ old
+  pub named : new.is_named ≡ true
+  pub is_end : IsEnd new end
+
+-- what was seen at the path: the end of the open file, or that it isn't the open file
+abbrev pub HasSeen : FileState → FileState → Option FileEnd → Type 0
+HasSeen old new (Some end) = HasFoundOwnEnd old new end
+HasSeen old new None = HasRefused old new
+
+-- what one try came to: a turn, or another file is open now
+abbrev pub HasTried : FileState → FileState → Option FileEnd → Type 0
+HasTried old new (Some end) = HasBegun old new end
+HasTried old new None = HasMissed old new
+
+-- between two tries
+pub record IsBetweenTries (old new : FileState) : Type 0 where
+  pub range_lock : old.has_range_lock ≡ false → new.has_range_lock ≡ false
+  pub unremoved : old.unremoved ≤ new.unremoved
+  pub refusals : old.refusals ≤ new.refusals
+  pub unchanged : new.changes ≡ old.changes
+  pub sound : new.faults ≡ old.faults
+
+-- Only so many of the first bytes are left, and a crash leaves them; or the cut failed, or that it be kept.
+pub record IsCutBack (old new : FileState) (size : ℕ) : Type 0 where
+  pub left : (new.bytes ≡ old.bytes) ⊎ (new.bytes ≡ take size old.bytes)
+  pub cut : ((new.bytes ≡ take size old.bytes) × (new.kept ≡ length new.bytes)) ⊎ Rises old.faults new.faults
+
+-- the file was cut back, and its locks are as before
+pub record HasCutBack (old new : FileState) (size : ℕ) : Type 0 where
+  pub same : new ≡ record old { bytes = new.bytes; kept = new.kept; changes = new.changes; faults = new.faults }
+  pub is_cut : IsCutBack old new size

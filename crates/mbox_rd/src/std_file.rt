@@ -1,0 +1,259 @@
+//! The file under a shared spool in the file system, beside its lock file.
+use crate::file::{FileEnd, OWNER_ONLY, OpenFault, end_of_file, fault_of};
+use crate::mailbox_file::MailboxFile;
+use crate::plain::{OpenNode, is_plain, node_of, open_plain, system_fault};
+use crate::range_lock::{LockKind, RangeLock};
+use crate::shared::SharedSpool;
+use crate::spool::InUse;
+use crate::stale::{is_stale, owner_text};
+use std::alloc::Global;
+use std::fs::{Files, Metadata, OpenFile, OpenOptions};
+use std::io::{ErrorKind, Write};
+use std::os::unix::fs::{MetadataExt, OpenOptionsExt};
+use std::time::Clock;
+use std::{fs, io};
+
+/// Others read in a lock file whose it is.
+const LOCK_MODE: u32 = 0o644;
+
+/// A mailbox's file that is open, and its lock file `PATH.lock`. It tells contracts nothing.
+#[derive(Drop)]
+pub struct StdMailboxFile<R: Files + Clock + Drop> {
+    rt: R,
+    path: String,
+    mode: u32,
+    open: OpenNode<R::File>,
+    lock_path: String,
+    owner: String,
+    lock_file: Option<OpenNode<R::File>>,
+}
+
+impl<R: Files + Clock + Drop> StdMailboxFile<R>
+where
+    R::File: RangeLock,
+{
+    // Neither lock is held, and a lock file that was left behind is gone.
+    fn open(rt: R, alloc: Global, path: &str, mode: u32) -> io::Result<StdMailboxFile<R>> {
+        let mut file = StdMailboxFile {
+            path: format!(in alloc; "{path}")?,
+            mode,
+            open: open_plain(&rt, path, mode).map_err(error_of)?,
+            lock_path: format!(in alloc; "{path}.lock")?,
+            owner: owner_text(alloc)?,
+            lock_file: None,
+            rt,
+        };
+        let _ = file.remove_stale();
+        Ok(file)
+    }
+
+    // Makes the lock file, unless there is one.
+    fn make_lock_file(&mut self) -> Result<bool, InUse> {
+        let made = OpenOptions::new()
+            .write(true)
+            .create_new(true)
+            .mode(LOCK_MODE)
+            .open(&self.rt, self.lock_path.as_str());
+        let mut file = match made {
+            Ok(file) => file,
+            Err(error) if error.kind() == ErrorKind::AlreadyExists => return Ok(false),
+            Err(error) => return Err(system_fault(error)),
+        };
+        let written = match file.metadata() {
+            Ok(metadata) => {
+                let written = file.write_all(self.owner.as_bytes());
+                let node = node_of(&metadata);
+                self.lock_file = Some(OpenNode { file, node });
+                written
+            }
+            Err(error) => {
+                let _ = fs::remove_file(&self.rt, self.lock_path.as_str());
+                Err(error)
+            }
+        };
+        if let Err(error) = written {
+            self.remove_lock_file();
+            return Err(system_fault(error));
+        }
+        Ok(true)
+    }
+
+    // Removes the lock file, if one was made and it is still that one. Where that fails it is tried again later.
+    fn remove_own(&mut self) -> io::Result<()> {
+        let Some(own) = &self.lock_file else {
+            return Ok(());
+        };
+        match fs::symlink_metadata(&self.rt, self.lock_path.as_str()) {
+            Ok(found) if node_of(&found) == own.node => {
+                fs::remove_file(&self.rt, self.lock_path.as_str())?;
+            }
+            Ok(_) => {}
+            Err(error) if error.kind() == ErrorKind::NotFound => {}
+            Err(error) => return Err(error),
+        }
+        self.lock_file = None;
+        Ok(())
+    }
+
+    // Removes a lock file that was left behind. True: there is none now.
+    fn remove_stale(&mut self) -> Result<bool, InUse> {
+        let found = match fs::symlink_metadata(&self.rt, self.lock_path.as_str()) {
+            Ok(found) => found,
+            Err(error) if error.kind() == ErrorKind::NotFound => return Ok(true),
+            Err(error) => return Err(system_fault(error)),
+        };
+        if !is_stale(
+            &self.rt,
+            self.lock_path.as_str(),
+            &found,
+            self.owner.as_str(),
+        ) {
+            return Ok(false);
+        }
+        if !self.is_named()? {
+            self.reopen()?;
+        }
+        self.try_range_lock()?;
+        let removed = self.remove_same(&found);
+        self.unlock_range();
+        removed
+    }
+
+    // Under the lock on the bytes of the file that the path names nobody else removes what was left behind, and what was
+    // found is looked at anew.
+    fn remove_same(&mut self, found: &Metadata) -> Result<bool, InUse> {
+        if !self.is_named()? {
+            return Ok(false);
+        }
+        let removed = match fs::symlink_metadata(&self.rt, self.lock_path.as_str()) {
+            Ok(again) if is_same(&again, found) => {
+                fs::remove_file(&self.rt, self.lock_path.as_str())
+            }
+            Ok(_) => return Ok(false),
+            Err(error) => Err(error),
+        };
+        match removed {
+            Ok(()) => Ok(true),
+            Err(error) if error.kind() == ErrorKind::NotFound => Ok(true),
+            Err(error) => Err(system_fault(error)),
+        }
+    }
+}
+
+// A number may be given again to a file that is made after another one was removed.
+fn is_same(again: &Metadata, found: &Metadata) -> bool {
+    node_of(again) == node_of(found)
+        && again.mtime() == found.mtime()
+        && again.mtime_nsec() == found.mtime_nsec()
+}
+
+// What a file that can't be opened for a turn is at the start.
+fn error_of(in_use: InUse) -> io::Error {
+    match in_use {
+        InUse::System(code) => io::Error::from_raw_os_error(code),
+        InUse::Locked | InUse::NotPlain => io::Error::from(ErrorKind::PermissionDenied),
+    }
+}
+
+impl<R: Files + Clock + Drop> MailboxFile for StdMailboxFile<R>
+where
+    R::File: RangeLock,
+{
+    ghost use Rattle.std.specs.Prelude.{false};
+    ghost use Rattle.mbox_rd.specs.MailboxFile.{untold};
+
+    ghost tells = { false };
+
+    ghost state = { λ _. untold };
+
+    fn try_lock_file(&mut self) -> Result<(), InUse> {
+        self.remove_own().map_err(system_fault)?;
+        if self.make_lock_file()? || self.remove_stale()? && self.make_lock_file()? {
+            Ok(())
+        } else {
+            Err(InUse::Locked)
+        }
+    }
+
+    fn remove_lock_file(&mut self) {
+        let _ = self.remove_own();
+    }
+
+    fn try_range_lock(&mut self) -> Result<(), InUse> {
+        match self.open.file.try_lock_bytes(LockKind::Exclusive) {
+            Ok(()) => Ok(()),
+            Err(error) if error.kind() == ErrorKind::WouldBlock => Err(InUse::Locked),
+            Err(error) => Err(system_fault(error)),
+        }
+    }
+
+    fn unlock_range(&mut self) {
+        let _ = self.open.file.unlock_bytes();
+    }
+
+    fn is_named(&mut self) -> Result<bool, InUse> {
+        match fs::symlink_metadata(&self.rt, self.path.as_str()) {
+            Ok(found) if !is_plain(&found) => Err(InUse::NotPlain),
+            Ok(found) => Ok(node_of(&found) == self.open.node),
+            Err(error) if error.kind() == ErrorKind::NotFound => Ok(false),
+            Err(error) => Err(system_fault(error)),
+        }
+    }
+
+    fn reopen(&mut self) -> Result<(), InUse> {
+        self.open = open_plain(&self.rt, self.path.as_str(), self.mode)?;
+        Ok(())
+    }
+
+    fn end(&mut self) -> Result<FileEnd, InUse> {
+        end_of_file(&mut self.open.file).map_err(system_fault)
+    }
+
+    fn write(&mut self, bytes: &[u8]) -> io::Result<()> {
+        self.open.file.write_all(bytes)
+    }
+
+    fn keep(&mut self) -> io::Result<()> {
+        self.open.file.sync_data()
+    }
+
+    fn cut(&mut self, size: u64) -> io::Result<()> {
+        self.open.file.set_len(size)
+    }
+}
+
+impl<R: Files + Clock + Copy + Drop> SharedSpool<StdMailboxFile<R>, R>
+where
+    R::File: RangeLock,
+{
+    ghost use Rattle.std.specs.Prelude.{IfOk};
+    ghost use Rattle.mbox_rd.specs.SharedSpool.{IsOpened};
+
+    /// Opens the plain file at that path. Where it is missing it is made, for its owner alone, and the folder that holds
+    /// it is synced. A lock file that was left behind is removed, nothing is written, and no lock is held. A lock waits
+    /// so many seconds for other programs, 3,600 at most; 0 is one try.
+    pub fn at(
+        rt: R,
+        alloc: Global,
+        path: &str,
+        wait: u32,
+    ) -> Result<SharedSpool<StdMailboxFile<R>, R>, OpenFault>
+        ensures { IfOk result IsOpened }
+    {
+        SharedSpool::at_mode(rt, alloc, path, wait, OWNER_ONLY)
+    }
+
+    /// With the permission bits of a file that is made.
+    pub fn at_mode(
+        rt: R,
+        alloc: Global,
+        path: &str,
+        wait: u32,
+        mode: u32,
+    ) -> Result<SharedSpool<StdMailboxFile<R>, R>, OpenFault>
+        ensures { IfOk result IsOpened }
+    {
+        let file = StdMailboxFile::open(rt, alloc, path, mode).map_err(fault_of)?;
+        SharedSpool::new(alloc, file, rt, wait).map_err(|_| OpenFault::Memory)
+    }
+}

@@ -1,0 +1,144 @@
+//! How a turn at a mailbox's file begins: both locks are taken, on the file that the path names, and its end is looked
+//! at anew.
+ghost use Rattle.std.specs.Prelude.{◌≡◌, true, IfOk, OnOk, OnErr};
+ghost use Rattle.mbox_rd.specs.MailboxFile.{HasRefused};
+ghost use Rattle.mbox_rd.specs.Turn.{HasBegun, HasMissed, HasTried, HasSeen, HasTakenLocks, HasLetGo, HasCutBack};
+
+use crate::file::FileEnd;
+use crate::mailbox_file::MailboxFile;
+use crate::spool::InUse;
+use std::time::{Clock, Duration};
+
+/// How many files are looked at in one try, where the path names another one each time.
+const OPENINGS: usize = 4;
+
+/// How many pauses are short, and how long these and the others are.
+const SHORT_PAUSES: u64 = 20;
+
+const SHORT_PAUSE_MS: u64 = 5;
+
+const PAUSE_MS: u64 = 100;
+
+/// The longest wait for a turn, in seconds.
+pub(crate) const LONGEST_WAIT: u32 = 3_600;
+
+/// How many tries take so many seconds, with a pause between each two.
+pub(crate) fn tries_in(seconds: u32) -> u64 {
+    let seconds = seconds.min(LONGEST_WAIT);
+    if seconds == 0 {
+        return 1;
+    }
+    let short = SHORT_PAUSES * SHORT_PAUSE_MS;
+    let long = (u64::from(seconds) * 1_000 - short) / PAUSE_MS;
+    1 + SHORT_PAUSES + long
+}
+
+/// Tries for a turn so often, and pauses after each try that others' locks were in the way of, but the last.
+pub(crate) fn wait_for_turn<F: MailboxFile, C: Clock>(
+    file: &mut F,
+    clock: &C,
+    tries: u64,
+) -> Result<FileEnd, InUse>
+    ensures ok { F.tells ≡ true → IfOk result (HasBegun (F.state file.old) (F.state file.new)) }
+    ensures err { F.tells ≡ true → OnErr result (HasMissed (F.state file.old) (F.state file.new)) }
+{
+    for pauses in 1..tries {
+        match begin_turn(file) {
+            Ok(end) => return Ok(end),
+            Err(InUse::Locked) => clock.sleep(pause_after(pauses)),
+            Err(in_use) => return Err(in_use),
+        }
+    }
+    begin_turn(file)
+}
+
+// The pause of this number, counted from 1.
+fn pause_after(pauses: u64) -> Duration {
+    if pauses <= SHORT_PAUSES {
+        Duration::from_millis(SHORT_PAUSE_MS)
+    } else {
+        Duration::from_millis(PAUSE_MS)
+    }
+}
+
+// The path may name another file than the open one, which is then opened, and it is tried anew.
+fn begin_turn<F: MailboxFile>(file: &mut F) -> Result<FileEnd, InUse>
+    ensures ok { F.tells ≡ true → IfOk result (HasBegun (F.state file.old) (F.state file.new)) }
+    ensures err { F.tells ≡ true → OnErr result (HasMissed (F.state file.old) (F.state file.new)) }
+{
+    for _ in 1..OPENINGS {
+        if let Some(end) = begin_or_reopen(file)? {
+            return Ok(end);
+        }
+    }
+    match begin_or_reopen(file)? {
+        Some(end) => Ok(end),
+        None => Err(InUse::Locked),
+    }
+}
+
+// With both locks it is looked whether they are on the file that the path names. None: they weren't, and were given
+// back, and that file is open now.
+fn begin_or_reopen<F: MailboxFile>(file: &mut F) -> Result<Option<FileEnd>, InUse>
+    ensures ok { F.tells ≡ true → IfOk result (HasTried (F.state file.old) (F.state file.new)) }
+    ensures err { F.tells ≡ true → OnErr result (HasMissed (F.state file.old) (F.state file.new)) }
+{
+    take_locks(file)?;
+    match own_end(file) {
+        Ok(Some(end)) => Ok(Some(end)),
+        Ok(None) => {
+            let_go(file);
+            file.reopen()?;
+            Ok(None)
+        }
+        Err(in_use) => {
+            let_go(file);
+            Err(in_use)
+        }
+    }
+}
+
+// The lock file comes first, since a program that puts a new file in the place of the old one fails where it finds the
+// new one's bytes locked for a moment. Where the second lock isn't had the first is given back before anything is
+// waited for, since others take them in the other order.
+fn take_locks<F: MailboxFile>(file: &mut F) -> Result<(), InUse>
+    ensures ok { F.tells ≡ true → OnOk result (HasTakenLocks (F.state file.old) (F.state file.new)) }
+    ensures err { F.tells ≡ true → OnErr result (HasMissed (F.state file.old) (F.state file.new)) }
+{
+    file.try_lock_file()?;
+    match file.try_range_lock() {
+        Ok(()) => Ok(()),
+        Err(in_use) => {
+            file.remove_lock_file();
+            Err(in_use)
+        }
+    }
+}
+
+// The open file's end, if the path names it.
+fn own_end<F: MailboxFile>(file: &mut F) -> Result<Option<FileEnd>, InUse>
+    ensures ok { F.tells ≡ true → IfOk result (HasSeen (F.state file.old) (F.state file.new)) }
+    ensures err { F.tells ≡ true → OnErr result (HasRefused (F.state file.old) (F.state file.new)) }
+{
+    if !file.is_named()? {
+        return Ok(None);
+    }
+    Ok(Some(file.end()?))
+}
+
+/// Gives both locks back.
+pub(crate) fn let_go<F: MailboxFile>(file: &mut F)
+    ensures { F.tells ≡ true → HasLetGo (F.state file.old) (F.state file.new) }
+{
+    file.remove_lock_file();
+    file.unlock_range();
+}
+
+/// Cuts the file to its first bytes, and has that kept.
+pub(crate) fn cut_back<F: MailboxFile>(file: &mut F, size: u64)
+    ensures { F.tells ≡ true → HasCutBack (F.state file.old) (F.state file.new) size }
+{
+    if file.cut(size).is_ok() {
+        let _ = file.keep();
+    }
+}
