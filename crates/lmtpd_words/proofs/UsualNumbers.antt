@@ -1,8 +1,9 @@
 -- The limits of a server, and its numbers and level where the words name none, as the help tells them.
-use Rattle.std.proofs.Common.{◌≡◌, refl}
-use Rattle.mail_world.specs.declared.limits.TheConstants.{BLOCK_SIZE, BLOCK_LIMIT, LANE_LIMIT, CAPACITY_LIMIT}
+use Rattle.std.proofs.Common.{◌≡◌, refl, codes}
+use Rattle.mail_world.specs.declared.limits.TheConstants.{BLOCK_SIZE, BLOCK_LIMIT, LANE_LIMIT, CAPACITY_LIMIT, LOCK_WAIT_LIMIT, MODE_LIMIT}
 use Rattle.log.specs.declared.level.LevelFilter.TheVariants as filter
-use Rattle.lmtpd_words.specs.declared.words.TheConstants.{DEFAULT_BLOCKS, DEFAULT_CAPACITY, DEFAULT_LANES, DEFAULT_LOG, DEFAULT_READS, DEFAULT_TIMEOUT}
+use Rattle.lmtpd_words.specs.Words.{octal}
+use Rattle.lmtpd_words.specs.declared.words.TheConstants.{DEFAULT_BLOCKS, DEFAULT_CAPACITY, DEFAULT_LANES, DEFAULT_LOCK_WAIT, DEFAULT_LOG, DEFAULT_MAILBOX_MODE, DEFAULT_READS, DEFAULT_TIMEOUT}
 
 pub lanes : DEFAULT_LANES ≡ 4
 lanes = refl
@@ -22,6 +23,12 @@ timeout = refl
 pub log : DEFAULT_LOG ≡ filter.Off
 log = refl
 
+pub lock_wait : DEFAULT_LOCK_WAIT ≡ 10
+lock_wait = refl
+
+pub mailbox_mode : DEFAULT_MAILBOX_MODE ≡ octal (codes "0600")
+mailbox_mode = refl
+
 pub most_lanes : LANE_LIMIT ≡ 64
 most_lanes = refl
 
@@ -33,3 +40,13 @@ most_blocks = refl
 
 pub most_capacity : CAPACITY_LIMIT ≡ 1024
 most_capacity = refl
+
+pub most_lock_wait : LOCK_WAIT_LIMIT ≡ 3600
+most_lock_wait = refl
+
+pub most_mode : MODE_LIMIT ≡ octal (codes "0777")
+most_mode = refl
+
+-- rwx for an owner, and r-x for the others: 7 * 64 + 5 * 8 + 5
+pub a_mode : octal (codes "755") ≡ 493
+a_mode = refl

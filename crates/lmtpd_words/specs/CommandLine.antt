@@ -2,6 +2,7 @@
 use Rattle.std.specs.Prelude.{Some, true, codes, pos, ℕ, List}
 use Rattle.clap.specs.Lexer.{usize_max}
 use Rattle.clap.specs.Words.{App, Rule, new_app, new_rule, with_rule, with_subcommand}
+use Rattle.mail_world.specs.declared.limits.TheConstants.{LOCK_WAIT_LIMIT}
 use Rattle.clap.specs.declared.builder.value_parser.ValueParser.TheVariants as value
 
 -- an argument `--NAME TEXT`
@@ -78,6 +79,13 @@ log_rule = text_rule (codes "log")
 abbrev pub quota_rule : Rule
 quota_rule = bytes_rule (codes "quota")
 
+-- seconds
+abbrev pub lock_wait_rule : Rule
+lock_wait_rule = number_rule (codes "lock-wait") 0 LOCK_WAIT_LIMIT
+
+abbrev pub mailbox_mode_rule : Rule
+mailbox_mode_rule = text_rule (codes "mailbox-mode")
+
 abbrev pub rehearse_app : App
 rehearse_app =
     with_rule (with_rule (with_rule (with_rule (with_rule (with_rule (new_app (codes "rehearse")) host_rule) time_rule) domains_rule) blocks_rule) quota_rule) box_rule
@@ -89,7 +97,7 @@ required_app =
 
 abbrev pub serve_app : App
 serve_app =
-    with_rule (with_rule (with_rule (with_rule (with_rule (with_rule (with_rule (with_rule (with_rule required_app domains_rule) lanes_rule) blocks_rule) capacity_rule) reads_rule) timeout_rule) log_rule) quota_rule) box_rule
+    with_rule (with_rule (with_rule (with_rule (with_rule (with_rule (with_rule (with_rule (with_rule (with_rule (with_rule required_app domains_rule) lanes_rule) blocks_rule) capacity_rule) reads_rule) timeout_rule) log_rule) quota_rule) lock_wait_rule) mailbox_mode_rule) box_rule
 
 abbrev pub file_rule : Rule
 file_rule = must (texts_rule (codes "file"))

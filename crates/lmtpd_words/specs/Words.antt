@@ -1,5 +1,5 @@
 -- What the program's words ask for.
-use Rattle.std.specs.Prelude.{◌≡◌, ◌⊎◌, ◌<◌, ◌^◌, ◌==◌, ℕ, Bool, true, false, List, [], Option, Some, None, option_map, map, codes, String, string_bytes}
+use Rattle.std.specs.Prelude.{◌≡◌, ◌⊎◌, ◌<◌, ◌≤◌, ◌^◌, ◌==◌, ℕ, Bool, true, false, List, [], Option, Some, None, option_map, map, codes, length, String, string_bytes}
 use Rattle.std.specs.declared.alloc.Global.{Global}
 use Rattle.std.specs.Option.{option_map_or}
 use Rattle.std.specs.List.{slice_split}
@@ -10,7 +10,8 @@ use Rattle.log.specs.declared.level.LevelFilter.{LevelFilter}
 use Rattle.log.specs.declared.level.LevelFilter.TheVariants as filter
 use Rattle.mail_world.specs.Site.{Site}
 use Rattle.lmtp_text.specs.Sites.{site_of, texts}
-use Rattle.lmtpd_words.specs.declared.words.TheConstants.{DEFAULT_BLOCKS, DEFAULT_CAPACITY, DEFAULT_LANES, DEFAULT_LOG, DEFAULT_READS, DEFAULT_TIMEOUT}
+use Rattle.lmtpd_words.specs.declared.words.TheConstants.{DEFAULT_BLOCKS, DEFAULT_CAPACITY, DEFAULT_LANES, DEFAULT_LOCK_WAIT, DEFAULT_LOG, DEFAULT_MAILBOX_MODE, DEFAULT_READS, DEFAULT_TIMEOUT, MODE_DIGIT_LIMIT}
+use Rattle.mail_world.specs.declared.limits.TheConstants.{MODE_LIMIT}
 use Rattle.lmtpd_words.specs.declared.words.SiteWords.{SiteWords}
 use Rattle.lmtpd_words.specs.declared.words.RehearseWords.{RehearseWords}
 use Rattle.lmtpd_words.specs.declared.words.ServeWords.{ServeWords}
@@ -64,6 +65,25 @@ IsLevel (Some text) level = (parse_filter text ≡ Some level) × (is_log_level 
 abbrev pub IsNoLevel : Option Text → Type 0
 IsNoLevel given = (level : LevelFilter) → IsLevel given level → ⊥
 
+-- the number that a text writes in octal
+abbrev pub octal : Text → ℕ
+octal text = digits_value 8 text
+
+-- a text that writes permission bits: a few octal digits and nothing else, not above the most
+pub record WritesMode (text : Text) : Type 0 where
+  pub digits : IsNumeral 8 text
+  pub short : length text ≤ MODE_DIGIT_LIMIT
+  pub within : octal text ≤ MODE_LIMIT
+
+-- the permission bits that a text writes, and else the usual ones
+abbrev pub IsMode : Option Text → ℕ → Type 0
+IsMode None mode = mode ≡ DEFAULT_MAILBOX_MODE
+IsMode (Some text) mode = WritesMode text × (mode ≡ octal text)
+
+-- a text is given that writes none
+abbrev pub IsNoMode : Option Text → Type 0
+IsNoMode given = (mode : ℕ) → IsMode given mode → ⊥
+
 -- the site that the values of the arguments name
 pub record IsSiteRead (rows : List Row) (words : SiteWords) : Type 0 where
   pub host : first_of (codes "host") rows ≡ Some words.host.now
@@ -90,12 +110,14 @@ pub record IsServeRead (rows : List Row) (words : ServeWords) : Type 0 where
   pub timeout : IsNumberOr DEFAULT_TIMEOUT (one_of (codes "timeout") rows) words.timeout
   pub log : IsLevel (first_of (codes "log") rows) words.log
   pub quota : IsLimit (one_of (codes "quota") rows) words.quota
+  pub lock_wait : IsNumberOr DEFAULT_LOCK_WAIT (one_of (codes "lock-wait") rows) words.lock_wait
+  pub mailbox_mode : IsMode (first_of (codes "mailbox-mode") rows) words.mailbox_mode
 
 -- what the values of a check's argument ask for
 pub record IsCheckRead (rows : List Row) (words : CheckWords) : Type 0 where
   pub files : all_of (codes "file") rows ≡ Some (texts words.files.items)
 
--- an argument that must be given has no value, or no number; or the level is none
+-- an argument that must be given has no value, or no number; or the level or the mode is none
 abbrev pub LacksText : List ℕ → List Row → Type 0
 LacksText name rows = first_of name rows ≡ None
 
@@ -111,7 +133,7 @@ LacksRehearse rows = LacksNumber (codes "time") rows ⊎ LacksSite rows
 abbrev pub LacksServe : List Row → Type 0
 LacksServe rows =
     LacksText (codes "listen") rows ⊎ (LacksText (codes "dir") rows ⊎ (LacksNumber (codes "connections") rows
-    ⊎ (IsNoLevel (first_of (codes "log") rows) ⊎ LacksSite rows)))
+    ⊎ (IsNoLevel (first_of (codes "log") rows) ⊎ (IsNoMode (first_of (codes "mailbox-mode") rows) ⊎ LacksSite rows))))
 
 abbrev pub LacksCheck : List Row → Type 0
 LacksCheck rows = all_of (codes "file") rows ≡ None

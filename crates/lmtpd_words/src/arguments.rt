@@ -6,6 +6,7 @@ ghost use Rattle.lmtpd_words.specs.Arguments.{argument_rule};
 
 use clap::Arg;
 use clap::builder::ValueParser;
+use mail_world::limits::LOCK_WAIT_LIMIT;
 use std::alloc::Global;
 
 /// What is given for an argument.
@@ -56,7 +57,7 @@ impl Argument {
 pub const REHEARSE: [Argument; 6] = [HOST, TIME, DOMAINS, BLOCKS, QUOTA, BOXES];
 
 /// What a server takes: what must be given, what may be, and the mailboxes.
-pub const SERVE: [Argument; 13] = [
+pub const SERVE: [Argument; 15] = [
     HOST,
     LISTEN,
     DIR,
@@ -69,6 +70,8 @@ pub const SERVE: [Argument; 13] = [
     TIMEOUT,
     LOG,
     QUOTA,
+    LOCK_WAIT,
+    MAILBOX_MODE,
     BOXES,
 ];
 
@@ -198,6 +201,25 @@ const QUOTA: Argument = Argument {
     help: "Bytes that a mailbox may hold, 0 to 18446744073709551615; a letter beyond is refused [default: no limit]",
     is_required: false,
     kind: ValueKind::Bytes,
+};
+
+const LOCK_WAIT: Argument = Argument {
+    name: "lock-wait",
+    value: "SECONDS",
+    help: "How long a mailbox is waited for while other programs have it locked, 0 to 3600 [default: 10]",
+    is_required: false,
+    kind: ValueKind::Number {
+        least: 0,
+        most: LOCK_WAIT_LIMIT,
+    },
+};
+
+const MAILBOX_MODE: Argument = Argument {
+    name: "mailbox-mode",
+    value: "MODE",
+    help: "The permission bits of a mailbox's file that is made, in octal, 0 to 0777 [default: 0600]",
+    is_required: false,
+    kind: ValueKind::Text,
 };
 
 const BOXES: Argument = Argument {

@@ -1,14 +1,14 @@
 //! Words in, and what they ask for out.
 
-ghost use Rattle.std.specs.Prelude.{◌≡◌, ◌⊎◌, [], true, IfOk, IfErr, MatchOption};
+ghost use Rattle.std.specs.Prelude.{◌≡◌, ◌⊎◌, [], true, IfOk, IfErr, MatchResult};
 ghost use Rattle.clap.specs.Words.{kind_of, subcommand_of, takes};
 ghost use Rattle.clap.specs.Words.{fault_of as kinds_for};
 ghost use Rattle.lmtpd_words.specs.CommandLine.{program_app};
 ghost use Rattle.lmtpd_words.specs.Words.{IsAsked, IsLacking, as_texts};
 
 use crate::command::program;
-use crate::texts::{BAD_LEVEL, BAD_TEXT};
-use crate::values::words_of;
+use crate::texts::BAD_TEXT;
+use crate::values::{refused_text, words_of};
 use crate::words::Words;
 use clap::Error;
 use clap::error::ErrorKind;
@@ -22,21 +22,24 @@ pub fn read_words<'a>(alloc: Global, words: &'a [String]) -> Result<Words<'a>, E
         → (kind_of e ≡ ErrorKind.OutOfMemory) ⊎ IsLacking (subcommand_of program_app texts)) }
 {
     match called(alloc, words)? {
-        Some(read) => Ok(read),
-        None => Err(unusable(alloc, BAD_LEVEL)?),
+        Ok(read) => Ok(read),
+        Err(why) => Err(unusable(alloc, why)?),
     }
 }
 
-fn called<'a>(alloc: Global, words: &'a [String]) -> Result<Option<Words<'a>>, Error>
+// The words' meaning, or what is said where they have none.
+fn called<'a>(alloc: Global, words: &'a [String]) -> Result<Result<Words<'a>, &'static str>, Error>
     ensures taken { IfOk result (λ _. kinds_for program_app (as_texts words.entry.now) ≡ []) }
     ensures read { let call = subcommand_of program_app (as_texts words.entry.now) in
-        IfOk result (λ read. MatchOption read (IsLacking call) (IsAsked call)) }
+        IfOk result (λ read. MatchResult read (IsAsked call) (λ _. IsLacking call)) }
     ensures refused { IfErr result (λ e. takes program_app (as_texts words.entry.now) ≡ true
         → kind_of e ≡ ErrorKind.OutOfMemory) }
 {
     let matches = program(alloc)?.try_get_matches_from(words)?;
-    let read = words_of(alloc, &matches)?;
-    Ok(read)
+    match words_of(alloc, &matches)? {
+        Some(read) => Ok(Ok(read)),
+        None => Ok(Err(refused_text(&matches))),
+    }
 }
 
 /// The error for words that aren't UTF-8.
@@ -46,7 +49,7 @@ pub fn not_text(alloc: Global) -> Result<Error, AllocError>
     unusable(alloc, BAD_TEXT)
 }
 
-// The error for a value that clap doesn't judge: words that aren't UTF-8, and the level.
+// The error for a value that clap doesn't judge: words that aren't UTF-8, the level and the mode.
 fn unusable(alloc: Global, why: &str) -> Result<Error, AllocError>
     ensures { IfOk result (λ e. kind_of e ≡ ErrorKind.InvalidValue) }
 {

@@ -7,6 +7,10 @@ pub const VERSION: &str = "0.1.0 (rattle-kit-13b, logic dac8208d650f15bf)";
 /// The error for a level that is none.
 pub const BAD_LEVEL: &str = "invalid value for '--log <LEVEL>': it is off, error or info";
 
+/// The error for a mode that is none.
+pub const BAD_MODE: &str =
+    "invalid value for '--mailbox-mode <MODE>': it is 1 to 4 octal digits, 0777 at most";
+
 /// The error for words that aren't UTF-8.
 pub const BAD_TEXT: &str = "invalid UTF-8 was detected in one or more arguments";
 

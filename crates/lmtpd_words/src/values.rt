@@ -5,19 +5,22 @@ ghost use Rattle.clap.specs.Words.{Text, first_of, found_of, one_of, rows_of, su
 ghost use Rattle.std.specs.Option.{option_map, option_map_or};
 ghost use Rattle.lmtp_text.specs.Sites.{texts};
 ghost use Rattle.lmtpd_words.specs.Words.{IsAsked, IsCheckRead, IsLimit, IsNumberOr, IsRehearseRead, IsServeRead};
-ghost use Rattle.lmtpd_words.specs.Words.{IsLevel, IsNoLevel, IsSiteRead, is_log_level};
+ghost use Rattle.lmtpd_words.specs.Words.{IsLevel, IsMode, IsNoLevel, IsNoMode, IsSiteRead, is_log_level};
 ghost use Rattle.lmtpd_words.specs.Words.{IsLacking, LacksCheck, LacksNumber, LacksRehearse, LacksServe, LacksSite};
 ghost use Rattle.lmtpd_words.specs.Words.{number, listed};
 
+use crate::texts::{BAD_LEVEL, BAD_MODE};
 use crate::words::{
-    CheckWords, DEFAULT_BLOCKS, DEFAULT_CAPACITY, DEFAULT_LANES, DEFAULT_LOG, DEFAULT_READS,
-    DEFAULT_TIMEOUT, RehearseWords, ServeWords, SiteWords, Words,
+    CheckWords, DEFAULT_BLOCKS, DEFAULT_CAPACITY, DEFAULT_LANES, DEFAULT_LOCK_WAIT, DEFAULT_LOG,
+    DEFAULT_MAILBOX_MODE, DEFAULT_READS, DEFAULT_TIMEOUT, MODE_DIGIT_LIMIT, RehearseWords,
+    ServeWords, SiteWords, Words,
 };
 use clap::ArgMatches;
 use log::LevelFilter;
+use mail_world::limits::MODE_LIMIT;
 use std::alloc::{AllocError, Global};
 
-/// What the subcommand asks for, and none where a value is missing or the level is none.
+/// What the subcommand asks for, and none where a value is missing, or the level or the mode is none.
 pub fn words_of<'a>(
     alloc: Global,
     matches: &ArgMatches<'a>,
@@ -43,6 +46,14 @@ pub fn words_of<'a>(
                 None => Ok(None),
             },
         },
+    }
+}
+
+/// What is said where a value is refused that `clap` leaves to us: the level comes first.
+pub fn refused_text(matches: &ArgMatches<'_>) -> &'static str {
+    match matches.subcommand_matches("serve") {
+        Some(serve) if log_of(serve).is_none() => BAD_LEVEL,
+        _ => BAD_MODE,
     }
 }
 
@@ -83,7 +94,7 @@ fn serve_words<'a>(
     let Some(connections) = number_of(matches, "connections") else {
         return Ok(None);
     };
-    let Some(log) = log_of(matches) else {
+    let (Some(log), Some(mailbox_mode)) = (log_of(matches), mode_of(matches)) else {
         return Ok(None);
     };
     let Some(site) = site_words(alloc, matches)? else {
@@ -101,6 +112,8 @@ fn serve_words<'a>(
         timeout: number_or(matches, "timeout", DEFAULT_TIMEOUT),
         log,
         quota: quota_of(matches),
+        lock_wait: number_or(matches, "lock-wait", DEFAULT_LOCK_WAIT),
+        mailbox_mode,
     }))
 }
 
@@ -192,6 +205,28 @@ fn is_log_level(level: LevelFilter) -> bool
         level,
         LevelFilter::Off | LevelFilter::Error | LevelFilter::Info
     )
+}
+
+// The permission bits that were given, and else the usual ones; none where the text writes none.
+fn mode_of(matches: &ArgMatches<'_>) -> Option<u32>
+    ensures { let given = first_of (codes "mailbox-mode") (rows_of (found_of matches.now)) in
+        MatchOption result (IsNoMode given) (IsMode given) }
+{
+    match matches.get_str("mailbox-mode") {
+        Some(text) => mode_in(text),
+        None => Some(DEFAULT_MAILBOX_MODE),
+    }
+}
+
+// A sign is no digit, though the integers' own reading takes one.
+fn mode_in(text: &str) -> Option<u32>
+    ensures { MatchOption result (IsNoMode (Some text.now)) (IsMode (Some text.now)) }
+{
+    if text.len() > MODE_DIGIT_LIMIT || text.as_bytes().first() == Some(&b'+') {
+        return None;
+    }
+    let mode = u32::from_str_radix(text, 8).ok()?;
+    if mode <= MODE_LIMIT { Some(mode) } else { None }
 }
 
 fn domains_of<'a>(alloc: Global, matches: &ArgMatches<'a>) -> Result<Vec<&'a str>, AllocError>

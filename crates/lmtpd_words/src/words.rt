@@ -20,6 +20,15 @@ pub const DEFAULT_TIMEOUT: u32 = 300;
 /// What is logged.
 pub const DEFAULT_LOG: LevelFilter = LevelFilter::Off;
 
+/// The seconds that a turn at a mailbox is waited for.
+pub const DEFAULT_LOCK_WAIT: u32 = 10;
+
+/// The permission bits of a mailbox's file that is made: its owner reads and writes it, and nobody else.
+pub const DEFAULT_MAILBOX_MODE: u32 = 0o600;
+
+/// The octal digits that write permission bits.
+pub const MODE_DIGIT_LIMIT: usize = 4;
+
 /// The site that the words name.
 #[derive(Debug, Drop)]
 pub struct SiteWords<'a> {
@@ -64,6 +73,10 @@ pub struct ServeWords<'a> {
     pub log: LevelFilter,
     /// The bytes that a mailbox may hold, if there is a limit.
     pub quota: Option<u64>,
+    /// The seconds that a turn at a mailbox is waited for.
+    pub lock_wait: u32,
+    /// The permission bits of a mailbox's file that is made.
+    pub mailbox_mode: u32,
 }
 
 /// What a check is asked to do.

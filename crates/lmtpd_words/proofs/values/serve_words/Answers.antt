@@ -23,6 +23,8 @@ returns c =
       capacity = c.number_or-3.ensures;
       reads = c.number_or-4.ensures;
       timeout = c.number_or-5.ensures;
-      log = c.in-Some-log_of.ensures;
+      log = c.in-Some-Some.ensures;
       quota = c.quota_of.ensures;
+      lock_wait = c.number_or-6.ensures;
+      mailbox_mode = c.in-Some-Some.ensures';
     }
