@@ -12,7 +12,7 @@ ghost use Rattle.lmtpd_rehearse.specs.Rehearsal.{IsListed};
 use crate::check::{check_asked, report_checked};
 use crate::fault::rehearsal_fault;
 use crate::rehearse::rehearse_asked;
-use crate::serve::{report_served, serve_asked};
+use crate::serve::{SharedMailbox, report_served, serve_asked};
 use crate::stop::{Exit, Stop, report_fault};
 use lmtpd_check::Checked;
 use lmtpd_log::LoggedMailbox;
@@ -21,7 +21,7 @@ use lmtpd_serve::Served;
 use lmtpd_words::{Words, read_words};
 use log::Logged;
 use log::sink::Console;
-use mbox_rd::{FileLock, FileSpool, Spool};
+use mbox_rd::{RangeLock, Spool};
 use std::fs::Files;
 use std::io::{Read, Write};
 use std::net::Net;
@@ -58,16 +58,17 @@ pub fn run_program<'a, P, H, R, W, E>(
 ) -> Ended<'a, R, W>
 where
     P: AllocGlobal + Print + Eprint + Files + Net,
-    P::File: FileLock + Send + 'static,
+    H::File: RangeLock + Send + 'static,
+    H::Dir: Send + 'static,
     P::Listener: Send + Sync + 'static,
     P::Stream: Send + 'static,
-    H: Threads + Wait + Clock + Eprint + Copy + Drop + Send + Sync + 'static,
+    H: Threads + Wait + Clock + Files + Eprint + Copy + Drop + Send + Sync + 'static,
     R: Read + Drop + Send + 'static,
     W: Write + Drop + Send + 'static,
     E: Write,
     ensures done { IsDoneAsAsked (λ reader writer. record { unread = R.remaining reader; written = W.contents writer })
         (IsServedAsAsked (TimedListener P.Listener) (Handle H (Root (Console H))) H
-        (⟦<LoggedMailbox<FileSpool<P::File>, Logged<H, Console<H>>> as Spool>⟧.state))
+        (⟦<LoggedMailbox<SharedMailbox<H>, Logged<H, Console<H>>> as Spool>⟧.state))
         (IsCheckedAsAsked P.File.remaining W.contents (W.contents writer)) (as_texts words.entry.now)
         (record { unread = R.remaining reader; written = W.contents writer }) result.done }
     ensures status { result.exit.status ≡ exit_status result.done }
@@ -88,15 +89,16 @@ fn do_asked<'a, P, H, R, W>(
 ) -> Done<'a, R, W>
 where
     P: AllocGlobal + Files + Net,
-    P::File: FileLock + Send + 'static,
+    H::File: RangeLock + Send + 'static,
+    H::Dir: Send + 'static,
     P::Listener: Send + Sync + 'static,
     P::Stream: Send + 'static,
-    H: Threads + Wait + Clock + Eprint + Copy + Drop + Send + Sync + 'static,
+    H: Threads + Wait + Clock + Files + Eprint + Copy + Drop + Send + Sync + 'static,
     R: Read + Drop + Send + 'static,
     W: Write + Drop + Send + 'static,
     ensures { IsDoneAsAsked (λ reader writer. record { unread = R.remaining reader; written = W.contents writer })
         (IsServedAsAsked (TimedListener P.Listener) (Handle H (Root (Console H))) H
-        (⟦<LoggedMailbox<FileSpool<P::File>, Logged<H, Console<H>>> as Spool>⟧.state))
+        (⟦<LoggedMailbox<SharedMailbox<H>, Logged<H, Console<H>>> as Spool>⟧.state))
         (IsCheckedAsAsked P.File.remaining W.contents (W.contents writer)) (as_texts words.entry.now)
         (record { unread = R.remaining reader; written = W.contents writer }) result }
 {

@@ -6,4 +6,5 @@ mod mailboxes;
 mod report;
 
 pub use asked::serve_asked;
+pub use mailboxes::SharedMailbox;
 pub use report::report_served;

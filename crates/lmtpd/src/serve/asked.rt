@@ -8,7 +8,7 @@ ghost use Rattle.lmtp_lane.specs.declared.tcp.listener.TimedListener.{TimedListe
 ghost use Rattle.lmtpd.specs.Program.{IsNotServed, IsServedAsAsked, sizes_asked};
 
 use super::address::address_of;
-use super::mailboxes::open_mailboxes;
+use super::mailboxes::{Access, SharedMailbox, open_mailboxes};
 use crate::fault::Fault;
 use crate::site::shared_site;
 use crate::stop::Stop;
@@ -17,7 +17,7 @@ use lmtpd_serve::{Conversations, Served, Sizes, TimedListener, serve_run};
 use lmtpd_words::ServeWords;
 use log::Logged;
 use log::sink::Console;
-use mbox_rd::{FileLock, FileSpool, Spool};
+use mbox_rd::{RangeLock, Spool};
 use std::fs::{Files, OpenOptions};
 use std::io::Write;
 use std::net::{Net, TcpListener};
@@ -25,7 +25,8 @@ use std::sync::Wait;
 use std::thread::Threads;
 use std::time::Clock;
 
-/// Runs the server. `rt` opens its files and its listener, `threads` is the handle that its threads take.
+/// Runs the server. `rt` opens its listener, `threads` is the handle that its threads take; by it their mailboxes are
+/// opened and locked.
 pub fn serve_asked<'a, P, H, W>(
     rt: &P,
     threads: H,
@@ -34,14 +35,15 @@ pub fn serve_asked<'a, P, H, W>(
 ) -> Result<Served, Stop<'a>>
 where
     P: AllocGlobal + Files + Net,
-    P::File: FileLock + Send + 'static,
+    H::File: RangeLock + Send + 'static,
+    H::Dir: Send + 'static,
     P::Listener: Send + Sync + 'static,
     P::Stream: Send + 'static,
-    H: Threads + Wait + Clock + Eprint + Copy + Drop + Send + Sync + 'static,
+    H: Threads + Wait + Clock + Files + Eprint + Copy + Drop + Send + Sync + 'static,
     W: Write + Drop,
     ensures { MatchResult result
         (IsServedAsAsked (TimedListener P.Listener) (Handle H (Root (Console H))) H
-        (⟦<LoggedMailbox<FileSpool<P::File>, Logged<H, Console<H>>> as Spool>⟧.state) words.now)
+        (⟦<LoggedMailbox<SharedMailbox<H>, Logged<H, Console<H>>> as Spool>⟧.state) words.now)
         (IsNotServed words.now) }
 {
     let _input = null(rt);
@@ -59,21 +61,27 @@ fn serve_held<'a, P, H, W>(
 ) -> Result<Served, Stop<'a>>
 where
     P: AllocGlobal + Files + Net,
-    P::File: FileLock + Send + 'static,
+    H::File: RangeLock + Send + 'static,
+    H::Dir: Send + 'static,
     P::Listener: Send + Sync + 'static,
     P::Stream: Send + 'static,
-    H: Threads + Wait + Clock + Eprint + Copy + Drop + Send + Sync + 'static,
+    H: Threads + Wait + Clock + Files + Eprint + Copy + Drop + Send + Sync + 'static,
     W: Write + Drop,
     ensures { MatchResult result
         (IsServedAsAsked (TimedListener P.Listener) (Handle H (Root (Console H))) H
-        (⟦<LoggedMailbox<FileSpool<P::File>, Logged<H, Console<H>>> as Spool>⟧.state) words.now)
+        (⟦<LoggedMailbox<SharedMailbox<H>, Logged<H, Console<H>>> as Spool>⟧.state) words.now)
         (IsNotServed words.now) }
 {
     let alloc = rt.alloc();
     let address = address_of(words.listen)?;
     let site = shared_site(alloc, &words.site)?;
     let log = Logged::new(threads, words.log, Console(threads));
-    let spools = open_mailboxes(rt, alloc, words.dir, &words.site.boxes, log)?;
+    let access = Access {
+        folder: words.dir,
+        wait: words.lock_wait,
+        mode: words.mailbox_mode,
+    };
+    let spools = open_mailboxes(threads, alloc, access, &words.site.boxes, log)?;
     let Ok(listener) = TcpListener::bind(rt, address) else {
         return Err(Stop::Fault(Fault::Listen));
     };

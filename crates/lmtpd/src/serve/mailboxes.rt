@@ -8,22 +8,34 @@ use crate::fault::Fault;
 use crate::stop::Stop;
 use lmtpd_log::LoggedMailbox;
 use log::Log;
-use mbox_rd::{FileLock, FileSpool, OpenFault};
+use mbox_rd::{OpenFault, RangeLock, SharedSpool, StdMailboxFile};
 use std::alloc::{AllocError, Global};
 use std::fs::Files;
+use std::time::Clock;
+
+/// A mailbox's file that other programs read and empty too.
+pub type SharedMailbox<R> = SharedSpool<StdMailboxFile<R>, R>;
+
+/// Where mailboxes are, how many seconds a turn at one is waited for, and the permission bits of a file that is made.
+#[derive(Clone, Copy, Debug)]
+pub struct Access<'a> {
+    pub folder: &'a str,
+    pub wait: u32,
+    pub mode: u32,
+}
 
 /// Opens the file of each mailbox, `FOLDER/NAME.mbox`, in their order, up to the first that can't be opened. A mailbox
-/// that fails is logged.
+/// that fails is logged, and one that is in use.
 pub fn open_mailboxes<'a, R, G>(
-    rt: &R,
+    rt: R,
     alloc: Global,
-    folder: &str,
+    access: Access<'_>,
     names: &[&'a str],
     log: G,
-) -> Result<Vec<LoggedMailbox<FileSpool<R::File>, G>>, Stop<'a>>
+) -> Result<Vec<LoggedMailbox<SharedMailbox<R>, G>>, Stop<'a>>
 where
-    R: Files,
-    R::File: FileLock,
+    R: Files + Clock + Copy + Drop,
+    R::File: RangeLock,
     G: Log + Copy + Drop,
     ensures count { IfOk result (λ spools. vec_len spools ≡ length names.now) }
     ensures refused { IfErr result (IsUnopened names.now) }
@@ -33,7 +45,7 @@ where
         Err(_) => return Err(Stop::Fault(Fault::Memory)),
     };
     for name in names {
-        let spool = open_mailbox(rt, alloc, folder, name)?;
+        let spool = open_mailbox(rt, alloc, access, name)?;
         spools.push_reserved(logged_mailbox(alloc, spool, name, log)?);
     }
     Ok(spools)
@@ -54,21 +66,22 @@ fn logged_mailbox<'a, S: Drop, G: Drop>(
     }
 }
 
-fn open_mailbox<'a, R: Files>(
-    rt: &R,
+fn open_mailbox<'a, R: Files + Clock + Copy + Drop>(
+    rt: R,
     alloc: Global,
-    folder: &str,
+    access: Access<'_>,
     name: &'a str,
-) -> Result<FileSpool<R::File>, Stop<'a>>
+) -> Result<SharedMailbox<R>, Stop<'a>>
 where
-    R::File: FileLock,
+    R::File: RangeLock,
     ensures { IfErr result (IsUnopenedOf name.entry) }
 {
+    let Access { folder, wait, mode } = access;
     let path = match format!(in alloc; "{folder}/{name}.mbox") {
         Ok(path) => path,
         Err(_) => return Err(Stop::Fault(Fault::Memory)),
     };
-    match FileSpool::at(rt, alloc, path.as_str()) {
+    match SharedSpool::at_mode(rt, alloc, path.as_str(), wait, mode) {
         Ok(spool) => Ok(spool),
         Err(OpenFault::Memory) => Err(Stop::Fault(Fault::Memory)),
         Err(OpenFault::Open) => Err(Stop::Unopened(name)),
