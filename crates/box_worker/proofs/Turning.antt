@@ -1,7 +1,8 @@
 -- A worker's turns at a shared spool: one copy, one copy more, and what a spool that tells its bytes lists of them.
-use Rattle.std.proofs.Common.{◌≡◌, ◌⊎◌, ◌||◌, ℕ, ◌+◌, ◌≤◌, List, [], ◌∷◌, ◌++◌, length, Bool, true, false, Option, Some, None, inl, inr, refl, ap, sym, ◌∙◌, subst, true≢false, arith, append_assoc, append-nil, length-append}
+use Rattle.std.proofs.Common.{◌≡◌, ◌⊎◌, ◌||◌, ℕ, ◌+◌, ◌≤◌, List, [], ◌∷◌, ◌++◌, length, Bool, true, false, Option, Some, None, Result, Ok, Err, inl, inr, refl, ap, sym, ◌∙◌, subst, true≢false, arith, append_assoc, append-nil, length-append}
 use Rattle.std.specs.Prelude.{is_some, count_by, MatchBool}
 use Rattle.std.specs.Option.{IfSome, option_map}
+use Rattle.std.specs.Result.{OnOk, OnErr}
 use Rattle.std.specs.Io.KnownBytes.{Appends}
 use Rattle.mail_world.specs.declared.Note.{Note}
 use Rattle.mail_world.specs.declared.Outcome.{Outcome}
@@ -357,6 +358,43 @@ module _ (quota : Option ℕ) (start : ℕ) (text : List ℕ) (old new : Counted
       let out = kept_out quota start (length text) old.limit counts h in
       let P : Option Limit → Type 0 = λ l. CountsTo quota start l in
       ((record { measured = record { start = start; starts = starts; is = out }; same = same }, sound), (start, subst P (sym unchanged) counts))
+
+-- a mailbox with one copy more that is stored, that failed, or with one more that is over the quota
+abbrev one_stored : CountedMailbox → CountedMailbox
+one_stored m = record m { mailbox = record m.mailbox { stored = counted (m.mailbox.stored + 1) } }
+
+abbrev one_lost : CountedMailbox → CountedMailbox
+one_lost m = record m { mailbox = record m.mailbox { faulty = true } }
+
+abbrev one_over : CountedMailbox → CountedMailbox
+one_over m = record m { mailbox = record m.mailbox { over = counted (m.mailbox.over + 1) } }
+
+-- what was done in a turn to a record that was let in, by how the spool answered
+pub does_count : {T E : Type 0} (quota : Option ℕ) (start : ℕ) (text : List ℕ) (old done new : CountedMailbox) → 1 ≤ length text → CountsTo quota start old.limit
+    → IfSome quota (λ _. StartsAt old.mailbox.state start) → IsLetIn old.limit (length text) done.limit → done.mailbox.faulty ≡ false
+    → (r : Result T E) (outcome : Outcome) → OnOk r (HasKeptMended old.mailbox.state done.mailbox.state text)
+    → OnErr r (HasNotKeptMended old.mailbox.state done.mailbox.state text)
+    → OnOk r ((outcome ≡ Stored) × (new ≡ one_stored done)) → OnErr r ((outcome ≡ Failed) × (new ≡ one_lost done))
+    → DoesInTurn quota text outcome old.mailbox new.mailbox × ((m : ℕ) × CountsTo quota m new.limit)
+does_count quota start text old done new some counts starts fit sound (Ok x) outcome kept broken ok err =
+    let Done : Outcome → CountedMailbox → Type 0 = λ o m. DoesInTurn quota text o old.mailbox m.mailbox × ((n : ℕ) × CountsTo quota n m.limit) in
+    let d : Done Stored (one_stored done) = does_store quota start text old (one_stored done) some counts starts fit kept sound in
+    subst (λ (m : CountedMailbox). Done outcome m) (sym ok.1) (subst (λ o. Done o (one_stored done)) (sym ok.0) d)
+does_count quota start text old done new some counts starts fit sound (Err e) outcome kept broken ok err =
+    let Done : Outcome → CountedMailbox → Type 0 = λ o m. DoesInTurn quota text o old.mailbox m.mailbox × ((n : ℕ) × CountsTo quota n m.limit) in
+    let d : Done Failed (one_lost done) = does_break quota start text old (one_lost done) some counts starts fit broken refl in
+    subst (λ (m : CountedMailbox). Done outcome m) (sym err.1) (subst (λ o. Done o (one_lost done)) (sym err.0) d)
+
+-- and to one that wasn't
+pub does_refuse : (quota : Option ℕ) (start : ℕ) (text : List ℕ) (old mid new : CountedMailbox) → 1 ≤ length text → CountsTo quota start old.limit
+    → IfSome quota (λ _. StartsAt old.mailbox.state start) → old.mailbox.faulty ≡ false → (mid ≡ old) × IsKeptOut old.limit (length text)
+    → (outcome : Outcome) → (outcome ≡ OverQuota) × (new ≡ one_over mid)
+    → DoesInTurn quota text outcome old.mailbox new.mailbox × ((m : ℕ) × CountsTo quota m new.limit)
+does_refuse quota start text old mid new some counts starts sound out outcome is =
+    let Done : Outcome → CountedMailbox → Type 0 = λ o m. DoesInTurn quota text o old.mailbox m.mailbox × ((n : ℕ) × CountsTo quota n m.limit) in
+    let same : new ≡ one_over old = is.1 ∙ ap one_over out.0 in
+    let d : Done OverQuota (one_over old) = does_keep_out quota start text old (one_over old) some counts starts out.1 refl sound refl in
+    subst (λ (m : CountedMailbox). Done outcome m) (sym same) (subst (λ o. Done o (one_over old)) (sym is.0) d)
 
 -- what mends a spool and a record, taken, or not
 pub mended_and_kept : (s t u : SpoolState) (text : List ℕ) → HasMended s t → HasKept t u text → HasKeptMended s u text

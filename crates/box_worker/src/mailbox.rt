@@ -1,6 +1,6 @@
 //! A mailbox: its spool, how many copies it has, and whether the spool failed.
 
-ghost use Rattle.std.specs.Prelude.{◌≡◌, ℕ, true, false, List, [], length};
+ghost use Rattle.std.specs.Prelude.{◌≡◌, ◌+◌, ℕ, true, false, List, [], length, OnOk, OnErr};
 ghost use Rattle.std.specs.Option.{IfSome};
 ghost use Rattle.lmtp_text.specs.Calendar.{civil_at};
 ghost use Rattle.mbox_rd.specs.Envelope.{record_text};
@@ -13,7 +13,7 @@ ghost use Rattle.box_worker.specs.Turned.{MeasuresAnew, DoesInTurn, EndsInTurn, 
 use crate::limit::Limit;
 use crate::store::{mend_and_store, record_size, store};
 use mail_world::Outcome;
-use mbox_rd::{Envelope, Spool, mend};
+use mbox_rd::{Envelope, Spool, SpoolFault, mend};
 use msg_depot::{Depot, DepotName, Hold};
 use std::marker::Model;
 use std::sync::Wait;
@@ -145,10 +145,22 @@ impl<S: Spool> Mailbox<S> {
         ensures hold { hold.new ≡ hold.old }
     {
         if !self.lets_in(rt, depot, host, envelope, hold) {
-            self.over = self.over.saturating_add(1);
-            return Outcome::OverQuota;
+            return self.refuse();
         }
-        match store(rt, &mut self.spool, depot, host, envelope, hold) {
+        let kept = store(rt, &mut self.spool, depot, host, envelope, hold);
+        self.count(kept)
+    }
+
+    // What became of a record that was let in.
+    fn count(&mut self, kept: Result<(), SpoolFault>) -> Outcome
+        ensures stored { OnOk kept ((result ≡ Outcome.Stored) × (self.new ≡ record self.old {
+          mailbox = record self.old.mailbox { stored = counted (self.old.mailbox.stored + 1) };
+        })) }
+        ensures lost { OnErr kept ((result ≡ Outcome.Failed) × (self.new ≡ record self.old {
+          mailbox = record self.old.mailbox { faulty = true };
+        })) }
+    {
+        match kept {
             Ok(()) => {
                 self.stored = self.stored.saturating_add(1);
                 Outcome::Stored
@@ -158,6 +170,16 @@ impl<S: Spool> Mailbox<S> {
                 Outcome::Failed
             }
         }
+    }
+
+    // A copy that isn't let in.
+    fn refuse(&mut self) -> Outcome
+        ensures { (result ≡ Outcome.OverQuota) × (self.new ≡ record self.old {
+          mailbox = record self.old.mailbox { over = counted (self.old.mailbox.over + 1) };
+        }) }
+    {
+        self.over = self.over.saturating_add(1);
+        Outcome::OverQuota
     }
 
     // Counts from what stands in the mailbox at the lock, and what mends it.
@@ -191,9 +213,9 @@ impl<S: Spool> Mailbox<S> {
         ensures in_use { self.new.in_use ≡ self.old.in_use }
         ensures hold { hold.new ≡ hold.old }
     {
-        let outcome = self.settle_in_turn(rt, depot, host, envelope, hold);
+        let taken = self.settle_in_turn(rt, depot, host, envelope, hold);
         self.spool.unlock();
-        outcome
+        taken
     }
 
     fn settle_in_turn<N: DepotName, R: Wait>(
@@ -214,20 +236,12 @@ impl<S: Spool> Mailbox<S> {
         ensures in_use { self.new.in_use ≡ self.old.in_use }
         ensures hold { hold.new ≡ hold.old }
     {
-        if !self.lets_in(rt, depot, host, envelope, hold) {
-            self.over = self.over.saturating_add(1);
-            return Outcome::OverQuota;
+        let fits = self.lets_in(rt, depot, host, envelope, hold);
+        if !fits {
+            return self.refuse();
         }
-        match mend_and_store(rt, &mut self.spool, depot, host, envelope, hold) {
-            Ok(()) => {
-                self.stored = self.stored.saturating_add(1);
-                Outcome::Stored
-            }
-            Err(_) => {
-                self.faulty = true;
-                Outcome::Failed
-            }
-        }
+        let kept = mend_and_store(rt, &mut self.spool, depot, host, envelope, hold);
+        self.count(kept)
     }
 
     // Whether the record of the held message may stand after what the mailbox holds. One that may is counted.

@@ -1,4 +1,5 @@
-use Rattle.std.proofs.Common.{◌≡◌, ◌∙◌, ℕ, List, length, Option, true, refl, ap, sym, subst}
+use Rattle.std.proofs.Common.{◌≡◌, ◌∙◌, ℕ, List, length, Option, ap, sym, subst}
+use Rattle.std.specs.Result.{OnOk, OnErr}
 use Rattle.lmtp_text.specs.Calendar.{civil_at}
 use Rattle.mbox_rd.specs.Envelope.{record_text}
 use Rattle.mbox_rd.specs.Spool.{SpoolState}
@@ -8,51 +9,34 @@ use Rattle.box_worker.specs.Limits.{IsLetIn}
 use Rattle.box_worker.specs.Stored.{MailboxState, CountedMailbox, mailbox_of}
 use Rattle.box_worker.specs.Turned.{HasKeptMended, HasNotKeptMended}
 use Rattle.box_worker.proofs.Messages.{some_record}
-use Rattle.box_worker.proofs.Turning.{does_store, does_break, does_keep_out}
+use Rattle.box_worker.proofs.Turning.{does_count, does_refuse}
 use Rattle.box_worker.proofs.mailbox.Mailbox.settle_in_turn.Goals as goal
 
-pub returns-then-not-lets_in-clause-does : goal.returns-then-not-lets_in-clause-does
-returns-then-not-lets_in-clause-does g c quota start counts starts =
-    let now = c.self.inside in
-    let new : CountedMailbox = record { mailbox = mailbox_of (g.S.Spool.state now.spool) now.stored now.over now.faulty; limit = now.limit; in_use = now.in_use } in
-    let measured = c.if-not-lets_in.ensures.measured in
-    let same : new ≡ c.args.self.now = c.self.view_is ∙ measured.0 in
-    does_keep_out quota start (record_text civil_at c.args.host.now c.args.envelope.now c.args.hold.now.bytes) c.args.self.now new
-    (some_record civil_at c.args.host.now c.args.envelope.now c.args.hold.now.bytes) counts starts measured.1
-    (ap (λ (m : CountedMailbox). m.mailbox.state) same) (ap (λ (m : CountedMailbox). m.mailbox.faulty) same ∙ c.requires.sound)
-    (ap (λ (m : CountedMailbox). m.limit) same)
+pub returns-then-not-fits-clause-does : goal.returns-then-not-fits-clause-does
+returns-then-not-fits-clause-does g c quota start counts starts =
+    does_refuse quota start (record_text civil_at c.args.host.now c.args.envelope.now c.args.hold.now.bytes) c.args.self.now c.lets_in-fits.new.self c.refuse.new.self
+    (some_record civil_at c.args.host.now c.args.envelope.now c.args.hold.now.bytes) counts starts c.requires.sound c.if-not-fits.ensures.measured
+    c.refuse.result c.refuse.ensures
 
-pub returns-in-Ok-clause-does : goal.returns-in-Ok-clause-does
-returns-in-Ok-clause-does g c quota start counts starts =
+pub returns-clause-does : goal.returns-clause-does
+returns-clause-does g c quota start counts starts =
     let now = c.self.inside in
+    let kept = c.mend_and_store-kept in
     let text : List ℕ → List ℕ = record_text civil_at c.args.host.now c.args.envelope.now in
-    let done = g.S.Spool.state c.mend_and_store.new.spool in
-    let new : CountedMailbox = record { mailbox = mailbox_of done now.stored now.over now.faulty; limit = now.limit; in_use = now.in_use } in
-    let measured = c.if-not-lets_in.ensures.measured in
+    let after = g.S.Spool.state kept.new.spool in
+    let done : CountedMailbox = record { mailbox = mailbox_of after now.stored now.over now.faulty; limit = now.limit; in_use = now.in_use } in
+    let measured = c.if-not-fits.ensures.measured in
     let state : g.S.Spool.state now.spool ≡ c.args.self.now.mailbox.state =
     ap (λ (m : CountedMailbox). m.mailbox.state) c.self.view_is ∙ ap (λ (m : MailboxState). m.state) measured.0 in
     let P : Option Limit → Type 0 = λ l. IsLetIn c.args.self.now.limit (length (text c.args.hold.now.bytes)) l in
-    let Q : SpoolState → Type 0 = λ s. HasKeptMended s done (text c.args.hold.now.bytes) in
-    let R : Claim → Type 0 = λ h. HasKeptMended (g.S.Spool.state now.spool) done (text h.bytes) in
-    does_store quota start (text c.args.hold.now.bytes) c.args.self.now new
+    let Q : SpoolState → Type 0 = λ s. OnOk kept.result (HasKeptMended s after (text c.args.hold.now.bytes)) in
+    let R : Claim → Type 0 = λ h. OnOk kept.result (HasKeptMended (g.S.Spool.state now.spool) after (text h.bytes)) in
+    let V : SpoolState → Type 0 = λ s. OnErr kept.result (HasNotKeptMended s after (text c.args.hold.now.bytes)) in
+    let W : Claim → Type 0 = λ h. OnErr kept.result (HasNotKeptMended (g.S.Spool.state now.spool) after (text h.bytes)) in
+    does_count quota start (text c.args.hold.now.bytes) c.args.self.now done c.count.new.self
     (some_record civil_at c.args.host.now c.args.envelope.now c.args.hold.now.bytes) counts starts
     (subst P (sym (ap (λ (m : CountedMailbox). m.limit) c.self.view_is)) measured.1)
-    (subst Q state (subst R c.lets_in.ensures.hold c.in-Ok.ensures.ok))
     (ap (λ (m : CountedMailbox). m.mailbox.faulty) c.self.view_is ∙ ap (λ (m : MailboxState). m.faulty) measured.0 ∙ c.requires.sound)
-
-pub returns-in-Err-clause-does : goal.returns-in-Err-clause-does
-returns-in-Err-clause-does g c quota start counts starts =
-    let now = c.self.inside in
-    let text : List ℕ → List ℕ = record_text civil_at c.args.host.now c.args.envelope.now in
-    let done = g.S.Spool.state c.mend_and_store.new.spool in
-    let new : CountedMailbox = record { mailbox = mailbox_of done now.stored now.over true; limit = now.limit; in_use = now.in_use } in
-    let measured = c.if-not-lets_in.ensures.measured in
-    let state : g.S.Spool.state now.spool ≡ c.args.self.now.mailbox.state =
-    ap (λ (m : CountedMailbox). m.mailbox.state) c.self.view_is ∙ ap (λ (m : MailboxState). m.state) measured.0 in
-    let P : Option Limit → Type 0 = λ l. IsLetIn c.args.self.now.limit (length (text c.args.hold.now.bytes)) l in
-    let Q : SpoolState → Type 0 = λ s. HasNotKeptMended s done (text c.args.hold.now.bytes) in
-    let R : Claim → Type 0 = λ h. HasNotKeptMended (g.S.Spool.state now.spool) done (text h.bytes) in
-    does_break quota start (text c.args.hold.now.bytes) c.args.self.now new
-    (some_record civil_at c.args.host.now c.args.envelope.now c.args.hold.now.bytes) counts starts
-    (subst P (sym (ap (λ (m : CountedMailbox). m.limit) c.self.view_is)) measured.1)
-    (subst Q state (subst R c.lets_in.ensures.hold c.in-Err.ensures.err)) refl
+    kept.result c.count.result
+    (subst Q state (subst R c.lets_in-fits.ensures.hold kept.ensures.ok)) (subst V state (subst W c.lets_in-fits.ensures.hold kept.ensures.err))
+    c.count.ensures.stored c.count.ensures.lost
