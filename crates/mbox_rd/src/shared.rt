@@ -5,6 +5,7 @@ ghost use Rattle.std.specs.Prelude.{None, IsErr, IfOk, OnOk, OnErr};
 ghost use Rattle.std.specs.Option.{IfSome};
 ghost use Rattle.mail_world.specs.Counts.{counted};
 ghost use Rattle.mail_world.specs.Failures.{Rises};
+ghost use Rattle.mail_world.specs.Fronts.{IsFront};
 ghost use Rattle.mbox_rd.specs.Spool.{SpoolTook, SpoolFailed, HasSynced, HasNotSynced, AsksForTurn, EndsTurn, tail_of};
 
 use crate::count::tail_behind;
@@ -284,6 +285,8 @@ impl<F: MailboxFile + Drop, C: Clock + Drop> Spool for SharedSpool<F, C> {
         ensures stays_broken { self.old.is_broken ≡ true → IsErr result × (self.new ≡ failed_again self.old) }
         ensures sound { OnOk result (StaysSound self.old self.new) }
         ensures taken { F.tells ≡ true → IfOk result (λ n. HasTaken F.state self.old self.new (take n piece.now)) }
+        ensures grows { F.tells ≡ true
+            → OnOk result (IsFront (F.state self.old.file).bytes (F.state self.new.file).bytes) }
         ensures ends { F.tells ≡ true → OnOk result (self.old.tail ≡ tail_of (contents_of F.state self.old)
             → self.new.tail ≡ tail_of (contents_of F.state self.new)) }
         ensures held { IfOk result (λ n. self.new.held ≡ counted (self.old.held + n)) }
