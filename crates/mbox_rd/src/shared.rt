@@ -48,6 +48,7 @@ impl<F: MailboxFile + Drop, C: Clock + Drop> Model for SharedSpool<F, C> {
 
     ghost view = { λ s. record {
       file = s.file;
+      wait = s.wait;
       waiting = s.waiting.items;
       is_broken = s.is_broken;
       in_turn = s.in_turn;
@@ -71,6 +72,7 @@ impl<F: MailboxFile + Drop, C: Clock + Drop> SharedSpool<F, C> {
     pub fn new(alloc: Global, file: F, clock: C, wait: u32) -> Result<SharedSpool<F, C>, AllocError>
         ensures opened { IfOk result IsOpened }
         ensures file { IfOk result (λ spool. spool.file ≡ file) }
+        ensures wait { IfOk result (λ spool. spool.wait ≡ wait) }
     {
         Ok(SharedSpool {
             file,
