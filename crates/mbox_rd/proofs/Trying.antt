@@ -1,5 +1,5 @@
 -- What is left of earlier tries for a turn.
-use Rattle.std.proofs.Common.{◌≡◌, ℕ, ◌≤◌, ◌<◌, Bool, false, arith, refl, ◌∙◌, subst, inl, inr, Option, Some, None}
+use Rattle.std.proofs.Common.{◌≡◌, ℕ, ◌≤◌, arith, refl, ◌∙◌, subst, inl, inr, Option, Some, None}
 use Rattle.mail_world.specs.Failures.{Rises}
 use Rattle.mbox_rd.specs.declared.file.FileEnd.{FileEnd}
 use Rattle.mbox_rd.specs.MailboxFile.{FileState, LeavesNoLockFile}

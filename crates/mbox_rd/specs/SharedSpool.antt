@@ -10,6 +10,8 @@ use Rattle.mbox_rd.specs.Turn.{IsCutBack}
 
 pub record SharedSpool (F : Type 0) : Type 0 where
   pub file : F
+  -- how many seconds a lock waits for other programs
+  pub wait : ℕ
   -- the bytes that were taken and aren't written yet
   pub waiting : List ℕ
   -- a call failed, and nothing more goes to the file

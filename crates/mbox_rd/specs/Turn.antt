@@ -1,5 +1,5 @@
 -- How a turn at the file of a shared spool begins and ends.
-use Rattle.std.specs.Prelude.{◌≡◌, ◌⊎◌, ℕ, ◌≤◌, Bool, true, false, List, length, take, Option, Some, None}
+use Rattle.std.specs.Prelude.{◌≡◌, ◌⊎◌, ℕ, ◌≤◌, true, false, length, take, Option, Some, None}
 use Rattle.mail_world.specs.Failures.{Rises}
 use Rattle.mbox_rd.specs.declared.file.FileEnd.{FileEnd}
 use Rattle.mbox_rd.specs.MailboxFile.{FileState, IsSharedSince, LeavesNoLockFile, HasRefused, IsEnd}

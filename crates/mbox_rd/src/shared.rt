@@ -5,6 +5,7 @@ ghost use Rattle.std.specs.Prelude.{None, IsErr, IfOk, OnOk, OnErr};
 ghost use Rattle.std.specs.Option.{IfSome};
 ghost use Rattle.mail_world.specs.Counts.{counted};
 ghost use Rattle.mail_world.specs.Failures.{Rises};
+ghost use Rattle.mail_world.specs.Fronts.{IsFront};
 ghost use Rattle.mbox_rd.specs.Spool.{SpoolTook, SpoolFailed, HasSynced, HasNotSynced, AsksForTurn, EndsTurn, tail_of};
 
 use crate::count::tail_behind;
@@ -47,6 +48,7 @@ impl<F: MailboxFile + Drop, C: Clock + Drop> Model for SharedSpool<F, C> {
 
     ghost view = { λ s. record {
       file = s.file;
+      wait = s.wait;
       waiting = s.waiting.items;
       is_broken = s.is_broken;
       in_turn = s.in_turn;
@@ -70,6 +72,7 @@ impl<F: MailboxFile + Drop, C: Clock + Drop> SharedSpool<F, C> {
     pub fn new(alloc: Global, file: F, clock: C, wait: u32) -> Result<SharedSpool<F, C>, AllocError>
         ensures opened { IfOk result IsOpened }
         ensures file { IfOk result (λ spool. spool.file ≡ file) }
+        ensures wait { IfOk result (λ spool. spool.wait ≡ wait) }
     {
         Ok(SharedSpool {
             file,
@@ -284,6 +287,8 @@ impl<F: MailboxFile + Drop, C: Clock + Drop> Spool for SharedSpool<F, C> {
         ensures stays_broken { self.old.is_broken ≡ true → IsErr result × (self.new ≡ failed_again self.old) }
         ensures sound { OnOk result (StaysSound self.old self.new) }
         ensures taken { F.tells ≡ true → IfOk result (λ n. HasTaken F.state self.old self.new (take n piece.now)) }
+        ensures grows { F.tells ≡ true
+            → OnOk result (IsFront (F.state self.old.file).bytes (F.state self.new.file).bytes) }
         ensures ends { F.tells ≡ true → OnOk result (self.old.tail ≡ tail_of (contents_of F.state self.old)
             → self.new.tail ≡ tail_of (contents_of F.state self.new)) }
         ensures held { IfOk result (λ n. self.new.held ≡ counted (self.old.held + n)) }

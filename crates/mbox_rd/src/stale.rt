@@ -33,7 +33,7 @@ pub(crate) fn owner_text(alloc: Global) -> Result<String, AllocError> {
     format!(in alloc; "{}:{}", libc::getpid(), host)
 }
 
-/// Whether the lock file that was found at this path is left behind, by one that would be `owner`'s and has none.
+/// Whether the lock file that was found at this path is left behind, where the one who asks, of that text, has none.
 pub(crate) fn is_stale<R: Files + Clock>(
     rt: &R,
     lock_path: &str,

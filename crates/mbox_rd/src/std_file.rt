@@ -226,7 +226,7 @@ impl<R: Files + Clock + Copy + Drop> SharedSpool<StdMailboxFile<R>, R>
 where
     R::File: RangeLock,
 {
-    ghost use Rattle.std.specs.Prelude.{IfOk};
+    ghost use Rattle.std.specs.Prelude.{◌≡◌, IfOk};
     ghost use Rattle.mbox_rd.specs.SharedSpool.{IsOpened};
 
     /// Opens the plain file at that path. Where it is missing it is made, for its owner alone, and the folder that holds
@@ -238,7 +238,8 @@ where
         path: &str,
         wait: u32,
     ) -> Result<SharedSpool<StdMailboxFile<R>, R>, OpenFault>
-        ensures { IfOk result IsOpened }
+        ensures opened { IfOk result IsOpened }
+        ensures wait { IfOk result (λ spool. spool.wait ≡ wait) }
     {
         SharedSpool::at_mode(rt, alloc, path, wait, OWNER_ONLY)
     }
@@ -251,7 +252,8 @@ where
         wait: u32,
         mode: u32,
     ) -> Result<SharedSpool<StdMailboxFile<R>, R>, OpenFault>
-        ensures { IfOk result IsOpened }
+        ensures opened { IfOk result IsOpened }
+        ensures wait { IfOk result (λ spool. spool.wait ≡ wait) }
     {
         let file = StdMailboxFile::open(rt, alloc, path, mode).map_err(fault_of)?;
         SharedSpool::new(alloc, file, rt, wait).map_err(|_| OpenFault::Memory)

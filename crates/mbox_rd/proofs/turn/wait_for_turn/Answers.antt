@@ -1,4 +1,4 @@
-use Rattle.mbox_rd.proofs.Trying.{between-start, between-missed, begun-then, missed-then}
+use Rattle.mbox_rd.proofs.Trying.{between-start}
 use Rattle.mbox_rd.proofs.turn.wait_for_turn.Goals as goal
 
 pub loop-pauses-init : goal.loop-pauses-init
