@@ -21,7 +21,7 @@ use lmtpd_serve::Served;
 use lmtpd_words::{Words, read_words};
 use log::Logged;
 use log::sink::Console;
-use mbox_rd::{FileLock, FileSpool, Spool};
+use mbox_rd::{FileLock, FileSpool, RangeLock, Spool};
 use std::fs::Files;
 use std::io::{Read, Write};
 use std::net::Net;
@@ -34,7 +34,7 @@ use std::time::Clock;
 pub enum Done<'a, R, W> {
     Rehearsed(Rehearsed<R, W>),
     Served(Served),
-    Checked(Checked<W>),
+    Checked(Checked<'a, W>),
     /// It stopped before its work was done.
     Stopped(Stop<'a>),
 }
@@ -58,7 +58,7 @@ pub fn run_program<'a, P, H, R, W, E>(
 ) -> Ended<'a, R, W>
 where
     P: AllocGlobal + Print + Eprint + Files + Net,
-    P::File: FileLock + Send + 'static,
+    P::File: FileLock + RangeLock + Send + 'static,
     P::Listener: Send + Sync + 'static,
     P::Stream: Send + 'static,
     H: Threads + Wait + Clock + Eprint + Copy + Drop + Send + Sync + 'static,
@@ -88,7 +88,7 @@ fn do_asked<'a, P, H, R, W>(
 ) -> Done<'a, R, W>
 where
     P: AllocGlobal + Files + Net,
-    P::File: FileLock + Send + 'static,
+    P::File: FileLock + RangeLock + Send + 'static,
     P::Listener: Send + Sync + 'static,
     P::Stream: Send + 'static,
     H: Threads + Wait + Clock + Eprint + Copy + Drop + Send + Sync + 'static,
@@ -111,7 +111,7 @@ where
             Ok(served) => Done::Served(served),
             Err(stop) => Done::Stopped(stop),
         },
-        Ok(Words::Check(asked)) => match check_asked(rt, &asked, writer) {
+        Ok(Words::Check(asked)) => match check_asked(rt, &threads, &asked, writer) {
             Ok(checked) => Done::Checked(checked),
             Err(fault) => Done::Stopped(Stop::Fault(fault)),
         },
