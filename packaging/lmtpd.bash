@@ -2,7 +2,7 @@
 _lmtpd() {
     local serve rehearse check word=${COMP_WORDS[COMP_CWORD]} before=${COMP_WORDS[COMP_CWORD - 1]}
     serve='--host --listen --dir --connections --domains --lanes --blocks --capacity --reads --timeout'
-    serve+=' --log --quota --help'
+    serve+=' --log --quota --lock-wait --mailbox-mode --help'
     rehearse='--host --time --domains --blocks --quota --help'
     check='--help'
     COMPREPLY=()

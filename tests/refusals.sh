@@ -61,6 +61,10 @@ try 2 clap check
 try 2 clap check --quota 1 anna.mbox
 try 2 clap "${good[@]}" --log info anna
 try 2 clap check --log info anna.mbox
+try 2 clap "${good[@]}" --lock-wait 10 anna
+try 2 clap check --lock-wait 10 anna.mbox
+try 2 clap "${good[@]}" --mailbox-mode 0600 anna
+try 2 clap check --mailbox-mode 0600 anna.mbox
 try 2 clap rehearse --version
 try 0 none --help
 try 0 none --version

@@ -85,6 +85,53 @@ def check_folder():
     return ended.returncode, ended.stdout, ended.stderr
 
 
+# Locks a file by fcntl as mail programs do, says so, and lets go once nobody writes to it or the seconds are over.
+HOLDER = """
+import fcntl, select, sys
+file = open(sys.argv[1], "r+b")
+fcntl.lockf(file, getattr(fcntl, sys.argv[2]))
+print("held", flush=True)
+select.select([sys.stdin], [], [], float(sys.argv[3]))
+"""
+
+
+def check_beside(folder, kind, seconds, locked):
+    """Checks three files while another program has a lock of that kind on one of them, or on more, for as long."""
+    pathlib.Path(folder, "anna.mbox").write_bytes(b"From a\n\n")
+    pathlib.Path(folder, "ben.mbox").write_bytes(b"hello\n")
+    pathlib.Path(folder, "carla.mbox").write_bytes(b"From a\n\nFrom b\n\n")
+    pipes = {"stdin": subprocess.PIPE, "stdout": subprocess.PIPE, "cwd": folder}
+    holders = [
+        subprocess.Popen([sys.executable, "-c", HOLDER, name, kind, str(seconds)], **pipes) for name in locked
+    ]
+    try:
+        for holder in holders:
+            assert holder.stdout.readline() == b"held\n"
+        words = [LMTPD, "check", "anna.mbox", "ben.mbox", "carla.mbox"]
+        ended = subprocess.run(words, cwd=folder, capture_output=True, timeout=SECONDS)
+    finally:
+        for holder in holders:
+            holder.communicate()
+    return ended.returncode, ended.stdout, ended.stderr
+
+
+def locks():
+    """A file that another program has locked to write is waited for, and then read all the same, with a line."""
+    said = b"anna.mbox letters 1\nben.mbox no From line at 0\ncarla.mbox letters 2\n"
+    beside = [
+        ("LOCK_EX", SECONDS, ["anna.mbox"]),
+        ("LOCK_EX", SECONDS, ["carla.mbox", "ben.mbox"]),
+        ("LOCK_SH", SECONDS, ["anna.mbox", "ben.mbox", "carla.mbox"]),
+        ("LOCK_EX", 0.3, ["anna.mbox"]),
+    ]
+    for kind, seconds, locked in beside:
+        is_held = kind == "LOCK_EX" and seconds == SECONDS
+        told = "".join(f"lmtpd: {name} read without its lock\n" for name in sorted(locked) if is_held).encode()
+        with tempfile.TemporaryDirectory() as folder:
+            found = check_beside(folder, kind, seconds, locked)
+        yield tell(f"check: {kind} of {' and '.join(locked)} for {seconds} s", found, (1, said, told))
+
+
 def tell(name, found, wanted):
     print(f"{'ok' if found == wanted else 'FAILED'}: {name}", flush=True)
     if found != wanted:
@@ -118,6 +165,7 @@ def verdicts():
         found = check_on_full(row)
         yield tell(f"check: {row.name}, standard output is full", found, (1, None, b"lmtpd: device fault\n"))
     yield tell("check: a folder", check_folder(), (1, b"/ cannot read\n", b""))
+    yield from locks()
 
 
 found = list(verdicts())

@@ -55,6 +55,20 @@ NUMBERS = [
     ("--log", "info "),
     ("--log", "lmtpd=info"),
     ("--log", "3"),
+    ("--lock-wait", "-1"),
+    ("--lock-wait", 3_601),
+    ("--lock-wait", "1s"),
+    ("--lock-wait", ""),
+    ("--mailbox-mode", ""),
+    ("--mailbox-mode", "800"),
+    ("--mailbox-mode", "0o600"),
+    ("--mailbox-mode", "+600"),
+    ("--mailbox-mode", "-600"),
+    ("--mailbox-mode", "01777"),
+    ("--mailbox-mode", "1000"),
+    ("--mailbox-mode", "00600"),
+    ("--mailbox-mode", " 600"),
+    ("--mailbox-mode", "u=rw"),
     ("--shout", 1),
 ]
 
@@ -107,7 +121,18 @@ def numbers_out_of_range(folder):
     ended = run([*good, "--log", "off", "--log", "info"])
     equal((ended.status, ended.errors[0].split("'")[0]), (2, "error: the argument "))
     equal(run([*good, "--log", "warn"]).errors[0], "error: invalid value for '--log <LEVEL>': it is off, error or info")
+    mode = "error: invalid value for '--mailbox-mode <MODE>': it is 1 to 4 octal digits, 0777 at most"
+    equal(run([*good, "--mailbox-mode", "1777"]).errors[0], mode)
     equal(list(folder.iterdir()), [])
+
+
+@case
+def the_ends_of_what_a_lock_is_waited_for_and_of_a_mode(folder):
+    """the least, the most and texts between: the words are taken, and what is told is the next thing that is wrong"""
+    taken = [("--lock-wait", value) for value in [0, 10, 3_600]]
+    taken += [("--mailbox-mode", value) for value in ["0", "7", "600", "0600", "0777", "777", "0000", "660"]]
+    for name, value in taken:
+        wants(words(folder, ["anna"], 1, name, value, listen=BAD), 2, "bad address")
 
 
 @case
@@ -124,7 +149,14 @@ def help_is_no_refusal(_folder):
         ended = run(asked)
         equal((ended.status, ended.errors), (0, []))
         told = "\n".join(ended.said)
-        for text in ["1 to 64 [default: 4]", "off, error or info [default: off]", "lmtpd serve --host", "Exit status:"]:
+        for text in [
+            "1 to 64 [default: 4]",
+            "off, error or info [default: off]",
+            "0 to 3600 [default: 10]",
+            "0 to 0777 [default: 0600]",
+            "lmtpd serve --host",
+            "Exit status:",
+        ]:
             assert text in told, (asked, text)
 
 

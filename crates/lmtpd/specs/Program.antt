@@ -20,7 +20,7 @@ use Rattle.lmtpd_words.specs.declared.words.CheckWords.{CheckWords}
 use Rattle.lmtpd_words.specs.declared.words.Words.TheVariants.{Rehearse, Serve, Check}
 use Rattle.lmtpd.specs.Address.{IsRefused}
 use Rattle.lmtpd.specs.Faults.{check_fault, check_status, fault_text, first_fault, rehearsal_fault, server_fault, status_of, stop_for, stop_status}
-use Rattle.lmtpd_check.specs.Checked.{IsChecked}
+use Rattle.lmtpd_check.specs.Checked.{IsChecked, unlocked_lines}
 use Rattle.lmtpd_check.specs.declared.checked.Checked.{Checked as CheckedFiles}
 use Rattle.lmtpd_rehearse.specs.Rehearsal.{IsBlockCount, IsRehearsed, Streams}
 use Rattle.lmtpd_serve.specs.Served.{IsServerRun, trouble_lines}
@@ -125,7 +125,8 @@ IsNotServed words s = (s ≡ stop.Fault fault.Memory)
 abbrev pub IsCheckedAsAsked : {F W : Type 0} → (F → Option (List ℕ)) → (W → Option (List ℕ)) → Option (List ℕ)
     → CheckWords → CheckedFiles W → Type 0
 IsCheckedAsAsked remaining contents before words checked =
-    IsChecked remaining (texts words.files.items) before (contents checked.writer) checked.findings.items checked.cut
+    IsChecked remaining (texts words.files.items) before (contents checked.writer) checked.findings.items
+    (texts checked.unlocked.items) checked.cut
 
 -- why the program stopped early: clap's answer to its words, why there was no rehearsal or no server, or want of memory
 -- for a check
@@ -159,9 +160,10 @@ module _ {R W : Type 0} where
   exit_status (Checked it) = check_status it.findings.items it.cut
   exit_status (Stopped s) = stop_status s
 
-  -- a server's mailboxes that are over their quota come before its fault
+  -- a server's mailboxes that are over their quota come before its fault, and so do a check's files that were read
+  -- without their lock
   abbrev pub exit_lines : Done R W → List ℕ
   exit_lines (Rehearsed it) = line_after (rehearsal_fault it.ending)
   exit_lines (Served it) = trouble_lines it ++ line_after (server_fault it.ending)
-  exit_lines (Checked it) = line_after (check_fault it.cut)
+  exit_lines (Checked it) = unlocked_lines it.unlocked.items ++ line_after (check_fault it.cut)
   exit_lines (Stopped s) = stop_line s

@@ -34,7 +34,7 @@ use std::time::Clock;
 pub enum Done<'a, R, W> {
     Rehearsed(Rehearsed<R, W>),
     Served(Served),
-    Checked(Checked<W>),
+    Checked(Checked<'a, W>),
     /// It stopped before its work was done.
     Stopped(Stop<'a>),
 }
@@ -58,6 +58,7 @@ pub fn run_program<'a, P, H, R, W, E>(
 ) -> Ended<'a, R, W>
 where
     P: AllocGlobal + Print + Eprint + Files + Net,
+    P::File: RangeLock,
     H::File: RangeLock + Send + 'static,
     H::Dir: Send + 'static,
     P::Listener: Send + Sync + 'static,
@@ -89,6 +90,7 @@ fn do_asked<'a, P, H, R, W>(
 ) -> Done<'a, R, W>
 where
     P: AllocGlobal + Files + Net,
+    P::File: RangeLock,
     H::File: RangeLock + Send + 'static,
     H::Dir: Send + 'static,
     P::Listener: Send + Sync + 'static,
@@ -113,7 +115,7 @@ where
             Ok(served) => Done::Served(served),
             Err(stop) => Done::Stopped(stop),
         },
-        Ok(Words::Check(asked)) => match check_asked(rt, &asked, writer) {
+        Ok(Words::Check(asked)) => match check_asked(rt, &threads, &asked, writer) {
             Ok(checked) => Done::Checked(checked),
             Err(fault) => Done::Stopped(Stop::Fault(fault)),
         },

@@ -1,5 +1,5 @@
 -- Findings whose lines were written, one after another.
-use Rattle.std.proofs.Common.{◌≡◌, ◌∙◌, ◌<◌, ◌+◌, ℕ, List, [], ◌∷◌, ◌++◌, length, get_or, Option, true, All, sym, ap, subst, refl, arith, append_assoc, append-nil, length-append}
+use Rattle.std.proofs.Common.{◌≡◌, ◌∙◌, ◌<◌, ◌+◌, ℕ, List, [], ◌∷◌, ◌++◌, length, take, get_or, Option, true, All, sym, ap, subst, refl, arith, append_assoc, append-nil, length-append}
 use Rattle.std.specs.Borrow.{Bor}
 use Rattle.std.specs.Io.KnownBytes.{Appends}
 use Rattle.std.proofs.lemmas.List.{get_or-map, length-map}
@@ -8,7 +8,7 @@ use Rattle.lmtp_text.specs.Sites.{texts}
 use Rattle.lmtpd_output.specs.Output.{IsCutOff, pair_texts}
 use Rattle.mbox_rd.proofs.Taken.{Appends-then}
 use Rattle.lmtpd_output.proofs.Written.{Appends-nil, breaks_next}
-use Rattle.lmtpd_check.specs.Checked.{finding_line, finding_lines, IsFindingOf, IsChecked}
+use Rattle.lmtpd_check.specs.Checked.{AreAmong, finding_line, finding_lines, IsFindingOf, IsChecked}
 use Rattle.lmtpd_check.specs.declared.checked.Finding.{Finding}
 
 module _ {X : Type 0} (f : List ℕ → X → List ℕ) where
@@ -63,15 +63,17 @@ module _ {F : Type 0} (remaining : F → Option (List ℕ)) (names : List (Bor (
   }
 
   -- a file whose line was cut off
-  pub checked_cut : HasWritten remaining names i u v findings → i < length names → IsFindingOf remaining finding
-      → IsCutOff v w (finding_line (get_or names i d).now finding) → IsChecked remaining (texts names) u w (findings ++ finding ∷ []) true
-  checked_cut h within found broken =
+  pub checked_cut : (unlocked : List (List ℕ)) → HasWritten remaining names i u v findings → i < length names → IsFindingOf remaining finding
+      → AreAmong (take (i + 1) (texts names)) unlocked
+      → IsCutOff v w (finding_line (get_or names i d).now finding) → IsChecked remaining (texts names) u w (findings ++ finding ∷ []) unlocked true
+  checked_cut unlocked h within found among broken =
       let long = length-map names (λ (name : Bor (List ℕ)). name.now) in
       let line = finding_line (get_or names i d).now finding in
       let before = finding_lines (texts names) findings in record {
         within = omega (arith, long, length-append findings (finding ∷ []), h.count, within);
         complete = λ e. cc;
         each = All-push (IsFindingOf remaining) findings finding h.each found;
+        among = subst (λ (k : ℕ). AreAmong (take k (texts names)) unlocked) (sym (length-append findings (finding ∷ []) ∙ ap (λ (k : ℕ). k + 1) h.count)) among;
         whole = λ e. cc;
         broken = λ e. subst (λ (text : List ℕ). IsCutOff u w text) (sym (line_more names i findings finding d h.count within))
             (breaks_next u v w (before ++ line) line [] (record {

@@ -1,5 +1,7 @@
 -- What is found of files, and the lines that say it.
-use Rattle.std.specs.Prelude.{◌≡◌, ◌≤◌, ℕ, Bool, true, false, List, [], ◌∷◌, ◌++◌, length, codes, decimal, All, Option, ⊤}
+use Rattle.std.specs.Prelude.{◌≡◌, ◌⊎◌, ◌≤◌, ℕ, Bool, true, false, List, [], ◌∷◌, ◌++◌, length, take, codes, decimal, All, Option, ⊤}
+use Rattle.std.specs.Borrow.{Bor}
+use Rattle.std.specs.List.{flat_map}
 use Rattle.std.specs.Io.KnownBytes.{Appends}
 use Rattle.mail_world.specs.Text.{lf}
 use Rattle.mbox_check.specs.Form.{IsCountOf, IsFaultOf}
@@ -35,6 +37,19 @@ is_letters Unread = false
 abbrev pub finding_lines : List (List ℕ) → List Finding → List ℕ
 finding_lines names findings = pair_texts finding_line names findings
 
+-- the line on standard error for a file of that name that was read without its lock
+abbrev pub unlocked_line : List ℕ → List ℕ
+unlocked_line name = codes "lmtpd: " ++ (name ++ (codes " read without its lock" ++ (lf ∷ [])))
+
+abbrev pub unlocked_lines : List (Bor (List ℕ)) → List ℕ
+unlocked_lines names = flat_map (λ name. unlocked_line name.now) names
+
+-- some of the names, in their order
+abbrev pub AreAmong : List (List ℕ) → List (List ℕ) → Type 0
+AreAmong names [] = ⊤
+AreAmong [] (x ∷ xs) = ⊥
+AreAmong (name ∷ names) (x ∷ xs) = ((x ≡ name) × AreAmong names xs) ⊎ AreAmong names (x ∷ xs)
+
 module _ {F : Type 0} (remaining : F → Option (List ℕ)) where
   -- what is found of some file, of which `remaining` is what its reads give; nothing of one that can't be read
   abbrev pub IsFindingOf : Finding → Type 0
@@ -43,11 +58,13 @@ module _ {F : Type 0} (remaining : F → Option (List ℕ)) where
   IsFindingOf Unread = ⊤
 
   -- What was found of the files of these names, and written of it from one state of a writer to the next: for each a
-  -- finding and its line, unless a write failed. Then of the first ones, and a front of their lines.
+  -- finding and its line, unless a write failed. Then of the first ones, and a front of their lines. Some of those
+  -- that were looked at were read without their lock.
   pub record IsChecked (names : List (List ℕ)) (before after : Option (List ℕ)) (findings : List Finding)
-      (cut : Bool) : Type 0 where
+      (unlocked : List (List ℕ)) (cut : Bool) : Type 0 where
     pub within : length findings ≤ length names
     pub complete : cut ≡ false → length findings ≡ length names
     pub each : All IsFindingOf findings
+    pub among : AreAmong (take (length findings) names) unlocked
     pub whole : cut ≡ false → Appends before after (finding_lines names findings)
     pub broken : cut ≡ true → IsCutOff before after (finding_lines names findings)

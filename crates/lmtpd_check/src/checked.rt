@@ -27,9 +27,11 @@ impl Finding {
 
 /// What was found of files, in their order, and the writer that has their lines.
 #[derive(Drop)]
-pub struct Checked<W> {
+pub struct Checked<'a, W> {
     pub writer: W,
     pub findings: Vec<Finding>,
+    /// The files that were read without their lock, which other programs had.
+    pub unlocked: Vec<&'a str>,
     /// Whether a write failed; nothing was written or read after it.
     pub cut: bool,
 }

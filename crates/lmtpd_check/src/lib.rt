@@ -4,7 +4,9 @@
 mod checked;
 mod files;
 mod lines;
+mod reader;
 
 pub use checked::{Checked, Finding};
 pub use files::check_files;
+pub use lines::write_unlocked_lines;
 pub use mbox_check::BadForm;

@@ -1,15 +1,37 @@
-//! The line of a file, with what was found of it.
+//! The line of a file, with what was found of it, and that of one that was read without its lock.
 
 ghost use Rattle.std.specs.Prelude.{◌≡◌, OnOk, OnErr};
 ghost use Rattle.std.specs.Io.KnownBytes.{Appends, Keeps};
 ghost use Rattle.lmtpd_output.specs.Output.{IsCutOff};
-ghost use Rattle.lmtpd_check.specs.Checked.{bad_line, finding_line, number_line};
+ghost use Rattle.lmtpd_check.specs.Checked.{bad_line, finding_line, number_line, unlocked_line, unlocked_lines};
 
 use crate::checked::Finding;
 use itoa::Buffer;
 use lmtpd_output::{WriteFault, write_each};
 use mbox_check::BadForm;
 use std::io::Write;
+
+/// Says of each file that was read without its lock that it was. After a fault the writer holds a front of these lines
+/// more.
+pub fn write_unlocked_lines<E: Write>(error: &mut E, names: &[&str]) -> Result<(), WriteFault>
+    ensures ok { OnOk result (Appends (E.contents error.old) (E.contents error.new) (unlocked_lines names.now)) }
+    ensures err { OnErr result (IsCutOff (E.contents error.old) (E.contents error.new) (unlocked_lines names.now)) }
+{
+    for name in names {
+        write_unlocked(error, name)?;
+    }
+    Ok(())
+}
+
+fn write_unlocked<E: Write>(error: &mut E, name: &str) -> Result<(), WriteFault>
+    ensures ok { OnOk result (Appends (E.contents error.old) (E.contents error.new) (unlocked_line name.now)) }
+    ensures err { OnErr result (IsCutOff (E.contents error.old) (E.contents error.new) (unlocked_line name.now)) }
+{
+    write_each(
+        error,
+        &[b"lmtpd: ", name.as_bytes(), b" read without its lock\n"],
+    )
+}
 
 /// Writes a file's line, and has the writer hand it on. After a fault the writer holds a front of the line more.
 #[tactic(auto, using(crate::proofs::Handed::whole_kept, crate::proofs::Handed::whole_cut))]

@@ -1,0 +1,63 @@
+//! One file: it is locked as a reader locks it, and read to its end.
+
+ghost use Rattle.std.specs.Prelude.{◌<◌, length};
+ghost use Rattle.lmtpd_check.specs.Checked.{IsFindingOf};
+
+use crate::checked::Finding;
+use mbox_check::{CheckFault, check_mailbox};
+use mbox_rd::{LockKind, RangeLock};
+use std::fs::{File, Files};
+use std::io::ErrorKind;
+use std::time::{Clock, Duration};
+
+/// How often a lock is tried for again that another program has, and how long the pause before is: a second in all.
+const PAUSES: u32 = 20;
+
+const PAUSE_MS: u64 = 50;
+
+/// What was found of a file, and whether it was read without its lock.
+#[derive(Clone, Copy)]
+pub struct Reading {
+    pub finding: Finding,
+    pub is_unlocked: bool,
+}
+
+/// Reads the file at this path, with its lock where that is had in time. The lock goes as the file is closed.
+pub fn check_file<P: Files, C: Clock>(rt: &P, clock: &C, path: &str, buffer: &mut [u8]) -> Reading
+where
+    P::File: RangeLock,
+    requires { 0 < length buffer.old }
+    ensures { IsFindingOf P.File.remaining result.finding }
+{
+    let Ok(mut file) = File::open(rt, path) else {
+        return Reading {
+            finding: Finding::Unread,
+            is_unlocked: false,
+        };
+    };
+    let is_locked = lock_shared(&file, clock);
+    let finding = match check_mailbox(&mut file, buffer) {
+        Ok(count) => Finding::Letters(count),
+        Err(CheckFault::Form(bad)) => Finding::Form(bad),
+        Err(CheckFault::Unread) => Finding::Unread,
+    };
+    Reading {
+        finding,
+        is_unlocked: !is_locked,
+    }
+}
+
+// Whether the lock is had: beside other readers, and not while a program writes. A file that can't be locked at all is
+// waited for no longer.
+fn lock_shared<F: RangeLock, C: Clock>(file: &F, clock: &C) -> bool {
+    for _ in 0..PAUSES {
+        match file.try_lock_bytes(LockKind::Shared) {
+            Ok(()) => return true,
+            Err(error) if error.kind() == ErrorKind::WouldBlock => {
+                clock.sleep(Duration::from_millis(PAUSE_MS));
+            }
+            Err(_) => return false,
+        }
+    }
+    file.try_lock_bytes(LockKind::Shared).is_ok()
+}
