@@ -1,5 +1,7 @@
 """What the program says to words that it can't use, and the status that it ends with."""
 
+import subprocess
+
 from cases import case, equal
 from server import run, taken_port, words
 
@@ -165,4 +167,5 @@ def version_is_no_refusal(_folder):
     """--version: status 0, one line that names program, version and toolchain, and nothing on standard error"""
     ended = run(["--version"])
     equal((ended.status, ended.errors), (0, []))
-    equal(ended.said, ["lmtpd 0.1.0 (rattle-kit-13b, logic dac8208d650f15bf)"])
+    kit = subprocess.run(["rt", "version"], capture_output=True, check=True, text=True).stdout.split()
+    equal(ended.said, [f"lmtpd 0.1.0 ({kit[0]}, {kit[1]} {kit[2]})"])

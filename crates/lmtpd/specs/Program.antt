@@ -160,8 +160,8 @@ module _ {R W : Type 0} where
   exit_status (Checked it) = check_status it.findings.items it.cut
   exit_status (Stopped s) = stop_status s
 
-  -- a server's mailboxes that are over their quota come before its fault, and so do a check's files that were read
-  -- without their lock
+  -- a server's mailboxes whose turns weren't all had, and those over their quota, come before its fault, and so do a
+  -- check's files that were read without their lock
   abbrev pub exit_lines : Done R W → List ℕ
   exit_lines (Rehearsed it) = line_after (rehearsal_fault it.ending)
   exit_lines (Served it) = trouble_lines it ++ line_after (server_fault it.ending)
