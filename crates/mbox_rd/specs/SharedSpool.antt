@@ -43,8 +43,8 @@ pub record IsOpened {F : Type 0} (spool : SharedSpool F) : Type 0 where
   pub failures : spool.failures ≡ 0
   pub refusals : spool.refusals ≡ 0
 
--- A turn began: both locks are on the file that the path names, and its length and end are those that it has now. Nothing
--- was written, and nothing waits.
+-- A turn began: both locks are on the file that the path names, and its length and end are those that it has now.
+-- Nothing was written, and nothing waits.
 pub record HasTurn {F : Type 0} (state : F → FileState) (old new : SharedSpool F) : Type 0 where
   pub lock_file : (state new.file).has_lock_file ≡ true
   pub range_lock : (state new.file).has_range_lock ≡ true
@@ -53,7 +53,8 @@ pub record HasTurn {F : Type 0} (state : F → FileState) (old new : SharedSpool
   pub tail : new.tail ≡ tail_of (state new.file).bytes
   pub unchanged : (state new.file).changes ≡ (state old.file).changes
 
--- It didn't: something was refused, no lock is left but where the lock file couldn't be removed, and nothing was written.
+-- It didn't: something was refused, no lock is left but where the lock file couldn't be removed, and nothing was
+-- written.
 pub record HasNoTurn {F : Type 0} (state : F → FileState) (old new : SharedSpool F) : Type 0 where
   pub range_lock : (state old.file).has_range_lock ≡ false → (state new.file).has_range_lock ≡ false
   pub free : LeavesNoLockFile (state old.file) (state new.file)
@@ -78,8 +79,8 @@ pub record StartsTurn {F : Type 0} (old new : SharedSpool F) : Type 0 where
 abbrev pub CountsRefusal : {F : Type 0} → SharedSpool F → SharedSpool F → Type 0
 CountsRefusal old new = new ≡ record old { file = new.file; refusals = counted (old.refusals + 1) }
 
--- A turn is over: both locks were given back, but the lock file where it couldn't be removed. The bytes stay, or, where a
--- call failed in this turn, they are cut back.
+-- A turn is over: both locks were given back, but the lock file where it couldn't be removed. The bytes stay, or,
+-- where a call failed in this turn, they are cut back.
 pub record HasEnded {F : Type 0} (state : F → FileState) (old new : SharedSpool F) : Type 0 where
   pub range_lock : (state new.file).has_range_lock ≡ false
   pub free : LeavesNoLockFile (state old.file) (state new.file)

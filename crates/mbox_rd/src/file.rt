@@ -30,8 +30,8 @@ pub enum OpenFault {
     /// Memory is wanting, the system's or that of the buffer.
     #[error("memory")]
     Memory = 1,
-    /// The file can't be made or opened, another holder has it locked, its end can't be read, or its folder
-    /// can't be synced.
+    /// The file can't be made or opened, it isn't plain where it is to be shared, another holder has it locked, its end
+    /// can't be read, or its folder can't be synced.
     #[error("cannot open")]
     Open,
 }

@@ -17,8 +17,8 @@ pub trait MailboxFile {
     // how the file stands, where it tells
     ghost state: { Self → FileState };
 
-    /// Makes the lock file, where there is none. One of its own that couldn't be removed earlier, and one that a process
-    /// left behind, is removed first.
+    /// Makes the lock file, where there is none. One of its own that couldn't be removed earlier, and one that a
+    /// process left behind, is removed first.
     fn try_lock_file(&mut self) -> Result<(), InUse>
         ensures ok { tells ≡ true → OnOk result (HasMadeLockFile (state self.old) (state self.new)) }
         ensures err { tells ≡ true → OnErr result (HasNotMadeLockFile (state self.old) (state self.new)) };

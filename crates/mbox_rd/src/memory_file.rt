@@ -7,8 +7,8 @@ use crate::spool::{InUse, tail_of};
 use std::alloc::{AllocError, Global};
 use std::io;
 
-/// The file of a mailbox that no other program uses. It keeps its bytes as long as it is there itself, and a write fails
-/// where memory is wanting.
+/// The file of a mailbox that no other program uses. It keeps its bytes as long as it is there itself, and a write
+/// fails where memory is wanting.
 #[derive(Debug, Drop)]
 pub struct MemoryFile {
     bytes: Vec<u8>,

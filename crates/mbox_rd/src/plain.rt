@@ -1,5 +1,5 @@
-//! Which files a mailbox may be: plain ones, so that nobody who may write the folder has letters appended to a file that
-//! a link leads to.
+//! Which files a mailbox may be: plain ones, so that nobody who may write the folder has letters appended to a file
+//! that a link leads to.
 use crate::file::open_or_make;
 use crate::spool::InUse;
 use std::fs::{Files, Metadata, OpenFile};
@@ -35,8 +35,8 @@ pub(crate) fn is_plain(metadata: &Metadata) -> bool {
     metadata.is_file() && metadata.nlink() <= 1 && is_own
 }
 
-/// Opens the plain file at that path, or makes it. A link that leads elsewhere is seen before it is followed, or, where
-/// it was put there meanwhile, by what the path names afterwards: a turn looks at that once more.
+/// Opens the plain file at that path, or makes it. A link that leads elsewhere is seen before it is followed, or,
+/// where it was put there meanwhile, by what the path names afterwards: a turn looks at that once more.
 pub(crate) fn open_plain<R: Files>(
     rt: &R,
     path: &str,

@@ -1,5 +1,5 @@
-//! A mailbox in a file that other programs read and empty too: it takes bytes in turns, and what stands there is looked
-//! at anew in each.
+//! A mailbox in a file that other programs read and empty too: it takes bytes in turns, and what stands there is
+//! looked at anew in each.
 ghost use Rattle.std.specs.Prelude.{◌≡◌, ◌⊎◌, ◌↔◌, ℕ, ◌+◌, ◌-◌, ◌^◌, ◌<◌, ◌≤◌, [], List, ◌++◌, true, false, min, length, take};
 ghost use Rattle.std.specs.Prelude.{None, IsErr, IfOk, OnOk, OnErr};
 ghost use Rattle.std.specs.Option.{IfSome};
@@ -18,10 +18,10 @@ use std::io;
 use std::marker::Model;
 use std::time::Clock;
 
-/// A spool over a file that other programs read and empty too. In a turn it has both locks that mail programs take, and
-/// what it takes waits in a buffer of 65,536 bytes until that is full or until a sync. After its first fault it is
-/// broken: the file is cut back to its length at the lock as the turn ends, nothing more goes to it, and each append and
-/// each sync is a fault.
+/// A spool over a file that other programs read and empty too. In a turn it has both locks that mail programs take,
+/// and what it takes waits in a buffer of 65,536 bytes until that is full or until a sync. After its first fault it
+/// is broken: the file is cut back to its length at the lock as the turn ends, nothing more goes to it, and each
+/// append and each sync is a fault.
 #[derive(Drop)]
 pub struct SharedSpool<F: MailboxFile + Drop, C: Clock + Drop> {
     file: F,
@@ -112,9 +112,11 @@ impl<F: MailboxFile + Drop, C: Clock + Drop> SharedSpool<F, C> {
     fn write_waiting(&mut self) -> io::Result<()>
         ensures same { self.new ≡ record self.old { file = self.new.file; waiting = self.new.waiting } }
         ensures empty { OnOk result (self.new.waiting ≡ []) }
-        ensures written { F.tells ≡ true → OnOk result (HasWritten (F.state self.old.file) (F.state self.new.file) self.old.waiting) }
+        ensures written { F.tells ≡ true
+            → OnOk result (HasWritten (F.state self.old.file) (F.state self.new.file) self.old.waiting) }
         ensures left { OnErr result (self.new.waiting ≡ self.old.waiting) }
-        ensures failed { F.tells ≡ true → OnErr result (HasNotWritten (F.state self.old.file) (F.state self.new.file) self.old.waiting) }
+        ensures failed { F.tells ≡ true
+            → OnErr result (HasNotWritten (F.state self.old.file) (F.state self.new.file) self.old.waiting) }
     {
         self.file.write(&self.waiting)?;
         self.waiting.clear();

@@ -68,8 +68,8 @@ fn parts_of<'a>(owner: &'a str) -> (&'a str, &'a str) {
     }
 }
 
-// How many bytes were read of the lock file, as far as there is room. What is no plain file isn't opened, since that could
-// wait.
+// How many bytes were read of the lock file, as far as there is room. What is no plain file isn't opened, since that
+// could wait.
 fn read_text<R: Files>(rt: &R, lock_path: &str, found: &Metadata, bytes: &mut [u8]) -> usize
     ensures { result ≤ length bytes.new }
 {

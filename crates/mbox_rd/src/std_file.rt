@@ -119,8 +119,8 @@ where
         removed
     }
 
-    // Under the lock on the bytes of the file that the path names nobody else removes what was left behind, and what was
-    // found is looked at anew.
+    // Under the lock on the bytes of the file that the path names nobody else removes what was left behind, and what
+    // was found is looked at anew.
     fn remove_same(&mut self, found: &Metadata) -> Result<bool, InUse> {
         if !self.is_named()? {
             return Ok(false);
@@ -229,9 +229,9 @@ where
     ghost use Rattle.std.specs.Prelude.{◌≡◌, IfOk};
     ghost use Rattle.mbox_rd.specs.SharedSpool.{IsOpened};
 
-    /// Opens the plain file at that path. Where it is missing it is made, for its owner alone, and the folder that holds
-    /// it is synced. A lock file that was left behind is removed, nothing is written, and no lock is held. A lock waits
-    /// so many seconds for other programs, 3,600 at most; 0 is one try.
+    /// Opens the plain file at that path. Where it is missing it is made, for its owner alone, and the folder that
+    /// holds it is synced. A lock file that was left behind is removed, nothing is written, and no lock is held. A
+    /// lock waits so many seconds for other programs, 3,600 at most; 0 is one try.
     pub fn at(
         rt: R,
         alloc: Global,
