@@ -1,23 +1,25 @@
 //! The file under a shared spool in the file system, beside its lock file.
+//!
+//! A lock file is linked from one that is made at the start and stays, `PATH.source.lock`: to make a file and write to it
+//! for each turn takes ten times as long. Where there can be no link it is made.
 use crate::file::{FileEnd, OWNER_ONLY, OpenFault, end_of_file, fault_of};
 use crate::mailbox_file::MailboxFile;
-use crate::plain::{OpenNode, is_plain, node_of, open_plain, system_fault};
+use crate::plain::{Node, OpenNode, is_plain, node_of, open_plain, system_fault};
 use crate::range_lock::{LockKind, RangeLock};
 use crate::shared::SharedSpool;
 use crate::spool::InUse;
 use crate::stale::{is_stale, owner_text};
 use std::alloc::Global;
-use std::fs::{Files, Metadata, OpenFile, OpenOptions};
+use std::fs::{FileTimes, Files, Metadata, OpenFile, OpenOptions};
 use std::io::{ErrorKind, Write};
 use std::os::unix::fs::{MetadataExt, OpenOptionsExt};
-use std::time::Clock;
+use std::time::{Clock, SystemTime};
 use std::{fs, io};
 
 /// Others read in a lock file whose it is.
 const LOCK_MODE: u32 = 0o644;
 
 /// A mailbox's file that is open, and its lock file `PATH.lock`. It tells contracts nothing.
-#[derive(Drop)]
 pub struct StdMailboxFile<R: Files + Clock + Drop> {
     rt: R,
     path: String,
@@ -25,7 +27,48 @@ pub struct StdMailboxFile<R: Files + Clock + Drop> {
     open: OpenNode<R::File>,
     lock_path: String,
     owner: String,
-    lock_file: Option<OpenNode<R::File>>,
+    source_path: String,
+    source: Option<OpenNode<R::File>>,
+    lock_file: Held<R::File>,
+}
+
+/// What the lock files were linked from goes with it.
+impl<R: Files + Clock + Drop> Drop for StdMailboxFile<R> {
+    fn drop(self) {
+        let StdMailboxFile {
+            rt,
+            path: _,
+            mode: _,
+            open: _,
+            lock_path: _,
+            owner: _,
+            source_path,
+            source,
+            lock_file: _,
+        } = self;
+        if source.is_some() {
+            let _ = fs::remove_file(&rt, source_path.as_str());
+        }
+    }
+}
+
+// Its own lock file.
+#[derive(Drop)]
+enum Held<F: Drop> {
+    No,
+    /// It is another name of the source.
+    Linked(Node),
+    Made(OpenNode<F>),
+}
+
+impl<F: Drop> Held<F> {
+    fn node(&self) -> Option<Node> {
+        match self {
+            Held::No => None,
+            Held::Linked(node) => Some(*node),
+            Held::Made(own) => Some(own.node),
+        }
+    }
 }
 
 impl<R: Files + Clock + Drop> StdMailboxFile<R>
@@ -40,58 +83,111 @@ where
             open: open_plain(&rt, path, mode).map_err(error_of)?,
             lock_path: format!(in alloc; "{path}.lock")?,
             owner: owner_text(alloc)?,
-            lock_file: None,
+            source_path: format!(in alloc; "{path}.source.lock")?,
+            source: None,
+            lock_file: Held::No,
             rt,
         };
         let _ = file.remove_stale();
+        file.source = file.make_source().ok();
         Ok(file)
+    }
+
+    // Makes the file that lock files are linked from. One that was left behind goes; where a server has one there is none
+    // for this one.
+    fn make_source(&self) -> io::Result<OpenNode<R::File>> {
+        match fs::symlink_metadata(&self.rt, self.source_path.as_str()) {
+            Ok(found) if self.is_left(self.source_path.as_str(), &found) => {
+                fs::remove_file(&self.rt, self.source_path.as_str())?;
+            }
+            _ => {}
+        }
+        self.make_file(self.source_path.as_str())
+    }
+
+    fn is_left(&self, path: &str, found: &Metadata) -> bool {
+        is_stale(&self.rt, path, found, self.owner.as_str())
+    }
+
+    // Makes a file that says whose it is. Where that can't be written there is none afterwards.
+    fn make_file(&self, path: &str) -> io::Result<OpenNode<R::File>> {
+        let mut file = OpenOptions::new()
+            .write(true)
+            .create_new(true)
+            .mode(LOCK_MODE)
+            .open(&self.rt, path)?;
+        let made = match file.metadata() {
+            Ok(metadata) => match file.write_all(self.owner.as_bytes()) {
+                Ok(()) => Ok(node_of(&metadata)),
+                Err(error) => Err(error),
+            },
+            Err(error) => Err(error),
+        };
+        match made {
+            Ok(node) => Ok(OpenNode { file, node }),
+            Err(error) => {
+                let _ = fs::remove_file(&self.rt, path);
+                Err(error)
+            }
+        }
+    }
+
+    // Links the lock file from the source, with the time of now, by which others judge whether it is left behind. None:
+    // there is no source, or no link can be had.
+    fn link_lock_file(&mut self) -> Option<bool> {
+        let source = self.source.as_ref()?;
+        let now = SystemTime::now(&self.rt).ok()?;
+        let times = FileTimes::new().set_modified(now);
+        source.file.set_times(times).ok()?;
+        match fs::hard_link(&self.rt, self.source_path.as_str(), self.lock_path.as_str()) {
+            Ok(()) if has_two_names(&source.file) => {
+                self.lock_file = Held::Linked(source.node);
+                Some(true)
+            }
+            Ok(()) => {
+                // another server's source stands in the place of this one's
+                let _ = fs::remove_file(&self.rt, self.lock_path.as_str());
+                None
+            }
+            Err(error) if error.kind() == ErrorKind::AlreadyExists => Some(false),
+            Err(_) => None,
+        }
     }
 
     // Makes the lock file, unless there is one.
     fn make_lock_file(&mut self) -> Result<bool, InUse> {
-        let made = OpenOptions::new()
-            .write(true)
-            .create_new(true)
-            .mode(LOCK_MODE)
-            .open(&self.rt, self.lock_path.as_str());
-        let mut file = match made {
-            Ok(file) => file,
-            Err(error) if error.kind() == ErrorKind::AlreadyExists => return Ok(false),
-            Err(error) => return Err(system_fault(error)),
-        };
-        let written = match file.metadata() {
-            Ok(metadata) => {
-                let written = file.write_all(self.owner.as_bytes());
-                let node = node_of(&metadata);
-                self.lock_file = Some(OpenNode { file, node });
-                written
-            }
-            Err(error) => {
-                let _ = fs::remove_file(&self.rt, self.lock_path.as_str());
-                Err(error)
-            }
-        };
-        if let Err(error) = written {
-            self.remove_lock_file();
-            return Err(system_fault(error));
+        if let Some(is_linked) = self.link_lock_file() {
+            return Ok(is_linked);
         }
-        Ok(true)
+        self.source = None;
+        match self.make_file(self.lock_path.as_str()) {
+            Ok(made) => {
+                self.lock_file = Held::Made(made);
+                Ok(true)
+            }
+            Err(error) if error.kind() == ErrorKind::AlreadyExists => Ok(false),
+            Err(error) => Err(system_fault(error)),
+        }
+    }
+
+    // Whether the lock file is still its own.
+    fn owns_lock_file(&self) -> io::Result<bool> {
+        match fs::symlink_metadata(&self.rt, self.lock_path.as_str()) {
+            Ok(found) => Ok(Some(node_of(&found)) == self.lock_file.node()),
+            Err(error) if error.kind() == ErrorKind::NotFound => Ok(false),
+            Err(error) => Err(error),
+        }
     }
 
     // Removes the lock file, if one was made and it is still that one. Where that fails it is tried again later.
     fn remove_own(&mut self) -> io::Result<()> {
-        let Some(own) = &self.lock_file else {
+        if self.lock_file.node().is_none() {
             return Ok(());
-        };
-        match fs::symlink_metadata(&self.rt, self.lock_path.as_str()) {
-            Ok(found) if node_of(&found) == own.node => {
-                fs::remove_file(&self.rt, self.lock_path.as_str())?;
-            }
-            Ok(_) => {}
-            Err(error) if error.kind() == ErrorKind::NotFound => {}
-            Err(error) => return Err(error),
         }
-        self.lock_file = None;
+        if self.owns_lock_file()? {
+            fs::remove_file(&self.rt, self.lock_path.as_str())?;
+        }
+        self.lock_file = Held::No;
         Ok(())
     }
 
@@ -102,12 +198,7 @@ where
             Err(error) if error.kind() == ErrorKind::NotFound => return Ok(true),
             Err(error) => return Err(system_fault(error)),
         };
-        if !is_stale(
-            &self.rt,
-            self.lock_path.as_str(),
-            &found,
-            self.owner.as_str(),
-        ) {
+        if !self.is_left(self.lock_path.as_str(), &found) {
             return Ok(false);
         }
         if !self.is_named()? {
@@ -137,6 +228,13 @@ where
             Err(error) if error.kind() == ErrorKind::NotFound => Ok(true),
             Err(error) => Err(system_fault(error)),
         }
+    }
+}
+
+fn has_two_names<F: OpenFile>(file: &F) -> bool {
+    match file.metadata() {
+        Ok(metadata) => metadata.nlink() == 2,
+        Err(_) => false,
     }
 }
 
@@ -217,7 +315,11 @@ where
         self.open.file.sync_data()
     }
 
+    /// Only while the lock file is its own: another program that took it for left behind may have written since.
     fn cut(&mut self, size: u64) -> io::Result<()> {
+        if !self.owns_lock_file()? {
+            return Err(io::Error::from(ErrorKind::ResourceBusy));
+        }
         self.open.file.set_len(size)
     }
 }
