@@ -11,6 +11,7 @@ import postfix_delivers  # noqa: F401
 import power_cut  # noqa: F401
 import read_only  # noqa: F401
 import readers_agree  # noqa: F401
+import readers_delete  # noqa: F401
 import several_servers  # noqa: F401
 import soak  # noqa: F401
 import ten_lines  # noqa: F401

@@ -240,8 +240,12 @@ class environment:
         self.given = given
 
     def __enter__(self):
+        self.before = {name: os.environ.get(name) for name in self.given}
         os.environ.update(self.given)
 
     def __exit__(self, *_):
-        for name in self.given:
-            del os.environ[name]
+        for name, value in self.before.items():
+            if value is None:
+                del os.environ[name]
+            else:
+                os.environ[name] = value
