@@ -29,9 +29,11 @@ OF_DOVECOT = b"Subject: DON'T DELETE THIS MESSAGE -- FOLDER INTERNAL DATA\n"
 
 
 def body_of(subject):
-    """Each letter's own lines; one in fifty is longer than what is written at a time."""
-    number = int(subject.rpartition("-")[2])
-    count = 2000 if number % 50 == 49 else 1 + number * 7 % 40
+    """Each letter's own lines. One in fifty is longer than what is written at a time; but where there are more than
+    four clients those of the further ones are short, so that it is their number that counts."""
+    client, number = map(int, subject.rpartition(" ")[2].split("-"))
+    count = 1 + number * 7 % 40 if number % 50 != 49 else 2000
+    count = count if client < CLIENTS else 1
     return [f"{subject}, line {line} of {count}, {'x' * 30}" for line in range(count)] + [f"the end of {subject}"]
 
 
@@ -117,8 +119,9 @@ class Beside:
             there = {subject.decode() for subject in SUBJECT.findall(file.read())}
         return [subject for subject in asked if subject not in there]
 
-    def judge(self, ended):
-        """Each letter that was told 250 is there once and whole, or was deleted once; and none that wasn't told."""
+    def judge(self, ended, idle=()):
+        """Each letter that was told 250 is there once and whole, or was deleted once, and none that wasn't told; each
+        reader has deleted some, but those that are idle."""
         found, torn = letters_of(self.path.read_bytes())
         told = collections.Counter(self.told)
         here = collections.Counter(found)
@@ -134,7 +137,7 @@ class Beside:
         equal(vars(ended), {"status": 0, "said": [f"anna stored {len(told)}"], "errors": in_use})
         equal(run(["check", self.path]).status, 0)
         equal(lock_of(self.path).exists(), False)
-        equal([who for who, count in self.deleted_by.items() if count == 0], [])
+        equal([who for who, count in self.deleted_by.items() if count == 0], list(idle))
 
 
 def letters_of(text):

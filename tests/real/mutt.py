@@ -39,7 +39,8 @@ class Mutt:
         self.saved.unlink(missing_ok=True)
         keys = f"<tag-pattern>{pattern}<enter><tag-prefix-cond><save-message>{self.saved}<enter><end-cond>"
         given = ["-n", "-F", "/dev/null", "-e", f"{SETTINGS} dotlock_program={self.dotlock} folder={self.home}/Mail"]
-        given += ["-e", f"push '{keys}<sync-mailbox><exit>'", "-f", str(path)]
+        # a user whose first try to write doesn't get its lock tries again
+        given += ["-e", f"push '{keys}{'<sync-mailbox>' * 5}<exit>'", "-f", str(path)]
         environment = {"PATH": os.environ["PATH"], "HOME": str(self.home), "USER": "anna", "TERM": "xterm"}
         main, side = pty.openpty()
         words = [self.setsid, "--ctty", self.command, *given]
