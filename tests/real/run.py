@@ -3,7 +3,10 @@
 import sys
 
 import exim_delivers  # noqa: F401  (each adds its cases)
+import file_changed  # noqa: F401
+import killed_server_lock  # noqa: F401
 import killed_under_load  # noqa: F401
+import mailbox_of_user  # noqa: F401
 import many_clients_one_mailbox  # noqa: F401
 import odd_clients  # noqa: F401
 import opensmtpd_delivers  # noqa: F401
