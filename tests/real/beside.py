@@ -50,6 +50,7 @@ class Beside:
         self.program = shutil.copy(os.environ["LMTPD"], folder / "lmtpd")
         self.told, self.refused, self.deleted = [], [], collections.Counter()
         self.deleted_by = collections.Counter()
+        self.asked = set()
         self.stop = threading.Event()
         self.faults = []
         self.looking = threading.Lock()
@@ -114,7 +115,8 @@ class Beside:
             client.quit()
 
     def look(self, asked):
-        """Which of these letters, that a reader wanted to delete, are there no more: seen with both locks."""
+        """Which of these letters, that a reader asked to delete, are there no more: seen with both locks."""
+        self.asked.update(asked)
         with self.looking, both_held(self.path) as file:
             there = {subject.decode() for subject in SUBJECT.findall(file.read())}
         return [subject for subject in asked if subject not in there]
@@ -125,6 +127,8 @@ class Beside:
         found, torn = letters_of(self.path.read_bytes())
         told = collections.Counter(self.told)
         here = collections.Counter(found)
+        # what a reader asked for may have been done after it looked, by another session
+        self.deleted.update(one for one in self.asked if not here[one] and not self.deleted[one])
         lost = [one for one in told if here[one] + self.deleted[one] == 0]
         doubled = [one for one in here | self.deleted if here[one] > 1 or self.deleted[one] > 1]
         back = [one for one in here if self.deleted[one] > 0]

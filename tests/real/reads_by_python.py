@@ -29,9 +29,9 @@ def remove(path, reader):
         try:
             box.flush()
         except mailbox.ExternalClashError:
-            # it may come up after the new file was put in place
+            # it may come up after the new file was put in place; before, somebody wrote in spite of the locks
             if os.stat(path).st_ino == named:
-                return []
+                raise
         return [subject for _, subject in chosen]
     finally:
         box.unlock()
