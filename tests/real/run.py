@@ -3,14 +3,21 @@
 import sys
 
 import exim_delivers  # noqa: F401  (each adds its cases)
+import file_changed  # noqa: F401
+import killed_server_lock  # noqa: F401
 import killed_under_load  # noqa: F401
+import mailbox_of_user  # noqa: F401
+import many_clients_one_mailbox  # noqa: F401
 import odd_clients  # noqa: F401
 import opensmtpd_delivers  # noqa: F401
 import other_mailboxes  # noqa: F401
 import postfix_delivers  # noqa: F401
 import power_cut  # noqa: F401
+import quota_emptied  # noqa: F401
 import read_only  # noqa: F401
+import reader_holds  # noqa: F401
 import readers_agree  # noqa: F401
+import readers_delete  # noqa: F401
 import several_servers  # noqa: F401
 import soak  # noqa: F401
 import ten_lines  # noqa: F401

@@ -14,34 +14,48 @@ from server import Server
 LIBRARY = pathlib.Path(__file__).parent / "fail_calls.c"
 OLD = b"abc"
 CLOSED = b"abc\n\n"
+STORED, NOT_STORED = "250 2.0.0 Stored for anna", "451 4.3.0 Not stored for anna"
+LETTERS = 3
+# These on the mailbox change what stands in it, or are to keep it: a fault of one breaks the mailbox.
+BREAKING = ["write mailbox", "fdatasync mailbox"]
+# These on the lock file cost no copy: its name is the lock, and one that stays is removed by the next turn.
+HARMLESS = ["write lock", "unlink lock"]
 MOST_CALLS = 200
 BOXES = ["anna", "ben", "carla"]
 
 
 @case
 def one_call_fails(folder):
-    """each call on a mailbox's file fails in turn: that mailbox is told 451 from then on, the other 250"""
-    fail_in_turn(folder, {})
+    """each call on a mailbox and its lock file fails in turn: before the first byte that copy alone is told 451, behind
+    it all later ones, where the lock file isn't written or removed none; the other mailbox 250"""
+    fail_in_turn(folder, {}, {"refused", "in use", "broken", "harmless", "well"})
 
 
 @case
 def all_later_calls_fail(folder):
-    """each call on a mailbox's file fails in turn, and all later ones: the same"""
-    fail_in_turn(folder, {"FAIL_ALL": "1"})
+    """each call on a mailbox and its lock file fails in turn, and all later ones: 451 from then on, the other 250"""
+    fail_in_turn(folder, {"FAIL_ALL": "1"}, {"refused", "in use", "broken", "harmless", "well"})
 
 
-def fail_in_turn(folder, more):
+one_call_fails.seconds = all_later_calls_fail.seconds = 120
+
+
+def fail_in_turn(folder, more, wanted):
     library = built(folder)
     seen = set()
     for number in range(1, MOST_CALLS):
         place = folder / str(number)
         place.mkdir()
-        told = place / "told"
-        given = {"LD_PRELOAD": library, "FAIL_FILE": "/anna.mbox", "FAIL_CALL": number, "FAIL_TOLD": told, **more}
-        seen.add(deliver_twice(place, {name: str(value) for name, value in given.items()}))
+        told, log = place / "told", place / "log"
+        given = {"LD_PRELOAD": library, "FAIL_FILE": "/anna.mbox", "FAIL_CALL": number, "FAIL_TOLD": told}
+        given |= {"FAIL_LOG": log, **more}
+        try:
+            seen.add(deliver_a_few(place, {name: str(value) for name, value in given.items()}))
+        except AssertionError as fault:
+            raise AssertionError(f"call {number}, {called(place)[number - 1 : number]}: {fault}") from fault
         if not told.exists():
             # all calls of a run that ends well have failed
-            equal(seen, {"refused", "failed", "well"})
+            equal(seen, wanted)
             return
     raise AssertionError(f"no end after {MOST_CALLS} calls")
 
@@ -54,28 +68,106 @@ def built(folder):
     return library
 
 
-def deliver_twice(folder, given):
-    """Two conversations with a letter for both mailboxes: whether the server began, and how it ended."""
+def called(folder):
+    """The calls so far, each with its place."""
+    log = folder / "log"
+    return log.read_text().splitlines() if log.exists() else []
+
+
+def deliver_a_few(folder, given):
+    """Conversations with a letter for both mailboxes each: what the call that failed came to."""
     (folder / "anna.mbox").write_bytes(OLD)
-    told = folder / "told"
     with environment(given):
-        server = Server(folder, ["anna", "ben"], 2, "--lanes", 1)
+        server = Server(folder, ["anna", "ben"], LETTERS, "--lanes", 1)
     with server:
         if not server.first:
             equal(vars(server.end()), {"status": 1, "said": [], "errors": ["lmtpd: cannot open anna.mbox"]})
             equal((folder / "anna.mbox").read_bytes(), OLD)
             return "refused"
-        answers = [deliver_one(server.address, ["anna", "ben"], f"letter {number}") for number in [1, 2]]
+        turns = [turn_of(folder, server, number, given) for number in range(LETTERS)]
         ended = server.end()
-    failed = told.exists()
-    stored = [answer[0] for answer in answers].count("250 2.0.0 Stored for anna")
-    lines = ["250 2.0.0 Stored for anna"] * stored + ["451 4.3.0 Not stored for anna"] * (2 - stored)
-    equal(answers, [[line, "250 2.0.0 Stored for ben"] for line in lines])
-    equal(ended.said, [f"anna stored {stored}", "ben stored 2"])
-    equal((ended.status, ended.errors), (1, ["lmtpd: device fault"]) if failed else (0, []))
-    equal(letters.messages(server.mailbox("ben")), [b"letter 1\n", b"letter 2\n"])
-    check_front(server.mailbox("anna"), stored)
-    return "failed" if failed else "well"
+    came_to = next((turn for turn, _, _ in turns if turn != "well"), "well")
+    check_turns(turns, came_to, "FAIL_ALL" in given)
+    stored = sum(is_stored for _, is_stored, _ in turns)
+    equal(ended.said, [f"anna stored {stored}", f"ben stored {LETTERS}"])
+    equal((ended.status, ended.errors), how_it_ends(came_to, LETTERS - stored))
+    equal(letters.messages(server.mailbox("ben")), [b"letter %d\n" % number for number in range(LETTERS)])
+    whole = [b"letter %d\n" % number for number, (_, is_stored, _) in enumerate(turns) if is_stored]
+    check_mailbox(server.mailbox("anna"), whole, is_cut="FAIL_ALL" not in given)
+    return came_to
+
+
+def turn_of(folder, server, number, given):
+    """Delivers a letter: what a call that failed in its turn came to, whether it was stored, whether a lock is left."""
+    before = len(called(folder))
+    answer, other = deliver_one(server.address, ["anna", "ben"], f"letter {number}")
+    equal((answer in [STORED, NOT_STORED], other), (True, "250 2.0.0 Stored for ben"))
+    is_left = (folder / "anna.mbox.lock").exists()
+    turn = called(folder)[before:]
+    failing = int(given["FAIL_CALL"]) - 1 - before
+    if not 0 <= failing < len(turn):
+        return "well", answer == STORED, is_left
+    kept = "fdatasync mailbox" in turn[:failing]
+    if turn[failing] in BREAKING and not kept:
+        return "broken", answer == STORED, is_left
+    # what is looked at of its lock file may be let go
+    is_harmless = kept or turn[failing] in HARMLESS and "FAIL_ALL" not in given
+    is_harmless = is_harmless or turn[failing] == "statx lock" and answer == STORED
+    return "harmless" if is_harmless else "in use", answer == STORED, is_left
+
+
+def check_turns(turns, came_to, is_for_good):
+    """What is stored, and where a lock file is left, as the call that failed says."""
+    at = next((number for number, (turn, _, _) in enumerate(turns) if turn != "well"), LETTERS)
+    for number, (turn, is_stored, is_left) in enumerate(turns):
+        is_wanted = turn in ["well", "harmless"]
+        if number > at and (is_for_good or came_to == "broken"):
+            is_wanted = False
+        equal((number, is_stored), (number, is_wanted))
+        may_be_left = is_for_good and number >= at or number == at and came_to == "harmless"
+        assert may_be_left or not is_left, f"a lock file is left after letter {number}"
+
+
+def how_it_ends(came_to, refused):
+    if came_to == "broken":
+        return 1, ["lmtpd: device fault"]
+    return 0, [f"lmtpd: anna in use {refused}"] * (refused > 0)
+
+
+def check_mailbox(path, whole, is_cut):
+    """The letters that were told stored, and, where it couldn't be cut back, after them at most a prefix of a next."""
+    found = path.read_bytes()
+    if is_cut and not whole:
+        equal(found, OLD)
+        return
+    if not found.startswith(CLOSED):
+        equal((CLOSED.startswith(found), whole), (True, []))
+        return
+    records = found.removeprefix(CLOSED)
+    path.write_bytes(records if is_cut else records[: records.rfind(b"\n\n") + 2] if b"\n\n" in records else b"")
+    read = letters.messages(path)
+    equal(read[: len(whole)], whole)
+    assert len(read) <= len(whole) + (not is_cut), read
+
+
+@case
+def one_sync_before_each_250(folder):
+    """before each 250 there is just one fdatasync, after the last byte of its record, also of a long one"""
+    log = folder / "log"
+    given = {"LD_PRELOAD": str(built(folder)), "FAIL_FILE": "/anna.mbox", "FAIL_LOG": str(log)}
+    lines = [1, 1, 2000, 1, 9000]
+    with environment(given):
+        server = Server(folder, ["anna"], 1, "--lanes", 1)
+    with server, Client(server.address).greet() as client:
+        for count in lines:
+            before = len(called(folder))
+            equal(client.deliver(["anna"], *["x" * 100] * count)[1], [STORED])
+            kept = [call for call in called(folder)[before:] if call in BREAKING]
+            equal((kept.count("fdatasync mailbox"), kept[-1]), (1, "fdatasync mailbox"))
+            assert "write mailbox" in kept, kept
+        client.quit()
+        equal(server.end().said, [f"anna stored {len(lines)}"])
+    equal(len(letters.messages(server.mailbox("anna"))), len(lines))
 
 
 @case
@@ -141,19 +233,6 @@ def try_to_deliver(address, names):
     return told
 
 
-def check_front(path, stored):
-    """The letters that were told stored, and behind them at most a front of the next one."""
-    found = path.read_bytes()
-    if not found.startswith(CLOSED):
-        equal((CLOSED.startswith(found), stored), (True, 0))
-        return
-    records = found.removeprefix(CLOSED)
-    whole = records.count(b"\n\n")
-    assert stored <= whole <= stored + 1, (stored, found)
-    path.write_bytes(records[: records.rindex(b"\n\n") + 2] if whole else b"")
-    equal(letters.messages(path), [b"letter %d\n" % (number + 1) for number in range(whole)])
-
-
 class environment:
     """Words of the environment for the programs that are started within."""
 
@@ -161,8 +240,12 @@ class environment:
         self.given = given
 
     def __enter__(self):
+        self.before = {name: os.environ.get(name) for name in self.given}
         os.environ.update(self.given)
 
     def __exit__(self, *_):
-        for name in self.given:
-            del os.environ[name]
+        for name, value in self.before.items():
+            if value is None:
+                del os.environ[name]
+            else:
+                os.environ[name] = value

@@ -1,59 +1,59 @@
-"""What the server does where a mailbox's file is held, fails, or was left torn."""
+"""What the server does where a mailbox's file fails, or was left torn."""
 
+import resource
 import time
 
 import letters
 from cases import case, equal
 from clients import Client, deliver_one
-from server import Server, run, words
+from server import Server
 
 # Almost 1 MiB.
 LONG_LINES = ["x" * 900] * 1000
 
 
 @case
-def a_second_server(folder):
-    """a second server on the same folder: cannot open anna.mbox, status 1, and the first one goes on"""
-    with Server(folder, ["anna"], 2, "--lanes", 1) as server:
-        equal(deliver_one(server.address, ["anna"], "one"), ["250 2.0.0 Stored for anna"])
-        ended = run(words(folder, ["anna"], 1))
-        equal(vars(ended), {"status": 1, "said": [], "errors": ["lmtpd: cannot open anna.mbox"]})
-        equal(deliver_one(server.address, ["anna"], "two"), ["250 2.0.0 Stored for anna"])
-        equal(vars(server.end()), {"status": 0, "said": ["anna stored 2"], "errors": []})
-        equal(letters.messages(server.mailbox("anna")), [b"one\n", b"two\n"])
-
-
-@case
 def a_device_that_is_full(folder):
-    """a mailbox on /dev/full: 451 for it, 250 for the other, then device fault and status 1"""
-    (folder / "anna.mbox").symlink_to("/dev/full")
-    with Server(folder, ["anna", "ben"], 2, "--lanes", 1) as server:
-        for number in [1, 2]:
-            finals = deliver_one(server.address, ["anna", "ben"], f"letter {number}")
-            equal(finals, ["451 4.3.0 Not stored for anna", "250 2.0.0 Stored for ben"])
-        said = ["anna stored 0", "ben stored 2"]
-        equal(vars(server.end()), {"status": 1, "said": said, "errors": ["lmtpd: device fault"]})
-        equal(letters.messages(server.mailbox("ben")), [b"letter 1\n", b"letter 2\n"])
+    """a mailbox's file that can't grow: 451 for it and nothing of a letter stays, 250 for the other, then device fault
+    and status 1"""
+    for room in [0, 100]:
+        place = folder / str(room)
+        place.mkdir()
+        old = b"x" * (9998 - room) + b"\n\n"
+        (place / "anna.mbox").write_bytes(old)
+        with Server(place, ["anna", "ben"], 2, "--lanes", 1, **of_size(10_000)) as server:
+            for number in [1, 2]:
+                finals = deliver_one(server.address, ["anna", "ben"], f"letter {number}")
+                equal(finals, ["451 4.3.0 Not stored for anna", "250 2.0.0 Stored for ben"])
+            said = ["anna stored 0", "ben stored 2"]
+            equal(vars(server.end()), {"status": 1, "said": said, "errors": ["lmtpd: device fault"]})
+            equal(letters.messages(server.mailbox("ben")), [b"letter 1\n", b"letter 2\n"])
+            equal((server.mailbox("anna").read_bytes() == old, server.lock_file("anna").exists()), (True, False))
+
+
+def of_size(limit):
+    """How a server is started whose files grow to so many bytes at most: a write beyond fails, and no signal comes."""
+    both = (limit, limit)
+    return {"restore_signals": False, "preexec_fn": lambda: resource.setrlimit(resource.RLIMIT_FSIZE, both)}
 
 
 @case
 def a_full_device_beside_a_quota(folder):
-    """a mailbox on /dev/full between two over their quota: their lines come before the fault, also where nothing
-    can be told"""
+    """a mailbox's file that can't grow between two over their quota: their lines come before the fault, also where
+    nothing can be told"""
     names = ["anna", "ben", "carla"]
-    (folder / "ben.mbox").symlink_to("/dev/full")
     for name in ["anna", "carla"]:
         (folder / f"{name}.mbox").write_bytes(b"x" * 998 + b"\n\n")
     over = {name: f"452 4.2.2 Over quota for {name}" for name in names}
     finals = [over["anna"], "451 4.3.0 Not stored for ben", over["carla"]]
     said = [f"{name} stored 0" for name in names]
     errors = ["lmtpd: anna over quota 1", "lmtpd: carla over quota 1", "lmtpd: device fault"]
-    with Server(folder, names, 1, "--lanes", 1, "--quota", 1000) as server:
+    with Server(folder, names, 1, "--lanes", 1, "--quota", 1000, **of_size(100)) as server:
         equal(deliver_one(server.address, names, "hello"), finals)
         equal(vars(server.end()), {"status": 1, "said": said, "errors": errors})
     for names, status in [(names, 1), (["anna", "carla"], 0)]:
         with open("/dev/full", "wb", buffering=0) as full:
-            server = Server(folder, names, 1, "--lanes", 1, "--quota", 1000, errors=full)
+            server = Server(folder, names, 1, "--lanes", 1, "--quota", 1000, errors=full, **of_size(100))
         with server:
             deliver_one(server.address, names, "hello")
             said = [f"{name} stored 0" for name in names]

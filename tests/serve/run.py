@@ -2,12 +2,14 @@
 
 import sys
 
-import conversations  # noqa: F401  (each adds its cases)
+import changed  # noqa: F401  (each adds its cases)
+import conversations  # noqa: F401
 import deliveries  # noqa: F401
 import failing  # noqa: F401
 import files  # noqa: F401
 import largest  # noqa: F401
 import logs  # noqa: F401
+import readers  # noqa: F401
 import refusals  # noqa: F401
 from cases import run_all
 

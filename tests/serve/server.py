@@ -16,9 +16,10 @@ class Ended:
 class Server:
     """A server that listens, from its start to the end of a `with`, which ends it where it still runs."""
 
-    def __init__(self, folder, boxes, connections, *more, listen="127.0.0.1:0", errors=subprocess.PIPE):
+    def __init__(self, folder, boxes, connections, *more, listen="127.0.0.1:0", errors=subprocess.PIPE, **how):
+        """What is said of `how` it is started is said as to Popen."""
         self.folder = folder
-        self.process = start(words(folder, boxes, connections, *more, listen=listen), errors)
+        self.process = start(words(folder, boxes, connections, *more, listen=listen), errors, **how)
         try:
             self.first = self.process.stdout.readline()
         except BaseException:
@@ -52,15 +53,18 @@ class Server:
     def mailbox(self, name):
         return self.folder / f"{name}.mbox"
 
+    def lock_file(self, name):
+        return self.folder / f"{name}.mbox.lock"
+
 
 def words(folder, boxes, connections, *more, listen="127.0.0.1:0", host="mx.example"):
     fixed = ["--host", host, "--listen", listen, "--dir", str(folder), "--connections", str(connections)]
     return ["serve", *fixed, *map(str, more), *boxes]
 
 
-def start(given, errors=subprocess.PIPE):
+def start(given, errors=subprocess.PIPE, **how):
     ends = {"stdin": subprocess.DEVNULL, "stdout": subprocess.PIPE, "stderr": errors}
-    return subprocess.Popen([os.environ["LMTPD"], *given], text=True, **ends)
+    return subprocess.Popen([os.environ["LMTPD"], *given], text=True, **ends, **how)
 
 
 def run(given):

@@ -1,0 +1,181 @@
+"""What the cases share in which users read and delete while clients deliver: numbered letters, and what became of each.
+
+Each letter is for one of the readers, who alone deletes it. A reader says which letters it deleted once it has seen
+that it did: what it only asked for may have failed.
+"""
+
+import collections
+import contextlib
+import fcntl
+import os
+import pathlib
+import re
+import shutil
+import threading
+import time
+
+from cases import equal
+from clients import Client
+from failing import environment
+from packages import want_root
+from server import Server, run
+
+CLIENTS = 4
+SECONDS = float(os.environ.get("READERS_SECONDS", "60"))
+MAIL = {"user": "mail", "group": "mail", "extra_groups": []}
+SUBJECT = re.compile(rb"^Subject: (for-\w+ \d+-\d+)$", re.MULTILINE)
+# Dovecot keeps its own data in such a letter, where the first of a mailbox goes.
+OF_DOVECOT = b"Subject: DON'T DELETE THIS MESSAGE -- FOLDER INTERNAL DATA\n"
+
+
+def body_of(subject):
+    """Each letter's own lines. One in fifty is longer than what is written at a time; but where there are more than
+    four clients those of the further ones are short, so that it is their number that counts."""
+    client, number = map(int, subject.rpartition(" ")[2].split("-"))
+    count = 1 + number * 7 % 40 if number % 50 != 49 else 2000
+    count = count if client < CLIENTS else 1
+    return [f"{subject}, line {line} of {count}, {'x' * 30}" for line in range(count)] + [f"the end of {subject}"]
+
+
+class Beside:
+    """A server for one mailbox, by whom it is told, and what was told and deleted."""
+
+    def __init__(self, folder, *more, how=MAIL):
+        want_root()
+        folder.chmod(0o755)
+        self.folder, self.how, self.more = folder, how, more
+        self.home = self.made(folder / "home")
+        self.path = self.made(folder / "spool") / "anna.mbox"
+        # whoever the server runs as, it may read its program
+        self.program = shutil.copy(os.environ["LMTPD"], folder / "lmtpd")
+        self.told, self.refused, self.deleted = [], [], collections.Counter()
+        self.deleted_by = collections.Counter()
+        self.asked = set()
+        self.stop = threading.Event()
+        self.faults = []
+        self.looking = threading.Lock()
+
+    def made(self, place):
+        place.mkdir()
+        if self.how:
+            shutil.chown(place, self.how["user"], self.how["group"])
+        return place
+
+    def server(self, connections, *more):
+        with environment({"LMTPD": str(self.program)}):
+            return Server(self.path.parent, ["anna"], connections, *self.more, *more, **self.how)
+
+    def run(self, readers, clients=CLIENTS, seconds=SECONDS):
+        """Delivers for so long beside the readers, each a function of a name, and gives how the server ended."""
+        with self.server(clients, "--lanes", clients, "--timeout", 120) as server:
+            until = time.monotonic() + seconds
+            jobs = [threading.Thread(target=self.guard, args=(self.read, who, reads)) for who, reads in readers.items()]
+            loads = [
+                threading.Thread(target=self.guard, args=(self.deliver, server.address, number, list(readers), until))
+                for number in range(clients)
+            ]
+            for thread in [*jobs, *loads]:
+                thread.start()
+            for load in loads:
+                load.join()
+            self.stop.set()
+            for job in jobs:
+                job.join()
+            if self.faults:
+                raise self.faults[0]
+            return server.end()
+
+    def guard(self, function, *given):
+        try:
+            function(*given)
+        except Exception as fault:
+            self.faults.append(fault)
+            self.stop.set()
+
+    def read(self, who, reads):
+        while not self.stop.is_set():
+            self.count(who, reads(who))
+
+    def count(self, who, subjects):
+        self.deleted.update(subjects)
+        self.deleted_by[who] += len(subjects)
+
+    def deliver(self, address, number, readers, until):
+        with Client(address) as client:
+            client.socket.settimeout(120)
+            client.greet()
+            count = 0
+            while time.monotonic() < until and not self.stop.is_set():
+                subject = f"for-{readers[(count + number) % len(readers)]} {number}-{count}"
+                lines = [f"Subject: {subject}", "From: <carl@a.example>", "", *body_of(subject)]
+                [final] = client.deliver_at_once(["anna"], *lines)[1]
+                assert final in ["250 2.0.0 Stored for anna", "451 4.3.0 Not stored for anna"], final
+                (self.told if final.startswith("250 ") else self.refused).append(subject)
+                count += 1
+            client.quit()
+
+    def look(self, asked):
+        """Which of these letters, that a reader asked to delete, are there no more: seen with both locks."""
+        self.asked.update(asked)
+        with self.looking, both_held(self.path) as file:
+            there = {subject.decode() for subject in SUBJECT.findall(file.read())}
+        return [subject for subject in asked if subject not in there]
+
+    def judge(self, ended, idle=()):
+        """Each letter that was told 250 is there once and whole, or was deleted once, and none that wasn't told; each
+        reader has deleted some, but those that are idle."""
+        found, torn = letters_of(self.path.read_bytes())
+        told = collections.Counter(self.told)
+        here = collections.Counter(found)
+        # what a reader asked for may have been done after it looked, by another session
+        self.deleted.update(one for one in self.asked if not here[one] and not self.deleted[one])
+        lost = [one for one in told if here[one] + self.deleted[one] == 0]
+        doubled = [one for one in here | self.deleted if here[one] > 1 or self.deleted[one] > 1]
+        back = [one for one in here if self.deleted[one] > 0]
+        stray = [one for one in here | self.deleted if one not in told]
+        each = ", ".join(f"{who} {count}" for who, count in sorted(self.deleted_by.items()))
+        print(f"told {len(told)}, refused {len(self.refused)}, still there {len(found)}, deleted by {each};", end=" ")
+        print(f"lost {len(lost)}, doubled {len(doubled)}, torn {len(torn)}, back {len(back)}, stray {len(stray)}")
+        equal((lost, doubled, torn, back, stray), ([], [], [], [], []))
+        in_use = [f"lmtpd: anna in use {len(self.refused)}"] * bool(self.refused)
+        equal(vars(ended), {"status": 0, "said": [f"anna stored {len(told)}"], "errors": in_use})
+        equal(run(["check", self.path]).status, 0)
+        equal(lock_of(self.path).exists(), False)
+        equal([who for who, count in self.deleted_by.items() if count == 0], list(idle))
+
+
+def letters_of(text):
+    """The subjects of a mailbox's letters, and those letters that aren't as they were sent."""
+    subjects, torn = [], []
+    for letter in re.split(rb"^From ", text, flags=re.MULTILINE)[1:]:
+        head, _, body = letter.partition(b"\n\n")
+        subject = SUBJECT.search(head)
+        if subject is None:
+            torn += [letter[:200]] * (OF_DOVECOT not in head + b"\n")
+            continue
+        name = subject[1].decode()
+        subjects.append(name)
+        if body.rstrip(b"\n") != "\n".join(body_of(name)).encode():
+            torn.append(letter[:200])
+    return subjects, torn
+
+
+def lock_of(path):
+    return path.with_name(f"{path.name}.lock")
+
+
+@contextlib.contextmanager
+def both_held(path):
+    """Both locks on the file that the path names. Neither is waited for with the other in hand."""
+    lock = lock_of(pathlib.Path(path))
+    while True:
+        with contextlib.suppress(FileExistsError, BlockingIOError, FileNotFoundError):
+            os.close(os.open(lock, os.O_CREAT | os.O_EXCL, 0o644))
+            try:
+                with open(path, "r+b") as file:
+                    fcntl.lockf(file, fcntl.LOCK_EX | fcntl.LOCK_NB)
+                    yield file
+                    return
+            finally:
+                lock.unlink()
+        time.sleep(0.005)

@@ -1,0 +1,72 @@
+"""A server is killed while it has a mailbox's lock file."""
+
+import os
+import random
+import threading
+import time
+
+import letters
+from cases import case, equal
+from clients import Client
+from server import Server
+
+LEFT = 10  # lock files that are to be left
+MOST_KILLS = 200
+
+
+@case
+def its_lock_file_is_gone(folder):
+    """SIGKILL under load until ten lock files were left: each is gone at the next start, mail goes on at once, and what
+    was told 250 is there once and whole"""
+    chance, told, left, empty = random.Random(1), [], 0, 0
+    lock = folder / "anna.mbox.lock"
+    for number in range(MOST_KILLS):
+        with Server(folder, ["anna"], 10) as server:
+            equal((number, lock.exists()), (number, False))
+            began = time.monotonic()
+            with Client(server.address).greet() as client:
+                told.append(f"after {number}")
+                equal(client.deliver(["anna"], told[-1])[1], ["250 2.0.0 Stored for anna"])
+                equal((time.monotonic() - began < 1, lock.exists()), (True, False))
+                client.quit()
+            if left == LEFT:
+                break
+            kill_under_load(server, number, told, chance.uniform(0.02, 0.1))
+            left += lock.exists()
+            if lock.exists() and not lock.read_text():
+                # it was killed before it wrote whose it is, which age alone can say then
+                then = time.time() - 400
+                os.utime(lock, (then, then))
+                empty += 1
+    found = letters.messages(folder / "anna.mbox")
+    times = {text: found.count(text.encode() + b"\n") for text in told}
+    equal([text for text, count in times.items() if count != 1], [])
+    print(f"{left} lock files left by {number} kills, {empty} of them empty, {len(told)} letters told")
+    equal(left, LEFT)
+
+
+its_lock_file_is_gone.seconds = 180
+
+
+def kill_under_load(server, number, told, after):
+    loads = [
+        threading.Thread(target=deliver, args=(server.address, f"{number}-{client}", told)) for client in range(4)
+    ]
+    for load in loads:
+        load.start()
+    time.sleep(after)
+    server.process.kill()
+    server.process.wait()
+    for load in loads:
+        load.join()
+
+
+def deliver(address, who, told):
+    """Delivers until the server is gone."""
+    try:
+        with Client(address).greet() as client:
+            for number in range(1_000_000):
+                if client.deliver(["anna"], f"{who}-{number}")[1] == ["250 2.0.0 Stored for anna"]:
+                    told.append(f"{who}-{number}")
+    except (OSError, AssertionError):
+        pass

@@ -1,0 +1,68 @@
+"""mutt as a user that deletes: a session on a terminal of its own, whose keys are given before it starts."""
+
+import os
+import pty
+import select
+import subprocess
+import time
+
+from packages import program
+
+# mutt asks its user after five tries of a second whether the lock file is to be removed; this user tries on.
+DOTLOCK = """#!/bin/sh
+for turn in 1 2 3 4 5 6; do
+    mutt_dotlock "$@"
+    status=$?
+    [ "$status" = 3 ] || exit "$status"
+done
+exit "$status"
+"""
+SETTINGS = "set delete=yes move=no quit=yes confirmappend=no confirmcreate=no sleep_time=0 record=''"
+
+
+class Mutt:
+    def __init__(self, home, how):
+        self.command = program("mutt", "mutt")
+        self.setsid = program("setsid", "util-linux")
+        self.home, self.how = home, how
+        self.dotlock = home / "dotlock"
+        self.dotlock.write_text(DOTLOCK)
+        self.dotlock.chmod(0o755)
+        # it asks for this folder first, where it isn't there
+        mails = home / "Mail"
+        mails.mkdir()
+        self.saved = home / "saved"
+
+    def delete(self, path, pattern, seconds=60):
+        """Saves the letters of that pattern elsewhere, deletes them, and leaves: what it saved. Whether they are
+        deleted is to be seen: it may not have got its locks."""
+        self.saved.unlink(missing_ok=True)
+        keys = f"<tag-pattern>{pattern}<enter><tag-prefix-cond><save-message>{self.saved}<enter><end-cond>"
+        given = ["-n", "-F", "/dev/null", "-e", f"{SETTINGS} dotlock_program={self.dotlock} folder={self.home}/Mail"]
+        # a user whose first try to write doesn't get its lock tries again
+        given += ["-e", f"push '{keys}{'<sync-mailbox>' * 5}<exit>'", "-f", str(path)]
+        environment = {"PATH": os.environ["PATH"], "HOME": str(self.home), "USER": "anna", "TERM": "xterm"}
+        main, side = pty.openpty()
+        words = [self.setsid, "--ctty", self.command, *given]
+        ends = {"stdin": side, "stdout": side, "stderr": side}
+        process = subprocess.Popen(words, env=environment | {"LINES": "24", "COLUMNS": "80"}, **ends, **self.how)
+        os.close(side)
+        try:
+            self.said = read_all(main, seconds)
+        finally:
+            os.close(main)
+            process.terminate()
+            self.status = process.wait(10)
+        return self.saved.read_bytes() if self.saved.exists() else b""
+
+
+def read_all(terminal, seconds):
+    """What is said on a terminal until its last program has left it."""
+    until, said = time.monotonic() + seconds, b""
+    while time.monotonic() < until:
+        if select.select([terminal], [], [], 0.2)[0]:
+            try:
+                said += os.read(terminal, 65_536)
+            except OSError:
+                return said
+    return said

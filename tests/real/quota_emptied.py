@@ -1,0 +1,45 @@
+"""A mailbox over its quota, from which a user deletes letters."""
+
+import subprocess
+
+from beside import Beside
+from cases import case, equal
+from clients import Client
+from mutt import Mutt
+from readers_delete import ByFormail
+
+QUOTA = 10_000
+LINES = ["x" * 70] * 10
+STORED, OVER = "250 2.0.0 Stored for anna", "452 4.2.2 Over quota for anna"
+
+
+@case
+def room_again(folder):
+    """a quota that was reached: as many letters are taken again as fit once mutt, and then a script with formail,
+    deleted some, with no restart"""
+    beside = Beside(folder, "--quota", QUOTA)
+    mutt = Mutt(beside.home, beside.how)
+    formail = ByFormail(beside, "formail")
+    refused = stored = number = 0
+    with beside.server(1, "--lanes", 1) as server, Client(server.address).greet() as client:
+        for delete in [None, "mutt", "formail", None]:
+            if delete == "mutt":
+                equal(mutt.delete(beside.path, "~s 0-[0-3]$").count(b"\nSubject: "), 4)
+            if delete == "formail":
+                there = beside.path.read_bytes().count(b"\nSubject: ")
+                equal(len(formail("formail")), there)
+            fitting = 0
+            while True:
+                before, number = beside.path.stat().st_size, number + 1
+                lines = [f"Subject: for-formail 0-{number - 1}", "", *LINES]
+                [final] = client.deliver(["anna"], *lines)[1]
+                if final != STORED:
+                    break
+                fitting, length = fitting + 1, beside.path.stat().st_size - before
+            equal((final, before <= QUOTA < before + length), (OVER, True))
+            equal((delete, fitting > 0), (delete, delete is not None or stored == 0))
+            stored, refused = stored + fitting, refused + 1
+        client.quit()
+        said, errors = [f"anna stored {stored}"], [f"lmtpd: anna over quota {refused}"]
+        equal(vars(server.end()), {"status": 0, "said": said, "errors": errors})
+    equal(subprocess.run([beside.program, "check", beside.path], stdout=subprocess.DEVNULL).returncode, 0)

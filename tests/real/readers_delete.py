@@ -1,0 +1,151 @@
+"""Users delete letters by Dovecot's IMAP, mutt, formail and Python, while four clients deliver without a pause."""
+
+import imaplib
+import re
+import subprocess
+import sys
+import threading
+import time
+
+from beside import MAIL, SECONDS, SUBJECT, Beside
+from cases import case, equal
+from dovecot import Dovecot
+from mutt import Mutt
+from packages import program
+
+LOCKS = ["mbox_read_locks = fcntl", "mbox_write_locks = fcntl dotlock"]  # Debian's
+# Of the first letters it cuts those of one reader, and writes the mailbox anew in its place.
+BY_FORMAIL = r"""
+cd "$3" || exit 1
+lockfile -1 -r 100 "$1.lock" || exit 0
+if [ -s "$1" ]; then
+    : > kept
+    formail -150 -s sh -c 'cat > one; if grep -q "^Subject: $0 " one; then cat one >> cut; else cat one >> kept; fi' \
+        "for-$2" < "$1"
+    formail +150 -s < "$1" >> kept
+    cat kept > "$1"
+fi
+rm -f "$1.lock"
+"""
+
+
+def subjects_of(text):
+    return [subject.decode() for subject in SUBJECT.findall(text)]
+
+
+class ByDovecot:
+    """A session, which stays until something is wrong with it."""
+
+    def __init__(self, beside, dovecot):
+        self.beside, self.dovecot, self.client = beside, dovecot, None
+
+    def __call__(self, who):
+        asked = []
+        try:
+            if self.client is None:
+                self.client = self.dovecot.login()
+                self.client.sock.settimeout(60)
+            self.client.select("INBOX")
+            _, [found] = self.client.uid("SEARCH", "SUBJECT", f'"for-{who} "')
+            chosen = b",".join(found.split()[:40]).decode()
+            if chosen:
+                _, parts = self.client.uid("FETCH", chosen, "(BODY.PEEK[HEADER.FIELDS (SUBJECT)])")
+                asked = subjects_of(b"\n".join(part[1].replace(b"\r", b"") for part in parts if len(part) == 2))
+                self.client.uid("STORE", chosen, "+FLAGS.SILENT", r"(\Deleted)")
+                self.client.uid("EXPUNGE", chosen)
+        except (imaplib.IMAP4.error, OSError):
+            self.client = None
+        time.sleep(0.05)
+        return self.beside.look(asked) if asked else []
+
+
+class ByMutt:
+    def __init__(self, beside):
+        self.beside, self.mutt = beside, Mutt(beside.home, beside.how)
+
+    def __call__(self, who):
+        saved = subjects_of(self.mutt.delete(self.beside.path, f"~s 'for-{who} '".replace("'", '"')))
+        time.sleep(0.05)
+        return self.beside.look(saved) if saved else []
+
+
+class ByFormail:
+    def __init__(self, beside, who):
+        for name in ["formail", "lockfile"]:
+            program(name, "procmail")
+        self.beside, self.place = beside, beside.made(beside.home / who)
+
+    def __call__(self, who):
+        words = ["sh", "-c", BY_FORMAIL, "sh", self.beside.path, who, self.place]
+        subprocess.run(words, check=True, timeout=300, **self.beside.how)
+        cut = self.place / "cut"
+        found = cut.read_bytes() if cut.exists() else b""
+        cut.unlink(missing_ok=True)
+        time.sleep(0.2)
+        return subjects_of(found)
+
+
+@case
+def dovecot_deletes(folder):
+    """two sessions of Dovecot's IMAP delete and expunge: each letter is there once, or was deleted once"""
+    beside = Beside(folder)
+    with Dovecot(folder, beside.path, *LOCKS) as dovecot:
+        readers = {who: ByDovecot(beside, dovecot) for who in ["one", "two"]}
+        beside.judge(beside.run(readers))
+
+
+@case
+def mutt_deletes(folder):
+    """mutt saves and deletes in a loop: each letter is there once, or was deleted once"""
+    beside = Beside(folder)
+    beside.judge(beside.run({"mutt": ByMutt(beside)}))
+
+
+@case
+def formail_deletes(folder):
+    """two scripts with lockfile and formail cut letters and write the rest in place: each letter is there once, or
+    was deleted once"""
+    beside = Beside(folder)
+    beside.judge(beside.run({who: ByFormail(beside, who) for who in ["one", "two"]}))
+
+
+@case
+def all_three_delete(folder):
+    """two sessions of Dovecot's IMAP, mutt and formail delete from one mailbox: each letter is there once, or was
+    deleted once"""
+    beside = Beside(folder)
+    with Dovecot(folder, beside.path, *LOCKS) as dovecot:
+        readers = {who: ByDovecot(beside, dovecot) for who in ["one", "two"]}
+        readers |= {"mutt": ByMutt(beside), "formail": ByFormail(beside, "formail")}
+        beside.judge(beside.run(readers))
+
+
+@case
+def python_deletes(folder):
+    """two scripts lock, remove and flush by Python's mailbox, which renames: each letter is there once, or was
+    deleted once"""
+    beside = Beside(folder, how={})
+    beside.judge(beside.run({who: ByPython(beside, who) for who in ["one", "two"]}))
+
+
+class ByPython:
+    def __init__(self, beside, who):
+        beside.path.touch()
+        self.beside = beside
+        script = re.sub(r"\w+\.py$", "reads_by_python.py", __file__)
+        ends = {"stdin": subprocess.PIPE, "stdout": subprocess.PIPE}
+        self.process = subprocess.Popen([sys.executable, "-B", script, beside.path, who], text=True, **ends)
+        threading.Thread(target=self.end).start()
+
+    def end(self):
+        self.beside.stop.wait()
+        self.process.stdin.close()
+
+    def __call__(self, who):
+        found = self.process.stdout.read().splitlines()
+        equal(self.process.wait(), 0)
+        return found
+
+
+for function in [dovecot_deletes, mutt_deletes, formail_deletes, all_three_delete, python_deletes]:
+    function.seconds = int(SECONDS) + 180
