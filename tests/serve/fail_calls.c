@@ -1,10 +1,10 @@
 // Has calls fail in a program that is started with this library preloaded: those on one mailbox, whose path ends with
-// FAIL_FILE, and on its lock file FAIL_FILE.lock (opening, looking at, its mode, locking, seeking, reading, writing,
-// syncing, cutting, removing), or, with FAIL_SOCKETS set, those on sockets (making, binding, listening, accepting,
-// their options, receiving, sending, shutting down). Counted from 1, the one of number FAIL_CALL fails with EIO, and
-// with FAIL_ALL set all later ones too. The file FAIL_TOLD, where it is named, is made once a call failed. The file
-// FAIL_LOG, where it is named, gets a line for each of these calls as it is made: its name, and `mailbox`, `lock` or
-// `socket`.
+// FAIL_FILE, on its lock file FAIL_FILE.lock, and on what that is linked from, FAIL_FILE.source.lock (opening, looking
+// at, its mode, its times, locking, seeking, reading, writing, syncing, cutting, linking, removing), or, with
+// FAIL_SOCKETS set, those on sockets (making, binding, listening, accepting, their options, receiving, sending,
+// shutting down). Counted from 1, the one of number FAIL_CALL fails with EIO, and with FAIL_ALL set all later ones too.
+// The file FAIL_TOLD, where it is named, is made once a call failed. The file FAIL_LOG, where it is named, gets a line
+// for each of these calls as it is made: its name, and `mailbox`, `lock`, `source` or `socket`.
 #define _GNU_SOURCE
 #include <dlfcn.h>
 #include <errno.h>
@@ -22,9 +22,9 @@
 
 enum { MOST = 1024 };
 
-enum { OTHER, MAILBOX, LOCK, SOCKET };
+enum { OTHER, MAILBOX, LOCK, SOURCE, SOCKET };
 
-static const char *const PLACES[] = {"other", "mailbox", "lock", "socket"};
+static const char *const PLACES[] = {"other", "mailbox", "lock", "source", "socket"};
 
 static atomic_int watched[MOST];
 static atomic_ulong calls;
@@ -75,21 +75,16 @@ static void watch(int descriptor, int place) {
     }
 }
 
-static int ends_with(const char *path, size_t length, const char *end, size_t size) {
-    return length >= size && memcmp(path + length - size, end, size) == 0;
+// Whether the path ends with the mailbox's and then this.
+static int is_at(const char *path, const char *end) {
+    const char *name = getenv("FAIL_FILE");
+    size_t length = strlen(path), size = name ? strlen(name) : 0, rest = strlen(end);
+    return size > 0 && length >= size + rest && memcmp(path + length - rest, end, rest) == 0 &&
+           memcmp(path + length - rest - size, name, size) == 0;
 }
 
 static int place_at(const char *path) {
-    const char *name = getenv("FAIL_FILE");
-    size_t length = strlen(path), size = name ? strlen(name) : 0, suffix = strlen(".lock");
-    if (size == 0) {
-        return OTHER;
-    }
-    if (ends_with(path, length, name, size)) {
-        return MAILBOX;
-    }
-    int is_lock = ends_with(path, length, ".lock", suffix) && ends_with(path, length - suffix, name, size);
-    return is_lock ? LOCK : OTHER;
+    return is_at(path, "") ? MAILBOX : is_at(path, ".lock") ? LOCK : is_at(path, ".source.lock") ? SOURCE : OTHER;
 }
 
 __attribute__((constructor)) static void begin(void) {
@@ -139,6 +134,8 @@ int fcntl(int file, int command, ...) {
 FAILING_AT(int, unlink, (const char *path), (path), place_at(path))
 FAILING_AT(int, statx, (int file, const char *path, int flags, unsigned mask, struct statx *into),
            (file, path, flags, mask, into), *path ? place_at(path) : place_of(file))
+FAILING_AT(int, link, (const char *from, const char *to), (from, to), place_at(to))
+FAILING(int, futimens, (int file, const struct timespec times[2]), (file, times), file)
 FAILING(int, ftruncate, (int file, off_t size), (file, size), file)
 FAILING(int, flock, (int file, int how), (file, how), file)
 FAILING(int, fchmod, (int file, mode_t mode), (file, mode), file)

@@ -20,6 +20,8 @@ LETTERS = 3
 BREAKING = ["write mailbox", "fdatasync mailbox"]
 # These on the lock file cost no copy: its name is the lock, and one that stays is removed by the next turn.
 HARMLESS = ["write lock", "unlink lock"]
+# These may cost that copy alone, or none: without a link the lock file is made, and what is looked at may be let go.
+LENIENT = ["statx lock", "link lock", "open source", "write source", "statx source", "futimens source"]
 MOST_CALLS = 200
 BOXES = ["anna", "ben", "carla"]
 
@@ -105,14 +107,15 @@ def turn_of(folder, server, number, given):
     is_left = (folder / "anna.mbox.lock").exists()
     turn = called(folder)[before:]
     failing = int(given["FAIL_CALL"]) - 1 - before
+    if failing < 0 and "FAIL_ALL" in given:
+        return "in use", answer == STORED, is_left
     if not 0 <= failing < len(turn):
         return "well", answer == STORED, is_left
     kept = "fdatasync mailbox" in turn[:failing]
     if turn[failing] in BREAKING and not kept:
         return "broken", answer == STORED, is_left
-    # what is looked at of its lock file may be let go
     is_harmless = kept or turn[failing] in HARMLESS and "FAIL_ALL" not in given
-    is_harmless = is_harmless or turn[failing] == "statx lock" and answer == STORED
+    is_harmless = is_harmless or turn[failing] in LENIENT and answer == STORED
     return "harmless" if is_harmless else "in use", answer == STORED, is_left
 
 
@@ -124,7 +127,7 @@ def check_turns(turns, came_to, is_for_good):
         if number > at and (is_for_good or came_to == "broken"):
             is_wanted = False
         equal((number, is_stored), (number, is_wanted))
-        may_be_left = is_for_good and number >= at or number == at and came_to == "harmless"
+        may_be_left = is_for_good and number >= at or number == at and came_to == "harmless" and is_stored
         assert may_be_left or not is_left, f"a lock file is left after letter {number}"
 
 
