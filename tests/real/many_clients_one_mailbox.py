@@ -56,4 +56,4 @@ def users_get_their_turns(folder):
     assert len(took) == 2 and max(took.values()) < WITHIN, took
 
 
-users_get_their_turns.seconds = 180
+users_get_their_turns.seconds = 300

@@ -8,13 +8,12 @@ import time
 
 from packages import program
 
-# mutt asks its user after five tries of a second whether the lock file is to be removed; this user tries on.
+# After five tries of a second mutt asks its user whether the lock file is to be removed; this user says no, which to
+# mutt is as if the lock couldn't be had for another cause.
 DOTLOCK = """#!/bin/sh
-for turn in 1 2 3 4 5 6; do
-    mutt_dotlock "$@"
-    status=$?
-    [ "$status" = 3 ] || exit "$status"
-done
+mutt_dotlock "$@"
+status=$?
+[ "$status" != 3 ] || status=1
 exit "$status"
 """
 SETTINGS = "set delete=yes move=no quit=yes confirmappend=no confirmcreate=no sleep_time=0 record=''"
@@ -33,7 +32,7 @@ class Mutt:
         mails.mkdir()
         self.saved = home / "saved"
 
-    def delete(self, path, pattern, seconds=60):
+    def delete(self, path, pattern, seconds=100):
         """Saves the letters of that pattern elsewhere, deletes them, and leaves: what it saved. Whether they are
         deleted is to be seen: it may not have got its locks."""
         self.saved.unlink(missing_ok=True)
@@ -48,21 +47,21 @@ class Mutt:
         process = subprocess.Popen(words, env=environment | {"LINES": "24", "COLUMNS": "80"}, **ends, **self.how)
         os.close(side)
         try:
-            self.said = read_all(main, seconds)
+            read_all(main, seconds)
         finally:
             os.close(main)
+            # never killed: it may be writing
             process.terminate()
-            self.status = process.wait(10)
+            process.wait(60)
         return self.saved.read_bytes() if self.saved.exists() else b""
 
 
 def read_all(terminal, seconds):
-    """What is said on a terminal until its last program has left it."""
-    until, said = time.monotonic() + seconds, b""
+    """Takes what is said on a terminal until its last program has left it."""
+    until = time.monotonic() + seconds
     while time.monotonic() < until:
         if select.select([terminal], [], [], 0.2)[0]:
             try:
-                said += os.read(terminal, 65_536)
+                os.read(terminal, 65_536)
             except OSError:
-                return said
-    return said
+                return
