@@ -108,6 +108,7 @@ def turn_of(folder, server, number, given):
     turn = called(folder)[before:]
     failing = int(given["FAIL_CALL"]) - 1 - before
     if failing < 0 and "FAIL_ALL" in given:
+        # the first call that failed is an earlier one, maybe one of the start that costs no mailbox
         return "in use", answer == STORED, is_left
     if not 0 <= failing < len(turn):
         return "well", answer == STORED, is_left
