@@ -1,5 +1,6 @@
 """Mailboxes that Postfix and Dovecot wrote, and what becomes of them here: 'Moving a mailbox' in docs/OPERATING.md."""
 
+import contextlib
 import os
 import pathlib
 import re
@@ -90,8 +91,11 @@ def dovecot_writes_into_ours(folder):
     mail = folder / "mail"
     mail.mkdir()
     path = mail / "anna.mbox"
-    with Server(mail, ["anna"], 100, "--lanes", 1) as server, Dovecot(folder, path) as dovecot:
+    with contextlib.ExitStack() as running:
+        server = running.enter_context(Server(mail, ["anna"], 100, "--lanes", 1))
+        # before the file is the reader's, from when on a server that runs as root refuses it
         deliver_to(server)
+        dovecot = running.enter_context(Dovecot(folder, path))
         before = path.read_text()
         os.chown(path, 0, 8)
         path.chmod(0o640)
@@ -120,11 +124,14 @@ def names_behind(path, before):
 
 
 @case
-def locks_that_are_not_ours(folder):
-    """Postfix and Dovecot lock by fcntl, which keeps none from our files; by flock they wait while a server runs"""
+def locks_that_others_take(folder):
+    """Postfix and Dovecot lock by fcntl and the lock file where nobody says otherwise, and then wait for our turns"""
     program("postconf", "postfix")
     for name in ["mailbox_delivery_lock", "virtual_mailbox_lock"]:
         equal(said_by("postconf", "-d", name), f"{name} = fcntl, dotlock\n")
+    program("doveconf", "dovecot-core")
+    for kind, locks in [("read", "fcntl"), ("write", "fcntl dotlock")]:
+        equal(said_by("doveconf", "-d", f"mbox_{kind}_locks"), f"mbox_{kind}_locks = {locks}\n")
     folder.chmod(0o755)
     mail = folder / "mail"
     mail.mkdir()
@@ -132,16 +139,15 @@ def locks_that_are_not_ours(folder):
         path = server.mailbox("anna")
         for place in [mail, path]:
             os.chown(place, 8, 8)
-        for locks, fate in [("fcntl", "sent"), ("flock", "deferred")]:
-            more = [f"virtual_mailbox_base = {mail}", "virtual_mailbox_maps = static:anna.mbox"]
-            more += [f"virtual_mailbox_lock = {locks}", "deliver_lock_attempts = 2"]
-            with Postfix(folder / locks, *SITE, *more) as postfix:
-                postfix.send(["anna@mx.example"], message(locks))
-                equal((locks, postfix.fate("anna@mx.example")[0]), (locks, fate))
-        for locks, answer in [("fcntl", "OK"), ("flock", "NO")]:
-            more = [f"mbox_{kind}_locks = {locks}" for kind in ["read", "write"]]
-            with Dovecot(folder / locks, path, *more, "mbox_lock_timeout = 2s") as dovecot, dovecot.login() as client:
-                equal((locks, client.select("INBOX")[0]), (locks, answer))
+        more = [f"virtual_mailbox_base = {mail}", "virtual_mailbox_maps = static:anna.mbox"]
+        with Postfix(folder, *SITE, *more, "deliver_lock_attempts = 2") as postfix:
+            postfix.send(["anna@mx.example"], message("one"))
+            equal(postfix.fate("anna@mx.example")[0], "sent")
+            # as it stands there in the middle of a turn
+            (mail / "anna.mbox.lock").write_text(f"{os.getpid()}:{os.uname().nodename}\n")
+            postfix.send(["anna@mx.example"], message("two"))
+            equal(postfix.fate("anna@mx.example", 2)[0], "deferred")
+        equal(checked(path), "letters 1")
 
 
 def filled_by_postfix(folder):

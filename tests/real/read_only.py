@@ -1,5 +1,6 @@
 """A mailbox on a file system that goes read-only."""
 
+import contextlib
 import subprocess
 
 import letters
@@ -21,9 +22,8 @@ def a_file_system_gone_read_only(folder):
         file.truncate(SIZE)
     subprocess.run([program("mkfs.ext4", "e2fsprogs"), "-q", "-F", disk], check=True)
     mail.mkdir()
-    (mail / "anna.mbox").symlink_to(folder / "other" / "anna.mbox")
-    with mounted(disk, folder / "other") as other:
-        (other / "anna.mbox").touch()
+    (mail / "anna.mbox").touch()
+    with mounted(disk, folder / "other") as other, in_place_of(mail / "anna.mbox", other / "anna.mbox"):
         with Server(mail, ["anna", "ben"], 100, "--lanes", 2) as server:
             equal(deliver_one(server.address, ["anna", "ben"], "one"), STORED)
             go_read_only(other)
@@ -32,11 +32,22 @@ def a_file_system_gone_read_only(folder):
                 equal(finals, ["451 4.3.0 Not stored for anna", STORED[1]])
         ended = run(words(mail, ["anna", "ben"], 1))
         equal(vars(ended), {"status": 1, "said": [], "errors": ["lmtpd: cannot open anna.mbox"]})
-    with mounted(disk, folder / "other"):
+    with mounted(disk, folder / "other") as other, in_place_of(mail / "anna.mbox", other / "anna.mbox"):
         with Server(mail, ["anna", "ben"], 100) as server:
             equal(deliver_one(server.address, ["anna", "ben"], "four"), STORED)
             equal(letters.messages(server.mailbox("anna")), [b"one\n", b"four\n"])
             equal(letters.messages(server.mailbox("ben")), [b"one\n", b"two\n", b"three\n", b"four\n"])
+
+
+@contextlib.contextmanager
+def in_place_of(path, other):
+    """The path names that other file, which may be on another file system."""
+    other.touch()
+    subprocess.run(["mount", "--bind", other, path], check=True)
+    try:
+        yield
+    finally:
+        subprocess.run(["umount", path], check=True)
 
 
 def go_read_only(path):
