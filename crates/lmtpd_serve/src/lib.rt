@@ -1,6 +1,7 @@
 //! A server's run over a listener and spools, and what it says of it.
 #![tactic(auto)]
 
+mod busy;
 mod conversations;
 mod lines;
 mod run;

@@ -8,10 +8,10 @@ ghost use Rattle.lmtp_house.specs.House.{IsSize};
 ghost use Rattle.lmtpd_log.specs.Logged.{visits_in};
 ghost use Rattle.lmtpd_serve.specs.Served.{IsServerRun};
 
+use super::busy::RestGate;
 use super::conversations::Conversations;
 use super::lines::{address_line, write_counts};
 use super::served::{Served, ServerEnding};
-use box_worker::OpenGate;
 use lmtp_house::{
     HouseFault, Sizes, SystemClock, Tally, has_failed, is_size, run_house, tcp_visits,
 };
@@ -61,7 +61,7 @@ where
         return Err(HouseFault::Size);
     }
     let served_site = Arc::try_clone(&site)?;
-    let gates = vec![in alloc; OpenGate; spools.len()]?;
+    let gates = vec![in alloc; RestGate::new(rt); spools.len()]?;
     let announced = announce(alloc, &listener, &mut writer)?;
     let visits = visits_of(rt, alloc, conversations, listener, log)?;
     let clock = SystemClock::new(rt);
