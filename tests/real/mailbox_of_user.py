@@ -12,7 +12,7 @@ from server import Server
 
 # Users of no other purpose; both are in group mail besides.
 ANNA, SERVER = 61_001, 61_002
-SECONDS = 20
+SECONDS = 60
 
 
 def as_user(number):
@@ -64,4 +64,4 @@ def spool_of_mail(spool):
     return group
 
 
-a_readers_own.seconds = 120
+a_readers_own.seconds = 240
