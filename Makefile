@@ -14,7 +14,8 @@ rehearse:
 	    cd crates/lmtpd && rt try -- $$(cat args) < stdin; \
 	fi
 
-# Proves all and builds the program, which takes some minutes the first time; only a proved crate is built.
+# Proves all and builds the program, one crate after the other: half an hour to an hour the first time. Only a proved
+# crate is built.
 build:
 	cd crates/lmtpd && rt run -- $$(cat args) < stdin > /dev/null
 

@@ -12,7 +12,7 @@ from server import Server
 
 # Users of no other purpose; both are in group mail besides.
 ANNA, SERVER = 61_001, 61_002
-SECONDS = 60
+SECONDS = 45  # so that it rests twice meanwhile
 
 
 def as_user(number):

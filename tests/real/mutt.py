@@ -16,6 +16,8 @@ status=$?
 [ "$status" != 3 ] || status=1
 exit "$status"
 """
+# A mailbox without letters has mutt drop the keys that it was given, and it waits for others.
+EMPTY, LEAVE = b"There are no messages", b"x"
 SETTINGS = "set delete=yes move=no quit=yes confirmappend=no confirmcreate=no sleep_time=0 record=''"
 
 
@@ -47,7 +49,7 @@ class Mutt:
         process = subprocess.Popen(words, env=environment | {"LINES": "24", "COLUMNS": "80"}, **ends, **self.how)
         os.close(side)
         try:
-            read_all(main, seconds)
+            attend(main, seconds)
         finally:
             os.close(main)
             # never killed: it may be writing
@@ -56,12 +58,16 @@ class Mutt:
         return self.saved.read_bytes() if self.saved.exists() else b""
 
 
-def read_all(terminal, seconds):
-    """Takes what is said on a terminal until its last program has left it."""
+def attend(terminal, seconds):
+    """Takes what is said on a terminal until its last program has left it, and has one leave that found no letters."""
     until = time.monotonic() + seconds
+    said = b""
     while time.monotonic() < until:
         if select.select([terminal], [], [], 0.2)[0]:
             try:
-                os.read(terminal, 65_536)
+                said = said[-len(EMPTY) :] + os.read(terminal, 65_536)
             except OSError:
                 return
+            if EMPTY in said:
+                os.write(terminal, LEAVE)
+                said = b""
