@@ -1,11 +1,14 @@
 """Real clients deliver, and other programs read what is in the mailboxes."""
 
+import calendar
 import os
+import re
 import shutil
 import smtplib
 import socket
 import stat
 import subprocess
+import time
 from concurrent.futures import ThreadPoolExecutor
 
 import letters
@@ -208,3 +211,19 @@ def lanes_share_a_quota(folder):
     told_stored = told.count("250 2.0.0 Stored for anna")
     equal((told_stored, told.count("452 4.2.2 Over quota for anna")), (count, count))
     equal((len(letters.read(mailbox)), len(mailbox.read_bytes())), (count, count * size))
+
+
+@case
+def dated_by_the_clock(folder):
+    """a letter's From line and its Received line have the moment of the system's clock as it was delivered"""
+    with Server(folder, ["anna"], 1) as server:
+        before = int(time.time())
+        equal(deliver_one(server.address, ["anna"], "hello"), ["250 2.0.0 Stored for anna"])
+        after = int(time.time())
+        server.end()
+        text = server.mailbox("anna").read_text()
+    from_line = text.splitlines()[0].removeprefix("From carl@a.example ")
+    received = re.search(r"^\t(.*) \+0000$", text, re.MULTILINE)[1]
+    for shown, form in [(from_line, "%a %b %d %H:%M:%S %Y"), (received, "%a, %d %b %Y %H:%M:%S")]:
+        moment = calendar.timegm(time.strptime(shown, form))
+        equal((shown, before <= moment <= after), (shown, True))

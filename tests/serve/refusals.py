@@ -24,9 +24,10 @@ ROWS = [
     (2, "too many boxes", "mx.example", GOOD, [], [*MANY, "box1"]),
     (2, "box named twice", "mx.example", GOOD, ["--lanes", 65], ["anna", "ben", "anna"]),
 ]
-# Where the folder has a folder in anna's place, and PORT is taken.
+# Where the folder has folders in anna's and dora's place, and PORT is taken.
 LATER_ROWS = [
     ("cannot open anna.mbox", "PORT", ["--lanes", 65], ["ben", "anna", "carl"]),
+    ("cannot open dora.mbox", "PORT", ["--lanes", 65], ["ben", "dora", "anna"]),
     ("cannot listen", "PORT", ["--lanes", 65], ["ben"]),
     ("size", GOOD, ["--lanes", 65], ["ben"]),
     ("size", GOOD, ["--lanes", 0], ["ben"]),
@@ -98,11 +99,12 @@ def the_words_in_order(folder):
 def what_the_machine_refuses(folder):
     """a file, then the port, then a size that can't be used: one line, status 1"""
     (folder / "anna.mbox").mkdir()
+    (folder / "dora.mbox").mkdir()
     listener, port = taken_port()
     with listener:
         for line, listen, more, boxes in LATER_ROWS:
             wants(words(folder, boxes, 1, *more, listen=listen.replace("PORT", f"127.0.0.1:{port}")), 1, line)
-    equal(sorted(path.name for path in folder.iterdir()), ["anna.mbox", "ben.mbox"])
+    equal(sorted(path.name for path in folder.iterdir()), ["anna.mbox", "ben.mbox", "dora.mbox"])
 
 
 @case

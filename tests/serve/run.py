@@ -3,6 +3,7 @@
 import sys
 
 import changed  # noqa: F401  (each adds its cases)
+import closed  # noqa: F401
 import conversations  # noqa: F401
 import deliveries  # noqa: F401
 import failing  # noqa: F401
