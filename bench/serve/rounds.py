@@ -30,15 +30,16 @@ class Work:
     # Of all but Dovecot so many times as many messages, so that no run is too short to tell. A mailbox that
     # grows costs Dovecot time, so the smaller number is in its favour.
     times: int
-    wanted: dict = field(default_factory=dict)  # the least ratio of ours to a peer
+    # The least ratio of ours to a peer. `before` is the program that had its mailboxes locked for its whole run.
+    wanted: dict = field(default_factory=dict)
 
 
 WORKS = {
-    "a": Work(4, 500, 1, 2048, 4, 5, {"dovecot": 5, "smtp-sink": 0.8}),
-    "a1": Work(4, 500, 1, 2048, 1, 5, {"dovecot": 10}),
-    "b": Work(4, 100, 10, 20480, 40, 3, {"dovecot": 5}),
+    "a": Work(4, 500, 1, 2048, 4, 5, {"dovecot": 5, "smtp-sink": 0.8, "before": 0.8}),
+    "a1": Work(4, 500, 1, 2048, 1, 5, {"dovecot": 8, "before": 0.65}),
+    "b": Work(4, 100, 10, 20480, 40, 3, {"dovecot": 5, "before": 0.8}),
     "b10": Work(4, 100, 10, 20480, 10, 3, {"dovecot": 10}),
-    "c": Work(1, 20, 1, 1048576, 1, 5, {"dovecot": 2.5}),
+    "c": Work(1, 20, 1, 1048576, 1, 5, {"dovecot": 2.5, "before": 0.9}),
     "c4": Work(4, 10, 1, 1048576, 4, 3),
 }
 WANTED_SLOW = {"a": {"floor": 0.9}}
