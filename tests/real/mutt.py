@@ -16,8 +16,9 @@ status=$?
 [ "$status" != 3 ] || status=1
 exit "$status"
 """
-# A mailbox without letters has mutt drop the keys that it was given, and it waits for others.
-EMPTY, LEAVE = b"There are no messages", b"x"
+# A mailbox without letters, or one that another program wrote anew, has mutt drop the keys that it was given, and it
+# waits for others.
+DROPS, LEAVE = (b"There are no messages", b"externally modified"), b"x"
 SETTINGS = "set delete=yes move=no quit=yes confirmappend=no confirmcreate=no sleep_time=0 record=''"
 
 
@@ -59,15 +60,15 @@ class Mutt:
 
 
 def attend(terminal, seconds):
-    """Takes what is said on a terminal until its last program has left it, and has one leave that found no letters."""
+    """Takes what is said on a terminal until its last program has left it, and has one leave that dropped its keys."""
     until = time.monotonic() + seconds
     said = b""
     while time.monotonic() < until:
         if select.select([terminal], [], [], 0.2)[0]:
             try:
-                said = said[-len(EMPTY) :] + os.read(terminal, 65_536)
+                said = said[-100:] + os.read(terminal, 65_536)
             except OSError:
                 return
-            if EMPTY in said:
+            if any(text in said for text in DROPS):
                 os.write(terminal, LEAVE)
                 said = b""
