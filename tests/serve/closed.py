@@ -22,9 +22,13 @@ def closed_streams(folder):
         listener.close()
         given = words(place, ["anna", "ben"], 1, "--lanes", 1, "--log", "info", listen=f"127.0.0.1:{port}")
         command = ["sh", "-c", f'exec "$@" {closed}', "sh", os.environ["LMTPD"], *given]
-        with subprocess.Popen(command, stdout=subprocess.DEVNULL, stderr=subprocess.DEVNULL) as process:
+        process = subprocess.Popen(command, stdout=subprocess.DEVNULL, stderr=subprocess.DEVNULL)
+        try:
             finals = deliver_soon(("127.0.0.1", port))
             process.wait(20)
+        finally:
+            process.kill()
+            process.wait()
         equal((closed, finals), (closed, ["250 2.0.0 Stored for anna"]))
         equal((closed, letters.messages(place / "anna.mbox")), (closed, [b"hello\n"]))
         equal((closed, (place / "ben.mbox").read_bytes()), (closed, b""))
