@@ -30,9 +30,9 @@ module _ (calendar : Calendar) (host : List ℕ) (note : Note) where
   torn_more [] torn e = record { rest = text; whole = ap (λ (l : List ℕ). l ++ text) (sym e) }
   torn_more (x ∷ rest) torn h = h
 
-  torn_at_more : (held : List ℕ) (copies : List Note) (n : ℕ) (bytes : List ℕ) → n ≤ length copies
-      → IsTornAt calendar host held copies n bytes → IsTornAt calendar host held (copies ++ note ∷ []) n bytes
-  torn_at_more held copies n bytes within h = elim h [
+  torn_at_more : (held : List ℕ) (copies : List Note) (n settled : ℕ) (bytes : List ℕ) → n ≤ length copies
+      → IsTornAt calendar host held copies n settled bytes → IsTornAt calendar host held (copies ++ note ∷ []) n settled bytes
+  torn_at_more held copies n settled bytes within h = elim h [
     | inl some ↦ inl (
       some.0,
       omega (arith, some.1, one_more copies note),
@@ -60,13 +60,13 @@ module _ (calendar : Calendar) (host : List ℕ) (note : Note) where
       let same : bytes ≡ mailbox calendar host held copies = cc in
       c ∙ ap length same ∙ ap (λ (l : List Note). length (mailbox calendar host held l)) (sym (take_all n copies (omega arith)))
 
-  torn_first : (u v w : Option (List ℕ)) (copies : List Note) (n : ℕ) (front rest : List ℕ) → n ≡ length copies → text ≡ front ++ rest
+  torn_first : (u v w : Option (List ℕ)) (copies : List Note) (n settled : ℕ) (front rest : List ℕ) → n ≡ length copies → text ≡ front ++ rest
       → IfSome u (λ held. v ≡ Some (mailbox calendar host held copies)) → Appends v w front
-      → IfSome u (λ held. IfSome w (λ bytes. IsTornAt calendar host held (copies ++ note ∷ []) n bytes))
-  torn_first None v w copies n front rest all is e a = tt
-  torn_first (Some held) None w copies n front rest all is e a = cc
-  torn_first (Some held) (Some ys) None copies n front rest all is e a = absurd a
-  torn_first (Some held) (Some ys) (Some zs) copies n front rest all is e a =
+      → IfSome u (λ held. IfSome w (λ bytes. IsTornAt calendar host held (copies ++ note ∷ []) n settled bytes))
+  torn_first None v w copies n settled front rest all is e a = tt
+  torn_first (Some held) None w copies n settled front rest all is e a = cc
+  torn_first (Some held) (Some ys) None copies n settled front rest all is e a = absurd a
+  torn_first (Some held) (Some ys) (Some zs) copies n settled front rest all is e a =
       let before : ys ≡ mailbox calendar host held copies = cc in
       let taken : take n (copies ++ note ∷ []) ≡ copies = take-append-le n copies (note ∷ []) (omega arith) ∙ take_all n copies (omega arith) in
       let left : drop n (copies ++ note ∷ []) ≡ note ∷ [] = drop-append-le n copies (note ∷ []) (omega arith) ∙ ap (λ (l : List Note). l ++ note ∷ []) (drop_all n copies (omega arith)) in
@@ -78,12 +78,12 @@ module _ (calendar : Calendar) (host : List ℕ) (note : Note) where
         subst P (sym left) (record { rest = rest; whole = is }),
       )
 
-  torn_later : (u w : Option (List ℕ)) (copies : List Note) (n : ℕ) → n ≤ length copies
-      → IfSome u (λ held. IfSome w (λ bytes. IsTornAt calendar host held copies n bytes))
-      → IfSome u (λ held. IfSome w (λ bytes. IsTornAt calendar host held (copies ++ note ∷ []) n bytes))
-  torn_later None w copies n within h = tt
-  torn_later (Some held) None copies n within h = tt
-  torn_later (Some held) (Some bytes) copies n within h = torn_at_more held copies n bytes within h
+  torn_later : (u w : Option (List ℕ)) (copies : List Note) (n settled : ℕ) → n ≤ length copies
+      → IfSome u (λ held. IfSome w (λ bytes. IsTornAt calendar host held copies n settled bytes))
+      → IfSome u (λ held. IfSome w (λ bytes. IsTornAt calendar host held (copies ++ note ∷ []) n settled bytes))
+  torn_later None w copies n settled within h = tt
+  torn_later (Some held) None copies n settled within h = tt
+  torn_later (Some held) (Some bytes) copies n settled within h = torn_at_more held copies n settled bytes within h
 
   covered_later : (u : Option (List ℕ)) (copies : List Note) (n synced now : ℕ) → n ≤ length copies → now ≡ synced
       → IfSome u (λ held. synced ≡ length (mailbox calendar host held (take n copies)))
@@ -126,7 +126,7 @@ module _ (calendar : Calendar) (host : List ℕ) (note : Note) where
           limited = y.limited ∙ x.limited;
           full = λ e. y.full;
           whole = λ e. absurd (true≢false e);
-          torn = λ e. torn_first old.bytes s.bytes t.bytes copies n y.front y.rest all y.whole (x.whole refl) y.appended;
+          torn = λ e. torn_first old.bytes s.bytes t.bytes copies n (n + over) y.front y.rest all y.whole (x.whole refl) y.appended;
           covered = λ some. covered_later old.bytes copies n s.synced t.synced (omega arith) y.covered (x.covered some);
           unsynced = λ none. y.covered ∙ x.unsynced none;
           kept = λ e. absurd (true≢false e);
@@ -146,7 +146,7 @@ module _ (calendar : Calendar) (host : List ℕ) (note : Note) where
           limited = x.limited;
           full = x.full;
           whole = λ e. absurd (true≢false e);
-          torn = λ e. torn_later old.bytes s.bytes copies n within (x.torn e);
+          torn = λ e. torn_later old.bytes s.bytes copies n (n + over) within (x.torn e);
           covered = λ some. covered_later old.bytes copies n s.synced s.synced within refl (x.covered some);
           unsynced = x.unsynced;
           kept = λ e. absurd (true≢false e);
@@ -162,7 +162,7 @@ module _ (calendar : Calendar) (host : List ℕ) (note : Note) where
       limited = x.limited;
       full = x.full;
       whole = x.whole;
-      torn = x.torn;
+      torn = λ e. absurd (true≢false (sym e));
       covered = x.covered;
       unsynced = x.unsynced;
       kept = x.kept;

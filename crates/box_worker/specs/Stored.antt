@@ -76,12 +76,12 @@ Tallies Stored old new = (new.stored ≡ counted (old.stored + 1)) × (new.over 
 Tallies OverQuota old new = (new.stored ≡ old.stored) × (new.over ≡ counted (old.over + 1))
 Tallies _ old new = (new.stored ≡ old.stored) × (new.over ≡ old.over)
 
--- What a spool that held these bytes holds once its worker failed: the first notes' records and a front of that of the
--- next one, which is lost, or a front of what mending wants.
-abbrev pub IsTornAt : Calendar → List ℕ → List ℕ → List Note → ℕ → List ℕ → Type 0
-IsTornAt calendar host old notes stored bytes =
+-- What a spool that held these bytes holds once its worker failed: the first notes' records and a prefix of that of the
+-- next one, which is lost, or, where no copy was settled, a prefix of what mending adds.
+abbrev pub IsTornAt : Calendar → List ℕ → List ℕ → List Note → ℕ → ℕ → List ℕ → Type 0
+IsTornAt calendar host old notes stored settled bytes =
     ((torn : List ℕ) × (stored < length notes) × (bytes ≡ mailbox calendar host old (take stored notes) ++ torn) × IsTorn calendar host (drop stored notes) torn)
-    ⊎ ((front : List ℕ) × (stored ≡ 0) × (bytes ≡ old ++ front) × IsFront front (mended old))
+    ⊎ ((front : List ℕ) × (settled ≡ 0) × (bytes ≡ old ++ front) × IsFront front (mended old))
 
 -- A spool took the records of the first of these notes, as many as are stored: of all of them unless it failed, and one
 -- with a limit that failed is full. The last good sync covers them and nothing behind them, and where none is stored
@@ -95,7 +95,7 @@ pub record HasStored (calendar : Calendar) (host : List ℕ) (notes : List Note)
   pub limited : new.state.limit ≡ old.limit
   pub full : new.faulty ≡ true → IsFull new.state.limit new.state.bytes
   pub whole : new.faulty ≡ false → IfSome old.bytes (λ held. new.state.bytes ≡ Some (mailbox calendar host held notes))
-  pub torn : new.faulty ≡ true → IfSome old.bytes (λ held. IfSome new.state.bytes (λ bytes. IsTornAt calendar host held notes new.stored bytes))
+  pub torn : new.faulty ≡ true → IfSome old.bytes (λ held. IfSome new.state.bytes (λ bytes. IsTornAt calendar host held notes new.stored (new.stored + new.over) bytes))
   pub covered : 0 < new.stored → IfSome old.bytes (λ held. new.state.synced ≡ length (mailbox calendar host held (take new.stored notes)))
   pub unsynced : new.stored ≡ 0 → new.state.synced ≡ old.synced
   -- no append stands after the last sync

@@ -7,4 +7,5 @@ pub mod Steps
 pub mod Turns
 pub mod Script
 pub mod ReadBuffer
+pub mod Silence
 pub mod TcpPeer

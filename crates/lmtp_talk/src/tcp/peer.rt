@@ -7,7 +7,7 @@ use crate::peer::{Came, Peer, PeerFault};
 use crate::tcp::drain::close;
 use crate::tcp::read_buffer::ReadBuffer;
 use crate::tcp::retry::{is_silence, write_some};
-use std::io::{Read, Write};
+use std::io::{Error, Read, Write};
 use std::net::OpenStream;
 
 /// A client whose bytes come and go over a stream. What the system has for it is read at once, as far as the
@@ -26,7 +26,10 @@ pub struct TcpPeer<T> {
 }
 
 impl<T> TcpPeer<T> {
+    ghost use Rattle.std.specs.Prelude.{⊥};
+    ghost use Rattle.std.specs.IoError.{error_kind};
     ghost use Rattle.mail_world.specs.Failures.{Rises};
+    ghost use Rattle.lmtp_talk.specs.Silence.{IsSilence};
     ghost use Rattle.lmtp_talk.specs.TcpPeer.{IsNew};
 
     /// A client of whom so many reads may be made.
@@ -70,6 +73,22 @@ impl<T> TcpPeer<T> {
         self.failures = self.failures.saturating_add(1);
         PeerFault
     }
+
+    // What the client did whose stream gave that error: one that was silent for the stream's time has the server stop,
+    // any other error is a failure.
+    fn answer(&mut self, error: &Error) -> Result<Came, PeerFault>
+        ensures stops { IfOk result (λ came. (came ≡ Came.Stop) × IsSilence (error_kind error.now)
+            × Rises self.old.stops self.new.stops × (self.new ≡ record self.old { stops = self.new.stops })) }
+        ensures fails { OnErr result ((IsSilence (error_kind error.now) → ⊥)
+            × Rises self.old.failures self.new.failures
+            × (self.new ≡ record self.old { failures = self.new.failures })) }
+    {
+        if is_silence(error) {
+            Ok(self.stop())
+        } else {
+            Err(self.fail())
+        }
+    }
 }
 
 impl<T: Read> TcpPeer<T> {
@@ -90,8 +109,7 @@ impl<T: Read> TcpPeer<T> {
         match self.buffer.refill(&mut self.stream) {
             Ok(0) => Ok(Some(Came::End)),
             Ok(_) => Ok(None),
-            Err(error) if is_silence(&error) => Ok(Some(self.stop())),
-            Err(_) => Err(self.fail()),
+            Err(error) => Ok(Some(self.answer(&error)?)),
         }
     }
 }

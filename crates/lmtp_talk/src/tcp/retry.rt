@@ -1,8 +1,10 @@
 //! Reads and writes that are made again where a signal interrupted them.
 
-ghost use Rattle.std.specs.Prelude.{◌≡◌, ◌<◌, length, take, IfOk, OnErr};
+ghost use Rattle.std.specs.Prelude.{◌≡◌, ◌<◌, length, take, IfOk, OnErr, IsTrue, ◌↔◌};
 ghost use Rattle.std.specs.Io.{ReadsAtMost, WritesAtMost};
 ghost use Rattle.std.specs.Io.KnownBytes.{Keeps, ReadConsumes};
+ghost use Rattle.std.specs.IoError.{error_kind};
+ghost use Rattle.lmtp_talk.specs.Silence.{IsSilence};
 
 use std::io;
 use std::io::{Error, ErrorKind, Read, Write};
@@ -41,6 +43,8 @@ pub fn write_some<T: Write>(stream: &mut T, bytes: &[u8]) -> io::Result<usize>
 }
 
 /// Whether a call was given up because nothing happened within the stream's time.
-pub fn is_silence(error: &Error) -> bool {
+pub fn is_silence(error: &Error) -> bool
+    ensures { IsTrue result ↔ IsSilence (error_kind error.now) }
+{
     matches!(error.kind(), ErrorKind::WouldBlock | ErrorKind::TimedOut)
 }

@@ -1,0 +1,53 @@
+#!/usr/bin/env bash
+# Wrong bodies that types alone refuse: tried on a copy of the crates, none compiles, and the compiler says why.
+# - Only the keeper's module can make a NoRoom, so a depot can only hand on the keeper's.
+# - A hold is split and released without the depot's lock: that asks for a runtime that may wait, and neither has one.
+# - A worker tells a lane of a copy only once it has given the copy's hold back, and tells it then: a body that tells
+#   first, one that sends a slip past `tell`, and one that doesn't tell.
+set -euo pipefail
+cd "$(dirname "$0")/.."
+. tests/needs python3
+folder=$(mktemp -d)
+trap 'rm -rf "$folder"' EXIT
+
+mkdir "$folder/crates"
+cp HANDLES crates.txt "$folder/"
+for crate in mail_world lmtp_text mbox_rd block_arena msg_depot mail_post box_worker; do
+    cp -a "crates/$crate" "$folder/crates/"
+    grep -E "^$crate( |:)" crates.txt
+done > "$folder/crates.txt"
+
+# refuses CRATE MODULE OLD NEW WHY: with NEW in the place of OLD the module doesn't compile, and the compiler says why.
+refuses() {
+    cd "$folder/crates/$1"
+    cp "src/$2.rt" before
+    python3 - "src/$2.rt" "$3" "$4" <<'PYTHON'
+import sys
+
+path, old, new = sys.argv[1:]
+text = open(path).read()
+assert text.count(old) == 1, f"{path} has {old!r} {text.count(old)} times"
+open(path, "w").write(text.replace(old, new))
+PYTHON
+    if rt check --only "$1::$2" > log 2>&1; then
+        echo "no refusal: $4" >&2
+        exit 1
+    fi
+    grep -m 1 -E "error.*($5)" log || { cat log >&2; exit 1; }
+    mv before "src/$2.rt"
+}
+
+own='Err(NoRoom { of: () })'
+private='\bof\b.*private|private.*\bof\b'
+refuses msg_depot depot 'self.keeper.lock(rt).draft(&self.board)' "$own" "$private"
+refuses msg_depot depot 'self.keeper.lock(rt).put(&self.board, draft, piece)' "$own" "$private"
+
+locked='let _keeper = self.keeper.lock(&());'
+refuses msg_depot depot 'hold::split_one(&self.board, hold)' "$locked hold::split_one(&self.board, hold)" 'Wait'
+refuses msg_depot depot 'hold::release(&self.board, hold)' "$locked hold::release(&self.board, hold)" 'Wait'
+
+refuses box_worker worker 'release(rt, depot, txn, place, hold)' 'crate::release::Released { txn, place }' \
+    'txn.*Released.*private'
+refuses box_worker worker 'self.slips.tell(rt, released, outcome)' 'self.slips.senders.pop()' \
+    'senders.*SlipSenders.*private'
+refuses box_worker worker 'self.slips.tell(rt, released, outcome);' '' 'released.*let go.*Drop'
