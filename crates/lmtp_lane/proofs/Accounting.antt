@@ -12,7 +12,7 @@ use Rattle.mail_world.specs.declared.Outcome.{Outcome}
 use Rattle.mail_world.specs.declared.Slip.{Slip}
 use Rattle.mail_world.specs.declared.Verdict.{Verdict}
 use Rattle.mail_world.specs.declared.Verdict.TheVariants.{Whole, TooLarge, NoRoom}
-use Rattle.mail_world.specs.declared.limits.TheConstants.{MESSAGE_LIMIT, NUMBER_LIMIT}
+use Rattle.mail_world.specs.declared.limits.TheConstants.{NUMBER_LIMIT}
 use Rattle.mail_world.specs.Session.{Session}
 use Rattle.mail_world.specs.Lists.{Transaction, VerdictFits, OutcomesIn, copies, copies_if, copies_from}
 use Rattle.mail_world.proofs.Heard.{all_more}
@@ -67,28 +67,28 @@ answered_later lane heard more (t ∷ ts) h = (
 )
 
 -- the verdict fits the number and the length
-fits_by : (a b : Bool) (d : Option Claim) (k size : ℕ) → nat_lt NUMBER_LIMIT k ≡ a → nat_lt MESSAGE_LIMIT size ≡ b → (t : Transaction) → t.number ≡ k → length t.message ≡ size
-    → t.disposition.verdict ≡ (if a then NoRoom else if b then TooLarge else verdict_with d) → VerdictFits t
-fits_by true b d k size ea eb t number long v =
+fits_by : (limit : ℕ) (a b : Bool) (d : Option Claim) (k size : ℕ) → nat_lt NUMBER_LIMIT k ≡ a → nat_lt limit size ≡ b → (t : Transaction) → t.number ≡ k → length t.message ≡ size
+    → t.disposition.verdict ≡ (if a then NoRoom else if b then TooLarge else verdict_with d) → VerdictFits limit t
+fits_by limit true b d k size ea eb t number long v =
     let over : NUMBER_LIMIT < k = grind (arith, nat_tests, ea) in record {
       too_large = (λ e. let wrong : NoRoom ≡ TooLarge = sym v ∙ e in cc, λ h. absurd (omega (arith, h.1, over, number)));
       no_number = λ h. v;
     }
-fits_by false true d k size ea eb t number long v =
+fits_by limit false true d k size ea eb t number long v =
     let under : k ≤ NUMBER_LIMIT = grind (arith, nat_tests, ea) in
-    let over : MESSAGE_LIMIT < size = grind (arith, nat_tests, eb) in record {
+    let over : limit < size = grind (arith, nat_tests, eb) in record {
       too_large = (λ e. (omega (arith, over, long), omega (arith, under, number)), λ h. v);
       no_number = λ h. absurd (omega (arith, h, under, number));
     }
-fits_by false false (Some claim) k size ea eb t number long v =
+fits_by limit false false (Some claim) k size ea eb t number long v =
     let under : k ≤ NUMBER_LIMIT = grind (arith, nat_tests, ea) in
-    let small : size ≤ MESSAGE_LIMIT = grind (arith, nat_tests, eb) in record {
+    let small : size ≤ limit = grind (arith, nat_tests, eb) in record {
       too_large = (λ e. let wrong : Whole ≡ TooLarge = sym v ∙ e in cc, λ h. absurd (omega (arith, h.0, small, long)));
       no_number = λ h. absurd (omega (arith, h, under, number));
     }
-fits_by false false None k size ea eb t number long v =
+fits_by limit false false None k size ea eb t number long v =
     let under : k ≤ NUMBER_LIMIT = grind (arith, nat_tests, ea) in
-    let small : size ≤ MESSAGE_LIMIT = grind (arith, nat_tests, eb) in record {
+    let small : size ≤ limit = grind (arith, nat_tests, eb) in record {
       too_large = (λ e. let wrong : NoRoom ≡ TooLarge = sym v ∙ e in cc, λ h. absurd (omega (arith, h.0, small, long)));
       no_number = λ h. absurd (omega (arith, h, under, number));
     }
@@ -96,14 +96,15 @@ fits_by false false None k size ea eb t number long v =
 over_number : (k n : ℕ) → k ≡ counted n → nat_lt NUMBER_LIMIT k ≡ nat_lt NUMBER_LIMIT n
 over_number k n e = grind (arith, nat_tests, e)
 
-over_size : (k n : ℕ) → k ≡ counted n → nat_lt MESSAGE_LIMIT k ≡ nat_lt MESSAGE_LIMIT n
-over_size k n e = grind (arith, nat_tests, e)
+over_size : (limit k n : ℕ) → limit < 2 ^ 32 → k ≡ counted n → nat_lt limit k ≡ nat_lt limit n
+over_size limit k n low e = grind (arith, nat_tests, e, low)
 
-verdict_fits : (t : Transaction) (accepted size : ℕ) (d : Option Claim) → accepted ≡ counted t.number → size ≡ counted (length t.message) → t.disposition.verdict ≡ verdict_on accepted size d → VerdictFits t
-verdict_fits t accepted size d number long v =
-    fits_by (nat_lt NUMBER_LIMIT t.number) (nat_lt MESSAGE_LIMIT (length t.message)) d t.number (length t.message) refl refl t refl refl
-    (v ∙ ap (λ b. if b then NoRoom else if nat_lt MESSAGE_LIMIT size then TooLarge else verdict_with d) (over_number accepted t.number number)
-    ∙ ap (λ b. if nat_lt NUMBER_LIMIT t.number then NoRoom else if b then TooLarge else verdict_with d) (over_size size (length t.message) long))
+verdict_fits : (limit : ℕ) (t : Transaction) (accepted size : ℕ) (d : Option Claim) → limit < 2 ^ 32 → accepted ≡ counted t.number → size ≡ counted (length t.message)
+    → t.disposition.verdict ≡ verdict_on limit accepted size d → VerdictFits limit t
+verdict_fits limit t accepted size d low number long v =
+    fits_by limit (nat_lt NUMBER_LIMIT t.number) (nat_lt limit (length t.message)) d t.number (length t.message) refl refl t refl refl
+    (v ∙ ap (λ b. if b then NoRoom else if nat_lt limit size then TooLarge else verdict_with d) (over_number accepted t.number number)
+    ∙ ap (λ b. if nat_lt NUMBER_LIMIT t.number then NoRoom else if b then TooLarge else verdict_with d) (over_size limit size (length t.message) low long))
 
 -- a refused message owes no copy, and has no outcome of its own
 no_copy : (lane : ℕ) (t : Transaction) (v : Verdict) → (v ≡ Whole → ⊥) → copies_if lane t v ≡ []
@@ -148,11 +149,11 @@ turns_none lane ts all t told x =
     (turns_more lane ts all t no_episode (record { timely = (refl, refl); named = tt }) told x)
 
 -- a message that is refused
-pub ended_refused : (May : ℕ → Type 0) (old now : LaneEnds) (accepted size : ℕ) (draft : Option Claim) (session : Session) (moment : ℕ)
-    (v : Verdict) → v ≡ verdict_on accepted size draft → (v ≡ Whole → ⊥) → May moment
-    → (n : ℕ) (ts : List Transaction) (message : List ℕ) → HasOffered May accepted old now n ts × HoldsDraft draft size message
-    → EndsDraft (λ n ts. HasOffered May accepted old now n ts) n ts session message (record { verdict = v; moment = moment; outcomes = [] })
-ended_refused May old now accepted size draft session moment v is other may n ts message h =
+pub ended_refused : (limit : ℕ) (May : ℕ → Type 0) (old now : LaneEnds) (accepted size : ℕ) (draft : Option Claim) (session : Session) (moment : ℕ)
+    (v : Verdict) → limit < 2 ^ 32 → v ≡ verdict_on limit accepted size draft → (v ≡ Whole → ⊥) → May moment
+    → (n : ℕ) (ts : List Transaction) (message : List ℕ) → HasOffered limit May accepted old now n ts × HoldsDraft draft size message
+    → EndsDraft (λ n ts. HasOffered limit May accepted old now n ts) n ts session message (record { verdict = v; moment = moment; outcomes = [] })
+ended_refused limit May old now accepted size draft session moment v small is other may n ts message h =
     let x = h.0 in
     let lane : ℕ = old.lane in
     let all : Episode = record { came = x.came; own = x.own; heard = x.heard } in
@@ -168,7 +169,7 @@ ended_refused May old now accepted size draft session moment v is other may n ts
       exchanged = subst P (sym same) x.exchanged;
       turns = turns_none lane ts all t (no_outcome lane [] t v other) x.turns;
       answered = all_more (IsAnswered lane x.heard) ts t x.answered (record { before = x.heard; since = []; whole = sym (append-nil x.heard); outcomes = no_outcome lane [] t v other });
-      verdicts = all_more VerdictFits ts t x.verdicts (verdict_fits t accepted size draft x.count h.1.long is);
+      verdicts = all_more (VerdictFits limit) ts t x.verdicts (verdict_fits limit t accepted size draft small x.count h.1.long is);
       moments = all_more (λ (y : Transaction). May y.disposition.moment) ts t x.moments may;
     }
 
@@ -185,12 +186,12 @@ bytes_are : (draft : Option Claim) (claim : Claim) (message : List ℕ) → draf
 bytes_are draft claim message e h = let P : Option Claim → Type 0 = λ d. IfSome d (λ (x : Claim). x.bytes ≡ message) in subst P e h
 
 -- a message that went to its recipients
-whole_same : (May : ℕ → Type 0) (old now next : LaneEnds) (accepted size : ℕ) (draft : Option Claim) (claim : Claim) (session : Session)
-    (moment : ℕ) (told : List Outcome) → accepted ≤ NUMBER_LIMIT → draft ≡ Some claim → Whole ≡ verdict_on accepted size draft → May moment
+whole_same : (limit : ℕ) (May : ℕ → Type 0) (old now next : LaneEnds) (accepted size : ℕ) (draft : Option Claim) (claim : Claim) (session : Session)
+    (moment : ℕ) (told : List Outcome) → limit < 2 ^ 32 → accepted ≤ NUMBER_LIMIT → draft ≡ Some claim → Whole ≡ verdict_on limit accepted size draft → May moment
     → Delivers (sent_as accepted session moment claim.bytes) told now next
-    → (n : ℕ) (ts : List Transaction) (message : List ℕ) → HasOffered May accepted old now n ts × HoldsDraft draft size message
-    → EndsDraft (λ n ts. HasOffered May accepted old next n ts) n ts session message (record { verdict = Whole; moment = moment; outcomes = told })
-whole_same May old now next accepted size draft claim session moment told low there is may delivers n ts message h =
+    → (n : ℕ) (ts : List Transaction) (message : List ℕ) → HasOffered limit May accepted old now n ts × HoldsDraft draft size message
+    → EndsDraft (λ n ts. HasOffered limit May accepted old next n ts) n ts session message (record { verdict = Whole; moment = moment; outcomes = told })
+whole_same limit May old now next accepted size draft claim session moment told small low there is may delivers n ts message h =
     let x = h.0 in
     let lane : ℕ = old.lane in
     let all : Episode = record { came = x.came; own = x.own; heard = x.heard } in
@@ -211,28 +212,28 @@ whole_same May old now next accepted size draft claim session moment told low th
       turns = turns_more lane ts all t d.now d.is d.outcomes x.turns;
       answered = all_more (IsAnswered lane (x.heard ++ d.now.heard)) ts t (answered_later lane x.heard d.now.heard ts x.answered)
           (record { before = x.heard; since = d.now.heard; whole = refl; outcomes = d.outcomes });
-      verdicts = all_more VerdictFits ts t x.verdicts (verdict_fits t accepted size draft x.count h.1.long is);
+      verdicts = all_more (VerdictFits limit) ts t x.verdicts (verdict_fits limit t accepted size draft small x.count h.1.long is);
       moments = all_more (λ (y : Transaction). May y.disposition.moment) ts t x.moments may;
     }
 
-pub ended_whole : (May : ℕ → Type 0) (old now next : LaneEnds) (accepted accepted' size : ℕ) (draft : Option Claim) (claim : Claim)
+pub ended_whole : (limit : ℕ) (May : ℕ → Type 0) (old now next : LaneEnds) (accepted accepted' size : ℕ) (draft : Option Claim) (claim : Claim)
     (session : Session) (moment moment' : ℕ) (told : List Outcome) → (accepted' ≡ accepted) × (moment' ≡ moment)
-    → accepted ≤ NUMBER_LIMIT → draft ≡ Some claim → Whole ≡ verdict_on accepted size draft → May moment
+    → limit < 2 ^ 32 → accepted ≤ NUMBER_LIMIT → draft ≡ Some claim → Whole ≡ verdict_on limit accepted size draft → May moment
     → Delivers (sent_as accepted session moment claim.bytes) told now next
-    → (n : ℕ) (ts : List Transaction) (message : List ℕ) → HasOffered May accepted old now n ts × HoldsDraft draft size message
-    → EndsDraft (λ n ts. HasOffered May accepted' old next n ts) n ts session message (record { verdict = Whole; moment = moment'; outcomes = told })
-ended_whole May old now next accepted accepted' size draft claim session moment moment' told same low there is may delivers n ts message h =
-    let Q : ℕ → Type 0 = λ k. EndsDraft (λ n ts. HasOffered May k old next n ts) n ts session message (record { verdict = Whole; moment = moment'; outcomes = told }) in
-    let R : ℕ → Type 0 = λ m. EndsDraft (λ n ts. HasOffered May accepted old next n ts) n ts session message (record { verdict = Whole; moment = m; outcomes = told }) in
-    subst Q (sym same.0) (subst R (sym same.1) (whole_same May old now next accepted size draft claim session moment told low there is may delivers n ts message h))
+    → (n : ℕ) (ts : List Transaction) (message : List ℕ) → HasOffered limit May accepted old now n ts × HoldsDraft draft size message
+    → EndsDraft (λ n ts. HasOffered limit May accepted' old next n ts) n ts session message (record { verdict = Whole; moment = moment'; outcomes = told })
+ended_whole limit May old now next accepted accepted' size draft claim session moment moment' told same small low there is may delivers n ts message h =
+    let Q : ℕ → Type 0 = λ k. EndsDraft (λ n ts. HasOffered limit May k old next n ts) n ts session message (record { verdict = Whole; moment = moment'; outcomes = told }) in
+    let R : ℕ → Type 0 = λ m. EndsDraft (λ n ts. HasOffered limit May accepted old next n ts) n ts session message (record { verdict = Whole; moment = m; outcomes = told }) in
+    subst Q (sym same.0) (subst R (sym same.1) (whole_same limit May old now next accepted size draft claim session moment told small low there is may delivers n ts message h))
 
 or_false : (b : Bool) → (b || false) ≡ b
 or_false true = refl
 or_false false = refl
 
 -- a lane that was given nothing to do
-offered_none : (May : ℕ → Type 0) (ends : LaneEnds) → HasOffered May 0 ends (record ends { gone = any_refused ends.senders }) 0 []
-offered_none May ends = record {
+offered_none : (limit : ℕ) (May : ℕ → Type 0) (ends : LaneEnds) → HasOffered limit May 0 ends (record ends { gone = any_refused ends.senders }) 0 []
+offered_none limit May ends = record {
   count = refl;
   came = [];
   own = [];
@@ -259,5 +260,5 @@ offered_none May ends = record {
   moments = tt;
 }
 
-pub offered_start : (May : ℕ → Type 0) (old new : LaneEnds) → new ≡ record old { gone = any_refused old.senders } → HasOffered May 0 old new 0 []
-offered_start May old new same = subst (λ e. HasOffered May 0 old e 0 []) (sym same) (offered_none May old)
+pub offered_start : (limit : ℕ) (May : ℕ → Type 0) (old new : LaneEnds) → new ≡ record old { gone = any_refused old.senders } → HasOffered limit May 0 old new 0 []
+offered_start limit May old new same = subst (λ e. HasOffered limit May 0 old e 0 []) (sym same) (offered_none limit May old)

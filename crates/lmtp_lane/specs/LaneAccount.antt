@@ -8,7 +8,7 @@ use Rattle.mail_world.specs.declared.Slip.{Slip}
 use Rattle.mail_world.specs.declared.Outcome.{Outcome}
 use Rattle.mail_world.specs.declared.Verdict.{Verdict}
 use Rattle.mail_world.specs.declared.Verdict.TheVariants.{Whole, TooLarge, NoRoom}
-use Rattle.mail_world.specs.declared.limits.TheConstants.{MESSAGE_LIMIT, NUMBER_LIMIT}
+use Rattle.mail_world.specs.declared.limits.TheConstants.{NUMBER_LIMIT}
 use Rattle.mail_world.specs.Counts.{counted}
 use Rattle.mail_world.specs.Slips.{answers, txn_of, Gather}
 use Rattle.mail_world.specs.Lists.{Transaction, VerdictFits, OutcomesIn, copies, copies_from}
@@ -43,9 +43,9 @@ pub record IsHeardInTurn (lane : ℕ) (ts : List Transaction) (all : Episode) : 
 abbrev pub AgreesWith : (ℕ → Type 0) → (ℕ → Type 0) → Type 0
 AgreesWith May Known = (moment : ℕ) → May moment → Known moment
 
--- Where n DATA commands were accepted, and this became of the data that ended: the senders gave what is owed, the
+-- Where a message may have so many bytes and n DATA commands were accepted, and this became of the data that ended: the senders gave what is owed, the
 -- outcomes are those of the slips, and each moment is one that the clock may answer.
-pub record HasOffered (May : ℕ → Type 0) (accepted : ℕ) (old new : LaneEnds) (n : ℕ) (ts : List Transaction)
+pub record HasOffered (limit : ℕ) (May : ℕ → Type 0) (accepted : ℕ) (old new : LaneEnds) (n : ℕ) (ts : List Transaction)
     : Type 0 where
   pub count : accepted ≡ counted n
   pub came : List Slip
@@ -54,7 +54,7 @@ pub record HasOffered (May : ℕ → Type 0) (accepted : ℕ) (old new : LaneEnd
   pub exchanged : HasExchanged (flat_map (copies old.lane) ts) (record { came = came; own = own; heard = heard }) old new
   pub turns : IsHeardInTurn old.lane ts (record { came = came; own = own; heard = heard })
   pub answered : AllByRecursion (IsAnswered old.lane heard) ts
-  pub verdicts : AllByRecursion VerdictFits ts
+  pub verdicts : AllByRecursion (VerdictFits limit) ts
   pub moments : AllByRecursion (λ t. May t.disposition.moment) ts
 
 -- what is kept of a message on its way: its length, and its bytes while there is a draft
@@ -67,11 +67,11 @@ abbrev pub verdict_with : Option Claim → Verdict
 verdict_with None = NoRoom
 verdict_with (Some claim) = Whole
 
--- the verdict on a message of that number, of that length
-abbrev pub verdict_on : ℕ → ℕ → Option Claim → Verdict
-verdict_on accepted size draft =
+-- the verdict on a message of that number, of that length, where one may have so many bytes
+abbrev pub verdict_on : ℕ → ℕ → ℕ → Option Claim → Verdict
+verdict_on limit accepted size draft =
     if nat_lt NUMBER_LIMIT accepted then NoRoom
-    else if nat_lt MESSAGE_LIMIT size then TooLarge
+    else if nat_lt limit size then TooLarge
     else verdict_with draft
 
 -- the outcomes that a gatherer has

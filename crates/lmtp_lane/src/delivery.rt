@@ -1,6 +1,6 @@
 //! What a lane does with the messages of its conversations.
 
-ghost use Rattle.std.specs.Prelude.{◌≡◌, ◌≤◌, ◌<◌, ℕ, List, [], length, false};
+ghost use Rattle.std.specs.Prelude.{◌≡◌, ◌≤◌, ◌<◌, ◌^◌, ℕ, List, [], length, false};
 ghost use Rattle.mail_world.specs.declared.limits.TheConstants.{NUMBER_LIMIT};
 ghost use Rattle.mail_world.specs.Lists.{Transaction};
 ghost use Rattle.mail_post.specs.Gathering.{IsDone};
@@ -27,6 +27,8 @@ pub struct LaneDelivery<'a, N: DepotName, C: Clock, R: Wait, S: LaneStart> {
     rt: &'a R,
     depot: &'a Depot<N>,
     clock: &'a C,
+    // how many bytes a message may have
+    limit: u32,
     pub exchange: Exchange<N>,
     pub incoming: Incoming<N>,
     /// How many DATA commands were accepted; it stays at its largest value.
@@ -34,29 +36,33 @@ pub struct LaneDelivery<'a, N: DepotName, C: Clock, R: Wait, S: LaneStart> {
     /// The moment of the last data that ended, in seconds since 1970.
     pub moment: u32,
     start: PhantomData<S>,
+    ghost limited: { (limit ≡ S.site.message_limit) × (limit < 2 ^ 32) },
     ghost of_lane: { exchange.lane ≡ S.ends.lane },
     ghost count: { length exchange.senders.items ≡ length S.site.boxes },
     ghost none_missing: { IsDone exchange.gather.gather },
 }
 
 impl<'a, N: DepotName, C: Clock, R: Wait, S: LaneStart> LaneDelivery<'a, N, C, R, S> {
-    /// A lane's delivery before its first conversation.
+    /// A lane's delivery before its first conversation, where a message may have so many bytes.
     pub fn new(
         rt: &'a R,
         depot: &'a Depot<N>,
         clock: &'a C,
         exchange: Exchange<N>,
+        limit: u32,
     ) -> LaneDelivery<'a, N, C, R, S>
+        requires limit { limit ≡ S.site.message_limit }
         requires count { length exchange.senders.items ≡ length S.site.boxes }
         requires none_missing { IsDone exchange.gather.gather }
         requires start { ends_of exchange ≡ record S.ends { gone = any_refused S.ends.senders } }
-        ensures begun { HasOffered S.May result.accepted S.ends (ends_of result.exchange) 0 [] }
+        ensures begun { HasOffered S.site.message_limit S.May result.accepted S.ends (ends_of result.exchange) 0 [] }
         ensures clock { AgreesWith (C.May result.clock.now) (C.May clock.now) }
     {
         LaneDelivery {
             rt,
             depot,
             clock,
+            limit,
             exchange,
             incoming: Incoming::new(),
             accepted: 0,
@@ -89,11 +95,11 @@ impl<'a, N: DepotName, C: Clock, R: Wait, S: LaneStart> Delivery for LaneDeliver
     ghost site = { λ d. S.site };
 
     ghost HasCome = { λ d n ts.
-        HasOffered S.May d.accepted S.ends (ends_of d.exchange) n ts
+        HasOffered S.site.message_limit S.May d.accepted S.ends (ends_of d.exchange) n ts
         × AgreesWith (C.May d.clock.now) S.May };
 
     ghost IsDrafting = { λ d n ts message.
-        HasOffered S.May d.accepted S.ends (ends_of d.exchange) n ts
+        HasOffered S.site.message_limit S.May d.accepted S.ends (ends_of d.exchange) n ts
         × AgreesWith (C.May d.clock.now) S.May × HoldsDraft d.incoming.draft d.incoming.size message };
 
     ghost outcomes = { λ d. told_by d.exchange.gather.gather };
@@ -106,7 +112,8 @@ impl<'a, N: DepotName, C: Clock, R: Wait, S: LaneStart> Delivery for LaneDeliver
     }
 
     fn piece(&mut self, bytes: &[u8]) {
-        self.incoming.add(self.rt, self.depot, bytes);
+        self.incoming
+            .add(self.rt, self.depot, bytes, self.limit);
     }
 
     fn cancel(&mut self) {
@@ -116,7 +123,10 @@ impl<'a, N: DepotName, C: Clock, R: Wait, S: LaneStart> Delivery for LaneDeliver
     /// The moment is asked of the clock, also of a message that is refused.
     fn end(&mut self, session: &Session) -> Result<(), Verdict> {
         self.moment = self.clock.unix(self.rt);
-        match self.incoming.end(self.rt, self.depot, self.accepted) {
+        match self
+            .incoming
+            .end(self.rt, self.depot, self.accepted, self.limit)
+        {
             Err(verdict) => Err(verdict),
             Ok(draft) => {
                 self.deliver(session, draft);

@@ -6,7 +6,7 @@ ghost use Rattle.mail_world.specs.declared.Verdict.TheVariants.{Whole};
 ghost use Rattle.lmtp_lane.specs.LaneAccount.{HoldsDraft, verdict_on};
 
 use mail_world::Verdict;
-use mail_world::limits::{MESSAGE_LIMIT, NUMBER_LIMIT};
+use mail_world::limits::NUMBER_LIMIT;
 use msg_depot::{Depot, DepotName, Draft};
 use std::sync::Wait;
 
@@ -38,14 +38,14 @@ impl<N: DepotName> Incoming<N> {
         }
     }
 
-    /// Takes bytes of the message.
-    pub fn add<R: Wait>(&mut self, rt: &R, depot: &Depot<N>, bytes: &[u8])
+    /// Takes bytes of the message, which may have so many in all.
+    pub fn add<R: Wait>(&mut self, rt: &R, depot: &Depot<N>, bytes: &[u8], limit: u32)
         ensures { (message : List ℕ) → HoldsDraft self.old.draft self.old.size message
             → HoldsDraft self.new.draft self.new.size (message ++ bytes.now) }
     {
         self.size = self.size.saturating_add(bytes.len());
         if let Some(draft) = self.draft.take() {
-            if self.size <= MESSAGE_LIMIT {
+            if self.size <= limit as usize {
                 self.draft = put(rt, depot, draft, bytes);
             } else {
                 depot.cancel(rt, draft);
@@ -63,24 +63,26 @@ impl<N: DepotName> Incoming<N> {
         }
     }
 
-    /// The draft of a message that is whole, or why the message is refused, whose blocks are given back.
+    /// The draft of a message that is whole, or why the message is refused, whose blocks are given back; it may have so
+    /// many bytes.
     pub fn end<R: Wait>(
         &mut self,
         rt: &R,
         depot: &Depot<N>,
         number: u64,
+        limit: u32,
     ) -> Result<Draft<N>, Verdict>
         ensures whole { IfOk result (λ draft. (self.old.draft ≡ Some draft)
-            × (Whole ≡ verdict_on number self.old.size self.old.draft)) }
+            × (Whole ≡ verdict_on limit number self.old.size self.old.draft)) }
         ensures number { IfOk result (λ _. number ≤ NUMBER_LIMIT) }
-        ensures refused { IfErr result (λ verdict. verdict ≡ verdict_on number self.old.size self.old.draft) }
+        ensures refused { IfErr result (λ verdict. verdict ≡ verdict_on limit number self.old.size self.old.draft) }
         ensures other { IfErr result (λ verdict. verdict ≡ Whole → ⊥) }
     {
         if number > NUMBER_LIMIT as u64 {
             self.cancel(rt, depot);
             return Err(Verdict::NoRoom);
         }
-        if self.size > MESSAGE_LIMIT {
+        if self.size > limit as usize {
             self.cancel(rt, depot);
             return Err(Verdict::TooLarge);
         }

@@ -24,7 +24,7 @@ impl LaneStart for Brand {
     ghost use Rattle.std.specs.Prelude.{⊤, [], false};
     ghost use Rattle.lmtp_lane.specs.LaneStart.{no_inbox};
 
-    ghost site = { record { host = []; domains = []; boxes = [] } };
+    ghost site = { record { host = []; domains = []; boxes = []; message_limit = 0 } };
 
     ghost May = { λ moment. ⊤ };
 

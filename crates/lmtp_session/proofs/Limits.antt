@@ -6,7 +6,7 @@ use Rattle.std.specs.List.{before_first, after_first}
 use Rattle.std.proofs.lemmas.List.{length-take}
 use Rattle.mail_world.specs.declared.BadCommand.TheVariants as bad
 use Rattle.mail_world.specs.declared.limits.TheConstants.{NAME_LIMIT, PATH_LIMIT}
-use Rattle.mail_world.specs.Commands.{Answer, Lhlo, mail_with, mail_path, mail, rcpt_with, rcpt_path, rcpt, by_verb, command, Parameter, is_client_name, parameters, trimmed, behind_spaces}
+use Rattle.mail_world.specs.Commands.{Answer, Lhlo, mail_with, mail_path, mail, rcpt_with, rcpt_path, rcpt, by_verb, command_at, Parameter, is_client_name, parameters, trimmed, behind_spaces}
 use Rattle.mail_world.specs.Paths.{Found, Path, reverse_path, forward_path, closed_at, mailbox_at, behind_route}
 use Rattle.mail_world.specs.Text.{begins, space}
 use Rattle.mail_world.specs.Grammar.{Target}
@@ -27,8 +27,8 @@ lhlo_within : (text : List ℕ) (b : Bool) → (b ≡ true → length text ≤ N
 lhlo_within text true h = h refl
 lhlo_within text false h = tt
 
-mail_with_within : (sender : List ℕ) (ps : List Parameter) → length sender ≤ PATH_LIMIT → IsWithinLimits (mail_with sender ps)
-mail_with_within sender ps h = search (rules, if_within, h)
+mail_with_within : (limit : ℕ) (sender : List ℕ) (ps : List Parameter) → length sender ≤ PATH_LIMIT → IsWithinLimits (mail_with limit sender ps)
+mail_with_within limit sender ps h = search (rules, if_within, h)
 
 abbrev HasShortMailbox : Found Path → Type 0
 HasShortMailbox f = length f.value.mailbox ≤ PATH_LIMIT
@@ -36,9 +36,9 @@ HasShortMailbox f = length f.value.mailbox ≤ PATH_LIMIT
 abbrev HasShortSender : Found (List ℕ) → Type 0
 HasShortSender f = length f.value ≤ PATH_LIMIT
 
-mail_path_within : (found : Option (Found (List ℕ))) → IfSome found HasShortSender → IsWithinLimits (mail_path found)
-mail_path_within None h = tt
-mail_path_within (Some f) h = let m = mail_with_within f.value (parameters f.rest) h in search (rules, if_within, m)
+mail_path_within : (limit : ℕ) (found : Option (Found (List ℕ))) → IfSome found HasShortSender → IsWithinLimits (mail_path limit found)
+mail_path_within limit None h = tt
+mail_path_within limit (Some f) h = let m = mail_with_within limit f.value (parameters f.rest) h in search (rules, if_within, m)
 
 closed_within_if : (text : List ℕ) (found : Found Target) (n : ℕ) (a b : Bool) → (b ≡ true → n ≤ PATH_LIMIT)
     → IfSome {T = Found Path} (if a && b then Some (record { value = record { mailbox = take n text; target = found.value }; rest = drop 1 found.rest }) else None) HasShortMailbox
@@ -78,9 +78,9 @@ reverse_within : (text : List ℕ) → IfSome (reverse_path text) HasShortSender
 unfolding reverse_path
 reverse_within text = reverse_within_if _ _ (forward_path text) (forward_within text)
 
-mail_within : (text : Option (List ℕ)) → IsWithinLimits (mail text)
-mail_within None = tt
-mail_within (Some text) = mail_path_within (reverse_path text) (reverse_within text)
+mail_within : (limit : ℕ) (text : Option (List ℕ)) → IsWithinLimits (mail limit text)
+mail_within limit None = tt
+mail_within limit (Some text) = mail_path_within limit (reverse_path text) (reverse_within text)
 
 rcpt_with_within : (target : Target) (ps : List Parameter) → IsWithinLimits (rcpt_with target ps)
 rcpt_with_within target [] = tt
@@ -94,14 +94,14 @@ rcpt_within : (text : Option (List ℕ)) → IsWithinLimits (rcpt text)
 rcpt_within None = tt
 rcpt_within (Some text) = rcpt_path_within (forward_path text)
 
-by_verb_within : (verb rest : List ℕ) → IsWithinLimits (by_verb verb rest)
-by_verb_within verb rest =
+by_verb_within : (limit : ℕ) (verb rest : List ℕ) → IsWithinLimits (by_verb limit verb rest)
+by_verb_within limit verb rest =
     let c = lhlo_within rest (is_client_name rest) (client_fits rest) in
     search (rules, if_within, mail_within, rcpt_within, c) depth 30
 
 -- the client and the sender that a line names are within their limits
-pub command_within : (line : List ℕ) → IsWithinLimits (command line)
-unfolding command
-command_within line =
+pub command_within : (limit : ℕ) (line : List ℕ) → IsWithinLimits (command_at limit line)
+unfolding command_at
+command_within limit line =
     let w = trimmed line in
-    by_verb_within (before_first (λ b. b == space) w) (behind_spaces (after_first (λ b. b == space) w))
+    by_verb_within limit (before_first (λ b. b == space) w) (behind_spaces (after_first (λ b. b == space) w))

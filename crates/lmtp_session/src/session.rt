@@ -7,7 +7,7 @@ ghost use Rattle.lmtp_session.specs.View.{reserved};
 ghost use Rattle.lmtp_session.specs.Steps.{TakesLines, MayStop, IsStep};
 
 use crate::act::Act;
-use lmtp_text::{Site, read_command};
+use lmtp_text::{Site, read_command_at};
 use mail_world::limits::{NAME_LIMIT, PATH_LIMIT, RECIPIENT_LIMIT};
 use mail_world::{Outcome, Reply, State, Verdict};
 use smallvec::SmallVec;
@@ -92,7 +92,7 @@ impl Session {
         ensures step { IsStep self.old (Line line.now) result self.new }
         ensures no_memory { self.new.room ≡ self.old.room }
     {
-        self.on_command(read_command(line))
+        self.on_command(read_command_at(line, self.site.message_limit()))
     }
 
     /// Takes note of a line that was too long to be a command.

@@ -1,14 +1,17 @@
 -- Where the steps of a session lead, and that only QUIT ends it.
 use Rattle.std.proofs.Common.{◌≡◌, ℕ, Bool, true, false, List, [], ◌∷◌, ◌++◌, length, Option, Some, None, refl, sym, ap, ◌∙◌}
-use Rattle.std.specs.Prelude.{nat_lt, if◌then◌else◌, ◌||◌, ⊤, Ok, Err}
+use Rattle.std.specs.Prelude.{nat_lt, if◌then◌else◌, ◌||◌, ◌==◌, ⊤, Ok, Err}
 use Rattle.mail_world.specs.declared.Verdict.{Verdict}
 use Rattle.mail_world.specs.declared.Verdict.TheVariants.{Whole, TooLarge, NoRoom}
 use Rattle.mail_world.specs.declared.State.{State}
 use Rattle.mail_world.specs.declared.State.TheVariants.{Fresh, Greeted, Sender, Recipients, Content, Waiting, Ended}
 use Rattle.mail_world.specs.declared.Reply.TheVariants as replies
-use Rattle.mail_world.specs.declared.limits.TheConstants.{RECIPIENT_LIMIT}
+use Rattle.mail_world.specs.declared.limits.TheConstants.{RECIPIENT_LIMIT, MESSAGE_LIMIT}
 use Rattle.mail_world.specs.Site.{Site}
-use Rattle.mail_world.specs.Commands.{Answer, Lhlo, Mail, Rcpt, StartData, Rset, Noop, Quit, Vrfy, Help, command}
+use Rattle.mail_world.specs.Commands.{Answer, Lhlo, Mail, Rcpt, StartData, Rset, Noop, Quit, Vrfy, Help, command, command_at, Parameter, mail_with, mail_path, mail, by_verb, parameters, trimmed, behind_spaces}
+use Rattle.mail_world.specs.Paths.{Found, reverse_path}
+use Rattle.mail_world.specs.Text.{space}
+use Rattle.std.specs.List.{before_first, after_first}
 use Rattle.mail_world.specs.Targets.{box_of}
 use Rattle.mail_world.specs.Session.{Session, Input, Line, LongLine, DataEnded, says, on_mail, add_recipient, on_rcpt, on_data, on_rset, on_command, step}
 use Rattle.mail_world.specs.Conversation.{Disposition, outcomes_of, session_after}
@@ -100,15 +103,49 @@ goes_on Waiting h = cc
 goes_on Ended h = cc
 
 pub line_goes_on : (site : Site) (s : Session) (text : List ℕ) → TakesLines s.state → GoesOn (step site s (Line text)).next.state
-line_goes_on site s text h = answer_leads GoesOn site s (command text) (goes_on s.state h) tt tt tt tt (λ e. tt)
+line_goes_on site s text h = answer_leads GoesOn site s (command_at site.message_limit text) (goes_on s.state h) tt tt tt tt (λ e. tt)
 
 pub long_goes_on : (site : Site) (s : Session) → TakesLines s.state → GoesOn (step site s LongLine).next.state
 long_goes_on site s h = goes_on s.state h
 
+-- a line is QUIT whatever limit messages have
+no_quit_if : (b : Bool) (x y : Answer) → is_quit_answer x ≡ false → is_quit_answer y ≡ false → is_quit_answer (if b then x else y) ≡ false
+no_quit_if true x y hx hy = hx
+no_quit_if false x y hx hy = hy
+
+mail_with_no_quit : (limit : ℕ) (sender : List ℕ) (ps : List Parameter) → is_quit_answer (mail_with limit sender ps) ≡ false
+mail_with_no_quit limit sender ps = no_quit_if _ _ _ refl (no_quit_if _ _ _ refl (no_quit_if _ _ _ refl refl))
+
+mail_path_no_quit : (limit : ℕ) (found : Option (Found (List ℕ))) → is_quit_answer (mail_path limit found) ≡ false
+mail_path_no_quit limit None = refl
+mail_path_no_quit limit (Some f) = no_quit_if _ _ _ (mail_with_no_quit limit f.value (parameters f.rest)) refl
+
+mail_no_quit : (limit : ℕ) (text : Option (List ℕ)) → is_quit_answer (mail limit text) ≡ false
+mail_no_quit limit None = refl
+mail_no_quit limit (Some text) = mail_path_no_quit limit (reverse_path text)
+
+same_quit_if : (b : Bool) (x y u v : Answer) → is_quit_answer x ≡ is_quit_answer u → is_quit_answer y ≡ is_quit_answer v
+    → is_quit_answer (if b then x else y) ≡ is_quit_answer (if b then u else v)
+same_quit_if true x y u v hx hy = hx
+same_quit_if false x y u v hx hy = hy
+
+verb_quit : (limit other : ℕ) (verb rest : List ℕ) → is_quit_answer (by_verb limit verb rest) ≡ is_quit_answer (by_verb other verb rest)
+verb_quit limit other verb rest =
+    let same : {b : Bool} {x y v : Answer} → is_quit_answer y ≡ is_quit_answer v → is_quit_answer (if b then x else y) ≡ is_quit_answer (if b then x else v) =
+    λ {b} {x} {y} {v} h. same_quit_if b x y x v refl h in
+    same (same (same (same (same (same (same (same (same
+    (same_quit_if _ _ _ _ _ (mail_no_quit limit _ ∙ sym (mail_no_quit other _)) refl)))))))))
+
+command_quit : (limit : ℕ) (text : List ℕ) → is_quit_answer (command_at limit text) ≡ is_quit_answer (command text)
+unfolding command_at
+command_quit limit text =
+    let w = trimmed text in
+    verb_quit limit MESSAGE_LIMIT (before_first (λ b. b == space) w) (behind_spaces (after_first (λ b. b == space) w))
+
 -- the session ends exactly with QUIT
 line_ends : (site : Site) (s : Session) (text : List ℕ) → TakesLines s.state → (step site s (Line text)).next.state ≡ Ended → is_quit (Line text) ≡ true
-line_ends site s text h = answer_leads (λ x. x ≡ Ended → is_quit_answer (command text) ≡ true) site s (command text)
-    (λ e. absurd (not_ended s.state h e)) (λ e. cc) (λ e. cc) (λ e. cc) (λ e. cc) (λ q e. q)
+line_ends site s text h = answer_leads (λ x. x ≡ Ended → is_quit_answer (command text) ≡ true) site s (command_at site.message_limit text)
+    (λ e. absurd (not_ended s.state h e)) (λ e. cc) (λ e. cc) (λ e. cc) (λ e. cc) (λ q e. sym (command_quit site.message_limit text) ∙ q)
 
 quit_ends : (site : Site) (s : Session) (a : Answer) → is_quit_answer a ≡ true → (on_command site s a).next.state ≡ Ended
 quit_ends site s (Err why) e = cc
@@ -157,7 +194,7 @@ or_one false e = cc
 pub quits_line : (site : Site) (s : Session) (xs : List Input) (text : List ℕ) → TakesLines s.state → QuitsWith s.state xs
     → QuitsWith (session_after site s (Line text ∷ [])).state (xs ++ Line text ∷ [])
 quits_line site s xs text h q = quits_more xs (Line text ∷ []) s.state _ (not_ended s.state h) q
-    (λ e. or_last (is_quit (Line text)) (line_ends site s text h e)) (λ e. quit_ends site s (command text) (or_one (is_quit (Line text)) e))
+    (λ e. or_last (is_quit (Line text)) (line_ends site s text h e)) (λ e. quit_ends site s (command_at site.message_limit text) (command_quit site.message_limit text ∙ or_one (is_quit (Line text)) e))
 
 pub quits_long : (site : Site) (s : Session) (xs : List Input) → TakesLines s.state → QuitsWith s.state xs
     → QuitsWith (session_after site s (LongLine ∷ [])).state (xs ++ LongLine ∷ [])

@@ -5,7 +5,6 @@ use Rattle.std.specs.Prelude.{codes, decimal}
 use Rattle.std.specs.Fmt.{digits}
 use Rattle.mail_world.specs.declared.Reply.{Reply}
 use Rattle.mail_world.specs.declared.Reply.TheVariants as replies
-use Rattle.mail_world.specs.declared.limits.TheConstants.{MESSAGE_LIMIT}
 use Rattle.mail_world.specs.Site.{Site}
 use Rattle.mail_world.specs.Text.{crlf}
 use Rattle.mail_world.specs.Replies.{reply_text}
@@ -25,18 +24,18 @@ two-joined name a b c = simp append_assoc
 joined : (name a b c d f : List ℕ) → name ++ a ++ b ++ c ++ d ++ f ≡ name ++ (a ++ b ++ c ++ d ++ f)
 joined name a b c d f = simp append_assoc
 
-offer-told : (site : Site) → codes "250-" ++ (site.host ++ (offers ++ decimal MESSAGE_LIMIT ++ crlf)) ≡ reply_text site replies.Offer
+offer-told : (site : Site) → codes "250-" ++ (site.host ++ (offers ++ decimal site.message_limit ++ crlf)) ≡ reply_text site replies.Offer
 unfolding reply_text digits
 offer-told site = rw (joined site.host) refl
 
 pub offer-put : (site : Site) (host limit a b c d e : List ℕ) → a ≡ codes "250-" → b ≡ a ++ host
     → c ≡ b ++ offers → d ≡ c ++ limit → e ≡ d ++ crlf
-    → host ≡ site.host → limit ≡ decimal MESSAGE_LIMIT → e ≡ reply_text site replies.Offer
+    → host ≡ site.host → limit ≡ decimal site.message_limit → e ≡ reply_text site replies.Offer
 offer-put site host limit a b c d e ha hb hc hd he is-host is-limit =
     he ∙ ap (λ t. t ++ crlf) (hd ∙ ap (λ t. t ++ limit) (hc ∙ ap (λ t. t ++ offers) (hb ∙ ap (λ t. t ++ host) ha)))
     ∙ ap (λ h. codes "250-" ++ h ++ offers ++ limit ++ crlf) is-host
     ∙ ap (λ l. codes "250-" ++ site.host ++ offers ++ l ++ crlf) is-limit
-    ∙ ap (λ t. codes "250-" ++ t) (two-joined site.host offers (decimal MESSAGE_LIMIT) crlf)
+    ∙ ap (λ t. codes "250-" ++ t) (two-joined site.host offers (decimal site.message_limit) crlf)
     ∙ offer-told site
 
 -- what is the same from a place on is the same from each later one

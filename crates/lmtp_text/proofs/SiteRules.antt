@@ -21,7 +21,7 @@ boxes_named site sound =
     let twice = cond (has_twice site.boxes) (Some NamedTwice) None in
     let named = cond (not (list_all is_box_name site.boxes)) (Some BadBox) twice in
     let counted = cond ((length site.boxes == 0) || nat_lt BOX_LIMIT (length site.boxes)) (Some BadCount) named in
-    let host = no_fault (not (is_host_name site.host)) BadHost (cond (not (list_all is_host_name site.domains)) (Some BadDomain) counted) sound in
+    let host = no_fault (not (is_host_name site.host)) BadHost (cond (not (list_all is_host_name site.domains)) (Some BadDomain) counted) sound.0 in
     let domains = no_fault (not (list_all is_host_name site.domains)) BadDomain counted host.1 in
     let count = no_fault ((length site.boxes == 0) || nat_lt BOX_LIMIT (length site.boxes)) BadCount named domains.1 in
     were_true (list_all is_box_name site.boxes) (no_fault (not (list_all is_box_name site.boxes)) BadBox twice count.1).0

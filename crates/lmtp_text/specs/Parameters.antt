@@ -17,22 +17,22 @@ seen_parameter p = record { keyword = p.keyword.now; value = seen_value p.value 
 abbrev pub count_of : List ℕ → List m.Parameter → ℕ
 count_of word ps = length (filter (m.has_keyword word) ps)
 
--- the tally of these parameters: what is wrong counts only where all are known, what is too large only where none is
--- wrong
-pub record Tallies (t : Tally) (ps : List m.Parameter) : Type 0 where
+-- the tally of these parameters, where a message may have so many bytes: what is wrong counts only where all are
+-- known, what is too large only where none is wrong
+pub record Tallies (limit : ℕ) (t : Tally) (ps : List m.Parameter) : Type 0 where
   pub unknown : t.unknown ≡ not (list_all m.is_known ps)
   pub has_size : t.has_size ≡ nat_lt 0 (count_of (codes "SIZE") ps)
   pub has_body : t.has_body ≡ nat_lt 0 (count_of (codes "BODY") ps)
   pub wrong : t.unknown ≡ false → t.wrong ≡ (not (list_all m.is_well_valued ps) || m.stands_twice (codes "SIZE") ps || m.stands_twice (codes "BODY") ps)
-  pub large : t.unknown ≡ false → t.wrong ≡ false → t.large ≡ list_any m.is_too_large ps
+  pub large : t.unknown ≡ false → t.wrong ≡ false → t.large ≡ list_any (m.is_too_large limit) ps
 
 -- the tally u is t with a SIZE, with a BODY more
-pub record IsWithSize (t : Tally) (value : Option (List ℕ)) (u : Tally) : Type 0 where
+pub record IsWithSize (limit : ℕ) (t : Tally) (value : Option (List ℕ)) (u : Tally) : Type 0 where
   pub unknown : u.unknown ≡ t.unknown
   pub has_size : u.has_size ≡ true
   pub has_body : u.has_body ≡ t.has_body
   pub wrong : u.wrong ≡ (t.wrong || t.has_size || not (m.is_size_value value))
-  pub large : m.is_size_value value ≡ true → u.large ≡ (t.large || m.is_above_limit value)
+  pub large : m.is_size_value value ≡ true → u.large ≡ (t.large || m.is_above_limit limit value)
 
 pub record IsWithBody (t : Tally) (value : Option (List ℕ)) (u : Tally) : Type 0 where
   pub unknown : u.unknown ≡ t.unknown

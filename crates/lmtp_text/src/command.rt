@@ -13,7 +13,7 @@ use crate::names::is_word;
 use crate::parameters::{check_mail_parameters, has_parameters};
 use crate::path::{read_forward_path, read_reverse_path};
 use mail_world::BadCommand;
-use mail_world::limits::NAME_LIMIT;
+use mail_world::limits::{MESSAGE_LIMIT, NAME_LIMIT};
 
 /// A recipient as the line spells it: the local part without its quotes, and the domain or the address in brackets,
 /// where one stands.
@@ -46,13 +46,20 @@ pub enum Command<'a> {
 pub fn read_command<'a>(line: &'a [u8]) -> Result<Command<'a>, BadCommand>
     ensures { seen_answer result ≡ m.command line.now }
 {
+    read_command_at(line, MESSAGE_LIMIT)
+}
+
+/// The same where a message may have that many bytes.
+pub fn read_command_at<'a>(line: &'a [u8], limit: u32) -> Result<Command<'a>, BadCommand>
+    ensures { seen_answer result ≡ m.command_at limit line.now }
+{
     let (verb, rest) = split_at_byte(without_blanks_behind(line), b' ');
-    by_verb(verb, without_spaces_before(rest))
+    by_verb(verb, without_spaces_before(rest), limit)
 }
 
 /// The command of this verb, with what follows it.
-fn by_verb<'a>(verb: &[u8], rest: &'a [u8]) -> Result<Command<'a>, BadCommand>
-    ensures { seen_answer result ≡ m.by_verb verb.now rest.now }
+fn by_verb<'a>(verb: &[u8], rest: &'a [u8], limit: u32) -> Result<Command<'a>, BadCommand>
+    ensures { seen_answer result ≡ m.by_verb limit verb.now rest.now }
 {
     if is_word(verb, b"HELO") || is_word(verb, b"EHLO") {
         Err(BadCommand::NotHere)
@@ -73,7 +80,7 @@ fn by_verb<'a>(verb: &[u8], rest: &'a [u8]) -> Result<Command<'a>, BadCommand>
     } else if is_word(verb, b"LHLO") {
         read_lhlo(rest)
     } else if is_word(verb, b"MAIL") {
-        read_mail(rest)
+        read_mail(rest, limit)
     } else if is_word(verb, b"RCPT") {
         read_rcpt(rest)
     } else {
@@ -141,15 +148,15 @@ fn ends_path(rest: &[u8]) -> bool
 }
 
 /// MAIL with the sender's path and parameters.
-fn read_mail(rest: &[u8]) -> Result<Command, BadCommand>
-    ensures { seen_answer result ≡ m.mail (m.behind_label (codes "FROM:") rest.now) }
+fn read_mail(rest: &[u8], limit: u32) -> Result<Command, BadCommand>
+    ensures { seen_answer result ≡ m.mail limit (m.behind_label (codes "FROM:") rest.now) }
 {
     let text = behind_label(b"FROM:", rest).ok_or(BadCommand::Arguments)?;
     let path = read_reverse_path(text).ok_or(BadCommand::SenderSyntax)?;
     if !ends_path(path.rest) {
         return Err(BadCommand::SenderSyntax);
     }
-    check_mail_parameters(path.rest)?;
+    check_mail_parameters(path.rest, limit)?;
     Ok(Command::Mail(path.value))
 }
 

@@ -14,7 +14,7 @@ mod site;
 mod stamp;
 mod writing;
 
-pub use command::{Command, Target, read_command};
+pub use command::{Command, Target, read_command, read_command_at};
 pub use mail_world::{BadCommand, Outcome, Reply};
 pub use reply::{REPLY_LIMIT, write_reply};
 pub use site::{Site, SiteFault};

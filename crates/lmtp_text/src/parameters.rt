@@ -8,7 +8,7 @@ ghost use Rattle.lmtp_text.specs.Parameters.{seen_value, seen_parameter, Tallies
 use crate::cut::cut_at;
 use crate::names::is_word;
 use mail_world::BadCommand;
-use mail_world::limits::{MESSAGE_LIMIT, SIZE_DIGIT_LIMIT};
+use mail_world::limits::SIZE_DIGIT_LIMIT;
 
 /// A keyword, and what stands behind its equals sign, if there is one.
 #[derive(Clone, Copy)]
@@ -44,21 +44,22 @@ fn read_parameter(piece: &[u8]) -> Parameter
 }
 
 /// The size that a value of 1 to 20 digits gives, at most one above the limit; nothing for another value.
-fn read_size(value: Option<&[u8]>) -> Option<usize>
+fn read_size(value: Option<&[u8]>, limit: u32) -> Option<u64>
     ensures valid { is_some result ≡ m.is_size_value (seen_value value.entry) }
     ensures above { IfSome result
-        (λ size. nat_lt MESSAGE_LIMIT size ≡ m.is_above_limit (seen_value value.entry)) }
+        (λ size. nat_lt limit size ≡ m.is_above_limit limit (seen_value value.entry)) }
 {
     let digits = value?;
     if digits.is_empty() || digits.len() > SIZE_DIGIT_LIMIT {
         return None;
     }
-    let mut size = 0;
+    let beyond = u64::from(limit) + 1;
+    let mut size: u64 = 0;
     for digit in digits {
         if !digit.is_ascii_digit() {
             return None;
         }
-        size = (size * 10 + usize::from(*digit - b'0')).min(MESSAGE_LIMIT + 1);
+        size = (size * 10 + u64::from(*digit - b'0')).min(beyond);
     }
     Some(size)
 }
@@ -74,13 +75,13 @@ fn is_body(value: Option<&[u8]>) -> bool
 }
 
 impl Tally {
-    /// The tally with one parameter more.
-    fn with(self, parameter: Parameter) -> Tally
-        ensures { (before : List m.Parameter) → Tallies self before
-            → Tallies result (before ++ seen_parameter parameter.entry ∷ []) }
+    /// The tally with one parameter more, where a message may have so many bytes.
+    fn with(self, parameter: Parameter, limit: u32) -> Tally
+        ensures { (before : List m.Parameter) → Tallies limit self before
+            → Tallies limit result (before ++ seen_parameter parameter.entry ∷ []) }
     {
         if is_word(parameter.keyword, b"SIZE") {
-            self.with_size(parameter.value)
+            self.with_size(parameter.value, limit)
         } else if is_word(parameter.keyword, b"BODY") {
             self.with_body(parameter.value)
         } else {
@@ -92,13 +93,13 @@ impl Tally {
     }
 
     /// The tally with a SIZE more.
-    fn with_size(self, value: Option<&[u8]>) -> Tally
-        ensures { IsWithSize self (seen_value value.entry) result }
+    fn with_size(self, value: Option<&[u8]>, limit: u32) -> Tally
+        ensures { IsWithSize limit self (seen_value value.entry) result }
     {
-        match read_size(value) {
+        match read_size(value, limit) {
             Some(size) => Tally {
                 wrong: self.wrong || self.has_size,
-                large: self.large || size > MESSAGE_LIMIT,
+                large: self.large || size > u64::from(limit),
                 has_size: true,
                 ..self
             },
@@ -129,9 +130,9 @@ pub(crate) fn has_parameters(text: &[u8]) -> bool
     text.iter().any(|b| *b != b' ')
 }
 
-/// The tally of the text's parameters.
-fn tally_of(text: &[u8]) -> Tally
-    ensures { Tallies result (m.parameters text.now) }
+/// The tally of the text's parameters, where a message may have so many bytes.
+fn tally_of(text: &[u8], limit: u32) -> Tally
+    ensures { Tallies limit result (m.parameters text.now) }
 {
     let mut tally = Tally {
         unknown: false,
@@ -142,7 +143,7 @@ fn tally_of(text: &[u8]) -> Tally
     };
     for piece in text.split(|b| *b == b' ') {
         if !piece.is_empty() {
-            tally = tally.with(read_parameter(piece));
+            tally = tally.with(read_parameter(piece), limit);
         }
     }
     tally
@@ -150,10 +151,10 @@ fn tally_of(text: &[u8]) -> Tally
 
 /// Whether MAIL may have the text's parameters; else Parameter where a keyword is unknown, Arguments where a value is
 /// wrong or a keyword stands twice, TooLarge where the size is above the limit.
-pub(crate) fn check_mail_parameters(text: &[u8]) -> Result<(), BadCommand>
-    ensures { (sender : List ℕ) → mail_answer sender result ≡ m.mail_with sender (m.parameters text.now) }
+pub(crate) fn check_mail_parameters(text: &[u8], limit: u32) -> Result<(), BadCommand>
+    ensures { (sender : List ℕ) → mail_answer sender result ≡ m.mail_with limit sender (m.parameters text.now) }
 {
-    let tally = tally_of(text);
+    let tally = tally_of(text, limit);
     if tally.unknown {
         Err(BadCommand::Parameter)
     } else if tally.wrong {

@@ -7,7 +7,7 @@ ghost use Rattle.mail_world.specs.Replies.{refusal_text, outcome_text, reply_tex
 use crate::site::Site;
 use crate::writing::put;
 use itoa::Buffer;
-use mail_world::limits::{MESSAGE_LIMIT, NAME_LIMIT};
+use mail_world::limits::NAME_LIMIT;
 use mail_world::{BadCommand, Outcome, Reply};
 
 /// Bytes in which each reply has room.
@@ -88,7 +88,7 @@ fn write_offer(site: &Site, out: &mut [u8]) -> usize
     ensures size { result ≤ REPLY_LIMIT }
 {
     let mut buffer = Buffer::new();
-    let limit = buffer.format(MESSAGE_LIMIT).as_bytes();
+    let limit = buffer.format(site.message_limit()).as_bytes();
     let front = put(out, 0, b"250-");
     let named = put(out, front, site.host());
     let offers = b"\r\n250-PIPELINING\r\n250-ENHANCEDSTATUSCODES\r\n250-8BITMIME\r\n250 SIZE ";

@@ -1,7 +1,7 @@
 //! What a server is named and serves.
 
 ghost use Rattle.std.specs.Prelude.{◌≡◌, ◌≤◌, ◌<◌, [], length, slice_get, unwrap_or, option_map, IfOk, IfErr, IfSome};
-ghost use Rattle.mail_world.specs.Site.{Fault, IsSite, fault_of, box_name};
+ghost use Rattle.mail_world.specs.Site.{Fault, IsSite, IsMessageLimit, fault_of, box_name};
 ghost use Rattle.mail_world.specs.Targets.{is_here, box_of};
 ghost use Rattle.lmtp_text.specs.Seen.{seen_target};
 ghost use Rattle.lmtp_text.specs.Sites.{texts, site_of, cause, owned};
@@ -9,7 +9,7 @@ ghost use Rattle.lmtp_text.specs.Sites.{texts, site_of, cause, owned};
 use crate::command::Target;
 use crate::names::{is_listed, is_word, named_at, names};
 use crate::rules::first_fault;
-use mail_world::limits::{BOX_LIMIT, BOX_NAME_LIMIT, NAME_LIMIT};
+use mail_world::limits::{BOX_LIMIT, BOX_NAME_LIMIT, MESSAGE_LIMIT, NAME_LIMIT};
 use std::alloc::{AllocError, Global};
 use std::marker::Model;
 use thiserror::Error;
@@ -41,12 +41,13 @@ impl From<AllocError> for SiteFault {
     }
 }
 
-/// A host, the further domains that it serves, and its mailboxes in their order.
+/// A host, the further domains that it serves, its mailboxes in their order, and how many bytes a message may have.
 #[derive(Debug, Drop)]
 pub struct Site {
     host: Vec<u8>,
     domains: Vec<Vec<u8>>,
     boxes: Vec<Vec<u8>>,
+    message_limit: u32,
 }
 
 impl Model for Site {
@@ -56,10 +57,20 @@ impl Model for Site {
 
     ghost use Rattle.lmtp_text.specs.Sites.{owned};
 
-    ghost view = { λ s. record { host = s.host.items; domains = owned s.domains.items; boxes = owned s.boxes.items } };
+    ghost view = { λ s. record {
+      host = s.host.items;
+      domains = owned s.domains.items;
+      boxes = owned s.boxes.items;
+      message_limit = s.message_limit;
+    } };
 
     ghost invariant = { λ s. m.IsSite
-        (record { host = s.host.items; domains = owned s.domains.items; boxes = owned s.boxes.items }) };
+        (record {
+          host = s.host.items;
+          domains = owned s.domains.items;
+          boxes = owned s.boxes.items;
+          message_limit = s.message_limit;
+        }) };
 }
 
 fn copied(alloc: Global, names: &[&[u8]]) -> Result<Vec<Vec<u8>>, AllocError>
@@ -82,7 +93,7 @@ fn name_at(names: &[Vec<u8>], i: usize) -> &[u8]
 }
 
 impl Site {
-    /// A site takes memory for its names. Of several broken rules the answer is the first in the order `Host`,
+    /// A site takes memory for its names; its messages have at most 1,048,576 bytes. Of several broken rules the answer is the first in the order `Host`,
     /// `Domain`, `Count`, `Box`, `Twice`.
     pub fn new(
         alloc: Global,
@@ -107,7 +118,27 @@ impl Site {
             host,
             domains,
             boxes,
+            message_limit: MESSAGE_LIMIT,
         })
+    }
+
+    /// The same site with another limit for its messages, in bytes.
+    pub fn with_message_limit(self, limit: u32) -> Site
+        requires { IsMessageLimit limit }
+        ensures { result ≡ record self { message_limit = limit } }
+    {
+        Site {
+            message_limit: limit,
+            ..self
+        }
+    }
+
+    /// How many bytes a message may have (RFC 1870, 4).
+    pub fn message_limit(&self) -> u32
+        ensures value { result ≡ self.now.message_limit }
+        ensures within { IsMessageLimit result }
+    {
+        self.message_limit
     }
 
     /// The host's name.

@@ -86,20 +86,20 @@ is_well_valued p = if has_keyword (codes "SIZE") p then is_size_value p.value el
 abbrev pub stands_twice : List ℕ → List Parameter → Bool
 stands_twice word ps = nat_lt 1 (length (filter (has_keyword word) ps))
 
-abbrev pub is_above_limit : Option (List ℕ) → Bool
-is_above_limit None = false
-is_above_limit (Some digits) = nat_lt MESSAGE_LIMIT (digits_value 10 digits)
+abbrev pub is_above_limit : ℕ → Option (List ℕ) → Bool
+is_above_limit limit None = false
+is_above_limit limit (Some digits) = nat_lt limit (digits_value 10 digits)
 
-abbrev pub is_too_large : Parameter → Bool
-is_too_large p = has_keyword (codes "SIZE") p && is_above_limit p.value
+abbrev pub is_too_large : ℕ → Parameter → Bool
+is_too_large limit p = has_keyword (codes "SIZE") p && is_above_limit limit p.value
 
--- MAIL with a path and parameters, RCPT with a path and parameters
-abbrev pub mail_with : List ℕ → List Parameter → Answer
-mail_with sender ps =
+-- MAIL with a path and parameters where a message may have so many bytes, RCPT with a path and parameters
+abbrev pub mail_with : ℕ → List ℕ → List Parameter → Answer
+mail_with limit sender ps =
     if not (list_all is_known ps) then Err bad.Parameter
     else if not (list_all is_well_valued ps) || stands_twice (codes "SIZE") ps
     || stands_twice (codes "BODY") ps then Err bad.Arguments
-    else if list_any is_too_large ps then Err bad.TooLarge
+    else if list_any (is_too_large limit) ps then Err bad.TooLarge
     else Ok (Mail sender)
 
 abbrev pub rcpt_with : Target → List Parameter → Answer
@@ -111,19 +111,19 @@ abbrev pub ends_path : List ℕ → Bool
 ends_path rest = is_empty rest || begins space rest
 
 -- what stands behind `FROM:`, behind `TO:`
-abbrev pub mail_path : Option (Found (List ℕ)) → Answer
-mail_path None = Err bad.SenderSyntax
-mail_path (Some found) =
-    if ends_path found.rest then mail_with found.value (parameters found.rest) else Err bad.SenderSyntax
+abbrev pub mail_path : ℕ → Option (Found (List ℕ)) → Answer
+mail_path limit None = Err bad.SenderSyntax
+mail_path limit (Some found) =
+    if ends_path found.rest then mail_with limit found.value (parameters found.rest) else Err bad.SenderSyntax
 
 abbrev pub rcpt_path : Option (Found Path) → Answer
 rcpt_path None = Err bad.RecipientSyntax
 rcpt_path (Some found) =
     if ends_path found.rest then rcpt_with found.value.target (parameters found.rest) else Err bad.RecipientSyntax
 
-abbrev pub mail : Option (List ℕ) → Answer
-mail None = Err bad.Arguments
-mail (Some text) = mail_path (reverse_path text)
+abbrev pub mail : ℕ → Option (List ℕ) → Answer
+mail limit None = Err bad.Arguments
+mail limit (Some text) = mail_path limit (reverse_path text)
 
 abbrev pub rcpt : Option (List ℕ) → Answer
 rcpt None = Err bad.Arguments
@@ -133,8 +133,8 @@ rcpt (Some text) = rcpt_path (forward_path text)
 abbrev pub alone : Command → List ℕ → Answer
 alone c rest = if is_empty rest then Ok c else Err bad.Arguments
 
-abbrev pub by_verb : List ℕ → List ℕ → Answer
-by_verb verb rest =
+abbrev pub by_verb : ℕ → List ℕ → List ℕ → Answer
+by_verb limit verb rest =
     if is_word (codes "HELO") verb || is_word (codes "EHLO") verb then Err bad.NotHere
     else if is_word (codes "EXPN") verb then Err bad.NotDone
     else if is_word (codes "NOOP") verb then Ok Noop
@@ -144,11 +144,15 @@ by_verb verb rest =
     else if is_word (codes "RSET") verb then alone Rset rest
     else if is_word (codes "QUIT") verb then alone Quit rest
     else if is_word (codes "LHLO") verb then (if is_client_name rest then Ok (Lhlo rest) else Err bad.ClientName)
-    else if is_word (codes "MAIL") verb then mail (behind_label (codes "FROM:") rest)
+    else if is_word (codes "MAIL") verb then mail limit (behind_label (codes "FROM:") rest)
     else if is_word (codes "RCPT") verb then rcpt (behind_label (codes "TO:") rest)
     else Err bad.Unknown
 
--- the verb stands before the first space, the rest behind it and behind further spaces
-unfoldable pub command : List ℕ → Answer
-command line =
-    let w = trimmed line in by_verb (before_first (λ b. b == space) w) (behind_spaces (after_first (λ b. b == space) w))
+-- The verb stands before the first space, the rest after it and after further spaces. A message may have so many bytes.
+unfoldable pub command_at : ℕ → List ℕ → Answer
+command_at limit line =
+    let w = trimmed line in by_verb limit (before_first (λ b. b == space) w) (behind_spaces (after_first (λ b. b == space) w))
+
+-- so it is where the site names no other limit
+abbrev pub command : List ℕ → Answer
+command line = command_at MESSAGE_LIMIT line

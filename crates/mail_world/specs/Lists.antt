@@ -1,7 +1,7 @@
 -- The notes of a lane: which copies its conversations owe.
 use Rattle.std.specs.List.{AllByRecursion}
 use Rattle.mail_world.specs.declared.Slip.{Slip}
-use Rattle.mail_world.specs.declared.limits.TheConstants.{MESSAGE_LIMIT, NUMBER_LIMIT}
+use Rattle.mail_world.specs.declared.limits.TheConstants.{NUMBER_LIMIT}
 use Rattle.mail_world.specs.Slips.{answers}
 use Rattle.std.specs.Prelude.{◌≡◌, ◌↔◌, ⊤, ◌<◌, ◌≤◌, length, map, Some, ℕ, ◌+◌, Bool, true, false, ◌==◌, List, [], ◌∷◌, ◌++◌, filter, flat_map, if◌then◌else◌}
 use Rattle.mail_world.specs.declared.Note.{Note}
@@ -85,8 +85,8 @@ due site lane box cs = copies_owed lane box (transactions site 0 cs)
 
 -- the verdict is TooLarge exactly where the message is above the limit and the lane had a number left for it; once it
 -- has none the verdict is NoRoom
-pub record VerdictFits (t : Transaction) : Type 0 where
-  pub too_large : (t.disposition.verdict ≡ verdicts.TooLarge) ↔ ((MESSAGE_LIMIT < length t.message) × (t.number ≤ NUMBER_LIMIT))
+pub record VerdictFits (limit : ℕ) (t : Transaction) : Type 0 where
+  pub too_large : (t.disposition.verdict ≡ verdicts.TooLarge) ↔ ((limit < length t.message) × (t.number ≤ NUMBER_LIMIT))
   pub no_number : NUMBER_LIMIT < t.number → t.disposition.verdict ≡ verdicts.NoRoom
 
 -- the outcomes of a whole message are those of the slips
@@ -97,7 +97,7 @@ OutcomesIn lane slips t _ = ⊤
 
 -- so it is for all transactions of a lane
 abbrev pub VerdictsFit : Site → List Conversation → Type 0
-VerdictsFit site cs = AllByRecursion VerdictFits (transactions site 0 cs)
+VerdictsFit site cs = AllByRecursion (VerdictFits site.message_limit) (transactions site 0 cs)
 
 abbrev pub OutcomesAreAnswers : Site → ℕ → List Slip → List Conversation → Type 0
 OutcomesAreAnswers site lane slips cs =

@@ -12,7 +12,7 @@ use Rattle.mail_world.specs.declared.Reply.{Reply}
 use Rattle.mail_world.specs.declared.Reply.TheVariants as replies
 use Rattle.mail_world.specs.declared.limits.TheConstants.{RECIPIENT_LIMIT}
 use Rattle.mail_world.specs.Site.{Site}
-use Rattle.mail_world.specs.Commands.{Command, Lhlo, Mail, Rcpt, StartData, Rset, Noop, Quit, Vrfy, Help, command}
+use Rattle.mail_world.specs.Commands.{Command, Lhlo, Mail, Rcpt, StartData, Rset, Noop, Quit, Vrfy, Help, command_at}
 use Rattle.mail_world.specs.Targets.{box_of}
 
 -- where the session stands, the client's name, the sender, and the mailbox of each accepted recipient in their order
@@ -106,7 +106,7 @@ on_verdict s verdicts.NoRoom = record { replies = result_for_all outcomes.NoRoom
 -- The table. A line comes in the first four states, a verdict in Content, outcomes in Waiting, one for each recipient,
 -- and stop in any of the first five.
 abbrev pub step : Site → Session → Input → Transition
-step site s (Line text) = on_command site s (command text)
+step site s (Line text) = on_command site s (command_at site.message_limit text)
 step site s LongLine = says replies.LineTooLong s
 step site s (DataEnded verdict) = on_verdict s verdict
 step site s (Outcomes os) = record { replies = results os s.recipients; next = greeted s.client }

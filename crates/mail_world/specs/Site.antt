@@ -1,16 +1,17 @@
 -- What a server is named and serves.
-use Rattle.std.specs.Prelude.{◌≡◌, ℕ, Bool, false, not, ◌&&◌, ◌||◌, nat_lt, nat_le, ◌==◌, List, [], ◌∷◌, length, if◌then◌else◌, Option, Some, None, slice_get, unwrap_or, codes}
+use Rattle.std.specs.Prelude.{◌≡◌, ◌≤◌, ℕ, Bool, false, not, ◌&&◌, ◌||◌, nat_lt, nat_le, ◌==◌, List, [], ◌∷◌, length, if◌then◌else◌, Option, Some, None, slice_get, unwrap_or, codes}
 use Rattle.std.specs.List.{list_all}
 use Rattle.std.specs.Char.{is_ascii_alphanumeric, is_ascii_lowercase, is_ascii_digit}
 use Rattle.std.specs.Str.{byte, bytes_eq}
-use Rattle.mail_world.specs.declared.limits.TheConstants.{NAME_LIMIT, BOX_NAME_LIMIT, BOX_LIMIT}
+use Rattle.mail_world.specs.declared.limits.TheConstants.{NAME_LIMIT, BOX_NAME_LIMIT, BOX_LIMIT, LEAST_MESSAGE_LIMIT, LARGEST_MESSAGE_LIMIT}
 use Rattle.mail_world.specs.Text.{has_byte, begins}
 
--- the host's name, the further domains, and the names of the mailboxes
+-- the host's name, the further domains, the names of the mailboxes, and how many bytes a message may have
 pub record Site : Type 0 where
   pub host : List ℕ
   pub domains : List (List ℕ)
   pub boxes : List (List ℕ)
+  pub message_limit : ℕ
 
 -- the name of the mailbox with the number
 abbrev pub box_name : Site → ℕ → List ℕ
@@ -53,6 +54,10 @@ fault_of site =
     else if has_twice site.boxes then Some NamedTwice
     else None
 
+-- a limit that a site may name for its messages
+abbrev pub IsMessageLimit : ℕ → Type 0
+IsMessageLimit limit = (LEAST_MESSAGE_LIMIT ≤ limit) × (limit ≤ LARGEST_MESSAGE_LIMIT)
+
 -- a site that a server may have
 abbrev pub IsSite : Site → Type 0
-IsSite site = fault_of site ≡ None
+IsSite site = (fault_of site ≡ None) × IsMessageLimit site.message_limit

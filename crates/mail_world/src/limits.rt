@@ -12,8 +12,12 @@ pub const NAME_LIMIT: usize = 255;
 /// A mailbox's name, in bytes.
 pub const BOX_NAME_LIMIT: usize = 32;
 
-/// A message with its CRLFs and without the dots of transparency, in bytes.
-pub const MESSAGE_LIMIT: usize = 1_048_576;
+/// A message with its CRLFs and without the dots of transparency, in bytes, where a site names no other limit.
+pub const MESSAGE_LIMIT: u32 = 1_048_576;
+
+/// The least and the largest limit that a site may name (RFC 5321, 4.5.3.1.7, asks for 64 KiB).
+pub const LEAST_MESSAGE_LIMIT: u32 = 65_536;
+pub const LARGEST_MESSAGE_LIMIT: u32 = 268_435_456;
 
 /// The digits of a SIZE parameter.
 pub const SIZE_DIGIT_LIMIT: usize = 20;

@@ -1,11 +1,12 @@
-use Rattle.std.proofs.Common.{◌∙◌, arith}
+use Rattle.std.proofs.Common.{ap, ◌∙◌, arith}
+use Rattle.std.specs.Prelude.{decimal}
 use Rattle.lmtp_text.proofs.ReplyTexts.{offer-put, drop-later}
 use Rattle.lmtp_text.proofs.reply.write_offer.Goals as goal
 
 pub returns-clause-text : goal.returns-clause-text
 returns-clause-text c = offer-put c.args.site.now c.host.result.now c.as_bytes-limit.result.now _ _ _ _ _
     c.put-front.ensures.front c.put-named.ensures.front c.put-offered.ensures.front c.put-sized.ensures.front c.put.ensures.front
-    c.host.ensures.value (c.as_bytes-limit.ensures.value ∙ c.format.ensures.text)
+    c.host.ensures.value (c.as_bytes-limit.ensures.value ∙ c.format.ensures.text ∙ ap decimal c.message_limit.ensures.value)
 
 pub returns-clause-rest : goal.returns-clause-rest
 returns-clause-rest c =
