@@ -30,7 +30,7 @@ use Rattle.mail_world.proofs.OtherSteps.{there_is}
 use Rattle.mail_world.proofs.MayHappen.{seal_happens, release_happens, hand_back_happens}
 use Rattle.mail_progress.specs.Orderly.{uncollected, not_taken, on_way, IsOrderly}
 use Rattle.mail_progress.specs.OrderlyRuns.{SlipsFindRoom}
-use Rattle.mail_progress.specs.NothingStuck.{Mover, AnyHolder, IsMovedBy, TheLane, TheWorker, LaneOrWorker, HasToOffer, IsOpenAndFull, HasHold, IsHolder, HasCopyFor, AreThere, AreClosed, NothingIsStuck, NothingIsStuckWhenClosed}
+use Rattle.mail_progress.specs.NothingStuck.{Mover, AnyHolder, IsMovedBy, TheLane, TheWorker, LaneOrWorker, HasToOffer, IsOpenAndFull, IsAtWork, HasHold, IsHolder, HasCopyFor, AreThere, AreClosed, NothingIsStuck, NothingIsStuckWhenClosed}
 use Rattle.mail_progress.proofs.Within.{to_give, slips_find_room}
 use Rattle.mail_progress.proofs.Found.{found_in}
 use Rattle.mail_progress.proofs.Kept.{HasKept, every_run_keeps, capacity_run}
@@ -281,7 +281,7 @@ has_busy key box has = elim (busy_posts box) [
 
 -- who moves a message under the key
 abbrev pub SealedMovers : (ℕ → Mover → Type 0) → House → Key → ℕ → Mover → Type 0
-SealedMovers Movers h key weight who = ((weight ≡ 0) × (who ≡ AnyHolder key)) ⊎ IsHolder Movers h key who
+SealedMovers Movers h key weight who = ((weight ≡ 0) × (who ≡ AnyHolder key)) ⊎ ((1 ≤ weight) × IsHolder Movers h key who)
 
 no_weight : (key : Key) (hold : Hold) → is_same_key hold.key key ≡ false → cond (is_same_key hold.key key) hold.weight 0 ≡ 0
 no_weight key hold e = ap (λ t. cond t hold.weight 0) e
@@ -312,9 +312,9 @@ sealed_by Movers room blocks next h f offers i slot bytes its (suc weight) at e 
     let lanes : Lane → List Hold = λ lane. lane.holds in
     let boxes : Box → List Hold = λ box. map hold_of (posts_of box) in
     elim (found_in lanes test g (no_weight key) h.lanes) [
-      | inl there ↦ widen (Movers there.0) Q room next h (λ who by. inr (inl (there.0, there.1, there.2, there.3, by))) (offers there.0 there.1 there.2 (has_some key _ there.3))
+      | inl there ↦ widen (Movers there.0) Q room next h (λ who by. inr (let some : 1 ≤ suc weight = omega arith in some, inl (there.0, there.1, there.2, there.3, by))) (offers there.0 there.1 there.2 (has_some key _ there.3))
       | inr no_lane ↦ elim (found_in boxes test g (no_weight key) h.boxes) [
-        | inl there ↦ widen (TheWorker there.0) Q room next h (λ who by. inr (inr (there.0, there.1, there.2, there.3, by)))
+        | inl there ↦ widen (TheWorker there.0) Q room next h (λ who by. inr (let some : 1 ≤ suc weight = omega arith in some, inr (there.0, there.1, there.2, there.3, by)))
             (busy_moves room blocks next h f there.0 there.1 there.2 (has_busy key there.1 there.3))
         | inr no_box ↦
             let sum : weight_of key (holds_of h) ≡ weight_under h.depot key = f.holds.sum key in
@@ -379,19 +379,27 @@ way_busy test box has = elim (busy_way box) [
 no_one : (txn : Txn) (p : ℕ) (post : Post) → is_copy txn p post.note ≡ false → ◌≡◌ {A = ℕ} (cond (is_copy txn p post.note) 1 0) 0
 no_one txn p post e = ap (λ t. cond t 1 0) e
 
+-- who moves an answer that isn't given
+abbrev AnswerMovers : (ℕ → Mover → Type 0) → House → ℕ → Lane → ℕ → Mover → Type 0
+AnswerMovers Movers h k lane p who = (IsAtWork lane × Movers k who) ⊎ ((IsAtWork lane → ⊥) × HasCopyFor h lane p who)
+
+none_at_work : (lane : Lane) → lane.holds ≡ [] → length lane.slips ≤ lane.collected → IsAtWork lane → ⊥
+none_at_work lane idle all (inl some) = some idle
+none_at_work lane idle all (inr low) = omega arith
+
 unanswered_by : (Movers : ℕ → Mover → Type 0) (room blocks : ℕ) (next : ℕ → ℕ) (h : House) → IsReached room blocks h → OffersMove Movers room next h
     → ((k : ℕ) (lane : Lane) → LaneIs h k lane → lane.collected < length lane.slips → IsMovedBy (Movers k) room next h)
-    → (k : ℕ) (lane : Lane) (p : ℕ) → LaneIs h k lane → slice_get lane.gather.places p ≡ Some None → IsMovedBy (λ who. Movers k who ⊎ HasCopyFor h lane p who) room next h
+    → (k : ℕ) (lane : Lane) (p : ℕ) → LaneIs h k lane → slice_get lane.gather.places p ≡ Some None → IsMovedBy (AnswerMovers Movers h k lane p) room next h
 unanswered_by Movers room blocks next h f offers collects k lane p at open' =
-    let Q : Mover → Type 0 = λ who. Movers k who ⊎ HasCopyFor h lane p who in
+    let Q : Mover → Type 0 = AnswerMovers Movers h k lane p in
     let test : Post → Bool = λ post. is_copy lane.gather.txn p post.note in
     let g : Post → ℕ = λ post. cond (is_copy lane.gather.txn p post.note) 1 0 in
     elim (some_holds lane) [
-      | inl some ↦ widen (Movers k) Q room next h (λ who by. inl by) (offers k lane at some)
+      | inl some ↦ widen (Movers k) Q room next h (λ who by. inl (inl some, by)) (offers k lane at some)
       | inr idle ↦ elim (low_or_full lane.collected (length lane.slips)) [
-        | inl low ↦ widen (Movers k) Q room next h (λ who by. inl by) (collects k lane at low)
+        | inl low ↦ widen (Movers k) Q room next h (λ who by. inl (inr low, by)) (collects k lane at low)
         | inr all ↦ elim (found_in on_way test g (no_one lane.gather.txn p) h.boxes) [
-          | inl there ↦ widen (TheWorker there.0) Q room next h (λ who by. inr (there.0, there.1, there.2, there.3, by))
+          | inl there ↦ widen (TheWorker there.0) Q room next h (λ who by. inr (none_at_work lane idle all, (there.0, there.1, there.2, there.3, by)))
               (busy_moves room blocks next h f there.0 there.1 there.2 (way_busy test there.1 there.3))
           | inr none ↦ absurd (no_answer k h.depot lane h.boxes p (f.tracked k lane at) (f.answers k lane at) (λ i t is top. f.for_last k lane i t at is top) idle all none open' lane.messages refl)
         ]

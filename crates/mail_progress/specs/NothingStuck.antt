@@ -12,7 +12,7 @@ use Rattle.mail_world.specs.Slips.{is_same_txn}
 use Rattle.mail_progress.specs.Orderly.{IsInOrder, IsOrderly, not_taken, on_way}
 use Rattle.mail_progress.specs.GoingOn.{GoesOn}
 
--- who takes the step: a lane, a worker, whoever knows the key of a message without holders, or someone outside
+-- who takes the step: a lane, a worker, anyone who reclaims the message under the key, or someone outside
 pub data Mover : Type 0 where
   LaneOf : (k : ℕ) → Mover
   WorkerOf : (w : ℕ) → Mover
@@ -63,6 +63,10 @@ abbrev pub LaneOrWorker : (ℕ → ℕ) → House → ℕ → Mover → Type 0
 LaneOrWorker next h k who = (who ≡ LaneOf k)
     ⊎ (HasToOffer h k × IsOpenAndFull h (next k) × (who ≡ WorkerOf (next k)))
 
+-- the lane has a copy to offer or a slip to collect
+abbrev pub IsAtWork : Lane → Type 0
+IsAtWork lane = (lane.holds ≢ []) ⊎ (lane.collected < length lane.slips)
+
 -- one of the holds is of the message under the key
 abbrev pub HasHold : Key → List Hold → Type 0
 HasHold key holds = list_any (λ (hold : Hold). is_same_key hold.key key) holds ≡ true
@@ -98,17 +102,18 @@ pub record NothingStuck (Movers : ℕ → Mover → Type 0) (room : ℕ) (next :
   -- a copy taken, in hand or released, and so a slip to give
   pub in_hand : (w : ℕ) (box : Box) (copy : Copy) → BoxIs h w box → box.hand ≡ Some copy
       → IsMovedBy (TheWorker w) room next h
-  -- a slip to collect, which the lane does once it has nothing to offer
+  -- a slip to collect, which the lane alone does once it has nothing to offer
   pub to_collect : (k : ℕ) (lane : Lane) → LaneIs h k lane → lane.collected < length lane.slips
       → IsMovedBy (Movers k) room next h
-  -- an answer not given, in a place of the lane's last message: those before were given when the next one began
+  -- an answer not given, in a place of the lane's last message (those before were given when the next one began): once
+  -- the lane has nothing to offer or to collect, a worker with the copy for that place moves it
   pub unanswered : (k : ℕ) (lane : Lane) (place : ℕ) → LaneIs h k lane → slice_get lane.gather.places place ≡ Some None
-      → IsMovedBy (λ who. Movers k who ⊎ HasCopyFor h lane place who) room next h
-  -- a message sealed and not reclaimed: a holder lets go of it, and after the last one this very message is reclaimed
+      → IsMovedBy (λ who. (IsAtWork lane × Movers k who) ⊎ ((IsAtWork lane → ⊥) × HasCopyFor h lane place who)) room next h
+  -- a message sealed and not reclaimed: its holders move it, and once it has none, anyone who reclaims this very message
   pub sealed : (i : ℕ) (slot : Slot) (bytes blocks : List ℕ) (weight : ℕ) → slice_get h.depot.slots i ≡ Some slot
       → slot.held ≡ Sealed bytes blocks weight
       → let key : Key = record { slot = i; generation = slot.generation } in
-      IsMovedBy (λ who. ((weight ≡ 0) × (who ≡ AnyHolder key)) ⊎ IsHolder Movers h key who) room next h
+      IsMovedBy (λ who. ((weight ≡ 0) × (who ≡ AnyHolder key)) ⊎ ((1 ≤ weight) × IsHolder Movers h key who)) room next h
 
 -- so it is in each house of each orderly run, where channels have a capacity and lanes room for slips
 abbrev pub NothingIsStuck : Type 0
