@@ -108,14 +108,17 @@ pub record NothingStuck (Movers : ℕ → Mover → Type 0) (room : ℕ) (next :
   -- an answer not given, in a place of the lane's last message (those before were given when the next one began): once
   -- the lane has nothing to offer or to collect, a worker with the copy for that place moves it
   pub unanswered : (k : ℕ) (lane : Lane) (place : ℕ) → LaneIs h k lane → slice_get lane.gather.places place ≡ Some None
-      → IsMovedBy (λ who. (IsAtWork lane × Movers k who) ⊎ ((IsAtWork lane → ⊥) × HasCopyFor h lane place who)) room next h
-  -- a message sealed and not reclaimed: its holders move it, and once it has none, anyone who reclaims this very message
+      → IsMovedBy (λ who. (IsAtWork lane × Movers k who) ⊎ ((IsAtWork lane → ⊥) × HasCopyFor h lane place who))
+      room next h
+  -- a message sealed and not reclaimed: its holders move it, and once it has none, anyone who reclaims this very
+  -- message
   pub sealed : (i : ℕ) (slot : Slot) (bytes blocks : List ℕ) (weight : ℕ) → slice_get h.depot.slots i ≡ Some slot
       → slot.held ≡ Sealed bytes blocks weight
       → let key : Key = record { slot = i; generation = slot.generation } in
       IsMovedBy (λ who. ((weight ≡ 0) × (who ≡ AnyHolder key)) ⊎ ((1 ≤ weight) × IsHolder Movers h key who)) room next h
 
--- so it is in each house of each orderly run, where channels have a capacity and lanes room for slips
+-- so it is in each house of each orderly run, where channels have a capacity, lanes room for slips, and the next copies
+-- mailboxes of the house
 abbrev pub NothingIsStuck : Type 0
 NothingIsStuck = (room blocks : ℕ) (start : House) (run : List Happened) → IsStart blocks start → Run start run
     → IsOrderly room start run → 1 ≤ room → 1 ≤ start.capacity

@@ -16,9 +16,9 @@ pub fn without_capacity_a_house_stands_still()
         × StandsStill 1 (last_house start run) }
 {}
 
-/// Room for one slip, channels for one copy, and a message of four copies for one mailbox: one slip is given, one copy
-/// is released, one waits, one can't be offered, and the lane collects only once all are. The run would be orderly if
-/// there were room for four slips.
+/// One lane, one mailbox, room for one slip, a channel for one copy, and one message, sealed for four copies: one slip is
+/// given, one copy is released, one waits, one can't be offered, and the lane collects only once all are. The run is
+/// orderly where there is room for four slips.
 pub fn with_too_many_copies_a_house_stands_still()
     ensures { (start : House) × (run : List Happened) × IsStart 2 start × Run start run × IsOrderly 4 start run
         × (start.capacity ≡ 1)
