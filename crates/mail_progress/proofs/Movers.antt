@@ -188,24 +188,30 @@ one_moves : (room blocks : ℕ) (next : ℕ → ℕ) (h : House) → IsReached r
 one_moves room blocks next h f c k lane hold box at there one channel true e =
     widen (TheLane k) (LaneOrWorker next h k) room next h (λ who by. inl by) (back_moves room blocks next h f k lane hold box at there one channel e)
 one_moves room blocks next h f c k lane hold box at there one channel false e = elim (low_or_full (length box.accepted) (box.taken + h.capacity)) [
-  | inl low ↦ widen (TheLane k) (LaneOrWorker next h k) room next h (λ who by. inl by) (offer_moves room blocks next h f c k lane hold box at there one channel e low)
+  | inl low ↦ widen (TheLane k) (LaneOrWorker next h k) room next h (λ who by. inl by)
+      (offer_moves room blocks next h f c k lane hold box at there one channel e low)
   | inr full ↦
       let has : HasToOffer h k = (lane, at, has_one lane hold there) in
       let is : IsOpenAndFull h (next k) = (box, channel, e, let above : h.capacity ≤ not_taken box = omega arith in above) in
-      widen (TheWorker (next k)) (LaneOrWorker next h k) room next h (λ who by. inr (has, is, by)) (accepted_moves room blocks next h f (next k) box channel (omega arith))
+      widen (TheWorker (next k)) (LaneOrWorker next h k) room next h (λ who by. inr (has, is, by))
+      (accepted_moves room blocks next h f (next k) box channel (omega arith))
 ]
 
-weight_moves : (room blocks : ℕ) (next : ℕ → ℕ) (h : House) → IsReached room blocks h → 1 ≤ h.capacity → AreThere next h → (k : ℕ) (lane : Lane) (hold : Hold) → LaneIs h k lane → slice_get lane.holds 0 ≡ Some hold → (n : ℕ) → hold.weight ≡ n → IsMovedBy (LaneOrWorker next h k) room next h
+weight_moves : (room blocks : ℕ) (next : ℕ → ℕ) (h : House) → IsReached room blocks h → 1 ≤ h.capacity → AreThere next h
+    → (k : ℕ) (lane : Lane) (hold : Hold) → LaneIs h k lane → slice_get lane.holds 0 ≡ Some hold → (n : ℕ) → hold.weight ≡ n
+    → IsMovedBy (LaneOrWorker next h k) room next h
 weight_moves room blocks next h f c all k lane hold at there zero e = let some = f.kept.some k lane 0 hold at there in absurd (omega arith)
 weight_moves room blocks next h f c all k lane hold at there (suc zero) e = let b = all k lane at in one_moves room blocks next h f c k lane hold b.0 at there e b.1 b.0.closed refl
 weight_moves room blocks next h f c all k lane hold at there (suc (suc n)) e =
     widen (TheLane k) (LaneOrWorker next h k) room next h (λ who by. inl by) (split_moves room next h k 0 lane hold at there (omega arith))
 
-holds_by : (room blocks : ℕ) (next : ℕ → ℕ) (h : House) → IsReached room blocks h → 1 ≤ h.capacity → AreThere next h → (k : ℕ) (lane : Lane) → LaneIs h k lane → (holds : List Hold) → lane.holds ≡ holds → holds ≢ [] → IsMovedBy (LaneOrWorker next h k) room next h
+holds_by : (room blocks : ℕ) (next : ℕ → ℕ) (h : House) → IsReached room blocks h → 1 ≤ h.capacity → AreThere next h
+    → (k : ℕ) (lane : Lane) → LaneIs h k lane → (holds : List Hold) → lane.holds ≡ holds → holds ≢ [] → IsMovedBy (LaneOrWorker next h k) room next h
 holds_by room blocks next h f c all k lane at [] e some = absurd (some refl)
 holds_by room blocks next h f c all k lane at (hold ∷ holds) e some = weight_moves room blocks next h f c all k lane hold at (ap (λ hs. slice_get hs 0) e) hold.weight refl
 
-pub offers_move : (room blocks : ℕ) (next : ℕ → ℕ) (h : House) → IsReached room blocks h → 1 ≤ h.capacity → AreThere next h → (k : ℕ) (lane : Lane) → LaneIs h k lane → lane.holds ≢ [] → IsMovedBy (LaneOrWorker next h k) room next h
+pub offers_move : (room blocks : ℕ) (next : ℕ → ℕ) (h : House) → IsReached room blocks h → 1 ≤ h.capacity → AreThere next h
+    → (k : ℕ) (lane : Lane) → LaneIs h k lane → lane.holds ≢ [] → IsMovedBy (LaneOrWorker next h k) room next h
 offers_move room blocks next h f c all k lane at some = holds_by room blocks next h f c all k lane at lane.holds refl some
 
 -- a slip to collect
@@ -220,11 +226,15 @@ collect_moves room next h k lane at some e =
       happens = (_, record { lane = lane; slip = front.0; is = at; front = front.1; after = refl });
     }
 
-collect_by : (room blocks : ℕ) (next : ℕ → ℕ) (h : House) → IsReached room blocks h → 1 ≤ h.capacity → AreThere next h → (k : ℕ) (lane : Lane) → LaneIs h k lane → lane.collected < length lane.slips → (holds : List Hold) → lane.holds ≡ holds → IsMovedBy (LaneOrWorker next h k) room next h
-collect_by room blocks next h f c all k lane at some [] e = widen (TheLane k) (LaneOrWorker next h k) room next h (λ who by. inl by) (collect_moves room next h k lane at some e)
+collect_by : (room blocks : ℕ) (next : ℕ → ℕ) (h : House) → IsReached room blocks h → 1 ≤ h.capacity → AreThere next h
+    → (k : ℕ) (lane : Lane) → LaneIs h k lane → lane.collected < length lane.slips → (holds : List Hold) → lane.holds ≡ holds
+    → IsMovedBy (LaneOrWorker next h k) room next h
+collect_by room blocks next h f c all k lane at some [] e =
+    widen (TheLane k) (LaneOrWorker next h k) room next h (λ who by. inl by) (collect_moves room next h k lane at some e)
 collect_by room blocks next h f c all k lane at some (hold ∷ holds) e = holds_by room blocks next h f c all k lane at (hold ∷ holds) e (λ bad. cc)
 
-pub collects_move : (room blocks : ℕ) (next : ℕ → ℕ) (h : House) → IsReached room blocks h → 1 ≤ h.capacity → AreThere next h → (k : ℕ) (lane : Lane) → LaneIs h k lane → lane.collected < length lane.slips → IsMovedBy (LaneOrWorker next h k) room next h
+pub collects_move : (room blocks : ℕ) (next : ℕ → ℕ) (h : House) → IsReached room blocks h → 1 ≤ h.capacity → AreThere next h
+    → (k : ℕ) (lane : Lane) → LaneIs h k lane → lane.collected < length lane.slips → IsMovedBy (LaneOrWorker next h k) room next h
 collects_move room blocks next h f c all k lane at some = collect_by room blocks next h f c all k lane at some lane.holds refl
 
 -- a draft
@@ -286,7 +296,9 @@ SealedMovers Movers h key weight who = ((weight ≡ 0) × (who ≡ AnyHolder key
 no_weight : (key : Key) (hold : Hold) → is_same_key hold.key key ≡ false → cond (is_same_key hold.key key) hold.weight 0 ≡ 0
 no_weight key hold e = ap (λ t. cond t hold.weight 0) e
 
-unfoldable pub reclaim_moves : (room : ℕ) (next : ℕ → ℕ) (h : House) (i : ℕ) (slot : Slot) (bytes its : List ℕ) → slice_get h.depot.slots i ≡ Some slot → slot.held ≡ Sealed bytes its 0 → IsMovedBy (λ who. who ≡ AnyHolder (record { slot = i; generation = slot.generation })) room next h
+unfoldable pub reclaim_moves : (room : ℕ) (next : ℕ → ℕ) (h : House) (i : ℕ) (slot : Slot) (bytes its : List ℕ)
+    → slice_get h.depot.slots i ≡ Some slot → slot.held ≡ Sealed bytes its 0
+    → IsMovedBy (λ who. who ≡ AnyHolder (record { slot = i; generation = slot.generation })) room next h
 reclaim_moves room next h i slot bytes its at e =
     let key : Key = record { slot = i; generation = slot.generation } in
     record {
@@ -306,15 +318,17 @@ sealed_by Movers room blocks next h f offers i slot bytes its zero at e =
 sealed_by Movers room blocks next h f offers i slot bytes its (suc weight) at e =
     let key : Key = record { slot = i; generation = slot.generation } in
     let Q : Mover → Type 0 = SealedMovers Movers h key (suc weight) in
+    let some : 1 ≤ suc weight = omega arith in
     let heavy : weight_under h.depot key ≡ suc weight = ap weight_held (under h i slot at ∙ e) in
     let test : Hold → Bool = λ hold. is_same_key hold.key key in
     let g : Hold → ℕ = λ hold. cond (is_same_key hold.key key) hold.weight 0 in
     let lanes : Lane → List Hold = λ lane. lane.holds in
     let boxes : Box → List Hold = λ box. map hold_of (posts_of box) in
     elim (found_in lanes test g (no_weight key) h.lanes) [
-      | inl there ↦ widen (Movers there.0) Q room next h (λ who by. inr (let some : 1 ≤ suc weight = omega arith in some, inl (there.0, there.1, there.2, there.3, by))) (offers there.0 there.1 there.2 (has_some key _ there.3))
+      | inl there ↦ widen (Movers there.0) Q room next h (λ who by. inr (some, inl (there.0, there.1, there.2, there.3, by)))
+          (offers there.0 there.1 there.2 (has_some key _ there.3))
       | inr no_lane ↦ elim (found_in boxes test g (no_weight key) h.boxes) [
-        | inl there ↦ widen (TheWorker there.0) Q room next h (λ who by. inr (let some : 1 ≤ suc weight = omega arith in some, inr (there.0, there.1, there.2, there.3, by)))
+        | inl there ↦ widen (TheWorker there.0) Q room next h (λ who by. inr (some, inr (there.0, there.1, there.2, there.3, by)))
             (busy_moves room blocks next h f there.0 there.1 there.2 (has_busy key there.1 there.3))
         | inr no_box ↦
             let sum : weight_of key (holds_of h) ≡ weight_under h.depot key = f.holds.sum key in

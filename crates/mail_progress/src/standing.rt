@@ -16,8 +16,8 @@ pub fn without_capacity_a_house_stands_still()
         × StandsStill 1 (last_house start run) }
 {}
 
-/// One lane, one mailbox, room for one slip, a channel for one copy, and one message, sealed for four copies: one slip is
-/// given, one copy is released, one waits, one can't be offered, and the lane collects only once all are. The run is
+/// One lane, one mailbox, room for one slip, a channel for one copy, and one message, sealed for four copies: one slip
+/// is given, one copy is released, one waits, one can't be offered, and the lane collects only once all are. The run is
 /// orderly where there is room for four slips.
 pub fn with_too_many_copies_a_house_stands_still()
     ensures { (start : House) × (run : List Happened) × IsStart 2 start × Run start run × IsOrderly 4 start run
