@@ -77,7 +77,7 @@ def check_words():
 def check_version():
     """The version names the toolchain as the toolchain itself does, where it is there."""
     status, said = said_by(LMTPD, "--version")
-    kit = r"lmtpd [0-9.]+ \((rattle-kit-\w+), (logic [0-9a-f]{16})\)\n"
+    kit = r"lmtpd [0-9.]+ \(([^ ,]+), (logic [0-9a-f]+)\)\n"
     assert status == 0 and re.fullmatch(kit, said), said
     if shutil.which("rt"):
         assert said_by("rt", "version")[1].strip() == " ".join(re.fullmatch(kit, said).groups()), said
