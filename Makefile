@@ -33,12 +33,14 @@ build: toolchain
 	cd crates/lmtpd && rt run -- $$(cat args) < stdin > /dev/null
 
 # Installs the program that `make build` made, its manual page, its unit for systemd with the user and the folder that
-# it needs, and what bash completes. DESTDIR stands before all paths.
+# it needs, and what bash completes, each where Debian has it. DESTDIR stands before all paths.
 PREFIX ?= /usr/local
 install:
 	@[ -x $(PROGRAM) ] || { echo 'make install: no proved program is built yet (make build)' >&2; exit 1; }
-	install -D -m 0755 $(PROGRAM) $(DESTDIR)$(PREFIX)/bin/lmtpd
-	install -D -m 0644 packaging/lmtpd.8 $(DESTDIR)$(PREFIX)/share/man/man8/lmtpd.8
+	install -D -m 0755 $(PROGRAM) $(DESTDIR)$(PREFIX)/sbin/lmtpd
+	install -d $(DESTDIR)$(PREFIX)/share/man/man8
+	gzip -9n < packaging/lmtpd.8 > $(DESTDIR)$(PREFIX)/share/man/man8/lmtpd.8.gz
+	chmod 0644 $(DESTDIR)$(PREFIX)/share/man/man8/lmtpd.8.gz
 	install -D -m 0644 packaging/lmtpd.bash $(DESTDIR)$(PREFIX)/share/bash-completion/completions/lmtpd
 	install -D -m 0644 packaging/lmtpd.sysusers $(DESTDIR)$(PREFIX)/lib/sysusers.d/lmtpd.conf
 	install -D -m 0644 packaging/lmtpd.tmpfiles $(DESTDIR)$(PREFIX)/lib/tmpfiles.d/lmtpd.conf
