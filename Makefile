@@ -56,7 +56,7 @@ check:
 test:
 	@tests/gate.sh
 
-# The server with the real programs of a site: relays and readers. It wants root and Debian's packages.
+# The server with the real programs of a site: relays and readers. It needs root and Debian's packages.
 real:
 	@tests/real/run.sh
 
