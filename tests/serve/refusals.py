@@ -115,7 +115,7 @@ def no_folder(folder):
 
 @case
 def numbers_out_of_range(folder):
-    """numbers, levels, a folder and words that are refused as clap does: a text in its form, status 2, and no mailbox is made"""
+    """numbers, levels, a folder and words that are refused as clap does: its form, status 2, and no mailbox is made"""
     good = words(folder, ["anna"], 1)
     for name, value in NUMBERS:
         given = good + [name, str(value)]
