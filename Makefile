@@ -2,7 +2,10 @@
 
 PROGRAM := crates/lmtpd/out/lmtpd
 
-.PHONY: rehearse build install check test real wrong-bodies benchmarks
+# Where the program's version names the toolchain.
+TEXTS := crates/lmtpd_words/src/texts.rt
+
+.PHONY: rehearse toolchain build install check test real wrong-bodies benchmarks
 
 # One conversation: the replies, and then the mailbox. Where no proved program stands yet, the sources are run with
 # checks, unproved.
@@ -14,18 +17,30 @@ rehearse:
 	    cd crates/lmtpd && rt try -- $$(cat args) < stdin; \
 	fi
 
+# Has the program's version name the toolchain that is here, as `rt version` does. It says so where it changed the file,
+# which is committed then.
+toolchain:
+	@named=$$(rt version | sed -nE 's/^([^ ]+) (logic [0-9a-f]+)$$/\1, \2/p'); \
+	[ -n "$$named" ] || { echo 'make toolchain: `rt version` names no toolchain' >&2; exit 1; }; \
+	! grep -qF " ($$named)\";" $(TEXTS) || exit 0; \
+	sed -i -E "s/\"([0-9.]+) \([^)]*, logic [0-9a-f]+\)\";/\"\1 ($$named)\";/" $(TEXTS); \
+	grep -qF " ($$named)\";" $(TEXTS) || { echo 'make toolchain: $(TEXTS) has no version' >&2; exit 1; }; \
+	cd crates/lmtpd_words && rt fmt && echo "$(TEXTS) names another toolchain now, $$named: commit it"
+
 # Proves all and builds the program, one crate after the other: half an hour to an hour the first time. Only a proved
 # crate is built.
-build:
+build: toolchain
 	cd crates/lmtpd && rt run -- $$(cat args) < stdin > /dev/null
 
 # Installs the program that `make build` made, its manual page, its unit for systemd with the user and the folder that
-# it wants, and what bash completes. DESTDIR stands before all paths.
+# it needs, and what bash completes, each where Debian has it. DESTDIR stands before all paths.
 PREFIX ?= /usr/local
 install:
 	@[ -x $(PROGRAM) ] || { echo 'make install: no proved program is built yet (make build)' >&2; exit 1; }
-	install -D -m 0755 $(PROGRAM) $(DESTDIR)$(PREFIX)/bin/lmtpd
-	install -D -m 0644 packaging/lmtpd.8 $(DESTDIR)$(PREFIX)/share/man/man8/lmtpd.8
+	install -D -m 0755 $(PROGRAM) $(DESTDIR)$(PREFIX)/sbin/lmtpd
+	install -d $(DESTDIR)$(PREFIX)/share/man/man8
+	gzip -9n < packaging/lmtpd.8 > $(DESTDIR)$(PREFIX)/share/man/man8/lmtpd.8.gz
+	chmod 0644 $(DESTDIR)$(PREFIX)/share/man/man8/lmtpd.8.gz
 	install -D -m 0644 packaging/lmtpd.bash $(DESTDIR)$(PREFIX)/share/bash-completion/completions/lmtpd
 	install -D -m 0644 packaging/lmtpd.sysusers $(DESTDIR)$(PREFIX)/lib/sysusers.d/lmtpd.conf
 	install -D -m 0644 packaging/lmtpd.tmpfiles $(DESTDIR)$(PREFIX)/lib/tmpfiles.d/lmtpd.conf
@@ -37,11 +52,11 @@ install:
 check:
 	rt all check
 
-# Proves everything from nothing, tries the must-fail edits, and runs the program, the tests and the scripts of tests/.
+# Proves everything, tries the must-fail edits, and runs the program, the tests and the scripts of tests/.
 test:
 	@tests/gate.sh
 
-# The server with the real programs of a site: relays and readers. It wants root and Debian's packages.
+# The server with the real programs of a site: relays and readers. It needs root and Debian's packages.
 real:
 	@tests/real/run.sh
 

@@ -1,10 +1,10 @@
 #!/usr/bin/env bash
-# The gate, from nothing. First `rt ci`: proves every crate and its tests, tries the must-fail edits, runs the
-# program and the tests; and beside it, on the cores that it leaves idle, the scripts of tests/ that want the sources
-# alone. Then, over what was built, the other scripts, side by side. A script that lacks something of the machine says
-# so and ends with status 77: that is counted apart, as absent. The last line counts all: 'N passed, M failed'. The
-# benchmarks' programs are only compiled (tests/benchmarks.sh), and proved by `make benchmarks`: what `rt ci` proved
-# serves no other command, so it proves the crates below them once more.
+# The gate. First the program's version gets the name of the toolchain that proves it (`make toolchain`), which is said
+# where it had another. Then `rt ci`: proves every crate and its tests, tries the must-fail edits, runs the program and
+# the tests; and beside it, on the cores that it leaves idle, the scripts of tests/ that need the sources alone. Then,
+# over what was built, the other scripts, side by side. A script that lacks something of the machine says so and ends
+# with status 77: that is counted apart, as absent. The last line counts all: 'N passed, M failed'. The benchmarks'
+# programs are only compiled (tests/benchmarks.sh), and proved by `make benchmarks`.
 # usage: tests/gate.sh [--scripts]: with the word only the scripts, on what stands built
 set -uo pipefail
 cd "$(dirname "$0")/.."
@@ -75,6 +75,7 @@ jobs_at_once() {
 said=$(mktemp -d)
 trap 'rm -rf "$said"' EXIT
 if [ "${1:-}" != --scripts ]; then
+    make -s toolchain || failed=$((failed + 1))
     play_on_sources &
     RT_JOBS=${RT_JOBS:-$(jobs_at_once)} rt ci 2>&1 | tee "$said/rt"
     count "$said/rt"

@@ -5,7 +5,7 @@
 # is built already.
 set -euo pipefail
 cd "$(dirname "$0")/.."
-. tests/needs bash make python3
+. tests/needs bash gzip make python3
 if [ -z "${LMTPD:-}" ]; then
     make -s build
     LMTPD=$PWD/crates/lmtpd/out/lmtpd

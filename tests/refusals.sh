@@ -26,6 +26,7 @@ try() {
 }
 
 good=(rehearse --host mx.example --time 0)
+serve=(serve --host mx.example --listen 127.0.0.1:0 --connections 1)
 many=()
 for i in {1..257}; do many+=("box$i"); done
 
@@ -61,6 +62,9 @@ try 2 clap check
 try 2 clap check --quota 1 anna.mbox
 try 2 clap "${good[@]}" --log info anna
 try 2 clap check --log info anna.mbox
+try 2 clap "${serve[@]}" --dir '' anna
+try 2 clap "${serve[@]}" --dir= anna
+try 1 'lmtpd: cannot open anna.mbox' "${serve[@]}" --dir /nowhere anna
 try 2 clap "${good[@]}" --lock-wait 10 anna
 try 2 clap check --lock-wait 10 anna.mbox
 try 2 clap "${good[@]}" --mailbox-mode 0600 anna

@@ -1,5 +1,6 @@
 """Compares packaging/ with the program's own help, for tests/packaging.sh."""
 
+import gzip
 import os
 import pathlib
 import re
@@ -12,8 +13,8 @@ LMTPD = os.environ["LMTPD"]
 PAGE = pathlib.Path("packaging/lmtpd.8").read_text()
 COMPLETION = pathlib.Path("packaging/lmtpd.bash").read_text()
 INSTALLED = [
-    "bin/lmtpd",
-    "share/man/man8/lmtpd.8",
+    "sbin/lmtpd",
+    "share/man/man8/lmtpd.8.gz",
     "share/bash-completion/completions/lmtpd",
     "lib/sysusers.d/lmtpd.conf",
     "lib/tmpfiles.d/lmtpd.conf",
@@ -77,7 +78,7 @@ def check_words():
 def check_version():
     """The version names the toolchain as the toolchain itself does, where it is there."""
     status, said = said_by(LMTPD, "--version")
-    kit = r"lmtpd [0-9.]+ \((rattle-kit-\w+), (logic [0-9a-f]{16})\)\n"
+    kit = r"lmtpd [0-9.]+ \(([^ ,]+), (logic [0-9a-f]+)\)\n"
     assert status == 0 and re.fullmatch(kit, said), said
     if shutil.which("rt"):
         assert said_by("rt", "version")[1].strip() == " ".join(re.fullmatch(kit, said).groups()), said
@@ -91,8 +92,9 @@ def check_install(folder):
     assert status == 0, (program, said)
     found = sorted(str(path.relative_to(prefix)) for path in prefix.rglob("*") if path.is_file())
     assert found == sorted(INSTALLED), found
+    assert gzip.decompress((prefix / "share/man/man8/lmtpd.8.gz").read_bytes()).decode() == PAGE
     unit = prefix / "lib/systemd/system/lmtpd.service"
-    assert f"ExecStart={prefix}/bin/lmtpd serve " in unit.read_text()
+    assert f"ExecStart={prefix}/sbin/lmtpd serve " in unit.read_text()
     assert " --log info " in unit.read_text()
     if shutil.which("systemd-analyze"):
         # what this machine's own units say isn't ours

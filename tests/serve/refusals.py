@@ -115,7 +115,7 @@ def no_folder(folder):
 
 @case
 def numbers_out_of_range(folder):
-    """numbers, levels and words that are refused as clap does: a text in its form, status 2, and no mailbox is made"""
+    """numbers, levels, a folder and words that are refused as clap does: its form, status 2, and no mailbox is made"""
     good = words(folder, ["anna"], 1)
     for name, value in NUMBERS:
         given = good + [name, str(value)]
@@ -131,6 +131,10 @@ def numbers_out_of_range(folder):
     ended = run([*good, "--log", "off", "--log", "info"])
     equal((ended.status, ended.errors[0].split("'")[0]), (2, "error: the argument "))
     equal(run([*good, "--log", "warn"]).errors[0], "error: invalid value for '--log <LEVEL>': it is off, error or info")
+    folders = "error: invalid value for '--dir <FOLDER>': it is the path of a folder, and not empty"
+    at = good.index("--dir") + 1
+    ended = run([*good[:at], "", *good[at + 1 :], "--log", "warn"])
+    equal((ended.status, ended.said, ended.errors[0]), (2, [], folders))
     mode = "error: invalid value for '--mailbox-mode <MODE>': it is 1 to 4 octal digits, 0777 at most"
     equal(run([*good, "--mailbox-mode", "1777"]).errors[0], mode)
     equal(list(folder.iterdir()), [])

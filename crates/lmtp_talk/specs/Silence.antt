@@ -1,7 +1,7 @@
 -- When a stream's error says that nothing happened within its time.
 use Rattle.std.specs.Prelude.{◌≡◌, ◌⊎◌}
-use Rattle.std_io.specs.declared.io.kind.ErrorKind.{ErrorKind}
-use Rattle.std_io.specs.declared.io.kind.ErrorKind.TheVariants.{WouldBlock, TimedOut}
+use Rattle.std.specs.declared.io.ErrorKind.{ErrorKind}
+use Rattle.std.specs.declared.io.ErrorKind.TheVariants.{WouldBlock, TimedOut}
 
 -- the system gave the call up for time: a timeout of a socket is told as either
 abbrev pub IsSilence : ErrorKind → Type 0

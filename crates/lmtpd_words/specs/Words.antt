@@ -84,6 +84,14 @@ IsMode (Some text) mode = WritesMode text × (mode ≡ octal text)
 abbrev pub IsNoMode : Option Text → Type 0
 IsNoMode given = (mode : ℕ) → IsMode given mode → ⊥
 
+-- the folder that a text names: an empty text names none
+abbrev pub IsFolder : Option Text → Text → Type 0
+IsFolder given folder = (given ≡ Some folder) × (0 < length folder)
+
+-- no text is given, or an empty one
+abbrev pub IsNoFolder : Option Text → Type 0
+IsNoFolder given = (folder : Text) → IsFolder given folder → ⊥
+
 -- the site that the values of the arguments name
 pub record IsSiteRead (rows : List Row) (words : SiteWords) : Type 0 where
   pub host : first_of (codes "host") rows ≡ Some words.host.now
@@ -101,7 +109,7 @@ pub record IsRehearseRead (rows : List Row) (words : RehearseWords) : Type 0 whe
 pub record IsServeRead (rows : List Row) (words : ServeWords) : Type 0 where
   pub site : IsSiteRead rows words.site
   pub listen : first_of (codes "listen") rows ≡ Some words.listen.now
-  pub dir : first_of (codes "dir") rows ≡ Some words.dir.now
+  pub dir : IsFolder (first_of (codes "dir") rows) words.dir.now
   pub connections : option_map number (one_of (codes "connections") rows) ≡ Some words.connections
   pub lanes : IsNumberOr DEFAULT_LANES (one_of (codes "lanes") rows) words.lanes
   pub blocks : IsNumberOr DEFAULT_BLOCKS (one_of (codes "blocks") rows) words.blocks
@@ -117,7 +125,7 @@ pub record IsServeRead (rows : List Row) (words : ServeWords) : Type 0 where
 pub record IsCheckRead (rows : List Row) (words : CheckWords) : Type 0 where
   pub files : all_of (codes "file") rows ≡ Some (texts words.files.items)
 
--- an argument that must be given has no value, or no number; or the level or the mode is none
+-- an argument that must be given has no value, or no number; or the folder, the level or the mode is none
 abbrev pub LacksText : List ℕ → List Row → Type 0
 LacksText name rows = first_of name rows ≡ None
 
@@ -132,7 +140,7 @@ LacksRehearse rows = LacksNumber (codes "time") rows ⊎ LacksSite rows
 
 abbrev pub LacksServe : List Row → Type 0
 LacksServe rows =
-    LacksText (codes "listen") rows ⊎ (LacksText (codes "dir") rows ⊎ (LacksNumber (codes "connections") rows
+    LacksText (codes "listen") rows ⊎ (IsNoFolder (first_of (codes "dir") rows) ⊎ (LacksNumber (codes "connections") rows
     ⊎ (IsNoLevel (first_of (codes "log") rows) ⊎ (IsNoMode (first_of (codes "mailbox-mode") rows) ⊎ LacksSite rows))))
 
 abbrev pub LacksCheck : List Row → Type 0

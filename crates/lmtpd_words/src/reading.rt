@@ -49,7 +49,7 @@ pub fn not_text(alloc: Global) -> Result<Error, AllocError>
     unusable(alloc, BAD_TEXT)
 }
 
-// The error for a value that clap doesn't judge: words that aren't UTF-8, the level and the mode.
+// The error for a value that clap doesn't judge: words that aren't UTF-8, the folder, the level and the mode.
 fn unusable(alloc: Global, why: &str) -> Result<Error, AllocError>
     ensures { IfOk result (λ e. kind_of e ≡ ErrorKind.InvalidValue) }
 {

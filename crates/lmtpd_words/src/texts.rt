@@ -1,8 +1,12 @@
 //! The version, the errors that `clap` leaves to us, and what help says behind the words: examples, and what each exit
 //! status means.
 
-/// The program's version, and the toolchain that proves it, as `rt version` names it.
-pub const VERSION: &str = "0.1.0 (rattle-kit-13f, logic dac8208d650f15bf)";
+/// The program's version, and the toolchain that proves it, as `rt version` names it: `make toolchain` writes it here.
+pub const VERSION: &str = "0.1.0 (rattle-kit-13b, logic dac8208d650f15bf)";
+
+/// The error for a folder that is none.
+pub const BAD_FOLDER: &str =
+    "invalid value for '--dir <FOLDER>': it is the path of a folder, and not empty";
 
 /// The error for a level that is none.
 pub const BAD_LEVEL: &str = "invalid value for '--log <LEVEL>': it is off, error or info";

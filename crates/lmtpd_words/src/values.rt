@@ -5,11 +5,11 @@ ghost use Rattle.clap.specs.Words.{Text, first_of, found_of, one_of, rows_of, su
 ghost use Rattle.std.specs.Option.{option_map, option_map_or};
 ghost use Rattle.lmtp_text.specs.Sites.{texts};
 ghost use Rattle.lmtpd_words.specs.Words.{IsAsked, IsCheckRead, IsLimit, IsNumberOr, IsRehearseRead, IsServeRead};
-ghost use Rattle.lmtpd_words.specs.Words.{IsLevel, IsMode, IsNoLevel, IsNoMode, IsSiteRead, is_log_level};
+ghost use Rattle.lmtpd_words.specs.Words.{IsFolder, IsLevel, IsMode, IsNoFolder, IsNoLevel, IsNoMode, IsSiteRead};
 ghost use Rattle.lmtpd_words.specs.Words.{IsLacking, LacksCheck, LacksNumber, LacksRehearse, LacksServe, LacksSite};
-ghost use Rattle.lmtpd_words.specs.Words.{number, listed};
+ghost use Rattle.lmtpd_words.specs.Words.{is_log_level, number, listed};
 
-use crate::texts::{BAD_LEVEL, BAD_MODE};
+use crate::texts::{BAD_FOLDER, BAD_LEVEL, BAD_MODE};
 use crate::words::{
     CheckWords, DEFAULT_BLOCKS, DEFAULT_CAPACITY, DEFAULT_LANES, DEFAULT_LOCK_WAIT, DEFAULT_LOG,
     DEFAULT_MAILBOX_MODE, DEFAULT_READS, DEFAULT_TIMEOUT, MODE_DIGIT_LIMIT, RehearseWords,
@@ -20,7 +20,7 @@ use log::LevelFilter;
 use mail_world::limits::MODE_LIMIT;
 use std::alloc::{AllocError, Global};
 
-/// What the subcommand asks for, and none where a value is missing, or the level or the mode is none.
+/// What the subcommand asks for, and none where a value is missing, or the folder, the level or the mode is none.
 pub fn words_of<'a>(
     alloc: Global,
     matches: &ArgMatches<'a>,
@@ -49,9 +49,10 @@ pub fn words_of<'a>(
     }
 }
 
-/// What is said where a value is refused that `clap` leaves to us: the level comes first.
+/// What is said where a value is refused that `clap` leaves to us: the folder comes first, then the level.
 pub fn refused_text(matches: &ArgMatches<'_>) -> &'static str {
     match matches.subcommand_matches("serve") {
+        Some(serve) if folder_of(serve).is_none() => BAD_FOLDER,
         Some(serve) if log_of(serve).is_none() => BAD_LEVEL,
         _ => BAD_MODE,
     }
@@ -88,7 +89,7 @@ fn serve_words<'a>(
     let Some(listen) = matches.get_str("listen") else {
         return Ok(None);
     };
-    let Some(dir) = matches.get_str("dir") else {
+    let Some(dir) = folder_of(matches) else {
         return Ok(None);
     };
     let Some(connections) = number_of(matches, "connections") else {
@@ -173,6 +174,26 @@ fn quota_of(matches: &ArgMatches<'_>) -> Option<u64>
     ensures { IsLimit (one_of (codes "quota") (rows_of (found_of matches.now))) result }
 {
     matches.get_one::<u64>("quota")
+}
+
+// The folder that was given; none where none was, or an empty text.
+fn folder_of<'a>(matches: &ArgMatches<'a>) -> Option<&'a str>
+    ensures { let given = first_of (codes "dir") (rows_of (found_of matches.now)) in
+        MatchOption result (IsNoFolder given) (λ folder. IsFolder given folder.now) }
+{
+    match matches.get_str("dir") {
+        Some(text) => folder_in(text),
+        None => None,
+    }
+}
+
+fn folder_in(text: &str) -> Option<&str>
+    ensures { MatchOption result (IsNoFolder (Some text.now)) (λ folder. IsFolder (Some text.now) folder.now) }
+{
+    if text.is_empty() {
+        return None;
+    }
+    Some(text)
 }
 
 // The level that was given, and else the usual one; none where the text names no level of ours.

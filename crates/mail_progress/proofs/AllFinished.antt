@@ -122,8 +122,9 @@ finished_by Movers room blocks next events h s = record {
 }
 
 pub ends_finished : EndsFinished
-ends_finished room blocks start run is r o some capable next all still = elim capable [
-  | inl capacity ↦ finished_by (LaneOrWorker next) room blocks next (events_of run) (last_house start run) (known (LaneOrWorker next) (nothing_is_stuck room blocks start run is r o some capacity next all))
+ends_finished room blocks start run is r o some capable next all still = let h = last_house start run in elim capable [
+  | inl capacity ↦ finished_by (LaneOrWorker next h) room blocks next (events_of run) h
+      (known (LaneOrWorker next h) (nothing_is_stuck room blocks start run is r o some capacity next all))
   | inr shut ↦ finished_by TheLane room blocks next (events_of run) (last_house start run) (known TheLane (nothing_is_stuck_when_closed room blocks start run is r o some next all shut))
 ]
   where

@@ -195,7 +195,9 @@ no_spent h none event happens e = absurd (omega arith)
 
 spent_ranks : (room : ℕ) (next : ℕ → ℕ) (h : House) (i : ℕ) (slot : Slot) → slice_get h.depot.slots i ≡ Some slot → IsSpent i slot → HasRank room next h 9
 unfolding reclaim_moves
-spent_ranks room next h i slot at spent = (goes_on (λ who. who ≡ AnyHolder) room next h (reclaim_moves room next h i slot spent.0 spent.1 at spent.2), refl)
+spent_ranks room next h i slot at spent =
+    let key : Key = record { slot = i; generation = slot.generation } in
+    (goes_on (λ who. who ≡ AnyHolder key) room next h (reclaim_moves room next h i slot spent.0 spent.1 at spent.2), refl)
 
 pub reclaims_decided : (room : ℕ) (next : ℕ → ℕ) (h : House) → IsDecided room next h 9
 reclaims_decided room next h = elim (search_for IsSpent h.depot.slots (λ i slot at. is_spent i slot)) [

@@ -30,7 +30,7 @@ use Rattle.mail_world.proofs.OtherSteps.{there_is}
 use Rattle.mail_world.proofs.MayHappen.{seal_happens, release_happens, hand_back_happens}
 use Rattle.mail_progress.specs.Orderly.{uncollected, not_taken, on_way, IsOrderly}
 use Rattle.mail_progress.specs.OrderlyRuns.{SlipsFindRoom}
-use Rattle.mail_progress.specs.NothingStuck.{Mover, AnyHolder, IsMovedBy, TheLane, TheWorker, LaneOrWorker, HasHold, IsHolder, HasCopyFor, AreThere, AreClosed, NothingIsStuck, NothingIsStuckWhenClosed}
+use Rattle.mail_progress.specs.NothingStuck.{Mover, AnyHolder, IsMovedBy, TheLane, TheWorker, LaneOrWorker, HasToOffer, IsOpenAndFull, IsAtWork, HasHold, IsHolder, HasCopyFor, AreThere, AreClosed, NothingIsStuck, NothingIsStuckWhenClosed}
 use Rattle.mail_progress.proofs.Within.{to_give, slips_find_room}
 use Rattle.mail_progress.proofs.Found.{found_in}
 use Rattle.mail_progress.proofs.Kept.{HasKept, every_run_keeps, capacity_run}
@@ -180,26 +180,38 @@ back_moves room blocks next h f k lane hold box at there one channel closed =
 pub low_or_full : (a b : ℕ) → (a < b) ⊎ (b ≤ a)
 low_or_full a b = grind arith
 
+has_one : (lane : Lane) (hold : Hold) → slice_get lane.holds 0 ≡ Some hold → lane.holds ≢ []
+has_one lane hold there e = let bad : None ≡ Some hold = sym (ap (λ hs. slice_get hs 0) e) ∙ there in cc
+
 one_moves : (room blocks : ℕ) (next : ℕ → ℕ) (h : House) → IsReached room blocks h → 1 ≤ h.capacity → (k : ℕ) (lane : Lane) (hold : Hold) (box : Box) → LaneIs h k lane → slice_get lane.holds 0 ≡ Some hold → hold.weight ≡ 1
-    → BoxIs h (next k) box → (t : Bool) → box.closed ≡ t → IsMovedBy (LaneOrWorker next k) room next h
+    → BoxIs h (next k) box → (t : Bool) → box.closed ≡ t → IsMovedBy (LaneOrWorker next h k) room next h
 one_moves room blocks next h f c k lane hold box at there one channel true e =
-    widen (TheLane k) (LaneOrWorker next k) room next h (λ who by. inl by) (back_moves room blocks next h f k lane hold box at there one channel e)
+    widen (TheLane k) (LaneOrWorker next h k) room next h (λ who by. inl by) (back_moves room blocks next h f k lane hold box at there one channel e)
 one_moves room blocks next h f c k lane hold box at there one channel false e = elim (low_or_full (length box.accepted) (box.taken + h.capacity)) [
-  | inl low ↦ widen (TheLane k) (LaneOrWorker next k) room next h (λ who by. inl by) (offer_moves room blocks next h f c k lane hold box at there one channel e low)
-  | inr full ↦ widen (TheWorker (next k)) (LaneOrWorker next k) room next h (λ who by. inr by) (accepted_moves room blocks next h f (next k) box channel (omega arith))
+  | inl low ↦ widen (TheLane k) (LaneOrWorker next h k) room next h (λ who by. inl by)
+      (offer_moves room blocks next h f c k lane hold box at there one channel e low)
+  | inr full ↦
+      let has : HasToOffer h k = (lane, at, has_one lane hold there) in
+      let is : IsOpenAndFull h (next k) = (box, channel, e, let above : h.capacity ≤ not_taken box = omega arith in above) in
+      widen (TheWorker (next k)) (LaneOrWorker next h k) room next h (λ who by. inr (has, is, by))
+      (accepted_moves room blocks next h f (next k) box channel (omega arith))
 ]
 
-weight_moves : (room blocks : ℕ) (next : ℕ → ℕ) (h : House) → IsReached room blocks h → 1 ≤ h.capacity → AreThere next h → (k : ℕ) (lane : Lane) (hold : Hold) → LaneIs h k lane → slice_get lane.holds 0 ≡ Some hold → (n : ℕ) → hold.weight ≡ n → IsMovedBy (LaneOrWorker next k) room next h
+weight_moves : (room blocks : ℕ) (next : ℕ → ℕ) (h : House) → IsReached room blocks h → 1 ≤ h.capacity → AreThere next h
+    → (k : ℕ) (lane : Lane) (hold : Hold) → LaneIs h k lane → slice_get lane.holds 0 ≡ Some hold → (n : ℕ) → hold.weight ≡ n
+    → IsMovedBy (LaneOrWorker next h k) room next h
 weight_moves room blocks next h f c all k lane hold at there zero e = let some = f.kept.some k lane 0 hold at there in absurd (omega arith)
 weight_moves room blocks next h f c all k lane hold at there (suc zero) e = let b = all k lane at in one_moves room blocks next h f c k lane hold b.0 at there e b.1 b.0.closed refl
 weight_moves room blocks next h f c all k lane hold at there (suc (suc n)) e =
-    widen (TheLane k) (LaneOrWorker next k) room next h (λ who by. inl by) (split_moves room next h k 0 lane hold at there (omega arith))
+    widen (TheLane k) (LaneOrWorker next h k) room next h (λ who by. inl by) (split_moves room next h k 0 lane hold at there (omega arith))
 
-holds_by : (room blocks : ℕ) (next : ℕ → ℕ) (h : House) → IsReached room blocks h → 1 ≤ h.capacity → AreThere next h → (k : ℕ) (lane : Lane) → LaneIs h k lane → (holds : List Hold) → lane.holds ≡ holds → holds ≢ [] → IsMovedBy (LaneOrWorker next k) room next h
+holds_by : (room blocks : ℕ) (next : ℕ → ℕ) (h : House) → IsReached room blocks h → 1 ≤ h.capacity → AreThere next h
+    → (k : ℕ) (lane : Lane) → LaneIs h k lane → (holds : List Hold) → lane.holds ≡ holds → holds ≢ [] → IsMovedBy (LaneOrWorker next h k) room next h
 holds_by room blocks next h f c all k lane at [] e some = absurd (some refl)
 holds_by room blocks next h f c all k lane at (hold ∷ holds) e some = weight_moves room blocks next h f c all k lane hold at (ap (λ hs. slice_get hs 0) e) hold.weight refl
 
-pub offers_move : (room blocks : ℕ) (next : ℕ → ℕ) (h : House) → IsReached room blocks h → 1 ≤ h.capacity → AreThere next h → (k : ℕ) (lane : Lane) → LaneIs h k lane → lane.holds ≢ [] → IsMovedBy (LaneOrWorker next k) room next h
+pub offers_move : (room blocks : ℕ) (next : ℕ → ℕ) (h : House) → IsReached room blocks h → 1 ≤ h.capacity → AreThere next h
+    → (k : ℕ) (lane : Lane) → LaneIs h k lane → lane.holds ≢ [] → IsMovedBy (LaneOrWorker next h k) room next h
 offers_move room blocks next h f c all k lane at some = holds_by room blocks next h f c all k lane at lane.holds refl some
 
 -- a slip to collect
@@ -214,11 +226,15 @@ collect_moves room next h k lane at some e =
       happens = (_, record { lane = lane; slip = front.0; is = at; front = front.1; after = refl });
     }
 
-collect_by : (room blocks : ℕ) (next : ℕ → ℕ) (h : House) → IsReached room blocks h → 1 ≤ h.capacity → AreThere next h → (k : ℕ) (lane : Lane) → LaneIs h k lane → lane.collected < length lane.slips → (holds : List Hold) → lane.holds ≡ holds → IsMovedBy (LaneOrWorker next k) room next h
-collect_by room blocks next h f c all k lane at some [] e = widen (TheLane k) (LaneOrWorker next k) room next h (λ who by. inl by) (collect_moves room next h k lane at some e)
+collect_by : (room blocks : ℕ) (next : ℕ → ℕ) (h : House) → IsReached room blocks h → 1 ≤ h.capacity → AreThere next h
+    → (k : ℕ) (lane : Lane) → LaneIs h k lane → lane.collected < length lane.slips → (holds : List Hold) → lane.holds ≡ holds
+    → IsMovedBy (LaneOrWorker next h k) room next h
+collect_by room blocks next h f c all k lane at some [] e =
+    widen (TheLane k) (LaneOrWorker next h k) room next h (λ who by. inl by) (collect_moves room next h k lane at some e)
 collect_by room blocks next h f c all k lane at some (hold ∷ holds) e = holds_by room blocks next h f c all k lane at (hold ∷ holds) e (λ bad. cc)
 
-pub collects_move : (room blocks : ℕ) (next : ℕ → ℕ) (h : House) → IsReached room blocks h → 1 ≤ h.capacity → AreThere next h → (k : ℕ) (lane : Lane) → LaneIs h k lane → lane.collected < length lane.slips → IsMovedBy (LaneOrWorker next k) room next h
+pub collects_move : (room blocks : ℕ) (next : ℕ → ℕ) (h : House) → IsReached room blocks h → 1 ≤ h.capacity → AreThere next h
+    → (k : ℕ) (lane : Lane) → LaneIs h k lane → lane.collected < length lane.slips → IsMovedBy (LaneOrWorker next h k) room next h
 collects_move room blocks next h f c all k lane at some = collect_by room blocks next h f c all k lane at some lane.holds refl
 
 -- a draft
@@ -275,12 +291,14 @@ has_busy key box has = elim (busy_posts box) [
 
 -- who moves a message under the key
 abbrev pub SealedMovers : (ℕ → Mover → Type 0) → House → Key → ℕ → Mover → Type 0
-SealedMovers Movers h key weight who = ((weight ≡ 0) × (who ≡ AnyHolder)) ⊎ IsHolder Movers h key who
+SealedMovers Movers h key weight who = ((weight ≡ 0) × (who ≡ AnyHolder key)) ⊎ ((1 ≤ weight) × IsHolder Movers h key who)
 
 no_weight : (key : Key) (hold : Hold) → is_same_key hold.key key ≡ false → cond (is_same_key hold.key key) hold.weight 0 ≡ 0
 no_weight key hold e = ap (λ t. cond t hold.weight 0) e
 
-unfoldable pub reclaim_moves : (room : ℕ) (next : ℕ → ℕ) (h : House) (i : ℕ) (slot : Slot) (bytes its : List ℕ) → slice_get h.depot.slots i ≡ Some slot → slot.held ≡ Sealed bytes its 0 → IsMovedBy (λ who. who ≡ AnyHolder) room next h
+unfoldable pub reclaim_moves : (room : ℕ) (next : ℕ → ℕ) (h : House) (i : ℕ) (slot : Slot) (bytes its : List ℕ)
+    → slice_get h.depot.slots i ≡ Some slot → slot.held ≡ Sealed bytes its 0
+    → IsMovedBy (λ who. who ≡ AnyHolder (record { slot = i; generation = slot.generation })) room next h
 reclaim_moves room next h i slot bytes its at e =
     let key : Key = record { slot = i; generation = slot.generation } in
     record {
@@ -294,20 +312,23 @@ reclaim_moves room next h i slot bytes its at e =
 sealed_by : (Movers : ℕ → Mover → Type 0) (room blocks : ℕ) (next : ℕ → ℕ) (h : House) → IsReached room blocks h → OffersMove Movers room next h → (i : ℕ) (slot : Slot) (bytes its : List ℕ) (weight : ℕ) → slice_get h.depot.slots i ≡ Some slot → slot.held ≡ Sealed bytes its weight
     → IsMovedBy (SealedMovers Movers h (record { slot = i; generation = slot.generation }) weight) room next h
 sealed_by Movers room blocks next h f offers i slot bytes its zero at e =
-    let Q : Mover → Type 0 = SealedMovers Movers h (record { slot = i; generation = slot.generation }) 0 in
-    widen (λ who. who ≡ AnyHolder) Q room next h (λ who by. inl (refl, by)) (reclaim_moves room next h i slot bytes its at e)
+    let key : Key = record { slot = i; generation = slot.generation } in
+    let Q : Mover → Type 0 = SealedMovers Movers h key 0 in
+    widen (λ who. who ≡ AnyHolder key) Q room next h (λ who by. inl (refl, by)) (reclaim_moves room next h i slot bytes its at e)
 sealed_by Movers room blocks next h f offers i slot bytes its (suc weight) at e =
     let key : Key = record { slot = i; generation = slot.generation } in
     let Q : Mover → Type 0 = SealedMovers Movers h key (suc weight) in
+    let some : 1 ≤ suc weight = omega arith in
     let heavy : weight_under h.depot key ≡ suc weight = ap weight_held (under h i slot at ∙ e) in
     let test : Hold → Bool = λ hold. is_same_key hold.key key in
     let g : Hold → ℕ = λ hold. cond (is_same_key hold.key key) hold.weight 0 in
     let lanes : Lane → List Hold = λ lane. lane.holds in
     let boxes : Box → List Hold = λ box. map hold_of (posts_of box) in
     elim (found_in lanes test g (no_weight key) h.lanes) [
-      | inl there ↦ widen (Movers there.0) Q room next h (λ who by. inr (inl (there.0, there.1, there.2, there.3, by))) (offers there.0 there.1 there.2 (has_some key _ there.3))
+      | inl there ↦ widen (Movers there.0) Q room next h (λ who by. inr (some, inl (there.0, there.1, there.2, there.3, by)))
+          (offers there.0 there.1 there.2 (has_some key _ there.3))
       | inr no_lane ↦ elim (found_in boxes test g (no_weight key) h.boxes) [
-        | inl there ↦ widen (TheWorker there.0) Q room next h (λ who by. inr (inr (there.0, there.1, there.2, there.3, by)))
+        | inl there ↦ widen (TheWorker there.0) Q room next h (λ who by. inr (some, inr (there.0, there.1, there.2, there.3, by)))
             (busy_moves room blocks next h f there.0 there.1 there.2 (has_busy key there.1 there.3))
         | inr no_box ↦
             let sum : weight_of key (holds_of h) ≡ weight_under h.depot key = f.holds.sum key in
@@ -372,19 +393,27 @@ way_busy test box has = elim (busy_way box) [
 no_one : (txn : Txn) (p : ℕ) (post : Post) → is_copy txn p post.note ≡ false → ◌≡◌ {A = ℕ} (cond (is_copy txn p post.note) 1 0) 0
 no_one txn p post e = ap (λ t. cond t 1 0) e
 
+-- who moves an answer that isn't given
+abbrev AnswerMovers : (ℕ → Mover → Type 0) → House → ℕ → Lane → ℕ → Mover → Type 0
+AnswerMovers Movers h k lane p who = (IsAtWork lane × Movers k who) ⊎ ((IsAtWork lane → ⊥) × HasCopyFor h lane p who)
+
+none_at_work : (lane : Lane) → lane.holds ≡ [] → length lane.slips ≤ lane.collected → IsAtWork lane → ⊥
+none_at_work lane idle all (inl some) = some idle
+none_at_work lane idle all (inr low) = omega arith
+
 unanswered_by : (Movers : ℕ → Mover → Type 0) (room blocks : ℕ) (next : ℕ → ℕ) (h : House) → IsReached room blocks h → OffersMove Movers room next h
     → ((k : ℕ) (lane : Lane) → LaneIs h k lane → lane.collected < length lane.slips → IsMovedBy (Movers k) room next h)
-    → (k : ℕ) (lane : Lane) (p : ℕ) → LaneIs h k lane → slice_get lane.gather.places p ≡ Some None → IsMovedBy (λ who. Movers k who ⊎ HasCopyFor h lane p who) room next h
+    → (k : ℕ) (lane : Lane) (p : ℕ) → LaneIs h k lane → slice_get lane.gather.places p ≡ Some None → IsMovedBy (AnswerMovers Movers h k lane p) room next h
 unanswered_by Movers room blocks next h f offers collects k lane p at open' =
-    let Q : Mover → Type 0 = λ who. Movers k who ⊎ HasCopyFor h lane p who in
+    let Q : Mover → Type 0 = AnswerMovers Movers h k lane p in
     let test : Post → Bool = λ post. is_copy lane.gather.txn p post.note in
     let g : Post → ℕ = λ post. cond (is_copy lane.gather.txn p post.note) 1 0 in
     elim (some_holds lane) [
-      | inl some ↦ widen (Movers k) Q room next h (λ who by. inl by) (offers k lane at some)
+      | inl some ↦ widen (Movers k) Q room next h (λ who by. inl (inl some, by)) (offers k lane at some)
       | inr idle ↦ elim (low_or_full lane.collected (length lane.slips)) [
-        | inl low ↦ widen (Movers k) Q room next h (λ who by. inl by) (collects k lane at low)
+        | inl low ↦ widen (Movers k) Q room next h (λ who by. inl (inr low, by)) (collects k lane at low)
         | inr all ↦ elim (found_in on_way test g (no_one lane.gather.txn p) h.boxes) [
-          | inl there ↦ widen (TheWorker there.0) Q room next h (λ who by. inr (there.0, there.1, there.2, there.3, by))
+          | inl there ↦ widen (TheWorker there.0) Q room next h (λ who by. inr (none_at_work lane idle all, (there.0, there.1, there.2, there.3, by)))
               (busy_moves room blocks next h f there.0 there.1 there.2 (way_busy test there.1 there.3))
           | inr none ↦ absurd (no_answer k h.depot lane h.boxes p (f.tracked k lane at) (f.answers k lane at) (λ i t is top. f.for_last k lane i t at is top) idle all none open' lane.messages refl)
         ]
@@ -402,8 +431,8 @@ nothing_is_stuck room blocks start run is r o some capacity next all =
       accepted = accepted_moves room blocks next h f;
       in_hand = hand_moves room blocks next h f;
       to_collect = collects_move room blocks next h f c all;
-      unanswered = unanswered_by (LaneOrWorker next) room blocks next h f (offers_move room blocks next h f c all) (collects_move room blocks next h f c all);
-      sealed = sealed_by (LaneOrWorker next) room blocks next h f (offers_move room blocks next h f c all);
+      unanswered = unanswered_by (LaneOrWorker next h) room blocks next h f (offers_move room blocks next h f c all) (collects_move room blocks next h f c all);
+      sealed = sealed_by (LaneOrWorker next h) room blocks next h f (offers_move room blocks next h f c all);
     }
 
 -- where all channels are closed

@@ -20,7 +20,7 @@ sealed_by k _ = []
 abbrev pub copies_sealed : ℕ → List Event → List ℕ
 copies_sealed k events = flat_map (sealed_by k) events
 
--- nothing is under way behind these events
+-- nothing is under way after these events
 pub record IsFinished (blocks : ℕ) (events : List Event) (h : House) : Type 0 where
   pub no_draft : (k : ℕ) (lane : Lane) → LaneIs h k lane → lane.draft ≡ None
   pub none_to_offer : (k : ℕ) (lane : Lane) → LaneIs h k lane → lane.holds ≡ []

@@ -10,9 +10,9 @@ use Rattle.mail_progress.specs.NothingStuck.{AreThere, AreClosed}
 use Rattle.mail_progress.specs.Finished.{IsFinished}
 use Rattle.mail_progress.specs.InTurn.{IsFirst}
 
--- Behind these events, whatever mailboxes the lanes' next copies are for, anew in each house: all is finished or a step
--- is first; and whichever of the steps that go on is taken, the house that it leads to finishes too. As this is built
--- up from the last houses, no steps follow one another without end.
+-- After these events, whatever mailboxes of the house the lanes' next copies are for, anew in each house: all is
+-- finished or a step is first; and whichever of the steps that go on is taken, the house that it leads to finishes too.
+-- As this is built up from the last houses, no steps follow one another without end.
 pub data Finishes (room blocks : ℕ) : List Event → House → Type 0 where
   WhateverFollows : (events : List Event) (h : House)
       → ((next : ℕ → ℕ) → AreThere next h → IsFinished blocks events h ⊎ ((event : Event) × IsFirst room next h event))
@@ -39,7 +39,7 @@ AreAlwaysThere next h = (run : List Happened) → Run h run → let new = last_h
 abbrev pub ThereStays : Type 0
 ThereStays = (next : ℕ → ℕ) (h : House) → AreThere next h → AreAlwaysThere (λ new. next) h
 
--- so from each house of an orderly run the first steps, one behind the other, are an orderly run to a house where all
+-- so from each house of an orderly run the first steps, one after the other, are an orderly run to a house where all
 -- is finished
 abbrev pub FinishesInTurn : Type 0
 FinishesInTurn = (room blocks : ℕ) (start : House) (run : List Happened) → IsStart blocks start → Run start run

@@ -5,7 +5,7 @@ use Rattle.mail_world.specs.Events.{LaneIs, BoxIs}
 use Rattle.mail_world.specs.Runs.{Happened, Run, last_house}
 use Rattle.mail_progress.specs.Orderly.{uncollected, IsOrderly}
 
--- a front of an orderly run is one too, so it is so of each house in between
+-- a prefix of an orderly run is one too, so it is so of each house in between
 abbrev pub InEveryOrderlyRun : (ℕ → House → Type 0) → Type 0
 InEveryOrderlyRun Holds = (room blocks : ℕ) (start : House) (run : List Happened) → IsStart blocks start
     → Run start run → IsOrderly room start run → Holds room (last_house start run)

@@ -41,7 +41,7 @@ steps_of_box h box =
     sum_by (λ post. steps_of_copy (size h post.note)) (drop box.taken box.accepted) + steps_in_hand h box.hand
     + (if box.closed then 0 else 1)
 
--- a draft grows by one byte at a time at the least, is sealed with at most so many copies as there is room for slips,
+-- a draft grows by one byte at a time at the least, is sealed with at most as many copies as there is room for slips,
 -- and is reclaimed
 abbrev pub steps_of_slot : ℕ → ℕ → ℕ → Held → ℕ
 steps_of_slot blocks room bound Free = 0
@@ -75,7 +75,7 @@ EachLowers = (room blocks bound : ℕ) (start : House) (run : List Happened) (ev
     → let h = last_house start run in Step h event new → IsInOrder room h event → IsBounded bound h event
     → steps_left blocks room bound new < steps_left blocks room bound h
 
--- so there are at most so many of them
+-- so there are at most that many of them
 abbrev pub Ends : Type 0
 Ends = (room blocks bound : ℕ) (start : House) (before after : List Happened) → IsStart blocks start
     → Run start (before ++ after) → IsOrderly room start (before ++ after)

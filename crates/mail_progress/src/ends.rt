@@ -3,8 +3,8 @@
 ghost use Rattle.mail_progress.specs.StepsLeft.{EachLowers, Ends};
 
 /// A number, computed from the house, its blocks, the room for slips and a bound on the records of the copies offered,
-/// is lowered by each event of an orderly run but Begin and a Put or Write of no bytes. So there are at most so many of
-/// them behind one another.
+/// is lowered by each event of an orderly run but Begin and a Put or Write of no bytes. So there are at most that many
+/// of them, one after the other.
 pub fn each_event_lowers_what_is_left()
     ensures each { EachLowers }
     ensures ends { Ends }

@@ -26,7 +26,6 @@ pub struct TcpPeer<T> {
 }
 
 impl<T> TcpPeer<T> {
-    ghost use Rattle.std.specs.Prelude.{⊥};
     ghost use Rattle.std.specs.IoError.{error_kind};
     ghost use Rattle.mail_world.specs.Failures.{Rises};
     ghost use Rattle.lmtp_talk.specs.Silence.{IsSilence};

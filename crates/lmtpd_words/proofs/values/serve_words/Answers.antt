@@ -1,4 +1,4 @@
-use Rattle.std.proofs.Common.{◌∙◌, subst, sym, inl, inr, codes}
+use Rattle.std.proofs.Common.{◌∙◌, subst, sym, inl, codes}
 use Rattle.std.specs.Prelude.{MatchOption}
 use Rattle.clap.specs.Words.{found_of, rows_of}
 use Rattle.clap.proofs.WalkLemmas.{first_value-rows}
@@ -8,15 +8,12 @@ use Rattle.lmtpd_words.proofs.values.serve_words.Goals as goal
 pub returns-in_default : goal.returns-in_default
 returns-in_default c = inl (sym (first_value-rows (found_of c.args.matches.now) (codes "listen")) ∙ sym c.in_default.ensures)
 
-pub returns-in_default-get_str : goal.returns-in_default-get_str
-returns-in_default-get_str c = inr (inl (sym (first_value-rows (found_of c.args.matches.now) (codes "dir")) ∙ sym c.in_default-get_str.ensures))
-
 pub returns : goal.returns
 returns c =
     let f = found_of c.args.matches.now in record {
       site = subst (λ read. MatchOption read (LacksSite (rows_of f)) (IsSiteRead (rows_of f))) c.in-Some-2.is c.in_ok-site.ensures;
       listen = sym (first_value-rows f (codes "listen")) ∙ sym c.in-Some.ensures;
-      dir = sym (first_value-rows f (codes "dir")) ∙ sym c.in-Some-get_str.ensures;
+      dir = c.in-Some-folder_of.ensures;
       connections = c.in-Some-number_of.ensures;
       lanes = c.number_or.ensures;
       blocks = c.number_or-2.ensures;
