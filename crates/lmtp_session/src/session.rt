@@ -92,7 +92,8 @@ impl Session {
         ensures step { IsStep self.old (Line line.now) result self.new }
         ensures no_memory { self.new.room ≡ self.old.room }
     {
-        self.on_command(read_command_at(line, self.site.message_limit()))
+        let limit = self.site.message_limit();
+        self.on_command(read_command_at(line, limit))
     }
 
     /// Takes note of a line that was too long to be a command.
