@@ -1,6 +1,7 @@
 -- Where the steps of a session lead, and that only QUIT ends it.
-use Rattle.std.proofs.Common.{◌≡◌, ℕ, Bool, true, false, List, [], ◌∷◌, ◌++◌, length, Option, Some, None, refl, sym, ap, ◌∙◌}
+use Rattle.std.proofs.Common.{◌≡◌, ℕ, Bool, true, false, List, [], ◌∷◌, ◌++◌, length, Option, Some, None, refl, sym, ap, ◌∙◌, rules}
 use Rattle.std.specs.Prelude.{nat_lt, if◌then◌else◌, ◌||◌, ◌==◌, ⊤, Ok, Err}
+use Rattle.mail_world.specs.declared.BadCommand.{BadCommand}
 use Rattle.mail_world.specs.declared.Verdict.{Verdict}
 use Rattle.mail_world.specs.declared.Verdict.TheVariants.{Whole, TooLarge, NoRoom}
 use Rattle.mail_world.specs.declared.State.{State}
@@ -109,38 +110,52 @@ pub long_goes_on : (site : Site) (s : Session) → TakesLines s.state → GoesOn
 long_goes_on site s h = goes_on s.state h
 
 -- a line is QUIT whatever limit messages have
-no_quit_if : (b : Bool) (x y : Answer) → is_quit_answer x ≡ false → is_quit_answer y ≡ false → is_quit_answer (if b then x else y) ≡ false
-no_quit_if true x y hx hy = hx
-no_quit_if false x y hx hy = hy
+record IsNoQuit (a : Answer) : Type 0 where
+  none : is_quit_answer a ≡ false
 
-mail_with_no_quit : (limit : ℕ) (sender : List ℕ) (ps : List Parameter) → is_quit_answer (mail_with limit sender ps) ≡ false
-mail_with_no_quit limit sender ps = no_quit_if _ _ _ refl (no_quit_if _ _ _ refl (no_quit_if _ _ _ refl refl))
+record QuitsAlike (a b : Answer) : Type 0 where
+  alike : is_quit_answer a ≡ is_quit_answer b
 
-mail_path_no_quit : (limit : ℕ) (found : Option (Found (List ℕ))) → is_quit_answer (mail_path limit found) ≡ false
-mail_path_no_quit limit None = refl
-mail_path_no_quit limit (Some f) = no_quit_if _ _ _ (mail_with_no_quit limit f.value (parameters f.rest)) refl
+none_if : (b : Bool) (x y : Answer) → IsNoQuit x → IsNoQuit y → IsNoQuit (if b then x else y)
+none_if true x y hx hy = hx
+none_if false x y hx hy = hy
 
-mail_no_quit : (limit : ℕ) (text : Option (List ℕ)) → is_quit_answer (mail limit text) ≡ false
-mail_no_quit limit None = refl
-mail_no_quit limit (Some text) = mail_path_no_quit limit (reverse_path text)
+alike_if : (b : Bool) (x u v : Answer) → QuitsAlike u v → QuitsAlike (if b then x else u) (if b then x else v)
+alike_if true x u v h = record { alike = refl }
+alike_if false x u v h = h
 
-same_quit_if : (b : Bool) (x y u v : Answer) → is_quit_answer x ≡ is_quit_answer u → is_quit_answer y ≡ is_quit_answer v
-    → is_quit_answer (if b then x else y) ≡ is_quit_answer (if b then u else v)
-same_quit_if true x y u v hx hy = hx
-same_quit_if false x y u v hx hy = hy
+refused_none : (why : BadCommand) → IsNoQuit (Err why)
+refused_none why = record { none = refl }
 
-verb_quit : (limit other : ℕ) (verb rest : List ℕ) → is_quit_answer (by_verb limit verb rest) ≡ is_quit_answer (by_verb other verb rest)
-verb_quit limit other verb rest =
-    let same : {b : Bool} {x y v : Answer} → is_quit_answer y ≡ is_quit_answer v → is_quit_answer (if b then x else y) ≡ is_quit_answer (if b then x else v) =
-    λ {b} {x} {y} {v} h. same_quit_if b x y x v refl h in
-    same (same (same (same (same (same (same (same (same
-    (same_quit_if _ _ _ _ _ (mail_no_quit limit _ ∙ sym (mail_no_quit other _)) refl)))))))))
+sender_none : (sender : List ℕ) → IsNoQuit (Ok (Mail sender))
+sender_none sender = record { none = refl }
+
+mail_with_none : (limit : ℕ) (sender : List ℕ) (ps : List Parameter) → IsNoQuit (mail_with limit sender ps)
+mail_with_none limit sender ps = search (rules, none_if, refused_none, sender_none)
+
+mail_path_none : (limit : ℕ) (found : Option (Found (List ℕ))) → IsNoQuit (mail_path limit found)
+mail_path_none limit None = record { none = refl }
+mail_path_none limit (Some f) = let h = mail_with_none limit f.value (parameters f.rest) in search (rules, none_if, refused_none, h)
+
+mail_none : (limit : ℕ) (text : Option (List ℕ)) → IsNoQuit (mail limit text)
+mail_none limit None = record { none = refl }
+mail_none limit (Some text) = mail_path_none limit (reverse_path text)
+
+mails_alike : (b : Bool) (x y z : Answer) → IsNoQuit x → IsNoQuit y → QuitsAlike (if b then x else z) (if b then y else z)
+mails_alike true x y z hx hy = record { alike = hx.none ∙ sym hy.none }
+mails_alike false x y z hx hy = record { alike = refl }
+
+verbs_alike : (limit other : ℕ) (verb rest : List ℕ) → QuitsAlike (by_verb limit verb rest) (by_verb other verb rest)
+verbs_alike limit other verb rest =
+    let h = mail_none limit in
+    let k = mail_none other in
+    search (rules, alike_if, mails_alike, h, k) depth 40
 
 command_quit : (limit : ℕ) (text : List ℕ) → is_quit_answer (command_at limit text) ≡ is_quit_answer (command text)
 unfolding command_at
 command_quit limit text =
     let w = trimmed text in
-    verb_quit limit MESSAGE_LIMIT (before_first (λ b. b == space) w) (behind_spaces (after_first (λ b. b == space) w))
+    (verbs_alike limit MESSAGE_LIMIT (before_first (λ b. b == space) w) (behind_spaces (after_first (λ b. b == space) w))).alike
 
 -- the session ends exactly with QUIT
 line_ends : (site : Site) (s : Session) (text : List ℕ) → TakesLines s.state → (step site s (Line text)).next.state ≡ Ended → is_quit (Line text) ≡ true
