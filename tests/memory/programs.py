@@ -14,6 +14,9 @@ MEMORY, NO_THREAD = b"lmtpd: memory\n", b"lmtpd: no thread\n"
 COMMANDS = b"LHLO relay.example\r\nMAIL FROM:<carl@a.example>\r\nRCPT TO:<anna>\r\nRCPT TO:<ben>\r\nDATA\r\n"
 GIVEN = COMMANDS + b"Subject: hi\r\n\r\nhello\r\n.\r\nQUIT\r\n"
 STORED = b"250 2.0.0 Stored for anna\r\n250 2.0.0 Stored for ben\r\n221 2.0.0 mx.example closing\r\n"
+# the first worked example: one recipient
+ONE_GIVEN = GIVEN.replace(b"<anna>", b"<anna@mx.example>").replace(b"RCPT TO:<ben>\r\n", b"")
+ONE_STORED = STORED.replace(b"250 2.0.0 Stored for ben\r\n", b"")
 COUNTED = b"anna stored 2\nben stored 2\n"
 
 
@@ -58,9 +61,13 @@ def check_refused(what, ended, said):
         raise Wrong(f"refused {what!r}: status {status}, {output!r:.200}, {errors!r:.200}")
 
 
-def rehearse(refusing):
+def rehearse_one(refusing):
+    return rehearse(refusing, ONE_GIVEN, ONE_STORED)
+
+
+def rehearse(refusing, says=GIVEN, stored=STORED):
     with tempfile.TemporaryFile() as given:
-        given.write(GIVEN)
+        given.write(says)
         given.seek(0)
         process = refusing.start(["rehearse", "--host", "mx.example", "--time", "0", "anna", "ben"], given)
         output, errors = process.communicate(timeout=SECONDS)
@@ -70,7 +77,7 @@ def rehearse(refusing):
         check_refused(what, ended, [b""])
         if errors == MEMORY and read:
             raise Wrong(f"want of memory, and yet {read} bytes were read")
-    elif ended[0] != 0 or errors or STORED not in output:
+    elif ended[0] != 0 or errors or stored not in output:
         raise Wrong(f"not refused: {ended!r:.300}")
     return what
 
@@ -151,6 +158,7 @@ def in_turn(name, run, is_all):
 try:
     for is_all in [False, True]:
         in_turn("rehearse", rehearse, is_all)
+        in_turn("rehearse, one recipient", rehearse_one, is_all)
         in_turn("serve", serve, is_all)
         in_turn("check", check, is_all)
 except Wrong as wrong:

@@ -1,4 +1,5 @@
-//! One conversation, from its greeting to its end.
+//! What is done with the bytes that were read: lines go to the session, data goes to the delivery, and their replies to
+//! the outbox.
 
 ghost use Rattle.std.specs.Prelude.{◌≡◌, ◌≤◌, ◌<◌, ℕ, List, [], ◌∷◌, ◌++◌, length, take};
 ghost use Rattle.std.specs.Prelude.{IfSome, MatchOption};
