@@ -112,8 +112,7 @@ impl<'a, N: DepotName, C: Clock, R: Wait, S: LaneStart> Delivery for LaneDeliver
     }
 
     fn piece(&mut self, bytes: &[u8]) {
-        self.incoming
-            .add(self.rt, self.depot, bytes, self.limit);
+        self.incoming.add(self.rt, self.depot, bytes, self.limit);
     }
 
     fn cancel(&mut self) {

@@ -139,8 +139,9 @@ fn lane_at<S: LaneStart, N: DepotName, V: Visits, C: Clock, R: Wait>(
     } = bounded;
     let mut visits = visits;
     let limit = dialogue.session.site().message_limit();
-    let mut delivery: LaneDelivery<N, C, R, S> =
-        LaneDelivery::new(rt, depot, clock, exchange, limit);
+    let mut delivery: LaneDelivery<N, C, R, S> = LaneDelivery::new(
+        rt, depot, clock, exchange, limit,
+    );
     let conversations = serve_all(rt, &mut dialogue, &mut visits, &mut delivery, reads);
     let Exchange {
         senders,

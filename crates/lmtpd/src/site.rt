@@ -23,7 +23,8 @@ pub fn site_of(alloc: Global, words: &SiteWords) -> Result<Site, Fault>
 {
     let domains = bytes_of(alloc, &words.domains)?;
     let boxes = bytes_of(alloc, &words.boxes)?;
-    make_site(alloc, words.host.as_bytes(), &domains, &boxes)
+    let site = make_site(alloc, words.host.as_bytes(), &domains, &boxes)?;
+    Ok(site.with_message_limit(words.message_limit))
 }
 
 /// The same, to be shared by threads.

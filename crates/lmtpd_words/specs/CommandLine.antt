@@ -2,7 +2,7 @@
 use Rattle.std.specs.Prelude.{Some, true, codes, pos, ℕ, List}
 use Rattle.clap.specs.Lexer.{usize_max}
 use Rattle.clap.specs.Words.{App, Rule, new_app, new_rule, with_rule, with_subcommand}
-use Rattle.mail_world.specs.declared.limits.TheConstants.{LOCK_WAIT_LIMIT}
+use Rattle.mail_world.specs.declared.limits.TheConstants.{LOCK_WAIT_LIMIT, LEAST_MESSAGE_LIMIT, LARGEST_MESSAGE_LIMIT}
 use Rattle.clap.specs.declared.builder.value_parser.ValueParser.TheVariants as value
 
 -- an argument `--NAME TEXT`
@@ -44,6 +44,10 @@ host_rule = must (text_rule (codes "host"))
 
 abbrev pub domains_rule : Rule
 domains_rule = text_rule (codes "domains")
+
+-- bytes
+abbrev pub message_limit_rule : Rule
+message_limit_rule = number_rule (codes "message-limit") LEAST_MESSAGE_LIMIT LARGEST_MESSAGE_LIMIT
 
 abbrev pub blocks_rule : Rule
 blocks_rule = number_rule (codes "blocks") 0 4294967295
@@ -88,7 +92,7 @@ mailbox_mode_rule = text_rule (codes "mailbox-mode")
 
 abbrev pub rehearse_app : App
 rehearse_app =
-    with_rule (with_rule (with_rule (with_rule (with_rule (with_rule (new_app (codes "rehearse")) host_rule) time_rule) domains_rule) blocks_rule) quota_rule) box_rule
+    with_rule (with_rule (with_rule (with_rule (with_rule (with_rule (with_rule (new_app (codes "rehearse")) host_rule) time_rule) domains_rule) message_limit_rule) blocks_rule) quota_rule) box_rule
 
 -- what must be given, and then what may be
 abbrev pub required_app : App
@@ -97,7 +101,7 @@ required_app =
 
 abbrev pub serve_app : App
 serve_app =
-    with_rule (with_rule (with_rule (with_rule (with_rule (with_rule (with_rule (with_rule (with_rule (with_rule (with_rule required_app domains_rule) lanes_rule) blocks_rule) capacity_rule) reads_rule) timeout_rule) log_rule) quota_rule) lock_wait_rule) mailbox_mode_rule) box_rule
+    with_rule (with_rule (with_rule (with_rule (with_rule (with_rule (with_rule (with_rule (with_rule (with_rule (with_rule (with_rule required_app domains_rule) message_limit_rule) lanes_rule) blocks_rule) capacity_rule) reads_rule) timeout_rule) log_rule) quota_rule) lock_wait_rule) mailbox_mode_rule) box_rule
 
 abbrev pub file_rule : Rule
 file_rule = must (texts_rule (codes "file"))

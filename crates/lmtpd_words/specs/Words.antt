@@ -1,5 +1,5 @@
 -- What the program's words ask for.
-use Rattle.std.specs.Prelude.{◌≡◌, ◌⊎◌, ◌<◌, ◌≤◌, ◌^◌, ◌==◌, ℕ, Bool, true, false, List, [], Option, Some, None, option_map, map, codes, length, String, string_bytes}
+use Rattle.std.specs.Prelude.{◌≡◌, ◌⊎◌, ◌<◌, ◌≤◌, ◌^◌, ◌==◌, ◌+◌, ◌-◌, ◌*◌, ◌/◌, min, max, ℕ, Bool, true, false, List, [], Option, Some, None, option_map, map, codes, length, String, string_bytes}
 use Rattle.std.specs.declared.alloc.Global.{Global}
 use Rattle.std.specs.Option.{option_map_or}
 use Rattle.std.specs.List.{slice_split}
@@ -8,10 +8,10 @@ use Rattle.clap.specs.Words.{Row, Text, all_of, first_of, one_of}
 use Rattle.log.specs.Level.{parse_filter}
 use Rattle.log.specs.declared.level.LevelFilter.{LevelFilter}
 use Rattle.log.specs.declared.level.LevelFilter.TheVariants as filter
-use Rattle.mail_world.specs.Site.{Site}
+use Rattle.mail_world.specs.Site.{Site, IsMessageLimit}
 use Rattle.lmtp_text.specs.Sites.{site_of, texts}
 use Rattle.lmtpd_words.specs.declared.words.TheConstants.{DEFAULT_BLOCKS, DEFAULT_CAPACITY, DEFAULT_LANES, DEFAULT_LOCK_WAIT, DEFAULT_LOG, DEFAULT_MAILBOX_MODE, DEFAULT_READS, DEFAULT_TIMEOUT, MODE_DIGIT_LIMIT}
-use Rattle.mail_world.specs.declared.limits.TheConstants.{MODE_LIMIT}
+use Rattle.mail_world.specs.declared.limits.TheConstants.{MODE_LIMIT, MESSAGE_LIMIT, BLOCK_SIZE, BLOCK_LIMIT}
 use Rattle.lmtpd_words.specs.declared.words.SiteWords.{SiteWords}
 use Rattle.lmtpd_words.specs.declared.words.RehearseWords.{RehearseWords}
 use Rattle.lmtpd_words.specs.declared.words.ServeWords.{ServeWords}
@@ -43,6 +43,18 @@ listed text = slice_split (λ b. b == 44) text
 abbrev pub IsNumberOr : ℕ → Option Text → ℕ → Type 0
 IsNumberOr usual None n = n ≡ usual
 IsNumberOr usual (Some text) n = IsNumber text → n ≡ number text
+
+-- the bytes that a message may have: the number of a text that is given, and else the usual one, within bounds
+abbrev pub IsMessageLimitOr : Option Text → ℕ → Type 0
+IsMessageLimitOr given limit = IsNumberOr MESSAGE_LIMIT given limit × IsMessageLimit limit
+
+-- a text is given that writes no such number
+abbrev pub IsNoMessageLimit : Option Text → Type 0
+IsNoMessageLimit given = (text : Text) × (given ≡ Some text) × (IsNumber text → IsMessageLimit (number text) → ⊥)
+
+-- the blocks for messages on their way where no number is given: those of a largest message for each lane
+abbrev pub usual_blocks : ℕ → ℕ → ℕ
+usual_blocks lanes limit = min BLOCK_LIMIT (max DEFAULT_BLOCKS (lanes * ((limit + (BLOCK_SIZE - 1)) / BLOCK_SIZE)))
 
 -- the limit of bytes that a text names, and none where none is given
 abbrev pub IsLimit : Option Text → Option ℕ → Type 0
@@ -97,12 +109,13 @@ pub record IsSiteRead (rows : List Row) (words : SiteWords) : Type 0 where
   pub host : first_of (codes "host") rows ≡ Some words.host.now
   pub domains : texts words.domains.items ≡ option_map_or listed (first_of (codes "domains") rows) []
   pub boxes : all_of (codes "box") rows ≡ Some (texts words.boxes.items)
+  pub message_limit : IsMessageLimitOr (one_of (codes "message-limit") rows) words.message_limit
 
 -- what the values of a rehearsal's arguments ask for
 pub record IsRehearseRead (rows : List Row) (words : RehearseWords) : Type 0 where
   pub site : IsSiteRead rows words.site
   pub time : option_map number (one_of (codes "time") rows) ≡ Some words.time
-  pub blocks : IsNumberOr DEFAULT_BLOCKS (one_of (codes "blocks") rows) words.blocks
+  pub blocks : IsNumberOr (usual_blocks 1 words.site.message_limit) (one_of (codes "blocks") rows) words.blocks
   pub quota : IsLimit (one_of (codes "quota") rows) words.quota
 
 -- what the values of a server's arguments ask for
@@ -112,7 +125,7 @@ pub record IsServeRead (rows : List Row) (words : ServeWords) : Type 0 where
   pub dir : IsFolder (first_of (codes "dir") rows) words.dir.now
   pub connections : option_map number (one_of (codes "connections") rows) ≡ Some words.connections
   pub lanes : IsNumberOr DEFAULT_LANES (one_of (codes "lanes") rows) words.lanes
-  pub blocks : IsNumberOr DEFAULT_BLOCKS (one_of (codes "blocks") rows) words.blocks
+  pub blocks : IsNumberOr (usual_blocks words.lanes words.site.message_limit) (one_of (codes "blocks") rows) words.blocks
   pub capacity : IsNumberOr DEFAULT_CAPACITY (one_of (codes "capacity") rows) words.capacity
   pub reads : IsNumberOr DEFAULT_READS (one_of (codes "reads") rows) words.reads
   pub timeout : IsNumberOr DEFAULT_TIMEOUT (one_of (codes "timeout") rows) words.timeout
@@ -133,7 +146,8 @@ abbrev pub LacksNumber : List ℕ → List Row → Type 0
 LacksNumber name rows = (text : Text) → one_of name rows ≡ Some text → IsNumber text → ⊥
 
 abbrev pub LacksSite : List Row → Type 0
-LacksSite rows = LacksText (codes "host") rows ⊎ (all_of (codes "box") rows ≡ None)
+LacksSite rows = LacksText (codes "host") rows ⊎ ((all_of (codes "box") rows ≡ None)
+    ⊎ IsNoMessageLimit (one_of (codes "message-limit") rows))
 
 abbrev pub LacksRehearse : List Row → Type 0
 LacksRehearse rows = LacksNumber (codes "time") rows ⊎ LacksSite rows
@@ -160,4 +174,5 @@ pub record IsLacking (call : Option (Text × List Row)) : Type 0 where
 
 -- the site that they name
 abbrev pub named_site : SiteWords → Site
-named_site words = site_of words.host.now words.domains.items words.boxes.items
+named_site words =
+    record (site_of words.host.now words.domains.items words.boxes.items) { message_limit = words.message_limit }

@@ -6,7 +6,7 @@ ghost use Rattle.lmtpd_words.specs.Arguments.{argument_rule};
 
 use clap::Arg;
 use clap::builder::ValueParser;
-use mail_world::limits::LOCK_WAIT_LIMIT;
+use mail_world::limits::{LARGEST_MESSAGE_LIMIT, LEAST_MESSAGE_LIMIT, LOCK_WAIT_LIMIT};
 use std::alloc::Global;
 
 /// What is given for an argument.
@@ -54,15 +54,24 @@ impl Argument {
 }
 
 /// What a rehearsal takes.
-pub const REHEARSE: [Argument; 6] = [HOST, TIME, DOMAINS, BLOCKS, QUOTA, BOXES];
+pub const REHEARSE: [Argument; 7] = [
+    HOST,
+    TIME,
+    DOMAINS,
+    MESSAGE_LIMIT,
+    BLOCKS,
+    QUOTA,
+    BOXES,
+];
 
 /// What a server takes: what must be given, what may be, and the mailboxes.
-pub const SERVE: [Argument; 15] = [
+pub const SERVE: [Argument; 16] = [
     HOST,
     LISTEN,
     DIR,
     CONNECTIONS,
     DOMAINS,
+    MESSAGE_LIMIT,
     LANES,
     BLOCKS,
     CAPACITY,
@@ -132,6 +141,17 @@ const DOMAINS: Argument = Argument {
     kind: ValueKind::Text,
 };
 
+const MESSAGE_LIMIT: Argument = Argument {
+    name: "message-limit",
+    value: "BYTES",
+    help: "Bytes that a message may have, 65536 to 268435456 [default: 1048576]",
+    is_required: false,
+    kind: ValueKind::Number {
+        least: LEAST_MESSAGE_LIMIT,
+        most: LARGEST_MESSAGE_LIMIT,
+    },
+};
+
 const LANES: Argument = Argument {
     name: "lanes",
     value: "LANES",
@@ -146,7 +166,7 @@ const LANES: Argument = Argument {
 const BLOCKS: Argument = Argument {
     name: "blocks",
     value: "BLOCKS",
-    help: "Blocks of 4096 bytes for messages on their way, 1 to 65536 [default: 1024]",
+    help: "Blocks of 4096 bytes for messages on their way, 1 to 65536 [default: as many as a largest message for each lane takes, at least 1024]",
     is_required: false,
     kind: ValueKind::Number {
         least: 0,

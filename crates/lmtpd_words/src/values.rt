@@ -6,7 +6,7 @@ ghost use Rattle.std.specs.Option.{option_map, option_map_or};
 ghost use Rattle.lmtp_text.specs.Sites.{texts};
 ghost use Rattle.lmtpd_words.specs.Words.{IsAsked, IsCheckRead, IsLimit, IsNumberOr, IsRehearseRead, IsServeRead};
 ghost use Rattle.lmtpd_words.specs.Words.{IsFolder, IsLevel, IsMode, IsNoFolder, IsNoLevel, IsNoMode, IsSiteRead};
-ghost use Rattle.lmtpd_words.specs.Words.{IsLacking, LacksCheck, LacksNumber, LacksRehearse, LacksServe, LacksSite};
+ghost use Rattle.lmtpd_words.specs.Words.{IsMessageLimitOr, IsNoMessageLimit, usual_blocks, IsLacking, LacksCheck, LacksNumber, LacksRehearse, LacksServe, LacksSite};
 ghost use Rattle.lmtpd_words.specs.Words.{is_log_level, number, listed};
 
 use crate::texts::{BAD_FOLDER, BAD_LEVEL, BAD_MODE};
@@ -17,7 +17,9 @@ use crate::words::{
 };
 use clap::ArgMatches;
 use log::LevelFilter;
-use mail_world::limits::MODE_LIMIT;
+use mail_world::limits::{
+    BLOCK_LIMIT, BLOCK_SIZE, LARGEST_MESSAGE_LIMIT, LEAST_MESSAGE_LIMIT, MESSAGE_LIMIT, MODE_LIMIT,
+};
 use std::alloc::{AllocError, Global};
 
 /// What the subcommand asks for, and none where a value is missing, or the folder, the level or the mode is none.
@@ -71,10 +73,11 @@ fn rehearse_words<'a>(
     let Some(site) = site_words(alloc, matches)? else {
         return Ok(None);
     };
+    let blocks = usual_blocks(1, site.message_limit);
     Ok(Some(RehearseWords {
         site,
         time,
-        blocks: number_or(matches, "blocks", DEFAULT_BLOCKS),
+        blocks: number_or(matches, "blocks", blocks),
         quota: quota_of(matches),
     }))
 }
@@ -101,13 +104,15 @@ fn serve_words<'a>(
     let Some(site) = site_words(alloc, matches)? else {
         return Ok(None);
     };
+    let lanes = number_or(matches, "lanes", DEFAULT_LANES);
+    let blocks = usual_blocks(lanes, site.message_limit);
     Ok(Some(ServeWords {
         site,
         listen,
         dir,
         connections,
-        lanes: number_or(matches, "lanes", DEFAULT_LANES),
-        blocks: number_or(matches, "blocks", DEFAULT_BLOCKS),
+        lanes,
+        blocks: number_or(matches, "blocks", blocks),
         capacity: number_or(matches, "capacity", DEFAULT_CAPACITY),
         reads: number_or(matches, "reads", DEFAULT_READS),
         timeout: number_or(matches, "timeout", DEFAULT_TIMEOUT),
@@ -145,13 +150,44 @@ fn site_words<'a>(
     let Some(boxes) = matches.get_strs("box") else {
         return Ok(None);
     };
+    let Some(message_limit) = message_limit_of(matches) else {
+        return Ok(None);
+    };
     let domains = domains_of(alloc, matches)?;
     let boxes = boxes.to_vec(alloc)?;
     Ok(Some(SiteWords {
         host,
         domains,
         boxes,
+        message_limit,
     }))
+}
+
+// The bytes that a message may have, as they were given, and else as many as usual; none where the number is too small
+// or too large.
+fn message_limit_of(matches: &ArgMatches<'_>) -> Option<u32>
+    ensures { let given = one_of (codes "message-limit") (rows_of (found_of matches.now)) in
+        MatchOption result (IsNoMessageLimit given) (IsMessageLimitOr given) }
+{
+    let limit = number_or(matches, "message-limit", MESSAGE_LIMIT);
+    if limit < LEAST_MESSAGE_LIMIT {
+        return None;
+    }
+    if limit > LARGEST_MESSAGE_LIMIT {
+        return None;
+    }
+    Some(limit)
+}
+
+// The blocks where no number of them was given: a largest message for each lane has room in them, as far as there may
+// be so many.
+fn usual_blocks(lanes: u32, limit: u32) -> u32
+    ensures { result ≡ usual_blocks lanes limit }
+{
+    let each = (u64::from(limit) + (BLOCK_SIZE as u64 - 1)) / BLOCK_SIZE as u64;
+    let all = u64::from(lanes) * each;
+    all.max(u64::from(DEFAULT_BLOCKS))
+        .min(u64::from(BLOCK_LIMIT)) as u32
 }
 
 // The number that was given.

@@ -1,8 +1,10 @@
 //! What the words ask for, and the numbers and the level where they name none.
 
+ghost use Rattle.mail_world.specs.Site.{IsMessageLimit};
+
 use log::LevelFilter;
 
-/// The blocks for messages on their way where the words name no number of them.
+/// The least blocks for messages on their way where the words name no number of them.
 pub const DEFAULT_BLOCKS: u32 = 1_024;
 
 /// The conversations that a server holds at once.
@@ -35,6 +37,9 @@ pub struct SiteWords<'a> {
     pub host: &'a str,
     pub domains: Vec<&'a str>,
     pub boxes: Vec<&'a str>,
+    /// How many bytes a message may have.
+    pub message_limit: u32,
+    ghost limited: { IsMessageLimit message_limit },
 }
 
 /// What a rehearsal is asked to do.
