@@ -54,15 +54,7 @@ impl Argument {
 }
 
 /// What a rehearsal takes.
-pub const REHEARSE: [Argument; 7] = [
-    HOST,
-    TIME,
-    DOMAINS,
-    MESSAGE_LIMIT,
-    BLOCKS,
-    QUOTA,
-    BOXES,
-];
+pub const REHEARSE: [Argument; 7] = [HOST, TIME, DOMAINS, MESSAGE_LIMIT, BLOCKS, QUOTA, BOXES];
 
 /// What a server takes: what must be given, what may be, and the mailboxes.
 pub const SERVE: [Argument; 16] = [

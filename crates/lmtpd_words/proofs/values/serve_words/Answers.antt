@@ -1,8 +1,8 @@
 use Rattle.std.proofs.Common.{◌∙◌, subst, sym, inl, codes}
 use Rattle.std.specs.Prelude.{MatchOption}
-use Rattle.clap.specs.Words.{found_of, rows_of}
+use Rattle.clap.specs.Words.{found_of, one_of, rows_of}
 use Rattle.clap.proofs.WalkLemmas.{first_value-rows}
-use Rattle.lmtpd_words.specs.Words.{IsSiteRead, LacksSite}
+use Rattle.lmtpd_words.specs.Words.{IsNumberOr, IsSiteRead, LacksSite}
 use Rattle.lmtpd_words.proofs.values.serve_words.Goals as goal
 
 pub returns-in_default : goal.returns-in_default
@@ -15,13 +15,13 @@ returns c =
       listen = sym (first_value-rows f (codes "listen")) ∙ sym c.in-Some.ensures;
       dir = c.in-Some-folder_of.ensures;
       connections = c.in-Some-number_of.ensures;
-      lanes = c.number_or.ensures;
-      blocks = c.number_or-2.ensures;
-      capacity = c.number_or-3.ensures;
-      reads = c.number_or-4.ensures;
-      timeout = c.number_or-5.ensures;
+      lanes = c.number_or-lanes.ensures;
+      blocks = subst (λ usual. IsNumberOr usual (one_of (codes "blocks") (rows_of f)) c.number_or.result) c.usual_blocks-blocks.ensures c.number_or.ensures;
+      capacity = c.number_or-2.ensures;
+      reads = c.number_or-3.ensures;
+      timeout = c.number_or-4.ensures;
       log = c.in-Some-Some.ensures;
       quota = c.quota_of.ensures;
-      lock_wait = c.number_or-6.ensures;
+      lock_wait = c.number_or-5.ensures;
       mailbox_mode = c.in-Some-Some.ensures';
     }

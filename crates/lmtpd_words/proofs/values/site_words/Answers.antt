@@ -8,7 +8,7 @@ pub returns-in_default : goal.returns-in_default
 returns-in_default c = inl (sym (first_value-rows (found_of c.args.matches.now) (codes "host")) ∙ sym c.in_default.ensures)
 
 pub returns-in_default-get_strs : goal.returns-in_default-get_strs
-returns-in_default-get_strs c = inr (sym (raw_values-rows (found_of c.args.matches.now) (codes "box")) ∙ sym c.in_default-get_strs.ensures)
+returns-in_default-get_strs c = inr (inl (sym (raw_values-rows (found_of c.args.matches.now) (codes "box")) ∙ sym c.in_default-get_strs.ensures))
 
 pub returns : goal.returns
 returns c =
@@ -17,4 +17,5 @@ returns c =
       host = sym (first_value-rows f (codes "host")) ∙ sym c.in-Some.ensures;
       domains = c.in_ok-domains.ensures;
       boxes = sym (raw_values-rows f (codes "box")) ∙ (sym c.in-Some-get_strs.ensures ∙ ap Some (ap texts (sym boxes)));
+      message_limit = c.in-Some-message_limit_of.ensures;
     }
