@@ -1,7 +1,8 @@
 -- The mailboxes of a server that has run, by their spools and what their workers say of them.
-use Rattle.std.proofs.Common.{◌≡◌, ℕ, zero, suc, ◌+◌, ◌<◌, ◌≤◌, List, [], ◌∷◌, ◌++◌, length, map, take, drop, replicate, Bool, true, false, Option, Some, inl, inr, refl, ap, sym, ◌∙◌, subst, arith}
+use Rattle.std.proofs.Common.{◌≡◌, ℕ, zero, suc, ◌+◌, ◌*◌, ◌<◌, ◌≤◌, List, [], ◌∷◌, ◌++◌, length, map, take, drop, replicate, Bool, true, false, Option, Some, inl, inr, refl, ap, sym, ◌∙◌, subst, arith}
 use Rattle.std.specs.Prelude.{slice_get, ◌||◌}
 use Rattle.std.specs.List.{list_any}
+use Rattle.std.proofs.Math.Nat.{le-max_left}
 use Rattle.std.proofs.lemmas.Bool.Decides.{nat_tests}
 use Rattle.std.proofs.lemmas.List.{append-nil, length-append, length-drop, take_all, drop_all}
 use Rattle.std.proofs.Math.Seq.{take-append_seam, drop-append_seam}
@@ -18,8 +19,7 @@ use Rattle.box_worker.specs.Stored.{mailbox_of, HasStored, HasSettled}
 use Rattle.lmtp_threads.specs.Works.{share_of, setting_of}
 use Rattle.lmtp_threads.specs.declared.tally.Tally.{Tally}
 use Rattle.mbox_rd.specs.Sharing.{alone}
-use Rattle.lmtpd_rehearse.specs.declared.parts.TheConstants.{MAILBOX_ROOM}
-use Rattle.lmtpd_rehearse.specs.Mailboxes.{MailboxContent, kept_all, kept_at, bytes_of_all, empty_spool, IsCalm}
+use Rattle.lmtpd_rehearse.specs.Mailboxes.{MailboxContent, kept_all, kept_at, bytes_of_all, empty_spool, mailbox_room, IsCalm}
 use Rattle.lmtpd_rehearse.specs.Copies.{HoldsCopies, kept_later}
 use Rattle.lmtpd_rehearse.proofs.Keeping.{kept_front, kept_parts, length-marked, marked_next, marked_none, same_marks}
 
@@ -93,11 +93,11 @@ no_front : (front rest : List ℕ) → [] ≡ front ++ rest → front ≡ []
 no_front [] rest e = refl
 no_front (x ∷ front) rest e = cc
 
-pub is_full : (calendar : Calendar) (host : List ℕ) (spool : MemorySpool) (notes : List Note) (stored over : ℕ) (faulty : Bool)
-    → HasStored calendar host notes (state_of empty_spool) (mailbox_of (state_of spool) stored over faulty) → faulty ≡ true → length spool.bytes ≡ MAILBOX_ROOM
-is_full calendar host spool notes stored over faulty h e =
+pub is_full : (site : Site) (calendar : Calendar) (host : List ℕ) (spool : MemorySpool) (notes : List Note) (stored over : ℕ) (faulty : Bool)
+    → HasStored calendar host notes (state_of (empty_spool site)) (mailbox_of (state_of spool) stored over faulty) → faulty ≡ true → length spool.bytes ≡ mailbox_room site.message_limit
+is_full site calendar host spool notes stored over faulty h e =
     let P : Option ℕ → Type 0 = λ limit. IsFull limit (Some spool.bytes) in
-    let full : length spool.bytes ≡ 0 + MAILBOX_ROOM = subst P h.limited (h.full e) in
+    let full : length spool.bytes ≡ 0 + mailbox_room site.message_limit = subst P h.limited (h.full e) in
     omega (arith, full)
 
 -- what a worker's spool holds of the copies that it took
@@ -116,17 +116,17 @@ module _ (site : Site) (quota : Option ℕ) (b start : ℕ) (notes : List Note) 
   later = kept_later civil_at site.host quota (stored + over) notes
 
   abbrev pub HoldsSettled : Bool → Type 0
-  HoldsSettled faulty = HasSettled at start notes (state_of empty_spool) (mailbox_of (state_of spool) stored over faulty)
+  HoldsSettled faulty = HasSettled at start notes (state_of (empty_spool site)) (mailbox_of (state_of spool) stored over faulty)
 
   abbrev pub Holds : Bool → Type 0
   Holds faulty = HoldsCopies civil_at site.host quota notes (outcomes_settled (stored + over) (are_kept civil_at site.host quota [] notes)) spool.bytes faulty
 
   kept_as : (faulty : Bool) → HoldsSettled faulty → (xs : List Note) → kept_behind at start xs ≡ kept civil_at site.host quota [] xs
-  kept_as faulty h xs = ap (λ marks. marked marks xs) (same_marks civil_at site.host quota (state_of empty_spool) start xs refl h.starts)
+  kept_as faulty h xs = ap (λ marks. marked marks xs) (same_marks civil_at site.host quota (state_of (empty_spool site)) start xs refl h.starts)
 
-  pub spool_has : (faulty : Bool) → HoldsSettled faulty → HasStored civil_at site.host all (state_of empty_spool) (mailbox_of (state_of spool) stored over faulty)
+  pub spool_has : (faulty : Bool) → HoldsSettled faulty → HasStored civil_at site.host all (state_of (empty_spool site)) (mailbox_of (state_of spool) stored over faulty)
   spool_has faulty h =
-      let P : List Note → Type 0 = λ l. HasStored civil_at site.host l (state_of empty_spool) (mailbox_of (state_of spool) stored over faulty) in
+      let P : List Note → Type 0 = λ l. HasStored civil_at site.host l (state_of (empty_spool site)) (mailbox_of (state_of spool) stored over faulty) in
       subst P (kept_as faulty h notes) h.spool
 
   count_first : (faulty : Bool) → HoldsSettled faulty → stored ≡ length first
@@ -137,10 +137,10 @@ module _ (site : Site) (quota : Option ℕ) (b start : ℕ) (notes : List Note) 
   next_kept h = elim (h.next refl) [
     | inl none ↦ (
         let broken = none.1.failed in
-        let full = is_full civil_at site.host spool all stored over true (spool_has true h) refl in
+        let full = is_full site civil_at site.host spool all stored over true (spool_has true h) refl in
         let nothing : broken.front ≡ [] = no_front broken.front broken.rest (sym none.1.is ∙ broken.whole) in
         let empty : length spool.bytes ≡ 0 = ap length (broken.appended ∙ nothing) in
-        absurd (omega (arith, full, empty))
+        let some = le-max_left 2097152 (2 * site.message_limit) in absurd (omega (arith, full, empty, some))
         )
     | inr one ↦ (
         let marks : List Bool = are_kept civil_at site.host quota [] notes in
@@ -199,10 +199,10 @@ module _ (site : Site) (quota : Option ℕ) (b start : ℕ) (notes : List Note) 
         }
         )
     | inr none ↦ (
-        let full = is_full civil_at site.host spool all stored over true (spool_has true h) refl in
+        let full = is_full site civil_at site.host spool all stored over true (spool_has true h) refl in
         let nothing : none.0 ≡ [] = no_front none.0 none.3.rest none.3.whole in
         let empty : length spool.bytes ≡ 0 = ap length (none.2 ∙ nothing) in
-        absurd (omega (arith, full, empty))
+        let some = le-max_left 2097152 (2 * site.message_limit) in absurd (omega (arith, full, empty, some))
         )
   ]
 

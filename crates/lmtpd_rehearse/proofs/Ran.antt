@@ -37,10 +37,9 @@ use Rattle.lmtp_lane.specs.Visits.{Finished, Visit, IsVisit, conversations_of, f
 use Rattle.lmtpd_rehearse.specs.declared.client.OnlyClient.{OnlyClient}
 use Rattle.lmtpd_rehearse.specs.declared.client.OnlyClient.TheVariants.{Waiting, Over}
 use Rattle.lmtpd_rehearse.specs.Account.{IsSettled, IsAllSettled}
-use Rattle.lmtpd_rehearse.specs.declared.parts.TheConstants.{MAILBOX_ROOM}
 use Rattle.lmtpd_rehearse.specs.Copies.{HoldsCopies, kept_later}
 use Rattle.lmtpd_rehearse.specs.Client.{MayGive, told as told_by, is_over, IsOnlyOver}
-use Rattle.lmtpd_rehearse.specs.Mailboxes.{MailboxContent, kept_all, kept_at, bytes_of_all, empty_spool, texts_of_mailboxes, IsCalm}
+use Rattle.lmtpd_rehearse.specs.Mailboxes.{MailboxContent, kept_all, kept_at, bytes_of_all, empty_spool, mailbox_room, texts_of_mailboxes, IsCalm}
 use Rattle.lmtpd_rehearse.specs.Rehearsal.{AreMailboxes, copies_due, told_of_box, RehearsalEndsFor, HeldState, IsHeld, IsListed, IsRehearsed, Streams}
 use Rattle.lmtpd_rehearse.proofs.Boxes.{state_of, get_some, get_same, kept_is, length-kept, bytes_are, none_failed, all_calm, is_full, spool_has, holds_settled}
 use Rattle.lmtpd_rehearse.proofs.Rising.{NumbersRise, numbers_rise}
@@ -153,7 +152,7 @@ record BoxAt (site : Site) (quota : Option ℕ) (work : BoxWork) (spools : List 
   spool : MemorySpool
   tally : Tally
   is : kept_at (kept_all spools tallies) b ≡ record { bytes = spool.bytes; failed = tally.faulty }
-  did : IsBoxWork (setting_of (share_of site quota) b) work (state_of empty_spool) (state_of spool) tally
+  did : IsBoxWork (setting_of (share_of site quota) b) work (state_of (empty_spool site)) (state_of spool) tally
 
 -- what the lane heard, and what each of so many workers did
 record AllWork : Type 0 where
@@ -175,16 +174,16 @@ record HaveWorked (site : Site) (quota : Option ℕ) (ts : List Transaction) (wo
 
 -- what a worker made of its mailbox, and what it told of its copies
 module _ (site : Site) (quota : Option ℕ) (b : ℕ) (work : BoxWork) (spool : MemorySpool) (tally : Tally)
-    (did : IsBoxWork (setting_of (share_of site quota) b) work (state_of empty_spool) (state_of spool) tally) where
+    (did : IsBoxWork (setting_of (share_of site quota) b) work (state_of (empty_spool site)) (state_of spool) tally) where
   -- the spool is nobody else's
-  abbrev acc : IsAccounted (setting_of (share_of site quota) b) work.taken work.outcomes (state_of empty_spool) (mailbox_of (state_of spool) tally.stored tally.over tally.faulty)
+  abbrev acc : IsAccounted (setting_of (share_of site quota) b) work.taken work.outcomes (state_of (empty_spool site)) (mailbox_of (state_of spool) tally.stored tally.over tally.faulty)
   acc = (did.alone refl).accounted
 
   abbrev marks : List Bool
   marks = are_kept_behind civil_at site.host quota acc.start work.taken
 
   tells : work.outcomes ≡ outcomes_settled (acc.stored + acc.over) (are_kept civil_at site.host quota [] work.taken)
-  tells = acc.told ∙ ap (outcomes_settled (acc.stored + acc.over)) (same_marks civil_at site.host quota (state_of empty_spool) acc.start work.taken refl acc.settled.starts)
+  tells = acc.told ∙ ap (outcomes_settled (acc.stored + acc.over)) (same_marks civil_at site.host quota (state_of (empty_spool site)) acc.start work.taken refl acc.settled.starts)
 
   tells_each : length work.outcomes ≡ length work.taken
   tells_each = did.each
@@ -200,8 +199,8 @@ module _ (site : Site) (quota : Option ℕ) (b : ℕ) (work : BoxWork) (spool : 
       let P : List Outcome → Type 0 = λ os. HoldsCopies civil_at site.host quota work.taken os spool.bytes tally.faulty in
       subst P (sym tells) (holds_settled site quota b acc.start work.taken spool acc.stored acc.over tally.faulty acc.settled)
 
-  fills : tally.faulty ≡ true → length spool.bytes ≡ MAILBOX_ROOM
-  fills = is_full civil_at site.host spool _ acc.stored acc.over tally.faulty (spool_has site quota b acc.start work.taken spool acc.stored acc.over tally.faulty acc.settled)
+  fills : tally.faulty ≡ true → length spool.bytes ≡ mailbox_room site.message_limit
+  fills = is_full site civil_at site.host spool _ acc.stored acc.over tally.faulty (spool_has site quota b acc.start work.taken spool acc.stored acc.over tally.faulty acc.settled)
 
 -- a mailbox that hasn't failed
 record HoldsAll (host : List ℕ) (quota : Option ℕ) (notes : List Note) (outcomes : List Outcome) (bytes : List ℕ) : Type 0 where
@@ -284,7 +283,7 @@ abbrev pub HasRunAlone : (site : Site) (quota : Option ℕ) (moment : ℕ) {P : 
     (back : HandedBack (OnlyClient P) MemorySpool) → Type 0
 HasRunAlone site quota moment state peer count back =
     HasRun site (λ m. m ≡ moment) (record { MayGive = λ c p. MayGive state c p; finished = λ c. told_by state c; over = λ c. is_over c }) state_of
-    (record { visits = Waiting peer ∷ []; spools = replicate count empty_spool; quota = quota }) back
+    (record { visits = Waiting peer ∷ []; spools = replicate count (empty_spool site); quota = quota }) back
 
 module _ (site : Site) (quota : Option ℕ) (moment : ℕ) {P : Type 0} (state : P → PeerState) (peer : P) (count : ℕ) (back : HandedBack (OnlyClient P) MemorySpool) where
   -- the client has left
@@ -301,9 +300,9 @@ module _ (site : Site) (quota : Option ℕ) (moment : ℕ) {P : Type 0} (state :
   have_worked h c is answered =
       let ts : List Transaction = transactions_in site 0 c in
       let heard : List Slip = (h.lanes 0).heard in
-      let many : length (replicate count empty_spool) ≡ count = length-replicate count empty_spool in
+      let many : length (replicate count (empty_spool site)) ≡ count = length-replicate count (empty_spool site) in
       let one : 0 < 1 = omega arith in
-      let low_in : (b : ℕ) → b < count → b < length (replicate count empty_spool) = λ b low. omega (arith, many, low) in
+      let low_in : (b : ℕ) → b < count → b < length (replicate count (empty_spool site)) = λ b low. omega (arith, many, low) in
       let taken : (b : ℕ) → b < count → (h.boxes b).taken ≡ copies_owed 0 b ts = λ b low.
       sym (all_of_lane (h.boxes b).taken (h.owed_only b (low_in b low))) ∙ h.owed 0 b one (low_in b low) ∙ ap (λ l. due site 0 b l) is ∙ due_is site b c in
       let K : ℕ → Type 0 = λ n. AllByRecursion (λ slip. slip.worker < n) heard in
@@ -321,7 +320,7 @@ module _ (site : Site) (quota : Option ℕ) (moment : ℕ) {P : Type 0} (state :
               spool = spool.0;
               tally = tally.0;
               is = kept_is back.spools back.tallies b spool.0 tally.0 spool.1 tally.1;
-              did = h.stored b empty_spool spool.0 tally.0 (get_same count b empty_spool low) spool.1 tally.1;
+              did = h.stored b (empty_spool site) spool.0 tally.0 (get_same count b (empty_spool site) low) spool.1 tally.1;
             };
         as_many = (h.as_many_boxes.0 ∙ many, h.as_many_boxes.1 ∙ many);
       }

@@ -1,6 +1,7 @@
 -- The mailboxes of a rehearsal: what they hold, and how they are written.
-use Rattle.std.specs.Prelude.{◌≡◌, ◌<◌, ℕ, Bool, false, List, [], ◌∷◌, ◌++◌, length, map, slice_index_or, codes, decimal}
+use Rattle.std.specs.Prelude.{◌≡◌, ◌<◌, ◌*◌, max, ℕ, Bool, false, List, [], ◌∷◌, ◌++◌, length, map, slice_index_or, codes, decimal}
 use Rattle.mail_world.specs.Text.{lf}
+use Rattle.mail_world.specs.Site.{Site}
 use Rattle.mbox_rd.specs.MemorySpool.{MemorySpool}
 use Rattle.lmtp_threads.specs.declared.tally.Tally.{Tally}
 use Rattle.lmtpd_output.specs.Output.{pair_texts}
@@ -43,6 +44,11 @@ kept_at ks n = slice_index_or ks n nothing_kept
 abbrev pub IsCalm : List MailboxContent → Type 0
 IsCalm ks = (n : ℕ) → n < length ks → (kept_at ks n).failed ≡ false
 
--- a spool that holds nothing, with room for a mailbox
-abbrev pub empty_spool : MemorySpool
-empty_spool = record { bytes = []; room = MAILBOX_ROOM; failures = 0; synced = 0; is_unsynced = false }
+-- the bytes that a mailbox has room for where a message may have so many: two largest messages, and no fewer than usual
+abbrev pub mailbox_room : ℕ → ℕ
+mailbox_room limit = max MAILBOX_ROOM (2 * limit)
+
+-- a spool that holds nothing, with room for a mailbox of the site
+abbrev pub empty_spool : Site → MemorySpool
+empty_spool site =
+    record { bytes = []; room = mailbox_room site.message_limit; failures = 0; synced = 0; is_unsynced = false }

@@ -3,7 +3,6 @@ use Rattle.std.specs.Prelude.{◌≡◌, ◌↔◌, ◌⊎◌, ◌<◌, ◌≤�
 use Rattle.std.specs.List.{AllByRecursion}
 use Rattle.std.specs.Io.KnownBytes.{Consumes, Appends, IsAtEnd}
 use Rattle.mail_world.specs.declared.limits.TheConstants.{READ_LIMIT, BLOCK_LIMIT}
-use Rattle.lmtpd_rehearse.specs.declared.parts.TheConstants.{MAILBOX_ROOM}
 use Rattle.mail_world.specs.declared.Note.{Note}
 use Rattle.mail_world.specs.declared.Outcome.{Outcome}
 use Rattle.mail_world.specs.Site.{Site}
@@ -18,7 +17,7 @@ use Rattle.lmtp_talk.specs.declared.ending.EndCause.{EndCause}
 use Rattle.lmtp_talk.specs.declared.ending.EndCause.TheVariants.{Quit, EndOfInput, WriteFault, Stopped, ReadBound}
 use Rattle.lmtp_talk.specs.Served.{IsWritten, has_quit}
 use Rattle.lmtpd_rehearse.specs.declared.ending.Ending.{Ending}
-use Rattle.lmtpd_rehearse.specs.Mailboxes.{MailboxContent, kept_at, mailboxes_text, bytes_of_all, IsCalm}
+use Rattle.lmtpd_rehearse.specs.Mailboxes.{MailboxContent, kept_at, mailbox_room, mailboxes_text, bytes_of_all, IsCalm}
 use Rattle.lmtpd_rehearse.specs.Account.{IsAllSettled}
 use Rattle.lmtpd_rehearse.specs.Copies.{HoldsCopies}
 
@@ -46,7 +45,7 @@ pub record AreMailboxes (site : Site) (quota : Option ℕ) (read : List ℕ) (ac
       → HoldsCopies civil_at site.host quota (copies_due site read account box) (told_of_box site read account box) (kept_at mailboxes box).bytes (kept_at mailboxes box).failed
   -- a spool failed only once its room was used up
   pub full : (box : ℕ) → box < length site.boxes → (kept_at mailboxes box).failed ≡ true
-      → length (kept_at mailboxes box).bytes ≡ MAILBOX_ROOM
+      → length (kept_at mailboxes box).bytes ≡ mailbox_room site.message_limit
   -- a rehearsal is faulty exactly where a spool failed
   pub sound : (faulty ≡ false) ↔ IsCalm mailboxes
   -- and where it isn't, every outcome is Stored, or under a quota OverQuota

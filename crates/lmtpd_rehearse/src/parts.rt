@@ -1,15 +1,16 @@
 //! What a rehearsal hands to the server that it runs.
 
 ghost use Rattle.std.specs.Prelude.{◌≡◌, length, replicate, IfOk};
-ghost use Rattle.lmtpd_rehearse.specs.Mailboxes.{empty_spool};
+ghost use Rattle.lmtpd_rehearse.specs.Mailboxes.{empty_spool, mailbox_room};
 
 use box_worker::OpenGate;
 use lmtp_house::Sizes;
+use lmtp_text::Site;
 use lmtpd_words::DEFAULT_CAPACITY;
 use mbox_rd::MemorySpool;
 use std::alloc::{AllocError, Global};
 
-/// The bytes that a mailbox of a rehearsal has room for.
+/// The bytes that a mailbox of a rehearsal has room for at the least.
 pub const MAILBOX_ROOM: usize = 2_097_152;
 
 /// A rehearsal has one client, and so one lane.
@@ -27,13 +28,25 @@ pub fn sizes(blocks: u32, quota: Option<u64>) -> Sizes
     }
 }
 
-/// So many empty spools.
-pub fn empty_spools(alloc: Global, count: u32) -> Result<Vec<MemorySpool>, AllocError>
-    ensures { IfOk result (λ spools. spools.items ≡ replicate count empty_spool) }
+// The bytes that a mailbox has room for where a message may have so many.
+fn mailbox_room(limit: u32) -> usize
+    ensures { result ≡ mailbox_room limit }
 {
+    MAILBOX_ROOM.max(2 * limit as usize)
+}
+
+/// As many empty spools, each with room for a mailbox of the site.
+pub fn empty_spools(
+    alloc: Global,
+    site: &Site,
+    count: u32,
+) -> Result<Vec<MemorySpool>, AllocError>
+    ensures { IfOk result (λ spools. spools.items ≡ replicate count (empty_spool site.now)) }
+{
+    let room = mailbox_room(site.message_limit());
     let mut spools = Vec::with_capacity(alloc, count as usize)?;
     for _made in 0..count {
-        spools.push(MemorySpool::new(alloc, b"", MAILBOX_ROOM)?)?;
+        spools.push(MemorySpool::new(alloc, b"", room)?)?;
     }
     Ok(spools)
 }

@@ -116,7 +116,7 @@ where
         → (result ≡ Err HouseFault.Size) ⊎ (result ≡ Err HouseFault.Memory) }
 {
     let count = site.box_count();
-    let spools = empty_spools(alloc, count)?;
+    let spools = empty_spools(alloc, &site, count)?;
     let gates = open_gates(alloc, count)?;
     let mut visits = Vec::with_capacity(alloc, 1)?;
     visits.push_reserved(OnlyClient::Waiting(peer));
