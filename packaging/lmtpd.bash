@@ -1,9 +1,9 @@
 # What bash completes of the words of lmtpd.
 _lmtpd() {
     local serve rehearse check word=${COMP_WORDS[COMP_CWORD]} before=${COMP_WORDS[COMP_CWORD - 1]}
-    serve='--host --listen --dir --connections --domains --lanes --blocks --capacity --reads --timeout'
+    serve='--host --listen --dir --connections --domains --message-limit --lanes --blocks --capacity --reads --timeout'
     serve+=' --log --quota --lock-wait --mailbox-mode --help'
-    rehearse='--host --time --domains --blocks --quota --help'
+    rehearse='--host --time --domains --message-limit --blocks --quota --help'
     check='--help'
     COMPREPLY=()
     if [ "$before" = --dir ]; then

@@ -44,6 +44,8 @@ try 1 'lmtpd: size' "${good[@]}" --blocks 0 anna
 try 1 'lmtpd: size' "${good[@]}" --blocks 65537 anna
 try 2 clap "${good[@]}" --blocks 4294967296 anna
 try 2 clap "${good[@]}" --blocks x anna
+for limit in 65535 268435457 x '' 1e6; do try 2 clap "${good[@]}" --message-limit "$limit" anna; done
+for limit in 65535 268435457 x; do try 2 clap "${serve[@]}" --dir /nowhere --message-limit "$limit" anna; done
 try 2 clap "${good[@]}" --quota -1 anna
 try 2 clap "${good[@]}" --quota 18446744073709551616 anna
 try 2 clap "${good[@]}" --quota 1k anna

@@ -6,15 +6,12 @@ from dataclasses import dataclass, field
 
 CRLF = b"\r\n"
 GREETING = b"220 mx.example LMTP ready"
-OFFER = [b"250-mx.example", b"250-PIPELINING", b"250-ENHANCEDSTATUSCODES", b"250-8BITMIME", b"250 SIZE 1048576"]
 SENDER_OK = b"250 2.1.0 Sender ok"
 RECIPIENT_OK = b"250 2.1.5 Recipient ok"
 GO_AHEAD = b"354 End with a lone dot"
 BYE = b"221 2.0.0 mx.example closing"
 OUT_OF_ORDER = b"503 5.5.1 Out of order"
 UNKNOWN = b"500 5.5.2 Unknown command"
-OPENED = [GREETING, *OFFER, SENDER_OK]
-
 PROLOGUE = [b"LHLO relay.example", b"MAIL FROM:<carl@a.example>"]
 TO_ANNA = b"RCPT TO:<anna@mx.example>"
 TO_BEN = b"RCPT TO:<ben@mx.example>"
@@ -22,8 +19,18 @@ HELLO = [b"Subject: hi", b"", b"hello", b"."]
 HELLO_STORED = b"Subject: hi\n\nhello\n"
 
 
+def offer(limit=1_048_576):
+    """The reply to LHLO of a site where a message may have so many bytes."""
+    extensions = [b"250-PIPELINING", b"250-ENHANCEDSTATUSCODES", b"250-8BITMIME"]
+    return [b"250-mx.example", *extensions, b"250 SIZE %d" % limit]
+
+
 def stored(box):
     return b"250 2.0.0 Stored for " + box.encode()
+
+
+OFFER = offer()
+OPENED = [GREETING, *OFFER, SENDER_OK]
 
 
 def over(box):
@@ -215,6 +222,29 @@ def texts():
     yield message("bytes above 127 and NUL", [b"\xff\x80\x00", b"."], b"\xff\x80\x00\n")
 
 
+def limits_of_a_site(line):
+    """A site that names a limit of its own."""
+    words = ["--message-limit", "65536"]
+    yield Row(
+        "a site's limit: what it offers, a size above it, and its size",
+        [b"LHLO relay.example", b"MAIL FROM:<a@b> SIZE=65537", b"MAIL FROM:<a@b> SIZE=65536", b"QUIT"],
+        [GREETING, *offer(65_536), b"552 5.3.4 Message too large", SENDER_OK, BYE],
+        {"anna": b"", "ben": b""},
+        words,
+    )
+    row = message("a site's limit: a message of it", [line] * 1_024 + [b"."], (line + b"\n") * 1_024)
+    row.words = words
+    row.replies[1:6] = offer(65_536)
+    assert len(row.mailboxes["anna"]) == 169 + 1_024 * 63 + 1
+    yield row
+    row = message("a site's limit: a byte above it", [b"x" + line] + [line] * 1_023 + [b"."], b"")
+    row.words = words
+    row.replies[1:6] = offer(65_536)
+    row.replies[-2] = b"552 5.3.4 Too large for anna"
+    row.mailboxes["anna"] = b""
+    yield row
+
+
 def limits():
     line = b"x" * 62
     yield message("a message of the limit", [line] * 16_384 + [b"."], (line + b"\n") * 16_384)
@@ -228,6 +258,7 @@ def limits():
         [GREETING, *OFFER, b"552 5.3.4 Message too large", SENDER_OK, BYE],
         {"anna": b"", "ben": b""},
     )
+    yield from limits_of_a_site(line)
     too_much = [b"x" + line, *[line] * 127, b"."]
     just_fits = [*[line] * 128, b"."]
     yield Row(

@@ -54,6 +54,15 @@ def play_with_blocks(row, blocks):
     return ended.returncode, ended.stdout, ended.stderr, read
 
 
+def play_largest():
+    """A message of 200 MiB where one may have 256: whether it is stored byte for byte."""
+    line = b"x" * 62
+    row = rows.message("", [bytearray((line + rows.CRLF) * 3_276_800), b"."], (line + b"\n") * 3_276_800)
+    row.words = ["--message-limit", "268435456"]
+    row.replies[1:6] = rows.offer(268_435_456)
+    return play(row) == (0, row.output(), b"")
+
+
 def check(row, said=subprocess.PIPE):
     """Checks the files of the row, in a folder of their own, with twenty open files at most."""
     with tempfile.TemporaryDirectory() as folder:
@@ -155,6 +164,7 @@ def verdicts():
         if len(row.input()) < 400:
             yield tell(f"{row.name}, byte by byte", play_in_pieces(row), wanted)
     yield tell("one mailbox twice and each quota from 0 to 378", list(wrong_quotas()), [])
+    yield tell("a message of 200 MiB, byte for byte", play_largest(), True)
     first = next(rows.rows())
     yield tell("standard output is full", play_on_full(first), (1, b"", b"lmtpd: device fault\n"))
     for blocks in [0, 65_537]:

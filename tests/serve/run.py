@@ -9,6 +9,7 @@ import deliveries  # noqa: F401
 import failing  # noqa: F401
 import files  # noqa: F401
 import largest  # noqa: F401
+import limits  # noqa: F401
 import logs  # noqa: F401
 import readers  # noqa: F401
 import refusals  # noqa: F401

@@ -4,6 +4,7 @@ mod address;
 mod asked;
 mod mailboxes;
 mod report;
+mod room;
 
 pub use asked::serve_asked;
 pub use mailboxes::SharedMailbox;

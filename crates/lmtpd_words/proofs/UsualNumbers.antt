@@ -1,8 +1,8 @@
 -- The limits of a server, and its numbers and level where the words name none, as the help tells them.
 use Rattle.std.proofs.Common.{◌≡◌, refl, codes}
-use Rattle.mail_world.specs.declared.limits.TheConstants.{BLOCK_SIZE, BLOCK_LIMIT, LANE_LIMIT, CAPACITY_LIMIT, LOCK_WAIT_LIMIT, MODE_LIMIT}
+use Rattle.mail_world.specs.declared.limits.TheConstants.{BLOCK_SIZE, BLOCK_LIMIT, LANE_LIMIT, CAPACITY_LIMIT, LOCK_WAIT_LIMIT, MODE_LIMIT, MESSAGE_LIMIT, LEAST_MESSAGE_LIMIT, LARGEST_MESSAGE_LIMIT}
 use Rattle.log.specs.declared.level.LevelFilter.TheVariants as filter
-use Rattle.lmtpd_words.specs.Words.{octal}
+use Rattle.lmtpd_words.specs.Words.{octal, usual_blocks}
 use Rattle.lmtpd_words.specs.declared.words.TheConstants.{DEFAULT_BLOCKS, DEFAULT_CAPACITY, DEFAULT_LANES, DEFAULT_LOCK_WAIT, DEFAULT_LOG, DEFAULT_MAILBOX_MODE, DEFAULT_READS, DEFAULT_TIMEOUT}
 
 pub lanes : DEFAULT_LANES ≡ 4
@@ -50,3 +50,22 @@ most_mode = refl
 -- rwx for an owner, and r-x for the others: 7 * 64 + 5 * 8 + 5
 pub a_mode : octal (codes "755") ≡ 493
 a_mode = refl
+
+pub message_limit : MESSAGE_LIMIT ≡ 1048576
+message_limit = refl
+
+pub least_message_limit : LEAST_MESSAGE_LIMIT ≡ 65536
+least_message_limit = refl
+
+pub largest_message_limit : LARGEST_MESSAGE_LIMIT ≡ 268435456
+largest_message_limit = refl
+
+-- a lane's largest message, four lanes at the usual limit, at 25 MiB, and as many blocks as there may be
+pub blocks_of_a_lane : usual_blocks 1 1048576 ≡ 1024
+blocks_of_a_lane = refl
+
+pub blocks_at_25 : usual_blocks 4 26214400 ≡ 25600
+blocks_at_25 = refl
+
+pub blocks_at_most : usual_blocks 64 268435456 ≡ 65536
+blocks_at_most = refl

@@ -9,6 +9,7 @@ ghost use Rattle.lmtpd.specs.Program.{IsNotServed, IsServedAsAsked, sizes_asked}
 
 use super::address::address_of;
 use super::mailboxes::{Access, SharedMailbox, open_mailboxes};
+use super::room::tell_of_room;
 use crate::fault::Fault;
 use crate::site::shared_site;
 use crate::stop::Stop;
@@ -76,6 +77,7 @@ where
     let address = address_of(words.listen)?;
     let site = shared_site(alloc, &words.site)?;
     let log = Logged::new(threads, words.log, Console(threads));
+    tell_of_room(words, &log);
     let access = Access {
         folder: words.dir,
         wait: words.lock_wait,

@@ -1,0 +1,52 @@
+"""A server whose messages may have other sizes than the usual ones."""
+
+from cases import case, equal
+from clients import Client
+from server import Server
+
+LINE = "x" * 62
+
+
+@case
+def a_limit_of_the_site(folder):
+    """a limit of 65,536 bytes: what is offered, a size above it, a message of just as many bytes, and one of a byte more"""
+    with Server(folder, ["anna"], 1, "--message-limit", 65_536) as server:
+        with Client(server.address) as client:
+            equal(client.hear(), "220 mx.example LMTP ready")
+            equal(client.ask("LHLO relay.example"), "250 SIZE 65536")
+            equal(client.ask("MAIL FROM:<a@b> SIZE=65537"), "552 5.3.4 Message too large")
+            equal(client.deliver(["anna"], *[LINE] * 1_024)[1], ["250 2.0.0 Stored for anna"])
+            equal(client.deliver(["anna"], "x" + LINE, *[LINE] * 1_023)[1], ["552 5.3.4 Too large for anna"])
+            client.quit()
+        ended = server.end()
+    equal((ended.status, ended.said, ended.errors), (0, ["anna stored 1"], []))
+    equal(server.mailbox("anna").read_bytes().count(LINE.encode() + b"\n"), 1_024)
+
+
+@case
+def a_letter_of_twenty_megabytes(folder):
+    """a letter of 20 MB for two mailboxes, where one may have 25 MiB: each holds it, byte for byte"""
+    with Server(folder, ["anna", "ben"], 1, "--message-limit", 26_214_400) as server:
+        with Client(server.address) as client:
+            client.greet()
+            finals = client.deliver(["anna", "ben"], *[LINE] * 312_500)[1]
+            equal(finals, ["250 2.0.0 Stored for anna", "250 2.0.0 Stored for ben"])
+            client.quit()
+        ended = server.end()
+    equal((ended.status, ended.errors), (0, []))
+    for name in ["anna", "ben"]:
+        body = server.mailbox(name).read_bytes().partition(b"+0000\n")[2]
+        equal(body == (LINE.encode() + b"\n") * 312_500 + b"\n", True)
+
+
+@case
+def blocks_that_hold_no_largest_message(folder):
+    """where all blocks together can't hold one largest message the log says so, and the server serves"""
+    words = ["--message-limit", 65_537, "--blocks", 16, "--log", "error"]
+    with Server(folder, ["anna"], 1, *words) as server:
+        with Client(server.address) as client:
+            client.greet()
+            equal(client.deliver(["anna"], "hello")[1], ["250 2.0.0 Stored for anna"])
+            client.quit()
+        ended = server.end()
+    equal((ended.status, ended.errors), (0, ["[ERROR lmtpd] a largest message has no room room=65536 limit=65537"]))
