@@ -158,7 +158,7 @@ const LANES: Argument = Argument {
 const BLOCKS: Argument = Argument {
     name: "blocks",
     value: "BLOCKS",
-    help: "Blocks of 4096 bytes for messages on their way, 1 to 65536 [default: as many as a largest message for each lane takes, at least 1024]",
+    help: "Blocks of 4096 bytes for messages on their way, 1 to 65536 [default: a message a lane, 1024 at least]",
     is_required: false,
     kind: ValueKind::Number {
         least: 0,

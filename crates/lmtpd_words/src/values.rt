@@ -6,7 +6,8 @@ ghost use Rattle.std.specs.Option.{option_map, option_map_or};
 ghost use Rattle.lmtp_text.specs.Sites.{texts};
 ghost use Rattle.lmtpd_words.specs.Words.{IsAsked, IsCheckRead, IsLimit, IsNumberOr, IsRehearseRead, IsServeRead};
 ghost use Rattle.lmtpd_words.specs.Words.{IsFolder, IsLevel, IsMode, IsNoFolder, IsNoLevel, IsNoMode, IsSiteRead};
-ghost use Rattle.lmtpd_words.specs.Words.{IsMessageLimitOr, IsNoMessageLimit, usual_blocks, IsLacking, LacksCheck, LacksNumber, LacksRehearse, LacksServe, LacksSite};
+ghost use Rattle.lmtpd_words.specs.Words.{IsMessageLimitOr, IsNoMessageLimit, usual_blocks};
+ghost use Rattle.lmtpd_words.specs.Words.{IsLacking, LacksCheck, LacksNumber, LacksRehearse, LacksServe, LacksSite};
 ghost use Rattle.lmtpd_words.specs.Words.{is_log_level, number, listed};
 
 use crate::texts::{BAD_FOLDER, BAD_LEVEL, BAD_MODE};
