@@ -10,7 +10,7 @@ use Rattle.block_arena.specs.declared.slot.Run.{Run}
 use Rattle.block_arena.specs.declared.slot.Content.{Content}
 use Rattle.block_arena.specs.declared.slot.Content.TheVariants.{Free, Draft, Sealed, Retired}
 use Rattle.block_arena.specs.declared.slot.Slot.{Slot}
-use Rattle.block_arena.specs.Fields.{ArenaFields, chain, node, held, slot_of, IsContent, IsAt, IsRun, IsArena}
+use Rattle.block_arena.specs.Fields.{ArenaFields, chain, node, held, slot_of, IsContent, IsRun, IsArena}
 use Rattle.block_arena.proofs.Chains.{times_cons, chain_keeps, node_keeps, times_less}
 use Rattle.block_arena.proofs.Stamps.{Stays}
 use Rattle.block_arena.proofs.Slots.{slot_at, get_map, map_set}

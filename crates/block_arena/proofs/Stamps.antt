@@ -1,5 +1,5 @@
 -- Stamps: what a step of one slot, and a new stamp, leave of what they say.
-use Rattle.std.proofs.Common.{◌≡◌, ℕ, ◌+◌, ◌<◌, ◌≤◌, ◌≢◌, ◌⊎◌, inl, inr, List, Bool, true, false, cond, Some, ap, sym, ◌∙◌, subst, arith}
+use Rattle.std.proofs.Common.{◌≡◌, ℕ, ◌+◌, ◌≤◌, ◌≢◌, inl, inr, List, Bool, true, false, cond, Some, ap, sym, ◌∙◌, subst, arith}
 use Rattle.std.specs.Prelude.{slice_get, slice_set}
 use Rattle.mail_world.proofs.Accepted.{get_set}
 use Rattle.block_arena.specs.declared.slot.Content.{Content}
