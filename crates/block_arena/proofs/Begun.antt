@@ -70,17 +70,17 @@ free_there slots items result k at d' same is some here =
     get ∙ ap (λ (x : Slot). Some x) (free_as f.slot at.generation (ap (λ (x : Slot). x.generation) same') f.free)
 
 abbrev empty : Run
-empty = record { first = 0; last = 0; blocks = 0; length = 0; read = record { index = 0; block = 0 } }
+empty = record { first = 0; last = 0; blocks = 0; length = 0 }
 
 pub begun_arena : (a : ArenaFields) (k g : ℕ) → IsArena a → slice_get a.slots k ≡ Some (slot_at g Free)
-    → IsArena (record a { slots = slice_set a.slots k (slot_at g (Draft (record { first = 0; last = 0; blocks = 0; length = 0; read = record { index = 0; block = 0 } }))) })
-begun_arena a k g arena was = relabelled a k (slot_at g Free) (slot_at g (Draft empty)) arena was refl
-    (record { enough = refl; last = λ h. absurd (omega (arith, h)); read = record { is = refl; within = omega arith } }) refl refl
+    → IsArena (record a { slots = slice_set a.slots k (slot_at g (Draft (record { first = 0; last = 0; blocks = 0; length = 0 }))) })
+begun_arena a k g arena was = relabelled a k g Free (Draft empty) arena was
+    (record { enough = refl; last = λ h. absurd (omega (arith, h)) }) refl refl (λ index block h. absurd h)
 
 pub begins : (depot : d.Depot) (a : ArenaFields) (k g : ℕ) → depot_of a ≡ depot → slice_get a.slots k ≡ Some (slot_at g Free)
-    → d.Begins depot (depot_key (record { slot = k; generation = g })) (depot_of (record a { slots = slice_set a.slots k (slot_at g (Draft (record { first = 0; last = 0; blocks = 0; length = 0; read = record { index = 0; block = 0 } }))) }))
+    → d.Begins depot (depot_key (record { slot = k; generation = g })) (depot_of (record a { slots = slice_set a.slots k (slot_at g (Draft (record { first = 0; last = 0; blocks = 0; length = 0 }))) }))
 begins depot a k g view was =
-    subst (λ (e : d.Depot). d.Begins e (depot_key (record { slot = k; generation = g })) (depot_of (record a { slots = slice_set a.slots k (slot_at g (Draft (record { first = 0; last = 0; blocks = 0; length = 0; read = record { index = 0; block = 0 } }))) }))) view (
+    subst (λ (e : d.Depot). d.Begins e (depot_key (record { slot = k; generation = g })) (depot_of (record a { slots = slice_set a.slots k (slot_at g (Draft (record { first = 0; last = 0; blocks = 0; length = 0 }))) }))) view (
       get_map (slot_of a.store a.next) a.slots k (slot_at g Free) was,
       ap (λ (ss : List d.Slot). record { slots = ss; free = chain a.free_count a.next a.free }) (map_set (slot_of a.store a.next) a.slots k (slot_at g (Draft empty))),
     )

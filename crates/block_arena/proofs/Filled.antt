@@ -15,6 +15,7 @@ use Rattle.block_arena.specs.Fields.{ArenaFields, chain, blocks_in, bytes_in, he
 use Rattle.block_arena.specs.Calls.{IsDraft}
 use Rattle.mail_world.proofs.Heard.{all_set}
 use Rattle.mail_world.proofs.Accepted.{each_at}
+use Rattle.block_arena.proofs.Stamps.{stamped_on, goes_on}
 use Rattle.block_arena.proofs.Slots.{slot_at, Turn}
 use Rattle.block_arena.proofs.Seen.{Sees, stands, run_low, full_length}
 use Rattle.block_arena.proofs.Frames.{Without, none_else, map_kept}
@@ -62,6 +63,8 @@ fill_turn key depot a run n row s some fits size =
       sizes = All-set (λ (bytes : List ℕ). length bytes ≡ BLOCK_SIZE) a.store run.last row size s.arena.sizes;
       blocks_stay = length-set a.store run.last row;
       next_stay = refl;
+      stamps_stay = refl;
+      stamped = stamped_on a.next a.next a.slots a.stamps key.slot (slot_at key.generation (Draft run)) (slot_at key.generation (Draft (longer run n))) s.arena.stamped was (λ j x apart at index block h. h) (goes_on a.next a.next key.generation (Draft run) (Draft (longer run n)) (λ index block h. h));
       generation = each_at (λ (slot : Slot). slot.generation ≤ d.last_generation) a.slots key.slot (slot_at key.generation (Draft run)) s.arena.generations was;
       count = refl;
       others = map_kept (slot_of a.store a.next) (slot_of (set a.store run.last row) a.next) (Without a.store a.next run.last) a.slots key.slot (slot_at key.generation (Draft (longer run n))) (slot_at 0 Free) else' (slot_stays a.store a.next run.last row);

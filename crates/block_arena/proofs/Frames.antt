@@ -1,16 +1,18 @@
 -- A link or a block changes that the other slots don't hold.
-use Rattle.std.proofs.Common.{◌≡◌, ℕ, zero, suc, ◌+◌, ◌-◌, ◌<◌, ◌≤◌, List, [], ◌∷◌, ◌++◌, Bool, true, false, cond, ◌==◌, Some, get_or, length, take, set, map, refl, ap, ◌∙◌, arith}
+use Rattle.std.proofs.Common.{◌≡◌, ℕ, zero, suc, ◌+◌, ◌-◌, ◌<◌, ◌≤◌, ◌≢◌, List, [], ◌∷◌, ◌++◌, Bool, true, false, cond, ◌==◌, Some, get_or, length, take, set, map, refl, ap, sym, ◌∙◌, arith}
 use Rattle.std.specs.Prelude.{slice_get, slice_set, flat_map, nat_lt}
 use Rattle.std.specs.List.{AllByRecursion}
 use Rattle.mail_world.specs.Depot as d
 use Rattle.mail_world.specs.Depot.{occurrences}
-use Rattle.mail_world.proofs.Depots.{times-append, total_set}
+use Rattle.mail_world.proofs.Accepted.{each_at}
+use Rattle.mail_world.proofs.Depots.{times-append, set_past, total_set}
 use Rattle.block_arena.specs.declared.slot.Run.{Run}
 use Rattle.block_arena.specs.declared.slot.Content.{Content}
 use Rattle.block_arena.specs.declared.slot.Content.TheVariants.{Free, Draft, Sealed, Retired}
 use Rattle.block_arena.specs.declared.slot.Slot.{Slot}
-use Rattle.block_arena.specs.Fields.{ArenaFields, chain, held, slot_of, IsContent, IsRun, IsArena}
+use Rattle.block_arena.specs.Fields.{ArenaFields, chain, node, held, slot_of, IsContent, IsRun, IsArena}
 use Rattle.block_arena.proofs.Chains.{times_cons, chain_keeps, node_keeps, times_less}
+use Rattle.block_arena.proofs.Stamps.{Stays}
 use Rattle.block_arena.proofs.Slots.{slot_at, get_map, map_set}
 
 abbrev pub Without : List (List ℕ) → List ℕ → ℕ → Slot → Type 0
@@ -71,7 +73,7 @@ chain_less (suc n) next b f h =
     let same : occurrences b (chain (suc n - 1) next f) ≡ occurrences b (chain n next f) = ap (λ k. occurrences b (chain k next f)) e in
     omega (arith, same, times_less n next b f)
 
-times_part : (i n : ℕ) (next : List ℕ) (b f : ℕ) → i ≤ n → occurrences b (chain i next f) ≤ occurrences b (chain n next f)
+pub times_part : (i n : ℕ) (next : List ℕ) (b f : ℕ) → i ≤ n → occurrences b (chain i next f) ≤ occurrences b (chain n next f)
 times_part zero n next b f h = omega arith
 times_part (suc i) zero next b f h = absurd (omega (arith, h))
 times_part (suc i) (suc n) next b f h =
@@ -81,10 +83,6 @@ run_keeps : (next : List ℕ) (b v : ℕ) (run : Run) → occurrences b (chain r
 run_keeps next b v run h is = record {
   enough = is.enough;
   last = λ some. node_keeps (run.blocks - 1) next b v run.first (omega (arith, h, chain_less run.blocks next b run.first some)) ∙ is.last some;
-  read = record {
-    is = node_keeps run.read.index next b v run.first (omega (arith, h, times_part run.read.index run.blocks next b run.first is.read.within)) ∙ is.read.is;
-    within = is.read.within;
-  };
 }
 
 pub content_keeps : (store : List (List ℕ)) (next : List ℕ) (b v : ℕ) (c : Content) → occurrences b (d.blocks_of (held store next c)) ≡ 0 → IsContent next c → IsContent (set next b v) c
@@ -92,3 +90,20 @@ content_keeps store next b v Free h is = tt
 content_keeps store next b v (Draft run) h is = run_keeps next b v run h is
 content_keeps store next b v (Sealed run holds) h is = run_keeps next b v run h is
 content_keeps store next b v Retired h is = tt
+
+-- the blocks of a chain lie where they lay
+at_keeps : (n : ℕ) (next : List ℕ) (b v f index block : ℕ) → occurrences b (chain n next f) ≡ 0 → (index < n) × (node index next f ≡ block) → (index < n) × (node index (set next b v) f ≡ block)
+at_keeps n next b v f index block h is =
+    let low : index < n = is.0 in
+    (low, node_keeps index next b v f (omega (arith, h, times_part index n next b f (omega (arith, low)))) ∙ is.1)
+
+pub content_stays : (store : List (List ℕ)) (next : List ℕ) (b v : ℕ) (c : Content) → occurrences b (d.blocks_of (held store next c)) ≡ 0 → Stays next c (set next b v) c
+content_stays store next b v Free h index block is = is
+content_stays store next b v (Draft run) h index block is = at_keeps run.blocks next b v run.first index block h is
+content_stays store next b v (Sealed run holds) h index block is = at_keeps run.blocks next b v run.first index block h is
+content_stays store next b v Retired h index block is = tt
+
+pub others_stay : (store : List (List ℕ)) (next : List ℕ) (slots : List Slot) (i b v : ℕ) (dummy : Slot) → AllByRecursion (Without store next b) (slice_set slots i dummy)
+    → (j : ℕ) (x : Slot) → (j ≢ i) → slice_get slots j ≡ Some x → Stays next x.content (set next b v) x.content
+others_stay store next slots i b v dummy none j x apart was =
+    content_stays store next b v x.content (each_at (Without store next b) (slice_set slots i dummy) j x none (set_past slots i j dummy (λ same. apart (sym same)) ∙ was))

@@ -19,7 +19,8 @@ use Rattle.mail_world.proofs.Accepted.{each_at}
 use Rattle.mail_world.proofs.Holds.{sum_set}
 use Rattle.block_arena.proofs.Slots.{slot_at, Turn, turned, map_set, get_within}
 use Rattle.block_arena.proofs.Seen.{Sees, under, stands, run_times}
-use Rattle.block_arena.proofs.Frames.{Without, none_else, map_kept, all_kept, slot_keeps, content_keeps}
+use Rattle.block_arena.proofs.Stamps.{stamped_on, goes_past}
+use Rattle.block_arena.proofs.Frames.{Without, none_else, map_kept, all_kept, slot_keeps, content_keeps, others_stay}
 use Rattle.mail_world.specs.declared.limits.TheConstants.{BLOCK_LIMIT}
 
 -- a slot in use, and its run
@@ -78,6 +79,8 @@ empty_turn key depot a content run s o none =
       sizes = s.arena.sizes;
       blocks_stay = refl;
       next_stay = refl;
+      stamps_stay = refl;
+      stamped = stamped_on a.next a.next a.slots a.stamps key.slot (slot_at key.generation content) (slot_behind key.generation) s.arena.stamped was (λ j x apart at index block h. h) (goes_past (nat_lt key.generation d.last_generation) a.next a.next key.generation content);
       generation = behind_generation (nat_lt key.generation d.last_generation) key.generation refl (each_at (λ (slot : Slot). slot.generation ≤ d.last_generation) a.slots key.slot (slot_at key.generation content) s.arena.generations was);
       count = omega (arith, behind_count (nat_lt key.generation d.last_generation) (key.generation + 1) key.generation, o.count, none);
       others = map_set (slot_of a.store a.next) a.slots key.slot (slot_behind key.generation);
@@ -154,6 +157,9 @@ freed_turn key depot a content run s o some =
       sizes = s.arena.sizes;
       blocks_stay = refl;
       next_stay = length-set a.next run.last a.free;
+      stamps_stay = refl;
+      stamped = stamped_on a.next (set a.next run.last a.free) a.slots a.stamps key.slot (slot_at key.generation content) (slot_behind key.generation) s.arena.stamped was (others_stay a.store a.next a.slots key.slot run.last a.free (slot_at 0 Free) else')
+          (goes_past (nat_lt key.generation d.last_generation) a.next (set a.next run.last a.free) key.generation content);
       generation = behind_generation (nat_lt key.generation d.last_generation) key.generation refl (each_at (λ (slot : Slot). slot.generation ≤ d.last_generation) a.slots key.slot (slot_at key.generation content) s.arena.generations was);
       count = omega (arith, behind_count (nat_lt key.generation d.last_generation) (key.generation + 1) key.generation, o.count);
       others = map_kept (slot_of a.store a.next) (slot_of a.store (set a.next run.last a.free)) (Without a.store a.next run.last) a.slots key.slot (slot_behind key.generation) (slot_at 0 Free) else' (slot_keeps a.store a.next run.last a.free);

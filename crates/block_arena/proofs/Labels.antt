@@ -25,8 +25,8 @@ held_behind key depot a old content s =
 pub sealed_arena : (key : Key) (depot : d.Depot) (a : ArenaFields) (run : Run) (n : ℕ) → Sees key depot a (Draft run) → IsArena (record a { slots = slice_set a.slots key.slot (slot_at key.generation (Sealed run n)) })
 sealed_arena key depot a run n s =
     let was : slice_get a.slots key.slot ≡ Some (slot_at key.generation (Draft run)) = stands key depot a (Draft run) s (λ e. cc) in
-    relabelled a key.slot (slot_at key.generation (Draft run)) (slot_at key.generation (Sealed run n)) s.arena was refl
-    (each_at (λ (slot : Slot). IsContent a.next slot.content) a.slots key.slot (slot_at key.generation (Draft run)) s.arena.runs was) refl refl
+    relabelled a key.slot key.generation (Draft run) (Sealed run n) s.arena was
+    (each_at (λ (slot : Slot). IsContent a.next slot.content) a.slots key.slot (slot_at key.generation (Draft run)) s.arena.runs was) refl refl (λ index block h. h)
 
 pub seals : (key : Key) (depot : d.Depot) (a : ArenaFields) (run : Run) (n : ℕ) → Sees key depot a (Draft run) → d.Seals depot (depot_key key) n (depot_of (record a { slots = slice_set a.slots key.slot (slot_at key.generation (Sealed run n)) }))
 seals key depot a run n s = record {
@@ -39,8 +39,8 @@ seals key depot a run n s = record {
 pub lighter_arena : (key : Key) (depot : d.Depot) (a : ArenaFields) (run : Run) (holds n : ℕ) → Sees key depot a (Sealed run holds) → IsArena (record a { slots = slice_set a.slots key.slot (slot_at key.generation (Sealed run n)) })
 lighter_arena key depot a run holds n s =
     let was : slice_get a.slots key.slot ≡ Some (slot_at key.generation (Sealed run holds)) = stands key depot a (Sealed run holds) s (λ e. cc) in
-    relabelled a key.slot (slot_at key.generation (Sealed run holds)) (slot_at key.generation (Sealed run n)) s.arena was refl
-    (each_at (λ (slot : Slot). IsContent a.next slot.content) a.slots key.slot (slot_at key.generation (Sealed run holds)) s.arena.runs was) refl refl
+    relabelled a key.slot key.generation (Sealed run holds) (Sealed run n) s.arena was
+    (each_at (λ (slot : Slot). IsContent a.next slot.content) a.slots key.slot (slot_at key.generation (Sealed run holds)) s.arena.runs was) refl refl (λ index block h. h)
 
 abbrev pub depot_slot : ℕ → d.Held → d.Slot
 depot_slot generation held = record { generation = generation; held = held }

@@ -1,4 +1,5 @@
 pub mod Chains
+pub mod Stamps
 pub mod Slots
 pub mod Seen
 pub mod Labels

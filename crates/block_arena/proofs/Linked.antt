@@ -1,5 +1,5 @@
 -- A draft gets a free block, which is written first and linked behind its last.
-use Rattle.std.proofs.Common.{◌≡◌, ℕ, suc, ◌+◌, ◌-◌, ◌*◌, ◌%◌, ◌<◌, ◌≤◌, List, [], ◌∷◌, ◌++◌, Bool, true, false, cond, ◌==◌, Some, get_or, min, take, drop, length, set, map, refl, ap, sym, ◌∙◌, subst, arith, length-set, length-append, length-take, length-drop, append-nil}
+use Rattle.std.proofs.Common.{◌≡◌, ℕ, suc, ◌+◌, ◌-◌, ◌*◌, ◌%◌, ◌<◌, ◌≤◌, ◌≢◌, List, [], ◌∷◌, ◌++◌, Bool, true, false, cond, ◌==◌, Some, get_or, min, take, drop, length, set, map, refl, ap, sym, ◌∙◌, subst, arith, length-set, length-append, length-take, length-drop, append-nil}
 use Rattle.std.specs.Prelude.{slice_get, slice_set, flat_map, nat_lt}
 use Rattle.std.specs.List.{AllByRecursion}
 use Rattle.std.proofs.lemmas.Bool.{eqb-true, eqb-false}
@@ -7,19 +7,20 @@ use Rattle.std.proofs.lemmas.List.Elements.{All-set}
 use Rattle.mail_world.specs.Depot as d
 use Rattle.mail_world.specs.Depot.{occurrences}
 use Rattle.mail_world.specs.declared.limits.TheConstants.{BLOCK_SIZE}
-use Rattle.mail_world.proofs.Depots.{times-append}
+use Rattle.mail_world.proofs.Depots.{times-append, set_at}
 use Rattle.block_arena.specs.declared.key.Key.{Key}
 use Rattle.block_arena.specs.declared.slot.Run.{Run}
 use Rattle.block_arena.specs.declared.slot.Content.{Content}
 use Rattle.block_arena.specs.declared.slot.Content.TheVariants.{Free, Draft}
 use Rattle.block_arena.specs.declared.slot.Slot.{Slot}
-use Rattle.block_arena.specs.Fields.{ArenaFields, chain, node, bytes_in, slot_of, depot_of, longer, linked_run, linked_next, IsContent, IsRun, IsArena}
+use Rattle.block_arena.specs.Fields.{ArenaFields, chain, node, bytes_in, slot_of, depot_of, longer, linked_run, linked_next, stamp_for, IsContent, IsRun, IsStamped, AreStamped, IsArena}
 use Rattle.block_arena.specs.Calls.{depot_key}
-use Rattle.block_arena.proofs.Chains.{times_cons, apart, chain_keeps, chain_length, splice, node_splice}
+use Rattle.block_arena.proofs.Chains.{times_cons, apart, chain_keeps, node_keeps, chain_length, splice, node_splice}
 use Rattle.mail_world.proofs.Heard.{all_set}
 use Rattle.mail_world.proofs.Accepted.{each_at}
+use Rattle.block_arena.proofs.Stamps.{Stays, stamped_on, stamped_new, goes_on}
 use Rattle.block_arena.proofs.Slots.{slot_at, Turn, map_set}
-use Rattle.block_arena.proofs.Frames.{Without, none_by, none_else, at_most, map_same, map_kept, all_kept, slot_keeps, content_keeps}
+use Rattle.block_arena.proofs.Frames.{Without, none_by, none_else, at_most, map_same, map_kept, all_kept, slot_keeps, content_keeps, others_stay, times_part}
 use Rattle.block_arena.proofs.Seen.{Sees, stands, run_low, free_low, full_length}
 use Rattle.block_arena.proofs.Freed.{IsLast, last_in}
 use Rattle.block_arena.proofs.Puts.{Gains, room_to}
@@ -71,6 +72,8 @@ spare key depot a content row s some size =
         generations = s.arena.generations;
         total = s.arena.total;
         once = subst (λ (e : d.Depot). d.HasEachBlockOnce (length a.next) e) (sym same) s.arena.once;
+        stamp_count = s.arena.stamp_count;
+        stamped = s.arena.stamped;
       };
       view = same ∙ s.view;
       at = s.at;
@@ -84,6 +87,8 @@ record Links (a : ArenaFields) (i : ℕ) (run : Run) (next' : List ℕ) (first :
   rest : chain (a.free_count - 1) next' (get_or a.next a.free 0) ≡ chain (a.free_count - 1) a.next (get_or a.next a.free 0)
   blocks : chain (run.blocks + 1) next' first ≡ chain run.blocks a.next run.first ++ a.free ∷ []
   last : node run.blocks next' first ≡ a.free
+  apart : (j : ℕ) (x : Slot) → (j ≢ i) → slice_get a.slots j ≡ Some x → Stays a.next x.content next' x.content
+  own : (index : ℕ) → index < run.blocks → node index next' first ≡ node index a.next run.first
 
 links_none : (a : ArenaFields) (i : ℕ) (run : Run) → IsArena a → run.blocks ≡ 0 → Links a i run a.next a.free
 links_none a i run arena none = record {
@@ -93,6 +98,8 @@ links_none a i run arena none = record {
   rest = refl;
   blocks = ap (λ k. chain (k + 1) a.next a.free) none ∙ sym (ap (λ k. chain k a.next run.first ++ a.free ∷ []) none);
   last = ap (λ k. node k a.next a.free) none;
+  apart = λ j x apart at index block h. h;
+  own = λ index low. absurd (omega (arith, low, none));
 }
 
 links_some : (key : Key) (depot : d.Depot) (a : ArenaFields) (run : Run) → Sees key depot a (Draft run) → 0 < run.blocks → 1 ≤ a.free_count
@@ -113,6 +120,10 @@ links_some key depot a run s has some =
       rest = chain_keeps (a.free_count - 1) a.next run.last a.free (get_or a.next a.free 0) p.1;
       blocks = ap (λ k. chain k (set a.next run.last a.free) run.first) (sym more) ∙ splice (run.blocks - 1) 1 a.next run.first a.free run.last l.is l.once l.low (alone run.last a.free p.0) ∙ ap (λ k. chain k a.next run.first ++ a.free ∷ []) one;
       last = ap (λ k. node k (set a.next run.last a.free) run.first) (sym one) ∙ node_splice (run.blocks - 1) a.next run.first a.free run.last l.is l.once l.low;
+      apart = others_stay a.store a.next a.slots key.slot run.last a.free (slot_at 0 Free) else';
+      own = λ index low.
+          let once : occurrences run.last (chain (run.blocks - 1) a.next run.first) ≡ 0 = l.once in
+          node_keeps index a.next run.last a.free run.first (omega (arith, once, times_part index (run.blocks - 1) a.next run.last run.first (omega (arith, low))));
     } where
       alone_by : (b f : ℕ) (t : Bool) → (f == b) ≡ t → ((f ≡ b) → ⊥) → cond t 1 0 + 0 ≡ 0
       alone_by b f true e h = absurd (h (eqb-true f b e))
@@ -152,12 +163,26 @@ linked_is key depot a run n piece row s f =
     record {
       enough = next_run run.blocks n run.length is.enough f.full f.some f.fits;
       last = λ some. ap (λ k. node k (linked_next a.next run a.free) ((linked_run run a.free).first)) back ∙ l.last;
-      read = record { is = refl; within = omega arith };
     }
+
+-- the blocks that the draft had keep their stamps, and the new one gets its own
+linked_stamps : (key : Key) (depot : d.Depot) (a : ArenaFields) (run : Run) (n : ℕ) → Sees key depot a (Draft run) → Links a key.slot run (linked_next a.next run a.free) ((linked_run run a.free).first)
+    → AreStamped (linked_next a.next run a.free) (slice_set a.slots key.slot (slot_at key.generation (Draft (longer (linked_run run a.free) n)))) (set a.stamps a.free (stamp_for key run.blocks))
+linked_stamps key depot a run n s l =
+    let was : slice_get a.slots key.slot ≡ Some (slot_at key.generation (Draft run)) = stands key depot a (Draft run) s (λ e. cc) in
+    let new : Slot = slot_at key.generation (Draft (longer (linked_run run a.free) n)) in
+    let there : slice_get (slice_set a.slots key.slot (slot_at key.generation (Draft (longer (linked_run run a.free) n)))) key.slot ≡ Some (slot_at key.generation (Draft (longer (linked_run run a.free) n))) = set_at a.slots key.slot (slot_at key.generation (Draft (longer (linked_run run a.free) n))) (slot_at key.generation (Draft run)) was in
+    stamped_new (linked_next a.next run a.free) (slice_set a.slots key.slot (slot_at key.generation (Draft (longer (linked_run run a.free) n)))) a.stamps a.free (stamp_for key run.blocks)
+    (stamped_on a.next (linked_next a.next run a.free) a.slots a.stamps key.slot (slot_at key.generation (Draft run)) (slot_at key.generation (Draft (longer (linked_run run a.free) n))) s.arena.stamped was l.apart
+    (goes_on a.next (linked_next a.next run a.free) key.generation (Draft run) (Draft (longer (linked_run run a.free) n)) (λ index block h. (let low : index < run.blocks = h.0 in omega (arith, low), l.own index h.0 ∙ h.1))))
+    (λ slot named.
+    let same : slot_at key.generation (Draft (longer (linked_run run a.free) n)) ≡ slot = let one : Some (slot_at key.generation (Draft (longer (linked_run run a.free) n))) ≡ Some slot = sym there ∙ named in cc in
+    let P : Slot → Type 0 = λ x. IsStamped (linked_next a.next run a.free) x a.free (stamp_for key run.blocks) in
+    subst P same (record { past = omega arith; here = λ e. (omega arith, l.last) }))
 
 pub linked_turn : (key : Key) (depot : d.Depot) (a : ArenaFields) (run : Run) (n : ℕ) (piece row : List ℕ) → Sees key depot a (Draft run) → IsNextRun a.free_count run n piece row
     → Turn a key.slot (slot_at key.generation (Draft run)) (slot_at key.generation (Draft (longer (linked_run run a.free) n)))
-    (record a { next = linked_next a.next run a.free; slots = slice_set a.slots key.slot (slot_at key.generation (Draft (longer (linked_run run a.free) n))); free = get_or a.next a.free 0; free_count = a.free_count - 1 })
+    (record a { next = linked_next a.next run a.free; stamps = set a.stamps a.free (stamp_for key run.blocks); slots = slice_set a.slots key.slot (slot_at key.generation (Draft (longer (linked_run run a.free) n))); free = get_or a.next a.free 0; free_count = a.free_count - 1 })
 linked_turn key depot a run n piece row s f =
     let was : slice_get a.slots key.slot ≡ Some (slot_at key.generation (Draft run)) = stands key depot a (Draft run) s (λ e. cc) in
     let l : Links a key.slot run (linked_next a.next run a.free) ((linked_run run a.free).first) = links key depot a run s f.free in
@@ -168,6 +193,8 @@ linked_turn key depot a run n piece row s f =
       sizes = s.arena.sizes;
       blocks_stay = refl;
       next_stay = l.stay;
+      stamps_stay = length-set a.stamps a.free (stamp_for key run.blocks);
+      stamped = linked_stamps key depot a run n s l;
       generation = each_at (λ (slot : Slot). slot.generation ≤ d.last_generation) a.slots key.slot (slot_at key.generation (Draft run)) s.arena.generations was;
       count = omega (arith, f.free);
       others = l.others (slot_at key.generation (Draft (longer (linked_run run a.free) n)));
@@ -202,7 +229,7 @@ linked_bytes key depot a run n piece row s f there =
 pub linked_gains : (key : Key) (depot : d.Depot) (a : ArenaFields) (run : Run) (n : ℕ) (piece row : List ℕ) → Sees key depot a (Draft run) → IsNextRun a.free_count run n piece row
     → get_or a.store a.free [] ≡ row
     → Gains key a run (longer (linked_run run a.free) n) piece
-    (record a { next = linked_next a.next run a.free; slots = slice_set a.slots key.slot (slot_at key.generation (Draft (longer (linked_run run a.free) n))); free = get_or a.next a.free 0; free_count = a.free_count - 1 })
+    (record a { next = linked_next a.next run a.free; stamps = set a.stamps a.free (stamp_for key run.blocks); slots = slice_set a.slots key.slot (slot_at key.generation (Draft (longer (linked_run run a.free) n))); free = get_or a.next a.free 0; free_count = a.free_count - 1 })
 linked_gains key depot a run n piece row s f there = record {
   picked = a.free ∷ [];
   turn = linked_turn key depot a run n piece row s f;

@@ -1,6 +1,6 @@
 -- An arena of free blocks and free slots.
-use Rattle.std.proofs.Common.{◌≡◌, ℕ, zero, suc, ◌+◌, ◌<◌, ◌≤◌, List, [], ◌∷◌, ◌++◌, Bool, true, false, cond, ◌==◌, get_or, length, map, replicate, refl, ap, sym, ◌∙◌, arith}
-use Rattle.std.specs.Prelude.{flat_map, sum_by, nat_lt}
+use Rattle.std.proofs.Common.{◌≡◌, ℕ, zero, suc, ◌+◌, ◌<◌, ◌≤◌, List, [], ◌∷◌, ◌++◌, Bool, true, false, cond, ◌==◌, Some, get_or, length, map, replicate, refl, ap, sym, ◌∙◌, arith}
+use Rattle.std.specs.Prelude.{slice_get, flat_map, sum_by, nat_lt}
 use Rattle.std.specs.List.{AllByRecursion}
 use Rattle.std.proofs.lemmas.Bool.{eqb-true, eq-eqb, lt-ltb, le-ltb}
 use Rattle.std.proofs.lemmas.List.Sums.{sum_by-cons}
@@ -10,9 +10,11 @@ use Rattle.mail_world.specs.declared.limits.TheConstants.{BLOCK_SIZE, BLOCK_LIMI
 use Rattle.mail_world.proofs.Depots.{times-append}
 use Rattle.block_arena.specs.declared.slot.Content.TheVariants.{Free}
 use Rattle.block_arena.specs.declared.slot.Slot.{Slot}
+use Rattle.block_arena.specs.declared.slot.Stamp.{Stamp}
+use Rattle.block_arena.specs.declared.slot.TheConstants.{UNUSED}
 use Rattle.block_arena.specs.Fields.{links, chain, slot_of, depot_of, IsContent, block_count, IsArena}
 use Rattle.block_arena.proofs.Chains.{times_cons}
-use Rattle.block_arena.proofs.Slots.{slot_at}
+use Rattle.block_arena.proofs.Slots.{slot_at, get_within}
 
 links_some : (n first last : ℕ) → first + n ≡ last → links first (n + 1) ≡ links first n ++ last ∷ []
 links_some zero first last e = let same : first ≡ last = omega (arith, e) in ap (λ k. k ∷ []) same
@@ -84,8 +86,8 @@ length_same : {A : Type 0} (n : ℕ) (x : A) → length (replicate n x) ≡ n
 length_same zero x = refl
 length_same (suc n) x = ap (λ k. suc k) (length_same n x)
 
-pub once_made : (store : List (List ℕ)) (blocks n g : ℕ) → d.HasEachBlockOnce blocks (depot_of (record { store = store; next = links 1 blocks; slots = replicate n (slot_at g Free); free = 0; free_count = blocks }))
-once_made store blocks n g x =
+pub once_made : (store : List (List ℕ)) (stamps : List Stamp) (blocks n g : ℕ) → d.HasEachBlockOnce blocks (depot_of (record { store = store; next = links 1 blocks; stamps = stamps; slots = replicate n (slot_at g Free); free = 0; free_count = blocks }))
+once_made store stamps blocks n g x =
     let none : flat_map (λ (slot : d.Slot). d.blocks_of slot.held) (map (slot_of store (links 1 blocks)) (replicate n (slot_at g Free))) ≡ [] = none_used store (links 1 blocks) n g in
     let free : chain blocks (links 1 blocks) 0 ≡ links 0 blocks = chain_links blocks blocks 0 (omega arith) in
     times-append x (chain blocks (links 1 blocks) 0) (flat_map (λ (slot : d.Slot). d.blocks_of slot.held) (map (slot_of store (links 1 blocks)) (replicate n (slot_at g Free))))
@@ -99,8 +101,13 @@ get_same zero x k e h = absurd (omega (arith, h))
 get_same (suc n) x zero e h = refl
 get_same (suc n) x (suc k) e h = get_same n x k e (omega (arith, h))
 
+get_replicate : {A : Type 0} (n : ℕ) (x : A) (k : ℕ) (y : A) → slice_get (replicate n x) k ≡ Some y → x ≡ y
+get_replicate zero x k y e = cc
+get_replicate (suc n) x zero y e = cc
+get_replicate (suc n) x (suc k) y e = get_replicate n x k y e
+
 pub made : (blocks n g : ℕ) (row : List ℕ) → length row ≡ BLOCK_SIZE → blocks ≤ BLOCK_LIMIT → n ≤ SLOT_LIMIT → g ≤ d.last_generation
-    → IsArena (record { store = replicate blocks row; next = links 1 blocks; slots = replicate n (slot_at g Free); free = 0; free_count = blocks })
+    → IsArena (record { store = replicate blocks row; next = links 1 blocks; stamps = replicate blocks UNUSED; slots = replicate n (slot_at g Free); free = 0; free_count = blocks })
 made blocks n g row size few few_slots generation = record {
   sizes = λ k e h. ap length (get_same blocks row k e h) ∙ size;
   count = length_same blocks row ∙ sym (length_links blocks 1);
@@ -109,20 +116,26 @@ made blocks n g row size few few_slots generation = record {
   runs = all_same (λ (slot : Slot). IsContent (links 1 blocks) slot.content) n (slot_at g Free) tt;
   generations = all_same (λ (slot : Slot). slot.generation ≤ d.last_generation) n (slot_at g Free) generation;
   total = omega (arith, none_counted n g, length_links blocks 1);
-  once = λ x. once_made (replicate blocks row) blocks n g x ∙ ap (λ k. cond (nat_lt x k) 1 0) (sym (length_links blocks 1));
+  stamp_count = length_same blocks UNUSED ∙ sym (length_links blocks 1);
+  stamped = λ block stamp slot at named.
+      let same : UNUSED ≡ stamp = get_replicate blocks UNUSED block stamp at in
+      let there : stamp.slot < length (replicate n (slot_at g Free)) = get_within (replicate n (slot_at g Free)) stamp.slot slot named in
+      let none : SLOT_LIMIT ≡ stamp.slot = ap (λ (s : Stamp). s.slot) same in
+      absurd (omega (arith, there, none, few_slots, length_same n (slot_at g Free)));
+  once = λ x. once_made (replicate blocks row) (replicate blocks UNUSED) blocks n g x ∙ ap (λ k. cond (nat_lt x k) 1 0) (sym (length_links blocks 1));
 }
 
-pub made_as : (blocks n g : ℕ) (row : List ℕ) (store : List (List ℕ)) (next : List ℕ) (slots : List Slot) → length row ≡ BLOCK_SIZE → blocks ≤ BLOCK_LIMIT → n ≤ SLOT_LIMIT → g ≤ d.last_generation
-    → store ≡ replicate blocks row → next ≡ links 1 blocks → slots ≡ replicate n (slot_at g Free) → IsArena (record { store = store; next = next; slots = slots; free = 0; free_count = blocks })
-made_as blocks n g row store next slots size few few_slots generation e1 e2 e3 = rw (e1, e2, e3) (made blocks n g row size few few_slots generation)
+pub made_as : (blocks n g : ℕ) (row : List ℕ) (store : List (List ℕ)) (next : List ℕ) (stamps : List Stamp) (slots : List Slot) → length row ≡ BLOCK_SIZE → blocks ≤ BLOCK_LIMIT → n ≤ SLOT_LIMIT → g ≤ d.last_generation
+    → store ≡ replicate blocks row → next ≡ links 1 blocks → stamps ≡ replicate blocks UNUSED → slots ≡ replicate n (slot_at g Free) → IsArena (record { store = store; next = next; stamps = stamps; slots = slots; free = 0; free_count = blocks })
+made_as blocks n g row store next stamps slots size few few_slots generation e1 e2 e3 e4 = rw (e1, e2, e3, e4) (made blocks n g row size few few_slots generation)
 
 pub made_slots : (n g : ℕ) (store : List (List ℕ)) (next : List ℕ) (slots : List Slot) → slots ≡ replicate n (slot_at g Free)
     → map (slot_of store next) slots ≡ replicate n (record { generation = g; held = d.Free })
 made_slots n g store next slots e = rw e (slots_seen store next n g)
 
-pub made_once : (blocks n g : ℕ) (store : List (List ℕ)) (next : List ℕ) (slots : List Slot) → next ≡ links 1 blocks → slots ≡ replicate n (slot_at g Free)
-    → d.HasEachBlockOnce blocks (depot_of (record { store = store; next = next; slots = slots; free = 0; free_count = blocks }))
-made_once blocks n g store next slots e2 e3 = rw (e2, e3) (once_made store blocks n g)
+pub made_once : (blocks n g : ℕ) (store : List (List ℕ)) (next : List ℕ) (stamps : List Stamp) (slots : List Slot) → next ≡ links 1 blocks → slots ≡ replicate n (slot_at g Free)
+    → d.HasEachBlockOnce blocks (depot_of (record { store = store; next = next; stamps = stamps; slots = slots; free = 0; free_count = blocks }))
+made_once blocks n g store next stamps slots e2 e3 = rw (e2, e3) (once_made store stamps blocks n g)
 
 pub row_size : length {A = ℕ} (replicate BLOCK_SIZE 0) ≡ BLOCK_SIZE
 row_size = length_same {A = ℕ} BLOCK_SIZE 0

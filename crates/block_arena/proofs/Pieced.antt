@@ -8,7 +8,7 @@ use Rattle.block_arena.specs.declared.slot.Run.{Run}
 use Rattle.block_arena.specs.declared.slot.Content.{Content}
 use Rattle.block_arena.specs.declared.slot.Content.TheVariants.{Draft}
 use Rattle.block_arena.specs.declared.slot.Slot.{Slot}
-use Rattle.block_arena.specs.Fields.{ArenaFields, content_at, depot_of, run_of, longer, linked_run, linked_next, IsContent, IsRun, IsArena}
+use Rattle.block_arena.specs.Fields.{ArenaFields, content_at, depot_of, run_of, longer, linked_run, linked_next, stamp_for, IsContent, IsRun, IsArena}
 use Rattle.block_arena.specs.Calls.{depot_key, IsDraft}
 use Rattle.mail_world.proofs.Accepted.{each_at}
 use Rattle.block_arena.proofs.Slots.{slot_at}
@@ -74,16 +74,16 @@ put_last key depot a run n bytes old row other slot k some was is e =
 pub put_next : (key : Key) (depot : d.Depot) (a : ArenaFields) (run : Run) (n : ℕ) (bytes old row other : List ℕ) (rest spare' : ℕ) (run' : Run) (next' : List ℕ) (slot : Slot)
     → Knows key depot a run n bytes → run.length % BLOCK_SIZE ≡ 0 → old ≡ get_or a.store a.free other → row ≡ take 0 old ++ take n bytes ++ drop (0 + length (take n bytes)) old
     → rest ≡ get_or a.next a.free spare' → run' ≡ linked_run run a.free → next' ≡ linked_next a.next run a.free → slot ≡ slot_at key.generation (Draft (longer run' n))
-    → IsPut key depot n bytes (record a { store = set a.store a.free row; next = next'; slots = slice_set a.slots key.slot slot; free = rest; free_count = a.free_count - 1 })
+    → IsPut key depot n bytes (record a { store = set a.store a.free row; next = next'; stamps = set a.stamps a.free (stamp_for key run.blocks); slots = slice_set a.slots key.slot slot; free = rest; free_count = a.free_count - 1 })
 put_next key depot a run n bytes old row other rest spare' run' next' slot k full was is behind runs links e =
     let f : IsNextRun a.free_count run n (take n bytes) row = next_by key depot a run n bytes old row other k.sees k.room k.some full k.least was is in
     let low : a.free < length a.next = free_there key depot a (Draft run) k.sees f.free in
     let s : Sees key depot (record a { store = set a.store a.free row }) (Draft run) = spare key depot a (Draft run) row k.sees f.free f.row_size in
     let there : get_or (set a.store a.free row) a.free [] ≡ row = get_or-set_same a.store a.free row [] (omega (arith, low, k.sees.arena.count)) in
     let same : slot ≡ slot_at key.generation (Draft (longer (linked_run run a.free) n)) = e ∙ ap (λ (r : Run). slot_at key.generation (Draft (longer r n))) runs in
-    subst (λ (x : Slot). IsPut key depot n bytes (record a { store = set a.store a.free row; next = next'; slots = slice_set a.slots key.slot x; free = rest; free_count = a.free_count - 1 })) (sym same)
-    (subst (λ ns. IsPut key depot n bytes (record a { store = set a.store a.free row; next = ns; slots = slice_set a.slots key.slot (slot_at key.generation (Draft (longer (linked_run run a.free) n))); free = rest; free_count = a.free_count - 1 })) (sym links)
-    (subst (λ b. IsPut key depot n bytes (record a { store = set a.store a.free row; next = linked_next a.next run a.free; slots = slice_set a.slots key.slot (slot_at key.generation (Draft (longer (linked_run run a.free) n))); free = b; free_count = a.free_count - 1 })) (sym (behind ∙ get_any a.next a.free spare' 0 low))
+    subst (λ (x : Slot). IsPut key depot n bytes (record a { store = set a.store a.free row; next = next'; stamps = set a.stamps a.free (stamp_for key run.blocks); slots = slice_set a.slots key.slot x; free = rest; free_count = a.free_count - 1 })) (sym same)
+    (subst (λ ns. IsPut key depot n bytes (record a { store = set a.store a.free row; next = ns; stamps = set a.stamps a.free (stamp_for key run.blocks); slots = slice_set a.slots key.slot (slot_at key.generation (Draft (longer (linked_run run a.free) n))); free = rest; free_count = a.free_count - 1 })) (sym links)
+    (subst (λ b. IsPut key depot n bytes (record a { store = set a.store a.free row; next = linked_next a.next run a.free; stamps = set a.stamps a.free (stamp_for key run.blocks); slots = slice_set a.slots key.slot (slot_at key.generation (Draft (longer (linked_run run a.free) n))); free = b; free_count = a.free_count - 1 })) (sym (behind ∙ get_any a.next a.free spare' 0 low))
     (gained key depot (record a { store = set a.store a.free row }) run (longer (linked_run run a.free) n) n bytes _ s
     (linked_gains key depot (record a { store = set a.store a.free row }) run n (take n bytes) row s f there) (omega (arith, k.least)) k.room)))
 
@@ -103,10 +103,10 @@ last_fits key depot a run n bytes old other k some was =
 pub free_some : (key : Key) (depot : d.Depot) (a : ArenaFields) (run : Run) (n : ℕ) (bytes : List ℕ) → Knows key depot a run n bytes → run.length % BLOCK_SIZE ≡ 0 → 1 ≤ a.free_count
 free_some key depot a run n bytes k full = some_free key depot a run bytes k.sees k.room k.some full
 
-pub free_low : (key : Key) (depot : d.Depot) (a : ArenaFields) (run : Run) (n : ℕ) (bytes : List ℕ) → Knows key depot a run n bytes → run.length % BLOCK_SIZE ≡ 0 → (a.free < length a.next) × (a.free < length a.store)
+pub free_low : (key : Key) (depot : d.Depot) (a : ArenaFields) (run : Run) (n : ℕ) (bytes : List ℕ) → Knows key depot a run n bytes → run.length % BLOCK_SIZE ≡ 0 → (a.free < length a.next) × (a.free < length a.store) × (a.free < length a.stamps)
 free_low key depot a run n bytes k full =
     let low : a.free < length a.next = free_there key depot a (Draft run) k.sees (free_some key depot a run n bytes k full) in
-    (low, omega (arith, low, k.sees.arena.count))
+    (low, omega (arith, low, k.sees.arena.count), omega (arith, low, k.sees.arena.stamp_count))
 
 pub free_fits : (key : Key) (depot : d.Depot) (a : ArenaFields) (run : Run) (n : ℕ) (bytes old other : List ℕ) → Knows key depot a run n bytes → run.length % BLOCK_SIZE ≡ 0
     → old ≡ get_or a.store a.free other → 0 + length (take n bytes) ≤ length old

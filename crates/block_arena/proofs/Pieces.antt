@@ -40,7 +40,7 @@ slot_stays store next b row slot h = ap (λ (x : d.Held). record { generation = 
 -- more bytes in the last block, while they fit there
 pub longer_run : (next : List ℕ) (run : Run) (n : ℕ) → IsRun next run → 0 < run.length % BLOCK_SIZE → n ≤ BLOCK_SIZE - run.length % BLOCK_SIZE
     → IsRun next (longer run n)
-longer_run next run n is some fits = record { enough = omega (arith, is.enough, some, fits); last = is.last; read = record { is = is.read.is; within = is.read.within } }
+longer_run next run n is some fits = record { enough = omega (arith, is.enough, some, fits); last = is.last }
 
 -- a whole block more
 pub next_run : (blocks n k : ℕ) → blocks ≡ d.blocks_for k → k % BLOCK_SIZE ≡ 0 → 0 < n → n ≤ BLOCK_SIZE → blocks + 1 ≡ d.blocks_for (k + n)

@@ -14,7 +14,8 @@ use Rattle.mail_world.proofs.Depots.{set_at, times-append, total_set}
 use Rattle.block_arena.specs.declared.slot.Content.{Content}
 use Rattle.block_arena.specs.declared.slot.Content.TheVariants.{Free}
 use Rattle.block_arena.specs.declared.slot.Slot.{Slot}
-use Rattle.block_arena.specs.Fields.{ArenaFields, content_at, chain, held, slot_of, IsContent, block_count, IsArena}
+use Rattle.block_arena.specs.Fields.{ArenaFields, content_at, chain, held, slot_of, IsContent, block_count, AreStamped, IsArena}
+use Rattle.block_arena.proofs.Stamps.{Stays, stamped_on, goes_on}
 
 pub get_map : {A B : Type 0} (f : A → B) (xs : List A) (i : ℕ) (x : A) → slice_get xs i ≡ Some x → slice_get (map f xs) i ≡ Some (f x)
 get_map f [] i x e = cc
@@ -56,6 +57,8 @@ pub record Turn (a : ArenaFields) (i : ℕ) (old s : Slot) (a' : ArenaFields) : 
   pub sizes : All (λ (bytes : List ℕ). length bytes ≡ BLOCK_SIZE) a'.store
   pub blocks_stay : length a'.store ≡ length a.store
   pub next_stay : length a'.next ≡ length a.next
+  pub stamps_stay : length a'.stamps ≡ length a.stamps
+  pub stamped : AreStamped a'.next a'.slots a'.stamps
   pub generation : s.generation ≤ d.last_generation
   pub count : a'.free_count + block_count s.content ≡ a.free_count + block_count old.content
   pub others : map (slot_of a'.store a'.next) a'.slots ≡ slice_set (map (slot_of a.store a.next) a.slots) i (slot_of a'.store a'.next s)
@@ -73,6 +76,8 @@ turned a i old s a' t = record {
   generations = subst (λ ss. AllByRecursion (λ (slot : Slot). slot.generation ≤ d.last_generation) ss) (sym t.slots) (all_set (λ (slot : Slot). slot.generation ≤ d.last_generation) a.slots i s t.arena.generations t.generation);
   total = omega (arith, t.count, t.arena.total, t.next_stay, sum, sum_set (λ (slot : Slot). block_count slot.content) a.slots i old s t.was);
   once = λ x. once_by x;
+  stamp_count = t.stamps_stay ∙ t.arena.stamp_count ∙ sym t.next_stay;
+  stamped = t.stamped;
 } where
   sum : sum_by (λ (slot : Slot). block_count slot.content) a'.slots ≡ sum_by (λ (slot : Slot). block_count slot.content) (slice_set a.slots i s)
   sum = ap (λ ss. sum_by (λ (slot : Slot). block_count slot.content) ss) t.slots
@@ -98,19 +103,21 @@ pub turned_at : (a : ArenaFields) (i : ℕ) (old s : Slot) (a' : ArenaFields) �
 turned_at a i old s a' t = ap (λ ss. slice_get ss i) t.slots ∙ set_at a.slots i s old t.was
 
 -- a slot changes what it says of its blocks, and no block moves
-pub relabelled : (a : ArenaFields) (i : ℕ) (old s : Slot) → IsArena a → slice_get a.slots i ≡ Some old
-    → s.generation ≡ old.generation → IsContent a.next s.content → block_count s.content ≡ block_count old.content → d.blocks_of (held a.store a.next s.content) ≡ d.blocks_of (held a.store a.next old.content)
-    → IsArena (record a { slots = slice_set a.slots i s })
-relabelled a i old s arena was generation content count same = turned a i old s (record a { slots = slice_set a.slots i s }) (record {
+pub relabelled : (a : ArenaFields) (i g : ℕ) (old new : Content) → IsArena a → slice_get a.slots i ≡ Some (slot_at g old)
+    → IsContent a.next new → block_count new ≡ block_count old → d.blocks_of (held a.store a.next new) ≡ d.blocks_of (held a.store a.next old) → Stays a.next old a.next new
+    → IsArena (record a { slots = slice_set a.slots i (slot_at g new) })
+relabelled a i g old new arena was content count same stays = turned a i (slot_at g old) (slot_at g new) (record a { slots = slice_set a.slots i (slot_at g new) }) (record {
   arena = arena;
   was = was;
   slots = refl;
   sizes = arena.sizes;
   blocks_stay = refl;
   next_stay = refl;
-  generation = let h : old.generation ≤ d.last_generation = each_at (λ (slot : Slot). slot.generation ≤ d.last_generation) a.slots i old arena.generations was in let P : ℕ → Type 0 = λ n. n ≤ d.last_generation in subst P (sym generation) h;
+  stamps_stay = refl;
+  stamped = stamped_on a.next a.next a.slots a.stamps i (slot_at g old) (slot_at g new) arena.stamped was (λ j x apart at index block h. h) (goes_on a.next a.next g old new stays);
+  generation = each_at (λ (slot : Slot). slot.generation ≤ d.last_generation) a.slots i (slot_at g old) arena.generations was;
   count = ap (λ n. a.free_count + n) count;
-  others = map_set (slot_of a.store a.next) a.slots i s;
-  runs = all_set (λ (slot : Slot). IsContent a.next slot.content) a.slots i s arena.runs content;
+  others = map_set (slot_of a.store a.next) a.slots i (slot_at g new);
+  runs = all_set (λ (slot : Slot). IsContent a.next slot.content) a.slots i (slot_at g new) arena.runs content;
   split = λ x. ap (λ b. occurrences x (chain a.free_count a.next a.free) + occurrences x b) same;
 })

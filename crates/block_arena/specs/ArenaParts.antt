@@ -6,6 +6,7 @@ abbrev pub fields_of : Inside → ArenaFields
 fields_of a = record {
   store = a.data.items;
   next = a.next.items;
+  stamps = a.stamps.items;
   slots = a.slots.items;
   free = a.free;
   free_count = a.free_count;

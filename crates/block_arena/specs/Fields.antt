@@ -1,10 +1,12 @@
 -- The arena's fields, and the depot that they stand for.
-use Rattle.std.specs.Prelude.{◌≡◌, ℕ, zero, suc, ◌+◌, ◌-◌, ◌*◌, ◌<◌, ◌≤◌, ◌==◌, nat_lt, List, [], ◌∷◌, length, take, slice_set, map, get_or, if◌then◌else◌, Option, Some, None, Bool, true, false, flat_map, sum_by}
+use Rattle.std.specs.Prelude.{◌≡◌, ℕ, zero, suc, ◌+◌, ◌-◌, ◌*◌, ◌<◌, ◌≤◌, ◌==◌, ◌&&◌, nat_lt, slice_get, List, [], ◌∷◌, length, take, slice_set, map, get_or, if◌then◌else◌, Option, Some, None, Bool, true, false, flat_map, sum_by}
 use Rattle.std.specs.List.{All, AllByRecursion}
 use Rattle.mail_world.specs.Depot as d
 use Rattle.mail_world.specs.declared.limits.TheConstants.{BLOCK_SIZE, BLOCK_LIMIT, SLOT_LIMIT}
+use Rattle.block_arena.specs.declared.key.Key.{Key}
+use Rattle.block_arena.specs.declared.bookmark.Bookmark.{Bookmark}
 use Rattle.block_arena.specs.declared.slot.Run.{Run}
-use Rattle.block_arena.specs.declared.slot.Place.{Place}
+use Rattle.block_arena.specs.declared.slot.Stamp.{Stamp}
 use Rattle.block_arena.specs.declared.slot.Content.{Content}
 use Rattle.block_arena.specs.declared.slot.Content.TheVariants.{Free, Draft, Sealed, Retired}
 use Rattle.block_arena.specs.declared.slot.Slot.{Slot}
@@ -50,11 +52,12 @@ held blocks next Retired = d.Retired
 abbrev pub slot_of : List (List ℕ) → List ℕ → Slot → d.Slot
 slot_of blocks next slot = record { generation = slot.generation; held = held blocks next slot.content }
 
--- the arena's fields as lists and numbers: the blocks' bytes, the links from block to block, the slots, the first free
--- block, and how many are free
+-- the arena's fields as lists and numbers: the blocks' bytes, the links from block to block, as what each block was
+-- handed out, the slots, the first free block, and how many are free
 pub record ArenaFields : Type 0 where
   pub store : List (List ℕ)
   pub next : List ℕ
+  pub stamps : List Stamp
   pub slots : List Slot
   pub free : ℕ
   pub free_count : ℕ
@@ -63,21 +66,50 @@ abbrev pub depot_of : ArenaFields → d.Depot
 depot_of a = record { slots = map (slot_of a.store a.next) a.slots; free = chain a.free_count a.next a.free }
 
 -- a block of a run, by how many stand before it
-pub record IsPlace (next : List ℕ) (run : Run) (place : Place) : Type 0 where
+pub record IsPlace (next : List ℕ) (run : Run) (place : Bookmark) : Type 0 where
   pub is : node place.index next run.first ≡ place.block
   pub within : place.index ≤ run.blocks
 
--- as many blocks as the bytes take, the last of them, and one of them
+-- the stamp of the block that stands behind so many in the key's message
+abbrev pub is_stamp_of : Stamp → Key → ℕ → Bool
+is_stamp_of stamp key index = stamp.slot == key.slot && stamp.generation == key.generation && stamp.index == index
+
+-- the stamp of a block that goes to the key's message behind so many
+abbrev pub stamp_for : Key → ℕ → Stamp
+stamp_for key index = record { slot = key.slot; index = index; generation = key.generation }
+
+-- from where a run is read on: from a bookmark that its block's stamp bears out, or from its first block
+abbrev pub start_of : Option Stamp → Key → Run → Bookmark → Bookmark
+start_of None key run mark = record { index = 0; block = run.first }
+start_of (Some stamp) key run mark =
+    if is_stamp_of stamp key mark.index then mark else record { index = 0; block = run.first }
+
+-- as many blocks as the bytes take, and the last of them
 pub record IsRun (next : List ℕ) (run : Run) : Type 0 where
   pub enough : run.blocks ≡ d.blocks_for run.length
   pub last : 0 < run.blocks → node (run.blocks - 1) next run.first ≡ run.last
-  pub read : IsPlace next run run.read
 
 abbrev pub IsContent : List ℕ → Content → Type 0
 IsContent next Free = Unit {0}
 IsContent next (Draft run) = IsRun next run
 IsContent next (Sealed run holds) = IsRun next run
 IsContent next Retired = Unit {0}
+
+-- the block lies in the slot's chain behind so many, if the slot may have a chain
+abbrev pub IsAt : List ℕ → Content → ℕ → ℕ → Type 0
+IsAt next Free index block = ⊥
+IsAt next (Draft run) index block = (index < run.blocks) × (node index next run.first ≡ block)
+IsAt next (Sealed run holds) index block = (index < run.blocks) × (node index next run.first ≡ block)
+IsAt next Retired index block = Unit {0}
+
+-- a stamp that names the slot is of a message that went, or tells where the block lies
+pub record IsStamped (next : List ℕ) (slot : Slot) (block : ℕ) (stamp : Stamp) : Type 0 where
+  pub past : stamp.generation ≤ slot.generation
+  pub here : stamp.generation ≡ slot.generation → IsAt next slot.content stamp.index block
+
+abbrev pub AreStamped : List ℕ → List Slot → List Stamp → Type 0
+AreStamped next slots stamps = (block : ℕ) (stamp : Stamp) (slot : Slot)
+    → slice_get stamps block ≡ Some stamp → slice_get slots stamp.slot ≡ Some slot → IsStamped next slot block stamp
 
 abbrev pub is_free : Content → Bool
 is_free Free = true
@@ -87,10 +119,10 @@ is_free Retired = false
 
 -- the run that lies in a slot, an empty one in a slot that is not in use
 abbrev pub run_of : Content → Run
-run_of Free = record { first = 0; last = 0; blocks = 0; length = 0; read = record { index = 0; block = 0 } }
+run_of Free = record { first = 0; last = 0; blocks = 0; length = 0 }
 run_of (Draft run) = run
 run_of (Sealed run holds) = run
-run_of Retired = record { first = 0; last = 0; blocks = 0; length = 0; read = record { index = 0; block = 0 } }
+run_of Retired = record { first = 0; last = 0; blocks = 0; length = 0 }
 
 abbrev pub block_count : Content → ℕ
 block_count Free = 0
@@ -107,6 +139,8 @@ pub record IsArena (a : ArenaFields) : Type 0 where
   pub generations : AllByRecursion (λ slot. slot.generation ≤ d.last_generation) a.slots
   pub total : a.free_count + sum_by (λ (slot : Slot). block_count slot.content) a.slots ≡ length a.next
   pub once : d.HasEachBlockOnce (length a.next) (depot_of a)
+  pub stamp_count : length a.stamps ≡ length a.next
+  pub stamped : AreStamped a.next a.slots a.stamps
 
 -- a run whose blocks are there, and hold its bytes
 pub record IsReadable (blocks : List (List ℕ)) (next : List ℕ) (run : Run) : Type 0 where
@@ -122,17 +156,6 @@ longer run n = record {
   last = run.last;
   blocks = run.blocks;
   length = run.length + n;
-  read = run.read;
-}
-
--- the same run, read at another place
-abbrev pub run_read_at : Run → Place → Run
-run_read_at run place = record {
-  first = run.first;
-  last = run.last;
-  blocks = run.blocks;
-  length = run.length;
-  read = place;
 }
 
 -- a run with a block more behind its last, and the links that make it one
@@ -142,7 +165,6 @@ linked_run run block = record {
   last = block;
   blocks = run.blocks + 1;
   length = run.length;
-  read = record { index = 0; block = if run.blocks == 0 then block else run.first };
 }
 
 abbrev pub linked_next : List ℕ → Run → ℕ → List ℕ

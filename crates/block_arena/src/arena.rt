@@ -11,7 +11,7 @@ ghost use Rattle.block_arena.specs.Calls.{depot_key, IsUsed, IsInUse, Frees};
 
 use crate::fault::ArenaFault;
 use crate::key::Key;
-use crate::slot::{Content, EMPTY, Place, Run, Slot, content_under, run_in};
+use crate::slot::{Content, EMPTY, Run, Slot, Stamp, UNUSED, content_under, run_in};
 use mail_world::limits::{BLOCK_LIMIT, BLOCK_SIZE, LAST_GENERATION, SLOT_LIMIT};
 use std::alloc::{AllocError, Global};
 use std::marker::Model;
@@ -23,6 +23,7 @@ mod messages;
 pub struct Arena {
     data: Vec<[u8; BLOCK_SIZE]>,
     next: Vec<u32>,
+    stamps: Vec<Stamp>,
     slots: Vec<Slot>,
     free: u32,
     free_count: u32,
@@ -74,6 +75,7 @@ impl Arena {
     {
         let data = rows(alloc, [0; BLOCK_SIZE], blocks)?;
         let next = counted(alloc, blocks)?;
+        let stamps = unused(alloc, blocks)?;
         let free_slot = Slot {
             generation,
             content: Content::Free,
@@ -82,6 +84,7 @@ impl Arena {
         Ok(Arena {
             data,
             next,
+            stamps,
             slots,
             free: 0,
             free_count: blocks,
@@ -200,6 +203,18 @@ fn rows(
         rows.push(row)?;
     }
     Ok(rows)
+}
+
+/// The stamps of so many blocks that were never handed out.
+#[tactic(auto, using(crate::proofs::Made::same_next))]
+fn unused(alloc: Global, blocks: u32) -> Result<Vec<Stamp>, AllocError>
+    ensures { IfOk result (λ v. v.items ≡ replicate blocks UNUSED) }
+{
+    let mut stamps = Vec::with_capacity(alloc, blocks as usize)?;
+    for block in 0..blocks {
+        stamps.push(UNUSED)?;
+    }
+    Ok(stamps)
 }
 
 /// The first slot that is free.

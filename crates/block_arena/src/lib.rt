@@ -2,10 +2,12 @@
 #![tactic(auto)]
 
 pub mod arena;
+pub mod bookmark;
 pub mod fault;
 pub mod key;
 mod slot;
 
 pub use arena::Arena;
+pub use bookmark::Bookmark;
 pub use fault::ArenaFault;
 pub use key::Key;

@@ -1,9 +1,10 @@
 //! What the arena knows of a slot.
 
 ghost use Rattle.std.specs.Prelude.{◌≡◌, slice_get};
-ghost use Rattle.block_arena.specs.Fields.{content_at, run_of};
+ghost use Rattle.block_arena.specs.Fields.{content_at, run_of, is_stamp_of};
 
 use crate::key::Key;
+use mail_world::limits::SLOT_LIMIT;
 
 /// A chain of blocks, and how many bytes lie in it. Every block but the last is full.
 #[derive(Clone, Copy)]
@@ -12,17 +13,22 @@ pub struct Run {
     pub last: u32,
     pub blocks: u32,
     pub length: usize,
-
-    /// Where it was read last, so that reading on doesn't follow the links from the first block again.
-    pub read: Place,
 }
 
-/// A block of a run, and how many stand before it.
+/// As what a block was handed out: to the slot's message of that generation, after that many blocks.
 #[derive(Clone, Copy)]
-pub struct Place {
+pub struct Stamp {
+    pub slot: u32,
     pub index: u32,
-    pub block: u32,
+    pub generation: u64,
 }
+
+/// The stamp of a block that was never handed out: no slot has that number.
+pub const UNUSED: Stamp = Stamp {
+    slot: SLOT_LIMIT,
+    index: 0,
+    generation: 0,
+};
 
 #[derive(Clone, Copy)]
 pub enum Content {
@@ -44,7 +50,6 @@ pub const EMPTY: Run = Run {
     last: 0,
     blocks: 0,
     length: 0,
-    read: Place { index: 0, block: 0 },
 };
 
 /// The run of what lies in a slot.
@@ -55,6 +60,15 @@ pub fn run_in(content: Content) -> Run
         Content::Draft(run) => run,
         Content::Sealed(run, _) => run,
         Content::Free | Content::Retired => EMPTY,
+    }
+}
+
+impl Stamp {
+    /// Whether the key's message has the block after so many.
+    pub fn is_of(&self, key: Key, index: u32) -> bool
+        ensures { result ≡ is_stamp_of self.now key index }
+    {
+        self.slot == key.slot && self.generation == key.generation && self.index == index
     }
 }
 

@@ -8,6 +8,7 @@ use crate::token::{Board, DepotName, Hold, Spent, seat_of};
 use crate::view::GENERATION_UNIT;
 use crate::words::word_at;
 use atomic_table::Badge;
+use block_arena::Bookmark;
 use std::marker::PhantomData;
 use std::mem;
 
@@ -24,6 +25,7 @@ pub fn split_one<N: DepotName>(board: &Board, hold: &mut Hold<N>) -> Hold<N>
     Hold {
         key: hold.key,
         badge: one.into_badge(),
+        mark: Bookmark::default(),
         of: PhantomData,
     }
 }
@@ -34,7 +36,12 @@ pub fn release<N: DepotName>(board: &Board, hold: Hold<N>) -> Option<Spent<N>>
     requires one { hold.weight ≡ 1 }
     ensures spent { IfSome result (λ s. s ≡ weighing hold 0) }
 {
-    let Hold { key, badge, of } = hold;
+    let Hold {
+        key,
+        badge,
+        mark: _,
+        of,
+    } = hold;
     let mut seat = seat_of(badge);
     let word = word_at(key.slot);
     let found = board.shared.fetch_sub::<Releases>(&mut seat, word, 1);

@@ -12,7 +12,7 @@ ghost use Rattle.msg_depot.specs.Entries.{entry_of, key_of, slot_given_back, IsK
 use crate::steps;
 use crate::token::{Board, DepotName, Draft, Hold, Place, Spent, seat_of};
 use atomic_table::Badge;
-use block_arena::{Arena, ArenaFault, Key};
+use block_arena::{Arena, ArenaFault, Bookmark, Key};
 use mail_world::limits::{LAST_GENERATION, RECIPIENT_LIMIT};
 use std::marker::{Brand, Model, PhantomData};
 use std::mem;
@@ -125,7 +125,12 @@ impl<N: DepotName> Keeper<N> {
         };
         steps::seal(board, &mut self.seat, slot, u64::from(n));
         let badge = steps::hand_out(board, &mut self.seat, slot).into_badge();
-        Hold { key, badge, of }
+        Hold {
+            key,
+            badge,
+            mark: Bookmark::default(),
+            of,
+        }
     }
 
     /// Gives the blocks of a draft back.
@@ -156,7 +161,7 @@ impl<N: DepotName> Keeper<N> {
         let slot = key.slot;
         let seat = seat_of(mem::replace(&mut hold.badge, Badge::blank()));
         steps::take_in(board, &mut self.seat, seat, slot);
-        let Ok(count) = self.arena.copy_out(key, at, out) else {
+        let Ok(count) = self.arena.copy_on(key, at, &mut hold.mark, out) else {
             unreachable!()
         };
         hold.badge = steps::hand_out(board, &mut self.seat, slot).into_badge();

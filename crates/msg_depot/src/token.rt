@@ -7,7 +7,7 @@ ghost use Rattle.msg_depot.specs.Rules.{token, kind_of, claim_of};
 use crate::rule::HoldRule;
 use crate::view::{Opening, View};
 use atomic_table::{Badge, Seat, Table};
-use block_arena::Key;
+use block_arena::{Bookmark, Key};
 use std::alloc::Global;
 use std::marker::{Brand, Model, PhantomData};
 
@@ -56,6 +56,7 @@ impl<N: DepotName> Model for Draft<N> {
 pub struct Hold<N: DepotName> {
     pub(crate) key: Key,
     pub(crate) badge: Badge<View>,
+    pub(crate) mark: Bookmark,
     pub(crate) of: PhantomData<N>,
 }
 

@@ -97,6 +97,11 @@ impl Arena {
         }
         let block = self.free;
         fill(&mut self.data[block as usize], 0, &bytes[..n]);
+        self.stamps[block as usize] = Stamp {
+            slot: key.slot,
+            index: run.blocks,
+            generation: key.generation,
+        };
         self.free = self.next[block as usize];
         self.free_count -= 1;
         let run = link(&mut self.next, run, block);
@@ -141,17 +146,12 @@ fn link(next: &mut Vec<u32>, run: Run, block: u32) -> Run
             last: block,
             blocks: 1,
             length: run.length,
-            read: Place { index: 0, block },
         };
     }
     next[run.last as usize] = block;
     Run {
         last: block,
         blocks: run.blocks + 1,
-        read: Place {
-            index: 0,
-            block: run.first,
-        },
         ..run
     }
 }

@@ -1,16 +1,17 @@
 //! Calls on sealed messages.
 
-ghost use Rattle.std.specs.Prelude.{◌≡◌, ℕ, ◌≤◌, ◌<◌, ◌+◌, ◌-◌, ◌/◌, ◌^◌, ◌++◌, length, take, drop, min, IfOk, IfErr};
+ghost use Rattle.std.specs.Prelude.{◌≡◌, ℕ, ◌≤◌, ◌<◌, ◌+◌, ◌-◌, ◌/◌, ◌^◌, ◌++◌, length, take, drop, min, slice_get, IfOk, IfErr};
 ghost use Rattle.mail_world.specs.Depot.{held_under, bytes_of};
 ghost use Rattle.std.specs.List.{AllByRecursion};
-ghost use Rattle.block_arena.specs.Fields.{blocks_in, bytes_in, chain, node, IsPlace, IsReadable};
+ghost use Rattle.block_arena.specs.Fields.{blocks_in, bytes_in, chain, node, start_of, IsPlace, IsReadable};
 ghost use Rattle.block_arena.specs.Calls.{depot_key, RefusesMessage, IsMessage, MayGiveBack, IsGivenBack};
 
 use super::*;
+use crate::bookmark::Bookmark;
 
 impl Arena {
-    /// Copies the bytes from `at` to the front of `out`, as many as there are and fit, and says how many. Reading on is
-    /// fast.
+    /// Copies the bytes from `at` to the start of `out`, as many as there are and fit, and says how many. It walks the
+    /// message's blocks up to there.
     pub fn copy_out(&mut self, key: Key, at: usize, out: &mut [u8]) -> Result<usize, ArenaFault>
         ensures message { IfOk result (λ _. IsMessage (held_under self.old (depot_key key))) }
         ensures count { IfOk result
@@ -22,17 +23,36 @@ impl Arena {
         ensures same { IfErr result (λ _. out.new ≡ out.old) }
         ensures kept { self.new ≡ self.old }
     {
+        self.copy_on(key, at, &mut Bookmark::default(), out)
+    }
+
+    /// The same for a reader that keeps a bookmark: it is moved to where the reading ended, and reading on from there
+    /// takes no more work than what is read. Whatever bookmark is given, the bytes are the same.
+    pub fn copy_on(
+        &self,
+        key: Key,
+        at: usize,
+        mark: &mut Bookmark,
+        out: &mut [u8],
+    ) -> Result<usize, ArenaFault>
+        ensures message { IfOk result (λ _. IsMessage (held_under self.now (depot_key key))) }
+        ensures count { IfOk result
+            (λ n. n ≡ min (length out.old) (length (bytes_of (held_under self.now (depot_key key))) - at)) }
+        ensures bytes { IfOk result
+            (λ n. out.new ≡ take n (drop at (bytes_of (held_under self.now (depot_key key)))) ++ drop n out.old) }
+        ensures end { IfOk result (λ n. at + n < 2 ^ 64) }
+        ensures fault { IfErr result (λ f. RefusesMessage (held_under self.now (depot_key key)) f) }
+        ensures same { IfErr result (λ _. out.new ≡ out.old) }
+    {
         match content_under(&self.slots, key) {
             Content::Free | Content::Retired => Err(ArenaFault::Stale),
             Content::Draft(_) => Err(ArenaFault::Draft),
-            Content::Sealed(run, holds) => {
-                let read = place_at(&self.next, run, at / BLOCK_SIZE);
-                let run = Run { read, ..run };
-                self.slots[key.slot as usize] = Slot {
-                    generation: key.generation,
-                    content: Content::Sealed(run, holds),
-                };
-                Ok(copy_run(&self.data, &self.next, run, at, out))
+            Content::Sealed(run, _) => {
+                let known = start(&self.stamps, key, run, *mark);
+                let from = place_at(&self.next, run, known, at / BLOCK_SIZE);
+                let count = copy_run(&self.data, &self.next, run, from, at, out);
+                *mark = place_at(&self.next, run, from, (at + count) / BLOCK_SIZE);
+                Ok(count)
             }
         }
     }
@@ -64,25 +84,45 @@ impl Arena {
     }
 }
 
-/// Where n blocks stand before, if there are so many. It is looked for from where the run was read last, or from its
-/// front.
-fn place_at(next: &[u32], run: Run, n: usize) -> Place
+/// The bookmark where the stamp of its block says that it is of the key's message, and the first block otherwise.
+fn start(stamps: &[Stamp], key: Key, run: Run, mark: Bookmark) -> Bookmark
+    ensures { result ≡ start_of (slice_get stamps.now mark.block) key run mark }
+{
+    let first = Bookmark {
+        index: 0,
+        block: run.first,
+    };
+    match stamps.get(mark.block as usize) {
+        Some(stamp) => {
+            if stamp.is_of(key, mark.index) {
+                mark
+            } else {
+                first
+            }
+        }
+        None => first,
+    }
+}
+
+/// Where n blocks stand before, if there are so many. It is looked for from a place of the run, or from its first block
+/// where that place is after it.
+fn place_at(next: &[u32], run: Run, from: Bookmark, n: usize) -> Bookmark
     requires low { AllByRecursion (λ b. b < length next.now) (blocks_in next.now run) }
     requires few { run.blocks ≤ BLOCK_LIMIT }
-    requires read { IsPlace next.now run run.read }
+    requires from { IsPlace next.now run from }
     ensures place { IsPlace next.now run result }
     ensures there { n < run.blocks → result.index ≡ n }
 {
     if run.blocks as usize <= n {
-        return run.read;
+        return from;
     }
     let index = n as u32;
-    if index < run.read.index {
+    if index < from.index {
         let block = block_at(next, run.first, index);
-        return Place { index, block };
+        return Bookmark { index, block };
     }
-    let block = block_at(next, run.read.block, index - run.read.index);
-    Place { index, block }
+    let block = block_at(next, from.block, index - from.index);
+    Bookmark { index, block }
 }
 
 /// The block n links behind a block.
@@ -97,11 +137,18 @@ fn block_at(next: &[u32], first: u32, n: u32) -> u32
     block
 }
 
-/// Copies a run's bytes from `at`, a block's at a time, beginning in the block at `run.read`.
-fn copy_run(store: &[[u8; BLOCK_SIZE]], next: &[u32], run: Run, at: usize, out: &mut [u8]) -> usize
+/// Copies a run's bytes from `at`, a block's at a time, beginning in the block at `from`.
+fn copy_run(
+    store: &[[u8; BLOCK_SIZE]],
+    next: &[u32],
+    run: Run,
+    from: Bookmark,
+    at: usize,
+    out: &mut [u8],
+) -> usize
     requires run { IsReadable store.now next.now run }
-    requires read { IsPlace next.now run run.read }
-    requires there { at < run.length → run.read.index ≡ at / BLOCK_SIZE }
+    requires from { IsPlace next.now run from }
+    requires there { at < run.length → from.index ≡ at / BLOCK_SIZE }
     ensures count { result ≡ min (length out.old) (run.length - at) }
     ensures bytes { out.new ≡ take result (drop at (bytes_in store.now next.now run)) ++ drop result out.old }
     ensures end { at + result < 2 ^ 64 }
@@ -110,14 +157,14 @@ fn copy_run(store: &[[u8; BLOCK_SIZE]], next: &[u32], run: Run, at: usize, out: 
         return 0;
     }
     let total = out.len().min(run.length - at);
-    let mut block = run.read.block;
-    let mut from = at % BLOCK_SIZE;
+    let mut block = from.block;
+    let mut skip = at % BLOCK_SIZE;
     let mut done = 0;
     while done < total {
-        let n = (total - done).min(BLOCK_SIZE - from);
-        copy_piece(&store[block as usize], from, n, out, done);
+        let n = (total - done).min(BLOCK_SIZE - skip);
+        copy_piece(&store[block as usize], skip, n, out, done);
         done += n;
-        from = 0;
+        skip = 0;
         block = next[block as usize];
     }
     total

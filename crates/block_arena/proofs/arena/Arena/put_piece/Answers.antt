@@ -49,6 +49,11 @@ fill-requires-2 c =
     let k : Knows c.args.key c.args.self.now (fields_of c.self.inside) c.run_in-run.result c.min-n.result c.args.bytes.now = knows c.args.key c.args.self.now (fields_of c.self.inside) c.deref.result.now c.content_under.result c.run_in-run.result c.min-n.result c.args.bytes.now c.self.invariant c.self.view_is c.deref.ensures.value c.content_under.ensures c.requires.draft c.run_in-run.ensures c.requires.some c.requires.room c.min-n.ensures in
     free_fits c.args.key c.args.self.now (fields_of c.self.inside) c.run_in-run.result c.min-n.result c.args.bytes.now c.index_mut-2.result.now _ k (omega (arith, c.if-at-gt0.false)) c.index_mut-2.ensures.value
 
+pub index_mut-requires-3 : goal.index_mut-requires-3
+index_mut-requires-3 c =
+    let k : Knows c.args.key c.args.self.now (fields_of c.self.inside) c.run_in-run.result c.min-n.result c.args.bytes.now = knows c.args.key c.args.self.now (fields_of c.self.inside) c.deref.result.now c.content_under.result c.run_in-run.result c.min-n.result c.args.bytes.now c.self.invariant c.self.view_is c.deref.ensures.value c.content_under.ensures c.requires.draft c.run_in-run.ensures c.requires.some c.requires.room c.min-n.ensures in
+    let h : c.self.inside.free < length c.self.inside.stamps.items = (free_low c.args.key c.args.self.now (fields_of c.self.inside) c.run_in-run.result c.min-n.result c.args.bytes.now k (omega (arith, c.if-at-gt0.false))).2 in search (rules, h)
+
 pub index-requires : goal.index-requires
 index-requires c =
     let k : Knows c.args.key c.args.self.now (fields_of c.self.inside) c.run_in-run.result c.min-n.result c.args.bytes.now = knows c.args.key c.args.self.now (fields_of c.self.inside) c.deref.result.now c.content_under.result c.run_in-run.result c.min-n.result c.args.bytes.now c.self.invariant c.self.view_is c.deref.ensures.value c.content_under.ensures c.requires.draft c.run_in-run.ensures c.requires.some c.requires.room c.min-n.ensures in
@@ -74,8 +79,8 @@ longer_draft-requires-2 c =
     let k : Knows c.args.key c.args.self.now (fields_of c.self.inside) c.run_in-run.result c.min-n.result c.args.bytes.now = knows c.args.key c.args.self.now (fields_of c.self.inside) c.deref.result.now c.content_under.result c.run_in-run.result c.min-n.result c.args.bytes.now c.self.invariant c.self.view_is c.deref.ensures.value c.content_under.ensures c.requires.draft c.run_in-run.ensures c.requires.some c.requires.room c.min-n.ensures in
     let same : c.link-run.result.length ≡ c.run_in-run.result.length = ap (λ (r : Run). r.length) c.link-run.ensures.run in omega (arith, same, few c.args.key c.args.self.now (fields_of c.self.inside) c.run_in-run.result c.min-n.result c.args.bytes.now k)
 
-pub index_mut-requires-3 : goal.index_mut-requires-3
-index_mut-requires-3 c =
+pub index_mut-requires-4 : goal.index_mut-requires-4
+index_mut-requires-4 c =
     let k : Knows c.args.key c.args.self.now (fields_of c.self.inside) c.run_in-run.result c.min-n.result c.args.bytes.now = knows c.args.key c.args.self.now (fields_of c.self.inside) c.deref.result.now c.content_under.result c.run_in-run.result c.min-n.result c.args.bytes.now c.self.invariant c.self.view_is c.deref.ensures.value c.content_under.ensures c.requires.draft c.run_in-run.ensures c.requires.some c.requires.room c.min-n.ensures in
     let h : c.args.key.slot < length c.self.inside.slots.items = slot_low c.args.key c.args.self.now (fields_of c.self.inside) c.run_in-run.result c.min-n.result c.args.bytes.now k in search (rules, h)
 
