@@ -1,3 +1,4 @@
+pub mod Stored
 pub mod Chains
 pub mod Stamps
 pub mod Slots

@@ -9,6 +9,7 @@ use Rattle.block_arena.specs.declared.slot.Content.{Content}
 use Rattle.block_arena.specs.declared.slot.Content.TheVariants.{Draft}
 use Rattle.block_arena.specs.declared.slot.Slot.{Slot}
 use Rattle.block_arena.specs.Fields.{ArenaFields, content_at, depot_of, run_of, longer, linked_run, linked_next, stamp_for, IsContent, IsRun, IsArena}
+use Rattle.block_arena.specs.Rows.{written}
 use Rattle.block_arena.specs.Calls.{depot_key, IsDraft}
 use Rattle.mail_world.proofs.Accepted.{each_at}
 use Rattle.block_arena.proofs.Slots.{slot_at}
@@ -61,21 +62,23 @@ gained key depot a run run' n bytes a' s g short room = record {
   room = gained_room key depot a run run' n bytes a' s g (omega (arith, short, length-take n bytes)) short room;
 }
 
-pub put_last : (key : Key) (depot : d.Depot) (a : ArenaFields) (run : Run) (n : ℕ) (bytes old row other : List ℕ) (slot : Slot)
-    → Knows key depot a run n bytes → 0 < run.length % BLOCK_SIZE → old ≡ get_or a.store run.last other → row ≡ take (run.length % BLOCK_SIZE) old ++ take n bytes ++ drop (run.length % BLOCK_SIZE + length (take n bytes)) old
+pub put_last : (key : Key) (depot : d.Depot) (a : ArenaFields) (run : Run) (n : ℕ) (bytes : List ℕ) (store' : List (List ℕ)) (slot : Slot)
+    → Knows key depot a run n bytes → 0 < run.length % BLOCK_SIZE → store' ≡ set a.store run.last (written (get_or a.store run.last []) (run.length % BLOCK_SIZE) (take n bytes))
     → slot ≡ slot_at key.generation (Draft (longer run n))
-    → IsPut key depot n bytes (record a { store = set a.store run.last row; slots = slice_set a.slots key.slot slot })
-put_last key depot a run n bytes old row other slot k some was is e =
-    let f : IsFilled a.store run n (take n bytes) old row = filled_by key depot a run n bytes old row other k.sees some (omega (arith, k.least)) (omega (arith, k.least)) was is in
-    subst (λ (x : Slot). IsPut key depot n bytes (record a { store = set a.store run.last row; slots = slice_set a.slots key.slot x })) (sym e)
+    → IsPut key depot n bytes (record a { store = store'; slots = slice_set a.slots key.slot slot })
+put_last key depot a run n bytes store' slot k some is e =
+    let f : IsFilled a.store run n (take n bytes) (get_or a.store run.last []) (written (get_or a.store run.last []) (run.length % BLOCK_SIZE) (take n bytes)) =
+    filled_by key depot a run n bytes (get_or a.store run.last []) (written (get_or a.store run.last []) (run.length % BLOCK_SIZE) (take n bytes)) [] k.sees some (omega (arith, k.least)) (omega (arith, k.least)) refl refl in
+    subst (λ (x : Slot). IsPut key depot n bytes (record a { store = store'; slots = slice_set a.slots key.slot x })) (sym e)
+    (subst (λ (x : List (List ℕ)). IsPut key depot n bytes (record a { store = x; slots = slice_set a.slots key.slot (slot_at key.generation (Draft (longer run n))) })) (sym is)
     (gained key depot a run (longer run n) n bytes _ k.sees
-    (filled_gains key depot a run n (take n bytes) old row k.sees f) (omega (arith, k.least)) k.room)
+    (filled_gains key depot a run n (take n bytes) (get_or a.store run.last []) (written (get_or a.store run.last []) (run.length % BLOCK_SIZE) (take n bytes)) k.sees f) (omega (arith, k.least)) k.room))
 
-pub put_next : (key : Key) (depot : d.Depot) (a : ArenaFields) (run : Run) (n : ℕ) (bytes old row other : List ℕ) (rest spare' : ℕ) (run' : Run) (next' : List ℕ) (slot : Slot)
+put_free : (key : Key) (depot : d.Depot) (a : ArenaFields) (run : Run) (n : ℕ) (bytes old row other : List ℕ) (rest spare' : ℕ) (run' : Run) (next' : List ℕ) (slot : Slot)
     → Knows key depot a run n bytes → run.length % BLOCK_SIZE ≡ 0 → old ≡ get_or a.store a.free other → row ≡ take 0 old ++ take n bytes ++ drop (0 + length (take n bytes)) old
     → rest ≡ get_or a.next a.free spare' → run' ≡ linked_run run a.free → next' ≡ linked_next a.next run a.free → slot ≡ slot_at key.generation (Draft (longer run' n))
     → IsPut key depot n bytes (record a { store = set a.store a.free row; next = next'; stamps = set a.stamps a.free (stamp_for key run.blocks); slots = slice_set a.slots key.slot slot; free = rest; free_count = a.free_count - 1 })
-put_next key depot a run n bytes old row other rest spare' run' next' slot k full was is behind runs links e =
+put_free key depot a run n bytes old row other rest spare' run' next' slot k full was is behind runs links e =
     let f : IsNextRun a.free_count run n (take n bytes) row = next_by key depot a run n bytes old row other k.sees k.room k.some full k.least was is in
     let low : a.free < length a.next = free_there key depot a (Draft run) k.sees f.free in
     let s : Sees key depot (record a { store = set a.store a.free row }) (Draft run) = spare key depot a (Draft run) row k.sees f.free f.row_size in
@@ -86,6 +89,14 @@ put_next key depot a run n bytes old row other rest spare' run' next' slot k ful
     (subst (λ b. IsPut key depot n bytes (record a { store = set a.store a.free row; next = linked_next a.next run a.free; stamps = set a.stamps a.free (stamp_for key run.blocks); slots = slice_set a.slots key.slot (slot_at key.generation (Draft (longer (linked_run run a.free) n))); free = b; free_count = a.free_count - 1 })) (sym (behind ∙ get_any a.next a.free spare' 0 low))
     (gained key depot (record a { store = set a.store a.free row }) run (longer (linked_run run a.free) n) n bytes _ s
     (linked_gains key depot (record a { store = set a.store a.free row }) run n (take n bytes) row s f there) (omega (arith, k.least)) k.room)))
+
+pub put_next : (key : Key) (depot : d.Depot) (a : ArenaFields) (run : Run) (n : ℕ) (bytes : List ℕ) (store' : List (List ℕ)) (rest spare' : ℕ) (run' : Run) (next' : List ℕ) (slot : Slot)
+    → Knows key depot a run n bytes → run.length % BLOCK_SIZE ≡ 0 → store' ≡ set a.store a.free (written (get_or a.store a.free []) 0 (take n bytes))
+    → rest ≡ get_or a.next a.free spare' → run' ≡ linked_run run a.free → next' ≡ linked_next a.next run a.free → slot ≡ slot_at key.generation (Draft (longer run' n))
+    → IsPut key depot n bytes (record a { store = store'; next = next'; stamps = set a.stamps a.free (stamp_for key run.blocks); slots = slice_set a.slots key.slot slot; free = rest; free_count = a.free_count - 1 })
+put_next key depot a run n bytes store' rest spare' run' next' slot k full is behind runs links e =
+    subst (λ (x : List (List ℕ)). IsPut key depot n bytes (record a { store = x; next = next'; stamps = set a.stamps a.free (stamp_for key run.blocks); slots = slice_set a.slots key.slot slot; free = rest; free_count = a.free_count - 1 })) (sym is)
+    (put_free key depot a run n bytes (get_or a.store a.free []) (written (get_or a.store a.free []) 0 (take n bytes)) [] rest spare' run' next' slot k full refl refl behind runs links e)
 
 -- bounds that the code needs
 pub last_low : (key : Key) (depot : d.Depot) (a : ArenaFields) (run : Run) (n : ℕ) (bytes : List ℕ) → Knows key depot a run n bytes → 0 < run.length % BLOCK_SIZE → run.last < length a.store

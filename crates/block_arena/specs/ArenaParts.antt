@@ -4,7 +4,7 @@ use Rattle.block_arena.specs.Fields.{ArenaFields}
 
 abbrev pub fields_of : Inside → ArenaFields
 fields_of a = record {
-  store = a.data.items;
+  store = a.data;
   next = a.next.items;
   stamps = a.stamps.items;
   slots = a.slots.items;

@@ -1,3 +1,4 @@
+pub mod Rows
 pub mod Fields
 pub mod ArenaParts
 pub mod Calls

@@ -12,6 +12,7 @@ ghost use Rattle.block_arena.specs.Calls.{depot_key, IsUsed, IsInUse, Frees};
 use crate::fault::ArenaFault;
 use crate::key::Key;
 use crate::slot::{Content, EMPTY, Run, Slot, Stamp, UNUSED, content_under, run_in};
+use crate::store::Store;
 use mail_world::limits::{BLOCK_LIMIT, BLOCK_SIZE, LAST_GENERATION, SLOT_LIMIT};
 use std::alloc::{AllocError, Global};
 use std::marker::Model;
@@ -21,7 +22,7 @@ mod messages;
 /// Messages in blocks. Contracts see the depot of the definitions: what each slot holds, and the blocks that are free.
 #[derive(Drop)]
 pub struct Arena {
-    data: Vec<[u8; BLOCK_SIZE]>,
+    data: Store,
     next: Vec<u32>,
     stamps: Vec<Stamp>,
     slots: Vec<Slot>,
@@ -43,7 +44,8 @@ impl Model for Arena {
 }
 
 impl Arena {
-    /// An arena of free blocks and free slots, which take all the memory that it will ever have.
+    /// An arena of free blocks and free slots. It takes all the memory that it will ever have, and touches no block's
+    /// before that block is used.
     pub fn new(alloc: Global, blocks: u32, slots: u32) -> Result<Arena, AllocError>
         requires some_block { 1 ≤ blocks }
         requires few_blocks { blocks ≤ BLOCK_LIMIT }
@@ -73,7 +75,7 @@ impl Arena {
         ensures free { IfOk result (λ d. length d.free ≡ blocks) }
         ensures once { IfOk result (λ d. HasEachBlockOnce blocks d) }
     {
-        let data = rows(alloc, [0; BLOCK_SIZE], blocks)?;
+        let data = Store::new(alloc, blocks)?;
         let next = counted(alloc, blocks)?;
         let stamps = unused(alloc, blocks)?;
         let free_slot = Slot {
@@ -187,22 +189,6 @@ fn counted(alloc: Global, blocks: u32) -> Result<Vec<u32>, AllocError>
         next.push(block + 1)?;
     }
     Ok(next)
-}
-
-/// So many blocks of those bytes.
-#[tactic(auto, using(crate::proofs::Made::same_next))]
-fn rows(
-    alloc: Global,
-    row: [u8; BLOCK_SIZE],
-    blocks: u32,
-) -> Result<Vec<[u8; BLOCK_SIZE]>, AllocError>
-    ensures { IfOk result (λ v. v.items ≡ replicate blocks row) }
-{
-    let mut rows = Vec::with_capacity(alloc, blocks as usize)?;
-    for block in 0..blocks {
-        rows.push(row)?;
-    }
-    Ok(rows)
 }
 
 /// The stamps of so many blocks that were never handed out.

@@ -6,6 +6,7 @@ pub mod bookmark;
 pub mod fault;
 pub mod key;
 mod slot;
+mod store;
 
 pub use arena::Arena;
 pub use bookmark::Bookmark;

@@ -91,12 +91,12 @@ impl Arena {
         let at = run.length % BLOCK_SIZE;
         let n = bytes.len().min(BLOCK_SIZE - at);
         if at > 0 {
-            fill(&mut self.data[run.last as usize], at, &bytes[..n]);
+            self.data.fill(run.last, at, &bytes[..n]);
             self.slots[key.slot as usize] = longer_draft(key, run, n);
             return n;
         }
         let block = self.free;
-        fill(&mut self.data[block as usize], 0, &bytes[..n]);
+        self.data.fill(block, 0, &bytes[..n]);
         self.stamps[block as usize] = Stamp {
             slot: key.slot,
             index: run.blocks,
@@ -154,12 +154,4 @@ fn link(next: &mut Vec<u32>, run: Run, block: u32) -> Run
         blocks: run.blocks + 1,
         ..run
     }
-}
-
-/// Writes a piece into a block.
-fn fill(row: &mut [u8; BLOCK_SIZE], at: usize, piece: &[u8])
-    requires { at + length piece.now ≤ length row.old }
-    ensures { row.new ≡ take at row.old ++ piece.now ++ drop (at + length piece.now) row.old }
-{
-    row[at..at + piece.len()].copy_from_slice(piece);
 }

@@ -139,7 +139,7 @@ fn block_at(next: &[u32], first: u32, n: u32) -> u32
 
 /// Copies a run's bytes from `at`, a block's at a time, beginning in the block at `from`.
 fn copy_run(
-    store: &[[u8; BLOCK_SIZE]],
+    store: &Store,
     next: &[u32],
     run: Run,
     from: Bookmark,
@@ -162,7 +162,7 @@ fn copy_run(
     let mut done = 0;
     while done < total {
         let n = (total - done).min(BLOCK_SIZE - skip);
-        copy_piece(&store[block as usize], skip, n, out, done);
+        copy_piece(store.row(block), skip, n, out, done);
         done += n;
         skip = 0;
         block = next[block as usize];

@@ -29,7 +29,7 @@ place_at-from-requires-clause-from c =
 pub copy_run-count-requires-clause-run : goal.copy_run-count-requires-clause-run
 copy_run-count-requires-clause-run c =
     let s : Sees c.args.key c.args.self.now (fields_of c.self.inside) (Sealed c.in-Sealed.run' c.in-Sealed.field-1) = sees c.args.key c.args.self.now (fields_of c.self.inside) c.deref.result.now c.content_under.result _ c.self.invariant c.self.view_is c.deref.ensures.value c.content_under.ensures c.in-Sealed.is in
-    readable_as _ _ _ _ c.in-Sealed.run' c.deref-in-Sealed-3.ensures.value c.deref-in-Sealed-4.ensures.value (readable c.args.key c.args.self.now (fields_of c.self.inside) c.in-Sealed.run' c.in-Sealed.field-1 s)
+    readable_as _ _ _ _ c.in-Sealed.run' refl c.deref-in-Sealed-3.ensures.value (readable c.args.key c.args.self.now (fields_of c.self.inside) c.in-Sealed.run' c.in-Sealed.field-1 s)
 
 pub copy_run-count-requires-clause-there : goal.copy_run-count-requires-clause-there
 copy_run-count-requires-clause-there c =
@@ -39,7 +39,7 @@ copy_run-count-requires-clause-there c =
 pub place_at-requires-clause-low : goal.place_at-requires-clause-low
 place_at-requires-clause-low c =
     let s : Sees c.args.key c.args.self.now (fields_of c.self.inside) (Sealed c.in-Sealed.run' c.in-Sealed.field-1) = sees c.args.key c.args.self.now (fields_of c.self.inside) c.deref.result.now c.content_under.result _ c.self.invariant c.self.view_is c.deref.ensures.value c.content_under.ensures c.in-Sealed.is in
-    subst (λ ns. AllByRecursion (λ b. b < length ns) (blocks_in ns c.in-Sealed.run')) (sym c.deref-in-Sealed-5.ensures.value) ((readable c.args.key c.args.self.now (fields_of c.self.inside) c.in-Sealed.run' c.in-Sealed.field-1 s).low)
+    subst (λ ns. AllByRecursion (λ b. b < length ns) (blocks_in ns c.in-Sealed.run')) (sym c.deref-in-Sealed-4.ensures.value) ((readable c.args.key c.args.self.now (fields_of c.self.inside) c.in-Sealed.run' c.in-Sealed.field-1 s).low)
 
 pub place_at-requires-clause-few : goal.place_at-requires-clause-few
 place_at-requires-clause-few c =
@@ -66,4 +66,4 @@ pub returns-in-Sealed-clause-bytes : goal.returns-in-Sealed-clause-bytes
 returns-in-Sealed-clause-bytes c =
     let s : Sees c.args.key c.args.self.now (fields_of c.self.inside) (Sealed c.in-Sealed.run' c.in-Sealed.field-1) = sees c.args.key c.args.self.now (fields_of c.self.inside) c.deref.result.now c.content_under.result _ c.self.invariant c.self.view_is c.deref.ensures.value c.content_under.ensures c.in-Sealed.is in
     c.copy_run-count.ensures.bytes ∙ ap (λ bytes. take c.copy_run-count.result (drop c.args.at bytes) ++ drop c.copy_run-count.result c.args.out.now)
-    (bytes_seen _ _ _ _ c.in-Sealed.run' _ _ c.deref-in-Sealed-3.ensures.value c.deref-in-Sealed-4.ensures.value (under c.args.key c.args.self.now (fields_of c.self.inside) (Sealed c.in-Sealed.run' c.in-Sealed.field-1) s))
+    (bytes_seen _ _ _ _ c.in-Sealed.run' _ _ refl c.deref-in-Sealed-3.ensures.value (under c.args.key c.args.self.now (fields_of c.self.inside) (Sealed c.in-Sealed.run' c.in-Sealed.field-1) s))

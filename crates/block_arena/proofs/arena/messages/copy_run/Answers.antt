@@ -1,4 +1,4 @@
-use Rattle.std.proofs.Common.{◌≡◌, ◌-◌, ◌/◌, length, min, refl, arith}
+use Rattle.std.proofs.Common.{◌≡◌, ◌-◌, ◌/◌, length, min, arith}
 use Rattle.block_arena.proofs.Places.{block_there}
 use Rattle.block_arena.proofs.Reading.{reads_in, reads_step, reads_all}
 use Rattle.mail_world.specs.declared.limits.TheConstants.{BLOCK_SIZE}
@@ -11,7 +11,7 @@ loop-done-init c =
 
 pub loop-done-preserved : goal.loop-done-preserved
 loop-done-preserved c = reads_step c.args.store.now c.args.next.now _ _ c.min-n.result _ c.copy_piece.new.out
-    c.requires.run.sizes c.requires.run.count c.loop-done.invariant c.loop-done-test.true c.min-n.ensures refl c.copy_piece.ensures
+    c.requires.run.sizes c.requires.run.count c.loop-done.invariant c.loop-done-test.true c.min-n.ensures c.row.ensures c.copy_piece.ensures
 
 pub returns-clause-bytes : goal.returns-clause-bytes
 returns-clause-bytes c =

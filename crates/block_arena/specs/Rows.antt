@@ -1,0 +1,14 @@
+-- The bytes of the blocks, of which the first so many are made.
+use Rattle.std.specs.Prelude.{ℕ, ◌+◌, ◌-◌, ◌++◌, List, length, take, drop, replicate}
+use Rattle.mail_world.specs.declared.limits.TheConstants.{BLOCK_SIZE}
+
+abbrev pub zeros : List ℕ
+zeros = replicate BLOCK_SIZE 0
+
+-- the made blocks, and zeros up to the count
+abbrev pub padded : List (List ℕ) → ℕ → List (List ℕ)
+padded made count = made ++ replicate (count - length made) zeros
+
+-- a block's bytes with a piece at a place
+abbrev pub written : List ℕ → ℕ → List ℕ → List ℕ
+written row at piece = take at row ++ piece ++ drop (at + length piece) row
