@@ -2,7 +2,7 @@
 use Rattle.std.specs.Prelude.{ℕ, Bool, true, false, not, ◌||◌, ◌&&◌, nat_lt, ◌==◌, List, [], ◌∷◌, length, if◌then◌else◌, Option, Some, None, codes}
 use Rattle.std.specs.Borrow.{Bor}
 use Rattle.std.specs.List.{list_all}
-use Rattle.mail_world.specs.declared.limits.TheConstants.{BOX_LIMIT}
+use Rattle.mail_world.specs.declared.limits.TheConstants.{BOX_LIMIT, MESSAGE_LIMIT}
 use Rattle.mail_world.specs.Site.{Site, is_host_name, is_box_name, has_twice}
 use Rattle.lmtp_text.specs.Sites.{texts}
 use Rattle.lmtp_text.specs.declared.site.SiteFault.{SiteFault}
@@ -82,7 +82,8 @@ first_fault site =
 
 -- the site of that host with those further domains and one mailbox
 abbrev pub site_of_one : List ℕ → List (Bor (List ℕ)) → List ℕ → Site
-site_of_one host domains name = record { host = host; domains = texts domains; boxes = name ∷ [] }
+site_of_one host domains name =
+    record { host = host; domains = texts domains; boxes = name ∷ []; message_limit = MESSAGE_LIMIT }
 
 -- why the program ends where clap answers so
 abbrev pub stop_for : Error → Stop
