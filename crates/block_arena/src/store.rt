@@ -59,7 +59,7 @@ impl Store {
     }
 }
 
-/// Makes the first blocks, those up to so many.
+/// Makes what is missing of the first blocks, up to that count.
 fn make(made: &mut Vec<[u8; BLOCK_SIZE]>, count: usize)
     requires { count ≤ vec_capacity made.old }
     ensures items { made.new.items ≡ made.old.items ++ replicate (count - length made.old.items) zeros }
