@@ -1,7 +1,7 @@
 //! The bytes of the blocks.
 
-ghost use Rattle.std.specs.Prelude.{◌≡◌, ◌+◌, ◌-◌, ◌<◌, ◌≤◌, ◌++◌, [], length, get_or, take, drop, replicate, slice_set};
-ghost use Rattle.std.specs.Prelude.{vec_capacity, IfOk};
+ghost use Rattle.std.specs.Prelude.{◌≡◌, ◌+◌, ◌-◌, ◌<◌, ◌≤◌, ◌++◌, [], length, get_or, take, drop, replicate};
+ghost use Rattle.std.specs.Prelude.{slice_set, vec_capacity, IfOk};
 ghost use Rattle.block_arena.specs.Rows.{zeros, written};
 
 use mail_world::limits::BLOCK_SIZE;

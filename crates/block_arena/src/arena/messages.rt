@@ -1,6 +1,7 @@
 //! Calls on sealed messages.
 
-ghost use Rattle.std.specs.Prelude.{◌≡◌, ℕ, ◌≤◌, ◌<◌, ◌+◌, ◌-◌, ◌/◌, ◌^◌, ◌++◌, length, take, drop, min, slice_get, IfOk, IfErr};
+ghost use Rattle.std.specs.Prelude.{◌≡◌, ℕ, ◌≤◌, ◌<◌, ◌+◌, ◌-◌, ◌/◌, ◌^◌, ◌++◌, length, take, drop, min};
+ghost use Rattle.std.specs.Prelude.{slice_get, IfOk, IfErr};
 ghost use Rattle.mail_world.specs.Depot.{held_under, bytes_of};
 ghost use Rattle.std.specs.List.{AllByRecursion};
 ghost use Rattle.block_arena.specs.Fields.{blocks_in, bytes_in, chain, node, start_of, IsPlace, IsReadable};
