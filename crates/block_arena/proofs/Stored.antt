@@ -33,7 +33,7 @@ set_front [] ys k v h = absurd (omega (arith, h))
 set_front (x ∷ xs) ys zero v h = refl
 set_front (x ∷ xs) ys (suc k) v h = ap (λ t. x ∷ t) (set_front xs ys k v (omega (arith, h)))
 
--- how far the making is: so many blocks are made, at least
+-- how far the making is: the blocks before that one are made
 pub record IsMaking (old : List (List ℕ)) (room count : ℕ) (made : List (List ℕ)) (len capacity block : ℕ) : Type 0 where
   pub is : len ≡ block
   pub same : capacity ≡ room

@@ -70,11 +70,11 @@ pub record IsPlace (next : List ℕ) (run : Run) (place : Bookmark) : Type 0 whe
   pub is : node place.index next run.first ≡ place.block
   pub within : place.index ≤ run.blocks
 
--- the stamp of the block that stands behind so many in the key's message
+-- whether a stamp is of the key's message, with that many blocks before its own
 abbrev pub is_stamp_of : Stamp → Key → ℕ → Bool
 is_stamp_of stamp key index = stamp.slot == key.slot && stamp.generation == key.generation && stamp.index == index
 
--- the stamp of a block that goes to the key's message behind so many
+-- the stamp of a block that goes to the key's message, after that many
 abbrev pub stamp_for : Key → ℕ → Stamp
 stamp_for key index = record { slot = key.slot; index = index; generation = key.generation }
 
@@ -95,7 +95,7 @@ IsContent next (Draft run) = IsRun next run
 IsContent next (Sealed run holds) = IsRun next run
 IsContent next Retired = Unit {0}
 
--- the block lies in the slot's chain behind so many, if the slot may have a chain
+-- the block lies in the slot's chain after that many; of a retired slot nothing is said
 abbrev pub IsAt : List ℕ → Content → ℕ → ℕ → Type 0
 IsAt next Free index block = ⊥
 IsAt next (Draft run) index block = (index < run.blocks) × (node index next run.first ≡ block)

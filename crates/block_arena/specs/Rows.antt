@@ -1,4 +1,4 @@
--- The bytes of the blocks, of which the first so many are made.
+-- The bytes of the blocks, of which the first ones are made.
 use Rattle.std.specs.Prelude.{ℕ, ◌+◌, ◌-◌, ◌++◌, List, length, take, drop, replicate}
 use Rattle.mail_world.specs.declared.limits.TheConstants.{BLOCK_SIZE}
 

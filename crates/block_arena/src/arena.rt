@@ -191,7 +191,7 @@ fn counted(alloc: Global, blocks: u32) -> Result<Vec<u32>, AllocError>
     Ok(next)
 }
 
-/// The stamps of so many blocks that were never handed out.
+/// The stamps of blocks that were never handed out.
 #[tactic(auto, using(crate::proofs::Made::same_next))]
 fn unused(alloc: Global, blocks: u32) -> Result<Vec<Stamp>, AllocError>
     ensures { IfOk result (λ v. v.items ≡ replicate blocks UNUSED) }

@@ -15,7 +15,7 @@ pub struct Run {
     pub length: usize,
 }
 
-/// As what a block was handed out: to the slot's message of that generation, after that many blocks.
+/// To which message a block was handed out, and how many of its blocks stand before it.
 #[derive(Clone, Copy)]
 pub struct Stamp {
     pub slot: u32,
@@ -64,7 +64,7 @@ pub fn run_in(content: Content) -> Run
 }
 
 impl Stamp {
-    /// Whether the key's message has the block after so many.
+    /// Whether the block was handed out to the key's message, with that many blocks before it.
     pub fn is_of(&self, key: Key, index: u32) -> bool
         ensures { result ≡ is_stamp_of self.now key index }
     {

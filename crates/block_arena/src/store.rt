@@ -1,7 +1,7 @@
 //! The bytes of the blocks.
 
-ghost use Rattle.std.specs.Prelude.{◌≡◌, ◌+◌, ◌-◌, ◌<◌, ◌≤◌, ◌++◌, [], length, get_or, take, drop, replicate, slice_set};
-ghost use Rattle.std.specs.Prelude.{vec_capacity, IfOk};
+ghost use Rattle.std.specs.Prelude.{◌≡◌, ◌+◌, ◌-◌, ◌<◌, ◌≤◌, ◌++◌, [], length, get_or, take, drop, replicate};
+ghost use Rattle.std.specs.Prelude.{slice_set, vec_capacity, IfOk};
 ghost use Rattle.block_arena.specs.Rows.{zeros, written};
 
 use mail_world::limits::BLOCK_SIZE;
@@ -59,7 +59,7 @@ impl Store {
     }
 }
 
-/// Makes the first blocks, those up to so many.
+/// Makes what is missing of the first blocks, up to that count.
 fn make(made: &mut Vec<[u8; BLOCK_SIZE]>, count: usize)
     requires { count ≤ vec_capacity made.old }
     ensures items { made.new.items ≡ made.old.items ++ replicate (count - length made.old.items) zeros }

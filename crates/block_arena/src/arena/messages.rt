@@ -1,6 +1,7 @@
 //! Calls on sealed messages.
 
-ghost use Rattle.std.specs.Prelude.{◌≡◌, ℕ, ◌≤◌, ◌<◌, ◌+◌, ◌-◌, ◌/◌, ◌^◌, ◌++◌, length, take, drop, min, slice_get, IfOk, IfErr};
+ghost use Rattle.std.specs.Prelude.{◌≡◌, ℕ, ◌≤◌, ◌<◌, ◌+◌, ◌-◌, ◌/◌, ◌^◌, ◌++◌, length, take, drop, min};
+ghost use Rattle.std.specs.Prelude.{slice_get, IfOk, IfErr};
 ghost use Rattle.mail_world.specs.Depot.{held_under, bytes_of};
 ghost use Rattle.std.specs.List.{AllByRecursion};
 ghost use Rattle.block_arena.specs.Fields.{blocks_in, bytes_in, chain, node, start_of, IsPlace, IsReadable};
@@ -104,7 +105,7 @@ fn start(stamps: &[Stamp], key: Key, run: Run, mark: Bookmark) -> Bookmark
     }
 }
 
-/// Where n blocks stand before, if there are so many. It is looked for from a place of the run, or from its first block
+/// The block before which n stand, if there is one. It is looked for from a place of the run, or from its first block
 /// where that place is after it.
 fn place_at(next: &[u32], run: Run, from: Bookmark, n: usize) -> Bookmark
     requires low { AllByRecursion (λ b. b < length next.now) (blocks_in next.now run) }
@@ -125,7 +126,7 @@ fn place_at(next: &[u32], run: Run, from: Bookmark, n: usize) -> Bookmark
     Bookmark { index, block }
 }
 
-/// The block n links behind a block.
+/// The block n links after a block.
 fn block_at(next: &[u32], first: u32, n: u32) -> u32
     requires { AllByRecursion (λ b. b < length next.now) (chain n next.now first) }
     ensures { result ≡ node n next.now first }
