@@ -36,11 +36,7 @@ fn mailbox_room(limit: u32) -> usize
 }
 
 /// As many empty spools, each with room for a mailbox of the site.
-pub fn empty_spools(
-    alloc: Global,
-    site: &Site,
-    count: u32,
-) -> Result<Vec<MemorySpool>, AllocError>
+pub fn empty_spools(alloc: Global, site: &Site, count: u32) -> Result<Vec<MemorySpool>, AllocError>
     ensures { IfOk result (λ spools. spools.items ≡ replicate count (empty_spool site.now)) }
 {
     let room = mailbox_room(site.message_limit());

@@ -17,6 +17,7 @@ pub const MESSAGE_LIMIT: u32 = 1_048_576;
 
 /// The least and the largest limit that a site may name (RFC 5321, 4.5.3.1.7, asks for 64 KiB).
 pub const LEAST_MESSAGE_LIMIT: u32 = 65_536;
+
 pub const LARGEST_MESSAGE_LIMIT: u32 = 268_435_456;
 
 /// The digits of a SIZE parameter.
