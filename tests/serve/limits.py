@@ -9,7 +9,7 @@ LINE = "x" * 62
 
 @case
 def a_limit_of_the_site(folder):
-    """a limit of 65,536 bytes: what is offered, a size above it, a message of just as many bytes, and one of a byte more"""
+    """a limit of 65,536 bytes: what is offered, a size above it, a message of as many bytes, and one of a byte more"""
     with Server(folder, ["anna"], 1, "--message-limit", 65_536) as server:
         with Client(server.address) as client:
             equal(client.hear(), "220 mx.example LMTP ready")

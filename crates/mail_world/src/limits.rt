@@ -15,9 +15,10 @@ pub const BOX_NAME_LIMIT: usize = 32;
 /// A message with its CRLFs and without the dots of transparency, in bytes, where a site names no other limit.
 pub const MESSAGE_LIMIT: u32 = 1_048_576;
 
-/// The least and the largest limit that a site may name (RFC 5321, 4.5.3.1.7, asks for 64 KiB).
+/// The least limit that a site may name for its messages, in bytes (RFC 5321, 4.5.3.1.7, asks for 64 KiB).
 pub const LEAST_MESSAGE_LIMIT: u32 = 65_536;
 
+/// The largest one.
 pub const LARGEST_MESSAGE_LIMIT: u32 = 268_435_456;
 
 /// The digits of a SIZE parameter.
