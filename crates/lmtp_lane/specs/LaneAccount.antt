@@ -43,8 +43,8 @@ pub record IsHeardInTurn (lane : ℕ) (ts : List Transaction) (all : Episode) : 
 abbrev pub AgreesWith : (ℕ → Type 0) → (ℕ → Type 0) → Type 0
 AgreesWith May Known = (moment : ℕ) → May moment → Known moment
 
--- Where a message may have so many bytes and n DATA commands were accepted, and this became of the data that ended: the senders gave what is owed, the
--- outcomes are those of the slips, and each moment is one that the clock may answer.
+-- Where n DATA commands were accepted, and this became of the data that ended: the senders gave what is owed, the
+-- outcomes are those of the slips, each verdict fits the limit, and each moment is one that the clock may answer.
 pub record HasOffered (limit : ℕ) (May : ℕ → Type 0) (accepted : ℕ) (old new : LaneEnds) (n : ℕ) (ts : List Transaction)
     : Type 0 where
   pub count : accepted ≡ counted n
@@ -67,7 +67,7 @@ abbrev pub verdict_with : Option Claim → Verdict
 verdict_with None = NoRoom
 verdict_with (Some claim) = Whole
 
--- the verdict on a message of that number, of that length, where one may have so many bytes
+-- the verdict under a limit on a message of that number, of that length
 abbrev pub verdict_on : ℕ → ℕ → ℕ → Option Claim → Verdict
 verdict_on limit accepted size draft =
     if nat_lt NUMBER_LIMIT accepted then NoRoom

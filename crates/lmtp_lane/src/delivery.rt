@@ -43,7 +43,7 @@ pub struct LaneDelivery<'a, N: DepotName, C: Clock, R: Wait, S: LaneStart> {
 }
 
 impl<'a, N: DepotName, C: Clock, R: Wait, S: LaneStart> LaneDelivery<'a, N, C, R, S> {
-    /// A lane's delivery before its first conversation, where a message may have so many bytes.
+    /// A lane's delivery before its first conversation, where a message may have that many bytes.
     pub fn new(
         rt: &'a R,
         depot: &'a Depot<N>,

@@ -38,7 +38,7 @@ impl<N: DepotName> Incoming<N> {
         }
     }
 
-    /// Takes bytes of the message, which may have so many in all.
+    /// Takes bytes of the message, which may have as many in all as the limit says.
     pub fn add<R: Wait>(&mut self, rt: &R, depot: &Depot<N>, bytes: &[u8], limit: u32)
         ensures { (message : List ℕ) → HoldsDraft self.old.draft self.old.size message
             → HoldsDraft self.new.draft self.new.size (message ++ bytes.now) }
@@ -63,8 +63,8 @@ impl<N: DepotName> Incoming<N> {
         }
     }
 
-    /// The draft of a message that is whole, or why the message is refused, whose blocks are given back; it may have so
-    /// many bytes.
+    /// The draft of a message that is whole, or why the message is refused, whose blocks are given back; it may have
+    /// as many bytes as the limit says.
     pub fn end<R: Wait>(
         &mut self,
         rt: &R,

@@ -17,7 +17,7 @@ seen_parameter p = record { keyword = p.keyword.now; value = seen_value p.value 
 abbrev pub count_of : List ℕ → List m.Parameter → ℕ
 count_of word ps = length (filter (m.has_keyword word) ps)
 
--- the tally of these parameters, where a message may have so many bytes: what is wrong counts only where all are
+-- the tally of these parameters under a limit of bytes: what is wrong counts only where all are
 -- known, what is too large only where none is wrong
 pub record Tallies (limit : ℕ) (t : Tally) (ps : List m.Parameter) : Type 0 where
   pub unknown : t.unknown ≡ not (list_all m.is_known ps)

@@ -75,7 +75,7 @@ fn is_body(value: Option<&[u8]>) -> bool
 }
 
 impl Tally {
-    /// The tally with one parameter more, where a message may have so many bytes.
+    /// The tally with one parameter more, under a limit of bytes.
     fn with(self, parameter: Parameter, limit: u32) -> Tally
         ensures { (before : List m.Parameter) → Tallies limit self before
             → Tallies limit result (before ++ seen_parameter parameter.entry ∷ []) }
@@ -130,7 +130,7 @@ pub(crate) fn has_parameters(text: &[u8]) -> bool
     text.iter().any(|b| *b != b' ')
 }
 
-/// The tally of the text's parameters, where a message may have so many bytes.
+/// The tally of the text's parameters, under a limit of bytes.
 fn tally_of(text: &[u8], limit: u32) -> Tally
     ensures { Tallies limit result (m.parameters text.now) }
 {

@@ -93,7 +93,7 @@ is_above_limit limit (Some digits) = nat_lt limit (digits_value 10 digits)
 abbrev pub is_too_large : ℕ → Parameter → Bool
 is_too_large limit p = has_keyword (codes "SIZE") p && is_above_limit limit p.value
 
--- MAIL with a path and parameters where a message may have so many bytes, RCPT with a path and parameters
+-- MAIL with a path and parameters under a limit of bytes, RCPT with a path and parameters
 abbrev pub mail_with : ℕ → List ℕ → List Parameter → Answer
 mail_with limit sender ps =
     if not (list_all is_known ps) then Err bad.Parameter
@@ -148,7 +148,7 @@ by_verb limit verb rest =
     else if is_word (codes "RCPT") verb then rcpt (behind_label (codes "TO:") rest)
     else Err bad.Unknown
 
--- The verb stands before the first space, the rest after it and after further spaces. A message may have so many bytes.
+-- The verb stands before the first space, the rest after it and after further spaces. The limit is that of a message.
 unfoldable pub command_at : ℕ → List ℕ → Answer
 command_at limit line =
     let w = trimmed line in by_verb limit (before_first (λ b. b == space) w) (behind_spaces (after_first (λ b. b == space) w))
