@@ -44,7 +44,7 @@ kept_at ks n = slice_index_or ks n nothing_kept
 abbrev pub IsCalm : List MailboxContent → Type 0
 IsCalm ks = (n : ℕ) → n < length ks → (kept_at ks n).failed ≡ false
 
--- the bytes that a mailbox has room for where a message may have so many: two largest messages, and no fewer than usual
+-- the bytes that a mailbox has room for, by the limit of a message: two largest messages, and no fewer than usual
 abbrev pub mailbox_room : ℕ → ℕ
 mailbox_room limit = max MAILBOX_ROOM (2 * limit)
 

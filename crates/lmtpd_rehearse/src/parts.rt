@@ -28,7 +28,7 @@ pub fn sizes(blocks: u32, quota: Option<u64>) -> Sizes
     }
 }
 
-// The bytes that a mailbox has room for where a message may have so many.
+// The bytes that a mailbox has room for, by the limit of a message.
 fn mailbox_room(limit: u32) -> usize
     ensures { result ≡ mailbox_room limit }
 {
