@@ -5,10 +5,11 @@ mod house;
 
 pub use house::{HouseFault, HouseReport, Sizes, has_failed, is_size, run_house};
 pub use lmtp_lane::{
-    Clock, Desk, LaneReport, SystemClock, TcpVisits, TimedListener, Visits, lane_run, lane_run_at,
-    tcp_visits,
+    Client, Clock, Desk, Endpoint, LaneReport, Listener, SystemClock, TcpVisits, Visits, WAIT_MS,
+    lane_run, lane_run_at, tcp_visits,
 };
 pub use lmtp_talk::{
-    Came, Delivery, Dialogue, EndCause, Outbox, Peer, PeerFault, ReadBuffer, TcpPeer, serve,
+    Bounds, Came, ClientStream, Curfew, Delivery, Dialogue, EndCause, Outbox, Peer, PeerFault,
+    ReadBuffer, TcpPeer, serve,
 };
 pub use lmtp_threads::Tally;

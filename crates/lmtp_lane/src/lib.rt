@@ -16,5 +16,5 @@ pub use clock::Clock;
 pub use desk::Desk;
 pub use report::LaneReport;
 pub use run::{lane_run, lane_run_at};
-pub use tcp::{SystemClock, TcpVisits, TimedListener, tcp_visits};
+pub use tcp::{Client, Endpoint, Listener, SystemClock, TcpVisits, WAIT_MS, tcp_visits};
 pub use visits::Visits;

@@ -1,4 +1,4 @@
-//! The clients of a listener over TCP, and the system's clock.
+//! The clients of a listener over TCP or a Unix socket, and the system's clock.
 
 mod clock;
 mod listener;
@@ -6,6 +6,6 @@ mod share;
 mod visits;
 
 pub use clock::SystemClock;
-pub use listener::TimedListener;
+pub use listener::{Client, Endpoint, Listener};
 pub use share::tcp_visits;
-pub use visits::TcpVisits;
+pub use visits::{TcpVisits, WAIT_MS};

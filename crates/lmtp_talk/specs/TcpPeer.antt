@@ -2,14 +2,17 @@
 use Rattle.std.specs.Prelude.{◌≡◌, ◌-◌, ◌<◌, ◌⊎◌, ℕ, List, [], Result, length, Option, None, Some, Ok}
 use Rattle.std.specs.Io.KnownBytes.{prepend_known}
 use Rattle.lmtp_talk.specs.declared.peer.Came.{Came}
-use Rattle.lmtp_talk.specs.declared.peer.Came.TheVariants.{Bytes, Stop}
+use Rattle.lmtp_talk.specs.declared.peer.Came.TheVariants.{Bytes, End, Stop}
+use Rattle.lmtp_talk.specs.declared.tcp.peer.Bounds.{Bounds}
 use Rattle.lmtp_talk.specs.declared.tcp.peer.TcpPeer.{TcpPeer}
+use Rattle.lmtp_talk.specs.declared.tcp.peer.Waited.{Waited}
+use Rattle.lmtp_talk.specs.declared.tcp.peer.Waited.TheVariants as Waited
 use Rattle.lmtp_talk.specs.Peer.{PeerState, HasBrought, HasTransferred}
 use Rattle.lmtp_talk.specs.ReadBuffer.{waiting}
 
 -- what its buffer has and then what the stream has left, where the stream tells it; how often it was read, failed and
 -- said stop
-abbrev pub tcp_state : {T : Type 0} → (T → Option (List ℕ)) → TcpPeer T → PeerState
+abbrev pub tcp_state : {T E : Type 0} → (T → Option (List ℕ)) → TcpPeer T E → PeerState
 tcp_state remaining p = record {
   read = None;
   unread = prepend_known (waiting p.buffer) (remaining p.stream);
@@ -21,22 +24,30 @@ tcp_state remaining p = record {
 }
 
 -- something waits, and nothing was handed out; or nothing came, and what the client did is so
-abbrev pub Fills : {T : Type 0} → (T → Option (List ℕ)) → TcpPeer T → TcpPeer T → Option Came → Type 0
+abbrev pub Fills : {T E : Type 0} → (T → Option (List ℕ)) → TcpPeer T E → TcpPeer T E → Option Came → Type 0
 Fills remaining old new None = (0 < length (waiting new.buffer))
     × HasTransferred (tcp_state remaining old) (tcp_state remaining new) [] []
 Fills remaining old new (Some came) = HasBrought (tcp_state remaining old) (tcp_state remaining new) [] came
 
+-- what a wait for bytes came to: they stand in the buffer, or none did; at the end the stream has none left
+abbrev pub WaitedFor : {T E : Type 0} → (T → Option (List ℕ)) → TcpPeer T E → TcpPeer T E → Waited → Type 0
+WaitedFor remaining old new Waited.Came = (0 < length (waiting new.buffer))
+    × HasTransferred (tcp_state remaining old) (tcp_state remaining new) [] []
+WaitedFor remaining old new Waited.End = HasBrought (tcp_state remaining old) (tcp_state remaining new) [] End
+WaitedFor remaining old new _ = HasTransferred (tcp_state remaining old) (tcp_state remaining new) [] []
+
 -- one read fewer is left; where none was left, it says stop; what waits is handed out first; in neither case is the
 -- stream touched
-pub record TakesRead {T E : Type 0} (old new : TcpPeer T) (result : Result Came E) : Type 0 where
+pub record TakesRead {T E F : Type 0} (old new : TcpPeer T E) (result : Result Came F) : Type 0 where
   pub counts : new.reads_left ≡ old.reads_left - 1
   pub stops : old.reads_left ≡ 0 → result ≡ Ok Stop
   pub waits : 0 < old.reads_left → 0 < length (waiting old.buffer) → (n : ℕ) × (result ≡ Ok (Bytes n))
   pub untouched : (old.reads_left ≡ 0) ⊎ (0 < length (waiting old.buffer)) → new.stream ≡ old.stream
 
--- nothing was read of it, and so many reads may be made
-pub record IsNew {T : Type 0} (reads : ℕ) (peer : TcpPeer T) : Type 0 where
-  pub reads_left : peer.reads_left ≡ reads
+-- nothing was read of it, and as many reads may be made, and as many waits may bring nothing, as its bounds say
+pub record IsNew {T E : Type 0} (bounds : Bounds) (peer : TcpPeer T E) : Type 0 where
+  pub reads_left : peer.reads_left ≡ bounds.reads
+  pub waits : peer.waits ≡ bounds.waits
   pub unread : waiting peer.buffer ≡ []
   pub none_made : peer.reads ≡ 0
   pub failures : peer.failures ≡ 0

@@ -2,6 +2,7 @@
 #![tactic(auto)]
 
 mod conversation;
+mod curfew;
 mod delivery;
 mod dialogue;
 mod ending;
@@ -12,10 +13,11 @@ mod script;
 mod tcp;
 
 pub use conversation::serve;
+pub use curfew::Curfew;
 pub use delivery::Delivery;
 pub use dialogue::Dialogue;
 pub use ending::EndCause;
 pub use outbox::Outbox;
 pub use peer::{Came, Peer, PeerFault};
 pub use script::{Script, Then, Turn};
-pub use tcp::{ReadBuffer, TcpPeer};
+pub use tcp::{Bounds, ClientStream, ReadBuffer, TcpPeer, is_silence};

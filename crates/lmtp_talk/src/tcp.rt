@@ -1,9 +1,12 @@
-//! A client over TCP.
+//! A client over a stream, be it TCP or a Unix socket.
 
 mod drain;
 mod peer;
 mod read_buffer;
 mod retry;
+mod stream;
 
-pub use peer::TcpPeer;
+pub use peer::{Bounds, TcpPeer};
 pub use read_buffer::ReadBuffer;
+pub use retry::is_silence;
+pub use stream::ClientStream;

@@ -8,7 +8,7 @@ use Rattle.lmtpd_log.specs.declared.mailbox.LoggedMailbox.{LoggedMailbox}
 use Rattle.lmtpd_log.specs.declared.visits.LoggedVisits.{LoggedVisits}
 
 -- the clients that are handed out
-abbrev pub visits_in : {L G C : Type 0} → LoggedVisits L G C → TcpVisits (CountedListener L C)
+abbrev pub visits_in : {L G C E : Type 0} → LoggedVisits L G C E → TcpVisits (CountedListener L C) E
 visits_in v = v.visits
 
 -- the spool that is written to

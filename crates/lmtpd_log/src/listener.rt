@@ -3,8 +3,8 @@
 ghost use Rattle.std.specs.Prelude.{◌≡◌};
 
 use crate::stream::CountedStream;
+use lmtp_lane::{Client, Endpoint, Listener};
 use std::io;
-use std::net::{OpenListener, SocketAddr};
 use std::time::Clock;
 
 /// A listener of whose streams it is known when they were accepted, and which bytes come and go.
@@ -24,34 +24,17 @@ impl<L, C> CountedListener<L, C> {
     }
 }
 
-impl<L: OpenListener, C: Clock> OpenListener for CountedListener<L, C> {
+impl<L: Listener, C: Clock> Listener for CountedListener<L, C> {
     type Stream = CountedStream<L::Stream>;
 
     /// Fails where the other listener does.
-    fn accept(&self) -> io::Result<(CountedStream<L::Stream>, SocketAddr)> {
-        let (stream, address) = self.listener.accept()?;
+    fn accept(&self) -> io::Result<(CountedStream<L::Stream>, Client)> {
+        let (stream, client) = self.listener.accept()?;
         let accepted = self.clock.monotonic().ok();
-        let stream = CountedStream::new(stream, address.ip(), accepted);
-        Ok((stream, address))
+        Ok((CountedStream::new(stream, client, accepted), client))
     }
 
-    fn local_addr(&self) -> io::Result<SocketAddr> {
-        self.listener.local_addr()
-    }
-
-    fn set_nonblocking(&self, nonblocking: bool) -> io::Result<()> {
-        self.listener.set_nonblocking(nonblocking)
-    }
-
-    fn take_error(&self) -> io::Result<Option<io::Error>> {
-        self.listener.take_error()
-    }
-
-    fn set_ttl(&self, ttl: u32) -> io::Result<()> {
-        self.listener.set_ttl(ttl)
-    }
-
-    fn ttl(&self) -> io::Result<u32> {
-        self.listener.ttl()
+    fn endpoint(&self) -> io::Result<Endpoint<'_>> {
+        self.listener.endpoint()
     }
 }

@@ -5,15 +5,16 @@ ghost use Rattle.std.specs.Io.{ReadsAtMost, WritesAtMost};
 ghost use Rattle.std.specs.Io.KnownBytes.{ReadConsumes, WriteAppends};
 ghost use Rattle.lmtp_talk.specs.Peer.{RisesBy};
 
+use lmtp_lane::Client;
+use lmtp_talk::ClientStream;
 use std::io;
 use std::io::{Read, Write};
-use std::net::{IpAddr, OpenStream, Shutdown, SocketAddr};
 use std::time::Duration;
 
 /// A client, and how many bytes came and went. Each count stays at its largest value.
 #[derive(Clone, Copy, Debug, PartialEq, Eq)]
 pub struct Traffic {
-    pub client: IpAddr,
+    pub client: Client,
     /// When the client was accepted, by the monotonic clock, where it could be asked.
     pub accepted: Option<Duration>,
     /// The bytes that were read.
@@ -31,7 +32,7 @@ pub struct CountedStream<T> {
 
 impl<T> CountedStream<T> {
     /// Over a stream of which no byte came or went.
-    pub fn new(stream: T, client: IpAddr, accepted: Option<Duration>) -> CountedStream<T>
+    pub fn new(stream: T, client: Client, accepted: Option<Duration>) -> CountedStream<T>
         ensures over { result.stream ≡ stream }
         ensures none { result.traffic ≡ record { client = client; accepted = accepted; read = 0; written = 0 } }
     {
@@ -96,61 +97,20 @@ impl<T: Write> Write for CountedStream<T> {
     }
 }
 
-// Each call is the stream's, but `try_clone`, whose bytes nobody would count.
-impl<T: OpenStream> OpenStream for CountedStream<T> {
-    fn peer_addr(&self) -> io::Result<SocketAddr> {
-        self.stream.peer_addr()
-    }
-
-    fn local_addr(&self) -> io::Result<SocketAddr> {
-        self.stream.local_addr()
-    }
-
-    fn shutdown(&self, how: Shutdown) -> io::Result<()> {
-        self.stream.shutdown(how)
-    }
-
-    fn set_nodelay(&self, nodelay: bool) -> io::Result<()> {
-        self.stream.set_nodelay(nodelay)
-    }
-
-    fn nodelay(&self) -> io::Result<bool> {
-        self.stream.nodelay()
+impl<T: ClientStream> ClientStream for CountedStream<T> {
+    fn shutdown_write(&self) -> io::Result<()> {
+        self.stream.shutdown_write()
     }
 
     fn set_nonblocking(&self, nonblocking: bool) -> io::Result<()> {
         self.stream.set_nonblocking(nonblocking)
     }
 
-    fn set_read_timeout(&self, timeout: Option<Duration>) -> io::Result<()> {
-        self.stream.set_read_timeout(timeout)
+    fn set_read_timeout(&self, time: Duration) -> io::Result<()> {
+        self.stream.set_read_timeout(time)
     }
 
-    fn set_write_timeout(&self, timeout: Option<Duration>) -> io::Result<()> {
-        self.stream.set_write_timeout(timeout)
-    }
-
-    fn read_timeout(&self) -> io::Result<Option<Duration>> {
-        self.stream.read_timeout()
-    }
-
-    fn write_timeout(&self) -> io::Result<Option<Duration>> {
-        self.stream.write_timeout()
-    }
-
-    fn take_error(&self) -> io::Result<Option<io::Error>> {
-        self.stream.take_error()
-    }
-
-    fn peek(&self, buffer: &mut [u8]) -> io::Result<usize> {
-        self.stream.peek(buffer)
-    }
-
-    fn set_ttl(&self, ttl: u32) -> io::Result<()> {
-        self.stream.set_ttl(ttl)
-    }
-
-    fn ttl(&self) -> io::Result<u32> {
-        self.stream.ttl()
+    fn set_write_timeout(&self, time: Duration) -> io::Result<()> {
+        self.stream.set_write_timeout(time)
     }
 }

@@ -5,46 +5,52 @@ ghost use Rattle.lmtpd_log.specs.Logged.{cause_text, visits_in};
 
 use crate::listener::CountedListener;
 use crate::stream::{CountedStream, Traffic};
-use lmtp_lane::{TcpVisits, Visits};
-use lmtp_talk::{EndCause, TcpPeer};
+use lmtp_lane::{Listener, TcpVisits, Visits};
+use lmtp_talk::{ClientStream, Curfew, EndCause, TcpPeer};
 use log::{Log, info};
 use std::alloc::{AllocError, Global};
 use std::fmt;
 use std::fmt::{Display, Formatter};
 use std::io::{Read, Write};
-use std::net::{OpenListener, OpenStream};
 use std::sync::Wait;
 use std::time::{Clock, Duration};
 
 /// The visits of a lane, and a line in the log for each conversation that ended.
 #[derive(Drop)]
-pub struct LoggedVisits<L: Drop, G, C: Drop> {
-    visits: TcpVisits<CountedListener<L, C>>,
+pub struct LoggedVisits<L: Drop, G, C: Drop, E: Drop> {
+    visits: TcpVisits<CountedListener<L, C>, E>,
     // the lane's number, from 0
     lane: u32,
     log: G,
     clock: C,
 }
 
-impl<L: Drop, G, C: Drop> LoggedVisits<L, G, C> {
-    ghost use Rattle.lmtp_lane.specs.TcpVisits.{has_failed};
+impl<L: Drop, G, C: Drop, E: Drop> LoggedVisits<L, G, C, E> {
+    ghost use Rattle.lmtp_lane.specs.TcpVisits.{has_failed, was_stopped};
 
-    /// Whether an accept failed; the lane took no client behind that.
+    /// Whether an accept failed; the lane took no client after that.
     pub fn failed(&self) -> bool
         ensures { result ≡ has_failed (visits_in self.now) }
     {
         self.visits.failed()
     }
+
+    /// Whether the server's end was asked for before all conversations were held; the lane took no client after that.
+    pub fn stopped(&self) -> bool
+        ensures { result ≡ was_stopped (visits_in self.now) }
+    {
+        self.visits.stopped()
+    }
 }
 
 /// These visits, of the lanes from 0 on, with a line in the log for each conversation that ended. The clock is asked as
 /// a conversation ends.
-pub fn logged_visits<L: Drop, G: Copy + Drop, C: Copy + Drop>(
+pub fn logged_visits<L: Drop, G: Copy + Drop, C: Copy + Drop, E: Drop>(
     alloc: Global,
-    visits: Vec<TcpVisits<CountedListener<L, C>>>,
+    visits: Vec<TcpVisits<CountedListener<L, C>, E>>,
     log: G,
     clock: C,
-) -> Result<Vec<LoggedVisits<L, G, C>>, AllocError>
+) -> Result<Vec<LoggedVisits<L, G, C, E>>, AllocError>
     ensures { IfOk result (λ logged. map visits_in logged.items ≡ visits.items) }
 {
     let mut logged = Vec::with_capacity(alloc, visits.len())?;
@@ -61,7 +67,7 @@ pub fn logged_visits<L: Drop, G: Copy + Drop, C: Copy + Drop>(
     Ok(logged)
 }
 
-impl<L: Drop, G: Log, C: Clock + Drop> LoggedVisits<L, G, C> {
+impl<L: Drop, G: Log, C: Clock + Drop, E: Drop> LoggedVisits<L, G, C, E> {
     // Logs a conversation that ended.
     fn tell(&self, traffic: Traffic, end: EndCause) {
         let lane = self.lane;
@@ -106,14 +112,15 @@ impl Display for Seconds {
     }
 }
 
-impl<L, G, C> Visits for LoggedVisits<L, G, C>
+impl<L, G, C, E> Visits for LoggedVisits<L, G, C, E>
 where
-    L: OpenListener + Drop,
-    L::Stream: Read + Write + OpenStream + Drop,
+    L: Listener + Drop,
+    L::Stream: Read + Write + ClientStream + Drop,
     G: Log + Drop,
     C: Clock + Drop,
+    E: Curfew + Copy,
 {
-    type P = TcpPeer<CountedStream<L::Stream>>;
+    type P = TcpPeer<CountedStream<L::Stream>, E>;
 
     ghost use Rattle.lmtp_lane.specs.TcpVisits.{IsNewcomer, told_by, is_out, is_over};
 
@@ -125,12 +132,12 @@ where
 
     ghost over = { λ visits. is_over (visits_in visits) };
 
-    fn next<R: Wait>(&mut self, rt: &R) -> Option<TcpPeer<CountedStream<L::Stream>>> {
+    fn next<R: Wait>(&mut self, rt: &R) -> Option<TcpPeer<CountedStream<L::Stream>, E>> {
         self.visits.next(rt)
     }
 
     /// The connection is closed before the line is logged.
-    fn done(&mut self, peer: TcpPeer<CountedStream<L::Stream>>, end: EndCause) {
+    fn done(&mut self, peer: TcpPeer<CountedStream<L::Stream>, E>, end: EndCause) {
         let traffic = peer.stream().traffic();
         self.visits.done(peer, end);
         self.tell(traffic, end);

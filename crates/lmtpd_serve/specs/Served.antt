@@ -3,7 +3,8 @@ use Rattle.std.specs.Prelude.{◌≡◌, ◌==◌, ◌<◌, ◌^◌, ℕ, List, 
 use Rattle.std.specs.Arc.{arc_value}
 use Rattle.std.specs.List.{AllByRecursion, list_any}
 use Rattle.std.specs.Net.Text.{socket_text}
-use Rattle.std.specs.declared.net.SocketAddr.{SocketAddr}
+use Rattle.lmtp_lane.specs.declared.tcp.listener.Endpoint.{Endpoint}
+use Rattle.lmtp_lane.specs.declared.tcp.listener.Endpoint.TheVariants.{Ip, Unix}
 use Rattle.mail_world.specs.Text.{lf}
 use Rattle.mail_world.specs.Site.{Site}
 use Rattle.mbox_rd.specs.Spool.{SpoolState}
@@ -18,8 +19,9 @@ use Rattle.lmtpd_serve.specs.declared.lines.Trouble.TheVariants.{InUse, OverQuot
 use Rattle.lmtpd_serve.specs.declared.served.Served.{Served}
 
 -- the line that says where the server listens
-abbrev pub address_line : SocketAddr → List ℕ
-address_line address = codes "listening on " ++ socket_text address ++ (lf ∷ [])
+abbrev pub endpoint_line : Endpoint → List ℕ
+endpoint_line (Ip address) = codes "listening on " ++ socket_text address ++ (lf ∷ [])
+endpoint_line (Unix path) = codes "listening on unix:" ++ path.now ++ (lf ∷ [])
 
 -- the line of a mailbox, with how many copies it got
 abbrev pub count_line : List ℕ → Tally → List ℕ
@@ -60,10 +62,10 @@ pub record Extent : Type 0 where
 -- A server of this extent ran for the site, over clients of a listener whose conversations are logged, of whom it is
 -- told how many were handed back, and these spools; what is told of each mailbox is what its worker counted, and it is
 -- faulty exactly where a worker is.
-pub record IsServerRun (L G C : Type 0) {S : Type 0} (site : Site) (state : S → SpoolState) (extent : Extent)
+pub record IsServerRun (L G C E : Type 0) {S : Type 0} (site : Site) (state : S → SpoolState) (extent : Extent)
     (spools : List S) (served : Served) : Type 0 where
-  pub visits : List (LoggedVisits L G C)
-  pub back : HandedBack (LoggedVisits L G C) S
+  pub visits : List (LoggedVisits L G C E)
+  pub back : HandedBack (LoggedVisits L G C E) S
   pub each_lane : length visits ≡ extent.lanes
   pub none_ended : AllByRecursion (λ v. conversations_ended (visits_in v) ≡ 0) visits
   pub ran : HasRun site (λ moment. moment < 2 ^ 32) (record { MayGive = λ _ peer. IsNewcomer peer; finished = λ v. told_by (visits_in v); over = λ v. is_over (visits_in v) })

@@ -1,12 +1,16 @@
 //! How many conversations a server holds.
 
+use lmtp_house::Bounds;
+
 /// The conversations of a server.
-#[derive(Clone, Copy, Debug, PartialEq, Eq)]
-pub struct Conversations {
+#[derive(Clone, Copy)]
+pub struct Conversations<E> {
     /// How many are held at once, each by a lane.
     pub lanes: u32,
     /// How many are held in all; the lanes share them out.
     pub count: u64,
-    /// The reads after which a conversation is stopped.
-    pub reads: u64,
+    /// What each of them may ask of its client.
+    pub bounds: Bounds,
+    /// When the server is to end though not all were held, and when each of them is.
+    pub curfew: E,
 }

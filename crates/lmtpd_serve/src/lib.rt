@@ -9,6 +9,6 @@ mod served;
 
 pub use conversations::Conversations;
 pub use lines::{Trouble, write_trouble_lines};
-pub use lmtp_house::{Sizes, Tally, TimedListener};
+pub use lmtp_house::{Bounds, ClientStream, Curfew, Endpoint, Listener, Sizes, Tally, WAIT_MS};
 pub use run::serve_run;
 pub use served::{Served, ServerEnding};

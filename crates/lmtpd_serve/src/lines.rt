@@ -4,23 +4,25 @@
 ghost use Rattle.std.specs.Prelude.{◌≡◌, length, string_bytes, IfOk, OnOk, OnErr};
 ghost use Rattle.std.specs.Io.KnownBytes.{Appends};
 ghost use Rattle.lmtpd_output.specs.Output.{IsCutOff};
-ghost use Rattle.lmtpd_serve.specs.Served.{address_line, count_line, counts_text, count_of, words_of, trouble_line};
+ghost use Rattle.lmtpd_serve.specs.Served.{endpoint_line, count_line, counts_text, count_of, words_of, trouble_line};
 ghost use Rattle.lmtpd_serve.specs.Served.{trouble_told, lines_of, trouble_lines};
 
 use super::served::Served;
 use itoa::Buffer;
-use lmtp_house::Tally;
+use lmtp_house::{Endpoint, Tally};
 use lmtp_text::Site;
 use lmtpd_output::{WriteFault, write_each};
 use std::alloc::{AllocError, Global};
 use std::io::Write;
-use std::net::SocketAddr;
 
 /// The line that says where the server listens.
-pub fn address_line(alloc: Global, address: SocketAddr) -> Result<String, AllocError>
-    ensures { IfOk result (λ line. string_bytes line ≡ address_line address) }
+pub fn endpoint_line(alloc: Global, endpoint: Endpoint<'_>) -> Result<String, AllocError>
+    ensures { IfOk result (λ line. string_bytes line ≡ endpoint_line endpoint) }
 {
-    format!(in alloc; "listening on {address}\n")
+    match endpoint {
+        Endpoint::Ip(address) => format!(in alloc; "listening on {address}\n"),
+        Endpoint::Unix(path) => format!(in alloc; "listening on unix:{path}\n"),
+    }
 }
 
 // Says of a mailbox how many copies it stored.

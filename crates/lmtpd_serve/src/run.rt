@@ -10,10 +10,11 @@ ghost use Rattle.lmtpd_serve.specs.Served.{IsServerRun};
 
 use super::busy::RestGate;
 use super::conversations::Conversations;
-use super::lines::{address_line, write_counts};
+use super::lines::{endpoint_line, write_counts};
 use super::served::{Served, ServerEnding};
 use lmtp_house::{
-    HouseFault, Sizes, SystemClock, Tally, has_failed, is_size, run_house, tcp_visits,
+    ClientStream, Curfew, HouseFault, Listener, Sizes, SystemClock, Tally, has_failed,
+    is_size, run_house, tcp_visits,
 };
 use lmtp_text::Site;
 use lmtpd_log::{CountedListener, LoggedVisits, logged_visits};
@@ -22,7 +23,6 @@ use log::Log;
 use mbox_rd::Spool;
 use std::alloc::{AllocError, Global};
 use std::io::{Read, Write};
-use std::net::{OpenListener, OpenStream};
 use std::sync::{Arc, Wait};
 use std::thread::Threads;
 use std::time::Clock;
@@ -31,20 +31,21 @@ use std::time::Clock;
 /// how many copies it stored. A line is logged for each conversation that ended. Nothing more is said once a write
 /// failed; the server runs all the same, as it does where the listener can't tell its address. What each mailbox's
 /// worker did is handed back.
-pub fn serve_run<L, S, G, W, H>(
+pub fn serve_run<L, E, S, G, W, H>(
     rt: H,
     alloc: Global,
     site: Arc<Site>,
     sizes: Sizes,
-    conversations: Conversations,
+    conversations: Conversations<E>,
     listener: L,
     spools: Vec<S>,
     log: G,
     mut writer: W,
 ) -> Result<Served, HouseFault>
 where
-    L: OpenListener + Drop + Send + Sync + 'static,
-    L::Stream: Read + Write + OpenStream + Drop + Send + 'static,
+    L: Listener + Drop + Send + Sync + 'static,
+    L::Stream: Read + Write + ClientStream + Drop + Send + 'static,
+    E: Curfew + Copy + Send + 'static,
     S: Spool + Drop + Send + 'static,
     G: Log + Copy + Drop + Send + 'static,
     W: Write + Drop,
@@ -53,7 +54,7 @@ where
         result ≡ Err HouseFault.Size ↔ ¬ IsSize (arc_value site) sizes conversations.lanes count count }
     ensures sized { let count = length spools.items in
         (result ≡ Err HouseFault.Size) ⊎ IsSize (arc_value site) sizes conversations.lanes count count }
-    ensures ran { IfOk result (IsServerRun L G H (arc_value site) S.state
+    ensures ran { IfOk result (IsServerRun L G H E (arc_value site) S.state
         (record { lanes = conversations.lanes; quota = sizes.quota }) spools.items) }
 {
     let lanes = conversations.lanes as usize;
@@ -72,6 +73,7 @@ where
     let ending = ServerEnding {
         faulty: has_failed(&report.tallies),
         failed: announced.is_unknown || report.visits.iter().any(|visits| visits.failed()),
+        stopped: report.visits.iter().any(|visits| visits.stopped()),
         cut: is_cut(announced.is_cut, &served_site, &report.tallies, &mut writer),
     };
     Ok(Served {
@@ -82,13 +84,13 @@ where
 }
 
 // The clients of all lanes.
-fn visits_of<L: Drop, G: Copy + Drop, H: Copy + Drop>(
+fn visits_of<L: Drop, E: Copy + Drop, G: Copy + Drop, H: Copy + Drop>(
     rt: H,
     alloc: Global,
-    conversations: Conversations,
+    conversations: Conversations<E>,
     listener: L,
     log: G,
-) -> Result<Vec<LoggedVisits<L, G, H>>, AllocError>
+) -> Result<Vec<LoggedVisits<L, G, H, E>>, AllocError>
     ensures each_lane { IfOk result (λ visits. length visits.items ≡ conversations.lanes) }
     ensures none_ended { IfOk result
         (λ visits. AllByRecursion (λ v. conversations_ended (visits_in v) ≡ 0) visits.items) }
@@ -97,10 +99,11 @@ fn visits_of<L: Drop, G: Copy + Drop, H: Copy + Drop>(
     let Conversations {
         lanes,
         count,
-        reads,
+        bounds,
+        curfew,
     } = conversations;
     let listener = CountedListener::new(listener, rt);
-    let visits = tcp_visits(alloc, listener, lanes, count, reads)?;
+    let visits = tcp_visits(alloc, listener, lanes, count, bounds, curfew)?;
     let logged = logged_visits(alloc, visits, log, rt)?;
     Ok(logged)
 }
@@ -108,25 +111,25 @@ fn visits_of<L: Drop, G: Copy + Drop, H: Copy + Drop>(
 /// How it went to say where the server listens.
 #[derive(Clone, Copy)]
 struct Announced {
-    /// The listener can't tell its address.
+    /// The listener can't tell where it listens.
     is_unknown: bool,
     /// A write failed.
     is_cut: bool,
 }
 
 // Says where the server listens, before a client is taken.
-fn announce<L: OpenListener, W: Write>(
+fn announce<L: Listener, W: Write>(
     alloc: Global,
     listener: &L,
     writer: &mut W,
 ) -> Result<Announced, AllocError> {
-    let Ok(address) = listener.local_addr() else {
+    let Ok(endpoint) = listener.endpoint() else {
         return Ok(Announced {
             is_unknown: true,
             is_cut: false,
         });
     };
-    let line = address_line(alloc, address)?;
+    let line = endpoint_line(alloc, endpoint)?;
     let is_cut = write_bytes(writer, line.as_bytes()).is_err() || writer.flush().is_err();
     Ok(Announced {
         is_unknown: false,

@@ -12,8 +12,10 @@ use std::sync::Arc;
 pub struct ServerEnding {
     /// Whether a mailbox's spool failed.
     pub faulty: bool,
-    /// Whether an accept failed, or the listener didn't tell its address.
+    /// Whether an accept failed, or the listener didn't tell where it listens.
     pub failed: bool,
+    /// Whether the server's end was asked for before all conversations were held.
+    pub stopped: bool,
     /// Whether a write failed; nothing was written after it.
     pub cut: bool,
 }

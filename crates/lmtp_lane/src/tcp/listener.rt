@@ -1,64 +1,45 @@
-//! A listener whose clients are waited for only so long.
+//! What the lanes need of what listens, be it TCP or a Unix socket.
 
-ghost use Rattle.std.specs.Prelude.{◌≡◌, ◌*◌};
-ghost use Rattle.std.specs.Duration.{as_nanos};
-
+use std::fmt;
+use std::fmt::{Display, Formatter};
 use std::io;
-use std::net::{OpenListener, OpenStream, SocketAddr};
-use std::time::Duration;
+use std::net::{IpAddr, SocketAddr};
 
-/// A listener that gives each client's stream a time after which a read that brought nothing and a write that took
-/// nothing are given up.
-#[derive(Drop)]
-pub struct TimedListener<L> {
-    listener: L,
-    timeout: Duration,
+/// A client, as the log names it.
+#[derive(Clone, Copy, Debug, PartialEq, Eq)]
+pub enum Client {
+    /// One who connected over TCP, from this address.
+    Ip(IpAddr),
+    /// One who connected to a Unix socket.
+    Unix,
 }
 
-impl<L> TimedListener<L> {
-    /// Over the listener; the time is in seconds. No stream takes a time of 0, so that each accept then fails.
-    pub fn new(listener: L, seconds: u32) -> TimedListener<L>
-        ensures time { as_nanos result.timeout ≡ seconds * 1_000_000_000 }
-        ensures over { result.listener ≡ listener }
-    {
-        TimedListener {
-            listener,
-            timeout: Duration::from_secs(seconds as u64),
+impl Display for Client {
+    fn fmt<W: fmt::Write>(&self, f: &mut Formatter<W>) -> fmt::Result {
+        match self {
+            Client::Ip(address) => write!(f, "{address}"),
+            Client::Unix => f.write_str("unix"),
         }
     }
 }
 
-impl<L: OpenListener> OpenListener for TimedListener<L>
-where
-    L::Stream: OpenStream,
-{
-    type Stream = L::Stream;
+/// Where a server listens.
+#[derive(Clone, Copy, Debug, PartialEq, Eq)]
+pub enum Endpoint<'a> {
+    /// An address and a port of TCP.
+    Ip(SocketAddr),
+    /// The path of a Unix socket.
+    Unix(&'a str),
+}
 
-    /// Fails where the other listener does, and where the stream takes no timeout.
-    fn accept(&self) -> io::Result<(L::Stream, SocketAddr)> {
-        let (stream, address) = self.listener.accept()?;
-        stream.set_read_timeout(Some(self.timeout))?;
-        stream.set_write_timeout(Some(self.timeout))?;
-        Ok((stream, address))
-    }
+/// What listens, and is shared by lanes.
+pub trait Listener {
+    type Stream;
 
-    fn local_addr(&self) -> io::Result<SocketAddr> {
-        self.listener.local_addr()
-    }
+    /// The next client, and who it is. It waits about a second at most, and fails then (`WouldBlock` or `TimedOut`); a
+    /// client that had gone before it was taken is a failure too (`ConnectionAborted`).
+    fn accept(&self) -> io::Result<(Self::Stream, Client)>;
 
-    fn set_nonblocking(&self, nonblocking: bool) -> io::Result<()> {
-        self.listener.set_nonblocking(nonblocking)
-    }
-
-    fn take_error(&self) -> io::Result<Option<io::Error>> {
-        self.listener.take_error()
-    }
-
-    fn set_ttl(&self, ttl: u32) -> io::Result<()> {
-        self.listener.set_ttl(ttl)
-    }
-
-    fn ttl(&self) -> io::Result<u32> {
-        self.listener.ttl()
-    }
+    /// Where it listens; it fails where that can't be told.
+    fn endpoint(&self) -> io::Result<Endpoint<'_>>;
 }

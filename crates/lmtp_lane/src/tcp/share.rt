@@ -2,36 +2,38 @@
 
 ghost use Rattle.std.specs.Prelude.{◌≡◌, ◌<◌, false, IfOk, length, map, sum};
 ghost use Rattle.std.specs.List.{AllByRecursion};
-ghost use Rattle.lmtp_lane.specs.TcpVisits.{connections_left, reads_each, conversations_ended, is_out, share, shares};
+ghost use Rattle.lmtp_lane.specs.TcpVisits.{connections_left, bounds_each, conversations_ended, is_out, share, shares};
 
 use crate::tcp::visits::TcpVisits;
-use lmtp_talk::ReadBuffer;
+use lmtp_talk::{Bounds, ReadBuffer};
 use std::alloc::{AllocError, Global};
 use std::sync::Arc;
 
-/// The visits of so many lanes: the connections are shared out among them, the first lanes have one more
-/// where they don't go out even, and each conversation may make so many reads. All memory of the lanes'
+/// The visits of as many lanes: the connections are shared out among them, the first lanes have one more
+/// where they don't go out even, and each conversation has these bounds. All memory of the lanes'
 /// clients is taken here.
-pub fn tcp_visits<L: Drop>(
+pub fn tcp_visits<L: Drop, E: Copy + Drop>(
     alloc: Global,
     listener: L,
     lanes: u32,
     connections: u64,
-    reads: u64,
-) -> Result<Vec<TcpVisits<L>>, AllocError>
+    bounds: Bounds,
+    curfew: E,
+) -> Result<Vec<TcpVisits<L, E>>, AllocError>
     ensures count { IfOk result (λ visits. length visits.items ≡ lanes) }
     ensures none_out { IfOk result (λ visits. AllByRecursion (λ v. is_out v ≡ false) visits.items) }
     ensures none_ended { IfOk result (λ visits. AllByRecursion (λ v. conversations_ended v ≡ 0) visits.items) }
     ensures shares { IfOk result (λ visits. map connections_left visits.items ≡ shares connections lanes) }
     ensures all { IfOk result (λ visits. 0 < lanes → sum (map connections_left visits.items) ≡ connections) }
-    ensures reads { IfOk result (λ visits. AllByRecursion (λ v. reads_each v ≡ reads) visits.items) }
+    ensures bounds { IfOk result (λ visits. AllByRecursion (λ v. bounds_each v ≡ bounds) visits.items) }
 {
     let listener = Arc::new(alloc, listener)?;
     let mut visits = Vec::new(alloc);
     for lane in 0..lanes {
         let buffer = ReadBuffer::new(alloc)?;
         let listener = Arc::try_clone(&listener)?;
-        visits.push(TcpVisits::new(listener, share_of(connections, lanes, lane), reads, buffer))?;
+        let share = share_of(connections, lanes, lane);
+        visits.push(TcpVisits::new(listener, share, bounds, curfew, buffer))?;
     }
     Ok(visits)
 }

@@ -2,82 +2,106 @@
 
 ghost use Rattle.std.specs.Prelude.{◌≡◌};
 
+use crate::tcp::listener::Listener;
 use crate::visits::Visits;
-use lmtp_talk::{EndCause, ReadBuffer, TcpPeer};
+use lmtp_talk::{Bounds, ClientStream, Curfew, EndCause, ReadBuffer, TcpPeer, is_silence};
 use std::io;
 use std::io::{ErrorKind, Read, Write};
-use std::net::{OpenListener, OpenStream};
 use std::sync::{Arc, Wait};
+use std::time::Duration;
 
-/// So many clients of a listener that other lanes may share. The buffer is lent to one after the other, so
-/// that none of them takes memory.
+/// How long a read or a write of a client waits before it is looked whether its conversation is over.
+pub const WAIT_MS: u64 = 500;
+
+/// As many clients of a listener, that other lanes may share, as it may hold conversations, while no end was asked
+/// for. The buffer is lent to one after the other, so that none of them takes memory.
 #[derive(Drop)]
-pub struct TcpVisits<L: Drop> {
+pub struct TcpVisits<L: Drop, E: Drop> {
     listener: Arc<L>,
     // how many conversations may still be held
     pub(super) connections: u64,
-    // how many reads each of them may make
-    reads: u64,
+    // what each of them may ask of its client
+    bounds: Bounds,
+    curfew: E,
     // how many conversations have ended; it stays at its largest value
     ended: u64,
     // here while no client is out
     buffer: Option<ReadBuffer>,
     over: bool,
     failed: bool,
+    stopped: bool,
 }
 
-impl<L: Drop> TcpVisits<L> {
+impl<L: Drop, E: Drop> TcpVisits<L, E> {
     ghost use Rattle.std.specs.Prelude.{false};
-    ghost use Rattle.lmtp_lane.specs.TcpVisits.{connections_left, reads_each, conversations_ended, is_out, has_failed};
+    ghost use Rattle.lmtp_lane.specs.TcpVisits.{IsReady, has_failed, was_stopped};
 
-    /// That many clients of the listener, each of whom may be read so often.
-    pub fn new(listener: Arc<L>, connections: u64, reads: u64, buffer: ReadBuffer) -> TcpVisits<L>
-        ensures connections { connections_left result ≡ connections }
-        ensures reads { reads_each result ≡ reads }
-        ensures none_ended { conversations_ended result ≡ 0 }
-        ensures none_out { is_out result ≡ false }
-        ensures not_failed { has_failed result ≡ false }
+    /// As many clients of the listener, each within these bounds.
+    pub fn new(
+        listener: Arc<L>,
+        connections: u64,
+        bounds: Bounds,
+        curfew: E,
+        buffer: ReadBuffer,
+    ) -> TcpVisits<L, E>
+        ensures ready { IsReady connections bounds result }
+        ensures curfew { result.curfew ≡ curfew }
     {
         TcpVisits {
             listener,
             connections,
-            reads,
+            bounds,
+            curfew,
             ended: 0,
             buffer: Some(buffer),
             over: false,
             failed: false,
+            stopped: false,
         }
     }
 
-    /// Whether an accept failed; the lane took no client behind that.
+    /// Whether an accept failed; the lane took no client after that.
     pub fn failed(&self) -> bool
         ensures { result ≡ has_failed self.now }
     {
         self.failed
     }
+
+    /// Whether the server's end was asked for before all conversations were held; the lane took no client after that.
+    pub fn stopped(&self) -> bool
+        ensures { result ≡ was_stopped self.now }
+    {
+        self.stopped
+    }
 }
 
-impl<L: OpenListener + Drop> TcpVisits<L>
+impl<L, E> TcpVisits<L, E>
 where
-    L::Stream: Read + Write + OpenStream + Drop,
+    L: Listener + Drop,
+    L::Stream: Read + Write + ClientStream + Drop,
+    E: Curfew + Copy,
 {
-    ghost use Rattle.std.specs.Prelude.{false};
+    ghost use Rattle.std.specs.Prelude.{false, true, Ok, None, OnErr};
     ghost use Rattle.lmtp_lane.specs.TcpVisits.{TakesClient, is_out};
 
     // The next client, where one is to be had; the buffer is lent to it.
-    fn take_client<R: Wait>(&mut self, rt: &R) -> Option<TcpPeer<L::Stream>>
+    fn take_client<R: Wait>(&mut self, rt: &R) -> Option<TcpPeer<L::Stream, E>>
         requires { is_out self.old ≡ false }
-        ensures { TakesClient self.old self.new result }
+        ensures takes { TakesClient self.old self.new result }
+        ensures stopped { self.old.stopped ≡ false → self.new.stopped ≡ true → E.IsAsked self.old.curfew }
     {
-        if self.connections == 0 || self.failed {
+        if self.connections == 0 || self.failed || self.stopped {
             return None;
         }
-        match accept(rt, &*self.listener) {
-            Ok(stream) => {
-                let _ = stream.set_nodelay(true);
+        match self.accept(rt) {
+            Ok(Some(stream)) => {
                 self.connections -= 1;
                 let buffer = self.buffer.take().unwrap();
-                Some(TcpPeer::new(stream, buffer, self.reads))
+                Some(TcpPeer::new(stream, buffer, self.bounds, self.curfew))
+            }
+            Ok(None) => {
+                self.stopped = true;
+                None
             }
             Err(_) => {
                 self.failed = true;
@@ -85,25 +109,37 @@ where
             }
         }
     }
-}
 
-// The next client that is still there.
-fn accept<L: OpenListener, R: Wait>(rt: &R, listener: &L) -> io::Result<L::Stream> {
-    for _ in rt.forever() {
-        match listener.accept() {
-            Ok((stream, _)) => return Ok(stream),
-            Err(error) if error.kind() == ErrorKind::ConnectionAborted => {}
-            Err(error) => return Err(error),
+    // The next client that is still there, or none once the server's end is asked for.
+    fn accept<R: Wait>(&self, rt: &R) -> io::Result<Option<L::Stream>>
+        ensures { result ≡ Ok None → E.IsAsked self.now.curfew }
+    {
+        for _ in rt.forever() {
+            if self.curfew.is_asked() {
+                return Ok(None);
+            }
+            match self.listener.accept() {
+                Ok((stream, _)) => {
+                    stream.set_read_timeout(Duration::from_millis(WAIT_MS))?;
+                    stream.set_write_timeout(Duration::from_millis(WAIT_MS))?;
+                    return Ok(Some(stream));
+                }
+                Err(error) if error.kind() == ErrorKind::ConnectionAborted => {}
+                Err(error) if is_silence(&error) => {}
+                Err(error) => return Err(error),
+            }
         }
+        unreachable!()
     }
-    unreachable!()
 }
 
-impl<L: OpenListener + Drop> Visits for TcpVisits<L>
+impl<L, E> Visits for TcpVisits<L, E>
 where
-    L::Stream: Read + Write + OpenStream + Drop,
+    L: Listener + Drop,
+    L::Stream: Read + Write + ClientStream + Drop,
+    E: Curfew + Copy,
 {
-    type P = TcpPeer<L::Stream>;
+    type P = TcpPeer<L::Stream, E>;
 
     ghost use Rattle.std.specs.Prelude.{true, false, is_none};
     ghost use Rattle.lmtp_lane.specs.TcpVisits.{TakesClient, TakesBack, IsNewcomer, told_by, is_out, is_over};
@@ -116,9 +152,9 @@ where
 
     ghost over = { λ visits. is_over visits };
 
-    /// Waits for the next client; one that had gone before it was taken is passed over. Behind an accept that
-    /// failed there are no more.
-    fn next<R: Wait>(&mut self, rt: &R) -> Option<TcpPeer<L::Stream>>
+    /// Waits for the next client; one that had gone before it was taken is passed over. After an accept that failed, and
+    /// once the server's end was asked for, there are no more.
+    fn next<R: Wait>(&mut self, rt: &R) -> Option<TcpPeer<L::Stream, E>>
         requires { is_out self.old ≡ false }
         ensures takes { TakesClient self.old self.new result }
         ensures over { is_over self.new ≡ is_none result }
@@ -130,7 +166,7 @@ where
 
     /// Takes the buffer back, and closes the connection; a client who may still send has up to a second to
     /// hear the last reply.
-    fn done(&mut self, peer: TcpPeer<L::Stream>, end: EndCause)
+    fn done(&mut self, peer: TcpPeer<L::Stream, E>, end: EndCause)
         requires { is_out self.old ≡ true }
         ensures { TakesBack self.old self.new }
     {

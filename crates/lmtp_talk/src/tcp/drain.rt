@@ -5,8 +5,8 @@ ghost use Rattle.std.specs.Prelude.{◌≡◌, length};
 
 use crate::ending::EndCause;
 use crate::tcp::retry::is_silence;
+use crate::tcp::stream::ClientStream;
 use std::io::Read;
-use std::net::{OpenStream, Shutdown};
 use std::time::Duration;
 
 /// How many reads wait for the client's last bytes.
@@ -19,7 +19,7 @@ const WAIT: u64 = 100;
 /// are unread, it is shut down for writing, and what the client still sends is read, at most as much as the
 /// buffer has room for, and for one second at most, however it comes. `waits` says that bytes of the stream
 /// were read which the conversation didn't ask for.
-pub fn close<T: Read + OpenStream>(stream: &mut T, buffer: &mut [u8], waits: bool, end: EndCause)
+pub fn close<T: Read + ClientStream>(stream: &mut T, buffer: &mut [u8], waits: bool, end: EndCause)
     ensures { length buffer.new ≡ length buffer.old }
 {
     let seen = match end {
@@ -29,14 +29,14 @@ pub fn close<T: Read + OpenStream>(stream: &mut T, buffer: &mut [u8], waits: boo
         EndCause::EndOfInput | EndCause::ReadFault | EndCause::WriteFault => None,
     };
     if let Some(seen) = seen {
-        let _ = stream.shutdown(Shutdown::Write);
+        let _ = stream.shutdown_write();
         drain(stream, buffer, seen);
     }
 }
 
 // Reads at once what is unread, and says how much; none where nothing is, or where that can't be asked
 // without waiting.
-fn unread<T: Read + OpenStream>(stream: &mut T, buffer: &mut [u8]) -> Option<usize>
+fn unread<T: Read + ClientStream>(stream: &mut T, buffer: &mut [u8]) -> Option<usize>
     ensures { length buffer.new ≡ length buffer.old }
 {
     stream.set_nonblocking(true).ok()?;
@@ -50,11 +50,11 @@ fn unread<T: Read + OpenStream>(stream: &mut T, buffer: &mut [u8]) -> Option<usi
 
 // Reads on into the buffer, until it is full, the client has closed its end, or the reads are used up; one that
 // timed out counts as one of them, since the bytes of a far client may still be on their way.
-fn drain<T: Read + OpenStream>(stream: &mut T, buffer: &mut [u8], seen: usize)
+fn drain<T: Read + ClientStream>(stream: &mut T, buffer: &mut [u8], seen: usize)
     ensures { length buffer.new ≡ length buffer.old }
 {
     if stream
-        .set_read_timeout(Some(Duration::from_millis(WAIT)))
+        .set_read_timeout(Duration::from_millis(WAIT))
         .is_err()
     {
         return;

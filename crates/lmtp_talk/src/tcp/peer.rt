@@ -1,46 +1,73 @@
 //! A client over a stream.
 
-ghost use Rattle.std.specs.Prelude.{◌≡◌, ◌<◌, length, IfOk, OnErr};
+ghost use Rattle.std.specs.Prelude.{◌≡◌, ◌<◌, ◌⊎◌, ℕ, length, Ok, Some, IfOk, OnErr};
+ghost use Rattle.std.specs.Duration.{as_nanos};
 
+use crate::curfew::Curfew;
 use crate::ending::EndCause;
 use crate::peer::{Came, Peer, PeerFault};
 use crate::tcp::drain::close;
 use crate::tcp::read_buffer::ReadBuffer;
 use crate::tcp::retry::{is_silence, write_some};
-use std::io::{Error, Read, Write};
-use std::net::OpenStream;
+use crate::tcp::stream::ClientStream;
+use std::io;
+use std::io::{Error, ErrorKind, Read, Write};
+use std::time::Duration;
+
+/// How often a client is written to once its conversation is over: the last reply goes out at once, and a client that
+/// takes it byte by byte holds nothing up.
+const LAST_WRITES: u32 = 4;
+
+/// How much of a client one conversation may ask.
+#[derive(Clone, Copy, Debug, PartialEq, Eq)]
+pub struct Bounds {
+    /// How many reads may be made.
+    pub reads: u64,
+    /// How many waits of the stream, one after another, may bring nothing.
+    pub waits: u32,
+}
 
 /// A client whose bytes come and go over a stream. What the system has for it is read at once, as far as the
-/// buffer goes, and handed out in pieces. It says that the server is to stop once so many pieces were handed
-/// out, and once the stream gave a read up for time (RFC 5321, 4.5.3.2).
+/// buffer goes, and handed out in pieces. It says that the server is to stop once as many pieces were handed
+/// out as may be, once the client was silent for as many waits of the stream as it may be (RFC 5321, 4.5.3.2), and
+/// once the curfew says that its conversation is over.
 #[derive(Drop)]
-pub struct TcpPeer<T> {
+pub struct TcpPeer<T, E> {
     stream: T,
     buffer: ReadBuffer,
+    curfew: E,
+    // when the conversation began
+    begun: Duration,
+    // how many waits may bring nothing
+    waits: u32,
     // how many reads may still be made
     reads_left: u64,
+    // how many writes may still be made once it is over
+    last_writes: u32,
     // each stays at its largest value
     reads: u64,
     failures: u64,
     stops: u64,
 }
 
-impl<T> TcpPeer<T> {
-    ghost use Rattle.std.specs.IoError.{error_kind};
-    ghost use Rattle.mail_world.specs.Failures.{Rises};
-    ghost use Rattle.lmtp_talk.specs.Silence.{IsSilence};
+impl<T, E: Curfew> TcpPeer<T, E> {
     ghost use Rattle.lmtp_talk.specs.TcpPeer.{IsNew};
 
-    /// A client of whom so many reads may be made.
-    pub fn new(stream: T, mut buffer: ReadBuffer, reads: u64) -> TcpPeer<T>
-        ensures fresh { IsNew reads result }
+    /// A client whose conversation begins now, within these bounds.
+    pub fn new(stream: T, mut buffer: ReadBuffer, bounds: Bounds, curfew: E) -> TcpPeer<T, E>
+        ensures fresh { IsNew bounds result }
         ensures stream { result.stream ≡ stream }
     {
         buffer.clear();
+        let begun = curfew.begin();
         TcpPeer {
             stream,
             buffer,
-            reads_left: reads,
+            curfew,
+            begun,
+            waits: bounds.waits,
+            reads_left: bounds.reads,
+            last_writes: LAST_WRITES,
             reads: 0,
             failures: 0,
             stops: 0,
@@ -53,6 +80,10 @@ impl<T> TcpPeer<T> {
     {
         &self.stream
     }
+}
+
+impl<T, E> TcpPeer<T, E> {
+    ghost use Rattle.mail_world.specs.Failures.{Rises};
 
     // Counts a stop.
     fn stop(&mut self) -> Came
@@ -72,28 +103,48 @@ impl<T> TcpPeer<T> {
         self.failures = self.failures.saturating_add(1);
         PeerFault
     }
-
-    // What the client did whose stream gave that error: one that was silent for the stream's time has the server stop,
-    // any other error is a failure.
-    fn answer(&mut self, error: &Error) -> Result<Came, PeerFault>
-        ensures stops { IfOk result (λ came. (came ≡ Came.Stop) × IsSilence (error_kind error.now)
-            × Rises self.old.stops self.new.stops × (self.new ≡ record self.old { stops = self.new.stops })) }
-        ensures fails { OnErr result ((IsSilence (error_kind error.now) → ⊥)
-            × Rises self.old.failures self.new.failures
-            × (self.new ≡ record self.old { failures = self.new.failures })) }
-    {
-        if is_silence(error) {
-            Ok(self.stop())
-        } else {
-            Err(self.fail())
-        }
-    }
 }
 
-impl<T: Read> TcpPeer<T> {
+/// What a wait for a client's bytes came to.
+#[derive(Clone, Copy, Debug, PartialEq, Eq)]
+enum Waited {
+    /// Bytes stand in the buffer.
+    Came,
+    /// The client has closed its end.
+    End,
+    /// As many waits as may be brought nothing.
+    Silent,
+    /// The conversation is over.
+    Over,
+}
+
+impl<T: Read, E: Curfew> TcpPeer<T, E> {
     ghost use Rattle.lmtp_talk.specs.Peer.{PeerFailed};
     ghost use Rattle.lmtp_talk.specs.ReadBuffer.{waiting};
-    ghost use Rattle.lmtp_talk.specs.TcpPeer.{Fills, tcp_state};
+    ghost use Rattle.lmtp_talk.specs.TcpPeer.{Fills, WaitedFor, tcp_state};
+
+    // Waits for bytes as long as the client may be silent and its conversation isn't over.
+    fn wait(&mut self) -> Result<Waited, PeerFault>
+        requires { waiting self.old.buffer ≡ [] }
+        ensures waited { IfOk result (WaitedFor T.remaining self.old self.new) }
+        ensures over { result ≡ Ok Waited.Over → E.IsOver self.old.curfew (as_nanos self.old.begun) }
+        ensures err { OnErr result (PeerFailed (tcp_state T.remaining self.old) (tcp_state T.remaining self.new)) }
+        ensures bounds { self.new ≡ record self.old {
+          stream = self.new.stream; buffer = self.new.buffer; failures = self.new.failures } }
+    {
+        for _ in 0..self.waits {
+            if self.curfew.is_over(self.begun) {
+                return Ok(Waited::Over);
+            }
+            match self.buffer.refill(&mut self.stream) {
+                Ok(0) => return Ok(Waited::End),
+                Ok(_) => return Ok(Waited::Came),
+                Err(error) if is_silence(&error) => {}
+                Err(_) => return Err(self.fail()),
+            }
+        }
+        Ok(Waited::Silent)
+    }
 
     // Reads on where nothing waits, and says what the client did where it said nothing.
     fn fill(&mut self) -> Result<Option<Came>, PeerFault>
@@ -105,15 +156,15 @@ impl<T: Read> TcpPeer<T> {
         if !self.buffer.is_empty() {
             return Ok(None);
         }
-        match self.buffer.refill(&mut self.stream) {
-            Ok(0) => Ok(Some(Came::End)),
-            Ok(_) => Ok(None),
-            Err(error) => Ok(Some(self.answer(&error)?)),
+        match self.wait()? {
+            Waited::Came => Ok(None),
+            Waited::End => Ok(Some(Came::End)),
+            Waited::Silent | Waited::Over => Ok(Some(self.stop())),
         }
     }
 }
 
-impl<T: Read + OpenStream + Drop> TcpPeer<T> {
+impl<T: Read + ClientStream + Drop, E: Drop> TcpPeer<T, E> {
     /// Closes the connection of a conversation that ended so, and gives the buffer back; a client who may still
     /// send has up to a second to hear the last reply.
     pub fn close(self, end: EndCause) -> ReadBuffer {
@@ -128,7 +179,41 @@ impl<T: Read + OpenStream + Drop> TcpPeer<T> {
     }
 }
 
-impl<T: Read + Write> Peer for TcpPeer<T> {
+impl<T: Write, E: Curfew> TcpPeer<T, E> {
+    ghost use Rattle.std.specs.Io.{WritesAtMost};
+
+    // Whether the client may be written to once more: once its conversation is over that goes on only so often.
+    fn may_write(&mut self) -> bool
+        ensures same { self.new ≡ record self.old { last_writes = self.new.last_writes } }
+        ensures ended { result ≡ false → (self.old.last_writes ≡ 0) × E.IsOver self.old.curfew (as_nanos self.old.begun) }
+    {
+        if !self.curfew.is_over(self.begun) {
+            return true;
+        }
+        let may = self.last_writes > 0;
+        self.last_writes = self.last_writes.saturating_sub(1);
+        may
+    }
+
+    // Writes as long as the client may take nothing.
+    fn write_on(&mut self, bytes: &[u8]) -> io::Result<usize>
+        ensures bound { WritesAtMost result bytes.now }
+        ensures same { self.new ≡ record self.old { stream = self.new.stream; last_writes = self.new.last_writes } }
+    {
+        for _ in 0..self.waits {
+            if !self.may_write() {
+                break;
+            }
+            match write_some(&mut self.stream, bytes) {
+                Err(error) if is_silence(&error) => {}
+                wrote => return wrote,
+            }
+        }
+        Err(Error::from(ErrorKind::TimedOut))
+    }
+}
+
+impl<T: Read + Write, E: Curfew> Peer for TcpPeer<T, E> {
     ghost use Rattle.std.specs.Prelude.{[], None};
     ghost use Rattle.lmtp_talk.specs.Peer.{WasRead, HasBrought, PeerFailed, HasWritten};
     ghost use Rattle.lmtp_talk.specs.TcpPeer.{TakesRead, tcp_state};
@@ -166,7 +251,7 @@ impl<T: Read + Write> Peer for TcpPeer<T> {
     }
 
     fn write(&mut self, bytes: &[u8]) -> Result<usize, PeerFault> {
-        match write_some(&mut self.stream, bytes) {
+        match self.write_on(bytes) {
             Ok(0) | Err(_) => Err(self.fail()),
             Ok(size) => Ok(size),
         }
