@@ -11,9 +11,17 @@ pub const BAD_FOLDER: &str =
 /// The error for a level that is none.
 pub const BAD_LEVEL: &str = "invalid value for '--log <LEVEL>': it is off, error or info";
 
-/// The error for a mode that is none.
-pub const BAD_MODE: &str =
+/// The error for a mailbox's mode that is none.
+pub const BAD_MAILBOX_MODE: &str =
     "invalid value for '--mailbox-mode <MODE>': it is 1 to 4 octal digits, 0777 at most";
+
+/// The error for a socket's mode that is none.
+pub const BAD_SOCKET_MODE: &str =
+    "invalid value for '--socket-mode <MODE>': it is 1 to 4 octal digits, 0777 at most";
+
+/// The error for the path of a stop file that is none.
+pub const BAD_STOP_FILE: &str =
+    "invalid value for '--stop-file <PATH>': it is the path of a file, and not empty";
 
 /// The error for words that aren't UTF-8.
 pub const BAD_TEXT: &str = "invalid UTF-8 was detected in one or more arguments";
