@@ -87,6 +87,8 @@ pub const SERVE: [Argument; 20] = [
 /// What a check takes.
 pub const CHECK: [Argument; 1] = [FILES];
 
+const SECONDS_OF_A_DAY: u32 = 86_400;
+
 const HOST: Argument = Argument {
     name: "host",
     value: "HOST",
@@ -98,8 +100,7 @@ const HOST: Argument = Argument {
 const LISTEN: Argument = Argument {
     name: "listen",
     value: "WHERE",
-    help: "An address and port, such as 127.0.0.1:2003 or [::1]:2003 (0 takes a free one, 25 is refused), unix:PATH \
-        for a Unix socket, or inherited for the socket that a service manager opened",
+    help: "Where to listen: 127.0.0.1:2003 or [::1]:2003 (port 0: a free one; 25 is refused), unix:PATH, or inherited",
     is_required: true,
     kind: ValueKind::Text,
 };
@@ -193,7 +194,7 @@ const TIMEOUT: Argument = Argument {
     is_required: false,
     kind: ValueKind::Number {
         least: 1,
-        most: 86_400,
+        most: SECONDS_OF_A_DAY,
     },
 };
 
@@ -204,7 +205,7 @@ const SESSION_TIME: Argument = Argument {
     is_required: false,
     kind: ValueKind::Number {
         least: 1,
-        most: 86_400,
+        most: SECONDS_OF_A_DAY,
     },
 };
 
@@ -265,8 +266,7 @@ const CONNECTIONS: Argument = Argument {
 const STOP_FILE: Argument = Argument {
     name: "stop-file",
     value: "PATH",
-    help: "A file that ends the server in order once it is there, at once where it is there at the start \
-        [default: none]",
+    help: "The file that ends the server in order once it is there, also at the start [default: none]",
     is_required: false,
     kind: ValueKind::Text,
 };

@@ -29,7 +29,7 @@ pub const BAD_TEXT: &str = "invalid UTF-8 was detected in one or more arguments"
 /// Behind the subcommands.
 pub const BEHIND_PROGRAM: &str = "\
 Examples:
-  lmtpd serve --host mx.example --listen 127.0.0.1:2003 --dir mail --connections 1000000 anna ben
+  lmtpd serve --host mx.example --listen 127.0.0.1:2003 --dir mail anna ben
   lmtpd check mail/anna.mbox mail/ben.mbox
   lmtpd help serve
 
@@ -51,11 +51,11 @@ Exit status:
 /// Behind a server's words.
 pub const BEHIND_SERVE: &str = "\
 Examples:
-  lmtpd serve --host mx.example --listen 127.0.0.1:2003 --dir mail --connections 1000000 anna ben
+  lmtpd serve --host mx.example --listen 127.0.0.1:2003 --dir mail anna ben
   lmtpd serve --host mx.example --listen [::1]:2003 --dir mail --connections 1 --log info anna
 
 Exit status:
-  0  The conversations were served, and the program ended
+  0  The server ended in order, after its conversations or for its stop file
   1  A mailbox's file, the listener, a thread, memory or a size was wanting; standard error says which
   2  A word can't be used, and nothing was done";
 

@@ -78,11 +78,10 @@ fn rehearse_words<'a>(
     let Some(site) = site_words(alloc, matches)? else {
         return Ok(None);
     };
-    let blocks = usual_blocks(1, site.message_limit);
     Ok(Some(RehearseWords {
+        blocks: blocks_of(matches, 1, site.message_limit),
         site,
         time,
-        blocks: number_or(matches, "blocks", blocks),
         quota: quota_of(matches),
     }))
 }
@@ -94,14 +93,13 @@ fn serve_words<'a>(
     ensures { let rows = rows_of (found_of matches.now) in
         IfOk result (λ read. MatchOption read (LacksServe rows) (IsServeRead rows)) }
 {
-    let (Some(listen), Some(dir)) = (matches.get_str("listen"), folder_of(matches)) else {
+    let Some(listen) = matches.get_str("listen") else {
         return Ok(None);
     };
-    let (Some(connections), Some(stop_file)) = (connections_of(matches), stop_file_of(matches))
-    else {
+    let (Some(dir), Some(connections)) = (folder_of(matches), connections_of(matches)) else {
         return Ok(None);
     };
-    let Some(log) = log_of(matches) else {
+    let (Some(stop_file), Some(log)) = (stop_file_of(matches), log_of(matches)) else {
         return Ok(None);
     };
     let (Some(mailbox_mode), Some(socket_mode)) = (
@@ -114,14 +112,13 @@ fn serve_words<'a>(
         return Ok(None);
     };
     let lanes = number_or(matches, "lanes", DEFAULT_LANES);
-    let blocks = usual_blocks(lanes, site.message_limit);
     Ok(Some(ServeWords {
+        blocks: blocks_of(matches, lanes, site.message_limit),
         site,
         listen,
         dir,
         connections,
         lanes,
-        blocks: number_or(matches, "blocks", blocks),
         capacity: number_or(matches, "capacity", DEFAULT_CAPACITY),
         reads: number_or(matches, "reads", DEFAULT_READS),
         timeout: number_or(matches, "timeout", DEFAULT_TIMEOUT),
@@ -192,6 +189,13 @@ fn message_limit_of(matches: &ArgMatches<'_>) -> Option<u32>
     Some(limit)
 }
 
+// The blocks that were given, and else the usual ones for as many lanes and the limit of a message.
+fn blocks_of(matches: &ArgMatches<'_>, lanes: u32, limit: u32) -> u32
+    ensures { IsNumberOr (usual_blocks lanes limit) (one_of (codes "blocks") (rows_of (found_of matches.now))) result }
+{
+    number_or(matches, "blocks", usual_blocks(lanes, limit))
+}
+
 // The blocks where no number of them was given: a largest message for each lane has room in them, as far as there may
 // be so many.
 fn usual_blocks(lanes: u32, limit: u32) -> u32
@@ -250,7 +254,7 @@ fn stop_file_of<'a>(matches: &ArgMatches<'a>) -> Option<Option<&'a str>>
         MatchOption result (IsEmpty given) (λ path. IsPathIfGiven given (option_map (λ p. p.now) path)) }
 {
     match matches.get_str("stop-file") {
-        Some(text) => path_in(text).map(Some),
+        Some(text) => Some(Some(path_in(text)?)),
         None => Some(None),
     }
 }
