@@ -1,5 +1,8 @@
 //! Why a server can't listen where its words say.
 
+ghost use Rattle.std.specs.Prelude.{◌≡◌};
+ghost use Rattle.lmtpd_listen.specs.Opened.{IsListenFault};
+
 use std::alloc::AllocError;
 use std::io;
 use thiserror::Error;
@@ -43,19 +46,27 @@ pub enum Reason {
 }
 
 impl From<io::Error> for ListenFault {
+    ghost from_gives = { λ _ fault. IsListenFault fault };
+
     fn from(error: io::Error) -> ListenFault {
         ListenFault::Listen(Reason::System(error))
     }
 }
 
 impl From<AllocError> for ListenFault {
+    ghost use Rattle.lmtpd_listen.specs.declared.fault.ListenFault.TheVariants as variant;
+
+    ghost from_gives = { λ _ fault. fault ≡ variant.Memory };
+
     fn from(_error: AllocError) -> ListenFault {
         ListenFault::Memory
     }
 }
 
 /// What the system said last, of a call that failed.
-pub(crate) fn last_fault() -> ListenFault {
+pub(crate) fn last_fault() -> ListenFault
+    ensures { IsListenFault result }
+{
     ListenFault::Listen(Reason::System(last_error()))
 }
 

@@ -1,5 +1,8 @@
 //! The lock on the folder of a socket's file: who has it looks there, removes and makes the file, and nobody else does.
 
+ghost use Rattle.std.specs.Prelude.{IfErr};
+ghost use Rattle.lmtpd_listen.specs.Opened.{IsListenFault};
+
 use crate::fault::{ListenFault, Reason};
 use mbox_rd::FileLock;
 use std::fs::{File, Files};
@@ -16,6 +19,7 @@ const PAUSE_MS: u64 = 50;
 pub(crate) fn lock_folder<R: Files + Clock>(rt: &R, path: &str) -> Result<R::File, ListenFault>
 where
     R::File: FileLock,
+    ensures { IfErr result IsListenFault }
 {
     let folder = File::open(rt, folder_of(path))?;
     for _ in 0..TRIES {

@@ -1,5 +1,9 @@
 //! The socket that the program was started with, as systemd passes it.
 
+ghost use Rattle.std.specs.Prelude.{◌≡◌, IfErr, None};
+ghost use Rattle.lmtpd_listen.specs.Opened.{IsListenFault, IsUnopened, socket_path};
+ghost use Rattle.lmtpd_listen.specs.declared.place.Place.TheVariants as place;
+
 use crate::fault::{ListenFault, Reason, last_fault};
 use crate::place::SMTP_PORT;
 use crate::server::{ServerSocket, duplicate};
@@ -19,7 +23,9 @@ const PASSED: RawFd = 3;
 const NUMBER_SIZE: usize = 16;
 
 /// Takes the one socket that was passed to this process.
-pub(crate) fn take_inherited<R: Env>(rt: &R, alloc: Global) -> Result<ServerSocket, ListenFault> {
+pub(crate) fn take_inherited<R: Env>(rt: &R, alloc: Global) -> Result<ServerSocket, ListenFault>
+    ensures { IfErr result (IsUnopened place.Inherited) }
+{
     let is_for_us = number_in(rt, "LISTEN_PID") == u32::try_from(libc::getpid()).ok();
     if !is_for_us || number_in(rt, "LISTEN_FDS") != Some(1) {
         return Err(ListenFault::Listen(Reason::NotPassed));
@@ -41,7 +47,9 @@ fn number_in<R: Env>(rt: &R, name: &str) -> Option<u32> {
 
 // A socket that listens can't be written to, and has not been hung up; any other one is either, or says that it is no
 // socket.
-fn is_listening(fd: RawFd) -> Result<bool, ListenFault> {
+fn is_listening(fd: RawFd) -> Result<bool, ListenFault>
+    ensures { IfErr result IsListenFault }
+{
     let mut asked = [pollfd {
         fd,
         events: POLLOUT,
@@ -54,7 +62,9 @@ fn is_listening(fd: RawFd) -> Result<bool, ListenFault> {
     }
 }
 
-fn server_over(alloc: Global, socket: OwnedFd) -> Result<ServerSocket, ListenFault> {
+fn server_over(alloc: Global, socket: OwnedFd) -> Result<ServerSocket, ListenFault>
+    ensures { IfErr result (IsUnopened place.Inherited) }
+{
     let listener = TcpListener::from(socket);
     // a descriptor that doesn't block would never wait
     listener.set_nonblocking(false)?;
@@ -71,7 +81,9 @@ fn server_over(alloc: Global, socket: OwnedFd) -> Result<ServerSocket, ListenFau
 }
 
 // The path, or a name of the kind that no file has, with `@` before it.
-fn name_of(alloc: Global, address: &SocketAddr) -> Result<String, ListenFault> {
+fn name_of(alloc: Global, address: &SocketAddr) -> Result<String, ListenFault>
+    ensures { IfErr result (IsUnopened place.Inherited) }
+{
     if let Some(path) = address.as_pathname() {
         return Ok(format!(in alloc; "{}", path.as_str())?);
     }

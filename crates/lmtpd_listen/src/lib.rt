@@ -5,7 +5,7 @@ mod client;
 mod fault;
 mod folder;
 mod inherited;
-mod open;
+mod opened;
 mod place;
 mod server;
 mod socket_file;
@@ -13,7 +13,7 @@ mod unix;
 
 pub use client::ClientSocket;
 pub use fault::{ListenFault, Reason};
-pub use open::{Opened, open};
+pub use opened::{Opened, open};
 pub use place::{Place, SMTP_PORT, place_of};
 pub use server::ServerSocket;
 pub use socket_file::SocketFile;

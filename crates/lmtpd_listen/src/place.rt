@@ -1,5 +1,10 @@
 //! Where a server is to listen.
 
+ghost use Rattle.std.specs.Prelude.{◌≡◌, ◌≢◌, ◌↔◌, MatchResult, IsTrue};
+ghost use Rattle.std.specs.Net.Socket.{socket_port};
+ghost use Rattle.std.specs.Net.Grammar.{IsSocketText};
+ghost use Rattle.lmtpd_listen.specs.Listening.{IsNoAddress, IsRefused, IsSocketPath, Names};
+
 use crate::fault::ListenFault;
 use std::net::SocketAddr;
 
@@ -21,25 +26,37 @@ pub enum Place<'a> {
 }
 
 /// The place that the text names: `inherited`, `unix:PATH`, or an address and a port.
-pub fn place_of<'a>(text: &'a str) -> Result<Place<'a>, ListenFault> {
+pub fn place_of<'a>(text: &'a str) -> Result<Place<'a>, ListenFault>
+    ensures { MatchResult result (Names text.now) (IsRefused text.now) }
+{
     if text == "inherited" {
         return Ok(Place::Inherited);
     }
     match text.strip_prefix("unix:") {
-        Some(path) if is_socket_path(path) => Ok(Place::Unix(path)),
-        Some(_) => Err(ListenFault::Address),
+        Some(path) => {
+            if is_socket_path(path) {
+                Ok(Place::Unix(path))
+            } else {
+                Err(ListenFault::Address)
+            }
+        }
         None => Ok(Place::Tcp(address_of(text)?)),
     }
 }
 
 // Whether the system takes the path for a socket.
-fn is_socket_path(path: &str) -> bool {
+fn is_socket_path(path: &str) -> bool
+    ensures { IsTrue result ↔ IsSocketPath path.now }
+{
     let bytes = path.as_bytes();
     !bytes.is_empty() && bytes.len() < PATH_LIMIT && !bytes.contains(&0)
 }
 
 // The address and port that the text names; an IPv6 address stands in brackets.
-fn address_of(text: &str) -> Result<SocketAddr, ListenFault> {
+fn address_of(text: &str) -> Result<SocketAddr, ListenFault>
+    ensures { MatchResult result (λ address. IsSocketText text.now address × (socket_port address ≢ SMTP_PORT))
+        (IsNoAddress text.now) }
+{
     match text.parse::<SocketAddr>() {
         Ok(address) if address.port() == SMTP_PORT => Err(ListenFault::Port),
         Ok(address) => Ok(address),

@@ -1,5 +1,9 @@
 //! What a server listens on, be it TCP or a Unix socket.
 
+ghost use Rattle.std.specs.Prelude.{◌≡◌, IfOk};
+ghost use Rattle.std.specs.Prelude.{Some, None, string_bytes};
+ghost use Rattle.lmtpd_listen.specs.Opened.{IsClient, IsEndpoint, socket_path};
+
 use crate::client::ClientSocket;
 use crate::fault::last_error;
 use lmtp_lane::{Client, Endpoint, Listener, WAIT_MS};
@@ -25,7 +29,9 @@ enum Listening {
 
 impl ServerSocket {
     /// Over a socket of TCP that listens.
-    pub(crate) fn of_tcp(listener: TcpListener) -> io::Result<ServerSocket> {
+    pub(crate) fn of_tcp(listener: TcpListener) -> io::Result<ServerSocket>
+        ensures { IfOk result (λ socket. socket_path socket ≡ None) }
+    {
         bound_wait(listener.as_raw_fd())?;
         Ok(ServerSocket {
             listening: Listening::Tcp(listener),
@@ -33,7 +39,9 @@ impl ServerSocket {
     }
 
     /// Over a Unix socket that listens there, or is to.
-    pub(crate) fn of_unix(listener: UnixListener, path: String) -> io::Result<ServerSocket> {
+    pub(crate) fn of_unix(listener: UnixListener, path: String) -> io::Result<ServerSocket>
+        ensures { IfOk result (λ socket. socket_path socket ≡ Some (string_bytes path)) }
+    {
         bound_wait(listener.as_raw_fd())?;
         Ok(ServerSocket {
             listening: Listening::Unix(listener, path),
@@ -59,7 +67,9 @@ impl AsRawFd for ServerSocket {
 impl Listener for ServerSocket {
     type Stream = ClientSocket;
 
-    fn accept(&self) -> io::Result<(ClientSocket, Client)> {
+    fn accept(&self) -> io::Result<(ClientSocket, Client)>
+        ensures { IfOk result (λ accepted. IsClient (socket_path self.now) accepted.0 accepted.1) }
+    {
         match &self.listening {
             Listening::Tcp(listener) => {
                 let (stream, address) = listener.accept()?;
@@ -74,7 +84,9 @@ impl Listener for ServerSocket {
         }
     }
 
-    fn endpoint(&self) -> io::Result<Endpoint<'_>> {
+    fn endpoint(&self) -> io::Result<Endpoint<'_>>
+        ensures { IfOk result (IsEndpoint (socket_path self.now)) }
+    {
         match &self.listening {
             Listening::Tcp(listener) => Ok(Endpoint::Ip(listener.local_addr()?)),
             Listening::Unix(_, path) => Ok(Endpoint::Unix(path.as_str())),

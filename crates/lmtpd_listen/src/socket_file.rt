@@ -1,5 +1,9 @@
 //! The file of a Unix socket that was made.
 
+ghost use Rattle.std.specs.Prelude.{◌≡◌, Some, None};
+ghost use Rattle.lmtpd_listen.specs.Opened.{IsListenFault, file_path};
+ghost use Rattle.std.specs.Prelude.{IfErr};
+
 use crate::fault::{ListenFault, Reason};
 use crate::folder::lock_folder;
 use mbox_rd::FileLock;
@@ -29,7 +33,9 @@ pub(crate) struct Mark {
 }
 
 /// Which socket's file it is.
-pub(crate) fn mark_of(found: &Metadata) -> Result<Mark, ListenFault> {
+pub(crate) fn mark_of(found: &Metadata) -> Result<Mark, ListenFault>
+    ensures { IfErr result IsListenFault }
+{
     if !found.file_type().is_socket() {
         return Err(ListenFault::Listen(Reason::NoSocket));
     }
@@ -43,12 +49,16 @@ pub(crate) fn mark_of(found: &Metadata) -> Result<Mark, ListenFault> {
 
 impl<'a> SocketFile<'a> {
     /// Where no file was made.
-    pub(crate) fn none() -> SocketFile<'a> {
+    pub(crate) fn none() -> SocketFile<'a>
+        ensures { file_path result ≡ None }
+    {
         SocketFile { made: None }
     }
 
     /// The file that was made at that path.
-    pub(crate) fn at(path: &'a str, mark: Mark) -> SocketFile<'a> {
+    pub(crate) fn at(path: &'a str, mark: Mark) -> SocketFile<'a>
+        ensures { file_path result ≡ Some path.now }
+    {
         SocketFile {
             made: Some(Made { path, mark }),
         }

@@ -1,8 +1,12 @@
 //! A Unix socket at a path.
 
+ghost use Rattle.std.specs.Prelude.{IfErr, MatchResult};
+ghost use Rattle.lmtpd_listen.specs.Opened.{IsListenFault, IsOpened, IsUnopened};
+ghost use Rattle.lmtpd_listen.specs.declared.place.Place.TheVariants as place;
+
 use crate::fault::{ListenFault, Reason, last_fault};
 use crate::folder::lock_folder;
-use crate::open::Opened;
+use crate::opened::Opened;
 use crate::server::ServerSocket;
 use crate::socket_file::{Mark, SocketFile, mark_of, remove_made};
 use libc::net::listen;
@@ -33,6 +37,7 @@ pub(crate) fn open_unix<'a, R: Files + Net + Clock>(
 ) -> Result<Opened<'a>, ListenFault>
 where
     R::File: FileLock,
+    ensures { MatchResult result (IsOpened (place.Unix path.entry)) (IsUnopened (place.Unix path.entry)) }
 {
     let mode = mode & MODE_BITS;
     let name = format!(in alloc; "{path}")?;
@@ -55,7 +60,9 @@ where
 }
 
 // Removes a socket's file to which nobody listens any more. It fails where there is anything else.
-fn make_room<R: Files + Net>(rt: &R, path: &str) -> Result<(), ListenFault> {
+fn make_room<R: Files + Net>(rt: &R, path: &str) -> Result<(), ListenFault>
+    ensures { IfErr result IsListenFault }
+{
     let found = match fs::symlink_metadata(rt, path) {
         Ok(found) => found,
         Err(error) if error.kind() == ErrorKind::NotFound => return Ok(()),
@@ -77,7 +84,9 @@ fn bind<R: Files>(
     socket: &ServerSocket,
     address: &SocketAddr,
     mode: u32,
-) -> Result<(), ListenFault> {
+) -> Result<(), ListenFault>
+    ensures { IfErr result IsListenFault }
+{
     if libc::fchmod(socket.as_raw_fd(), mode) < 0 {
         return Err(last_fault());
     }
@@ -91,7 +100,9 @@ fn expose<R: Files>(
     path: &str,
     mark: Mark,
     mode: u32,
-) -> Result<(), ListenFault> {
+) -> Result<(), ListenFault>
+    ensures { IfErr result IsListenFault }
+{
     if !has_mode(rt, path, mark, mode)? {
         fs::set_permissions(rt, path, Permissions::from_mode(mode))?;
         if !has_mode(rt, path, mark, mode)? {
@@ -105,7 +116,9 @@ fn expose<R: Files>(
 }
 
 // Whether the file has that mode. It fails where the path names another one.
-fn has_mode<R: Files>(rt: &R, path: &str, mark: Mark, mode: u32) -> Result<bool, ListenFault> {
+fn has_mode<R: Files>(rt: &R, path: &str, mark: Mark, mode: u32) -> Result<bool, ListenFault>
+    ensures { IfErr result IsListenFault }
+{
     let found = fs::symlink_metadata(rt, path)?;
     if mark_of(&found)? != mark {
         return Err(ListenFault::Listen(Reason::Changed));

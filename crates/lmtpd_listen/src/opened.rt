@@ -1,5 +1,8 @@
 //! Opening what a server listens on.
 
+ghost use Rattle.std.specs.Prelude.{MatchResult};
+ghost use Rattle.lmtpd_listen.specs.Opened.{IsOpened, IsUnopened};
+
 use crate::fault::ListenFault;
 use crate::inherited::take_inherited;
 use crate::place::Place;
@@ -30,6 +33,7 @@ pub fn open<'a, R>(
 where
     R: Files + Net<Listener = TcpListener, Stream = TcpStream> + Env + Clock,
     R::File: FileLock,
+    ensures { MatchResult result (IsOpened place.entry) (IsUnopened place.entry) }
 {
     let socket = match place {
         Place::Unix(path) => return open_unix(rt, alloc, path, mode),
