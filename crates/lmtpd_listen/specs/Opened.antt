@@ -1,5 +1,5 @@
 -- What contracts see of what was opened, and of what wasn't.
-use Rattle.std.specs.Prelude.{◌≡◌, ℕ, Bool, true, false, List, Option, Some, None, string_bytes}
+use Rattle.std.specs.Prelude.{◌≡◌, ℕ, List, Option, Some, None, string_bytes}
 use Rattle.lmtp_lane.specs.declared.tcp.listener.Client.{Client}
 use Rattle.lmtp_lane.specs.declared.tcp.listener.Client.TheVariants as who
 use Rattle.lmtp_lane.specs.declared.tcp.listener.Endpoint.{Endpoint}

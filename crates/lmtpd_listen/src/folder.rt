@@ -34,10 +34,10 @@ where
     Err(ListenFault::Listen(Reason::Locked))
 }
 
+// Up to the last slash, which has the system refuse what is no folder.
 fn folder_of<'a>(path: &'a str) -> &'a str {
-    match path.rsplit_once('/') {
-        Some(("", _)) => "/",
-        Some((folder, _)) => folder,
-        None => ".",
-    }
+    let Some((_, name)) = path.rsplit_once('/') else {
+        return ".";
+    };
+    path.strip_suffix(name).unwrap_or("/")
 }
