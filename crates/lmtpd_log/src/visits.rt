@@ -118,7 +118,7 @@ where
     L::Stream: Read + Write + ClientStream + Drop,
     G: Log + Drop,
     C: Clock + Drop,
-    E: Curfew + Copy,
+    E: Curfew,
 {
     type P = TcpPeer<CountedStream<L::Stream>, E>;
 

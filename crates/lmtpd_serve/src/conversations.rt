@@ -1,10 +1,11 @@
 //! How many conversations a server holds.
 
 use lmtp_house::Bounds;
+use std::sync::Arc;
 
 /// The conversations of a server.
-#[derive(Clone, Copy)]
-pub struct Conversations<E> {
+#[derive(Drop)]
+pub struct Conversations<E: Drop> {
     /// How many are held at once, each by a lane.
     pub lanes: u32,
     /// How many are held in all; the lanes share them out.
@@ -12,5 +13,5 @@ pub struct Conversations<E> {
     /// What each of them may ask of its client.
     pub bounds: Bounds,
     /// When the server is to end though not all were held, and when each of them is.
-    pub curfew: E,
+    pub curfew: Arc<E>,
 }

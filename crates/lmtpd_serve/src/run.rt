@@ -45,7 +45,7 @@ pub fn serve_run<L, E, S, G, W, H>(
 where
     L: Listener + Drop + Send + Sync + 'static,
     L::Stream: Read + Write + ClientStream + Drop + Send + 'static,
-    E: Curfew + Copy + Send + 'static,
+    E: Curfew + Send + Sync + 'static,
     S: Spool + Drop + Send + 'static,
     G: Log + Copy + Drop + Send + 'static,
     W: Write + Drop,
@@ -84,7 +84,7 @@ where
 }
 
 // The clients of all lanes.
-fn visits_of<L: Drop, E: Copy + Drop, G: Copy + Drop, H: Copy + Drop>(
+fn visits_of<L: Drop, E: Drop, G: Copy + Drop, H: Copy + Drop>(
     rt: H,
     alloc: Global,
     conversations: Conversations<E>,

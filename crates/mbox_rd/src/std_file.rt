@@ -343,21 +343,33 @@ where
         ensures opened { IfOk result IsOpened }
         ensures wait { IfOk result (λ spool. spool.wait ≡ wait) }
     {
-        SharedSpool::at_mode(rt, alloc, path, wait, OWNER_ONLY)
+        SharedSpool::at_mode(rt, rt, alloc, path, wait, OWNER_ONLY)
     }
+}
 
-    /// With the permission bits of a file that is made.
+impl<R, C> SharedSpool<StdMailboxFile<R>, C>
+where
+    R: Files + Clock + Copy + Drop,
+    R::File: RangeLock,
+    C: Clock + Drop,
+{
+    ghost use Rattle.std.specs.Prelude.{◌≡◌, IfOk};
+    ghost use Rattle.mbox_rd.specs.SharedSpool.{IsOpened};
+
+    /// With the permission bits of a file that is made, and a clock by which it pauses where others have the mailbox
+    /// locked, a tenth of a second at a time.
     pub fn at_mode(
         rt: R,
+        clock: C,
         alloc: Global,
         path: &str,
         wait: u32,
         mode: u32,
-    ) -> Result<SharedSpool<StdMailboxFile<R>, R>, OpenFault>
+    ) -> Result<SharedSpool<StdMailboxFile<R>, C>, OpenFault>
         ensures opened { IfOk result IsOpened }
         ensures wait { IfOk result (λ spool. spool.wait ≡ wait) }
     {
         let file = StdMailboxFile::open(rt, alloc, path, mode).map_err(fault_of)?;
-        SharedSpool::new(alloc, file, rt, wait).map_err(|_| OpenFault::Memory)
+        SharedSpool::new(alloc, file, clock, wait).map_err(|_| OpenFault::Memory)
     }
 }

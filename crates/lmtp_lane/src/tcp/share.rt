@@ -12,13 +12,13 @@ use std::sync::Arc;
 /// The visits of as many lanes: the connections are shared out among them, the first lanes have one more
 /// where they don't go out even, and each conversation has these bounds. All memory of the lanes'
 /// clients is taken here.
-pub fn tcp_visits<L: Drop, E: Copy + Drop>(
+pub fn tcp_visits<L: Drop, E: Drop>(
     alloc: Global,
     listener: L,
     lanes: u32,
     connections: u64,
     bounds: Bounds,
-    curfew: E,
+    curfew: Arc<E>,
 ) -> Result<Vec<TcpVisits<L, E>>, AllocError>
     ensures count { IfOk result (λ visits. length visits.items ≡ lanes) }
     ensures none_out { IfOk result (λ visits. AllByRecursion (λ v. is_out v ≡ false) visits.items) }
@@ -33,6 +33,7 @@ pub fn tcp_visits<L: Drop, E: Copy + Drop>(
         let buffer = ReadBuffer::new(alloc)?;
         let listener = Arc::try_clone(&listener)?;
         let share = share_of(connections, lanes, lane);
+        let curfew = Arc::try_clone(&curfew)?;
         visits.push(TcpVisits::new(listener, share, bounds, curfew, buffer))?;
     }
     Ok(visits)

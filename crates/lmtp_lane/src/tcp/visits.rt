@@ -1,6 +1,7 @@
 //! The clients that connect to a listener.
 
 ghost use Rattle.std.specs.Prelude.{◌≡◌};
+ghost use Rattle.std.specs.Arc.{arc_value};
 
 use crate::tcp::listener::Listener;
 use crate::visits::Visits;
@@ -22,7 +23,7 @@ pub struct TcpVisits<L: Drop, E: Drop> {
     pub(super) connections: u64,
     // what each of them may ask of its client
     bounds: Bounds,
-    curfew: E,
+    curfew: Arc<E>,
     // how many conversations have ended; it stays at its largest value
     ended: u64,
     // here while no client is out
@@ -41,7 +42,7 @@ impl<L: Drop, E: Drop> TcpVisits<L, E> {
         listener: Arc<L>,
         connections: u64,
         bounds: Bounds,
-        curfew: E,
+        curfew: Arc<E>,
         buffer: ReadBuffer,
     ) -> TcpVisits<L, E>
         ensures ready { IsReady connections bounds result }
@@ -79,7 +80,7 @@ impl<L, E> TcpVisits<L, E>
 where
     L: Listener + Drop,
     L::Stream: Read + Write + ClientStream + Drop,
-    E: Curfew + Copy,
+    E: Curfew,
 {
     ghost use Rattle.std.specs.Prelude.{false, true, Ok, None, OnErr};
     ghost use Rattle.lmtp_lane.specs.TcpVisits.{TakesClient, is_out};
@@ -88,16 +89,16 @@ where
     fn take_client<R: Wait>(&mut self, rt: &R) -> Option<TcpPeer<L::Stream, E>>
         requires { is_out self.old ≡ false }
         ensures takes { TakesClient self.old self.new result }
-        ensures stopped { self.old.stopped ≡ false → self.new.stopped ≡ true → E.IsAsked self.old.curfew }
+        ensures stopped { self.old.stopped ≡ false → self.new.stopped ≡ true → E.IsAsked (arc_value self.old.curfew) }
     {
         if self.connections == 0 || self.failed || self.stopped {
             return None;
         }
         match self.accept(rt) {
-            Ok(Some(stream)) => {
+            Ok(Some((stream, curfew))) => {
                 self.connections -= 1;
                 let buffer = self.buffer.take().unwrap();
-                Some(TcpPeer::new(stream, buffer, self.bounds, self.curfew))
+                Some(TcpPeer::new(stream, buffer, self.bounds, curfew))
             }
             Ok(None) => {
                 self.stopped = true;
@@ -111,8 +112,8 @@ where
     }
 
     // The next client that is still there, or none once the server's end is asked for.
-    fn accept<R: Wait>(&self, rt: &R) -> io::Result<Option<L::Stream>>
-        ensures { result ≡ Ok None → E.IsAsked self.now.curfew }
+    fn accept<R: Wait>(&self, rt: &R) -> io::Result<Option<(L::Stream, Arc<E>)>>
+        ensures { result ≡ Ok None → E.IsAsked (arc_value self.now.curfew) }
     {
         for _ in rt.forever() {
             if self.curfew.is_asked() {
@@ -122,7 +123,10 @@ where
                 Ok((stream, _)) => {
                     stream.set_read_timeout(Duration::from_millis(WAIT_MS))?;
                     stream.set_write_timeout(Duration::from_millis(WAIT_MS))?;
-                    return Ok(Some(stream));
+                    let Ok(curfew) = Arc::try_clone(&self.curfew) else {
+                        return Err(io::Error::from(ErrorKind::OutOfMemory));
+                    };
+                    return Ok(Some((stream, curfew)));
                 }
                 Err(error) if error.kind() == ErrorKind::ConnectionAborted => {}
                 Err(error) if is_silence(&error) => {}
@@ -137,7 +141,7 @@ impl<L, E> Visits for TcpVisits<L, E>
 where
     L: Listener + Drop,
     L::Stream: Read + Write + ClientStream + Drop,
-    E: Curfew + Copy,
+    E: Curfew,
 {
     type P = TcpPeer<L::Stream, E>;
 

@@ -1,6 +1,7 @@
 //! A client over a stream.
 
-ghost use Rattle.std.specs.Prelude.{◌≡◌, ◌<◌, ◌⊎◌, ℕ, length, Ok, Some, IfOk, OnErr};
+ghost use Rattle.std.specs.Prelude.{◌≡◌, ◌<◌, [], false, length, Ok, IfOk, OnOk, OnErr};
+ghost use Rattle.std.specs.Arc.{arc_value};
 ghost use Rattle.std.specs.Duration.{as_nanos};
 
 use crate::curfew::Curfew;
@@ -12,6 +13,7 @@ use crate::tcp::retry::{is_silence, write_some};
 use crate::tcp::stream::ClientStream;
 use std::io;
 use std::io::{Error, ErrorKind, Read, Write};
+use std::sync::Arc;
 use std::time::Duration;
 
 /// How often a client is written to once its conversation is over: the last reply goes out at once, and a client that
@@ -32,10 +34,10 @@ pub struct Bounds {
 /// out as may be, once the client was silent for as many waits of the stream as it may be (RFC 5321, 4.5.3.2), and
 /// once the curfew says that its conversation is over.
 #[derive(Drop)]
-pub struct TcpPeer<T, E> {
+pub struct TcpPeer<T, E: Drop> {
     stream: T,
     buffer: ReadBuffer,
-    curfew: E,
+    curfew: Arc<E>,
     // when the conversation began
     begun: Duration,
     // how many waits may bring nothing
@@ -54,7 +56,7 @@ impl<T, E: Curfew> TcpPeer<T, E> {
     ghost use Rattle.lmtp_talk.specs.TcpPeer.{IsNew};
 
     /// A client whose conversation begins now, within these bounds.
-    pub fn new(stream: T, mut buffer: ReadBuffer, bounds: Bounds, curfew: E) -> TcpPeer<T, E>
+    pub fn new(stream: T, mut buffer: ReadBuffer, bounds: Bounds, curfew: Arc<E>) -> TcpPeer<T, E>
         ensures fresh { IsNew bounds result }
         ensures stream { result.stream ≡ stream }
     {
@@ -82,8 +84,10 @@ impl<T, E: Curfew> TcpPeer<T, E> {
     }
 }
 
-impl<T, E> TcpPeer<T, E> {
+impl<T, E: Drop> TcpPeer<T, E> {
+    ghost use Rattle.std.specs.IoError.{error_kind};
     ghost use Rattle.mail_world.specs.Failures.{Rises};
+    ghost use Rattle.lmtp_talk.specs.Silence.{IsSilence};
 
     // Counts a stop.
     fn stop(&mut self) -> Came
@@ -102,6 +106,21 @@ impl<T, E> TcpPeer<T, E> {
     {
         self.failures = self.failures.saturating_add(1);
         PeerFault
+    }
+
+    // What the client did whose stream gave that error: one that was silent for the stream's time is waited for again,
+    // any other error is a failure.
+    fn answer(&mut self, error: &Error) -> Result<(), PeerFault>
+        ensures silent { OnOk result (IsSilence (error_kind error.now) × (self.new ≡ self.old)) }
+        ensures fails { OnErr result ((IsSilence (error_kind error.now) → ⊥)
+            × Rises self.old.failures self.new.failures
+            × (self.new ≡ record self.old { failures = self.new.failures })) }
+    {
+        if is_silence(error) {
+            Ok(())
+        } else {
+            Err(self.fail())
+        }
     }
 }
 
@@ -127,7 +146,7 @@ impl<T: Read, E: Curfew> TcpPeer<T, E> {
     fn wait(&mut self) -> Result<Waited, PeerFault>
         requires { waiting self.old.buffer ≡ [] }
         ensures waited { IfOk result (WaitedFor T.remaining self.old self.new) }
-        ensures over { result ≡ Ok Waited.Over → E.IsOver self.old.curfew (as_nanos self.old.begun) }
+        ensures over { result ≡ Ok Waited.Over → E.IsOver (arc_value self.old.curfew) (as_nanos self.old.begun) }
         ensures err { OnErr result (PeerFailed (tcp_state T.remaining self.old) (tcp_state T.remaining self.new)) }
         ensures bounds { self.new ≡ record self.old {
           stream = self.new.stream; buffer = self.new.buffer; failures = self.new.failures } }
@@ -139,8 +158,7 @@ impl<T: Read, E: Curfew> TcpPeer<T, E> {
             match self.buffer.refill(&mut self.stream) {
                 Ok(0) => return Ok(Waited::End),
                 Ok(_) => return Ok(Waited::Came),
-                Err(error) if is_silence(&error) => {}
-                Err(_) => return Err(self.fail()),
+                Err(error) => self.answer(&error)?,
             }
         }
         Ok(Waited::Silent)
@@ -185,7 +203,7 @@ impl<T: Write, E: Curfew> TcpPeer<T, E> {
     // Whether the client may be written to once more: once its conversation is over that goes on only so often.
     fn may_write(&mut self) -> bool
         ensures same { self.new ≡ record self.old { last_writes = self.new.last_writes } }
-        ensures ended { result ≡ false → (self.old.last_writes ≡ 0) × E.IsOver self.old.curfew (as_nanos self.old.begun) }
+        ensures ended { result ≡ false → (self.old.last_writes ≡ 0) × E.IsOver (arc_value self.old.curfew) (as_nanos self.old.begun) }
     {
         if !self.curfew.is_over(self.begun) {
             return true;

@@ -1,0 +1,11 @@
+use Rattle.std.proofs.Common.{◌≡◌, []}
+use Rattle.std.specs.Io.KnownBytes.{Keeps}
+use Rattle.lmtp_talk.specs.ReadBuffer.{waiting}
+use Rattle.lmtp_talk.proofs.tcp.peer.TcpPeer.wait.Given as goal
+
+abbrev pub invariant-loop : goal.invariant-loop
+invariant-loop g l = record {
+  same : l.self ≡ record l.initial.self { stream = l.self.stream; buffer = l.self.buffer };
+  none : waiting l.self.buffer ≡ [];
+  kept : Keeps (g.T.Read.remaining l.initial.self.stream) (g.T.Read.remaining l.self.stream);
+}
