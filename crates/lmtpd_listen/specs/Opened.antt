@@ -1,0 +1,64 @@
+-- What contracts see of what was opened, and of what wasn't.
+use Rattle.std.specs.Prelude.{◌≡◌, ℕ, List, Option, Some, None, string_bytes}
+use Rattle.lmtp_lane.specs.declared.tcp.listener.Client.{Client}
+use Rattle.lmtp_lane.specs.declared.tcp.listener.Client.TheVariants as who
+use Rattle.lmtp_lane.specs.declared.tcp.listener.Endpoint.{Endpoint}
+use Rattle.lmtp_lane.specs.declared.tcp.listener.Endpoint.TheVariants as endpoint
+use Rattle.lmtpd_listen.specs.declared.client.ClientSocket.{ClientSocket}
+use Rattle.lmtpd_listen.specs.declared.client.ClientSocket.TheVariants as client
+use Rattle.lmtpd_listen.specs.declared.fault.ListenFault.{ListenFault}
+use Rattle.lmtpd_listen.specs.declared.fault.ListenFault.TheVariants as fault
+use Rattle.lmtpd_listen.specs.declared.fault.Reason.{Reason}
+use Rattle.lmtpd_listen.specs.declared.opened.Opened.{Opened}
+use Rattle.lmtpd_listen.specs.declared.place.Place.{Place}
+use Rattle.lmtpd_listen.specs.declared.place.Place.TheVariants as place
+use Rattle.lmtpd_listen.specs.declared.server.Listening.{Listening}
+use Rattle.lmtpd_listen.specs.declared.server.Listening.TheVariants as listening
+use Rattle.lmtpd_listen.specs.declared.server.ServerSocket.{ServerSocket}
+use Rattle.lmtpd_listen.specs.declared.socket_file.Made.{Made}
+use Rattle.lmtpd_listen.specs.declared.socket_file.SocketFile.{SocketFile}
+
+abbrev path_in : Listening → Option (List ℕ)
+path_in (listening.Tcp listener) = None
+path_in (listening.Unix listener path) = Some (string_bytes path)
+
+-- where a Unix socket listens; none for TCP
+abbrev pub socket_path : ServerSocket → Option (List ℕ)
+socket_path socket = path_in socket.listening
+
+abbrev path_made : Option Made → Option (List ℕ)
+path_made None = None
+path_made (Some made) = Some made.path.now
+
+-- the file that is removed at the end; none where none was made
+abbrev pub file_path : SocketFile → Option (List ℕ)
+file_path file = path_made file.made
+
+-- whom a socket accepts: over TCP one with an address, over a Unix socket one without
+abbrev pub IsClient : Option (List ℕ) → ClientSocket → Client → Type 0
+IsClient None (client.Tcp stream) (who.Ip address) = Unit {0}
+IsClient (Some path) (client.Unix stream) who.Unix = Unit {0}
+IsClient _ _ _ = ⊥
+
+-- where it says that it listens
+abbrev pub IsEndpoint : Option (List ℕ) → Endpoint → Type 0
+IsEndpoint path (endpoint.Ip address) = path ≡ None
+IsEndpoint path (endpoint.Unix name) = path ≡ Some name.now
+
+-- What was opened is of the kind that was asked for: a Unix socket that was made listens at its path, and its file is
+-- removed at the end; any other is left where it is.
+abbrev pub IsOpened : Place → Opened → Type 0
+IsOpened (place.Tcp address) opened = (socket_path opened.socket ≡ None) × (file_path opened.file ≡ None)
+IsOpened (place.Unix path) opened = (socket_path opened.socket ≡ Some path.now) × (file_path opened.file ≡ Some path.now)
+IsOpened place.Inherited opened = file_path opened.file ≡ None
+
+-- nothing could be opened at a place, and the log says why
+abbrev pub IsListenFault : ListenFault → Type 0
+IsListenFault f = (reason : Reason) × (f ≡ fault.Listen reason)
+
+-- why nothing was opened: only a socket that the program was started with may have the port of SMTP
+abbrev pub IsUnopened : Place → ListenFault → Type 0
+IsUnopened p fault.Memory = Unit {0}
+IsUnopened p (fault.Listen reason) = Unit {0}
+IsUnopened p fault.Port = p ≡ place.Inherited
+IsUnopened p fault.Address = ⊥

@@ -1,0 +1,89 @@
+//! The file of a Unix socket that was made.
+
+ghost use Rattle.std.specs.Prelude.{◌≡◌, Some, None};
+ghost use Rattle.lmtpd_listen.specs.Opened.{IsListenFault, file_path};
+ghost use Rattle.std.specs.Prelude.{IfErr};
+
+use crate::fault::{ListenFault, Reason};
+use crate::folder::lock_folder;
+use mbox_rd::FileLock;
+use std::fs::{Files, Metadata};
+use std::os::unix::fs::{FileTypeExt, MetadataExt};
+use std::time::Clock;
+use std::{fs, io};
+
+/// The file of a Unix socket, where one was made. It can't be dropped: whoever opened it removes it.
+pub struct SocketFile<'a> {
+    made: Option<Made<'a>>,
+}
+
+#[derive(Clone, Copy)]
+struct Made<'a> {
+    path: &'a str,
+    mark: Mark,
+}
+
+/// Which file it is. A file that is made after another was removed may get its number, and is younger.
+#[derive(Clone, Copy, Debug, PartialEq, Eq)]
+pub(crate) struct Mark {
+    dev: u64,
+    ino: u64,
+    mtime: i64,
+    mtime_nsec: i64,
+}
+
+/// Which socket's file it is.
+pub(crate) fn mark_of(found: &Metadata) -> Result<Mark, ListenFault>
+    ensures { IfErr result IsListenFault }
+{
+    if !found.file_type().is_socket() {
+        return Err(ListenFault::Listen(Reason::NoSocket));
+    }
+    Ok(Mark {
+        dev: found.dev(),
+        ino: found.ino(),
+        mtime: found.mtime(),
+        mtime_nsec: found.mtime_nsec(),
+    })
+}
+
+impl<'a> SocketFile<'a> {
+    /// Where no file was made.
+    pub(crate) fn none() -> SocketFile<'a>
+        ensures { file_path result ≡ None }
+    {
+        SocketFile { made: None }
+    }
+
+    /// The file that was made at that path.
+    pub(crate) fn at(path: &'a str, mark: Mark) -> SocketFile<'a>
+        ensures { file_path result ≡ Some path.now }
+    {
+        SocketFile {
+            made: Some(Made { path, mark }),
+        }
+    }
+
+    /// Removes the file, where it is still the one that was made. What can't be looked at or removed stays: a server
+    /// that starts there later replaces it.
+    pub fn remove<R: Files + Clock>(self, rt: &R)
+    where
+        R::File: FileLock,
+    {
+        let SocketFile { made } = self;
+        let Some(made) = made else {
+            return;
+        };
+        if let Ok(_folder) = lock_folder(rt, made.path) {
+            let _ = remove_made(rt, made.path, made.mark);
+        }
+    }
+}
+
+/// Removes the file at that path where it is that one, while its folder is locked.
+pub(crate) fn remove_made<R: Files>(rt: &R, path: &str, mark: Mark) -> io::Result<()> {
+    match mark_of(&fs::symlink_metadata(rt, path)?) {
+        Ok(found) if found == mark => fs::remove_file(rt, path),
+        _ => Ok(()),
+    }
+}

@@ -1,0 +1,127 @@
+//! A Unix socket at a path.
+
+ghost use Rattle.std.specs.Prelude.{IfErr, MatchResult};
+ghost use Rattle.lmtpd_listen.specs.Opened.{IsListenFault, IsOpened, IsUnopened};
+ghost use Rattle.lmtpd_listen.specs.declared.place.Place.TheVariants as place;
+
+use crate::fault::{ListenFault, Reason, last_fault};
+use crate::folder::lock_folder;
+use crate::opened::Opened;
+use crate::server::ServerSocket;
+use crate::socket_file::{Mark, SocketFile, mark_of, remove_made};
+use libc::net::listen;
+use mbox_rd::FileLock;
+use std::alloc::Global;
+use std::fs;
+use std::fs::{Files, Permissions};
+use std::io::ErrorKind;
+use std::net::Net;
+use std::os::fd::{AsFd, AsRawFd};
+use std::os::unix::fs::{MetadataExt, PermissionsExt};
+use std::os::unix::net::{SocketAddr, UnixListener, UnixStream};
+use std::time::Clock;
+
+/// As many clients may wait for an accept as the system allows.
+const BACKLOG: i32 = -1;
+
+/// Who may connect: the bits of a file's mode that a socket's file is asked to have.
+const MODE_BITS: u32 = 0o777;
+
+/// Makes a Unix socket that listens at the path. Its file has that mode before anybody can connect, and never a wider
+/// one.
+pub(crate) fn open_unix<'a, R: Files + Net + Clock>(
+    rt: &R,
+    alloc: Global,
+    path: &'a str,
+    mode: u32,
+) -> Result<Opened<'a>, ListenFault>
+where
+    R::File: FileLock,
+    ensures { MatchResult result (IsOpened (place.Unix path.entry)) (IsUnopened (place.Unix path.entry)) }
+{
+    let mode = mode & MODE_BITS;
+    let name = format!(in alloc; "{path}")?;
+    let address = SocketAddr::from_pathname(path)?;
+    let _folder = lock_folder(rt, path)?;
+    make_room(rt, path)?;
+    let socket = ServerSocket::of_unix(UnixListener::from(rt.unix_socket()?), name)?;
+    bind(rt, &socket, &address, mode)?;
+    let mark = mark_of(&fs::symlink_metadata(rt, path)?)?;
+    match expose(rt, &socket, path, mark, mode) {
+        Ok(()) => Ok(Opened {
+            socket,
+            file: SocketFile::at(path, mark),
+        }),
+        Err(fault) => {
+            let _ = remove_made(rt, path, mark);
+            Err(fault)
+        }
+    }
+}
+
+// Removes a socket's file to which nobody listens any more. It fails where there is anything else.
+fn make_room<R: Files + Net>(rt: &R, path: &str) -> Result<(), ListenFault>
+    ensures { IfErr result IsListenFault }
+{
+    let found = match fs::symlink_metadata(rt, path) {
+        Ok(found) => found,
+        Err(error) if error.kind() == ErrorKind::NotFound => return Ok(()),
+        Err(error) => return Err(error.into()),
+    };
+    let mark = mark_of(&found)?;
+    match UnixStream::connect(rt, path) {
+        Ok(_) => Err(ListenFault::Listen(Reason::Answered)),
+        Err(error) if error.kind() == ErrorKind::ConnectionRefused => {
+            Ok(remove_made(rt, path, mark)?)
+        }
+        Err(error) => Err(error.into()),
+    }
+}
+
+// Gives the socket its file, whose mode is that of the socket, narrowed by the process's umask.
+fn bind<R: Files>(
+    rt: &R,
+    socket: &ServerSocket,
+    address: &SocketAddr,
+    mode: u32,
+) -> Result<(), ListenFault>
+    ensures { IfErr result IsListenFault }
+{
+    if libc::fchmod(socket.as_raw_fd(), mode) < 0 {
+        return Err(last_fault());
+    }
+    Ok(rt.bind_unix(socket.as_fd(), address)?)
+}
+
+// Gives the file the very mode, and has the socket listen.
+fn expose<R: Files>(
+    rt: &R,
+    socket: &ServerSocket,
+    path: &str,
+    mark: Mark,
+    mode: u32,
+) -> Result<(), ListenFault>
+    ensures { IfErr result IsListenFault }
+{
+    if !has_mode(rt, path, mark, mode)? {
+        fs::set_permissions(rt, path, Permissions::from_mode(mode))?;
+        if !has_mode(rt, path, mark, mode)? {
+            return Err(ListenFault::Listen(Reason::Changed));
+        }
+    }
+    if listen(socket.as_raw_fd(), BACKLOG) < 0 {
+        return Err(last_fault());
+    }
+    Ok(())
+}
+
+// Whether the file has that mode. It fails where the path names another one.
+fn has_mode<R: Files>(rt: &R, path: &str, mark: Mark, mode: u32) -> Result<bool, ListenFault>
+    ensures { IfErr result IsListenFault }
+{
+    let found = fs::symlink_metadata(rt, path)?;
+    if mark_of(&found)? != mark {
+        return Err(ListenFault::Listen(Reason::Changed));
+    }
+    Ok(found.mode() & MODE_BITS == mode)
+}
