@@ -14,13 +14,13 @@ use Rattle.lmtpd_words.specs.declared.words.ServeWords.{ServeWords}
 use Rattle.lmtpd.specs.declared.fault.Fault.TheVariants as fault
 use Rattle.lmtpd.specs.declared.stop.Stop.TheVariants as stop
 use Rattle.lmtpd.specs.Faults.{first_fault, house_refusal}
-use Rattle.lmtpd.specs.Program.{IsAddress, IsNotRun, IsNotServed, IsServedAsAsked, IsSizeAsked, sizes_asked}
+use Rattle.lmtpd.specs.Program.{IsPlace, IsNotRun, IsNotServed, IsServedAsAsked, IsSizeAsked, sizes_asked}
 use Rattle.lmtpd.proofs.Unrun.{causes, unrun}
 
-not_run : (words : ServeWords) (cause : HouseFault) → IsAddress words.listen.now → first_fault (named_site words.site) ≡ None
+not_run : (words : ServeWords) (cause : HouseFault) → IsPlace words.listen.now → first_fault (named_site words.site) ≡ None
     → (house_refusal cause ≡ fault.Memory) ⊎ IsNotRun (IsSizeAsked words) (house_refusal cause) → IsNotServed words (stop.Fault (house_refusal cause))
 not_run words cause address sound (inl memory) = inl (ap stop.Fault memory)
-not_run words cause address sound (inr why) = inr (inr (address, inr (sound, inr why)))
+not_run words cause address sound (inr why) = inr (inr (address, inr (sound, inr (inr why))))
 
 size_asked : (words : ServeWords) (site : Site) (sizes : Sizes) (count : ℕ) → site ≡ named_site words.site → sizes ≡ sizes_asked words → count ≡ length words.site.boxes.items
     → IsSize site sizes words.lanes count count → IsSizeAsked words
@@ -40,24 +40,24 @@ size_of_sum : {X : Type 0} (x : X) (Good : Type 0) → (◌≡◌ {A = Result X 
 size_of_sum x Good (inl e) = cc
 size_of_sum x Good (inr good) = good
 
-pub served_as_asked : (L G C : Type 0) {S : Type 0} (state : S → SpoolState) (words : ServeWords) (served : Served) (site : Site) (sizes : Sizes) (spools : List S)
-    → IsAddress words.listen.now → (site ≡ named_site words.site) × (first_fault (named_site words.site) ≡ None) → sizes ≡ sizes_asked words
+pub served_as_asked : (L G C E : Type 0) {S : Type 0} (state : S → SpoolState) (words : ServeWords) (served : Served) (site : Site) (sizes : Sizes) (spools : List S)
+    → IsPlace words.listen.now → (site ≡ named_site words.site) × (first_fault (named_site words.site) ≡ None) → sizes ≡ sizes_asked words
     → length spools ≡ length words.site.boxes.items
     → (◌≡◌ {A = Result Served HouseFault} (Ok served) (Err house.Size)) ⊎ IsSize site sizes words.lanes (length spools) (length spools)
-    → IsServerRun L G C site state (record { lanes = words.lanes; quota = sizes.quota }) spools served
-    → IsServedAsAsked L G C state words served
-served_as_asked L G C state words served site sizes spools address made asked boxes good ran = record {
-  address = address;
+    → IsServerRun L G C E site state (record { lanes = words.lanes; quota = sizes.quota }) spools served
+    → IsServedAsAsked L G C E state words served
+served_as_asked L G C E state words served site sizes spools address made asked boxes good ran = record {
+  place = address;
   sound = made.1;
   sizes = size_asked words site sizes (length spools) made.0 asked boxes (size_of_sum served (IsSize site sizes words.lanes (length spools) (length spools)) good);
   spools = spools;
   each_box = boxes;
-  ran = subst (λ quota. IsServerRun L G C (named_site words.site) state (record { lanes = words.lanes; quota = quota }) spools served) (ap (λ (s : Sizes). s.quota) asked)
-      (subst (λ (s : Site). IsServerRun L G C s state (record { lanes = words.lanes; quota = sizes.quota }) spools served) made.0 ran);
+  ran = subst (λ quota. IsServerRun L G C E (named_site words.site) state (record { lanes = words.lanes; quota = quota }) spools served) (ap (λ (s : Sizes). s.quota) asked)
+      (subst (λ (s : Site). IsServerRun L G C E s state (record { lanes = words.lanes; quota = sizes.quota }) spools served) made.0 ran);
 }
 
 pub no_server : (words : ServeWords) (cause : HouseFault) (site : Site) (sizes : Sizes) (count : ℕ)
-    → IsAddress words.listen.now → (site ≡ named_site words.site) × (first_fault (named_site words.site) ≡ None) → sizes ≡ sizes_asked words
+    → IsPlace words.listen.now → (site ≡ named_site words.site) × (first_fault (named_site words.site) ≡ None) → sizes ≡ sizes_asked words
     → count ≡ length words.site.boxes.items
     → (◌≡◌ {A = Result Served HouseFault} (Err cause) (Err house.Size) → IsSize site sizes words.lanes count count → ⊥)
     → (◌≡◌ {A = Result Served HouseFault} (Err cause) (Err house.Size)) ⊎ IsSize site sizes words.lanes count count

@@ -14,6 +14,8 @@ use Rattle.lmtp_house.specs.declared.house.fault.HouseFault.{HouseFault}
 use Rattle.lmtp_house.specs.declared.house.fault.HouseFault.TheVariants as house
 use Rattle.lmtp_talk.specs.declared.ending.EndCause.TheVariants.{ReadFault, WriteFault}
 use Rattle.lmtpd_check.specs.Checked.{is_letters}
+use Rattle.lmtpd_listen.specs.declared.fault.ListenFault.{ListenFault}
+use Rattle.lmtpd_listen.specs.declared.fault.ListenFault.TheVariants as listen
 use Rattle.lmtpd_check.specs.declared.checked.Finding.{Finding}
 use Rattle.lmtpd.specs.declared.fault.Fault.{Fault}
 use Rattle.lmtpd.specs.declared.fault.Fault.TheVariants as fault
@@ -65,6 +67,13 @@ house_refusal house.Memory = fault.Memory
 house_refusal house.Size = fault.Size
 house_refusal house.ChannelGone = fault.ChannelGone
 house_refusal house.NoThread = fault.NoThread
+
+-- the fault for words that name no place to listen at, or one where nothing could be opened
+abbrev pub listen_refusal : ListenFault → Fault
+listen_refusal listen.Address = fault.Address
+listen_refusal listen.Port = fault.Port
+listen_refusal listen.Memory = fault.Memory
+listen_refusal (listen.Listen reason) = fault.Listen
 
 abbrev pub is_memory : ErrorKind → Bool
 is_memory OutOfMemory = true

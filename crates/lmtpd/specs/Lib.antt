@@ -1,4 +1,3 @@
-pub mod Address
 pub mod Faults
 pub mod Unopened
 pub mod Program

@@ -1,9 +1,7 @@
 -- What a run of the program comes to: the words say what is asked for, and then come what was done, the lines on
 -- standard error and the status.
-use Rattle.std.specs.Prelude.{◌≡◌, ◌≢◌, ◌⊎◌, ℕ, true, List, [], ◌∷◌, ◌++◌, length, codes, Option, Some, None, Contains}
-use Rattle.std.specs.Net.Socket.{socket_port}
-use Rattle.std.specs.Net.Grammar.{IsSocketText}
-use Rattle.std.specs.declared.net.SocketAddr.{SocketAddr}
+use Rattle.std.specs.Prelude.{◌≡◌, ◌⊎◌, ◌*◌, ◌-◌, ◌^◌, min, ℕ, true, List, [], ◌∷◌, ◌++◌, length, codes, Option, Some, None, Contains}
+use Rattle.std.specs.Option.{option_map_or}
 use Rattle.clap.specs.Words.{Text, kind_of, subcommand_of, takes}
 use Rattle.clap.specs.declared.error.Error.{Error}
 use Rattle.clap.specs.declared.error.kind.ErrorKind.TheVariants.{OutOfMemory}
@@ -12,14 +10,19 @@ use Rattle.lmtp_text.specs.Sites.{texts}
 use Rattle.mbox_rd.specs.Spool.{SpoolState}
 use Rattle.lmtp_house.specs.House.{IsSize}
 use Rattle.lmtp_house.specs.declared.house.sizes.Sizes.{Sizes}
+use Rattle.lmtp_talk.specs.declared.tcp.peer.Bounds.{Bounds}
+use Rattle.lmtpd_serve.specs.declared.ends.Ends.{Ends}
 use Rattle.lmtpd_words.specs.CommandLine.{program_app}
 use Rattle.lmtpd_words.specs.Words.{IsAsked, IsLacking, named_site}
 use Rattle.lmtpd_words.specs.declared.words.RehearseWords.{RehearseWords}
 use Rattle.lmtpd_words.specs.declared.words.ServeWords.{ServeWords}
 use Rattle.lmtpd_words.specs.declared.words.CheckWords.{CheckWords}
 use Rattle.lmtpd_words.specs.declared.words.Words.TheVariants.{Rehearse, Serve, Check}
-use Rattle.lmtpd.specs.Address.{IsRefused}
-use Rattle.lmtpd.specs.Faults.{check_fault, check_status, fault_text, first_fault, rehearsal_fault, server_fault, status_of, stop_for, stop_status}
+use Rattle.lmtpd_listen.specs.Listening.{AsksInherited, IsRefused, Names}
+use Rattle.lmtpd_listen.specs.Opened.{IsUnopened}
+use Rattle.lmtpd_listen.specs.declared.fault.ListenFault.{ListenFault}
+use Rattle.lmtpd_listen.specs.declared.place.Place.{Place}
+use Rattle.lmtpd.specs.Faults.{check_fault, check_status, fault_text, first_fault, listen_refusal, rehearsal_fault, server_fault, status_of, stop_for, stop_status}
 use Rattle.lmtpd_check.specs.Checked.{IsChecked, unlocked_lines}
 use Rattle.lmtpd_check.specs.declared.checked.Checked.{Checked as CheckedFiles}
 use Rattle.lmtpd_rehearse.specs.Rehearsal.{IsBlockCount, IsRehearsed, Streams}
@@ -30,7 +33,6 @@ use Rattle.lmtpd.specs.declared.program.Done.{Done}
 use Rattle.lmtpd.specs.declared.program.Done.TheVariants.{Rehearsed, Served, Checked, Stopped}
 use Rattle.lmtpd_rehearse.specs.declared.ending.Ending.{Ending}
 use Rattle.lmtpd_serve.specs.declared.served.Served.{Served as ServedRun}
-use Rattle.lmtpd.specs.declared.serve.address.TheConstants.{SMTP_PORT}
 use Rattle.lmtpd.specs.declared.stop.Stop.{Stop}
 use Rattle.lmtpd.specs.declared.stop.Stop.TheVariants as stop
 
@@ -78,9 +80,13 @@ IsNotRehearsed words f = (f ≡ fault.Memory)
     ⊎ ((first_fault (named_site words.site) ≡ Some f)
     ⊎ ((first_fault (named_site words.site) ≡ None) × IsNotRun (IsBlockCount words.blocks) f))
 
--- an address that a server may listen at
-abbrev pub IsAddress : List ℕ → Type 0
-IsAddress text = (address : SocketAddr) × IsSocketText text address × (socket_port address ≢ SMTP_PORT)
+-- a place that a server may listen at
+abbrev pub IsPlace : List ℕ → Type 0
+IsPlace text = (place : Place) × Names text place
+
+-- why nothing was opened there
+abbrev pub IsUnopenedAt : Place → Fault → Type 0
+IsUnopenedAt place f = (refused : ListenFault) × (f ≡ listen_refusal refused) × IsUnopened place refused
 
 -- the sizes that the words of a server ask for: a slot for each lane
 abbrev pub sizes_asked : ServeWords → Sizes
@@ -91,33 +97,47 @@ sizes_asked words = record {
   quota = words.quota;
 }
 
+-- how many conversations the words of a server ask for; where they name no number, more than any server holds
+abbrev pub connections_asked : ServeWords → ℕ
+connections_asked words = option_map_or (λ count. count) words.connections (2 ^ 64 - 1)
+
+-- what a conversation may ask of its client: two waits make a second
+abbrev pub bounds_asked : ServeWords → Bounds
+bounds_asked words = record { reads = words.reads; waits = min (words.timeout * 2) (2 ^ 32 - 1) }
+
+-- what else ends the server, and a conversation
+abbrev pub ends_asked : ServeWords → Ends
+ends_asked words = record { stop_file = words.stop_file; heals = words.heal; session_time = words.session_time }
+
 abbrev pub IsSizeAsked : ServeWords → Type 0
 IsSizeAsked words =
     IsSize (named_site words.site) (sizes_asked words) words.lanes (length words.site.boxes.items) (length words.site.boxes.items)
 
 -- A server that its words asked for ran: where they say, at the site that they name, with their sizes, over a spool for
 -- each mailbox.
-pub record IsServedAsAsked (L G C : Type 0) {S : Type 0} (state : S → SpoolState) (words : ServeWords)
+pub record IsServedAsAsked (L G C E : Type 0) {S : Type 0} (state : S → SpoolState) (words : ServeWords)
     (served : ServedRun) : Type 0 where
-  pub address : IsAddress words.listen.now
+  pub place : IsPlace words.listen.now
   pub sound : first_fault (named_site words.site) ≡ None
   pub sizes : IsSizeAsked words
   pub spools : List S
   pub each_box : length spools ≡ length words.site.boxes.items
-  pub ran : IsServerRun L G C (named_site words.site) state (record { lanes = words.lanes; quota = words.quota }) spools served
+  pub ran : IsServerRun L G C E (named_site words.site) state (record { lanes = words.lanes; quota = words.quota }) spools served
 
--- why none ran though its site is sound: a mailbox's file, the listener, or the server
+-- why none ran though its site is sound: a mailbox's file, what it listens on, or the server; a port that none may
+-- have is seen only now where the socket was passed
 abbrev pub IsNotServedAt : ServeWords → Stop → Type 0
 IsNotServedAt words (stop.Words error) = ⊥
 IsNotServedAt words (stop.Unopened name) = Contains words.site.boxes.items name
-IsNotServedAt words (stop.Fault f) = (f ≡ fault.Listen) ⊎ IsNotRun (IsSizeAsked words) f
+IsNotServedAt words (stop.Fault f) = (f ≡ fault.Listen)
+    ⊎ (((f ≡ fault.Port) × AsksInherited words.listen.now) ⊎ IsNotRun (IsSizeAsked words) f)
 
--- Why none ran: memory is wanting, and else the first of the address, the site, the files, the listener and the server
+-- Why none ran: memory is wanting, and else the first of the place, the site, the files, what listens and the server
 -- itself.
 abbrev pub IsNotServed : ServeWords → Stop → Type 0
 IsNotServed words s = (s ≡ stop.Fault fault.Memory)
-    ⊎ (((f : Fault) × (s ≡ stop.Fault f) × IsRefused words.listen.now f)
-    ⊎ (IsAddress words.listen.now × (((f : Fault) × (s ≡ stop.Fault f) × (first_fault (named_site words.site) ≡ Some f))
+    ⊎ (((f : ListenFault) × (s ≡ stop.Fault (listen_refusal f)) × IsRefused words.listen.now f)
+    ⊎ (IsPlace words.listen.now × (((f : Fault) × (s ≡ stop.Fault f) × (first_fault (named_site words.site) ≡ Some f))
     ⊎ ((first_fault (named_site words.site) ≡ None) × IsNotServedAt words s))))
 
 -- The files that its words name were checked: `remaining` is what contracts see of a file, `contents` of a writer, and

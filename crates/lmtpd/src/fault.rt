@@ -1,10 +1,11 @@
 //! What the program says on standard error, and the status that it then ends with.
 
 ghost use Rattle.std.specs.Prelude.{◌≡◌};
-ghost use Rattle.lmtpd.specs.Faults.{check_fault, fault_text, house_refusal, refusal, rehearsal_fault, server_fault};
+ghost use Rattle.lmtpd.specs.Faults.{check_fault, fault_text, house_refusal, listen_refusal, refusal, rehearsal_fault, server_fault};
 ghost use Rattle.lmtpd.specs.Faults.{status_of};
 
 use lmtp_text::SiteFault;
+use lmtpd_listen::ListenFault;
 use lmtpd_rehearse::{EndCause, Ending, HouseFault};
 use lmtpd_serve::ServerEnding;
 use std::alloc::{AllocError, AllocFailed};
@@ -60,6 +61,19 @@ impl Fault {
             Fault::NoThread => "no thread",
             Fault::ChannelGone => "channel gone",
             Fault::Device => "device fault",
+        }
+    }
+}
+
+impl From<ListenFault> for Fault {
+    ghost from_gives = { λ refused fault. fault ≡ listen_refusal refused };
+
+    fn from(refused: ListenFault) -> Fault {
+        match refused {
+            ListenFault::Address => Fault::Address,
+            ListenFault::Port => Fault::Port,
+            ListenFault::Memory => Fault::Memory,
+            ListenFault::Listen(_) => Fault::Listen,
         }
     }
 }

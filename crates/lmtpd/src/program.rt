@@ -4,7 +4,8 @@ ghost use Rattle.std.specs.Prelude.{◌≡◌};
 ghost use Rattle.log.specs.declared.handle.Handle.{Handle};
 ghost use Rattle.log.specs.declared.handle.Root.{Root};
 ghost use Rattle.log.specs.declared.sink.Console.{Console};
-ghost use Rattle.lmtp_lane.specs.declared.tcp.listener.TimedListener.{TimedListener};
+ghost use Rattle.lmtpd_listen.specs.declared.server.ServerSocket.{ServerSocket};
+ghost use Rattle.lmtpd_serve.specs.declared.ends.ServerCurfew.{ServerCurfew};
 ghost use Rattle.lmtpd_words.specs.Words.{as_texts};
 ghost use Rattle.lmtpd.specs.Program.{IsCheckedAsAsked, IsDoneAsAsked, IsServedAsAsked, exit_lines, exit_status};
 ghost use Rattle.lmtpd_rehearse.specs.Rehearsal.{IsListed};
@@ -12,19 +13,19 @@ ghost use Rattle.lmtpd_rehearse.specs.Rehearsal.{IsListed};
 use crate::check::{check_asked, report_checked};
 use crate::fault::rehearsal_fault;
 use crate::rehearse::rehearse_asked;
-use crate::serve::{SharedMailbox, report_served, serve_asked};
+use crate::serve::{ServedMailbox, report_served, serve_asked};
 use crate::stop::{Exit, Stop, report_fault};
 use lmtpd_check::Checked;
-use lmtpd_log::LoggedMailbox;
 use lmtpd_rehearse::Rehearsed;
 use lmtpd_serve::Served;
 use lmtpd_words::{Words, read_words};
 use log::Logged;
 use log::sink::Console;
-use mbox_rd::{RangeLock, Spool};
+use mbox_rd::{FileLock, RangeLock, Spool};
+use std::env::Env;
 use std::fs::Files;
 use std::io::{Read, Write};
-use std::net::Net;
+use std::net::{Net, TcpListener, TcpStream};
 use std::sync::Wait;
 use std::thread::Threads;
 use std::time::Clock;
@@ -57,19 +58,18 @@ pub fn run_program<'a, P, H, R, W, E>(
     error: &mut E,
 ) -> Ended<'a, R, W>
 where
-    P: AllocGlobal + Print + Eprint + Files + Net,
-    P::File: RangeLock,
+    P: AllocGlobal + Print + Eprint + Files,
+    P: Net<Listener = TcpListener, Stream = TcpStream> + Env + Clock,
+    P::File: RangeLock + FileLock,
     H::File: RangeLock + Send + 'static,
     H::Dir: Send + 'static,
-    P::Listener: Send + Sync + 'static,
-    P::Stream: Send + 'static,
     H: Threads + Wait + Clock + Files + Eprint + Copy + Drop + Send + Sync + 'static,
     R: Read + Drop + Send + 'static,
     W: Write + Drop + Send + 'static,
     E: Write,
     ensures done { IsDoneAsAsked (λ reader writer. record { unread = R.remaining reader; written = W.contents writer })
-        (IsServedAsAsked (TimedListener P.Listener) (Handle H (Root (Console H))) H
-        (⟦<LoggedMailbox<SharedMailbox<H>, Logged<H, Console<H>>> as Spool>⟧.state))
+        (IsServedAsAsked ServerSocket (Handle H (Root (Console H))) H (ServerCurfew H)
+        (⟦<ServedMailbox<H, Logged<H, Console<H>>> as Spool>⟧.state))
         (IsCheckedAsAsked P.File.remaining W.contents (W.contents writer)) (as_texts words.entry.now)
         (record { unread = R.remaining reader; written = W.contents writer }) result.done }
     ensures status { result.exit.status ≡ exit_status result.done }
@@ -89,18 +89,16 @@ fn do_asked<'a, P, H, R, W>(
     writer: W,
 ) -> Done<'a, R, W>
 where
-    P: AllocGlobal + Files + Net,
-    P::File: RangeLock,
+    P: AllocGlobal + Files + Net<Listener = TcpListener, Stream = TcpStream> + Env + Clock,
+    P::File: RangeLock + FileLock,
     H::File: RangeLock + Send + 'static,
     H::Dir: Send + 'static,
-    P::Listener: Send + Sync + 'static,
-    P::Stream: Send + 'static,
     H: Threads + Wait + Clock + Files + Eprint + Copy + Drop + Send + Sync + 'static,
     R: Read + Drop + Send + 'static,
     W: Write + Drop + Send + 'static,
     ensures { IsDoneAsAsked (λ reader writer. record { unread = R.remaining reader; written = W.contents writer })
-        (IsServedAsAsked (TimedListener P.Listener) (Handle H (Root (Console H))) H
-        (⟦<LoggedMailbox<SharedMailbox<H>, Logged<H, Console<H>>> as Spool>⟧.state))
+        (IsServedAsAsked ServerSocket (Handle H (Root (Console H))) H (ServerCurfew H)
+        (⟦<ServedMailbox<H, Logged<H, Console<H>>> as Spool>⟧.state))
         (IsCheckedAsAsked P.File.remaining W.contents (W.contents writer)) (as_texts words.entry.now)
         (record { unread = R.remaining reader; written = W.contents writer }) result }
 {

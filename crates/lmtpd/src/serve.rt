@@ -1,11 +1,12 @@
 //! The server that the program's words ask for: where it listens, its mailboxes, its run, and what is said of that.
 
-mod address;
 mod asked;
 mod mailboxes;
+mod numbers;
+mod opening;
 mod report;
 mod room;
 
 pub use asked::serve_asked;
-pub use mailboxes::SharedMailbox;
+pub use mailboxes::ServedMailbox;
 pub use report::report_served;

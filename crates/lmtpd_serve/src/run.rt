@@ -13,8 +13,8 @@ use super::conversations::Conversations;
 use super::lines::{endpoint_line, write_counts};
 use super::served::{Served, ServerEnding};
 use lmtp_house::{
-    ClientStream, Curfew, HouseFault, Listener, Sizes, SystemClock, Tally, has_failed,
-    is_size, run_house, tcp_visits,
+    ClientStream, Curfew, HouseFault, Listener, Sizes, SystemClock, Tally, has_failed, is_size,
+    run_house, tcp_visits,
 };
 use lmtp_text::Site;
 use lmtpd_log::{CountedListener, LoggedVisits, logged_visits};

@@ -1,28 +1,32 @@
 //! The server that the program's words ask for.
 
-ghost use Rattle.std.specs.Prelude.{◌≡◌, MatchResult};
+ghost use Rattle.std.specs.Prelude.{◌≡◌, IfErr, MatchResult};
 ghost use Rattle.log.specs.declared.handle.Handle.{Handle};
 ghost use Rattle.log.specs.declared.handle.Root.{Root};
 ghost use Rattle.log.specs.declared.sink.Console.{Console};
-ghost use Rattle.lmtp_lane.specs.declared.tcp.listener.TimedListener.{TimedListener};
-ghost use Rattle.lmtpd.specs.Program.{IsNotServed, IsServedAsAsked, sizes_asked};
+ghost use Rattle.lmtpd_listen.specs.declared.server.ServerSocket.{ServerSocket};
+ghost use Rattle.lmtpd_serve.specs.declared.ends.ServerCurfew.{ServerCurfew};
+ghost use Rattle.lmtpd.specs.Program.{IsNotServed, IsServedAsAsked};
 
-use super::address::address_of;
-use super::mailboxes::{Access, SharedMailbox, open_mailboxes};
+use super::mailboxes::{Access, ServedMailbox, open_mailboxes};
+use super::numbers::{bounds_asked, connections_asked, ends_asked, sizes_asked};
+use super::opening::open_place;
 use super::room::tell_of_room;
 use crate::fault::Fault;
 use crate::site::shared_site;
 use crate::stop::Stop;
-use lmtpd_log::LoggedMailbox;
-use lmtpd_serve::{Conversations, Served, Sizes, TimedListener, serve_run};
+use lmtpd_listen::{Opened, place_of};
+use lmtpd_serve::{Conversations, Served, ServerCurfew, serve_run};
 use lmtpd_words::ServeWords;
 use log::Logged;
 use log::sink::Console;
-use mbox_rd::{RangeLock, Spool};
+use mbox_rd::{FileLock, RangeLock, Spool};
+use std::alloc::Global;
+use std::env::Env;
 use std::fs::{Files, OpenOptions};
 use std::io::Write;
-use std::net::{Net, TcpListener};
-use std::sync::Wait;
+use std::net::{Net, TcpListener, TcpStream};
+use std::sync::{Arc, Wait};
 use std::thread::Threads;
 use std::time::Clock;
 
@@ -35,16 +39,15 @@ pub fn serve_asked<'a, P, H, W>(
     writer: W,
 ) -> Result<Served, Stop<'a>>
 where
-    P: AllocGlobal + Files + Net,
+    P: AllocGlobal + Files + Net<Listener = TcpListener, Stream = TcpStream> + Env + Clock,
+    P::File: FileLock,
     H::File: RangeLock + Send + 'static,
     H::Dir: Send + 'static,
-    P::Listener: Send + Sync + 'static,
-    P::Stream: Send + 'static,
     H: Threads + Wait + Clock + Files + Eprint + Copy + Drop + Send + Sync + 'static,
     W: Write + Drop,
     ensures { MatchResult result
-        (IsServedAsAsked (TimedListener P.Listener) (Handle H (Root (Console H))) H
-        (⟦<LoggedMailbox<SharedMailbox<H>, Logged<H, Console<H>>> as Spool>⟧.state) words.now)
+        (IsServedAsAsked ServerSocket (Handle H (Root (Console H))) H (ServerCurfew H)
+        (⟦<ServedMailbox<H, Logged<H, Console<H>>> as Spool>⟧.state) words.now)
         (IsNotServed words.now) }
 {
     let _input = null(rt);
@@ -61,20 +64,19 @@ fn serve_held<'a, P, H, W>(
     writer: W,
 ) -> Result<Served, Stop<'a>>
 where
-    P: AllocGlobal + Files + Net,
+    P: AllocGlobal + Files + Net<Listener = TcpListener, Stream = TcpStream> + Env + Clock,
+    P::File: FileLock,
     H::File: RangeLock + Send + 'static,
     H::Dir: Send + 'static,
-    P::Listener: Send + Sync + 'static,
-    P::Stream: Send + 'static,
     H: Threads + Wait + Clock + Files + Eprint + Copy + Drop + Send + Sync + 'static,
     W: Write + Drop,
     ensures { MatchResult result
-        (IsServedAsAsked (TimedListener P.Listener) (Handle H (Root (Console H))) H
-        (⟦<LoggedMailbox<SharedMailbox<H>, Logged<H, Console<H>>> as Spool>⟧.state) words.now)
+        (IsServedAsAsked ServerSocket (Handle H (Root (Console H))) H (ServerCurfew H)
+        (⟦<ServedMailbox<H, Logged<H, Console<H>>> as Spool>⟧.state) words.now)
         (IsNotServed words.now) }
 {
     let alloc = rt.alloc();
-    let address = address_of(words.listen)?;
+    let place = place_of(words.listen)?;
     let site = shared_site(alloc, &words.site)?;
     let log = Logged::new(threads, words.log, Console(threads));
     tell_of_room(words, &log);
@@ -83,30 +85,44 @@ where
         wait: words.lock_wait,
         mode: words.mailbox_mode,
     };
-    let spools = open_mailboxes(threads, alloc, access, &words.site.boxes, log)?;
-    let Ok(listener) = TcpListener::bind(rt, address) else {
-        return Err(Stop::Fault(Fault::Listen));
-    };
+    let curfew = shared_curfew(threads, alloc, words)?;
+    let spools = open_mailboxes(threads, alloc, access, &words.site.boxes, &curfew, log)?;
+    let Opened { socket, file } = open_place(rt, alloc, place, words.socket_mode, &log)?;
     let conversations = Conversations {
         lanes: words.lanes,
-        // where no number ends it, more than any server holds
-        count: words.connections.map_or(u64::MAX, u64::from),
-        reads: u64::from(words.reads),
+        count: connections_asked(words),
+        bounds: bounds_asked(words),
+        curfew,
     };
-    match serve_run(
+    let sizes = sizes_asked(words);
+    let served = serve_run(
         threads,
         alloc,
         site,
-        sizes_asked(words),
+        sizes,
         conversations,
-        TimedListener::new(listener, words.timeout),
+        socket,
         spools,
         log,
         writer,
-    ) {
+    );
+    file.remove(rt);
+    match served {
         Ok(served) => Ok(served),
         Err(cause) => Err(Stop::Fault(Fault::from(cause))),
     }
+}
+
+// What ends the server and its conversations, for lanes and mailboxes to share.
+fn shared_curfew<H: Drop>(
+    threads: H,
+    alloc: Global,
+    words: &ServeWords<'_>,
+) -> Result<Arc<ServerCurfew<H>>, Fault>
+    ensures { IfErr result (λ f. f ≡ Fault.Memory) }
+{
+    let curfew = ServerCurfew::new(threads, alloc, ends_asked(words))?;
+    Ok(Arc::new(alloc, curfew)?)
 }
 
 // Held three times, it stands where a standard stream is closed: else a mailbox would be opened there, and take what is
@@ -117,16 +133,4 @@ fn null<P: Files>(rt: &P) -> Option<P::File> {
         .write(true)
         .open(rt, "/dev/null")
         .ok()
-}
-
-// A slot for each lane.
-fn sizes_asked(words: &ServeWords<'_>) -> Sizes
-    ensures { result ≡ sizes_asked words.now }
-{
-    Sizes {
-        blocks: words.blocks,
-        slots: words.lanes,
-        capacity: words.capacity,
-        quota: words.quota,
-    }
 }

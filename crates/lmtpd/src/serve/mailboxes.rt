@@ -7,14 +7,19 @@ ghost use Rattle.lmtpd.specs.Unopened.{IsUnopened, IsUnopenedOf};
 use crate::fault::Fault;
 use crate::stop::Stop;
 use lmtpd_log::LoggedMailbox;
+use lmtpd_serve::{HurriedClock, ServerCurfew, WatchedMailbox};
 use log::Log;
 use mbox_rd::{OpenFault, RangeLock, SharedSpool, StdMailboxFile};
 use std::alloc::{AllocError, Global};
 use std::fs::Files;
+use std::sync::Arc;
 use std::time::Clock;
 
-/// A mailbox's file that other programs read and empty too.
-pub type SharedMailbox<R> = SharedSpool<StdMailboxFile<R>, R>;
+/// A mailbox's file that other programs read and empty too, and that waits for them until the server is to end.
+type SharedMailbox<R> = SharedSpool<StdMailboxFile<R>, HurriedClock<R>>;
+
+/// One whose failures are logged, and end a server that heals.
+pub type ServedMailbox<R, G> = LoggedMailbox<WatchedMailbox<SharedMailbox<R>, R>, G>;
 
 /// Where mailboxes are, how many seconds a turn at one is waited for, and the permission bits of a file that is made.
 #[derive(Clone, Copy, Debug)]
@@ -31,8 +36,9 @@ pub fn open_mailboxes<'a, R, G>(
     alloc: Global,
     access: Access<'_>,
     names: &[&'a str],
+    curfew: &Arc<ServerCurfew<R>>,
     log: G,
-) -> Result<Vec<LoggedMailbox<SharedMailbox<R>, G>>, Stop<'a>>
+) -> Result<Vec<ServedMailbox<R, G>>, Stop<'a>>
 where
     R: Files + Clock + Copy + Drop,
     R::File: RangeLock,
@@ -45,7 +51,7 @@ where
         Err(_) => return Err(Stop::Fault(Fault::Memory)),
     };
     for name in names {
-        let spool = open_mailbox(rt, alloc, access, name)?;
+        let spool = open_mailbox(rt, alloc, access, name, curfew)?;
         spools.push_reserved(logged_mailbox(alloc, spool, name, log)?);
     }
     Ok(spools)
@@ -71,7 +77,8 @@ fn open_mailbox<'a, R: Files + Clock + Copy + Drop>(
     alloc: Global,
     access: Access<'_>,
     name: &'a str,
-) -> Result<SharedMailbox<R>, Stop<'a>>
+    curfew: &Arc<ServerCurfew<R>>,
+) -> Result<WatchedMailbox<SharedMailbox<R>, R>, Stop<'a>>
 where
     R::File: RangeLock,
     ensures { IfErr result (IsUnopenedOf name.entry) }
@@ -81,9 +88,19 @@ where
         Ok(path) => path,
         Err(_) => return Err(Stop::Fault(Fault::Memory)),
     };
-    match SharedSpool::at_mode(rt, alloc, path.as_str(), wait, mode) {
-        Ok(spool) => Ok(spool),
+    let clock = HurriedClock::new(rt, shared(curfew)?);
+    match SharedSpool::at_mode(rt, clock, alloc, path.as_str(), wait, mode) {
+        Ok(spool) => Ok(WatchedMailbox::new(spool, shared(curfew)?)),
         Err(OpenFault::Memory) => Err(Stop::Fault(Fault::Memory)),
         Err(OpenFault::Open) => Err(Stop::Unopened(name)),
+    }
+}
+
+fn shared<'a, T: Drop>(curfew: &Arc<T>) -> Result<Arc<T>, Stop<'a>>
+    ensures { IfErr result (λ stop. stop ≡ Stop.Fault Fault.Memory) }
+{
+    match Arc::try_clone(curfew) {
+        Ok(curfew) => Ok(curfew),
+        Err(_) => Err(Stop::Fault(Fault::Memory)),
     }
 }

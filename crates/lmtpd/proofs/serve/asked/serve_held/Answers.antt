@@ -5,15 +5,15 @@ use Rattle.lmtpd.specs.Program.{IsNotServed}
 use Rattle.lmtpd.proofs.AsAsked.{no_server, served_as_asked}
 use Rattle.lmtpd.proofs.serve.asked.serve_held.Goals as goal
 
-pub returns-in-Ok-serve_run : goal.returns-in-Ok-serve_run
-returns-in-Ok-serve_run g c =
-    served_as_asked _ _ _ _ c.args.words.now c.in-Ok-serve_run.served (arc_value c.in_ok-site.site) c.sizes_asked.result c.in_ok-spools.spools.items
-    (c.in_ok-address.address, c.in_ok-address.ensures.0, c.in_ok-address.ensures.1) c.in_ok-site.ensures c.sizes_asked.ensures (sym c.in_ok-spools.spools.ok.0 ∙ c.in_ok-spools.ensures.count ∙ ap length c.deref.ensures.value)
-    c.in-Ok-serve_run.ensures.sized c.in-Ok-serve_run.ensures.ran
+pub returns-in-Ok-served : goal.returns-in-Ok-served
+returns-in-Ok-served g c =
+    served_as_asked _ _ _ _ _ c.args.words.now c.in-Ok-served.served (arc_value c.in_ok-site.site) c.sizes_asked-sizes.result c.in_ok-spools.spools.items
+    (c.in_ok-place.place, c.in_ok-place.ensures) c.in_ok-site.ensures c.sizes_asked-sizes.ensures (sym c.in_ok-spools.spools.ok.0 ∙ c.in_ok-spools.ensures.count ∙ ap length c.deref.ensures.value)
+    c.in-Ok-served.ensures.sized c.in-Ok-served.ensures.ran
 
 pub returns-in-Err : goal.returns-in-Err
 returns-in-Err g c =
     subst (λ f. IsNotServed c.args.words.now (stop.Fault f)) (sym c.from-in-Err.ensures)
-    (no_server c.args.words.now c.in-Err.cause (arc_value c.in_ok-site.site) c.sizes_asked.result (length c.in_ok-spools.spools.items)
-    (c.in_ok-address.address, c.in_ok-address.ensures.0, c.in_ok-address.ensures.1) c.in_ok-site.ensures c.sizes_asked.ensures (sym c.in_ok-spools.spools.ok.0 ∙ c.in_ok-spools.ensures.count ∙ ap length c.deref.ensures.value)
+    (no_server c.args.words.now c.in-Err.cause (arc_value c.in_ok-site.site) c.sizes_asked-sizes.result (length c.in_ok-spools.spools.items)
+    (c.in_ok-place.place, c.in_ok-place.ensures) c.in_ok-site.ensures c.sizes_asked-sizes.ensures (sym c.in_ok-spools.spools.ok.0 ∙ c.in_ok-spools.ensures.count ∙ ap length c.deref.ensures.value)
     (λ e. c.in-Err.ensures.size.0 e) c.in-Err.ensures.sized)
