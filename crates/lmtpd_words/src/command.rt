@@ -44,7 +44,7 @@ fn serve<'a>(alloc: Global) -> Result<Command<'a>, AllocError>
     ensures local { IfOk result (λ c. (fields_of c).has_globals ≡ false) }
 {
     let serve = Command::new(alloc, "serve")
-        .about("Serves conversations over TCP, and delivers into mailbox files")
+        .about("Serves conversations over TCP or a Unix socket, and delivers into mailbox files")
         .after_help(BEHIND_SERVE);
     with_arguments(alloc, serve, &SERVE)
 }
