@@ -1,13 +1,15 @@
 # What bash completes of the words of lmtpd.
 _lmtpd() {
     local serve rehearse check word=${COMP_WORDS[COMP_CWORD]} before=${COMP_WORDS[COMP_CWORD - 1]}
-    serve='--host --listen --dir --connections --domains --message-limit --lanes --blocks --capacity --reads --timeout'
-    serve+=' --log --quota --lock-wait --mailbox-mode --help'
+    serve='--host --listen --dir --domains --message-limit --lanes --blocks --capacity --reads --timeout --session-time'
+    serve+=' --log --quota --lock-wait --mailbox-mode --socket-mode --connections --stop-file --heal --help'
     rehearse='--host --time --domains --message-limit --blocks --quota --help'
     check='--help'
     COMPREPLY=()
     if [ "$before" = --dir ]; then
         compopt -o dirnames
+    elif [ "$before" = --stop-file ]; then
+        compopt -o default
     elif [ "$before" = --log ]; then
         mapfile -t COMPREPLY < <(compgen -W 'off error info' -- "$word")
     elif [ "$COMP_CWORD" = 1 ]; then

@@ -70,6 +70,19 @@ try 1 'lmtpd: cannot open anna.mbox' "${serve[@]}" --dir /nowhere anna
 try 2 clap "${good[@]}" --lock-wait 10 anna
 try 2 clap check --lock-wait 10 anna.mbox
 try 2 clap "${good[@]}" --mailbox-mode 0600 anna
+for mode in 8 1000 +660 00660 x ''; do try 2 clap "${serve[@]}" --dir /nowhere --socket-mode "$mode" anna; done
+for time in 0 86401 -1 x ''; do try 2 clap "${serve[@]}" --dir /nowhere --session-time "$time" anna; done
+for number in 0 1000001 -1 x ''; do try 2 clap "${serve[@]:0:5}" --dir /nowhere --connections "$number" anna; done
+try 2 clap "${serve[@]}" --dir /nowhere --stop-file '' anna
+try 2 clap "${serve[@]}" --dir /nowhere --stop-file= anna
+try 2 clap "${serve[@]}" --dir /nowhere --heal=yes anna
+try 2 clap "${serve[@]}" --dir /nowhere --heal --heal anna
+for word in --heal --stop-file=stop --socket-mode=0660 --session-time=9 --connections=9; do
+    try 2 clap "${good[@]}" "$word" anna
+    try 2 clap check "$word" anna.mbox
+    try 1 'lmtpd: cannot open anna.mbox' "${serve[@]:0:5}" --dir /nowhere "$word" anna
+done
+try 1 'lmtpd: cannot open anna.mbox' "${serve[@]:0:5}" --dir /nowhere anna
 try 2 clap check --mailbox-mode 0600 anna.mbox
 try 2 clap rehearse --version
 try 0 none --help

@@ -41,7 +41,7 @@ def help_of(command):
 
 def options_of_page(letter):
     """The options that the page lists for that command, with their texts."""
-    item = r"^\.It Fl -([a-z-]+) (?:Ar [^\n]*)?\n\.Pq ([sr, ]+)\n(.*?)(?=^\.It|^\.El)"
+    item = r"^\.It Fl -([a-z-]+)(?: Ar [^\n]*)?\n\.Pq ([sr, ]+)\n(.*?)(?=^\.It|^\.El)"
     listed = re.findall(item, PAGE, re.MULTILINE | re.DOTALL)
     return {f"--{name}": text for name, letters, text in listed if letter in letters.split(", ")}
 

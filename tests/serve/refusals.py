@@ -45,6 +45,10 @@ NUMBERS = [
     ("--reads", 4_294_967_295),
     ("--timeout", 0),
     ("--timeout", 86_401),
+    ("--session-time", 0),
+    ("--session-time", 86_401),
+    ("--session-time", "1h"),
+    ("--session-time", ""),
     ("--lanes", "-1"),
     ("--quota", "-1"),
     ("--quota", 18_446_744_073_709_551_616),
@@ -78,6 +82,13 @@ NUMBERS = [
     ("--mailbox-mode", "00600"),
     ("--mailbox-mode", " 600"),
     ("--mailbox-mode", "u=rw"),
+    ("--socket-mode", ""),
+    ("--socket-mode", "8"),
+    ("--socket-mode", "+660"),
+    ("--socket-mode", "1000"),
+    ("--socket-mode", "00660"),
+    ("--socket-mode", "u=rw"),
+    ("--stop-file", ""),
     ("--shout", 1),
 ]
 
@@ -124,7 +135,7 @@ def numbers_out_of_range(folder):
         ended = run(given)
         equal((name, value, ended.status, ended.said), (name, value, 2, []))
         assert ended.errors[0].startswith("error:"), ended.errors
-    for missing in ["--host", "--listen", "--dir", "--connections"]:
+    for missing in ["--host", "--listen", "--dir"]:
         at = good.index(missing)
         equal((missing, run(good[:at] + good[at + 2 :]).status), (missing, 2))
     equal(run(good[:-1]).status, 2)
@@ -135,8 +146,11 @@ def numbers_out_of_range(folder):
     at = good.index("--dir") + 1
     ended = run([*good[:at], "", *good[at + 1 :], "--log", "warn"])
     equal((ended.status, ended.said, ended.errors[0]), (2, [], folders))
-    mode = "error: invalid value for '--mailbox-mode <MODE>': it is 1 to 4 octal digits, 0777 at most"
-    equal(run([*good, "--mailbox-mode", "1777"]).errors[0], mode)
+    stop = "error: invalid value for '--stop-file <PATH>': it is the path of a file, and not empty"
+    equal(run([*good, "--log", "warn", "--stop-file", ""]).errors[0], stop)
+    for name in ["--mailbox-mode", "--socket-mode"]:
+        mode = f"error: invalid value for '{name} <MODE>': it is 1 to 4 octal digits, 0777 at most"
+        equal(run([*good, name, "1777"]).errors[0], mode)
     equal(list(folder.iterdir()), [])
 
 
@@ -144,6 +158,8 @@ def numbers_out_of_range(folder):
 def the_ends_of_what_a_lock_is_waited_for_and_of_a_mode(folder):
     """the least, the most and texts between: the words are taken, and what is told is the next thing that is wrong"""
     taken = [("--lock-wait", value) for value in [0, 10, 3_600]]
+    taken += [("--session-time", value) for value in [1, 3_600, 86_400]]
+    taken += [("--stop-file", "0"), ("--socket-mode", "0600"), ("--socket-mode", "0777")]
     taken += [("--mailbox-mode", value) for value in ["0", "7", "600", "0600", "0777", "777", "0000", "660"]]
     for name, value in taken:
         wants(words(folder, ["anna"], 1, name, value, listen=BAD), 2, "bad address")
@@ -168,6 +184,8 @@ def help_is_no_refusal(_folder):
             "off, error or info [default: off]",
             "0 to 3600 [default: 10]",
             "0 to 0777 [default: 0600]",
+            "0 to 0777 [default: 0660]",
+            "1 to 86400 [default: 3600]",
             "lmtpd serve --host",
             "Exit status:",
         ]:

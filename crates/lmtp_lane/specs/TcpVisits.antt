@@ -46,9 +46,9 @@ abbrev pub was_stopped : {L E : Type 0} → TcpVisits L E → Bool
 was_stopped v = v.stopped
 
 -- no client was asked for yet, and as many may come
-pub record IsReady {L E : Type 0} (connections : ℕ) (bounds : Bounds) (v : TcpVisits L E) : Type 0 where
-  pub connections : connections_left v ≡ connections
-  pub bounds : bounds_each v ≡ bounds
+pub record IsReady {L E : Type 0} (count : ℕ) (each : Bounds) (v : TcpVisits L E) : Type 0 where
+  pub connections : connections_left v ≡ count
+  pub bounds : bounds_each v ≡ each
   pub none_ended : conversations_ended v ≡ 0
   pub none_out : is_out v ≡ false
   pub not_failed : has_failed v ≡ false

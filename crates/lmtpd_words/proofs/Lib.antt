@@ -1,4 +1,6 @@
 pub mod ArgumentRows
 pub mod Calls
+pub mod Given
 pub mod Numbers
+mod ServeRows
 mod UsualNumbers

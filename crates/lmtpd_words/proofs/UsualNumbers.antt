@@ -3,7 +3,7 @@ use Rattle.std.proofs.Common.{◌≡◌, refl, codes}
 use Rattle.mail_world.specs.declared.limits.TheConstants.{BLOCK_SIZE, BLOCK_LIMIT, LANE_LIMIT, CAPACITY_LIMIT, LOCK_WAIT_LIMIT, MODE_LIMIT, MESSAGE_LIMIT, LEAST_MESSAGE_LIMIT, LARGEST_MESSAGE_LIMIT}
 use Rattle.log.specs.declared.level.LevelFilter.TheVariants as filter
 use Rattle.lmtpd_words.specs.Words.{octal, usual_blocks}
-use Rattle.lmtpd_words.specs.declared.words.TheConstants.{DEFAULT_BLOCKS, DEFAULT_CAPACITY, DEFAULT_LANES, DEFAULT_LOCK_WAIT, DEFAULT_LOG, DEFAULT_MAILBOX_MODE, DEFAULT_READS, DEFAULT_TIMEOUT}
+use Rattle.lmtpd_words.specs.declared.words.TheConstants.{DEFAULT_BLOCKS, DEFAULT_CAPACITY, DEFAULT_LANES, DEFAULT_LOCK_WAIT, DEFAULT_LOG, DEFAULT_MAILBOX_MODE, DEFAULT_READS, DEFAULT_SESSION_TIME, DEFAULT_SOCKET_MODE, DEFAULT_TIMEOUT}
 
 pub lanes : DEFAULT_LANES ≡ 4
 lanes = refl
@@ -20,6 +20,9 @@ reads = refl
 pub timeout : DEFAULT_TIMEOUT ≡ 300
 timeout = refl
 
+pub session_time : DEFAULT_SESSION_TIME ≡ 3600
+session_time = refl
+
 pub log : DEFAULT_LOG ≡ filter.Off
 log = refl
 
@@ -28,6 +31,9 @@ lock_wait = refl
 
 pub mailbox_mode : DEFAULT_MAILBOX_MODE ≡ octal (codes "0600")
 mailbox_mode = refl
+
+pub socket_mode : DEFAULT_SOCKET_MODE ≡ octal (codes "0660")
+socket_mode = refl
 
 pub most_lanes : LANE_LIMIT ≡ 64
 most_lanes = refl

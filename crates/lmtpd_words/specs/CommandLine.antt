@@ -3,6 +3,7 @@ use Rattle.std.specs.Prelude.{Some, true, codes, pos, ℕ, List}
 use Rattle.clap.specs.Lexer.{usize_max}
 use Rattle.clap.specs.Words.{App, Rule, new_app, new_rule, with_rule, with_subcommand}
 use Rattle.mail_world.specs.declared.limits.TheConstants.{LOCK_WAIT_LIMIT, LEAST_MESSAGE_LIMIT, LARGEST_MESSAGE_LIMIT}
+use Rattle.clap.specs.declared.builder.action.ArgAction.TheVariants as action
 use Rattle.clap.specs.declared.builder.value_parser.ValueParser.TheVariants as value
 
 -- an argument `--NAME TEXT`
@@ -24,6 +25,10 @@ bytes_rule name = record (new_rule name) {
   value_names = 1;
   parser = Some (value.Unsigned 0 18446744073709551615);
 }
+
+-- an argument `--NAME` with no value
+abbrev pub flag_rule : List ℕ → Rule
+flag_rule name = record (new_rule name) { long = Some name; action = Some action.SetTrue }
 
 -- an argument that must be given
 abbrev pub must : Rule → Rule
@@ -61,9 +66,6 @@ listen_rule = must (text_rule (codes "listen"))
 abbrev pub dir_rule : Rule
 dir_rule = must (text_rule (codes "dir"))
 
-abbrev pub connections_rule : Rule
-connections_rule = must (number_rule (codes "connections") 1 1000000)
-
 abbrev pub lanes_rule : Rule
 lanes_rule = number_rule (codes "lanes") 0 4294967295
 
@@ -76,6 +78,10 @@ reads_rule = number_rule (codes "reads") 1 4294967294
 -- seconds: a day at most
 abbrev pub timeout_rule : Rule
 timeout_rule = number_rule (codes "timeout") 1 86400
+
+-- seconds: a day at most
+abbrev pub session_time_rule : Rule
+session_time_rule = number_rule (codes "session-time") 1 86400
 
 abbrev pub log_rule : Rule
 log_rule = text_rule (codes "log")
@@ -90,18 +96,37 @@ lock_wait_rule = number_rule (codes "lock-wait") 0 LOCK_WAIT_LIMIT
 abbrev pub mailbox_mode_rule : Rule
 mailbox_mode_rule = text_rule (codes "mailbox-mode")
 
+abbrev pub socket_mode_rule : Rule
+socket_mode_rule = text_rule (codes "socket-mode")
+
+abbrev pub connections_rule : Rule
+connections_rule = number_rule (codes "connections") 1 1000000
+
+abbrev pub stop_file_rule : Rule
+stop_file_rule = text_rule (codes "stop-file")
+
+abbrev pub heal_rule : Rule
+heal_rule = flag_rule (codes "heal")
+
 abbrev pub rehearse_app : App
 rehearse_app =
     with_rule (with_rule (with_rule (with_rule (with_rule (with_rule (with_rule (new_app (codes "rehearse")) host_rule) time_rule) domains_rule) message_limit_rule) blocks_rule) quota_rule) box_rule
 
--- what must be given, and then what may be
+-- what must be given, then what may be, then what ends the server
 abbrev pub required_app : App
-required_app =
-    with_rule (with_rule (with_rule (with_rule (new_app (codes "serve")) host_rule) listen_rule) dir_rule) connections_rule
+required_app = with_rule (with_rule (with_rule (new_app (codes "serve")) host_rule) listen_rule) dir_rule
+
+abbrev pub limited_app : App
+limited_app =
+    with_rule (with_rule (with_rule (with_rule (with_rule (with_rule (with_rule (with_rule required_app domains_rule) message_limit_rule) lanes_rule) blocks_rule) capacity_rule) reads_rule) timeout_rule) session_time_rule
+
+abbrev pub kept_app : App
+kept_app =
+    with_rule (with_rule (with_rule (with_rule (with_rule limited_app log_rule) quota_rule) lock_wait_rule) mailbox_mode_rule) socket_mode_rule
 
 abbrev pub serve_app : App
 serve_app =
-    with_rule (with_rule (with_rule (with_rule (with_rule (with_rule (with_rule (with_rule (with_rule (with_rule (with_rule (with_rule required_app domains_rule) message_limit_rule) lanes_rule) blocks_rule) capacity_rule) reads_rule) timeout_rule) log_rule) quota_rule) lock_wait_rule) mailbox_mode_rule) box_rule
+    with_rule (with_rule (with_rule (with_rule kept_app connections_rule) stop_file_rule) heal_rule) box_rule
 
 abbrev pub file_rule : Rule
 file_rule = must (texts_rule (codes "file"))

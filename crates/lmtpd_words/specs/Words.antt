@@ -1,5 +1,5 @@
 -- What the program's words ask for.
-use Rattle.std.specs.Prelude.{◌≡◌, ◌⊎◌, ◌<◌, ◌≤◌, ◌^◌, ◌==◌, ◌+◌, ◌-◌, ◌*◌, ◌/◌, min, max, ℕ, Bool, true, false, List, [], Option, Some, None, option_map, map, codes, length, String, string_bytes}
+use Rattle.std.specs.Prelude.{◌≡◌, ◌⊎◌, ◌↔◌, IsTrue, ◌<◌, ◌≤◌, ◌^◌, ◌==◌, ◌+◌, ◌-◌, ◌*◌, ◌/◌, min, max, ℕ, Bool, true, false, List, [], Option, Some, None, option_map, map, codes, length, String, string_bytes}
 use Rattle.std.specs.declared.alloc.Global.{Global}
 use Rattle.std.specs.Option.{option_map_or}
 use Rattle.std.specs.List.{slice_split}
@@ -10,7 +10,7 @@ use Rattle.log.specs.declared.level.LevelFilter.{LevelFilter}
 use Rattle.log.specs.declared.level.LevelFilter.TheVariants as filter
 use Rattle.mail_world.specs.Site.{Site, IsMessageLimit}
 use Rattle.lmtp_text.specs.Sites.{site_of, texts}
-use Rattle.lmtpd_words.specs.declared.words.TheConstants.{DEFAULT_BLOCKS, DEFAULT_CAPACITY, DEFAULT_LANES, DEFAULT_LOCK_WAIT, DEFAULT_LOG, DEFAULT_MAILBOX_MODE, DEFAULT_READS, DEFAULT_TIMEOUT, MODE_DIGIT_LIMIT}
+use Rattle.lmtpd_words.specs.declared.words.TheConstants.{DEFAULT_BLOCKS, DEFAULT_CAPACITY, DEFAULT_LANES, DEFAULT_LOCK_WAIT, DEFAULT_LOG, DEFAULT_MAILBOX_MODE, DEFAULT_READS, DEFAULT_SESSION_TIME, DEFAULT_SOCKET_MODE, DEFAULT_TIMEOUT, MODE_DIGIT_LIMIT}
 use Rattle.mail_world.specs.declared.limits.TheConstants.{MODE_LIMIT, MESSAGE_LIMIT, BLOCK_SIZE, BLOCK_LIMIT}
 use Rattle.lmtpd_words.specs.declared.words.SiteWords.{SiteWords}
 use Rattle.lmtpd_words.specs.declared.words.RehearseWords.{RehearseWords}
@@ -43,6 +43,10 @@ listed text = slice_split (λ b. b == 44) text
 abbrev pub IsNumberOr : ℕ → Option Text → ℕ → Type 0
 IsNumberOr usual None n = n ≡ usual
 IsNumberOr usual (Some text) n = IsNumber text → n ≡ number text
+
+-- a text is given that writes no number below 2^32
+abbrev pub IsNoNumber : Option Text → Type 0
+IsNoNumber given = (text : Text) × (given ≡ Some text) × (IsNumber text → ⊥)
 
 -- the bytes that a message may have: the number of a text that is given, and else the usual one, within bounds
 abbrev pub IsMessageLimitOr : Option Text → ℕ → Type 0
@@ -88,21 +92,34 @@ pub record WritesMode (text : Text) : Type 0 where
   pub within : octal text ≤ MODE_LIMIT
 
 -- the permission bits that a text writes, and else the usual ones
-abbrev pub IsMode : Option Text → ℕ → Type 0
-IsMode None mode = mode ≡ DEFAULT_MAILBOX_MODE
-IsMode (Some text) mode = WritesMode text × (mode ≡ octal text)
+abbrev pub IsModeOr : ℕ → Option Text → ℕ → Type 0
+IsModeOr usual None mode = mode ≡ usual
+IsModeOr usual (Some text) mode = WritesMode text × (mode ≡ octal text)
 
 -- a text is given that writes none
 abbrev pub IsNoMode : Option Text → Type 0
-IsNoMode given = (mode : ℕ) → IsMode given mode → ⊥
+IsNoMode given = (text : Text) × (given ≡ Some text) × (WritesMode text → ⊥)
 
--- the folder that a text names: an empty text names none
-abbrev pub IsFolder : Option Text → Text → Type 0
-IsFolder given folder = (given ≡ Some folder) × (0 < length folder)
+-- the path that a text is: an empty text is none
+abbrev pub IsPath : Option Text → Text → Type 0
+IsPath given path = (given ≡ Some path) × (0 < length path)
 
 -- no text is given, or an empty one
-abbrev pub IsNoFolder : Option Text → Type 0
-IsNoFolder given = (folder : Text) → IsFolder given folder → ⊥
+abbrev pub IsNoPath : Option Text → Type 0
+IsNoPath given = (path : Text) → IsPath given path → ⊥
+
+-- a text is given, and an empty one
+abbrev pub IsEmpty : Option Text → Type 0
+IsEmpty given = given ≡ Some []
+
+-- the path of a text that is given, and none where none is
+abbrev pub IsPathIfGiven : Option Text → Option Text → Type 0
+IsPathIfGiven given None = given ≡ None
+IsPathIfGiven given (Some path) = IsPath given path
+
+-- a flag is given: clap has a text for that, and another one for a flag that isn't
+abbrev pub IsFlag : Option Text → Bool → Type 0
+IsFlag given is_set = IsTrue is_set ↔ (given ≡ Some (codes "true"))
 
 -- the site that the values of the arguments name
 pub record IsSiteRead (rows : List Row) (words : SiteWords) : Type 0 where
@@ -122,23 +139,28 @@ pub record IsRehearseRead (rows : List Row) (words : RehearseWords) : Type 0 whe
 pub record IsServeRead (rows : List Row) (words : ServeWords) : Type 0 where
   pub site : IsSiteRead rows words.site
   pub listen : first_of (codes "listen") rows ≡ Some words.listen.now
-  pub dir : IsFolder (first_of (codes "dir") rows) words.dir.now
-  pub connections : option_map number (one_of (codes "connections") rows) ≡ Some words.connections
+  pub dir : IsPath (first_of (codes "dir") rows) words.dir.now
   pub lanes : IsNumberOr DEFAULT_LANES (one_of (codes "lanes") rows) words.lanes
   pub blocks : IsNumberOr (usual_blocks words.lanes words.site.message_limit) (one_of (codes "blocks") rows) words.blocks
   pub capacity : IsNumberOr DEFAULT_CAPACITY (one_of (codes "capacity") rows) words.capacity
   pub reads : IsNumberOr DEFAULT_READS (one_of (codes "reads") rows) words.reads
   pub timeout : IsNumberOr DEFAULT_TIMEOUT (one_of (codes "timeout") rows) words.timeout
+  pub session_time : IsNumberOr DEFAULT_SESSION_TIME (one_of (codes "session-time") rows) words.session_time
   pub log : IsLevel (first_of (codes "log") rows) words.log
   pub quota : IsLimit (one_of (codes "quota") rows) words.quota
   pub lock_wait : IsNumberOr DEFAULT_LOCK_WAIT (one_of (codes "lock-wait") rows) words.lock_wait
-  pub mailbox_mode : IsMode (first_of (codes "mailbox-mode") rows) words.mailbox_mode
+  pub mailbox_mode : IsModeOr DEFAULT_MAILBOX_MODE (first_of (codes "mailbox-mode") rows) words.mailbox_mode
+  pub socket_mode : IsModeOr DEFAULT_SOCKET_MODE (first_of (codes "socket-mode") rows) words.socket_mode
+  -- a number exactly where a text is given
+  pub connections : option_map number (one_of (codes "connections") rows) ≡ words.connections
+  pub stop_file : IsPathIfGiven (first_of (codes "stop-file") rows) (option_map (λ path. path.now) words.stop_file)
+  pub heal : IsFlag (one_of (codes "heal") rows) words.heal
 
 -- what the values of a check's argument ask for
 pub record IsCheckRead (rows : List Row) (words : CheckWords) : Type 0 where
   pub files : all_of (codes "file") rows ≡ Some (texts words.files.items)
 
--- an argument that must be given has no value, or no number; or the folder, the level or the mode is none
+-- an argument that must be given has no value, or no number; or one that is given writes no number, path, level or mode
 abbrev pub LacksText : List ℕ → List Row → Type 0
 LacksText name rows = first_of name rows ≡ None
 
@@ -154,8 +176,9 @@ LacksRehearse rows = LacksNumber (codes "time") rows ⊎ LacksSite rows
 
 abbrev pub LacksServe : List Row → Type 0
 LacksServe rows =
-    LacksText (codes "listen") rows ⊎ (IsNoFolder (first_of (codes "dir") rows) ⊎ (LacksNumber (codes "connections") rows
-    ⊎ (IsNoLevel (first_of (codes "log") rows) ⊎ (IsNoMode (first_of (codes "mailbox-mode") rows) ⊎ LacksSite rows))))
+    LacksText (codes "listen") rows ⊎ (IsNoPath (first_of (codes "dir") rows) ⊎ (IsNoNumber (one_of (codes "connections") rows)
+    ⊎ (IsEmpty (first_of (codes "stop-file") rows) ⊎ (IsNoLevel (first_of (codes "log") rows)
+    ⊎ (IsNoMode (first_of (codes "mailbox-mode") rows) ⊎ (IsNoMode (first_of (codes "socket-mode") rows) ⊎ LacksSite rows))))))
 
 abbrev pub LacksCheck : List Row → Type 0
 LacksCheck rows = all_of (codes "file") rows ≡ None

@@ -4,8 +4,8 @@ ghost use Rattle.std.specs.Prelude.{◌≡◌, false};
 ghost use Rattle.clap.specs.Words.{rule_of};
 ghost use Rattle.lmtpd_words.specs.Arguments.{argument_rule};
 
-use clap::Arg;
 use clap::builder::ValueParser;
+use clap::{Arg, ArgAction};
 use mail_world::limits::{LARGEST_MESSAGE_LIMIT, LEAST_MESSAGE_LIMIT, LOCK_WAIT_LIMIT};
 use std::alloc::Global;
 
@@ -18,12 +18,14 @@ pub enum ValueKind {
     Bytes,
     /// One text or more, with no name before them.
     Texts,
+    /// Nothing: the name alone says it.
+    Flag,
 }
 
 /// An argument of the command line.
 pub struct Argument {
     pub name: &'static str,
-    /// What help calls its value.
+    /// What help calls its value; of a flag it is empty, and not said.
     pub value: &'static str,
     pub help: &'static str,
     pub is_required: bool,
@@ -37,18 +39,20 @@ impl Argument {
         ensures local { result.global ≡ false }
     {
         let arg = Arg::new(alloc, self.name)
-            .value_name(self.value)
             .required(self.is_required)
             .help(self.help);
         match self.kind {
-            ValueKind::Text => arg.long(self.name),
+            ValueKind::Text => arg.long(self.name).value_name(self.value),
             ValueKind::Number { least, most } => arg
                 .long(self.name)
+                .value_name(self.value)
                 .value_parser(ValueParser::signed(i64::from(least), i64::from(most))),
             ValueKind::Bytes => arg
                 .long(self.name)
+                .value_name(self.value)
                 .value_parser(ValueParser::unsigned(0, u64::MAX)),
-            ValueKind::Texts => arg.num_args(1..),
+            ValueKind::Texts => arg.value_name(self.value).num_args(1..),
+            ValueKind::Flag => arg.long(self.name).action(ArgAction::SetTrue),
         }
     }
 }
@@ -56,12 +60,11 @@ impl Argument {
 /// What a rehearsal takes.
 pub const REHEARSE: [Argument; 7] = [HOST, TIME, DOMAINS, MESSAGE_LIMIT, BLOCKS, QUOTA, BOXES];
 
-/// What a server takes: what must be given, what may be, and the mailboxes.
-pub const SERVE: [Argument; 16] = [
+/// What a server takes: what must be given, what may be, what ends it, and the mailboxes.
+pub const SERVE: [Argument; 20] = [
     HOST,
     LISTEN,
     DIR,
-    CONNECTIONS,
     DOMAINS,
     MESSAGE_LIMIT,
     LANES,
@@ -69,15 +72,22 @@ pub const SERVE: [Argument; 16] = [
     CAPACITY,
     READS,
     TIMEOUT,
+    SESSION_TIME,
     LOG,
     QUOTA,
     LOCK_WAIT,
     MAILBOX_MODE,
+    SOCKET_MODE,
+    CONNECTIONS,
+    STOP_FILE,
+    HEAL,
     BOXES,
 ];
 
 /// What a check takes.
 pub const CHECK: [Argument; 1] = [FILES];
+
+const SECONDS_OF_A_DAY: u32 = 86_400;
 
 const HOST: Argument = Argument {
     name: "host",
@@ -89,8 +99,8 @@ const HOST: Argument = Argument {
 
 const LISTEN: Argument = Argument {
     name: "listen",
-    value: "ADDRESS:PORT",
-    help: "Where to listen, such as 127.0.0.1:2003 or [::1]:2003; port 0 takes a free one, port 25 is refused",
+    value: "WHERE",
+    help: "Where to listen: 127.0.0.1:2003 or [::1]:2003 (port 0: a free one; 25 is refused), unix:PATH, or inherited",
     is_required: true,
     kind: ValueKind::Text,
 };
@@ -101,17 +111,6 @@ const DIR: Argument = Argument {
     help: "The folder of the mailboxes, which must be there; each is a file BOX.mbox in it",
     is_required: true,
     kind: ValueKind::Text,
-};
-
-const CONNECTIONS: Argument = Argument {
-    name: "connections",
-    value: "N",
-    help: "How many conversations are served before the program ends, 1 to 1000000",
-    is_required: true,
-    kind: ValueKind::Number {
-        least: 1,
-        most: 1_000_000,
-    },
 };
 
 const TIME: Argument = Argument {
@@ -195,7 +194,18 @@ const TIMEOUT: Argument = Argument {
     is_required: false,
     kind: ValueKind::Number {
         least: 1,
-        most: 86_400,
+        most: SECONDS_OF_A_DAY,
+    },
+};
+
+const SESSION_TIME: Argument = Argument {
+    name: "session-time",
+    value: "SECONDS",
+    help: "How long a conversation may last in all, 1 to 86400 [default: 3600]",
+    is_required: false,
+    kind: ValueKind::Number {
+        least: 1,
+        most: SECONDS_OF_A_DAY,
     },
 };
 
@@ -232,6 +242,41 @@ const MAILBOX_MODE: Argument = Argument {
     help: "The permission bits of a mailbox's file that is made, in octal, 0 to 0777 [default: 0600]",
     is_required: false,
     kind: ValueKind::Text,
+};
+
+const SOCKET_MODE: Argument = Argument {
+    name: "socket-mode",
+    value: "MODE",
+    help: "The permission bits of the Unix socket that is made, in octal, 0 to 0777 [default: 0660]",
+    is_required: false,
+    kind: ValueKind::Text,
+};
+
+const CONNECTIONS: Argument = Argument {
+    name: "connections",
+    value: "N",
+    help: "How many conversations are served before the program ends, 1 to 1000000 [default: no number ends it]",
+    is_required: false,
+    kind: ValueKind::Number {
+        least: 1,
+        most: 1_000_000,
+    },
+};
+
+const STOP_FILE: Argument = Argument {
+    name: "stop-file",
+    value: "PATH",
+    help: "The file that ends the server in order once it is there, also at the start [default: none]",
+    is_required: false,
+    kind: ValueKind::Text,
+};
+
+const HEAL: Argument = Argument {
+    name: "heal",
+    value: "",
+    help: "Ends with status 1, 30 seconds after a mailbox failed, so that a service manager starts the server again",
+    is_required: false,
+    kind: ValueKind::Flag,
 };
 
 const BOXES: Argument = Argument {

@@ -11,9 +11,17 @@ pub const BAD_FOLDER: &str =
 /// The error for a level that is none.
 pub const BAD_LEVEL: &str = "invalid value for '--log <LEVEL>': it is off, error or info";
 
-/// The error for a mode that is none.
-pub const BAD_MODE: &str =
+/// The error for a mailbox's mode that is none.
+pub const BAD_MAILBOX_MODE: &str =
     "invalid value for '--mailbox-mode <MODE>': it is 1 to 4 octal digits, 0777 at most";
+
+/// The error for a socket's mode that is none.
+pub const BAD_SOCKET_MODE: &str =
+    "invalid value for '--socket-mode <MODE>': it is 1 to 4 octal digits, 0777 at most";
+
+/// The error for the path of a stop file that is none.
+pub const BAD_STOP_FILE: &str =
+    "invalid value for '--stop-file <PATH>': it is the path of a file, and not empty";
 
 /// The error for words that aren't UTF-8.
 pub const BAD_TEXT: &str = "invalid UTF-8 was detected in one or more arguments";
@@ -21,7 +29,7 @@ pub const BAD_TEXT: &str = "invalid UTF-8 was detected in one or more arguments"
 /// Behind the subcommands.
 pub const BEHIND_PROGRAM: &str = "\
 Examples:
-  lmtpd serve --host mx.example --listen 127.0.0.1:2003 --dir mail --connections 1000000 anna ben
+  lmtpd serve --host mx.example --listen 127.0.0.1:2003 --dir mail anna ben
   lmtpd check mail/anna.mbox mail/ben.mbox
   lmtpd help serve
 
@@ -43,11 +51,11 @@ Exit status:
 /// Behind a server's words.
 pub const BEHIND_SERVE: &str = "\
 Examples:
-  lmtpd serve --host mx.example --listen 127.0.0.1:2003 --dir mail --connections 1000000 anna ben
+  lmtpd serve --host mx.example --listen 127.0.0.1:2003 --dir mail anna ben
   lmtpd serve --host mx.example --listen [::1]:2003 --dir mail --connections 1 --log info anna
 
 Exit status:
-  0  The conversations were served, and the program ended
+  0  The server ended in order, after its conversations or for its stop file
   1  A mailbox's file, the listener, a thread, memory or a size was wanting; standard error says which
   2  A word can't be used, and nothing was done";
 

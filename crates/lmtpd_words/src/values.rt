@@ -5,16 +5,17 @@ ghost use Rattle.clap.specs.Words.{Text, first_of, found_of, one_of, rows_of, su
 ghost use Rattle.std.specs.Option.{option_map, option_map_or};
 ghost use Rattle.lmtp_text.specs.Sites.{texts};
 ghost use Rattle.lmtpd_words.specs.Words.{IsAsked, IsCheckRead, IsLimit, IsNumberOr, IsRehearseRead, IsServeRead};
-ghost use Rattle.lmtpd_words.specs.Words.{IsFolder, IsLevel, IsMode, IsNoFolder, IsNoLevel, IsNoMode, IsSiteRead};
+ghost use Rattle.lmtpd_words.specs.Words.{IsEmpty, IsModeOr, IsNoMode, IsNoPath, IsPath, IsPathIfGiven, WritesMode};
+ghost use Rattle.lmtpd_words.specs.Words.{IsFlag, IsLevel, IsNoLevel, IsNoNumber, IsSiteRead, octal};
 ghost use Rattle.lmtpd_words.specs.Words.{IsMessageLimitOr, IsNoMessageLimit, usual_blocks};
 ghost use Rattle.lmtpd_words.specs.Words.{IsLacking, LacksCheck, LacksNumber, LacksRehearse, LacksServe, LacksSite};
 ghost use Rattle.lmtpd_words.specs.Words.{is_log_level, number, listed};
 
-use crate::texts::{BAD_FOLDER, BAD_LEVEL, BAD_MODE};
+use crate::texts::{BAD_FOLDER, BAD_LEVEL, BAD_MAILBOX_MODE, BAD_SOCKET_MODE, BAD_STOP_FILE};
 use crate::words::{
     CheckWords, DEFAULT_BLOCKS, DEFAULT_CAPACITY, DEFAULT_LANES, DEFAULT_LOCK_WAIT, DEFAULT_LOG,
-    DEFAULT_MAILBOX_MODE, DEFAULT_READS, DEFAULT_TIMEOUT, MODE_DIGIT_LIMIT, RehearseWords,
-    ServeWords, SiteWords, Words,
+    DEFAULT_MAILBOX_MODE, DEFAULT_READS, DEFAULT_SESSION_TIME, DEFAULT_SOCKET_MODE,
+    DEFAULT_TIMEOUT, MODE_DIGIT_LIMIT, RehearseWords, ServeWords, SiteWords, Words,
 };
 use clap::ArgMatches;
 use log::LevelFilter;
@@ -23,7 +24,7 @@ use mail_world::limits::{
 };
 use std::alloc::{AllocError, Global};
 
-/// What the subcommand asks for, and none where a value is missing, or the folder, the level or the mode is none.
+/// What the subcommand asks for, and none where a value is missing, or a number, a path, the level or a mode is none.
 pub fn words_of<'a>(
     alloc: Global,
     matches: &ArgMatches<'a>,
@@ -52,12 +53,15 @@ pub fn words_of<'a>(
     }
 }
 
-/// What is said where a value is refused that `clap` leaves to us: the folder comes first, then the level.
+/// What is said where a value is refused that `clap` leaves to us: the folder comes first, then the stop file, then the
+/// level, then the mailboxes' mode.
 pub fn refused_text(matches: &ArgMatches<'_>) -> &'static str {
     match matches.subcommand_matches("serve") {
         Some(serve) if folder_of(serve).is_none() => BAD_FOLDER,
+        Some(serve) if stop_file_of(serve).is_none() => BAD_STOP_FILE,
         Some(serve) if log_of(serve).is_none() => BAD_LEVEL,
-        _ => BAD_MODE,
+        Some(serve) if mailbox_mode_of(serve).is_none() => BAD_MAILBOX_MODE,
+        _ => BAD_SOCKET_MODE,
     }
 }
 
@@ -74,11 +78,10 @@ fn rehearse_words<'a>(
     let Some(site) = site_words(alloc, matches)? else {
         return Ok(None);
     };
-    let blocks = usual_blocks(1, site.message_limit);
     Ok(Some(RehearseWords {
+        blocks: blocks_of(matches, 1, site.message_limit),
         site,
         time,
-        blocks: number_or(matches, "blocks", blocks),
         quota: quota_of(matches),
     }))
 }
@@ -93,34 +96,40 @@ fn serve_words<'a>(
     let Some(listen) = matches.get_str("listen") else {
         return Ok(None);
     };
-    let Some(dir) = folder_of(matches) else {
+    let (Some(dir), Some(connections)) = (folder_of(matches), connections_of(matches)) else {
         return Ok(None);
     };
-    let Some(connections) = number_of(matches, "connections") else {
+    let (Some(stop_file), Some(log)) = (stop_file_of(matches), log_of(matches)) else {
         return Ok(None);
     };
-    let (Some(log), Some(mailbox_mode)) = (log_of(matches), mode_of(matches)) else {
+    let (Some(mailbox_mode), Some(socket_mode)) = (
+        mailbox_mode_of(matches),
+        socket_mode_of(matches),
+    ) else {
         return Ok(None);
     };
     let Some(site) = site_words(alloc, matches)? else {
         return Ok(None);
     };
     let lanes = number_or(matches, "lanes", DEFAULT_LANES);
-    let blocks = usual_blocks(lanes, site.message_limit);
     Ok(Some(ServeWords {
+        blocks: blocks_of(matches, lanes, site.message_limit),
         site,
         listen,
         dir,
         connections,
         lanes,
-        blocks: number_or(matches, "blocks", blocks),
         capacity: number_or(matches, "capacity", DEFAULT_CAPACITY),
         reads: number_or(matches, "reads", DEFAULT_READS),
         timeout: number_or(matches, "timeout", DEFAULT_TIMEOUT),
+        session_time: number_or(matches, "session-time", DEFAULT_SESSION_TIME),
         log,
         quota: quota_of(matches),
         lock_wait: number_or(matches, "lock-wait", DEFAULT_LOCK_WAIT),
         mailbox_mode,
+        socket_mode,
+        stop_file,
+        heal: is_healing(matches),
     }))
 }
 
@@ -180,6 +189,13 @@ fn message_limit_of(matches: &ArgMatches<'_>) -> Option<u32>
     Some(limit)
 }
 
+// The blocks that were given, and else the usual ones for as many lanes and the limit of a message.
+fn blocks_of(matches: &ArgMatches<'_>, lanes: u32, limit: u32) -> u32
+    ensures { IsNumberOr (usual_blocks lanes limit) (one_of (codes "blocks") (rows_of (found_of matches.now))) result }
+{
+    number_or(matches, "blocks", usual_blocks(lanes, limit))
+}
+
 // The blocks where no number of them was given: a largest message for each lane has room in them, as far as there may
 // be so many.
 fn usual_blocks(lanes: u32, limit: u32) -> u32
@@ -213,24 +229,50 @@ fn quota_of(matches: &ArgMatches<'_>) -> Option<u64>
     matches.get_one::<u64>("quota")
 }
 
+// The number of conversations that was given; none at all where a text was given that writes none.
+fn connections_of(matches: &ArgMatches<'_>) -> Option<Option<u32>>
+    ensures { let given = one_of (codes "connections") (rows_of (found_of matches.now)) in
+        MatchOption result (IsNoNumber given) (λ n. option_map number given ≡ n) }
+{
+    matches.try_get_one::<u32>("connections").ok()
+}
+
 // The folder that was given; none where none was, or an empty text.
 fn folder_of<'a>(matches: &ArgMatches<'a>) -> Option<&'a str>
     ensures { let given = first_of (codes "dir") (rows_of (found_of matches.now)) in
-        MatchOption result (IsNoFolder given) (λ folder. IsFolder given folder.now) }
+        MatchOption result (IsNoPath given) (λ folder. IsPath given folder.now) }
 {
     match matches.get_str("dir") {
-        Some(text) => folder_in(text),
+        Some(text) => path_in(text),
         None => None,
     }
 }
 
-fn folder_in(text: &str) -> Option<&str>
-    ensures { MatchOption result (IsNoFolder (Some text.now)) (λ folder. IsFolder (Some text.now) folder.now) }
+// The stop file that was given; none at all where an empty text was.
+fn stop_file_of<'a>(matches: &ArgMatches<'a>) -> Option<Option<&'a str>>
+    ensures { let given = first_of (codes "stop-file") (rows_of (found_of matches.now)) in
+        MatchOption result (IsEmpty given) (λ path. IsPathIfGiven given (option_map (λ p. p.now) path)) }
+{
+    match matches.get_str("stop-file") {
+        Some(text) => Some(Some(path_in(text)?)),
+        None => Some(None),
+    }
+}
+
+fn path_in(text: &str) -> Option<&str>
+    ensures { MatchOption result (IsNoPath (Some text.now)) (λ path. IsPath (Some text.now) path.now) }
 {
     if text.is_empty() {
         return None;
     }
     Some(text)
+}
+
+// Whether the server is to end after a mailbox failed.
+fn is_healing(matches: &ArgMatches<'_>) -> bool
+    ensures { IsFlag (one_of (codes "heal") (rows_of (found_of matches.now))) result }
+{
+    matches.get_one::<bool>("heal").unwrap_or(false)
 }
 
 // The level that was given, and else the usual one; none where the text names no level of ours.
@@ -265,20 +307,34 @@ fn is_log_level(level: LevelFilter) -> bool
     )
 }
 
-// The permission bits that were given, and else the usual ones; none where the text writes none.
-fn mode_of(matches: &ArgMatches<'_>) -> Option<u32>
+fn mailbox_mode_of(matches: &ArgMatches<'_>) -> Option<u32>
     ensures { let given = first_of (codes "mailbox-mode") (rows_of (found_of matches.now)) in
-        MatchOption result (IsNoMode given) (IsMode given) }
+        MatchOption result (IsNoMode given) (IsModeOr DEFAULT_MAILBOX_MODE given) }
 {
-    match matches.get_str("mailbox-mode") {
+    mode_or(matches, "mailbox-mode", DEFAULT_MAILBOX_MODE)
+}
+
+fn socket_mode_of(matches: &ArgMatches<'_>) -> Option<u32>
+    ensures { let given = first_of (codes "socket-mode") (rows_of (found_of matches.now)) in
+        MatchOption result (IsNoMode given) (IsModeOr DEFAULT_SOCKET_MODE given) }
+{
+    mode_or(matches, "socket-mode", DEFAULT_SOCKET_MODE)
+}
+
+// The permission bits that were given, and else the usual ones; none where the text writes none.
+fn mode_or(matches: &ArgMatches<'_>, name: &str, usual: u32) -> Option<u32>
+    ensures { let given = first_of name.now (rows_of (found_of matches.now)) in
+        MatchOption result (IsNoMode given) (IsModeOr usual given) }
+{
+    match matches.get_str(name) {
         Some(text) => mode_in(text),
-        None => Some(DEFAULT_MAILBOX_MODE),
+        None => Some(usual),
     }
 }
 
 // A sign is no digit, though the integers' own reading takes one.
 fn mode_in(text: &str) -> Option<u32>
-    ensures { MatchOption result (IsNoMode (Some text.now)) (IsMode (Some text.now)) }
+    ensures { MatchOption result (WritesMode text.now → ⊥) (λ mode. WritesMode text.now × (mode ≡ octal text.now)) }
 {
     if text.len() > MODE_DIGIT_LIMIT || text.as_bytes().first() == Some(&b'+') {
         return None;

@@ -19,6 +19,9 @@ pub const DEFAULT_READS: u32 = 1_000_000;
 /// The seconds that a client may be silent.
 pub const DEFAULT_TIMEOUT: u32 = 300;
 
+/// The seconds that a conversation may last in all.
+pub const DEFAULT_SESSION_TIME: u32 = 3_600;
+
 /// What is logged.
 pub const DEFAULT_LOG: LevelFilter = LevelFilter::Off;
 
@@ -27,6 +30,9 @@ pub const DEFAULT_LOCK_WAIT: u32 = 10;
 
 /// The permission bits of a mailbox's file that is made: its owner reads and writes it, and nobody else.
 pub const DEFAULT_MAILBOX_MODE: u32 = 0o600;
+
+/// The permission bits of a Unix socket that is made: its owner and its group connect, and nobody else.
+pub const DEFAULT_SOCKET_MODE: u32 = 0o660;
 
 /// The octal digits that write permission bits.
 pub const MODE_DIGIT_LIMIT: usize = 4;
@@ -58,12 +64,12 @@ pub struct RehearseWords<'a> {
 #[derive(Debug, Drop)]
 pub struct ServeWords<'a> {
     pub site: SiteWords<'a>,
-    /// The address and port to listen on, in text.
+    /// Where to listen, in text: an address and port, `unix:` and a path, or `inherited`.
     pub listen: &'a str,
     /// The folder of the mailboxes.
     pub dir: &'a str,
-    /// The conversations after which the server ends.
-    pub connections: u32,
+    /// The conversations after which the server ends, if it ends after any number.
+    pub connections: Option<u32>,
     /// The conversations that are held at once.
     pub lanes: u32,
     /// The blocks for messages on their way.
@@ -74,6 +80,8 @@ pub struct ServeWords<'a> {
     pub reads: u32,
     /// The seconds that a client may be silent.
     pub timeout: u32,
+    /// The seconds that a conversation may last in all.
+    pub session_time: u32,
     /// What is logged.
     pub log: LevelFilter,
     /// The bytes that a mailbox may hold, if there is a limit.
@@ -82,6 +90,12 @@ pub struct ServeWords<'a> {
     pub lock_wait: u32,
     /// The permission bits of a mailbox's file that is made.
     pub mailbox_mode: u32,
+    /// The permission bits of the Unix socket that is made.
+    pub socket_mode: u32,
+    /// The file that ends the server in order once it is there, if there is one.
+    pub stop_file: Option<&'a str>,
+    /// The server ends some seconds after a mailbox failed, so that a service manager starts it again.
+    pub heal: bool,
 }
 
 /// What a check is asked to do.

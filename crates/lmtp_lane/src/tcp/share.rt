@@ -32,9 +32,9 @@ pub fn tcp_visits<L: Drop, E: Drop>(
     for lane in 0..lanes {
         let buffer = ReadBuffer::new(alloc)?;
         let listener = Arc::try_clone(&listener)?;
-        let share = share_of(connections, lanes, lane);
         let curfew = Arc::try_clone(&curfew)?;
-        visits.push(TcpVisits::new(listener, share, bounds, curfew, buffer))?;
+        let connections = share_of(connections, lanes, lane);
+        visits.push(TcpVisits::new(listener, connections, bounds, curfew, buffer))?;
     }
     Ok(visits)
 }

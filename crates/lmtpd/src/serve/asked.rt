@@ -89,7 +89,8 @@ where
     };
     let conversations = Conversations {
         lanes: words.lanes,
-        count: u64::from(words.connections),
+        // where no number ends it, more than any server holds
+        count: words.connections.map_or(u64::MAX, u64::from),
         reads: u64::from(words.reads),
     };
     match serve_run(

@@ -1,8 +1,8 @@
 use Rattle.std.proofs.Common.{◌∙◌, subst, sym, inl, codes}
 use Rattle.std.specs.Prelude.{MatchOption}
-use Rattle.clap.specs.Words.{found_of, one_of, rows_of}
+use Rattle.clap.specs.Words.{found_of, rows_of}
 use Rattle.clap.proofs.WalkLemmas.{first_value-rows}
-use Rattle.lmtpd_words.specs.Words.{IsNumberOr, IsSiteRead, LacksSite}
+use Rattle.lmtpd_words.specs.Words.{IsSiteRead, LacksSite}
 use Rattle.lmtpd_words.proofs.values.serve_words.Goals as goal
 
 pub returns-in_default : goal.returns-in_default
@@ -13,15 +13,19 @@ returns c =
     let f = found_of c.args.matches.now in record {
       site = subst (λ read. MatchOption read (LacksSite (rows_of f)) (IsSiteRead (rows_of f))) c.in-Some-2.is c.in_ok-site.ensures;
       listen = sym (first_value-rows f (codes "listen")) ∙ sym c.in-Some.ensures;
-      dir = c.in-Some-folder_of.ensures;
-      connections = c.in-Some-number_of.ensures;
+      dir = c.in-Some-Some.ensures;
       lanes = c.number_or-lanes.ensures;
-      blocks = subst (λ usual. IsNumberOr usual (one_of (codes "blocks") (rows_of f)) c.number_or.result) c.usual_blocks-blocks.ensures c.number_or.ensures;
-      capacity = c.number_or-2.ensures;
-      reads = c.number_or-3.ensures;
-      timeout = c.number_or-4.ensures;
-      log = c.in-Some-Some.ensures;
+      blocks = c.blocks_of.ensures;
+      capacity = c.number_or.ensures;
+      reads = c.number_or-2.ensures;
+      timeout = c.number_or-3.ensures;
+      session_time = c.number_or-4.ensures;
+      log = c.in-Some-Some-2.ensures';
       quota = c.quota_of.ensures;
       lock_wait = c.number_or-5.ensures;
-      mailbox_mode = c.in-Some-Some.ensures';
+      mailbox_mode = c.in-Some-Some-3.ensures;
+      socket_mode = c.in-Some-Some-3.ensures';
+      connections = c.in-Some-Some.ensures';
+      stop_file = c.in-Some-Some-2.ensures;
+      heal = c.is_healing.ensures;
     }

@@ -1,0 +1,34 @@
+-- What clap has for the words of a server that may be left out, by computing.
+use Rattle.std.proofs.Common.{◌≡◌, ◌∷◌, [], List, Option, Some, None, refl, codes}
+use Rattle.std.specs.Prelude.{option_map}
+use Rattle.clap.specs.Words.{Row, Text, first_of, one_of, subcommand_of}
+use Rattle.clap.proofs.OnLiterals.{clap_on_literals}
+use Rattle.lmtpd_words.specs.CommandLine.{program_app}
+
+-- lmtpd serve --host h --listen l --dir d WORD.. anna
+abbrev pub served : List Text → List Text
+served more =
+    codes "lmtpd" ∷ codes "serve" ∷ codes "--host" ∷ codes "h" ∷ codes "--listen" ∷ codes "l" ∷ codes "--dir" ∷ codes "d" ∷ more
+
+abbrev pub of_rows : {T : Type 0} → (List Row → T) → List Text → Option T
+of_rows reads words = option_map (λ call. reads call.1) (subcommand_of program_app words)
+
+pub heal_given : of_rows (one_of (codes "heal")) (served (codes "--heal" ∷ codes "anna" ∷ [])) ≡ Some (Some (codes "true"))
+unfolding clap_on_literals
+heal_given = refl
+
+pub heal_left_out : of_rows (one_of (codes "heal")) (served (codes "anna" ∷ [])) ≡ Some (Some (codes "false"))
+unfolding clap_on_literals
+heal_left_out = refl
+
+pub connections_given : of_rows (one_of (codes "connections")) (served (codes "--connections" ∷ codes "7" ∷ codes "anna" ∷ [])) ≡ Some (Some (codes "7"))
+unfolding clap_on_literals
+connections_given = refl
+
+pub connections_left_out : of_rows (one_of (codes "connections")) (served (codes "anna" ∷ [])) ≡ Some None
+unfolding clap_on_literals
+connections_left_out = refl
+
+pub stop_file_left_out : of_rows (first_of (codes "stop-file")) (served (codes "anna" ∷ [])) ≡ Some None
+unfolding clap_on_literals
+stop_file_left_out = refl

@@ -1,0 +1,19 @@
+use Rattle.std.proofs.Common.{◌∙◌, ◌≡◌, sym, refl, Option, Some, None}
+use Rattle.clap.specs.Words.{Text, first_of, found_of, rows_of}
+use Rattle.clap.proofs.WalkLemmas.{first_value-rows}
+use Rattle.lmtpd_words.proofs.Given.{mode_given}
+use Rattle.lmtpd_words.proofs.values.mode_or.Goals as goal
+
+pub returns-in-Some : goal.returns-in-Some
+returns-in-Some c =
+    let f = found_of c.args.matches.now in
+    let name = c.args.name.now in
+    let is : ◌≡◌ {A = Option Text} (first_of name (rows_of f)) (Some c.in-Some.text.now) = sym (first_value-rows f name) ∙ sym c.in-Some.ensures in
+    rw is (mode_given c.args.usual c.in-Some.text.now c.mode_in.result c.mode_in.ensures)
+
+pub returns-in-None : goal.returns-in-None
+returns-in-None c =
+    let f = found_of c.args.matches.now in
+    let name = c.args.name.now in
+    let is : ◌≡◌ {A = Option Text} (first_of name (rows_of f)) None = sym (first_value-rows f name) ∙ sym c.in-None.ensures in
+    rw is refl
