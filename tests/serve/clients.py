@@ -6,9 +6,19 @@ import struct
 STOPPING = "421 4.3.2 mx.example stopping"
 
 
+def connected(address):
+    if isinstance(address, tuple):
+        return socket.create_connection(address, timeout=20)
+    made = socket.socket(socket.AF_UNIX)
+    made.settimeout(20)
+    made.connect(str(address))
+    return made
+
+
 class Client:
     def __init__(self, address):
-        self.socket = socket.create_connection(address, timeout=20)
+        """Over TCP to a host and a port, or over a Unix socket to a path."""
+        self.socket = connected(address)
         self.lines = self.socket.makefile("rb")
 
     def __enter__(self):
