@@ -1,6 +1,6 @@
 //! What ends a server though its clients aren't done: a file that an administrator makes, and a mailbox that failed.
 
-ghost use Rattle.std.specs.Prelude.{◌≡◌, ◌≤◌, ◌-◌, ◌↔◌, IsTrue, IfOk};
+ghost use Rattle.std.specs.Prelude.{◌≡◌, ◌≤◌, ◌-◌, ◌*◌, ◌↔◌, IsTrue, IfOk};
 ghost use Rattle.std.specs.Duration.{as_nanos};
 
 use lmtp_house::Curfew;
@@ -43,11 +43,11 @@ pub struct ServerCurfew<R> {
     is_asked: AtomicBool,
 }
 
-impl<R> ServerCurfew<R> {
+impl<R: Drop> ServerCurfew<R> {
     /// Nothing has ended the server yet. From here on it takes no memory.
     pub fn new(rt: R, alloc: Global, ends: Ends<'_>) -> Result<ServerCurfew<R>, AllocError>
-        ensures session { IfOk result (λ curfew. as_nanos curfew.session ≡ ends.session_time * 1_000_000_000) }
-        ensures heals { IfOk result (λ curfew. curfew.heals ≡ ends.heals) }
+        ensures session { IfOk result (λ curfew. as_nanos curfew.session ≡ ends.entry.session_time * 1_000_000_000) }
+        ensures heals { IfOk result (λ curfew. curfew.heals ≡ ends.entry.heals) }
     {
         let stop_file = match ends.stop_file {
             Some(path) => Some(format!(in alloc; "{path}")?),
@@ -79,7 +79,7 @@ impl<R: Clock> ServerCurfew<R> {
     }
 
     fn now_ms(&self) -> u64 {
-        self.now().as_millis() as u64
+        u64::try_from(self.now().as_millis()).unwrap_or(u64::MAX)
     }
 
     // Whether a mailbox failed so long ago that the server is to be started again.
@@ -108,7 +108,7 @@ impl<R: Clock + Files> ServerCurfew<R> {
 fn has_passed(begun: Duration, now: Duration, time: Duration) -> bool
     ensures { IsTrue result ↔ (as_nanos time ≤ as_nanos now - as_nanos begun) }
 {
-    now.saturating_sub(begun) >= time
+    now.saturating_sub(begun).as_nanos() >= time.as_nanos()
 }
 
 impl<R: Clock + Files + Drop> Curfew for ServerCurfew<R> {

@@ -1,5 +1,7 @@
 //! A clock that doesn't hold up a server whose end was asked for.
 
+ghost use Rattle.std.specs.Prelude.{◌≡◌};
+
 use crate::ends::ServerCurfew;
 use lmtp_house::Curfew;
 use std::fs::Files;

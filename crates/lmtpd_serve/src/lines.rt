@@ -17,7 +17,7 @@ use std::io::Write;
 
 /// The line that says where the server listens.
 pub fn endpoint_line(alloc: Global, endpoint: Endpoint<'_>) -> Result<String, AllocError>
-    ensures { IfOk result (λ line. string_bytes line ≡ endpoint_line endpoint) }
+    ensures { IfOk result (λ line. string_bytes line ≡ endpoint_line endpoint.entry) }
 {
     match endpoint {
         Endpoint::Ip(address) => format!(in alloc; "listening on {address}\n"),
