@@ -43,7 +43,7 @@ pub struct ServerCurfew<R> {
     is_asked: AtomicBool,
 }
 
-impl<R> ServerCurfew<R> {
+impl<R: Drop> ServerCurfew<R> {
     /// Nothing has ended the server yet. From here on it takes no memory.
     pub fn new(rt: R, alloc: Global, ends: Ends<'_>) -> Result<ServerCurfew<R>, AllocError>
         ensures session { IfOk result (λ curfew. as_nanos curfew.session ≡ ends.session_time * 1_000_000_000) }
