@@ -12,7 +12,7 @@ def greeting(host=HOST):
 
 
 def offer(host=HOST, limit=MESSAGE_LIMIT):
-    """The lines of the reply to LHLO, where a message may have so many bytes."""
+    """The lines of the reply to LHLO at a site of that limit."""
     return [f"250-{host}", "250-PIPELINING", "250-ENHANCEDSTATUSCODES", "250-8BITMIME", offered_size(limit)]
 
 

@@ -45,11 +45,13 @@ def a_letter_of_twenty_megabytes(folder):
 @case
 def blocks_that_hold_no_largest_message(folder):
     """where all blocks together can't hold one largest message the log says so, and the server serves"""
-    words = ["--message-limit", 65_537, "--blocks", 16, "--log", "error"]
+    room = 65_536
+    words = ["--message-limit", room + 1, "--blocks", room // 4_096, "--log", "error"]
     with Server(folder, ["anna"], 1, *words) as server:
         with Client(server.address) as client:
             client.greet()
             equal(client.deliver(["anna"], "hello")[1], [stored("anna")])
             client.quit()
         ended = server.end()
-    equal((ended.status, ended.errors), (0, ["[ERROR lmtpd] a largest message has no room room=65536 limit=65537"]))
+    line = f"[ERROR lmtpd] a largest message has no room room={room} limit={room + 1}"
+    equal((ended.status, ended.errors), (0, [line]))
