@@ -13,4 +13,5 @@ if [ -z "${LMTPD:-}" ]; then
     LMTPD=$PWD/crates/lmtpd/out/lmtpd
 fi
 export LMTPD
+export PYTHONPATH=$PWD/tests
 exec python3 -B tests/fuzz/run.py "${1:-10000}" "${2:-1}"

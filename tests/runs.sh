@@ -10,4 +10,5 @@ if [ -z "${LMTPD:-}" ]; then
     LMTPD=$PWD/crates/lmtpd/out/lmtpd
 fi
 export LMTPD
+export PYTHONPATH=$PWD/tests
 exec python3 -B tests/runs/run.py

@@ -14,4 +14,5 @@ if [ -z "${LMTPD:-}" ]; then
     LMTPD=$PWD/crates/lmtpd/out/lmtpd
 fi
 export LMTPD
+export PYTHONPATH=$PWD/tests
 exec python3 -B tests/serve/run.py "$@"

@@ -1,5 +1,7 @@
 """Random conversations: made by the grammar, and then broken."""
 
+import replies
+
 CLIENTS = [b"relay.example", b"[127.0.0.1]", b"x", b"a" * 255, b"a" * 256, b"", b"a b", b"<a>"]
 SENDERS = [
     b"<carl@a.example>",
@@ -23,7 +25,7 @@ RECIPIENTS = [
 PARAMETERS = [
     b"",
     b" SIZE=10",
-    b" size=1048577",
+    b" size=%d" % (replies.MESSAGE_LIMIT + 1),
     b" BODY=8BITMIME",
     b" SIZE=1 SIZE=2",
     b" SIZE",

@@ -12,6 +12,7 @@ import tempfile
 import time
 
 import conversations
+import replies
 
 LMTPD = os.environ["LMTPD"]
 BOXES = ["anna", "ben"]
@@ -20,17 +21,17 @@ SECONDS = 20  # that a case may take
 BATCH = 250  # cases whose mailboxes are read back together
 MOST_SECONDS = 400  # for all cases
 
-OFFER = b"250-mx.example\r\n250-PIPELINING\r\n250-ENHANCEDSTATUSCODES\r\n250-8BITMIME\r\n250 SIZE 1048576"
+OFFER = "\r\n".join(replies.OFFER).encode()
 REPLIES = {
-    *[b"220 mx.example LMTP ready", OFFER, b"354 End with a lone dot"],
-    *[b"250 2.1.0 Sender ok", b"250 2.1.5 Recipient ok"],
-    *[b"250 2.0.0 Reset", b"250 2.0.0 Ok", b"252 2.0.0 Not checked", b"221 2.0.0 mx.example closing"],
-    *[b"214 2.0.0 LHLO MAIL RCPT DATA RSET NOOP QUIT VRFY HELP", b"550 5.1.1 No such mailbox"],
-    *[b"452 4.5.3 Too many recipients", b"503 5.5.1 Out of order"],
-    *[b"500 5.5.2 Line too long", b"500 5.5.2 Unknown command", b"500 Use LHLO", b"502 5.5.1 Not offered"],
-    *[b"501 5.5.4 Bad arguments", b"501 5.1.7 Bad sender", b"501 5.1.3 Bad recipient"],
-    *[b"555 5.5.4 Unknown parameter", b"552 5.3.4 Message too large", b"501 Bad client name"],
-    *[text % box.encode() for box in BOXES for text in [b"250 2.0.0 Stored for %s", b"552 5.3.4 Too large for %s"]],
+    reply.encode()
+    for reply in [
+        *[replies.GREETING, replies.SENDER_OK, replies.RECIPIENT_OK, replies.GO_AHEAD, replies.CLOSING],
+        *[replies.RESET_OK, replies.NOOP_OK, replies.NOT_CHECKED, replies.HELP_TEXT, replies.NO_SUCH_BOX],
+        *[replies.TOO_MANY, replies.OUT_OF_ORDER, replies.LINE_TOO_LONG, replies.UNKNOWN_COMMAND, replies.USE_LHLO],
+        *[replies.NOT_OFFERED, replies.BAD_ARGUMENTS, replies.BAD_SENDER, replies.BAD_RECIPIENT],
+        *[replies.UNKNOWN_PARAMETER, replies.MESSAGE_TOO_LARGE, replies.BAD_CLIENT_NAME],
+        *[told(box) for box in BOXES for told in [replies.stored, replies.too_large]],
+    ]
 }
 
 
@@ -63,8 +64,8 @@ def run(seed, number):
 
 def checked(said):
     at = said.index(b"\r\nmailbox %s " % BOXES[0].encode()) + 2
-    replies = re.sub(rb"\r\n(?!\Z)", b"\n", said[:at].replace(OFFER, b"OFFER")).removesuffix(b"\r\n").split(b"\n")
-    for reply in replies:
+    answers = re.sub(rb"\r\n(?!\Z)", b"\n", said[:at].replace(OFFER, b"OFFER")).removesuffix(b"\r\n").split(b"\n")
+    for reply in answers:
         if reply != b"OFFER" and reply not in REPLIES:
             raise Wrong(f"the reply {reply!r}")
     told, texts = {}, {}
@@ -72,7 +73,7 @@ def checked(said):
         line = re.compile(rb"mailbox %s (\d+)\n" % box.encode()).match(said, at)
         at = line.end() + int(line[1])
         texts[box] = said[line.end() : at]
-        told[box] = replies.count(b"250 2.0.0 Stored for " + box.encode())
+        told[box] = answers.count(replies.stored(box).encode())
     if at != len(said):
         raise Wrong("bytes behind the mailboxes")
     return told, texts

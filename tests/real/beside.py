@@ -18,6 +18,7 @@ from cases import equal
 from clients import Client
 from failing import environment
 from packages import want_root
+from replies import not_stored, stored
 from server import Server, run
 
 CLIENTS = 4
@@ -109,7 +110,7 @@ class Beside:
                 subject = f"for-{readers[(count + number) % len(readers)]} {number}-{count}"
                 lines = [f"Subject: {subject}", "From: <carl@a.example>", "", *body_of(subject)]
                 [final] = client.deliver_at_once(["anna"], *lines)[1]
-                assert final in ["250 2.0.0 Stored for anna", "451 4.3.0 Not stored for anna"], final
+                assert final in [stored("anna"), not_stored("anna")], final
                 (self.told if final.startswith("250 ") else self.refused).append(subject)
                 count += 1
             client.quit()

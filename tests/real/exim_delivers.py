@@ -7,6 +7,7 @@ import subprocess
 from cases import Absent, case, equal
 from mail import equal_mailbox, message
 from packages import install, unpacked, want_root
+from replies import NO_SUCH_BOX, stored
 from server import Server
 
 CONFIGURATION = """
@@ -62,8 +63,8 @@ def exim_sends(folder, exim):
         text = log.read_text() if log.exists() else f"{said.returncode} {said.stderr.decode()}"
         if "error while loading shared libraries" in text:
             raise Absent(text.strip())
-        equal(("=> anna@mx.example" in text and "250 2.0.0 Stored for anna" in text, text), (True, text))
-        equal(("** nobody@mx.example" in text and "550 5.1.1 No such mailbox" in text, text), (True, text))
+        equal(("=> anna@mx.example" in text and stored("anna") in text, text), (True, text))
+        equal(("** nobody@mx.example" in text and NO_SUCH_BOX in text, text), (True, text))
         equal_mailbox(server.mailbox("anna"), ["one"])
 
 

@@ -9,11 +9,12 @@ import letters
 from beside import both_held
 from cases import case, equal
 from clients import Client
+from replies import stored
 from server import Server, run
 
 CLIENTS = 4
 ROUNDS = 5
-STORED = "250 2.0.0 Stored for anna"
+STORED = stored("anna")
 # What is done to the file, by a name that says which letters may go then: none, all that were in it, or its last.
 CHANGES = {
     "renamed": 'mv "$1" "$1.$2"',

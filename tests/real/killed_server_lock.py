@@ -8,6 +8,7 @@ import time
 import letters
 from cases import case, equal
 from clients import Client
+from replies import stored
 from server import Server
 
 LEFT = 10  # lock files that are to be left
@@ -26,7 +27,7 @@ def its_lock_file_is_gone(folder):
             began = time.monotonic()
             with Client(server.address).greet() as client:
                 told.append(f"after {number}")
-                equal(client.deliver(["anna"], told[-1])[1], ["250 2.0.0 Stored for anna"])
+                equal(client.deliver(["anna"], told[-1])[1], [stored("anna")])
                 equal((time.monotonic() - began < 1, lock.exists()), (True, False))
                 client.quit()
             if left == LEFT:
@@ -66,7 +67,7 @@ def deliver(address, who, told):
     try:
         with Client(address).greet() as client:
             for number in range(1_000_000):
-                if client.deliver(["anna"], f"{who}-{number}")[1] == ["250 2.0.0 Stored for anna"]:
+                if client.deliver(["anna"], f"{who}-{number}")[1] == [stored("anna")]:
                     told.append(f"{who}-{number}")
     except (OSError, AssertionError):
         pass

@@ -8,6 +8,7 @@ import time
 import letters
 from cases import case, equal
 from clients import Client
+from replies import stored
 from server import Server
 
 BOXES = ["anna", "ben", "carla", "dora"]
@@ -33,7 +34,7 @@ def killed_a_hundred_times(folder):
             for load in loads:
                 load.join()
     with Server(folder, BOXES, 1, "--lanes", 1) as server, Client(server.address).greet() as client:
-        equal(client.deliver(BOXES, "last")[1], [f"250 2.0.0 Stored for {name}" for name in BOXES])
+        equal(client.deliver(BOXES, "last")[1], [stored(name) for name in BOXES])
     for name in BOXES:
         texts = list(letters.by_git(server.mailbox(name)))
         equal(list(letters.by_python(server.mailbox(name))), texts)
@@ -58,7 +59,7 @@ def deliver(address, told, load):
                     assert client.hear()
                 client.send(*lines, ".")
                 for name in names:
-                    if client.hear() == f"250 2.0.0 Stored for {name}":
+                    if client.hear() == stored(name):
                         told[name].append("\n".join([*lines, ""]).encode())
     except (OSError, AssertionError):
         pass

@@ -5,7 +5,8 @@ import time
 
 import letters
 from cases import case, equal
-from clients import STOPPING, Client, deliver_one
+from clients import Client, deliver_one
+from replies import STOPPING, offered_size, stored
 from server import Server
 
 
@@ -17,11 +18,11 @@ def a_byte_a_second(folder):
             for byte in b"LHLO relay":
                 slow.socket.sendall(bytes([byte]))
                 if byte in b"Oy":
-                    equal(deliver_one(server.address, ["anna"], "hello"), ["250 2.0.0 Stored for anna"])
+                    equal(deliver_one(server.address, ["anna"], "hello"), [stored("anna")])
                 time.sleep(1)
             slow.socket.sendall(b".example\r\n")
             equal(slow.hear()[:4], "220 ")
-            equal(slow.hear(), "250 SIZE 1048576")
+            equal(slow.hear(), offered_size())
         equal(letters.messages(server.mailbox("anna")), [b"hello\n"] * 2)
 
 
@@ -36,7 +37,7 @@ def one_that_never_reads(folder):
                     deaf.socket.sendall(b"HELP\r\n" * 10_000)
             except OSError:
                 pass
-            equal(deliver_one(server.address, ["anna"], "hello"), ["250 2.0.0 Stored for anna"])
+            equal(deliver_one(server.address, ["anna"], "hello"), [stored("anna")])
         equal(server.end().said, ["anna stored 1"])
 
 
@@ -50,7 +51,7 @@ def a_client_that_says_nothing(folder):
             for client in silent:
                 equal((client.hear()[:4], client.hear()), ("220 ", STOPPING))
                 client.leave()
-            equal([job.result() for job in jobs], [["250 2.0.0 Stored for anna"]] * 16)
+            equal([job.result() for job in jobs], [[stored("anna")]] * 16)
         equal(server.end().said, ["anna stored 16"])
 
 
@@ -60,7 +61,7 @@ def a_thousand_at_once(folder):
     with Server(folder, ["anna", "ben"], 1000, "--lanes", 16) as server:
         with concurrent.futures.ThreadPoolExecutor(1000) as pool:
             told = list(pool.map(lambda number: try_on(server.address, number), range(1000)))
-        equal(told, [["250 2.0.0 Stored for anna", "250 2.0.0 Stored for ben"]] * 1000)
+        equal(told, [[stored("anna"), stored("ben")]] * 1000)
         equal(vars(server.end()), {"status": 0, "said": ["anna stored 1000", "ben stored 1000"], "errors": []})
         for name in ["anna", "ben"]:
             found = sorted(letters.messages(server.mailbox(name)))

@@ -13,6 +13,7 @@ from exim_delivers import user
 from mail import equal_mailbox, message
 from packages import install, unpacked, want_root
 from postfix import free_port
+from replies import NO_SUCH_BOX
 from server import Server
 
 CONFIGURATION = """
@@ -42,7 +43,7 @@ def opensmtpd_delivers(folder):
         try:
             send(port, log)
             equal(" result=Ok " in tried(log, "anna"), True)
-            equal("550 5.1.1 No such mailbox" in tried(log, "nobody"), True)
+            equal(NO_SUCH_BOX in tried(log, "nobody"), True)
             equal_mailbox(server.mailbox("anna"), ["one"])
         finally:
             smtpd.terminate()

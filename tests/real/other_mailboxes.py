@@ -12,6 +12,7 @@ from clients import deliver_one
 from dovecot import Dovecot
 from packages import program
 from postfix import Postfix
+from replies import stored
 from server import Server
 
 MOVING = (pathlib.Path(__file__).parents[2] / "docs/OPERATING.md").read_text().split("\n## Moving a mailbox\n")[1]
@@ -223,4 +224,4 @@ def deliver_behind(home, count):
 
 def deliver_to(server):
     text = message("behind").decode().removesuffix("\r\n")
-    equal(deliver_one(server.address, ["anna"], text), ["250 2.0.0 Stored for anna"])
+    equal(deliver_one(server.address, ["anna"], text), [stored("anna")])

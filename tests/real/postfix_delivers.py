@@ -7,6 +7,7 @@ from cases import Absent, case, equal
 from mail import equal_mailbox, message
 from packages import want_root
 from postfix import Postfix, free_port
+from replies import NO_SUCH_BOX, not_stored, over_quota, stored
 from server import Server
 
 LONG = (b"x" * 62 + b"\r\n") * 128
@@ -19,9 +20,9 @@ def postfix_delivers(folder):
         with Postfix(folder, f"virtual_transport = lmtp:inet:{server.text}") as postfix:
             postfix.send(["anna@mx.example", "nobody@mx.example"], message("one"))
             word, text = postfix.fate("anna@mx.example")
-            equal((word, text), ("sent", "250 2.0.0 Stored for anna"))
+            equal((word, text), ("sent", stored("anna")))
             word, text = postfix.fate("nobody@mx.example")
-            equal((word, "550 5.1.1 No such mailbox" in text), ("bounced", True))
+            equal((word, NO_SUCH_BOX in text), ("bounced", True))
             equal_mailbox(server.mailbox("anna"), ["one"])
 
 
@@ -35,11 +36,11 @@ def a_full_disk_keeps_the_queue(folder):
         with Server(mail, ["anna"], 100, listen=listen):
             postfix.send(["anna@mx.example"], message("late") + LONG)
             word, text = postfix.fate("anna@mx.example")
-            equal((word, "451 4.3.0 Not stored for anna" in text), ("deferred", True))
+            equal((word, not_stored("anna") in text), ("deferred", True))
         filler.unlink()
         with Server(mail, ["anna"], 100, listen=listen) as server:
             postfix.flush()
-            equal(postfix.fate("anna@mx.example", 2), ("sent", "250 2.0.0 Stored for anna"))
+            equal(postfix.fate("anna@mx.example", 2), ("sent", stored("anna")))
             equal(sum(word == "sent" for word, _ in postfix.fates("anna@mx.example")), 1)
             said = server.mailbox("anna").read_bytes()
             # a front of the first record may stand before it
@@ -58,11 +59,11 @@ def a_quota_keeps_the_queue(folder):
         with Server(mail, ["anna"], 100, "--quota", 10_000, listen=listen):
             postfix.send(["anna@mx.example"], message("late") + LONG)
             word, text = postfix.fate("anna@mx.example")
-            equal((word, "452 4.2.2 Over quota for anna" in text), ("deferred", True))
+            equal((word, over_quota("anna") in text), ("deferred", True))
         (mail / "anna.mbox").write_bytes(b"")
         with Server(mail, ["anna"], 100, "--quota", 10_000, listen=listen) as server:
             postfix.flush()
-            equal(postfix.fate("anna@mx.example", 2), ("sent", "250 2.0.0 Stored for anna"))
+            equal(postfix.fate("anna@mx.example", 2), ("sent", stored("anna")))
             equal(sum(word == "sent" for word, _ in postfix.fates("anna@mx.example")), 1)
             said = server.mailbox("anna").read_bytes()
             # nothing of it was written before

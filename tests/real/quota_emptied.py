@@ -7,10 +7,11 @@ from cases import case, equal
 from clients import Client
 from mutt import Mutt
 from readers_delete import ByFormail
+from replies import over_quota, stored
 
 QUOTA = 10_000
 LINES = ["x" * 70] * 10
-STORED, OVER = "250 2.0.0 Stored for anna", "452 4.2.2 Over quota for anna"
+STORED, OVER = stored("anna"), over_quota("anna")
 
 
 @case
@@ -20,7 +21,7 @@ def room_again(folder):
     beside = Beside(folder, "--quota", QUOTA)
     mutt = Mutt(beside.home, beside.how)
     formail = ByFormail(beside, "formail")
-    refused = stored = number = 0
+    refused = kept = number = 0
     with beside.server(1, "--lanes", 1) as server, Client(server.address).greet() as client:
         for delete in [None, "mutt", "formail", None]:
             if delete == "mutt":
@@ -37,9 +38,9 @@ def room_again(folder):
                     break
                 fitting, length = fitting + 1, beside.path.stat().st_size - before
             equal((final, before <= QUOTA < before + length), (OVER, True))
-            equal((delete, fitting > 0), (delete, delete is not None or stored == 0))
-            stored, refused = stored + fitting, refused + 1
+            equal((delete, fitting > 0), (delete, delete is not None or kept == 0))
+            kept, refused = kept + fitting, refused + 1
         client.quit()
-        said, errors = [f"anna stored {stored}"], [f"lmtpd: anna over quota {refused}"]
+        said, errors = [f"anna stored {kept}"], [f"lmtpd: anna over quota {refused}"]
         equal(vars(server.end()), {"status": 0, "said": said, "errors": errors})
     equal(subprocess.run([beside.program, "check", beside.path], stdout=subprocess.DEVNULL).returncode, 0)

@@ -8,9 +8,10 @@ from cases import Absent, case, equal
 from clients import deliver_one
 from packages import program, want_root
 from power_cut import SIZE, mounted
+from replies import not_stored, stored
 from server import Server, run, words
 
-STORED = ["250 2.0.0 Stored for anna", "250 2.0.0 Stored for ben"]
+STORED = [stored("anna"), stored("ben")]
 
 
 @case
@@ -29,7 +30,7 @@ def a_file_system_gone_read_only(folder):
             go_read_only(other)
             for text in ["two", "three"]:
                 finals = deliver_one(server.address, ["anna", "ben"], text)
-                equal(finals, ["451 4.3.0 Not stored for anna", STORED[1]])
+                equal(finals, [not_stored("anna"), STORED[1]])
         ended = run(words(mail, ["anna", "ben"], 1))
         equal(vars(ended), {"status": 1, "said": [], "errors": ["lmtpd: cannot open anna.mbox"]})
     with mounted(disk, folder / "other") as other, in_place_of(mail / "anna.mbox", other / "anna.mbox"):

@@ -7,11 +7,12 @@ import time
 import letters
 from cases import case, equal
 from clients import Client
+from replies import not_stored, stored
 from server import Server
 
 WAIT = 10  # seconds, without --lock-wait
 NEXT = 6  # copies after the first
-STORED, NOT_STORED = "250 2.0.0 Stored for anna", "451 4.3.0 Not stored for anna"
+STORED, NOT_STORED = stored("anna"), not_stored("anna")
 
 
 def timed(client, name):
@@ -50,7 +51,7 @@ def deliver_to_ben(address):
     with Client(address).greet() as client:
         while time.monotonic() < until:
             final, took = timed(client, "ben")
-            equal(final, "250 2.0.0 Stored for ben")
+            equal(final, stored("ben"))
             times.append(took)
         client.quit()
     return len(times), max(times)

@@ -9,6 +9,7 @@ from cases import Absent, case, equal
 from clients import deliver_one
 from dovecot import Dovecot
 from packages import install, program
+from replies import stored
 from server import Server
 
 # What a reader may take for the start of a letter, or for its end.
@@ -28,7 +29,7 @@ def filled(folder):
     with Server(folder, ["anna"], COUNT, "--lanes", 1) as server:
         for number, body in enumerate(BODIES):
             text = f"Subject: letter {number}\r\nFrom: <carl@a.example>\r\n\r\n{body}"
-            equal(deliver_one(server.address, ["anna"], text), ["250 2.0.0 Stored for anna"])
+            equal(deliver_one(server.address, ["anna"], text), [stored("anna")])
         equal(server.end().status, 0)
     equal(len(letters.read(server.mailbox("anna"))), COUNT)
     return server.mailbox("anna")

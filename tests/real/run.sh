@@ -16,5 +16,5 @@ if [ -z "${LMTPD:-}" ]; then
     LMTPD=$PWD/crates/lmtpd/out/lmtpd
 fi
 export LMTPD
-export PYTHONPATH=$PWD/tests/serve
+export PYTHONPATH=$PWD/tests:$PWD/tests/serve
 exec python3 -B tests/real/run.py "$@"

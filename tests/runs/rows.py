@@ -4,14 +4,10 @@ What is expected is written out here by the rules of the standards and by hand; 
 
 from dataclasses import dataclass, field
 
+import replies
+from replies import CLOSING, GO_AHEAD, GREETING, OFFER, RECIPIENT_OK, SENDER_OK, over_quota, stored
+
 CRLF = b"\r\n"
-GREETING = b"220 mx.example LMTP ready"
-SENDER_OK = b"250 2.1.0 Sender ok"
-RECIPIENT_OK = b"250 2.1.5 Recipient ok"
-GO_AHEAD = b"354 End with a lone dot"
-BYE = b"221 2.0.0 mx.example closing"
-OUT_OF_ORDER = b"503 5.5.1 Out of order"
-UNKNOWN = b"500 5.5.2 Unknown command"
 PROLOGUE = [b"LHLO relay.example", b"MAIL FROM:<carl@a.example>"]
 TO_ANNA = b"RCPT TO:<anna@mx.example>"
 TO_BEN = b"RCPT TO:<ben@mx.example>"
@@ -19,22 +15,8 @@ HELLO = [b"Subject: hi", b"", b"hello", b"."]
 HELLO_STORED = b"Subject: hi\n\nhello\n"
 
 
-def offer(limit=1_048_576):
-    """The reply to LHLO of a site where a message may have so many bytes."""
-    extensions = [b"250-PIPELINING", b"250-ENHANCEDSTATUSCODES", b"250-8BITMIME"]
-    return [b"250-mx.example", *extensions, b"250 SIZE %d" % limit]
-
-
-def stored(box):
-    return b"250 2.0.0 Stored for " + box.encode()
-
-
-OFFER = offer()
 OPENED = [GREETING, *OFFER, SENDER_OK]
-
-
-def over(box):
-    return b"452 4.2.2 Over quota for " + box.encode()
+PLACE_OF_OFFER = slice(1, 1 + len(OFFER))  # in a row's replies
 
 
 def head(number=1, sender=b"carl@a.example", moment=(b"Thu Jan  1 00:00:00 1970", b"Thu, 1 Jan 1970 00:00:00 +0000")):
@@ -57,7 +39,7 @@ def record(text, **given):
 class Row:
     name: str
     given: list  # lines, or bytes that are taken as they are
-    replies: list
+    replies: list  # lines, as texts
     mailboxes: dict
     words: list = field(default_factory=list)
     time: int = 0
@@ -66,7 +48,7 @@ class Row:
         return b"".join(one if isinstance(one, bytearray) else one + CRLF for one in self.given)
 
     def output(self):
-        said = b"".join(reply + CRLF for reply in self.replies)
+        said = replies.as_bytes(self.replies)
         titled = (b"mailbox %s %d\n" % (box.encode(), len(text)) + text for box, text in self.mailboxes.items())
         return said + b"".join(titled)
 
@@ -76,7 +58,7 @@ def message(name, data, text, **more):
     return Row(
         name,
         [*PROLOGUE, TO_ANNA, b"DATA", *data, b"QUIT"],
-        [*OPENED, RECIPIENT_OK, GO_AHEAD, stored("anna"), BYE],
+        [*OPENED, RECIPIENT_OK, GO_AHEAD, stored("anna"), CLOSING],
         {"anna": record(text, **more), "ben": b""},
     )
 
@@ -94,7 +76,7 @@ def conversations():
     yield Row(
         "one message",
         [*PROLOGUE, TO_ANNA, b"DATA", *HELLO, b"QUIT"],
-        [*OPENED, RECIPIENT_OK, GO_AHEAD, stored("anna"), BYE],
+        [*OPENED, RECIPIENT_OK, GO_AHEAD, stored("anna"), CLOSING],
         {"anna": record(HELLO_STORED)},
     )
     yield Row(
@@ -103,31 +85,31 @@ def conversations():
         [
             *OPENED,
             RECIPIENT_OK,
-            b"550 5.1.1 No such mailbox",
+            replies.NO_SUCH_BOX,
             RECIPIENT_OK,
             GO_AHEAD,
             stored("anna"),
             stored("ben"),
-            BYE,
+            CLOSING,
         ],
         {"anna": record(HELLO_STORED), "ben": record(HELLO_STORED)},
     )
     yield Row(
         "one mailbox twice",
         [*PROLOGUE, TO_ANNA, TO_ANNA, b"DATA", *HELLO, b"QUIT"],
-        [*OPENED, RECIPIENT_OK, RECIPIENT_OK, GO_AHEAD, stored("anna"), stored("anna"), BYE],
+        [*OPENED, RECIPIENT_OK, RECIPIENT_OK, GO_AHEAD, stored("anna"), stored("anna"), CLOSING],
         {"anna": record(HELLO_STORED) * 2, "ben": b""},
     )
     yield Row(
         "no recipient is accepted, so data is out of order",
         [*PROLOGUE, b"RCPT TO:<zoe@mx.example>", b"DATA", b"hello", b".", b"QUIT"],
-        [*OPENED, b"550 5.1.1 No such mailbox", OUT_OF_ORDER, UNKNOWN, UNKNOWN, BYE],
+        [*OPENED, replies.NO_SUCH_BOX, replies.OUT_OF_ORDER, *[replies.UNKNOWN_COMMAND] * 2, CLOSING],
         {"anna": b"", "ben": b""},
     )
     yield Row(
         "HELO and EHLO have no positive reply",
         [b"HELO a", b"EHLO a", b"MAIL FROM:<>", b"QUIT"],
-        [GREETING, b"500 Use LHLO", b"500 Use LHLO", OUT_OF_ORDER, BYE],
+        [GREETING, replies.USE_LHLO, replies.USE_LHLO, replies.OUT_OF_ORDER, CLOSING],
         {"anna": b"", "ben": b""},
     )
     yield Row(
@@ -153,20 +135,20 @@ def conversations():
             GREETING,
             *OFFER,
             SENDER_OK,
-            b"250 2.0.0 Reset",
-            b"555 5.5.4 Unknown parameter",
-            b"501 5.5.4 Bad arguments",
-            b"501 5.5.4 Bad arguments",
-            b"501 5.1.7 Bad sender",
-            b"501 Bad client name",
-            BYE,
+            replies.RESET_OK,
+            replies.UNKNOWN_PARAMETER,
+            replies.BAD_ARGUMENTS,
+            replies.BAD_ARGUMENTS,
+            replies.BAD_SENDER,
+            replies.BAD_CLIENT_NAME,
+            CLOSING,
         ],
         {"anna": b"", "ben": b""},
     )
     yield Row(
         "postmaster, a quoted local part, an address in brackets",
         [*PROLOGUE, b"RCPT TO:<Postmaster>", b'RCPT TO:<"ANNA"@MX.example>', b"RCPT TO:<anna@[127.0.0.1]>", b"QUIT"],
-        [*OPENED, RECIPIENT_OK, RECIPIENT_OK, b"550 5.1.1 No such mailbox", BYE],
+        [*OPENED, RECIPIENT_OK, RECIPIENT_OK, replies.NO_SUCH_BOX, CLOSING],
         {"anna": b"", "ben": b""},
     )
     yield Row(
@@ -179,7 +161,7 @@ def conversations():
             b"RCPT TO:<anna@c.example>",
             b"QUIT",
         ],
-        [*OPENED, RECIPIENT_OK, RECIPIENT_OK, RECIPIENT_OK, b"550 5.1.1 No such mailbox", BYE],
+        [*OPENED, RECIPIENT_OK, RECIPIENT_OK, RECIPIENT_OK, replies.NO_SUCH_BOX, CLOSING],
         {"anna": b"", "ben": b""},
         ["--domains", "a.example,b.example"],
     )
@@ -188,11 +170,11 @@ def conversations():
         [b"VRFY anna", b"EXPN all", b"HELP", b"RSET", b"QUIT"],
         [
             GREETING,
-            b"252 2.0.0 Not checked",
-            b"502 5.5.1 Not offered",
-            b"214 2.0.0 LHLO MAIL RCPT DATA RSET NOOP QUIT VRFY HELP",
-            b"250 2.0.0 Reset",
-            BYE,
+            replies.NOT_CHECKED,
+            replies.NOT_OFFERED,
+            replies.HELP_TEXT,
+            replies.RESET_OK,
+            CLOSING,
         ],
         {"anna": b"", "ben": b""},
     )
@@ -222,45 +204,42 @@ def texts():
     yield message("bytes above 127 and NUL", [b"\xff\x80\x00", b"."], b"\xff\x80\x00\n")
 
 
-def limits_of_a_site(line):
-    """A site that names a limit of its own."""
-    words = ["--message-limit", "65536"]
+LINE = b"x" * 62  # of 64 bytes with CRLF, and 63 in a mailbox
+
+
+def at_limit(names, limit, words):
+    """Three rows for a site whose words give it that limit: the sizes that MAIL may name, a message of as many bytes,
+    and one of a byte more."""
+    sizes, largest, above = names
+    offers = replies.offer(limit=limit)
+    count = limit // (len(LINE) + 2)
     yield Row(
-        "a site's limit: what it offers, a size above it, and its size",
-        [b"LHLO relay.example", b"MAIL FROM:<a@b> SIZE=65537", b"MAIL FROM:<a@b> SIZE=65536", b"QUIT"],
-        [GREETING, *offer(65_536), b"552 5.3.4 Message too large", SENDER_OK, BYE],
+        sizes,
+        [PROLOGUE[0], b"MAIL FROM:<a@b> SIZE=%d" % (limit + 1), b"MAIL FROM:<a@b> SIZE=%d" % limit, b"QUIT"],
+        [GREETING, *offers, replies.MESSAGE_TOO_LARGE, SENDER_OK, CLOSING],
         {"anna": b"", "ben": b""},
         words,
     )
-    row = message("a site's limit: a message of it", [line] * 1_024 + [b"."], (line + b"\n") * 1_024)
+    row = message(largest, [LINE] * count + [b"."], (LINE + b"\n") * count)
     row.words = words
-    row.replies[1:6] = offer(65_536)
-    assert len(row.mailboxes["anna"]) == 169 + 1_024 * 63 + 1
+    row.replies[PLACE_OF_OFFER] = offers
+    assert len(row.mailboxes["anna"]) == 169 + count * 63 + 1
     yield row
-    row = message("a site's limit: a byte above it", [b"x" + line] + [line] * 1_023 + [b"."], b"")
+    row = message(above, [b"x" + LINE] + [LINE] * (count - 1) + [b"."], b"")
     row.words = words
-    row.replies[1:6] = offer(65_536)
-    row.replies[-2] = b"552 5.3.4 Too large for anna"
+    row.replies[PLACE_OF_OFFER] = offers
+    row.replies[-2] = replies.too_large("anna")
     row.mailboxes["anna"] = b""
     yield row
 
 
 def limits():
-    line = b"x" * 62
-    yield message("a message of the limit", [line] * 16_384 + [b"."], (line + b"\n") * 16_384)
-    row = message("a byte above the limit", [b"x" + line] + [line] * 16_383 + [b"."], b"")
-    row.replies[-2] = b"552 5.3.4 Too large for anna"
-    row.mailboxes["anna"] = b""
-    yield row
-    yield Row(
-        "a size above the limit, and the limit",
-        [b"LHLO relay.example", b"MAIL FROM:<a@b> SIZE=1048577", b"MAIL FROM:<a@b> SIZE=1048576", b"QUIT"],
-        [GREETING, *OFFER, b"552 5.3.4 Message too large", SENDER_OK, BYE],
-        {"anna": b"", "ben": b""},
-    )
-    yield from limits_of_a_site(line)
-    too_much = [b"x" + line, *[line] * 127, b"."]
-    just_fits = [*[line] * 128, b"."]
+    names = ["a size above the limit, and the limit", "a message of the limit", "a byte above the limit"]
+    yield from at_limit(names, replies.MESSAGE_LIMIT, [])
+    names = ["what it offers, a size above it, and its size", "a message of it", "a byte above it"]
+    yield from at_limit([f"a site's limit: {name}" for name in names], 65_536, ["--message-limit", "65536"])
+    too_much = [b"x" + LINE, *[LINE] * 127, b"."]
+    just_fits = [*[LINE] * 128, b"."]
     yield Row(
         "no room, and room for the next one",
         [*PROLOGUE, TO_ANNA, b"DATA", *too_much, PROLOGUE[1], TO_ANNA, b"DATA", *just_fits, b"QUIT"],
@@ -268,14 +247,14 @@ def limits():
             *OPENED,
             RECIPIENT_OK,
             GO_AHEAD,
-            b"452 4.3.1 No room for anna",
+            replies.no_room("anna"),
             SENDER_OK,
             RECIPIENT_OK,
             GO_AHEAD,
             stored("anna"),
-            BYE,
+            CLOSING,
         ],
-        {"anna": record((line + b"\n") * 128, number=2)},
+        {"anna": record((LINE + b"\n") * 128, number=2)},
         ["--blocks", "2"],
     )
     yield Row(
@@ -283,12 +262,12 @@ def limits():
         [b"NOOP " + b"x" * 1017, b"NOOP " + b"x" * 1018, b"NOOP", b"y" * 10_000_000, b"NOOP", b"QUIT"],
         [
             GREETING,
-            b"250 2.0.0 Ok",
-            b"500 5.5.2 Line too long",
-            b"250 2.0.0 Ok",
-            b"500 5.5.2 Line too long",
-            b"250 2.0.0 Ok",
-            BYE,
+            replies.NOOP_OK,
+            replies.LINE_TOO_LONG,
+            replies.NOOP_OK,
+            replies.LINE_TOO_LONG,
+            replies.NOOP_OK,
+            CLOSING,
         ],
         {"anna": b"", "ben": b""},
     )
@@ -298,10 +277,10 @@ def limits():
         [
             *OPENED,
             *[RECIPIENT_OK] * 1_000,
-            b"452 4.5.3 Too many recipients",
+            replies.TOO_MANY,
             GO_AHEAD,
             *[stored("anna")] * 1_000,
-            BYE,
+            CLOSING,
         ],
         {"anna": record(HELLO_STORED) * 1_000, "ben": b""},
     )
@@ -311,14 +290,14 @@ def quotas():
     """The record of the message of `HELLO` has 189 bytes, that of a message with no bytes 170."""
     for quota, reply, held in [
         (189, stored("anna"), record(HELLO_STORED)),
-        (188, over("anna"), b""),
-        (0, over("anna"), b""),
+        (188, over_quota("anna"), b""),
+        (0, over_quota("anna"), b""),
         (18_446_744_073_709_551_615, stored("anna"), record(HELLO_STORED)),
     ]:
         yield Row(
             f"one message and a quota of {quota}",
             [*PROLOGUE, TO_ANNA, b"DATA", *HELLO, b"QUIT"],
-            [*OPENED, RECIPIENT_OK, GO_AHEAD, reply, BYE],
+            [*OPENED, RECIPIENT_OK, GO_AHEAD, reply, CLOSING],
             {"anna": held},
             ["--quota", str(quota)],
         )
@@ -331,12 +310,12 @@ def quotas():
             RECIPIENT_OK,
             GO_AHEAD,
             stored("anna"),
-            over("anna"),
+            over_quota("anna"),
             SENDER_OK,
             RECIPIENT_OK,
             GO_AHEAD,
             stored("anna"),
-            BYE,
+            CLOSING,
         ],
         {"anna": record(HELLO_STORED) + record(b"", number=2), "ben": b""},
         ["--quota", "359"],
@@ -344,7 +323,7 @@ def quotas():
     yield Row(
         "each mailbox has the whole quota",
         [*PROLOGUE, TO_ANNA, TO_BEN, TO_ANNA, b"DATA", *HELLO, b"QUIT"],
-        [*OPENED, *[RECIPIENT_OK] * 3, GO_AHEAD, stored("anna"), stored("ben"), over("anna"), BYE],
+        [*OPENED, *[RECIPIENT_OK] * 3, GO_AHEAD, stored("anna"), stored("ben"), over_quota("anna"), CLOSING],
         {"anna": record(HELLO_STORED), "ben": record(HELLO_STORED)},
         ["--quota", "189"],
     )
@@ -363,11 +342,11 @@ def twice_under(quota):
     """One message for anna twice, of 378 bytes without a quota."""
     records = [record(HELLO_STORED)] * 2
     kept = list(keeps(quota, records))
-    answers = [stored("anna") if fits else over("anna") for fits in kept]
+    answers = [stored("anna") if fits else over_quota("anna") for fits in kept]
     return Row(
         f"one mailbox twice and a quota of {quota}",
         [*PROLOGUE, TO_ANNA, TO_ANNA, b"DATA", *HELLO, b"QUIT"],
-        [*OPENED, RECIPIENT_OK, RECIPIENT_OK, GO_AHEAD, *answers, BYE],
+        [*OPENED, RECIPIENT_OK, RECIPIENT_OK, GO_AHEAD, *answers, CLOSING],
         {"anna": b"".join(text for text, fits in zip(records, kept) if fits), "ben": b""},
         ["--quota", str(quota)],
     )
@@ -384,7 +363,7 @@ def moments():
         yield Row(
             f"the moment {time}",
             [*PROLOGUE, TO_ANNA, b"RCPT TO:<ben>", b"DATA", *HELLO, b"QUIT"],
-            [*OPENED, RECIPIENT_OK, RECIPIENT_OK, GO_AHEAD, stored("anna"), stored("ben"), BYE],
+            [*OPENED, RECIPIENT_OK, RECIPIENT_OK, GO_AHEAD, stored("anna"), stored("ben"), CLOSING],
             {"anna": text, "ben": text},
             time=time,
         )

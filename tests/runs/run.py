@@ -7,6 +7,7 @@ import subprocess
 import sys
 import tempfile
 
+import replies
 import rows
 
 LMTPD = os.path.abspath(os.environ["LMTPD"])
@@ -56,10 +57,10 @@ def play_with_blocks(row, blocks):
 
 def play_largest():
     """A message of 200 MiB where one may have 256: whether it is stored byte for byte."""
-    line = b"x" * 62
-    row = rows.message("", [bytearray((line + rows.CRLF) * 3_276_800), b"."], (line + b"\n") * 3_276_800)
-    row.words = ["--message-limit", "268435456"]
-    row.replies[1:6] = rows.offer(268_435_456)
+    limit, count = 268_435_456, 3_276_800
+    row = rows.message("", [bytearray((rows.LINE + rows.CRLF) * count), b"."], (rows.LINE + b"\n") * count)
+    row.words = ["--message-limit", str(limit)]
+    row.replies[rows.PLACE_OF_OFFER] = replies.offer(limit=limit)
     return play(row) == (0, row.output(), b"")
 
 

@@ -8,7 +8,8 @@ import stat
 import letters
 from cases import case, equal
 from clients import Client, deliver_one
-from readers import both_held, refused, stored
+from readers import both_held
+from replies import not_stored, over_quota, stored
 from server import Server, run, words
 
 LETTER = b"hello\n"
@@ -103,7 +104,7 @@ def python_removes(folder):
 @case
 def the_quota_follows(folder):
     """a mailbox over its quota takes letters again once others took some away, and counts what others wrote"""
-    over = "452 4.2.2 Over quota for anna"
+    over = over_quota("anna")
     with Server(folder, ["anna"], 1, "--lanes", 1, "--quota", 1000) as server:
         path = server.mailbox("anna")
         with Client(server.address).greet() as client:
@@ -178,7 +179,7 @@ def not_plain_in_a_turn(folder):
             path.rename(own)
             make(path)
             for _ in range(2):
-                equal(client.deliver(["anna", "ben"], "two")[1], [refused("anna"), stored("ben")])
+                equal(client.deliver(["anna", "ben"], "two")[1], [not_stored("anna"), stored("ben")])
             equal(((place / "target").read_bytes(), (place / "nothing").exists()), (b"abc", False))
             path.unlink()
             own.rename(path)

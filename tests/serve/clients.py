@@ -3,7 +3,7 @@
 import socket
 import struct
 
-STOPPING = "421 4.3.2 mx.example stopping"
+import replies
 
 
 def connected(address):
@@ -61,7 +61,7 @@ class Client:
     def greet(self):
         """Hears the greeting, and says LHLO."""
         greeting = self.hear()
-        assert greeting.startswith("220 mx.example "), greeting
+        assert greeting == replies.GREETING, greeting
         answer = self.ask("LHLO relay.example")
         assert answer.startswith("250 "), answer
         return self
@@ -103,5 +103,5 @@ def deliver_one(address, recipients, *lines):
     """A whole conversation with one message: the final replies."""
     with Client(address).greet() as client:
         finals = client.deliver(recipients, *lines)[1]
-        assert client.quit() == "221 2.0.0 mx.example closing"
+        assert client.quit() == replies.CLOSING
     return finals

@@ -7,6 +7,7 @@ import time
 import letters
 from cases import case, equal
 from clients import deliver_one
+from replies import stored
 from server import taken_port, words
 
 CLOSED = ["<&-", ">&-", "2>&-", ">&- 2>&-", "<&- >&- 2>&-"]
@@ -29,7 +30,7 @@ def closed_streams(folder):
         finally:
             process.kill()
             process.wait()
-        equal((closed, finals), (closed, ["250 2.0.0 Stored for anna"]))
+        equal((closed, finals), (closed, [stored("anna")]))
         equal((closed, letters.messages(place / "anna.mbox")), (closed, [b"hello\n"]))
         equal((closed, (place / "ben.mbox").read_bytes()), (closed, b""))
 

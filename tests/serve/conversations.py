@@ -6,10 +6,10 @@ import time
 
 import letters
 from cases import case, equal
-from clients import STOPPING, Client, deliver_one
+from clients import Client, deliver_one
+from replies import CLOSING, STOPPING, stored
 from server import Server
 
-CLOSING = "221 2.0.0 mx.example closing"
 # By the state in which a client goes away: what it has said by then behind the greeting, and the bytes of
 # half a line.
 COMMANDS = ["LHLO relay.example", "MAIL FROM:<carl@a.example>", "RCPT TO:<anna@mx.example>", "DATA"]
@@ -42,7 +42,7 @@ def two_at_once(folder):
             one.greet()
             other.greet()
             for number in range(20):
-                both = ["250 2.0.0 Stored for anna", "250 2.0.0 Stored for ben"]
+                both = [stored("anna"), stored("ben")]
                 equal(one.deliver(["anna", "nobody", "ben"], f"one {number}")[1], both)
                 equal(other.deliver_at_once(["ben", "anna"], f"other {number}")[1], both[::-1])
             equal((one.quit(), other.quit()), (CLOSING, CLOSING))
@@ -67,7 +67,7 @@ def data_of_two_lanes_mixed(folder):
                 for client, letter in [(one, "a"), (other, "b")]:
                     client.send(letter * 200)
             for client in [one, other]:
-                equal(client.ask("."), "250 2.0.0 Stored for anna")
+                equal(client.ask("."), stored("anna"))
                 equal(client.quit(), CLOSING)
         wanted = [(letter * 200 + b"\n") * 50 for letter in [b"a", b"b"]]
         equal(server.end().said, ["anna stored 2"])
@@ -82,7 +82,7 @@ def gone_in_each_state(folder):
         for said, rest in STATES.values():
             for leave in [Client.leave, Client.reset]:
                 leave(come_to(Client(server.address), said, rest))
-                equal(deliver_one(server.address, ["anna"], "next"), ["250 2.0.0 Stored for anna"])
+                equal(deliver_one(server.address, ["anna"], "next"), [stored("anna")])
         equal(vars(server.end()), {"status": 0, "said": [f"anna stored {count}"], "errors": []})
         equal(letters.messages(server.mailbox("anna")), [b"next\n"] * count)
 
@@ -98,7 +98,7 @@ def silent_in_each_state(folder):
                 equal((client.hear(), client.hear()), (STOPPING, ""))
                 took = time.monotonic() - began
                 assert 0.8 < took < 3, took
-            equal(deliver_one(server.address, ["anna"], "next"), ["250 2.0.0 Stored for anna"])
+            equal(deliver_one(server.address, ["anna"], "next"), [stored("anna")])
         equal(vars(server.end()), {"status": 0, "said": [f"anna stored {count}"], "errors": []})
         equal(letters.messages(server.mailbox("anna")), [b"next\n"] * count)
 
@@ -126,7 +126,7 @@ def deaf(folder):
                     client.socket.sendall(b"NOOP\r\n" * 10_000)
             except OSError:
                 pass
-            equal(deliver_one(server.address, ["anna"], "next"), ["250 2.0.0 Stored for anna"])
+            equal(deliver_one(server.address, ["anna"], "next"), [stored("anna")])
         equal(vars(server.end()), {"status": 0, "said": ["anna stored 1"], "errors": []})
 
 
@@ -165,8 +165,8 @@ def bytes_behind_the_last_read(folder):
                 client.socket.sendall(b"LHLO relay.example\r\n" + b"NOOP\r\n" * 10_000)
                 client.socket.shutdown(socket.SHUT_WR)
                 time.sleep(0.1)
-                replies = client.lines.read().decode().split("\r\n")
-                equal(replies[-2:], [STOPPING, ""])
+                said = client.lines.read().decode().split("\r\n")
+                equal(said[-2:], [STOPPING, ""])
         equal(server.end().status, 0)
 
 
@@ -175,7 +175,7 @@ def one_client_more(folder):
     """3 conversations for 2 lanes: it ends behind the third, and refuses a fourth"""
     with Server(folder, ["anna"], 3, "--lanes", 2) as server:
         for number in range(3):
-            equal(deliver_one(server.address, ["anna"], f"{number}"), ["250 2.0.0 Stored for anna"])
+            equal(deliver_one(server.address, ["anna"], f"{number}"), [stored("anna")])
         equal(vars(server.end()), {"status": 0, "said": ["anna stored 3"], "errors": []})
         with socket.socket() as fourth:
             assert fourth.connect_ex(server.address) != 0
@@ -192,7 +192,7 @@ def more_clients_than_lanes(folder):
             assert greeted, f"{len(waiting)} wait for a lane"
             for client in [one for one in waiting if one.socket in greeted]:
                 client.greet()
-                equal(client.deliver(["anna"], "x")[1], ["250 2.0.0 Stored for anna"])
+                equal(client.deliver(["anna"], "x")[1], [stored("anna")])
                 equal(client.quit(), CLOSING)
                 waiting.remove(client)
                 client.leave()

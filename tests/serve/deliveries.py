@@ -14,6 +14,7 @@ from concurrent.futures import ThreadPoolExecutor
 import letters
 from cases import Absent, case, equal
 from clients import Client, deliver_one
+from replies import over_quota, stored
 from server import Server
 
 HARD_LINES = ["Subject: hard lines", "", "From here on", ">From there", "..a dot", "", "\ta tab", "end", ""]
@@ -59,7 +60,7 @@ def swaks_delivers(folder):
         given += ["--helo", "relay.example"]
         to = "anna@mx.example,nobody@mx.example,ben@mx.example"
         _, said = tool(path, *given, "--to", to, "--data", "-", text=message)
-        assert "<** 550 " in said and "250 2.0.0 Stored for ben" in said, said
+        assert "<** 550 " in said and stored("ben") in said, said
         equal(vars(server.end()), {"status": 0, "said": ["anna stored 1", "ben stored 1"], "errors": []})
         for name in ["anna", "ben"]:
             [letter] = letters.read(server.mailbox(name))
@@ -89,7 +90,7 @@ def the_port_that_it_got(folder):
     with Server(folder, ["anna"], 1, "--lanes", 1) as server:
         host, port = server.address
         equal((host, server.first, port > 0), ("127.0.0.1", f"listening on 127.0.0.1:{port}\n", True))
-        equal(deliver_one(server.address, ["anna"], "hello"), ["250 2.0.0 Stored for anna"])
+        equal(deliver_one(server.address, ["anna"], "hello"), [stored("anna")])
 
 
 @case
@@ -102,7 +103,7 @@ def an_ipv6_address(folder):
     with Server(folder, ["anna"], 1, "--lanes", 1, listen="[::1]:0") as server:
         host, port = server.address
         equal((host, server.first), ("::1", f"listening on [::1]:{port}\n"))
-        equal(deliver_one(server.address, ["anna"], "hello"), ["250 2.0.0 Stored for anna"])
+        equal(deliver_one(server.address, ["anna"], "hello"), [stored("anna")])
 
 
 @case
@@ -112,7 +113,7 @@ def a_second_run(folder):
         with Server(folder, ["anna"], 2, "--lanes", 2) as server:
             for number in [1, 2]:
                 finals = deliver_one(server.address, ["anna"], f"{count} {number}")
-                equal(finals, ["250 2.0.0 Stored for anna"])
+                equal(finals, [stored("anna")])
             equal(vars(server.end()), {"status": 0, "said": ["anna stored 2"], "errors": []})
             equal(len(letters.read(server.mailbox("anna"))), count)
     equal(letters.messages(server.mailbox("anna")), [b"2 1\n", b"2 2\n", b"4 1\n", b"4 2\n"])
@@ -136,18 +137,18 @@ def more_domains(folder):
 def a_quota_is_kept(folder):
     """--quota: the letter that fits to the byte is stored, the next one is refused, also once the server was
     started anew"""
-    stored, over = "250 2.0.0 Stored for anna", "452 4.2.2 Over quota for anna"
+    told, over = stored("anna"), over_quota("anna")
     lines = ["Subject: hi", "", "hello"]
     with Server(folder, ["anna"], 1, "--lanes", 1) as server:
-        equal(deliver_one(server.address, ["anna"], *lines), [stored])
+        equal(deliver_one(server.address, ["anna"], *lines), [told])
         server.end()
     mailbox = folder / "anna.mbox"
     size = len(mailbox.read_bytes())
     with Server(folder, ["anna", "ben"], 1, "--lanes", 1, "--quota", 2 * size) as server:
         with Client(server.address).greet() as client:
             finals = [client.deliver(["anna"], *lines)[1] for _ in range(2)]
-            equal(finals, [[stored], [over]])
-            equal(client.deliver(["anna", "ben"], *lines)[1], [over, "250 2.0.0 Stored for ben"])
+            equal(finals, [[told], [over]])
+            equal(client.deliver(["anna", "ben"], *lines)[1], [over, stored("ben")])
             client.quit()
         errors = ["lmtpd: anna over quota 2"]
         equal(vars(server.end()), {"status": 0, "said": ["anna stored 1", "ben stored 1"], "errors": errors})
@@ -201,15 +202,15 @@ def lanes_share_a_quota(folder):
         with Client(address).greet() as client:
             finals = [client.deliver(["anna"], *lines)[1] for _ in range(count)]
             client.quit()
-        return [reply for replies in finals for reply in replies]
+        return sum(finals, [])
 
     with Server(folder, ["anna"], 2, "--lanes", 2, "--quota", count * size) as server:
         with ThreadPoolExecutor(2) as pool:
             told = sum(pool.map(deliver_all, [server.address] * 2), [])
         errors = [f"lmtpd: anna over quota {count}"]
         equal(vars(server.end()), {"status": 0, "said": [f"anna stored {count}"], "errors": errors})
-    told_stored = told.count("250 2.0.0 Stored for anna")
-    equal((told_stored, told.count("452 4.2.2 Over quota for anna")), (count, count))
+    told_stored = told.count(stored("anna"))
+    equal((told_stored, told.count(over_quota("anna"))), (count, count))
     equal((len(letters.read(mailbox)), len(mailbox.read_bytes())), (count, count * size))
 
 
@@ -218,7 +219,7 @@ def dated_by_the_clock(folder):
     """a letter's From line and its Received line have the moment of the system's clock as it was delivered"""
     with Server(folder, ["anna"], 1) as server:
         before = int(time.time())
-        equal(deliver_one(server.address, ["anna"], "hello"), ["250 2.0.0 Stored for anna"])
+        equal(deliver_one(server.address, ["anna"], "hello"), [stored("anna")])
         after = int(time.time())
         server.end()
         text = server.mailbox("anna").read_text()

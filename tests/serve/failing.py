@@ -9,12 +9,13 @@ import subprocess
 import letters
 from cases import Absent, case, equal
 from clients import Client, deliver_one
+from replies import not_stored, stored
 from server import Server
 
 LIBRARY = pathlib.Path(__file__).parent / "fail_calls.c"
 OLD = b"abc"
 CLOSED = b"abc\n\n"
-STORED, NOT_STORED = "250 2.0.0 Stored for anna", "451 4.3.0 Not stored for anna"
+STORED, NOT_STORED = stored("anna"), not_stored("anna")
 LETTERS = 3
 # These on the mailbox change what stands in it, or are to keep it: a fault of one breaks the mailbox.
 BREAKING = ["write mailbox", "fdatasync mailbox"]
@@ -90,9 +91,9 @@ def deliver_a_few(folder, given):
         ended = server.end()
     came_to = next((turn for turn, _, _ in turns if turn != "well"), "well")
     check_turns(turns, came_to, "FAIL_ALL" in given)
-    stored = sum(is_stored for _, is_stored, _ in turns)
-    equal(ended.said, [f"anna stored {stored}", f"ben stored {LETTERS}"])
-    equal((ended.status, ended.errors), how_it_ends(came_to, LETTERS - stored))
+    count = sum(is_stored for _, is_stored, _ in turns)
+    equal(ended.said, [f"anna stored {count}", f"ben stored {LETTERS}"])
+    equal((ended.status, ended.errors), how_it_ends(came_to, LETTERS - count))
     equal(letters.messages(server.mailbox("ben")), [b"letter %d\n" % number for number in range(LETTERS)])
     whole = [b"letter %d\n" % number for number, (_, is_stored, _) in enumerate(turns) if is_stored]
     check_mailbox(server.mailbox("anna"), whole, is_cut="FAIL_ALL" not in given)
@@ -103,7 +104,7 @@ def turn_of(folder, server, number, given):
     """Delivers a letter: what a call that failed in its turn came to, whether it was stored, whether a lock is left."""
     before = len(called(folder))
     answer, other = deliver_one(server.address, ["anna", "ben"], f"letter {number}")
-    equal((answer in [STORED, NOT_STORED], other), (True, "250 2.0.0 Stored for ben"))
+    equal((answer in [STORED, NOT_STORED], other), (True, stored("ben")))
     is_left = (folder / "anna.mbox.lock").exists()
     turn = called(folder)[before:]
     failing = int(given["FAIL_CALL"]) - 1 - before
@@ -230,7 +231,7 @@ def try_to_deliver(address, names):
             client.socket.settimeout(5)
             client.greet()
             finals = client.deliver(names, "hello")[1]
-            told = [name for name, final in zip(names, finals) if final == f"250 2.0.0 Stored for {name}"]
+            told = [name for name, final in zip(names, finals) if final == stored(name)]
             client.quit()
     except (OSError, AssertionError):
         pass

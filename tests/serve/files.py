@@ -6,6 +6,7 @@ import time
 import letters
 from cases import case, equal
 from clients import Client, deliver_one
+from replies import CLOSING, no_room, not_stored, over_quota, stored
 from server import Server
 
 # Almost 1 MiB.
@@ -24,7 +25,7 @@ def a_device_that_is_full(folder):
         with Server(place, ["anna", "ben"], 2, "--lanes", 1, **of_size(10_000)) as server:
             for number in [1, 2]:
                 finals = deliver_one(server.address, ["anna", "ben"], f"letter {number}")
-                equal(finals, ["451 4.3.0 Not stored for anna", "250 2.0.0 Stored for ben"])
+                equal(finals, [not_stored("anna"), stored("ben")])
             said = ["anna stored 0", "ben stored 2"]
             equal(vars(server.end()), {"status": 1, "said": said, "errors": ["lmtpd: device fault"]})
             equal(letters.messages(server.mailbox("ben")), [b"letter 1\n", b"letter 2\n"])
@@ -44,8 +45,8 @@ def a_full_device_beside_a_quota(folder):
     names = ["anna", "ben", "carla"]
     for name in ["anna", "carla"]:
         (folder / f"{name}.mbox").write_bytes(b"x" * 998 + b"\n\n")
-    over = {name: f"452 4.2.2 Over quota for {name}" for name in names}
-    finals = [over["anna"], "451 4.3.0 Not stored for ben", over["carla"]]
+    over = {name: over_quota(name) for name in names}
+    finals = [over["anna"], not_stored("ben"), over["carla"]]
     said = [f"{name} stored 0" for name in names]
     errors = ["lmtpd: anna over quota 1", "lmtpd: carla over quota 1", "lmtpd: device fault"]
     with Server(folder, names, 1, "--lanes", 1, "--quota", 1000, **of_size(100)) as server:
@@ -69,7 +70,7 @@ def a_torn_tail(folder):
             pass
         server.mailbox("anna").write_bytes(old)
         with Server(folder, ["anna"], 1, "--lanes", 1) as server:
-            equal(deliver_one(server.address, ["anna"], "hello"), ["250 2.0.0 Stored for anna"])
+            equal(deliver_one(server.address, ["anna"], "hello"), [stored("anna")])
             equal(vars(server.end()), {"status": 0, "said": ["anna stored 1"], "errors": []})
         found = server.mailbox("anna").read_bytes()
         equal(found[: len(closed) + 5], closed + b"From ")
@@ -83,17 +84,17 @@ def killed_in_the_midst(folder):
     told, untold = [], []
     for number in range(10):
         with Server(folder, ["anna"], 1, "--lanes", 1) as server, Client(server.address).greet() as client:
-            equal(client.deliver(["anna"], f"short {number}")[1], ["250 2.0.0 Stored for anna"])
+            equal(client.deliver(["anna"], f"short {number}")[1], [stored("anna")])
             told.append(b"short %d\n" % number)
             lines = [f"long {number}", *LONG_LINES]
             client.start_message("anna", *lines)
             client.send(".")
             # about 64 KiB are written at a time
             kill_at(server, server.mailbox("anna").stat().st_size + 65_536 * number + 1)
-            is_told = client.hear_or_end() == "250 2.0.0 Stored for anna"
+            is_told = client.hear_or_end() == stored("anna")
             (told if is_told else untold).append("\n".join([*lines, ""]).encode())
     with Server(folder, ["anna"], 1, "--lanes", 1) as server:
-        equal(deliver_one(server.address, ["anna"], "last"), ["250 2.0.0 Stored for anna"])
+        equal(deliver_one(server.address, ["anna"], "last"), [stored("anna")])
         equal(server.end().said, ["anna stored 1"])
     records = server.mailbox("anna").read_bytes().removesuffix(b"\n\n").split(b"\n\nFrom ")
     found = [record.partition(b" +0000\n")[2] + b"\n" for record in records]
@@ -118,7 +119,7 @@ def no_room_in_the_depot(folder):
     """a message for which the blocks don't do: 452, and the next one is stored"""
     with Server(folder, ["anna"], 1, "--lanes", 1, "--blocks", 2) as server:
         with Client(server.address).greet() as client:
-            equal(client.deliver(["anna"], "x" * 9000)[1], ["452 4.3.1 No room for anna"])
-            equal(client.deliver(["anna"], "hello")[1], ["250 2.0.0 Stored for anna"])
-            equal(client.quit(), "221 2.0.0 mx.example closing")
+            equal(client.deliver(["anna"], "x" * 9000)[1], [no_room("anna")])
+            equal(client.deliver(["anna"], "hello")[1], [stored("anna")])
+            equal(client.quit(), CLOSING)
         equal(vars(server.end()), {"status": 0, "said": ["anna stored 1"], "errors": []})

@@ -5,6 +5,7 @@ import contextlib
 import letters
 from cases import case, equal
 from clients import Client
+from replies import CLOSING, RECIPIENT_OK, TOO_MANY, stored
 from server import Server
 
 BOXES = [f"box{number}" for number in range(256)]
@@ -12,8 +13,8 @@ LANES = 64
 COMMAND = "MAIL FROM:<carl@a.example>"
 
 
-def stored(names):
-    return [f"250 2.0.0 Stored for {name}" for name in names]
+def all_stored(names):
+    return [stored(name) for name in names]
 
 
 @case
@@ -30,9 +31,9 @@ def all_lanes_at_once(folder):
         for number, client in enumerate(served):
             client.send(f"from client {number}", ".")
         for client, names in zip(served, taken):
-            equal([client.hear() for _ in names], stored(names))
+            equal([client.hear() for _ in names], all_stored(names))
         for client in served:
-            equal(client.quit(), "221 2.0.0 mx.example closing")
+            equal(client.quit(), CLOSING)
         ended = server.end()
     wanted = {name: [] for name in BOXES}
     for number, names in enumerate(taken):
@@ -53,8 +54,8 @@ def a_thousand_recipients(folder):
         with Client(server.address) as client:
             client.greet()
             asked, finals = client.deliver_at_once([*names, "box0"], "hello")
-            equal(asked, ["250 2.1.5 Recipient ok"] * 1000 + ["452 4.5.3 Too many recipients"])
-            equal(finals, stored(names))
+            equal(asked, [RECIPIENT_OK] * 1000 + [TOO_MANY])
+            equal(finals, all_stored(names))
             client.quit()
         ended = server.end()
     equal((ended.status, ended.errors), (0, []))

@@ -2,6 +2,7 @@
 
 from cases import case, equal
 from clients import Client
+from replies import GREETING, MESSAGE_TOO_LARGE, offered_size, stored, too_large
 from server import Server
 
 LINE = "x" * 62
@@ -10,17 +11,19 @@ LINE = "x" * 62
 @case
 def a_limit_of_the_site(folder):
     """a limit of 65,536 bytes: what is offered, a size above it, a message of as many bytes, and one of a byte more"""
-    with Server(folder, ["anna"], 1, "--message-limit", 65_536) as server:
+    limit = 65_536
+    count = limit // (len(LINE) + 2)
+    with Server(folder, ["anna"], 1, "--message-limit", limit) as server:
         with Client(server.address) as client:
-            equal(client.hear(), "220 mx.example LMTP ready")
-            equal(client.ask("LHLO relay.example"), "250 SIZE 65536")
-            equal(client.ask("MAIL FROM:<a@b> SIZE=65537"), "552 5.3.4 Message too large")
-            equal(client.deliver(["anna"], *[LINE] * 1_024)[1], ["250 2.0.0 Stored for anna"])
-            equal(client.deliver(["anna"], "x" + LINE, *[LINE] * 1_023)[1], ["552 5.3.4 Too large for anna"])
+            equal(client.hear(), GREETING)
+            equal(client.ask("LHLO relay.example"), offered_size(limit))
+            equal(client.ask(f"MAIL FROM:<a@b> SIZE={limit + 1}"), MESSAGE_TOO_LARGE)
+            equal(client.deliver(["anna"], *[LINE] * count)[1], [stored("anna")])
+            equal(client.deliver(["anna"], "x" + LINE, *[LINE] * (count - 1))[1], [too_large("anna")])
             client.quit()
         ended = server.end()
     equal((ended.status, ended.said, ended.errors), (0, ["anna stored 1"], []))
-    equal(server.mailbox("anna").read_bytes().count(LINE.encode() + b"\n"), 1_024)
+    equal(server.mailbox("anna").read_bytes().count(LINE.encode() + b"\n"), count)
 
 
 @case
@@ -30,7 +33,7 @@ def a_letter_of_twenty_megabytes(folder):
         with Client(server.address) as client:
             client.greet()
             finals = client.deliver(["anna", "ben"], *[LINE] * 312_500)[1]
-            equal(finals, ["250 2.0.0 Stored for anna", "250 2.0.0 Stored for ben"])
+            equal(finals, [stored("anna"), stored("ben")])
             client.quit()
         ended = server.end()
     equal((ended.status, ended.errors), (0, []))
@@ -42,11 +45,13 @@ def a_letter_of_twenty_megabytes(folder):
 @case
 def blocks_that_hold_no_largest_message(folder):
     """where all blocks together can't hold one largest message the log says so, and the server serves"""
-    words = ["--message-limit", 65_537, "--blocks", 16, "--log", "error"]
+    room = 65_536
+    words = ["--message-limit", room + 1, "--blocks", room // 4_096, "--log", "error"]
     with Server(folder, ["anna"], 1, *words) as server:
         with Client(server.address) as client:
             client.greet()
-            equal(client.deliver(["anna"], "hello")[1], ["250 2.0.0 Stored for anna"])
+            equal(client.deliver(["anna"], "hello")[1], [stored("anna")])
             client.quit()
         ended = server.end()
-    equal((ended.status, ended.errors), (0, ["[ERROR lmtpd] a largest message has no room room=65536 limit=65537"]))
+    line = f"[ERROR lmtpd] a largest message has no room room={room} limit={room + 1}"
+    equal((ended.status, ended.errors), (0, [line]))

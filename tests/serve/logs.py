@@ -5,6 +5,7 @@ import re
 import failing
 from cases import case, equal
 from clients import Client, deliver_one
+from replies import CLOSING, GO_AHEAD, GREETING, OFFER, RECIPIENT_OK, SENDER_OK, as_bytes, not_stored, stored
 from server import Server, run, words
 
 LINE = re.compile(
@@ -17,11 +18,7 @@ SAID = (
     "LHLO relay.example\r\nMAIL FROM:<carl@a.example>\r\nRCPT TO:<anna@mx.example>\r\nDATA\r\n"
     "Subject: a secret\r\n\r\nhello\r\n.\r\nQUIT\r\n"
 )
-HEARD = (
-    "220 mx.example LMTP ready\r\n250-mx.example\r\n250-PIPELINING\r\n250-ENHANCEDSTATUSCODES\r\n250-8BITMIME\r\n"
-    "250 SIZE 1048576\r\n250 2.1.0 Sender ok\r\n250 2.1.5 Recipient ok\r\n354 End with a lone dot\r\n"
-    "250 2.0.0 Stored for anna\r\n221 2.0.0 mx.example closing\r\n"
-)
+HEARD = as_bytes([GREETING, *OFFER, SENDER_OK, RECIPIENT_OK, GO_AHEAD, stored("anna"), CLOSING])
 
 
 def conversation(line):
@@ -132,7 +129,7 @@ def a_mailbox_that_fails_is_logged_once(folder):
     library = failing.built(folder)
     for level, conversations in ("error", 0), ("info", 2):
         answers, ended = next(filter(None, (failed_run(folder, library, level, call) for call in range(1, 30))))
-        assert answers[1] == ["451 4.3.0 Not stored for anna", "250 2.0.0 Stored for ben"], answers
+        assert answers[1] == [not_stored("anna"), stored("ben")], answers
         equal(ended.errors.count("[ERROR lmtpd] mailbox failed mailbox=anna"), 1)
         equal((len(ended.errors), ended.errors[-1]), (2 + conversations, "lmtpd: device fault"))
 

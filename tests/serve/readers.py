@@ -12,19 +12,12 @@ import time
 import letters
 from cases import Absent, case, equal
 from clients import Client
+from replies import not_stored, over_quota, stored
 from server import Server
 
 WAIT = 2  # seconds, as --lock-wait says it
 AT_ONCE = 1  # fewer seconds than this
 HOST = socket.gethostname()
-
-
-def stored(name):
-    return f"250 2.0.0 Stored for {name}"
-
-
-def refused(name):
-    return f"451 4.3.0 Not stored for {name}"
 
 
 @contextlib.contextmanager
@@ -74,7 +67,7 @@ def equal_at_once(client, name, reply):
 
 def equal_after_the_wait(client, name):
     finals, took = timed(client, [name], "hello")
-    equal((finals, WAIT * 0.9 < took < WAIT + AT_ONCE), ([refused(name)], True))
+    equal((finals, WAIT * 0.9 < took < WAIT + AT_ONCE), ([not_stored(name)], True))
 
 
 @case
@@ -99,7 +92,7 @@ def is_held(folder, hold):
                 beside = pool.submit(deliver_beside, server.address)
                 equal_after_the_wait(client, "anna")
                 for _ in range(3):
-                    equal_at_once(client, "anna", refused("anna"))
+                    equal_at_once(client, "anna", not_stored("anna"))
                 count = beside.result()
             for _ in range(2):
                 equal_at_once(client, "anna", stored("anna"))
@@ -146,7 +139,7 @@ def no_wait_at_all(folder):
         with Client(server.address).greet() as client:
             for hold in [bytes_held, name_held]:
                 with hold(server.mailbox("anna")):
-                    equal_at_once(client, "anna", refused("anna"))
+                    equal_at_once(client, "anna", not_stored("anna"))
                 equal_at_once(client, "anna", stored("anna"))
             client.quit()
         equal(vars(server.end()), {"status": 0, "said": ["anna stored 2"], "errors": ["lmtpd: anna in use 2"]})
@@ -163,9 +156,9 @@ def in_use_is_told(folder):
     with Server(folder, names, 1, *more) as server, Client(server.address).greet() as client:
         with bytes_held(server.mailbox("anna")), name_held(server.mailbox("carla")):
             for to in [["anna", "carla", "dora"], ["anna"], ["anna"]]:
-                wanted = [refused(name) if name in ["anna", "carla"] else stored(name) for name in to]
+                wanted = [not_stored(name) if name in ["anna", "carla"] else stored(name) for name in to]
                 equal(client.deliver(to, "hello")[1], wanted)
-        over = [f"452 4.2.2 Over quota for {name}" for name in ["anna", "ben"]]
+        over = [over_quota(name) for name in ["anna", "ben"]]
         equal(client.deliver(["anna", "ben", "carla"], "hello")[1], [*over, stored("carla")])
         client.quit()
         ended = server.end()
@@ -234,7 +227,7 @@ def left_lock_files_in_turns(folder):
 def deliver_beside_left(name, server, text, is_stale):
     with Client(server.address).greet() as client:
         finals = client.deliver(["anna"], "hello")[1]
-        equal((name, finals), (name, [stored("anna") if is_stale else refused("anna")]))
+        equal((name, finals), (name, [stored("anna") if is_stale else not_stored("anna")]))
         client.quit()
     equal((name, server.lock_file("anna").exists()), (name, not is_stale))
     equal(is_stale or server.lock_file("anna").read_text() == text, True)
@@ -269,7 +262,7 @@ def another_users(folder):
         raise Absent("it wants root")
     with Server(folder, ["anna"], 1, "--lanes", 1, "--lock-wait", 0) as server:
         with Client(server.address).greet() as client:
-            for age, reply in [(0, refused("anna")), (400, stored("anna"))]:
+            for age, reply in [(0, not_stored("anna")), (400, stored("anna"))]:
                 leave_lock_file(server.lock_file("anna"), f"{gone_process()}:{HOST}", age)
                 os.chown(server.lock_file("anna"), 65534, 65534)
                 client.deliver(["anna"], "hello")  # it may be the turn that removes it
@@ -299,7 +292,7 @@ def the_lock_file(folder):
                 equal(lock.exists(), False)
             equal(looks.result() - {""}, {f"{server.process.pid}:{HOST}"})
             client.quit()
-        equal(seen, {stored("anna"), "452 4.2.2 Over quota for anna", refused("anna")})
+        equal(seen, {stored("anna"), over_quota("anna"), not_stored("anna")})
         equal(server.end().status, 0)
 
 
