@@ -27,9 +27,10 @@ toolchain:
 	grep -qF " ($$named)\";" $(TEXTS) || { echo 'make toolchain: $(TEXTS) has no version' >&2; exit 1; }; \
 	cd crates/lmtpd_words && rt fmt && echo "$(TEXTS) names another toolchain now, $$named: commit it"
 
-# Proves all and builds the program, one crate after the other: half an hour to an hour the first time. Only a proved
-# crate is built.
+# Proves every crate, as many side by side as cores and memory allow, and then builds the program over that: only a
+# proved crate is built. The line that starts the program gives it a message, so that it ends by itself.
 build: toolchain
+	rt all check --jobs $$(tests/jobs_at_once)
 	cd crates/lmtpd && rt run -- $$(cat args) < stdin > /dev/null
 
 # Installs the program that `make build` made, its manual page, its unit for systemd with the user and the folder that
