@@ -5,7 +5,7 @@ PROGRAM := crates/lmtpd/out/lmtpd
 # Where the program's version names the toolchain.
 TEXTS := crates/lmtpd_words/src/texts.rt
 
-.PHONY: rehearse toolchain build install check test real wrong-bodies benchmarks
+.PHONY: rehearse toolchain build install deb check test real wrong-bodies benchmarks
 
 # One conversation: the replies, and then the mailbox. Where no proved program stands yet, the sources are run with
 # checks, unproved.
@@ -34,8 +34,10 @@ build: toolchain
 	cd crates/lmtpd && rt run -- $$(cat args) < stdin > /dev/null
 
 # Installs the program that `make build` made, its manual page, its unit for systemd with the user and the folder that
-# it needs, and what bash completes, each where Debian has it. DESTDIR stands before all paths.
+# it needs, what bash completes, and the file of its words, each where Debian has it. DESTDIR stands before all paths.
+# Words that are there already stay as they are.
 PREFIX ?= /usr/local
+CONF := /etc/lmtpd.conf
 install:
 	@[ -x $(PROGRAM) ] || { echo 'make install: no proved program is built yet (make build)' >&2; exit 1; }
 	install -D -m 0755 $(PROGRAM) $(DESTDIR)$(PREFIX)/sbin/lmtpd
@@ -45,9 +47,15 @@ install:
 	install -D -m 0644 packaging/lmtpd.bash $(DESTDIR)$(PREFIX)/share/bash-completion/completions/lmtpd
 	install -D -m 0644 packaging/lmtpd.sysusers $(DESTDIR)$(PREFIX)/lib/sysusers.d/lmtpd.conf
 	install -D -m 0644 packaging/lmtpd.tmpfiles $(DESTDIR)$(PREFIX)/lib/tmpfiles.d/lmtpd.conf
-	install -D -m 0644 packaging/lmtpd.conf $(DESTDIR)$(PREFIX)/share/doc/lmtpd/lmtpd.conf
 	install -d $(DESTDIR)$(PREFIX)/lib/systemd/system
 	sed 's|@PREFIX@|$(PREFIX)|' packaging/lmtpd.service > $(DESTDIR)$(PREFIX)/lib/systemd/system/lmtpd.service
+	chmod 0644 $(DESTDIR)$(PREFIX)/lib/systemd/system/lmtpd.service
+	[ -e $(DESTDIR)$(CONF) ] || install -D -m 0644 packaging/lmtpd.conf $(DESTDIR)$(CONF)
+
+# Makes lmtpd_VERSION_amd64.deb in FOLDER of what `make install PREFIX=/usr` installs.
+FOLDER ?= .
+deb:
+	@packaging/debian/make.sh $(PROGRAM) $(FOLDER)
 
 # Proves every crate, lowest first, over what earlier checks kept.
 check:
