@@ -27,8 +27,8 @@ toolchain:
 	grep -qF " ($$named)\";" $(TEXTS) || { echo 'make toolchain: $(TEXTS) has no version' >&2; exit 1; }; \
 	cd crates/lmtpd_words && rt fmt && echo "$(TEXTS) names another toolchain now, $$named: commit it"
 
-# Proves every crate, as many side by side as cores and memory allow, and then builds the program over that: only a
-# proved crate is built. The line that starts the program gives it a message, so that it ends by itself.
+# Proves every crate as `make check` does, and then builds the program over that: only a proved crate is built. The line
+# that starts the program gives it a message, so that it ends by itself.
 build: toolchain
 	rt all check --jobs $$(tests/jobs_at_once)
 	cd crates/lmtpd && rt run -- $$(cat args) < stdin > /dev/null
@@ -57,9 +57,9 @@ FOLDER ?= .
 deb:
 	@packaging/debian/make.sh $(PROGRAM) $(FOLDER)
 
-# Proves every crate, lowest first, over what earlier checks kept.
+# Proves every crate, as many side by side as cores and memory allow, over what earlier checks kept.
 check:
-	rt all check
+	rt all check --jobs $$(tests/jobs_at_once)
 
 # Proves everything, tries the must-fail edits, and runs the program, the tests and the scripts of tests/.
 test:
