@@ -33,8 +33,8 @@ build: toolchain
 	rt all check --jobs $$(tests/jobs_at_once)
 	cd crates/lmtpd && rt run -- $$(cat args) < stdin > /dev/null
 
-# Installs the program that `make build` made, its manual page, its unit for systemd with the user and the folder that
-# it needs, what bash completes, and the file of its words, each where Debian has it. DESTDIR stands before all paths.
+# Installs the program that `make build` made, its manual page, its units for systemd with the user and the folder that
+# they need, what bash completes, and the file of its words, each where Debian has it. DESTDIR stands before all paths.
 # Words that are there already stay as they are.
 PREFIX ?= /usr/local
 CONF := /etc/lmtpd.conf
@@ -50,6 +50,7 @@ install:
 	install -d $(DESTDIR)$(PREFIX)/lib/systemd/system
 	sed 's|@PREFIX@|$(PREFIX)|' packaging/lmtpd.service > $(DESTDIR)$(PREFIX)/lib/systemd/system/lmtpd.service
 	chmod 0644 $(DESTDIR)$(PREFIX)/lib/systemd/system/lmtpd.service
+	install -m 0644 packaging/lmtpd.socket $(DESTDIR)$(PREFIX)/lib/systemd/system/lmtpd.socket
 	[ -e $(DESTDIR)$(CONF) ] || install -D -m 0644 packaging/lmtpd.conf $(DESTDIR)$(CONF)
 
 # Makes lmtpd_VERSION_amd64.deb in FOLDER of what `make install PREFIX=/usr` installs.

@@ -15,6 +15,7 @@ TOOLS = ["dpkg-deb", "dpkg-shlibdeps", "dpkg-gencontrol", "dpkg-parsechangelog",
 FILES = [
     "etc/lmtpd.conf",
     "usr/lib/systemd/system/lmtpd.service",
+    "usr/lib/systemd/system/lmtpd.socket",
     "usr/lib/sysusers.d/lmtpd.conf",
     "usr/lib/tmpfiles.d/lmtpd.conf",
     "usr/sbin/lmtpd",

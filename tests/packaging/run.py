@@ -15,6 +15,7 @@ COMPLETION = pathlib.Path("packaging/lmtpd.bash").read_text()
 INSTALLED = [
     "etc/lmtpd.conf",
     "usr/lib/systemd/system/lmtpd.service",
+    "usr/lib/systemd/system/lmtpd.socket",
     "usr/lib/sysusers.d/lmtpd.conf",
     "usr/lib/tmpfiles.d/lmtpd.conf",
     "usr/sbin/lmtpd",
@@ -92,7 +93,12 @@ def check_install(folder):
     assert found == INSTALLED, found
     assert gzip.decompress((folder / "usr/share/man/man8/lmtpd.8.gz").read_bytes()).decode() == PAGE
     unit = (folder / "usr/lib/systemd/system/lmtpd.service").read_text()
-    assert "ExecStart=/usr/sbin/lmtpd serve " in unit and " --log info " in unit, unit
+    assert "ExecStart=/usr/sbin/lmtpd serve " in unit, unit
+    for words in ["--listen inherited", "--stop-file /run/lmtpd/stop", "--heal", "--log info"]:
+        assert f" {words} " in unit, words
+    socket = (folder / "usr/lib/systemd/system/lmtpd.socket").read_text().splitlines()
+    for line in ["ListenStream=/var/spool/postfix/private/lmtpd", "SocketUser=postfix", "SocketMode=0600"]:
+        assert line in socket, line
     given = re.findall(r"\$\{?([A-Z_]+)", re.search(r"^ExecStart=(.*)$", unit, re.MULTILINE)[1])
     words = folder / "etc/lmtpd.conf"
     assert sorted(given) == sorted(re.findall(r"^([A-Z_]+)=.", words.read_text(), re.MULTILINE)), given
@@ -102,15 +108,15 @@ def check_install(folder):
 
 
 def check_forms(folder):
-    """systemd finds nothing wrong with the unit of a program that is there, and groff nothing with the page."""
+    """systemd finds nothing wrong with the units of a program that is there, and groff nothing with the page."""
     prefix = folder / "local"
     install = ["make", "-s", "install", f"PREFIX={prefix}", "CONF=" + str(folder / "lmtpd.conf"), f"PROGRAM={LMTPD}"]
     assert said_by(*install) == (0, "")
     if shutil.which("systemd-analyze"):
         # what this machine's own units say isn't ours
-        unit = prefix / "lib/systemd/system/lmtpd.service"
-        _, said = said_by("systemd-analyze", "verify", "--man=no", str(unit))
-        ours = [line for line in said.splitlines() if "lmtpd.service" in line]
+        units = [str(prefix / "lib/systemd/system" / name) for name in ["lmtpd.socket", "lmtpd.service"]]
+        _, said = said_by("systemd-analyze", "verify", "--man=no", *units)
+        ours = [line for line in said.splitlines() if "lmtpd." in line]
         assert not ours, ours
     if shutil.which("groff"):
         status, said = said_by("groff", "-mdoc", "-Tutf8", "-ww", "-z", "packaging/lmtpd.8")
