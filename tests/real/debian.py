@@ -17,6 +17,9 @@ from packages import program, want_root
 ROOT = pathlib.Path(__file__).parents[2]
 MIRROR = "http://deb.debian.org/debian"
 FOLDERS = []  # that go as the program ends
+# What an administrator says of a relay over TCP, since a plain Debian has no Postfix.
+PORT = r"[Unit]\nAssertPathIsDirectory=\n[Socket]\nListenStream=\nListenStream=127.0.0.1:2003\nSocketUser=\n"
+EDITED = f"mkdir -p /run/systemd/system/lmtpd.socket.d; printf '{PORT}' > /run/systemd/system/lmtpd.socket.d/port.conf"
 # A letter by bash alone, since a plain Debian has no other client; it prints the replies.
 LETTER = (
     "exec 3<> /dev/tcp/127.0.0.1/2003; printf '%s\\r\\n' 'LHLO relay.example' 'MAIL FROM:<carl@a.example>' "
@@ -36,12 +39,14 @@ rm "$1/usr/sbin/policy-rc.d"
 
 @case
 def a_package_on_a_plain_machine(folder):
-    """a plain Debian 12: dpkg installs the package, it begins and stores; a purge leaves mailboxes and user"""
+    """a plain Debian 12: dpkg installs the package, a port is its socket; a purge leaves mailboxes and user"""
     site = site_with_package(folder)
     with Machine(folder, site, plain_debian()) as there:
         equal(there.run("dpkg -i lmtpd_*_amd64.deb")[0], 0)
-        equal(there.run("systemctl is-enabled lmtpd; systemctl is-active lmtpd")[1], "disabled\ninactive\n")
-        equal(there.run("systemctl enable --now lmtpd 2> /dev/null; systemctl is-active lmtpd"), (0, "active\n"))
+        equal(there.run("systemctl is-enabled lmtpd.socket; systemctl is-active lmtpd")[1], "disabled\ninactive\n")
+        lacking = there.run("systemctl start lmtpd.socket; ls /var/spool/postfix")
+        equal((lacking[0], "Assertion failed on job for lmtpd.socket." in lacking[1]), (2, True))
+        equal(there.run(f"{EDITED}; systemctl daemon-reload; systemctl enable --now lmtpd.socket")[0], 0)
         said = there.run(f"bash -c {shlex.quote(LETTER)}")
         equal((said[0], "250 2.0.0 Stored for anna\r\n" in said[1]), (0, True))
         look_at_upgrade(there)
@@ -60,39 +65,47 @@ def a_package_with_a_relay(folder):
     equal((installed.returncode, installed.stdout[-300:] if installed.returncode else ""), (0, ""))
     with Machine(folder, site, root) as there:
         for line in [
-            "systemctl enable --now lmtpd",
+            "systemctl enable --now lmtpd.socket",
             "postconf -e virtual_mailbox_domains=mx.example virtual_mailbox_maps=inline:{anna@mx.example=x}",
-            "postconf -e virtual_transport=lmtp:inet:127.0.0.1:2003 lmtp_destination_concurrency_limit=4",
+            "postconf -e virtual_transport=lmtp:unix:private/lmtpd lmtp_destination_concurrency_limit=4",
             "systemctl restart postfix",
             "printf 'Subject: hi\\n\\nhello\\n' | sendmail anna@mx.example",
             "for _ in $(seq 100); do grep -q ^hello /var/mail/lmtpd/anna.mbox && break; sleep 0.1; done",
         ]:
             equal((line, there.run(line)[0]), (line, 0))
         equal(there.run("lmtpd check /var/mail/lmtpd/anna.mbox"), (0, "/var/mail/lmtpd/anna.mbox letters 1\n"))
+        whose = there.run("stat -c '%U %a %F' /var/spool/postfix/private/lmtpd")
+        equal(whose, (0, "postfix 600 socket\n"))
+        equal(there.run("dpkg -P lmtpd && ! ls /var/spool/postfix/private/lmtpd")[0], 0)
 
 
 a_package_with_a_relay.seconds = 600
 
 
 def look_at_upgrade(there):
-    """The package over itself has a server that runs begin again, with the words that the administrator wrote."""
+    """The package over itself has a server that runs begin again, with the administrator's words; its socket stays."""
     there.run("sed -i s/mx.example/mx2.example/ /etc/lmtpd.conf")
-    before = main_process(there)
+    before, since = main_process(there), socket_since(there)
     equal(there.run("dpkg -i lmtpd_*_amd64.deb")[0], 0)
     equal(there.run("systemctl is-active lmtpd; grep ^HOST /etc/lmtpd.conf")[1], "active\nHOST=mx2.example\n")
     equal((before != main_process(there), before), (True, before))
+    equal(socket_since(there), since)
 
 
 def look_at_purge(there):
     equal(there.run("dpkg -P lmtpd")[0], 0)
     equal(there.run("find /etc /usr /var/lib/systemd -name '*lmtpd*' | grep -v /share/doc/"), (1, ""))
-    equal(there.run("systemctl is-active lmtpd")[1], "inactive\n")
+    equal(there.run("systemctl is-active lmtpd.socket lmtpd")[1], "inactive\ninactive\n")
     equal(there.run("stat -c '%U %G %a' /var/mail/lmtpd"), (0, "lmtpd lmtpd 700\n"))
     equal(there.run("grep -c ^hello /var/mail/lmtpd/anna.mbox"), (0, "1\n"))
 
 
 def main_process(there):
     return there.run("systemctl show -p MainPID --value lmtpd")[1]
+
+
+def socket_since(there):
+    return there.run("systemctl show -p ActiveEnterTimestampMonotonic --value lmtpd.socket")[1]
 
 
 def site_with_package(folder):
