@@ -27,10 +27,11 @@ toolchain:
 	grep -qF " ($$named)\";" $(TEXTS) || { echo 'make toolchain: $(TEXTS) has no version' >&2; exit 1; }; \
 	cd crates/lmtpd_words && rt fmt && echo "$(TEXTS) names another toolchain now, $$named: commit it"
 
-# Proves every crate as `make check` does, and then builds the program over that: only a proved crate is built. The line
-# that starts the program gives it a message, so that it ends by itself.
+# Proves what isn't proved, side by side, looks at every crate as `make check` does, and then builds the program over
+# that: only a proved crate is built. The line that starts the program gives it a message, so that it ends by itself.
 build: toolchain
-	rt all check --jobs $$(tests/jobs_at_once)
+	building/prove.py
+	rt all check --jobs $$(building/jobs_at_once)
 	cd crates/lmtpd && rt run -- $$(cat args) < stdin > /dev/null
 
 # Installs the program that `make build` made, its manual page, its units for systemd with the user and the folder that
@@ -60,7 +61,7 @@ deb:
 
 # Proves every crate, as many side by side as cores and memory allow, over what earlier checks kept.
 check:
-	rt all check --jobs $$(tests/jobs_at_once)
+	rt all check --jobs $$(building/jobs_at_once)
 
 # Proves everything, tries the must-fail edits, and runs the program, the tests and the scripts of tests/.
 test:

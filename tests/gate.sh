@@ -68,7 +68,7 @@ trap 'rm -rf "$said"' EXIT
 if [ "${1:-}" != --scripts ]; then
     make -s toolchain || failed=$((failed + 1))
     play_on_sources &
-    RT_JOBS=${RT_JOBS:-$(tests/jobs_at_once)} rt ci 2>&1 | tee "$said/rt"
+    RT_JOBS=${RT_JOBS:-$(building/jobs_at_once)} rt ci 2>&1 | tee "$said/rt"
     count "$said/rt"
     wait
 fi
