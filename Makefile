@@ -5,7 +5,7 @@ PROGRAM := crates/lmtpd/out/lmtpd
 # Where the program's version names the toolchain.
 TEXTS := crates/lmtpd_words/src/texts.rt
 
-.PHONY: rehearse toolchain build install check test real wrong-bodies benchmarks
+.PHONY: rehearse toolchain build install deb check test real wrong-bodies benchmarks
 
 # One conversation: the replies, and then the mailbox. Where no proved program stands yet, the sources are run with
 # checks, unproved.
@@ -27,14 +27,18 @@ toolchain:
 	grep -qF " ($$named)\";" $(TEXTS) || { echo 'make toolchain: $(TEXTS) has no version' >&2; exit 1; }; \
 	cd crates/lmtpd_words && rt fmt && echo "$(TEXTS) names another toolchain now, $$named: commit it"
 
-# Proves all and builds the program, one crate after the other: half an hour to an hour the first time. Only a proved
-# crate is built.
+# Proves what isn't proved, side by side, looks at every crate as `make check` does, and then builds the program over
+# that: only a proved crate is built. The line that starts the program gives it a message, so that it ends by itself.
 build: toolchain
+	building/prove.py
+	rt all check --jobs $$(building/jobs_at_once)
 	cd crates/lmtpd && rt run -- $$(cat args) < stdin > /dev/null
 
-# Installs the program that `make build` made, its manual page, its unit for systemd with the user and the folder that
-# it needs, and what bash completes, each where Debian has it. DESTDIR stands before all paths.
+# Installs the program that `make build` made, its manual page, its units for systemd with the user and the folder that
+# they need, what bash completes, and the file of its words, each where Debian has it. DESTDIR stands before all paths.
+# Words that are there already stay as they are.
 PREFIX ?= /usr/local
+CONF := /etc/lmtpd.conf
 install:
 	@[ -x $(PROGRAM) ] || { echo 'make install: no proved program is built yet (make build)' >&2; exit 1; }
 	install -D -m 0755 $(PROGRAM) $(DESTDIR)$(PREFIX)/sbin/lmtpd
@@ -44,13 +48,20 @@ install:
 	install -D -m 0644 packaging/lmtpd.bash $(DESTDIR)$(PREFIX)/share/bash-completion/completions/lmtpd
 	install -D -m 0644 packaging/lmtpd.sysusers $(DESTDIR)$(PREFIX)/lib/sysusers.d/lmtpd.conf
 	install -D -m 0644 packaging/lmtpd.tmpfiles $(DESTDIR)$(PREFIX)/lib/tmpfiles.d/lmtpd.conf
-	install -D -m 0644 packaging/lmtpd.conf $(DESTDIR)$(PREFIX)/share/doc/lmtpd/lmtpd.conf
 	install -d $(DESTDIR)$(PREFIX)/lib/systemd/system
 	sed 's|@PREFIX@|$(PREFIX)|' packaging/lmtpd.service > $(DESTDIR)$(PREFIX)/lib/systemd/system/lmtpd.service
+	chmod 0644 $(DESTDIR)$(PREFIX)/lib/systemd/system/lmtpd.service
+	install -m 0644 packaging/lmtpd.socket $(DESTDIR)$(PREFIX)/lib/systemd/system/lmtpd.socket
+	[ -e $(DESTDIR)$(CONF) ] || install -D -m 0644 packaging/lmtpd.conf $(DESTDIR)$(CONF)
 
-# Proves every crate, lowest first, over what earlier checks kept.
+# Makes lmtpd_VERSION_amd64.deb in FOLDER of what `make install PREFIX=/usr` installs.
+FOLDER ?= .
+deb:
+	@packaging/debian/make.sh $(PROGRAM) $(FOLDER)
+
+# Proves every crate, as many side by side as cores and memory allow, over what earlier checks kept.
 check:
-	rt all check
+	rt all check --jobs $$(building/jobs_at_once)
 
 # Proves everything, tries the must-fail edits, and runs the program, the tests and the scripts of tests/.
 test:

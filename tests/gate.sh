@@ -63,21 +63,12 @@ count_all() {
     done
 }
 
-# How many checks go on side by side: one a core, where each has 5 GiB of memory. `rt ci` by itself reckons with far
-# more than a check takes, and so has the largest crates wait while cores are idle.
-jobs_at_once() {
-    local available cores
-    available=$(awk '$1 == "MemAvailable:" { print int($2 / 5242880) }' /proc/meminfo)
-    cores=$(nproc)
-    echo $((available < 1 ? 1 : available < cores ? available : cores))
-}
-
 said=$(mktemp -d)
 trap 'rm -rf "$said"' EXIT
 if [ "${1:-}" != --scripts ]; then
     make -s toolchain || failed=$((failed + 1))
     play_on_sources &
-    RT_JOBS=${RT_JOBS:-$(jobs_at_once)} rt ci 2>&1 | tee "$said/rt"
+    RT_JOBS=${RT_JOBS:-$(building/jobs_at_once)} rt ci 2>&1 | tee "$said/rt"
     count "$said/rt"
     wait
 fi

@@ -1,8 +1,10 @@
 #!/usr/bin/env bash
 # The manual page, what bash completes and what `--help` says name the same words; the page's numbers are those of the
 # help; and `make install` puts each file in its place, with a unit that names the installed program. Where
-# `systemd-analyze` and `groff` are there, they must find nothing wrong with unit and page. LMTPD names a program that
-# is built already.
+# `systemd-analyze` and `groff` are there, they must find nothing wrong with unit and page. Where Debian's dpkg-dev is,
+# the package of `make deb` has what was installed, is the same each time, and needs the packages of the program's
+# libraries; lintian, where it is, finds no error but one (tests/packaging/deb.py). LMTPD names a program that is built
+# already.
 set -euo pipefail
 cd "$(dirname "$0")/.."
 . tests/needs bash gzip make python3
@@ -11,4 +13,5 @@ if [ -z "${LMTPD:-}" ]; then
     LMTPD=$PWD/crates/lmtpd/out/lmtpd
 fi
 export LMTPD
-exec python3 -B tests/packaging/run.py
+python3 -B tests/packaging/run.py
+exec python3 -B tests/packaging/deb.py

@@ -13,13 +13,14 @@ LMTPD = os.environ["LMTPD"]
 PAGE = pathlib.Path("packaging/lmtpd.8").read_text()
 COMPLETION = pathlib.Path("packaging/lmtpd.bash").read_text()
 INSTALLED = [
-    "sbin/lmtpd",
-    "share/man/man8/lmtpd.8.gz",
-    "share/bash-completion/completions/lmtpd",
-    "lib/sysusers.d/lmtpd.conf",
-    "lib/tmpfiles.d/lmtpd.conf",
-    "lib/systemd/system/lmtpd.service",
-    "share/doc/lmtpd/lmtpd.conf",
+    "etc/lmtpd.conf",
+    "usr/lib/systemd/system/lmtpd.service",
+    "usr/lib/systemd/system/lmtpd.socket",
+    "usr/lib/sysusers.d/lmtpd.conf",
+    "usr/lib/tmpfiles.d/lmtpd.conf",
+    "usr/sbin/lmtpd",
+    "usr/share/bash-completion/completions/lmtpd",
+    "usr/share/man/man8/lmtpd.8.gz",
 ]
 
 
@@ -85,21 +86,37 @@ def check_version():
 
 
 def check_install(folder):
-    program = pathlib.Path("crates/lmtpd/out/lmtpd")
-    prefix = folder / "usr"
-    words = ["make", "-s", "install", f"PREFIX={prefix}", f"PROGRAM={LMTPD}"]
-    status, said = said_by(*words)
-    assert status == 0, (program, said)
-    found = sorted(str(path.relative_to(prefix)) for path in prefix.rglob("*") if path.is_file())
-    assert found == sorted(INSTALLED), found
-    assert gzip.decompress((prefix / "share/man/man8/lmtpd.8.gz").read_bytes()).decode() == PAGE
-    unit = prefix / "lib/systemd/system/lmtpd.service"
-    assert f"ExecStart={prefix}/sbin/lmtpd serve " in unit.read_text()
-    assert " --log info " in unit.read_text()
+    """Each file is in its place, and words that were there before stay."""
+    install = ["make", "-s", "install", f"DESTDIR={folder}", "PREFIX=/usr", f"PROGRAM={LMTPD}"]
+    assert said_by(*install) == (0, "")
+    found = sorted(str(path.relative_to(folder)) for path in folder.rglob("*") if path.is_file())
+    assert found == INSTALLED, found
+    assert gzip.decompress((folder / "usr/share/man/man8/lmtpd.8.gz").read_bytes()).decode() == PAGE
+    unit = (folder / "usr/lib/systemd/system/lmtpd.service").read_text()
+    assert "ExecStart=/usr/sbin/lmtpd serve " in unit, unit
+    for words in ["--listen inherited", "--stop-file /run/lmtpd/stop", "--heal", "--log info"]:
+        assert f" {words} " in unit, words
+    socket = (folder / "usr/lib/systemd/system/lmtpd.socket").read_text().splitlines()
+    for line in ["ListenStream=/var/spool/postfix/private/lmtpd", "SocketUser=postfix", "SocketMode=0600"]:
+        assert line in socket, line
+    given = re.findall(r"\$\{?([A-Z_]+)", re.search(r"^ExecStart=(.*)$", unit, re.MULTILINE)[1])
+    words = folder / "etc/lmtpd.conf"
+    assert sorted(given) == sorted(re.findall(r"^([A-Z_]+)=.", words.read_text(), re.MULTILINE)), given
+    words.write_text("HOST=mine.example\n")
+    assert said_by(*install) == (0, "")
+    assert words.read_text() == "HOST=mine.example\n"
+
+
+def check_forms(folder):
+    """systemd finds nothing wrong with the units of a program that is there, and groff nothing with the page."""
+    prefix = folder / "local"
+    install = ["make", "-s", "install", f"PREFIX={prefix}", "CONF=" + str(folder / "lmtpd.conf"), f"PROGRAM={LMTPD}"]
+    assert said_by(*install) == (0, "")
     if shutil.which("systemd-analyze"):
         # what this machine's own units say isn't ours
-        _, said = said_by("systemd-analyze", "verify", "--man=no", str(unit))
-        ours = [line for line in said.splitlines() if "lmtpd.service" in line]
+        units = [str(prefix / "lib/systemd/system" / name) for name in ["lmtpd.socket", "lmtpd.service"]]
+        _, said = said_by("systemd-analyze", "verify", "--man=no", *units)
+        ours = [line for line in said.splitlines() if "lmtpd." in line]
         assert not ours, ours
     if shutil.which("groff"):
         status, said = said_by("groff", "-mdoc", "-Tutf8", "-ww", "-z", "packaging/lmtpd.8")
@@ -109,6 +126,7 @@ def check_install(folder):
 check_words()
 check_version()
 with tempfile.TemporaryDirectory() as room:
-    check_install(pathlib.Path(room))
+    check_install(pathlib.Path(room) / "all")
+    check_forms(pathlib.Path(room))
 print("ok: page, completion, version, unit and install")
 sys.exit(0)

@@ -1,7 +1,8 @@
 """A machine of its own, whose first process is systemd.
 
-Its files are those of this machine with a layer in memory over them, so that nothing stays of what is done there. Its
-processes, its network, of which it has loopback alone, and its branch of the control groups are its own as well.
+Its files are those of this machine, or of a folder, with a layer in memory over them, so that nothing stays of what is
+done there. Its processes, its network, of which it has loopback alone, and its branch of the control groups are its own
+as well.
 """
 
 import os
@@ -15,12 +16,13 @@ from packages import program, want_root
 SYSTEMD = "/lib/systemd/systemd"
 PATH = "/usr/local/sbin:/usr/local/bin:/usr/sbin:/usr/bin:/sbin:/bin"
 
-# What comes to be its first process; $1 is a folder for its files, $2 one that is copied to /root/site.
+# What comes to be its first process; $1 is a folder for its files, $2 one that is copied to /root/site, $5 the one whose
+# files it has.
 BEGIN = r"""
 set -e
 mount -t tmpfs none "$1"
 mkdir "$1/upper" "$1/work" "$1/root"
-mount -t overlay none -o "lowerdir=/,upperdir=$1/upper,workdir=$1/work" "$1/root"
+mount -t overlay none -o "lowerdir=$5,upperdir=$1/upper,workdir=$1/work" "$1/root"
 cp -r "$2" "$1/root/root/site"
 cd "$1/root"
 mount -t proc none proc
@@ -49,12 +51,13 @@ APART = ["--mount", "--pid", "--net", "--uts", "--ipc", "--cgroup"]
 class Machine:
     """It runs from its start to the end of a `with`."""
 
-    def __init__(self, folder, site):
-        """The folder `site` is copied to /root/site there."""
+    def __init__(self, folder, site, root="/"):
+        """It has the files of the folder `root`; the folder `site` is copied to /root/site there."""
         want_root()
-        if not os.path.exists(SYSTEMD):
+        if not os.path.exists(f"{root}/{SYSTEMD}"):
             raise Absent("systemd isn't installed")
         self.site = site
+        self.root = root
         self.log = folder / "machine.log"
         self.files = folder / "machine"
         self.files.mkdir()
@@ -66,7 +69,7 @@ class Machine:
             self.group.mkdir()
         except OSError as fault:
             raise Absent(f"no control group can be made: {fault}") from fault
-        given = [self.files, self.site, PATH, SYSTEMD]
+        given = [self.files, self.site, PATH, SYSTEMD, self.root]
         words = ["unshare", "--fork", "--kill-child", *APART, "sh", "-c", BEGIN, "sh", *given]
         enter = f'echo $$ > "{self.group}/cgroup.procs"; exec "$@"'
         ends = {"stdin": subprocess.DEVNULL, "stdout": self.log.open("wb"), "stderr": subprocess.STDOUT}

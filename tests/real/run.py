@@ -2,7 +2,8 @@
 
 import sys
 
-import exim_delivers  # noqa: F401  (each adds its cases)
+import debian  # noqa: F401  (each adds its cases)
+import exim_delivers  # noqa: F401
 import file_changed  # noqa: F401
 import killed_server_lock  # noqa: F401
 import killed_under_load  # noqa: F401

@@ -30,7 +30,7 @@ def ten_lines(folder):
         equal(there.run("lmtpd check /var/mail/lmtpd/*.mbox"), (0, checked(anna=1, ben=0)))
         owners = there.run("stat -c '%U %G %a' /var/mail/lmtpd /var/mail/lmtpd/anna.mbox")
         equal(owners, (0, "lmtpd lmtpd 700\nlmtpd lmtpd 600\n"))
-        equal(there.run("systemctl is-enabled lmtpd && systemctl is-active lmtpd"), (0, "enabled\nactive\n"))
+        equal(there.run("systemctl is-enabled lmtpd.socket && systemctl is-active lmtpd"), (0, "enabled\nactive\n"))
 
 
 ten_lines.seconds = 120
@@ -69,9 +69,9 @@ def a_service_that_is_killed_begins_again(folder):
         wait_for_letter(there, "behind")
         assert time.monotonic() - begun > 4, "it didn't wait"
         begun = time.monotonic()
-        equal(there.run("systemctl stop lmtpd"), (0, ""))
+        equal(there.run("systemctl stop lmtpd.socket lmtpd"), (0, ""))
         time.sleep(1)
-        equal((there.run("systemctl is-active lmtpd")[1], time.monotonic() - begun < 4), ("inactive\n", True))
+        equal((there.run("systemctl is-active lmtpd")[1], time.monotonic() - begun < 8), ("inactive\n", True))
         there.run("sed -i 's/^BOXES=.*/BOXES=anna anna/' /etc/lmtpd.conf; systemctl restart lmtpd")
         time.sleep(7)
         equal(there.run("systemctl is-failed lmtpd"), (0, "failed\n"))
@@ -131,7 +131,7 @@ def type_lines(there):
 def begin_for_few(there, count):
     """Has the service end after so many conversations, and Postfix hold one for each letter."""
     unit = there.run("cat /usr/local/lib/systemd/system/lmtpd.service")[1]
-    begin = re.search("^ExecStart=.*$", unit, re.MULTILINE)[0].replace("1000000", str(count))
+    begin = re.search("^ExecStart=.*$", unit, re.MULTILINE)[0].replace(" serve ", f" serve --connections {count} ")
     there.run(f"mkdir {os.path.dirname(FEW)}; printf '%s\\n' '[Service]' ExecStart= '{begin}' > {FEW}")
     equal(there.run("systemctl daemon-reload && systemctl restart lmtpd"), (0, ""))
     equal(there.run("postconf -e lmtp_connection_cache_on_demand=no && postfix reload")[0], 0)
