@@ -14,7 +14,11 @@ use Rattle.lmtpd_words.specs.declared.words.ServeWords.{ServeWords}
 use Rattle.lmtpd.specs.declared.fault.Fault.TheVariants as fault
 use Rattle.lmtpd.specs.declared.stop.Stop.TheVariants as stop
 use Rattle.lmtpd.specs.Faults.{first_fault, house_refusal}
-use Rattle.lmtpd.specs.Program.{IsPlace, IsNotRun, IsNotServed, IsServedAsAsked, IsSizeAsked, sizes_asked}
+use Rattle.lmtpd_listen.specs.Listening.{Names}
+use Rattle.lmtpd_listen.specs.declared.fault.ListenFault.TheVariants as listen
+use Rattle.lmtpd_listen.specs.declared.place.Place.{Place}
+use Rattle.lmtpd.specs.declared.fault.Fault.{Fault}
+use Rattle.lmtpd.specs.Program.{IsUnopenedAt, IsPlace, IsNotRun, IsNotServed, IsServedAsAsked, IsSizeAsked, sizes_asked}
 use Rattle.lmtpd.proofs.Unrun.{causes, unrun}
 
 not_run : (words : ServeWords) (cause : HouseFault) → IsPlace words.listen.now → first_fault (named_site words.site) ≡ None
@@ -70,3 +74,12 @@ no_server words cause site sizes count address made asked boxes only (inr good) 
     not_run words cause address made.1 (unrun (IsSizeAsked words) cause (inl (size_asked words site sizes count made.0 asked boxes good))
     (λ f asks. only (ap Err f) (size_given words site sizes count made.0 asked boxes asks))
     (λ bad. absurd (bad (size_asked words site sizes count made.0 asked boxes good))))
+
+-- what listens wasn't opened
+pub unopened : (words : ServeWords) (place : Place) (f : Fault) → Names words.listen.now place → first_fault (named_site words.site) ≡ None
+    → IsUnopenedAt place f → IsNotServed words (stop.Fault f)
+unopened words place f names sound (listen.Memory, is, why) = inl (ap stop.Fault is)
+unopened words place f names sound (listen.Listen reason, is, why) = inr (inr ((place, names), inr (sound, inl is)))
+unopened words place f names sound (listen.Port, is, why) =
+    inr (inr ((place, names), inr (sound, inr (inl (is, subst (λ p. Names words.listen.now p) why names)))))
+unopened words place f names sound (listen.Address, is, why) = absurd why

@@ -29,7 +29,7 @@ pub cut_listing : rehearsal_fault (ended Quit false true) ≡ Some fault.Device
 cut_listing = refl
 
 abbrev pub served : Bool → Bool → Bool → ServerEnding
-served faulty failed cut = record { faulty = faulty; failed = failed; cut = cut }
+served faulty failed cut = record { faulty = faulty; failed = failed; cut = cut; stopped = false }
 
 pub served_well : server_fault (served false false false) ≡ None
 served_well = refl

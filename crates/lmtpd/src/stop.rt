@@ -2,7 +2,7 @@
 
 ghost use Rattle.std.specs.Prelude.{◌≡◌, OnOk, OnErr};
 ghost use Rattle.std.specs.Io.KnownBytes.{Appends};
-ghost use Rattle.lmtpd.specs.Faults.{stop_for, stop_status, words_status};
+ghost use Rattle.lmtpd.specs.Faults.{listen_refusal, stop_for, stop_status, words_status};
 ghost use Rattle.lmtpd.specs.Program.{line_after, status_after, stop_line, unopened_line};
 ghost use Rattle.lmtpd_output.specs.Output.{IsCutOff};
 ghost use Rattle.lmtpd_rehearse.specs.Rehearsal.{IsListed};
@@ -10,6 +10,7 @@ ghost use Rattle.lmtpd_rehearse.specs.Rehearsal.{IsListed};
 use crate::fault::Fault;
 use clap::Error;
 use clap::error::ErrorKind;
+use lmtpd_listen::ListenFault;
 use lmtpd_output::{WriteFault, write_each};
 use std::io::Write;
 
@@ -39,6 +40,16 @@ impl From<Error> for Stop<'_> {
         } else {
             Stop::Words(refused)
         }
+    }
+}
+
+impl From<ListenFault> for Stop<'_> {
+    ghost use Rattle.lmtpd.specs.declared.stop.Stop.TheVariants as variant;
+
+    ghost from_gives = { λ refused stop. stop ≡ variant.Fault (listen_refusal refused) };
+
+    fn from(refused: ListenFault) -> Self {
+        Stop::Fault(Fault::from(refused))
     }
 }
 
