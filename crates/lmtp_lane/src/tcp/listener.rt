@@ -1,9 +1,8 @@
 //! What the lanes need of what listens, be it TCP or a Unix socket.
 
-use std::fmt;
 use std::fmt::{Display, Formatter};
-use std::io;
 use std::net::{IpAddr, SocketAddr};
+use std::{fmt, io};
 
 /// A client, as the log names it.
 #[derive(Clone, Copy, Debug, PartialEq, Eq)]

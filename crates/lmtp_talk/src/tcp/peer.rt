@@ -149,7 +149,10 @@ impl<T: Read, E: Curfew> TcpPeer<T, E> {
         ensures over { result ≡ Ok Waited.Over → E.IsOver (arc_value self.old.curfew) (as_nanos self.old.begun) }
         ensures err { OnErr result (PeerFailed (tcp_state T.remaining self.old) (tcp_state T.remaining self.new)) }
         ensures bounds { self.new ≡ record self.old {
-          stream = self.new.stream; buffer = self.new.buffer; failures = self.new.failures } }
+          stream = self.new.stream;
+          buffer = self.new.buffer;
+          failures = self.new.failures;
+        } }
     {
         for _ in 0..self.waits {
             if self.curfew.is_over(self.begun) {
