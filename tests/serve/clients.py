@@ -58,6 +58,14 @@ class Client:
         self.send(line)
         return self.hear()
 
+    def ask_or_end(self, line):
+        """As `ask`, but an empty text where the server is gone."""
+        try:
+            self.send(line)
+        except OSError:
+            pass
+        return self.hear_or_end()
+
     def greet(self):
         """Hears the greeting, and says LHLO."""
         greeting = self.hear()

@@ -6,6 +6,7 @@ import changed  # noqa: F401  (each adds its cases)
 import closed  # noqa: F401
 import conversations  # noqa: F401
 import deliveries  # noqa: F401
+import ends  # noqa: F401
 import failing  # noqa: F401
 import files  # noqa: F401
 import largest  # noqa: F401

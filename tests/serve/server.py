@@ -26,6 +26,15 @@ class Server:
             self.__exit__()
             raise
 
+    @classmethod
+    def with_words(cls, folder, given):
+        """With just these words."""
+        server = cls.__new__(cls)
+        server.folder = folder
+        server.process = start(given)
+        server.first = server.process.stdout.readline()
+        return server
+
     def __enter__(self):
         return self
 

@@ -242,8 +242,8 @@ def handed(given, descriptor, process="$$", count=1):
 class Inheriting(Server):
     """A server that has its socket from whoever started it."""
 
-    def __init__(self, folder, handed_on, *more):
-        given = words(folder, ["anna"], 1, "--lanes", 1, *more, listen="inherited")
+    def __init__(self, folder, handed_on, *more, connections=1):
+        given = words(folder, ["anna"], connections, "--lanes", 1, *more, listen="inherited")
         self.folder = folder
         pipes = {"stdin": subprocess.DEVNULL, "stdout": subprocess.PIPE, "stderr": subprocess.PIPE}
         command = handed(given, handed_on.fileno())

@@ -1,0 +1,215 @@
+"""What ends the server though its clients aren't done, and what ends a conversation."""
+
+import fcntl
+import resource
+import signal
+import threading
+import time
+
+import letters
+from cases import case, equal
+from clients import Client, deliver_one
+from replies import not_stored, stored
+from server import Server, run, words
+from sockets import Inheriting, passed
+
+STOPPING = "421 4.3.2 mx.example stopping"
+STORED, NOT_STORED = stored("anna"), not_stored("anna")
+# More conversations than any case holds.
+MANY = 1_000_000
+LANES = 4
+# How long a server may go on once its end was asked for and no mailbox is in a turn.
+SECONDS_TO_END = 3
+HEAL_SECONDS = 30
+FILE_BYTES = 4_096
+RESTARTS = 20
+SENDERS = 3
+
+
+def stoppable(folder, *more, **how):
+    return Server(folder, ["anna"], MANY, "--lanes", LANES, "--stop-file", folder / "stop", *more, **how)
+
+
+def asked_to_stop(folder):
+    (folder / "stop").touch()
+    return time.monotonic()
+
+
+def ended_in_time(server, since):
+    ended = server.end()
+    took = time.monotonic() - since
+    assert took < SECONDS_TO_END, took
+    return ended
+
+
+@case
+def a_stop_file_ends_an_idle_server(folder):
+    """once the stop file is there a server whose lanes wait for clients ends with status 0, and the file stays"""
+    with stoppable(folder) as server:
+        equal(deliver_one(server.address, ["anna"], "hello"), [STORED])
+        ended = ended_in_time(server, asked_to_stop(folder))
+    equal((ended.status, ended.said, ended.errors), (0, ["anna stored 1"], []))
+    equal((folder / "stop").exists(), True)
+
+
+@case
+def a_stop_file_at_the_start(folder):
+    """a stop file that is there at the start ends the server at once, with status 0"""
+    asked_to_stop(folder)
+    given = words(folder, ["anna"], MANY, "--stop-file", folder / "stop")
+    ended = run(given)
+    equal((ended.status, ended.said[1:], ended.errors), (0, ["anna stored 0"], []))
+
+
+@case
+def a_stop_tells_each_client(folder):
+    """a client that is waited for and one whose data is under way hear 421, and what was told 250 is stored alone"""
+    with stoppable(folder) as server, Client(server.address) as idle, Client(server.address) as sending:
+        idle.greet()
+        sending.greet().start_message("anna", "half a letter")
+        equal(deliver_one(server.address, ["anna"], "hello"), [STORED])
+        since = asked_to_stop(folder)
+        equal((idle.hear(), sending.hear()), (STOPPING, STOPPING))
+        ended = ended_in_time(server, since)
+    equal((ended.status, ended.said), (0, ["anna stored 1"]))
+    equal(letters.messages(server.mailbox("anna")), [b"hello\n"])
+
+
+@case
+def a_stop_ends_the_wait_for_a_lock(folder):
+    """a copy that waits for a mailbox which another program has locked is told 451 once the stop file is there"""
+    with stoppable(folder, "--lock-wait", 60) as server, Client(server.address) as client:
+        with open(server.mailbox("anna"), "rb+") as held:
+            fcntl.lockf(held, fcntl.LOCK_EX)
+            client.greet().start_message("anna", "hello")
+            client.send(".")
+            time.sleep(0.5)
+            since = asked_to_stop(folder)
+            equal((client.hear(), client.hear()), (NOT_STORED, STOPPING))
+            ended = ended_in_time(server, since)
+    equal((ended.status, ended.errors), (0, ["lmtpd: anna in use 1"]))
+
+
+@case
+def a_session_has_its_time(folder):
+    """a client that sends a byte now and then hears 421 once its conversation has lasted for --session-time"""
+    with Server(folder, ["anna"], 1, "--lanes", 1, "--session-time", 2) as server, Client(server.address) as client:
+        client.greet()
+        since = time.monotonic()
+        sender = threading.Thread(target=send_slowly, args=[client])
+        sender.start()
+        equal(client.hear(), STOPPING)
+        took = time.monotonic() - since
+        sender.join()
+        assert 1.5 < took < 4, took
+        equal(server.end().status, 0)
+
+
+def send_slowly(client):
+    try:
+        for _ in range(40):
+            client.socket.sendall(b"N")
+            time.sleep(0.2)
+    except OSError:
+        pass
+
+
+@case
+def no_number_ends_it(folder):
+    """without --connections a server goes on after many conversations"""
+    given = words(folder, ["anna"], MANY, "--lanes", 2, "--stop-file", folder / "stop")
+    at = given.index("--connections")
+    with Server.with_words(folder, given[:at] + given[at + 2 :]) as server:
+        for number in range(20):
+            equal(deliver_one(server.address, ["anna"], f"letter {number}"), [STORED])
+        ended = ended_in_time(server, asked_to_stop(folder))
+    equal((ended.status, ended.said), (0, ["anna stored 20"]))
+
+
+
+
+def small_files():
+    """No file of the server may have more bytes than a few letters."""
+    signal.signal(signal.SIGXFSZ, signal.SIG_IGN)
+    resource.setrlimit(resource.RLIMIT_FSIZE, (FILE_BYTES, FILE_BYTES))
+
+
+@case
+def a_server_that_heals(folder):
+    """with --heal a server whose mailbox failed serves the others for 30 seconds, and ends then with a device fault"""
+    with Server(folder, ["anna", "ben"], MANY, "--lanes", LANES, "--heal", preexec_fn=small_files) as server:
+        while deliver_one(server.address, ["anna"], "x" * 500) == [STORED]:
+            pass
+        since = time.monotonic()
+        equal(deliver_one(server.address, ["anna"], "hello"), [NOT_STORED])
+        equal(deliver_one(server.address, ["ben"], "hello"), [stored("ben")])
+        said, errors = server.process.communicate(timeout=HEAL_SECONDS + 10)
+        took = time.monotonic() - since
+    assert HEAL_SECONDS - 2 < took < HEAL_SECONDS + 3, took
+    equal((server.process.returncode, errors.splitlines()), (1, ["lmtpd: device fault"]))
+    equal(said.splitlines()[1:], ["ben stored 1"])
+
+
+@case
+def restarts_lose_nothing(folder):
+    """orderly restarts under load, on a socket that was passed: each numbered letter is there once, nobody is refused"""
+    with passed() as listener:
+        listener.listen(64)
+        is_over = threading.Event()
+        told = [[] for _ in range(SENDERS)]
+        faults = []
+        senders = [threading.Thread(target=send_numbered, args=[number, listener.getsockname(), is_over, told, faults])
+                   for number in range(SENDERS)]
+        for sender in senders:
+            sender.start()
+        for _ in range(RESTARTS):
+            serve_for_a_moment(folder, listener)
+        is_over.set()
+        # the last letters are under way until somebody serves them
+        (folder / "stop").unlink()
+        last = Inheriting(folder, listener, "--stop-file", folder / "stop", connections=MANY)
+        for sender in senders:
+            sender.join()
+        asked_to_stop(folder)
+        equal(last.end().status, 0)
+    equal(faults, [])
+    sent = sorted(text for texts in told for text in texts)
+    equal(sorted(message.decode().strip() for message in letters.messages(folder / "anna.mbox")), sent)
+    assert len(sent) > RESTARTS, len(sent)
+
+
+restarts_lose_nothing.seconds = 180
+
+
+def serve_for_a_moment(folder, listener):
+    (folder / "stop").unlink(missing_ok=True)
+    server = Inheriting(folder, listener, "--stop-file", folder / "stop", connections=MANY)
+    time.sleep(0.3)
+    since = asked_to_stop(folder)
+    equal(ended_in_time(server, since).status, 0)
+
+
+def send_numbered(sender, address, is_over, told, faults):
+    """Sends numbered letters, each again until it is told 250."""
+    number = 0
+    try:
+        while not is_over.is_set():
+            text = f"letter {sender} {number}"
+            while not was_stored(address, text):
+                pass
+            told[sender].append(text)
+            number += 1
+    except ConnectionRefusedError as fault:
+        faults.append(repr(fault))
+
+
+def was_stored(address, text):
+    """Whether it was told so; a letter of which nothing was told before the dot went out may be sent again."""
+    with Client(address) as client:
+        for line in [None, "LHLO relay.example", "MAIL FROM:<carl@a.example>", "RCPT TO:<anna@mx.example>", "DATA"]:
+            answer = client.hear_or_end() if line is None else client.ask_or_end(line)
+            if not answer or answer.startswith("421"):
+                return False
+        answer = client.ask_or_end(f"{text}\r\n.")
+        assert answer in [STORED, STOPPING], answer
+        return answer == STORED
