@@ -10,6 +10,6 @@ pub use lmtp_lane::{
 };
 pub use lmtp_talk::{
     Bounds, Came, ClientStream, Curfew, Delivery, Dialogue, EndCause, Outbox, Peer, PeerFault,
-    ReadBuffer, TcpPeer, serve,
+    ReadBuffer, TcpPeer, has_passed, serve,
 };
 pub use lmtp_threads::Tally;

@@ -1,5 +1,7 @@
 -- What contracts see of a client over a stream.
 use Rattle.std.specs.Prelude.{◌≡◌, ◌-◌, ◌<◌, ◌⊎◌, ℕ, List, [], Result, length, Option, None, Some, Ok}
+use Rattle.std.specs.Arc.{arc_value}
+use Rattle.std.specs.Duration.{as_nanos}
 use Rattle.std.specs.Io.KnownBytes.{prepend_known}
 use Rattle.lmtp_talk.specs.declared.peer.Came.{Came}
 use Rattle.lmtp_talk.specs.declared.peer.Came.TheVariants.{Bytes, End, Stop}
@@ -36,13 +38,19 @@ WaitedFor remaining old new Waited.Came = (0 < length (waiting new.buffer))
 WaitedFor remaining old new Waited.End = HasBrought (tcp_state remaining old) (tcp_state remaining new) [] End
 WaitedFor remaining old new _ = HasTransferred (tcp_state remaining old) (tcp_state remaining new) [] []
 
--- one read fewer is left; where none was left, it says stop; what waits is handed out first; in neither case is the
--- stream touched
-pub record TakesRead {T E F : Type 0} (old new : TcpPeer T E) (result : Result Came F) : Type 0 where
+-- one read fewer is left; where none was left, it says stop; what waits is handed out first, unless the conversation is
+-- over; in neither case is the stream touched
+pub record TakesRead {T E F : Type 0} (IsOver : E → ℕ → Type 0) (old new : TcpPeer T E) (result : Result Came F) : Type 0 where
   pub counts : new.reads_left ≡ old.reads_left - 1
   pub stops : old.reads_left ≡ 0 → result ≡ Ok Stop
-  pub waits : 0 < old.reads_left → 0 < length (waiting old.buffer) → (n : ℕ) × (result ≡ Ok (Bytes n))
+  pub waits : 0 < old.reads_left → 0 < length (waiting old.buffer)
+      → ((n : ℕ) × (result ≡ Ok (Bytes n))) ⊎ ((result ≡ Ok Stop) × IsOver (arc_value old.curfew) (as_nanos old.begun))
   pub untouched : (old.reads_left ≡ 0) ⊎ (0 < length (waiting old.buffer)) → new.stream ≡ old.stream
+
+-- how many nanoseconds a client has been written to after its conversation was over
+abbrev pub time_over : Option Duration → Duration → ℕ
+time_over None now = 0
+time_over (Some since) now = as_nanos now - as_nanos since
 
 -- nothing was read of it, and as many reads may be made, and as many waits may bring nothing, as its bounds say
 pub record IsNew {T E : Type 0} (bounds : Bounds) (peer : TcpPeer T E) : Type 0 where

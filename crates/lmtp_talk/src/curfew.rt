@@ -1,6 +1,6 @@
 //! Until when clients are served.
 
-ghost use Rattle.std.specs.Prelude.{◌≡◌, IsTrue, ℕ};
+ghost use Rattle.std.specs.Prelude.{◌≡◌, ◌≤◌, ◌-◌, ◌↔◌, IsTrue, ℕ};
 ghost use Rattle.std.specs.Duration.{as_nanos};
 
 use std::time::Duration;
@@ -18,10 +18,17 @@ pub trait Curfew: Drop {
     fn is_asked(&self) -> bool
         ensures { IsTrue result → IsAsked self.now };
 
-    /// The moment at which a conversation begins.
-    fn begin(&self) -> Duration;
+    /// This moment, by a clock that only rises; where there is none it is the largest there is.
+    fn moment(&self) -> Duration;
 
     /// Whether a conversation that began at that moment is to stop.
     fn is_over(&self, begun: Duration) -> bool
         ensures { IsTrue result → IsOver self.now (as_nanos begun) };
+}
+
+/// Whether that much time has passed between two moments.
+pub fn has_passed(begun: Duration, now: Duration, time: Duration) -> bool
+    ensures { IsTrue result ↔ (as_nanos time ≤ as_nanos now - as_nanos begun) }
+{
+    now.saturating_sub(begun).as_nanos() >= time.as_nanos()
 }

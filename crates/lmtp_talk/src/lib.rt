@@ -13,7 +13,7 @@ mod script;
 mod tcp;
 
 pub use conversation::serve;
-pub use curfew::Curfew;
+pub use curfew::{Curfew, has_passed};
 pub use delivery::Delivery;
 pub use dialogue::Dialogue;
 pub use ending::EndCause;

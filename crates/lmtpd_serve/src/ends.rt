@@ -1,9 +1,9 @@
 //! What ends a server though its clients aren't done: a file that an administrator makes, and a mailbox that failed.
 
-ghost use Rattle.std.specs.Prelude.{◌≡◌, ◌≤◌, ◌-◌, ◌*◌, ◌↔◌, IsTrue, IfOk};
+ghost use Rattle.std.specs.Prelude.{◌≡◌, ◌*◌, IfOk};
 ghost use Rattle.std.specs.Duration.{as_nanos};
 
-use lmtp_house::Curfew;
+use lmtp_house::{Curfew, has_passed};
 use std::alloc::{AllocError, Global};
 use std::fs;
 use std::fs::Files;
@@ -104,13 +104,6 @@ impl<R: Clock + Files> ServerCurfew<R> {
     }
 }
 
-// Whether that much time has passed.
-fn has_passed(begun: Duration, now: Duration, time: Duration) -> bool
-    ensures { IsTrue result ↔ (as_nanos time ≤ as_nanos now - as_nanos begun) }
-{
-    now.saturating_sub(begun).as_nanos() >= time.as_nanos()
-}
-
 impl<R: Clock + Files + Drop> Curfew for ServerCurfew<R> {
     ghost use Rattle.std.specs.Prelude.{⊤};
 
@@ -131,7 +124,7 @@ impl<R: Clock + Files + Drop> Curfew for ServerCurfew<R> {
         is_asked
     }
 
-    fn begin(&self) -> Duration {
+    fn moment(&self) -> Duration {
         self.rt.monotonic().unwrap_or(Duration::MAX)
     }
 

@@ -4,7 +4,7 @@ ghost use Rattle.std.specs.Prelude.{◌≡◌, ◌<◌, [], false, length, Ok, I
 ghost use Rattle.std.specs.Arc.{arc_value};
 ghost use Rattle.std.specs.Duration.{as_nanos};
 
-use crate::curfew::Curfew;
+use crate::curfew::{Curfew, has_passed};
 use crate::ending::EndCause;
 use crate::peer::{Came, Peer, PeerFault};
 use crate::tcp::drain::close;
@@ -15,10 +15,6 @@ use std::io;
 use std::io::{Error, ErrorKind, Read, Write};
 use std::sync::Arc;
 use std::time::Duration;
-
-/// How often a client is written to once its conversation is over: the last reply goes out at once, and a client that
-/// takes it byte by byte holds nothing up.
-const LAST_WRITES: u32 = 4;
 
 /// How much of a client one conversation may ask.
 #[derive(Clone, Copy, Debug, PartialEq, Eq)]
@@ -32,7 +28,7 @@ pub struct Bounds {
 /// A client whose bytes come and go over a stream. What the system has for it is read at once, as far as the
 /// buffer goes, and handed out in pieces. It says that the server is to stop once as many pieces were handed
 /// out as may be, once the client was silent for as many waits of the stream as it may be (RFC 5321, 4.5.3.2), and
-/// once the curfew says that its conversation is over.
+/// once the curfew says that its conversation is over, though bytes wait.
 #[derive(Drop)]
 pub struct TcpPeer<T, E: Drop> {
     stream: T,
@@ -44,8 +40,8 @@ pub struct TcpPeer<T, E: Drop> {
     waits: u32,
     // how many reads may still be made
     reads_left: u64,
-    // how many writes may still be made once it is over
-    last_writes: u32,
+    // when it was first to be written to after its conversation was over
+    over_since: Option<Duration>,
     // each stays at its largest value
     reads: u64,
     failures: u64,
@@ -61,7 +57,7 @@ impl<T, E: Curfew> TcpPeer<T, E> {
         ensures stream { result.stream ≡ stream }
     {
         buffer.clear();
-        let begun = curfew.begin();
+        let begun = curfew.moment();
         TcpPeer {
             stream,
             buffer,
@@ -69,7 +65,7 @@ impl<T, E: Curfew> TcpPeer<T, E> {
             begun,
             waits: bounds.waits,
             reads_left: bounds.reads,
-            last_writes: LAST_WRITES,
+            over_since: None,
             reads: 0,
             failures: 0,
             stops: 0,
@@ -81,6 +77,15 @@ impl<T, E: Curfew> TcpPeer<T, E> {
         ensures { result.now ≡ self.now.stream }
     {
         &self.stream
+    }
+}
+
+impl<T, E: Curfew> TcpPeer<T, E> {
+    // Whether the conversation is over.
+    fn is_over(&self) -> bool
+        ensures { result ≡ true → E.IsOver (arc_value self.now.curfew) (as_nanos self.now.begun) }
+    {
+        self.curfew.is_over(self.begun)
     }
 }
 
@@ -138,6 +143,8 @@ enum Waited {
 }
 
 impl<T: Read, E: Curfew> TcpPeer<T, E> {
+    ghost use Rattle.std.specs.Prelude.{IfSome, Some, None, ◌⊎◌};
+    ghost use Rattle.mail_world.specs.Failures.{Rises};
     ghost use Rattle.lmtp_talk.specs.Peer.{PeerFailed};
     ghost use Rattle.lmtp_talk.specs.ReadBuffer.{waiting};
     ghost use Rattle.lmtp_talk.specs.TcpPeer.{Fills, WaitedFor, tcp_state};
@@ -155,7 +162,7 @@ impl<T: Read, E: Curfew> TcpPeer<T, E> {
         } }
     {
         for _ in 0..self.waits {
-            if self.curfew.is_over(self.begun) {
+            if self.is_over() {
                 return Ok(Waited::Over);
             }
             match self.buffer.refill(&mut self.stream) {
@@ -167,15 +174,32 @@ impl<T: Read, E: Curfew> TcpPeer<T, E> {
         Ok(Waited::Silent)
     }
 
+    // Says stop where the conversation is over, though bytes wait.
+    fn stop_if_over(&mut self) -> Option<Came>
+        ensures goes_on { result ≡ None → self.new ≡ self.old }
+        ensures over { IfSome result (λ came. (came ≡ Came.Stop) × Rises self.old.stops self.new.stops
+            × E.IsOver (arc_value self.old.curfew) (as_nanos self.old.begun)) }
+        ensures same { self.new ≡ record self.old { stops = self.new.stops } }
+    {
+        if self.is_over() {
+            Some(self.stop())
+        } else {
+            None
+        }
+    }
+
     // Reads on where nothing waits, and says what the client did where it said nothing.
     fn fill(&mut self) -> Result<Option<Came>, PeerFault>
         ensures ok { IfOk result (Fills T.remaining self.old self.new) }
         ensures err { OnErr result (PeerFailed (tcp_state T.remaining self.old) (tcp_state T.remaining self.new)) }
-        ensures waits { 0 < length (waiting self.old.buffer) → (result ≡ Ok None) × (self.new ≡ self.old) }
+        ensures waits { 0 < length (waiting self.old.buffer)
+            → ((result ≡ Ok None) × (self.new ≡ self.old))
+            ⊎ ((result ≡ Ok (Some Came.Stop)) × (self.new.stream ≡ self.old.stream)
+            × E.IsOver (arc_value self.old.curfew) (as_nanos self.old.begun)) }
         ensures same { (self.new.reads_left ≡ self.old.reads_left) × (self.new.reads ≡ self.old.reads) }
     {
         if !self.buffer.is_empty() {
-            return Ok(None);
+            return Ok(self.stop_if_over());
         }
         match self.wait()? {
             Waited::Came => Ok(None),
@@ -201,25 +225,44 @@ impl<T: Read + ClientStream + Drop, E: Drop> TcpPeer<T, E> {
 }
 
 impl<T: Write, E: Curfew> TcpPeer<T, E> {
+    ghost use Rattle.std.specs.Prelude.{◌≤◌, None, Some, is_some, true};
     ghost use Rattle.std.specs.Io.{WritesAtMost};
+    ghost use Rattle.lmtp_talk.specs.TcpPeer.{time_over};
 
-    // Whether the client may be written to once more: once its conversation is over that goes on only so often.
-    fn may_write(&mut self) -> bool
-        ensures same { self.new ≡ record self.old { last_writes = self.new.last_writes } }
-        ensures ended { result ≡ false → (self.old.last_writes ≡ 0) × E.IsOver (arc_value self.old.curfew) (as_nanos self.old.begun) }
+    // Whether a client whose conversation is over may be written to at that moment: for a second from the first time.
+    fn has_last_time(&mut self, now: Duration) -> bool
+        ensures same { self.new ≡ record self.old { over_since = self.new.over_since } }
+        ensures goes_on { result ≡ true → time_over self.old.over_since now < 1_000_000_000 }
+        ensures ends { result ≡ false → 1_000_000_000 ≤ time_over self.old.over_since now }
+        ensures first { self.old.over_since ≡ None → self.new.over_since ≡ Some now }
+        ensures later { is_some self.old.over_since ≡ true → self.new.over_since ≡ self.old.over_since }
     {
-        if !self.curfew.is_over(self.begun) {
+        match self.over_since {
+            Some(since) => !has_passed(since, now, Duration::from_secs(1)),
+            None => {
+                self.over_since = Some(now);
+                true
+            }
+        }
+    }
+
+    // Whether the client may be written to once more: once its conversation is over that goes on for a second.
+    fn may_write(&mut self) -> bool
+        ensures same { self.new ≡ record self.old { over_since = self.new.over_since } }
+        ensures ended { result ≡ false → (is_some self.old.over_since ≡ true)
+            × E.IsOver (arc_value self.old.curfew) (as_nanos self.old.begun) }
+    {
+        if !self.is_over() {
             return true;
         }
-        let may = self.last_writes > 0;
-        self.last_writes = self.last_writes.saturating_sub(1);
-        may
+        let now = self.curfew.moment();
+        self.has_last_time(now)
     }
 
     // Writes as long as the client may take nothing.
     fn write_on(&mut self, bytes: &[u8]) -> io::Result<usize>
         ensures bound { WritesAtMost result bytes.now }
-        ensures same { self.new ≡ record self.old { stream = self.new.stream; last_writes = self.new.last_writes } }
+        ensures same { self.new ≡ record self.old { stream = self.new.stream; over_since = self.new.over_since } }
     {
         for _ in 0..self.waits {
             if !self.may_write() {
@@ -258,7 +301,7 @@ impl<T: Read + Write, E: Curfew> Peer for TcpPeer<T, E> {
         ensures come { IfOk result
             (λ came. HasBrought (tcp_state T.remaining self.old) (tcp_state T.remaining self.new) buffer.new came) }
         ensures failed { OnErr result (PeerFailed (tcp_state T.remaining self.old) (tcp_state T.remaining self.new)) }
-        ensures bound { TakesRead self.old self.new result }
+        ensures bound { TakesRead E.IsOver self.old self.new result }
     {
         self.reads = self.reads.saturating_add(1);
         if self.reads_left == 0 {
