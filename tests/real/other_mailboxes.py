@@ -1,4 +1,4 @@
-"""Mailboxes that Postfix and Dovecot wrote, and what becomes of them here: 'Moving a mailbox' in docs/OPERATING.md."""
+"""Mailboxes that Postfix and Dovecot wrote, and what becomes of them here by docs/operating/MOVING.md."""
 
 import contextlib
 import os
@@ -15,7 +15,8 @@ from postfix import Postfix
 from replies import stored
 from server import Server
 
-MOVING = (pathlib.Path(__file__).parents[2] / "docs/OPERATING.md").read_text().split("\n## Moving a mailbox\n")[1]
+PAGE = pathlib.Path(__file__).parents[2] / "docs/operating/MOVING.md"
+MOVING = PAGE.read_text().split("\n## Moving a mailbox\n")[1]
 LINES = ["From x", ">From x", ">>From x", "", "From carl@a.example Mon Nov 23 10:00:00 2026", "> From y", "end"]
 # Header lines by which programs count and mark the letters of a mailbox, here as a sender wrote them.
 MARKS = ["Content-Length: 3", "Status: RO", "X-Status: F", "X-UID: 7", "X-Keywords: k", "X-IMAPbase: 1 9"]
@@ -196,7 +197,7 @@ def said_by(*words, wanted=(0,)):
 
 
 def moved_and_delivered_behind(home, path, tool, bodies):
-    """Types what OPERATING has for that tool; then a server delivers one letter more, and readers find all."""
+    """Types what MOVING has for that tool; then a server delivers one letter more, and readers find all."""
     home.mkdir(exist_ok=True)
     lines = next(text for text in MOVING.split("```\n")[1::2] if tool in text)
     places = {"/var/mail/lmtpd/anna.mbox": home / "anna.mbox", "/var/mail/anna": path, "lmtpd:": "root:"}

@@ -1,4 +1,4 @@
-"""The ten lines of docs/OPERATING.md, and the service that they begin, on a machine whose first process is systemd."""
+"""The ten lines of docs/operating/SETUP.md, and the service that they begin, where the first process is systemd."""
 
 import contextlib
 import os
@@ -22,7 +22,7 @@ FEW = "/etc/systemd/system/lmtpd.service.d/few.conf"
 
 @case
 def ten_lines(folder):
-    """the ten lines of docs/OPERATING.md, typed as they stand: Postfix's letter is in the mailbox"""
+    """the ten lines of docs/operating/SETUP.md, typed as they stand: Postfix's letter is in the mailbox"""
     with machine(folder) as there:
         said = type_lines(there)
         equal((said.startswith("From root@"), said.endswith("\n\nhello\n\n")), (True, True))
@@ -118,7 +118,7 @@ def machine(folder):
 
 def type_lines(there):
     """What the last of the lines says; each ends with status 0."""
-    lines = (ROOT / "docs/OPERATING.md").read_text().split(HEADING)[1].split("```\n")[1].splitlines()
+    lines = (ROOT / "docs/operating/SETUP.md").read_text().split(HEADING)[1].split("```\n")[1].splitlines()
     equal((len(lines) <= 10, len(lines)), (True, len(lines)))
     for line in lines:
         for old, new in REPLACED.items():
