@@ -95,6 +95,13 @@ class Check:
         ends = {"stdin": subprocess.DEVNULL, "stdout": self.said, "stderr": subprocess.STDOUT}
         self.process = subprocess.Popen(words, cwd=self.folder, preexec_fn=begin, **ends)
 
+    def lead(self):
+        """Takes the priority of the first, where this user may raise it."""
+        try:
+            os.setpriority(os.PRIO_PGRP, self.process.pid, 0)
+        except OSError:  # it has ended, or only root may
+            pass
+
     def finish(self):
         """Hands back what was kept, and says whether the crate is proved."""
         if self.process.poll() is None:
@@ -164,6 +171,8 @@ def prove(crates, room):
                 if not check.finish():
                     return False
                 proved.add(check.crate.name)
+                if running:
+                    max(running, key=lambda it: it.crate.chain).lead()
     finally:
         for check in running:
             check.finish()
