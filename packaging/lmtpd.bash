@@ -1,9 +1,9 @@
 # What bash completes of the words of lmtpd.
 _lmtpd() {
     local serve rehearse check word=${COMP_WORDS[COMP_CWORD]} before=${COMP_WORDS[COMP_CWORD - 1]}
-    serve='--host --listen --dir --domains --message-limit --lanes --blocks --capacity --reads --timeout --session-time'
-    serve+=' --log --quota --lock-wait --mailbox-mode --socket-mode --connections --stop-file --heal --help'
-    rehearse='--host --time --domains --message-limit --blocks --quota --help'
+    serve='--host --listen --dir --domains --recipient-delimiter --message-limit --lanes --blocks --capacity --reads'
+    serve+=' --timeout --session-time --log --quota --lock-wait --mailbox-mode --socket-mode --connections --stop-file --heal --help'
+    rehearse='--host --time --domains --recipient-delimiter --message-limit --blocks --quota --help'
     check='--help'
     COMPREPLY=()
     if [ "$before" = --dir ]; then
@@ -12,6 +12,8 @@ _lmtpd() {
         compopt -o default
     elif [ "$before" = --log ]; then
         mapfile -t COMPREPLY < <(compgen -W 'off error info' -- "$word")
+    elif [ "$before" = --recipient-delimiter ]; then
+        mapfile -t COMPREPLY < <(compgen -W '+ - = # ~' -- "$word")
     elif [ "$COMP_CWORD" = 1 ]; then
         mapfile -t COMPREPLY < <(compgen -W 'serve rehearse check help --help --version' -- "$word")
     elif [[ $word = -* ]]; then

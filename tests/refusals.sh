@@ -46,6 +46,14 @@ try 2 clap "${good[@]}" --blocks 4294967296 anna
 try 2 clap "${good[@]}" --blocks x anna
 for limit in 65535 268435457 x '' 1e6; do try 2 clap "${good[@]}" --message-limit "$limit" anna; done
 for limit in 65535 268435457 x; do try 2 clap "${serve[@]}" --dir /nowhere --message-limit "$limit" anna; done
+for byte in '' ++ x . _ @ '\' ' ' é; do try 2 clap "${good[@]}" --recipient-delimiter="$byte" anna; done
+for byte in '' +- x; do try 2 clap "${serve[@]}" --dir /nowhere --recipient-delimiter="$byte" anna; done
+for byte in + - = '#' '~'; do
+    try 0 none "${good[@]}" --recipient-delimiter "$byte" anna
+    try 0 none "${good[@]}" --recipient-delimiter="$byte" anna
+    try 1 'lmtpd: cannot open anna.mbox' "${serve[@]}" --dir /nowhere --recipient-delimiter "$byte" anna
+done
+try 2 clap check --recipient-delimiter + anna.mbox
 try 2 clap "${good[@]}" --quota -1 anna
 try 2 clap "${good[@]}" --quota 18446744073709551616 anna
 try 2 clap "${good[@]}" --quota 1k anna

@@ -165,6 +165,38 @@ def conversations():
         {"anna": b"", "ben": b""},
         ["--domains", "a.example,b.example"],
     )
+    tried = [
+        (b"anna+lists@mx.example", True),
+        (b"Ben+a+b", True),
+        (b"ben+", True),
+        (b"+anna", False),
+        (b"zoe+anna", False),
+        (b"anna-lists", False),
+        (b"Postmaster+x", True),
+        (b'"anna+x"', True),
+        (rb'"b\en\+x"@mx.example', True),
+        (b"anna+x@other.example", False),
+    ]
+    yield Row(
+        "a user and a detail",
+        [*PROLOGUE, *(b"RCPT TO:<%s>" % address for address, _ in tried), b"QUIT"],
+        [*OPENED, *(RECIPIENT_OK if known else replies.NO_SUCH_BOX for _, known in tried), CLOSING],
+        {"anna": b"", "ben": b""},
+        ["--recipient-delimiter", "+"],
+    )
+    yield Row(
+        "a user and a detail, which no word allows",
+        [*PROLOGUE, b"RCPT TO:<anna+lists>", b"RCPT TO:<anna>", b"QUIT"],
+        [*OPENED, replies.NO_SUCH_BOX, RECIPIENT_OK, CLOSING],
+        {"anna": b"", "ben": b""},
+    )
+    yield Row(
+        "a letter for a user with a detail",
+        [*PROLOGUE, b"RCPT TO:<ben~x@mx.example>", b"DATA", *HELLO, b"QUIT"],
+        [*OPENED, RECIPIENT_OK, GO_AHEAD, stored("ben"), CLOSING],
+        {"anna": b"", "ben": record(HELLO_STORED)},
+        ["--recipient-delimiter=~"],
+    )
     yield Row(
         "commands that change nothing",
         [b"VRFY anna", b"EXPN all", b"HELP", b"RSET", b"QUIT"],

@@ -21,10 +21,10 @@ pub trait LaneStart {
 
 // Whoever passes `Brand` may pick others.
 impl LaneStart for Brand {
-    ghost use Rattle.std.specs.Prelude.{⊤, [], false};
+    ghost use Rattle.std.specs.Prelude.{⊤, [], None, false};
     ghost use Rattle.lmtp_lane.specs.LaneStart.{no_inbox};
 
-    ghost site = { record { host = []; domains = []; boxes = []; message_limit = 0 } };
+    ghost site = { record { host = []; domains = []; boxes = []; message_limit = 0; recipient_delimiter = None } };
 
     ghost May = { λ moment. ⊤ };
 

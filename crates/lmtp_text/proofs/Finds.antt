@@ -1,11 +1,11 @@
--- The mailbox of a target, from the place of its name.
-use Rattle.std.proofs.Common.{◌≡◌, ℕ, Bool, true, List, [], ◌∷◌, length, Option, refl, sym, ◌∙◌, Vec, Global}
+-- The mailbox of a target, from the place of its name or of its user's.
+use Rattle.std.proofs.Common.{◌≡◌, ℕ, Bool, true, false, List, [], ◌∷◌, length, Option, Some, None, refl, sym, ◌∙◌, Vec, Global}
 use Rattle.std.specs.Prelude.{codes, position, not}
 use Rattle.std.specs.List.{prefix_len}
 use Rattle.mail_world.specs.Site.{Site}
 use Rattle.mail_world.specs.Grammar.{Target}
 use Rattle.mail_world.specs.Commands.{is_word}
-use Rattle.mail_world.specs.Targets.{box_of, box_or, is_here, local_name}
+use Rattle.mail_world.specs.Targets.{box_of, box_named, box_or, is_here, local_name, user_of}
 use Rattle.lmtp_text.specs.Sites.{owned}
 
 prefix_len-owned : (p : List ℕ → Bool) (names : List (Vec ℕ Global)) → prefix_len p (owned names) ≡ prefix_len (λ name. p name.items) names
@@ -19,17 +19,37 @@ length-owned (x ∷ xs) = rw (length-owned xs) refl
 position-owned : (p : List ℕ → Bool) (names : List (Vec ℕ Global)) → position p (owned names) ≡ position (λ name. p name.items) names
 position-owned p names = rw (prefix_len-owned (λ name. not (p name)) names, length-owned names) refl
 
-box_of-is : (site : Site) (t : Target) (postmaster : Bool) (place : Option ℕ) → is_here site t.domain ≡ true
-    → position (λ box. is_word box (local_name t)) site.boxes ≡ place → postmaster ≡ is_word (codes "postmaster") (local_name t)
-    → box_of site t ≡ box_or postmaster place
-unfolding box_of
-box_of-is site t postmaster place here e f = rw (here, e, f) refl
+box_named-is : (boxes : List (List ℕ)) (name : List ℕ) (postmaster : Bool) (place : Option ℕ)
+    → position (λ box. is_word box name) boxes ≡ place → postmaster ≡ is_word (codes "postmaster") name
+    → box_named boxes name ≡ box_or postmaster place
+box_named-is boxes name postmaster place e f = rw (e, f) refl
 
--- the mailbox of a target at the site, where the names are owned and the place of the target's was found among them
-pub box_of-placed : (site : Site) (names : List (Vec ℕ Global)) (t : Target) (postmaster : Bool) (found place : Option ℕ) → owned names ≡ site.boxes
-    → is_here site t.domain ≡ true → found ≡ position (λ name. is_word name.items (local_name t)) names → found ≡ place
-    → postmaster ≡ is_word (codes "postmaster") (local_name t) → box_of site t ≡ box_or postmaster place
-box_of-placed site names t postmaster found place held here e f g =
-    let there : position (λ box. is_word box (local_name t)) site.boxes ≡ place =
-    rw (← held) (position-owned (λ box. is_word box (local_name t)) names ∙ sym e ∙ f) in
-    box_of-is site t postmaster place here there g
+-- the mailbox of a name, where the names are owned and the place of that name was found among them
+pub box_named-placed : (boxes : List (List ℕ)) (names : List (Vec ℕ Global)) (name : List ℕ) (postmaster : Bool) (found place : Option ℕ) → owned names ≡ boxes
+    → found ≡ position (λ text. is_word text.items name) names → found ≡ place → postmaster ≡ is_word (codes "postmaster") name
+    → box_named boxes name ≡ box_or postmaster place
+box_named-placed boxes names name postmaster found place held e f g =
+    let there : position (λ box. is_word box name) boxes ≡ place =
+    rw (← held) (position-owned (λ box. is_word box name) names ∙ sym e ∙ f) in
+    box_named-is boxes name postmaster place there g
+
+-- the mailbox of a target at the site, by its name, and by its user where the name has none
+pub box_of-named : (site : Site) (t : Target) (found : Option ℕ) (n : ℕ) → is_here site t.domain ≡ true
+    → found ≡ box_named site.boxes (local_name t) → found ≡ Some n → box_of site t ≡ Some n
+unfolding box_of
+box_of-named site t found n here e f = rw (here, sym e ∙ f) refl
+
+pub box_of-user : (site : Site) (t : Target) (found user : Option ℕ) → is_here site t.domain ≡ true
+    → found ≡ box_named site.boxes (local_name t) → found ≡ None
+    → user ≡ box_named site.boxes (user_of site.recipient_delimiter (local_name t)) → box_of site t ≡ user
+unfolding box_of
+box_of-user site t found user here e f g = rw (here, sym e ∙ f) (sym g)
+
+-- no user is looked for where the site has no delimiter
+pub no_user : (boxes : List (List ℕ)) (delimiter : Option ℕ) (name : List ℕ) → delimiter ≡ None → box_named boxes name ≡ None
+    → None ≡ box_named boxes (user_of delimiter name)
+no_user boxes delimiter name e none = rw e (sym none)
+
+pub box_of-elsewhere : (site : Site) (t : Target) → is_here site t.domain ≡ false → None ≡ box_of site t
+unfolding box_of
+box_of-elsewhere site t away = rw away refl

@@ -2,6 +2,7 @@ pub mod SiteRules
 pub mod WordSteps
 pub mod ReplyTexts
 pub mod Finds
+pub mod Users
 pub mod TextLists
 pub mod CommandCuts
 pub mod ParameterLists

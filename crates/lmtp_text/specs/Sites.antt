@@ -1,5 +1,5 @@
 -- Sites as they are passed, owned and refused.
-use Rattle.std.specs.Prelude.{ℕ, Bool, ◌||◌, List, map, Vec, codes}
+use Rattle.std.specs.Prelude.{ℕ, Bool, ◌||◌, List, map, None, Vec, codes}
 use Rattle.std.specs.declared.alloc.Global.{Global}
 use Rattle.std.specs.Borrow.{Bor}
 use Rattle.std.specs.Char.{is_ascii_alphanumeric, is_ascii_lowercase, is_ascii_digit}
@@ -16,10 +16,16 @@ texts names = map (λ name. name.now) names
 abbrev pub owned : List (Vec ℕ Global) → List (List ℕ)
 owned names = map (λ name. name.items) names
 
--- the site of that host, with those further domains and those mailboxes, that names no limit of its own
+-- the site of that host, with those further domains and those mailboxes, that names no limit of its own and no delimiter
 abbrev pub site_of : List ℕ → List (Bor (List ℕ)) → List (Bor (List ℕ)) → Site
 site_of host domains boxes =
-    record { host = host; domains = texts domains; boxes = texts boxes; message_limit = MESSAGE_LIMIT }
+    record {
+      host = host;
+      domains = texts domains;
+      boxes = texts boxes;
+      message_limit = MESSAGE_LIMIT;
+      recipient_delimiter = None;
+    }
 
 -- a byte that may stand in the name of a host, of a mailbox
 abbrev pub is_of_host_name : ℕ → Bool

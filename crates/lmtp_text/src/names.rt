@@ -1,13 +1,15 @@
 //! Whether a name is a word, whatever the case of its letters (RFC 5321, 2.4).
 
-ghost use Rattle.std.specs.Prelude.{◌≡◌, false, position};
-ghost use Rattle.std.specs.List.{list_any};
+ghost use Rattle.std.specs.Prelude.{◌≡◌, ◌==◌, false, position};
+ghost use Rattle.std.specs.List.{before_first, list_any};
 ghost use Rattle.mail_world.specs.Commands.{is_word};
 ghost use Rattle.mail_world.specs.Targets.{unescaped, local_name};
+ghost use Rattle.mail_world.specs.Site.{IsDelimiter};
 ghost use Rattle.lmtp_text.specs.Seen.{seen_target};
 ghost use Rattle.lmtp_text.specs.Sites.{owned};
 
 use crate::command::Target;
+use crate::cut::split_at_byte;
 
 /// The text is the word.
 pub(crate) fn is_word(text: &[u8], word: &[u8]) -> bool
@@ -62,4 +64,18 @@ pub(crate) fn named_at(target: &Target, boxes: &[Vec<u8>]) -> Option<usize>
     ensures { result ≡ position (λ name. is_word name.items (local_name (seen_target target.now))) boxes.now }
 {
     boxes.iter().position(|name| names(target, name))
+}
+
+/// The target with what stands before the first delimiter of its local part in place of that, or the same where it has
+/// none. A delimiter is no backslash, so in a quoted text each stands for itself.
+pub(crate) fn user_of<'a>(target: &Target<'a>, delimiter: u8) -> Target<'a>
+    requires { IsDelimiter delimiter }
+    ensures { local_name (seen_target result)
+        ≡ before_first (λ b. b == delimiter) (local_name (seen_target target.now)) }
+{
+    let (user, _detail) = split_at_byte(target.local, delimiter);
+    Target {
+        local: user,
+        ..*target
+    }
 }

@@ -1,13 +1,13 @@
 //! What a server is named and serves.
 
-ghost use Rattle.std.specs.Prelude.{◌≡◌, ◌≤◌, ◌<◌, [], length, slice_get, unwrap_or, option_map, IfOk, IfErr, IfSome};
-ghost use Rattle.mail_world.specs.Site.{Fault, IsSite, IsMessageLimit, fault_of, box_name};
-ghost use Rattle.mail_world.specs.Targets.{is_here, box_of};
+ghost use Rattle.std.specs.Prelude.{◌≡◌, ◌≤◌, ◌<◌, [], Some, None, length, slice_get, unwrap_or, option_map, IfOk, IfErr, IfSome};
+ghost use Rattle.mail_world.specs.Site.{Fault, IsSite, IsDelimiter, IsMessageLimit, fault_of, box_name, is_delimiter};
+ghost use Rattle.mail_world.specs.Targets.{is_here, box_named, box_of, local_name, user_of};
 ghost use Rattle.lmtp_text.specs.Seen.{seen_target};
 ghost use Rattle.lmtp_text.specs.Sites.{texts, site_of, cause, owned};
 
 use crate::command::Target;
-use crate::names::{is_listed, is_word, named_at, names};
+use crate::names::{is_listed, is_word, named_at, names, user_of};
 use crate::rules::first_fault;
 use mail_world::limits::{BOX_LIMIT, BOX_NAME_LIMIT, MESSAGE_LIMIT, NAME_LIMIT};
 use std::alloc::{AllocError, Global};
@@ -41,13 +41,22 @@ impl From<AllocError> for SiteFault {
     }
 }
 
-/// A host, the further domains that it serves, its mailboxes in their order, and how many bytes a message may have.
+/// A host, the further domains that it serves, its mailboxes in their order, how many bytes a message may have, and the
+/// byte that parts user and detail of a recipient's address, if one does.
 #[derive(Debug, Drop)]
 pub struct Site {
     host: Vec<u8>,
     domains: Vec<Vec<u8>>,
     boxes: Vec<Vec<u8>>,
     message_limit: u32,
+    recipient_delimiter: Option<u8>,
+}
+
+/// Whether user and detail of a recipient's address may be parted by this byte.
+pub fn is_delimiter(byte: u8) -> bool
+    ensures { result ≡ is_delimiter byte }
+{
+    b"+-=#~".contains(&byte)
 }
 
 impl Model for Site {
@@ -62,6 +71,7 @@ impl Model for Site {
       domains = owned s.domains.items;
       boxes = owned s.boxes.items;
       message_limit = s.message_limit;
+      recipient_delimiter = s.recipient_delimiter;
     } };
 
     ghost invariant = { λ s. m.IsSite
@@ -70,6 +80,7 @@ impl Model for Site {
           domains = owned s.domains.items;
           boxes = owned s.boxes.items;
           message_limit = s.message_limit;
+          recipient_delimiter = s.recipient_delimiter;
         }) };
 }
 
@@ -93,7 +104,7 @@ fn name_at(names: &[Vec<u8>], i: usize) -> &[u8]
 }
 
 impl Site {
-    /// A site takes memory for its names; its messages have at most 1,048,576 bytes. Of several broken rules the answer
+    /// A site takes memory for its names; its messages have at most 1,048,576 bytes, and it has no delimiter. Of several broken rules the answer
     /// is the first in the order `Host`, `Domain`, `Count`, `Box`, `Twice`.
     pub fn new(
         alloc: Global,
@@ -119,6 +130,7 @@ impl Site {
             domains,
             boxes,
             message_limit: MESSAGE_LIMIT,
+            recipient_delimiter: None,
         })
     }
 
@@ -139,6 +151,26 @@ impl Site {
         ensures within { IsMessageLimit result }
     {
         self.message_limit
+    }
+
+    /// The same site with that delimiter: an address whose local part is no mailbox's name means what stands before the
+    /// first such byte in it.
+    pub fn with_recipient_delimiter(self, delimiter: u8) -> Site
+        requires { IsDelimiter delimiter }
+        ensures { result ≡ record self { recipient_delimiter = Some delimiter } }
+    {
+        Site {
+            recipient_delimiter: Some(delimiter),
+            ..self
+        }
+    }
+
+    /// The byte that parts user and detail of a recipient's address, if one does (RFC 5233).
+    pub fn recipient_delimiter(&self) -> Option<u8>
+        ensures value { result ≡ self.now.recipient_delimiter }
+        ensures known { IfSome result IsDelimiter }
+    {
+        self.recipient_delimiter
     }
 
     /// The host's name.
@@ -168,7 +200,6 @@ impl Site {
 
     /// The number of the mailbox that a recipient's address means, counted from 0 (RFC 5321, 4.5.1 for `postmaster`).
     /// It takes no memory.
-    #[tactic(auto, unfolding(mail_world::specs::Targets::box_of))]
     pub fn find(&self, target: &Target) -> Option<u32>
         ensures value { result ≡ box_of self.now (seen_target target.now) }
         ensures known { IfSome result (λ n. n < length self.now.boxes) }
@@ -176,6 +207,30 @@ impl Site {
         if !self.serves(target.domain) {
             return None;
         }
+        match self.named(target) {
+            Some(n) => Some(n),
+            None => self.user_named(target),
+        }
+    }
+
+    // The mailbox of the user in a local part that is no mailbox's name.
+    fn user_named(&self, target: &Target) -> Option<u32>
+        requires { box_named self.now.boxes (local_name (seen_target target.now)) ≡ None }
+        ensures value { result
+            ≡ box_named self.now.boxes (user_of self.now.recipient_delimiter (local_name (seen_target target.now))) }
+        ensures known { IfSome result (λ n. n < length self.now.boxes) }
+    {
+        match self.recipient_delimiter {
+            Some(delimiter) => self.named(&user_of(target, delimiter)),
+            None => None,
+        }
+    }
+
+    // The mailbox that has the local part as its name, and for `postmaster` where none has the first.
+    fn named(&self, target: &Target) -> Option<u32>
+        ensures value { result ≡ box_named self.now.boxes (local_name (seen_target target.now)) }
+        ensures known { IfSome result (λ n. n < length self.now.boxes) }
+    {
         match named_at(target, &self.boxes) {
             Some(n) => Some(n as u32),
             None if names(target, b"postmaster") => Some(0),

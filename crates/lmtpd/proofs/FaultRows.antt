@@ -51,5 +51,5 @@ pub write_and_listener_failed : server_fault (served false true true) ≡ Some f
 write_and_listener_failed = refl
 
 -- no mailbox: `clap` lets no such words through
-pub no_box : first_fault (record { host = codes "mx.example"; domains = []; boxes = []; message_limit = 1048576 }) ≡ Some fault.TooManyBoxes
+pub no_box : first_fault (record { host = codes "mx.example"; domains = []; boxes = []; message_limit = 1048576; recipient_delimiter = None }) ≡ Some fault.TooManyBoxes
 no_box = refl

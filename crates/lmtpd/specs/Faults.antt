@@ -92,7 +92,13 @@ first_fault site =
 -- the site of that host with those further domains and one mailbox
 abbrev pub site_of_one : List ℕ → List (Bor (List ℕ)) → List ℕ → Site
 site_of_one host domains name =
-    record { host = host; domains = texts domains; boxes = name ∷ []; message_limit = MESSAGE_LIMIT }
+    record {
+      host = host;
+      domains = texts domains;
+      boxes = name ∷ [];
+      message_limit = MESSAGE_LIMIT;
+      recipient_delimiter = None;
+    }
 
 -- why the program ends where clap answers so
 abbrev pub stop_for : Error → Stop

@@ -24,7 +24,11 @@ pub fn site_of(alloc: Global, words: &SiteWords) -> Result<Site, Fault>
     let domains = bytes_of(alloc, &words.domains)?;
     let boxes = bytes_of(alloc, &words.boxes)?;
     let site = make_site(alloc, words.host.as_bytes(), &domains, &boxes)?;
-    Ok(site.with_message_limit(words.message_limit))
+    let site = site.with_message_limit(words.message_limit);
+    match words.recipient_delimiter {
+        Some(delimiter) => Ok(site.with_recipient_delimiter(delimiter)),
+        None => Ok(site),
+    }
 }
 
 /// The same, to be shared by threads.

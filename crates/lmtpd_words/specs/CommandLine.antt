@@ -50,6 +50,9 @@ host_rule = must (text_rule (codes "host"))
 abbrev pub domains_rule : Rule
 domains_rule = text_rule (codes "domains")
 
+abbrev pub recipient_delimiter_rule : Rule
+recipient_delimiter_rule = text_rule (codes "recipient-delimiter")
+
 -- bytes
 abbrev pub message_limit_rule : Rule
 message_limit_rule = number_rule (codes "message-limit") LEAST_MESSAGE_LIMIT LARGEST_MESSAGE_LIMIT
@@ -110,7 +113,7 @@ heal_rule = flag_rule (codes "heal")
 
 abbrev pub rehearse_app : App
 rehearse_app =
-    with_rule (with_rule (with_rule (with_rule (with_rule (with_rule (with_rule (new_app (codes "rehearse")) host_rule) time_rule) domains_rule) message_limit_rule) blocks_rule) quota_rule) box_rule
+    with_rule (with_rule (with_rule (with_rule (with_rule (with_rule (with_rule (with_rule (new_app (codes "rehearse")) host_rule) time_rule) domains_rule) recipient_delimiter_rule) message_limit_rule) blocks_rule) quota_rule) box_rule
 
 -- what must be given, then what may be, then what ends the server
 abbrev pub required_app : App
@@ -118,7 +121,7 @@ required_app = with_rule (with_rule (with_rule (new_app (codes "serve")) host_ru
 
 abbrev pub limited_app : App
 limited_app =
-    with_rule (with_rule (with_rule (with_rule (with_rule (with_rule (with_rule (with_rule required_app domains_rule) message_limit_rule) lanes_rule) blocks_rule) capacity_rule) reads_rule) timeout_rule) session_time_rule
+    with_rule (with_rule (with_rule (with_rule (with_rule (with_rule (with_rule (with_rule (with_rule required_app domains_rule) recipient_delimiter_rule) message_limit_rule) lanes_rule) blocks_rule) capacity_rule) reads_rule) timeout_rule) session_time_rule
 
 abbrev pub kept_app : App
 kept_app =

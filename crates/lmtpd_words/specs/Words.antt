@@ -1,5 +1,5 @@
 -- What the program's words ask for.
-use Rattle.std.specs.Prelude.{◌≡◌, ◌⊎◌, ◌↔◌, IsTrue, ◌<◌, ◌≤◌, ◌^◌, ◌==◌, ◌+◌, ◌-◌, ◌*◌, ◌/◌, min, max, ℕ, Bool, true, false, List, [], Option, Some, None, option_map, map, codes, length, String, string_bytes}
+use Rattle.std.specs.Prelude.{◌≡◌, ◌∷◌, ◌⊎◌, ◌↔◌, IsTrue, ◌<◌, ◌≤◌, ◌^◌, ◌==◌, ◌+◌, ◌-◌, ◌*◌, ◌/◌, min, max, ℕ, Bool, true, false, List, [], Option, Some, None, option_map, map, codes, length, String, string_bytes}
 use Rattle.std.specs.declared.alloc.Global.{Global}
 use Rattle.std.specs.Option.{option_map_or}
 use Rattle.std.specs.List.{slice_split}
@@ -8,7 +8,7 @@ use Rattle.clap.specs.Words.{Row, Text, all_of, first_of, one_of}
 use Rattle.log.specs.Level.{parse_filter}
 use Rattle.log.specs.declared.level.LevelFilter.{LevelFilter}
 use Rattle.log.specs.declared.level.LevelFilter.TheVariants as filter
-use Rattle.mail_world.specs.Site.{Site, IsMessageLimit}
+use Rattle.mail_world.specs.Site.{Site, IsMessageLimit, is_delimiter}
 use Rattle.lmtp_text.specs.Sites.{site_of, texts}
 use Rattle.lmtpd_words.specs.declared.words.TheConstants.{DEFAULT_BLOCKS, DEFAULT_CAPACITY, DEFAULT_LANES, DEFAULT_LOCK_WAIT, DEFAULT_LOG, DEFAULT_MAILBOX_MODE, DEFAULT_READS, DEFAULT_SESSION_TIME, DEFAULT_SOCKET_MODE, DEFAULT_TIMEOUT, MODE_DIGIT_LIMIT}
 use Rattle.mail_world.specs.declared.limits.TheConstants.{MODE_LIMIT, MESSAGE_LIMIT, BLOCK_SIZE, BLOCK_LIMIT}
@@ -55,6 +55,15 @@ IsMessageLimitOr given limit = IsNumberOr MESSAGE_LIMIT given limit × IsMessage
 -- a text is given that writes no such number
 abbrev pub IsNoMessageLimit : Option Text → Type 0
 IsNoMessageLimit given = (text : Text) × (given ≡ Some text) × (IsNumber text → IsMessageLimit (number text) → ⊥)
+
+-- the delimiter that a text is, a single byte that a site may have, and none where no text is given
+abbrev pub IsDelimiterIfGiven : Option Text → Option ℕ → Type 0
+IsDelimiterIfGiven given delimiter =
+    (given ≡ option_map (λ c. c ∷ []) delimiter) × (option_map_or is_delimiter delimiter true ≡ true)
+
+-- a text is given that is none
+abbrev pub IsNoDelimiter : Option Text → Type 0
+IsNoDelimiter given = (delimiter : Option ℕ) → IsDelimiterIfGiven given delimiter → ⊥
 
 -- the blocks for messages on their way where no number is given: those of a largest message for each lane
 abbrev pub usual_blocks : ℕ → ℕ → ℕ
@@ -127,6 +136,7 @@ pub record IsSiteRead (rows : List Row) (words : SiteWords) : Type 0 where
   pub domains : texts words.domains.items ≡ option_map_or listed (first_of (codes "domains") rows) []
   pub boxes : all_of (codes "box") rows ≡ Some (texts words.boxes.items)
   pub message_limit : IsMessageLimitOr (one_of (codes "message-limit") rows) words.message_limit
+  pub recipient_delimiter : IsDelimiterIfGiven (first_of (codes "recipient-delimiter") rows) words.recipient_delimiter
 
 -- what the values of a rehearsal's arguments ask for
 pub record IsRehearseRead (rows : List Row) (words : RehearseWords) : Type 0 where
@@ -169,7 +179,7 @@ LacksNumber name rows = (text : Text) → one_of name rows ≡ Some text → IsN
 
 abbrev pub LacksSite : List Row → Type 0
 LacksSite rows = LacksText (codes "host") rows ⊎ ((all_of (codes "box") rows ≡ None)
-    ⊎ IsNoMessageLimit (one_of (codes "message-limit") rows))
+    ⊎ (IsNoMessageLimit (one_of (codes "message-limit") rows) ⊎ IsNoDelimiter (first_of (codes "recipient-delimiter") rows)))
 
 abbrev pub LacksRehearse : List Row → Type 0
 LacksRehearse rows = LacksNumber (codes "time") rows ⊎ LacksSite rows
@@ -198,4 +208,7 @@ pub record IsLacking (call : Option (Text × List Row)) : Type 0 where
 -- the site that they name
 abbrev pub named_site : SiteWords → Site
 named_site words =
-    record (site_of words.host.now words.domains.items words.boxes.items) { message_limit = words.message_limit }
+    record (site_of words.host.now words.domains.items words.boxes.items) {
+      message_limit = words.message_limit;
+      recipient_delimiter = words.recipient_delimiter;
+    }

@@ -58,14 +58,24 @@ impl Argument {
 }
 
 /// What a rehearsal takes.
-pub const REHEARSE: [Argument; 7] = [HOST, TIME, DOMAINS, MESSAGE_LIMIT, BLOCKS, QUOTA, BOXES];
+pub const REHEARSE: [Argument; 8] = [
+    HOST,
+    TIME,
+    DOMAINS,
+    RECIPIENT_DELIMITER,
+    MESSAGE_LIMIT,
+    BLOCKS,
+    QUOTA,
+    BOXES,
+];
 
 /// What a server takes: what must be given, what may be, what ends it, and the mailboxes.
-pub const SERVE: [Argument; 20] = [
+pub const SERVE: [Argument; 21] = [
     HOST,
     LISTEN,
     DIR,
     DOMAINS,
+    RECIPIENT_DELIMITER,
     MESSAGE_LIMIT,
     LANES,
     BLOCKS,
@@ -128,6 +138,14 @@ const DOMAINS: Argument = Argument {
     name: "domains",
     value: "DOMAIN,..",
     help: "Further domains that are served here, joined by commas, each as HOST [default: none]",
+    is_required: false,
+    kind: ValueKind::Text,
+};
+
+const RECIPIENT_DELIMITER: Argument = Argument {
+    name: "recipient-delimiter",
+    value: "BYTE",
+    help: "What parts user and detail of a recipient's address: +, -, =, # or ~ [default: none]",
     is_required: false,
     kind: ValueKind::Text,
 };

@@ -23,6 +23,10 @@ pub const BAD_SOCKET_MODE: &str =
 pub const BAD_STOP_FILE: &str =
     "invalid value for '--stop-file <PATH>': it is the path of a file, and not empty";
 
+/// The error for a delimiter that is none.
+pub const BAD_DELIMITER: &str =
+    "invalid value for '--recipient-delimiter <BYTE>': it is one of + - = # ~";
+
 /// The error for words that aren't UTF-8.
 pub const BAD_TEXT: &str = "invalid UTF-8 was detected in one or more arguments";
 

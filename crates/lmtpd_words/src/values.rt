@@ -1,23 +1,27 @@
 //! The values that `clap` found for the words.
 
-ghost use Rattle.std.specs.Prelude.{◌≡◌, [], codes, Some, IfOk, MatchOption};
+ghost use Rattle.std.specs.Prelude.{◌≡◌, ◌∷◌, [], codes, Some, IfOk, MatchOption};
 ghost use Rattle.clap.specs.Words.{Text, first_of, found_of, one_of, rows_of, subcommand_rows_of};
 ghost use Rattle.std.specs.Option.{option_map, option_map_or};
 ghost use Rattle.lmtp_text.specs.Sites.{texts};
 ghost use Rattle.lmtpd_words.specs.Words.{IsAsked, IsCheckRead, IsLimit, IsNumberOr, IsRehearseRead, IsServeRead};
 ghost use Rattle.lmtpd_words.specs.Words.{IsEmpty, IsModeOr, IsNoMode, IsNoPath, IsPath, IsPathIfGiven, WritesMode};
 ghost use Rattle.lmtpd_words.specs.Words.{IsFlag, IsLevel, IsNoLevel, IsNoNumber, IsSiteRead, octal};
+ghost use Rattle.lmtpd_words.specs.Words.{IsDelimiterIfGiven, IsNoDelimiter};
 ghost use Rattle.lmtpd_words.specs.Words.{IsMessageLimitOr, IsNoMessageLimit, usual_blocks};
 ghost use Rattle.lmtpd_words.specs.Words.{IsLacking, LacksCheck, LacksNumber, LacksRehearse, LacksServe, LacksSite};
 ghost use Rattle.lmtpd_words.specs.Words.{is_log_level, number, listed};
 
-use crate::texts::{BAD_FOLDER, BAD_LEVEL, BAD_MAILBOX_MODE, BAD_SOCKET_MODE, BAD_STOP_FILE};
+use crate::texts::{
+    BAD_DELIMITER, BAD_FOLDER, BAD_LEVEL, BAD_MAILBOX_MODE, BAD_SOCKET_MODE, BAD_STOP_FILE,
+};
 use crate::words::{
     CheckWords, DEFAULT_BLOCKS, DEFAULT_CAPACITY, DEFAULT_LANES, DEFAULT_LOCK_WAIT, DEFAULT_LOG,
     DEFAULT_MAILBOX_MODE, DEFAULT_READS, DEFAULT_SESSION_TIME, DEFAULT_SOCKET_MODE,
     DEFAULT_TIMEOUT, MODE_DIGIT_LIMIT, RehearseWords, ServeWords, SiteWords, Words,
 };
 use clap::ArgMatches;
+use lmtp_text::is_delimiter;
 use log::LevelFilter;
 use mail_world::limits::{
     BLOCK_LIMIT, BLOCK_SIZE, LARGEST_MESSAGE_LIMIT, LEAST_MESSAGE_LIMIT, MESSAGE_LIMIT, MODE_LIMIT,
@@ -54,14 +58,15 @@ pub fn words_of<'a>(
 }
 
 /// What is said where a value is refused that `clap` leaves to us: the folder comes first, then the stop file, then the
-/// level, then the mailboxes' mode.
+/// level, then the two modes, and last the delimiter, which a rehearsal has too.
 pub fn refused_text(matches: &ArgMatches<'_>) -> &'static str {
     match matches.subcommand_matches("serve") {
         Some(serve) if folder_of(serve).is_none() => BAD_FOLDER,
         Some(serve) if stop_file_of(serve).is_none() => BAD_STOP_FILE,
         Some(serve) if log_of(serve).is_none() => BAD_LEVEL,
         Some(serve) if mailbox_mode_of(serve).is_none() => BAD_MAILBOX_MODE,
-        _ => BAD_SOCKET_MODE,
+        Some(serve) if socket_mode_of(serve).is_none() => BAD_SOCKET_MODE,
+        _ => BAD_DELIMITER,
     }
 }
 
@@ -163,6 +168,9 @@ fn site_words<'a>(
     let Some(message_limit) = message_limit_of(matches) else {
         return Ok(None);
     };
+    let Some(recipient_delimiter) = delimiter_of(matches) else {
+        return Ok(None);
+    };
     let domains = domains_of(alloc, matches)?;
     let boxes = boxes.to_vec(alloc)?;
     Ok(Some(SiteWords {
@@ -170,6 +178,7 @@ fn site_words<'a>(
         domains,
         boxes,
         message_limit,
+        recipient_delimiter,
     }))
 }
 
@@ -187,6 +196,30 @@ fn message_limit_of(matches: &ArgMatches<'_>) -> Option<u32>
         return None;
     }
     Some(limit)
+}
+
+// The delimiter that was given; none at all where a text was given that is none.
+fn delimiter_of(matches: &ArgMatches<'_>) -> Option<Option<u8>>
+    ensures { let given = first_of (codes "recipient-delimiter") (rows_of (found_of matches.now)) in
+        MatchOption result (IsNoDelimiter given) (IsDelimiterIfGiven given) }
+{
+    match matches.get_str("recipient-delimiter") {
+        Some(text) => Some(Some(delimiter_in(text)?)),
+        None => Some(None),
+    }
+}
+
+fn delimiter_in(text: &str) -> Option<u8>
+    ensures { MatchOption result (IsNoDelimiter (Some text.now))
+        (λ delimiter. IsDelimiterIfGiven (Some text.now) (Some delimiter)) }
+{
+    let [byte] = text.as_bytes() else {
+        return None;
+    };
+    if !is_delimiter(*byte) {
+        return None;
+    }
+    Some(*byte)
 }
 
 // The blocks that were given, and else the usual ones for as many lanes and the limit of a message.

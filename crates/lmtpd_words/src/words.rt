@@ -1,6 +1,8 @@
 //! What the words ask for, and the numbers and the level where they name none.
 
-ghost use Rattle.mail_world.specs.Site.{IsMessageLimit};
+ghost use Rattle.std.specs.Prelude.{◌≡◌, true};
+ghost use Rattle.std.specs.Option.{option_map_or};
+ghost use Rattle.mail_world.specs.Site.{IsMessageLimit, is_delimiter};
 
 use log::LevelFilter;
 
@@ -46,6 +48,9 @@ pub struct SiteWords<'a> {
     /// How many bytes a message may have.
     pub message_limit: u32,
     ghost limited: { IsMessageLimit message_limit },
+    /// The byte that parts user and detail of a recipient's address, if one does.
+    pub recipient_delimiter: Option<u8>,
+    ghost parted: { option_map_or is_delimiter recipient_delimiter true ≡ true },
 }
 
 /// What a rehearsal is asked to do.

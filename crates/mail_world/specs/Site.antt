@@ -1,17 +1,19 @@
 -- What a server is named and serves.
-use Rattle.std.specs.Prelude.{◌≡◌, ◌≤◌, ℕ, Bool, false, not, ◌&&◌, ◌||◌, nat_lt, nat_le, ◌==◌, List, [], ◌∷◌, length, if◌then◌else◌, Option, Some, None, slice_get, unwrap_or, codes}
+use Rattle.std.specs.Prelude.{◌≡◌, ◌≤◌, ℕ, Bool, false, not, ◌&&◌, ◌||◌, nat_lt, nat_le, ◌==◌, List, [], ◌∷◌, length, if◌then◌else◌, Option, Some, None, slice_get, unwrap_or, codes, IfSome, true}
 use Rattle.std.specs.List.{list_all}
 use Rattle.std.specs.Char.{is_ascii_alphanumeric, is_ascii_lowercase, is_ascii_digit}
 use Rattle.std.specs.Str.{byte, bytes_eq}
 use Rattle.mail_world.specs.declared.limits.TheConstants.{NAME_LIMIT, BOX_NAME_LIMIT, BOX_LIMIT, LEAST_MESSAGE_LIMIT, LARGEST_MESSAGE_LIMIT}
 use Rattle.mail_world.specs.Text.{has_byte, begins}
 
--- the host's name, the further domains, the names of the mailboxes, and how many bytes a message may have
+-- the host's name, the further domains, the names of the mailboxes, how many bytes a message may have, and the byte
+-- that parts user and detail of a recipient's address, if one does (RFC 5233)
 pub record Site : Type 0 where
   pub host : List ℕ
   pub domains : List (List ℕ)
   pub boxes : List (List ℕ)
   pub message_limit : ℕ
+  pub recipient_delimiter : Option ℕ
 
 -- the name of the mailbox with the number
 abbrev pub box_name : Site → ℕ → List ℕ
@@ -58,6 +60,14 @@ fault_of site =
 abbrev pub IsMessageLimit : ℕ → Type 0
 IsMessageLimit limit = (LEAST_MESSAGE_LIMIT ≤ limit) × (limit ≤ LARGEST_MESSAGE_LIMIT)
 
+-- a byte that may part user and detail
+abbrev pub is_delimiter : ℕ → Bool
+is_delimiter b = has_byte (codes "+-=#~") b
+
+abbrev pub IsDelimiter : ℕ → Type 0
+IsDelimiter b = is_delimiter b ≡ true
+
 -- a site that a server may have
 abbrev pub IsSite : Site → Type 0
-IsSite site = (fault_of site ≡ None) × IsMessageLimit site.message_limit
+IsSite site =
+    (fault_of site ≡ None) × IsMessageLimit site.message_limit × IfSome site.recipient_delimiter IsDelimiter

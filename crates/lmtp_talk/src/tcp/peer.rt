@@ -81,6 +81,8 @@ impl<T, E: Curfew> TcpPeer<T, E> {
 }
 
 impl<T, E: Curfew> TcpPeer<T, E> {
+    ghost use Rattle.std.specs.Prelude.{true};
+
     // Whether the conversation is over.
     fn is_over(&self) -> bool
         ensures { result ≡ true → E.IsOver (arc_value self.now.curfew) (as_nanos self.now.begun) }

@@ -18,4 +18,5 @@ returns c =
       domains = c.in_ok-domains.ensures;
       boxes = sym (raw_values-rows f (codes "box")) ∙ (sym c.in-Some-get_strs.ensures ∙ ap Some (ap texts (sym boxes)));
       message_limit = c.in-Some-message_limit_of.ensures;
+      recipient_delimiter = c.in-Some-delimiter_of.ensures;
     }
