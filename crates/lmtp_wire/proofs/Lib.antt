@@ -1,6 +1,7 @@
 pub mod EndSteps
 pub mod LastBytes
 pub mod PlaceSteps
+pub mod Content
 pub mod Takes
 pub mod Finding
 pub mod AddedDots

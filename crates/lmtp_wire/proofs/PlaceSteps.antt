@@ -1,17 +1,17 @@
 -- What one byte makes of the message behind data that was taken, by where the data stands.
-use Rattle.std.proofs.Common.{◌≡◌, ℕ, ◌+◌, ◌-◌, List, [], ◌∷◌, ◌++◌, length, take, drop, Bool, true, false, cond, ◌&&◌, ◌==◌, Some, None, refl, ap, sym, ◌∙◌, arith, length-append, append_assoc, append-nil, subst}
+use Rattle.std.proofs.Common.{◌≡◌, ℕ, ◌+◌, ◌-◌, List, [], ◌∷◌, ◌++◌, length, take, drop, Bool, true, false, cond, not, ◌&&◌, ◌==◌, Some, None, refl, ap, sym, ◌∙◌, arith, length-append, append_assoc, append-nil, subst}
 use Rattle.std.specs.Prelude.{unwrap_or}
 use Rattle.std.proofs.Math.Seq.{take-append_seam, drop-append_seam}
-use Rattle.std.proofs.lemmas.Bool.{eqb-true, or_parts}
+use Rattle.std.proofs.lemmas.Bool.{eqb-true, and_parts}
 use Rattle.std.specs.Prelude.{nat_eq}
 use Rattle.std.specs.Cmp.Lexicographic.{pointwise}
-use Rattle.mail_world.specs.Text.{cr, lf, crlf, place_of, ends_in, has_byte}
+use Rattle.mail_world.specs.Text.{cr, lf, crlf, place_of, ends_in}
 use Rattle.mail_world.specs.Data.{dot, end_of_data, data_end, without_dots, unstuffed, message, shown}
 use Rattle.lmtp_wire.specs.declared.dot.Place.{Place}
 use Rattle.lmtp_wire.specs.declared.dot.Place.TheVariants.{InText, BehindCr, LineStart, BehindDot, BehindDotCr}
 use Rattle.lmtp_wire.specs.declared.dot.Effect.{Effect}
 use Rattle.lmtp_wire.specs.declared.dot.Effect.TheVariants.{Nothing, Byte, HeldCr, End}
-use Rattle.lmtp_wire.specs.Place.{came, in_doubt, held_back, is_cr, is_start, is_dot, place_behind, effect_of, without_dots_at, moved, IsAtPlace, IsDataEnd}
+use Rattle.lmtp_wire.specs.Place.{came, in_doubt, held_back, is_cr, is_start, is_dot, place_next, place_after, is_content, effect_of, without_dots_at, moved, IsAtPlace, IsDataEnd}
 use Rattle.lmtp_wire.proofs.EndSteps.{end_in, text_other, cr_again, cr_other, start_cr, start_other, dot_other, dot_cr_again, dot_cr_other, moved_more, moved_none, moved_some}
 use Rattle.lmtp_wire.proofs.LastBytes.{eqb_comm, ends_more, fades, fades_cr}
 
@@ -295,50 +295,53 @@ begun_by p taken b false e s again other none =
     let f : (cr == b) ≡ false = eqb_comm cr b ∙ e in
     adds_byte p InText taken b s (other e f) refl refl (ap (λ x. x && (cr == b)) none)
 
-adds_text : (taken : List ℕ) (b : ℕ) → IsAtPlace InText taken → Adds (place_behind b) taken b (b ∷ [])
+adds_text : (taken : List ℕ) (b : ℕ) → IsAtPlace InText taken → Adds (place_next InText b) taken b (b ∷ [])
 adds_text taken b s = begun_by InText taken b (b == cr) refl s step_text_cr (step_text b) refl
-
-adds_behind_cr : (taken : List ℕ) (b : ℕ) → (b == lf) ≡ false → IsAtPlace BehindCr taken → Adds (place_behind b) taken b (b ∷ [])
-adds_behind_cr taken b other s =
-    begun_by BehindCr taken b (b == cr) refl s step_cr_cr (step_cr b (eqb_comm lf b ∙ other) other) refl
 
 adds_lf : (taken : List ℕ) → IsAtPlace BehindCr taken → Adds LineStart taken lf (lf ∷ [])
 adds_lf taken s = adds_byte BehindCr LineStart taken lf s step_cr_lf refl refl refl
 
-adds_start : (taken : List ℕ) (b : ℕ) → (b == dot) ≡ false → IsAtPlace LineStart taken → Adds (place_behind b) taken b (b ∷ [])
+after_cr : (taken : List ℕ) (b : ℕ) (t : Bool) → (b == lf) ≡ t → IsAtPlace BehindCr taken
+    → Adds (cond (b == cr) BehindCr (cond t LineStart InText)) taken b (b ∷ [])
+after_cr taken b true e s =
+    let P : ℕ → Type 0 = λ x. Adds (cond (x == cr) BehindCr LineStart) taken x (x ∷ []) in
+    subst P (sym (eqb-true b lf e)) (adds_lf taken s)
+after_cr taken b false e s = begun_by BehindCr taken b (b == cr) refl s step_cr_cr (step_cr b (eqb_comm lf b ∙ e) e) refl
+
+adds_after_cr : (taken : List ℕ) (b : ℕ) → IsAtPlace BehindCr taken → Adds (place_next BehindCr b) taken b (b ∷ [])
+adds_after_cr taken b s = after_cr taken b (b == lf) refl s
+
+adds_start : (taken : List ℕ) (b : ℕ) → (b == dot) ≡ false → IsAtPlace LineStart taken → Adds (place_next LineStart b) taken b (b ∷ [])
 adds_start taken b other s =
     begun_by LineStart taken b (b == cr) refl s step_start_cr (step_start b (eqb_comm dot b ∙ other) other) refl
 
-adds_behind_dot : (taken : List ℕ) (b : ℕ) → (b == cr) ≡ false → IsAtPlace BehindDot taken → Adds (place_behind b) taken b (b ∷ [])
+adds_behind_dot : (taken : List ℕ) (b : ℕ) → (b == cr) ≡ false → IsAtPlace BehindDot taken → Adds (place_next BehindDot b) taken b (b ∷ [])
 adds_behind_dot taken b other s =
     let f : (cr == b) ≡ false = eqb_comm cr b ∙ other in
     let P : Bool → Type 0 = λ x. Adds (cond x BehindCr InText) taken b (b ∷ []) in
     subst P (sym other) (adds_byte BehindDot InText taken b s (step_behind_dot b other f) refl refl f)
 
-adds_behind_dot_cr : (taken : List ℕ) (b : ℕ) → (b == lf) ≡ false → IsAtPlace BehindDotCr taken → Adds (place_behind b) taken b (cr ∷ b ∷ [])
+adds_behind_dot_cr : (taken : List ℕ) (b : ℕ) → (b == lf) ≡ false → IsAtPlace BehindDotCr taken → Adds (place_next BehindDotCr b) taken b (cr ∷ b ∷ [])
 adds_behind_dot_cr taken b other s =
-    begun_by BehindDotCr taken b (b == cr) refl s step_dot_cr_cr (step_dot_cr b (eqb_comm lf b ∙ other) other) refl
+    let P : Bool → Type 0 = λ x. Adds (cond (b == cr) BehindCr (cond x LineStart InText)) taken b (cr ∷ b ∷ []) in
+    subst P (sym other) (begun_by BehindDotCr taken b (b == cr) refl s step_dot_cr_cr (step_dot_cr b (eqb_comm lf b ∙ other) other) refl)
 
 -- the tests of a byte
-by_lf : (taken : List ℕ) (b : ℕ) (t : Bool) → (b == lf) ≡ t → IsAtPlace BehindCr taken → Brings taken b (cond t (Byte LineStart) (Byte (place_behind b)))
-by_lf taken b true e s = let P : ℕ → Type 0 = λ x. Adds LineStart taken x (x ∷ []) in subst P (sym (eqb-true b lf e)) (adds_lf taken s)
-by_lf taken b false e s = adds_behind_cr taken b e s
-
-by_dot : (taken : List ℕ) (b : ℕ) (t : Bool) → (b == dot) ≡ t → IsAtPlace LineStart taken → Brings taken b (cond t (Nothing BehindDot) (Byte (place_behind b)))
+by_dot : (taken : List ℕ) (b : ℕ) (t : Bool) → (b == dot) ≡ t → IsAtPlace LineStart taken → Brings taken b (cond t (Nothing BehindDot) (Byte (place_next LineStart b)))
 by_dot taken b true e s = let P : ℕ → Type 0 = λ x. Adds BehindDot taken x [] in subst P (sym (eqb-true b dot e)) (adds_dot taken s)
 by_dot taken b false e s = adds_start taken b e s
 
-by_cr : (taken : List ℕ) (b : ℕ) (t : Bool) → (b == cr) ≡ t → IsAtPlace BehindDot taken → Brings taken b (cond t (Nothing BehindDotCr) (Byte (place_behind b)))
+by_cr : (taken : List ℕ) (b : ℕ) (t : Bool) → (b == cr) ≡ t → IsAtPlace BehindDot taken → Brings taken b (cond t (Nothing BehindDotCr) (Byte (place_next BehindDot b)))
 by_cr taken b true e s = let P : ℕ → Type 0 = λ x. Adds BehindDotCr taken x [] in subst P (sym (eqb-true b cr e)) (adds_held taken s)
 by_cr taken b false e s = adds_behind_dot taken b e s
 
-by_last_lf : (taken : List ℕ) (b : ℕ) (t : Bool) → (b == lf) ≡ t → IsAtPlace BehindDotCr taken → Brings taken b (cond t End (HeldCr (place_behind b)))
+by_last_lf : (taken : List ℕ) (b : ℕ) (t : Bool) → (b == lf) ≡ t → IsAtPlace BehindDotCr taken → Brings taken b (cond t End (HeldCr (place_next BehindDotCr b)))
 by_last_lf taken b true e s = let P : ℕ → Type 0 = λ x. IsDataEnd (taken ++ x ∷ []) (shown taken) in subst P (sym (eqb-true b lf e)) (ends_data taken s)
 by_last_lf taken b false e s = adds_behind_dot_cr taken b e s
 
 brings : (place : Place) (taken : List ℕ) (b : ℕ) → IsAtPlace place taken → Brings taken b (effect_of place b)
 brings InText taken b s = adds_text taken b s
-brings BehindCr taken b s = by_lf taken b (b == lf) refl s
+brings BehindCr taken b s = adds_after_cr taken b s
 brings LineStart taken b s = by_dot taken b (b == dot) refl s
 brings BehindDot taken b s = by_cr taken b (b == cr) refl s
 brings BehindDotCr taken b s = by_last_lf taken b (b == lf) refl s
@@ -346,20 +349,38 @@ brings BehindDotCr taken b s = by_last_lf taken b (b == lf) refl s
 pub brings_as : (place : Place) (b : ℕ) (effect : Effect) → effect ≡ effect_of place b → (taken : List ℕ) → IsAtPlace place taken → Brings taken b effect
 brings_as place b effect e taken s = let P : Effect → Type 0 = λ x. Brings taken b x in subst P (sym e) (brings place taken b s)
 
--- a run of text
-pub record AddsRun (taken run : List ℕ) : Type 0 where
-  pub stands : IsAtPlace InText (taken ++ run)
+-- what stands nowhere in doubt stays so with content
+settled_by : (x y : Bool) → in_doubt (cond x BehindCr (cond y LineStart InText)) ≡ []
+settled_by true y = refl
+settled_by false true = refl
+settled_by false false = refl
+
+not_false : (x : Bool) → not x ≡ true → x ≡ false
+not_false true e = cc
+not_false false e = refl
+
+adds_content : (p : Place) (taken : List ℕ) (b : ℕ) → in_doubt p ≡ [] → not (is_start p && (b == dot)) ≡ true → IsAtPlace p taken
+    → Adds (place_next p b) taken b (b ∷ [])
+adds_content InText taken b settled e s = adds_text taken b s
+adds_content BehindCr taken b settled e s = adds_after_cr taken b s
+adds_content LineStart taken b settled e s = adds_start taken b (not_false (b == dot) e) s
+adds_content BehindDot taken b settled e s = cc
+adds_content BehindDotCr taken b settled e s = cc
+
+-- with a run of content the data stands there, and the run is sure
+pub record AddsRun (place : Place) (taken run : List ℕ) : Type 0 where
+  pub stands : IsAtPlace place (taken ++ run)
   pub shows : shown (taken ++ run) ≡ shown taken ++ run
 
-pub adds_run : (taken run : List ℕ) → has_byte run cr ≡ false → IsAtPlace InText taken → AddsRun taken run
-adds_run taken [] e s =
-    let P : List ℕ → Type 0 = λ l. IsAtPlace InText l in
+pub adds_run : (p : Place) (taken run : List ℕ) → in_doubt p ≡ [] → is_content p run ≡ true → IsAtPlace p taken → AddsRun (place_after p run) taken run
+adds_run p taken [] settled e s =
+    let P : List ℕ → Type 0 = λ l. IsAtPlace p l in
     record { stands = subst P (sym (append-nil taken)) s; shows = ap shown (append-nil taken) ∙ sym (append-nil (shown taken)) }
-adds_run taken (b ∷ run) e s =
-    let parts = or_parts (b == cr) (has_byte run cr) e in
-    let one = adds_byte InText InText taken b s (step_text b parts.0 (eqb_comm cr b ∙ parts.0)) refl refl refl in
-    let more = adds_run (taken ++ b ∷ []) run parts.1 one.stands in
-    let P : List ℕ → Type 0 = λ l. IsAtPlace InText l in
+adds_run p taken (b ∷ run) settled e s =
+    let parts = and_parts (not (is_start p && (b == dot))) (is_content (place_next p b) run) e in
+    let one = adds_content p taken b settled parts.0 s in
+    let more = adds_run (place_next p b) (taken ++ b ∷ []) run (settled_by (b == cr) (is_cr p && (b == lf))) parts.1 one.stands in
+    let P : List ℕ → Type 0 = λ l. IsAtPlace (place_after (place_next p b) run) l in
     record {
       stands = subst P (snoc taken b run) more.stands;
       shows = ap shown (sym (snoc taken b run)) ∙ more.shows ∙ ap (λ l. l ++ run) one.shows ∙ append_assoc (shown taken) (b ∷ []) run;

@@ -1,16 +1,11 @@
 -- What a call makes of what was made before: a byte, a run of text, a byte that was owed.
-use Rattle.std.proofs.Common.{◌≡◌, ℕ, zero, suc, ◌+◌, ◌-◌, ◌<◌, ◌≤◌, List, [], ◌∷◌, ◌++◌, length, take, drop, get_or, set, Bool, true, false, not, ◌==◌, Option, Some, None, refl, ap, sym, ◌∙◌, subst, arith, append_assoc, append-nil}
-use Rattle.std.specs.Prelude.{unwrap_or}
+use Rattle.std.proofs.Common.{◌≡◌, ℕ, ◌+◌, ◌-◌, ◌<◌, ◌≤◌, List, [], ◌∷◌, ◌++◌, length, take, drop, get_or, set, Bool, true, false, not, Option, Some, None, ap, sym, ◌∙◌, subst, arith, append_assoc, append-nil}
 use Rattle.std.proofs.lemmas.List.{take_more, take_more_set, drop-drop}
 use Rattle.std.proofs.Math.Seq.{take-add}
-use Rattle.std.proofs.lemmas.Bool.{or_from, false_from_ne_true}
-use Rattle.memchr.specs.Find.{Nowhere, Passes, IsFirstByte, is_byte}
-use Rattle.mail_world.specs.Text.{cr, has_byte}
 use Rattle.mail_world.specs.Data.{shown}
 use Rattle.lmtp_wire.specs.declared.dot.Dot.{Dot}
 use Rattle.lmtp_wire.specs.declared.dot.Place.{Place}
-use Rattle.lmtp_wire.specs.declared.dot.Place.TheVariants.{InText}
-use Rattle.lmtp_wire.specs.Place.{IsAtPlace, IsDataEnd}
+use Rattle.lmtp_wire.specs.Place.{in_doubt, place_after, is_content, IsAtPlace, IsDataEnd}
 use Rattle.lmtp_wire.specs.Dot.{HasMade, HasFed, owed_bytes}
 use Rattle.lmtp_wire.proofs.PlaceSteps.{stands_none, Adds, adds_run}
 
@@ -18,19 +13,6 @@ pub drop-later : (i j : ℕ) (xs ys : List ℕ) → i ≤ j → drop i xs ≡ dr
 drop-later i j xs ys h e =
     let n : i + (j - i) ≡ j = omega arith in
     ap (λ k. drop k xs) (sym n) ∙ sym (drop-drop (j - i) i xs) ∙ ap (λ l. drop (j - i) l) e ∙ drop-drop (j - i) i ys ∙ ap (λ k. drop k ys) n
-
--- the text before the first CR has none
-none_before : (text : List ℕ) (n : ℕ) → Nowhere (Passes (is_byte cr) text) 0 n → has_byte (take n text) cr ≡ false
-none_before [] zero h = refl
-none_before [] (suc n) h = refl
-none_before (b ∷ text) zero h = refl
-none_before (b ∷ text) (suc n) h =
-    or_from (b == cr) (has_byte (take n text) cr) (false_from_ne_true (b == cr) (h 0 (omega arith) (omega arith)))
-    (none_before text n (λ k low high. h (suc k) (omega arith) (omega arith)))
-
-pub text_before : (text : List ℕ) (r : Option ℕ) (n : ℕ) → IsFirstByte (is_byte cr) text r → n ≡ unwrap_or r (length text) → has_byte (take n text) cr ≡ false
-text_before text None n h e = ap (λ k. has_byte (take k text) cr) e ∙ none_before text (length text) h
-text_before text (Some k) n h e = ap (λ m. has_byte (take m text) cr) e ∙ none_before text k h.0.before
 
 -- a byte that was owed is put first
 pub pays : (out : List ℕ) (byte : ℕ) (owed : Option ℕ) → 0 < length out → owed ≡ Some byte → take 1 (set out 0 byte) ≡ owed_bytes owed
@@ -82,23 +64,22 @@ takes_last old piece out used m none within ends taken made h =
     let Q : List ℕ → Type 0 = λ l. IsDataEnd (now ++ get_or piece used 0 ∷ []) l in
     subst P more (subst Q (all_made old now (made ++ take m out) none h) (ends now h.stands))
 
--- a run of text
-pub takes_run : (dot : Dot) (piece out out' : List ℕ) (used n m m' : ℕ) (run : List ℕ) → dot.owed ≡ None → dot.place ≡ InText
-    → run ≡ take n (drop used piece) → has_byte run cr ≡ false → take m' out' ≡ take m out ++ run
-    → (taken made : List ℕ) → HasMade dot (taken ++ take used piece) (made ++ take m out) → HasMade dot (taken ++ take (used + n) piece) (made ++ take m' out')
-takes_run dot piece out out' used n m m' run none place is text bytes taken made h =
+-- a run of content
+pub takes_run : (old new : Dot) (piece out out' : List ℕ) (used n m m' : ℕ) (run : List ℕ) → old.owed ≡ None → new.owed ≡ None → in_doubt old.place ≡ []
+    → new.place ≡ place_after old.place run → run ≡ take n (drop used piece) → is_content old.place run ≡ true → take m' out' ≡ take m out ++ run
+    → (taken made : List ℕ) → HasMade old (taken ++ take used piece) (made ++ take m out) → HasMade new (taken ++ take (used + n) piece) (made ++ take m' out')
+takes_run old new piece out out' used n m m' run none none' settled place is content bytes taken made h =
     let now : List ℕ = taken ++ take used piece in
-    let P : Place → Type 0 = λ p. IsAtPlace p now in
-    let all = adds_run now run text (subst P place h.stands) in
+    let all = adds_run old.place now run settled content h.stands in
     let more : now ++ run ≡ taken ++ take (used + n) piece =
     append_assoc taken (take used piece) run ∙ ap (λ l. taken ++ (take used piece ++ l)) is ∙ ap (λ l. taken ++ l) (sym (take-add used n piece)) in
-    let Q : List ℕ → Type 0 = λ l. IsAtPlace InText l in
+    let Q : List ℕ → Type 0 = λ l. IsAtPlace (place_after old.place run) l in
     let R : Place → Type 0 = λ p. IsAtPlace p (taken ++ take (used + n) piece) in
-    let stands : IsAtPlace dot.place (taken ++ take (used + n) piece) = subst R (sym place) (subst Q more all.stands) in
+    let stands : IsAtPlace new.place (taken ++ take (used + n) piece) = subst R (sym place) (subst Q more all.stands) in
     record {
-      goes_on = stands_none dot.place (taken ++ take (used + n) piece) stands;
-      shows = ap shown (sym more) ∙ all.shows ∙ ap (λ l. l ++ run) (all_made dot now (made ++ take m out) none h)
-          ∙ append_assoc made (take m out) run ∙ ap (λ l. made ++ l) (sym bytes) ∙ sym (append-nil (made ++ take m' out')) ∙ ap (λ o. (made ++ take m' out') ++ owed_bytes o) (sym none);
+      goes_on = stands_none new.place (taken ++ take (used + n) piece) stands;
+      shows = ap shown (sym more) ∙ all.shows ∙ ap (λ l. l ++ run) (all_made old now (made ++ take m out) none h)
+          ∙ append_assoc made (take m out) run ∙ ap (λ l. made ++ l) (sym bytes) ∙ sym (append-nil (made ++ take m' out')) ∙ ap (λ o. (made ++ take m' out') ++ owed_bytes o) (sym none');
       stands = stands;
     }
 

@@ -1,5 +1,6 @@
 -- Where data stands: how much of its end came last, and what the next byte makes of the message.
-use Rattle.std.specs.Prelude.{◌≡◌, ℕ, zero, suc, ◌+◌, Bool, true, false, ◌==◌, if◌then◌else◌, List, [], ◌∷◌, ◌++◌, length, Option, Some, option_map}
+use Rattle.std.specs.Prelude.{◌≡◌, ℕ, zero, suc, ◌+◌, Bool, true, false, not, ◌&&◌, ◌==◌, if◌then◌else◌}
+use Rattle.std.specs.Prelude.{List, [], ◌∷◌, ◌++◌, length, Option, Some, option_map}
 use Rattle.mail_world.specs.Text.{cr, lf, crlf, place_of, ends_in}
 use Rattle.mail_world.specs.Data.{dot, end_of_data, data_end, without_dots, unstuffed, message, shown}
 use Rattle.lmtp_wire.specs.declared.dot.Place.{Place}
@@ -52,17 +53,27 @@ is_dot LineStart = false
 is_dot BehindDot = true
 is_dot BehindDotCr = false
 
--- where data stands behind a byte that doesn't go on with an end
-abbrev pub place_behind : ℕ → Place
-place_behind byte = if byte == cr then BehindCr else InText
+-- where data stands after a byte of content
+abbrev pub place_next : Place → ℕ → Place
+place_next place byte = if byte == cr then BehindCr else if is_cr place && (byte == lf) then LineStart else InText
+
+-- and after a run of them
+abbrev pub place_after : Place → List ℕ → Place
+place_after place [] = place
+place_after place (byte ∷ run) = place_after (place_next place byte) run
+
+-- no byte of the run is a dot that a line starts with
+abbrev pub is_content : Place → List ℕ → Bool
+is_content place [] = true
+is_content place (byte ∷ run) = not (is_start place && (byte == dot)) && is_content (place_next place byte) run
 
 -- what a byte makes of the message, and where it leaves the data
 abbrev pub effect_of : Place → ℕ → Effect
-effect_of InText byte = Byte (place_behind byte)
-effect_of BehindCr byte = if byte == lf then Byte LineStart else Byte (place_behind byte)
-effect_of LineStart byte = if byte == dot then Nothing BehindDot else Byte (place_behind byte)
-effect_of BehindDot byte = if byte == cr then Nothing BehindDotCr else Byte (place_behind byte)
-effect_of BehindDotCr byte = if byte == lf then End else HeldCr (place_behind byte)
+effect_of InText byte = Byte (place_next InText byte)
+effect_of BehindCr byte = Byte (place_next BehindCr byte)
+effect_of LineStart byte = if byte == dot then Nothing BehindDot else Byte (place_next LineStart byte)
+effect_of BehindDot byte = if byte == cr then Nothing BehindDotCr else Byte (place_next BehindDot byte)
+effect_of BehindDotCr byte = if byte == lf then End else HeldCr (place_next BehindDotCr byte)
 
 -- the text behind that place, without its dots
 abbrev pub without_dots_at : Place → List ℕ → List ℕ

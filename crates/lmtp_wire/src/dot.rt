@@ -1,8 +1,8 @@
 //! The data of a message, taken piece by piece, without the dots of transparency (RFC 5321, 4.5.2).
 
-ghost use Rattle.std.specs.Prelude.{◌≡◌, ℕ, ◌+◌, ◌<◌, ◌≤◌, Bool, false, List, [], ◌∷◌, ◌++◌, length, take, drop};
-ghost use Rattle.mail_world.specs.Text.{cr, has_byte};
-ghost use Rattle.lmtp_wire.specs.Place.{place_behind, effect_of};
+ghost use Rattle.std.specs.Prelude.{◌≡◌, ℕ, ◌+◌, ◌<◌, ◌≤◌, Bool, true, List, [], ◌∷◌, ◌++◌, length, take, drop};
+ghost use Rattle.mail_world.specs.Text.{cr};
+ghost use Rattle.lmtp_wire.specs.Place.{in_doubt, is_start, place_next, place_after, is_content, effect_of};
 ghost use Rattle.lmtp_wire.specs.Dot.{HasMade, HasFed, Feeds, owed_bytes};
 
 use memchr::memchr;
@@ -112,7 +112,7 @@ impl Dot {
         }
     }
 
-    // Takes a run of text, or one byte.
+    // Takes a run of content, or one byte.
     fn turn(&mut self, piece: &[u8], out: &mut [u8], fed: Fed) -> Fed
         requires piece { fed.used < length piece.now }
         requires out { fed.made < length out.old }
@@ -128,17 +128,18 @@ impl Dot {
             → HasFed self.new (taken ++ take result.used piece.now) (made ++ take result.made out.new) result.ended }
     {
         match self.place {
-            Place::InText => self.take_text(piece, out, fed),
-            _ => self.take_byte(piece, out, fed),
+            Place::InText | Place::BehindCr | Place::LineStart => self.take_run(piece, out, fed),
+            Place::BehindDot | Place::BehindDotCr => self.take_byte(piece, out, fed),
         }
     }
 
-    // Takes the text up to the next CR, as far as there is room, or that CR.
-    fn take_text(&mut self, piece: &[u8], out: &mut [u8], fed: Fed) -> Fed
+    // Takes all up to the next dot that a line starts with, as far as there is room, or that dot. No more is searched
+    // than there is room for, so that nothing is searched twice.
+    fn take_run(&mut self, piece: &[u8], out: &mut [u8], fed: Fed) -> Fed
         requires piece { fed.used < length piece.now }
         requires out { fed.made < length out.old }
         requires paid { self.old.owed ≡ None }
-        requires place { self.old.place ≡ Place.InText }
+        requires place { in_doubt self.old.place ≡ [] }
         ensures used { result.used ≤ length piece.now }
         ensures more { fed.used < result.used }
         ensures made { result.made ≤ length out.new }
@@ -150,13 +151,14 @@ impl Dot {
             → HasFed self.new (taken ++ take result.used piece.now) (made ++ take result.made out.new) result.ended }
     {
         let room = (piece.len() - fed.used).min(out.len() - fed.made);
-        let front = &piece[fed.used..fed.used + room];
-        let run = text_len(front);
+        let ahead = &piece[fed.used..fed.used + room];
+        let run = content_len(self.place, ahead);
         if run == 0 {
             return self.take_byte(piece, out, fed);
         }
         let made = fed.made + run;
-        out[fed.made..made].copy_from_slice(&front[..run]);
+        self.place = place_after(self.place, &ahead[..run]);
+        out[fed.made..made].copy_from_slice(&ahead[..run]);
         Fed {
             used: fed.used + run,
             made,
@@ -236,12 +238,38 @@ impl Dot {
     }
 }
 
-// How long the text is before the next CR.
-fn text_len(text: &[u8]) -> usize
+// How many bytes of a text are content as they stand: all before the first dot that a line starts with.
+fn content_len(place: Place, text: &[u8]) -> usize
     ensures within { result ≤ length text.now }
-    ensures text { has_byte (take result text.now) cr ≡ false }
+    ensures content { is_content place (take result text.now) ≡ true }
 {
-    memchr(CR, text).unwrap_or(text.len())
+    let mut seen = 0;
+    while let Some(n) = memchr(DOT, &text[seen..]) {
+        let dot = seen + n;
+        if is_start(place_after(place, &text[..dot])) {
+            return dot;
+        }
+        seen = dot + 1;
+    }
+    text.len()
+}
+
+// Where data stands after a run of content, which its last two bytes tell.
+fn place_after(place: Place, run: &[u8]) -> Place
+    ensures { result ≡ place_after place run.now }
+{
+    match run {
+        [] => place,
+        [byte] => place_next(place, *byte),
+        [.., before, byte] => place_next(place_next(Place::InText, *before), *byte),
+    }
+}
+
+// Whether a line starts there.
+fn is_start(place: Place) -> bool
+    ensures { result ≡ is_start place }
+{
+    matches!(place, Place::LineStart)
 }
 
 // What a byte makes of the message, and where it leaves the data.
@@ -249,32 +277,32 @@ fn step(place: Place, byte: u8) -> Effect
     ensures { result ≡ effect_of place byte }
 {
     match place {
-        Place::InText => Effect::Byte(place_behind(byte)),
-        Place::BehindCr => match byte {
-            LF => Effect::Byte(Place::LineStart),
-            _ => Effect::Byte(place_behind(byte)),
-        },
+        Place::InText | Place::BehindCr => Effect::Byte(place_next(place, byte)),
         Place::LineStart => match byte {
             DOT => Effect::Nothing(Place::BehindDot),
-            _ => Effect::Byte(place_behind(byte)),
+            _ => Effect::Byte(place_next(place, byte)),
         },
         Place::BehindDot => match byte {
             CR => Effect::Nothing(Place::BehindDotCr),
-            _ => Effect::Byte(place_behind(byte)),
+            _ => Effect::Byte(place_next(place, byte)),
         },
         Place::BehindDotCr => match byte {
             LF => Effect::End,
-            _ => Effect::HeldCr(place_behind(byte)),
+            _ => Effect::HeldCr(place_next(place, byte)),
         },
     }
 }
 
-// Where data stands behind a byte that doesn't go on with an end of data.
-fn place_behind(byte: u8) -> Place
-    ensures { result ≡ place_behind byte }
+// Where data stands after a byte of content.
+fn place_next(place: Place, byte: u8) -> Place
+    ensures { result ≡ place_next place byte }
 {
     match byte {
         CR => Place::BehindCr,
+        LF => match place {
+            Place::BehindCr | Place::BehindDotCr => Place::LineStart,
+            Place::InText | Place::LineStart | Place::BehindDot => Place::InText,
+        },
         _ => Place::InText,
     }
 }
