@@ -30,24 +30,47 @@ SPOOL = pathlib.Path("/var/spool/smtpd")  # which it makes itself
 @case
 def opensmtpd_delivers(folder):
     """OpenSMTPD by action lmtp: 250 for one recipient, 550 for another, in its log too; the letter byte for byte"""
+    with opensmtpd(folder) as files, Server(folder, ["anna"], 100) as server:
+        opensmtpd_sends(folder, files, server, server.text)
+
+
+@case
+def opensmtpd_delivers_over_a_unix_socket(folder):
+    """OpenSMTPD by action lmtp and a path, over a Unix socket of the user that it delivers as: 250 for one recipient,
+    550 for another, in its log too; the letter byte for byte"""
+    path = folder / "sock"
+    with opensmtpd(folder) as files:
+        with Server(folder, ["anna"], 100, "--socket-mode", 600, listen=f"unix:{path}") as server:
+            folder.chmod(0o755)
+            shutil.chown(path, "nobody")
+            opensmtpd_sends(folder, files, server, path)
+
+
+@contextlib.contextmanager
+def opensmtpd(folder):
+    """Its files, with its users and what it needs at fixed places."""
     want_root()
     install("libevent-2.1-7")
     files = unpacked("opensmtpd", folder / "opensmtpd")
-    with user("opensmtpd"), user("opensmtpq"), places(files), Server(folder, ["anna"], 100) as server:
-        port = free_port()
-        conf = folder / "smtpd.conf"
-        conf.write_text(CONFIGURATION.format(port=port, text=server.text))
-        log = folder / "smtpd.log"
-        with log.open("wb") as file:
-            smtpd = subprocess.Popen([files / "usr/sbin/smtpd", "-d", "-f", conf], stdout=file, stderr=file)
-        try:
-            send(port, log)
-            equal(" result=Ok " in tried(log, "anna"), True)
-            equal(NO_SUCH_BOX in tried(log, "nobody"), True)
-            equal_mailbox(server.mailbox("anna"), ["one"])
-        finally:
-            smtpd.terminate()
-            smtpd.wait(timeout=20)
+    with user("opensmtpd"), user("opensmtpq"), places(files):
+        yield files
+
+
+def opensmtpd_sends(folder, files, server, where):
+    port = free_port()
+    conf = folder / "smtpd.conf"
+    conf.write_text(CONFIGURATION.format(port=port, text=where))
+    log = folder / "smtpd.log"
+    with log.open("wb") as file:
+        smtpd = subprocess.Popen([files / "usr/sbin/smtpd", "-d", "-f", conf], stdout=file, stderr=file)
+    try:
+        send(port, log)
+        equal(" result=Ok " in tried(log, "anna"), True)
+        equal(NO_SUCH_BOX in tried(log, "nobody"), True)
+        equal_mailbox(server.mailbox("anna"), ["one"])
+    finally:
+        smtpd.terminate()
+        smtpd.wait(timeout=20)
 
 
 def send(port, log):

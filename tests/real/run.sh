@@ -6,7 +6,7 @@
 # Debian), and else the case is left out, and that is said. It prints one line a case (ok, FAIL or absent) and their
 # count, and fails where a case does; a case has a minute, and some have more, a quarter of an hour at most. It is no
 # part of the gate, since it needs root and packages. Where SOAK_GRAPHS names a folder, the cases of a million
-# deliveries draw the server's memory there.
+# deliveries draw the server's memory there; RESTARTS is how many restarts a server has beside clients, 100 without it.
 # usage: tests/real/run.sh [NAME..]: the cases whose text has one of these words, or all. LMTPD names a program that
 # is built already.
 set -euo pipefail

@@ -3,6 +3,7 @@
 import concurrent.futures
 import mailbox
 import os
+import socket
 import stat
 
 import letters
@@ -147,22 +148,45 @@ def pipe(path):
     os.mkfifo(path)
 
 
+def link_to_folder(path):
+    path.symlink_to(path.parent)
+
+
+def link_to_itself(path):
+    path.symlink_to(path)
+
+
+def folder_with_a_file(path):
+    path.mkdir()
+    (path / "kept").write_bytes(b"abc")
+
+
+def unix_socket(path):
+    with socket.socket(socket.AF_UNIX) as made:
+        made.bind(str(path))
+
+
 NOT_PLAIN = [link, link_to_nothing, hard_link, pipe]
+NOT_PLAIN_EITHER = [link_to_folder, link_to_itself, folder_with_a_file, unix_socket]
 
 
 @case
 def not_plain_at_the_start(folder):
-    """a symbolic link, one to nothing, a hard link and a pipe in a mailbox's place: cannot open, status 1, and what it
-    names is as it was"""
-    for make in NOT_PLAIN:
+    """a symbolic link, one to nothing, to a folder and to itself, a hard link, a pipe, a folder and a socket in place
+    of a mailbox: cannot open, status 1, and it and what it names are as they were"""
+    for make in [*NOT_PLAIN, *NOT_PLAIN_EITHER]:
         place = folder / make.__name__
         place.mkdir()
         (place / "target").write_bytes(b"abc")
-        make(place / "anna.mbox")
+        path = place / "anna.mbox"
+        make(path)
+        before, names = path.lstat(), sorted(place.rglob("*"))
         wanted = {"status": 1, "said": [], "errors": ["lmtpd: cannot open anna.mbox"]}
         equal((make.__name__, vars(run(words(place, ["anna"], 1)))), (make.__name__, wanted))
+        after = path.lstat()
+        equal((make.__name__, after.st_ino, after.st_mode), (make.__name__, before.st_ino, before.st_mode))
         equal((make.__name__, (place / "target").read_bytes()), (make.__name__, b"abc"))
-        equal((place / "nothing").exists(), False)
+        equal((make.__name__, sorted(place.rglob("*"))), (make.__name__, names))
 
 
 @case

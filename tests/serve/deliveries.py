@@ -54,18 +54,29 @@ def smtplib_delivers(folder):
 def swaks_delivers(folder):
     """swaks delivers to two mailboxes beside an unknown one; both readers find the letters"""
     path = installed("swaks")
-    message = "\n".join(HARD_LINES)
     with Server(folder, ["anna", "ben"], 1, "--lanes", 1) as server:
-        given = ["--protocol", "LMTP", "--server", server.text, "--from", "carl@a.example"]
-        given += ["--helo", "relay.example"]
-        to = "anna@mx.example,nobody@mx.example,ben@mx.example"
-        _, said = tool(path, *given, "--to", to, "--data", "-", text=message)
-        assert "<** 550 " in said and stored("ben") in said, said
-        equal(vars(server.end()), {"status": 0, "said": ["anna stored 1", "ben stored 1"], "errors": []})
-        for name in ["anna", "ben"]:
-            [letter] = letters.read(server.mailbox(name))
-            equal((letter.sender, letter.client), ("carl@a.example", "relay.example"))
-            equal(letter.message.strip(b"\n"), message.strip("\n").encode())
+        swaks_sends(path, server, "--server", server.text)
+
+
+@case
+def swaks_delivers_over_a_unix_socket(folder):
+    """swaks --socket delivers to two mailboxes beside an unknown one; both readers find the letters"""
+    path = installed("swaks")
+    with Server(folder, ["anna", "ben"], 1, "--lanes", 1, listen=f"unix:{folder}/sock") as server:
+        swaks_sends(path, server, "--socket", server.address)
+
+
+def swaks_sends(path, server, *where):
+    message = "\n".join(HARD_LINES)
+    given = ["--protocol", "LMTP", *where, "--from", "carl@a.example", "--helo", "relay.example"]
+    to = "anna@mx.example,nobody@mx.example,ben@mx.example"
+    _, said = tool(path, *given, "--to", to, "--data", "-", text=message)
+    assert "<** 550 " in said and stored("ben") in said, said
+    equal(vars(server.end()), {"status": 0, "said": ["anna stored 1", "ben stored 1"], "errors": []})
+    for name in ["anna", "ben"]:
+        [letter] = letters.read(server.mailbox(name))
+        equal((letter.sender, letter.client), ("carl@a.example", "relay.example"))
+        equal(letter.message.strip(b"\n"), message.strip("\n").encode())
 
 
 @case

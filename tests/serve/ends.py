@@ -9,37 +9,20 @@ import time
 import letters
 from cases import case, equal
 from clients import Client, deliver_one
-from replies import not_stored, stored
+from inherited import Inheriting, passed
+from replies import STOPPING, not_stored, stored
+from restarts import MANY, asked_to_stop, ended_in_time, restart_under_load
 from server import Server, run, words
-from sockets import Inheriting, passed
 
-STOPPING = "421 4.3.2 mx.example stopping"
 STORED, NOT_STORED = stored("anna"), not_stored("anna")
-# More conversations than any case holds.
-MANY = 1_000_000
 LANES = 4
-# How long a server may go on once its end was asked for and no mailbox is in a turn.
-SECONDS_TO_END = 3
 HEAL_SECONDS = 30
 FILE_BYTES = 4_096
 RESTARTS = 20
-SENDERS = 3
 
 
 def stoppable(folder, *more, **how):
     return Server(folder, ["anna"], MANY, "--lanes", LANES, "--stop-file", folder / "stop", *more, **how)
-
-
-def asked_to_stop(folder):
-    (folder / "stop").touch()
-    return time.monotonic()
-
-
-def ended_in_time(server, since):
-    ended = server.end()
-    took = time.monotonic() - since
-    assert took < SECONDS_TO_END, took
-    return ended
 
 
 @case
@@ -126,8 +109,6 @@ def no_number_ends_it(folder):
     equal((ended.status, ended.said), (0, ["anna stored 20"]))
 
 
-
-
 def small_files():
     """No file of the server may have more bytes than a few letters."""
     signal.signal(signal.SIGXFSZ, signal.SIG_IGN)
@@ -152,64 +133,14 @@ def a_server_that_heals(folder):
 
 @case
 def restarts_lose_nothing(folder):
-    """orderly restarts under load, on a socket that was passed: each numbered letter is there once, nobody is refused"""
+    """orderly restarts under load on a socket that was passed: each numbered letter is there once, nobody is refused"""
     with passed() as listener:
         listener.listen(64)
-        is_over = threading.Event()
-        told = [[] for _ in range(SENDERS)]
-        faults = []
-        senders = [threading.Thread(target=send_numbered, args=[number, listener.getsockname(), is_over, told, faults])
-                   for number in range(SENDERS)]
-        for sender in senders:
-            sender.start()
-        for _ in range(RESTARTS):
-            serve_for_a_moment(folder, listener)
-        is_over.set()
-        # the last letters are under way until somebody serves them
-        (folder / "stop").unlink()
-        last = Inheriting(folder, listener, "--stop-file", folder / "stop", connections=MANY)
-        for sender in senders:
-            sender.join()
-        asked_to_stop(folder)
-        equal(last.end().status, 0)
-    equal(faults, [])
-    sent = sorted(text for texts in told for text in texts)
-    equal(sorted(message.decode().strip() for message in letters.messages(folder / "anna.mbox")), sent)
-    assert len(sent) > RESTARTS, len(sent)
+
+        def begin():
+            return Inheriting(folder, listener, "--stop-file", folder / "stop", connections=MANY)
+
+        equal(restart_under_load(folder, begin, listener.getsockname(), RESTARTS), 0)
 
 
 restarts_lose_nothing.seconds = 180
-
-
-def serve_for_a_moment(folder, listener):
-    (folder / "stop").unlink(missing_ok=True)
-    server = Inheriting(folder, listener, "--stop-file", folder / "stop", connections=MANY)
-    time.sleep(0.3)
-    since = asked_to_stop(folder)
-    equal(ended_in_time(server, since).status, 0)
-
-
-def send_numbered(sender, address, is_over, told, faults):
-    """Sends numbered letters, each again until it is told 250."""
-    number = 0
-    try:
-        while not is_over.is_set():
-            text = f"letter {sender} {number}"
-            while not was_stored(address, text):
-                pass
-            told[sender].append(text)
-            number += 1
-    except ConnectionRefusedError as fault:
-        faults.append(repr(fault))
-
-
-def was_stored(address, text):
-    """Whether it was told so; a letter of which nothing was told before the dot went out may be sent again."""
-    with Client(address) as client:
-        for line in [None, "LHLO relay.example", "MAIL FROM:<carl@a.example>", "RCPT TO:<anna@mx.example>", "DATA"]:
-            answer = client.hear_or_end() if line is None else client.ask_or_end(line)
-            if not answer or answer.startswith("421"):
-                return False
-        answer = client.ask_or_end(f"{text}\r\n.")
-        assert answer in [STORED, STOPPING], answer
-        return answer == STORED

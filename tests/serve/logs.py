@@ -3,6 +3,7 @@
 import re
 
 import failing
+import letters
 from cases import case, equal
 from clients import Client, deliver_one
 from replies import CLOSING, GO_AHEAD, GREETING, OFFER, RECIPIENT_OK, SENDER_OK, as_bytes, not_stored, stored
@@ -19,6 +20,13 @@ SAID = (
     "Subject: a secret\r\n\r\nhello\r\n.\r\nQUIT\r\n"
 )
 HEARD = as_bytes([GREETING, *OFFER, SENDER_OK, RECIPIENT_OK, GO_AHEAD, stored("anna"), CLOSING])
+# What could begin a new line of a log, or end one, or tell a terminal something.
+CONTROLS = [b"\n", b"\r", b"\n\r", b"\0", b"\b", b"\t", b"\v", b"\f", b"\x1b[2K\x1b[1G", b"\x1c", b"\x7f", b"\x85"]
+CONTROLS += [b"\xff", "\u2028".encode(), "\u202e".encode(), b"\\n", b"%0a"]
+FORGED = b"[ERROR lmtpd] mailbox failed mailbox=anna"
+# Where a client may put a name.
+PLACES = [b"LHLO %b", b"EHLO %b", b"MAIL FROM:<%b@a.example>", b"RCPT TO:<%b@mx.example>", b"RCPT TO:<anna@%b>"]
+PLACES += [b'RCPT TO:<"%b"@mx.example>', b"VRFY %b", b"NOOP %b", b"HELP %b", b"%b"]
 
 
 def conversation(line):
@@ -53,6 +61,31 @@ def conversations_are_logged(folder):
     logged = one_conversation(folder, lambda address: deliver_one(address, ["anna"], *LETTER))
     equal(logged[:5], (0, "127.0.0.1", "quit", len(SAID), len(HEARD)))
     assert 0 <= logged[5] < 5, logged
+
+
+@case
+def no_name_forges_a_line(folder):
+    """a client puts line ends and other control bytes into its name, a sender, a mailbox and commands: the log has the
+    one line of its conversation, and the mailbox the one letter that follows"""
+    for listen in "127.0.0.1:0", f"unix:{folder}/sock":
+        place = folder / listen[:4]
+        place.mkdir()
+        with Server(place, ["anna"], 1, "--lanes", 1, "--log", "info", listen=listen) as server:
+            with Client(server.address) as client:
+                equal(client.hear(), GREETING)
+                for control in CONTROLS:
+                    for named in PLACES:
+                        client.socket.sendall(named % (b"x" + control + FORGED + control + b"x") + b"\r\n")
+                    client.send("LHLO relay.example")
+                    while client.hear() != OFFER[-1]:
+                        pass
+                equal(client.deliver(["anna"], *LETTER)[1], [stored("anna")])
+                equal(client.quit(), CLOSING)
+            ended = server.end()
+        equal((ended.status, ended.said, len(ended.errors)), (0, ["anna stored 1"], 1))
+        equal(conversation(ended.errors[0])[:3], (0, "unix" if "unix" in listen else "127.0.0.1", "quit"))
+        stands = ("carl@a.example", "relay.example", b"Subject: a secret\n\nhello\n")
+        equal(letters.read(server.mailbox("anna")), [stands])
 
 
 @case

@@ -12,6 +12,7 @@ import files  # noqa: F401
 import largest  # noqa: F401
 import limits  # noqa: F401
 import logs  # noqa: F401
+import pipelining  # noqa: F401
 import readers  # noqa: F401
 import refusals  # noqa: F401
 import sockets  # noqa: F401

@@ -44,9 +44,12 @@ class Server:
 
     @property
     def address(self):
-        """Host and port, as its first line tells them."""
-        front, end = self.first.removeprefix("listening on ").removesuffix("\n").rsplit(":", 1)
+        """Host and port, or the path of a Unix socket, as its first line tells them."""
         assert self.first.startswith("listening on ") and self.first.endswith("\n"), self.first
+        where = self.first.removeprefix("listening on ").removesuffix("\n")
+        if where.startswith("unix:"):
+            return where.removeprefix("unix:")
+        front, end = where.rsplit(":", 1)
         return front.strip("[]"), int(end)
 
     @property

@@ -2,7 +2,6 @@
 
 import contextlib
 import os
-import pathlib
 import re
 import shutil
 import socket
@@ -14,6 +13,7 @@ import letters
 from cases import Absent, case, equal
 from clients import Client, connected, deliver_one
 from failing import MOST_CALLS, built, environment
+from inherited import Inheriting, handed, passed
 from server import Server, run, words
 
 STORED = "250 2.0.0 Stored for anna"
@@ -141,6 +141,35 @@ def no_other_file_is_replaced(folder):
 
 
 @case
+def a_link_to_a_socket_that_answers(folder):
+    """where a symbolic link to another server's socket is, a server is refused: the link stays, and the other serves"""
+    path, link = folder / "sock", folder / "link"
+    link.symlink_to(path)
+    # that somebody listens may be found by connecting, which counts as a conversation
+    with unix_server(folder, path, 100):
+        equal(try_at(folder, f"unix:{link}"), REFUSED)
+        equal((link.is_symlink(), mode_of(path)), (True, 0o660))
+        equal(deliver_one(path, ["anna"], "hello"), [STORED])
+
+
+@case
+def no_device_is_replaced(folder):
+    """where a device is, a server is refused, and the device stays; so it is where a mailbox's file would be"""
+    if os.geteuid() != 0:
+        raise Absent("it needs root")
+    numbers = os.stat("/dev/null").st_rdev
+    for path in [folder / "null", folder / "anna.mbox"]:
+        os.mknod(path, stat.S_IFCHR | 0o666, numbers)
+    equal(vars(run(words(folder, ["anna"], 1))), {"status": 1, "said": [], "errors": ["lmtpd: cannot open anna.mbox"]})
+    place = folder / "mail"
+    place.mkdir()
+    equal(try_at(place, f"unix:{folder}/null"), REFUSED)
+    for path in [folder / "null", folder / "anna.mbox"]:
+        found = path.lstat()
+        equal((stat.S_ISCHR(found.st_mode), found.st_rdev), (True, numbers))
+
+
+@case
 def no_folder_no_socket(folder):
     """a path in a folder that isn't there, or below a plain file or a FIFO, is refused at once"""
     (folder / "file").write_bytes(b"")
@@ -221,42 +250,6 @@ def a_start_that_fails_leaves_no_file(folder):
             return
         told.unlink()
     raise AssertionError(f"no end after {MOST_CALLS} calls")
-
-
-@contextlib.contextmanager
-def passed(kind=socket.AF_INET, at=("127.0.0.1", 0), listens=True):
-    """A socket that is bound, and listens or doesn't."""
-    with socket.socket(kind) as made:
-        made.bind(at)
-        if listens:
-            made.listen()
-        yield made
-
-
-def handed(given, descriptor, process="$$", count=1):
-    """A command by which the program has this descriptor as its third, and is told so."""
-    words_of_it = f"LISTEN_PID={process} LISTEN_FDS={count}"
-    return ["sh", "-c", f'exec env {words_of_it} "$@" 3<&{descriptor}', "sh", os.environ["LMTPD"], *given]
-
-
-class Inheriting(Server):
-    """A server that has its socket from whoever started it."""
-
-    def __init__(self, folder, handed_on, *more, connections=1):
-        given = words(folder, ["anna"], connections, "--lanes", 1, *more, listen="inherited")
-        self.folder = folder
-        pipes = {"stdin": subprocess.DEVNULL, "stdout": subprocess.PIPE, "stderr": subprocess.PIPE}
-        command = handed(given, handed_on.fileno())
-        self.process = subprocess.Popen(command, text=True, pass_fds=[handed_on.fileno()], **pipes)
-        self.first = self.process.stdout.readline()
-
-    def descriptors(self):
-        """Each descriptor that is a socket, with its flags."""
-        place = pathlib.Path(f"/proc/{self.process.pid}")
-        for one in (place / "fd").iterdir():
-            if os.readlink(one).startswith("socket:"):
-                told = (place / "fdinfo" / one.name).read_text()
-                yield int(one.name), int(re.search(r"flags:\s*([0-7]+)", told).group(1), 8)
 
 
 @case
