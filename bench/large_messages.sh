@@ -12,7 +12,7 @@ folder=$(mktemp -d -p /dev/shm)
 trap 'rm -rf "$folder"' EXIT
 rustc -O -o "$folder/load" bench/serve/load.rs
 case "${1:-}" in --build | --try) exit 0 ;; esac
-if [ -z "${LMTPD:-}" ]; then
+if [ -z "${LMTPD:-}" ] && [ "${1:-}" != --try ]; then
     make -s build
     LMTPD=$PWD/crates/lmtpd/out/lmtpd
 fi

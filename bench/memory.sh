@@ -8,7 +8,7 @@
 set -euo pipefail
 cd "$(dirname "$0")/.."
 . tests/needs rustc
-if [ -z "${LMTPD:-}" ]; then
+if [ -z "${LMTPD:-}" ] && [ "${1:-}" != --try ]; then
     make -s build
     LMTPD=$PWD/crates/lmtpd/out/lmtpd
 fi

@@ -25,7 +25,7 @@
 set -euo pipefail
 cd "$(dirname "$0")/.."
 . tests/needs rustc python3
-if [ -z "${LMTPD:-}" ]; then
+if [ -z "${LMTPD:-}" ] && [ "${1:-}" != --try ]; then
     make -s build
     LMTPD=$PWD/crates/lmtpd/out/lmtpd
 fi
