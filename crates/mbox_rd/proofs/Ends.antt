@@ -59,6 +59,17 @@ ends_lf piece n rest end free =
     ∙ ap (λ (l : List ℕ). line_rest (unix l)) (sym (append_assoc line (lf ∷ back) rest))
     ∙ ap (λ (l : List ℕ). line_rest (unix (l ++ rest))) (sym (whole piece n end))
 
+-- up to an LF alone
+pub ends_at_lf : (piece : List ℕ) (n : ℕ) (rest : List ℕ) → IsEnd piece n → EndsPlainly (take n piece)
+    → take n piece ++ line_rest (unix (drop n piece ++ rest)) ≡ line_rest (unix (piece ++ rest))
+ends_at_lf piece n rest end free =
+    let line = take n piece in
+    let back = drop (n + 1) piece in
+    ap (λ (l : List ℕ). line ++ line_rest (unix (l ++ rest))) end.back
+    ∙ sym (inside_line line (lf ∷ (back ++ rest)) end.plain (λ t. free))
+    ∙ ap (λ (l : List ℕ). line_rest (unix l)) (sym (append_assoc line (lf ∷ back) rest))
+    ∙ ap (λ (l : List ℕ). line_rest (unix (l ++ rest))) (sym (whole piece n end))
+
 -- with CRLF
 crlf_whole : (piece text : List ℕ) (n : ℕ) → IsEnd piece n → take n piece ≡ text ++ cr ∷ [] → piece ≡ text ++ cr ∷ lf ∷ drop (n + 1) piece
 crlf_whole piece text n end e = whole piece n end ∙ ap (λ (l : List ℕ). l ++ lf ∷ drop (n + 1) piece) e ∙ append_assoc text (cr ∷ []) (lf ∷ drop (n + 1) piece)

@@ -6,6 +6,7 @@ pub mod Rests
 pub mod Words
 pub mod Steps
 pub mod Ends
+pub mod Runs
 pub mod Pieces
 pub mod Wholes
 pub mod Bodies

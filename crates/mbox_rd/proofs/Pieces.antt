@@ -1,9 +1,7 @@
 -- A piece of the message, step by step.
 use Rattle.std.proofs.Common.{◌≡◌, ℕ, ◌-◌, List, ◌++◌, length, take, drop, sym, ap, ◌∙◌, append_assoc}
 use Rattle.std.proofs.lemmas.List.{take_rest}
-use Rattle.mbox_rd.specs.declared.pending.Step.{Step}
 use Rattle.mbox_rd.specs.Spool.{SpoolState, SpoolTook, SpoolFailed}
-use Rattle.mbox_rd.specs.Steps.{IsWriterStep, step_text}
 use Rattle.mbox_rd.specs.Writing.{Pending, IsPending, bytes_owed, FailsPiece}
 use Rattle.mbox_rd.proofs.Taken.{SpoolTook-then, SpoolFailed-later}
 
@@ -14,23 +12,25 @@ pub record TakesPiece (old new : SpoolState) (before now : Pending) (piece rest 
   pub is : IsPending now
   pub goes : (more : List ℕ) → text ++ bytes_owed now (rest ++ more) ≡ bytes_owed before (piece ++ more)
 
-module _ (s t u : SpoolState) (before now : Pending) (piece rest : List ℕ) (step : Step) (x : TakesPiece s t before now piece rest) (y : IsWriterStep now rest step) where
-  further : (more : List ℕ) → (x.text ++ step_text step rest) ++ bytes_owed step.next (drop step.taken rest ++ more) ≡ bytes_owed before (piece ++ more)
+-- where the spool then takes a text for the first n bytes of the rest, or fails within it
+module _ (s t u : SpoolState) (before now next : Pending) (piece rest text : List ℕ) (n : ℕ) (x : TakesPiece s t before now piece rest)
+    (goes : (more : List ℕ) → text ++ bytes_owed next (drop n rest ++ more) ≡ bytes_owed now (rest ++ more)) where
+  further : (more : List ℕ) → (x.text ++ text) ++ bytes_owed next (drop n rest ++ more) ≡ bytes_owed before (piece ++ more)
   further more =
-      append_assoc x.text (step_text step rest) (bytes_owed step.next (drop step.taken rest ++ more))
-      ∙ ap (λ (l : List ℕ). x.text ++ l) (y.goes more) ∙ x.goes more
+      append_assoc x.text text (bytes_owed next (drop n rest ++ more))
+      ∙ ap (λ (l : List ℕ). x.text ++ l) (goes more) ∙ x.goes more
 
-  pub TakesPiece-more : SpoolTook t u (step_text step rest) → TakesPiece s u before step.next piece (take (length rest - step.taken) (drop step.taken rest))
-  TakesPiece-more z = record {
-    text = x.text ++ step_text step rest;
-    taken = SpoolTook-then s t u x.text (step_text step rest) x.taken z;
-    is = y.next;
-    goes = rw (take_rest rest step.taken) further;
+  pub TakesPiece-more : IsPending next → SpoolTook t u text → TakesPiece s u before next piece (take (length rest - n) (drop n rest))
+  TakesPiece-more is z = record {
+    text = x.text ++ text;
+    taken = SpoolTook-then s t u x.text text x.taken z;
+    is = is;
+    goes = rw (take_rest rest n) further;
   }
 
-  pub FailsPiece-more : SpoolFailed t u (step_text step rest) → FailsPiece s u before piece
+  pub FailsPiece-more : SpoolFailed t u text → FailsPiece s u before piece
   FailsPiece-more z = record {
-    text = x.text ++ step_text step rest;
-    failed = SpoolFailed-later s t u x.text (step_text step rest) x.taken z;
-    sure = λ more. record { rest = bytes_owed step.next (drop step.taken rest ++ more); whole = sym (further more) };
+    text = x.text ++ text;
+    failed = SpoolFailed-later s t u x.text text x.taken z;
+    sure = λ more. record { rest = bytes_owed next (drop n rest ++ more); whole = sym (further more) };
   }

@@ -127,6 +127,11 @@ word_lost (suc (suc (suc zero))) b text h k e = sym (plain_line 70 (114 ∷ 111 
 word_lost (suc (suc (suc (suc zero)))) b text h k e = sym (plain_line 70 (114 ∷ 111 ∷ 109 ∷ unix (b ∷ text)) (rw e refl))
 word_lost (suc (suc (suc (suc (suc n))))) b text h k e = absurd (omega arith)
 
+-- a first byte that no From line has
+pub plain_first : (b : ℕ) (text : List ℕ) → (b == 62) ≡ false → (70 == b) ≡ false
+    → line_rest (unix (b ∷ text)) ≡ quoted_text (unix (b ∷ text))
+plain_first b text p q = word_lost zero b text (omega arith) (λ e. p) (differs ((b == cr) && begins lf text) 70 b (codes "rom ") text refl q)
+
 -- a message that ends within it
 pub word_end : (n : ℕ) → 1 ≤ n → n ≤ 4 → quoted_text (unix (take n word ++ [])) ++ lf ∷ [] ≡ take n word ++ lf ∷ lf ∷ []
 word_end zero g h = absurd (omega arith)

@@ -20,3 +20,11 @@ pub record IsWriterStep (before : Pending) (piece : List ℕ) (step : Step) : Ty
   pub smaller : 2 * (length piece - step.taken) + pending_weight step.next < 2 * length piece + pending_weight before
   pub goes : (rest : List ℕ) → step_text step piece
       ++ bytes_owed step.next (drop step.taken piece ++ rest) ≡ bytes_owed before (piece ++ rest)
+
+-- a line that is written as it is, up to its end: the first len bytes, in place of the first taken ones
+pub record IsWriterRun (before : Pending) (piece : List ℕ) (len taken : ℕ) : Type 0 where
+  pub within : len ≤ length piece
+  pub further : taken ≤ length piece
+  pub smaller : 2 * (length piece - taken) < 2 * length piece + pending_weight before
+  pub goes : (rest : List ℕ) → take len piece ++ bytes_owed Inside (drop taken piece ++ rest)
+      ≡ bytes_owed before (piece ++ rest)

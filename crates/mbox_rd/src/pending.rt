@@ -1,9 +1,10 @@
 //! How far a piece of the message is sure to be written: CRLF becomes LF, and a From line gets one `>` more.
-ghost use Rattle.std.specs.Prelude.{◌≡◌, ◌<◌, ◌≤◌, [], length, true, false};
+ghost use Rattle.std.specs.Prelude.{◌≡◌, ◌≢◌, ◌<◌, ◌≤◌, [], length, true, false};
+ghost use Rattle.std.specs.Option.{IfSome};
 ghost use Rattle.std.specs.Str.{byte};
 ghost use Rattle.mail_world.specs.Text.{begins};
 ghost use Rattle.mbox_rd.specs.Writing.{IsPending};
-ghost use Rattle.mbox_rd.specs.Steps.{IsWriterStep};
+ghost use Rattle.mbox_rd.specs.Steps.{IsWriterRun, IsWriterStep};
 ghost use Rattle.mbox_rd.specs.declared.pending.Pending.TheVariants.{Start, Marks, Word, Inside, Cr};
 
 use memchr::memchr;
@@ -57,6 +58,71 @@ impl Step {
     {
         self.len == self.taken && self.extra.is_empty()
     }
+}
+
+// A line that is written as it is: the first `len` bytes of a piece, in place of its first `taken` bytes.
+#[derive(Clone, Copy, Debug)]
+pub(crate) struct Run {
+    pub(crate) len: usize,
+    pub(crate) taken: usize,
+}
+
+// A line whose first byte tells that it is no From line, where the piece has its LF. Most lines are such, and each
+// takes one search and one append, since the LF before a line is written with it.
+#[inline(always)]
+pub(crate) fn plain_line(pending: Pending, piece: &[u8]) -> Option<Run>
+    requires some { 0 < length piece.now }
+    ensures { IfSome result (λ run. IsWriterRun pending piece.now run.len run.taken) }
+{
+    match pending {
+        Pending::Start => line_at_start(piece),
+        Pending::Inside => line_after_lf(piece),
+        Pending::Marks | Pending::Word(_) | Pending::Cr => None,
+    }
+}
+
+// With the LF of the line before.
+#[inline(always)]
+fn line_after_lf(piece: &[u8]) -> Option<Run>
+    requires some { 0 < length piece.now }
+    ensures { IfSome result (λ run. IsWriterRun Inside piece.now run.len run.taken) }
+{
+    if piece[0] != b'\n' || piece.len() == 1 {
+        return None;
+    }
+    let run = line_at_start(&piece[1..])?;
+    Some(Run {
+        len: run.len + 1,
+        taken: run.taken + 1,
+    })
+}
+
+// Up to its LF, which is left, and without the CR before that.
+#[inline(always)]
+fn line_at_start(piece: &[u8]) -> Option<Run>
+    requires some { 0 < length piece.now }
+    ensures { IfSome result (λ run. IsWriterRun Start piece.now run.len run.taken) }
+{
+    if may_begin_from_line(piece[0]) {
+        return None;
+    }
+    let at = memchr(b'\n', piece)?;
+    match piece[..at].strip_suffix(b"\r") {
+        Some(text) => Some(Run {
+            len: text.len(),
+            taken: at,
+        }),
+        None => Some(Run { len: at, taken: at }),
+    }
+}
+
+// A From line begins with `>` or with its word.
+#[inline(always)]
+fn may_begin_from_line(first: u8) -> bool
+    ensures mark { result ≡ false → first ≢ byte ">" }
+    ensures letter { result ≡ false → first ≢ byte "F" }
+{
+    first == b'>' || first == b'F'
 }
 
 // The longest step: a run of bytes that are written as they are, and what ends it.

@@ -12,7 +12,7 @@ ghost use Rattle.mbox_rd.specs.Writing.{bytes_owed, WritesPiece, FailsPiece};
 use crate::append::{append_all, append_each};
 use crate::envelope::Envelope;
 use crate::head::write_head;
-use crate::pending::{FROM, Pending, Step, long_step};
+use crate::pending::{FROM, Pending, Step, long_step, plain_line};
 use crate::spool::{Spool, SpoolFault};
 use std::marker::Model;
 
@@ -61,10 +61,16 @@ impl RecordWriter {
         let mut pending = self.pending;
         let mut rest = piece;
         while !rest.is_empty() {
-            let step = long_step(pending, rest);
-            write_step(spool, rest, &step)?;
-            pending = step.next;
-            rest = &rest[step.taken..];
+            if let Some(run) = plain_line(pending, rest) {
+                append_all(spool, &rest[..run.len])?;
+                pending = Pending::Inside;
+                rest = &rest[run.taken..];
+            } else {
+                let step = long_step(pending, rest);
+                write_step(spool, rest, &step)?;
+                pending = step.next;
+                rest = &rest[step.taken..];
+            }
         }
         Ok(RecordWriter { pending })
     }
