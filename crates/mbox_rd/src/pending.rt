@@ -1,5 +1,5 @@
 //! How far a piece of the message is sure to be written: CRLF becomes LF, and a From line gets one `>` more.
-ghost use Rattle.std.specs.Prelude.{◌≡◌, ◌<◌, ◌≤◌, [], length, true, false};
+ghost use Rattle.std.specs.Prelude.{◌≡◌, ◌≢◌, ◌<◌, ◌≤◌, [], length, true, false};
 ghost use Rattle.std.specs.Option.{IfSome};
 ghost use Rattle.std.specs.Str.{byte};
 ghost use Rattle.mail_world.specs.Text.{begins};
@@ -103,7 +103,7 @@ fn line_at_start(piece: &[u8]) -> Option<Run>
     requires some { 0 < length piece.now }
     ensures { IfSome result (λ run. IsWriterRun Start piece.now run.len run.taken) }
 {
-    if piece[0] == b'>' || piece[0] == b'F' {
+    if may_begin_from_line(piece[0]) {
         return None;
     }
     let at = memchr(b'\n', piece)?;
@@ -114,6 +114,15 @@ fn line_at_start(piece: &[u8]) -> Option<Run>
         }),
         None => Some(Run { len: at, taken: at }),
     }
+}
+
+// A From line begins with `>` or with its word.
+#[inline(always)]
+fn may_begin_from_line(first: u8) -> bool
+    ensures mark { result ≡ false → first ≢ byte ">" }
+    ensures letter { result ≡ false → first ≢ byte "F" }
+{
+    first == b'>' || first == b'F'
 }
 
 // The longest step: a run of bytes that are written as they are, and what ends it.

@@ -14,7 +14,8 @@ returns-in-Some c =
     let end = IsEnd-found piece n c.in_ok-at.ensures.0 c.in_ok-at.ensures.1 in
     let e = strip_suffix_is Decides-eqb (take n piece) (cr ∷ []) (Some c.in-Some.text) c.in-Some.ensures.cases in
     let place = crlf_place piece text n end e in
-    run_at_start piece (length text) n end (omega (arith, place)) c.if-piece-eq62.false c.if-piece-eq70.false
+    run_at_start piece (length text) n end (omega (arith, place))
+    (c.may_begin_from_line.ensures.mark c.if-may_begin_from_line.false) (c.may_begin_from_line.ensures.letter c.if-may_begin_from_line.false)
     (λ rest. same_text (take (length text) piece) _ _ (ends_crlf piece text n rest end e))
 
 pub returns-in-None : goal.returns-in-None
@@ -23,4 +24,6 @@ returns-in-None c =
     let n = c.in_ok-at.at in
     let end = IsEnd-found piece n c.in_ok-at.ensures.0 c.in_ok-at.ensures.1 in
     let free = strip_suffix_is Decides-eqb (take n piece) (cr ∷ []) None c.in-None.ensures.cases in
-    run_at_start piece n n end (omega arith) c.if-piece-eq62.false c.if-piece-eq70.false (λ rest. ends_at_lf piece n rest end free)
+    run_at_start piece n n end (omega arith)
+    (c.may_begin_from_line.ensures.mark c.if-may_begin_from_line.false) (c.may_begin_from_line.ensures.letter c.if-may_begin_from_line.false)
+    (λ rest. ends_at_lf piece n rest end free)
