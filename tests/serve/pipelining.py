@@ -14,7 +14,7 @@ COMMAND, REPLY = b"NOOP\r\n", f"{NOOP_OK}\r\n".encode()
 FIRST, LAST = f"{GREETING}\r\n".encode(), f"{STOPPING}\r\n".encode()
 # Stops after so many seconds of sending, so that they meet the server at several places in what it has read.
 STOPS = [0.3, 0.37, 0.43, 0.51, 0.59, 0.68]
-WHERES = ["127.0.0.1:0", "unix:{}/sock"]
+TCP, UNIX = "127.0.0.1:0", "unix:{}/sock"
 
 
 class Pipelining:
@@ -76,27 +76,37 @@ def stopped_while_it_sends(folder, where, seconds, reads):
     print(f"{where[:4]}, reads {reads}: sent {sent} bytes until the stop, ended {took:.2f} s after it;", end=" ")
     print(f"heard {len(client.heard)} bytes, {count} replies, then {rest!r}, {client.fault!r};", *ended.errors)
     equal((ended.status, ended.said), (0, ["anna stored 0"]))
+    # one that takes nothing may be given up in a write
+    assert reads == "never" or " cause=stopped " in ended.errors[0], ended.errors
     return rest
 
 
 @case
 def a_stop_while_a_client_pipelines_and_takes_nothing(folder):
     """a client sends commands on and takes no reply at a stop: the server ends in time, with status 0"""
-    for where in WHERES:
+    for where in [TCP, UNIX]:
         stopped_while_it_sends(folder, where, STOPS[0], "never")
 
 
 @case
 def a_stop_while_a_client_pipelines_and_reads(folder):
-    """a client sends commands on and reads their replies at a stop: 421 is the last that it hears, in time"""
-    equal(last_heard(folder, "always"), [LAST] * len(WHERES) * len(STOPS))
+    """a client sends commands on and reads their replies at a stop: over a Unix socket 421 is the last that it hears"""
+    equal(last_heard(folder, UNIX, "always"), [LAST] * len(STOPS))
 
 
 @case
 def a_stop_while_a_client_pipelines_and_reads_late(folder):
-    """a client sends commands on and reads no reply until a stop, then all: 421 is the last that it hears, in time"""
-    equal(last_heard(folder, "from the stop on"), [LAST] * len(WHERES) * len(STOPS))
+    """a client sends commands on and reads no reply until a stop, then all: over a Unix socket 421 is the last"""
+    equal(last_heard(folder, UNIX, "from the stop on"), [LAST] * len(STOPS))
 
 
-def last_heard(folder, reads):
-    return [stopped_while_it_sends(folder, where, seconds, reads) for where in WHERES for seconds in STOPS]
+@case
+def a_stop_while_a_client_over_tcp_pipelines(folder):
+    """a client over TCP sends commands on at a stop: the server ends in time; what it was told last may be lost, since
+    its connection is closed with bytes unread, and so is reset"""
+    last_heard(folder, TCP, "always")
+    last_heard(folder, TCP, "from the stop on")
+
+
+def last_heard(folder, where, reads):
+    return [stopped_while_it_sends(folder, where, seconds, reads) for seconds in STOPS]
