@@ -90,22 +90,16 @@ def a_stop_while_a_client_pipelines_and_takes_nothing(folder):
 
 @case
 def a_stop_while_a_client_pipelines_and_reads(folder):
-    """a client sends commands on and reads their replies at a stop: over a Unix socket 421 is the last that it hears"""
-    equal(last_heard(folder, UNIX, "always"), [LAST] * len(STOPS))
+    """a client sends commands on and reads their replies at a stop: 421 is the last that it hears"""
+    for where in [TCP, UNIX]:
+        equal(last_heard(folder, where, "always"), [LAST] * len(STOPS))
 
 
 @case
 def a_stop_while_a_client_pipelines_and_reads_late(folder):
-    """a client sends commands on and reads no reply until a stop, then all: over a Unix socket 421 is the last"""
-    equal(last_heard(folder, UNIX, "from the stop on"), [LAST] * len(STOPS))
-
-
-@case
-def a_stop_while_a_client_over_tcp_pipelines(folder):
-    """a client over TCP sends commands on at a stop: the server ends in time; what it was told last may be lost, since
-    its connection is closed with bytes unread, and so is reset"""
-    last_heard(folder, TCP, "always")
-    last_heard(folder, TCP, "from the stop on")
+    """a client sends commands on and reads no reply until a stop, then all: 421 is the last that it hears"""
+    for where in [TCP, UNIX]:
+        equal(last_heard(folder, where, "from the stop on"), [LAST] * len(STOPS))
 
 
 def last_heard(folder, where, reads):

@@ -1,12 +1,14 @@
-"""Applies wrong bodies: apply.py ROOT checks that each would apply, and apply.py ROOT COPY puts those of this folder
-into the must-fail folders of the copy, in the place of the copy's own."""
+"""Applies wrong bodies: apply.py ROOT checks that each would apply, those of the crates and those of this folder."""
 import pathlib
-import shutil
 import sys
 
 
-def fault_of(edit, crate):
-    """Returns why the edit doesn't apply to the crate's folder, or None."""
+class Fault(Exception):
+    """Why a wrong body doesn't apply."""
+
+
+def texts_of(edit, crate):
+    """The texts of the files that the wrong body changes, by their paths in the crate's folder."""
     path, old, texts = None, None, {}
     for line in edit.read_text(encoding="utf-8").splitlines():
         word, _, rest = line.partition(":")
@@ -17,29 +19,31 @@ def fault_of(edit, crate):
             old = rest
         elif word == "new":
             if not path or not old:
-                return "a 'new:' stands before any 'file:' or 'old:'"
+                raise Fault("a 'new:' stands before any 'file:' or 'old:'")
             if path not in texts:
                 texts[path] = (crate / path).read_text(encoding="utf-8")
             found = texts[path].count(old)
             if found != 1:
-                return f"an 'old:' text stands {found} times in {path}"
+                raise Fault(f"an 'old:' text stands {found} times in {path}")
             texts[path], old = texts[path].replace(old, rest), None
-    return None if texts else "it changes nothing"
+    if not texts:
+        raise Fault("it changes nothing")
+    return texts
 
 
-def main(root, copy=None):
-    further = root / "tests/wrong_bodies"
-    edits = [(it, root / "crates" / it.parent.parent.name) for it in sorted(root.glob("crates/*/must-fail/*.edit"))]
-    edits += [(it, root / "crates" / it.parent.name) for it in sorted(further.glob("*/*.edit"))]
-    faults = [f"{it.relative_to(root)}: {fault}" for it, crate in edits if (fault := fault_of(it, crate))]
-    print("\n".join([*faults, f"{len(edits) - len(faults)} wrong bodies apply, {len(faults)} don't"]))
-    if copy and not faults:
-        for folder in copy.glob("crates/*/must-fail"):
-            shutil.rmtree(folder)
-        for folder in further.glob("*/"):
-            shutil.copytree(folder, copy / "crates" / folder.name / "must-fail")
+def main(root):
+    edits = [(it, it.parent.parent) for it in sorted(root.glob("crates/*/must-fail/*.edit"))]
+    edits += [(it, root / "crates" / it.parent.name) for it in sorted(root.glob("tests/wrong_bodies/*/*.edit"))]
+    faults = 0
+    for edit, crate in edits:
+        try:
+            texts_of(edit, crate)
+        except Fault as fault:
+            print(f"{edit.relative_to(root)}: {fault}")
+            faults += 1
+    print(f"{len(edits) - faults} wrong bodies apply, {faults} don't")
     return 1 if faults else 0
 
 
 if __name__ == "__main__":
-    sys.exit(main(*map(pathlib.Path, sys.argv[1:])))
+    sys.exit(main(pathlib.Path(sys.argv[1])))

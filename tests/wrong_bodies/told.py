@@ -1,12 +1,15 @@
-"""Reads what `rt must-fail` says, and says of each wrong body how it was met: told.py ROOT < SAID, where ROOT has the
-crates with the wrong bodies in their must-fail folders. A refusal for a function that the wrong body doesn't change is
-told apart from one by a goal of its own. The last line counts them; it fails where one doesn't compile, is still proved
-or couldn't be tried."""
+"""How a wrong body was met: what a check says of a crate with one in its place. A refusal for a function that the wrong
+body doesn't change is told apart from one by a goal of its own."""
 import pathlib
 import re
-import sys
 
-KINDS = ["refused by a goal of its function", "refused elsewhere", "doesn't compile", "still proved", "not tried"]
+NOT_TRIED = "not tried"
+KINDS = ["refused by a goal of its function", "refused elsewhere", "doesn't compile", "still proved", NOT_TRIED]
+BAD = KINDS[2:]
+# a text that can't be read says nothing of a contract
+UNREAD = r"is not in scope|has no field|is no name|operand is missing|expected the end|cannot continue"
+# nor does a proof that names what the wrong body took away, or what cites such a proof
+NAMES = r"(\./)?proofs/.*(has no field|is not in scope|has no `|was not admitted)"
 
 
 def function_at(source, line):
@@ -44,50 +47,30 @@ def refused_at(why, crate):
     return "no place"
 
 
-def met(edit, crate, said):
-    """How it was met, as one of KINDS, and what more is to be said."""
-    if said.startswith("NOT REFUSED"):
+def is_unread(line, texts):
+    """Whether the line says that a text of the sources, of specs or of a changed file couldn't be read."""
+    at = re.match(r"(?:\./)?(\S+?):\d+:\d+: error: (?:(`[^`]*`): )?(.*)", line)
+    if not at or at[1] not in texts and not at[1].startswith(("src/", "specs/")):
+        return False
+    return not at[2] or bool(re.search(UNREAD, re.sub(r"`[^`]*`", "", at[3])))
+
+
+def met(edit, crate, texts, status, said):
+    """How it was met, as one of KINDS, and what more is to be said. The texts are those that it makes, by their paths;
+    the crate's files are as they were before it."""
+    if status == 0:
         return "still proved", ""
-    compiler = re.search(r"\S+:\d+:\d+: error\[.*", said)
+    lines = said.splitlines()
+    compiler = next((it for it in lines if re.search(r"\S+:\d+:\d+: error\[", it) or is_unread(it, texts)), None)
     if compiler:
-        return "doesn't compile", compiler[0]
-    if said.startswith("BAD EDIT: the prover cannot read"):
-        return "doesn't compile", said.partition(": ")[2]
-    refused = re.fullmatch(r"refused, as it must be(?: \(only because .*?\))?(?:: (.*))?", said.split("\n")[0])
-    if not refused:
-        return "not tried", said
-    where = refused_at(refused[1] or "", crate)
-    if "(only because" in said:
-        return "refused elsewhere", f"by the names in the proof of {where}"
+        return "doesn't compile", compiler
+    if not any(it.startswith("logic=not-proved") for it in lines):
+        return NOT_TRIED, " ".join(lines[-3:])
+    found = [it for it in lines if re.match(r"(note: )?\S+:\d+:\d+:", it)]
+    found = [it for it in found if ": error" in it or it.startswith("note: ")] or found
+    first = next((it for it in found if not re.match(NAMES, it)), "")
+    if found and not first:
+        return "refused elsewhere", f"by the names in the proof of {refused_at(found[0], crate)}"
+    where = refused_at(first, crate)
     own = where in changed_by(edit, crate)
     return ("refused by a goal of its function", where) if own else ("refused elsewhere", f"by {where}")
-
-
-def paragraphs(lines):
-    """What is said of one wrong body after the other, with the lines of the prover's that follow; or a line alone."""
-    last = ""
-    for line in lines:
-        if not last.startswith("rt: must-fail ") or line.startswith("rt: "):
-            yield last.rstrip("\n")
-            last = ""
-        last += line
-    yield last.rstrip("\n")
-
-
-def main(root):
-    counts = dict.fromkeys(KINDS, 0)
-    for said in filter(None, paragraphs(sys.stdin)):
-        told = re.match(r"rt: must-fail (\w+)/(\S+\.edit): (.*)", said, re.DOTALL)
-        if not told:
-            print(said, flush=True)
-            continue
-        crate = root / "crates" / told[1]
-        kind, more = met(crate / "must-fail" / told[2], crate, told[3])
-        counts[kind] += 1
-        print(f"{told[1]}/{told[2]}: {kind}{more and ': ' + more}", flush=True)
-    print(", ".join(f"{count} {kind}" for kind, count in counts.items()))
-    return 1 if counts["doesn't compile"] + counts["still proved"] + counts["not tried"] else 0
-
-
-if __name__ == "__main__":
-    sys.exit(main(pathlib.Path(sys.argv[1])))

@@ -3,54 +3,65 @@
 
 ghost use Rattle.std.specs.Prelude.{◌≡◌, length};
 
+use crate::curfew::{Curfew, has_passed};
 use crate::ending::EndCause;
-use crate::tcp::retry::is_silence;
+use crate::tcp::retry::{is_silence, read_some};
 use crate::tcp::stream::ClientStream;
 use std::io::Read;
 use std::time::Duration;
 
-/// How many reads wait for the client's last bytes.
-const READS: u32 = 10;
+/// How long what the client still sends is read, in milliseconds.
+const TIME: u64 = 1_000;
 
-/// Milliseconds that each of them waits at most.
+/// Milliseconds that each read of it waits at most.
 const WAIT: u64 = 100;
 
-/// Before a connection is closed: behind a conversation that the server ended, and behind QUIT where bytes
-/// are unread, it is shut down for writing, and what the client still sends is read, at most as much as the
-/// buffer has room for, and for one second at most, however it comes. `waits` says that bytes of the stream
-/// were read which the conversation didn't ask for.
-pub fn close<T: Read + ClientStream>(stream: &mut T, buffer: &mut [u8], waits: bool, end: EndCause)
+/// How many of these reads may bring nothing.
+const SILENT_READS: u32 = 10;
+
+/// How many are made at most, so that they end where the clock stands still. A client on the same machine is read some
+/// ten thousand times in a second.
+const READS: u32 = 1_000_000;
+
+/// Before a connection is closed: after a conversation that the server ended, and after QUIT where bytes are unread, it
+/// is shut down for writing, and what the client still sends is read and dropped for a second, however much comes.
+/// `waits` says that bytes of the stream were read which the conversation didn't ask for. The buffer isn't empty.
+pub fn close<T: Read + ClientStream, E: Curfew>(
+    stream: &mut T,
+    buffer: &mut [u8],
+    waits: bool,
+    end: EndCause,
+    curfew: &E,
+)
     ensures { length buffer.new ≡ length buffer.old }
 {
-    let seen = match end {
-        EndCause::Stopped | EndCause::ReadBound => Some(0),
-        EndCause::Quit if waits => Some(0),
-        EndCause::Quit => unread(stream, buffer),
-        EndCause::EndOfInput | EndCause::ReadFault | EndCause::WriteFault => None,
+    let is_unread = match end {
+        EndCause::Stopped | EndCause::ReadBound => true,
+        EndCause::Quit => waits || has_unread(stream, buffer),
+        EndCause::EndOfInput | EndCause::ReadFault | EndCause::WriteFault => false,
     };
-    if let Some(seen) = seen {
+    if is_unread {
         let _ = stream.shutdown_write();
-        drain(stream, buffer, seen);
+        drain(stream, buffer, curfew);
     }
 }
 
-// Reads at once what is unread, and says how much; none where nothing is, or where that can't be asked
-// without waiting.
-fn unread<T: Read + ClientStream>(stream: &mut T, buffer: &mut [u8]) -> Option<usize>
+// Reads at once what is unread, and says whether anything was; nothing where that can't be asked without waiting.
+fn has_unread<T: Read + ClientStream>(stream: &mut T, buffer: &mut [u8]) -> bool
     ensures { length buffer.new ≡ length buffer.old }
 {
-    stream.set_nonblocking(true).ok()?;
-    let size = stream.read(buffer).ok()?;
-    if size == 0 {
-        return None;
+    if stream.set_nonblocking(true).is_err() {
+        return false;
     }
-    stream.set_nonblocking(false).ok()?;
-    Some(size)
+    match stream.read(buffer) {
+        Ok(0) | Err(_) => false,
+        Ok(_) => stream.set_nonblocking(false).is_ok(),
+    }
 }
 
-// Reads on into the buffer, until it is full, the client has closed its end, or the reads are used up; one that
-// timed out counts as one of them, since the bytes of a far client may still be on their way.
-fn drain<T: Read + ClientStream>(stream: &mut T, buffer: &mut [u8], seen: usize)
+// Reads on until the client has closed its end, the second is over, or the client was silent for as long; a read that
+// timed out doesn't end it before, since the bytes of a far client may still be on their way.
+fn drain<T: Read + ClientStream, E: Curfew>(stream: &mut T, buffer: &mut [u8], curfew: &E)
     ensures { length buffer.new ≡ length buffer.old }
 {
     if stream
@@ -59,16 +70,17 @@ fn drain<T: Read + ClientStream>(stream: &mut T, buffer: &mut [u8], seen: usize)
     {
         return;
     }
-    let mut filled = seen;
+    let begun = curfew.moment();
+    let mut silent: u32 = 0;
     for _ in 0..READS {
-        if filled >= buffer.len() {
-            return;
-        }
-        match stream.read(&mut buffer[filled..]) {
+        match read_some(stream, buffer) {
             Ok(0) => return,
-            Ok(size) => filled += size,
-            Err(error) if is_silence(&error) => {}
+            Ok(_) => {}
+            Err(error) if is_silence(&error) => silent += 1,
             Err(_) => return,
+        }
+        if silent >= SILENT_READS || has_passed(begun, curfew.moment(), Duration::from_millis(TIME)) {
+            return;
         }
     }
 }

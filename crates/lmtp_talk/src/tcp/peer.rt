@@ -211,17 +211,18 @@ impl<T: Read, E: Curfew> TcpPeer<T, E> {
     }
 }
 
-impl<T: Read + ClientStream + Drop, E: Drop> TcpPeer<T, E> {
+impl<T: Read + ClientStream + Drop, E: Curfew> TcpPeer<T, E> {
     /// Closes the connection of a conversation that ended so, and gives the buffer back; a client who may still
     /// send has up to a second to hear the last reply.
     pub fn close(self, end: EndCause) -> ReadBuffer {
         let TcpPeer {
             mut stream,
             mut buffer,
+            curfew,
             ..
         } = self;
         let waits = !buffer.is_empty();
-        close(&mut stream, &mut buffer.bytes, waits, end);
+        close(&mut stream, &mut buffer.bytes, waits, end, &*curfew);
         buffer
     }
 }
