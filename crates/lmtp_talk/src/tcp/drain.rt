@@ -76,10 +76,12 @@ fn drain<T: Read + ClientStream, E: Curfew>(stream: &mut T, buffer: &mut [u8], c
         match read_some(stream, buffer) {
             Ok(0) => return,
             Ok(_) => {}
-            Err(error) if is_silence(&error) => silent += 1,
+            Err(error) if is_silence(&error) => silent = silent.saturating_add(1),
             Err(_) => return,
         }
-        if silent >= SILENT_READS || has_passed(begun, curfew.moment(), Duration::from_millis(TIME)) {
+        if silent >= SILENT_READS
+            || has_passed(begun, curfew.moment(), Duration::from_millis(TIME))
+        {
             return;
         }
     }
