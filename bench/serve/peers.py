@@ -76,10 +76,11 @@ class Server:
         self.store = folder / "store"
         self.store.mkdir(parents=True)
         self.log = folder / "output"
-        self.port = 0 if name in ("ours", "quota", "before") else free_port()
+        self.port = 0 if name in ("ours", "quota", "logged", "before") else free_port()
         words_of = {
             "ours": self.ours,
             "quota": self.quota,
+            "logged": self.logged,
             "before": self.before,
             "plain": self.plain,
             "smtp-sink": self.smtp_sink,
@@ -116,6 +117,9 @@ class Server:
 
     def quota(self, folder, preload):
         return [*self.ours(folder, preload), "--quota", str(2**64 - 1)]
+
+    def logged(self, folder, preload):
+        return [*self.ours(folder, preload), "--log", "info"]
 
     def plain(self, folder, _preload):
         return [str(folder.parent / "plain"), str(self.store), self.address]
