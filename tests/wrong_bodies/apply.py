@@ -7,9 +7,10 @@ class Fault(Exception):
     """Why a wrong body doesn't apply."""
 
 
-def texts_of(edit, crate):
-    """The texts of the files that the wrong body changes, by their paths in the crate's folder."""
-    path, old, texts = None, None, {}
+def texts_of(edit, crate, others=()):
+    """The texts of the files that the wrong body changes, by their paths in the crate's folder; where some of them are
+    changed already, over those of `others`."""
+    path, old, texts = None, None, dict(others)
     for line in edit.read_text(encoding="utf-8").splitlines():
         word, _, rest = line.partition(":")
         rest = rest[1:] if rest.startswith(" ") else rest
@@ -26,7 +27,7 @@ def texts_of(edit, crate):
             if found != 1:
                 raise Fault(f"an 'old:' text stands {found} times in {path}")
             texts[path], old = texts[path].replace(old, rest), None
-    if not texts:
+    if texts == dict(others):
         raise Fault("it changes nothing")
     return texts
 

@@ -23,17 +23,29 @@ def function_at(source, line):
     return None
 
 
-def changed_by(edit, crate):
-    """The functions that the wrong body changes."""
-    source, found = None, set()
+def places_of(edit, crate):
+    """The functions that the wrong body changes: of each its file and its name, or None where it changes no function."""
+    path, found = None, set()
     for line in edit.read_text(encoding="utf-8").splitlines():
         word, _, rest = line.partition(": ")
         if word == "file":
-            source = crate / rest.strip()
+            path = rest.strip()
         elif word == "old":
-            before = source.read_text(encoding="utf-8").partition(rest)[0]
-            found.add(function_at(source, before.count("\n") + 1))
-    return found - {None}
+            before = (crate / path).read_text(encoding="utf-8").partition(rest)[0]
+            found.add((path, function_at(crate / path, before.count("\n") + 1)))
+    return found
+
+
+def changed_by(edit, crate):
+    """The names of these functions."""
+    return {name for _, name in places_of(edit, crate)} - {None}
+
+
+def refused_in(path, name, said):
+    """Whether the check found goals of that function of that file that aren't proved."""
+    module = path.removeprefix("src/").removesuffix(".rt").replace("/", "::").removesuffix("lib").removesuffix("main")
+    refused = rf"fn \w+::{module}(::)?(\S+::)?{name}: (no proof|not proved)(?!: it calls)"
+    return any(re.match(refused, it) for it in said.splitlines())
 
 
 def refused_at(why, crate):

@@ -1,7 +1,11 @@
 """Has the prover try wrong bodies: try.py ROOT JOBS [CRATE..], over what stands proved in ROOT. Each crate has a room of
-its own, with its sources and what its checks kept, and the crates below it by hard links; there one wrong body after the
-other is put into its place and checked. What is said of each, and the last line, are those of told.py."""
+its own, with its sources and what its checks kept, and the crates below it by hard links. There wrong bodies of
+different functions are put into their places at once, and checked; each that no goal of its own function refuses then is
+tried again alone, since a function isn't tried that calls a refused one. What is said of each, and the last line, are
+those of told.py."""
 import concurrent.futures
+import contextlib
+import dataclasses
 import os
 import pathlib
 import shutil
@@ -11,6 +15,8 @@ import tempfile
 
 import apply
 import told
+
+MOST = 8  # of wrong bodies that are tried at once
 
 
 def crates_of(root):
@@ -47,26 +53,69 @@ class Room:
         ran = subprocess.run(words, stdout=subprocess.PIPE, check=False, **how)
         return ran.returncode, ran.stdout
 
-    def try_one(self, edit):
-        """What is to be said of the wrong body: how it was met, and what more."""
-        texts = apply.texts_of(edit, self.crate)
+    def said_with(self, texts):
+        """How a check ended, and what it said, with these texts in place of the crate's own."""
         before = {path: (self.crate / path).read_text(encoding="utf-8") for path in texts}
         for path, text in texts.items():
             (self.crate / path).write_text(text, encoding="utf-8")
         status, said = self.check()
         for path, text in before.items():
             (self.crate / path).write_text(text, encoding="utf-8")
-        return told.met(edit, self.crate, texts, status, said)
+        return status, said
+
+    def try_one(self, edit):
+        """What is to be said of the wrong body: how it was met, and what more."""
+        texts = apply.texts_of(edit, self.crate)
+        return told.met(edit, self.crate, texts, *self.said_with(texts))
+
+    def refused_at_once(self, edits, texts):
+        """Those of the wrong bodies, which make these texts together, that a goal of each of their functions refuses."""
+        status, said = self.said_with(texts)
+        if status == 0:
+            return []
+        places = {edit: told.places_of(edit, self.crate) for edit in edits}
+        return [it for it in edits if all(name and told.refused_in(path, name, said) for path, name in places[it])]
+
+    def batches(self, edits):
+        """The wrong bodies in lists of different functions, each with the texts that they make together."""
+        made = []
+        for edit in edits:
+            places = told.places_of(edit, self.crate)
+            for batch in made:
+                if len(batch.edits) == MOST or places & batch.places:
+                    continue
+                with contextlib.suppress(apply.Fault):
+                    batch.texts = apply.texts_of(edit, self.crate, batch.texts)
+                    batch.edits.append(edit)
+                    batch.places |= places
+                    break
+            else:
+                made.append(Batch([edit], places, apply.texts_of(edit, self.crate)))
+        return made
+
+
+@dataclasses.dataclass
+class Batch:
+    edits: list
+    places: set
+    texts: dict
 
 
 def try_crate(root, name, crates, folder):
     """Tries the crate's wrong bodies, and gives how each was met."""
-    room = Room(root, name, crates, folder)
-    kinds = []
-    for edit in sorted((root / "tests/wrong_bodies" / name).glob("*.edit")):
-        kind, more = room.try_one(edit)
+    room, kinds = Room(root, name, crates, folder), []
+
+    def tell(edit, kind, more):
         print(f"{name}/{edit.name}: {kind}{more and ': ' + more}", flush=True)
         kinds.append(kind)
+
+    for batch in room.batches(sorted((root / "tests/wrong_bodies" / name).glob("*.edit"))):
+        refused = room.refused_at_once(batch.edits, batch.texts) if len(batch.edits) > 1 else []
+        for edit in refused:
+            tell(edit, told.KINDS[0], ", ".join(sorted(told.changed_by(edit, room.crate))))
+        for edit in batch.edits:
+            if edit not in refused:
+                tell(edit, *room.try_one(edit))
     status, said = room.check()
     if status:
         print(f"{name} is not proved as it stands:", *said.splitlines()[-6:], sep="\n", flush=True)
