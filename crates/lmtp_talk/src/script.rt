@@ -5,6 +5,7 @@ ghost use Rattle.mail_world.specs.Failures.{Rises};
 ghost use Rattle.lmtp_talk.specs.Script.{awaited};
 
 use crate::peer::{Came, Peer, PeerFault};
+use mail_world::Reply;
 use std::alloc::Global;
 
 /// What the peer has heard since its last turn, and what it does then.
@@ -148,6 +149,7 @@ impl Peer for Script<'_> {
           failures = s.failures;
           stops = s.stops;
           holds = [];
+          told = None;
         } };
 
     fn read(&mut self, buffer: &mut [u8]) -> Result<Came, PeerFault> {
@@ -190,5 +192,15 @@ impl Peer for Script<'_> {
         }
         self.room -= n;
         Ok(n)
+    }
+
+    /// It has no log.
+    fn tell_command(&mut self, line: &[u8], reply: Reply) {
+        let _ = (line, reply);
+    }
+
+    /// It has no log.
+    fn tell_copy(&mut self, number: u64, size: u64, client: &[u8], reply: Reply) {
+        let _ = (number, size, client, reply);
     }
 }

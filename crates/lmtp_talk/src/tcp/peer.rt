@@ -11,6 +11,7 @@ use crate::tcp::drain::close;
 use crate::tcp::read_buffer::ReadBuffer;
 use crate::tcp::retry::{is_silence, write_some};
 use crate::tcp::stream::ClientStream;
+use mail_world::Reply;
 use std::io;
 use std::io::{Error, ErrorKind, Read, Write};
 use std::sync::Arc;
@@ -293,6 +294,7 @@ impl<T: Read + Write, E: Curfew> Peer for TcpPeer<T, E> {
           failures = p.failures;
           stops = p.stops;
           holds = [];
+          told = None;
         } };
 
     /// What it handed out, what its buffer has and what the stream has left are, together, what buffer and
@@ -321,5 +323,15 @@ impl<T: Read + Write, E: Curfew> Peer for TcpPeer<T, E> {
             Ok(0) | Err(_) => Err(self.fail()),
             Ok(size) => Ok(size),
         }
+    }
+
+    /// It has no log.
+    fn tell_command(&mut self, line: &[u8], reply: Reply) {
+        let _ = (line, reply);
+    }
+
+    /// It has no log.
+    fn tell_copy(&mut self, number: u64, size: u64, client: &[u8], reply: Reply) {
+        let _ = (number, size, client, reply);
     }
 }
