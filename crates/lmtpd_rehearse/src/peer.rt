@@ -3,6 +3,7 @@
 ghost use Rattle.std.specs.Prelude.{[], None};
 
 use lmtp_house::{Came, Peer, PeerFault};
+use mail_world::Reply;
 use std::io::{Read, Write};
 
 /// A client whose bytes come from a reader, and whose replies go to a writer. It never says that the server is to stop.
@@ -25,6 +26,7 @@ impl<R: Read, W: Write> Peer for StreamPeer<R, W> {
       failures = p.failures;
       stops = 0;
       holds = [];
+      told = None;
     } };
 
     fn read(&mut self, buffer: &mut [u8]) -> Result<Came, PeerFault> {
@@ -48,5 +50,15 @@ impl<R: Read, W: Write> Peer for StreamPeer<R, W> {
             }
             Ok(size) => Ok(size),
         }
+    }
+
+    /// It has no log.
+    fn tell_command(&mut self, line: &[u8], reply: Reply) {
+        let _ = (line, reply);
+    }
+
+    /// It has no log.
+    fn tell_copy(&mut self, number: u64, size: u64, client: &[u8], reply: Reply) {
+        let _ = (number, size, client, reply);
     }
 }
