@@ -16,7 +16,9 @@ use Rattle.lmtp_talk.specs.declared.telling.Asked.{Asked}
 use Rattle.lmtp_talk.specs.declared.telling.Asked.TheVariants as asked
 use Rattle.lmtp_talk.specs.Entries.{Entry, line_entries, copy_entries, line_kept, entries_of_part, entries_of, with_entries}
 use Rattle.lmtp_talk.specs.Peer.{PeerState, with_told}
-use Rattle.lmtp_talk.specs.Saying.{OutboxView, HasSaid, IsSaid}
+use Rattle.lmtp_session.specs.declared.act.Act.{Act}
+use Rattle.lmtp_session.specs.declared.act.Act.TheVariants.{Deliver}
+use Rattle.lmtp_talk.specs.Saying.{OutboxView, HasSaid, IsSaid, said}
 use Rattle.lmtp_talk.specs.Telling.{entries_for}
 
 -- no entry more, and entries behind others
@@ -62,6 +64,14 @@ one_more_told s t u ask client rs i r within is one two =
 pub all_told : (s t : PeerState) (ask : Asked) (client : List ℕ) (rs : List Reply) (n : ℕ) → n ≡ length rs
     → t ≡ with_told s (entries_for ask client (take n rs)) → t ≡ with_told s (entries_for ask client rs)
 all_told s t ask client rs n e told = told ∙ ap (λ l. with_told s (entries_for ask client l)) (ap (λ k. take k rs) e ∙ take-length rs)
+
+pub said_none : (s : PeerState) (ask : Asked) (client : List ℕ) (act : Act) (n : ℕ) (kept : List Reply) → act ≡ Deliver n → s ≡ with_told s (entries_for ask client (said act kept))
+said_none s ask client act n kept e =
+    let told : Act → Type 0 = λ a. s ≡ with_told s (entries_for ask client (said a kept)) in
+    subst told (sym e) (none_told s ask client)
+
+pub told_after : (s t u : PeerState) (more : List Entry) → u ≡ with_told t more → t.told ≡ s.told → u.told ≡ with_entries s.told more
+told_after s t u more told same = ap (λ (x : PeerState). x.told) told ∙ ap (λ (o : Option (List Entry)). with_entries o more) same
 
 -- what was said stays so while a log is told
 is_said : (broken : Bool) (start now : PeerState) (told : Option (List Entry)) (written pending text : List ℕ) → IsSaid broken start now written pending text

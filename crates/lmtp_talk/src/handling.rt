@@ -166,11 +166,15 @@ fn handle_message<P: Peer, D: Delivery>(dialogue: &mut Dialogue, peer: &mut P, d
         Ok(()) => {
             dialogue.session.data_done(Verdict::Whole);
             let answered = dialogue.session.outcomes(delivery.outcomes());
-            dialogue.outbox.answer(peer, &dialogue.session, asked, answered);
+            dialogue
+                .outbox
+                .answer(peer, &dialogue.session, asked, answered);
         }
         Err(verdict) => {
             let refused = dialogue.session.data_done(verdict);
-            dialogue.outbox.answer(peer, &dialogue.session, asked, refused);
+            dialogue
+                .outbox
+                .answer(peer, &dialogue.session, asked, refused);
         }
     }
 }

@@ -326,12 +326,8 @@ impl<T: Read + Write, E: Curfew> Peer for TcpPeer<T, E> {
     }
 
     /// It has no log.
-    fn tell_command(&mut self, line: &[u8], reply: Reply) {
-        let _ = (line, reply);
-    }
+    fn tell_command(&mut self, _line: &[u8], _reply: Reply) {}
 
     /// It has no log.
-    fn tell_copy(&mut self, number: u64, size: u64, client: &[u8], reply: Reply) {
-        let _ = (number, size, client, reply);
-    }
+    fn tell_copy(&mut self, _number: u64, _size: u64, _client: &[u8], _reply: Reply) {}
 }

@@ -1,4 +1,4 @@
-use Rattle.std.proofs.Common.{arith, ◌≡◌, ◌<◌, length}
+use Rattle.std.proofs.Common.{arith, ◌<◌, length}
 use Rattle.lmtp_talk.proofs.Entered.{none_told, one_more_told, all_told}
 use Rattle.lmtp_talk.proofs.telling.tell_answers.Goals as goal
 

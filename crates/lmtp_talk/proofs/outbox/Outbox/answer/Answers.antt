@@ -1,7 +1,6 @@
-use Rattle.std.proofs.Common.{Option, List, ap, ◌∙◌}
-use Rattle.lmtp_talk.specs.Entries.{Entry, with_entries}
+use Rattle.std.proofs.Common.{ap, ◌∙◌}
 use Rattle.lmtp_talk.specs.Peer.{PeerState}
-use Rattle.lmtp_talk.proofs.Entered.{said_told}
+use Rattle.lmtp_talk.proofs.Entered.{said_told, told_after}
 use Rattle.lmtp_talk.proofs.outbox.Outbox.answer.Goals as goal
 
 pub returns-clause-says : goal.returns-clause-says
@@ -9,8 +8,7 @@ returns-clause-says g c start came text h =
     said_told start (g.P.Peer.state c.say_all.new.peer) (g.P.Peer.state c.tell_all.new.peer) c.say_all.new.self came _ _ c.tell_all.ensures (c.say_all.ensures.says start came text h)
 
 pub returns-clause-told : goal.returns-clause-told
-returns-clause-told g c =
-    ap (λ (s : PeerState). s.told) c.tell_all.ensures ∙ ap (λ (o : Option (List Entry)). with_entries o _) c.say_all.ensures.untold
+returns-clause-told g c = told_after (g.P.Peer.state c.args.peer.now) (g.P.Peer.state c.say_all.new.peer) (g.P.Peer.state c.tell_all.new.peer) _ c.tell_all.ensures c.say_all.ensures.untold
 
 pub returns-clause-goes : goal.returns-clause-goes
 returns-clause-goes g c = ap (λ (s : PeerState). s.stops) c.tell_all.ensures ∙ c.say_all.ensures.goes
