@@ -9,6 +9,7 @@ use Rattle.lmtp_talk.specs.declared.peer.Came.TheVariants.{Bytes, End, Stop}
 use Rattle.lmtp_talk.specs.declared.tcp.peer.Bounds.{Bounds}
 use Rattle.lmtp_talk.specs.declared.tcp.peer.TcpPeer.{TcpPeer}
 use Rattle.lmtp_talk.specs.declared.tcp.peer.Waited.{Waited}
+use Rattle.lmtp_talk.specs.declared.tcp.peer.Waited.TheVariants as Waited
 use Rattle.lmtp_talk.specs.Peer.{PeerState, HasBrought, HasTransferred}
 use Rattle.lmtp_talk.specs.ReadBuffer.{waiting}
 
