@@ -8,19 +8,22 @@ use Rattle.lmtp_talk.specs.declared.ending.EndCause.{EndCause}
 use Rattle.lmtp_talk.specs.Peer.{PeerState, RisesBy}
 use Rattle.lmtp_talk.specs.Served.{Terms, terms, HasRead, IsServed, transactions_in, accepted_behind_all}
 use Rattle.lmtp_talk.proofs.Counting.{rises_then}
-use Rattle.lmtp_lane.specs.Visits.{VisitsTold, Finished, Finishes, Visit, IsVisit, finished_of, conversations_of, HasFinished, HasVisited, HasConversed}
+use Rattle.lmtp_talk.specs.Entries.{Entry, OfEnd, entries_in, with_entries}
+use Rattle.lmtp_talk.proofs.Entered.{with_none, with_both}
+use Rattle.lmtp_lane.specs.Visits.{VisitsTold, Finished, Finishes, Visit, IsVisit, finished_of, conversations_of, HasFinished, HasVisited, HasConversed, LendsLog, visit_entries, lane_entries}
 use Rattle.mail_world.specs.Counts.{counted}
 
 -- a client that was served, and is handed back
 pub conversed : (by : Terms) (old new : VisitsTold) (before after : PeerState) (Before After : ℕ → List Transaction → Type 0) (cause : EndCause)
     → IsServed by before after Before After cause → HasRead by.reads before after cause → Finishes old.each new.each after cause → RisesBy 1 old.count new.count
-    → HasConversed by before old new Before After
-conversed by old new before after Before After cause x reads finishes counts = record {
+    → new.log ≡ with_entries after.told (OfEnd cause ∷ []) → HasConversed by before old new Before After
+conversed by old new before after Before After cause x reads finishes counts logs = record {
   visit = record { before = before; after = after; conversation = x.conversation; cause = cause };
   is = record { client = refl; reads = reads; said = x.said; moved = x.moved; accounted = x.accounted; says = x.says; causes = x.causes };
   told = finishes;
   counts = counts;
   delivered = x.delivered;
+  logged = λ n ts first. logs ∙ ap (λ (o : Option (List Entry)). with_entries o (OfEnd cause ∷ [])) (x.logged n ts first) ∙ with_both before.told (entries_in by.site n x.conversation) (OfEnd cause ∷ []);
 }
 
 -- how many DATA commands were accepted behind these conversations
@@ -48,6 +51,22 @@ conversations_last : (vs : List Visit) (v : Visit) → conversations_of (vs ++ v
 conversations_last [] v = refl
 conversations_last (x ∷ vs) v = ap (λ l. x.conversation ∷ l) (conversations_last vs v)
 
+-- the entries of one conversation more
+entries_last : (site : Site) (n : ℕ) (vs : List Visit) (v : Visit)
+    → lane_entries site n (vs ++ v ∷ []) ≡ lane_entries site n vs ++ visit_entries site (accepted_all site n (conversations_of vs)) v
+entries_last site n [] v = append-nil (visit_entries site n v)
+entries_last site n (x ∷ vs) v =
+    let k : ℕ = accepted_behind_all site n x.conversation in
+    ap (λ l. visit_entries site n x ++ l) (entries_last site k vs v)
+    ∙ sym (append_assoc (visit_entries site n x) (lane_entries site k vs) (visit_entries site (accepted_all site k (conversations_of vs)) v))
+
+logged_last : (site : Site) (vs : List Visit) (v : Visit) (old now peer next : Option (List Entry)) → now ≡ with_entries old (lane_entries site 0 vs) → peer ≡ now
+    → next ≡ with_entries peer (visit_entries site (accepted_all site 0 (conversations_of vs)) v) → next ≡ with_entries old (lane_entries site 0 (vs ++ v ∷ []))
+logged_last site vs v old now peer next before lent told =
+    let own : List Entry = visit_entries site (accepted_all site 0 (conversations_of vs)) v in
+    told ∙ ap (λ (o : Option (List Entry)). with_entries o own) (lent ∙ before) ∙ with_both old (lane_entries site 0 vs) own
+    ∙ ap (λ l. with_entries old l) (sym (entries_last site 0 vs v))
+
 -- the clients that were served so far, and what the delivery has come to with them
 pub record HasCalled (by : Terms) (MayCome : PeerState → Type 0) (old now : VisitsTold) (Come : ℕ → List Transaction → Type 0) (count : ℕ) : Type 0 where
   pub visits : List Visit
@@ -63,7 +82,7 @@ told_none (Some told) = ap (λ l. Some l) (sym (append-nil told))
 pub called_none : (by : Terms) (MayCome : PeerState → Type 0) (old : VisitsTold) (Come : ℕ → List Transaction → Type 0) → Come 0 [] → HasCalled by MayCome old old Come 0
 called_none by MayCome old Come come = record {
   visits = [];
-  visited = record { told = told_none old.each; counts = inl (omega arith); each = tt };
+  visited = record { told = told_none old.each; counts = inl (omega arith); each = tt; logged = with_none old.log };
   counts = refl;
   come = subst (λ ts. Come 0 ts) (sym (transactions_first by.site 0)) come;
 }
@@ -86,8 +105,8 @@ each_more P [] v h p = (p, tt)
 each_more P (x ∷ vs) v h p = (h.0, each_more P vs v h.1 p)
 
 more_called : (by : Terms) (MayCome : PeerState → Type 0) (peer : PeerState) (old now next : VisitsTold) (Come Come' : ℕ → List Transaction → Type 0) (count count' : ℕ)
-    → count' ≡ counted (count + 1) → MayCome peer → HasCalled by MayCome old now Come count → HasConversed by peer now next Come Come' → HasCalled by MayCome old next Come' count'
-more_called by MayCome peer old now next Come Come' count count' e may x y =
+    → count' ≡ counted (count + 1) → MayCome peer → peer.told ≡ now.log → HasCalled by MayCome old now Come count → HasConversed by peer now next Come Come' → HasCalled by MayCome old next Come' count'
+more_called by MayCome peer old now next Come Come' count count' e may lent x y =
     let v : Visit = y.visit in
     let site : Site = by.site in
     let cs : List Conversation = conversations_of x.visits in
@@ -110,15 +129,23 @@ more_called by MayCome peer old now next Come Come' count count' e may x y =
     = subst (λ ts. Come' (accepted_all site 0 (cs ++ v.conversation ∷ [])) ts) (sym (transactions_last site 0 cs v.conversation)) counted_so in
     record {
       visits = x.visits ++ v ∷ [];
-      visited = record { told = told_more old.each now.each next.each x.visits v x.visited.told y.told; counts = subst (λ n. RisesBy n old.count next.count) (sym size) (rises_then (length x.visits) 1 old.count now.count next.count x.visited.counts y.counts); each = each_more (IsVisit by MayCome) x.visits v x.visited.each is };
+      visited = record { told = told_more old.each now.each next.each x.visits v x.visited.told y.told; counts = subst (λ n. RisesBy n old.count next.count) (sym size) (rises_then (length x.visits) 1 old.count now.count next.count x.visited.counts y.counts); each = each_more (IsVisit by MayCome) x.visits v x.visited.each is; logged = logged_last site x.visits v old.log now.log peer.told next.log x.visited.logged lent (y.logged (accepted_all site 0 cs) (transactions site 0 cs) x.come) };
       counts = omega (arith, e, x.counts, size);
       come = subst (λ l. Come' (accepted_all site 0 l) (transactions site 0 l)) (sym all) come;
     }
 
 pub called_more : (reads : ℕ) (site site' : Site) (MayCome : PeerState → Type 0) (peer : PeerState) (old now now' next : VisitsTold) (Come Come' : ℕ → List Transaction → Type 0) (count count' : ℕ)
-    → site' ≡ site → now' ≡ now → count' ≡ counted (count + 1) → MayCome peer → HasCalled (terms site reads) MayCome old now Come count → HasConversed (terms site' reads) peer now' next Come Come'
+    → site' ≡ site → LendsLog now now' peer → count' ≡ counted (count + 1) → MayCome peer → HasCalled (terms site reads) MayCome old now Come count → HasConversed (terms site' reads) peer now' next Come Come'
     → HasCalled (terms site reads) MayCome old next Come' count'
 called_more reads site site' MayCome peer old now now' next Come Come' count count' here same e may x y =
     let P : Site → Type 0 = λ s. HasConversed (terms s reads) peer now' next Come Come' in
-    let Q : VisitsTold → Type 0 = λ f. HasConversed (terms site reads) peer f next Come Come' in
-    more_called (terms site reads) MayCome peer old now next Come Come' count count' e may x (subst Q same (subst P here y))
+    let z : HasConversed (terms site reads) peer now' next Come Come' = subst P here y in
+    let last : HasConversed (terms site reads) peer now next Come Come' = record {
+      visit = z.visit;
+      is = z.is;
+      told = subst (λ (o : Option (List Finished)). Finishes o next.each z.visit.after z.visit.cause) same.each z.told;
+      counts = subst (λ k. RisesBy 1 k next.count) same.count z.counts;
+      delivered = z.delivered;
+      logged = z.logged;
+    } in
+    more_called (terms site reads) MayCome peer old now next Come Come' count count' e may same.log x last

@@ -3,8 +3,10 @@ use Rattle.std.specs.Prelude.{◌≡◌, ℕ, List, [], ◌∷◌, ◌++◌, len
 use Rattle.std.specs.List.{AllByRecursion}
 use Rattle.mail_world.specs.Conversation.{Conversation, IsAccount, inputs, replies}
 use Rattle.mail_world.specs.Lists.{Transaction}
+use Rattle.mail_world.specs.Site.{Site}
 use Rattle.lmtp_talk.specs.declared.ending.EndCause.{EndCause}
 use Rattle.lmtp_talk.specs.declared.ending.EndCause.TheVariants as ends
+use Rattle.lmtp_talk.specs.Entries.{Entry, OfEnd, entries_in, with_entries}
 use Rattle.lmtp_talk.specs.Peer.{PeerState, HasMoved, RisesBy}
 use Rattle.lmtp_talk.specs.Served.{Terms, IsWritten, EndsFor, HasRead, transactions_in, accepted_behind_all}
 
@@ -14,10 +16,17 @@ pub record Finished : Type 0 where
   pub cause : EndCause
 
 -- what a Visits tells of the conversations that have ended: each of them, where it tells them, and how many these are;
--- the count stays at its largest value
+-- the count stays at its largest value; and what the log of them all was told, where it tells
 pub record VisitsTold : Type 0 where
   pub each : Option (List Finished)
   pub count : ℕ
+  pub log : Option (List Entry)
+
+-- the log is lent to a client for a conversation, and all else stays
+pub record LendsLog (old new : VisitsTold) (peer : PeerState) : Type 0 where
+  pub each : new.each ≡ old.each
+  pub count : new.count ≡ old.count
+  pub log : peer.told ≡ old.log
 
 -- one more conversation is told, where they are told
 abbrev pub Finishes : Option (List Finished) → Option (List Finished) → PeerState → EndCause → Type 0
@@ -54,14 +63,26 @@ abbrev pub HasFinished : Option (List Finished) → Option (List Finished) → L
 HasFinished None new visits = new ≡ None
 HasFinished (Some told) new visits = new ≡ Some (told ++ map finished_of visits)
 
--- the clients that were served, one after another, and each was handed back
+-- the entries of a conversation before which n DATA commands were accepted, its end among them
+abbrev pub visit_entries : Site → ℕ → Visit → List Entry
+visit_entries site n v = entries_in site n v.conversation ++ OfEnd v.cause ∷ []
+
+-- the entries of conversations, one after another
+abbrev pub lane_entries : Site → ℕ → List Visit → List Entry
+lane_entries site n [] = []
+lane_entries site n (v ∷ visits) = visit_entries site n v ++ lane_entries site (accepted_behind_all site n v.conversation) visits
+
+-- the clients that were served, one after another, and each was handed back; the log was told the entries of all of
+-- them
 pub record HasVisited (by : Terms) (MayCome : PeerState → Type 0) (old new : VisitsTold) (visits : List Visit)
     : Type 0 where
   pub told : HasFinished old.each new.each visits
   pub counts : RisesBy (length visits) old.count new.count
   pub each : AllByRecursion (IsVisit by MayCome) visits
+  pub logged : new.log ≡ with_entries old.log (lane_entries by.site 0 visits)
 
--- this client was served, and handed back; a delivery that had come to so much before has come to its messages more
+-- this client was served, and handed back; a delivery that had come to so much before has come to its messages more, and
+-- the client's log, which is given back, was told the entries of the conversation
 pub record HasConversed (by : Terms) (peer : PeerState) (old new : VisitsTold)
     (Before After : ℕ → List Transaction → Type 0) : Type 0 where
   pub visit : Visit
@@ -70,3 +91,5 @@ pub record HasConversed (by : Terms) (peer : PeerState) (old new : VisitsTold)
   pub counts : RisesBy 1 old.count new.count
   pub delivered : (n : ℕ) (ts : List Transaction) → Before n ts
       → After (accepted_behind_all by.site n visit.conversation) (ts ++ transactions_in by.site n visit.conversation)
+  pub logged : (n : ℕ) (ts : List Transaction) → Before n ts
+      → new.log ≡ with_entries peer.told (visit_entries by.site n visit)

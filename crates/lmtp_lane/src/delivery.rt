@@ -115,6 +115,14 @@ impl<'a, N: DepotName, C: Clock, R: Wait, S: LaneStart> Delivery for LaneDeliver
         self.incoming.add(self.rt, self.depot, bytes, self.limit);
     }
 
+    fn number(&self) -> u64 {
+        self.accepted
+    }
+
+    fn size(&self) -> u64 {
+        self.incoming.size as u64
+    }
+
     fn cancel(&mut self) {
         self.incoming.cancel(self.rt, self.depot);
     }

@@ -24,7 +24,9 @@ use Rattle.lmtp_talk.specs.declared.dialogue.Dialogue.{Dialogue}
 use Rattle.lmtp_talk.specs.Peer.{PeerState}
 use Rattle.lmtp_talk.specs.Saying.{HasSaid}
 use Rattle.lmtp_talk.specs.Standing.{QuitsWith, InLine, InData, IsInside, IsSoFar, standing, beginning}
-use Rattle.lmtp_talk.specs.Steps.{TakesInputs, Talk, talk, BeginsIf, TakesLine}
+use Rattle.lmtp_talk.specs.Steps.{TakesInputs, TellsLine, Talk, talk, BeginsIf, TakesLine}
+use Rattle.lmtp_talk.specs.Entries.{line_kept, line_in}
+use Rattle.lmtp_talk.proofs.Entered.{logged_more, entries_line}
 use Rattle.lmtp_talk.proofs.CutUp.{cut_line}
 use Rattle.lmtp_talk.proofs.Quits.{GoesOn, line_goes_on, long_goes_on, quits_line, quits_long}
 
@@ -118,6 +120,7 @@ more_of_line site start Before Come Drafting old wire peer handled came piece us
       quits = h.quits;
       said = h.said;
       goes = h.goes;
+      logged = h.logged;
       inside = as_line old.session.session.state (record old { wire = wire }) (h.rest ++ piece) _ _ lines (record { behind = t.behind; comes = line.comes });
     }
 
@@ -132,11 +135,12 @@ ended_line : (site : Site) (start : PeerState) (Before : ℕ → List Transactio
     → (h : IsSoFar (beginning site start Before) (standing old before (HasCome delivery) (IsDrafting delivery)) handled came)
     → EndsLine wire (h.rest ++ piece) (length h.rest) used end
     → inputs_of (CommandLine (take end (h.rest ++ piece))) ≡ input ∷ []
+    → line_kept (take end (h.rest ++ piece)) ≡ line_in input
     → TakesLine HasCome IsDrafting input (talk (record old { wire = wire }) before delivery) (talk new after later)
     → GoesOn (step old.session.site old.session.session input).next.state
     → QuitsWith (session_after old.session.site old.session.session (input ∷ [])).state (flat_map inputs_of h.done ++ input ∷ [])
     → IsSoFar (beginning site start Before) (standing new after (HasCome later) (IsDrafting later)) (handled ++ take used piece) came
-ended_line site start Before {D} HasCome IsDrafting old new wire before after delivery later handled came piece used end input lines h ends input_is t goes quits =
+ended_line site start Before {D} HasCome IsDrafting old new wire before after delivery later handled came piece used end input lines h ends input_is line_is t goes quits =
     let bytes : List ℕ = h.rest ++ piece in
     let p : Part = CommandLine (take end bytes) in
     let mid : Dialogue = record old { wire = wire } in
@@ -159,6 +163,8 @@ ended_line site start Before {D} HasCome IsDrafting old new wire before after de
           (subst (λ l. QuitsWith (session_after old.session.site old.session.session (input ∷ [])).state l) (sym (inputs-snoc h.done p ∙ ap (λ l. flat_map inputs_of h.done ++ l) input_is)) quits);
       said = says_part site h.done p start before after mid new came takes h.same_site h.session h.said;
       goes = takes.same ∙ h.goes;
+      logged = λ n ts first. logged_more site n h.done p start.told before.told after.told _ t.told (h.logged n ts first)
+          (entries_line site old.session.site (accepted_after site n fresh h.done) old.session.session (session_behind site fresh h.done) (take end bytes) (line_in input) input h.same_site h.session input_is line_is);
       inside = behind_line new.session.session.state new _ _ goes' (subst (λ w. IsBehind w []) (sym takes.wire) ends.behind)
           (λ content.
           let begins : BeginsIf HasCome IsDrafting true delivery (talk new after later) = subst (λ b. BeginsIf HasCome IsDrafting b delivery (talk new after later)) content t.begins in
@@ -201,6 +207,7 @@ line_of site start Before {D} HasCome IsDrafting old new wire before after deliv
     (let size : length (take e.0 bytes) ≡ e.0 = size_is bytes e.0 e.1.ends in let fits : e.0 + 2 ≤ LINE_LIMIT = e.2 in grind (arith, nat_tests, size, fits)) in
     ended_line site start Before HasCome IsDrafting old new wire before after delivery later handled came piece used e.0 (Line wire.line) lines h e.1
     (ap (λ b. (if b then LongLine else Line (take e.0 bytes)) ∷ []) short ∙ ap (λ l. Line l ∷ []) (sym e.3))
+    (ap (λ b. if b then [] else take e.0 bytes) short ∙ sym e.3)
     t (line_goes_on old.session.site old.session.session wire.line lines) (quits_line old.session.site old.session.session (flat_map inputs_of h.done) wire.line lines h.quits)
 
 pub long_line_of : (site : Site) (start : PeerState) (Before : ℕ → List Transaction → Type 0) {D : Type 0} (HasCome : D → ℕ → List Transaction → Type 0) (IsDrafting : D → ℕ → List Transaction → List ℕ → Type 0)
@@ -208,9 +215,10 @@ pub long_line_of : (site : Site) (start : PeerState) (Before : ℕ → List Tran
     → TakesLines old.session.session.state
     → ((taken : List ℕ) → IsBehind old.wire taken → (end : ℕ) × EndsLine wire (taken ++ piece) (length taken) used end × (LINE_LIMIT < end + 2) × (wire.line ≡ []))
     → TakesInputs (LongLine ∷ []) (record old { wire = wire }) new before after
+    → TellsLine LongLine (record old { wire = wire }) before after
     → IsSoFar (beginning site start Before) (standing old before (HasCome delivery) (IsDrafting delivery)) handled came
     → IsSoFar (beginning site start Before) (standing new after (HasCome delivery) (IsDrafting delivery)) (handled ++ take used piece) came
-long_line_of site start Before {D} HasCome IsDrafting old new wire before after delivery handled came piece used lines takes t h =
+long_line_of site start Before {D} HasCome IsDrafting old new wire before after delivery handled came piece used lines takes t told h =
     let line = in_line old.session.session.state old h.rest _ _ lines h.inside in
     let e = takes h.rest line.behind in
     let bytes : List ℕ = h.rest ++ piece in
@@ -219,7 +227,8 @@ long_line_of site start Before {D} HasCome IsDrafting old new wire before after 
     let same : new.session.session.state ≡ old.session.session.state = ap (λ (s : Session). s.state) t.session in
     ended_line site start Before HasCome IsDrafting old new wire before after delivery delivery handled came piece used e.0 LongLine lines h e.1
     (ap (λ b. (if b then LongLine else Line (take e.0 bytes)) ∷ []) long)
-    (record { takes = t; begins = subst (λ (s : State). BeginsIf HasCome IsDrafting (is_content s) delivery (talk new after delivery)) (sym same) (no_content old.session.session.state lines HasCome IsDrafting (talk new after delivery)) })
+    (ap (λ b. if b then [] else take e.0 bytes) long)
+    (record { takes = t; told = told; begins = subst (λ (s : State). BeginsIf HasCome IsDrafting (is_content s) delivery (talk new after delivery)) (sym same) (no_content old.session.session.state lines HasCome IsDrafting (talk new after delivery)) })
     (long_goes_on old.session.site old.session.session lines) (quits_long old.session.site old.session.session (flat_map inputs_of h.done) lines h.quits)
   where
     no_content : (state : State) → TakesLines state → {D : Type 0} (HasCome : D → ℕ → List Transaction → Type 0) (IsDrafting : D → ℕ → List Transaction → List ℕ → Type 0) (new : Talk D)

@@ -22,6 +22,7 @@ use Rattle.lmtp_talk.specs.Steps.{EndsData, talk}
 use Rattle.lmtp_talk.proofs.CutUp.{cut_data}
 use Rattle.lmtp_talk.proofs.Quits.{quits_data, data_greets}
 use Rattle.lmtp_talk.proofs.Carried.{session_more, says_part, accepted-snoc, transactions-data}
+use Rattle.lmtp_talk.proofs.Entered.{logged_more, entries_data}
 
 in_data : (state : State) (dialogue : Dialogue) (rest : List ℕ) (come : Type 0) (drafts : List ℕ → Type 0) → state ≡ Content → IsInside state dialogue rest come drafts → InData dialogue rest drafts
 in_data state dialogue rest come drafts e x = subst (λ (s : State). IsInside s dialogue rest come drafts) e x
@@ -55,6 +56,7 @@ more_of_data site start Before {D} HasCome IsDrafting old dot peer delivery late
       quits = h.quits;
       said = h.said;
       goes = h.goes;
+      logged = h.logged;
       inside = subst (λ (s : State). IsInside s new text (Comes site h.done Before (HasCome later)) (λ made. Comes site h.done Before (λ n ts. IsDrafting later n ts made))) (sym content) now;
     }
 
@@ -106,5 +108,9 @@ end_of_data site start Before {D} HasCome IsDrafting old new dot before after de
           (quits_data d.verdict old.session.site old.session.session (flat_map inputs_of h.done) d content h.quits));
       said = says_part site h.done p start before after between new came e.takes h.same_site h.session h.said;
       goes = e.takes.same ∙ h.goes;
+      logged = λ n ts first.
+          let k : ℕ = accepted_after site n fresh h.done in
+          logged_more site n h.done p start.told before.told after.told _ (e.told k _ (inside.made ++ bytes) (grows k _ inside.made (inside.drafting n ts first))) (h.logged n ts first)
+          (entries_data site old.session.site k old.session.session (session_behind site fresh h.done) text (inside.made ++ bytes) d h.same_site h.session ends.message);
       inside = subst (λ (s : State). IsInside s new [] (Comes site (h.done ++ p ∷ []) Before (HasCome later)) (λ made. Comes site (h.done ++ p ∷ []) Before (λ n ts. IsDrafting later n ts made))) (sym greets) now;
     }

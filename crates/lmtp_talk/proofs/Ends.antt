@@ -18,6 +18,7 @@ use Rattle.lmtp_session.specs.Steps.{MayStop}
 use Rattle.lmtp_talk.specs.declared.dialogue.Dialogue.{Dialogue}
 use Rattle.lmtp_talk.specs.declared.ending.EndCause.{EndCause}
 use Rattle.lmtp_talk.specs.declared.ending.EndCause.TheVariants as ends
+use Rattle.lmtp_talk.specs.Entries.{entries_of, with_entries}
 use Rattle.lmtp_talk.specs.Peer.{PeerState, HasMoved, PeerFailed, HasStopped}
 use Rattle.lmtp_talk.specs.Saying.{HasSaid}
 use Rattle.lmtp_talk.specs.Served.{terms, is_quit, has_quit, IsWritten, IsServed}
@@ -171,8 +172,8 @@ record Finishes (site : Site) (at : Final) (ps : List Part) (start now : PeerSta
 finished : (reads : ℕ) (site : Site) (start before now : PeerState) (Before Come Last : ℕ → List Transaction → Type 0) (Drafting : ℕ → List Transaction → List ℕ → Type 0)
     (dialogue : Dialogue) (handled : List ℕ) (stopped : Bool) (end : EndCause)
     → (h : IsSoFar (beginning site start Before) (standing dialogue before Come Drafting) handled handled) → Comes site h.done Before Last
-    → Finishes site (final reads dialogue.session.session.state stopped handled) h.done start now end → IsServed (terms site reads) start now Before Last end
-finished reads site start before now Before Come Last Drafting dialogue handled stopped end h comes f =
+    → now.told ≡ before.told → Finishes site (final reads dialogue.session.session.state stopped handled) h.done start now end → IsServed (terms site reads) start now Before Last end
+finished reads site start before now Before Come Last Drafting dialogue handled stopped end h comes untold f =
     let c : Conversation = record { bytes = handled; dispositions = dispositions_of h.done; stopped = stopped } in
     let at : List ℕ → Conversation = λ l. record { bytes = l; dispositions = dispositions_of h.done; stopped = stopped } in
     let none : HasNoPart (session_behind site fresh h.done).state h.rest =
@@ -190,6 +191,7 @@ finished reads site start before now Before Come Last Drafting dialogue handled 
       accounted = subst (λ l. IsAccount site (at l)) (sym h.whole) (all_accounted site h.front h.rest h.done stopped h.cut none);
       says = subst (λ l. IsWritten l (end ≡ ends.WriteFault) f.written) (sym (replies_are site c (last_inputs site h.done stopped) inputs_are)) f.says;
       delivered = λ n ts first. subst (λ ps. Last (accepted_after site n fresh ps) (ts ++ transactions_of site n fresh ps)) (sym parts_are) (comes n ts first);
+      logged = λ n ts first. subst (λ ps. now.told ≡ with_entries start.told (entries_of site n fresh ps)) (sym parts_are) (untold ∙ h.logged n ts first);
       causes = record {
         quit = λ e. quit_is ∙ h.quits.ends (f.causes.quit e);
         quits = λ e. f.causes.quits (h.quits.quit (sym quit_is ∙ e));
@@ -350,16 +352,16 @@ pub served : (reads : ℕ) (site : Site) (start now : PeerState) (Before Come La
     → IsSoFar (beginning site start Before) (standing dialogue now Come Drafting) handled handled → Leaves (is_content dialogue.session.session.state) Come Drafting Last
     → EndsAs reads end dialogue now handled → IsServed (terms site reads) start now Before Last end
 served reads site start now Before Come Last Drafting dialogue handled ends.Quit h l e =
-    finished reads site start now now Before Come Last Drafting dialogue handled false ends.Quit h (comes_in_the_end site start now Before Come Last Drafting dialogue handled handled h l)
+    finished reads site start now now Before Come Last Drafting dialogue handled false ends.Quit h (comes_in_the_end site start now Before Come Last Drafting dialogue handled handled h l) refl
     (finishes_quiet reads site start now dialogue h.done handled ends.Quit e.0 h.said (λ sound. quit_ends reads dialogue.session.session.state handled start now e.1 sound h.goes))
 served reads site start now Before Come Last Drafting dialogue handled ends.EndOfInput h l e =
-    finished reads site start now now Before Come Last Drafting dialogue handled false ends.EndOfInput h (comes_in_the_end site start now Before Come Last Drafting dialogue handled handled h l)
+    finished reads site start now now Before Come Last Drafting dialogue handled false ends.EndOfInput h (comes_in_the_end site start now Before Come Last Drafting dialogue handled handled h l) refl
     (finishes_quiet reads site start now dialogue h.done handled ends.EndOfInput e.0 h.said (λ sound. input_ends reads dialogue.session.session.state handled start now e.1 e.2 sound h.goes))
 served reads site start now Before Come Last Drafting dialogue handled ends.ReadBound h l e =
-    finished reads site start now now Before Come Last Drafting dialogue handled false ends.ReadBound h (comes_in_the_end site start now Before Come Last Drafting dialogue handled handled h l)
+    finished reads site start now now Before Come Last Drafting dialogue handled false ends.ReadBound h (comes_in_the_end site start now Before Come Last Drafting dialogue handled handled h l) refl
     (finishes_quiet reads site start now dialogue h.done handled ends.ReadBound e.0 h.said (λ sound. bound_ends reads dialogue.session.session.state handled start now e.1 e.2 sound h.goes))
 served reads site start now Before Come Last Drafting dialogue handled ends.WriteFault h l e =
-    finished reads site start now now Before Come Last Drafting dialogue handled false ends.WriteFault h (comes_in_the_end site start now Before Come Last Drafting dialogue handled handled h l)
+    finished reads site start now now Before Come Last Drafting dialogue handled false ends.WriteFault h (comes_in_the_end site start now Before Come Last Drafting dialogue handled handled h l) refl
     (finishes_broken reads site start now dialogue.outbox.broken dialogue.outbox.pending dialogue.session.session.state false h.done handled _ e (text_not_stopped site h.done) (λ f. cc) (λ f. h.goes) h.said)
 served reads site start now Before Come Last Drafting dialogue handled ends.ReadFault h l e = absurd e
 served reads site start now Before Come Last Drafting dialogue handled ends.Stopped h l e = absurd e
@@ -373,7 +375,7 @@ served_read_fault reads site start before now Before Come Last Drafting dialogue
     subst (λ l. HasSaid start before (record { pending = []; broken = false }) handled l) (text_not_stopped site h.done) (said_whole start before dialogue handled (last_text site (flat_map inputs_of h.done)) q h.said) in
     let moved : HasMoved start now handled s.written = subst (λ l. HasMoved start now handled l) (append-nil s.written) (moved_writing start before now handled s.written [] s.moved f.moved) in
     let failed : Rises start.failures now.failures = subst (λ k. Rises k now.failures) s.is.sound f.failed in
-    finished reads site start before now Before Come Last Drafting dialogue handled false ends.ReadFault h (comes_in_the_end site start before Before Come Last Drafting dialogue handled handled h l)
+    finished reads site start before now Before Come Last Drafting dialogue handled false ends.ReadFault h (comes_in_the_end site start before Before Come Last Drafting dialogue handled handled h l) f.untold
     (record {
       written = s.written;
       moved = moved;
@@ -404,14 +406,14 @@ stopped_by reads false site start now pending state ps handled text open' may is
 
 pub served_stopped : (reads : ℕ) (site : Site) (start earlier before now : PeerState) (Before Come Last : ℕ → List Transaction → Type 0) (Drafting : ℕ → List Transaction → List ℕ → Type 0) (dialogue new : Dialogue) (handled : List ℕ)
     → IsSoFar (beginning site start Before) (standing dialogue earlier Come Drafting) handled handled → Leaves (is_content dialogue.session.session.state) Come Drafting Last
-    → (dialogue.session.session.state ≡ Ended → ⊥) → HasStopped earlier before → TakesInputs (Stop ∷ []) dialogue new before now → new.outbox.pending ≡ []
+    → (dialogue.session.session.state ≡ Ended → ⊥) → HasStopped earlier before → TakesInputs (Stop ∷ []) dialogue new before now → now.told ≡ before.told → new.outbox.pending ≡ []
     → IsServed (terms site reads) start now Before Last (stopped_or new.outbox.broken)
-served_stopped reads site start earlier before now Before Come Last Drafting dialogue new handled h l open' stops t none =
+served_stopped reads site start earlier before now Before Come Last Drafting dialogue new handled h l open' stops t untold none =
     let may : MayStop dialogue.session.session.state = may_stop site start earlier Before Come Drafting dialogue handled handled h open' in
     let said : HasSaid start before dialogue.outbox handled (last_text site (flat_map inputs_of h.done)) =
     subst (λ l. HasSaid start before dialogue.outbox l (last_text site (flat_map inputs_of h.done))) (append-nil handled)
     (said_on dialogue.outbox.broken start earlier before dialogue.outbox.pending handled [] (last_text site (flat_map inputs_of h.done)) h.said stops.moved stops.sound) in
     let rose : Rises start.stops now.stops = subst (λ k. Rises start.stops k) (sym t.same) (subst (λ k. Rises k before.stops) h.goes stops.stopped) in
-    finished reads site start earlier now Before Come Last Drafting dialogue handled true (stopped_or new.outbox.broken) h (comes_in_the_end site start earlier Before Come Last Drafting dialogue handled handled h l)
+    finished reads site start earlier now Before Come Last Drafting dialogue handled true (stopped_or new.outbox.broken) h (comes_in_the_end site start earlier Before Come Last Drafting dialogue handled handled h l) (untold ∙ stops.untold)
     (stopped_by reads new.outbox.broken site start now new.outbox.pending dialogue.session.session.state h.done handled _ open' rose
     (text_in_the_end site start earlier Before Come Drafting dialogue handled handled h may) none (t.says start handled _ said))

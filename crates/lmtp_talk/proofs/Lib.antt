@@ -1,4 +1,5 @@
 pub mod Written
+pub mod Entered
 pub mod Quits
 pub mod CutUp
 pub mod Carried

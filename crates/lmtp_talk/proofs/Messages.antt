@@ -1,5 +1,5 @@
 -- A message whose data has ended: the inputs of the session, and what the delivery did.
-use Rattle.std.proofs.Common.{◌≡◌, ℕ, List, [], ◌∷◌, ◌++◌, length, Ok, Err, refl, sym, ap, ◌∙◌, subst, append-nil}
+use Rattle.std.proofs.Common.{◌≡◌, ℕ, Option, List, [], ◌∷◌, ◌++◌, length, Ok, Err, refl, sym, ap, ◌∙◌, subst, append-nil}
 use Rattle.mail_world.specs.declared.Outcome.{Outcome}
 use Rattle.mail_world.specs.declared.Verdict.{Verdict}
 use Rattle.mail_world.specs.declared.Verdict.TheVariants.{Whole, TooLarge, NoRoom}
@@ -14,7 +14,9 @@ use Rattle.lmtp_session.specs.declared.act.Act.TheVariants.{Say, ReadData, Deliv
 use Rattle.lmtp_session.specs.View.{View}
 use Rattle.lmtp_session.specs.Steps.{IsAct, IsTransition, IsStep}
 use Rattle.lmtp_talk.specs.declared.dialogue.Dialogue.{Dialogue}
+use Rattle.lmtp_talk.specs.Entries.{Entry, with_entries, copy_entries}
 use Rattle.lmtp_talk.specs.Peer.{PeerState}
+use Rattle.mail_world.specs.Counts.{counted}
 use Rattle.lmtp_talk.specs.Saying.{HasSaid, Says, said}
 use Rattle.lmtp_talk.specs.Delivery.{ended_so, EndsDraft}
 use Rattle.lmtp_talk.specs.Steps.{EndsData, talk}
@@ -31,18 +33,36 @@ said_is (Quit reply) st kept h = sym h.says
 texts_are : (site : Site) (act : Act) (st : Transition) (old : View) (new : View) → IsTransition old st act new → old.site ≡ site → reply_texts new.site (said act new.answers) ≡ reply_texts site st.replies
 texts_are site act st old new t e = ap (λ (x : Site). reply_texts x (said act new.answers)) (t.site ∙ e) ∙ ap (λ rs. reply_texts site rs) (said_is act st new.answers t.fits)
 
+-- the entries that were told are those of the step's replies, whatever the message's number and size are called
+copies_told : (number size n long : ℕ) (client name : List ℕ) (rs qs : List Reply) (before after : Option (List Entry)) → number ≡ n → size ≡ long → client ≡ name → rs ≡ qs
+    → after ≡ with_entries before (copy_entries number size client rs) → after ≡ with_entries before (copy_entries n long name qs)
+copies_told number size n long client name rs qs before after en es ec er told =
+    told ∙ ap (λ (k : ℕ). with_entries before (copy_entries k size client rs)) en
+    ∙ ap (λ (k : ℕ). with_entries before (copy_entries n k client rs)) es
+    ∙ ap (λ (l : List ℕ). with_entries before (copy_entries n long l rs)) ec
+    ∙ ap (λ (l : List Reply). with_entries before (copy_entries n long name l)) er
+
 pub whole_message : {D : Type 0} (HasCome : D → ℕ → List Transaction → Type 0) (IsDrafting : D → ℕ → List Transaction → List ℕ → Type 0)
-    (old new : Dialogue) (mid : View) (before after : PeerState) (delivery later : D) (moment : ℕ) (told : List Outcome) (first second : Act)
+    (old new : Dialogue) (mid : View) (before after : PeerState) (delivery later : D) (moment : ℕ) (told : List Outcome) (first second : Act) (number size : ℕ)
     → ((n : ℕ) (ts : List Transaction) (message : List ℕ) → IsDrafting delivery n ts message → EndsDraft (HasCome later) n ts old.session.session message (ended_so (Ok tt) moment told))
     → length told ≡ length old.session.session.recipients
     → IsStep old.session (DataEnded Whole) first mid → IsStep mid (Outcomes told) second new.session → new.wire ≡ old.wire → after.stops ≡ before.stops
     → Says before after old.outbox new.outbox (reply_texts new.session.site (said second new.session.answers))
+    → ((n : ℕ) (ts : List Transaction) (message : List ℕ) → IsDrafting delivery n ts message → number ≡ counted n)
+    → ((n : ℕ) (ts : List Transaction) (message : List ℕ) → IsDrafting delivery n ts message → size ≡ counted (length message))
+    → after.told ≡ with_entries before.told (copy_entries number size new.session.session.client (said second new.session.answers))
     → EndsData HasCome IsDrafting (talk old before delivery) (talk new after later)
-whole_message {D} HasCome IsDrafting old new mid before after delivery later moment told first second ended count one two wire same says =
+whole_message {D} HasCome IsDrafting old new mid before after delivery later moment told first second number size ended count one two wire same says numbered sized entered =
     let site : Site = old.session.site in
     let s : Session = old.session.session in
     let session : new.session.session ≡ session_after site s (DataEnded Whole ∷ Outcomes told ∷ []) =
     two.next ∙ ap (λ (x : Site). (step x mid.session (Outcomes told)).next) one.site ∙ ap (λ (x : Session). (step site x (Outcomes told)).next) one.next in
+    let replies : said second new.session.answers ≡ replies_to site s (DataEnded Whole ∷ Outcomes told ∷ []) =
+    said_is second (step mid.site mid.session (Outcomes told)) new.session.answers two.fits
+    ∙ ap (λ (x : Site). (step x mid.session (Outcomes told)).replies) one.site
+    ∙ ap (λ (x : Session). (step site x (Outcomes told)).replies) one.next
+    ∙ sym (append-nil _) in
+    let client : new.session.session.client ≡ s.client = ap (λ (x : Session). x.client) session in
     let texts : reply_texts new.session.site (said second new.session.answers) ≡ reply_texts site (replies_to site s (DataEnded Whole ∷ Outcomes told ∷ [])) =
     texts_are site second (step mid.site mid.session (Outcomes told)) mid new.session two one.site
     ∙ ap (λ (x : Site). reply_texts site (step x mid.session (Outcomes told)).replies) one.site
@@ -59,17 +79,21 @@ whole_message {D} HasCome IsDrafting old new mid before after delivery later mom
       };
       fits = count;
       ended = ended;
+      told = λ n ts message h. copies_told number size (counted n) (counted (length message)) new.session.session.client s.client _ _ before.told after.told (numbered n ts message h) (sized n ts message h) client replies entered;
     }
 
 pub refused_message : {D : Type 0} (HasCome : D → ℕ → List Transaction → Type 0) (IsDrafting : D → ℕ → List Transaction → List ℕ → Type 0)
-    (old new : Dialogue) (before after : PeerState) (delivery later : D) (verdict : Verdict) (moment : ℕ) (told : List Outcome) (act : Act)
+    (old new : Dialogue) (before after : PeerState) (delivery later : D) (verdict : Verdict) (moment : ℕ) (told : List Outcome) (act : Act) (number size : ℕ)
     → (verdict ≡ Whole → ⊥)
     → ((n : ℕ) (ts : List Transaction) (message : List ℕ) → IsDrafting delivery n ts message → EndsDraft (HasCome later) n ts old.session.session message (ended_so (Err verdict) moment told))
     → IsStep old.session (DataEnded verdict) act new.session → new.wire ≡ old.wire → after.stops ≡ before.stops
     → Says before after old.outbox new.outbox (reply_texts new.session.site (said act new.session.answers))
+    → ((n : ℕ) (ts : List Transaction) (message : List ℕ) → IsDrafting delivery n ts message → number ≡ counted n)
+    → ((n : ℕ) (ts : List Transaction) (message : List ℕ) → IsDrafting delivery n ts message → size ≡ counted (length message))
+    → after.told ≡ with_entries before.told (copy_entries number size new.session.session.client (said act new.session.answers))
     → EndsData HasCome IsDrafting (talk old before delivery) (talk new after later)
-refused_message {D} HasCome IsDrafting old new before after delivery later Whole moment told act other ended one wire same says = absurd (other refl)
-refused_message {D} HasCome IsDrafting old new before after delivery later TooLarge moment told act other ended one wire same says = record {
+refused_message {D} HasCome IsDrafting old new before after delivery later Whole moment told act number size other ended one wire same says numbered sized entered = absurd (other refl)
+refused_message {D} HasCome IsDrafting old new before after delivery later TooLarge moment told act number size other ended one wire same says numbered sized entered = record {
   disposition = ended_so (Err TooLarge) moment told;
   takes = record {
     site = one.site;
@@ -82,8 +106,11 @@ refused_message {D} HasCome IsDrafting old new before after delivery later TooLa
   };
   fits = tt;
   ended = ended;
+  told = λ n ts message h. copies_told number size (counted n) (counted (length message)) new.session.session.client old.session.session.client _ _ before.told after.told (numbered n ts message h) (sized n ts message h)
+      (ap (λ (x : Session). x.client) one.next)
+      (said_is act (step old.session.site old.session.session (DataEnded TooLarge)) new.session.answers one.fits ∙ sym (append-nil _)) entered;
 }
-refused_message {D} HasCome IsDrafting old new before after delivery later NoRoom moment told act other ended one wire same says = record {
+refused_message {D} HasCome IsDrafting old new before after delivery later NoRoom moment told act number size other ended one wire same says numbered sized entered = record {
   disposition = ended_so (Err NoRoom) moment told;
   takes = record {
     site = one.site;
@@ -96,4 +123,7 @@ refused_message {D} HasCome IsDrafting old new before after delivery later NoRoo
   };
   fits = tt;
   ended = ended;
+  told = λ n ts message h. copies_told number size (counted n) (counted (length message)) new.session.session.client old.session.session.client _ _ before.told after.told (numbered n ts message h) (sized n ts message h)
+      (ap (λ (x : Session). x.client) one.next)
+      (said_is act (step old.session.site old.session.session (DataEnded NoRoom)) new.session.answers one.fits ∙ sym (append-nil _)) entered;
 }

@@ -17,6 +17,7 @@ use Rattle.lmtp_talk.specs.Standing.{Comes, IsInside, IsSoFar, standing, beginni
 use Rattle.lmtp_talk.specs.Turns.{Greets, TakesTurn, EndsTurn, HandlesPiece, quit_or, end_behind}
 use Rattle.lmtp_talk.proofs.Written.{moved_none, said_reading}
 use Rattle.lmtp_talk.proofs.CutUp.{cut_none}
+use Rattle.lmtp_talk.proofs.Entered.{with_none}
 use Rattle.lmtp_talk.proofs.Ends.{leave_none, served}
 use Rattle.lmtp_talk.specs.Steps.{talk}
 
@@ -40,6 +41,7 @@ stands_reading site start peer later Before Come Drafting dialogue handled came 
   quits = h.quits;
   said = said_reading dialogue.outbox.broken start peer later dialogue.outbox.pending came more _ h.said w;
   goes = w.same ∙ h.goes;
+  logged = λ n ts first. w.untold ∙ h.logged n ts first;
   inside = h.inside;
 }
 
@@ -61,8 +63,8 @@ inside_same Ended dialogue outbox rest come drafts x = x
 -- what waited was written
 pub stands_flushed : (site : Site) (start peer later : PeerState) (Before Come : ℕ → List Transaction → Type 0) (Drafting : ℕ → List Transaction → List ℕ → Type 0) (dialogue : Dialogue) (outbox : OutboxView) (handled came : List ℕ)
     → ((text : List ℕ) → HasSaid start peer dialogue.outbox came text → HasSaid start later outbox came text)
-    → later.stops ≡ peer.stops → IsSoFar (beginning site start Before) (standing dialogue peer Come Drafting) handled came → IsSoFar (beginning site start Before) (standing (record dialogue { outbox = outbox }) later Come Drafting) handled came
-stands_flushed site start peer later Before Come Drafting dialogue outbox handled came says same h = record {
+    → later.stops ≡ peer.stops → later.told ≡ peer.told → IsSoFar (beginning site start Before) (standing dialogue peer Come Drafting) handled came → IsSoFar (beginning site start Before) (standing (record dialogue { outbox = outbox }) later Come Drafting) handled came
+stands_flushed site start peer later Before Come Drafting dialogue outbox handled came says same untold h = record {
   done = h.done;
   front = h.front;
   rest = h.rest;
@@ -73,6 +75,7 @@ stands_flushed site start peer later Before Come Drafting dialogue outbox handle
   quits = h.quits;
   said = says _ h.said;
   goes = same ∙ h.goes;
+  logged = λ n ts first. untold ∙ h.logged n ts first;
   inside = inside_same dialogue.session.session.state dialogue outbox h.rest _ _ h.inside;
 }
 
@@ -98,6 +101,7 @@ begins site before after Come Drafting old new here h = record {
   session = h.session;
   quits = record { ends = λ e. let wrong : Fresh ≡ Ended = sym (ap (λ (s : Session). s.state) h.session) ∙ e in cc; quit = λ e. cc };
   goes = h.same;
+  logged = λ n ts c. h.untold ∙ with_none before.told;
   said = subst (λ l. HasSaid before after new.outbox [] l) (ap (λ (x : Site). reply_text x Greeting) here ∙ sym (append-nil (reply_text site Greeting))) h.said;
   inside = subst (λ (s : State). IsInside s new [] (Comes site [] Come Come) (λ made. Comes site [] Come (λ n ts. Drafting n ts made))) (sym (ap (λ (s : Session). s.state) h.session))
       (record { behind = h.wire; comes = λ n ts c. subst (λ l. Come n l) (sym (append-nil ts)) c });

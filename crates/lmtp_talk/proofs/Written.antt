@@ -48,7 +48,7 @@ pub given_next : (s t u : PeerState) (text a b : List ℕ) → GivenUpTo s t tex
 given_next s t u text a b x y = record {
   front = x.front ++ a;
   whole = x.whole ∙ sym (append_assoc x.front a b);
-  worked = record { moved = moved_writing s t u [] x.front a x.worked.moved y.moved; sound = y.sound ∙ x.worked.sound; same = y.same ∙ x.worked.same };
+  worked = record { moved = moved_writing s t u [] x.front a x.worked.moved y.moved; sound = y.sound ∙ x.worked.sound; same = y.same ∙ x.worked.same; untold = y.untold ∙ x.worked.untold };
 }
 
 pub given_more : (s t u : PeerState) (text rest : List ℕ) (n : ℕ) → GivenUpTo s t text rest → HasTransferred t u [] (take n rest)

@@ -1,6 +1,8 @@
+pub mod Entries
 pub mod Peer
 pub mod Delivery
 pub mod Saying
+pub mod Telling
 pub mod Served
 pub mod Standing
 pub mod Steps

@@ -10,6 +10,7 @@ use Rattle.mail_world.specs.Lists.{Transaction, accepted_after, transactions_of}
 use Rattle.mail_world.specs.Fronts.{IsFront}
 use Rattle.lmtp_talk.specs.declared.ending.EndCause.{EndCause}
 use Rattle.lmtp_talk.specs.declared.ending.EndCause.TheVariants as ends
+use Rattle.lmtp_talk.specs.Entries.{entries_in, with_entries}
 use Rattle.lmtp_talk.specs.Peer.{PeerState, HasMoved, WasRead}
 
 -- QUIT is among the inputs
@@ -81,4 +82,7 @@ pub record IsServed (by : Terms) (old new : PeerState) (Before After : ℕ → L
   -- account
   pub delivered : (n : ℕ) (ts : List Transaction) → Before n ts
       → After (accepted_behind_all by.site n conversation) (ts ++ transactions_in by.site n conversation)
+  -- the log was told an entry for each reply to its lines and its data, in their order
+  pub logged : (n : ℕ) (ts : List Transaction) → Before n ts
+      → new.told ≡ with_entries old.told (entries_in by.site n conversation)
   pub causes : EndsFor by conversation old new end

@@ -12,6 +12,7 @@ use Rattle.mail_world.specs.Lists.{Transaction, accepted_after, transactions_of}
 use Rattle.lmtp_wire.specs.Wire.{IsBehind}
 use Rattle.lmtp_wire.specs.Dot.{HasMade}
 use Rattle.lmtp_talk.specs.declared.dialogue.Dialogue.{Dialogue}
+use Rattle.lmtp_talk.specs.Entries.{entries_of, with_entries}
 use Rattle.lmtp_talk.specs.Peer.{PeerState}
 use Rattle.lmtp_talk.specs.Saying.{HasSaid}
 use Rattle.lmtp_talk.specs.Served.{has_quit}
@@ -84,5 +85,6 @@ pub record IsSoFar (first : Beginning) (now : Standing) (handled came : List ℕ
   pub quits : QuitsWith now.dialogue.session.session.state (flat_map inputs_of done)
   pub said : HasSaid first.peer now.peer now.dialogue.outbox came (reply_text first.site Greeting ++ reply_texts first.site (replies_to first.site fresh (flat_map inputs_of done)))
   pub goes : now.peer.stops ≡ first.peer.stops
+  pub logged : (n : ℕ) (ts : List Transaction) → first.come n ts → now.peer.told ≡ with_entries first.peer.told (entries_of first.site n fresh done)
   pub inside : IsInside now.dialogue.session.session.state now.dialogue rest (Comes first.site done first.come now.come)
       (λ made. Comes first.site done first.come (λ n ts. now.drafting n ts made))

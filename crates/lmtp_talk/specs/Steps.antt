@@ -1,5 +1,6 @@
 -- What each step of a conversation does.
-use Rattle.std.specs.Prelude.{◌≡◌, ℕ, ◌+◌, Bool, true, false, List, [], ◌∷◌, ◌++◌}
+use Rattle.std.specs.Prelude.{◌≡◌, ℕ, ◌+◌, Bool, true, false, List, [], ◌∷◌, ◌++◌, length}
+use Rattle.mail_world.specs.Counts.{counted}
 use Rattle.mail_world.specs.Session.{Input, DataEnded}
 use Rattle.mail_world.specs.Replies.{reply_texts}
 use Rattle.mail_world.specs.Conversation.{Disposition, session_after, replies_to, outcomes_of, OutcomesFit}
@@ -7,6 +8,7 @@ use Rattle.mail_world.specs.Lists.{Transaction, is_content}
 use Rattle.mail_world.specs.Site.{Site}
 use Rattle.lmtp_wire.specs.Dot.{HasMade}
 use Rattle.lmtp_talk.specs.declared.dialogue.Dialogue.{Dialogue}
+use Rattle.lmtp_talk.specs.Entries.{with_entries, line_entries, copy_entries, line_in}
 use Rattle.lmtp_talk.specs.Peer.{PeerState}
 use Rattle.lmtp_talk.specs.Saying.{Says}
 use Rattle.lmtp_talk.specs.Delivery.{EndsDraft}
@@ -19,6 +21,17 @@ pub record TakesInputs (inputs : List Input) (old new : Dialogue) (before after 
   pub says : Says before after old.outbox new.outbox (reply_texts old.session.site (replies_to old.session.site old.session.session inputs))
   pub wire : new.wire ≡ old.wire
   pub same : after.stops ≡ before.stops
+
+-- the log was told an entry for each reply to a line
+abbrev pub TellsLine : Input → Dialogue → PeerState → PeerState → Type 0
+TellsLine input dialogue before after = after.told
+    ≡ with_entries before.told (line_entries (line_in input) (replies_to dialogue.session.site dialogue.session.session (input ∷ [])))
+
+-- the log was told an entry for each reply to data that ended, of a message of that number and of so many bytes
+abbrev pub TellsCopies : ℕ → ℕ → List Input → Dialogue → PeerState → PeerState → Type 0
+TellsCopies number size inputs dialogue before after = after.told
+    ≡ with_entries before.told (copy_entries (counted number) (counted size) dialogue.session.session.client
+    (replies_to dialogue.session.site dialogue.session.session inputs))
 
 -- what a conversation is held with, at one moment
 pub record Talk (D : Type 0) : Type 0 where
@@ -44,6 +57,7 @@ BeginsIf HasCome IsDrafting false before new = new.delivery ≡ before
 pub record TakesLine {D : Type 0} (HasCome : D → ℕ → List Transaction → Type 0)
     (IsDrafting : D → ℕ → List Transaction → List ℕ → Type 0) (input : Input) (old new : Talk D) : Type 0 where
   pub takes : TakesInputs (input ∷ []) old.dialogue new.dialogue old.peer new.peer
+  pub told : TellsLine input old.dialogue old.peer new.peer
   pub begins : BeginsIf HasCome IsDrafting (is_content new.dialogue.session.session.state) old.delivery new
 
 -- the data ends
@@ -54,6 +68,8 @@ pub record EndsData {D : Type 0} (HasCome : D → ℕ → List Transaction → T
   pub fits : OutcomesFit old.dialogue.session.session.recipients disposition disposition.verdict
   pub ended : (n : ℕ) (ts : List Transaction) (message : List ℕ) → IsDrafting old.delivery n ts message
       → EndsDraft (HasCome new.delivery) n ts old.dialogue.session.session message disposition
+  pub told : (n : ℕ) (ts : List Transaction) (message : List ℕ) → IsDrafting old.delivery n ts message
+      → TellsCopies n (length message) (DataEnded disposition.verdict ∷ outcomes_of disposition disposition.verdict) old.dialogue old.peer new.peer
 
 -- wherever the conversation stood before, it stands with these bytes more
 abbrev pub Advances : {D : Type 0} → (D → ℕ → List Transaction → Type 0) → (D → ℕ → List Transaction → List ℕ → Type 0)

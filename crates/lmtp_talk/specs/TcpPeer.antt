@@ -24,6 +24,7 @@ tcp_state remaining p = record {
   failures = p.failures;
   stops = p.stops;
   holds = [];
+  told = None;
 }
 
 -- something waits, and nothing was handed out; or nothing came, and what the client did is so

@@ -23,6 +23,7 @@ pub record Greets (old new : Dialogue) (before after : PeerState) : Type 0 where
   pub session : new.session.session ≡ fresh
   pub wire : IsBehind new.wire []
   pub same : after.stops ≡ before.stops
+  pub untold : after.told ≡ before.told
   pub said : HasSaid before after new.outbox [] (reply_text old.session.site Greeting)
 
 -- a draft is dropped, and where there is none all stays as it was

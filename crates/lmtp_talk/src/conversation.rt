@@ -190,6 +190,7 @@ fn leave<D: Delivery>(dialogue: &Dialogue, delivery: &mut D)
 fn stop<P: Peer>(dialogue: &mut Dialogue, peer: &mut P)
     requires { MayStop dialogue.old.session.session.state }
     ensures takes { TakesInputs (Stop ∷ []) dialogue.old dialogue.new (P.state peer.old) (P.state peer.new) }
+    ensures untold { (P.state peer.new).told ≡ (P.state peer.old).told }
     ensures reads { (P.state peer.new).reads ≡ (P.state peer.old).reads }
     ensures none { dialogue.new.outbox.pending ≡ [] }
 {

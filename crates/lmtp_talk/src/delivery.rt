@@ -3,6 +3,7 @@
 ghost use Rattle.std.specs.Prelude.{◌≡◌, ◌≢◌, ℕ, ◌+◌, List, [], ◌++◌, length, OnOk, IfErr};
 ghost use Rattle.mail_world.specs.declared.Outcome.{Outcome as Told};
 ghost use Rattle.mail_world.specs.Lists.{Transaction};
+ghost use Rattle.mail_world.specs.Counts.{counted};
 ghost use Rattle.mail_world.specs.Site.{Site};
 ghost use Rattle.lmtp_talk.specs.Delivery.{ended_so, EndsDraft};
 
@@ -37,6 +38,16 @@ pub trait Delivery {
         ensures same { site self.new ≡ site self.old }
         ensures grows { (n : ℕ) (ts : List Transaction) (message : List ℕ) → IsDrafting self.old n ts message
             → IsDrafting self.new n ts (message ++ bytes.now) };
+
+    /// How many DATA commands were accepted, that of the message in hand among them; it stays at its largest value.
+    fn number(&self) -> u64
+        ensures { (n : ℕ) (ts : List Transaction) (message : List ℕ) → IsDrafting self.now n ts message
+            → result ≡ counted n };
+
+    /// How many bytes of the message have come; it stays at its largest value.
+    fn size(&self) -> u64
+        ensures { (n : ℕ) (ts : List Transaction) (message : List ℕ) → IsDrafting self.now n ts message
+            → result ≡ counted (length message) };
 
     /// The conversation has ended inside the data.
     fn cancel(&mut self)

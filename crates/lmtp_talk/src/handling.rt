@@ -1,16 +1,17 @@
 //! What is done with the bytes that were read: lines go to the session, data goes to the delivery, and their replies to
-//! the outbox.
+//! the outbox and to the peer's log.
 
 ghost use Rattle.std.specs.Prelude.{◌≡◌, ◌≤◌, ◌<◌, ℕ, List, [], ◌∷◌, ◌++◌, length, take};
 ghost use Rattle.std.specs.Prelude.{IfSome, MatchOption};
 ghost use Rattle.mail_world.specs.Session.{Line, LongLine};
 ghost use Rattle.lmtp_session.specs.Steps.{TakesLines};
 ghost use Rattle.lmtp_talk.specs.Peer.{PeerState};
-ghost use Rattle.lmtp_talk.specs.Steps.{talk, TakesInputs, TakesLine, EndsData, Advances};
+ghost use Rattle.lmtp_talk.specs.Steps.{talk, TakesInputs, TellsLine, TakesLine, EndsData, Advances};
 
 use crate::delivery::Delivery;
 use crate::dialogue::Dialogue;
 use crate::peer::Peer;
+use crate::telling::Asked;
 use lmtp_session::Act;
 use lmtp_wire::{Dot, Got};
 use mail_world::limits::DATA_BUFFER_SIZE;
@@ -103,7 +104,8 @@ fn handle_line<P: Peer, D: Delivery>(dialogue: &mut Dialogue, peer: &mut P, deli
     ensures reads { (P.state peer.new).reads ≡ (P.state peer.old).reads }
 {
     let act = dialogue.session.line(dialogue.wire.line());
-    dialogue.outbox.say_all(peer, &dialogue.session, act);
+    let asked = Asked::Line(dialogue.wire.line());
+    dialogue.outbox.answer(peer, &dialogue.session, asked, act);
     if act == Act::ReadData {
         dialogue.dot = Dot::new();
         delivery.begin();
@@ -114,10 +116,12 @@ fn handle_line<P: Peer, D: Delivery>(dialogue: &mut Dialogue, peer: &mut P, deli
 fn refuse_line<P: Peer>(dialogue: &mut Dialogue, peer: &mut P)
     requires { TakesLines dialogue.old.session.session.state }
     ensures takes { TakesInputs (LongLine ∷ []) dialogue.old dialogue.new (P.state peer.old) (P.state peer.new) }
+    ensures told { TellsLine LongLine dialogue.old (P.state peer.old) (P.state peer.new) }
     ensures reads { (P.state peer.new).reads ≡ (P.state peer.old).reads }
 {
     let act = dialogue.session.too_long();
-    dialogue.outbox.say_all(peer, &dialogue.session, act);
+    let asked = Asked::Line(b"");
+    dialogue.outbox.answer(peer, &dialogue.session, asked, act);
 }
 
 // Takes bytes of data, and handles the message if they end it.
@@ -155,15 +159,22 @@ fn handle_message<P: Peer, D: Delivery>(dialogue: &mut Dialogue, peer: &mut P, d
     ensures same { D.site delivery.new ≡ D.site delivery.old }
     ensures reads { (P.state peer.new).reads ≡ (P.state peer.old).reads }
 {
+    let number = delivery.number();
+    let size = delivery.size();
+    let asked = Asked::Message(number, size);
     match delivery.end(&dialogue.session) {
         Ok(()) => {
             dialogue.session.data_done(Verdict::Whole);
             let answered = dialogue.session.outcomes(delivery.outcomes());
-            dialogue.outbox.say_all(peer, &dialogue.session, answered);
+            dialogue
+                .outbox
+                .answer(peer, &dialogue.session, asked, answered);
         }
         Err(verdict) => {
             let refused = dialogue.session.data_done(verdict);
-            dialogue.outbox.say_all(peer, &dialogue.session, refused);
+            dialogue
+                .outbox
+                .answer(peer, &dialogue.session, asked, refused);
         }
     }
 }

@@ -11,6 +11,7 @@ mod outbox;
 mod peer;
 mod script;
 mod tcp;
+mod telling;
 
 pub use conversation::serve;
 pub use curfew::{Curfew, has_passed};
@@ -21,3 +22,4 @@ pub use outbox::Outbox;
 pub use peer::{Came, Peer, PeerFault};
 pub use script::{Script, Then, Turn};
 pub use tcp::{Bounds, ClientStream, ReadBuffer, TcpPeer, is_silence};
+pub use telling::Asked;

@@ -1,8 +1,10 @@
 //! The other end of a conversation: bytes come from it and go to it, and it may fail.
 
-ghost use Rattle.std.specs.Prelude.{◌≡◌, ◌<◌, length, take, IfOk, OnErr};
-ghost use Rattle.lmtp_talk.specs.Peer.{PeerState, WasRead, HasBrought, HasWritten, PeerFailed};
+ghost use Rattle.std.specs.Prelude.{◌≡◌, ◌<◌, [], ◌∷◌, length, take, IfOk, OnErr};
+ghost use Rattle.lmtp_talk.specs.Entries.{OfLine, OfCopy};
+ghost use Rattle.lmtp_talk.specs.Peer.{PeerState, WasRead, HasBrought, HasWritten, PeerFailed, with_told};
 
+use mail_world::Reply;
 use thiserror::Error;
 
 /// A read or a write failed, for a reason that the peer keeps to itself.
@@ -23,7 +25,8 @@ pub enum Came {
 
 /// A client, as the server sees it.
 pub trait Peer {
-    // what was read of it, what is still to come, what it was given, and how often it was read and failed
+    // what was read of it, what is still to come, what it was given, how often it was read and failed, and what its log
+    // was told
     ghost state: { Self → PeerState };
 
     /// Reads bytes to the front of the buffer.
@@ -39,4 +42,14 @@ pub trait Peer {
         ensures reads { (state self.new).reads ≡ (state self.old).reads }
         ensures ok { IfOk result (λ n. HasWritten (state self.old) (state self.new) bytes.now n) }
         ensures err { OnErr result (PeerFailed (state self.old) (state self.new)) };
+
+    /// Its log is told the reply to a command line, which has no line end, and is empty where it was too long. The reply
+    /// waits to be written.
+    fn tell_command(&mut self, line: &[u8], reply: Reply)
+        ensures { state self.new ≡ with_told (state self.old) (OfLine line.now reply ∷ []) };
+
+    /// Its log is told the reply for a copy of a message of that number and of so many bytes, to a client who gave that
+    /// name. The reply waits to be written.
+    fn tell_copy(&mut self, number: u64, size: u64, client: &[u8], reply: Reply)
+        ensures { state self.new ≡ with_told (state self.old) (OfCopy number size client.now reply ∷ []) };
 }

@@ -5,6 +5,7 @@ ghost use Rattle.mail_world.specs.Failures.{Rises};
 ghost use Rattle.lmtp_talk.specs.Script.{awaited};
 
 use crate::peer::{Came, Peer, PeerFault};
+use mail_world::Reply;
 use std::alloc::Global;
 
 /// What the peer has heard since its last turn, and what it does then.
@@ -148,6 +149,7 @@ impl Peer for Script<'_> {
           failures = s.failures;
           stops = s.stops;
           holds = [];
+          told = None;
         } };
 
     fn read(&mut self, buffer: &mut [u8]) -> Result<Came, PeerFault> {
@@ -191,4 +193,10 @@ impl Peer for Script<'_> {
         self.room -= n;
         Ok(n)
     }
+
+    /// It has no log.
+    fn tell_command(&mut self, _line: &[u8], _reply: Reply) {}
+
+    /// It has no log.
+    fn tell_copy(&mut self, _number: u64, _size: u64, _client: &[u8], _reply: Reply) {}
 }

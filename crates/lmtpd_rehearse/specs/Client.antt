@@ -1,5 +1,6 @@
 -- What a lane sees of its only client.
-use Rattle.std.specs.Prelude.{◌≡◌, Bool, true, false, List, [], ◌∷◌, Some}
+use Rattle.std.specs.Prelude.{◌≡◌, Bool, true, false, List, [], ◌∷◌, Some, None}
+use Rattle.lmtp_talk.specs.Entries.{OfEnd, with_entries}
 use Rattle.lmtp_talk.specs.Peer.{PeerState}
 use Rattle.lmtp_lane.specs.Visits.{VisitsTold}
 use Rattle.lmtpd_rehearse.specs.declared.client.OnlyClient.{OnlyClient}
@@ -11,11 +12,20 @@ module _ {P : Type 0} where
   MayGive state (Waiting client) peer = peer ≡ state client
   MayGive state _ peer = ⊥
 
-  -- the conversation that has ended, and how many have
+  -- the conversation that has ended, how many have, and what the client's log was told of it
   abbrev pub told : (P → PeerState) → OnlyClient P → VisitsTold
-  told state (Back client end) = record { each = Some (record { peer = state client; cause = end } ∷ []); count = 1 }
-  told state (Over client end) = record { each = Some (record { peer = state client; cause = end } ∷ []); count = 1 }
-  told state _ = record { each = Some []; count = 0 }
+  told state (Waiting client) = record { each = Some []; count = 0; log = (state client).told }
+  told state Out = record { each = Some []; count = 0; log = None }
+  told state (Back client end) = record {
+    each = Some (record { peer = state client; cause = end } ∷ []);
+    count = 1;
+    log = with_entries (state client).told (OfEnd end ∷ []);
+  }
+  told state (Over client end) = record {
+    each = Some (record { peer = state client; cause = end } ∷ []);
+    count = 1;
+    log = with_entries (state client).told (OfEnd end ∷ []);
+  }
 
   -- the client is being served
   abbrev pub is_out : OnlyClient P → Bool

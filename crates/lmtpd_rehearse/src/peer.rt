@@ -3,6 +3,7 @@
 ghost use Rattle.std.specs.Prelude.{[], None};
 
 use lmtp_house::{Came, Peer, PeerFault};
+use mail_world::Reply;
 use std::io::{Read, Write};
 
 /// A client whose bytes come from a reader, and whose replies go to a writer. It never says that the server is to stop.
@@ -25,6 +26,7 @@ impl<R: Read, W: Write> Peer for StreamPeer<R, W> {
       failures = p.failures;
       stops = 0;
       holds = [];
+      told = None;
     } };
 
     fn read(&mut self, buffer: &mut [u8]) -> Result<Came, PeerFault> {
@@ -49,4 +51,10 @@ impl<R: Read, W: Write> Peer for StreamPeer<R, W> {
             Ok(size) => Ok(size),
         }
     }
+
+    /// It has no log.
+    fn tell_command(&mut self, _line: &[u8], _reply: Reply) {}
+
+    /// It has no log.
+    fn tell_copy(&mut self, _number: u64, _size: u64, _client: &[u8], _reply: Reply) {}
 }

@@ -11,6 +11,7 @@ use crate::tcp::drain::close;
 use crate::tcp::read_buffer::ReadBuffer;
 use crate::tcp::retry::{is_silence, write_some};
 use crate::tcp::stream::ClientStream;
+use mail_world::Reply;
 use std::io;
 use std::io::{Error, ErrorKind, Read, Write};
 use std::sync::Arc;
@@ -294,6 +295,7 @@ impl<T: Read + Write, E: Curfew> Peer for TcpPeer<T, E> {
           failures = p.failures;
           stops = p.stops;
           holds = [];
+          told = None;
         } };
 
     /// What it handed out, what its buffer has and what the stream has left are, together, what buffer and
@@ -323,4 +325,10 @@ impl<T: Read + Write, E: Curfew> Peer for TcpPeer<T, E> {
             Ok(size) => Ok(size),
         }
     }
+
+    /// It has no log.
+    fn tell_command(&mut self, _line: &[u8], _reply: Reply) {}
+
+    /// It has no log.
+    fn tell_copy(&mut self, _number: u64, _size: u64, _client: &[u8], _reply: Reply) {}
 }

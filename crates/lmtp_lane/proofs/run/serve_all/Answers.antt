@@ -17,6 +17,6 @@ loop-preserved g c =
       here = c.converse.ensures.site ∙ before.here;
       none_out = c.converse.ensures.back;
       others = λ peer may. before.others peer (c.next-in-loop.ensures.others peer (c.converse.ensures.others peer may));
-      called = called_more c.args.reads _ _ _ _ _ _ _ _ _ _ _ _ before.here c.next-in-loop.ensures.same c.saturating_add-conversations.ensures
+      called = called_more c.args.reads _ _ _ _ _ _ _ _ _ _ _ _ before.here c.in-Some-next.ensures.lends c.saturating_add-conversations.ensures
           (before.others _ c.in-Some-next.ensures.client) before.called c.converse.ensures.converses;
     }

@@ -49,7 +49,7 @@ returns-in-Ok-Stop-clause-turn g c reads site start first handled h =
     subst by (sym (c.stopped_or_fault.ensures ∙ ap stopped_or c.is_broken-in-Ok-Stop.ensures))
     (served_stopped reads site start (g.P.Peer.state c.args.peer.now) (g.P.Peer.state c.read.new.self) (g.P.Peer.state c.stop.new.peer) (g.D.Delivery.HasCome first) (g.D.Delivery.HasCome c.args.delivery.now) (g.D.Delivery.HasCome c.leave-in-Ok-Stop.new.delivery) (g.D.Delivery.IsDrafting c.args.delivery.now)
     c.args.dialogue.now c.stop.new.dialogue handled h
-    c.leave-in-Ok-Stop.ensures.leaves (may_not_ended c.args.dialogue.now.session.session.state c.requires.may) came c.stop.ensures.takes c.stop.ensures.none)
+    c.leave-in-Ok-Stop.ensures.leaves (may_not_ended c.args.dialogue.now.session.session.state c.requires.may) came c.stop.ensures.takes c.stop.ensures.untold c.stop.ensures.none)
 
 pub returns-in-Err-clause-turn : goal.returns-in-Err-clause-turn
 returns-in-Err-clause-turn g c reads site start first handled h =

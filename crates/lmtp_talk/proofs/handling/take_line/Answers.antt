@@ -23,4 +23,4 @@ returns-in-TooLong-clause-stands g c site start first handled came h =
     let by : List ℕ → Got → Type 0 = λ taken got. TakesBy got c.command-took.new.self (taken ++ c.args.rest.now) (length taken) (length c.args.rest.now) c.command-took.result.used in
     long_line_of site start (g.D.Delivery.HasCome first) g.D.Delivery.HasCome g.D.Delivery.IsDrafting c.args.dialogue.now c.refuse_line.new.dialogue c.command-took.new.self
     (g.P.Peer.state c.args.peer.now) (g.P.Peer.state c.refuse_line.new.peer) c.args.delivery.now handled came c.args.rest.now c.command-took.result.used c.requires.state
-    (λ taken behind. subst (by taken) c.in-TooLong.is (c.command-took.ensures.takes taken behind)) c.refuse_line.ensures.takes h
+    (λ taken behind. subst (by taken) c.in-TooLong.is (c.command-took.ensures.takes taken behind)) c.refuse_line.ensures.takes c.refuse_line.ensures.told h

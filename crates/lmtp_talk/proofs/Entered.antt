@@ -1,0 +1,133 @@
+-- The entries of parts, one part after another, and of replies.
+use Rattle.std.proofs.Common.{◌≡◌, ◌<◌, ℕ, ◌+◌, add-one, Bool, true, false, subst, List, [], ◌∷◌, ◌++◌, length, map, take, Option, Some, None, refl, sym, ap, ◌∙◌, append_assoc, append-nil}
+use Rattle.std.specs.Prelude.{flat_map, slice_get}
+use Rattle.std.proofs.Math.Seq.{take-suc, take-length}
+use Rattle.std.proofs.lemmas.Option.{get_or_from_slice_get}
+use Rattle.mail_world.specs.declared.Reply.{Reply}
+use Rattle.mail_world.specs.Counts.{counted}
+use Rattle.mail_world.specs.Data.{message}
+use Rattle.mail_world.specs.Site.{Site}
+use Rattle.mail_world.specs.Session.{Session, fresh, Input}
+use Rattle.mail_world.specs.Conversation.{Disposition, Part, CommandLine, MailData, inputs_of, session_after, session_behind, replies_to}
+use Rattle.mail_world.specs.Lists.{accepted_after}
+use Rattle.mail_world.proofs.Handled.{session_after-append}
+use Rattle.mail_world.proofs.Owed.{accepted_behind}
+use Rattle.lmtp_talk.specs.declared.telling.Asked.{Asked}
+use Rattle.lmtp_talk.specs.declared.telling.Asked.TheVariants as asked
+use Rattle.lmtp_talk.specs.Entries.{Entry, line_entries, copy_entries, line_kept, entries_of_part, entries_of, with_entries}
+use Rattle.lmtp_talk.specs.Peer.{PeerState, with_told}
+use Rattle.lmtp_session.specs.declared.act.Act.{Act}
+use Rattle.lmtp_session.specs.declared.act.Act.TheVariants.{Deliver}
+use Rattle.lmtp_talk.specs.Saying.{OutboxView, HasSaid, IsSaid, said}
+use Rattle.lmtp_talk.specs.Telling.{entries_for}
+
+-- no entry more, and entries behind others
+pub with_none : (told : Option (List Entry)) → told ≡ with_entries told []
+with_none None = refl
+with_none (Some entries) = ap (λ l. Some l) (sym (append-nil entries))
+
+pub with_both : (told : Option (List Entry)) (a b : List Entry) → with_entries (with_entries told a) b ≡ with_entries told (a ++ b)
+with_both None a b = refl
+with_both (Some entries) a b = ap (λ l. Some l) (append_assoc entries a b)
+
+pub told_none : (s : PeerState) → s ≡ with_told s []
+told_none s = ap (λ (t : Option (List Entry)). record s { told = t }) (with_none s.told)
+
+pub told_both : (s t u : PeerState) (a b : List Entry) → t ≡ with_told s a → u ≡ with_told t b → u ≡ with_told s (a ++ b)
+told_both s t u a b one two =
+    two ∙ ap (λ (x : PeerState). with_told x b) one ∙ ap (λ (l : Option (List Entry)). record s { told = l }) (with_both s.told a b)
+
+-- replies one after another
+map-append : (f : Reply → Entry) (rs qs : List Reply) → map f (rs ++ qs) ≡ map f rs ++ map f qs
+map-append f [] qs = refl
+map-append f (r ∷ rs) qs = ap (λ l. f r ∷ l) (map-append f rs qs)
+
+for_both : (ask : Asked) (client : List ℕ) (rs qs : List Reply) → entries_for ask client (rs ++ qs) ≡ entries_for ask client rs ++ entries_for ask client qs
+for_both (asked.Line line) client rs qs = map-append _ rs qs
+for_both (asked.Message number size) client rs qs = map-append _ rs qs
+
+for_none : (ask : Asked) (client : List ℕ) → entries_for ask client [] ≡ []
+for_none (asked.Line line) client = refl
+for_none (asked.Message number size) client = refl
+
+pub none_told : (s : PeerState) (ask : Asked) (client : List ℕ) → s ≡ with_told s (entries_for ask client [])
+none_told s ask client = told_none s ∙ ap (λ l. with_told s l) (sym (for_none ask client))
+
+pub one_more_told : (s t u : PeerState) (ask : Asked) (client : List ℕ) (rs : List Reply) (i : ℕ) (r : Reply) → i < length rs → slice_get rs i ≡ Some r
+    → t ≡ with_told s (entries_for ask client (take i rs)) → u ≡ with_told t (entries_for ask client (r ∷ [])) → u ≡ with_told s (entries_for ask client (take (i + 1) rs))
+one_more_told s t u ask client rs i r within is one two =
+    told_both s t u (entries_for ask client (take i rs)) (entries_for ask client (r ∷ [])) one two
+    ∙ ap (λ l. with_told s l) (sym (for_both ask client (take i rs) (r ∷ [])))
+    ∙ ap (λ (x : Reply). with_told s (entries_for ask client (take i rs ++ x ∷ []))) (sym (get_or_from_slice_get rs i r r is))
+    ∙ ap (λ l. with_told s (entries_for ask client l)) (sym (take-suc rs i r within) ∙ ap (λ k. take k rs) (sym (add-one i)))
+
+pub all_told : (s t : PeerState) (ask : Asked) (client : List ℕ) (rs : List Reply) (n : ℕ) → n ≡ length rs
+    → t ≡ with_told s (entries_for ask client (take n rs)) → t ≡ with_told s (entries_for ask client rs)
+all_told s t ask client rs n e told = told ∙ ap (λ l. with_told s (entries_for ask client l)) (ap (λ k. take k rs) e ∙ take-length rs)
+
+pub said_none : (s : PeerState) (ask : Asked) (client : List ℕ) (act : Act) (n : ℕ) (kept : List Reply) → act ≡ Deliver n → s ≡ with_told s (entries_for ask client (said act kept))
+said_none s ask client act n kept e =
+    let told : Act → Type 0 = λ a. s ≡ with_told s (entries_for ask client (said a kept)) in
+    subst told (sym e) (none_told s ask client)
+
+pub told_after : (s t u : PeerState) (more : List Entry) → u ≡ with_told t more → t.told ≡ s.told → u.told ≡ with_entries s.told more
+told_after s t u more told same = ap (λ (x : PeerState). x.told) told ∙ ap (λ (o : Option (List Entry)). with_entries o more) same
+
+-- what was said stays so while a log is told
+is_said : (broken : Bool) (start now : PeerState) (told : Option (List Entry)) (written pending text : List ℕ) → IsSaid broken start now written pending text
+    → IsSaid broken start (record now { told = told }) written pending text
+is_said false start now told written pending text h = record { whole = h.whole; sound = h.sound }
+is_said true start now told written pending text h = record { begins = h.begins; failed = h.failed }
+
+pub said_told : (start now after : PeerState) (outbox : OutboxView) (came text : List ℕ) (more : List Entry) → after ≡ with_told now more → HasSaid start now outbox came text → HasSaid start after outbox came text
+said_told start now after outbox came text more e h =
+    let said : PeerState → Type 0 = λ s. HasSaid start s outbox came text in
+    subst said (sym e) (record {
+      written = h.written;
+      moved = record { read = h.moved.read; unread = h.moved.unread; written = h.moved.written; still = h.moved.still };
+      is = is_said outbox.broken start now (with_entries now.told more) h.written outbox.pending text h.is;
+    })
+
+-- the entries of parts, one part after another
+pub entries-append : (site : Site) (n : ℕ) (session : Session) (ps qs : List Part)
+    → entries_of site n session (ps ++ qs)
+    ≡ entries_of site n session ps ++ entries_of site (accepted_after site n session ps) (session_behind site session ps) qs
+entries-append site n session [] qs = refl
+entries-append site n session (p ∷ ps) qs =
+    let next : Session = session_after site session (inputs_of p) in
+    let k : ℕ = accepted_behind site n session p in
+    let own : List Entry = entries_of_part site n session p in
+    ap (λ l. own ++ l)
+    (entries-append site k next ps qs
+    ∙ ap (λ x. entries_of site k next ps ++ entries_of site (accepted_after site k next ps) x qs) (sym (session_after-append site session (inputs_of p) (flat_map inputs_of ps))))
+    ∙ sym (append_assoc own (entries_of site k next ps) (entries_of site (accepted_after site k next ps) (session_behind site session (p ∷ ps)) qs))
+
+pub entries-snoc : (site : Site) (n : ℕ) (ps : List Part) (p : Part)
+    → entries_of site n fresh (ps ++ p ∷ []) ≡ entries_of site n fresh ps ++ entries_of_part site (accepted_after site n fresh ps) (session_behind site fresh ps) p
+entries-snoc site n ps p =
+    entries-append site n fresh ps (p ∷ []) ∙ ap (λ l. entries_of site n fresh ps ++ l) (append-nil (entries_of_part site (accepted_after site n fresh ps) (session_behind site fresh ps) p))
+
+-- the log was told the entries of one part more
+pub logged_more : (site : Site) (n : ℕ) (ps : List Part) (p : Part) (start before after : Option (List Entry)) (entries : List Entry)
+    → after ≡ with_entries before entries → before ≡ with_entries start (entries_of site n fresh ps)
+    → entries ≡ entries_of_part site (accepted_after site n fresh ps) (session_behind site fresh ps) p
+    → after ≡ with_entries start (entries_of site n fresh (ps ++ p ∷ []))
+logged_more site n ps p start before after entries told was is =
+    told ∙ ap (λ (o : Option (List Entry)). with_entries o entries) was ∙ with_both start (entries_of site n fresh ps) entries
+    ∙ ap (λ l. with_entries start (entries_of site n fresh ps ++ l)) is ∙ ap (λ l. with_entries start l) (sym (entries-snoc site n ps p))
+
+-- the entries of a line, and of data, in the words of one site and session
+pub entries_line : (site view : Site) (n : ℕ) (s s' : Session) (text line : List ℕ) (input : Input) → view ≡ site → s ≡ s' → inputs_of (CommandLine text) ≡ input ∷ [] → line_kept text ≡ line
+    → line_entries line (replies_to view s (input ∷ [])) ≡ entries_of_part site n s' (CommandLine text)
+entries_line site view n s s' text line input site_is session_is input_is line_is =
+    ap (λ (x : Site). line_entries line (replies_to x s (input ∷ []))) site_is
+    ∙ ap (λ (x : Session). line_entries line (replies_to site x (input ∷ []))) session_is
+    ∙ ap (λ l. line_entries line (replies_to site s' l)) (sym input_is)
+    ∙ ap (λ l. line_entries l (replies_to site s' (inputs_of (CommandLine text)))) (sym line_is)
+
+pub entries_data : (site view : Site) (n : ℕ) (s s' : Session) (text draft : List ℕ) (d : Disposition) → view ≡ site → s ≡ s' → draft ≡ message text
+    → copy_entries (counted n) (counted (length draft)) s.client (replies_to view s (inputs_of (MailData text d))) ≡ entries_of_part site n s' (MailData text d)
+entries_data site view n s s' text draft d site_is session_is draft_is =
+    ap (λ (x : Site). copy_entries (counted n) (counted (length draft)) s.client (replies_to x s (inputs_of (MailData text d)))) site_is
+    ∙ ap (λ (x : Session). copy_entries (counted n) (counted (length draft)) x.client (replies_to site x (inputs_of (MailData text d)))) session_is
+    ∙ ap (λ (m : List ℕ). copy_entries (counted n) (counted (length m)) s'.client (replies_to site s' (inputs_of (MailData text d)))) draft_is
