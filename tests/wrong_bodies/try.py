@@ -1,4 +1,5 @@
-"""Has the prover try wrong bodies: try.py ROOT JOBS [CRATE..], over what stands proved in ROOT. Each crate has a room of
+"""Has the prover try wrong bodies: try.py ROOT JOBS [--own] [CRATE..], over what stands proved in ROOT: those of this
+folder, or with the word those that stand with the crates themselves, which `rt ci` tries one by one. Each crate has a room of
 its own, with its sources and what its checks kept, and the crates below it by hard links. There wrong bodies of
 different functions are put into their places at once, and checked; each that no goal of its own function refuses then is
 tried again alone, since a function isn't tried that calls a refused one. What is said of each, and the last line, are
@@ -101,15 +102,15 @@ class Batch:
     texts: dict
 
 
-def try_crate(root, name, crates, folder):
-    """Tries the crate's wrong bodies, and gives how each was met."""
+def try_crate(root, name, edits, crates, folder):
+    """Tries these wrong bodies of the crate, and gives how each was met."""
     room, kinds = Room(root, name, crates, folder), []
 
     def tell(edit, kind, more):
         print(f"{name}/{edit.name}: {kind}{more and ': ' + more}", flush=True)
         kinds.append(kind)
 
-    for batch in room.batches(sorted((root / "tests/wrong_bodies" / name).glob("*.edit"))):
+    for batch in room.batches(edits):
         refused = room.refused_at_once(batch.edits, batch.texts) if len(batch.edits) > 1 else []
         for edit in refused:
             tell(edit, told.KINDS[0], ", ".join(sorted(told.changed_by(edit, room.crate))))
@@ -124,15 +125,17 @@ def try_crate(root, name, crates, folder):
     return kinds
 
 
-def main(root, jobs, names):
+def main(root, jobs, words):
     crates = crates_of(root)
-    further = root / "tests/wrong_bodies"
-    names = names or [it.name for it in further.iterdir() if it.is_dir() and it.name in crates]
+    is_own, names = "--own" in words, [it for it in words if it != "--own"]
+    folders = {it: root / "crates" / it / "must-fail" if is_own else root / "tests/wrong_bodies" / it for it in crates}
+    edits = {it: sorted(folders[it].glob("*.edit")) for it in names or crates}
     # those with the most to prove first
-    names.sort(key=lambda it: -len(list((further / it).glob("*.edit"))))
+    order = sorted((it for it in edits if edits[it]), key=lambda it: -len(edits[it]))
     with tempfile.TemporaryDirectory(prefix=".trying-", dir=root) as folder:
         with concurrent.futures.ThreadPoolExecutor(jobs) as pool:
-            tried = [pool.submit(try_crate, root, it, crates, pathlib.Path(folder)) for it in names]
+            room = pathlib.Path(folder)
+            tried = [pool.submit(try_crate, root, it, edits[it], crates, room) for it in order]
             kinds = [kind for it in tried for kind in it.result()]
     print(", ".join(f"{kinds.count(kind)} {kind}" for kind in told.KINDS))
     return 1 if any(kind in told.BAD for kind in kinds) else 0
