@@ -81,7 +81,7 @@ def heals_where_the_lock_file_fits(there):
     make_room(there.mail)
     took = sender.delivers(3, HEALED_WITHIN)
     print(f"a lock file has room, {restarts} restarts on the full disk: {sender.story(took)}")
-    equal(is_logged(there, "mailbox failed mailbox=anna"), True)
+    equal(is_logged(there, "mailbox failed mailbox=anna reason=No space left on device (os error 28)"), True)
     sender.found_all()
 
 
@@ -239,4 +239,5 @@ def restarts_of(there):
 
 
 def is_logged(there, text):
-    return text in there.run("journalctl -u lmtpd --no-pager")[1]
+    """Whether the journal has it as an error."""
+    return text in there.run("journalctl -u lmtpd -p err --no-pager")[1]

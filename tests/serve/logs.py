@@ -1,13 +1,15 @@
 """What the server logs on standard error."""
 
+import os
 import re
+import socket
 
 import failing
 import letters
 from cases import case, equal
 from clients import Client, deliver_one
 from replies import CLOSING, GO_AHEAD, GREETING, OFFER, RECIPIENT_OK, SENDER_OK, as_bytes, not_stored, stored
-from server import Server, run, words
+from server import Server, run, start, words
 
 LINE = re.compile(
     r"\[INFO  lmtpd\] conversation ended"
@@ -24,6 +26,9 @@ HEARD = as_bytes([GREETING, *OFFER, SENDER_OK, RECIPIENT_OK, GO_AHEAD, stored("a
 CONTROLS = [b"\n", b"\r", b"\n\r", b"\0", b"\b", b"\t", b"\v", b"\f", b"\x1b[2K\x1b[1G", b"\x1c", b"\x7f", b"\x85"]
 CONTROLS += [b"\xff", "\u2028".encode(), "\u202e".encode(), b"\\n", b"%0a"]
 FORGED = b"[ERROR lmtpd] mailbox failed mailbox=anna"
+# What the system says of EIO and of ENOENT (strerror(3)), and the number of each.
+NO_INPUT_OUTPUT = "Input/output error (os error 5)"
+NO_FILE = "No such file or directory (os error 2)"
 # Where a client may put a name.
 PLACES = [b"LHLO %b", b"EHLO %b", b"MAIL FROM:<%b@a.example>", b"RCPT TO:<%b@mx.example>", b"RCPT TO:<anna@%b>"]
 PLACES += [b'RCPT TO:<"%b"@mx.example>', b"VRFY %b", b"NOOP %b", b"HELP %b", b"%b"]
@@ -158,12 +163,13 @@ def too_many_reads_are_logged(folder):
 
 @case
 def a_mailbox_that_fails_is_logged_once(folder):
-    """a mailbox whose calls all fail from some letter on is logged once, at error and at info"""
+    """a mailbox whose calls all fail from some letter on is logged once, with the system's reason, at error and info"""
     library = failing.built(folder)
     for level, conversations in ("error", 0), ("info", 2):
         answers, ended = next(filter(None, (failed_run(folder, library, level, call) for call in range(1, 30))))
         assert answers[1] == [not_stored("anna"), stored("ben")], answers
-        equal(ended.errors.count("[ERROR lmtpd] mailbox failed mailbox=anna"), 1)
+        equal(ended.errors.count(f"[ERROR lmtpd] mailbox failed mailbox=anna reason={NO_INPUT_OUTPUT}"), 1)
+        equal(sum("mailbox failed" in line for line in ended.errors), 1)
         equal((len(ended.errors), ended.errors[-1]), (2 + conversations, "lmtpd: device fault"))
 
 
@@ -181,6 +187,55 @@ def failed_run(folder, library, level, call):
         answers = [deliver_one(server.address, ["anna", "ben"], *LETTER) for _ in range(2)]
         ended = server.end()
     return (answers, ended) if ended.status else None
+
+
+@case
+def a_mailbox_that_cannot_be_opened_is_logged(folder):
+    """before `cannot open` the log has a line with the system's reason, at error and at info, and none without"""
+    (folder / "linked").mkdir()
+    (folder / "linked" / "anna.mbox").symlink_to(folder / "other")
+    for place, reason in (folder / "none", NO_FILE), (folder / "linked", "not plain"):
+        for level in "error", "info", "off":
+            ended = run(words(place, ["anna"], 1, "--log", level))
+            logged = [f"[ERROR lmtpd] cannot open mailbox=anna reason={reason}"] * (level != "off")
+            equal(vars(ended), {"status": 1, "said": [], "errors": [*logged, "lmtpd: cannot open anna.mbox"]})
+
+
+@case
+def the_journal_is_told_priorities(folder):
+    """where JOURNAL_STREAM names standard error the lines of the log have <3> or <6> before them, else nothing; the
+    program's own lines never have"""
+    conversation = r"\[INFO  lmtpd\] conversation ended .*"
+    refusal = f"[ERROR lmtpd] cannot open mailbox=anna reason={NO_FILE}"
+    ends = socket.socketpair()
+    with ends[0], ends[1]:
+        seen = os.fstat(ends[1].fileno())
+        device, inode = seen.st_dev, seen.st_ino
+        own = f"{device}:{inode}"
+        others = [None, "", ":", f"{device}:{inode + 1}", f"{device + 1}:{inode}", f"{inode}:{device}", f"{own} "]
+        others += [f"0{own}", f"+{own}", f"{own}:", own + "0" * 50, str(inode)]
+        for name in [own, *others]:
+            is_own = name == own
+            logged = journal_lines(folder, ends, name, is_served=True)
+            equal((len(logged), bool(re.fullmatch("<6>" * is_own + conversation, logged[0]))), (1, True))
+            logged = journal_lines(folder / "none", ends, name, is_served=False)
+            equal(logged, ["<3>" * is_own + refusal, "lmtpd: cannot open anna.mbox"])
+
+
+def journal_lines(folder, ends, name, is_served):
+    """What a server says on the second end of these sockets, where JOURNAL_STREAM is that."""
+    given = {word: value for word, value in os.environ.items() if word != "JOURNAL_STREAM"}
+    given |= {"JOURNAL_STREAM": name} if name is not None else {}
+    reader, writer = ends
+    if is_served:
+        with Server(folder, ["anna"], 1, "--log", "info", errors=writer, env=given) as server:
+            deliver_one(server.address, ["anna"], *LETTER)
+            equal(server.end().status, 0)
+    else:
+        process = start(words(folder, ["anna"], 1, "--log", "info"), writer, env=given)
+        process.communicate(timeout=20)
+        equal(process.returncode, 1)
+    return reader.recv(65_536).decode().splitlines()
 
 
 @case

@@ -3,8 +3,8 @@
 ghost use Rattle.std.specs.Prelude.{◌≡◌};
 ghost use Rattle.log.specs.declared.handle.Handle.{Handle};
 ghost use Rattle.log.specs.declared.handle.Root.{Root};
-ghost use Rattle.log.specs.declared.sink.Console.{Console};
 ghost use Rattle.lmtpd_listen.specs.declared.server.ServerSocket.{ServerSocket};
+ghost use Rattle.lmtpd_log.specs.declared.lines.ErrorLines.{ErrorLines};
 ghost use Rattle.lmtpd_serve.specs.declared.ends.ServerCurfew.{ServerCurfew};
 ghost use Rattle.lmtpd_words.specs.Words.{as_texts};
 ghost use Rattle.lmtpd.specs.Program.{IsCheckedAsAsked, IsDoneAsAsked, IsServedAsAsked, exit_lines, exit_status};
@@ -13,14 +13,12 @@ ghost use Rattle.lmtpd_rehearse.specs.Rehearsal.{IsListed};
 use crate::check::{check_asked, report_checked};
 use crate::fault::rehearsal_fault;
 use crate::rehearse::rehearse_asked;
-use crate::serve::{ServedMailbox, report_served, serve_asked};
+use crate::serve::{ServedMailbox, ServerLog, report_served, serve_asked};
 use crate::stop::{Exit, Stop, report_fault};
 use lmtpd_check::Checked;
 use lmtpd_rehearse::Rehearsed;
 use lmtpd_serve::Served;
 use lmtpd_words::{Words, read_words};
-use log::Logged;
-use log::sink::Console;
 use mbox_rd::{FileLock, RangeLock, Spool};
 use std::env::Env;
 use std::fs::Files;
@@ -68,8 +66,8 @@ where
     W: Write + Drop + Send + 'static,
     E: Write,
     ensures done { IsDoneAsAsked (λ reader writer. record { unread = R.remaining reader; written = W.contents writer })
-        (IsServedAsAsked ServerSocket (Handle H (Root (Console H))) H (ServerCurfew H)
-        (⟦<ServedMailbox<H, Logged<H, Console<H>>> as Spool>⟧.state))
+        (IsServedAsAsked ServerSocket (Handle H (Root (ErrorLines H))) H (ServerCurfew H)
+        (⟦<ServedMailbox<H, ServerLog<H>> as Spool>⟧.state))
         (IsCheckedAsAsked P.File.remaining W.contents (W.contents writer)) (as_texts words.entry.now)
         (record { unread = R.remaining reader; written = W.contents writer }) result.done }
     ensures status { result.exit.status ≡ exit_status result.done }
@@ -97,8 +95,8 @@ where
     R: Read + Drop + Send + 'static,
     W: Write + Drop + Send + 'static,
     ensures { IsDoneAsAsked (λ reader writer. record { unread = R.remaining reader; written = W.contents writer })
-        (IsServedAsAsked ServerSocket (Handle H (Root (Console H))) H (ServerCurfew H)
-        (⟦<ServedMailbox<H, Logged<H, Console<H>>> as Spool>⟧.state))
+        (IsServedAsAsked ServerSocket (Handle H (Root (ErrorLines H))) H (ServerCurfew H)
+        (⟦<ServedMailbox<H, ServerLog<H>> as Spool>⟧.state))
         (IsCheckedAsAsked P.File.remaining W.contents (W.contents writer)) (as_texts words.entry.now)
         (record { unread = R.remaining reader; written = W.contents writer }) result }
 {

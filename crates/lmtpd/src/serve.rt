@@ -1,6 +1,7 @@
 //! The server that the program's words ask for: where it listens, its mailboxes, its run, and what is said of that.
 
 mod asked;
+mod logger;
 mod mailboxes;
 mod numbers;
 mod opening;
@@ -8,5 +9,6 @@ mod report;
 mod room;
 
 pub use asked::serve_asked;
+pub use logger::ServerLog;
 pub use mailboxes::ServedMailbox;
 pub use report::report_served;

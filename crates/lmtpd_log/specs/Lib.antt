@@ -1,1 +1,4 @@
+pub mod Journal
+pub mod Lines
 pub mod Logged
+pub mod Printable

@@ -1,4 +1,4 @@
-//! A mailbox of which it is logged once that it failed, and that it is in use and when it is free again.
+//! A mailbox of which it is logged that it is in use, and when it is free again.
 
 ghost use Rattle.std.specs.Prelude.{◌≡◌, false};
 ghost use Rattle.lmtpd_log.specs.Logged.{spool_in};
@@ -7,14 +7,12 @@ use log::{Log, error};
 use mbox_rd::{InUse, Spool, SpoolFault, Tail};
 use std::io;
 
-/// A spool whose first fault is logged, by the name of its mailbox; and the first of its turns that isn't had, and the
-/// next that is.
+/// A spool of which the first turn that isn't had is logged, by the name of its mailbox, and the next that is.
 #[derive(Drop)]
 pub struct LoggedMailbox<S, G> {
     spool: S,
     name: String,
     log: G,
-    has_failed: bool,
     is_in_use: bool,
 }
 
@@ -23,31 +21,18 @@ impl<S, G> LoggedMailbox<S, G> {
     pub fn new(spool: S, name: String, log: G) -> LoggedMailbox<S, G>
         ensures over { spool_in result ≡ spool }
         ensures name { result.name ≡ name }
-        ensures none { (result.has_failed ≡ false) × (result.is_in_use ≡ false) }
+        ensures none { result.is_in_use ≡ false }
     {
         LoggedMailbox {
             spool,
             name,
             log,
-            has_failed: false,
             is_in_use: false,
         }
     }
 }
 
 impl<S, G: Log> LoggedMailbox<S, G> {
-    // Logs that it failed, unless that was logged before.
-    fn tell(&mut self)
-        ensures { spool_in self.new ≡ spool_in self.old }
-    {
-        if self.has_failed {
-            return;
-        }
-        self.has_failed = true;
-        let mailbox = self.name.as_str();
-        error!(self.log; target: "lmtpd", mailbox; "mailbox failed");
-    }
-
     // Logs that a turn wasn't had, and why, unless the one before wasn't either.
     fn tell_in_use(&mut self, in_use: InUse)
         ensures { spool_in self.new ≡ spool_in self.old }
@@ -102,19 +87,11 @@ impl<S: Spool, G: Log> Spool for LoggedMailbox<S, G> {
     }
 
     fn append(&mut self, piece: &[u8]) -> Result<usize, SpoolFault> {
-        let took = self.spool.append(piece);
-        if took.is_err() {
-            self.tell();
-        }
-        took
+        self.spool.append(piece)
     }
 
     fn sync(&mut self) -> Result<(), SpoolFault> {
-        let synced = self.spool.sync();
-        if synced.is_err() {
-            self.tell();
-        }
-        synced
+        self.spool.sync()
     }
 
     fn tail(&self) -> Tail {

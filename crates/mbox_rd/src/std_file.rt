@@ -75,8 +75,10 @@ impl<R: Files + Clock + Drop> StdMailboxFile<R>
 where
     R::File: RangeLock,
 {
-    // Neither lock is held, and a lock file that was left behind is gone.
-    fn open(rt: R, alloc: Global, path: &str, mode: u32) -> io::Result<StdMailboxFile<R>> {
+    /// Opens the plain file at that path. Where it is missing it is made with these permission bits, and the folder
+    /// that holds it is synced. Neither lock is held, and a lock file that was left behind is gone. An error says why
+    /// it can't be used, of `ErrorKind::OutOfMemory` where memory is wanting.
+    pub fn open(rt: R, alloc: Global, path: &str, mode: u32) -> io::Result<StdMailboxFile<R>> {
         let mut file = StdMailboxFile {
             path: format!(in alloc; "{path}")?,
             mode,
@@ -249,7 +251,8 @@ fn is_same(again: &Metadata, found: &Metadata) -> bool {
 fn error_of(in_use: InUse) -> io::Error {
     match in_use {
         InUse::System(code) => io::Error::from_raw_os_error(code),
-        InUse::Locked | InUse::NotPlain => io::Error::from(ErrorKind::PermissionDenied),
+        InUse::Locked => io::Error::from(ErrorKind::WouldBlock),
+        InUse::NotPlain => io::Error::new(ErrorKind::PermissionDenied, "not plain"),
     }
 }
 
@@ -343,33 +346,7 @@ where
         ensures opened { IfOk result IsOpened }
         ensures wait { IfOk result (λ spool. spool.wait ≡ wait) }
     {
-        SharedSpool::at_mode(rt, rt, alloc, path, wait, OWNER_ONLY)
-    }
-}
-
-impl<R, C> SharedSpool<StdMailboxFile<R>, C>
-where
-    R: Files + Clock + Copy + Drop,
-    R::File: RangeLock,
-    C: Clock + Drop,
-{
-    ghost use Rattle.std.specs.Prelude.{◌≡◌, IfOk};
-    ghost use Rattle.mbox_rd.specs.SharedSpool.{IsOpened};
-
-    /// With the permission bits of a file that is made, and a clock by which it pauses where others have the mailbox
-    /// locked, a tenth of a second at a time.
-    pub fn at_mode(
-        rt: R,
-        clock: C,
-        alloc: Global,
-        path: &str,
-        wait: u32,
-        mode: u32,
-    ) -> Result<SharedSpool<StdMailboxFile<R>, C>, OpenFault>
-        ensures opened { IfOk result IsOpened }
-        ensures wait { IfOk result (λ spool. spool.wait ≡ wait) }
-    {
-        let file = StdMailboxFile::open(rt, alloc, path, mode).map_err(fault_of)?;
-        SharedSpool::new(alloc, file, clock, wait).map_err(|_| OpenFault::Memory)
+        let file = StdMailboxFile::open(rt, alloc, path, OWNER_ONLY).map_err(fault_of)?;
+        SharedSpool::new(alloc, file, rt, wait).map_err(|_| OpenFault::Memory)
     }
 }

@@ -3,11 +3,12 @@
 ghost use Rattle.std.specs.Prelude.{◌≡◌, IfErr, MatchResult};
 ghost use Rattle.log.specs.declared.handle.Handle.{Handle};
 ghost use Rattle.log.specs.declared.handle.Root.{Root};
-ghost use Rattle.log.specs.declared.sink.Console.{Console};
 ghost use Rattle.lmtpd_listen.specs.declared.server.ServerSocket.{ServerSocket};
+ghost use Rattle.lmtpd_log.specs.declared.lines.ErrorLines.{ErrorLines};
 ghost use Rattle.lmtpd_serve.specs.declared.ends.ServerCurfew.{ServerCurfew};
 ghost use Rattle.lmtpd.specs.Program.{IsNotServed, IsServedAsAsked};
 
+use super::logger::{ServerLog, server_log};
 use super::mailboxes::{Access, ServedMailbox, open_mailboxes};
 use super::numbers::{bounds_asked, connections_asked, ends_asked, sizes_asked};
 use super::opening::open_place;
@@ -18,8 +19,6 @@ use crate::stop::Stop;
 use lmtpd_listen::{Opened, place_of};
 use lmtpd_serve::{Conversations, Served, ServerCurfew, serve_run};
 use lmtpd_words::ServeWords;
-use log::Logged;
-use log::sink::Console;
 use mbox_rd::{FileLock, RangeLock, Spool};
 use std::alloc::Global;
 use std::env::Env;
@@ -46,8 +45,8 @@ where
     H: Threads + Wait + Clock + Files + Eprint + Copy + Drop + Send + Sync + 'static,
     W: Write + Drop,
     ensures { MatchResult result
-        (IsServedAsAsked ServerSocket (Handle H (Root (Console H))) H (ServerCurfew H)
-        (⟦<ServedMailbox<H, Logged<H, Console<H>>> as Spool>⟧.state) words.now)
+        (IsServedAsAsked ServerSocket (Handle H (Root (ErrorLines H))) H (ServerCurfew H)
+        (⟦<ServedMailbox<H, ServerLog<H>> as Spool>⟧.state) words.now)
         (IsNotServed words.now) }
 {
     let _input = null(rt);
@@ -71,14 +70,14 @@ where
     H: Threads + Wait + Clock + Files + Eprint + Copy + Drop + Send + Sync + 'static,
     W: Write + Drop,
     ensures { MatchResult result
-        (IsServedAsAsked ServerSocket (Handle H (Root (Console H))) H (ServerCurfew H)
-        (⟦<ServedMailbox<H, Logged<H, Console<H>>> as Spool>⟧.state) words.now)
+        (IsServedAsAsked ServerSocket (Handle H (Root (ErrorLines H))) H (ServerCurfew H)
+        (⟦<ServedMailbox<H, ServerLog<H>> as Spool>⟧.state) words.now)
         (IsNotServed words.now) }
 {
     let alloc = rt.alloc();
     let place = place_of(words.listen)?;
     let site = shared_site(alloc, &words.site)?;
-    let log = Logged::new(threads, words.log, Console(threads));
+    let log = server_log(rt, threads, words.log);
     tell_of_room(words, &log);
     let access = Access {
         folder: words.dir,

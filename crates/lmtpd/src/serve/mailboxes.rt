@@ -1,25 +1,28 @@
 //! The files of a server's mailboxes.
 
 ghost use Rattle.std.specs.Prelude.{◌≡◌, length, vec_len, IfOk, IfErr};
-ghost use Rattle.lmtpd_log.specs.Logged.{spool_in};
+ghost use Rattle.lmtpd_log.specs.Logged.{file_in, spool_in};
 ghost use Rattle.lmtpd.specs.Unopened.{IsUnopened, IsUnopenedOf};
 
 use crate::fault::Fault;
 use crate::stop::Stop;
-use lmtpd_log::LoggedMailbox;
+use lmtpd_log::{LoggedFile, LoggedMailbox};
 use lmtpd_serve::{HurriedClock, ServerCurfew, WatchedMailbox};
-use log::Log;
-use mbox_rd::{OpenFault, RangeLock, SharedSpool, StdMailboxFile};
+use log::{Log, error};
+use mbox_rd::{RangeLock, SharedSpool, StdMailboxFile};
 use std::alloc::{AllocError, Global};
 use std::fs::Files;
+use std::io;
+use std::io::ErrorKind;
 use std::sync::Arc;
 use std::time::Clock;
 
-/// A mailbox's file that other programs read and empty too, and that waits for them until the server is to end.
-type SharedMailbox<R> = SharedSpool<StdMailboxFile<R>, HurriedClock<R>>;
+/// A mailbox's file that other programs read and empty too, whose failure is logged, and that waits for them until the
+/// server is to end.
+type SharedMailbox<R, G> = SharedSpool<LoggedFile<StdMailboxFile<R>, G>, HurriedClock<R>>;
 
-/// One whose failures are logged, and end a server that heals.
-pub type ServedMailbox<R, G> = LoggedMailbox<WatchedMailbox<SharedMailbox<R>, R>, G>;
+/// One whose failure ends a server that heals, and of which it is logged that it is in use.
+pub type ServedMailbox<R, G> = LoggedMailbox<WatchedMailbox<SharedMailbox<R, G>, R>, G>;
 
 /// Where mailboxes are, how many seconds a turn at one is waited for, and the permission bits of a file that is made.
 #[derive(Clone, Copy, Debug)]
@@ -29,8 +32,8 @@ pub struct Access<'a> {
     pub mode: u32,
 }
 
-/// Opens the file of each mailbox, `FOLDER/NAME.mbox`, in their order, up to the first that can't be opened. A mailbox
-/// that fails is logged, and one that is in use.
+/// Opens the file of each mailbox, `FOLDER/NAME.mbox`, in their order, up to the first that can't be opened, of which the
+/// log says why. A mailbox that fails is logged, and one that is in use.
 pub fn open_mailboxes<'a, R, G>(
     rt: R,
     alloc: Global,
@@ -51,7 +54,7 @@ where
         Err(_) => return Err(Stop::Fault(Fault::Memory)),
     };
     for name in names {
-        let spool = open_mailbox(rt, alloc, access, name, curfew)?;
+        let spool = open_mailbox(rt, alloc, access, name, curfew, log)?;
         spools.push_reserved(logged_mailbox(alloc, spool, name, log)?);
     }
     Ok(spools)
@@ -72,27 +75,74 @@ fn logged_mailbox<'a, S: Drop, G: Drop>(
     }
 }
 
-fn open_mailbox<'a, R: Files + Clock + Copy + Drop>(
+fn open_mailbox<'a, R, G>(
     rt: R,
     alloc: Global,
     access: Access<'_>,
     name: &'a str,
     curfew: &Arc<ServerCurfew<R>>,
-) -> Result<WatchedMailbox<SharedMailbox<R>, R>, Stop<'a>>
+    log: G,
+) -> Result<WatchedMailbox<SharedMailbox<R, G>, R>, Stop<'a>>
+where
+    R: Files + Clock + Copy + Drop,
+    R::File: RangeLock,
+    G: Log + Drop,
+    ensures { IfErr result (IsUnopenedOf name.entry) }
+{
+    let file = open_file(rt, alloc, access, name, &log)?;
+    let file = logged_file(alloc, file, name, log)?;
+    let clock = HurriedClock::new(rt, shared(curfew)?);
+    match SharedSpool::new(alloc, file, clock, access.wait) {
+        Ok(spool) => Ok(WatchedMailbox::new(spool, shared(curfew)?)),
+        Err(_) => Err(Stop::Fault(Fault::Memory)),
+    }
+}
+
+// Where it can't be opened the log says why.
+fn open_file<'a, R: Files + Clock + Copy + Drop, G: Log>(
+    rt: R,
+    alloc: Global,
+    access: Access<'_>,
+    name: &'a str,
+    log: &G,
+) -> Result<StdMailboxFile<R>, Stop<'a>>
 where
     R::File: RangeLock,
     ensures { IfErr result (IsUnopenedOf name.entry) }
 {
-    let Access { folder, wait, mode } = access;
+    let folder = access.folder;
     let path = match format!(in alloc; "{folder}/{name}.mbox") {
         Ok(path) => path,
         Err(_) => return Err(Stop::Fault(Fault::Memory)),
     };
-    let clock = HurriedClock::new(rt, shared(curfew)?);
-    match SharedSpool::at_mode(rt, clock, alloc, path.as_str(), wait, mode) {
-        Ok(spool) => Ok(WatchedMailbox::new(spool, shared(curfew)?)),
-        Err(OpenFault::Memory) => Err(Stop::Fault(Fault::Memory)),
-        Err(OpenFault::Open) => Err(Stop::Unopened(name)),
+    match StdMailboxFile::open(rt, alloc, path.as_str(), access.mode) {
+        Ok(file) => Ok(file),
+        Err(reason) => Err(unopened(name, reason, log)),
+    }
+}
+
+fn unopened<'a, G: Log>(name: &'a str, reason: io::Error, log: &G) -> Stop<'a>
+    ensures { IsUnopenedOf name.entry result }
+{
+    if reason.kind() == ErrorKind::OutOfMemory {
+        return Stop::Fault(Fault::Memory);
+    }
+    error!(log; target: "lmtpd", mailbox = name, reason:%; "cannot open");
+    Stop::Unopened(name)
+}
+
+fn logged_file<'a, F: Drop, G: Drop>(
+    alloc: Global,
+    file: F,
+    name: &'a str,
+    log: G,
+) -> Result<LoggedFile<F, G>, Stop<'a>>
+    ensures ok { IfOk result (λ logged. file_in logged ≡ file) }
+    ensures err { IfErr result (λ stop. stop ≡ Stop.Fault Fault.Memory) }
+{
+    match format!(in alloc; "{name}") {
+        Ok(name) => Ok(LoggedFile::new(file, name, log)),
+        Err(_) => Err(Stop::Fault(Fault::Memory)),
     }
 }
 
