@@ -50,6 +50,6 @@ spool_and_listener_failed = refl
 pub write_and_listener_failed : server_fault (served false true true) ≡ Some fault.Device
 write_and_listener_failed = refl
 
--- no mailbox: `clap` lets no such words through
-pub no_box : first_fault (record { host = codes "mx.example"; domains = []; boxes = []; message_limit = 1048576; recipient_delimiter = None }) ≡ Some fault.TooManyBoxes
+-- no mailbox, which is looked for before a bad host
+pub no_box : first_fault (record { host = codes "mx_example"; domains = []; boxes = []; message_limit = 1048576; recipient_delimiter = None }) ≡ Some fault.NoBox
 no_box = refl

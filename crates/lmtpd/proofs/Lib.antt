@@ -3,3 +3,4 @@ pub mod Behind
 pub mod AsAsked
 pub mod Orders
 pub mod Unrun
+pub mod Whole

@@ -40,6 +40,7 @@ status_of _ = 2
 abbrev pub fault_text : Fault → List ℕ
 fault_text fault.Address = codes "bad address"
 fault_text fault.Port = codes "port 25"
+fault_text fault.NoBox = codes "no box"
 fault_text fault.Host = codes "bad host"
 fault_text fault.Domain = codes "bad domain"
 fault_text fault.Box = codes "bad box"
@@ -79,13 +80,15 @@ abbrev pub is_memory : ErrorKind → Bool
 is_memory OutOfMemory = true
 is_memory _ = false
 
--- the first fault of a site, in the order in which the program looks: each box alone before their number
+-- the first fault of a site, in the order in which the program looks: whether there is a box comes before all names,
+-- and each box alone before their number
 abbrev pub first_fault : Site → Option Fault
 first_fault site =
-    if not (is_host_name site.host) then Some fault.Host
+    if length site.boxes == 0 then Some fault.NoBox
+    else if not (is_host_name site.host) then Some fault.Host
     else if not (list_all is_host_name site.domains) then Some fault.Domain
     else if not (list_all is_box_name site.boxes) then Some fault.Box
-    else if (length site.boxes == 0) || nat_lt BOX_LIMIT (length site.boxes) then Some fault.TooManyBoxes
+    else if nat_lt BOX_LIMIT (length site.boxes) then Some fault.TooManyBoxes
     else if has_twice site.boxes then Some fault.BoxTwice
     else None
 
@@ -119,6 +122,7 @@ abbrev pub stop_status : Stop → ℕ
 stop_status (stop.Words error) = words_status (kind_of error)
 stop_status (stop.Fault f) = status_of f
 stop_status (stop.Unopened name) = 1
+stop_status (stop.Unread path) = 1
 
 -- a read or a write failed
 abbrev pub is_read_or_write_fault : EndCause → Bool

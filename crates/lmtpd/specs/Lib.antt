@@ -1,3 +1,4 @@
+pub mod Boxes
 pub mod Faults
 pub mod Unopened
 pub mod Program

@@ -17,11 +17,13 @@ use Rattle.lmtpd_words.specs.Words.{IsAsked, IsLacking, named_site}
 use Rattle.lmtpd_words.specs.declared.words.RehearseWords.{RehearseWords}
 use Rattle.lmtpd_words.specs.declared.words.ServeWords.{ServeWords}
 use Rattle.lmtpd_words.specs.declared.words.CheckWords.{CheckWords}
+use Rattle.lmtpd_words.specs.declared.words.SiteWords.{SiteWords}
 use Rattle.lmtpd_words.specs.declared.words.Words.TheVariants.{Rehearse, Serve, Check}
 use Rattle.lmtpd_listen.specs.Listening.{AsksInherited, IsRefused, Names}
 use Rattle.lmtpd_listen.specs.Opened.{IsUnopened}
 use Rattle.lmtpd_listen.specs.declared.fault.ListenFault.{ListenFault}
 use Rattle.lmtpd_listen.specs.declared.place.Place.{Place}
+use Rattle.lmtpd.specs.Boxes.{IsUnfilled}
 use Rattle.lmtpd.specs.Faults.{check_fault, check_status, fault_text, first_fault, listen_refusal, rehearsal_fault, server_fault, status_of, stop_for, stop_status}
 use Rattle.lmtpd_check.specs.Checked.{IsChecked, unlocked_lines}
 use Rattle.lmtpd_check.specs.declared.checked.Checked.{Checked as CheckedFiles}
@@ -44,11 +46,16 @@ fault_line f = codes "lmtpd: " ++ fault_text f ++ (lf ∷ [])
 abbrev pub unopened_line : List ℕ → List ℕ
 unopened_line name = codes "lmtpd: cannot open " ++ name ++ (codes ".mbox" ++ (lf ∷ []))
 
+-- the line for a file of mailboxes that can't be read
+abbrev pub unread_line : List ℕ → List ℕ
+unread_line path = codes "lmtpd: cannot read " ++ path ++ (lf ∷ [])
+
 -- what the program itself says where it stops early; clap says its own text
 abbrev pub stop_line : Stop → List ℕ
 stop_line (stop.Words error) = []
 stop_line (stop.Fault f) = fault_line f
 stop_line (stop.Unopened name) = unopened_line name.now
+stop_line (stop.Unread path) = unread_line path.now
 
 -- the line and the status where all was done that was asked for, but for a fault
 abbrev pub line_after : Option Fault → List ℕ
@@ -79,6 +86,17 @@ abbrev pub IsNotRehearsed : RehearseWords → Fault → Type 0
 IsNotRehearsed words f = (f ≡ fault.Memory)
     ⊎ ((first_fault (named_site words.site) ≡ Some f)
     ⊎ ((first_fault (named_site words.site) ≡ None) × IsNotRun (IsBlockCount words.blocks) f))
+
+-- Held once the file of its mailboxes was read: `Fills` says what their words are then.
+abbrev pub IsRehearsedFilled : (SiteWords → SiteWords → Type 0) → RehearseWords → Streams → Streams → Ending → Type 0
+IsRehearsedFilled Fills words old new ending =
+    (site : SiteWords) × Fills words.site site × IsRehearsedAsAsked (record words { site = site }) old new ending
+
+-- why it wasn't: that file, or what comes after it
+abbrev pub IsNotRehearsedFilled : (SiteWords → SiteWords → Type 0) → RehearseWords → Stop → Type 0
+IsNotRehearsedFilled Fills words s = IsUnfilled words.site s
+    ⊎ ((site : SiteWords) × Fills words.site site
+    × ((f : Fault) × (s ≡ stop.Fault f) × IsNotRehearsed (record words { site = site }) f))
 
 -- a place that a server may listen at
 abbrev pub IsPlace : List ℕ → Type 0
@@ -128,6 +146,7 @@ pub record IsServedAsAsked (L G C E : Type 0) {S : Type 0} (state : S → SpoolS
 -- have is seen only now where the socket was passed
 abbrev pub IsNotServedAt : ServeWords → Stop → Type 0
 IsNotServedAt words (stop.Words error) = ⊥
+IsNotServedAt words (stop.Unread path) = ⊥
 IsNotServedAt words (stop.Unopened name) = Contains words.site.boxes.items name
 IsNotServedAt words (stop.Fault f) = (f ≡ fault.Listen)
     ⊎ (((f ≡ fault.Port) × AsksInherited words.listen.now) ⊎ IsNotRun (IsSizeAsked words) f)
@@ -140,6 +159,16 @@ IsNotServed words s = (s ≡ stop.Fault fault.Memory)
     ⊎ (IsPlace words.listen.now × (((f : Fault) × (s ≡ stop.Fault f) × (first_fault (named_site words.site) ≡ Some f))
     ⊎ ((first_fault (named_site words.site) ≡ None) × IsNotServedAt words s))))
 
+-- The same of a server, once the file of its mailboxes was read: `IsRun` says which runs its words ask for then.
+abbrev pub IsServedFilled : (SiteWords → SiteWords → Type 0) → (ServeWords → ServedRun → Type 0) → ServeWords → ServedRun
+    → Type 0
+IsServedFilled Fills IsRun words served =
+    (site : SiteWords) × Fills words.site site × IsRun (record words { site = site }) served
+
+abbrev pub IsNotServedFilled : (SiteWords → SiteWords → Type 0) → ServeWords → Stop → Type 0
+IsNotServedFilled Fills words s = IsUnfilled words.site s
+    ⊎ ((site : SiteWords) × Fills words.site site × IsNotServed (record words { site = site }) s)
+
 -- The files that its words name were checked: `remaining` is what contracts see of a file, `contents` of a writer, and
 -- `before` what the writer held.
 abbrev pub IsCheckedAsAsked : {F W : Type 0} → (F → Option (List ℕ)) → (W → Option (List ℕ)) → Option (List ℕ)
@@ -150,27 +179,28 @@ IsCheckedAsAsked remaining contents before words checked =
 
 -- why the program stopped early: clap's answer to its words, why there was no rehearsal or no server, or want of memory
 -- for a check
-abbrev pub IsStopped : List Text → Stop → Type 0
-IsStopped texts s = ((error : Error) × (s ≡ stop_for error)
+abbrev pub IsStopped : (SiteWords → SiteWords → Type 0) → List Text → Stop → Type 0
+IsStopped Fills texts s = ((error : Error) × (s ≡ stop_for error)
     × (takes program_app texts ≡ true → (kind_of error ≡ OutOfMemory) ⊎ IsLacking (subcommand_of program_app texts)))
     ⊎ (((words : RehearseWords) × IsAsked (subcommand_of program_app texts) (Rehearse words)
-    × ((f : Fault) × (s ≡ stop.Fault f) × IsNotRehearsed words f))
-    ⊎ (((words : ServeWords) × IsAsked (subcommand_of program_app texts) (Serve words) × IsNotServed words s)
+    × IsNotRehearsedFilled Fills words s)
+    ⊎ (((words : ServeWords) × IsAsked (subcommand_of program_app texts) (Serve words) × IsNotServedFilled Fills words s)
     ⊎ ((words : CheckWords) × IsAsked (subcommand_of program_app texts) (Check words) × (s ≡ stop.Fault fault.Memory))))
 
--- What the program did is what its words ask for: `streams` is what contracts see of a reader and a writer, `IsRun`
--- says which runs of a server its words ask for, and `IsCheck` which checks of files.
+-- What the program did is what its words ask for: `streams` is what contracts see of a reader and a writer, `Fills` says
+-- what the words of a site are once the file of its mailboxes was read, `IsRun` which runs of a server its words ask for
+-- then, and `IsCheck` which checks of files.
 module _ {R W : Type 0} where
-  abbrev pub IsDoneAsAsked : (R → W → Streams) → (ServeWords → ServedRun → Type 0)
+  abbrev pub IsDoneAsAsked : (R → W → Streams) → (SiteWords → SiteWords → Type 0) → (ServeWords → ServedRun → Type 0)
       → (CheckWords → CheckedFiles W → Type 0) → List Text → Streams → Done R W → Type 0
-  IsDoneAsAsked streams IsRun IsCheck texts old (Rehearsed it) =
+  IsDoneAsAsked streams Fills IsRun IsCheck texts old (Rehearsed it) =
       (words : RehearseWords) × IsAsked (subcommand_of program_app texts) (Rehearse words)
-      × IsRehearsedAsAsked words old (streams it.reader it.writer) it.ending
-  IsDoneAsAsked streams IsRun IsCheck texts old (Served it) =
-      (words : ServeWords) × IsAsked (subcommand_of program_app texts) (Serve words) × IsRun words it
-  IsDoneAsAsked streams IsRun IsCheck texts old (Checked it) =
+      × IsRehearsedFilled Fills words old (streams it.reader it.writer) it.ending
+  IsDoneAsAsked streams Fills IsRun IsCheck texts old (Served it) =
+      (words : ServeWords) × IsAsked (subcommand_of program_app texts) (Serve words) × IsServedFilled Fills IsRun words it
+  IsDoneAsAsked streams Fills IsRun IsCheck texts old (Checked it) =
       (words : CheckWords) × IsAsked (subcommand_of program_app texts) (Check words) × IsCheck words it
-  IsDoneAsAsked streams IsRun IsCheck texts old (Stopped s) = IsStopped texts s
+  IsDoneAsAsked streams Fills IsRun IsCheck texts old (Stopped s) = IsStopped Fills texts s
 
   -- the status of the program, and its lines on standard error: 0 only for what was done with no fault, sound files,
   -- and for help

@@ -10,9 +10,11 @@ abbrev pub IsUnopened : List (Bor (List ℕ)) → Stop → Type 0
 IsUnopened names (stop.Unopened name) = Contains names name
 IsUnopened names (stop.Fault cause) = cause ≡ fault.Memory
 IsUnopened names (stop.Words refused) = ⊥
+IsUnopened names (stop.Unread path) = ⊥
 
 -- the same of one name
 abbrev pub IsUnopenedOf : Bor (List ℕ) → Stop → Type 0
 IsUnopenedOf mailbox (stop.Unopened name) = name ≡ mailbox
 IsUnopenedOf mailbox (stop.Fault cause) = cause ≡ fault.Memory
 IsUnopenedOf mailbox (stop.Words refused) = ⊥
+IsUnopenedOf mailbox (stop.Unread path) = ⊥

@@ -17,6 +17,7 @@ use thiserror::Error;
 pub enum Fault {
     Address,
     Port,
+    NoBox,
     Host,
     Domain,
     Box,
@@ -37,7 +38,7 @@ impl Fault {
     {
         match self {
             Fault::Address | Fault::Port | Fault::Host | Fault::Domain => 2,
-            Fault::Box | Fault::TooManyBoxes | Fault::BoxTwice => 2,
+            Fault::NoBox | Fault::Box | Fault::TooManyBoxes | Fault::BoxTwice => 2,
             Fault::Memory | Fault::Listen | Fault::Size => 1,
             Fault::NoThread | Fault::ChannelGone | Fault::Device => 1,
         }
@@ -50,6 +51,7 @@ impl Fault {
         match self {
             Fault::Address => "bad address",
             Fault::Port => "port 25",
+            Fault::NoBox => "no box",
             Fault::Host => "bad host",
             Fault::Domain => "bad domain",
             Fault::Box => "bad box",

@@ -1,6 +1,7 @@
 //! `lmtpd`, the last hop of a mail site: it speaks LMTP (RFC 2033) and delivers into mboxrd mailboxes.
 #![tactic(auto)]
 
+mod boxes;
 mod check;
 mod fault;
 mod program;
@@ -16,12 +17,17 @@ use std::process::ExitCode;
 use std::{env, io};
 use stop::Stop;
 
-// It hands on the words, standard input, output and error, and ends with the status that it is given: that is all that
-// no contract says of it. The lanes and workers start by a handle of their own, which threads may take.
+// It hands on the words, room for the text of a file that they name, standard input, output and error, and ends with the
+// status that it is given: that is all that no contract says of it. The lanes and workers start by a handle of their
+// own, which threads may take.
 fn main(rt: HostRuntime) -> ExitCode {
     let mut error = rt.stderr();
+    let mut room = Vec::new(rt.alloc());
     let exit = match given_words(&rt) {
-        Ok(words) => run_program(&rt, rt, &words, rt.stdin(), rt.stdout(), &mut error).exit,
+        Ok(words) => {
+            let (reader, writer) = (rt.stdin(), rt.stdout());
+            run_program(&rt, rt, &words, &mut room, reader, writer, &mut error).exit
+        }
         Err(refused) => Stop::from(refused).report(&rt, &mut error),
     };
     ExitCode::from(exit.status)

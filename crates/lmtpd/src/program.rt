@@ -7,13 +7,14 @@ ghost use Rattle.lmtpd_listen.specs.declared.server.ServerSocket.{ServerSocket};
 ghost use Rattle.lmtpd_log.specs.declared.lines.ErrorLines.{ErrorLines};
 ghost use Rattle.lmtpd_serve.specs.declared.ends.ServerCurfew.{ServerCurfew};
 ghost use Rattle.lmtpd_words.specs.Words.{as_texts};
+ghost use Rattle.lmtpd.specs.Boxes.{IsFilled};
 ghost use Rattle.lmtpd.specs.Program.{IsCheckedAsAsked, IsDoneAsAsked, IsServedAsAsked, exit_lines, exit_status};
 ghost use Rattle.lmtpd_rehearse.specs.Rehearsal.{IsListed};
 
 use crate::check::{check_asked, report_checked};
 use crate::fault::rehearsal_fault;
-use crate::rehearse::rehearse_asked;
-use crate::serve::{ServedMailbox, ServerLog, report_served, serve_asked};
+use crate::rehearse::rehearse_filled;
+use crate::serve::{ServedMailbox, ServerLog, report_served, serve_filled};
 use crate::stop::{Exit, Stop, report_fault};
 use lmtpd_check::Checked;
 use lmtpd_rehearse::Rehearsed;
@@ -46,11 +47,13 @@ pub struct Ended<'a, R, W> {
 }
 
 /// Runs the program with these words, its own name first. `rt` prints clap's texts, and opens files and listeners; by
-/// `threads` lanes and workers start. The program's own lines go to `error`.
+/// `threads` lanes and workers start. `room` keeps the text of the file that lists mailboxes. The program's own lines go
+/// to `error`.
 pub fn run_program<'a, P, H, R, W, E>(
     rt: &P,
     threads: H,
     words: &'a [String],
+    room: &'a mut Vec<u8>,
     reader: R,
     writer: W,
     error: &mut E,
@@ -66,6 +69,7 @@ where
     W: Write + Drop + Send + 'static,
     E: Write,
     ensures done { IsDoneAsAsked (λ reader writer. record { unread = R.remaining reader; written = W.contents writer })
+        (IsFilled P.File.remaining)
         (IsServedAsAsked ServerSocket (Handle H (Root (ErrorLines H))) H (ServerCurfew H)
         (⟦<ServedMailbox<H, ServerLog<H>> as Spool>⟧.state))
         (IsCheckedAsAsked P.File.remaining W.contents (W.contents writer)) (as_texts words.entry.now)
@@ -73,7 +77,7 @@ where
     ensures status { result.exit.status ≡ exit_status result.done }
     ensures lines { IsListed (exit_lines result.done) (E.contents error.old) (E.contents error.new) result.exit.cut }
 {
-    let done = do_asked(rt, threads, words, reader, writer);
+    let done = do_asked(rt, threads, words, room, reader, writer);
     let exit = report(rt, &done, error);
     Ended { done, exit }
 }
@@ -83,6 +87,7 @@ fn do_asked<'a, P, H, R, W>(
     rt: &P,
     threads: H,
     words: &'a [String],
+    room: &'a mut Vec<u8>,
     reader: R,
     writer: W,
 ) -> Done<'a, R, W>
@@ -95,6 +100,7 @@ where
     R: Read + Drop + Send + 'static,
     W: Write + Drop + Send + 'static,
     ensures { IsDoneAsAsked (λ reader writer. record { unread = R.remaining reader; written = W.contents writer })
+        (IsFilled P.File.remaining)
         (IsServedAsAsked ServerSocket (Handle H (Root (ErrorLines H))) H (ServerCurfew H)
         (⟦<ServedMailbox<H, ServerLog<H>> as Spool>⟧.state))
         (IsCheckedAsAsked P.File.remaining W.contents (W.contents writer)) (as_texts words.entry.now)
@@ -102,12 +108,12 @@ where
 {
     match read_words(rt.alloc(), words) {
         Ok(Words::Rehearse(asked)) => {
-            match rehearse_asked(threads, rt.alloc(), &asked, reader, writer) {
+            match rehearse_filled(rt, threads, asked, room, reader, writer) {
                 Ok(rehearsed) => Done::Rehearsed(rehearsed),
-                Err(fault) => Done::Stopped(Stop::Fault(fault)),
+                Err(stop) => Done::Stopped(stop),
             }
         }
-        Ok(Words::Serve(asked)) => match serve_asked(rt, threads, &asked, writer) {
+        Ok(Words::Serve(asked)) => match serve_filled(rt, threads, asked, room, writer) {
             Ok(served) => Done::Served(served),
             Err(stop) => Done::Stopped(stop),
         },

@@ -1,19 +1,50 @@
 //! The rehearsal that the program's words ask for.
 
 ghost use Rattle.std.specs.Prelude.{MatchResult};
-ghost use Rattle.lmtpd.specs.Program.{IsNotRehearsed, IsRehearsedAsAsked};
+ghost use Rattle.lmtpd.specs.Boxes.{IsFilled};
+ghost use Rattle.lmtpd.specs.Program.{IsNotRehearsed, IsNotRehearsedFilled, IsRehearsedAsAsked, IsRehearsedFilled};
 
+use crate::boxes::fill;
 use crate::fault::Fault;
 use crate::site::site_of;
+use crate::stop::Stop;
 use lmtpd_rehearse::{Rehearsed, rehearse_run};
 use lmtpd_words::RehearseWords;
 use std::alloc::Global;
+use std::fs::Files;
 use std::io::{Read, Write};
 use std::sync::{Arc, Wait};
 use std::thread::Threads;
 
-/// Holds the rehearsal on this reader and this writer. Where there is none, they are gone.
-pub fn rehearse_asked<R, W, H>(
+/// Holds the rehearsal on this reader and this writer, once the file of its mailboxes is read; `room` keeps the text of
+/// that. Where there is none, they are gone.
+pub fn rehearse_filled<'a, P, R, W, H>(
+    rt: &P,
+    threads: H,
+    mut words: RehearseWords<'a>,
+    room: &'a mut Vec<u8>,
+    reader: R,
+    writer: W,
+) -> Result<Rehearsed<R, W>, Stop<'a>>
+where
+    P: AllocGlobal + Files,
+    R: Read + Drop + Send + 'static,
+    W: Write + Drop + Send + 'static,
+    H: Threads + Wait + Copy + Send + 'static,
+    ensures { MatchResult result (λ rehearsed. IsRehearsedFilled (IsFilled P.File.remaining) words.entry
+        (record { unread = R.remaining reader; written = W.contents writer })
+        (record { unread = R.remaining rehearsed.reader; written = W.contents rehearsed.writer }) rehearsed.ending)
+        (IsNotRehearsedFilled (IsFilled P.File.remaining) words.entry) }
+{
+    fill(rt, &mut words.site, room)?;
+    match rehearse_asked(threads, rt.alloc(), &words, reader, writer) {
+        Ok(rehearsed) => Ok(rehearsed),
+        Err(fault) => Err(Stop::Fault(fault)),
+    }
+}
+
+// The same, of words that name all mailboxes.
+fn rehearse_asked<R, W, H>(
     rt: H,
     alloc: Global,
     words: &RehearseWords<'_>,

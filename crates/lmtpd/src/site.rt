@@ -14,7 +14,8 @@ use lmtpd_words::SiteWords;
 use std::alloc::{AllocError, Global};
 use std::sync::Arc;
 
-/// The site of these words. Each mailbox is tried alone first, so that a bad name comes before too many.
+/// The site of these words. That there is a mailbox is looked at first; then each is tried alone, so that a bad name
+/// comes before too many.
 pub fn site_of(alloc: Global, words: &SiteWords) -> Result<Site, Fault>
     ensures made { IfOk result (λ site. site ≡ named_site words.now) }
     ensures sound { IfOk result IsSite }
@@ -51,6 +52,7 @@ fn bytes_of<'a>(alloc: Global, names: &[&'a str]) -> Result<Vec<&'a [u8]>, Alloc
     Ok(all)
 }
 
+#[tactic(auto, using(crate::proofs::Orders::none_refused))]
 fn make_site(alloc: Global, host: &[u8], domains: &[&[u8]], boxes: &[&[u8]]) -> Result<Site, Fault>
     ensures made { IfOk result (λ site. site ≡ site_of host.now domains.now boxes.now) }
     ensures sound { IfOk result IsSite }
@@ -58,6 +60,9 @@ fn make_site(alloc: Global, host: &[u8], domains: &[&[u8]], boxes: &[&[u8]]) -> 
         MatchResult result (λ _. first_fault site ≡ None)
         (λ fault. (fault ≡ Fault.Memory) ⊎ (first_fault site ≡ Some fault)) }
 {
+    if boxes.is_empty() {
+        return Err(Fault::NoBox);
+    }
     try_each_box(alloc, host, domains, boxes)?;
     let site = Site::new(alloc, host, domains, boxes)?;
     Ok(site)

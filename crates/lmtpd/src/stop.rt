@@ -3,7 +3,7 @@
 ghost use Rattle.std.specs.Prelude.{◌≡◌, OnOk, OnErr};
 ghost use Rattle.std.specs.Io.KnownBytes.{Appends};
 ghost use Rattle.lmtpd.specs.Faults.{listen_refusal, stop_for, stop_status, words_status};
-ghost use Rattle.lmtpd.specs.Program.{line_after, status_after, stop_line, unopened_line};
+ghost use Rattle.lmtpd.specs.Program.{line_after, status_after, stop_line, unopened_line, unread_line};
 ghost use Rattle.lmtpd_output.specs.Output.{IsCutOff};
 ghost use Rattle.lmtpd_rehearse.specs.Rehearsal.{IsListed};
 
@@ -22,13 +22,16 @@ pub struct Exit {
     pub cut: bool,
 }
 
-/// Words that `clap` refuses or answers with help, a fault, or a mailbox whose file can't be opened.
+/// Words that `clap` refuses or answers with help, a fault, a mailbox whose file can't be opened, or a file of mailboxes
+/// that can't be read.
 #[derive(Debug, Drop)]
 pub enum Stop<'a> {
     Words(Error),
     Fault(Fault),
     /// The mailbox of this name.
     Unopened(&'a str),
+    /// The file at this path.
+    Unread(&'a str),
 }
 
 impl From<Error> for Stop<'_> {
@@ -79,6 +82,7 @@ impl Stop<'_> {
             }
             Stop::Fault(fault) => report_fault(Some(*fault), error),
             Stop::Unopened(name) => report_unopened(name, error),
+            Stop::Unread(path) => report_unread(path, error),
         }
     }
 }
@@ -120,6 +124,17 @@ fn report_unopened<E: Write>(name: &str, error: &mut E) -> Exit
     ensures line { IsListed (unopened_line name.now) (E.contents error.old) (E.contents error.new) result.cut }
 {
     let pieces: [&[u8]; 3] = [b"lmtpd: cannot open ", name.as_bytes(), b".mbox\n"];
+    Exit {
+        status: 1,
+        cut: write_each(error, &pieces).is_err(),
+    }
+}
+
+fn report_unread<E: Write>(path: &str, error: &mut E) -> Exit
+    ensures status { result.status ≡ 1 }
+    ensures line { IsListed (unread_line path.now) (E.contents error.old) (E.contents error.new) result.cut }
+{
+    let pieces: [&[u8]; 3] = [b"lmtpd: cannot read ", path.as_bytes(), b"\n"];
     Exit {
         status: 1,
         cut: write_each(error, &pieces).is_err(),

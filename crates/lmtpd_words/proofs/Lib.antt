@@ -1,4 +1,5 @@
 pub mod ArgumentRows
+mod BoxRows
 pub mod Calls
 pub mod Given
 pub mod Numbers

@@ -1,7 +1,7 @@
 -- What clap has for the words of a server that may be left out, by computing.
 use Rattle.std.proofs.Common.{◌≡◌, ◌∷◌, [], List, Option, Some, None, refl, codes}
 use Rattle.std.specs.Prelude.{option_map}
-use Rattle.clap.specs.Words.{Row, Text, first_of, one_of, subcommand_of}
+use Rattle.clap.specs.Words.{Row, Text, all_of, first_of, one_of, subcommand_of}
 use Rattle.clap.proofs.OnLiterals.{clap_on_literals}
 use Rattle.lmtpd_words.specs.CommandLine.{program_app}
 
@@ -28,6 +28,19 @@ connections_given = refl
 pub connections_left_out : of_rows (one_of (codes "connections")) (served (codes "anna" ∷ [])) ≡ Some None
 unfolding clap_on_literals
 connections_left_out = refl
+
+-- no mailbox, and a file of them
+pub boxes_left_out : of_rows (all_of (codes "box")) (served []) ≡ Some None
+unfolding clap_on_literals
+boxes_left_out = refl
+
+pub boxes_file_left_out : of_rows (first_of (codes "boxes")) (served (codes "anna" ∷ [])) ≡ Some None
+unfolding clap_on_literals
+boxes_file_left_out = refl
+
+pub boxes_file_given : of_rows (first_of (codes "boxes")) (served (codes "--boxes" ∷ codes "f" ∷ [])) ≡ Some (Some (codes "f"))
+unfolding clap_on_literals
+boxes_file_given = refl
 
 pub stop_file_left_out : of_rows (first_of (codes "stop-file")) (served (codes "anna" ∷ [])) ≡ Some None
 unfolding clap_on_literals

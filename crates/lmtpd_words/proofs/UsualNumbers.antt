@@ -3,7 +3,7 @@ use Rattle.std.proofs.Common.{◌≡◌, refl, codes}
 use Rattle.mail_world.specs.declared.limits.TheConstants.{BLOCK_SIZE, BLOCK_LIMIT, LANE_LIMIT, CAPACITY_LIMIT, LOCK_WAIT_LIMIT, MODE_LIMIT, MESSAGE_LIMIT, LEAST_MESSAGE_LIMIT, LARGEST_MESSAGE_LIMIT}
 use Rattle.log.specs.declared.level.LevelFilter.TheVariants as filter
 use Rattle.lmtpd_words.specs.Words.{octal, usual_blocks}
-use Rattle.lmtpd_words.specs.declared.words.TheConstants.{DEFAULT_BLOCKS, DEFAULT_CAPACITY, DEFAULT_LANES, DEFAULT_LOCK_WAIT, DEFAULT_LOG, DEFAULT_MAILBOX_MODE, DEFAULT_READS, DEFAULT_SESSION_TIME, DEFAULT_SOCKET_MODE, DEFAULT_TIMEOUT}
+use Rattle.lmtpd_words.specs.declared.words.TheConstants.{BOXES_FILE_LIMIT, DEFAULT_BLOCKS, DEFAULT_CAPACITY, DEFAULT_LANES, DEFAULT_LOCK_WAIT, DEFAULT_LOG, DEFAULT_MAILBOX_MODE, DEFAULT_READS, DEFAULT_SESSION_TIME, DEFAULT_SOCKET_MODE, DEFAULT_TIMEOUT}
 
 pub lanes : DEFAULT_LANES ≡ 4
 lanes = refl
@@ -72,6 +72,9 @@ blocks_of_a_lane = refl
 
 pub blocks_at_25 : usual_blocks 4 26214400 ≡ 25600
 blocks_at_25 = refl
+
+pub most_of_a_boxes_file : BOXES_FILE_LIMIT ≡ 65536
+most_of_a_boxes_file = refl
 
 pub blocks_at_most : usual_blocks 64 268435456 ≡ 65536
 blocks_at_most = refl

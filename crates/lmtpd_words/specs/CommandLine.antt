@@ -42,7 +42,10 @@ texts_rule name = record (new_rule name) {
 }
 
 abbrev pub box_rule : Rule
-box_rule = must (texts_rule (codes "box"))
+box_rule = texts_rule (codes "box")
+
+abbrev pub boxes_rule : Rule
+boxes_rule = text_rule (codes "boxes")
 
 abbrev pub host_rule : Rule
 host_rule = must (text_rule (codes "host"))
@@ -113,7 +116,7 @@ heal_rule = flag_rule (codes "heal")
 
 abbrev pub rehearse_app : App
 rehearse_app =
-    with_rule (with_rule (with_rule (with_rule (with_rule (with_rule (with_rule (with_rule (new_app (codes "rehearse")) host_rule) time_rule) domains_rule) recipient_delimiter_rule) message_limit_rule) blocks_rule) quota_rule) box_rule
+    with_rule (with_rule (with_rule (with_rule (with_rule (with_rule (with_rule (with_rule (with_rule (new_app (codes "rehearse")) host_rule) time_rule) domains_rule) recipient_delimiter_rule) message_limit_rule) blocks_rule) quota_rule) boxes_rule) box_rule
 
 -- what must be given, then what may be, then what ends the server
 abbrev pub required_app : App
@@ -129,7 +132,7 @@ kept_app =
 
 abbrev pub serve_app : App
 serve_app =
-    with_rule (with_rule (with_rule (with_rule kept_app connections_rule) stop_file_rule) heal_rule) box_rule
+    with_rule (with_rule (with_rule (with_rule (with_rule kept_app connections_rule) stop_file_rule) heal_rule) boxes_rule) box_rule
 
 abbrev pub file_rule : Rule
 file_rule = must (texts_rule (codes "file"))

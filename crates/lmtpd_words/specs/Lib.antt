@@ -1,3 +1,4 @@
 pub mod Arguments
+pub mod Boxes
 pub mod CommandLine
 pub mod Words

@@ -1,5 +1,5 @@
 -- What the program's words ask for.
-use Rattle.std.specs.Prelude.{◌≡◌, ◌∷◌, ◌⊎◌, ◌↔◌, IsTrue, ◌<◌, ◌≤◌, ◌^◌, ◌==◌, ◌+◌, ◌-◌, ◌*◌, ◌/◌, min, max, ℕ, Bool, true, false, List, [], Option, Some, None, option_map, map, codes, length, String, string_bytes}
+use Rattle.std.specs.Prelude.{◌≡◌, ◌∷◌, ◌++◌, ◌⊎◌, ◌↔◌, IsTrue, ◌<◌, ◌≤◌, ◌^◌, ◌==◌, ◌+◌, ◌-◌, ◌*◌, ◌/◌, min, max, ℕ, Bool, true, false, List, [], Option, Some, None, option_map, map, codes, length, String, string_bytes}
 use Rattle.std.specs.declared.alloc.Global.{Global}
 use Rattle.std.specs.Option.{option_map_or}
 use Rattle.std.specs.List.{slice_split}
@@ -10,6 +10,7 @@ use Rattle.log.specs.declared.level.LevelFilter.{LevelFilter}
 use Rattle.log.specs.declared.level.LevelFilter.TheVariants as filter
 use Rattle.mail_world.specs.Site.{Site, IsMessageLimit, is_delimiter}
 use Rattle.lmtp_text.specs.Sites.{site_of, texts}
+use Rattle.lmtpd_words.specs.Boxes.{listed_boxes}
 use Rattle.lmtpd_words.specs.declared.words.TheConstants.{DEFAULT_BLOCKS, DEFAULT_CAPACITY, DEFAULT_LANES, DEFAULT_LOCK_WAIT, DEFAULT_LOG, DEFAULT_MAILBOX_MODE, DEFAULT_READS, DEFAULT_SESSION_TIME, DEFAULT_SOCKET_MODE, DEFAULT_TIMEOUT, MODE_DIGIT_LIMIT}
 use Rattle.mail_world.specs.declared.limits.TheConstants.{MODE_LIMIT, MESSAGE_LIMIT, BLOCK_SIZE, BLOCK_LIMIT}
 use Rattle.lmtpd_words.specs.declared.words.SiteWords.{SiteWords}
@@ -134,7 +135,8 @@ IsFlag given is_set = IsTrue is_set ↔ (given ≡ Some (codes "true"))
 pub record IsSiteRead (rows : List Row) (words : SiteWords) : Type 0 where
   pub host : first_of (codes "host") rows ≡ Some words.host.now
   pub domains : texts words.domains.items ≡ option_map_or listed (first_of (codes "domains") rows) []
-  pub boxes : all_of (codes "box") rows ≡ Some (texts words.boxes.items)
+  pub boxes_file : first_of (codes "boxes") rows ≡ option_map (λ path. path.now) words.boxes_file
+  pub boxes : texts words.boxes.items ≡ option_map_or (λ names. names) (all_of (codes "box") rows) []
   pub message_limit : IsMessageLimitOr (one_of (codes "message-limit") rows) words.message_limit
   pub recipient_delimiter : IsDelimiterIfGiven (first_of (codes "recipient-delimiter") rows) words.recipient_delimiter
 
@@ -178,8 +180,8 @@ abbrev pub LacksNumber : List ℕ → List Row → Type 0
 LacksNumber name rows = (text : Text) → one_of name rows ≡ Some text → IsNumber text → ⊥
 
 abbrev pub LacksSite : List Row → Type 0
-LacksSite rows = LacksText (codes "host") rows ⊎ ((all_of (codes "box") rows ≡ None)
-    ⊎ (IsNoMessageLimit (one_of (codes "message-limit") rows) ⊎ IsNoDelimiter (first_of (codes "recipient-delimiter") rows)))
+LacksSite rows = LacksText (codes "host") rows
+    ⊎ (IsNoMessageLimit (one_of (codes "message-limit") rows) ⊎ IsNoDelimiter (first_of (codes "recipient-delimiter") rows))
 
 abbrev pub LacksRehearse : List Row → Type 0
 LacksRehearse rows = LacksNumber (codes "time") rows ⊎ LacksSite rows
@@ -204,6 +206,15 @@ pub record IsLacking (call : Option (Text × List Row)) : Type 0 where
   pub rehearse : (rows : List Row) → call ≡ Some (codes "rehearse", rows) → LacksRehearse rows
   pub serve : (rows : List Row) → call ≡ Some (codes "serve", rows) → LacksServe rows
   pub check : (rows : List Row) → call ≡ Some (codes "check", rows) → LacksCheck rows
+
+-- these words with the mailboxes that a text lists, after their own
+pub record HasListed (text : Text) (words listed : SiteWords) : Type 0 where
+  pub host : listed.host ≡ words.host
+  pub domains : listed.domains ≡ words.domains
+  pub boxes_file : listed.boxes_file ≡ words.boxes_file
+  pub boxes : texts listed.boxes.items ≡ texts words.boxes.items ++ listed_boxes text
+  pub message_limit : listed.message_limit ≡ words.message_limit
+  pub recipient_delimiter : listed.recipient_delimiter ≡ words.recipient_delimiter
 
 -- the site that they name
 abbrev pub named_site : SiteWords → Site

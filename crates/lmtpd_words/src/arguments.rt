@@ -58,7 +58,7 @@ impl Argument {
 }
 
 /// What a rehearsal takes.
-pub const REHEARSE: [Argument; 8] = [
+pub const REHEARSE: [Argument; 9] = [
     HOST,
     TIME,
     DOMAINS,
@@ -66,11 +66,12 @@ pub const REHEARSE: [Argument; 8] = [
     MESSAGE_LIMIT,
     BLOCKS,
     QUOTA,
+    BOXES_FILE,
     BOXES,
 ];
 
 /// What a server takes: what must be given, what may be, what ends it, and the mailboxes.
-pub const SERVE: [Argument; 21] = [
+pub const SERVE: [Argument; 22] = [
     HOST,
     LISTEN,
     DIR,
@@ -91,6 +92,7 @@ pub const SERVE: [Argument; 21] = [
     CONNECTIONS,
     STOP_FILE,
     HEAL,
+    BOXES_FILE,
     BOXES,
 ];
 
@@ -297,11 +299,19 @@ const HEAL: Argument = Argument {
     kind: ValueKind::Flag,
 };
 
+const BOXES_FILE: Argument = Argument {
+    name: "boxes",
+    value: "FILE",
+    help: "A file of 65536 bytes at most that lists further mailboxes, a name a line; # begins a comment [default: none]",
+    is_required: false,
+    kind: ValueKind::Text,
+};
+
 const BOXES: Argument = Argument {
     name: "box",
     value: "BOX",
-    help: "The mailboxes, 1 to 256 names of 1 to 32 of a to z, 0 to 9, -, _ and ., which doesn't begin a name",
-    is_required: true,
+    help: "The mailboxes, with FILE 1 to 256 names of 1 to 32 of a to z, 0 to 9, -, _ and ., which doesn't begin a name",
+    is_required: false,
     kind: ValueKind::Texts,
 };
 

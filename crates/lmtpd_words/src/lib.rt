@@ -2,6 +2,7 @@
 #![tactic(auto)]
 
 mod arguments;
+mod boxes;
 mod command;
 mod reading;
 mod texts;
@@ -10,7 +11,8 @@ mod words;
 
 pub use reading::{not_text, read_words};
 pub use words::{
-    CheckWords, DEFAULT_BLOCKS, DEFAULT_CAPACITY, DEFAULT_LANES, DEFAULT_LOCK_WAIT, DEFAULT_LOG,
-    DEFAULT_MAILBOX_MODE, DEFAULT_READS, DEFAULT_SESSION_TIME, DEFAULT_SOCKET_MODE,
-    DEFAULT_TIMEOUT, MODE_DIGIT_LIMIT, RehearseWords, ServeWords, SiteWords, Words,
+    BOXES_FILE_LIMIT, CheckWords, DEFAULT_BLOCKS, DEFAULT_CAPACITY, DEFAULT_LANES,
+    DEFAULT_LOCK_WAIT, DEFAULT_LOG, DEFAULT_MAILBOX_MODE, DEFAULT_READS, DEFAULT_SESSION_TIME,
+    DEFAULT_SOCKET_MODE, DEFAULT_TIMEOUT, MODE_DIGIT_LIMIT, RehearseWords, ServeWords, SiteWords,
+    Words,
 };

@@ -57,10 +57,11 @@ pub const BEHIND_SERVE: &str = "\
 Examples:
   lmtpd serve --host mx.example --listen 127.0.0.1:2003 --dir mail anna ben
   lmtpd serve --host mx.example --listen [::1]:2003 --dir mail --connections 1 --log info anna
+  lmtpd serve --host mx.example --listen inherited --dir mail --boxes /etc/lmtpd.boxes
 
 Exit status:
   0  The server ended in order, after its conversations or for its stop file
-  1  A mailbox's file, the listener, a thread, memory or a size was wanting; standard error says which
+  1  A mailbox's file, FILE, the listener, a thread, memory or a size was wanting; standard error says which
   2  A word can't be used, and nothing was done";
 
 /// Behind the words of a check.

@@ -1,7 +1,7 @@
 //! The values that `clap` found for the words.
 
 ghost use Rattle.std.specs.Prelude.{◌≡◌, ◌∷◌, [], codes, Some, IfOk, MatchOption};
-ghost use Rattle.clap.specs.Words.{Text, first_of, found_of, one_of, rows_of, subcommand_rows_of};
+ghost use Rattle.clap.specs.Words.{Text, all_of, first_of, found_of, one_of, rows_of, subcommand_rows_of};
 ghost use Rattle.std.specs.Option.{option_map, option_map_or};
 ghost use Rattle.lmtp_text.specs.Sites.{texts};
 ghost use Rattle.lmtpd_words.specs.Words.{IsAsked, IsCheckRead, IsLimit, IsNumberOr, IsRehearseRead, IsServeRead};
@@ -162,9 +162,6 @@ fn site_words<'a>(
     let Some(host) = matches.get_str("host") else {
         return Ok(None);
     };
-    let Some(boxes) = matches.get_strs("box") else {
-        return Ok(None);
-    };
     let Some(message_limit) = message_limit_of(matches) else {
         return Ok(None);
     };
@@ -172,14 +169,32 @@ fn site_words<'a>(
         return Ok(None);
     };
     let domains = domains_of(alloc, matches)?;
-    let boxes = boxes.to_vec(alloc)?;
+    let boxes = boxes_of(alloc, matches)?;
     Ok(Some(SiteWords {
         host,
         domains,
+        boxes_file: boxes_file_of(matches),
         boxes,
         message_limit,
         recipient_delimiter,
     }))
+}
+
+// The mailboxes that were given, if any were.
+fn boxes_of<'a>(alloc: Global, matches: &ArgMatches<'a>) -> Result<Vec<&'a str>, AllocError>
+    ensures { let rows = rows_of (found_of matches.now) in
+        IfOk result (λ v. texts v.items ≡ option_map_or (λ names. names) (all_of (codes "box") rows) []) }
+{
+    match matches.get_strs("box") {
+        Some(names) => names.to_vec(alloc),
+        None => Ok(Vec::new(alloc)),
+    }
+}
+
+fn boxes_file_of<'a>(matches: &ArgMatches<'a>) -> Option<&'a str>
+    ensures { first_of (codes "boxes") (rows_of (found_of matches.now)) ≡ option_map (λ path. path.now) result }
+{
+    matches.get_str("boxes")
 }
 
 // The bytes that a message may have, as they were given, and else as many as usual; none where the number is too small

@@ -39,11 +39,16 @@ pub const DEFAULT_SOCKET_MODE: u32 = 0o660;
 /// The octal digits that write permission bits.
 pub const MODE_DIGIT_LIMIT: usize = 4;
 
+/// The bytes that a file which lists mailboxes may have.
+pub const BOXES_FILE_LIMIT: usize = 65_536;
+
 /// The site that the words name.
 #[derive(Debug, Drop)]
 pub struct SiteWords<'a> {
     pub host: &'a str,
     pub domains: Vec<&'a str>,
+    /// The file that lists further mailboxes, by its path, if there is one.
+    pub boxes_file: Option<&'a str>,
     pub boxes: Vec<&'a str>,
     /// How many bytes a message may have.
     pub message_limit: u32,

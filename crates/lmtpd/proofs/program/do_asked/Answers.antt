@@ -1,4 +1,4 @@
-use Rattle.std.proofs.Common.{ap, inl, inr, refl, subst}
+use Rattle.std.proofs.Common.{ap, inl, inr, subst}
 use Rattle.clap.specs.Words.{subcommand_of}
 use Rattle.lmtpd_words.specs.CommandLine.{program_app}
 use Rattle.lmtpd_words.specs.Words.{IsAsked, as_texts}
@@ -13,17 +13,17 @@ returns-in-Ok g c =
 pub returns-in-Ok-Rehearse : goal.returns-in-Ok-Rehearse
 returns-in-Ok-Rehearse g c =
     let read = subst (λ w. IsAsked (subcommand_of program_app (as_texts c.args.words.now)) w) c.in-Ok-Rehearse.field-0-is c.in-Ok-Rehearse.ensures.read in
-    inr (inl (c.in-Ok-Rehearse.asked, read, (c.in-Err-rehearse_asked.fault, refl, c.in-Err-rehearse_asked.ensures)))
+    inr (inl (c.in-Ok-Rehearse.asked, read, c.in-Err-rehearse_filled.ensures))
 
-pub returns-in-Ok-serve_asked : goal.returns-in-Ok-serve_asked
-returns-in-Ok-serve_asked g c =
+pub returns-in-Ok-serve_filled : goal.returns-in-Ok-serve_filled
+returns-in-Ok-serve_filled g c =
     let read = subst (λ w. IsAsked (subcommand_of program_app (as_texts c.args.words.now)) w) c.in-Ok-Serve.field-0-is c.in-Ok-Serve.ensures.read in
-    (c.in-Ok-Serve.asked, read, c.in-Ok-serve_asked.ensures)
+    (c.in-Ok-Serve.asked, read, c.in-Ok-serve_filled.ensures)
 
 pub returns-in-Ok-Serve : goal.returns-in-Ok-Serve
 returns-in-Ok-Serve g c =
     let read = subst (λ w. IsAsked (subcommand_of program_app (as_texts c.args.words.now)) w) c.in-Ok-Serve.field-0-is c.in-Ok-Serve.ensures.read in
-    inr (inr (inl (c.in-Ok-Serve.asked, read, c.in-Err-serve_asked.ensures)))
+    inr (inr (inl (c.in-Ok-Serve.asked, read, c.in-Err-serve_filled.ensures)))
 
 pub returns-in-Ok-check_asked : goal.returns-in-Ok-check_asked
 returns-in-Ok-check_asked g c =

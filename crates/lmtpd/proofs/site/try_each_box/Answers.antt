@@ -5,7 +5,7 @@ use Rattle.std.proofs.lemmas.List.{take_all}
 use Rattle.std.proofs.lemmas.List.Folds.{list_all-map, list_all_at}
 use Rattle.std.proofs.lemmas.Result.{err_from_is_err_and}
 use Rattle.mail_world.specs.Site.{is_box_name}
-use Rattle.lmtpd.proofs.Orders.{box_refused}
+use Rattle.lmtpd.proofs.Orders.{box_refused, some_of_place}
 use Rattle.lmtpd.proofs.site.try_each_box.Goals as goal
 
 pub returns-in_err-try_box : goal.returns-in_err-try_box
@@ -17,7 +17,7 @@ returns-in_err-try_box c =
     let lt : c.loop-name.name-index < length boxes = omega arith in
     rw (p.1, p.2) (elim c.in_err-try_box.ensures [
       | inl memory ↦ inl memory
-      | inr found ↦ inr (box_refused c.args.host.now c.args.domains.now boxes name _ found
+      | inr found ↦ inr (box_refused c.args.host.now c.args.domains.now boxes name _ found (some_of_place c.args.host.now c.args.domains.now boxes c.loop-name.name-index lt)
           (λ bad. list_all-map is_box_name (λ n. n.now) boxes ∙ list_all_at (λ n. is_box_name n.now) boxes c.loop-name.name-index none lt bad))
     ])
 

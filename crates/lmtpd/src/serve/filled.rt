@@ -1,0 +1,51 @@
+//! The server that the program's words ask for, with the mailboxes that their file lists.
+
+ghost use Rattle.std.specs.Prelude.{MatchResult};
+ghost use Rattle.log.specs.declared.handle.Handle.{Handle};
+ghost use Rattle.log.specs.declared.handle.Root.{Root};
+ghost use Rattle.lmtpd_listen.specs.declared.server.ServerSocket.{ServerSocket};
+ghost use Rattle.lmtpd_log.specs.declared.lines.ErrorLines.{ErrorLines};
+ghost use Rattle.lmtpd_serve.specs.declared.ends.ServerCurfew.{ServerCurfew};
+ghost use Rattle.lmtpd.specs.Boxes.{IsFilled};
+ghost use Rattle.lmtpd.specs.Program.{IsNotServedFilled, IsServedAsAsked, IsServedFilled};
+
+use super::asked::serve_asked;
+use super::logger::ServerLog;
+use super::mailboxes::ServedMailbox;
+use crate::boxes::fill;
+use crate::stop::Stop;
+use lmtpd_serve::Served;
+use lmtpd_words::ServeWords;
+use mbox_rd::{FileLock, RangeLock, Spool};
+use std::env::Env;
+use std::fs::Files;
+use std::io::Write;
+use std::net::{Net, TcpListener, TcpStream};
+use std::sync::Wait;
+use std::thread::Threads;
+use std::time::Clock;
+
+/// Runs the server, once the file of its mailboxes is read; `room` keeps the text of that.
+pub fn serve_filled<'a, P, H, W>(
+    rt: &P,
+    threads: H,
+    mut words: ServeWords<'a>,
+    room: &'a mut Vec<u8>,
+    writer: W,
+) -> Result<Served, Stop<'a>>
+where
+    P: AllocGlobal + Files + Net<Listener = TcpListener, Stream = TcpStream> + Env + Clock,
+    P::File: FileLock,
+    H::File: RangeLock + Send + 'static,
+    H::Dir: Send + 'static,
+    H: Threads + Wait + Clock + Files + Eprint + Copy + Drop + Send + Sync + 'static,
+    W: Write + Drop,
+    ensures { MatchResult result
+        (IsServedFilled (IsFilled P.File.remaining)
+        (IsServedAsAsked ServerSocket (Handle H (Root (ErrorLines H))) H (ServerCurfew H)
+        (⟦<ServedMailbox<H, ServerLog<H>> as Spool>⟧.state)) words.entry)
+        (IsNotServedFilled (IsFilled P.File.remaining) words.entry) }
+{
+    fill(rt, &mut words.site, room)?;
+    serve_asked(rt, threads, &words, writer)
+}

@@ -1,0 +1,31 @@
+-- Which names a text has that lists mailboxes, a name a line.
+use Rattle.std.specs.Prelude.{◌==◌, ◌-◌, not, ℕ, Bool, List, length, take, drop, map}
+use Rattle.std.specs.Char.{is_ascii_whitespace}
+use Rattle.std.specs.List.{before_first, filter, prefix_len, slice_split, suffix_len}
+use Rattle.mail_world.specs.Text.{lf}
+
+-- a text without the white space before and after it: spaces, tabs, CR, LF and form feeds
+abbrev pub without_front : List ℕ → List ℕ
+without_front text = drop (prefix_len is_ascii_whitespace text) text
+
+abbrev pub trimmed : List ℕ → List ℕ
+trimmed text = take (length (without_front text) - suffix_len is_ascii_whitespace (without_front text)) (without_front text)
+
+-- the name in a line: what stands before the first #, without white space around it
+abbrev pub name_in : List ℕ → List ℕ
+name_in line = trimmed (before_first (λ b. b == 35) line)
+
+abbrev pub is_named : List ℕ → Bool
+is_named name = not (length name == 0)
+
+-- the lines of a text: LF parts them
+abbrev pub lines_of : List ℕ → List (List ℕ)
+lines_of text = slice_split (λ b. b == lf) text
+
+-- the names that lines have, in their order; an empty one is none
+abbrev pub names_in : List (List ℕ) → List (List ℕ)
+names_in lines = filter is_named (map name_in lines)
+
+-- the mailboxes that a text lists
+abbrev pub listed_boxes : List ℕ → List (List ℕ)
+listed_boxes text = names_in (lines_of text)
