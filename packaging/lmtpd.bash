@@ -2,13 +2,13 @@
 _lmtpd() {
     local serve rehearse check word=${COMP_WORDS[COMP_CWORD]} before=${COMP_WORDS[COMP_CWORD - 1]}
     serve='--host --listen --dir --domains --recipient-delimiter --message-limit --lanes --blocks --capacity --reads'
-    serve+=' --timeout --session-time --log --quota --lock-wait --mailbox-mode --socket-mode --connections --stop-file --heal --help'
-    rehearse='--host --time --domains --recipient-delimiter --message-limit --blocks --quota --help'
+    serve+=' --timeout --session-time --log --quota --lock-wait --mailbox-mode --socket-mode --connections --stop-file --heal --boxes --help'
+    rehearse='--host --time --domains --recipient-delimiter --message-limit --blocks --quota --boxes --help'
     check='--help'
     COMPREPLY=()
     if [ "$before" = --dir ]; then
         compopt -o dirnames
-    elif [ "$before" = --stop-file ]; then
+    elif [ "$before" = --stop-file ] || [ "$before" = --boxes ]; then
         compopt -o default
     elif [ "$before" = --log ]; then
         mapfile -t COMPREPLY < <(compgen -W 'off error info' -- "$word")

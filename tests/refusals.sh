@@ -29,6 +29,15 @@ good=(rehearse --host mx.example --time 0)
 serve=(serve --host mx.example --listen 127.0.0.1:0 --connections 1)
 many=()
 for i in {1..257}; do many+=("box$i"); done
+folder=$(mktemp -d)
+trap 'rm -rf "$folder"' EXIT
+missing=/nowhere/boxes
+
+# lists TEXT: the path of a file with that text, in which \n and the like are read
+lists() {
+    printf "$1" > "$(mktemp -p "$folder" boxes.XXXX | tee "$folder/path")"
+    cat "$folder/path"
+}
 
 try 2 'lmtpd: bad host' rehearse --host mx_example --time 0 anna
 try 2 'lmtpd: bad host' rehearse --host mx_example --time 0 --domains a_b Anna
@@ -62,7 +71,45 @@ try 2 clap rehearse --host mx.example anna
 try 2 clap rehearse --host mx.example --time 4294967296 anna
 try 2 clap rehearse --host mx.example --time x anna
 try 2 clap rehearse --time 0 anna
-try 2 clap "${good[@]}"
+try 2 'lmtpd: no box' "${good[@]}"
+try 2 'lmtpd: no box' rehearse --host mx_example --time 0 --domains a_b
+try 2 'lmtpd: no box' "${serve[@]}" --dir /nowhere
+for text in '' '\n' '# nobody\n \t\r\n'; do
+    try 2 'lmtpd: no box' "${good[@]}" --boxes "$(lists "$text")"
+    try 2 'lmtpd: no box' "${serve[@]}" --dir /nowhere --boxes "$(lists "$text")"
+    try 0 none "${good[@]}" --boxes "$(lists "$text")" anna
+done
+two=$(lists 'anna # the first\r\n\n  ben')
+try 0 none "${good[@]}" --boxes "$two"
+try 0 none "${good[@]}" --boxes="$two" carl
+try 1 'lmtpd: cannot open anna.mbox' "${serve[@]}" --dir /nowhere --boxes "$two"
+try 1 'lmtpd: cannot open carl.mbox' "${serve[@]}" --dir /nowhere --boxes "$two" carl
+try 2 'lmtpd: bad host' rehearse --host mx_example --time 0 --boxes "$two"
+for text in 'Anna' 'anna ben' '.anna' 'anna,ben' 'an\0na' 'anna\0' '\xef\xbb\xbfanna' 'anna;ben' '-- anna'; do
+    try 2 'lmtpd: bad box' "${good[@]}" --boxes "$(lists "ben\n$text\n")"
+done
+try 2 'lmtpd: bad box' "${good[@]}" --boxes "$(lists 'anna\nanna\n')" Anna
+try 2 'lmtpd: box named twice' "${good[@]}" --boxes "$(lists 'anna\nanna\n')"
+try 2 'lmtpd: box named twice' "${good[@]}" --boxes "$two" ben
+all=$(lists "$(printf '%s\\n' "${many[@]:1}")")
+try 0 none "${good[@]}" --boxes "$all"
+try 2 'lmtpd: too many boxes' "${good[@]}" --boxes "$all" box1
+try 2 'lmtpd: too many boxes' "${good[@]}" --boxes "$(lists 'box1\n')" "${many[@]:1}"
+mkfifo "$folder/pipe"
+large=$(lists 'anna\n')
+truncate -s 65536 "$large"
+try 2 'lmtpd: bad box' "${good[@]}" --boxes "$large"
+large=$(lists "anna #$(printf '%065530d' 0)")
+try 0 none "${good[@]}" --boxes "$large"
+echo >> "$large"
+for file in "$missing" '' / "$folder" "$folder/pipe" /dev/null /dev/zero "$large" "$(lists 'anna # \xff')"; do
+    try 1 "lmtpd: cannot read $file" "${good[@]}" --boxes "$file"
+    try 1 "lmtpd: cannot read $file" "${serve[@]}" --dir /nowhere --boxes "$file" anna
+done
+try 1 "lmtpd: cannot read $missing" rehearse --host mx_example --time 0 --boxes "$missing" Anna
+try 2 clap "${good[@]}" --boxes
+try 2 clap "${good[@]}" --boxes "$two" --boxes "$two"
+try 2 clap check --boxes "$two" anna.mbox
 try 2 clap
 try 2 clap receive
 try 2 clap "${good[@]}" --shout anna

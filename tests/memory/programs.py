@@ -65,11 +65,19 @@ def rehearse_one(refusing):
     return rehearse(refusing, ONE_GIVEN, ONE_STORED)
 
 
-def rehearse(refusing, says=GIVEN, stored=STORED):
+def rehearse_listed(refusing):
+    """The second mailbox is that of a file."""
+    with tempfile.NamedTemporaryFile() as boxes:
+        boxes.write(b"# one more\nben\n")
+        boxes.flush()
+        return rehearse(refusing, names=["--boxes", boxes.name, "anna"])
+
+
+def rehearse(refusing, says=GIVEN, stored=STORED, names=("anna", "ben")):
     with tempfile.TemporaryFile() as given:
         given.write(says)
         given.seek(0)
-        process = refusing.start(["rehearse", "--host", "mx.example", "--time", "0", "anna", "ben"], given)
+        process = refusing.start(["rehearse", "--host", "mx.example", "--time", "0", *names], given)
         output, errors = process.communicate(timeout=SECONDS)
         read = os.lseek(given.fileno(), 0, os.SEEK_CUR)
     ended, what = (process.returncode, output, errors), refusing.refused()
@@ -159,6 +167,7 @@ try:
     for is_all in [False, True]:
         in_turn("rehearse", rehearse, is_all)
         in_turn("rehearse, one recipient", rehearse_one, is_all)
+        in_turn("rehearse, a mailbox of a file", rehearse_listed, is_all)
         in_turn("serve", serve, is_all)
         in_turn("check", check, is_all)
 except Wrong as wrong:

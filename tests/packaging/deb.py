@@ -13,9 +13,12 @@ import tempfile
 LMTPD = os.environ["LMTPD"]
 TOOLS = ["dpkg-deb", "dpkg-shlibdeps", "dpkg-gencontrol", "dpkg-parsechangelog", "strip"]
 FILES = [
+    "etc/lmtpd.boxes",
     "etc/lmtpd.conf",
     "usr/lib/systemd/system/lmtpd.service",
     "usr/lib/systemd/system/lmtpd.socket",
+    "usr/lib/systemd/system/lmtpd@.service",
+    "usr/lib/systemd/system/lmtpd@.socket",
     "usr/lib/sysusers.d/lmtpd.conf",
     "usr/lib/tmpfiles.d/lmtpd.conf",
     "usr/sbin/lmtpd",
@@ -66,7 +69,7 @@ def check_files(package, root, version):
     assert [it for it in found if not it.startswith("DEBIAN/")] == FILES, found
     owners = {line.split()[1] for line in told("dpkg-deb", "-c", str(package)).splitlines()}
     assert owners == {"root/root"}, owners
-    assert (root / "DEBIAN/conffiles").read_text() == "/etc/lmtpd.conf\n"
+    assert (root / "DEBIAN/conffiles").read_text() == "/etc/lmtpd.boxes\n/etc/lmtpd.conf\n"
     words = dict(re.findall(r"^([A-Z_]+)=(.+)$", (root / "etc/lmtpd.conf").read_text(), re.MULTILINE))
     assert words["MESSAGE_LIMIT"] == str(25 * 2**20) and words["HOST"] and words["BOXES"], words
     for line in (root / "DEBIAN/md5sums").read_text().splitlines():

@@ -13,9 +13,12 @@ LMTPD = os.environ["LMTPD"]
 PAGE = pathlib.Path("packaging/lmtpd.8").read_text()
 COMPLETION = pathlib.Path("packaging/lmtpd.bash").read_text()
 INSTALLED = [
+    "etc/lmtpd.boxes",
     "etc/lmtpd.conf",
     "usr/lib/systemd/system/lmtpd.service",
     "usr/lib/systemd/system/lmtpd.socket",
+    "usr/lib/systemd/system/lmtpd@.service",
+    "usr/lib/systemd/system/lmtpd@.socket",
     "usr/lib/sysusers.d/lmtpd.conf",
     "usr/lib/tmpfiles.d/lmtpd.conf",
     "usr/sbin/lmtpd",
@@ -100,23 +103,82 @@ def check_install(folder):
     for line in ["ListenStream=/var/spool/postfix/private/lmtpd", "SocketUser=postfix", "SocketMode=0600"]:
         assert line in socket, line
     given = re.findall(r"\$\{?([A-Z_]+)", re.search(r"^ExecStart=(.*)$", unit, re.MULTILINE)[1])
-    words = folder / "etc/lmtpd.conf"
+    words, boxes = folder / "etc/lmtpd.conf", folder / "etc/lmtpd.boxes"
     assert sorted(given) == sorted(re.findall(r"^([A-Z_]+)=.", words.read_text(), re.MULTILINE)), given
+    assert "\nBOXES=--boxes /etc/lmtpd.boxes\n" in words.read_text()
+    assert boxes_in(boxes) == ["anna", "ben"], boxes_in(boxes)
+    check_instances(unit, folder / "usr/lib/systemd/system")
     words.write_text("HOST=mine.example\n")
+    boxes.write_text("carl\n")
     assert said_by(*install) == (0, "")
-    assert words.read_text() == "HOST=mine.example\n"
+    assert (words.read_text(), boxes.read_text()) == ("HOST=mine.example\n", "carl\n")
+
+
+def boxes_in(path):
+    """The mailboxes that the program has of that file."""
+    words = [LMTPD, "rehearse", "--host", "mx.example", "--time", "0", "--boxes", str(path)]
+    status, said = said_by(*words, stdin=subprocess.DEVNULL)
+    assert status == 0, said
+    return re.findall(r"^mailbox (\S+) 0$", said, re.MULTILINE)
+
+
+def check_instances(unit, units):
+    """The units of several servers are those of one, with a socket, a stop file and mailboxes of their own."""
+    instance = (units / "lmtpd@.service").read_text()
+    for line in [
+        "Requires=lmtpd@%i.socket",
+        "After=network.target lmtpd@%i.socket",
+        "RuntimeDirectory=lmtpd-%i",
+        "ExecStartPre=/bin/rm -f /run/lmtpd-%i/stop",
+        "EnvironmentFile=/etc/lmtpd.conf",
+        "Also=lmtpd@%i.socket",
+    ]:
+        assert line in instance.splitlines(), line
+    begin = re.search(r"^ExecStart=(.*)$", instance, re.MULTILINE)[1]
+    one = re.search(r"^ExecStart=(.*)$", unit, re.MULTILINE)[1]
+    assert begin == one.replace("/run/lmtpd/", "/run/lmtpd-%i/").replace("$BOXES", "--boxes /etc/lmtpd/%i.boxes"), begin
+    assert "/run/lmtpd/" not in instance and "lmtpd.socket" not in instance, instance
+    socket = (units / "lmtpd@.socket").read_text().splitlines()
+    assert "ListenStream=/var/spool/postfix/private/lmtpd-%i" in socket, socket
+    assert len(instance.splitlines()) == len(unit.splitlines())
+
+
+def check_map(folder):
+    """The command of SETUP.md makes Postfix's transport map: for each file a line for each mailbox of the program."""
+    [command] = re.findall(r"^awk .*$", pathlib.Path("docs/operating/SETUP.md").read_text(), re.MULTILINE)
+    assert command.endswith(" /etc/lmtpd/*.boxes > /etc/postfix/transport"), command
+    folder.mkdir()
+    (folder / "a.boxes").write_text("# the first\nanna\n\n  ben # b\n#carl\n")
+    (folder / "b2.boxes").write_bytes(b"dora\r\n \t\r\n\temil\t\r\nfrieda#")
+    (folder / "none.boxes").write_text("# nobody yet\n")
+    (folder / "full.boxes").write_text("".join(f"box{number}\n" for number in range(256)))
+    status, said = said_by("bash", "-c", command.split(" /etc/lmtpd/")[0] + f" {folder}/*.boxes")
+    assert status == 0, said
+    wanted = [
+        f"{name}@mx.example lmtp:unix:private/lmtpd-{path.stem}"
+        for path in sorted(folder.glob("*.boxes"))
+        if path.stem != "none"
+        for name in boxes_in(path)
+    ]
+    assert len(wanted) == 2 + 3 + 256 and said.splitlines() == wanted, said[:400]
 
 
 def check_forms(folder):
     """systemd finds nothing wrong with the units of a program that is there, and groff nothing with the page."""
     prefix = folder / "local"
-    install = ["make", "-s", "install", f"PREFIX={prefix}", "CONF=" + str(folder / "lmtpd.conf"), f"PROGRAM={LMTPD}"]
+    places = [f"{name}={folder}/lmtpd.{name.lower()}" for name in ["CONF", "BOXES"]]
+    install = ["make", "-s", "install", f"PREFIX={prefix}", *places, f"PROGRAM={LMTPD}"]
     assert said_by(*install) == (0, "")
     if shutil.which("systemd-analyze"):
         # what this machine's own units say isn't ours
-        units = [str(prefix / "lib/systemd/system" / name) for name in ["lmtpd.socket", "lmtpd.service"]]
+        system = prefix / "lib/systemd/system"
+        units = [str(system / name) for name in ["lmtpd.socket", "lmtpd.service"]]
+        for kind in ["socket", "service"]:
+            # an instance by its name, as `systemctl` has one
+            (system / f"lmtpd@one.{kind}").symlink_to(f"lmtpd@.{kind}")
+            units.append(str(system / f"lmtpd@one.{kind}"))
         _, said = said_by("systemd-analyze", "verify", "--man=no", *units)
-        ours = [line for line in said.splitlines() if "lmtpd." in line]
+        ours = [line for line in said.splitlines() if "lmtpd" in line]
         assert not ours, ours
     if shutil.which("groff"):
         status, said = said_by("groff", "-mdoc", "-Tutf8", "-ww", "-z", "packaging/lmtpd.8")
@@ -128,5 +190,6 @@ check_version()
 with tempfile.TemporaryDirectory() as room:
     check_install(pathlib.Path(room) / "all")
     check_forms(pathlib.Path(room))
+    check_map(pathlib.Path(room) / "boxes")
 print("ok: page, completion, version, unit and install")
 sys.exit(0)

@@ -43,6 +43,8 @@ class Row:
     mailboxes: dict
     words: list = field(default_factory=list)
     time: int = 0
+    boxes: bytes = None  # the text of a file of mailboxes, where there is one
+    named: list = None  # the mailboxes of the words, where they aren't all that there are
 
     def input(self):
         return b"".join(one if isinstance(one, bytearray) else one + CRLF for one in self.given)

@@ -7,15 +7,22 @@ import subprocess
 import sys
 import tempfile
 
+import listed
 import replies
 import rows
 
 LMTPD = os.path.abspath(os.environ["LMTPD"])
 SECONDS = 60  # that a run may take
+ROOM = tempfile.TemporaryDirectory()  # for a file of mailboxes
 
 
 def words(row):
-    return [LMTPD, "rehearse", "--host", "mx.example", "--time", str(row.time), *row.words, *row.mailboxes]
+    given = [LMTPD, "rehearse", "--host", "mx.example", "--time", str(row.time), *row.words]
+    if row.boxes is not None:
+        path = pathlib.Path(ROOM.name, "boxes")
+        path.write_bytes(row.boxes)
+        given += ["--boxes", str(path)]
+    return [*given, *(row.mailboxes if row.named is None else row.named)]
 
 
 def play(row):
@@ -159,7 +166,7 @@ def wrong_quotas():
 
 
 def verdicts():
-    for row in rows.rows():
+    for row in [*rows.rows(), *listed.rows()]:
         wanted = (0, row.output(), b"")
         yield tell(row.name, play(row), wanted)
         if len(row.input()) < 400:

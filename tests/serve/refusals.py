@@ -16,6 +16,9 @@ ROWS = [
     (2, "bad address", "mx.example", "::1:24", [], ["anna"]),
     (2, "port 25", "mx_example", "127.0.0.1:25", [], ["Anna"]),
     (2, "port 25", "mx.example", "[::1]:25", [], ["anna"]),
+    (2, "bad address", "mx_example", BAD, [], []),
+    (2, "port 25", "mx_example", "127.0.0.1:25", [], []),
+    (2, "no box", "mx_example", GOOD, ["--domains", "a_b"], []),
     (2, "bad host", "mx_example", GOOD, ["--domains", "a_b"], ["Anna"]),
     (2, "bad domain", "mx.example", GOOD, ["--domains", "a.example,b_c"], ["Anna"]),
     (2, "bad box", "mx.example", GOOD, [], ["anna", "anna", ".ben"]),
@@ -107,6 +110,28 @@ def the_words_in_order(folder):
 
 
 @case
+def a_file_of_mailboxes(folder):
+    """a file of mailboxes that can't be read, before all that is wrong with words: one line, status 1; or bad names"""
+    boxes = folder / "boxes"
+    for host, listen, names in [("mx_example", BAD, []), ("mx_example", GOOD, ["Anna"]), ("a.example", GOOD, ["anna"])]:
+        wants(words(folder, names, 1, "--boxes", boxes, listen=listen, host=host), 1, f"cannot read {boxes}")
+    for text, line in [
+        ("", "no box"),
+        ("# anna\n", "no box"),
+        ("anna\nBen\n", "bad box"),
+        ("anna ben\n", "bad box"),
+        ("\n".join(MANY), "too many boxes"),
+        ("anna\nben\nanna\n", "box named twice"),
+    ]:
+        boxes.write_text(text)
+        wants(words(folder, [], 1, "--boxes", boxes), 2, line)
+    boxes.write_text("anna\n")
+    wants(words(folder, ["anna"], 1, "--boxes", boxes), 2, "box named twice")
+    wants(words(folder, [], 1, "--boxes", boxes, listen=BAD), 2, "bad address")
+    equal([path.name for path in folder.iterdir()], ["boxes"])
+
+
+@case
 def what_the_machine_refuses(folder):
     """a file, then the port, then a size that can't be used: one line, status 1"""
     (folder / "anna.mbox").mkdir()
@@ -138,7 +163,7 @@ def numbers_out_of_range(folder):
     for missing in ["--host", "--listen", "--dir"]:
         at = good.index(missing)
         equal((missing, run(good[:at] + good[at + 2 :]).status), (missing, 2))
-    equal(run(good[:-1]).status, 2)
+    wants(good[:-1], 2, "no box")
     ended = run([*good, "--log", "off", "--log", "info"])
     equal((ended.status, ended.errors[0].split("'")[0]), (2, "error: the argument "))
     equal(run([*good, "--log", "warn"]).errors[0], "error: invalid value for '--log <LEVEL>': it is off, error or info")

@@ -2,7 +2,8 @@
 
 import sys
 
-import changed  # noqa: F401  (each adds its cases)
+import boxes  # noqa: F401  (each adds its cases)
+import changed  # noqa: F401
 import closed  # noqa: F401
 import conversations  # noqa: F401
 import deliveries  # noqa: F401

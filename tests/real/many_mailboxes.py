@@ -1,0 +1,53 @@
+"""More mailboxes than one server has: the recipe of docs/operating/SETUP.md, where the first process is systemd."""
+
+import time
+
+from cases import case, equal
+from ten_lines import ROOT, checked, machine, type_lines
+
+HEADING = "## More than 256 mailboxes"
+SEND = "printf 'Subject: {}\\n\\nhello\\n' | sendmail {}"
+
+
+@case
+def instances_of_the_service(folder):
+    """the recipe of docs/operating/SETUP.md, typed as it stands: 512 mailboxes on two servers, and a user more"""
+    names = {part: [f"{part}{number}" for number in range(256)] for part in "ab"}
+    with machine(folder) as there:
+        type_lines(there)
+        equal(there.run("mkdir /etc/lmtpd"), (0, ""))
+        for part in names:
+            line = f"for number in $(seq 0 255); do echo {part}$number; done > /etc/lmtpd/{part}.boxes"
+            equal(there.run(line), (0, ""))
+        for line in recipe():
+            equal((line, there.run(line)[0]), (line, 0))
+        equal(there.run("wc -l < /etc/postfix/transport"), (0, "512\n"))
+        tried = [name for part in names.values() for name in [part[0], part[255]]]
+        deliver(there, "first", tried)
+        equal(there.run("systemctl is-active lmtpd lmtpd@a lmtpd@b")[1], "inactive\nactive\nactive\n")
+        owners = there.run("stat -c '%U %a' /var/spool/postfix/private/lmtpd-a /var/spool/postfix/private/lmtpd-b")
+        equal(owners, (0, "postfix 600\npostfix 600\n"))
+        # where one of them has stopped the other one's mail goes on; the file of a new user has a line for each
+        equal(there.run("sed -i 's/^b255$/frieda # new/' /etc/lmtpd/b.boxes; systemctl restart lmtpd@b")[0], 0)
+        for line in recipe()[2:4]:
+            equal((line, there.run(line)[0]), (line, 0))
+        deliver(there, "second", ["frieda"])
+        log = there.run("journalctl -u lmtpd@b --no-pager")[1]
+        equal(("b0 stored 1" in log, "a0 stored" in log), (True, False))
+
+
+instances_of_the_service.seconds = 240
+
+
+def recipe():
+    return (ROOT / "docs/operating/SETUP.md").read_text().split(HEADING)[1].split("```\n")[1].splitlines()
+
+
+def deliver(there, subject, names):
+    """Has Postfix send one letter to these, and waits until each has it, as its first."""
+    equal(there.run(SEND.format(subject, " ".join(f"{name}@mx.example" for name in names)))[0], 0)
+    paths = " ".join(f"/var/mail/lmtpd/{name}.mbox" for name in names)
+    until = time.monotonic() + 60
+    while there.run(f"lmtpd check {paths}") != (0, checked(**{name: 1 for name in names})):
+        assert time.monotonic() < until, there.run("postqueue -p; journalctl -n 30 --no-pager")[1][-1500:]
+        time.sleep(0.5)

@@ -1,0 +1,67 @@
+"""Mailboxes from a file."""
+
+import letters
+from cases import case, equal
+from clients import Client
+from replies import NO_SUCH_BOX, RECIPIENT_OK, stored
+from server import Server
+
+LISTS = "# users\r\nben  # the second\r\n\r\n\tcarl\n#dora\nemil"
+
+
+def delivered(server, names):
+    """What is told of each of these, and of the letter for those that there are."""
+    with Client(server.address).greet() as client:
+        told = client.deliver(names, "Subject: hi", "", "hello")
+        client.quit()
+    return told
+
+
+@case
+def names_of_a_file(folder):
+    """mailboxes of the words and then of a file: each name gets its letter, and what follows # is no mailbox"""
+    (folder / "boxes").write_bytes(LISTS.encode())
+    with Server(folder, ["anna"], 1, "--boxes", folder / "boxes") as server:
+        names = ["emil", "carl", "dora", "ben", "anna", "users"]
+        known, finals = delivered(server, names)
+        equal(known, [NO_SUCH_BOX if name in ["dora", "users"] else RECIPIENT_OK for name in names])
+        equal(finals, [stored(name) for name in ["emil", "carl", "ben", "anna"]])
+        ended = server.end()
+    said = [f"{name} stored 1" for name in ["anna", "ben", "carl", "emil"]]
+    equal(vars(ended), {"status": 0, "said": said, "errors": []})
+    for name in ["anna", "ben", "carl", "emil"]:
+        equal([letter.message for letter in letters.read(server.mailbox(name))], [b"Subject: hi\n\nhello\n"])
+
+
+@case
+def no_name_but_those_of_a_file(folder):
+    """no mailbox in the words: mail for postmaster goes to the first one of the file"""
+    (folder / "boxes").write_bytes(LISTS.encode())
+    with Server(folder, [], 1, "--boxes", folder / "boxes") as server:
+        equal(delivered(server, ["postmaster"])[1], [stored("ben")])
+        equal(server.end().said, ["ben stored 1", "carl stored 0", "emil stored 0"])
+
+
+@case
+def a_line_more(folder):
+    """a line more in the file: the running server doesn't know the name, and the next one does"""
+    (folder / "boxes").write_bytes(b"ben\n")
+    with Server(folder, [], 1, "--boxes", folder / "boxes") as server:
+        (folder / "boxes").write_bytes(b"ben\nfrieda\n")
+        equal(delivered(server, ["frieda", "ben"]), ([NO_SUCH_BOX, RECIPIENT_OK], [stored("ben")]))
+        equal(server.end().said, ["ben stored 1"])
+    with Server(folder, [], 1, "--boxes", folder / "boxes") as server:
+        equal(delivered(server, ["frieda"])[1], [stored("frieda")])
+        equal(server.end().said, ["ben stored 0", "frieda stored 1"])
+
+
+@case
+def a_file_by_a_link(folder):
+    """the file may be named by a link, and be gone or changed once the server listens"""
+    (folder / "of_site").write_bytes(b"ben\n")
+    (folder / "boxes").symlink_to("of_site")
+    with Server(folder, [], 1, "--boxes", folder / "boxes") as server:
+        equal(server.first.startswith("listening on "), True)
+        (folder / "of_site").unlink()
+        equal(delivered(server, ["ben"])[1], [stored("ben")])
+        equal(server.end().status, 0)
