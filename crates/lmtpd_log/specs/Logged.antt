@@ -1,5 +1,12 @@
 -- What contracts see of what is logged.
-use Rattle.std.specs.Prelude.{ℕ, List, codes}
+use Rattle.std.specs.Prelude.{ℕ, Bool, true, false, List, Option, Some, None, codes}
+use Rattle.mail_world.specs.declared.Outcome.{Outcome}
+use Rattle.mail_world.specs.declared.Outcome.TheVariants as outcomes
+use Rattle.mail_world.specs.declared.Reply.{Reply}
+use Rattle.mail_world.specs.declared.Reply.TheVariants as replies
+use Rattle.lmtp_talk.specs.Entries.{Entry}
+use Rattle.lmtp_lane.specs.TcpVisits.{told_by}
+use Rattle.lmtp_lane.specs.Visits.{VisitsTold}
 use Rattle.lmtp_talk.specs.declared.ending.EndCause.{EndCause}
 use Rattle.lmtp_talk.specs.declared.ending.EndCause.TheVariants as ends
 use Rattle.lmtp_lane.specs.declared.tcp.visits.TcpVisits.{TcpVisits}
@@ -11,6 +18,19 @@ use Rattle.lmtpd_log.specs.declared.visits.LoggedVisits.{LoggedVisits}
 -- the clients that are handed out
 abbrev pub visits_in : {L G C E : Type 0} → LoggedVisits L G C E → TcpVisits (CountedListener L C) E
 visits_in v = v.visits
+
+-- the lane's log, while no client has it
+abbrev pub log_in : {L G C E : Type 0} → LoggedVisits L G C E → Option G
+log_in v = v.log
+
+-- what a log was told that is here
+abbrev pub told_here : {G : Type 0} → (G → Option (List Entry)) → Option G → Option (List Entry)
+told_here told None = None
+told_here told (Some log) = told log
+
+-- what visits tell, where `told` is what their log tells
+abbrev pub told_of : {L G C E : Type 0} → (G → Option (List Entry)) → LoggedVisits L G C E → VisitsTold
+told_of told v = record (told_by (visits_in v)) { log = told_here told (log_in v) }
 
 -- the spool that is written to
 abbrev pub spool_in : {S G : Type 0} → LoggedMailbox S G → S
@@ -28,3 +48,20 @@ cause_text ends.ReadFault = codes "read-fault"
 cause_text ends.WriteFault = codes "write-fault"
 cause_text ends.Stopped = codes "stopped"
 cause_text ends.ReadBound = codes "read-bound"
+
+-- what the log calls what became of a copy
+abbrev pub outcome_text : Outcome → List ℕ
+outcome_text outcomes.Stored = codes "stored"
+outcome_text outcomes.Failed = codes "not-stored"
+outcome_text outcomes.NoRoom = codes "no-room"
+outcome_text outcomes.TooLarge = codes "too-large"
+outcome_text outcomes.OverQuota = codes "over-quota"
+
+-- the replies that refuse a command
+abbrev pub is_refusal : Reply → Bool
+is_refusal (replies.Refused why) = true
+is_refusal replies.NoSuchBox = true
+is_refusal replies.TooMany = true
+is_refusal replies.OutOfOrder = true
+is_refusal replies.LineTooLong = true
+is_refusal _ = false

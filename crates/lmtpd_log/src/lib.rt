@@ -2,20 +2,29 @@
 //! the log is written.
 #![tactic(auto)]
 
+mod all_visits;
 mod escaped;
 mod file;
 mod journal;
+mod lane_log;
+mod line_log;
 mod lines;
 mod listener;
+mod logged_peer;
 mod mailbox;
 mod stream;
+mod verb;
 mod visits;
 
+pub use all_visits::logged_visits;
 pub use escaped::printable;
 pub use file::LoggedFile;
 pub use journal::{is_journal, names_stream};
+pub use lane_log::{LaneLog, LaneLogs, lane_logs};
+pub use line_log::{LineLog, LineSetting};
 pub use lines::ErrorLines;
 pub use listener::CountedListener;
+pub use logged_peer::LoggedPeer;
 pub use mailbox::LoggedMailbox;
 pub use stream::{CountedStream, Traffic};
-pub use visits::{LoggedVisits, logged_visits};
+pub use visits::LoggedVisits;

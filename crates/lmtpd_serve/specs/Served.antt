@@ -1,5 +1,5 @@
 -- What a server says on standard output and on standard error, and what its run comes to.
-use Rattle.std.specs.Prelude.{◌≡◌, ◌==◌, ◌<◌, ◌^◌, ℕ, List, [], ◌∷◌, ◌++◌, length, codes, decimal, if◌then◌else◌, Option}
+use Rattle.std.specs.Prelude.{◌≡◌, ◌==◌, ◌<◌, ◌^◌, ℕ, List, [], ◌∷◌, ◌++◌, length, codes, decimal, if◌then◌else◌, map, Option, Some}
 use Rattle.std.specs.Arc.{arc_value}
 use Rattle.std.specs.List.{AllByRecursion, list_any}
 use Rattle.std.specs.Net.Text.{socket_text}
@@ -10,8 +10,9 @@ use Rattle.mail_world.specs.Site.{Site}
 use Rattle.mbox_rd.specs.Spool.{SpoolState}
 use Rattle.lmtp_threads.specs.declared.tally.Tally.{Tally}
 use Rattle.lmtp_house.specs.House.{HandedBack, HasRun}
-use Rattle.lmtp_lane.specs.TcpVisits.{conversations_ended, told_by, IsNewcomer, is_over}
-use Rattle.lmtpd_log.specs.Logged.{visits_in}
+use Rattle.lmtp_lane.specs.TcpVisits.{conversations_ended, IsNewcomer, is_over}
+use Rattle.lmtp_talk.specs.Entries.{Entry}
+use Rattle.lmtpd_log.specs.Logged.{visits_in, log_in, told_of}
 use Rattle.lmtpd_log.specs.declared.visits.LoggedVisits.{LoggedVisits}
 use Rattle.lmtpd_output.specs.Output.{pair_texts}
 use Rattle.lmtpd_serve.specs.declared.lines.Trouble.{Trouble}
@@ -59,16 +60,21 @@ pub record Extent : Type 0 where
   pub lanes : ℕ
   pub quota : Option ℕ
 
--- A server of this extent ran for the site, over clients of a listener whose conversations are logged, of whom it is
--- told how many were handed back, and these spools; what is told of each mailbox is what its worker counted, and it is
--- faulty exactly where a worker is.
-pub record IsServerRun (L G C E : Type 0) {S : Type 0} (site : Site) (state : S → SpoolState) (extent : Extent)
-    (spools : List S) (served : Served) : Type 0 where
+-- each of these visits has a log
+abbrev pub HaveLogs : {L G C E : Type 0} → List (LoggedVisits L G C E) → Type 0
+HaveLogs {L} {G} visits = (logs : List G) × (map log_in visits ≡ map (λ log. Some log) logs)
+
+-- A server of this extent ran for the site, over clients of a listener, of whom it is told how many were handed back,
+-- and these spools; each lane has a log, `told` says what one was told, and a lane's log was told the entries of its
+-- conversations; what is told of each mailbox is what its worker counted, and it is faulty exactly where a worker is.
+pub record IsServerRun (L C E : Type 0) {S G : Type 0} (site : Site) (state : S → SpoolState)
+    (told : G → Option (List Entry)) (extent : Extent) (spools : List S) (served : Served) : Type 0 where
   pub visits : List (LoggedVisits L G C E)
   pub back : HandedBack (LoggedVisits L G C E) S
   pub each_lane : length visits ≡ extent.lanes
+  pub logs : HaveLogs visits
   pub none_ended : AllByRecursion (λ v. conversations_ended (visits_in v) ≡ 0) visits
-  pub ran : HasRun site (λ moment. moment < 2 ^ 32) (record { MayGive = λ _ peer. IsNewcomer peer; finished = λ v. told_by (visits_in v); over = λ v. is_over (visits_in v) })
+  pub ran : HasRun site (λ moment. moment < 2 ^ 32) (record { MayGive = λ _ peer. IsNewcomer peer; finished = λ v. told_of told v; over = λ v. is_over (visits_in v) })
       state (record { visits = visits; spools = spools; quota = extent.quota }) back
   pub same_site : arc_value served.site ≡ site
   pub tallies : served.tallies.items ≡ back.tallies

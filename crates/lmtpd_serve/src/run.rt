@@ -6,7 +6,7 @@ ghost use Rattle.std.specs.Arc.{arc_value};
 ghost use Rattle.lmtp_lane.specs.TcpVisits.{conversations_ended, is_out};
 ghost use Rattle.lmtp_house.specs.House.{IsSize};
 ghost use Rattle.lmtpd_log.specs.Logged.{visits_in};
-ghost use Rattle.lmtpd_serve.specs.Served.{IsServerRun};
+ghost use Rattle.lmtpd_serve.specs.Served.{IsServerRun, HaveLogs};
 
 use super::busy::RestGate;
 use super::conversations::Conversations;
@@ -17,9 +17,8 @@ use lmtp_house::{
     run_house, tcp_visits,
 };
 use lmtp_text::Site;
-use lmtpd_log::{CountedListener, LoggedVisits, logged_visits};
+use lmtpd_log::{CountedListener, LaneLogs, LoggedVisits, lane_logs, logged_visits};
 use lmtpd_output::write_bytes;
-use log::Log;
 use mbox_rd::Spool;
 use std::alloc::{AllocError, Global};
 use std::io::{Read, Write};
@@ -28,7 +27,7 @@ use std::thread::Threads;
 use std::time::Clock;
 
 /// Says where the server listens, runs it for that many conversations, which the lanes share, and says for each mailbox
-/// how many copies it stored. A line is logged for each conversation that ended. Nothing more is said once a write
+/// how many copies it stored. Each lane's log is told of its conversations. Nothing more is said once a write
 /// failed; the server runs all the same, as it does where the listener can't tell its address. What each mailbox's
 /// worker did is handed back.
 pub fn serve_run<L, E, S, G, W, H>(
@@ -39,7 +38,7 @@ pub fn serve_run<L, E, S, G, W, H>(
     conversations: Conversations<E>,
     listener: L,
     spools: Vec<S>,
-    log: G,
+    logs: G,
     mut writer: W,
 ) -> Result<Served, HouseFault>
 where
@@ -47,14 +46,15 @@ where
     L::Stream: Read + Write + ClientStream + Drop + Send + 'static,
     E: Curfew + Send + Sync + 'static,
     S: Spool + Drop + Send + 'static,
-    G: Log + Copy + Drop + Send + 'static,
+    G: LaneLogs + Drop,
+    G::Log: Send + 'static,
     W: Write + Drop,
     H: Threads + Wait + Clock + Copy + Drop + Send + Sync + 'static,
     ensures size { let count = length spools.items in
         result ≡ Err HouseFault.Size ↔ ¬ IsSize (arc_value site) sizes conversations.lanes count count }
     ensures sized { let count = length spools.items in
         (result ≡ Err HouseFault.Size) ⊎ IsSize (arc_value site) sizes conversations.lanes count count }
-    ensures ran { IfOk result (IsServerRun L G H E (arc_value site) S.state
+    ensures ran { IfOk result (IsServerRun L H E (arc_value site) S.state G.Log.told
         (record { lanes = conversations.lanes; quota = sizes.quota }) spools.items) }
 {
     let lanes = conversations.lanes as usize;
@@ -64,7 +64,7 @@ where
     let served_site = Arc::try_clone(&site)?;
     let gates = vec![in alloc; RestGate::new(rt); spools.len()]?;
     let announced = announce(alloc, &listener, &mut writer)?;
-    let visits = visits_of(rt, alloc, conversations, listener, log)?;
+    let visits = visits_of(rt, alloc, conversations, listener, &logs)?;
     let clock = SystemClock::new(rt);
     let report = match run_house(rt, alloc, site, sizes, visits, spools, gates, clock) {
         Ok(report) => report,
@@ -84,17 +84,18 @@ where
 }
 
 // The clients of all lanes.
-fn visits_of<L: Drop, E: Drop, G: Copy + Drop, H: Copy + Drop>(
+fn visits_of<L: Drop, E: Drop, G: LaneLogs, H: Copy + Drop>(
     rt: H,
     alloc: Global,
     conversations: Conversations<E>,
     listener: L,
-    log: G,
-) -> Result<Vec<LoggedVisits<L, G, H, E>>, AllocError>
+    logs: &G,
+) -> Result<Vec<LoggedVisits<L, G::Log, H, E>>, AllocError>
     ensures each_lane { IfOk result (λ visits. length visits.items ≡ conversations.lanes) }
     ensures none_ended { IfOk result
         (λ visits. AllByRecursion (λ v. conversations_ended (visits_in v) ≡ 0) visits.items) }
     ensures none_out { IfOk result (λ visits. AllByRecursion (λ v. is_out (visits_in v) ≡ false) visits.items) }
+    ensures logs { IfOk result (λ visits. HaveLogs visits.items) }
 {
     let Conversations {
         lanes,
@@ -104,7 +105,8 @@ fn visits_of<L: Drop, E: Drop, G: Copy + Drop, H: Copy + Drop>(
     } = conversations;
     let listener = CountedListener::new(listener, rt);
     let visits = tcp_visits(alloc, listener, lanes, count, bounds, curfew)?;
-    let logged = logged_visits(alloc, visits, log, rt)?;
+    let logs = lane_logs(alloc, logs, lanes)?;
+    let logged = logged_visits(alloc, visits, logs)?;
     Ok(logged)
 }
 

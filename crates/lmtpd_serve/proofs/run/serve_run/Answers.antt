@@ -12,6 +12,7 @@ returns-clause-ran g c = record {
     tallies = c.in-Ok.report.tallies.items;
   };
   each_lane = c.in_ok-visits.ensures.each_lane;
+  logs = c.in_ok-visits.ensures.logs;
   none_ended = c.in_ok-visits.ensures.none_ended;
   ran = c.in-Ok.ensures.ran;
   same_site = search rules;

@@ -1,0 +1,61 @@
+//! What a lane's log is told, as a trait that a proof can speak of.
+
+ghost use Rattle.std.specs.Prelude.{◌≡◌, [], ◌∷◌, IfOk, List, Option, length};
+ghost use Rattle.lmtp_talk.specs.Entries.{Entry, OfLine, OfCopy, OfEnd, with_entries};
+
+use crate::stream::Traffic;
+use lmtp_talk::EndCause;
+use mail_world::Reply;
+use std::alloc::{AllocError, Global};
+
+/// The log of a lane, for one conversation after another. It is told of replies as they are said, and of nothing that
+/// it is to show before they were written.
+pub trait LaneLog: Drop {
+    // what it was told, where it says that
+    ghost told: { Self → Option (List Entry) };
+
+    /// The reply to a command line, which has no line end, and is empty where it was too long.
+    fn command(&mut self, line: &[u8], reply: Reply)
+        ensures { told self.new ≡ with_entries (told self.old) (OfLine line.now reply ∷ []) };
+
+    /// The reply for a recipient's copy of a message: the message's number in the lane, its bytes, and the client's
+    /// name in its last LHLO.
+    fn copy(&mut self, number: u64, size: u64, client: &[u8], reply: Reply)
+        ensures { told self.new ≡ with_entries (told self.old) (OfCopy number size client.now reply ∷ []) };
+
+    /// The conversation ended for that cause, after so much had come and gone; its replies were written, or never are.
+    fn ended(&mut self, cause: EndCause, traffic: Traffic)
+        ensures { told self.new ≡ with_entries (told self.old) (OfEnd cause ∷ []) };
+
+    /// The replies that it was told of were written.
+    fn written(&mut self)
+        ensures { told self.new ≡ told self.old };
+
+    /// Bytes of the client have come.
+    fn came(&mut self)
+        ensures { told self.new ≡ told self.old };
+}
+
+/// Makes the logs of lanes.
+pub trait LaneLogs {
+    /// A lane's log.
+    type Log: LaneLog;
+
+    /// The log of that lane, counted from 0. It takes no memory after that.
+    fn log(&self, alloc: Global, lane: u32) -> Result<Self::Log, AllocError>;
+}
+
+/// The logs of the lanes from 0 on.
+pub fn lane_logs<M: LaneLogs>(
+    alloc: Global,
+    logs: &M,
+    lanes: u32,
+) -> Result<Vec<M::Log>, AllocError>
+    ensures { IfOk result (λ made. length made.items ≡ lanes) }
+{
+    let mut made = Vec::with_capacity(alloc, lanes as usize)?;
+    for lane in 0..lanes {
+        made.push(logs.log(alloc, lane)?)?;
+    }
+    Ok(made)
+}
