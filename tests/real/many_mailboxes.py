@@ -27,10 +27,11 @@ def instances_of_the_service(folder):
         equal(there.run("systemctl is-active lmtpd lmtpd@a lmtpd@b")[1], "inactive\nactive\nactive\n")
         owners = there.run("stat -c '%U %a' /var/spool/postfix/private/lmtpd-a /var/spool/postfix/private/lmtpd-b")
         equal(owners, (0, "postfix 600\npostfix 600\n"))
-        # where one of them has stopped the other one's mail goes on; the file of a new user has a line for each
+        # a new user in another one's place
         equal(there.run("sed -i 's/^b255$/frieda # new/' /etc/lmtpd/b.boxes; systemctl restart lmtpd@b")[0], 0)
-        for line in recipe()[2:4]:
-            equal((line, there.run(line)[0]), (line, 0))
+        for line in recipe():
+            if line.startswith(("awk", "postmap", "postfix reload")):
+                equal((line, there.run(line)[0]), (line, 0))
         deliver(there, "second", ["frieda"])
         log = there.run("journalctl -u lmtpd@b --no-pager")[1]
         equal(("b0 stored 1" in log, "a0 stored" in log), (True, False))

@@ -44,20 +44,20 @@ size_of_sum : {X : Type 0} (x : X) (Good : Type 0) → (◌≡◌ {A = Result X 
 size_of_sum x Good (inl e) = cc
 size_of_sum x Good (inr good) = good
 
-pub served_as_asked : (L G C E : Type 0) {S : Type 0} (state : S → SpoolState) (words : ServeWords) (served : Served) (site : Site) (sizes : Sizes) (spools : List S)
+pub served_as_asked : (L C E : Type 0) {G S : Type 0} (told : G → Option (List Entry)) (state : S → SpoolState) (words : ServeWords) (served : Served) (site : Site) (sizes : Sizes) (spools : List S)
     → IsPlace words.listen.now → (site ≡ named_site words.site) × (first_fault (named_site words.site) ≡ None) → sizes ≡ sizes_asked words
     → length spools ≡ length words.site.boxes.items
     → (◌≡◌ {A = Result Served HouseFault} (Ok served) (Err house.Size)) ⊎ IsSize site sizes words.lanes (length spools) (length spools)
-    → IsServerRun L G C E site state (record { lanes = words.lanes; quota = sizes.quota }) spools served
-    → IsServedAsAsked L G C E state words served
-served_as_asked L G C E state words served site sizes spools address made asked boxes good ran = record {
+    → IsServerRun L C E site state told (record { lanes = words.lanes; quota = sizes.quota }) spools served
+    → IsServedAsAsked L C E told state words served
+served_as_asked L C E told state words served site sizes spools address made asked boxes good ran = record {
   place = address;
   sound = made.1;
   sizes = size_asked words site sizes (length spools) made.0 asked boxes (size_of_sum served (IsSize site sizes words.lanes (length spools) (length spools)) good);
   spools = spools;
   each_box = boxes;
-  ran = subst (λ quota. IsServerRun L G C E (named_site words.site) state (record { lanes = words.lanes; quota = quota }) spools served) (ap (λ (s : Sizes). s.quota) asked)
-      (subst (λ (s : Site). IsServerRun L G C E s state (record { lanes = words.lanes; quota = sizes.quota }) spools served) made.0 ran);
+  ran = subst (λ quota. IsServerRun L C E (named_site words.site) state told (record { lanes = words.lanes; quota = quota }) spools served) (ap (λ (s : Sizes). s.quota) asked)
+      (subst (λ (s : Site). IsServerRun L C E s state told (record { lanes = words.lanes; quota = sizes.quota }) spools served) made.0 ran);
 }
 
 pub no_server : (words : ServeWords) (cause : HouseFault) (site : Site) (sizes : Sizes) (count : ℕ)

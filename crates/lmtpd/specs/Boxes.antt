@@ -1,5 +1,5 @@
 -- The words of a site once the file was read that lists further mailboxes.
-use Rattle.std.specs.Prelude.{◌≡◌, ◌⊎◌, ◌≤◌, ℕ, List, length, Option, Some, MatchOption, IfSome}
+use Rattle.std.specs.Prelude.{◌≡◌, ◌⊎◌, ◌≤◌, length, Option, MatchOption, IfSome}
 use Rattle.clap.specs.Words.{Text}
 use Rattle.lmtpd_words.specs.Words.{HasListed}
 use Rattle.lmtpd_words.specs.declared.words.TheConstants.{BOXES_FILE_LIMIT}

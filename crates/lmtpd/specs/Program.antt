@@ -8,6 +8,7 @@ use Rattle.clap.specs.declared.error.kind.ErrorKind.TheVariants.{OutOfMemory}
 use Rattle.mail_world.specs.Text.{lf}
 use Rattle.lmtp_text.specs.Sites.{texts}
 use Rattle.mbox_rd.specs.Spool.{SpoolState}
+use Rattle.lmtp_talk.specs.Entries.{Entry}
 use Rattle.lmtp_house.specs.House.{IsSize}
 use Rattle.lmtp_house.specs.declared.house.sizes.Sizes.{Sizes}
 use Rattle.lmtp_talk.specs.declared.tcp.peer.Bounds.{Bounds}
@@ -133,14 +134,14 @@ IsSizeAsked words =
 
 -- A server that its words asked for ran: where they say, at the site that they name, with their sizes, over a spool for
 -- each mailbox.
-pub record IsServedAsAsked (L G C E : Type 0) {S : Type 0} (state : S → SpoolState) (words : ServeWords)
-    (served : ServedRun) : Type 0 where
+pub record IsServedAsAsked (L C E : Type 0) {G S : Type 0} (told : G → Option (List Entry)) (state : S → SpoolState)
+    (words : ServeWords) (served : ServedRun) : Type 0 where
   pub place : IsPlace words.listen.now
   pub sound : first_fault (named_site words.site) ≡ None
   pub sizes : IsSizeAsked words
   pub spools : List S
   pub each_box : length spools ≡ length words.site.boxes.items
-  pub ran : IsServerRun L G C E (named_site words.site) state (record { lanes = words.lanes; quota = words.quota }) spools served
+  pub ran : IsServerRun L C E (named_site words.site) state told (record { lanes = words.lanes; quota = words.quota }) spools served
 
 -- why none ran though its site is sound: a mailbox's file, what it listens on, or the server; a port that none may
 -- have is seen only now where the socket was passed

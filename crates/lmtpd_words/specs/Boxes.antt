@@ -4,10 +4,11 @@ use Rattle.std.specs.Char.{is_ascii_whitespace}
 use Rattle.std.specs.List.{before_first, filter, prefix_len, slice_split, suffix_len}
 use Rattle.mail_world.specs.Text.{lf}
 
--- a text without the white space before and after it: spaces, tabs, CR, LF and form feeds
+-- a text without the white space that it begins with: spaces, tabs, CR, LF and form feeds
 abbrev pub without_front : List ℕ → List ℕ
 without_front text = drop (prefix_len is_ascii_whitespace text) text
 
+-- and without that which it ends with
 abbrev pub trimmed : List ℕ → List ℕ
 trimmed text = take (length (without_front text) - suffix_len is_ascii_whitespace (without_front text)) (without_front text)
 

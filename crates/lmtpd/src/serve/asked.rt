@@ -1,14 +1,11 @@
 //! The server that the program's words ask for.
 
 ghost use Rattle.std.specs.Prelude.{◌≡◌, IfErr, MatchResult};
-ghost use Rattle.log.specs.declared.handle.Handle.{Handle};
-ghost use Rattle.log.specs.declared.handle.Root.{Root};
 ghost use Rattle.lmtpd_listen.specs.declared.server.ServerSocket.{ServerSocket};
-ghost use Rattle.lmtpd_log.specs.declared.lines.ErrorLines.{ErrorLines};
 ghost use Rattle.lmtpd_serve.specs.declared.ends.ServerCurfew.{ServerCurfew};
 ghost use Rattle.lmtpd.specs.Program.{IsNotServed, IsServedAsAsked};
 
-use super::logger::{ServerLog, server_log};
+use super::logger::{ServerLog, line_setting, server_log};
 use super::mailboxes::{Access, ServedMailbox, open_mailboxes};
 use super::numbers::{bounds_asked, connections_asked, ends_asked, sizes_asked};
 use super::opening::open_place;
@@ -17,6 +14,7 @@ use crate::fault::Fault;
 use crate::site::shared_site;
 use crate::stop::Stop;
 use lmtpd_listen::{Opened, place_of};
+use lmtpd_log::{LaneLog, LineLog};
 use lmtpd_serve::{Conversations, Served, ServerCurfew, serve_run};
 use lmtpd_words::ServeWords;
 use mbox_rd::{FileLock, RangeLock, Spool};
@@ -45,7 +43,7 @@ where
     H: Threads + Wait + Clock + Files + Eprint + Copy + Drop + Send + Sync + 'static,
     W: Write + Drop,
     ensures { MatchResult result
-        (IsServedAsAsked ServerSocket (Handle H (Root (ErrorLines H))) H (ServerCurfew H)
+        (IsServedAsAsked ServerSocket H (ServerCurfew H) (⟦<LineLog<ServerLog<H>, H> as LaneLog>⟧.told)
         (⟦<ServedMailbox<H, ServerLog<H>> as Spool>⟧.state) words.now)
         (IsNotServed words.now) }
 {
@@ -70,7 +68,7 @@ where
     H: Threads + Wait + Clock + Files + Eprint + Copy + Drop + Send + Sync + 'static,
     W: Write + Drop,
     ensures { MatchResult result
-        (IsServedAsAsked ServerSocket (Handle H (Root (ErrorLines H))) H (ServerCurfew H)
+        (IsServedAsAsked ServerSocket H (ServerCurfew H) (⟦<LineLog<ServerLog<H>, H> as LaneLog>⟧.told)
         (⟦<ServedMailbox<H, ServerLog<H>> as Spool>⟧.state) words.now)
         (IsNotServed words.now) }
 {
@@ -86,6 +84,7 @@ where
     };
     let curfew = shared_curfew(threads, alloc, words)?;
     let spools = open_mailboxes(threads, alloc, access, &words.site.boxes, &curfew, log)?;
+    let logs = line_setting(threads, log, Arc::try_clone(&site)?);
     let Opened { socket, file } = open_place(rt, alloc, place, words.socket_mode, &log)?;
     let conversations = Conversations {
         lanes: words.lanes,
@@ -102,7 +101,7 @@ where
         conversations,
         socket,
         spools,
-        log,
+        logs,
         writer,
     );
     file.remove(rt);

@@ -1,10 +1,7 @@
 //! The server that the program's words ask for, with the mailboxes that their file lists.
 
 ghost use Rattle.std.specs.Prelude.{MatchResult};
-ghost use Rattle.log.specs.declared.handle.Handle.{Handle};
-ghost use Rattle.log.specs.declared.handle.Root.{Root};
 ghost use Rattle.lmtpd_listen.specs.declared.server.ServerSocket.{ServerSocket};
-ghost use Rattle.lmtpd_log.specs.declared.lines.ErrorLines.{ErrorLines};
 ghost use Rattle.lmtpd_serve.specs.declared.ends.ServerCurfew.{ServerCurfew};
 ghost use Rattle.lmtpd.specs.Boxes.{IsFilled};
 ghost use Rattle.lmtpd.specs.Program.{IsNotServedFilled, IsServedAsAsked, IsServedFilled};
@@ -14,6 +11,7 @@ use super::logger::ServerLog;
 use super::mailboxes::ServedMailbox;
 use crate::boxes::fill;
 use crate::stop::Stop;
+use lmtpd_log::{LaneLog, LineLog};
 use lmtpd_serve::Served;
 use lmtpd_words::ServeWords;
 use mbox_rd::{FileLock, RangeLock, Spool};
@@ -42,7 +40,7 @@ where
     W: Write + Drop,
     ensures { MatchResult result
         (IsServedFilled (IsFilled P.File.remaining)
-        (IsServedAsAsked ServerSocket (Handle H (Root (ErrorLines H))) H (ServerCurfew H)
+        (IsServedAsAsked ServerSocket H (ServerCurfew H) (⟦<LineLog<ServerLog<H>, H> as LaneLog>⟧.told)
         (⟦<ServedMailbox<H, ServerLog<H>> as Spool>⟧.state)) words.entry)
         (IsNotServedFilled (IsFilled P.File.remaining) words.entry) }
 {

@@ -1,9 +1,13 @@
 //! The log of a server.
 
-use lmtpd_log::{ErrorLines, is_journal};
+use lmtp_text::Site;
+use lmtpd_log::{ErrorLines, LineSetting, is_journal};
 use log::{LevelFilter, Logged};
 use std::env::Env;
 use std::fs::Files;
+use std::io;
+use std::sync::Arc;
+use std::time::{Clock, Duration};
 
 /// The log of the threads, on standard error.
 pub type ServerLog<H> = Logged<H, ErrorLines<H>>;
@@ -12,4 +16,26 @@ pub type ServerLog<H> = Logged<H, ErrorLines<H>>;
 pub fn server_log<P: Files + Env, H: Copy>(rt: &P, threads: H, level: LevelFilter) -> ServerLog<H> {
     let lines = ErrorLines::new(threads, is_journal(rt));
     Logged::new(threads, level, lines)
+}
+
+/// What the lanes' lines have in common: they name the mailboxes of the site, and when the server began, which is now.
+pub fn line_setting<H: Clock + Copy>(
+    threads: H,
+    log: ServerLog<H>,
+    site: Arc<Site>,
+) -> LineSetting<ServerLog<H>, H> {
+    LineSetting {
+        log,
+        clock: threads,
+        site,
+        start: microseconds(threads.since_1970()),
+    }
+}
+
+// The microseconds of a time since 1970; 0 for a time before that.
+fn microseconds(since: io::Result<Duration>) -> u64 {
+    match since {
+        Ok(time) => u64::try_from(time.as_micros()).unwrap_or(u64::MAX),
+        Err(_) => 0,
+    }
 }

@@ -1,4 +1,4 @@
-use Rattle.std.proofs.Common.{◌≡◌, ◌≤◌, ◌∙◌, ap, length, arith}
+use Rattle.std.proofs.Common.{◌≤◌, ◌∙◌, ap, length, arith}
 use Rattle.lmtpd_words.specs.declared.words.TheConstants.{BOXES_FILE_LIMIT}
 use Rattle.lmtpd.proofs.Whole.{read_whole}
 use Rattle.lmtpd.proofs.boxes.whole_text.Goals as goal
