@@ -1,5 +1,8 @@
 //! The log of a server.
 
+ghost use Rattle.std.specs.Prelude.{◌≡◌, IfErr};
+
+use crate::fault::Fault;
 use lmtp_text::Site;
 use lmtpd_log::{ErrorLines, LineSetting, is_journal};
 use log::{LevelFilter, Logged};
@@ -22,14 +25,16 @@ pub fn server_log<P: Files + Env, H: Copy>(rt: &P, threads: H, level: LevelFilte
 pub fn line_setting<H: Clock + Copy>(
     threads: H,
     log: ServerLog<H>,
-    site: Arc<Site>,
-) -> LineSetting<ServerLog<H>, H> {
-    LineSetting {
+    site: &Arc<Site>,
+) -> Result<LineSetting<ServerLog<H>, H>, Fault>
+    ensures { IfErr result (λ f. f ≡ Fault.Memory) }
+{
+    Ok(LineSetting {
         log,
         clock: threads,
-        site,
+        site: Arc::try_clone(site)?,
         start: microseconds(threads.since_1970()),
-    }
+    })
 }
 
 // The microseconds of a time since 1970; 0 for a time before that.
