@@ -3,19 +3,28 @@
 import os
 import re
 import socket
+import time
 
 import failing
 import letters
 from cases import case, equal
 from clients import Client, deliver_one
-from replies import CLOSING, GO_AHEAD, GREETING, OFFER, RECIPIENT_OK, SENDER_OK, as_bytes, not_stored, stored
+from replies import CLOSING, GO_AHEAD, GREETING, OFFER, RECIPIENT_OK, SENDER_OK, as_bytes
+from replies import not_stored, over_quota, stored
 from server import Server, run, start, words
 
 LINE = re.compile(
     r"\[INFO  lmtpd\] conversation ended"
     r" lane=(\d+) client=(\S+) cause=(\S+) read=(\d+) written=(\d+) seconds=(\d+\.\d{3})"
 )
+ANSWER = re.compile(
+    r"\[INFO  lmtpd\] copy answered id=(\d{16})-(\d+-\d+) mailbox=(\S+) outcome=(\S+) code=(\d{3})"
+    r" bytes=(\d+) seconds=(\d+\.\d{3}) client=(\S+)"
+)
+REFUSAL = re.compile(r"\[INFO  lmtpd\] command refused lane=(\d+) verb=(\S+) code=(\d{3})")
 LETTER = ["Subject: a secret", "", "hello"]
+# the bytes of that letter
+SIZE = sum(len(line) + 2 for line in LETTER)
 # what the client of `deliver_one` says and hears
 SAID = (
     "LHLO relay.example\r\nMAIL FROM:<carl@a.example>\r\nRCPT TO:<anna@mx.example>\r\nDATA\r\n"
@@ -42,13 +51,23 @@ def conversation(line):
     return int(lane), client, cause, int(read), int(written), float(seconds)
 
 
-def one_conversation(folder, hold, *more, listen="127.0.0.1:0"):
-    """What is logged of a conversation that the client holds so, on one lane."""
+def answer(line):
+    """The id after its microseconds, the mailbox, outcome, code, bytes and client of a copy's line, and its seconds."""
+    found = ANSWER.fullmatch(line)
+    assert found, line
+    _, number, mailbox, outcome, code, size, seconds, client = found.groups()
+    return (number, mailbox, outcome, code, int(size), client), float(seconds)
+
+
+def one_conversation(folder, hold, *more, listen="127.0.0.1:0", copies=0):
+    """What is logged of the end of a conversation that the client holds so, on one lane, after as many copies."""
     with Server(folder, ["anna"], 1, "--lanes", 1, "--log", "info", *more, listen=listen) as server:
         hold(server.address)
         ended = server.end()
-    equal((ended.status, len(ended.errors)), (0, 1))
-    return conversation(ended.errors[0])
+    equal((ended.status, len(ended.errors)), (0, copies + 1))
+    for line in ended.errors[:-1]:
+        assert ANSWER.fullmatch(line), line
+    return conversation(ended.errors[-1])
 
 
 @case
@@ -63,15 +82,71 @@ def nothing_is_logged_unless_asked(folder):
 @case
 def conversations_are_logged(folder):
     """a conversation that ended is logged with its lane, client, cause and bytes, and with no address and no subject"""
-    logged = one_conversation(folder, lambda address: deliver_one(address, ["anna"], *LETTER))
+    logged = one_conversation(folder, lambda address: deliver_one(address, ["anna"], *LETTER), copies=1)
     equal(logged[:5], (0, "127.0.0.1", "quit", len(SAID), len(HEARD)))
     assert 0 <= logged[5] < 5, logged
 
 
 @case
+def copies_are_logged_as_they_are_answered(folder):
+    """each copy has its line before the conversation ends: the id of its Received line, the mailbox, the outcome, the
+    code, the bytes, the seconds since its data had ended, and the client's name; without an address and a subject"""
+    log, more = folder / "log", ["--lanes", 1, "--quota", 300, "--log", "info"]
+    with log.open("wb") as errors, Server(folder, ["anna", "ben"], 2, *more, errors=errors) as server:
+        with Client(server.address).greet() as client:
+            equal(client.deliver(["anna", "ben"], *LETTER)[1], [stored("anna"), stored("ben")])
+            equal(client.deliver(["anna"], *LETTER)[1], [over_quota("anna")])
+            until = time.monotonic() + 10
+            while log.read_text().count("\n") < 3 and time.monotonic() < until:
+                time.sleep(0.01)
+            equal(log.read_text().count("copy answered"), 3)
+            client.quit()
+        deliver_one(server.address, ["ben"], "Subject: b", "")
+        equal(server.end().status, 0)
+    logged = log.read_text().splitlines()
+    lines = [answer(line) for line in logged if "copy answered" in line]
+    first, small = (SIZE, "relay.example"), (len("Subject: b\r\n\r\n"), "relay.example")
+    wanted = [("0-1", "anna", "stored", "250", *first), ("0-1", "ben", "stored", "250", *first)]
+    wanted += [("0-2", "anna", "over-quota", "452", *first), ("0-3", "ben", "over-quota", "452", *small)]
+    equal([line for line, _ in lines], wanted)
+    assert all(seconds < 5 for _, seconds in lines), lines
+    assert "secret" not in str(logged) and "@" not in str(logged), logged
+    assert b" id 0-1;" in server.mailbox("anna").read_bytes()
+
+
+@case
+def refused_commands_are_logged(folder):
+    """a command that is refused has its line, with its verb and the code, and one that is taken has none"""
+    said = [
+        ("RCPT TO:<anna@mx.example>", ("RCPT", "503")),
+        ("mail FROM:<carl@a.example> SIZE=1048577", ("MAIL", "552")),
+        ("MAIL FROM:<carl@a.example>", None),
+        ("RCPT TO:<nobody@mx.example>", ("RCPT", "550")),
+        ("RCPT TO:<anna@mx.example", ("RCPT", "501")),
+        ("RCPT TO:<anna@mx.example>", None),
+        ("EHLO relay.example", ("EHLO", "500")),
+        ("EXPN anna", ("EXPN", "502")),
+        ("FOO bar", ("other", "500")),
+        ("x" * 2_000, ("long", "500")),
+        ("NOOP", None),
+    ]
+    with Server(folder, ["anna"], 1, "--lanes", 1, "--log", "info") as server:
+        with Client(server.address).greet() as client:
+            heard = [client.ask(line) for line, _ in said]
+            client.quit()
+        ended = server.end()
+    refused = [code[:3] for code in heard if code[0] in "45"]
+    lines = [REFUSAL.fullmatch(line) for line in ended.errors[:-1]]
+    assert all(lines), ended.errors
+    wanted = [("0", *logged) for _, logged in said if logged]
+    equal(([line.groups() for line in lines], [line[3] for line in lines]), (wanted, refused))
+
+
+@case
 def no_name_forges_a_line(folder):
-    """a client puts line ends and other control bytes into its name, a sender, a mailbox and commands: the log has the
-    one line of its conversation, and the mailbox the one letter that follows"""
+    """a client puts line ends and other control bytes into its name, a sender, a mailbox and commands: the log has
+    lines of refused commands, of the one copy and of the conversation alone, and the mailbox the one letter that
+    follows"""
     for listen in "127.0.0.1:0", f"unix:{folder}/sock":
         place = folder / listen[:4]
         place.mkdir()
@@ -87,8 +162,11 @@ def no_name_forges_a_line(folder):
                 equal(client.deliver(["anna"], *LETTER)[1], [stored("anna")])
                 equal(client.quit(), CLOSING)
             ended = server.end()
-        equal((ended.status, ended.said, len(ended.errors)), (0, ["anna stored 1"], 1))
-        equal(conversation(ended.errors[0])[:3], (0, "unix" if "unix" in listen else "127.0.0.1", "quit"))
+        equal((ended.status, ended.said), (0, ["anna stored 1"]))
+        *refused, copy, last = ended.errors
+        assert refused and all(REFUSAL.fullmatch(line) for line in refused), refused
+        equal(answer(copy)[0][1:], ("anna", "stored", "250", SIZE, "relay.example"))
+        equal(conversation(last)[:3], (0, "unix" if "unix" in listen else "127.0.0.1", "quit"))
         stands = ("carl@a.example", "relay.example", b"Subject: a secret\n\nhello\n")
         equal(letters.read(server.mailbox("anna")), [stands])
 
@@ -96,7 +174,7 @@ def no_name_forges_a_line(folder):
 @case
 def clients_of_the_other_version(folder):
     """a client over IPv6 is logged by its address"""
-    logged = one_conversation(folder, lambda address: deliver_one(address, ["anna"], *LETTER), listen="[::1]:0")
+    logged = one_conversation(folder, lambda address: deliver_one(address, ["anna"], *LETTER), listen="[::1]:0", copies=1)
     equal(logged[1], "::1")
 
 
@@ -165,12 +243,13 @@ def too_many_reads_are_logged(folder):
 def a_mailbox_that_fails_is_logged_once(folder):
     """a mailbox whose calls all fail from some letter on is logged once, with the system's reason, at error and info"""
     library = failing.built(folder)
-    for level, conversations in ("error", 0), ("info", 2):
+    # two conversations, each of a copy for two mailboxes
+    for level, others in ("error", 0), ("info", 2 + 4):
         answers, ended = next(filter(None, (failed_run(folder, library, level, call) for call in range(1, 30))))
         assert answers[1] == [not_stored("anna"), stored("ben")], answers
         equal(ended.errors.count(f"[ERROR lmtpd] mailbox failed mailbox=anna reason={NO_INPUT_OUTPUT}"), 1)
         equal(sum("mailbox failed" in line for line in ended.errors), 1)
-        equal((len(ended.errors), ended.errors[-1]), (2 + conversations, "lmtpd: device fault"))
+        equal((len(ended.errors), ended.errors[-1]), (2 + others, "lmtpd: device fault"))
 
 
 def failed_run(folder, library, level, call):
@@ -205,7 +284,6 @@ def a_mailbox_that_cannot_be_opened_is_logged(folder):
 def the_journal_is_told_priorities(folder):
     """where JOURNAL_STREAM names standard error the lines of the log have <3> or <6> before them, else nothing; the
     program's own lines never have"""
-    conversation = r"\[INFO  lmtpd\] conversation ended .*"
     refusal = f"[ERROR lmtpd] cannot open mailbox=anna reason={NO_FILE}"
     ends = socket.socketpair()
     with ends[0], ends[1]:
@@ -217,7 +295,9 @@ def the_journal_is_told_priorities(folder):
         for name in [own, *others]:
             is_own = name == own
             logged = journal_lines(folder, ends, name, is_served=True)
-            equal((len(logged), bool(re.fullmatch("<6>" * is_own + conversation, logged[0]))), (1, True))
+            equal(len(logged), 2)
+            for line, told in zip(logged, ["copy answered", "conversation ended"]):
+                assert re.fullmatch(rf"{'<6>' * is_own}\[INFO  lmtpd\] {told} .*", line), line
             logged = journal_lines(folder / "none", ends, name, is_served=False)
             equal(logged, ["<3>" * is_own + refusal, "lmtpd: cannot open anna.mbox"])
 

@@ -166,8 +166,9 @@ def in_use_is_told(folder):
     told = [line for line in ended.errors if line.startswith("lmtpd: ")]
     in_use = ["lmtpd: anna in use 3", "lmtpd: carla in use 1"]
     equal((told, ended.errors[-4:]), ([*in_use, "lmtpd: ben over quota 1", "lmtpd: anna over quota 1"], told))
+    failed = [line for line in ended.errors if line.startswith("[ERROR ")]
     for name, count in {"anna": 2, "carla": 2, "ben": 0, "dora": 0}.items():
-        equal((name, len([line for line in ended.errors if f"mailbox={name}" in line])), (name, count))
+        equal((name, len([line for line in failed if f"mailbox={name}" in line])), (name, count))
 
 
 def gone_process():

@@ -50,8 +50,8 @@ def over_a_unix_socket(folder):
         equal(server.first, f"listening on unix:{path}\n")
         equal(deliver_one(path, ["anna"], "hello"), [STORED])
         ended = server.end()
-    equal((ended.status, ended.said, len(ended.errors)), (0, ["anna stored 1"], 1))
-    assert " client=unix cause=quit " in ended.errors[0], ended.errors
+    equal((ended.status, ended.said, len(ended.errors)), (0, ["anna stored 1"], 2))
+    assert " client=unix cause=quit " in ended.errors[-1], ended.errors
     equal(letters.messages(server.mailbox("anna")), [b"hello\n"])
     equal(path.exists(), False)
 
