@@ -9,10 +9,12 @@ use Rattle.atomic_table.proofs.Lists.{at_set}
 use Rattle.mail_post.specs.declared.rule.Parcel.{Parcel}
 use Rattle.mail_post.specs.declared.rule.Parcel.TheVariants.{Copy, Mark}
 use Rattle.mail_post.specs.declared.rule.View.{View}
-use Rattle.mail_post.specs.Views.{sender, taker, knower, settled, put, took}
-use Rattle.mail_post.specs.Parcels.{lane_of, part, messages, all_of_lane}
-use Rattle.mail_post.specs.Rule.{FitsKnown, Fits, Carries, IsFair, Agrees}
+use Rattle.mail_post.specs.Times.{AreTimed, Times, KeepsTime}
+use Rattle.mail_post.specs.Views.{sender, taker, knower, settled, IsPut, IsTook}
+use Rattle.mail_post.specs.Parcels.{of, lane_of, part, messages, all_of_lane}
+use Rattle.mail_post.specs.Rule.{Traffic, FitsKnown, Fits, Carries, IsFair, Agrees, HasPassed}
 use Rattle.mail_post.proofs.Parcels.{part-append, part-here, part-else, of-copies, copies-append, copies-all_of_lane, all_of_lane-put, all_of_lane-end, front, all-there, has_mark-part}
+use Rattle.mail_post.proofs.Timing.{begin_time, same_time, put_time, take_time, timed_of}
 
 module _ {M : Type 0} (lane : M → ℕ) where
   -- f, but a at k
@@ -60,7 +62,7 @@ module _ {M : Type 0} (lane : M → ℕ) where
   last? : (l : List (List M)) (a : List M) (k : ℕ) → k < length (l ++ a ∷ []) → (k < length l) ⊎ (k ≡ length l)
   last? l a k h = let e = length-append l (a ∷ []) in let h' : k < length l + 1 = rw e at h in grind arith
 
-  get_or_last : (l : List (List M)) (a d : List M) → get_or (l ++ a ∷ []) (length l) d ≡ a
+  get_or_last : {A : Type 0} (l : List A) (a d : A) → get_or (l ++ a ∷ []) (length l) d ≡ a
   get_or_last [] a d = refl
   get_or_last (x ∷ xs) a d = get_or_last xs a d
 
@@ -68,107 +70,190 @@ module _ {M : Type 0} (lane : M → ℕ) where
   nil_left [] ys e = refl
   nil_left (x ∷ xs) ys e = absurd (cc)
 
-  pub begins : Carries lane [] (taker 0 [] ∷ [])
-  begins = record {
-    traffic = record { seat = λ _. none; sent = λ _. []; closed = λ _. false; reader = 0; lanes = 0; got = [] };
-    order = λ _. refl;
-    others = λ _ _. (refl, refl, refl);
-    fits = all_set (Fits (record { seat = λ _. none; sent = λ _. []; closed = λ _. false; reader = 0; lanes = 0; got = [] })) (taker 0 [] ∷ []) 0 (taker 0 [])
-        ((λ p. absurd (true≢false (sym p))), (λ _. (refl, refl, refl)), (λ k h. absurd (omega arith)))
-        (λ j u other e. ⊎_elim (λ x. absurd (some-ne-none u (sym x))) (λ x. absurd (other x.0)) (at_end [] (taker 0 []) u j e));
+  -- what is there before the first step
+  abbrev none_yet : Traffic M
+  none_yet = record {
+    seat = λ _. none;
+    sent = λ _. [];
+    closed = λ _. false;
+    reader = 0;
+    lanes = 0;
+    got = [];
+    sent_at = λ _. [];
+    times = record { got_at = []; took_at = []; queue_at = []; latest = 0 };
   }
 
-  -- a lane's pass puts x, after which it was told that s was accepted
-  moves : (n pass : ℕ) (v : View M) (x : Parcel M) (s : List M) (b : Bool) → v.sends ≡ true → lane_of lane x ≡ v.lane → all_of_lane v.lane s b ≡ all_of_lane v.lane v.sent v.shut ++ x ∷ []
-      → Pushes (Carries lane) n pass v x (λ w. w ≡ sender v.lane s b)
-  moves n pass v x s b may is grown items views _ h at =
-      let w : View M = sender v.lane s b in
+  pub begins : Carries lane [] (taker 0 [] [] [] ∷ [])
+  begins = record {
+    traffic = none_yet;
+    order = λ _. refl;
+    others = λ _ _. (refl, refl, refl, refl);
+    timed = begin_time lane;
+    fits = all_set (Fits none_yet) (taker 0 [] [] [] ∷ []) 0 (taker 0 [] [] [])
+        ((λ p. absurd (true≢false (sym p))), (λ _. (refl, refl, refl, refl, refl)), (λ k h. absurd (omega arith)))
+        (λ j u other e. ⊎_elim (λ x. absurd (some-ne-none u (sym x))) (λ x. absurd (other x.0)) (at_end [] (taker 0 [] [] []) u j e));
+  }
+
+  -- a lane's pass puts x, after which it was told that s was accepted, at these times
+  moved : (pass : ℕ) (v : View M) (x : Parcel M) (s : List M) (told : List ℕ) (b : Bool) (items : List (Parcel M)) (views : List (View M)) (h : Carries lane items views) (q : Times)
+      → v.sends ≡ true → lane_of lane x ≡ v.lane → all_of_lane v.lane s b ≡ all_of_lane v.lane v.sent v.shut ++ x ∷ [] → get_elem? views pass ≡ some v
+      → (q.got_at ≡ h.traffic.times.got_at) × (q.took_at ≡ h.traffic.times.took_at)
+      → KeepsTime lane (messages h.traffic.got) (messages (items ++ x ∷ [])) (changed h.traffic.sent_at v.lane told) q
+      → Carries lane (items ++ x ∷ []) (set views pass (sender v.lane s told b))
+  moved pass v x s told b items views h q may is grown at same timed =
+      let w : View M = sender v.lane s told b in
       let mine = (h.fits pass v at).0 may in
       let sent : ℕ → List M = changed h.traffic.sent v.lane s in
       let closed : ℕ → Bool = changed h.traffic.closed v.lane b in
+      let sent_at : ℕ → List ℕ = changed h.traffic.sent_at v.lane told in
+      let new : Traffic M = record h.traffic { sent = sent; closed = closed; sent_at = sent_at; times = q } in
       let here : all_of_lane v.lane (sent v.lane) (closed v.lane) ≡ all_of_lane v.lane (h.traffic.sent v.lane) (h.traffic.closed v.lane) ++ x ∷ [] =
       (λ i. all_of_lane v.lane (changed_here h.traffic.sent v.lane s i) (changed_here h.traffic.closed v.lane b i)) ∙ grown ∙ (λ i. all_of_lane v.lane (sym mine.1 i) (sym mine.2 i) ++ x ∷ []) in
-      let taken : (k : ℕ) → h.traffic.seat k ≡ none → k ≢ v.lane = λ k e q. some-ne-none pass (sym mine.0 ∙ ap h.traffic.seat (sym q) ∙ e) in (
-        w,
-        record {
-          traffic = record h.traffic { sent = sent; closed = closed };
-          order = grows h.traffic.got items x (λ j. all_of_lane j (h.traffic.sent j) (h.traffic.closed j)) (λ j. all_of_lane j (sent j) (closed j)) v.lane is h.order here (λ j other i. all_of_lane j (changed_else h.traffic.sent v.lane s j other i) (changed_else h.traffic.closed v.lane b j other i));
-          others = λ k le. let q = h.others k le in let other = taken k q.0 in (q.0, changed_else h.traffic.sent v.lane s k other ∙ q.1, changed_else h.traffic.closed v.lane b k other ∙ q.2);
-          fits = all_set (Fits (record h.traffic { sent = sent; closed = closed })) views pass w
-              ((λ _. (mine.0, changed_here h.traffic.sent v.lane s, changed_here h.traffic.closed v.lane b)), (λ p. absurd (true≢false (sym p))), (λ k l. absurd (omega arith)))
-              (λ j u apart e. let f = h.fits j u e in (
-                (λ p. let q = f.0 p in let other : u.lane ≢ v.lane = λ t. apart (some-injective j pass (sym q.0 ∙ ap h.traffic.seat t ∙ mine.0)) in
-                    (q.0, changed_else h.traffic.sent v.lane s u.lane other ∙ q.1, changed_else h.traffic.closed v.lane b u.lane other ∙ q.2)),
-                f.1,
-                (λ k l. let q = f.2 k l in (q.0, q.1, q.2 ∙ sym (changed_else h.traffic.sent v.lane s k (taken k q.1)))),
-              ));
-        },
+      let taken : (k : ℕ) → h.traffic.seat k ≡ none → k ≢ v.lane = λ k e q. some-ne-none pass (sym mine.0 ∙ ap h.traffic.seat (sym q) ∙ e) in record {
+        traffic = new;
+        order = grows h.traffic.got items x (λ j. all_of_lane j (h.traffic.sent j) (h.traffic.closed j)) (λ j. all_of_lane j (sent j) (closed j)) v.lane is h.order here (λ j other i. all_of_lane j (changed_else h.traffic.sent v.lane s j other i) (changed_else h.traffic.closed v.lane b j other i));
+        others = λ k le. let q = h.others k le in let other = taken k q.0 in
+            (q.0, changed_else h.traffic.sent v.lane s k other ∙ q.1, changed_else h.traffic.closed v.lane b k other ∙ q.2, changed_else h.traffic.sent_at v.lane told k other ∙ q.3);
+        timed = timed;
+        fits = all_set (Fits new) views pass w
+            ((λ _. (mine.0, changed_here h.traffic.sent v.lane s, changed_here h.traffic.closed v.lane b, changed_here h.traffic.sent_at v.lane told)), (λ p. absurd (true≢false (sym p))), (λ k l. absurd (omega arith)))
+            (λ j u apart e. let f = h.fits j u e in (
+              (λ p. let q = f.0 p in let other : u.lane ≢ v.lane = λ t. apart (some-injective j pass (sym q.0 ∙ ap h.traffic.seat t ∙ mine.0)) in
+                  (q.0, changed_else h.traffic.sent v.lane s u.lane other ∙ q.1, changed_else h.traffic.closed v.lane b u.lane other ∙ q.2, changed_else h.traffic.sent_at v.lane told u.lane other ∙ q.3)),
+              (λ p. let r = f.1 p in (r.0, r.1, r.2, r.3 ∙ sym same.0, r.4 ∙ sym same.1)),
+              (λ k l. let q = f.2 k l in let other = taken k q.1 in
+                  (q.0, q.1, q.2 ∙ sym (changed_else h.traffic.sent v.lane s k other), q.3 ∙ sym (changed_else h.traffic.sent_at v.lane told k other))),
+            ));
+      }
+
+  -- a copy of the lane is accepted, after any given time
+  pub offers : (after n pass : ℕ) (v : View M) (p : M) → v.sends ≡ true → v.shut ≡ false → lane p ≡ v.lane → Pushes (Carries lane) n pass v (Copy p) (IsPut after v (Copy p))
+  offers after n pass v p may not_shut is items views _ h at =
+      let old = h.traffic in
+      let mine = (h.fits pass v at).0 may in
+      let t : ℕ = (old.times.latest + after) + 1 in
+      let told : List ℕ = v.sent_at ++ t ∷ [] in
+      let g : ℕ → List ℕ = changed old.sent_at v.lane told in
+      let q : Times = record old.times { queue_at = old.times.queue_at ++ t ∷ []; latest = t } in
+      let here : g v.lane ≡ old.sent_at v.lane ++ t ∷ [] = changed_here old.sent_at v.lane told ∙ ap (λ l. l ++ t ∷ []) (sym mine.3) in
+      let timed = put_time lane after (messages old.got) (messages items) old.sent_at g old.times p v.lane is h.timed here (changed_else old.sent_at v.lane told) in
+      let grown : all_of_lane v.lane (v.sent ++ p ∷ []) false ≡ all_of_lane v.lane v.sent v.shut ++ Copy p ∷ [] =
+      sym (all_of_lane-put lane v.lane v.sent p) ∙ (λ i. all_of_lane v.lane v.sent (sym not_shut i) ++ Copy p ∷ []) in (
+        sender v.lane (v.sent ++ p ∷ []) told false,
+        moved pass v (Copy p) (v.sent ++ p ∷ []) told false items views h q may is grown at (refl, refl)
+            (subst (λ (l : List M). KeepsTime lane (messages old.got) l g q) (sym (copies-append lane items (Copy p ∷ []))) timed),
+        (t, (omega arith), refl),
+      )
+
+  -- the lane's mark is put
+  pub marks : (after n pass : ℕ) (v : View M) → v.sends ≡ true → v.shut ≡ false → Pushes (Carries lane) n pass v (Mark v.lane) (IsPut after v (Mark v.lane))
+  marks after n pass v may not_shut items views _ h at =
+      let old = h.traffic in
+      let mine = (h.fits pass v at).0 may in
+      let g : ℕ → List ℕ = changed old.sent_at v.lane v.sent_at in
+      let same : (j : ℕ) → g j ≡ old.sent_at j = λ j. ⊎_elim
+      (λ (e : j ≡ v.lane). ap g e ∙ changed_here old.sent_at v.lane v.sent_at ∙ sym mine.3 ∙ ap old.sent_at (sym e))
+      (λ (n : j ≢ v.lane). changed_else old.sent_at v.lane v.sent_at j n) (same? j v.lane) in
+      let grown : all_of_lane v.lane v.sent true ≡ all_of_lane v.lane v.sent v.shut ++ Mark v.lane ∷ [] =
+      sym (all_of_lane-end lane v.lane v.sent) ∙ (λ i. all_of_lane v.lane v.sent (sym not_shut i) ++ Mark v.lane ∷ []) in
+      let none_more : messages items ≡ messages (items ++ Mark v.lane ∷ []) = sym (copies-append lane items (Mark v.lane ∷ []) ∙ append-nil (messages items)) in (
+        sender v.lane v.sent v.sent_at true,
+        moved pass v (Mark v.lane) v.sent v.sent_at true items views h old.times may refl grown at (refl, refl)
+            (subst (λ (l : List M). KeepsTime lane (messages old.got) l g old.times) none_more (same_time lane (messages old.got) (messages items) old.sent_at g old.times same h.timed)),
         refl,
       )
 
-  -- a copy of the lane is accepted
-  pub offers : (n pass : ℕ) (v : View M) (p : M) → v.sends ≡ true → v.shut ≡ false → lane p ≡ v.lane → Pushes (Carries lane) n pass v (Copy p) (λ w. w ≡ put v (Copy p))
-  offers n pass v p may not_shut is = moves n pass v (Copy p) (v.sent ++ p ∷ []) false may is (sym (all_of_lane-put lane v.lane v.sent (p)) ∙ (λ i. all_of_lane v.lane v.sent (sym not_shut i) ++ Copy (p) ∷ []))
+  -- what a taken parcel leaves
+  abbrev Leaves : ℕ → List (Parcel M) → List (View M) → View M → Type 0
+  Leaves pass items views w = Carries lane items (set views pass w) × IsFair lane w.lanes w.got × AreTimed w.got_at w.took_at
 
-  -- the lane's mark is put
-  pub marks : (n pass : ℕ) (v : View M) → v.sends ≡ true → v.shut ≡ false → Pushes (Carries lane) n pass v (Mark v.lane) (λ w. w ≡ put v (Mark v.lane))
-  marks n pass v may not_shut = moves n pass v (Mark v.lane) v.sent true may refl (sym (all_of_lane-end lane v.lane v.sent) ∙ (λ i. all_of_lane v.lane v.sent (sym not_shut i) ++ Mark v.lane ∷ []))
-
-  -- the oldest parcel is taken
-  pub takes : (pass : ℕ) (v : View M) → v.takes ≡ true → Pops (Carries lane) pass v (λ x w. (w ≡ took v x) × IsFair lane w.lanes w.got)
-  takes pass v may x items views h at =
-      let w : View M = took v x in
+  taken_as : (pass : ℕ) (v : View M) (x : Parcel M) (items : List (Parcel M)) (views : List (View M)) (h : Carries lane (x ∷ items) views) (accepted_at taken_at : List ℕ) (q : Times)
+      → v.takes ≡ true → get_elem? views pass ≡ some v → accepted_at ≡ q.got_at → taken_at ≡ q.took_at
+      → KeepsTime lane (messages (h.traffic.got ++ x ∷ [])) (messages items) h.traffic.sent_at q
+      → Leaves pass items views (taker v.lanes (v.got ++ x ∷ []) accepted_at taken_at)
+  taken_as pass v x items views h accepted_at taken_at q may at got_is took_is timed =
+      let w : View M = taker v.lanes (v.got ++ x ∷ []) accepted_at taken_at in
       let mine = (h.fits pass v at).1 may in
       let got : List (Parcel M) = h.traffic.got ++ x ∷ [] in
+      let new : Traffic M = record h.traffic { got = got; times = q } in
       let there : (k : ℕ) → part lane k (got ++ items) ≡ all_of_lane k (h.traffic.sent k) (h.traffic.closed k) = λ k. ap (part lane k) (append_assoc h.traffic.got (x ∷ []) items) ∙ h.order k in
       let split : (k : ℕ) → part lane k got ++ part lane k items ≡ all_of_lane k (h.traffic.sent k) (h.traffic.closed k) = λ k. sym (part-append lane k got items) ∙ there k in
       let fair : IsFair lane h.traffic.lanes got = λ k. (
         front lane k (part lane k got) (part lane k items) (h.traffic.sent k) (h.traffic.closed k) (split k),
         λ le. let q = h.others k le in nil_left (part lane k got) (part lane k items) (split k ∙ (λ i. all_of_lane k (q.1 i) (q.2 i))),
       ) in (
-        w,
         record {
-          traffic = record h.traffic { got = got };
+          traffic = new;
           order = there;
           others = h.others;
-          fits = all_set (Fits (record h.traffic { got = got })) views pass w
-              ((λ p. absurd (true≢false (sym p))), (λ _. (mine.0, mine.1, ap (λ l. l ++ x ∷ []) mine.2)), (λ k l. absurd (omega arith)))
+          timed = timed;
+          fits = all_set (Fits new) views pass w
+              ((λ p. absurd (true≢false (sym p))), (λ _. (mine.0, mine.1, ap (λ l. l ++ x ∷ []) mine.2, got_is, took_is)), (λ k l. absurd (omega arith)))
               (λ j u apart e. let f = h.fits j u e in (f.0, (λ p. absurd (apart ((f.1 p).0 ∙ sym mine.0))), f.2));
         },
-        (refl, subst (λ (y : ℕ × List (Parcel M)). IsFair lane y.0 y.1) (λ i. (sym mine.1 i, sym mine.2 i ++ x ∷ [])) fair),
+        subst (λ (y : ℕ × List (Parcel M)). IsFair lane y.0 y.1) (λ i. (sym mine.1 i, sym mine.2 i ++ x ∷ [])) fair,
+        subst (λ (y : List ℕ × List ℕ). AreTimed y.0 y.1) (λ i. (sym got_is i, sym took_is i)) (timed_of lane (messages got) (messages items) h.traffic.sent_at q timed),
+      )
+
+  -- the oldest parcel is taken, a message after any given time
+  pub takes : (after pass : ℕ) (v : View M) → v.takes ≡ true → Pops (Carries lane) pass v (λ x w. IsTook after v x w × IsFair lane w.lanes w.got × AreTimed w.got_at w.took_at)
+  takes after pass v may (Copy m) items views h at =
+      let old = h.traffic in
+      let mine = (h.fits pass v at).1 may in
+      let t : ℕ = (old.times.latest + after) + 1 in
+      let step = take_time lane after (messages old.got) (messages items) old.sent_at old.times m h.timed in
+      let s : ℕ = step.accepted_at in
+      let q : Times = record { got_at = old.times.got_at ++ s ∷ []; took_at = old.times.took_at ++ t ∷ []; queue_at = step.rest; latest = t } in
+      let all = taken_as pass v (Copy m) items views h (v.got_at ++ s ∷ []) (v.took_at ++ t ∷ []) q may at (ap (λ l. l ++ s ∷ []) mine.3) (ap (λ l. l ++ t ∷ []) mine.4)
+      (subst (λ (l : List M). KeepsTime lane l (messages items) old.sent_at q) (sym (copies-append lane old.got (Copy m ∷ []))) step.keeps) in
+      let below : s ≤ old.times.latest = step.below in (
+        taker v.lanes (v.got ++ Copy m ∷ []) (v.got_at ++ s ∷ []) (v.took_at ++ t ∷ []),
+        all.0,
+        ((s, t, (omega arith), (omega arith), refl), all.1, all.2),
+      )
+  takes after pass v may (Mark k) items views h at =
+      let old = h.traffic in
+      let mine = (h.fits pass v at).1 may in
+      let all = taken_as pass v (Mark k) items views h v.got_at v.took_at old.times may at mine.3 mine.4
+      (subst (λ (l : List M). KeepsTime lane l (messages items) old.sent_at old.times) (sym (copies-append lane old.got (Mark k ∷ []) ∙ append-nil (messages old.got))) h.timed) in (
+        taker v.lanes (v.got ++ Mark k ∷ []) v.got_at v.took_at,
+        all.0,
+        (refl, all.1, all.2),
       )
 
   -- the next lane gets its pass
-  pub lanes : (pass : ℕ) (v : View M) → v.takes ≡ true → Forks (Carries lane) pass v (taker (v.lanes + 1) v.got) (sender v.lanes [] false)
+  pub lanes : (pass : ℕ) (v : View M) → v.takes ≡ true → Forks (Carries lane) pass v (taker (v.lanes + 1) v.got v.got_at v.took_at) (sender v.lanes [] [] false)
   lanes pass v may items views h at =
-      let left : View M = taker (v.lanes + 1) v.got in
-      let right : View M = sender v.lanes [] false in
+      let left : View M = taker (v.lanes + 1) v.got v.got_at v.took_at in
+      let right : View M = sender v.lanes [] [] false in
       let mine = (h.fits pass v at).1 may in
       let vs : List (View M) = set views pass left in
       let seat : ℕ → Option ℕ = changed h.traffic.seat v.lanes (some (length vs)) in
       let free = h.others v.lanes (let e : v.lanes ≡ h.traffic.lanes = mine.1 in omega arith) in
       let old : All (Fits (record h.traffic { seat = seat; lanes = v.lanes + 1 })) vs = all_set (Fits (record h.traffic { seat = seat; lanes = v.lanes + 1 })) views pass left
-      ((λ p. absurd (true≢false (sym p))), (λ _. (mine.0, refl, mine.2)), (λ k l. absurd (omega arith)))
+      ((λ p. absurd (true≢false (sym p))), (λ _. (mine.0, refl, mine.2, mine.3, mine.4)), (λ k l. absurd (omega arith)))
       (λ j u apart e. let f = h.fits j u e in (
-        (λ p. let q = f.0 p in (changed_else h.traffic.seat v.lanes (some (length vs)) u.lane (λ t. some-ne-none j (sym q.0 ∙ ap h.traffic.seat t ∙ free.0)) ∙ q.0, q.1, q.2)),
+        (λ p. let q = f.0 p in (changed_else h.traffic.seat v.lanes (some (length vs)) u.lane (λ t. some-ne-none j (sym q.0 ∙ ap h.traffic.seat t ∙ free.0)) ∙ q.0, q.1, q.2, q.3)),
         (λ p. absurd (apart ((f.1 p).0 ∙ sym mine.0))),
         (λ k l. let q = f.2 k l in let below : k < h.traffic.lanes = q.0 in let is : v.lanes ≡ h.traffic.lanes = mine.1 in (
           (omega arith),
           changed_else h.traffic.seat v.lanes (some (length vs)) k (λ t. omega arith) ∙ q.1,
           q.2,
+          q.3,
         )),
       )) in record {
         traffic = record h.traffic { seat = seat; lanes = v.lanes + 1 };
         order = h.order;
-        others = λ k le. let is : v.lanes ≡ h.traffic.lanes = mine.1 in let q = h.others k (omega arith) in (changed_else h.traffic.seat v.lanes (some (length vs)) k (λ t. omega arith) ∙ q.0, q.1, q.2);
+        others = λ k le. let is : v.lanes ≡ h.traffic.lanes = mine.1 in let q = h.others k (omega arith) in (changed_else h.traffic.seat v.lanes (some (length vs)) k (λ t. omega arith) ∙ q.0, q.1, q.2, q.3);
+        timed = h.timed;
         fits = (λ j u e. ⊎_elim (old j u)
             (λ (is : (j ≡ length vs) × (right ≡ u)). subst (λ (y : ℕ × View M). Fits (record h.traffic { seat = seat; lanes = v.lanes + 1 }) y.0 y.1) (λ i. (sym is.0 i, is.1 i))
-            ((λ _. (changed_here h.traffic.seat v.lanes (some (length vs)), free.1, free.2)), (λ p. absurd (true≢false (sym p))), (λ k l. absurd (omega arith))))
+            ((λ _. (changed_here h.traffic.seat v.lanes (some (length vs)), free.1, free.2, free.3)), (λ p. absurd (true≢false (sym p))), (λ k l. absurd (omega arith))))
             (at_end vs right u j e));
       }
 
   -- a pass that knows nothing
-  pub opens : (pass : ℕ) (v : View M) → Forks (Carries lane) pass v v (knower [])
+  pub opens : (pass : ℕ) (v : View M) → Forks (Carries lane) pass v v (knower [] [])
   opens pass v items views h at =
       let vs : List (View M) = set views pass v in
       let F : ℕ → View M → Type 0 = Fits h.traffic in
@@ -176,16 +261,19 @@ module _ {M : Type 0} (lane : M → ℕ) where
         traffic = h.traffic;
         order = h.order;
         others = h.others;
+        timed = h.timed;
         fits = (λ j u e. ⊎_elim (old j u)
-            (λ (is : (j ≡ length vs) × (knower [] ≡ u)). subst (F j) is.1 ((λ p. absurd (true≢false (sym p))), (λ p. absurd (true≢false (sym p))), (λ k l. absurd (omega arith))))
-            (at_end vs (knower []) u j e));
+            (λ (is : (j ≡ length vs) × (knower [] [] ≡ u)). subst (F j) is.1 ((λ p. absurd (true≢false (sym p))), (λ p. absurd (true≢false (sym p))), (λ k l. absurd (omega arith))))
+            (at_end vs (knower [] []) u j e));
       }
 
   -- what a lane's pass knows joins what is known of the lanes before
-  pub ends : (pass : ℕ) (v : View M) (other : ℕ) (w : View M) → w.sends ≡ true → length v.known ≡ w.lane → Merges (Carries lane) pass v other w (knower (v.known ++ w.sent ∷ [])) (knower [])
-  ends pass v other w may next items views h at apart at' =
+  pub ends : (pass : ℕ) (v : View M) (other : ℕ) (w : View M) → w.sends ≡ true → length v.known ≡ w.lane → length v.known_at ≡ length v.known
+      → Merges (Carries lane) pass v other w (knower (v.known ++ w.sent ∷ []) (v.known_at ++ w.sent_at ∷ [])) (knower [] [])
+  ends pass v other w may next as_many items views h at apart at' =
       let ls : List (List M) = v.known ++ w.sent ∷ [] in
-      let both : View M = knower ls in
+      let ts : List (List ℕ) = v.known_at ++ w.sent_at ∷ [] in
+      let both : View M = knower ls ts in
       let was : get_elem? views other ≡ some w = ⊎_elim (λ x. absurd (apart x.0)) (λ x. x.1) (at_set views pass other both w at') in
       let theirs = (h.fits other w was).0 may in
       let mine = (h.fits pass v at).2 in
@@ -193,48 +281,51 @@ module _ {M : Type 0} (lane : M → ℕ) where
       let gone : (k : ℕ) → h.traffic.seat k ≡ none → seat k ≡ none = λ k e. ⊎_elim (λ t. ap seat t ∙ changed_here h.traffic.seat w.lane none) (λ n. changed_else h.traffic.seat w.lane none k n ∙ e) (same? k w.lane) in
       let F : ℕ → View M → Type 0 = Fits (record h.traffic { seat = seat }) in
       let known : FitsKnown (record h.traffic { seat = seat }) both = λ k l. ⊎_elim
-      (λ (low : k < length v.known). let q = mine k low in (q.0, gone k q.1, get_or_append_left v.known (w.sent ∷ []) [] k low ∙ q.2))
+      (λ (low : k < length v.known). let q = mine k low in (q.0, gone k q.1, get_or_append_left v.known (w.sent ∷ []) [] k low ∙ q.2, get_or_append_left v.known_at (w.sent_at ∷ []) [] k (omega (arith, as_many)) ∙ q.3))
       (λ (is : k ≡ length v.known). let at_k : k ≡ w.lane = is ∙ next in (
         ⊎_elim (λ (x : k < h.traffic.lanes). x) (λ (le : h.traffic.lanes ≤ k). absurd (some-ne-none other (sym theirs.0 ∙ ap h.traffic.seat (sym at_k) ∙ (h.others k le).0))) (below? k h.traffic.lanes),
         ap seat at_k ∙ changed_here h.traffic.seat w.lane none,
         ap (λ (i : ℕ). get_or ls i []) is ∙ get_or_last v.known w.sent [] ∙ sym theirs.1 ∙ ap h.traffic.sent (sym at_k),
+        ap (λ (i : ℕ). get_or ts i []) (is ∙ sym as_many) ∙ get_or_last v.known_at w.sent_at [] ∙ sym theirs.3 ∙ ap h.traffic.sent_at (sym at_k),
       ))
       (last? v.known w.sent k l) in
       let now : (j : ℕ) (u : View M) → j ≢ other → get_elem? (set views pass both) j ≡ some u → F j u = λ j u away e. ⊎_elim
       (λ (is : (j ≡ pass) × (both ≡ u)). subst (F j) is.1 ((λ p. absurd (true≢false (sym p))), (λ p. absurd (true≢false (sym p))), known))
       (λ (is : (j ≢ pass) × (get_elem? views j ≡ some u)). let f = h.fits j u is.1 in (
-        (λ p. let q = f.0 p in (changed_else h.traffic.seat w.lane none u.lane (λ t. away (some-injective j other (sym q.0 ∙ ap h.traffic.seat t ∙ theirs.0))) ∙ q.0, q.1, q.2)),
+        (λ p. let q = f.0 p in (changed_else h.traffic.seat w.lane none u.lane (λ t. away (some-injective j other (sym q.0 ∙ ap h.traffic.seat t ∙ theirs.0))) ∙ q.0, q.1, q.2, q.3)),
         f.1,
-        (λ k l. let q = f.2 k l in (q.0, gone k q.1, q.2)),
+        (λ k l. let q = f.2 k l in (q.0, gone k q.1, q.2, q.3)),
       ))
       (at_set views pass j both u e) in record {
         traffic = record h.traffic { seat = seat };
         order = h.order;
-        others = λ k le. let q = h.others k le in (gone k q.0, q.1, q.2);
-        fits = all_set F (set views pass both) other (knower []) ((λ p. absurd (true≢false (sym p))), (λ p. absurd (true≢false (sym p))), (λ k l. absurd (omega arith))) now;
+        others = λ k le. let q = h.others k le in (gone k q.0, q.1, q.2, q.3);
+        timed = h.timed;
+        fits = all_set F (set views pass both) other (knower [] []) ((λ p. absurd (true≢false (sym p))), (λ p. absurd (true≢false (sym p))), (λ k l. absurd (omega arith))) now;
       }
 
   -- what is known of the lanes joins what was taken
-  pub settles : (pass : ℕ) (v : View M) (other : ℕ) (w : View M) → w.takes ≡ true → Merges (Carries lane) pass v other w (settled w.lanes w.got v.known) (knower [])
+  pub settles : (pass : ℕ) (v : View M) (other : ℕ) (w : View M) → w.takes ≡ true → Merges (Carries lane) pass v other w (settled v w) (knower [] [])
   settles pass v other w may items views h at apart at' =
-      let both : View M = settled w.lanes w.got v.known in
+      let both : View M = settled v w in
       let was : get_elem? views other ≡ some w = ⊎_elim (λ x. absurd (apart x.0)) (λ x. x.1) (at_set views pass other both w at') in
       let theirs = (h.fits other w was).1 may in
       let F : ℕ → View M → Type 0 = Fits (record h.traffic { reader = pass }) in
       let now : (j : ℕ) (u : View M) → j ≢ other → get_elem? (set views pass both) j ≡ some u → F j u = λ j u away e. ⊎_elim
       (λ (is : (j ≡ pass) × (both ≡ u)). subst (λ (y : ℕ × View M). F y.0 y.1) (λ i. (sym is.0 i, is.1 i))
-      ((λ p. absurd (true≢false (sym p))), (λ _. (refl, theirs.1, theirs.2)), (h.fits pass v at).2))
+      ((λ p. absurd (true≢false (sym p))), (λ _. (refl, theirs.1, theirs.2, theirs.3, theirs.4)), (h.fits pass v at).2))
       (λ (is : (j ≢ pass) × (get_elem? views j ≡ some u)). let f = h.fits j u is.1 in (f.0, (λ p. absurd (away ((f.1 p).0 ∙ sym theirs.0))), f.2))
       (at_set views pass j both u e) in record {
         traffic = record h.traffic { reader = pass };
         order = h.order;
         others = h.others;
-        fits = all_set F (set views pass both) other (knower []) ((λ p. absurd (true≢false (sym p))), (λ p. absurd (true≢false (sym p))), (λ k l. absurd (omega arith))) now;
+        timed = h.timed;
+        fits = all_set F (set views pass both) other (knower [] []) ((λ p. absurd (true≢false (sym p))), (λ p. absurd (true≢false (sym p))), (λ k l. absurd (omega arith))) now;
       }
 
   -- what was taken of the known lanes
-  pub learns : (pass : ℕ) (v : View M) → v.takes ≡ true → Learns (Carries lane) pass v (λ items. Agrees lane v)
-  learns pass v may items views h at k l =
+  agrees : (pass : ℕ) (v : View M) → v.takes ≡ true → Learns (Carries lane) pass v (λ items. Agrees lane v)
+  agrees pass v may items views h at k l =
       let f = h.fits pass v at in
       let got : v.got ≡ h.traffic.got = (f.1 may).2 in
       let split : part lane k v.got ++ part lane k items ≡ all_of_lane k (h.traffic.sent k) (h.traffic.closed k) = (λ i. part lane k (got i) ++ part lane k items) ∙ sym (part-append lane k h.traffic.got items) ∙ h.order k in
@@ -244,3 +335,25 @@ module _ {M : Type 0} (lane : M → ℕ) where
         record { rest = rest; whole = sym ((λ i. of-copies lane k v.got i ++ rest) ∙ both ∙ sent) },
         (λ mark. of-copies lane k v.got ∙ all-there lane k (part lane k v.got) (part lane k items) (h.traffic.sent k) (h.traffic.closed k) split (has_mark-part lane k v.got ∙ mark) ∙ sent),
       )
+
+  -- what the channel accepted, beside what was taken
+  passed : (pass : ℕ) (v : View M) → v.takes ≡ true → Learns (Carries lane) pass v (λ items. HasPassed lane v)
+  passed pass v may items views h at =
+      let f = h.fits pass v at in
+      let mine = f.1 may in
+      let got : v.got ≡ h.traffic.got = mine.2 in
+      let all : (k : ℕ) → of lane k (messages v.got ++ messages items) ≡ h.traffic.sent k = λ k.
+      ap (of lane k) ((λ i. messages (got i) ++ messages items) ∙ sym (copies-append lane h.traffic.got items)) ∙ of-copies lane k (h.traffic.got ++ items)
+      ∙ ap messages (h.order k) ∙ copies-all_of_lane lane k (h.traffic.sent k) (h.traffic.closed k) in record {
+        waiting = messages items;
+        sent_at = h.traffic.sent_at;
+        times = h.traffic.times;
+        got_is = mine.3;
+        took_is = mine.4;
+        keeps = subst (λ (l : List (Parcel M)). KeepsTime lane (messages l) (messages items) h.traffic.sent_at h.traffic.times) (sym got) h.timed;
+        same = λ k l. let q = f.2 k l in (all k ∙ sym q.2, sym q.3);
+        others = λ k le. let is : v.lanes ≡ h.traffic.lanes = mine.1 in let q = h.others k (omega arith) in (all k ∙ q.1, q.3);
+      }
+
+  pub learns : (pass : ℕ) (v : View M) → v.takes ≡ true → Learns (Carries lane) pass v (λ items. Agrees lane v × HasPassed lane v)
+  learns pass v may items views h at = (agrees pass v may items views h at, passed pass v may items views h at)

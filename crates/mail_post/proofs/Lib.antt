@@ -1,4 +1,5 @@
 pub mod Parcels
+pub mod Timing
 pub mod Keeps
 pub mod Counts
 pub mod Inboxes

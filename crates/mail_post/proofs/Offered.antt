@@ -30,15 +30,15 @@ module _ {M : Type 0} where
     | inr rest ↦ inr (part_both (x ∷ xs) all m rest)
   ]
 
-  given_number : (sender : Sender M) (m : M) (accepted : Bool) → (given sender m accepted).number ≡ sender.number
-  given_number sender m true = refl
-  given_number sender m false = refl
+  given_number : (sender : Sender M) (m : M) (t : ℕ) (accepted : Bool) → (given sender m t accepted).number ≡ sender.number
+  given_number sender m t true = refl
+  given_number sender m t false = refl
 
   -- the senders stay those of that number
   pub still_numbered : (number at : ℕ) (message : Sender M → M) (accepted : Bool) (old new : List (Sender M)) → HaveNumber number old → IsOffered at message accepted old new → HaveNumber number new
   still_numbered number at message accepted old new h o = λ k sender is.
-      elim (get_set old at k (given o.sender (message o.sender) accepted) sender (ap (λ l. slice_get l k) (sym o.after) ∙ is)) [
-        | inl here ↦ ap (λ (s : Sender M). s.number) (sym here.1) ∙ given_number o.sender (message o.sender) accepted ∙ h at o.sender o.is
+      elim (get_set old at k (given o.sender (message o.sender) o.when accepted) sender (ap (λ l. slice_get l k) (sym o.after) ∙ is)) [
+        | inl here ↦ ap (λ (s : Sender M). s.number) (sym here.1) ∙ given_number o.sender (message o.sender) o.when accepted ∙ h at o.sender o.is
         | inr other ↦ h k sender other.1
       ]
 
@@ -64,17 +64,17 @@ module _ {M : Type 0} where
 
   -- a message was handed back, so one is refused; one that was accepted changes nothing of that
   pub refused_now : (at : ℕ) (message : Sender M → M) (old new : List (Sender M)) → IsOffered at message false old new → any_refused new ≡ true
-  refused_now at message old new o = ap any_refused o.after ∙ any_set_refused old at o.sender (given o.sender (message o.sender) false) o.is refl
+  refused_now at message old new o = ap any_refused o.after ∙ any_set_refused old at o.sender (given o.sender (message o.sender) o.when false) o.is refl
 
   pub refused_as_before : (at : ℕ) (message : Sender M → M) (old new : List (Sender M)) → IsOffered at message true old new → any_refused new ≡ any_refused old
-  refused_as_before at message old new o = ap any_refused o.after ∙ any_set_same old at o.sender (given o.sender (message o.sender) true) o.is refl
+  refused_as_before at message old new o = ap any_refused o.after ∙ any_set_same old at o.sender (given o.sender (message o.sender) o.when true) o.is refl
 
   sent_none : (sender : Sender M) → HasSent [] sender sender
   sent_none sender = record { channel = refl; number = refl; sent = sym (append-nil sender.sent); stays = λ e. e }
 
   -- one more was accepted
-  sent_given : (accepted : List M) (m : M) (old now : Sender M) → HasSent accepted old now → HasSent (accepted ++ m ∷ []) old (given now m true)
-  sent_given accepted m old now x = record {
+  sent_given : (accepted : List M) (m : M) (t : ℕ) (old now : Sender M) → HasSent accepted old now → HasSent (accepted ++ m ∷ []) old (given now m t true)
+  sent_given accepted m t old now x = record {
     channel = x.channel;
     number = x.number;
     sent = ap (λ l. l ++ m ∷ []) x.sent ∙ append_assoc old.sent accepted (m ∷ []);
@@ -82,24 +82,24 @@ module _ {M : Type 0} where
   }
 
   -- one was handed back
-  sent_back : (accepted : List M) (m : M) (old now : Sender M) → HasSent accepted old now → HasSent accepted old (given now m false)
-  sent_back accepted m old now x = record { channel = x.channel; number = x.number; sent = x.sent; stays = λ e. refl }
+  sent_back : (accepted : List M) (m : M) (t : ℕ) (old now : Sender M) → HasSent accepted old now → HasSent accepted old (given now m t false)
+  sent_back accepted m t old now x = record { channel = x.channel; number = x.number; sent = x.sent; stays = λ e. refl }
 
   -- nothing is owed
   accepted_none : (sender : Sender M) → HasAccepted [] sender sender
   accepted_none sender = record { accepted = []; sent = sent_none sender; all = λ e. refl; some = tt }
 
   -- one more is owed, and was offered
-  accepted_by : (owed : List M) (m : M) (accepted : Bool) (old now : Sender M) → HasAccepted owed old now → HasAccepted (owed ++ m ∷ []) old (given now m accepted)
-  accepted_by owed m true old now x = record {
+  accepted_by : (owed : List M) (m : M) (t : ℕ) (accepted : Bool) (old now : Sender M) → HasAccepted owed old now → HasAccepted (owed ++ m ∷ []) old (given now m t accepted)
+  accepted_by owed m t true old now x = record {
     accepted = x.accepted ++ m ∷ [];
-    sent = sent_given x.accepted m old now x.sent;
+    sent = sent_given x.accepted m t old now x.sent;
     all = λ sound. ap (λ l. l ++ m ∷ []) (x.all sound);
     some = part_both x.accepted owed m x.some;
   }
-  accepted_by owed m false old now x = record {
+  accepted_by owed m t false old now x = record {
     accepted = x.accepted;
-    sent = sent_back x.accepted m old now x.sent;
+    sent = sent_back x.accepted m t old now x.sent;
     all = λ sound. cc;
     some = part_more x.accepted owed m x.some;
   }
@@ -136,8 +136,8 @@ module _ {M : Type 0} where
     pub sent_more : (accepted accepted' : ℕ → List M) (m : M) → HaveSent accepted old now → (o : IsOffered at message true now next) → message o.sender ≡ m
         → OwesOneMore accepted accepted' at m → HaveSent accepted' old next
     sent_more accepted accepted' m x o is more =
-        let changed : Sender M = given o.sender m true in
-        let after : next ≡ slice_set now at changed = o.after ∙ ap (λ (w : M). slice_set now at (given o.sender w true)) is in
+        let changed : Sender M = given o.sender m o.when true in
+        let after : next ≡ slice_set now at changed = o.after ∙ ap (λ (w : M). slice_set now at (given o.sender w o.when true)) is in
         record {
           as_many = ap length after ∙ length-set now at changed ∙ x.as_many;
           each = λ k before sender was there. elim (get_set now at k changed sender (ap (λ l. slice_get l k) (sym after) ∙ there)) [
@@ -145,7 +145,7 @@ module _ {M : Type 0} where
                 let same : accepted' k ≡ accepted k ++ m ∷ [] = ap accepted' here.0 ∙ more.here ∙ ap (λ (j : ℕ). accepted j ++ m ∷ []) (sym here.0) in
                 let P : List M → Type 0 = λ l. HasSent l before changed in
                 let Q : Sender M → Type 0 = λ s. HasSent (accepted' k) before s in
-                subst Q here.1 (subst P (sym same) (sent_given (accepted k) m before o.sender (x.each k before o.sender was (ap (slice_get now) here.0 ∙ o.is))))
+                subst Q here.1 (subst P (sym same) (sent_given (accepted k) m o.when before o.sender (x.each k before o.sender was (ap (slice_get now) here.0 ∙ o.is))))
             | inr other ↦
                 let P : List M → Type 0 = λ l. HasSent l before sender in
                 subst P (sym (more.other k other.0)) (x.each k before sender was other.1)
@@ -155,13 +155,13 @@ module _ {M : Type 0} where
     -- a message was handed back
     pub sent_no_more : (accepted : ℕ → List M) → HaveSent accepted old now → IsOffered at message false now next → HaveSent accepted old next
     sent_no_more accepted x o =
-        let changed : Sender M = given o.sender (message o.sender) false in
+        let changed : Sender M = given o.sender (message o.sender) o.when false in
         record {
           as_many = ap length o.after ∙ length-set now at changed ∙ x.as_many;
           each = λ k before sender was there. elim (get_set now at k changed sender (ap (λ l. slice_get l k) (sym o.after) ∙ there)) [
             | inl here ↦
                 let Q : Sender M → Type 0 = λ s. HasSent (accepted k) before s in
-                subst Q here.1 (sent_back (accepted k) (message o.sender) before o.sender (x.each k before o.sender was (ap (slice_get now) here.0 ∙ o.is)))
+                subst Q here.1 (sent_back (accepted k) (message o.sender) o.when before o.sender (x.each k before o.sender was (ap (slice_get now) here.0 ∙ o.is)))
             | inr other ↦ x.each k before sender was other.1
           ];
         }
@@ -170,8 +170,8 @@ module _ {M : Type 0} where
     pub offered_more : (owed owed' : ℕ → List M) (accepted : Bool) (m : M) → HaveAccepted owed old now → (o : IsOffered at message accepted now next) → message o.sender ≡ m
         → OwesOneMore owed owed' at m → HaveAccepted owed' old next
     offered_more owed owed' accepted m x o is owes =
-        let changed : Sender M = given o.sender m accepted in
-        let after : next ≡ slice_set now at changed = o.after ∙ ap (λ (w : M). slice_set now at (given o.sender w accepted)) is in
+        let changed : Sender M = given o.sender m o.when accepted in
+        let after : next ≡ slice_set now at changed = o.after ∙ ap (λ (w : M). slice_set now at (given o.sender w o.when accepted)) is in
         record {
           as_many = ap length after ∙ length-set now at changed ∙ x.as_many;
           each = λ k before sender was there. elim (get_set now at k changed sender (ap (λ l. slice_get l k) (sym after) ∙ there)) [
@@ -179,7 +179,7 @@ module _ {M : Type 0} where
                 let same : owed' k ≡ owed k ++ m ∷ [] = ap owed' here.0 ∙ owes.here ∙ ap (λ (j : ℕ). owed j ++ m ∷ []) (sym here.0) in
                 let P : List M → Type 0 = λ l. HasAccepted l before changed in
                 let Q : Sender M → Type 0 = λ s. HasAccepted (owed' k) before s in
-                subst Q here.1 (subst P (sym same) (accepted_by (owed k) m accepted before o.sender (x.each k before o.sender was (ap (slice_get now) here.0 ∙ o.is))))
+                subst Q here.1 (subst P (sym same) (accepted_by (owed k) m o.when accepted before o.sender (x.each k before o.sender was (ap (slice_get now) here.0 ∙ o.is))))
             | inr other ↦
                 let P : List M → Type 0 = λ l. HasAccepted l before sender in
                 subst P (sym (owes.other k other.0)) (x.each k before sender was other.1)

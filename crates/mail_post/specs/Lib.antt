@@ -1,4 +1,5 @@
 pub mod Parcels
+pub mod Times
 pub mod Views
 pub mod Rule
 pub mod Channel

@@ -18,18 +18,20 @@ module _ {M : Type 0} where
   abbrev pub any_refused : List (Sender M) → Bool
   any_refused senders = list_any (λ sender. sender.refused) senders
 
-  -- a sender behind a message that its channel accepted, or handed back
-  abbrev pub given : Sender M → M → Bool → Sender M
-  given sender message true = record sender { sent = sender.sent ++ message ∷ [] }
-  given sender message false = record sender { refused = true }
+  -- a sender after a message that its channel accepted at that time, or handed back
+  abbrev pub given : Sender M → M → ℕ → Bool → Sender M
+  given sender message t true =
+      record sender { sent = sender.sent ++ message ∷ []; sent_at = sender.sent_at ++ t ∷ [] }
+  given sender message t false = record sender { refused = true }
 
--- The sender at that place was offered the message, which its channel accepted, or handed back. A message may name its
--- sender's number.
+-- The sender at that place was offered the message, which its channel accepted at a time, or handed back. A message may
+-- name its sender's number.
 pub record IsOffered {M : Type 0} (at : ℕ) (message : Sender M → M) (accepted : Bool)
     (old new : List (Sender M)) : Type 0 where
   pub sender : Sender M
   pub is : slice_get old at ≡ Some sender
-  pub after : new ≡ slice_set old at (given sender (message sender) accepted)
+  pub when : ℕ
+  pub after : new ≡ slice_set old at (given sender (message sender) when accepted)
 
 -- the sender's channel accepted just these messages since, in order
 pub record HasSent {M : Type 0} (accepted : List M) (old new : Sender M) : Type 0 where

@@ -1,48 +1,87 @@
 -- What the passes of a channel know.
-use Rattle.std.specs.Prelude.{ℕ, Bool, true, false, List, [], ◌∷◌, ◌++◌}
+use Rattle.std.specs.Prelude.{◌≡◌, ◌<◌, ℕ, Bool, true, false, List, [], ◌∷◌, ◌++◌}
 use Rattle.mail_post.specs.declared.rule.Parcel.{Parcel}
 use Rattle.mail_post.specs.declared.rule.Parcel.TheVariants.{Copy, Mark}
 use Rattle.mail_post.specs.declared.rule.View.{View}
 
 module _ {M : Type 0} where
-  -- lane k's pass, which was told that s was accepted, and has put its mark or not
-  abbrev pub sender : ℕ → List M → Bool → View M
-  sender k s b = record { sends = true; lane = k; sent = s; shut = b; takes = false; lanes = 0; got = []; known = [] }
-
-  -- the receiver's
-  abbrev pub taker : ℕ → List (Parcel M) → View M
-  taker n g = record { sends = false; lane = 0; sent = []; shut = false; takes = true; lanes = n; got = g; known = [] }
-
-  -- one that knows what the first lanes sent
-  abbrev pub knower : List (List M) → View M
-  knower ls = record {
-    sends = false;
-    lane = 0;
-    sent = [];
-    shut = false;
+  -- lane k's pass, which was told that s was accepted, and when, and has put its mark or not
+  abbrev pub sender : ℕ → List M → List ℕ → Bool → View M
+  sender k s at b = record {
+    sends = true;
+    lane = k;
+    sent = s;
+    sent_at = at;
+    shut = b;
     takes = false;
     lanes = 0;
     got = [];
-    known = ls;
+    got_at = [];
+    took_at = [];
+    known = [];
+    known_at = [];
   }
 
-  abbrev pub settled : ℕ → List (Parcel M) → List (List M) → View M
-  settled n g ls = record {
+  -- the receiver's, which knows how many lanes there are and what was taken, and of the messages when each was accepted
+  -- and taken
+  abbrev pub taker : ℕ → List (Parcel M) → List ℕ → List ℕ → View M
+  taker n g accepted_at taken_at = record {
     sends = false;
     lane = 0;
     sent = [];
+    sent_at = [];
     shut = false;
     takes = true;
     lanes = n;
     got = g;
-    known = ls;
+    got_at = accepted_at;
+    took_at = taken_at;
+    known = [];
+    known_at = [];
   }
 
-  -- a lane's pass after its parcel
-  abbrev pub put : View M → Parcel M → View M
-  put v (Copy m) = sender v.lane (v.sent ++ m ∷ []) false
-  put v (Mark k) = sender v.lane v.sent true
+  -- one that knows what the first lanes sent, and when that was accepted
+  abbrev pub knower : List (List M) → List (List ℕ) → View M
+  knower ls at = record {
+    sends = false;
+    lane = 0;
+    sent = [];
+    sent_at = [];
+    shut = false;
+    takes = false;
+    lanes = 0;
+    got = [];
+    got_at = [];
+    took_at = [];
+    known = ls;
+    known_at = at;
+  }
 
-  -- the receiver's after a parcel
-  abbrev pub took : View M → Parcel M → View M
-  took v x = taker v.lanes (v.got ++ x ∷ [])
+  -- the receiver's, which knows that too
+  abbrev pub settled : View M → View M → View M
+  settled v w = record {
+    sends = false;
+    lane = 0;
+    sent = [];
+    sent_at = [];
+    shut = false;
+    takes = true;
+    lanes = w.lanes;
+    got = w.got;
+    got_at = w.got_at;
+    took_at = w.took_at;
+    known = v.known;
+    known_at = v.known_at;
+  }
+
+  -- a lane's pass with its parcel put: a message was accepted at a time after that one
+  abbrev pub IsPut : ℕ → View M → Parcel M → View M → Type 0
+  IsPut after v (Copy m) w = (t : ℕ) × (after < t)
+      × (w ≡ sender v.lane (v.sent ++ m ∷ []) (v.sent_at ++ t ∷ []) false)
+  IsPut after v (Mark k) w = w ≡ sender v.lane v.sent v.sent_at true
+
+  -- the receiver's with a parcel taken: a message was accepted at a time, and taken later, and after that one
+  abbrev pub IsTook : ℕ → View M → Parcel M → View M → Type 0
+  IsTook after v (Copy m) w = (s t : ℕ) × (after < t) × (s < t)
+      × (w ≡ taker v.lanes (v.got ++ Copy m ∷ []) (v.got_at ++ s ∷ []) (v.took_at ++ t ∷ []))
+  IsTook after v (Mark k) w = w ≡ taker v.lanes (v.got ++ Mark k ∷ []) v.got_at v.took_at

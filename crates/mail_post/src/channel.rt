@@ -5,14 +5,15 @@ ghost use Rattle.crossbeam_channel.specs.Claims.{IsSeatAt};
 ghost use Rattle.crossbeam_channel.specs.Ends.{sends_on, receives_on};
 ghost use Rattle.mail_post.specs.Views.{sender};
 ghost use Rattle.mail_post.specs.Channel.{view_of, taken, IsNext, IsDrained, TookSome, TookAll};
-ghost use Rattle.mail_post.specs.Channel.{new_senders, new_inbox, AreSenders, AreSendersOf, sent_by};
+ghost use Rattle.mail_post.specs.Channel.{new_senders, new_inbox, AreSenders, AreSendersOf, sent_by, sent_at_by};
+ghost use Rattle.mail_post.specs.Channel.{IsAccepted, IsTimed, HasSameTimes, HasPassedThrough};
 
 use crate::rule::{
-    Ends, FromSender, LaneOrder, Lanes, Offers, Opens, Parcel, Settles, Takes, View,
+    Ends, FromSender, LaneOrder, Lanes, Moment, Offers, Opens, Parcel, Settles, Takes, View,
 };
 use crossbeam_channel::{Pass, RuledReceiver, RuledSender, bounded_with};
 use std::alloc::{AllocError, Global};
-use std::marker::Model;
+use std::marker::{Brand, Model};
 use std::sync::Wait;
 use thiserror::Error;
 
@@ -85,11 +86,12 @@ impl<M: FromSender> Model for ChannelSender<M> {
       channel = channel_of s.pass;
       number = s.number;
       sent = (view_of s.pass).sent;
+      sent_at = (view_of s.pass).sent_at;
       refused = s.refused;
     } };
 
     ghost invariant = { λ s. IsSeatAt (sends_on s.end) s.pass
-        × (view_of s.pass ≡ sender s.number (view_of s.pass).sent false) };
+        × (view_of s.pass ≡ sender s.number (view_of s.pass).sent (view_of s.pass).sent_at false) };
 }
 
 impl<M: FromSender> ChannelSender<M> {
@@ -107,16 +109,16 @@ impl<M: FromSender> ChannelSender<M> {
         self.refused
     }
 
-    /// Ok where the channel has accepted the post at its end.
-    pub fn offer<R: Wait>(&mut self, rt: &R, post: M) -> Result<(), M>
+    /// Ok where the channel has accepted the post at its end, after the picked time.
+    pub fn offer<K: Moment, R: Wait>(&mut self, rt: &R, post: M) -> Result<(), M>
         requires { M.sender post ≡ self.old.number }
-        ensures accepted { OnOk result (self.new ≡ record self.old { sent = self.old.sent ++ post ∷ [] }) }
+        ensures accepted { OnOk result (IsAccepted K.after post self.old self.new) }
         ensures refused { OnErr result (self.new ≡ record self.old { refused = true }) }
         ensures back { IfErr result (λ back. back ≡ post) }
     {
         match self
             .end
-            .send_as::<Offers, R>(rt, &mut self.pass, Parcel::Copy(post))
+            .send_as::<Offers<K>, R>(rt, &mut self.pass, Parcel::Copy(post))
         {
             Ok(()) => Ok(()),
             Err(back) => {
@@ -151,6 +153,8 @@ impl<M: FromSender> Model for ChannelReceiver<M> {
       channel = channel_of r.pass;
       lanes = r.lanes;
       got = (view_of r.pass).got;
+      got_at = (view_of r.pass).got_at;
+      took_at = (view_of r.pass).took_at;
       gone = r.gone;
     } };
 
@@ -159,13 +163,16 @@ impl<M: FromSender> Model for ChannelReceiver<M> {
 }
 
 impl<M: FromSender> ChannelReceiver<M> {
-    /// The oldest post. After a `Gone` each later call answers the same, and receives nothing.
-    pub fn take<R: Wait>(&mut self, rt: &R) -> Result<M, Gone>
+    /// The oldest post, taken after the picked time. After a `Gone` each later call answers the same, and receives
+    /// nothing.
+    pub fn take<K: Moment, R: Wait>(&mut self, rt: &R) -> Result<M, Gone>
         ensures same { (self.new.channel ≡ self.old.channel) × (self.new.lanes ≡ self.old.lanes) }
         ensures post { IfOk result (λ post. taken self.new ≡ taken self.old ++ post ∷ []) }
         ensures lane { IfOk result (λ post. M.sender post < self.old.lanes) }
+        ensures timed { OnOk result (IsTimed K.after self.old self.new) }
         ensures open_still { OnOk result ((self.old.gone ≡ None) × (self.new.gone ≡ None)) }
         ensures nothing { OnErr result (taken self.new ≡ taken self.old) }
+        ensures no_time { OnErr result (HasSameTimes self.old self.new) }
         ensures gone { IfErr result (λ why. self.new.gone ≡ Some why) }
         ensures closed { IfErr result (λ why. why ≡ Gone.Closed → IsDrained M.sender self.new) }
         ensures later { IfSome self.old.gone (λ why. (result ≡ Err why) × (self.new ≡ self.old)) }
@@ -174,7 +181,7 @@ impl<M: FromSender> ChannelReceiver<M> {
             return Err(why);
         }
         for _ in rt.forever() {
-            if let Some(answer) = self.next(rt) {
+            if let Some(answer) = self.next::<K, R>(rt) {
                 return answer;
             }
         }
@@ -182,12 +189,12 @@ impl<M: FromSender> ChannelReceiver<M> {
     }
 
     // What one parcel answers: None where it was a mark, and another is missing.
-    fn next<R: Wait>(&mut self, rt: &R) -> Option<Result<M, Gone>>
+    fn next<K: Moment, R: Wait>(&mut self, rt: &R) -> Option<Result<M, Gone>>
         requires { self.old.gone ≡ None }
         ensures same { (self.new.channel ≡ self.old.channel) × (self.new.lanes ≡ self.old.lanes) }
-        ensures next { IsNext M.sender self.old self.new result }
+        ensures next { IsNext M.sender K.after self.old self.new result }
     {
-        match self.end.recv_as::<Takes, R>(rt, &mut self.pass) {
+        match self.end.recv_as::<Takes<K>, R>(rt, &mut self.pass) {
             Ok(Parcel::Copy(post)) => Some(Ok(post)),
             Ok(Parcel::Mark(_)) => {
                 let lanes = self.lanes;
@@ -215,7 +222,7 @@ pub struct ChannelClosed<M: FromSender> {
 }
 
 impl<M: FromSender> Model for ChannelClosed<M> {
-    ghost use Rattle.std.specs.Prelude.{◌≡◌};
+    ghost use Rattle.std.specs.Prelude.{◌≡◌, length};
     ghost use Rattle.crossbeam_channel.specs.Claims.{IsSeatAt};
     ghost use Rattle.crossbeam_channel.specs.Ends.{sends_on};
     ghost use Rattle.mail_post.specs.Views.{knower};
@@ -223,9 +230,15 @@ impl<M: FromSender> Model for ChannelClosed<M> {
 
     ghost Value = { Sent M };
 
-    ghost view = { λ c. record { channel = channel_of c.pass; sent = (view_of c.pass).known } };
+    ghost view = { λ c. record {
+      channel = channel_of c.pass;
+      sent = (view_of c.pass).known;
+      sent_at = (view_of c.pass).known_at;
+    } };
 
-    ghost invariant = { λ c. IsSeatAt (sends_on c.end) c.pass × (view_of c.pass ≡ knower (view_of c.pass).known) };
+    ghost invariant = { λ c. IsSeatAt (sends_on c.end) c.pass
+        × (view_of c.pass ≡ knower (view_of c.pass).known (view_of c.pass).known_at)
+        × (length (view_of c.pass).known_at ≡ length (view_of c.pass).known) };
 }
 
 // The lane's mark, unless the receiver is known to be gone. True where it is.
@@ -237,15 +250,16 @@ fn put_mark<M: FromSender, R: Wait>(
     is_lost: bool,
 ) -> bool
     requires seat { IsSeatAt (sends_on end.now) pass.old }
-    requires knows { view_of pass.old ≡ sender lane (view_of pass.old).sent false }
+    requires knows { view_of pass.old ≡ sender lane (view_of pass.old).sent (view_of pass.old).sent_at false }
     ensures seat { IsSeatAt (sends_on end.now) pass.new }
     ensures knows { ((view_of pass.new).sends ≡ true) × ((view_of pass.new).lane ≡ lane)
-        × ((view_of pass.new).sent ≡ (view_of pass.old).sent) }
+        × ((view_of pass.new).sent ≡ (view_of pass.old).sent)
+        × ((view_of pass.new).sent_at ≡ (view_of pass.old).sent_at) }
 {
     if is_lost {
         return true;
     }
-    match end.send_as::<Offers, R>(rt, pass, Parcel::Mark(lane)) {
+    match end.send_as::<Offers<Brand>, R>(rt, pass, Parcel::Mark(lane)) {
         Ok(()) => false,
         Err(_) => true,
     }
@@ -255,7 +269,8 @@ impl<M: FromSender> ChannelClosed<M> {
     // Lane 0's mark.
     fn first<R: Wait>(rt: &R, from: ChannelSender<M>) -> ChannelClosed<M>
         requires { from.number ≡ 0 }
-        ensures { (result.channel ≡ from.channel) × (result.sent ≡ from.sent ∷ []) }
+        ensures { (result.channel ≡ from.channel) × (result.sent ≡ from.sent ∷ [])
+            × (result.sent_at ≡ from.sent_at ∷ []) }
     {
         let ChannelSender {
             end,
@@ -273,7 +288,8 @@ impl<M: FromSender> ChannelClosed<M> {
     fn join<R: Wait>(&mut self, rt: &R, from: ChannelSender<M>)
         requires channel { from.channel ≡ self.old.channel }
         requires next { from.number ≡ length self.old.sent }
-        ensures { (self.new.channel ≡ self.old.channel) × (self.new.sent ≡ self.old.sent ++ from.sent ∷ []) }
+        ensures { (self.new.channel ≡ self.old.channel) × (self.new.sent ≡ self.old.sent ++ from.sent ∷ [])
+            × (self.new.sent_at ≡ self.old.sent_at ++ from.sent_at ∷ []) }
     {
         let ChannelSender {
             end,
@@ -295,6 +311,7 @@ pub fn close_channel<M: FromSender, R: Wait>(
     requires { AreSenders senders.items }
     ensures channel { AreSendersOf result.channel senders.items }
     ensures sent { result.sent ≡ sent_by senders.items }
+    ensures sent_at { result.sent_at ≡ sent_at_by senders.items }
 {
     let mut rest = senders.into_iter();
     let Some(first) = rest.next() else {
@@ -308,12 +325,14 @@ pub fn close_channel<M: FromSender, R: Wait>(
 }
 
 /// Both ends of a channel, handed back: what was taken of each lane is the start of what the lane was told was
-/// accepted, and all of it once the receiver answered Closed. It costs nothing when it runs.
+/// accepted, and all of it once the receiver answered Closed; and all that the channel accepted has one order, in which
+/// times rise. It costs nothing when it runs.
 pub fn settle<M: FromSender>(receiver: ChannelReceiver<M>, closed: ChannelClosed<M>)
     requires channel { receiver.channel ≡ closed.channel }
     requires lanes { length closed.sent ≡ receiver.lanes }
     ensures front { TookSome M.sender (taken receiver) closed.sent }
     ensures all { receiver.gone ≡ Some Gone.Closed → TookAll M.sender (taken receiver) closed.sent }
+    ensures passed { HasPassedThrough M.sender receiver closed.sent closed.sent_at }
 {
     let ChannelClosed {
         end,

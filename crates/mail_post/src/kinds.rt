@@ -2,7 +2,7 @@
 //! slips.
 
 ghost use Rattle.std.specs.Prelude.{◌≡◌, ◌<◌, [], IfOk};
-ghost use Rattle.mail_post.specs.Channel.{new_senders, new_inbox, AreSenders, AreSendersOf, sent_by};
+ghost use Rattle.mail_post.specs.Channel.{new_senders, new_inbox, AreSenders, AreSendersOf, sent_by, sent_at_by};
 
 use crate::channel::{ChannelClosed, ChannelReceiver, ChannelSender, close_channel, open_channel};
 use crate::post::Post;
@@ -64,6 +64,7 @@ pub fn close<N: DepotName, R: Wait>(senders: Vec<Sender<N>>, rt: &R) -> Closed<N
     requires { AreSenders senders.items }
     ensures channel { AreSendersOf result.channel senders.items }
     ensures sent { result.sent ≡ sent_by senders.items }
+    ensures sent_at { result.sent_at ≡ sent_at_by senders.items }
 {
     close_channel::<Post<N>, R>(senders, rt)
 }
@@ -82,6 +83,7 @@ pub fn close_slips<R: Wait>(senders: Vec<SlipSender>, rt: &R) -> SlipsClosed
     requires { AreSenders senders.items }
     ensures channel { AreSendersOf result.channel senders.items }
     ensures sent { result.sent ≡ sent_by senders.items }
+    ensures sent_at { result.sent_at ≡ sent_at_by senders.items }
 {
     close_channel::<Slip, R>(senders, rt)
 }

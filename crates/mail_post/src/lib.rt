@@ -18,4 +18,4 @@ pub use kinds::{
     close_slips, mail_line, slip_line,
 };
 pub use post::{Parts, Post};
-pub use rule::FromSender;
+pub use rule::{FromSender, Moment};

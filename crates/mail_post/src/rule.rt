@@ -4,7 +4,16 @@ ghost use Rattle.std.specs.Prelude.{ℕ};
 
 use crossbeam_channel::protocol::{Join, Lesson, Outcome, Protocol, Split};
 use std::collections::LinkedList;
-use std::marker::PhantomData;
+use std::marker::{Brand, PhantomData};
+
+/// A time, in proofs alone, after which a step is to be. A caller that passes `Brand` picks it.
+pub trait Moment {
+    ghost after: { ℕ };
+}
+
+impl Moment for Brand {
+    ghost after = { 0 };
+}
 
 /// A message that says the number of its sender.
 pub trait FromSender: Drop {
@@ -24,13 +33,19 @@ pub struct View<M: Drop> {
     pub sends: bool,
     pub lane: u32,
     pub sent: LinkedList<M>,
+    /// When each of these was accepted.
+    pub sent_at: LinkedList<u64>,
     pub shut: bool,
     /// Whether it is the receiver's, which knows how many lanes there are, and what was taken.
     pub takes: bool,
     pub lanes: u32,
     pub got: LinkedList<Parcel<M>>,
-    /// What the first lanes sent in all.
+    /// When each of the messages among these was accepted, and when it was taken.
+    pub got_at: LinkedList<u64>,
+    pub took_at: LinkedList<u64>,
+    /// What the first lanes sent in all, and when each was accepted.
     pub known: LinkedList<LinkedList<M>>,
+    pub known_at: LinkedList<LinkedList<u64>>,
 }
 
 pub struct LaneOrder<M> {
@@ -44,35 +59,38 @@ impl<M: FromSender> Protocol<Parcel<M>, View<M>> for LaneOrder<M> {
 
     ghost holds = { Carries M.sender };
 
-    ghost first = { taker 0 [] };
+    ghost first = { taker 0 [] [] [] };
 }
 
-/// A lane's accepted parcel.
-pub struct Offers;
-
-impl<M: FromSender> Outcome<Parcel<M>, View<M>> for Offers {
-    ghost use Rattle.std.specs.Prelude.{◌≡◌};
-    ghost use Rattle.mail_post.specs.Views.{put};
-
-    ghost then = { λ v x w. w ≡ put v x };
+/// A lane's accepted parcel, a message after that time.
+pub struct Offers<K> {
+    marker: PhantomData<K>,
 }
 
-impl<M: FromSender> Lesson<Parcel<M>, View<M>> for Offers {
+impl<M: FromSender, K: Moment> Outcome<Parcel<M>, View<M>> for Offers<K> {
+    ghost use Rattle.mail_post.specs.Views.{IsPut};
+
+    ghost then = { IsPut K.after };
+}
+
+impl<M: FromSender, K: Moment> Lesson<Parcel<M>, View<M>> for Offers<K> {
     ghost fact = { λ v items. Unit {0} };
 }
 
-/// What the receiver took.
-pub struct Takes;
-
-impl<M: FromSender> Outcome<Parcel<M>, View<M>> for Takes {
-    ghost use Rattle.std.specs.Prelude.{◌≡◌};
-    ghost use Rattle.mail_post.specs.Views.{took};
-    ghost use Rattle.mail_post.specs.Rule.{IsFair};
-
-    ghost then = { λ v x w. (w ≡ took v x) × IsFair M.sender w.lanes w.got };
+/// What the receiver took, a message after that time.
+pub struct Takes<K> {
+    marker: PhantomData<K>,
 }
 
-impl<M: FromSender> Lesson<Parcel<M>, View<M>> for Takes {
+impl<M: FromSender, K: Moment> Outcome<Parcel<M>, View<M>> for Takes<K> {
+    ghost use Rattle.mail_post.specs.Views.{IsTook};
+    ghost use Rattle.mail_post.specs.Rule.{IsFair};
+    ghost use Rattle.mail_post.specs.Times.{AreTimed};
+
+    ghost then = { λ v x w. IsTook K.after v x w × IsFair M.sender w.lanes w.got × AreTimed w.got_at w.took_at };
+}
+
+impl<M: FromSender, K: Moment> Lesson<Parcel<M>, View<M>> for Takes<K> {
     ghost fact = { λ v items. Unit {0} };
 }
 
@@ -83,9 +101,9 @@ impl<M: FromSender> Split<View<M>> for Lanes {
     ghost use Rattle.std.specs.Prelude.{[], ◌+◌, false};
     ghost use Rattle.mail_post.specs.Views.{taker, sender};
 
-    ghost left = { λ v. taker (v.lanes + 1) v.got };
+    ghost left = { λ v. taker (v.lanes + 1) v.got v.got_at v.took_at };
 
-    ghost right = { λ v. sender v.lanes [] false };
+    ghost right = { λ v. sender v.lanes [] [] false };
 }
 
 /// A pass that knows of no lane, beside any other.
@@ -97,7 +115,7 @@ impl<M: FromSender> Split<View<M>> for Opens {
 
     ghost left = { λ v. v };
 
-    ghost right = { λ v. knower [] };
+    ghost right = { λ v. knower [] [] };
 }
 
 /// One lane more of which all is known.
@@ -107,9 +125,9 @@ impl<M: FromSender> Join<View<M>> for Ends {
     ghost use Rattle.std.specs.Prelude.{[], ◌∷◌, ◌++◌};
     ghost use Rattle.mail_post.specs.Views.{knower};
 
-    ghost both = { λ v w. knower (v.known ++ w.sent ∷ []) };
+    ghost both = { λ v w. knower (v.known ++ w.sent ∷ []) (v.known_at ++ w.sent_at ∷ []) };
 
-    ghost spent = { knower [] };
+    ghost spent = { knower [] [] };
 }
 
 /// What was sent beside what was taken.
@@ -119,13 +137,13 @@ impl<M: FromSender> Join<View<M>> for Settles {
     ghost use Rattle.std.specs.Prelude.{[]};
     ghost use Rattle.mail_post.specs.Views.{knower, settled};
 
-    ghost both = { λ v w. settled w.lanes w.got v.known };
+    ghost both = { settled };
 
-    ghost spent = { knower [] };
+    ghost spent = { knower [] [] };
 }
 
 impl<M: FromSender> Lesson<Parcel<M>, View<M>> for Settles {
-    ghost use Rattle.mail_post.specs.Rule.{Agrees};
+    ghost use Rattle.mail_post.specs.Rule.{Agrees, HasPassed};
 
-    ghost fact = { λ v items. Agrees M.sender v };
+    ghost fact = { λ v items. Agrees M.sender v × HasPassed M.sender v };
 }

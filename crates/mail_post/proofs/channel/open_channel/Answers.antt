@@ -17,12 +17,12 @@ pub invariant_of-result : goal.invariant_of-result
 invariant_of-result g c =
     let all : c.loop-lane.lane ≡ c.args.lanes = omega (arith, c.loop-lane-test.false, c.loop-lane.auto.lane-end) in (
       rw (c.in_ok-to.ensures.0) c.loop-lane.invariant.seated,
-      inbox_new g.M.FromSender.sender c.args.lanes (view_of c.loop-lane.first) (c.loop-lane.invariant.knows ∙ ap (λ n. taker n []) all),
+      inbox_new g.M.FromSender.sender c.args.lanes (view_of c.loop-lane.first) (c.loop-lane.invariant.knows ∙ ap (λ n. taker n [] [] []) all),
     )
 
 pub loop-lane-preserved : goal.loop-lane-preserved
 loop-lane-preserved g c = record {
   seated = search rules;
   knows = search rules;
-  made = fresh_more (channel_of c.loop-lane.first) (channel_of c.another-pass.new.pass) c.loop-lane.lane _ _ _ c.loop-lane.invariant.made c.in_ok-push.ensures.items (search rules) (search rules) (search rules) (search rules) (search rules);
+  made = fresh_more (channel_of c.loop-lane.first) (channel_of c.another-pass.new.pass) c.loop-lane.lane _ _ _ c.loop-lane.invariant.made c.in_ok-push.ensures.items (search rules) (search rules) (search rules) (search rules) (search rules) (search rules);
 }

@@ -12,3 +12,4 @@ absorb-requires-clause-rule g c =
     let none = ap (λ (v : View _). length v.known) c.another-pass.ensures.rule.1 in
     let first = ap (λ (l : Sender _). l.number) c.from.view_is ∙ c.requires in
     ends g.M.FromSender.sender _ _ _ _ c.put_mark-is_lost.ensures.knows.0 (none ∙ sym (c.put_mark-is_lost.ensures.knows.1 ∙ first))
+    (ap (λ (v : View _). length v.known_at) c.another-pass.ensures.rule.1 ∙ sym none)

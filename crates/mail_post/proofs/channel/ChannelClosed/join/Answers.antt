@@ -8,7 +8,7 @@ pub absorb-requires-clause-rule : goal.absorb-requires-clause-rule
 absorb-requires-clause-rule g c =
     let known = ap (λ (s : Sent _). length s.sent) c.self.view_is in
     let next = ap (λ (l : Sender _). l.number) c.from.view_is ∙ c.requires.next in
-    ends g.M.FromSender.sender _ _ _ _ c.put_mark-self-inside.ensures.knows.0 (known ∙ sym (c.put_mark-self-inside.ensures.knows.1 ∙ next))
+    ends g.M.FromSender.sender _ _ _ _ c.put_mark-self-inside.ensures.knows.0 (known ∙ sym (c.put_mark-self-inside.ensures.knows.1 ∙ next)) c.self.invariant.2
 
 pub absorb-requires-clause-channel : goal.absorb-requires-clause-channel
 absorb-requires-clause-channel g c =

@@ -1,0 +1,55 @@
+-- Times, which exist in proofs alone: numbers that rise along a channel.
+use Rattle.std.specs.Prelude.{◌≡◌, ◌==◌, ℕ, ◌+◌, ◌≤◌, ◌<◌, if◌then◌else◌, List, [], ◌∷◌, ◌++◌, length}
+
+-- each is above the one before it, the first above lo, and none above hi
+abbrev pub RisesTo : ℕ → ℕ → List ℕ → Type 0
+RisesTo lo hi [] = lo ≤ hi
+RisesTo lo hi (x ∷ xs) = (lo < x) × RisesTo x hi xs
+
+-- the last of them, or else lo
+abbrev pub last_of : ℕ → List ℕ → ℕ
+last_of lo [] = lo
+last_of lo (x ∷ xs) = last_of x xs
+
+-- as many of both, and each was taken later than it was accepted
+abbrev pub AreLater : List ℕ → List ℕ → Type 0
+AreLater [] [] = Unit {0}
+AreLater [] (t ∷ taken) = ⊥
+AreLater (s ∷ accepted) [] = ⊥
+AreLater (s ∷ accepted) (t ∷ taken) = (s < t) × AreLater accepted taken
+
+-- Messages that were accepted at the first times were taken at the second. Both rise, and each was taken later than it
+-- was accepted.
+pub record AreTimed (accepted taken : List ℕ) : Type 0 where
+  pub until : ℕ
+  pub rises : RisesTo 0 until accepted
+  pub takes_rise : RisesTo 0 until taken
+  pub later : AreLater accepted taken
+
+-- when what went through a channel was accepted and taken
+pub record Times : Type 0 where
+  -- each message that was taken: when it was accepted, and when it was taken
+  pub got_at : List ℕ
+  pub took_at : List ℕ
+  -- each that waits: when it was accepted
+  pub queue_at : List ℕ
+  -- no time is above it
+  pub latest : ℕ
+
+module _ {M : Type 0} (lane : M → ℕ) where
+  -- the times of lane k's messages, where all have those times
+  abbrev pub times_of : ℕ → List M → List ℕ → List ℕ
+  times_of k [] ts = []
+  times_of k (m ∷ ms) [] = []
+  times_of k (m ∷ ms) (t ∷ ts) = if lane m == k then t ∷ times_of k ms ts else times_of k ms ts
+
+-- Each message that was taken or waits has its time. Of each lane they are those that the lane was told. Along the
+-- channel the times of acceptance rise, and so do those of taking; each message was taken later than it was accepted.
+pub record KeepsTime {M : Type 0} (lane : M → ℕ) (got queue : List M) (sent_at : ℕ → List ℕ) (times : Times)
+    : Type 0 where
+  pub got_as_many : length times.got_at ≡ length got
+  pub queue_as_many : length times.queue_at ≡ length queue
+  pub each : (k : ℕ) → times_of lane k (got ++ queue) (times.got_at ++ times.queue_at) ≡ sent_at k
+  pub rises : RisesTo 0 times.latest (times.got_at ++ times.queue_at)
+  pub takes_rise : RisesTo 0 times.latest times.took_at
+  pub later : AreLater times.got_at times.took_at
