@@ -1,0 +1,4 @@
+pub mod Parts
+pub mod Story
+pub mod Stands
+pub mod Frames

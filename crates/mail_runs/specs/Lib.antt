@@ -1,0 +1,4 @@
+pub mod Deeds
+pub mod Courses
+pub mod Histories
+pub mod RunOf
