@@ -2,3 +2,4 @@ pub mod Parts
 pub mod Story
 pub mod Stands
 pub mod Frames
+pub mod OneLane
