@@ -66,7 +66,8 @@ record AreTurns (s : Server) (notes : ℕ → List Note) (outcomes : ℕ → Lis
   later : HearsTold 0 0 deeds
 
 -- no slip is left, or one
-none_left : (b : ℕ) (outcomes : List Outcome) (notes : List Note) → [] ≡ slips_from b outcomes notes → length outcomes ≡ length notes → (notes ≡ []) × (outcomes ≡ [])
+none_left : (b : ℕ) (outcomes : List Outcome) (notes : List Note) → [] ≡ slips_from b outcomes notes → length outcomes ≡ length notes
+    → (notes ≡ []) × (outcomes ≡ [])
 none_left b [] [] e many = (refl, refl)
 none_left b [] (note ∷ notes) e many = absurd (omega arith)
 none_left b (outcome ∷ outcomes) [] e many = absurd (omega arith)
@@ -82,7 +83,8 @@ record OneLeft (b : ℕ) (slip : Slip) (slips : List Slip) (outcomes : List Outc
   says : slip ≡ slip_of b note outcome
   later : slips ≡ slips_from b others more
 
-one_left : (b : ℕ) (slip : Slip) (slips : List Slip) (outcomes : List Outcome) (notes : List Note) → slip ∷ slips ≡ slips_from b outcomes notes → OneLeft b slip slips outcomes notes
+one_left : (b : ℕ) (slip : Slip) (slips : List Slip) (outcomes : List Outcome) (notes : List Note) → slip ∷ slips ≡ slips_from b outcomes notes
+    → OneLeft b slip slips outcomes notes
 one_left b slip slips [] notes e = cc
 one_left b slip slips (outcome ∷ outcomes) [] e = cc
 one_left b slip slips (outcome ∷ outcomes) (note ∷ notes) e = record {
@@ -98,11 +100,13 @@ one_left b slip slips (outcome ∷ outcomes) (note ∷ notes) e = record {
 
 -- after one slip
 after_one : (s : Server) (notes : ℕ → List Note) (outcomes : ℕ → List Outcome) (slip : Slip) (slips : List Slip) (l : AreLeft s notes outcomes (slip ∷ slips))
-    → OneLeft slip.worker slip (of_worker slip.worker slips) (outcomes slip.worker) (notes slip.worker) → AreLeft s (less slip.worker notes) (less slip.worker outcomes) slips
+    → OneLeft slip.worker slip (of_worker slip.worker slips) (outcomes slip.worker) (notes slip.worker)
+    → AreLeft s (less slip.worker notes) (less slip.worker outcomes) slips
 after_one s notes outcomes slip slips l o = record {
   told = λ b below. ⊎_elim
       (λ (is : b ≡ slip.worker). subst (λ x. of_worker x slips ≡ slips_from x (less slip.worker outcomes x) (less slip.worker notes x)) (sym is)
-      (o.later ∙ sym (λ i. slips_from slip.worker (less_same slip.worker outcomes o.outcome o.others o.its i) (less_same slip.worker notes o.note o.more o.first i))))
+      (o.later ∙ sym (λ i. slips_from slip.worker (less_same slip.worker outcomes o.outcome o.others o.its i)
+      (less_same slip.worker notes o.note o.more o.first i))))
       (λ (differ : b ≢ slip.worker). sym (fails (λ (x : Slip). x.worker == b) slip slips (other_number slip.worker b (λ e. differ (sym e)))) ∙ l.told b below
       ∙ sym (λ i. slips_from b (less_other slip.worker outcomes b differ i) (less_other slip.worker notes b differ i)))
       (same? b slip.worker);
@@ -112,42 +116,51 @@ after_one s notes outcomes slip slips l o = record {
       ∙ (let m : length (outcomes slip.worker) ≡ length (notes slip.worker) = l.as_many slip.worker (subst (λ x. x < s.boxes) is below) in
       let a = ap length o.its in let c = ap length o.first in omega arith)
       ∙ sym (ap length (less_same slip.worker notes o.note o.more o.first))))
-      (λ (differ : b ≢ slip.worker). ap length (less_other slip.worker outcomes b differ) ∙ l.as_many b below ∙ sym (ap length (less_other slip.worker notes b differ)))
+      (λ (differ : b ≢ slip.worker). ap length (less_other slip.worker outcomes b differ) ∙ l.as_many b below
+      ∙ sym (ap length (less_other slip.worker notes b differ)))
       (same? b slip.worker);
   fits = λ b below. ⊎_elim
       (λ (is : b ≡ slip.worker). subst (λ x. AllByRecursion (IsFor x) (less slip.worker notes x)) (sym is)
       (subst (λ x. AllByRecursion (IsFor slip.worker) x) (sym (less_same slip.worker notes o.note o.more o.first))
-      (let all : AllByRecursion (IsFor slip.worker) (o.note ∷ o.more) = subst (λ x. AllByRecursion (IsFor slip.worker) x) o.first (l.fits slip.worker (subst (λ x. x < s.boxes) is below)) in all.1)))
+      (let all : AllByRecursion (IsFor slip.worker) (o.note ∷ o.more) = subst (λ x. AllByRecursion (IsFor slip.worker) x) o.first
+      (l.fits slip.worker (subst (λ x. x < s.boxes) is below)) in all.1)))
       (λ (differ : b ≢ slip.worker). subst (λ x. AllByRecursion (IsFor b) x) (sym (less_other slip.worker notes b differ)) (l.fits b below))
       (same? b slip.worker);
   workers = l.workers.1;
 }
 
 -- a deed before others: what waits more or less after it
-hears_on : (k w n : ℕ) (d : Deed) (deeds : List Deed) → n + length (heard_by k (d ∷ [])) ≡ w + length (told_to k (d ∷ [])) → HearsTold k n deeds → HearsTold k w (d ∷ deeds)
+hears_on : (k w n : ℕ) (d : Deed) (deeds : List Deed) → n + length (heard_by k (d ∷ [])) ≡ w + length (told_to k (d ∷ [])) → HearsTold k n deeds
+    → HearsTold k w (d ∷ deeds)
 hears_on k w n d deeds e later [] after whole = omega arith
 hears_on k w n d deeds e later (x ∷ before) after whole =
     let is : d ≡ x = cc in
     let f : length (heard_by k before) ≤ n + length (told_to k before) = later before after (cc) in
     subst (λ y. length (heard_by k (y ∷ before)) ≤ w + length (told_to k (y ∷ before))) is
-    (let t : length (heard_by k (d ∷ before)) ≡ length (heard_by k (d ∷ [])) + length (heard_by k before) = ap length (heard_by-append k (d ∷ []) before) ∙ length-append (heard_by k (d ∷ [])) (heard_by k before) in
-    let g : length (told_to k (d ∷ before)) ≡ length (told_to k (d ∷ [])) + length (told_to k before) = ap length (told_to-append k (d ∷ []) before) ∙ length-append (told_to k (d ∷ [])) (told_to k before) in
+    (let t : length (heard_by k (d ∷ before)) ≡ length (heard_by k (d ∷ [])) + length (heard_by k before) = ap length (heard_by-append k (d ∷ []) before)
+    ∙ length-append (heard_by k (d ∷ [])) (heard_by k before) in
+    let g : length (told_to k (d ∷ before)) ≡ length (told_to k (d ∷ [])) + length (told_to k before) = ap length (told_to-append k (d ∷ []) before)
+    ∙ length-append (told_to k (d ∷ [])) (told_to k before) in
     omega arith)
 
-takes_on : (b w n : ℕ) (d : Deed) (deeds : List Deed) → n + length (taken_by b (d ∷ [])) ≡ w + length (given_to b (d ∷ [])) → TakesGiven b n deeds → TakesGiven b w (d ∷ deeds)
+takes_on : (b w n : ℕ) (d : Deed) (deeds : List Deed) → n + length (taken_by b (d ∷ [])) ≡ w + length (given_to b (d ∷ [])) → TakesGiven b n deeds
+    → TakesGiven b w (d ∷ deeds)
 takes_on b w n d deeds e later [] after whole = omega arith
 takes_on b w n d deeds e later (x ∷ before) after whole =
     let is : d ≡ x = cc in
     let f : length (taken_by b before) ≤ n + length (given_to b before) = later before after (cc) in
     subst (λ y. length (taken_by b (y ∷ before)) ≤ w + length (given_to b (y ∷ before))) is
-    (let t : length (taken_by b (d ∷ before)) ≡ length (taken_by b (d ∷ [])) + length (taken_by b before) = ap length (taken_by-append b (d ∷ []) before) ∙ length-append (taken_by b (d ∷ [])) (taken_by b before) in
-    let g : length (given_to b (d ∷ before)) ≡ length (given_to b (d ∷ [])) + length (given_to b before) = ap length (given_to-append b (d ∷ []) before) ∙ length-append (given_to b (d ∷ [])) (given_to b before) in
+    (let t : length (taken_by b (d ∷ before)) ≡ length (taken_by b (d ∷ [])) + length (taken_by b before) = ap length (taken_by-append b (d ∷ []) before)
+    ∙ length-append (taken_by b (d ∷ [])) (taken_by b before) in
+    let g : length (given_to b (d ∷ before)) ≡ length (given_to b (d ∷ [])) + length (given_to b before) = ap length (given_to-append b (d ∷ []) before)
+    ∙ length-append (given_to b (d ∷ [])) (given_to b before) in
     omega arith)
 
 -- one turn more: a worker takes a copy and tells of it, and the lane hears it
 one_turn : (s : Server) (notes : ℕ → List Note) (outcomes : ℕ → List Outcome) (slip : Slip) (slips : List Slip) (deeds : List Deed) → s.lanes ≡ 1
     → AreLeft s notes outcomes (slip ∷ slips) → (o : OneLeft slip.worker slip (of_worker slip.worker slips) (outcomes slip.worker) (notes slip.worker))
-    → AreTurns s (less slip.worker notes) (less slip.worker outcomes) slips deeds → AreTurns s notes outcomes (slip ∷ slips) (Took o.note ∷ Told slip ∷ Heard slip ∷ deeds)
+    → AreTurns s (less slip.worker notes) (less slip.worker outcomes) slips deeds
+    → AreTurns s notes outcomes (slip ∷ slips) (Took o.note ∷ Told slip ∷ Heard slip ∷ deeds)
 one_turn s notes outcomes slip slips deeds one l o t =
     let low : slip.worker < s.boxes = l.workers.0 in
     let all : AllByRecursion (IsFor slip.worker) (o.note ∷ o.more) = subst (λ x. AllByRecursion (IsFor slip.worker) x) o.first (l.fits slip.worker low) in
@@ -167,7 +180,8 @@ one_turn s notes outcomes slip slips deeds one l o t =
           (passes (is_of_worker slip.worker) (Took o.note) (Told slip ∷ Heard slip ∷ deeds) (same_number o.note.mailbox slip.worker box)
           ∙ ap (λ ds. Took o.note ∷ ds) (passes (is_of_worker slip.worker) (Told slip) (Heard slip ∷ deeds) (same_number slip.worker slip.worker refl))
           ∙ (λ i. Took o.note ∷ Told (o.says i) ∷ t.worked slip.worker low i)
-          ∙ (λ i. Took o.note ∷ Told (slip_of slip.worker o.note o.outcome) ∷ turns_of slip.worker (less_same slip.worker notes o.note o.more o.first i) (less_same slip.worker outcomes o.outcome o.others o.its i))
+          ∙ (λ i. Took o.note ∷ Told (slip_of slip.worker o.note o.outcome) ∷ turns_of slip.worker (less_same slip.worker notes o.note o.more o.first i)
+          (less_same slip.worker outcomes o.outcome o.others o.its i))
           ∙ sym (λ i. turns_of slip.worker (o.first i) (o.its i))))
           (λ (differ : b ≢ slip.worker).
           fails (is_of_worker b) (Took o.note) (Told slip ∷ Heard slip ∷ deeds) (other_number o.note.mailbox b (λ e. differ (sym e ∙ box)))
@@ -204,14 +218,16 @@ no_turns s notes outcomes l = record {
     none_hears [] after whole = omega arith
     none_hears (x ∷ before) after whole = cc
 
-all_turns : (s : Server) (notes : ℕ → List Note) (outcomes : ℕ → List Outcome) (slips : List Slip) → s.lanes ≡ 1 → AreLeft s notes outcomes slips → AreTurns s notes outcomes slips (turns notes slips)
+all_turns : (s : Server) (notes : ℕ → List Note) (outcomes : ℕ → List Outcome) (slips : List Slip) → s.lanes ≡ 1 → AreLeft s notes outcomes slips
+    → AreTurns s notes outcomes slips (turns notes slips)
 all_turns s notes outcomes [] one l = no_turns s notes outcomes l
 all_turns s notes outcomes (slip ∷ slips) one l =
     let o : OneLeft slip.worker slip (of_worker slip.worker slips) (outcomes slip.worker) (notes slip.worker) =
     one_left slip.worker slip (of_worker slip.worker slips) (outcomes slip.worker) (notes slip.worker)
     (sym (passes (λ (x : Slip). x.worker == slip.worker) slip slips (same_number slip.worker slip.worker refl)) ∙ l.told slip.worker l.workers.0) in
     subst (λ ds. AreTurns s notes outcomes (slip ∷ slips) (taking ds ++ Told slip ∷ Heard slip ∷ turns (less slip.worker notes) slips)) (sym o.first)
-    (one_turn s notes outcomes slip slips (turns (less slip.worker notes) slips) one l o (all_turns s (less slip.worker notes) (less slip.worker outcomes) slips one (after_one s notes outcomes slip slips l o)))
+    (one_turn s notes outcomes slip slips (turns (less slip.worker notes) slips) one l o
+    (all_turns s (less slip.worker notes) (less slip.worker outcomes) slips one (after_one s notes outcomes slip slips l o)))
 
 -- the copies of a lane name it
 abbrev NamesLane : ℕ → Note → Type 0
@@ -235,9 +251,11 @@ of_transactions k (t ∷ ts) = both (NamesLane k) (copies k t) (flat_map (copies
 
 all_of_lane : (k : ℕ) (notes : List Note) → AllByRecursion (NamesLane k) notes → of_lane k notes ≡ notes
 all_of_lane k [] all = refl
-all_of_lane k (note ∷ notes) all = passes (λ (n : Note). n.txn.lane == k) note notes (same_number note.txn.lane k all.0) ∙ ap (λ ns. note ∷ ns) (all_of_lane k notes all.1)
+all_of_lane k (note ∷ notes) all = passes (λ (n : Note). n.txn.lane == k) note notes (same_number note.txn.lane k all.0)
+    ∙ ap (λ ns. note ∷ ns) (all_of_lane k notes all.1)
 
-fit_if : (b : ℕ) (note : Note) (notes : List Note) (t : Bool) → (note.mailbox == b) ≡ t → note.txn.lane ≡ 0 → AllByRecursion (IsFor b) (of_mailbox b notes) → AllByRecursion (IsFor b) (of_mailbox b (note ∷ notes))
+fit_if : (b : ℕ) (note : Note) (notes : List Note) (t : Bool) → (note.mailbox == b) ≡ t → note.txn.lane ≡ 0 → AllByRecursion (IsFor b) (of_mailbox b notes)
+    → AllByRecursion (IsFor b) (of_mailbox b (note ∷ notes))
 fit_if b note notes true e lane more =
     subst (λ ns. AllByRecursion (IsFor b) ns) (sym (passes (λ (n : Note). n.mailbox == b) note notes e)) ((lane, eqb-true note.mailbox b e), more)
 fit_if b note notes false e lane more = subst (λ ns. AllByRecursion (IsFor b) ns) (sym (fails (λ (n : Note). n.mailbox == b) note notes e)) more
@@ -273,10 +291,12 @@ worked_of : (b : ℕ) (notes : List Note) (deeds : List Deed) → worked_by b (g
 worked_of b [] deeds = refl
 worked_of b (note ∷ notes) deeds = worked_of b notes deeds
 
-within_of : (s : Server) (notes : List Note) (deeds : List Deed) → s.lanes ≡ 1 → AllByRecursion (NamesLane 0) notes → AllByRecursion (λ note. note.mailbox < s.boxes) notes → AllByRecursion (IsWithin s) deeds
+within_of : (s : Server) (notes : List Note) (deeds : List Deed) → s.lanes ≡ 1 → AllByRecursion (NamesLane 0) notes
+    → AllByRecursion (λ note. note.mailbox < s.boxes) notes → AllByRecursion (IsWithin s) deeds
     → AllByRecursion (IsWithin s) (giving notes ++ deeds)
 within_of s [] deeds one lane box rest = rest
-within_of s (note ∷ notes) deeds one lane box rest = let at : note.txn.lane ≡ 0 = lane.0 in (((omega arith), box.0), within_of s notes deeds one lane.1 box.1 rest)
+within_of s (note ∷ notes) deeds one lane box rest = let at : note.txn.lane ≡ 0 = lane.0 in
+    (((omega arith), box.0), within_of s notes deeds one lane.1 box.1 rest)
 
 later_of : (notes : List Note) (deeds : List Deed) → HearsTold 0 0 deeds → HearsTold 0 0 (giving notes ++ deeds)
 later_of [] deeds later = later
@@ -289,12 +309,14 @@ no_more b n deeds few before after whole =
     ap (λ ds. length (taken_by b ds)) whole ∙ ap length (taken_by-append b before after) ∙ length-append (taken_by b before) (taken_by b after) in
     omega arith
 
-given_first : (b n : ℕ) (notes : List Note) (deeds : List Deed) → length (taken_by b deeds) ≤ n + length (of_mailbox b notes) → TakesGiven b n (giving notes ++ deeds)
+given_first : (b n : ℕ) (notes : List Note) (deeds : List Deed) → length (taken_by b deeds) ≤ n + length (of_mailbox b notes)
+    → TakesGiven b n (giving notes ++ deeds)
 given_first b n [] deeds few = no_more b n deeds (omega arith)
 given_first b n (note ∷ notes) deeds few =
     let e : length (of_mailbox b (note ∷ notes)) ≡ length (given_to b (Gave note ∷ [])) + length (of_mailbox b notes) =
     ap length (filter-append (λ (x : Note). x.mailbox == b) (note ∷ []) notes) ∙ length-append (of_mailbox b (note ∷ [])) (of_mailbox b notes) in
-    takes_on b n (n + length (given_to b (Gave note ∷ []))) (Gave note) (giving notes ++ deeds) (omega arith) (given_first b (n + length (given_to b (Gave note ∷ []))) notes deeds (omega arith))
+    takes_on b n (n + length (given_to b (Gave note ∷ []))) (Gave note) (giving notes ++ deeds) (omega arith)
+    (given_first b (n + length (given_to b (Gave note ∷ []))) notes deeds (omega arith))
 
 pub one_lane : (s : Server) (t : Threads) → IsOfOneLane s t → (deeds : List Deed) × IsHistory s t deeds
 one_lane s t is =
