@@ -3,3 +3,5 @@ pub mod Story
 pub mod Stands
 pub mod Frames
 pub mod OneLane
+pub mod ByTime
+pub mod Timed

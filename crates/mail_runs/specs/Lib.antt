@@ -3,3 +3,4 @@ pub mod Courses
 pub mod Histories
 pub mod RunOf
 pub mod OneLane
+pub mod Timed

@@ -4,7 +4,7 @@ use Rattle.std.specs.List.{AllByRecursion}
 use Rattle.mail_world.specs.Slips.{of_worker, slips_from}
 use Rattle.mail_world.specs.Lists.{copies, copies_owed}
 use Rattle.mail_runs.specs.Deeds.{Deed}
-use Rattle.mail_runs.specs.Courses.{Server, Course, IsCourse}
+use Rattle.mail_runs.specs.Courses.{Server, IsCourse}
 use Rattle.mail_runs.specs.Histories.{Threads, RiseAbove, IsHistory}
 
 -- what a server with one lane came to: each worker took the copies that the lane's transactions owe its mailbox, and
