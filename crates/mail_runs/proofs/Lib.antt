@@ -2,3 +2,8 @@ pub mod Parts
 pub mod Story
 pub mod Stands
 pub mod Frames
+pub mod Gives
+pub mod Opens
+pub mod Next
+pub mod Offers
+pub mod Hears
