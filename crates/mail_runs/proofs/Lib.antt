@@ -7,3 +7,6 @@ pub mod Opens
 pub mod Next
 pub mod Offers
 pub mod Hears
+pub mod Starts
+pub mod Same
+pub mod Closes
