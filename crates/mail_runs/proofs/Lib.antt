@@ -2,3 +2,5 @@ pub mod Parts
 pub mod Story
 pub mod Stands
 pub mod Frames
+pub mod Changes
+pub mod Next
