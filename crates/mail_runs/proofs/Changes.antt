@@ -1,15 +1,15 @@
 -- What of a house stands after a deed that changes one mailbox, one lane, or none.
-use Rattle.std.proofs.Common.{◌≡◌, ◌≢◌, ℕ, zero, suc, ◌+◌, ◌<◌, List, [], ◌∷◌, length, Some, inl, inr, refl, ap, sym, ◌∙◌, subst, arith}
+use Rattle.std.proofs.Common.{◌≡◌, ◌≢◌, ◌⊎◌, ℕ, zero, suc, ◌+◌, ◌<◌, List, [], ◌∷◌, length, Some, inl, inr, refl, ap, sym, ◌∙◌, subst, arith}
 use Rattle.std.specs.Prelude.{slice_get, slice_set}
 use Rattle.mail_world.specs.House.{Lane, Box, House}
 use Rattle.mail_world.specs.Events.{LaneIs, BoxIs}
 use Rattle.mail_world.proofs.Accepted.{get_set}
 use Rattle.mail_world.proofs.LastSeal.{length_set}
 use Rattle.mail_world.proofs.OtherSteps.{there_is}
-use Rattle.mail_runs.specs.Deeds.{Deed}
+use Rattle.mail_runs.specs.Deeds.{Deed, given_by}
 use Rattle.mail_runs.specs.Courses.{Server}
 use Rattle.mail_runs.specs.Histories.{Threads}
-use Rattle.mail_runs.proofs.Stands.{BoxStands, LaneStands}
+use Rattle.mail_runs.proofs.Stands.{BoxStands, LaneStands, IsIdle, IsGiving}
 use Rattle.mail_runs.proofs.Frames.{IsPastBox, IsPastLane, box_past, lane_past}
 
 -- all mailboxes, and all lanes; `Stands` has them of its house
@@ -45,6 +45,25 @@ one_lane t d rest lanes k changed past here all c lane is = elim (get_set lanes 
       subst P (sym at.0) (subst (LaneStands k (t.heard k) rest) at.1 here)
   | inr other ↦ lane_past c (t.heard c) d rest lane (past c other.0) (all c lane other.1)
 ]
+
+-- a lane has as much to give where its messages, its holds and its number stay
+pub gives_still : (k : ℕ) (left rest : List Deed) (lane new : Lane) → given_by k left ≡ given_by k rest → new.holds ≡ lane.holds → new.messages ≡ lane.messages → new.number ≡ lane.number
+    → IsIdle k left lane ⊎ IsGiving k left lane → IsIdle k rest new ⊎ IsGiving k rest new
+gives_still k left rest lane new same holds messages number (inl idle) =
+    inl (record { ts = idle.ts; no_hold = holds ∙ idle.no_hold; gives = sym same ∙ idle.gives; rise = rw number idle.rise })
+gives_still k left rest lane new same holds messages number (inr g) = inr (record {
+  key = g.key;
+  t = g.t;
+  place = g.place;
+  box = g.box;
+  boxes = g.boxes;
+  at = g.at;
+  ts = g.ts;
+  hold = holds ∙ g.hold;
+  message = ap (λ ms. slice_get ms g.at) messages ∙ g.message;
+  gives = sym same ∙ g.gives;
+  rise = rw number g.rise;
+})
 
 -- an element that was written twice is as it was written last, and a list has as many
 pub set_twice : {A : Type 0} (xs : List A) (i : ℕ) (x y : A) → slice_set (slice_set xs i x) i y ≡ slice_set xs i y

@@ -4,3 +4,4 @@ pub mod Stands
 pub mod Frames
 pub mod Changes
 pub mod Next
+pub mod Tells
