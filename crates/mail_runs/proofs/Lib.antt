@@ -5,3 +5,4 @@ pub mod Frames
 pub mod Changes
 pub mod Next
 pub mod Tells
+pub mod Takes
