@@ -232,3 +232,117 @@ release_story h b box old settled spool copy is held story =
         after = again (with_depot h st.depot) b mid (handed box settled (spool_after spool copy) (let_go_of copy));
       });
     }
+
+-- the copy was written as far as its outcome says, and its hold is still there
+record IsWritten (h : House) (b : ℕ) (box : Box) (note : Note) (outcome : Outcome) (between : Spooled) : Type 0 where
+  settled : ℕ
+  spool : Spooled
+  copy : Copy
+  held : copy.released ≡ false
+  is : copy.post.note ≡ note
+  says : outcome_of copy ≡ outcome
+  after : spool_after spool copy ≡ between
+  story : Story (with_box h b (handed box settled spool copy))
+
+record_is : (s : Server) (h : House) (post : Post) (note : Note) → (h.calendar ≡ s.calendar) × (h.host ≡ s.host) × (h.quota ≡ s.quota) → post.note ≡ note
+    → record_of h.calendar h.host post.note ≡ record_of s.calendar s.host note
+record_is s h post note setting is = rw (setting.0, setting.1, is) refl
+
+over_is : (s : Server) (h : House) (box : Box) (post : Post) (note : Note) (faulty fit : Bool) → (h.calendar ≡ s.calendar) × (h.host ≡ s.host) × (h.quota ≡ s.quota) → post.note ≡ note
+    → box.faulty ≡ faulty → fits_after s (spooled box) note ≡ fit → is_over_quota h box post.note ≡ (not faulty && not fit)
+over_is s h box post note faulty fit setting is f e =
+    ap (λ r. not box.faulty && not (fits h.quota (length box.spool) (length r))) (record_is s h post note setting is)
+    ∙ rw (setting.2, f, e) refl
+
+written_as : (xs ys : List ℕ) (t u : Bool) → xs ≡ ys → t ≡ u → (let x : Spooled = record { bytes = xs; faulty = t } in x) ≡ (let y : Spooled = record { bytes = ys; faulty = u } in y)
+written_as xs ys t u e f = cc
+
+written : (s : Server) (h : House) (b : ℕ) (box : Box) (note : Note) (post : Post) (outcome : Outcome) (between : Spooled) → (h.calendar ≡ s.calendar) × (h.host ≡ s.host) × (h.quota ≡ s.quota)
+    → BoxIs h b box → box.hand ≡ None → slice_get box.accepted box.taken ≡ Some post → post.note ≡ note → TakesOne s note outcome (spooled box) between → Story h
+    → IsWritten h b box note outcome between
+written s h b box note post Stored between setting is free_hand at same (sound, fit, after) story =
+    let whole : List ℕ = record_of s.calendar s.host note in
+    let e : record_of h.calendar h.host post.note ≡ whole = record_is s h post note setting same in
+    let size : length (record_of h.calendar h.host post.note) ≡ length whole = ap length e in
+    let took = take_story h b box post false is free_hand at (over_is s h box post note false true setting same sound fit) story in
+    let wrote = write_story h b box box box.settled (spooled box) (just_taken post false) whole [] is sound refl refl (e ∙ sym (append-nil whole)) took in
+    let synced = sync_story h b box box box.settled (record { bytes = box.spool ++ whole; faulty = box.faulty }) (record (just_taken post false) { written = 0 + length whole }) is sound refl refl (omega arith) wrote in
+    record {
+      settled = box.settled + 1;
+      spool = record { bytes = box.spool ++ whole; faulty = box.faulty };
+      copy = record { post = post; written = 0 + length whole; synced = true; over = false; released = false };
+      held = refl;
+      is = same;
+      says = refl;
+      after = written_as (box.spool ++ whole) (box.spool ++ whole) (box.faulty || false) false refl (rw sound refl) ∙ sym after;
+      story = synced;
+    }
+written s h b box note post OverQuota between setting is free_hand at same (sound, fit, after) story =
+    record {
+      settled = box.settled + 1;
+      spool = spooled box;
+      copy = just_taken post true;
+      held = refl;
+      is = same;
+      says = refl;
+      after = written_as box.spool box.spool (box.faulty || false) box.faulty refl (rw sound refl) ∙ sym after;
+      story = take_story h b box post true is free_hand at (over_is s h box post note false false setting same sound fit) story;
+    }
+written s h b box note post Failed between setting is free_hand at same (inl (faulty, after)) story =
+    record {
+      settled = box.settled;
+      spool = spooled box;
+      copy = just_taken post false;
+      held = refl;
+      is = same;
+      says = refl;
+      after = written_as box.spool box.spool (box.faulty || true) box.faulty refl (rw faulty refl) ∙ sym after;
+      story = take_story h b box post false is free_hand at (over_is s h box post note true (fits_after s (spooled box) note) setting same faulty refl) story;
+    }
+written s h b box note post Failed between setting is free_hand at same (inr tears) story =
+    let e : record_of h.calendar h.host post.note ≡ tears.torn ++ tears.rest = record_is s h post note setting same ∙ tears.parts in
+    let took = take_story h b box post false is free_hand at (over_is s h box post note false true setting same tears.sound tears.fit) story in
+    record {
+      settled = box.settled;
+      spool = record { bytes = box.spool ++ tears.torn; faulty = box.faulty };
+      copy = record (just_taken post false) { written = 0 + length tears.torn };
+      held = refl;
+      is = same;
+      says = refl;
+      after = let sound : box.faulty ≡ false = tears.sound in written_as (box.spool ++ tears.torn) (box.spool ++ tears.torn) (box.faulty || true) true refl (rw sound refl) ∙ sym tears.after;
+      story = write_story h b box box box.settled (spooled box) (just_taken post false) tears.torn tears.rest is tears.sound refl refl e took;
+    }
+written s h b box note post _ between setting is free_hand at same takes story = absurd takes
+
+-- the house after all of them
+after_stands : (s : Server) (t : Threads) (note : Note) (rest : List Deed) (h : House) (changed : Box) (depot : Depot) (key : Key) → Stands s t (Took note ∷ rest) h → Releases h.depot key depot
+    → BoxStands s h.capacity note.mailbox (t.courses note.mailbox) rest changed → Stands s t rest (with_box (with_depot h depot) note.mailbox changed)
+after_stands s t note rest h changed depot key stands releases its = record {
+  setting = stands.setting;
+  as_many = (as_many_set h.boxes note.mailbox s.boxes changed stands.as_many.0, stands.as_many.1);
+  within = stands.within.1;
+  boxes = one_box s t h.capacity (Took note) rest h.boxes note.mailbox changed (λ c other same. other (sym same)) its stands.boxes;
+  lanes = no_lane t (Took note) rest h.lanes (λ k. tt) stands.lanes;
+  depot = depot_after rest h.depot key depot releases (depot_past (Took note) rest h.depot stands.depot);
+}
+
+pub takes : (s : Server) (t : Threads) (note : Note) (rest : List Deed) (h : House) → Stands s t (Took note ∷ rest) h → Story h → Next s t rest
+takes s t note rest h stands story =
+    let b : ℕ = note.mailbox in
+    let course : Course = t.courses b in
+    let there = box_there h s.boxes b stands.as_many.0 stands.within.0.1 in
+    let box : Box = there.0 in
+    let here : BoxStands s h.capacity b course (Took note ∷ rest) box = stands.boxes b box there.1 in
+    let some : 1 ≤ length box.accepted - box.taken = one_waits note (length box.accepted - box.taken) rest here.fed in
+    let turn = turn_next s h.capacity course note rest box here in
+    let front = front_of note (given_to b rest) turn.notes box (omega arith) turn.queue in
+    let w = written s h b box note front.post turn.outcome turn.between stands.setting there.1 turn.free_hand front.at front.is turn.takes_one story in
+    let gone = release_story h b box box w.settled w.spool w.copy there.1 w.held w.story in
+    let its : BoxStands s h.capacity b course rest (handed box w.settled turn.between (let_go_of w.copy)) =
+    box_after s h.capacity course note rest box here turn front w.settled (let_go_of w.copy) refl w.is w.says in
+    let P : Spooled → Type 0 = λ spool. BoxStands s h.capacity b course rest (handed box w.settled spool (let_go_of w.copy)) in
+    record {
+      house = with_box (with_depot h gone.depot) b (handed box w.settled (spool_after w.spool w.copy) (let_go_of w.copy));
+      story = gone.story;
+      stands = after_stands s t note rest h (handed box w.settled (spool_after w.spool w.copy) (let_go_of w.copy)) gone.depot w.copy.post.key stands gone.releases (subst P (sym w.after) its);
+    }
