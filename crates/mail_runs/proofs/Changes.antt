@@ -1,5 +1,5 @@
 -- What of a house stands after a deed that changes one mailbox, one lane, or none.
-use Rattle.std.proofs.Common.{◌≡◌, ◌≢◌, ◌⊎◌, ℕ, zero, suc, ◌+◌, ◌<◌, List, [], ◌∷◌, length, Some, inl, inr, refl, ap, sym, ◌∙◌, subst, arith}
+use Rattle.std.proofs.Common.{◌≡◌, ◌≢◌, ◌⊎◌, ℕ, zero, suc, ◌<◌, List, [], ◌∷◌, length, Some, inl, inr, refl, ap, sym, ◌∙◌, subst, arith}
 use Rattle.std.specs.Prelude.{slice_get, slice_set}
 use Rattle.mail_world.specs.House.{Lane, Box, House}
 use Rattle.mail_world.specs.Events.{LaneIs, BoxIs}
@@ -20,7 +20,8 @@ abbrev pub AllLanes : Threads → List Deed → List Lane → Type 0
 AllLanes t left lanes = (k : ℕ) (lane : Lane) → slice_get lanes k ≡ Some lane → LaneStands k (t.heard k) left lane
 
 -- none changes
-pub no_box : (s : Server) (t : Threads) (capacity : ℕ) (d : Deed) (rest : List Deed) (boxes : List Box) → ((b : ℕ) → IsPastBox b d) → AllBoxes s t capacity (d ∷ rest) boxes
+pub no_box : (s : Server) (t : Threads) (capacity : ℕ) (d : Deed) (rest : List Deed) (boxes : List Box) → ((b : ℕ) → IsPastBox b d)
+    → AllBoxes s t capacity (d ∷ rest) boxes
     → AllBoxes s t capacity rest boxes
 no_box s t capacity d rest boxes past all b box is = box_past s capacity b (t.courses b) d rest box (past b) (all b box is)
 
@@ -28,7 +29,8 @@ pub no_lane : (t : Threads) (d : Deed) (rest : List Deed) (lanes : List Lane) �
 no_lane t d rest lanes past all k lane is = lane_past k (t.heard k) d rest lane (past k) (all k lane is)
 
 -- one does
-pub one_box : (s : Server) (t : Threads) (capacity : ℕ) (d : Deed) (rest : List Deed) (boxes : List Box) (b : ℕ) (changed : Box) → ((c : ℕ) → c ≢ b → IsPastBox c d)
+pub one_box : (s : Server) (t : Threads) (capacity : ℕ) (d : Deed) (rest : List Deed) (boxes : List Box) (b : ℕ) (changed : Box)
+    → ((c : ℕ) → c ≢ b → IsPastBox c d)
     → BoxStands s capacity b (t.courses b) rest changed → AllBoxes s t capacity (d ∷ rest) boxes → AllBoxes s t capacity rest (slice_set boxes b changed)
 one_box s t capacity d rest boxes b changed past here all c box is = elim (get_set boxes b c changed box is) [
   | inl at ↦
@@ -47,7 +49,8 @@ one_lane t d rest lanes k changed past here all c lane is = elim (get_set lanes 
 ]
 
 -- a lane has as much to give where its messages, its holds and its number stay
-pub gives_still : (k : ℕ) (left rest : List Deed) (lane new : Lane) → given_by k left ≡ given_by k rest → new.holds ≡ lane.holds → new.messages ≡ lane.messages → new.number ≡ lane.number
+pub gives_still : (k : ℕ) (left rest : List Deed) (lane new : Lane) → given_by k left ≡ given_by k rest → new.holds ≡ lane.holds → new.messages ≡ lane.messages
+    → new.number ≡ lane.number
     → IsIdle k left lane ⊎ IsGiving k left lane → IsIdle k rest new ⊎ IsGiving k rest new
 gives_still k left rest lane new same holds messages number (inl idle) =
     inl (record { ts = idle.ts; no_hold = holds ∙ idle.no_hold; gives = sym same ∙ idle.gives; rise = rw number idle.rise })

@@ -1,7 +1,6 @@
 -- A worker takes a copy, writes its record as far as its spool lets it, and lets go of the message.
-use Rattle.std.proofs.Common.{◌≡◌, ◌≢◌, ℕ, zero, suc, ◌+◌, ◌-◌, ◌<◌, ◌≤◌, ◌==◌, ◌||◌, ◌&&◌, not, List, [], ◌∷◌, ◌++◌, length, drop, Bool, true, false, Option, Some, None, inl, inr, refl, ap, sym, ◌∙◌, subst, append-nil, arith, add-one, length-append}
-use Rattle.std.specs.Prelude.{slice_get, slice_set, sum_by, flat_map, if◌then◌else◌}
-use Rattle.std.proofs.lemmas.List.Sums.{sum_by-cons}
+use Rattle.std.proofs.Common.{◌≡◌, ℕ, suc, ◌+◌, ◌-◌, ◌<◌, ◌≤◌, ◌==◌, ◌||◌, ◌&&◌, not, List, [], ◌∷◌, ◌++◌, length, drop, Bool, true, false, Option, Some, None, inl, inr, refl, ap, sym, ◌∙◌, subst, append-nil, arith, add-one}
+use Rattle.std.specs.Prelude.{slice_get, slice_set, sum_by, if◌then◌else◌}
 use Rattle.mail_world.specs.declared.Note.{Note}
 use Rattle.mail_world.specs.declared.Outcome.{Outcome}
 use Rattle.mail_world.specs.declared.Outcome.TheVariants.{Stored, Failed, OverQuota}
@@ -9,18 +8,18 @@ use Rattle.mail_world.specs.declared.Event.TheVariants.{Take, Write, Sync, Relea
 use Rattle.mail_world.specs.Records.{record_of}
 use Rattle.mail_world.specs.Quotas.{fits}
 use Rattle.mail_world.specs.Slips.{slip_of}
-use Rattle.mail_world.specs.Depot.{Depot, Key, Held, Sealed, Slot, Releases}
+use Rattle.mail_world.specs.Depot.{Depot, Key, Sealed, Slot, Releases}
 use Rattle.mail_world.specs.House.{House, Box, Post, Copy, is_settled, notes_of, with_box, with_depot}
-use Rattle.mail_world.specs.Events.{Step, BoxIs, ReleaseStep, is_over_quota, with_taken, outcome_of}
+use Rattle.mail_world.specs.Events.{BoxIs, ReleaseStep, is_over_quota, with_taken, outcome_of}
 use Rattle.mail_world.proofs.Depots.{set_at, used}
 use Rattle.mail_world.proofs.Holds.{drop_get, sum_set}
 use Rattle.mail_world.proofs.OtherSteps.{there_is}
-use Rattle.mail_runs.specs.Deeds.{Deed, Took, Told, given_to, taken_by, taken_in, worked_by, turns_of, is_of_worker}
-use Rattle.mail_runs.specs.Courses.{Server, Spooled, Course, TakesOne, TakesAll, Tears, fits_after}
+use Rattle.mail_runs.specs.Deeds.{Deed, Took, Told, given_to, taken_by, worked_by, turns_of, is_of_worker}
+use Rattle.mail_runs.specs.Courses.{Server, Spooled, Course, TakesOne, TakesAll, fits_after}
 use Rattle.mail_runs.specs.Histories.{Threads, TakesGiven}
 use Rattle.mail_runs.proofs.Parts.{passes, same_number}
 use Rattle.mail_runs.proofs.Story.{Story, goes_on, may_release}
-use Rattle.mail_runs.proofs.Stands.{Begins, WorkLeft, BoxStands, DepotStands, Stands, spooled, in_the_end, free_slot}
+use Rattle.mail_runs.proofs.Stands.{Begins, BoxStands, DepotStands, Stands, spooled, in_the_end, free_slot}
 use Rattle.mail_runs.proofs.Frames.{feeds_on, depot_past}
 use Rattle.mail_runs.proofs.Changes.{one_box, no_lane, as_many_set, box_there, set_twice}
 use Rattle.mail_runs.proofs.Next.{Next}
@@ -38,7 +37,8 @@ record Turn (s : Server) (b : ℕ) (course : Course) (note : Note) (left : List 
   takes : TakesAll s notes outcomes between (in_the_end course)
 
 turn_free : (s : Server) (b : ℕ) (course : Course) (note : Note) (left : List Deed) (waiting notes : List Note) (outcomes : List Outcome) (old : Spooled)
-    → Took note ∷ left ≡ turns_of b notes outcomes → waiting ≡ notes → TakesAll s notes outcomes old (in_the_end course) → Turn s b course note left waiting old None
+    → Took note ∷ left ≡ turns_of b notes outcomes → waiting ≡ notes → TakesAll s notes outcomes old (in_the_end course)
+    → Turn s b course note left waiting old None
 turn_free s b course note left waiting [] outcomes old e queue takes = cc
 turn_free s b course note left waiting (n ∷ notes) [] old e queue takes = cc
 turn_free s b course note left waiting (n ∷ notes) (outcome ∷ outcomes) old e queue takes =
@@ -49,20 +49,31 @@ turn_free s b course note left waiting (n ∷ notes) (outcome ∷ outcomes) old 
       notes = notes;
       outcomes = outcomes;
       between = takes.0;
-      program = let l : left ≡ Told (slip_of b n outcome) ∷ turns_of b notes outcomes = cc in l ∙ ap (λ m. Told (slip_of b m outcome) ∷ turns_of b notes outcomes) same;
+      program =
+          let l : left ≡ Told (slip_of b n outcome) ∷ turns_of b notes outcomes = cc in
+          l ∙ ap (λ m. Told (slip_of b m outcome) ∷ turns_of b notes outcomes) same;
       queue = queue ∙ ap (λ m. m ∷ notes) same;
       takes_one = subst (λ m. TakesOne s m outcome old takes.0) same takes.1;
       takes = takes.2;
     }
 
-turn_of : (s : Server) (b : ℕ) (course : Course) (note : Note) (left : List Deed) (waiting notes : List Note) (outcomes : List Outcome) (old : Spooled) (hand : Option Copy)
-    → Begins b (Took note ∷ left) (turns_of b notes outcomes) hand → waiting ≡ notes → TakesAll s notes outcomes old (in_the_end course) → Turn s b course note left waiting old hand
+turn_of : (s : Server) (b : ℕ) (course : Course) (note : Note) (left : List Deed) (waiting notes : List Note) (outcomes : List Outcome) (old : Spooled)
+    (hand : Option Copy)
+    → Begins b (Took note ∷ left) (turns_of b notes outcomes) hand → waiting ≡ notes → TakesAll s notes outcomes old (in_the_end course)
+    → Turn s b course note left waiting old hand
 turn_of s b course note left waiting notes outcomes old None begins queue takes = turn_free s b course note left waiting notes outcomes old begins queue takes
 turn_of s b course note left waiting notes outcomes old (Some copy) begins queue takes =
     let e : Took note ∷ left ≡ Told (slip_of b copy.post.note (outcome_of copy)) ∷ turns_of b notes outcomes = begins.1 in cc
 
-turn_next : (s : Server) (capacity : ℕ) (course : Course) (note : Note) (rest : List Deed) (box : Box) → BoxStands s capacity note.mailbox course (Took note ∷ rest) box
-    → Turn s note.mailbox course note (worked_by note.mailbox rest) (notes_of (drop box.taken box.accepted) ++ given_to note.mailbox rest) (spooled box) box.hand
+-- of a mailbox
+abbrev TurnOf : Server → Course → Note → List Deed → Box → Type 0
+TurnOf s course note rest box =
+    let waiting : List Note = notes_of (drop box.taken box.accepted) ++ given_to note.mailbox rest in
+    Turn s note.mailbox course note (worked_by note.mailbox rest) waiting (spooled box) box.hand
+
+turn_next : (s : Server) (capacity : ℕ) (course : Course) (note : Note) (rest : List Deed) (box : Box)
+    → BoxStands s capacity note.mailbox course (Took note ∷ rest) box
+    → TurnOf s course note rest box
 turn_next s capacity course note rest box stands =
     let b : ℕ = note.mailbox in
     let w = stands.work in
@@ -84,7 +95,8 @@ one_waits note w rest fed =
     let one : length (taken_by b (Took note ∷ [])) ≡ 1 = ap length (passes (λ (n : Note). n.mailbox == b) note [] (same_number b b refl)) in
     omega arith
 
-front_of : (note : Note) (given notes : List Note) (box : Box) → box.taken < length box.accepted → notes_of (drop box.taken box.accepted) ++ given ≡ note ∷ notes → IsFront note given notes box
+front_of : (note : Note) (given notes : List Note) (box : Box) → box.taken < length box.accepted
+    → notes_of (drop box.taken box.accepted) ++ given ≡ note ∷ notes → IsFront note given notes box
 front_of note given notes box low queue =
     let there = there_is box.accepted box.taken low in
     let e : there.0.note ∷ (notes_of (drop (suc box.taken) box.accepted) ++ given) ≡ note ∷ notes =
@@ -105,12 +117,13 @@ handed box settled spool copy = record {
   faulty = spool.faulty;
 }
 
-box_after : (s : Server) (capacity : ℕ) (course : Course) (note : Note) (rest : List Deed) (box : Box) → BoxStands s capacity note.mailbox course (Took note ∷ rest) box
-    → (turn : Turn s note.mailbox course note (worked_by note.mailbox rest) (notes_of (drop box.taken box.accepted) ++ given_to note.mailbox rest) (spooled box) box.hand)
+box_after : (s : Server) (capacity : ℕ) (course : Course) (note : Note) (rest : List Deed) (box : Box)
+    → BoxStands s capacity note.mailbox course (Took note ∷ rest) box
+    → (turn : TurnOf s course note rest box)
     → IsFront note (given_to note.mailbox rest) turn.notes box
-    → (settled : ℕ) (copy : Copy) → copy.released ≡ true → copy.post.note ≡ note → outcome_of copy ≡ turn.outcome
-    → BoxStands s capacity note.mailbox course rest (handed box settled turn.between copy)
-box_after s capacity course note rest box stands turn front settled copy let_go is says =
+    → (settled : ℕ) (spool : Spooled) (copy : Copy) → copy.released ≡ true → copy.post.note ≡ note → outcome_of copy ≡ turn.outcome → spool ≡ turn.between
+    → BoxStands s capacity note.mailbox course rest (handed box settled spool copy)
+box_after s capacity course note rest box stands turn front settled spool copy let_go is says after =
     let b : ℕ = note.mailbox in
     let more : length box.accepted + length (Took note ∷ rest) < capacity = stands.room in
     let some : 1 ≤ length box.accepted - box.taken = one_waits note (length box.accepted - box.taken) rest stands.fed in
@@ -128,10 +141,10 @@ box_after s capacity course note rest box stands turn front settled copy let_go 
         program = (
           let_go,
           turn.program ∙ ap (λ n. Told (slip_of b n turn.outcome) ∷ turns_of b turn.notes turn.outcomes) (sym is)
-          ∙ ap (λ o. Told (slip_of b copy.post.note o) ∷ turns_of b turn.notes turn.outcomes) (sym says),
+              ∙ ap (λ o. Told (slip_of b copy.post.note o) ∷ turns_of b turn.notes turn.outcomes) (sym says),
         );
         queue = front.queue;
-        takes = turn.takes;
+        takes = subst (λ x. TakesAll s turn.notes turn.outcomes x (in_the_end course)) (sym after) turn.takes;
       };
     }
 
@@ -151,14 +164,23 @@ again h b x y = ap (λ (boxes : List Box). let g : House = record h { boxes = bo
 abbrev just_taken : Post → Bool → Copy
 just_taken post over = record { post = post; written = 0; synced = false; over = over; released = false }
 
-take_story : (h : House) (b : ℕ) (box : Box) (post : Post) (over : Bool) → BoxIs h b box → box.hand ≡ None → slice_get box.accepted box.taken ≡ Some post → is_over_quota h box post.note ≡ over → Story h
+take_story : (h : House) (b : ℕ) (box : Box) (post : Post) (over : Bool) → BoxIs h b box → box.hand ≡ None → slice_get box.accepted box.taken ≡ Some post
+    → is_over_quota h box post.note ≡ over → Story h
     → Story (with_box h b (handed box (if over then box.settled + 1 else box.settled) (spooled box) (just_taken post over)))
 take_story h b box post over is free_hand at e story =
-    goes_on h _ (Take b) story (record { box = box; post = post; is = is; free_hand = free_hand; front = at; after = ap (λ o. with_box h b (with_taken box post o)) (sym e) })
+    let after = ap (λ o. with_box h b (with_taken box post o)) (sym e) in
+    goes_on h _ (Take b) story (record { box = box; post = post; is = is; free_hand = free_hand; front = at; after = after })
 
-write_story : (h : House) (b : ℕ) (box old : Box) (settled : ℕ) (spool : Spooled) (copy : Copy) (bytes more : List ℕ) → BoxIs h b old → spool.faulty ≡ false → copy.released ≡ false → is_settled copy ≡ false
+abbrev more_in : Spooled → List ℕ → Spooled
+more_in spool bytes = record { bytes = spool.bytes ++ bytes; faulty = spool.faulty }
+
+abbrev more_of : Copy → List ℕ → Copy
+more_of copy bytes = record copy { written = copy.written + length bytes }
+
+write_story : (h : House) (b : ℕ) (box old : Box) (settled : ℕ) (spool : Spooled) (copy : Copy) (bytes more : List ℕ) → BoxIs h b old → spool.faulty ≡ false
+    → copy.released ≡ false → is_settled copy ≡ false
     → drop copy.written (record_of h.calendar h.host copy.post.note) ≡ bytes ++ more → Story (with_box h b (handed box settled spool copy))
-    → Story (with_box h b (handed box settled (record { bytes = spool.bytes ++ bytes; faulty = spool.faulty }) (record copy { written = copy.written + length bytes })))
+    → Story (with_box h b (handed box settled (more_in spool bytes) (more_of copy bytes)))
 write_story h b box old settled spool copy bytes more is sound held unsettled next story =
     let mid : Box = handed box settled spool copy in
     goes_on (with_box h b mid) _ (Write b bytes) story (record {
@@ -171,10 +193,11 @@ write_story h b box old settled spool copy bytes more is sound held unsettled ne
       held = held;
       unsettled = unsettled;
       next = next;
-      after = again h b mid (handed box settled (record { bytes = spool.bytes ++ bytes; faulty = spool.faulty }) (record copy { written = copy.written + length bytes }));
+      after = again h b mid (handed box settled (more_in spool bytes) (more_of copy bytes));
     })
 
-sync_story : (h : House) (b : ℕ) (box old : Box) (settled : ℕ) (spool : Spooled) (copy : Copy) → BoxIs h b old → spool.faulty ≡ false → copy.released ≡ false → is_settled copy ≡ false
+sync_story : (h : House) (b : ℕ) (box old : Box) (settled : ℕ) (spool : Spooled) (copy : Copy) → BoxIs h b old → spool.faulty ≡ false → copy.released ≡ false
+    → is_settled copy ≡ false
     → copy.written ≡ length (record_of h.calendar h.host copy.post.note) → Story (with_box h b (handed box settled spool copy))
     → Story (with_box h b (handed box (settled + 1) spool (record copy { synced = true })))
 sync_story h b box old settled spool copy is sound held unsettled whole story =
@@ -203,13 +226,15 @@ record IsReleased (h : House) (b : ℕ) (box : Box) (settled : ℕ) (spool : Spo
   releases : Releases h.depot copy.post.key depot
   story : Story (with_box (with_depot h depot) b (handed box settled (spool_after spool copy) (let_go_of copy)))
 
-same_copy : (b : ℕ) (h : House) (mid box : Box) (copy other : Copy) → BoxIs h b mid → mid.hand ≡ Some copy → BoxIs h b box → box.hand ≡ Some other → other ≡ copy
+same_copy : (b : ℕ) (h : House) (mid box : Box) (copy other : Copy) → BoxIs h b mid → mid.hand ≡ Some copy → BoxIs h b box → box.hand ≡ Some other
+    → other ≡ copy
 same_copy b h mid box copy other is in_hand there its =
     let same : box ≡ mid = cc in
     let hand : box.hand ≡ mid.hand = ap (λ (x : Box). x.hand) same in
     cc
 
-release_story : (h : House) (b : ℕ) (box old : Box) (settled : ℕ) (spool : Spooled) (copy : Copy) → BoxIs h b old → copy.released ≡ false → Story (with_box h b (handed box settled spool copy))
+release_story : (h : House) (b : ℕ) (box old : Box) (settled : ℕ) (spool : Spooled) (copy : Copy) → BoxIs h b old → copy.released ≡ false
+    → Story (with_box h b (handed box settled spool copy))
     → IsReleased h b box settled spool copy
 release_story h b box old settled spool copy is held story =
     let mid : Box = handed box settled spool copy in
@@ -244,21 +269,28 @@ record IsWritten (h : House) (b : ℕ) (box : Box) (note : Note) (outcome : Outc
   after : spool_after spool copy ≡ between
   story : Story (with_box h b (handed box settled spool copy))
 
-record_is : (s : Server) (h : House) (post : Post) (note : Note) → (h.calendar ≡ s.calendar) × (h.host ≡ s.host) × (h.quota ≡ s.quota) → post.note ≡ note
+abbrev IsSetting : Server → House → Type 0
+IsSetting s h = (h.calendar ≡ s.calendar) × (h.host ≡ s.host) × (h.quota ≡ s.quota)
+
+record_is : (s : Server) (h : House) (post : Post) (note : Note) → IsSetting s h → post.note ≡ note
     → record_of h.calendar h.host post.note ≡ record_of s.calendar s.host note
 record_is s h post note setting is = rw (setting.0, setting.1, is) refl
 
-over_is : (s : Server) (h : House) (box : Box) (post : Post) (note : Note) (faulty fit : Bool) → (h.calendar ≡ s.calendar) × (h.host ≡ s.host) × (h.quota ≡ s.quota) → post.note ≡ note
+over_is : (s : Server) (h : House) (box : Box) (post : Post) (note : Note) (faulty fit : Bool)
+    → IsSetting s h → post.note ≡ note
     → box.faulty ≡ faulty → fits_after s (spooled box) note ≡ fit → is_over_quota h box post.note ≡ (not faulty && not fit)
 over_is s h box post note faulty fit setting is f e =
     ap (λ r. not box.faulty && not (fits h.quota (length box.spool) (length r))) (record_is s h post note setting is)
     ∙ rw (setting.2, f, e) refl
 
-written_as : (xs ys : List ℕ) (t u : Bool) → xs ≡ ys → t ≡ u → (let x : Spooled = record { bytes = xs; faulty = t } in x) ≡ (let y : Spooled = record { bytes = ys; faulty = u } in y)
+written_as : (xs ys : List ℕ) (t u : Bool) → xs ≡ ys → t ≡ u
+    → (let x : Spooled = record { bytes = xs; faulty = t } in x) ≡ (let y : Spooled = record { bytes = ys; faulty = u } in y)
 written_as xs ys t u e f = cc
 
-written : (s : Server) (h : House) (b : ℕ) (box : Box) (note : Note) (post : Post) (outcome : Outcome) (between : Spooled) → (h.calendar ≡ s.calendar) × (h.host ≡ s.host) × (h.quota ≡ s.quota)
-    → BoxIs h b box → box.hand ≡ None → slice_get box.accepted box.taken ≡ Some post → post.note ≡ note → TakesOne s note outcome (spooled box) between → Story h
+written : (s : Server) (h : House) (b : ℕ) (box : Box) (note : Note) (post : Post) (outcome : Outcome) (between : Spooled)
+    → IsSetting s h
+    → BoxIs h b box → box.hand ≡ None → slice_get box.accepted box.taken ≡ Some post → post.note ≡ note → TakesOne s note outcome (spooled box) between
+    → Story h
     → IsWritten h b box note outcome between
 written s h b box note post Stored between setting is free_hand at same (sound, fit, after) story =
     let whole : List ℕ = record_of s.calendar s.host note in
@@ -266,11 +298,12 @@ written s h b box note post Stored between setting is free_hand at same (sound, 
     let size : length (record_of h.calendar h.host post.note) ≡ length whole = ap length e in
     let took = take_story h b box post false is free_hand at (over_is s h box post note false true setting same sound fit) story in
     let wrote = write_story h b box box box.settled (spooled box) (just_taken post false) whole [] is sound refl refl (e ∙ sym (append-nil whole)) took in
-    let synced = sync_story h b box box box.settled (record { bytes = box.spool ++ whole; faulty = box.faulty }) (record (just_taken post false) { written = 0 + length whole }) is sound refl refl (omega arith) wrote in
+    let copy : Copy = more_of (just_taken post false) whole in
+    let synced = sync_story h b box box box.settled (more_in (spooled box) whole) copy is sound refl refl (omega arith) wrote in
     record {
       settled = box.settled + 1;
-      spool = record { bytes = box.spool ++ whole; faulty = box.faulty };
-      copy = record { post = post; written = 0 + length whole; synced = true; over = false; released = false };
+      spool = more_in (spooled box) whole;
+      copy = record copy { synced = true };
       held = refl;
       is = same;
       says = refl;
@@ -304,18 +337,21 @@ written s h b box note post Failed between setting is free_hand at same (inr tea
     let took = take_story h b box post false is free_hand at (over_is s h box post note false true setting same tears.sound tears.fit) story in
     record {
       settled = box.settled;
-      spool = record { bytes = box.spool ++ tears.torn; faulty = box.faulty };
-      copy = record (just_taken post false) { written = 0 + length tears.torn };
+      spool = more_in (spooled box) tears.torn;
+      copy = more_of (just_taken post false) tears.torn;
       held = refl;
       is = same;
       says = refl;
-      after = let sound : box.faulty ≡ false = tears.sound in written_as (box.spool ++ tears.torn) (box.spool ++ tears.torn) (box.faulty || true) true refl (rw sound refl) ∙ sym tears.after;
+      after =
+          let sound : box.faulty ≡ false = tears.sound in
+          written_as (box.spool ++ tears.torn) (box.spool ++ tears.torn) (box.faulty || true) true refl (rw sound refl) ∙ sym tears.after;
       story = write_story h b box box box.settled (spooled box) (just_taken post false) tears.torn tears.rest is tears.sound refl refl e took;
     }
 written s h b box note post _ between setting is free_hand at same takes story = absurd takes
 
 -- the house after all of them
-after_stands : (s : Server) (t : Threads) (note : Note) (rest : List Deed) (h : House) (changed : Box) (depot : Depot) (key : Key) → Stands s t (Took note ∷ rest) h → Releases h.depot key depot
+after_stands : (s : Server) (t : Threads) (note : Note) (rest : List Deed) (h : House) (changed : Box) (depot : Depot) (key : Key)
+    → Stands s t (Took note ∷ rest) h → Releases h.depot key depot
     → BoxStands s h.capacity note.mailbox (t.courses note.mailbox) rest changed → Stands s t rest (with_box (with_depot h depot) note.mailbox changed)
 after_stands s t note rest h changed depot key stands releases its = record {
   setting = stands.setting;
@@ -326,23 +362,31 @@ after_stands s t note rest h changed depot key stands releases its = record {
   depot = depot_after rest h.depot key depot releases (depot_past (Took note) rest h.depot stands.depot);
 }
 
+takes_turn : (s : Server) (t : Threads) (note : Note) (rest : List Deed) (h : House) (box : Box)
+    (here : BoxStands s h.capacity note.mailbox (t.courses note.mailbox) (Took note ∷ rest) box)
+    → (turn : TurnOf s (t.courses note.mailbox) note rest box)
+    → IsFront note (given_to note.mailbox rest) turn.notes box → BoxIs h note.mailbox box → IsWritten h note.mailbox box note turn.outcome turn.between
+    → Stands s t (Took note ∷ rest) h → Next s t rest
+takes_turn s t note rest h box here turn front is w stands =
+    let gone = release_story h note.mailbox box box w.settled w.spool w.copy is w.held w.story in
+    let course : Course = t.courses note.mailbox in
+    let spool : Spooled = spool_after w.spool w.copy in
+    let copy : Copy = let_go_of w.copy in
+    let changed : Box = handed box w.settled spool copy in
+    let its = box_after s h.capacity course note rest box here turn front w.settled spool copy refl w.is w.says w.after in
+    record {
+      house = with_box (with_depot h gone.depot) note.mailbox changed;
+      story = gone.story;
+      stands = after_stands s t note rest h changed gone.depot w.copy.post.key stands gone.releases its;
+    }
+
 pub takes : (s : Server) (t : Threads) (note : Note) (rest : List Deed) (h : House) → Stands s t (Took note ∷ rest) h → Story h → Next s t rest
 takes s t note rest h stands story =
+    let there = box_there h s.boxes note.mailbox stands.as_many.0 stands.within.0.1 in
+    let here = stands.boxes note.mailbox there.0 there.1 in
+    let turn = turn_next s h.capacity (t.courses note.mailbox) note rest there.0 here in
+    let some : 1 ≤ length there.0.accepted - there.0.taken = one_waits note (length there.0.accepted - there.0.taken) rest here.fed in
+    let front = front_of note (given_to note.mailbox rest) turn.notes there.0 (omega arith) turn.queue in
     let b : ℕ = note.mailbox in
-    let course : Course = t.courses b in
-    let there = box_there h s.boxes b stands.as_many.0 stands.within.0.1 in
-    let box : Box = there.0 in
-    let here : BoxStands s h.capacity b course (Took note ∷ rest) box = stands.boxes b box there.1 in
-    let some : 1 ≤ length box.accepted - box.taken = one_waits note (length box.accepted - box.taken) rest here.fed in
-    let turn = turn_next s h.capacity course note rest box here in
-    let front = front_of note (given_to b rest) turn.notes box (omega arith) turn.queue in
-    let w = written s h b box note front.post turn.outcome turn.between stands.setting there.1 turn.free_hand front.at front.is turn.takes_one story in
-    let gone = release_story h b box box w.settled w.spool w.copy there.1 w.held w.story in
-    let its : BoxStands s h.capacity b course rest (handed box w.settled turn.between (let_go_of w.copy)) =
-    box_after s h.capacity course note rest box here turn front w.settled (let_go_of w.copy) refl w.is w.says in
-    let P : Spooled → Type 0 = λ spool. BoxStands s h.capacity b course rest (handed box w.settled spool (let_go_of w.copy)) in
-    record {
-      house = with_box (with_depot h gone.depot) b (handed box w.settled (spool_after w.spool w.copy) (let_go_of w.copy));
-      story = gone.story;
-      stands = after_stands s t note rest h (handed box w.settled (spool_after w.spool w.copy) (let_go_of w.copy)) gone.depot w.copy.post.key stands gone.releases (subst P (sym w.after) its);
-    }
+    let w = written s h b there.0 note front.post turn.outcome turn.between stands.setting there.1 turn.free_hand front.at front.is turn.takes_one story in
+    takes_turn s t note rest h there.0 here turn front there.1 w stands
