@@ -2,11 +2,15 @@ pub mod Parts
 pub mod Story
 pub mod Stands
 pub mod Frames
+pub mod Next
+pub mod Changes
 pub mod Gives
 pub mod Opens
-pub mod Next
 pub mod Offers
 pub mod Hears
+pub mod Tells
+pub mod Takes
 pub mod Starts
 pub mod Same
 pub mod Closes
+pub mod Played

@@ -1,5 +1,5 @@
--- A house to which a run has come, where the rest of the deeds is left.
-use Rattle.std.proofs.Common.{List}
+-- What stands after a deed.
+use Rattle.std.specs.Prelude.{List}
 use Rattle.mail_world.specs.House.{House}
 use Rattle.mail_runs.specs.Deeds.{Deed}
 use Rattle.mail_runs.specs.Courses.{Server}
@@ -7,6 +7,7 @@ use Rattle.mail_runs.specs.Histories.{Threads}
 use Rattle.mail_runs.proofs.Story.{Story}
 use Rattle.mail_runs.proofs.Stands.{Stands}
 
+-- a house to which a run has come, where the rest is left
 pub record Next (s : Server) (t : Threads) (rest : List Deed) : Type 0 where
   pub house : House
   pub story : Story house
