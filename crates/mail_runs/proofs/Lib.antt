@@ -14,3 +14,4 @@ pub mod Starts
 pub mod Same
 pub mod Closes
 pub mod Played
+pub mod OneLane

@@ -2,3 +2,4 @@ pub mod Deeds
 pub mod Courses
 pub mod Histories
 pub mod RunOf
+pub mod OneLane

@@ -1,10 +1,17 @@
 //! An order of all that the threads of a server did is a run of the model.
 
 ghost use Rattle.mail_runs.specs.RunOf.{AHistoryGivesARun};
+ghost use Rattle.mail_runs.specs.OneLane.{OneLaneHasAHistory};
 
 /// Where all that the lanes and workers did stands in one order, that of each thread and of each channel, there is a
 /// run of the model from a start with as many lanes and mailboxes, over a depot that is large enough, in whose last
 /// house each mailbox and each lane has come to what its threads came to.
 pub fn a_history_gives_a_run()
     ensures { AHistoryGivesARun }
+{}
+
+/// Where a server has one lane, whose copies are just those that its workers took, each in the lane's order, and where
+/// the lane heard just the workers' slips, each worker's in its order, there is one order of all that they did.
+pub fn one_lane_has_a_history()
+    ensures { OneLaneHasAHistory }
 {}
