@@ -12,35 +12,18 @@ use Rattle.mail_world.proofs.OtherSteps.{there_is}
 use Rattle.mail_runs.specs.Deeds.{Deed, Heard, heard_in, given_by, told_to, heard_by, given_to, worked_by}
 use Rattle.mail_runs.specs.Courses.{Server}
 use Rattle.mail_runs.specs.Histories.{Threads}
-use Rattle.mail_runs.proofs.Parts.{passes, same_number, each_set, same_first, same_rest}
-use Rattle.mail_runs.proofs.Frames.{tells_on, box_past, lane_past, depot_past, gives_on}
+use Rattle.mail_runs.proofs.Parts.{passes, same_number, same_first, same_rest}
+use Rattle.mail_runs.proofs.Frames.{tells_on, depot_past, gives_still}
+use Rattle.mail_runs.proofs.Changes.{no_box, one_lane, lane_there}
 use Rattle.mail_runs.proofs.Story.{Story, goes_on}
-use Rattle.mail_runs.proofs.Stands.{BoxStands, LaneStands, IsIdle, IsGiving, Stands}
+use Rattle.mail_runs.proofs.Stands.{LaneStands, Stands}
 use Rattle.mail_runs.proofs.Next.{Next}
-
--- what a lane has to give doesn't change by what it hears
-still_gives : (k : ℕ) (rest : List Deed) (lane : Lane) (slip : Slip) → IsIdle k rest lane ⊎ IsGiving k rest lane
-    → IsIdle k rest (record (with_heard lane slip) { collected = lane.collected + 1 }) ⊎ IsGiving k rest (record (with_heard lane slip) { collected = lane.collected + 1 })
-still_gives k rest lane slip (inl i) = inl (record { ts = i.ts; no_hold = i.no_hold; gives = i.gives; rise = i.rise })
-still_gives k rest lane slip (inr g) = inr (record {
-  key = g.key;
-  t = g.t;
-  place = g.place;
-  box = g.box;
-  boxes = g.boxes;
-  at = g.at;
-  ts = g.ts;
-  hold = g.hold;
-  message = g.message;
-  gives = g.gives;
-  rise = g.rise;
-})
 
 pub hears : (s : Server) (t : Threads) (slip : Slip) (rest : List Deed) (h : House) → Stands s t (Heard slip ∷ rest) h → Story h → Next s t rest
 hears s t slip rest h stands story =
     let k : ℕ = slip.txn.lane in
     let low : k < s.lanes = stands.within.0.0 in
-    let l = there_is h.lanes k (subst (λ n. k < n) (sym stands.as_many.1) low) in
+    let l = lane_there h s.lanes k stands.as_many.1 low in
     let lane : Lane = l.0 in
     let stood : LaneStands k (t.heard k) (Heard slip ∷ rest) lane = stands.lanes k lane l.1 in
     let heard : (ds : List Deed) → heard_by k (Heard slip ∷ ds) ≡ slip ∷ heard_by k ds = λ ds. passes (λ (x : Slip). x.txn.lane == k) slip (flat_map heard_in ds) (same_number k k refl) in
@@ -62,7 +45,7 @@ hears s t slip rest h stands story =
       all_told = stood.all_told;
       all_heard = append_assoc lane.heard (slip ∷ []) (heard_by k rest) ∙ ap (λ xs. lane.heard ++ xs) (sym (heard rest)) ∙ stood.all_heard;
       fed = tells_on k (length lane.slips - lane.collected) (length lane.slips - (lane.collected + 1)) (Heard slip) rest (omega arith) stood.fed;
-      gives = still_gives k rest lane slip (gives_on k (Heard slip ∷ rest) rest lane refl stood.gives);
+      gives = gives_still k (Heard slip ∷ rest) rest lane now refl refl refl refl stood.gives;
     } in
     record {
       house = new;
@@ -71,8 +54,8 @@ hears s t slip rest h stands story =
         setting = stands.setting;
         as_many = (stands.as_many.0, length_set h.lanes k now ∙ stands.as_many.1);
         within = stands.within.1;
-        boxes = λ b box is. box_past s h.capacity b (t.courses b) (Heard slip) rest box tt (stands.boxes b box is);
-        lanes = each_set (λ i x. LaneStands i (t.heard i) rest x) h.lanes k now (λ i x differ was. lane_past i (t.heard i) (Heard slip) rest x (λ e. differ (sym e)) (stands.lanes i x was)) stands_now;
+        boxes = no_box s t h.capacity (Heard slip) rest h.boxes (λ b. tt) stands.boxes;
+        lanes = one_lane t (Heard slip) rest h.lanes k now (λ i differ e. differ (sym e)) stands_now stands.lanes;
         depot = depot_past (Heard slip) rest h.depot stands.depot;
       };
     }

@@ -14,8 +14,9 @@ use Rattle.mail_world.proofs.OtherSteps.{there_is}
 use Rattle.mail_runs.specs.Deeds.{Deed, Gave, given_in, given_by, told_to, heard_by}
 use Rattle.mail_runs.specs.Courses.{Server}
 use Rattle.mail_runs.specs.Histories.{Threads, RiseAbove}
-use Rattle.mail_runs.proofs.Parts.{passes, same_number, each_set, set_twice, same_first, same_rest}
-use Rattle.mail_runs.proofs.Frames.{tells_on, box_past, lane_past}
+use Rattle.mail_runs.proofs.Parts.{passes, same_number, set_twice, same_first, same_rest}
+use Rattle.mail_runs.proofs.Frames.{tells_on}
+use Rattle.mail_runs.proofs.Changes.{one_box, one_lane, box_there}
 use Rattle.mail_runs.proofs.Story.{Story, goes_on}
 use Rattle.mail_runs.proofs.Stands.{BoxStands, LaneStands, IsIdle, IsGiving, Stands}
 use Rattle.mail_runs.proofs.Next.{Next}
@@ -66,7 +67,7 @@ offer_last s t note rest r last =
     let g = r.giving in
     let c = copy_is note rest r.lane g in
     let low : note.mailbox < s.boxes = r.within.0.1 in
-    let b = there_is h.boxes note.mailbox (subst (λ n. note.mailbox < n) (sym r.as_many.0) low) in
+    let b = box_there h s.boxes note.mailbox r.as_many.0 low in
     let stood = r.boxes note.mailbox b.0 b.1 in
     let room : length b.0.accepted < b.0.taken + h.capacity = let m = stood.room in omega arith in
     let hold : r.lane.holds ≡ one_hold g.key 1 ∷ [] = g.hold ∙ ap (λ bs. one_hold g.key (length bs + 1) ∷ []) last in
@@ -105,7 +106,7 @@ offer_more s t note rest r box boxes more =
     let n : ℕ = length (box ∷ boxes) in
     let c = copy_is note rest r.lane g in
     let low : note.mailbox < s.boxes = r.within.0.1 in
-    let b = there_is h.boxes note.mailbox (subst (λ n. note.mailbox < n) (sym r.as_many.0) low) in
+    let b = box_there h s.boxes note.mailbox r.as_many.0 low in
     let stood = r.boxes note.mailbox b.0 b.1 in
     let room : length b.0.accepted < b.0.taken + h.capacity = let m = stood.room in omega arith in
     let hold : r.lane.holds ≡ one_hold g.key (n + 1) ∷ [] = g.hold ∙ ap (λ bs. one_hold g.key (length bs + 1) ∷ []) more in
@@ -168,10 +169,8 @@ offered s t note rest r holds o gives =
         setting = r.setting;
         as_many = (length_set h.boxes b box ∙ r.as_many.0, length_set h.lanes k now ∙ r.as_many.1);
         within = r.within.1;
-        boxes = each_set (λ i x. BoxStands s h.capacity i (t.courses i) rest x) h.boxes b box
-            (λ i x differ was. box_past s h.capacity i (t.courses i) (Gave note) rest x (λ e. differ (sym e)) (r.boxes i x was))
-            (given_here s h.capacity t note r.giving.key rest o.box (r.boxes b o.box o.box_is));
-        lanes = each_set (λ i x. LaneStands i (t.heard i) rest x) h.lanes k now (λ i x differ was. lane_past i (t.heard i) (Gave note) rest x (λ e. differ (sym e)) (r.lanes i x was)) stands;
+        boxes = one_box s t h.capacity (Gave note) rest h.boxes b box (λ i differ e. differ (sym e)) (given_here s h.capacity t note r.giving.key rest o.box (r.boxes b o.box o.box_is)) r.boxes;
+        lanes = one_lane t (Gave note) rest h.lanes k now (λ i differ e. differ (sym e)) stands r.lanes;
         depot = r.depot;
       };
     }

@@ -20,6 +20,7 @@ use Rattle.mail_runs.specs.Courses.{Server}
 use Rattle.mail_runs.specs.Histories.{Threads, RiseAbove, IsWithin}
 use Rattle.mail_runs.proofs.Parts.{passes, same_number, each_set, set_twice, same_first, same_rest}
 use Rattle.mail_runs.proofs.Frames.{depot_past}
+use Rattle.mail_runs.proofs.Changes.{lane_there}
 use Rattle.mail_runs.proofs.Story.{Story, goes_on}
 use Rattle.mail_runs.proofs.Stands.{BoxStands, LaneStands, IsIdle, IsGiving, DepotStands, Stands, free_slot, slots_for, blocks_to_give}
 use Rattle.mail_runs.proofs.Gives.{IsOpening, IsPlaced, opening, placed, held_now}
@@ -234,5 +235,5 @@ by_state s t note rest h stands story lane is (inr giving) = record {
 pub opens : (s : Server) (t : Threads) (note : Note) (rest : List Deed) (h : House) → Stands s t (Gave note ∷ rest) h → Story h → IsReady s t note rest
 opens s t note rest h stands story =
     let low : note.txn.lane < s.lanes = stands.within.0.0 in
-    let l = there_is h.lanes note.txn.lane (subst (λ n. note.txn.lane < n) (sym stands.as_many.1) low) in
+    let l = lane_there h s.lanes note.txn.lane stands.as_many.1 low in
     by_state s t note rest h stands story l.0 l.1 (stands.lanes note.txn.lane l.0 l.1).gives

@@ -17,11 +17,11 @@ use Rattle.mail_world.proofs.OtherSteps.{there_is}
 use Rattle.mail_runs.specs.Deeds.{Deed, Took, Told, given_to, taken_by, worked_by, turns_of, is_of_worker}
 use Rattle.mail_runs.specs.Courses.{Server, Spooled, Course, TakesOne, TakesAll, fits_after}
 use Rattle.mail_runs.specs.Histories.{Threads, TakesGiven}
-use Rattle.mail_runs.proofs.Parts.{passes, same_number}
+use Rattle.mail_runs.proofs.Parts.{set_twice, passes, same_number}
 use Rattle.mail_runs.proofs.Story.{Story, goes_on, may_release}
 use Rattle.mail_runs.proofs.Stands.{Begins, BoxStands, DepotStands, Stands, spooled, in_the_end, free_slot}
 use Rattle.mail_runs.proofs.Frames.{feeds_on, depot_past}
-use Rattle.mail_runs.proofs.Changes.{one_box, no_lane, as_many_set, box_there, set_twice}
+use Rattle.mail_runs.proofs.Changes.{one_box, no_lane, as_many_set, box_there}
 use Rattle.mail_runs.proofs.Next.{Next}
 
 -- a turn of a worker: the copy's outcome, the spool after it, and the turns that are left

@@ -15,8 +15,8 @@ use Rattle.mail_runs.specs.Histories.{Threads}
 use Rattle.mail_runs.proofs.Parts.{passes, same_number}
 use Rattle.mail_runs.proofs.Story.{Story, goes_on}
 use Rattle.mail_runs.proofs.Stands.{Begins, BoxStands, LaneStands, Stands}
-use Rattle.mail_runs.proofs.Frames.{feeds_on, tells_on, depot_past}
-use Rattle.mail_runs.proofs.Changes.{one_box, one_lane, gives_still, as_many_set, box_there, lane_there}
+use Rattle.mail_runs.proofs.Frames.{feeds_on, tells_on, depot_past, gives_still}
+use Rattle.mail_runs.proofs.Changes.{one_box, one_lane, as_many_set, box_there, lane_there}
 use Rattle.mail_runs.proofs.Next.{Next}
 
 -- the copy in the hand of a worker that tells the slip next
