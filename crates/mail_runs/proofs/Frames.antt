@@ -1,6 +1,6 @@
 -- What a deed leaves alone: the mailboxes and the lanes that it isn't of.
 use Rattle.std.proofs.Common.{◌≡◌, ◌≢◌, ℕ, zero, suc, ◌+◌, ◌-◌, ◌<◌, ◌≤◌, ◌==◌, List, [], ◌∷◌, ◌++◌, length, drop, Bool, true, false, Option, Some, None, inl, inr, refl, ap, sym, ◌∙◌, subst, arith, length-append}
-use Rattle.std.specs.Prelude.{⊤, ◌⊎◌, filter, flat_map, sum_by}
+use Rattle.std.specs.Prelude.{⊤, ◌⊎◌, filter, flat_map, slice_get, sum_by}
 use Rattle.std.proofs.lemmas.List.Elements.{filter-append}
 use Rattle.std.proofs.lemmas.Grind.{flat_map-append}
 use Rattle.std.proofs.lemmas.List.Sums.{sum_by-cons}
@@ -125,10 +125,13 @@ past_lane k (Heard slip) past = record {
   heard = λ rest. fails (λ (x : Slip). x.txn.lane == k) slip (flat_map heard_in rest) (other_number slip.txn.lane k past);
 }
 
--- what a lane has yet to give is as before where the deed isn't one of its
-pub gives_on : (k : ℕ) (left rest : List Deed) (lane : Lane) → given_by k left ≡ given_by k rest → IsIdle k left lane ⊎ IsGiving k left lane → IsIdle k rest lane ⊎ IsGiving k rest lane
-gives_on k left rest lane same (inl idle) = inl (record { ts = idle.ts; no_hold = idle.no_hold; gives = sym same ∙ idle.gives; rise = idle.rise })
-gives_on k left rest lane same (inr g) = inr (record {
+-- a lane has as much to give where its messages, its holds and its number stay
+pub gives_still : (k : ℕ) (left rest : List Deed) (lane new : Lane) → given_by k left ≡ given_by k rest → new.holds ≡ lane.holds → new.messages ≡ lane.messages
+    → new.number ≡ lane.number
+    → IsIdle k left lane ⊎ IsGiving k left lane → IsIdle k rest new ⊎ IsGiving k rest new
+gives_still k left rest lane new same holds messages number (inl idle) =
+    inl (record { ts = idle.ts; no_hold = holds ∙ idle.no_hold; gives = sym same ∙ idle.gives; rise = rw number idle.rise })
+gives_still k left rest lane new same holds messages number (inr g) = inr (record {
   key = g.key;
   t = g.t;
   place = g.place;
@@ -136,10 +139,10 @@ gives_on k left rest lane same (inr g) = inr (record {
   boxes = g.boxes;
   at = g.at;
   ts = g.ts;
-  hold = g.hold;
-  message = g.message;
+  hold = holds ∙ g.hold;
+  message = ap (λ ms. slice_get ms g.at) messages ∙ g.message;
   gives = sym same ∙ g.gives;
-  rise = g.rise;
+  rise = rw number g.rise;
 })
 
 pub lane_past : (k : ℕ) (heard : List Slip) (d : Deed) (rest : List Deed) (lane : Lane) → IsPastLane k d → LaneStands k heard (d ∷ rest) lane → LaneStands k heard rest lane
@@ -154,7 +157,7 @@ lane_past k heard d rest lane past stands =
       all_told = sym (ap (λ l. lane.slips ++ l) (p.told rest)) ∙ stands.all_told;
       all_heard = sym (ap (λ l. lane.heard ++ l) (p.heard rest)) ∙ stands.all_heard;
       fed = tells_on k (length lane.slips - lane.collected) (length lane.slips - lane.collected) d rest (omega arith) stands.fed;
-      gives = gives_on k (d ∷ rest) rest lane (p.given rest) stands.gives;
+      gives = gives_still k (d ∷ rest) rest lane lane (p.given rest) refl refl refl stands.gives;
     }
 
 -- a depot has room for what is left once it has it for all
