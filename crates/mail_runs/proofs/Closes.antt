@@ -1,0 +1,155 @@
+-- The house in which a history ends, once all channels are closed.
+use Rattle.std.proofs.Common.{◌≡◌, ◌≢◌, ℕ, zero, suc, ◌+◌, ◌-◌, ◌<◌, ◌≤◌, List, [], ◌∷◌, ◌++◌, length, drop, Bool, true, false, Option, Some, None, inl, inr, refl, ap, sym, ◌∙◌, subst, append-nil, arith, length-append, length-drop}
+use Rattle.std.specs.Prelude.{◌⊎◌, slice_get, slice_set}
+use Rattle.std.proofs.lemmas.Option.{slice_get_within}
+use Rattle.mail_world.specs.declared.Note.{Note}
+use Rattle.mail_world.specs.declared.Slip.{Slip}
+use Rattle.mail_world.specs.declared.Outcome.{Outcome}
+use Rattle.mail_world.specs.declared.Event.TheVariants.{Close}
+use Rattle.mail_world.specs.Lists.{of_lane}
+use Rattle.mail_world.specs.House.{House, Lane, Box, Copy, Post, notes_of, with_box}
+use Rattle.mail_world.specs.Events.{LaneIs, BoxIs, CloseStep}
+use Rattle.mail_world.specs.Runs.{last_house, events_of, offers_by}
+use Rattle.mail_world.proofs.LastSeal.{length_set}
+use Rattle.mail_world.proofs.OtherSteps.{there_is}
+use Rattle.mail_world.proofs.Once.{every_run_in_order}
+use Rattle.mail_runs.specs.Deeds.{Deed, Told, turns_of}
+use Rattle.mail_runs.specs.Courses.{Server, Spooled, Course, TakesAll}
+use Rattle.mail_runs.specs.Histories.{Threads}
+use Rattle.mail_runs.specs.RunOf.{EndsAs, HeardAs, IsRunOf}
+use Rattle.mail_runs.proofs.Parts.{each_set}
+use Rattle.mail_runs.proofs.Same.{Frame, frame_of, frame_run}
+use Rattle.mail_runs.proofs.Story.{Story, goes_on}
+use Rattle.mail_runs.proofs.Stands.{Begins, WorkLeft, BoxStands, LaneStands, IsIdle, IsGiving, Stands, spooled, in_the_end}
+use Rattle.mail_runs.proofs.Next.{Next}
+
+-- a worker with nothing left to do has no copy in hand, and its spool is as it will be
+record IsDone (course : Course) (notes : List Note) (box : Box) : Type 0 where
+  free_hand : box.hand ≡ None
+  none : notes ≡ []
+  ends : in_the_end course ≡ spooled box
+
+no_turns : (s : Server) (b : ℕ) (notes : List Note) (outcomes : List Outcome) (old new : Spooled) → [] ≡ turns_of b notes outcomes → TakesAll s notes outcomes old new → (notes ≡ []) × (new ≡ old)
+no_turns s b [] [] old new e takes = (refl, takes)
+no_turns s b [] (o ∷ os) old new e takes = absurd takes
+no_turns s b (n ∷ ns) [] old new e takes = absurd takes
+no_turns s b (n ∷ ns) (o ∷ os) old new e takes = cc
+
+done_by : (s : Server) (b : ℕ) (course : Course) (notes : List Note) (outcomes : List Outcome) (box : Box) (hand : Option Copy) → box.hand ≡ hand → Begins b [] (turns_of b notes outcomes) hand
+    → TakesAll s notes outcomes (spooled box) (in_the_end course) → IsDone course notes box
+done_by s b course notes outcomes box None is program takes =
+    let d = no_turns s b notes outcomes (spooled box) (in_the_end course) program takes in
+    record { free_hand = is; none = d.0; ends = d.1 }
+done_by s b course notes outcomes box (Some copy) is program takes = let wrong = program.1 in cc
+
+box_done : (s : Server) (capacity b : ℕ) (course : Course) (box : Box) (stands : BoxStands s capacity b course [] box) → IsDone course stands.work.notes box
+box_done s capacity b course box stands = done_by s b course stands.work.notes stands.work.outcomes box box.hand refl stands.work.program stands.work.takes
+
+none_left : {A : Type 0} (n : ℕ) (xs : List A) → n ≤ length xs → drop n xs ≡ [] → n ≡ length xs
+none_left n xs le none = let e : length (drop n xs) ≡ 0 = ap length none in omega (arith, length-drop n xs)
+
+no_posts : (posts : List Post) → notes_of posts ≡ [] → posts ≡ []
+no_posts [] e = refl
+no_posts (p ∷ posts) e = cc
+
+closed : (s : Server) (capacity b : ℕ) (course : Course) (box : Box) → BoxStands s capacity b course [] box → EndsAs course (record box { closed = true })
+closed s capacity b course box stands =
+    let d = box_done s capacity b course box stands in
+    record {
+      accepted = sym (append-nil (notes_of box.accepted)) ∙ stands.all;
+      taken = none_left box.taken box.accepted stands.prefix (no_posts (drop box.taken box.accepted) (sym (append-nil (notes_of (drop box.taken box.accepted))) ∙ stands.work.queue ∙ d.none));
+      closed = refl;
+      free_hand = d.free_hand;
+      faulty = sym (ap (λ (x : Spooled). x.faulty) d.ends);
+      old = stands.old;
+      spool = sym (ap (λ (x : Spooled). x.bytes) d.ends);
+    }
+
+-- the first n channels are closed
+record IsClosing (s : Server) (t : Threads) (capacity n : ℕ) : Type 0 where
+  house : House
+  story : Story house
+  room : house.capacity ≡ capacity
+  setting : (house.calendar ≡ s.calendar) × (house.host ≡ s.host) × (house.quota ≡ s.quota)
+  as_many : (length house.boxes ≡ s.boxes) × (length house.lanes ≡ s.lanes)
+  shut : (b : ℕ) (box : Box) → BoxIs house b box → b < n → EndsAs (t.courses b) box
+  open_yet : (b : ℕ) (box : Box) → BoxIs house b box → n ≤ b → BoxStands s capacity b (t.courses b) [] box
+  lanes : (k : ℕ) (lane : Lane) → LaneIs house k lane → LaneStands k (t.heard k) [] lane
+
+close_next : (s : Server) (t : Threads) (capacity n : ℕ) → n < s.boxes → IsClosing s t capacity n → IsClosing s t capacity (suc n)
+close_next s t capacity n low c =
+    let h = c.house in
+    let b = there_is h.boxes n (subst (λ m. n < m) (sym c.as_many.0) low) in
+    let stood = c.open_yet n b.0 b.1 (omega arith) in
+    let now : Box = record b.0 { closed = true } in
+    let new : House = with_box h n now in
+    let step : CloseStep h n new = (b.0, b.1, stood.still_open, refl) in
+    record {
+      house = new;
+      story = goes_on h new (Close n) c.story step;
+      room = c.room;
+      setting = c.setting;
+      as_many = (length_set h.boxes n now ∙ c.as_many.0, c.as_many.1);
+      shut = λ i box is below. each_set (λ j x. j < suc n → EndsAs (t.courses j) x) h.boxes n now
+          (λ j x differ was less. c.shut j x was (lower j n less differ)) (λ less. closed s capacity n (t.courses n) b.0 stood) i box is below;
+      open_yet = λ i box is above. each_set (λ j x. suc n ≤ j → BoxStands s capacity j (t.courses j) [] x) h.boxes n now
+          (λ j x differ was more. c.open_yet j x was (omega arith)) (λ more. absurd (omega arith)) i box is above;
+      lanes = c.lanes;
+    }
+  where
+    lower : (j n : ℕ) → j < suc n → j ≢ n → j < n
+    lower j n less differ = omega (arith, differ)
+
+closes : (s : Server) (t : Threads) (capacity n left : ℕ) → n + left ≡ s.boxes → IsClosing s t capacity n → IsClosing s t capacity s.boxes
+closes s t capacity n zero e c = let same : n ≡ s.boxes = omega arith in subst (IsClosing s t capacity) same c
+closes s t capacity n (suc left) e c = closes s t capacity (suc n) left (omega arith) (close_next s t capacity n (omega arith) c)
+
+nothing_to_give : (k : ℕ) (lane : Lane) → IsIdle k [] lane ⊎ IsGiving k [] lane → lane.holds ≡ []
+nothing_to_give k lane (inl idle) = idle.no_hold
+nothing_to_give k lane (inr giving) = let wrong = giving.gives in cc
+
+heard_as : (k : ℕ) (all : List Slip) (lane : Lane) → LaneStands k all [] lane → HeardAs all lane
+heard_as k all lane stands = record {
+  slips = sym (append-nil lane.slips) ∙ stands.all_told;
+  heard = sym (append-nil lane.heard) ∙ stands.all_heard;
+  collected = none_left lane.collected lane.slips stands.within (sym (append-nil (drop lane.collected lane.slips)) ∙ stands.queue);
+  no_draft = stands.no_draft;
+  no_hold = nothing_to_give k lane stands.gives;
+}
+
+pub ends : (s : Server) (t : Threads) → Next s t [] → IsRunOf s t
+ends s t next =
+    let h = next.house in
+    let capacity : ℕ = h.capacity in
+    let before : IsClosing s t capacity 0 = record {
+      house = h;
+      story = next.story;
+      room = refl;
+      setting = next.stands.setting;
+      as_many = next.stands.as_many;
+      shut = λ b box is low. absurd (omega arith);
+      open_yet = λ b box is above. next.stands.boxes b box is;
+      lanes = next.stands.lanes;
+    } in
+    let c = closes s t capacity 0 s.boxes (omega arith) before in
+    let story = c.story in
+    let last : last_house story.start story.run ≡ c.house = story.last in
+    let frame : frame_of c.house ≡ frame_of story.start = sym (ap frame_of last) ∙ frame_run story.start story.run story.runs in
+    let host = sym (ap (λ (f : Frame). f.host) frame) ∙ c.setting.1 in
+    let accepts = every_run_in_order story.blocks story.start story.run story.starts story.runs in
+    let box_is : (b : ℕ) (box : Box) → BoxIs c.house b box → BoxIs (last_house story.start story.run) b box = λ b box is. ap (λ (x : House). slice_get x.boxes b) last ∙ is in
+    let below : (b : ℕ) (box : Box) → BoxIs c.house b box → b < s.boxes = λ b box is. subst (λ n. b < n) c.as_many.0 (slice_get_within c.house.boxes b box is) in
+    record {
+      blocks = story.blocks;
+      start = story.start;
+      run = story.run;
+      starts = story.starts;
+      runs = story.runs;
+      setting = (sym (ap (λ (f : Frame). f.calendar) frame) ∙ c.setting.0, host, sym (ap (λ (f : Frame). f.quota) frame) ∙ c.setting.2);
+      as_many = (sym (ap (λ (f : Frame). f.boxes) frame) ∙ c.as_many.0, sym (ap (λ (f : Frame). f.lanes) frame) ∙ c.as_many.1);
+      offered = λ k b low.
+          let box = there_is c.house.boxes b (subst (λ n. b < n) (sym c.as_many.0) low) in
+          sym (accepts.order k b box.0 (box_is b box.0 box.1)) ∙ ap (of_lane k) (c.shut b box.0 box.1 low).accepted;
+      mailboxes = λ b box is. let at : BoxIs c.house b box = ap (λ (x : House). slice_get x.boxes b) (sym last) ∙ is in c.shut b box at (below b box at);
+      lanes = λ k lane is. heard_as k (t.heard k) lane (c.lanes k lane (ap (λ (x : House). slice_get x.lanes k) (sym last) ∙ is));
+    }

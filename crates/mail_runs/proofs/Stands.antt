@@ -1,0 +1,106 @@
+-- Where a house stands while the deeds are played: of each lane and of each mailbox, what is left of theirs.
+use Rattle.std.proofs.Common.{◌≡◌, ◌≢◌, ◌⊎◌, ℕ, zero, suc, ◌+◌, ◌-◌, ◌<◌, ◌≤◌, List, [], ◌∷◌, ◌++◌, length, drop, Bool, true, false, Option, Some, None, refl, ap, sym, ◌∙◌, subst, arith}
+use Rattle.std.specs.Prelude.{⊤, flat_map, slice_get, count_by, sum_by}
+use Rattle.std.specs.List.{AllByRecursion}
+use Rattle.mail_world.specs.declared.Note.{Note}
+use Rattle.mail_world.specs.declared.Slip.{Slip}
+use Rattle.mail_world.specs.declared.Outcome.{Outcome}
+use Rattle.mail_world.specs.Slips.{slip_of}
+use Rattle.mail_world.specs.Lists.{Transaction, copies, copies_from}
+use Rattle.mail_world.specs.Depot.{Key, Depot, Slot, Held, Free, Draft, Sealed, Retired, blocks_for}
+use Rattle.mail_world.specs.House.{House, Lane, Box, Copy, Hold, notes_of}
+use Rattle.mail_world.specs.Events.{LaneIs, BoxIs, outcome_of, sealed_up_to}
+use Rattle.mail_runs.specs.Deeds.{Deed, Gave, Took, Told, Heard, given_by, given_to, told_to, heard_by, worked_by, turns_of}
+use Rattle.mail_runs.specs.Courses.{Server, Spooled, Course, TakesAll}
+use Rattle.mail_runs.specs.Histories.{Threads, RiseAbove, IsWithin, TakesGiven, HearsTold}
+
+-- what a mailbox's spool holds, and whether its worker is faulty
+abbrev pub spooled : Box → Spooled
+spooled box = record { bytes = box.spool; faulty = box.faulty }
+
+abbrev pub in_the_end : Course → Spooled
+in_the_end course = record { bytes = course.spool; faulty = course.faulty }
+
+-- what is left of a worker's deeds: the slip of the copy in hand, and the copies that it has yet to take
+abbrev pub Begins : ℕ → List Deed → List Deed → Option Copy → Type 0
+Begins b all turns None = all ≡ turns
+Begins b all turns (Some copy) = (copy.released ≡ true) × (all ≡ Told (slip_of b copy.post.note (outcome_of copy)) ∷ turns)
+
+pub record WorkLeft (s : Server) (b : ℕ) (course : Course) (left : List Deed) (box : Box) : Type 0 where
+  pub notes : List Note
+  pub outcomes : List Outcome
+  pub program : Begins b (worked_by b left) (turns_of b notes outcomes) box.hand
+  pub queue : notes_of (drop box.taken box.accepted) ++ given_to b left ≡ notes
+  pub takes : TakesAll s notes outcomes (spooled box) (in_the_end course)
+
+-- a mailbox
+pub record BoxStands (s : Server) (capacity b : ℕ) (course : Course) (left : List Deed) (box : Box) : Type 0 where
+  pub old : box.old ≡ course.old
+  pub still_open : box.closed ≡ false
+  pub room : length box.accepted + length left < capacity
+  pub prefix : box.taken ≤ length box.accepted
+  pub all : notes_of box.accepted ++ given_to b left ≡ course.taken
+  pub fed : TakesGiven b (length box.accepted - box.taken) left
+  pub work : WorkLeft s b course left box
+
+-- a lane with nothing to give away, which may begin its next transactions
+pub record IsIdle (k : ℕ) (left : List Deed) (lane : Lane) : Type 0 where
+  pub ts : List Transaction
+  pub no_hold : lane.holds ≡ []
+  pub gives : given_by k left ≡ flat_map (copies k) ts
+  pub rise : RiseAbove lane.number ts
+
+-- a lane with a message of which copies are left
+pub record IsGiving (k : ℕ) (left : List Deed) (lane : Lane) : Type 0 where
+  pub key : Key
+  pub t : Transaction
+  pub place : ℕ
+  pub box : ℕ
+  pub boxes : List ℕ
+  pub at : ℕ
+  pub ts : List Transaction
+  pub hold : lane.holds ≡ record { key = key; weight = length boxes + 1 } ∷ []
+  pub message : slice_get lane.messages at ≡ Some (sealed_up_to key t.number t.message place)
+  pub gives : given_by k left ≡ copies_from k t place (box ∷ boxes) ++ flat_map (copies k) ts
+  pub rise : RiseAbove lane.number ts
+
+-- a lane
+pub record LaneStands (k : ℕ) (heard : List Slip) (left : List Deed) (lane : Lane) : Type 0 where
+  pub no_draft : lane.draft ≡ None
+  pub within : lane.collected ≤ length lane.slips
+  pub queue : drop lane.collected lane.slips ++ told_to k left ≡ heard_by k left
+  pub all_told : lane.slips ++ told_to k left ≡ heard
+  pub all_heard : lane.heard ++ heard_by k left ≡ heard
+  pub fed : HearsTold k (length lane.slips - lane.collected) left
+  pub gives : IsIdle k left lane ⊎ IsGiving k left lane
+
+-- a slot and as many blocks as its message takes for each copy that is left to give, which is more than are needed
+abbrev pub slots_for : Deed → ℕ
+slots_for (Gave note) = 1
+slots_for _ = 0
+
+abbrev pub blocks_to_give : Deed → ℕ
+blocks_to_give (Gave note) = blocks_for (length note.message)
+blocks_to_give _ = 0
+
+abbrev pub one_if_free : Held → ℕ
+one_if_free Free = 1
+one_if_free (Draft bytes blocks) = 0
+one_if_free (Sealed bytes blocks weight) = 0
+one_if_free Retired = 0
+
+abbrev pub free_slot : Slot → ℕ
+free_slot slot = one_if_free slot.held
+
+pub record DepotStands (left : List Deed) (d : Depot) : Type 0 where
+  pub slots : sum_by slots_for left ≤ sum_by free_slot d.slots
+  pub blocks : sum_by blocks_to_give left ≤ length d.free
+
+-- the house
+pub record Stands (s : Server) (t : Threads) (left : List Deed) (h : House) : Type 0 where
+  pub setting : (h.calendar ≡ s.calendar) × (h.host ≡ s.host) × (h.quota ≡ s.quota)
+  pub as_many : (length h.boxes ≡ s.boxes) × (length h.lanes ≡ s.lanes)
+  pub within : AllByRecursion (IsWithin s) left
+  pub boxes : (b : ℕ) (box : Box) → BoxIs h b box → BoxStands s h.capacity b (t.courses b) left box
+  pub lanes : (k : ℕ) (lane : Lane) → LaneIs h k lane → LaneStands k (t.heard k) left lane
+  pub depot : DepotStands left h.depot

@@ -1,0 +1,6 @@
+pub mod Deeds
+pub mod Courses
+pub mod Histories
+pub mod RunOf
+pub mod OneLane
+pub mod Timed

@@ -1,0 +1,26 @@
+//! An order of all that the threads of a server did is a run of the model.
+
+ghost use Rattle.mail_runs.specs.RunOf.{AHistoryGivesARun};
+
+/// Where all that the lanes and workers did stands in one order, that of each thread and of each channel, there is a
+/// run of the model from a start with as many lanes and mailboxes, over a depot that is large enough, in whose last
+/// house each mailbox and each lane has come to what its threads came to.
+pub fn a_history_gives_a_run()
+    ensures { AHistoryGivesARun }
+{}
+
+ghost use Rattle.mail_runs.specs.OneLane.{OneLaneHasAHistory};
+ghost use Rattle.mail_runs.specs.Timed.{TimesGiveAHistory};
+
+/// Where a server has one lane, whose copies are just those that its workers took, each in the lane's order, and where
+/// the lane heard just the workers' slips, each worker's in its order, there is one order of all that they did.
+pub fn one_lane_has_a_history()
+    ensures { OneLaneHasAHistory }
+{}
+
+/// Where each thread's deeds and each channel's acceptances have times that rise, each copy and slip was taken after it
+/// was accepted, and what the threads did with a channel agrees with what the channel did, there is one order of all
+/// deeds.
+pub fn times_give_a_history()
+    ensures { TimesGiveAHistory }
+{}
