@@ -10,7 +10,8 @@ use Rattle.mail_post.specs.declared.rule.View.{View}
 use Rattle.mail_post.specs.Views.{sender, IsPut}
 use Rattle.mail_post.specs.declared.channel.Gone.{Gone}
 use Rattle.mail_post.specs.declared.channel.Gone.TheVariants.{Closed}
-use Rattle.mail_post.specs.Times.{RisesTo, AreLater, times_of}
+use Rattle.mail_runs.specs.Timed.{RisesTo}
+use Rattle.mail_post.specs.Times.{AreLater, times_of}
 use Rattle.mail_post.specs.Channel.{IsInbox, Inbox, taken, TookSome, TookAll, HasPassedThrough}
 use Rattle.mail_post.proofs.Parcels.{of-copies}
 use Rattle.mail_post.proofs.Counts.{count_all}

@@ -8,3 +8,4 @@ pub mod Names
 pub mod Senders
 pub mod Gathers
 pub mod Offered
+pub mod InTime

@@ -35,8 +35,8 @@ module _ {M : Type 0} where
   given_number sender m t false = refl
 
   -- the senders stay those of that number
-  pub still_numbered : (number at : ℕ) (message : Sender M → M) (accepted : Bool) (old new : List (Sender M)) → HaveNumber number old → IsOffered at message accepted old new → HaveNumber number new
-  still_numbered number at message accepted old new h o = λ k sender is.
+  pub still_numbered : (number moment at : ℕ) (message : Sender M → M) (accepted : Bool) (old new : List (Sender M)) → HaveNumber number old → IsOffered moment at message accepted old new → HaveNumber number new
+  still_numbered number moment at message accepted old new h o = λ k sender is.
       elim (get_set old at k (given o.sender (message o.sender) o.when accepted) sender (ap (λ l. slice_get l k) (sym o.after) ∙ is)) [
         | inl here ↦ ap (λ (s : Sender M). s.number) (sym here.1) ∙ given_number o.sender (message o.sender) o.when accepted ∙ h at o.sender o.is
         | inr other ↦ h k sender other.1
@@ -63,11 +63,11 @@ module _ {M : Type 0} where
   any_set_same (x ∷ xs) (suc at) old new is same = ap (λ b. x.refused || b) (any_set_same xs at old new is same)
 
   -- a message was handed back, so one is refused; one that was accepted changes nothing of that
-  pub refused_now : (at : ℕ) (message : Sender M → M) (old new : List (Sender M)) → IsOffered at message false old new → any_refused new ≡ true
-  refused_now at message old new o = ap any_refused o.after ∙ any_set_refused old at o.sender (given o.sender (message o.sender) o.when false) o.is refl
+  pub refused_now : (moment at : ℕ) (message : Sender M → M) (old new : List (Sender M)) → IsOffered moment at message false old new → any_refused new ≡ true
+  refused_now moment at message old new o = ap any_refused o.after ∙ any_set_refused old at o.sender (given o.sender (message o.sender) o.when false) o.is refl
 
-  pub refused_as_before : (at : ℕ) (message : Sender M → M) (old new : List (Sender M)) → IsOffered at message true old new → any_refused new ≡ any_refused old
-  refused_as_before at message old new o = ap any_refused o.after ∙ any_set_same old at o.sender (given o.sender (message o.sender) o.when true) o.is refl
+  pub refused_as_before : (moment at : ℕ) (message : Sender M → M) (old new : List (Sender M)) → IsOffered moment at message true old new → any_refused new ≡ any_refused old
+  refused_as_before moment at message old new o = ap any_refused o.after ∙ any_set_same old at o.sender (given o.sender (message o.sender) o.when true) o.is refl
 
   sent_none : (sender : Sender M) → HasSent [] sender sender
   sent_none sender = record { channel = refl; number = refl; sent = sym (append-nil sender.sent); stays = λ e. e }
@@ -131,9 +131,9 @@ module _ {M : Type 0} where
         subst Q same (subst P (sym (none k)) (accepted_none old));
   }
 
-  module _ (at : ℕ) (message : Sender M → M) (old now next : List (Sender M)) where
+  module _ (moment at : ℕ) (message : Sender M → M) (old now next : List (Sender M)) where
     -- a message more was accepted
-    pub sent_more : (accepted accepted' : ℕ → List M) (m : M) → HaveSent accepted old now → (o : IsOffered at message true now next) → message o.sender ≡ m
+    pub sent_more : (accepted accepted' : ℕ → List M) (m : M) → HaveSent accepted old now → (o : IsOffered moment at message true now next) → message o.sender ≡ m
         → OwesOneMore accepted accepted' at m → HaveSent accepted' old next
     sent_more accepted accepted' m x o is more =
         let changed : Sender M = given o.sender m o.when true in
@@ -153,7 +153,7 @@ module _ {M : Type 0} where
         }
 
     -- a message was handed back
-    pub sent_no_more : (accepted : ℕ → List M) → HaveSent accepted old now → IsOffered at message false now next → HaveSent accepted old next
+    pub sent_no_more : (accepted : ℕ → List M) → HaveSent accepted old now → IsOffered moment at message false now next → HaveSent accepted old next
     sent_no_more accepted x o =
         let changed : Sender M = given o.sender (message o.sender) o.when false in
         record {
@@ -167,7 +167,7 @@ module _ {M : Type 0} where
         }
 
     -- a message more that is owed was offered
-    pub offered_more : (owed owed' : ℕ → List M) (accepted : Bool) (m : M) → HaveAccepted owed old now → (o : IsOffered at message accepted now next) → message o.sender ≡ m
+    pub offered_more : (owed owed' : ℕ → List M) (accepted : Bool) (m : M) → HaveAccepted owed old now → (o : IsOffered moment at message accepted now next) → message o.sender ≡ m
         → OwesOneMore owed owed' at m → HaveAccepted owed' old next
     offered_more owed owed' accepted m x o is owes =
         let changed : Sender M = given o.sender m o.when accepted in

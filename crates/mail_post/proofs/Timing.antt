@@ -1,7 +1,8 @@
 -- Times that rise, and one more after them.
 use Rattle.std.proofs.Common.{◌≡◌, ◌≢◌, ◌==◌, ◌+◌, ◌≤◌, ◌<◌, ◌⊎◌, ℕ, true, false, cond, List, [], ◌∷◌, ◌++◌, length, refl, sym, ap, ◌∙◌, subst, ⊎_elim, arith, append_assoc, append-nil, length-append}
 use Rattle.std.proofs.lemmas.Bool.{eq-eqb, ne_eqb, cond-true, cond-false}
-use Rattle.mail_post.specs.Times.{RisesTo, AreLater, AreTimed, Times, KeepsTime, times_of}
+use Rattle.mail_runs.specs.Timed.{RisesTo}
+use Rattle.mail_post.specs.Times.{AreLater, AreTimed, Times, KeepsTime, times_of}
 
 pub rises_snoc : (lo hi : ℕ) (xs : List ℕ) (y z : ℕ) → RisesTo lo hi xs → hi < y → y ≤ z → RisesTo lo z (xs ++ y ∷ [])
 rises_snoc lo hi [] y z r above le = ((omega arith), le)

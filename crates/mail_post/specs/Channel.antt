@@ -11,7 +11,8 @@ use Rattle.mail_post.specs.declared.rule.View.{View}
 use Rattle.mail_post.specs.declared.channel.Gone.{Gone}
 use Rattle.mail_post.specs.declared.channel.Gone.TheVariants.{Closed}
 use Rattle.mail_post.specs.Parcels.{of, messages, has_mark}
-use Rattle.mail_post.specs.Times.{RisesTo, AreLater, AreTimed, times_of}
+use Rattle.mail_runs.specs.Timed.{RisesTo}
+use Rattle.mail_post.specs.Times.{AreLater, AreTimed, times_of}
 use Rattle.mail_post.specs.Views.{taker}
 use Rattle.mail_post.specs.Rule.{IsFair}
 

@@ -3,6 +3,7 @@ pub mod Times
 pub mod Views
 pub mod Rule
 pub mod Channel
+pub mod InTime
 pub mod Offered
 pub mod Order
 pub mod Copies

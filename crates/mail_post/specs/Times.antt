@@ -1,10 +1,6 @@
 -- Times, which exist in proofs alone: numbers that rise along a channel.
-use Rattle.std.specs.Prelude.{◌≡◌, ◌==◌, ℕ, ◌+◌, ◌≤◌, ◌<◌, if◌then◌else◌, List, [], ◌∷◌, ◌++◌, length}
-
--- each is above the one before it, the first above lo, and none above hi
-abbrev pub RisesTo : ℕ → ℕ → List ℕ → Type 0
-RisesTo lo hi [] = lo ≤ hi
-RisesTo lo hi (x ∷ xs) = (lo < x) × RisesTo x hi xs
+use Rattle.std.specs.Prelude.{◌≡◌, ◌==◌, ℕ, ◌<◌, if◌then◌else◌, List, [], ◌∷◌, ◌++◌, length}
+use Rattle.mail_runs.specs.Timed.{RisesTo}
 
 -- the last of them, or else lo
 abbrev pub last_of : ℕ → List ℕ → ℕ
