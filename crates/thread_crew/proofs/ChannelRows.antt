@@ -7,7 +7,7 @@ use Rattle.std.proofs.lemmas.List.{length-map}
 use Rattle.std.proofs.lemmas.Option.{slice_get-map, slice_get-get_or, slice_get_within, get_or_from_slice_get}
 use Rattle.mail_post.specs.Channel.{Channel, Sender, Inbox, Sent, new_senders, AreSendersFrom, AreSendersOf, AreSenders}
 use Rattle.thread_crew.specs.Grid.{IsTransposed}
-use Rattle.thread_crew.specs.Channels.{lane_at, none, channels_of, IsNewChannel, AreRows, AreColumns, AreNewChannels, AreClosed, IsShut, HasGiven}
+use Rattle.thread_crew.specs.Channels.{lane_at, none, channels_of, IsNewChannel, AreRows, AreColumns, AreNewChannels, AreClosed, IsShut, HaveTimes, HasGiven}
 use Rattle.thread_crew.proofs.Pairs.{AllZip-length}
 
 module _ {X : Type 0} where
@@ -102,47 +102,58 @@ module _ {M : Type 0} where
   new_count channel zero = refl
   new_count channel (suc n) = length-append (new_senders channel n) _ ∙ omega (arith, new_count channel n)
 
-  new_by : (channel : Channel M) (n k : ℕ) → k < suc n → (k < n → slice_get (new_senders channel n) k ≡ Some (lane_at channel k [])) → slice_get (new_senders channel n ++ lane_at channel n [] ∷ []) k ≡ Some (lane_at channel k [])
+  new_by : (channel : Channel M) (n k : ℕ) → k < suc n → (k < n → slice_get (new_senders channel n) k ≡ Some (lane_at channel k [] [])) → slice_get (new_senders channel n ++ lane_at channel n [] [] ∷ []) k ≡ Some (lane_at channel k [] [])
   new_by channel n k below before =
       elim (cases_lt k n) [
-        | inl low ↦ at_left (new_senders channel n) (lane_at channel n [] ∷ []) k (lane_at channel k []) (before low)
+        | inl low ↦ at_left (new_senders channel n) (lane_at channel n [] [] ∷ []) k (lane_at channel k [] []) (before low)
         | inr high ↦
-            let same : n ≡ k = omega (arith, below, high) in at_seam (new_senders channel n) [] (lane_at channel n []) k (new_count channel n ∙ same) ∙ ap (λ j. Some (lane_at channel j [])) same
+            let same : n ≡ k = omega (arith, below, high) in at_seam (new_senders channel n) [] (lane_at channel n [] []) k (new_count channel n ∙ same) ∙ ap (λ j. Some (lane_at channel j [] [])) same
       ]
 
-  new_at : (channel : Channel M) (n k : ℕ) → k < n → slice_get (new_senders channel n) k ≡ Some (lane_at channel k [])
+  new_at : (channel : Channel M) (n k : ℕ) → k < n → slice_get (new_senders channel n) k ≡ Some (lane_at channel k [] [])
   new_at channel zero k below = absurd (omega arith)
   new_at channel (suc n) k below = new_by channel n k below (new_at channel n k)
 
-  pub columns_new : (n : ℕ) (columns : List (List (Sender M))) (inboxes : List (Inbox M)) → AllZip (IsNewChannel n) columns inboxes → AreColumns n (channels_of inboxes) none columns
-  columns_new n columns inboxes all = record {
-    count = AllZip-length (IsNewChannel n) columns inboxes all ∙ sym (length-map inboxes (λ (i : Inbox M). i.channel));
-    widths = λ b column e.
-        let p = at inboxes b (omega (arith, AllZip-length (IsNewChannel n) columns inboxes all, slice_get_within columns b column e)) in
-        let new = zip_at (IsNewChannel n) columns inboxes all b column p.value e p.is in
-        ap length new.senders_are ∙ new_count p.value.channel n;
-    cells = λ b k column channel e f below.
+  module _ (n : ℕ) (columns : List (List (Sender M))) (inboxes : List (Inbox M)) (all : AllZip (IsNewChannel n) columns inboxes) where
+    -- a new sender was told nothing, at no time
+    new_cell : (b k : ℕ) (column : List (Sender M)) (channel : Channel M) → slice_get columns b ≡ Some column → slice_get (channels_of inboxes) b ≡ Some channel → k < n
+        → slice_get column k ≡ Some (lane_at channel k [] [])
+    new_cell b k column channel e f below =
         let p = source (λ (i : Inbox M). i.channel) inboxes b channel f in
         let new = zip_at (IsNewChannel n) columns inboxes all b column p.value e p.is in
-        ap (λ l. slice_get l k) new.senders_are ∙ (new_at p.value.channel n k below ∙ ap (λ (l : Channel M). Some (lane_at l k [])) (sym p.gives));
-  }
+        ap (λ l. slice_get l k) new.senders_are ∙ (new_at p.value.channel n k below ∙ ap (λ (l : Channel M). Some (lane_at l k [] [])) (sym p.gives))
 
-  pub rows_new : (n count : ℕ) (columns rows : List (List (Sender M))) (inboxes : List (Inbox M)) → AllZip (IsNewChannel n) columns inboxes → IsTransposed columns rows → length rows ≡ n → length inboxes ≡ count
-      → AreNewChannels n count rows inboxes
-  rows_new n count columns rows inboxes all turn rows_count inboxes_count =
-      let cols = columns_new n columns inboxes all in record {
-        counts = inboxes_count;
-        rows_are = record {
-          count = rows_count;
-          widths = λ k row e. turned_width columns rows k row turn e ∙ cols.count;
-          cells = λ k b row channel e f.
-              let c = at columns b (omega (arith, cols.count, slice_get_within (channels_of inboxes) b channel f)) in
-              turned_at columns rows b k c.value row (lane_at channel k []) turn c.is e (cols.cells b k c.value channel c.is f (omega (arith, rows_count, slice_get_within rows k row e)));
-        };
-        inboxes_are = λ b inbox e.
-            let c = at columns b (omega (arith, AllZip-length (IsNewChannel n) columns inboxes all, slice_get_within inboxes b inbox e)) in
-            (zip_at (IsNewChannel n) columns inboxes all b c.value inbox c.is e).inbox_is;
-      }
+    pub columns_new : AreColumns n (channels_of inboxes) none columns
+    columns_new = record {
+      count = AllZip-length (IsNewChannel n) columns inboxes all ∙ sym (length-map inboxes (λ (i : Inbox M). i.channel));
+      widths = λ b column e.
+          let p = at inboxes b (omega (arith, AllZip-length (IsNewChannel n) columns inboxes all, slice_get_within columns b column e)) in
+          let new = zip_at (IsNewChannel n) columns inboxes all b column p.value e p.is in
+          ap length new.senders_are ∙ new_count p.value.channel n;
+      cells = λ b k column channel e f below. ([], new_cell b k column channel e f below);
+    }
+
+    new_row : (rows : List (List (Sender M))) → IsTransposed columns rows → length rows ≡ n → (k b : ℕ) (row : List (Sender M)) (channel : Channel M) → slice_get rows k ≡ Some row → slice_get (channels_of inboxes) b ≡ Some channel
+        → slice_get row b ≡ Some (lane_at channel k [] [])
+    new_row rows turn rows_count k b row channel e f =
+        let c = at columns b (omega (arith, columns_new.count, slice_get_within (channels_of inboxes) b channel f)) in
+        turned_at columns rows b k c.value row (lane_at channel k [] []) turn c.is e (new_cell b k c.value channel c.is f (omega (arith, rows_count, slice_get_within rows k row e)))
+
+    pub rows_new : (count : ℕ) (rows : List (List (Sender M))) → IsTransposed columns rows → length rows ≡ n → length inboxes ≡ count → AreNewChannels n count rows inboxes
+    rows_new count rows turn rows_count inboxes_count = record {
+      counts = inboxes_count;
+      rows_are = record {
+        count = rows_count;
+        widths = λ k row e. turned_width columns rows k row turn e ∙ columns_new.count;
+        cells = λ k b row channel e f. ([], new_row rows turn rows_count k b row channel e f);
+      };
+      timeless = λ k b row sender e f.
+          let l = at (channels_of inboxes) b (omega (arith, turned_width columns rows k row turn e, columns_new.count, slice_get_within row b sender f)) in
+          ap (λ (s : Sender M). s.sent_at) (same_at row b sender (lane_at l.value k [] []) f (new_row rows turn rows_count k b row l.value e l.is));
+      inboxes_are = λ b inbox e.
+          let c = at columns b (omega (arith, AllZip-length (IsNewChannel n) columns inboxes all, slice_get_within inboxes b inbox e)) in
+          (zip_at (IsNewChannel n) columns inboxes all b c.value inbox c.is e).inbox_is;
+    }
 
   -- the senders stand by their channels again
   pub turned_back : (n : ℕ) (channels : List (Channel M)) (sent : ℕ → ℕ → List M) (rows columns : List (List (Sender M))) → AreRows n channels sent rows → IsTransposed rows columns → length columns ≡ length channels
@@ -152,7 +163,8 @@ module _ {M : Type 0} where
     widths = λ b column e. turned_width rows columns b column turn e ∙ are.count;
     cells = λ b k column channel e f below.
         let r = at rows k (omega (arith, are.count, below)) in
-        turned_at rows columns k b r.value column (lane_at channel k (sent k b)) turn r.is e (are.cells k b r.value channel r.is f);
+        let cell = are.cells k b r.value channel r.is f in
+        (cell.0, turned_at rows columns k b r.value column (lane_at channel k (sent k b) cell.0) turn r.is e cell.1);
   }
 
   lanes_from : (i : ℕ) (channel : Channel M) (xs : List (Sender M)) → ((k : ℕ) (x : Sender M) → slice_get xs k ≡ Some x → (x.channel ≡ channel) × (x.number ≡ i + k)) → AreSendersFrom i channel xs
@@ -164,16 +176,17 @@ module _ {M : Type 0} where
   lanes_by (x ∷ xs) channel some h = lanes_from 0 x.channel (x ∷ xs) (λ k y e. ((h k y e).0 ∙ sym (h 0 x refl).0, omega (arith, (h k y e).1)))
 
   column_at : (n : ℕ) (channels : List (Channel M)) (sent : ℕ → ℕ → List M) (columns : List (List (Sender M))) → AreColumns n channels sent columns → (b : ℕ) (column : List (Sender M)) (channel : Channel M)
-      → slice_get columns b ≡ Some column → slice_get channels b ≡ Some channel → (k : ℕ) (x : Sender M) → slice_get column k ≡ Some x → x ≡ lane_at channel k (sent k b)
+      → slice_get columns b ≡ Some column → slice_get channels b ≡ Some channel → (k : ℕ) (x : Sender M) → slice_get column k ≡ Some x → (told : List ℕ) × (x ≡ lane_at channel k (sent k b) told)
   column_at n channels sent columns are b column channel e f k x g =
-      same_at column k x (lane_at channel k (sent k b)) g (are.cells b k column channel e f (omega (arith, are.widths b column e, slice_get_within column k x g)))
+      let cell = are.cells b k column channel e f (omega (arith, are.widths b column e, slice_get_within column k x g)) in
+      (cell.0, same_at column k x (lane_at channel k (sent k b) cell.0) g cell.1)
 
   -- each channel may be closed
   pub all_lanes : (n : ℕ) (channels : List (Channel M)) (sent : ℕ → ℕ → List M) (columns : List (List (Sender M))) → 0 < n → AreColumns n channels sent columns → All AreSenders columns
   all_lanes n channels sent columns some are = All-at AreSenders columns (λ b column e.
       let l = at channels b (omega (arith, are.count, slice_get_within columns b column e)) in
       lanes_by column l.value (omega (arith, are.widths b column e, some)) (λ k x g.
-      let same = column_at n channels sent columns are b column l.value e l.is k x g in (ap (λ (v : Sender M). v.channel) same, ap (λ (v : Sender M). v.number) same)))
+      let same = column_at n channels sent columns are b column l.value e l.is k x g in (ap (λ (v : Sender M). v.channel) same.1, ap (λ (v : Sender M). v.number) same.1)))
 
   first_channel : (channel other : Channel M) (column : List (Sender M)) (x : Sender M) → AreSendersOf channel column → slice_get column 0 ≡ Some x → channel ≡ x.channel
   first_channel channel other [] x is e = let bad : ◌≡◌ {A = Option (Sender M)} None (Some x) = e in absurd (cc)
@@ -185,23 +198,32 @@ module _ {M : Type 0} where
     count = sym (AllZip-length IsShut columns closed shut) ∙ are.count;
     each = λ b channel c f e.
         let col = at columns b (omega (arith, are.count, slice_get_within channels b channel f)) in
-        let one = zip_at IsShut columns closed shut b col.value c col.is e in record {
-          channel_is = first_channel c.channel channel col.value (lane_at channel 0 (sent 0 b)) one.channel (are.cells b 0 col.value channel col.is f some);
+        let one = zip_at IsShut columns closed shut b col.value c col.is e in
+        let first = are.cells b 0 col.value channel col.is f some in record {
+          channel_is = first_channel c.channel channel col.value (lane_at channel 0 (sent 0 b) first.0) one.channel first.1;
           count = ap length one.sent ∙ (length-map col.value (λ (x : Sender M). x.sent) ∙ are.widths b col.value col.is);
-          each = λ k below. ap (λ l. slice_get l k) one.sent ∙ at_map (λ (x : Sender M). x.sent) col.value k (lane_at channel k (sent k b)) (are.cells b k col.value channel col.is f below);
+          each = λ k below.
+              let cell = are.cells b k col.value channel col.is f below in
+              ap (λ l. slice_get l k) one.sent ∙ at_map (λ (x : Sender M). x.sent) col.value k (lane_at channel k (sent k b) cell.0) cell.1;
         };
   }
 
-  grown_cell : (old new : Sender M) (channel : Channel M) (k : ℕ) (more : List M) → old ≡ lane_at channel k []
+  -- each channel is closed with the times that its lanes were told
+  pub all_times : (rows columns : List (List (Sender M))) (closed : List (Sent M)) → IsTransposed rows columns → AllZip IsShut columns closed → HaveTimes rows closed
+  all_times rows columns closed turn shut k b row sender c e f g =
+      let col = at columns b (omega (arith, AllZip-length IsShut columns closed shut, slice_get_within closed b c g)) in
+      let one = zip_at IsShut columns closed shut b col.value c col.is g in
+      let cell = turned_at rows columns k b row col.value sender turn e col.is f in
+      ap (λ l. slice_get l k) one.sent_at ∙ at_map (λ (x : Sender M). x.sent_at) col.value k sender cell
+
+  grown_cell : (old new : Sender M) (channel : Channel M) (k : ℕ) (more : List M) (told : List ℕ) → old ≡ lane_at channel k [] told
       → new.channel ≡ old.channel → new.number ≡ old.number → new.sent ≡ old.sent ++ more → new.refused ≡ false
-      → new ≡ lane_at channel k more
-  grown_cell old new channel k more is a b c d =
+      → new ≡ lane_at channel k more new.sent_at
+  grown_cell old new channel k more told is a b c d =
       let l : new.channel ≡ channel = a ∙ ap (λ (o : Sender M). o.channel) is in
       let n : new.number ≡ k = b ∙ ap (λ (o : Sender M). o.number) is in
       let s : new.sent ≡ more = c ∙ ap (λ (o : Sender M). o.sent ++ more) is in
-      let with_refused : Bool → Sender M = λ x. record { channel = new.channel; number = new.number; sent = new.sent; refused = x } in
-      ap with_refused d ∙ (ap (λ x. lane_at x new.number new.sent) l
-      ∙ (ap (λ x. lane_at channel x new.sent) n ∙ ap (λ x. lane_at channel k x) s))
+      λ i. record { channel = l i; number = n i; sent = s i; sent_at = new.sent_at; refused = d i }
 
   -- the lanes have given
   pub rows_given : (n : ℕ) (channels : List (Channel M)) (sent : ℕ → ℕ → List M) (rows rows_after : List (List (Sender M))) → AreRows n channels none rows → length rows_after ≡ n
@@ -214,9 +236,10 @@ module _ {M : Type 0} where
         let r = at rows k (omega (arith, are.count, count, slice_get_within rows_after k row' e)) in
         let g = given k r.value row' r.is e in
         let old = are.cells k b r.value channel r.is f in
-        let new = at row' b (omega (arith, g.as_many, slice_get_within r.value b (lane_at channel k []) old)) in
-        let one = g.each b (lane_at channel k []) new.value old new.is in
-        new.is ∙ ap (λ v. Some v) (grown_cell (lane_at channel k []) new.value channel k (sent k b) refl one.0 one.1 one.2 one.3);
+        let was : Sender M = lane_at channel k [] old.0 in
+        let new = at row' b (omega (arith, g.as_many, slice_get_within r.value b was old.1)) in
+        let one = g.each b was new.value old.1 new.is in
+        (new.value.sent_at, new.is ∙ ap (λ v. Some v) (grown_cell was new.value channel k (sent k b) old.0 refl one.0 one.1 one.2 one.3));
   }
 
   -- two accounts of the same rows are of as many channels

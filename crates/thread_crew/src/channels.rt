@@ -5,7 +5,7 @@ ghost use Rattle.std.specs.List.{All, AllZip};
 ghost use Rattle.mail_post.specs.Channel.{Channel, AreSenders, AreSendersOf, sent_by};
 ghost use Rattle.thread_crew.specs.Grid.{lists, IsRoom};
 ghost use Rattle.thread_crew.specs.Channels.{IsNewChannel, AreRows, AreNewChannels, AreClosed, CanSettle};
-ghost use Rattle.thread_crew.specs.Channels.{IsSettled, IsShut, MayClose};
+ghost use Rattle.thread_crew.specs.Channels.{IsSettled, IsShut, MayClose, HaveTimes};
 
 use crate::grid::{empty_rows, transpose};
 use mail_post::{
@@ -90,8 +90,9 @@ impl<M: FromSender> Closing<M> {
     /// Closes each channel. The senders come lane by lane.
     pub fn close<R: Wait>(self, rt: &R, rows: Vec<Vec<ChannelSender<M>>>) -> Vec<ChannelClosed<M>>
         requires { MayClose self (lists rows.items) }
-        ensures { (channels : List (Channel M)) (sent : ℕ → ℕ → List M)
+        ensures sent { (channels : List (Channel M)) (sent : ℕ → ℕ → List M)
             → AreRows self.lanes channels sent (lists rows.items) → AreClosed self.lanes channels sent result.items }
+        ensures times { HaveTimes (lists rows.items) result.items }
     {
         let Closing {
             lanes: _,

@@ -20,7 +20,7 @@ loop-senders-preserved g c =
     let senders = vec_items c.in-Some.senders in
     let pushed = c.push_reserved.ensures in
     let is : rest ≡ senders ∷ rest' = ap lists steps.0 in
-    let shut : IsShut senders c.close_channel.result = record { channel = c.close_channel.ensures.channel; sent = c.close_channel.ensures.sent } in record {
+    let shut : IsShut senders c.close_channel.result = record { channel = c.close_channel.ensures.channel; sent = c.close_channel.ensures.sent; sent_at = c.close_channel.ensures.sent_at } in record {
       room = omega (arith, was.room, steps.1, pushed.len, pushed.capacity);
       all = All-rest AreSenders rest rest' senders is was.all;
       done = (

@@ -3,7 +3,7 @@ use Rattle.std.proofs.lemmas.List.{length-map}
 use Rattle.mail_post.specs.Channel.{Channel}
 use Rattle.thread_crew.specs.Grid.{lists}
 use Rattle.thread_crew.specs.Channels.{AreRows, AreColumns}
-use Rattle.thread_crew.proofs.ChannelRows.{turned_back, all_lanes, all_closed, channels_count}
+use Rattle.thread_crew.proofs.ChannelRows.{turned_back, all_lanes, all_closed, all_times, channels_count}
 use Rattle.thread_crew.proofs.channels.Closing.close.Goals.{After-transpose}
 use Rattle.thread_crew.proofs.channels.Closing.close.Goals as goal
 
@@ -24,7 +24,11 @@ pub close_columns-requires-clause-senders : goal.close_columns-requires-clause-s
 close_columns-requires-clause-senders g c =
     all_lanes c.args.self.lanes c.requires.channels c.requires.sent (lists (vec_items c.transpose.result)) c.requires.some (columns g c c.requires.channels c.requires.sent c.requires.rows_are)
 
-pub returns : goal.returns
-returns g c channels sent are =
-    let e = (goal.at.returns g c).After-transpose in
+pub returns-clause-sent : goal.returns-clause-sent
+returns-clause-sent g c channels sent are =
+    let e = (goal.at.returns-clause-sent g c).After-transpose in
     all_closed c.args.self.lanes channels sent (lists (vec_items c.transpose.result)) (vec_items c.close_columns.result) c.requires.some (columns g e channels sent are) c.close_columns.ensures
+
+pub returns-clause-times : goal.returns-clause-times
+returns-clause-times g c =
+    all_times (lists (vec_items c.args.rows)) (lists (vec_items c.transpose.result)) (vec_items c.close_columns.result) c.transpose.ensures.turned c.close_columns.ensures
