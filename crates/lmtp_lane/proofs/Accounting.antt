@@ -22,6 +22,7 @@ use Rattle.mail_post.specs.Offered.{any_refused}
 use Rattle.mail_post.proofs.Offered.{sent_nothing}
 use Rattle.lmtp_lane.specs.LaneExchange.{LaneEnds, for_box, HasExchanged, Episode, joined, IsEpisode, sent_as}
 use Rattle.mail_world.specs.Counts.{counted}
+use Rattle.lmtp_lane.proofs.Doing.{done_nothing}
 use Rattle.lmtp_lane.proofs.Exchanging.{no_episode, joined_none}
 use Rattle.lmtp_lane.specs.LaneAccount.{IsAnswered, AreEpisodes, IsHeardInTurn, HasOffered, HoldsDraft, verdict_with, verdict_on, Delivers}
 use Rattle.lmtp_talk.specs.Delivery.{EndsDraft}
@@ -253,6 +254,7 @@ offered_none limit May ends = record {
     merged = (refl, refl);
     made = tt;
     sound = λ none. refl;
+    done = done_nothing ends (record ends { gone = any_refused ends.senders }) refl refl;
   };
   turns = record { episodes = []; each = tt; came_is = refl; own_is = refl; heard_is = refl };
   answered = tt;

@@ -12,10 +12,11 @@ use Rattle.mail_world.proofs.GivenAway.{count-cons}
 use Rattle.mail_world.specs.declared.Outcome.{Outcome}
 use Rattle.mail_world.specs.Session.{Session}
 use Rattle.mail_world.specs.Lists.{Transaction, copies_from}
-use Rattle.mail_post.specs.Channel.{Inbox, taken}
+use Rattle.mail_post.specs.Channel.{IsTimed, HasSameTimes, Inbox, taken}
 use Rattle.mail_post.specs.Gathering.{HasGathered, IsAwaited}
 use Rattle.mail_world.proofs.LastSeal.{length_placed}
 use Rattle.lmtp_lane.specs.LaneExchange.{LaneEnds, Sending, found_gone, is_silent, KeepsRoom, IsAmong, own_slip_of, HasExchanged, IsUnderWay, Continues, Awaits, Sends, TakesOne, sent_as, copy_at}
+use Rattle.lmtp_lane.proofs.Doing.{lane_clock}
 use Rattle.lmtp_lane.proofs.Exchanging.{HearsSlip, sending, with_inbox, no_episode, joined_none, way_failed, way_heard, way_gone}
 
 -- a copy of a transaction is among its copies
@@ -67,19 +68,19 @@ answered_next number place mailbox session now next taken_so low is went same ta
 -- a slip came
 pub heard_next : (number : ℕ) (session : Session) (now : Sending) (inbox : Inbox Slip) (gather : Gather) (slip : Slip)
     → (inbox.channel ≡ now.ends.inbox.channel) × (inbox.lanes ≡ now.ends.inbox.lanes) → taken inbox ≡ taken now.ends.inbox ++ slip ∷ []
-    → inbox.gone ≡ now.ends.inbox.gone → HearsSlip slip now.gather gather
+    → inbox.gone ≡ now.ends.inbox.gone → IsTimed (lane_clock now.ends) now.ends.inbox inbox → HearsSlip slip now.gather gather
     → Awaits number session now (sending (with_inbox now.ends inbox) gather)
-heard_next number session now inbox gather slip same took still hears moment message notes n past old x =
+heard_next number session now inbox gather slip same took still timed hears moment message notes n past old x =
     way_heard (with_copies notes now.ends.lane number session moment message) (txn_of now.ends.lane number) n past old now x
-    slip inbox gather same.0 same.1 took still (hears (txn_of now.ends.lane number) n x.now.heard x.gathered)
+    slip inbox gather same.0 same.1 took still timed (hears (txn_of now.ends.lane number) n x.now.heard x.gathered)
 
 -- the channel of slips is gone, and then the lane answered itself
 pub nothing_then : (number : ℕ) (session : Session) (now next : Sending) (inbox : Inbox Slip)
     → (inbox.channel ≡ now.ends.inbox.channel) × (inbox.lanes ≡ now.ends.inbox.lanes) → taken inbox ≡ taken now.ends.inbox → is_some inbox.gone ≡ true
-    → Awaits number session (sending (found_gone (with_inbox now.ends inbox)) now.gather) next → Awaits number session now next
-nothing_then number session now next inbox same took silent after moment message notes n past old x =
+    → HasSameTimes now.ends.inbox inbox → Awaits number session (sending (found_gone (with_inbox now.ends inbox)) now.gather) next → Awaits number session now next
+nothing_then number session now next inbox same took silent same_times after moment message notes n past old x =
     after moment message notes n past old
-    (way_gone (with_copies notes now.ends.lane number session moment message) (txn_of now.ends.lane number) n past old now x inbox same.0 same.1 took silent)
+    (way_gone (with_copies notes now.ends.lane number session moment message) (txn_of now.ends.lane number) n past old now x inbox same.0 same.1 took silent same_times)
 
 -- one after the other
 pub awaits_then : (number : ℕ) (session : Session) (a b c : Sending) → b.ends.lane ≡ a.ends.lane → Awaits number session a b → Awaits number session b c → Awaits number session a c

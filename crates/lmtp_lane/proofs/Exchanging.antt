@@ -11,10 +11,11 @@ use Rattle.mail_world.specs.Slips.{times_named, Gather, txn_of}
 use Rattle.mail_world.proofs.Heard.{all_more}
 use Rattle.mail_world.proofs.Merged.{merged_front, merged_own}
 use Rattle.mail_world.proofs.OneLine.{other_byte}
-use Rattle.mail_post.specs.Channel.{Sender, Inbox, taken}
+use Rattle.mail_post.specs.Channel.{Sender, Inbox, taken, IsTimed, HasSameTimes}
 use Rattle.mail_post.specs.Gathering.{HasGathered}
 use Rattle.mail_post.specs.Offered.{any_refused, IsOffered}
 use Rattle.mail_post.proofs.Offered.{OwesOneMore, sent_more, sent_no_more, refused_now, refused_as_before}
+use Rattle.lmtp_lane.proofs.Doing.{lane_clock, done_offered, done_refused, done_heard, done_none}
 use Rattle.lmtp_lane.specs.LaneExchange.{LaneEnds, Sending, found_gone, is_silent, IsAmong, for_box, own_slip_of, IsOwnSlip, Episode, joined, HasExchanged, IsTimely, IsEpisode, IsUnderWay, TakesOne, Continues}
 
 -- one more at the end of a list that is merged in time
@@ -125,17 +126,17 @@ for_boxes all box = for_box box all
 
 module _ (notes : List Note) (e : Episode) (old now : LaneEnds) (x : HasExchanged notes e old now) where
   -- a copy more that its channel accepted
-  pub offered_more : (note : Note) (next : List (Sender Note)) → any_refused now.senders ≡ false → IsOffered note.mailbox (λ sender. note) true now.senders next
+  pub offered_more : (note : Note) (next : List (Sender Note)) → any_refused now.senders ≡ false → IsOffered (lane_clock now) note.mailbox (λ sender. note) true now.senders next
       → HasExchanged (notes ++ note ∷ []) e old (with_senders now next)
   offered_more note next none o =
       let empty : x.left ≡ [] = x.all none in
-      let same : any_refused next ≡ any_refused now.senders = refused_as_before note.mailbox (λ sender. note) now.senders next o in
+      let same : any_refused next ≡ any_refused now.senders = refused_as_before (lane_clock now) note.mailbox (λ sender. note) now.senders next o in
       record {
         lane = x.lane;
         accepted = x.accepted ++ note ∷ [];
         left = [];
         first = ap (λ l. l ++ note ∷ []) (x.first ∙ ap (λ l. x.accepted ++ l) empty ∙ append-nil x.accepted) ∙ sym (append-nil (x.accepted ++ note ∷ []));
-        offered = sent_more note.mailbox (λ sender. note) old.senders now.senders next (for_boxes x.accepted) (for_boxes (x.accepted ++ note ∷ [])) note x.offered o refl
+        offered = sent_more (lane_clock now) note.mailbox (λ sender. note) old.senders now.senders next (for_boxes x.accepted) (for_boxes (x.accepted ++ note ∷ [])) note x.offered o refl
             (owed_more x.accepted note);
         all = λ sound. refl;
         whole = λ sound. same ∙ x.whole sound;
@@ -150,6 +151,7 @@ module _ (notes : List Note) (e : Episode) (old now : LaneEnds) (x : HasExchange
               | inr a ↦ inr (among_more n note notes a.0, a.1)
             ]) e.own x.made;
         sound = x.sound;
+        done = done_offered x.accepted e.came old now note next x.done o;
       }
 
   left_made : (note : Note) → AllByRecursion (IsOwnSlip old.lane (notes ++ note ∷ []) (x.left ++ note ∷ []) (is_silent now)) e.own
@@ -163,16 +165,16 @@ module _ (notes : List Note) (e : Episode) (old now : LaneEnds) (x : HasExchange
   left_first note = ap (λ l. l ++ note ∷ []) x.first ∙ append_assoc x.accepted x.left (note ∷ [])
 
   -- a copy more that was handed back
-  pub refused_more : (note : Note) (next : List (Sender Note)) → IsOffered note.mailbox (λ sender. note) false now.senders next
+  pub refused_more : (note : Note) (next : List (Sender Note)) → IsOffered (lane_clock now) note.mailbox (λ sender. note) false now.senders next
       → (y : HasExchanged (notes ++ note ∷ []) e old (found_gone (with_senders now next))) × IsAmong note y.left
   refused_more note next o =
-      let refused : any_refused next ≡ true = refused_now note.mailbox (λ sender. note) now.senders next o in (
+      let refused : any_refused next ≡ true = refused_now (lane_clock now) note.mailbox (λ sender. note) now.senders next o in (
         record {
           lane = x.lane;
           accepted = x.accepted;
           left = x.left ++ note ∷ [];
           first = left_first note;
-          offered = sent_no_more note.mailbox (λ sender. note) old.senders now.senders next (for_boxes x.accepted) x.offered o;
+          offered = sent_no_more (lane_clock now) note.mailbox (λ sender. note) old.senders now.senders next (for_boxes x.accepted) x.offered o;
           all = λ none. let bad : true ≡ false = sym refused ∙ none in cc;
           whole = λ none. cc;
           tells = λ fresh. sym (ap (λ b. b || is_silent now) refused);
@@ -182,6 +184,7 @@ module _ (notes : List Note) (e : Episode) (old now : LaneEnds) (x : HasExchange
           merged = x.merged;
           made = left_made note;
           sound = λ none. cc;
+          done = done_refused x.accepted e.came old now note next x.done o;
         },
         among_last note x.left,
       )
@@ -204,6 +207,7 @@ module _ (notes : List Note) (e : Episode) (old now : LaneEnds) (x : HasExchange
       merged = x.merged;
       made = left_made note;
       sound = x.sound;
+      done = x.done;
     },
     among_last note x.left,
   )
@@ -226,12 +230,13 @@ module _ (notes : List Note) (e : Episode) (old now : LaneEnds) (x : HasExchange
     merged = merged_own e.came e.own e.heard (own_slip_of old.lane note) x.merged;
     made = all_more (IsOwnSlip old.lane notes x.left (is_silent now)) e.own (own_slip_of old.lane note) x.made (record { note = note; owed = owed; made = refl });
     sound = λ none. let bad : true ≡ false = sym went ∙ none in cc;
+    done = x.done;
   }
 
   -- a slip that came
   pub heard_more : (slip : Slip) (next : Inbox Slip) → next.channel ≡ now.inbox.channel → next.lanes ≡ now.inbox.lanes → taken next ≡ taken now.inbox ++ slip ∷ []
-      → next.gone ≡ now.inbox.gone → HasExchanged notes (with_came e slip) old (with_inbox now next)
-  heard_more slip next channel lanes took still = record {
+      → next.gone ≡ now.inbox.gone → IsTimed (lane_clock now) now.inbox next → HasExchanged notes (with_came e slip) old (with_inbox now next)
+  heard_more slip next channel lanes took still timed = record {
     lane = x.lane;
     accepted = x.accepted;
     left = x.left;
@@ -246,12 +251,13 @@ module _ (notes : List Note) (e : Episode) (old now : LaneEnds) (x : HasExchange
     merged = merged_front e.came e.own e.heard slip x.merged;
     made = subst (λ g. AllByRecursion (IsOwnSlip old.lane notes x.left (is_some g)) e.own) (sym still) x.made;
     sound = x.sound;
+    done = done_heard x.accepted e.came old now slip next x.done timed;
   }
 
   -- the channel of slips was found silent
   pub gone_more : (next : Inbox Slip) → next.channel ≡ now.inbox.channel → next.lanes ≡ now.inbox.lanes → taken next ≡ taken now.inbox
-      → is_some next.gone ≡ true → HasExchanged notes e old (found_gone (with_inbox now next))
-  gone_more next channel lanes took silent = record {
+      → is_some next.gone ≡ true → HasSameTimes now.inbox next → HasExchanged notes e old (found_gone (with_inbox now next))
+  gone_more next channel lanes took silent same_times = record {
     lane = x.lane;
     accepted = x.accepted;
     left = x.left;
@@ -270,6 +276,7 @@ module _ (notes : List Note) (e : Episode) (old now : LaneEnds) (x : HasExchange
           | inr a ↦ inr (a.0, silent)
         ]) e.own x.made;
     sound = λ none. cc;
+    done = done_none x.accepted e.came old now next x.done same_times.1;
   }
 
 -- these ends, and this gatherer
@@ -283,7 +290,7 @@ Leaves note now next = (notes : List Note) (e : Episode) (old : LaneEnds) → Ha
 
 -- the same steps within a message
 module _ (notes : List Note) (txn : Txn) (n : ℕ) (past : Episode) (old : LaneEnds) (now : Sending) (x : IsUnderWay notes txn n past old now) where
-  pub way_offered : (note : Note) (next : List (Sender Note)) → any_refused now.ends.senders ≡ false → IsOffered note.mailbox (λ sender. note) true now.ends.senders next
+  pub way_offered : (note : Note) (next : List (Sender Note)) → any_refused now.ends.senders ≡ false → IsOffered (lane_clock now.ends) note.mailbox (λ sender. note) true now.ends.senders next
       → IsUnderWay (notes ++ note ∷ []) txn n past old (sending (with_senders now.ends next) now.gather)
   way_offered note next none o = record {
     now = x.now;
@@ -328,22 +335,23 @@ module _ (notes : List Note) (txn : Txn) (n : ℕ) (past : Episode) (old : LaneE
       }
 
   pub way_heard : (slip : Slip) (after : Inbox Slip) (next : Gather) → after.channel ≡ now.ends.inbox.channel → after.lanes ≡ now.ends.inbox.lanes
-      → taken after ≡ taken now.ends.inbox ++ slip ∷ [] → after.gone ≡ now.ends.inbox.gone → HasGathered txn n (x.now.heard ++ slip ∷ []) next
+      → taken after ≡ taken now.ends.inbox ++ slip ∷ [] → after.gone ≡ now.ends.inbox.gone → IsTimed (lane_clock now.ends) now.ends.inbox after
+      → HasGathered txn n (x.now.heard ++ slip ∷ []) next
       → IsUnderWay notes txn n past old (sending (with_inbox now.ends after) next)
-  way_heard slip after next channel lanes took still g = record {
+  way_heard slip after next channel lanes took still timed g = record {
     now = with_came x.now slip;
     is = episode_came txn x.now slip x.is;
     exchanged = subst (λ e. HasExchanged notes e old (with_inbox now.ends after)) (joined_came past x.now slip)
-        (heard_more notes (joined past x.now) old now.ends x.exchanged slip after channel lanes took still);
+        (heard_more notes (joined past x.now) old now.ends x.exchanged slip after channel lanes took still timed);
     gathered = g;
   }
 
   pub way_gone : (after : Inbox Slip) → after.channel ≡ now.ends.inbox.channel → after.lanes ≡ now.ends.inbox.lanes → taken after ≡ taken now.ends.inbox
-      → is_some after.gone ≡ true → IsUnderWay notes txn n past old (sending (found_gone (with_inbox now.ends after)) now.gather)
-  way_gone after channel lanes took silent = record {
+      → is_some after.gone ≡ true → HasSameTimes now.ends.inbox after → IsUnderWay notes txn n past old (sending (found_gone (with_inbox now.ends after)) now.gather)
+  way_gone after channel lanes took silent same_times = record {
     now = x.now;
     is = x.is;
-    exchanged = gone_more notes (joined past x.now) old now.ends x.exchanged after channel lanes took silent;
+    exchanged = gone_more notes (joined past x.now) old now.ends x.exchanged after channel lanes took silent same_times;
     gathered = x.gathered;
   }
 
@@ -370,17 +378,17 @@ left_way slip note now next ends taken_so here is leaves went same takes notes n
     subst (λ e. IsUnderWay (notes ++ note ∷ []) note.txn n past old (sending e next.gather)) (sym same)
     (left_by note now ends next.gather taken_so here leaves went (subst T is takes) notes n past old x)
 
-pub leaves_refused : (mailbox : ℕ) (note : Note) (now : LaneEnds) (next : List (Sender Note)) → note.mailbox ≡ mailbox → IsOffered mailbox (λ sender. note) false now.senders next
+pub leaves_refused : (mailbox : ℕ) (note : Note) (now : LaneEnds) (next : List (Sender Note)) → note.mailbox ≡ mailbox → IsOffered (lane_clock now) mailbox (λ sender. note) false now.senders next
     → Leaves note now (found_gone (with_senders now next))
 leaves_refused mailbox note now next is o notes e old x =
-    let P : ℕ → Type 0 = λ b. IsOffered b (λ sender. note) false now.senders next in
+    let P : ℕ → Type 0 = λ b. IsOffered (lane_clock now) b (λ sender. note) false now.senders next in
     refused_more notes e old now x note next (subst P (sym is) o)
 
 pub leaves_unoffered : (note : Note) (now : LaneEnds) → any_refused now.senders ≡ true → Leaves note now now
 leaves_unoffered note now refused notes e old x = unoffered_more notes e old now x note refused
 
 pub offered_way : (mailbox : ℕ) (note : Note) (now : Sending) (next : List (Sender Note)) → note.mailbox ≡ mailbox → any_refused now.ends.senders ≡ false
-    → IsOffered mailbox (λ sender. note) true now.ends.senders next → Continues note.txn (note ∷ []) now (sending (with_senders now.ends next) now.gather)
+    → IsOffered (lane_clock now.ends) mailbox (λ sender. note) true now.ends.senders next → Continues note.txn (note ∷ []) now (sending (with_senders now.ends next) now.gather)
 offered_way mailbox note now next is none o notes n past old x =
-    let P : ℕ → Type 0 = λ b. IsOffered b (λ sender. note) true now.ends.senders next in
+    let P : ℕ → Type 0 = λ b. IsOffered (lane_clock now.ends) b (λ sender. note) true now.ends.senders next in
     way_offered notes note.txn n past old now x note next none (subst P (sym is) o)

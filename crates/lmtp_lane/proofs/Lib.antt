@@ -1,3 +1,4 @@
+pub mod Doing
 pub mod Exchanging
 pub mod Awaiting
 pub mod Delivering

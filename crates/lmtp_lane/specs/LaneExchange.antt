@@ -1,6 +1,6 @@
 -- What a lane gave to the mailboxes' channels, and what it heard of the copies.
 use Rattle.std.specs.Prelude.{◌≡◌, ◌⊎◌, ℕ, ◌==◌, Bool, true, false, ◌||◌, List, [], ◌∷◌, ◌++◌}
-use Rattle.std.specs.Prelude.{filter, length, None, is_some, Result, Ok, Err}
+use Rattle.std.specs.Prelude.{filter, flat_map, length, None, is_some, Result, Ok, Err}
 use Rattle.std.specs.List.{AllByRecursion}
 use Rattle.mail_world.specs.declared.Txn.{Txn}
 use Rattle.mail_world.specs.declared.Note.{Note}
@@ -9,7 +9,10 @@ use Rattle.mail_world.specs.declared.Verdict.TheVariants.{Whole}
 use Rattle.mail_world.specs.Session.{Session}
 use Rattle.mail_world.specs.Lists.{Transaction, copies_from}
 use Rattle.mail_world.specs.Slips.{times_named, Gather, own_slip, txn_of, IsMerged}
+use Rattle.mail_runs.specs.Deeds.{Deed, Gave, Took, Told, Heard, given_in, heard_in}
+use Rattle.mail_runs.specs.Timed.{TimedDeed, whats, gives_to}
 use Rattle.mail_post.specs.Channel.{Sender, Inbox, taken}
+use Rattle.mail_post.specs.InTime.{Ends, Sorts, AreInTime}
 use Rattle.mail_post.specs.Gathering.{HasGathered}
 use Rattle.mail_post.specs.Offered.{any_refused, HaveSent}
 use Rattle.lmtp_lane.specs.declared.exchange.Exchange.{Exchange}
@@ -20,6 +23,32 @@ pub record LaneEnds : Type 0 where
   pub senders : List (Sender Note)
   pub inbox : Inbox Slip
   pub gone : Bool  -- a channel was found gone
+
+-- the ends as those of a thread, and which of its deeds are of its senders and of its receiver
+abbrev pub thread_of : LaneEnds → Ends Note Slip
+thread_of ends = record { senders = ends.senders; inbox = ends.inbox }
+
+abbrev pub is_heard : Deed → Bool
+is_heard (Heard slip) = true
+is_heard _ = false
+
+abbrev pub is_of_lanes : Deed → Bool
+is_of_lanes (Gave note) = true
+is_of_lanes (Took note) = false
+is_of_lanes (Told slip) = false
+is_of_lanes (Heard slip) = true
+
+abbrev pub lane_sorts : Sorts
+lane_sorts = record { gives = gives_to; takes = is_heard }
+
+-- What a lane did, in its order and with times that rise: it gave these copies to their channels, and heard these
+-- slips.
+pub record HasDone (accepted : List Note) (came : List Slip) (old new : LaneEnds) : Type 0 where
+  pub deeds : List TimedDeed
+  pub gave : flat_map given_in (whats deeds) ≡ accepted
+  pub heard : flat_map heard_in (whats deeds) ≡ came
+  pub only : AllByRecursion (λ deed. is_of_lanes deed ≡ true) (whats deeds)
+  pub in_time : AreInTime lane_sorts deeds (thread_of old) (thread_of new)
 
 -- a lane while it sends a message
 pub record Sending : Type 0 where
@@ -124,6 +153,7 @@ pub record HasExchanged (notes : List Note) (e : Episode) (old new : LaneEnds) :
   pub merged : IsMerged e.came e.own e.heard
   pub made : AllByRecursion (IsOwnSlip old.lane notes left (is_silent new)) e.own
   pub sound : new.gone ≡ false → e.own ≡ []
+  pub done : HasDone accepted e.came old new
 
 -- What was heard is merged of what came and of a lane's own slips, and one of its own stands only where none of these
 -- before it names its place.

@@ -9,5 +9,7 @@ no_inbox = record {
       (record { words = 0; slots = 0; views_name = 0; atom = 0; block = 0; offset = 0; slot_names = [] }, record { marker = record {}; table_id = record { words = 0; slots = 0; views_name = 0; atom = 0; block = 0; offset = 0; slot_names = [] }; id = 0; views = [] });
   lanes = 0;
   got = [];
+  got_at = [];
+  took_at = [];
   gone = None;
 }

@@ -1,5 +1,5 @@
 -- The lanes' reports, taken together.
-use Rattle.std.proofs.Common.{◌≡◌, ℕ, zero, suc, ◌+◌, ◌<◌, Bool, false, List, [], ◌∷◌, ◌++◌, length, map, append-nil, refl, sym, ap, ◌∙◌, subst, arith, Option, Some, None, inl, inr}
+use Rattle.std.proofs.Common.{◌≡◌, ℕ, zero, suc, ◌+◌, ◌<◌, ◌≤◌, Bool, false, List, [], ◌∷◌, ◌++◌, length, map, append-nil, refl, sym, ap, ◌∙◌, subst, arith, Option, Some, None, inl, inr}
 use Rattle.std.specs.Prelude.{slice_get, flat_map}
 use Rattle.std.specs.List.{AllZip, AllByRecursion}
 use Rattle.std.proofs.lemmas.List.{length-map}
@@ -10,16 +10,17 @@ use Rattle.mail_world.specs.Site.{Site}
 use Rattle.mail_world.specs.Conversation.{Conversation}
 use Rattle.mail_world.specs.Lists.{due, copies, transactions}
 use Rattle.mail_world.specs.Slips.{IsMerged}
+use Rattle.mail_runs.specs.Timed.{TimedDeed, RisesTo, times, those}
 use Rattle.mail_post.specs.Channel.{Channel, Sender, Inbox, taken}
 use Rattle.mail_post.proofs.Offered.{none_refused}
-use Rattle.lmtp_lane.specs.LaneExchange.{for_box}
+use Rattle.lmtp_lane.specs.LaneExchange.{for_box, is_heard}
 use Rattle.mail_world.specs.declared.limits.TheConstants.{READ_LIMIT}
 use Rattle.lmtp_talk.specs.Served.{terms}
 use Rattle.lmtp_lane.specs.LaneRun.{HasServed}
 use Rattle.lmtp_lane.specs.Visits.{conversations_of}
 use Rattle.lmtp_threads.specs.Works.{VisitsView, LaneWork, lane_told}
 use Rattle.thread_crew.specs.Channels.{AreRows, none, HasGiven}
-use Rattle.lmtp_threads.specs.Tasks.{LaneTask, lane_task, lane_tasks, lane_before, LanesGiven, LanesBack, IsServedLane, HaveServed, TookSlips}
+use Rattle.lmtp_threads.specs.Tasks.{LaneTask, lane_task, lane_tasks, lane_before, LanesGiven, LanesBack, IsServedLane, HaveServed, TookSlips, LaneDid, given_at}
 use Rattle.thread_crew.proofs.Pairs.{AllZip-length, picks, picked}
 use Rattle.thread_crew.proofs.ChannelRows.{same_at, at_each, source, rows_given}
 
@@ -76,6 +77,16 @@ module _ {V C : Type 0} where
   tasks_count site clock i (v ∷ vs) (row ∷ rows) (inbox ∷ inboxes) a b =
       ap suc (tasks_count site clock (i + 1) vs rows inboxes (omega arith) (omega arith))
 
+-- what a lane did, and when
+pub record LaneDone : Type 0 where
+  pub work : LaneWork
+  pub deeds : List TimedDeed
+
+-- times that rise from a later one
+pub rises_from : (lo mid hi : ℕ) (ts : List ℕ) → lo ≤ mid → RisesTo mid hi ts → RisesTo lo hi ts
+rises_from lo mid hi [] le r = let within : mid ≤ hi = r in omega arith
+rises_from lo mid hi (t ∷ ts) le r = let first : mid < t = r.0 in (omega arith, r.1)
+
 -- nothing was merged in
 merged_none : (came heard : List Slip) → IsMerged came [] heard → came ≡ heard
 merged_none came [] h = h.0
@@ -96,11 +107,11 @@ module _ {V C R : Type 0} (May : C → ℕ → Type 0) (view : VisitsView V)
     conversations = rc r;
   })
 
-  abbrev lane_work : (j : LaneTask V C) (r : R) → LaneOk j r → LaneWork
-  lane_work j r h = record { visits = h.visits; heard = h.heard }
+  abbrev lane_done : (j : LaneTask V C) (r : R) → LaneOk j r → LaneDone
+  lane_done j r h = record { work = record { visits = h.visits; heard = h.heard }; deeds = h.exchanged.done.deeds }
 
-  abbrev idle : LaneWork
-  idle = record { visits = []; heard = [] }
+  abbrev idle : LaneDone
+  idle = record { work = record { visits = []; heard = [] }; deeds = [] }
 
   -- what reports tell together
   abbrev pub lanes_back : List R → LanesBack V
@@ -118,8 +129,14 @@ module _ {V C R : Type 0} (May : C → ℕ → Type 0) (view : VisitsView V)
     abbrev tasks : List (LaneTask V C)
     tasks = lane_tasks site clock 0 given.visits given.rows given.inboxes
 
+    abbrev dones : ℕ → LaneDone
+    dones = picks LaneOk lane_done idle tasks reports all
+
     abbrev works : ℕ → LaneWork
-    works = picks LaneOk lane_work idle tasks reports all
+    works k = (dones k).work
+
+    abbrev deeds_of : ℕ → List TimedDeed
+    deeds_of k = (dones k).deeds
 
     count : length tasks ≡ length given.visits
     count = tasks_count site clock 0 given.visits given.rows given.inboxes are.count inboxes_count
@@ -138,12 +155,13 @@ module _ {V C R : Type 0} (May : C → ℕ → Type 0) (view : VisitsView V)
       inbox_is : slice_get given.inboxes k ≡ Some inbox
       report_is : slice_get reports k ≡ Some report
       served : IsServedLane site (May clock) (view.MayGive visit) k (works k) (lane_told view visit (rv report) (rc report))
-      given_out : HasGiven (λ b. due site k b (conversations_of (works k).visits)) row (rs report)
-      heard : TookSlips (works k).heard inbox (rt report)
+      given_out : HasGiven (λ b. given_at b (due site k b (conversations_of (works k).visits)) (deeds_of k)) row (rs report)
+      heard : TookSlips (works k).heard (times (those is_heard (deeds_of k))) inbox (rt report)
+      did : LaneDid (flat_map (copies k) (transactions site 0 (conversations_of (works k).visits))) (works k).heard (deeds_of k)
 
     lane_is : (k : ℕ) → k < length given.visits → LaneIs k
     lane_is k below =
-        let p = picked LaneOk lane_work idle tasks reports all k (omega (arith, count, below)) in
+        let p = picked LaneOk lane_done idle tasks reports all k (omega (arith, count, below)) in
         let t = task_at site clock 0 given.visits given.rows given.inboxes k p.left p.left_is in
         let h = p.holds in
         let no = at_each (λ r. rg r ≡ false) reports sound k p.right p.right_is in
@@ -155,9 +173,11 @@ module _ {V C R : Type 0} (May : C → ℕ → Type 0) (view : VisitsView V)
         x.first ∙ (ap (λ l. x.accepted ++ l) (x.all (x.whole no)) ∙ append-nil x.accepted) in
         let Served : LaneTask V C → LaneWork → Type 0 = λ j w.
         IsServedLane j.site (May j.clock) (view.MayGive j.visits) j.lane w (lane_told view j.visits (rv p.right) (rc p.right)) in
-        let Given : LaneTask V C → LaneWork → Type 0 = λ j w. HasGiven (λ b. due j.site j.lane b (conversations_of w.visits)) j.senders (rs p.right) in
-        let Heard : LaneTask V C → LaneWork → Type 0 = λ j w. TookSlips w.heard j.slips (rt p.right) in
-        let served : Served p.left (lane_work p.left p.right h) = record {
+        let Given : LaneTask V C → LaneDone → Type 0 = λ j d. HasGiven (λ b. given_at b (due j.site j.lane b (conversations_of d.work.visits)) d.deeds) j.senders (rs p.right) in
+        let Heard : LaneTask V C → LaneDone → Type 0 = λ j d. TookSlips d.work.heard (times (those is_heard d.deeds)) j.slips (rt p.right) in
+        let Did : LaneTask V C → LaneDone → Type 0 = λ j d. LaneDid (flat_map (copies j.lane) (transactions j.site 0 (conversations_of d.work.visits))) d.work.heard d.deeds in
+        let came : h.came ≡ h.heard = merged_none h.came h.heard (subst (λ l. IsMerged h.came l h.heard) none_own h.exchanged.merged) in
+        let served : Served p.left (lane_done p.left p.right h).work = record {
           visited = h.visited;
           ended = h.ended no;
           counts = h.counts;
@@ -165,18 +185,26 @@ module _ {V C R : Type 0} (May : C → ℕ → Type 0) (view : VisitsView V)
           moments = h.moments;
           answered = h.answered;
         } in
-        let given_out : Given p.left (lane_work p.left p.right h) = record {
+        let given_out : Given p.left (lane_done p.left p.right h) = record {
           as_many = h.exchanged.offered.as_many;
           each = λ b before after e f.
               let o = x.offered.each b before after e f in
               let sent : for_box b x.accepted ≡ due p.left.site p.left.lane b (conversations_of h.visits) =
               ap (for_box b) (sym notes_due) ∙ due_is p.left.site p.left.lane b (conversations_of h.visits) in
-              (o.channel, o.number, o.sent ∙ ap (λ l. before.sent ++ l) sent, none_refused (rs p.right) b after (x.whole no) f);
+              (o.channel, o.number, o.sent ∙ ap (λ l. before.sent ++ l) sent, x.done.in_time.gave b before after e f, none_refused (rs p.right) b after (x.whole no) f);
         } in
-        let heard : Heard p.left (lane_work p.left p.right h) = record {
+        let heard : Heard p.left (lane_done p.left p.right h) = record {
           channel = h.exchanged.channel;
           lanes = h.exchanged.lanes;
-          took = h.exchanged.took ∙ ap (λ l. taken p.left.slips ++ l) (merged_none h.came h.heard (subst (λ l. IsMerged h.came l h.heard) none_own h.exchanged.merged));
+          took = h.exchanged.took ∙ ap (λ l. taken p.left.slips ++ l) came;
+          took_at = x.done.in_time.took;
+        } in
+        let did : Did p.left (lane_done p.left p.right h) = record {
+          gave = x.done.gave ∙ sym notes_due;
+          hears = x.done.heard ∙ came;
+          only = x.done.only;
+          until = _;
+          rises = rises_from 0 _ _ (times x.done.deeds) (omega arith) x.done.in_time.rises;
         } in record {
           visit = t.visit;
           row = t.row;
@@ -186,9 +214,10 @@ module _ {V C R : Type 0} (May : C → ℕ → Type 0) (view : VisitsView V)
           row_is = t.row_is;
           inbox_is = t.inbox_is;
           report_is = p.right_is;
-          served = subst (λ j. Served j (works k)) is (subst (λ w. Served p.left w) (sym p.picked) served);
-          given_out = subst (λ j. Given j (works k)) is (subst (λ w. Given p.left w) (sym p.picked) given_out);
-          heard = subst (λ j. Heard j (works k)) is (subst (λ w. Heard p.left w) (sym p.picked) heard);
+          served = subst (λ j. Served j (works k)) is (subst (λ d. Served p.left d.work) (sym p.picked) served);
+          given_out = subst (λ j. Given j (dones k)) is (subst (λ d. Given p.left d) (sym p.picked) given_out);
+          heard = subst (λ j. Heard j (dones k)) is (subst (λ d. Heard p.left d) (sym p.picked) heard);
+          did = subst (λ j. Did j (dones k)) is (subst (λ d. Did p.left d) (sym p.picked) did);
         }
 
     pub have_served : HaveServed site (May clock) view channels given (lanes_back reports)
@@ -206,18 +235,20 @@ module _ {V C R : Type 0} (May : C → ℕ → Type 0) (view : VisitsView V)
           let count_is : rc l.report ≡ count = sym (n.gives ∙ ap rc same_n) in
           let Served : V → V → ℕ → Type 0 = λ x y m. IsServedLane site (May clock) (view.MayGive x) k (works k) (lane_told view x y m) in
           subst (λ m. Served old new m) count_is (subst (λ y. Served old y (rc l.report)) new_is (subst (λ x. Served x (rv l.report) (rc l.report)) old_is l.served));
-      rows_are = rows_given (length given.visits) channels (λ k b. due site k b (conversations_of (works k).visits)) given.rows (map rs reports) are (length-map reports rs ∙ reports_count)
+      deeds = deeds_of;
+      did = λ k below. (lane_is k below).did;
+      rows_are = rows_given (length given.visits) channels (λ k b. given_at b (due site k b (conversations_of (works k).visits)) (deeds_of k)) given.rows (map rs reports) are (length-map reports rs ∙ reports_count)
           (λ k row row' a b.
           let r = source rs reports k row' b in
           let l = lane_is k (omega (arith, are.count, slice_get_within given.rows k row a)) in
           let new_is : rs l.report ≡ row' = sym (r.gives ∙ ap rs (same_at reports k r.value l.report r.is l.report_is)) in
           let old_is : l.row ≡ row = same_at given.rows k l.row row l.row_is a in
-          let Given : List (Sender Note) → List (Sender Note) → Type 0 = λ x y. HasGiven (λ b. due site k b (conversations_of (works k).visits)) x y in
+          let Given : List (Sender Note) → List (Sender Note) → Type 0 = λ x y. HasGiven (λ b. given_at b (due site k b (conversations_of (works k).visits)) (deeds_of k)) x y in
           subst (λ y. Given row y) new_is (subst (λ x. Given x (rs l.report)) old_is l.given_out));
       heard = λ k old new a b.
           let r = source rt reports k new b in
           let l = lane_is k (omega (arith, inboxes_count, slice_get_within given.inboxes k old a)) in
           let new_is : rt l.report ≡ new = sym (r.gives ∙ ap rt (same_at reports k r.value l.report r.is l.report_is)) in
           let old_is : l.inbox ≡ old = same_at given.inboxes k l.inbox old l.inbox_is a in
-          subst (λ x. TookSlips (works k).heard old x) new_is (subst (λ x. TookSlips (works k).heard x (rt l.report)) old_is l.heard);
+          subst (λ x. TookSlips (works k).heard (times (those is_heard (deeds_of k))) old x) new_is (subst (λ x. TookSlips (works k).heard (times (those is_heard (deeds_of k))) x (rt l.report)) old_is l.heard);
     }

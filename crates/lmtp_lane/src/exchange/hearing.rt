@@ -1,14 +1,35 @@
 //! The slips of a message's copies come back.
 
-ghost use Rattle.std.specs.Prelude.{◌≡◌, true};
+ghost use Rattle.std.specs.Prelude.{◌≡◌, ◌++◌, ◌∷◌, [], true, None, Some, IfOk, IfErr, OnOk, OnErr};
+ghost use Rattle.mail_post.specs.Channel.{taken, IsTimed, HasSameTimes};
 ghost use Rattle.mail_post.specs.Gathering.{IsDone};
 ghost use Rattle.lmtp_lane.specs.LaneExchange.{ends_of, sending_of, is_silent, KeepsRoom, Awaits, TakesOne};
 
 use super::Exchange;
 use lmtp_session::Session;
+use mail_post::{Gone, Moment, Sender, SlipReceiver};
 use mail_world::Slip;
 use msg_depot::DepotName;
+use std::marker::Brand;
 use std::sync::Wait;
+
+// Takes a slip, after the picked time. The senders are there for the pick alone, which is a time after all that the lane
+// knows.
+fn take_slip<N: DepotName, K: Moment, R: Wait>(
+    rt: &R,
+    _senders: &Vec<Sender<N>>,
+    slips: &mut SlipReceiver,
+) -> Result<Slip, Gone>
+    ensures same { (slips.new.channel ≡ slips.old.channel) × (slips.new.lanes ≡ slips.old.lanes) }
+    ensures post { IfOk result (λ slip. taken slips.new ≡ taken slips.old ++ slip ∷ []) }
+    ensures open_still { OnOk result ((slips.old.gone ≡ None) × (slips.new.gone ≡ None)) }
+    ensures timed { OnOk result (IsTimed K.after slips.old slips.new) }
+    ensures nothing { OnErr result (taken slips.new ≡ taken slips.old) }
+    ensures no_time { OnErr result (HasSameTimes slips.old slips.new) }
+    ensures gone { IfErr result (λ why. slips.new.gone ≡ Some why) }
+{
+    slips.take::<K, R>(rt)
+}
 
 impl<N: DepotName> Exchange<N> {
     /// The lane's own slip of a copy. A place that has its slip keeps it, and the answer is false.
@@ -29,7 +50,7 @@ impl<N: DepotName> Exchange<N> {
         ensures room { KeepsRoom (sending_of self.old) (sending_of self.new) }
         ensures way { Awaits number session.now.session (sending_of self.old) (sending_of self.new) }
     {
-        match self.slips.take(rt) {
+        match take_slip::<N, Brand, R>(rt, &self.senders, &mut self.slips) {
             Ok(slip) => {
                 // A slip that isn't awaited changes nothing.
                 let _ = self.gather.put(slip);

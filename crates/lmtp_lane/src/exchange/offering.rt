@@ -8,24 +8,27 @@ ghost use Rattle.lmtp_lane.specs.LaneExchange.{sending_of, KeepsRoom, Continues,
 
 use super::{Exchange, Postmark};
 use lmtp_session::Session;
-use mail_post::{Post, Sender};
+use mail_post::{Moment, Post, Sender, SlipReceiver};
 use mail_world::Slip;
 use mbox_rd::Envelope;
 use msg_depot::{Depot, DepotName, Hold};
+use std::marker::Brand;
 use std::sync::Wait;
 
-// Offers the mailbox's channel a copy.
-fn offer_to<N: DepotName, R: Wait>(
+// Offers the mailbox's channel a copy, after the picked time. The receiver is there for the pick alone, which is a time
+// after all that the lane knows.
+fn offer_to<N: DepotName, K: Moment, R: Wait>(
     rt: &R,
     senders: &mut Vec<Sender<N>>,
+    _slips: &SlipReceiver,
     mailbox: u32,
     post: Post<N>,
 ) -> Result<(), Post<N>>
     requires mailbox { mailbox < length senders.old.items }
     requires lane { HaveNumber post.txn.lane senders.old.items }
-    ensures { IsOffered mailbox (λ sender. post) (is_ok result) senders.old.items senders.new.items }
+    ensures { IsOffered K.after mailbox (λ sender. post) (is_ok result) senders.old.items senders.new.items }
 {
-    senders[mailbox as usize].offer(rt, post)
+    senders[mailbox as usize].offer::<K, R>(rt, post)
 }
 
 impl<N: DepotName> Exchange<N> {
@@ -42,7 +45,7 @@ impl<N: DepotName> Exchange<N> {
             self.answer_failed(failed);
             return;
         }
-        match offer_to(rt, &mut self.senders, failed.worker, post) {
+        match offer_to::<N, Brand, R>(rt, &mut self.senders, &self.slips, failed.worker, post) {
             Ok(()) => {}
             Err(back) => {
                 self.refused = true;
