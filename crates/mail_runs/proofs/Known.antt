@@ -259,7 +259,7 @@ worker_deeds s b (note ∷ notes) (outcome ∷ outcomes) low all = (
 )
 
 -- as many times as copies or slips
-later_many : (ts us : List ℕ) → AreLater ts us → length ts ≡ length us
+pub later_many : (ts us : List ℕ) → AreLater ts us → length ts ≡ length us
 later_many [] [] later = refl
 later_many [] (u ∷ us) later = absurd later
 later_many (t ∷ ts) [] later = absurd later
