@@ -14,7 +14,7 @@ side? m n = grind arith
 pub same? : (m n : ℕ) → (m ≡ n) ⊎ (m ≢ n)
 same? m n = grind arith
 
-low? : (k n : ℕ) → k < suc n → (k < n) ⊎ (k ≡ n)
+pub low? : (k n : ℕ) → k < suc n → (k < n) ⊎ (k ≡ n)
 low? k n below = grind arith
 
 lt_is : (m n : ℕ) (b : Bool) → nat_lt m n ≡ b → n ≤ m → b ≡ false

@@ -17,3 +17,4 @@ pub mod Played
 pub mod OneLane
 pub mod ByTime
 pub mod Timed
+pub mod Known

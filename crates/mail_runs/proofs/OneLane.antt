@@ -230,7 +230,7 @@ all_turns s notes outcomes (slip ∷ slips) one l =
     (all_turns s (less slip.worker notes) (less slip.worker outcomes) slips one (after_one s notes outcomes slip slips l o)))
 
 -- the copies of a lane name it
-abbrev NamesLane : ℕ → Note → Type 0
+abbrev pub NamesLane : ℕ → Note → Type 0
 NamesLane k note = note.txn.lane ≡ k
 
 both : {A : Type 0} (P : A → Type 0) (xs ys : List A) → AllByRecursion P xs → AllByRecursion P ys → AllByRecursion P (xs ++ ys)
@@ -245,7 +245,7 @@ of_verdict : (k : ℕ) (t : Transaction) (v : Verdict) → AllByRecursion (Names
 of_verdict k t Whole = from_lane k t 0 t.session.recipients
 of_verdict k t _ = tt
 
-of_transactions : (k : ℕ) (ts : List Transaction) → AllByRecursion (NamesLane k) (flat_map (copies k) ts)
+pub of_transactions : (k : ℕ) (ts : List Transaction) → AllByRecursion (NamesLane k) (flat_map (copies k) ts)
 of_transactions k [] = tt
 of_transactions k (t ∷ ts) = both (NamesLane k) (copies k t) (flat_map (copies k) ts) (of_verdict k t t.disposition.verdict) (of_transactions k ts)
 

@@ -25,7 +25,7 @@ whats_at : (test : Deed → Bool) (d : TimedDeed) (ds : List TimedDeed) (b : Boo
 whats_at test d ds true e more = passes test d.what (whats ds) e ∙ ap (λ l. d.what ∷ l) more ∙ sym (ap whats (passes (λ (x : TimedDeed). test x.what) d ds e))
 whats_at test d ds false e more = fails test d.what (whats ds) e ∙ more ∙ sym (ap whats (fails (λ (x : TimedDeed). test x.what) d ds e))
 
-whats_those : (test : Deed → Bool) (ds : List TimedDeed) → filter test (whats ds) ≡ whats (those test ds)
+pub whats_those : (test : Deed → Bool) (ds : List TimedDeed) → filter test (whats ds) ≡ whats (those test ds)
 whats_those test [] = refl
 whats_those test (d ∷ ds) = whats_at test d ds (test d.what) refl (whats_those test ds)
 
@@ -330,7 +330,7 @@ no_more_taken give take gives takes ds hi ps climbs given taken later first last
     (all_filter (λ (d : TimedDeed). between.time ≤ d.at) (λ (d : TimedDeed). gives d.what) last between.not_before)
 
 -- what a worker takes in its turns
-taken_in_turns : (b : ℕ) (notes : List Note) (outcomes : List Outcome) → length outcomes ≡ length notes → flat_map taken_in (turns_of b notes outcomes) ≡ notes
+pub taken_in_turns : (b : ℕ) (notes : List Note) (outcomes : List Outcome) → length outcomes ≡ length notes → flat_map taken_in (turns_of b notes outcomes) ≡ notes
 taken_in_turns b [] outcomes e = refl
 taken_in_turns b (note ∷ notes) [] e = absurd (omega arith)
 taken_in_turns b (note ∷ notes) (outcome ∷ outcomes) e = ap (λ l. note ∷ l) (taken_in_turns b notes outcomes (omega arith))

@@ -4,3 +4,4 @@ pub mod Histories
 pub mod RunOf
 pub mod OneLane
 pub mod Timed
+pub mod Known

@@ -24,3 +24,11 @@ pub fn one_lane_has_a_history()
 pub fn times_give_a_history()
     ensures { TimesGiveAHistory }
 {}
+
+ghost use Rattle.mail_runs.specs.Known.{KnownAreTimed};
+
+/// Where times rise along each thread and each channel, and each channel's are those that its threads gave and took at,
+/// what the threads did and what passed the channels agrees by time.
+pub fn known_are_timed()
+    ensures { KnownAreTimed }
+{}
