@@ -12,7 +12,8 @@ use Rattle.mail_post.specs.Channel.{Channel, Sender, Inbox, Sent}
 use Rattle.box_worker.specs.Told.{owed_to}
 use Rattle.lmtp_lane.specs.Visits.{conversations_of}
 use Rattle.lmtp_threads.specs.Works.{VisitsView}
-use Rattle.lmtp_house.specs.House.{HandedIn, HasRun}
+use Rattle.lmtp_house.specs.Handed.{HandedIn}
+use Rattle.lmtp_house.specs.House.{HasRun}
 use Rattle.thread_crew.specs.Channels.{Shape, channels_of, AreRows, AreClosed, MayClose, CanSettle, IsSettled}
 use Rattle.lmtp_threads.specs.Tasks.{BoxTask, LanesGiven, LanesBack, WorkersGiven, WorkersBack, HaveServed, HaveServedAll, HaveWorked, HaveWorkedAll}
 use Rattle.lmtp_house.specs.HousePlan.{PlanState, IsPlanned}

@@ -29,7 +29,8 @@ use Rattle.lmtp_talk.specs.declared.ending.EndCause.{EndCause}
 use Rattle.lmtp_talk.specs.declared.ending.EndCause.TheVariants.{WriteFault}
 use Rattle.lmtp_threads.specs.declared.tally.Tally.{Tally}
 use Rattle.lmtp_threads.specs.Works.{share_of, setting_of, IsBoxWork, LaneWork, BoxWork}
-use Rattle.lmtp_house.specs.House.{HandedBack, HasRun}
+use Rattle.lmtp_house.specs.Handed.{HandedBack}
+use Rattle.lmtp_house.specs.House.{HasRun}
 use Rattle.lmtp_talk.specs.Peer.{PeerState}
 use Rattle.lmtp_talk.specs.Served.{terms, IsWritten, has_quit, transactions_in}
 use Rattle.mail_world.specs.declared.limits.TheConstants.{READ_LIMIT}
