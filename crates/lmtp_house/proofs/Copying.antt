@@ -65,7 +65,8 @@ module _ (s : Server) where
   TornAt n notes = (len : ℕ) (bytes : List ℕ) (stored : ℕ) (torn : List ℕ) → len ≡ length bytes
       → stored ≡ length (keeps len (take n notes)) → length (keeps len (take (suc n) notes)) ≡ stored + 1
       → IsTorn s.calendar s.host (drop stored (keeps len notes)) torn
-      → TakesAll s notes (outcomes_settled n (marks len notes)) (spooled bytes false) (spooled (bytes ++ (flat_map text (take stored (keeps len notes)) ++ torn)) true)
+      → TakesAll s notes (outcomes_settled n (marks len notes)) (spooled bytes false)
+      (spooled (bytes ++ (flat_map text (take stored (keeps len notes)) ++ torn)) true)
 
   torn_first : (t : Bool) (note : Note) (notes : List Note) (len : ℕ) (bytes : List ℕ) (stored : ℕ) (torn : List ℕ) → len ≡ length bytes
       → fits s.quota (length bytes) (length (text note)) ≡ t → stored ≡ 0 → length (marked (t ∷ []) (note ∷ [])) ≡ stored + 1
@@ -74,11 +75,16 @@ module _ (s : Server) where
       (spooled (bytes ++ (flat_map text (take stored (marked (t ∷ marks (next_len t len note) notes) (note ∷ notes))) ++ torn)) true)
   torn_first true note notes len bytes zero torn e fit none one tears =
       let new : Spooled = spooled (bytes ++ torn) true in
-      (new, inr (record { sound = refl; fit = fit; torn = torn; rest = tears.rest; parts = tears.whole; after = refl }), all_fail (next_len true len note) notes new refl)
+      (
+        new,
+        inr (record { sound = refl; fit = fit; torn = torn; rest = tears.rest; parts = tears.whole; after = refl }),
+        all_fail (next_len true len note) notes new refl,
+      )
   torn_first true note notes len bytes (suc stored) torn e fit none one tears = absurd (omega (arith, none))
   torn_first false note notes len bytes stored torn e fit none one tears = absurd (omega (arith, one))
 
-  torn_next : (t : Bool) (n : ℕ) (note : Note) (notes : List Note) → TornAt n notes → (len : ℕ) (bytes : List ℕ) (stored : ℕ) (torn : List ℕ) → len ≡ length bytes
+  torn_next : (t : Bool) (n : ℕ) (note : Note) (notes : List Note) → TornAt n notes → (len : ℕ) (bytes : List ℕ) (stored : ℕ) (torn : List ℕ)
+      → len ≡ length bytes
       → fits s.quota (length bytes) (length (text note)) ≡ t
       → stored ≡ length (marked (t ∷ marks (next_len t len note) (take n notes)) (note ∷ take n notes))
       → length (marked (t ∷ marks (next_len t len note) (take (suc n) notes)) (note ∷ take (suc n) notes)) ≡ stored + 1
@@ -94,8 +100,10 @@ module _ (s : Server) where
       let T : List ℕ → Type 0 = λ l. TakesAll s notes (outcomes_settled n (marks (len + length (text note)) notes)) (spooled now false) (spooled l true) in
       let same : now ++ (some ++ torn) ≡ bytes ++ ((text note ++ some) ++ torn) =
       append_assoc bytes (text note) (some ++ torn) ∙ ap (λ l. bytes ++ l) (sym (append_assoc (text note) some torn)) in
-      (spooled now false, (refl, fit, refl), subst T same (more (len + length (text note)) now stored torn long (omega (arith, was)) (omega (arith, one)) tears))
-  torn_next false n note notes more len bytes stored torn e fit was one tears = (spooled bytes false, (refl, fit, refl), more len bytes stored torn e was one tears)
+      let rest = more (len + length (text note)) now stored torn long (omega (arith, was)) (omega (arith, one)) tears in
+      (spooled now false, (refl, fit, refl), subst T same rest)
+  torn_next false n note notes more len bytes stored torn e fit was one tears =
+      (spooled bytes false, (refl, fit, refl), more len bytes stored torn e was one tears)
 
   pub torn_at : (n : ℕ) (notes : List Note) → TornAt n notes
   torn_at zero [] = λ len bytes stored torn e was one tears. absurd (omega (arith, one))
@@ -122,7 +130,8 @@ module _ (s : Server) where
     CourseTo spool faulty = IsCourse s (record { old = held; taken = copies; outcomes = outcomes; spool = spool; faulty = faulty })
 
     -- the spool failed as it was mended
-    pub faulty_first : (prefix : List ℕ) (len n : ℕ) → IsFront prefix (mended held) → n ≡ 0 → outcomes ≡ outcomes_settled n (marks len copies) → CourseTo (held ++ prefix) true
+    pub faulty_first : (prefix : List ℕ) (len n : ℕ) → IsFront prefix (mended held) → n ≡ 0 → outcomes ≡ outcomes_settled n (marks len copies)
+        → CourseTo (held ++ prefix) true
     faulty_first prefix len n part none told =
         let first : Spooled = spooled (held ++ prefix) true in
         let taken : prefix ≡ take (length prefix) (mended held) = sym (ap (take (length prefix)) part.whole ∙ take-append_seam prefix part.rest) in
@@ -148,7 +157,8 @@ module _ (s : Server) where
         }
 
     -- the spool failed at the record of the nth
-    pub ends_torn : (n stored : ℕ) (torn : List ℕ) → stored ≡ length (keeps before_all (take n copies)) → length (keeps before_all (take (n + 1) copies)) ≡ stored + 1
+    pub ends_torn : (n stored : ℕ) (torn : List ℕ) → stored ≡ length (keeps before_all (take n copies))
+        → length (keeps before_all (take (n + 1) copies)) ≡ stored + 1
         → IsTorn s.calendar s.host (drop stored (keeps before_all copies)) torn → outcomes ≡ outcomes_settled n (marks before_all copies)
         → CourseTo (mailbox s.calendar s.host held (take stored (keeps before_all copies)) ++ torn) true
     ends_torn n stored torn was one tears told =
@@ -163,5 +173,6 @@ module _ (s : Server) where
           first = first;
           begun = inl (refl, refl);
           takes = subst (T outcomes) same
-          (subst (λ os. T os ((held ++ mended held) ++ (some ++ torn))) (sym told) (torn_at n copies before_all (held ++ mended held) stored torn refl was next tears));
+          (subst (λ os. T os ((held ++ mended held) ++ (some ++ torn))) (sym told)
+          (torn_at n copies before_all (held ++ mended held) stored torn refl was next tears));
         }

@@ -13,7 +13,7 @@ use Rattle.mail_runs.specs.Courses.{Server, Course, IsCourse}
 use Rattle.mbox_rd.specs.Spool.{SpoolState}
 use Rattle.box_worker.specs.Limits.{Setting, marks_behind, kept_behind, StartsAt}
 use Rattle.box_worker.specs.Stored.{mailbox_of, IsTornAt, HasSettled}
-use Rattle.box_worker.specs.Turned.{shared_of, HaveTurned}
+use Rattle.box_worker.specs.Turned.{SharedMailbox, shared_of, HaveTurned}
 use Rattle.box_worker.specs.Worked.{outcomes_behind, IsAccounted}
 use Rattle.lmtp_threads.specs.Works.{BoxWork, IsBoxWork}
 use Rattle.lmtp_threads.specs.declared.tally.Tally.{Tally}
@@ -28,7 +28,8 @@ module _ (calendar : Calendar) (host : List ℕ) where
   unlimited a b (x ∷ notes) = let size = length (record_of calendar host x) in ap (λ l. true ∷ l) (unlimited (a + size) (b + size) notes)
 
   -- and with one the same bytes
-  pub same_start : (quota : Option ℕ) (start len : ℕ) (notes : List Note) → IfSome quota (λ _. start ≡ len) → are_kept_behind calendar host quota start notes ≡ are_kept_behind calendar host quota len notes
+  pub same_start : (quota : Option ℕ) (start len : ℕ) (notes : List Note) → IfSome quota (λ _. start ≡ len)
+      → are_kept_behind calendar host quota start notes ≡ are_kept_behind calendar host quota len notes
   same_start None start len notes same = unlimited start len notes
   same_start (Some quota) start len notes same = ap (λ n. are_kept_behind calendar host (Some quota) n notes) same
 
@@ -80,7 +81,8 @@ module _ (at : Setting) (lanes boxes : ℕ) where
         subst Q (sym now) (ap (mailbox at.calendar at.host held) (sym (same_kept copies)))
 
     -- the spool failed at the record of the copy after those that are settled, of which these bytes are there
-    torn_to : Settled true → (torn : List ℕ) → length (kept_behind at start (take (stored + over + 1) copies)) ≡ stored + 1 → IsTorn at.calendar at.host (drop stored kept) torn
+    torn_to : Settled true → (torn : List ℕ) → length (kept_behind at start (take (stored + over + 1) copies)) ≡ stored + 1
+        → IsTorn at.calendar at.host (drop stored kept) torn
         → To (mailbox at.calendar at.host held (take stored kept) ++ torn) true
     torn_to h torn one tears =
         let n : ℕ = stored + over in
@@ -114,7 +116,8 @@ module _ (at : Setting) (lanes boxes : ℕ) where
       | inr one ↦ (
           let T : List ℕ → List ℕ → Type 0 = λ l b. IsTornAt at.calendar at.host l (kept_behind at start copies) stored (stored + over) b in
           let P : List ℕ → Type 0 = λ l. To l true in
-          let torn : T held bytes = subst (λ (o : Option (List ℕ)). IfSome o (T held)) f (subst (λ (o : Option (List ℕ)). IfSome o (λ l. IfSome new.bytes (T l))) e (h.spool.torn refl)) in
+          let A : Option (List ℕ) → Option (List ℕ) → Type 0 = λ o p. IfSome o (λ l. IfSome p (T l)) in
+          let torn : T held bytes = subst (A (Some held)) f (subst (λ o. A o new.bytes) e (h.spool.torn refl)) in
           elim torn [
             | inl some ↦ (
                 let now : bytes ≡ mailbox at.calendar at.host held (take stored kept) ++ some.0 =
@@ -181,7 +184,8 @@ module _ (at : Setting) (lanes boxes : ℕ) where
     shared_course : at.quota ≡ None → tally.in_use ≡ 0 → (IsToldAlone old → ⊥)
         → HaveTurned at work.taken work.outcomes (shared_of old false 0) (shared_of new tally.faulty tally.in_use) → HasCourse work old new tally
     shared_course none never not h =
-        let c = turns_to at.calendar at.host at.quota lanes boxes at.worker work.taken work.outcomes old (shared_of new tally.faulty tally.in_use) none never h in
+        let after : SharedMailbox = shared_of new tally.faulty tally.in_use in
+        let c = turns_to at.calendar at.host at.quota lanes boxes at.worker work.taken work.outcomes old after none never h in
         unsaid [] c.0 not c.1
 
     not_shared : old.sharing.is_shared ≡ true → IsToldAlone old → ⊥

@@ -5,14 +5,15 @@ use Rattle.mail_world.specs.declared.Outcome.{Outcome}
 use Rattle.mail_world.specs.declared.Outcome.TheVariants.{Stored, Failed, NoRoom, TooLarge, OverQuota}
 use Rattle.mail_world.specs.Counts.{counted}
 use Rattle.mail_world.specs.Records.{Calendar, record_of}
-use Rattle.mail_runs.specs.Courses.{Server, Spooled, TakesOne, TakesAll, IsCourse}
+use Rattle.mail_runs.specs.Courses.{Server, TakesOne, TakesAll, IsCourse}
 use Rattle.mbox_rd.specs.Spool.{SpoolState}
 use Rattle.box_worker.specs.Limits.{Setting}
 use Rattle.box_worker.specs.Turned.{SharedMailbox, shared_of, TakesTurn, HaveTurned}
 use Rattle.lmtp_house.proofs.Copying.{spooled}
 
 -- the count of turns that weren't had falls never to 0
-count_stays : (quota : Option ℕ) (text : List ℕ) (outcome : Outcome) (old new : SharedMailbox) → TakesTurn quota text outcome old new → new.in_use ≡ 0 → old.in_use ≡ 0
+count_stays : (quota : Option ℕ) (text : List ℕ) (outcome : Outcome) (old new : SharedMailbox) → TakesTurn quota text outcome old new → new.in_use ≡ 0
+    → old.in_use ≡ 0
 count_stays quota text Stored old new h none = sym (ap (λ (m : SharedMailbox). m.in_use) h.2) ∙ none
 count_stays quota text OverQuota old new h none = sym (ap (λ (m : SharedMailbox). m.in_use) h.2) ∙ none
 count_stays quota text Failed old new h none = elim h [
@@ -25,7 +26,8 @@ count_stays quota text Failed old new h none = elim h [
 count_stays quota text NoRoom old new h none = absurd h
 count_stays quota text TooLarge old new h none = absurd h
 
-counts_stay : (at : Setting) (notes : List Note) (outcomes : List Outcome) (old new : SharedMailbox) → HaveTurned at notes outcomes old new → new.in_use ≡ 0 → old.in_use ≡ 0
+counts_stay : (at : Setting) (notes : List Note) (outcomes : List Outcome) (old new : SharedMailbox) → HaveTurned at notes outcomes old new
+    → new.in_use ≡ 0 → old.in_use ≡ 0
 counts_stay at [] [] old new h none = sym (ap (λ (m : SharedMailbox). m.in_use) h) ∙ none
 counts_stay at [] (o ∷ os) old new h none = absurd h
 counts_stay at (x ∷ xs) [] old new h none = absurd h
@@ -42,7 +44,8 @@ module _ (calendar : Calendar) (host : List ℕ) (lanes boxes b : ℕ) where
   abbrev Taking : Note → Outcome → SharedMailbox → SharedMailbox → List ℕ → Type 0
   Taking note outcome old new bytes = (after : List ℕ) × TakesOne server note outcome (spooled bytes old.faulty) (spooled after new.faulty)
 
-  taking : (note : Note) (outcome : Outcome) (old new : SharedMailbox) (bytes : List ℕ) → TakesTurn None (record_of calendar host note) outcome old new → new.in_use ≡ 0
+  taking : (note : Note) (outcome : Outcome) (old new : SharedMailbox) (bytes : List ℕ) → TakesTurn None (record_of calendar host note) outcome old new
+      → new.in_use ≡ 0
       → Taking note outcome old new bytes
   taking note Stored old new bytes h none =
       let after : List ℕ = bytes ++ record_of calendar host note in
@@ -68,7 +71,8 @@ module _ (calendar : Calendar) (host : List ℕ) (lanes boxes b : ℕ) where
   taking note NoRoom old new bytes h none = absurd h
   taking note TooLarge old new bytes h none = absurd h
 
-  pub taking_all : (notes : List Note) (outcomes : List Outcome) (old new : SharedMailbox) (bytes : List ℕ) → HaveTurned setting notes outcomes old new → new.in_use ≡ 0
+  pub taking_all : (notes : List Note) (outcomes : List Outcome) (old new : SharedMailbox) (bytes : List ℕ) → HaveTurned setting notes outcomes old new
+      → new.in_use ≡ 0
       → (after : List ℕ) × TakesAll server notes outcomes (spooled bytes old.faulty) (spooled after new.faulty)
   taking_all [] [] old new bytes h none = (bytes, ap (λ (m : SharedMailbox). spooled bytes m.faulty) h)
   taking_all [] (o ∷ os) old new bytes h none = absurd h
@@ -80,8 +84,9 @@ module _ (calendar : Calendar) (host : List ℕ) (lanes boxes b : ℕ) where
       (more.0, (spooled one.0 between.faulty, one.1, more.1))
 
 -- the course of a mailbox that held nothing at first
-pub turns_to : (calendar : Calendar) (host : List ℕ) (quota : Option ℕ) (lanes boxes b : ℕ) (notes : List Note) (outcomes : List Outcome) (old : SpoolState) (new : SharedMailbox)
-    → quota ≡ None → new.in_use ≡ 0 → HaveTurned (record { calendar = calendar; host = host; quota = quota; worker = b }) notes outcomes (shared_of old false 0) new
+pub turns_to : (calendar : Calendar) (host : List ℕ) (quota : Option ℕ) (lanes boxes b : ℕ) (notes : List Note) (outcomes : List Outcome)
+    (old : SpoolState) (new : SharedMailbox) → quota ≡ None → new.in_use ≡ 0
+    → HaveTurned (record { calendar = calendar; host = host; quota = quota; worker = b }) notes outcomes (shared_of old false 0) new
     → (bytes : List ℕ) × IsCourse (record { calendar = calendar; host = host; quota = quota; lanes = lanes; boxes = boxes })
     (record { old = []; taken = notes; outcomes = outcomes; spool = bytes; faulty = new.faulty })
 turns_to calendar host None lanes boxes b notes outcomes old new none never h =

@@ -43,7 +43,7 @@ use Rattle.lmtpd_rehearse.specs.Client.{MayGive, told as told_by, is_over, IsOnl
 use Rattle.lmtpd_rehearse.specs.Mailboxes.{MailboxContent, kept_all, kept_at, bytes_of_all, empty_spool, mailbox_room, texts_of_mailboxes, IsCalm}
 use Rattle.lmtpd_rehearse.specs.Rehearsal.{AreMailboxes, copies_due, told_of_box, RehearsalEndsFor, HeldState, IsHeld, IsListed, IsRehearsed, Streams}
 use Rattle.lmtpd_rehearse.proofs.Boxes.{state_of, get_some, get_same, kept_is, length-kept, bytes_are, none_failed, all_calm, is_full, spool_has, holds_settled}
-use Rattle.lmtpd_rehearse.proofs.Rising.{NumbersRise, numbers_rise}
+use Rattle.mail_runs.proofs.Rising.{NumbersRise, numbers_rise}
 use Rattle.mbox_rd.proofs.Taken.{Appends-then}
 use Rattle.lmtpd_rehearse.proofs.Keeping.{all_settled, marked_none, same_marks}
 use Rattle.lmtpd_rehearse.proofs.Telling.{IsFrontOfOwed, AreSized, told_as_said, all_told_settled}

@@ -17,3 +17,5 @@ pub mod Played
 pub mod OneLane
 pub mod ByTime
 pub mod Timed
+pub mod Rising
+pub mod Recipients
