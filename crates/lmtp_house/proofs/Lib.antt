@@ -8,3 +8,4 @@ pub mod HouseEnd
 pub mod Copying
 pub mod Turns
 pub mod Courses
+pub mod OneLane
