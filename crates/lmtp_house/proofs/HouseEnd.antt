@@ -95,4 +95,4 @@ module _ {V S C : Type 0} (May : C → ℕ → Type 0) (view : VisitsView V) (st
           (record { visits = lanes.visits; spools = boxes.spools; conversations = lanes.conversations; tallies = boxes.tallies })
       run_is mail_settled slips_settled =
           has_run site (May clock) view state lanes_given lanes boxes_given boxes mail_closed slips_closed p.mail_new p.slips_new lanes_ran boxes_ran
-          mail_shut slips_shut mail_settled slips_settled
+          mail_shut slips_shut mail_settled slips_settled p.each_box p.some_boxes

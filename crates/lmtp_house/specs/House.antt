@@ -9,6 +9,7 @@ use Rattle.mbox_rd.specs.Spool.{SpoolState}
 use Rattle.box_worker.specs.Told.{owed_to}
 use Rattle.lmtp_house.specs.declared.house.sizes.Sizes.{Sizes}
 use Rattle.lmtp_house.specs.Handed.{HandedIn, HandedBack}
+use Rattle.lmtp_house.specs.RunOfModel.{AreModelled, IsRunOfModel}
 use Rattle.mail_world.specs.Counts.{counted}
 use Rattle.lmtp_talk.specs.Peer.{PeerState}
 use Rattle.lmtp_talk.specs.Served.{terms}
@@ -59,3 +60,5 @@ pub record HasRun {V S : Type 0} (site : Site) (May : ℕ → Type 0) (view : Vi
       → of_worker b (lanes k).heard ≡ owed_to b (boxes b).outcomes k (boxes b).taken
   pub told_only : (k : ℕ) → k < length old.visits
       → AllByRecursion (λ slip. slip.worker < length old.spools) (lanes k).heard
+  -- with one lane all of this is a run of the model
+  pub one_lane : length old.visits ≡ 1 → AreModelled state old new → IsRunOfModel site state lanes boxes old new
