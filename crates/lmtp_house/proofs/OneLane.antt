@@ -1,6 +1,6 @@
 -- A server with one lane: what its threads did is a run of the model.
 use Rattle.std.proofs.Common.{◌≡◌, ℕ, ◌<◌, List, [], ◌∷◌, length, true, false, cond, Option, Some, None, refl, sym, ap, ◌∙◌, subst, arith}
-use Rattle.std.specs.Prelude.{slice_get, ◌==◌, filter, flat_map}
+use Rattle.std.specs.Prelude.{slice_get, ◌==◌, flat_map}
 use Rattle.std.specs.List.{AllByRecursion}
 use Rattle.std.proofs.lemmas.Bool.Decides.{nat_tests}
 use Rattle.mail_world.specs.declared.Note.{Note}
@@ -9,7 +9,7 @@ use Rattle.mail_world.specs.declared.Outcome.{Outcome}
 use Rattle.mail_world.specs.Site.{Site}
 use Rattle.mail_world.specs.Conversation.{Conversation}
 use Rattle.mail_world.specs.Slips.{of_worker, slip_of, slips_from}
-use Rattle.mail_world.specs.Lists.{Transaction, of_lane, copies, copies_owed, due, transactions}
+use Rattle.mail_world.specs.Lists.{of_lane, copies, copies_owed, due, transactions}
 use Rattle.mail_runs.specs.Courses.{Server, Course, IsCourse}
 use Rattle.mail_runs.specs.Histories.{Threads}
 use Rattle.mail_runs.specs.OneLane.{IsOfOneLane}

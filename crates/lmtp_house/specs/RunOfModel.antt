@@ -1,5 +1,5 @@
 -- What a server's threads did is a run of the model of `mail_world`: what it says of runs, it says of this server.
-use Rattle.std.specs.Prelude.{◌≡◌, ◌⊎◌, ◌<◌, ℕ, false, List, length, slice_get, Option, Some, None, IsSome}
+use Rattle.std.specs.Prelude.{◌≡◌, ◌⊎◌, ◌<◌, ℕ, false, length, slice_get, Option, Some, None, IsSome}
 use Rattle.std.specs.Option.{IfSome}
 use Rattle.mail_world.specs.Site.{Site}
 use Rattle.mail_world.specs.Lists.{transactions, due}
@@ -50,7 +50,7 @@ server_of site old = record {
   boxes = length old.spools;
 }
 
--- what its threads come to: each lane has the transactions of its conversations, and heard what this server's lane heard
+-- what its threads come to: each lane has the transactions of its conversations, and heard what this server's lane did
 abbrev pub threads_of : Site → (ℕ → LaneWork) → (ℕ → Course) → Threads
 threads_of site lanes courses = record {
   transactions = λ k. transactions site 0 (conversations_of (lanes k).visits);

@@ -13,7 +13,7 @@ use Rattle.mail_world.specs.Records.{mailbox}
 use Rattle.mail_world.specs.Quotas.{are_kept, kept, outcomes_settled}
 use Rattle.mail_world.specs.Deliveries.{outcomes_told}
 use Rattle.mail_world.specs.Runs.{events_of, offers_by}
-use Rattle.mail_runs.specs.Courses.{Course}
+use Rattle.mail_runs.specs.Courses.{Server, Course}
 use Rattle.mail_runs.specs.Histories.{Threads}
 use Rattle.mail_runs.specs.RunOf.{IsRunOf}
 use Rattle.lmtp_text.specs.Calendar.{civil_at}
@@ -62,12 +62,23 @@ pub record AreMailboxes (site : Site) (quota : Option ℕ) (read : List ℕ) (ac
 
 -- A mailbox of the model came to what this one did: it was empty at first, took these copies, told this of each, holds
 -- these bytes, and failed where this one did.
-pub record IsCourseTo (copies : List Note) (told : List Outcome) (mailbox : MailboxContent) (course : Course) : Type 0 where
+pub record IsCourseTo (copies : List Note) (told : List Outcome) (mailbox : MailboxContent)
+    (course : Course) : Type 0 where
   pub old : course.old ≡ []
   pub taken : course.taken ≡ copies
   pub outcomes : course.outcomes ≡ told
   pub spool : course.spool ≡ mailbox.bytes
   pub faulty : course.faulty ≡ mailbox.failed
+
+-- the model's server: this site, its calendar and its host, this quota, one lane
+abbrev pub model_of : Site → Option ℕ → Server
+model_of site quota = record {
+  calendar = civil_at;
+  host = site.host;
+  quota = quota;
+  lanes = 1;
+  boxes = length site.boxes;
+}
 
 -- There is a run of the model of one lane and these mailboxes, from a start at which nothing has happened, in which the
 -- lane offers each mailbox just the copies that are due to it, and at whose end each mailbox has come to this. The run
@@ -75,11 +86,12 @@ pub record IsCourseTo (copies : List Note) (told : List Outcome) (mailbox : Mail
 pub record IsRunOfRehearsal (site : Site) (quota : Option ℕ) (read : List ℕ) (account : List Disposition)
     (mailboxes : List MailboxContent) : Type 0 where
   pub threads : Threads
-  pub is : IsRunOf (record { calendar = civil_at; host = site.host; quota = quota; lanes = 1; boxes = length site.boxes }) threads
+  pub is : IsRunOf (model_of site quota) threads
   pub offered : (box : ℕ) → box < length site.boxes
       → offers_by 0 box (events_of is.run) ≡ copies_due site read account box
   pub each : (box : ℕ) → box < length site.boxes
-      → IsCourseTo (copies_due site read account box) (told_of_box site read account box) (kept_at mailboxes box) (threads.courses box)
+      → IsCourseTo (copies_due site read account box) (told_of_box site read account box) (kept_at mailboxes box)
+      (threads.courses box)
 
 -- why the conversation ended
 pub record RehearsalEndsFor (site : Site) (read : List ℕ) (account : List Disposition) (left : Option (List ℕ))
