@@ -24,7 +24,8 @@ use Rattle.lmtp_threads.specs.Tasks.{LanesGiven, LanesBack, WorkersGiven, Worker
 use Rattle.lmtp_house.proofs.AnsweredAll.{outcomes_are_answers}
 use Rattle.lmtp_house.proofs.HeardAll.{heard_all}
 use Rattle.lmtp_house.proofs.NamedOnce.{named_once}
-use Rattle.lmtp_house.proofs.OneLane.{HaveExchanged, one_lane_runs}
+use Rattle.lmtp_house.proofs.RunOfModel.{HaveExchanged}
+use Rattle.lmtp_house.proofs.OneLane.{one_lane_runs}
 use Rattle.thread_crew.proofs.ChannelRows.{at, at_map, zip_at, at_zip}
 
 module _ {M : Type 0} (lane : M → ℕ) where

@@ -8,4 +8,5 @@ pub mod HouseEnd
 pub mod Copying
 pub mod Turns
 pub mod Courses
+pub mod RunOfModel
 pub mod OneLane
