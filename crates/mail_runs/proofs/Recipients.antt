@@ -1,5 +1,5 @@
 -- Each copy that conversations owe is for a mailbox of the site.
-use Rattle.std.proofs.Common.{◌≡◌, ℕ, ◌+◌, ◌<◌, length, List, [], ◌∷◌, ◌++◌, Bool, true, false, Option, Some, None, refl, subst}
+use Rattle.std.proofs.Common.{◌≡◌, ℕ, ◌+◌, ◌<◌, length, List, [], ◌∷◌, Bool, true, false, Option, Some, None, refl}
 use Rattle.std.specs.Prelude.{flat_map, if◌then◌else◌, nat_lt, position, codes, Result, Ok, Err, IfSome}
 use Rattle.std.specs.List.{AllByRecursion}
 use Rattle.std.proofs.lemmas.List.Quantifiers.{position-Some}
@@ -18,10 +18,7 @@ use Rattle.mail_world.specs.Session.{Session, fresh, Input, Line, LongLine, Data
 use Rattle.mail_world.specs.Conversation.{Part, CommandLine, MailData, inputs_of, session_after, parts, Conversation}
 use Rattle.mail_world.specs.Lists.{Transaction, is_content, accepted_after, transactions_of, transactions, copies, copies_if, copies_from}
 use Rattle.mail_world.proofs.Owed.{accepted_behind}
-
-pub all_append : {A : Type 0} (P : A → Type 0) (xs ys : List A) → AllByRecursion P xs → AllByRecursion P ys → AllByRecursion P (xs ++ ys)
-all_append P [] ys h k = k
-all_append P (x ∷ xs) ys h k = (h.0, all_append P xs ys h.1 k)
+use Rattle.mail_runs.proofs.ByTime.{all_both}
 
 module _ (site : Site) (some : 0 < length site.boxes) where
   -- the mailbox is one of the site's
@@ -72,7 +69,7 @@ module _ (site : Site) (some : 0 < length site.boxes) where
 
   added : (s : Session) (o : Option ℕ) → Knows s → IfSome o IsKnown → Knows (add_recipient s o).next
   added s None h k = h
-  added s (Some box) h k = room_known (nat_lt (length s.recipients) RECIPIENT_LIMIT) _ _ (all_append IsKnown s.recipients (box ∷ []) h (k, tt)) h
+  added s (Some box) h k = room_known (nat_lt (length s.recipients) RECIPIENT_LIMIT) _ _ (all_both IsKnown s.recipients (box ∷ []) h (k, tt)) h
 
   after_rcpt : (state : State) (s : Session) (o : Option ℕ) → Knows s → IfSome o IsKnown → Knows (on_rcpt state s o).next
   after_rcpt Sender s o h k = added s o h k
@@ -157,7 +154,7 @@ module _ (site : Site) (some : 0 < length site.boxes) where
   all_known n (c ∷ cs) =
       let ps : List Part = parts site fresh c.bytes c.dispositions in
       let last : ℕ = accepted_after site n fresh ps in
-      all_append KnowsOf (transactions_of site n fresh ps) (transactions site last cs) (conversation_known n fresh ps tt) (all_known last cs)
+      all_both KnowsOf (transactions_of site n fresh ps) (transactions site last cs) (conversation_known n fresh ps tt) (all_known last cs)
 
   -- and each copy
   abbrev pub IsForKnown : Note → Type 0
@@ -175,7 +172,7 @@ module _ (site : Site) (some : 0 < length site.boxes) where
   copies_known : (k : ℕ) (ts : List Transaction) → AllByRecursion KnowsOf ts → AllByRecursion IsForKnown (flat_map (copies k) ts)
   copies_known k [] h = tt
   copies_known k (t ∷ ts) h =
-      all_append IsForKnown (copies k t) (flat_map (copies k) ts) (owing_known k t t.disposition.verdict h.0) (copies_known k ts h.1)
+      all_both IsForKnown (copies k t) (flat_map (copies k) ts) (owing_known k t t.disposition.verdict h.0) (copies_known k ts h.1)
 
   pub lane_known : (k : ℕ) (cs : List Conversation) → AllByRecursion IsForKnown (flat_map (copies k) (transactions site 0 cs))
   lane_known k cs = copies_known k (transactions site 0 cs) (all_known 0 cs)
