@@ -1,4 +1,5 @@
--- What a server's threads did is a run of the model of `mail_world`: what it says of runs, it says of this server.
+-- What a server's threads did is a run of the model of `mail_world`: what holds of each run there, holds of this
+-- server.
 use Rattle.std.specs.Prelude.{◌≡◌, ◌⊎◌, ◌<◌, ℕ, false, length, slice_get, Option, Some, None, IsSome}
 use Rattle.std.specs.Option.{IfSome}
 use Rattle.mail_world.specs.Site.{Site}
@@ -19,8 +20,9 @@ pub record IsToldAlone (spool : SpoolState) : Type 0 where
   pub alone : spool.sharing.is_shared ≡ false
   pub telling : IsSome spool.bytes
 
--- The model has what the worker of this mailbox did: its spool is private and tells what it holds. Of any other spool
--- the model has it where there is no quota and each turn was had; but then not what the spool holds.
+-- The model has what the worker of this mailbox did, and what its spool holds: the spool is private and tells that. Of
+-- any other spool, as of a mailbox that a mail reader empties too, it has what the worker did where there is no quota
+-- and each turn was had, and nothing of what the spool holds.
 abbrev pub IsModelled : Option ℕ → SpoolState → Tally → Type 0
 IsModelled quota before tally = IsToldAlone before ⊎ ((quota ≡ None) × (tally.in_use ≡ 0))
 
