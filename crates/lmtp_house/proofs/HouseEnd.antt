@@ -12,7 +12,8 @@ use Rattle.mail_post.specs.Channel.{Channel, Sender, Inbox, Sent}
 use Rattle.box_worker.specs.Told.{owed_to}
 use Rattle.lmtp_lane.specs.Visits.{conversations_of}
 use Rattle.lmtp_threads.specs.Works.{VisitsView}
-use Rattle.lmtp_house.specs.House.{HandedIn, HasRun}
+use Rattle.lmtp_house.specs.Handed.{HandedIn}
+use Rattle.lmtp_house.specs.House.{HasRun}
 use Rattle.thread_crew.specs.Channels.{Shape, channels_of, AreRows, AreClosed, MayClose, CanSettle, IsSettled}
 use Rattle.lmtp_threads.specs.Tasks.{BoxTask, LanesGiven, LanesBack, WorkersGiven, WorkersBack, HaveServed, HaveServedAll, HaveWorked, HaveWorkedAll}
 use Rattle.lmtp_house.specs.HousePlan.{PlanState, IsPlanned}
@@ -94,4 +95,4 @@ module _ {V S C : Type 0} (May : C → ℕ → Type 0) (view : VisitsView V) (st
           (record { visits = lanes.visits; spools = boxes.spools; conversations = lanes.conversations; tallies = boxes.tallies })
       run_is mail_settled slips_settled =
           has_run site (May clock) view state lanes_given lanes boxes_given boxes mail_closed slips_closed p.mail_new p.slips_new lanes_ran boxes_ran
-          mail_shut slips_shut mail_settled slips_settled
+          mail_shut slips_shut mail_settled slips_settled p.each_box p.some_boxes

@@ -17,12 +17,15 @@ use Rattle.mbox_rd.specs.Spool.{SpoolState}
 use Rattle.box_worker.specs.Told.{owed_to}
 use Rattle.lmtp_lane.specs.Visits.{conversations_of}
 use Rattle.lmtp_threads.specs.Works.{VisitsView}
+use Rattle.lmtp_house.specs.Handed.{HandedIn, HandedBack}
 use Rattle.lmtp_house.specs.House.{HasRun}
 use Rattle.thread_crew.specs.Channels.{channels_of, AreNewChannels, IsClosedWith, AreClosed, CanSettle, IsSettled}
 use Rattle.lmtp_threads.specs.Tasks.{LanesGiven, LanesBack, WorkersGiven, WorkersBack, HaveServed, HaveWorked}
 use Rattle.lmtp_house.proofs.AnsweredAll.{outcomes_are_answers}
 use Rattle.lmtp_house.proofs.HeardAll.{heard_all}
 use Rattle.lmtp_house.proofs.NamedOnce.{named_once}
+use Rattle.lmtp_house.proofs.RunOfModel.{HaveExchanged}
+use Rattle.lmtp_house.proofs.OneLane.{one_lane_runs}
 use Rattle.thread_crew.proofs.ChannelRows.{at, at_map, zip_at, at_zip}
 
 module _ {M : Type 0} (lane : M → ℕ) where
@@ -94,7 +97,8 @@ module _ {V S : Type 0} (site : Site) (May : ℕ → Type 0) (view : VisitsView 
     (mail_shut : AreClosed (length old_lanes.visits) (channels_of old_boxes.inboxes) (λ k b. due site k b (conversations_of (lanes.works k).visits)) mail_closed)
     (slips_shut : AreClosed (length old_boxes.spools) (channels_of old_lanes.inboxes) (λ b k. owed_to b (boxes.works b).outcomes k (boxes.works b).taken) slips_closed)
     (mail_settled : AllZip (IsSettled (λ (n : Note). n.txn.lane)) new_boxes.inboxes mail_closed)
-    (slips_settled : AllZip (IsSettled (λ (s : Slip). s.worker)) new_lanes.inboxes slips_closed) where
+    (slips_settled : AllZip (IsSettled (λ (s : Slip). s.worker)) new_lanes.inboxes slips_closed)
+    (each_box : length old_boxes.spools ≡ length site.boxes) (some_boxes : 0 < length old_boxes.spools) where
   abbrev owed_by : ℕ → ℕ → List Note
   owed_by k b = due site k b (conversations_of (lanes.works k).visits)
 
@@ -151,18 +155,36 @@ module _ {V S : Type 0} (site : Site) (May : ℕ → Type 0) (view : VisitsView 
       (named_once site k (length old_boxes.spools) cs (lanes.works k).heard boxes.works l.only l.each (λ b box. (box_known b box).each k below))
       (lanes.served k c.value x.value y.value x.is y.is c.is).answered
 
-  pub has_run : HasRun site May view state (record { visits = old_lanes.visits; spools = old_boxes.spools; quota = old_boxes.quota })
-      (record {
-        visits = new_lanes.visits;
-        spools = new_boxes.spools;
-        conversations = new_lanes.conversations;
-        tallies = new_boxes.tallies;
-      })
+  abbrev handed_in : HandedIn V S
+  handed_in = record { visits = old_lanes.visits; spools = old_boxes.spools; quota = old_boxes.quota }
+
+  abbrev handed_back : HandedBack V S
+  handed_back = record {
+    visits = new_lanes.visits;
+    spools = new_boxes.spools;
+    conversations = new_lanes.conversations;
+    tallies = new_boxes.tallies;
+  }
+
+  exchanged : HaveExchanged site state lanes.works boxes.works handed_in handed_back
+  exchanged = record {
+    as_many = (boxes.as_many.0, boxes.as_many.1);
+    stored = boxes.stored;
+    owed = λ k b below box. (box_known b box).each k below;
+    owed_only = λ b box. (box_known b box).only;
+    told = λ k b below box.
+        let l = lane_known k below in
+        heard_all site k (length old_boxes.spools) (conversations_of (lanes.works k).visits) (lanes.works k).heard boxes.works l.only l.each
+        (λ c low. (box_known c low).each k below) (lane_outcomes k below) b box;
+    told_only = λ k below. (lane_known k below).only;
+  }
+
+  pub has_run : HasRun site May view state handed_in handed_back
   has_run = record {
     lanes = lanes.works;
     boxes = boxes.works;
     as_many_lanes = (lanes.as_many.0, lanes.as_many.1);
-    as_many_boxes = (boxes.as_many.0, boxes.as_many.1);
+    as_many_boxes = exchanged.as_many;
     served = λ k count old new a b c.
         let s = lanes.served k count old new a b c in
         record {
@@ -173,11 +195,10 @@ module _ {V S : Type 0} (site : Site) (May : ℕ → Type 0) (view : VisitsView 
           moments = s.moments;
           answered = lane_outcomes k (slice_get_within old_lanes.visits k old a);
         };
-    stored = boxes.stored;
-    owed = λ k b below box. (box_known b box).each k below;
-    owed_only = λ b box. (box_known b box).only;
-    told = λ k b below box.
-        let l = lane_known k below in
-        heard_all site k (length old_boxes.spools) (conversations_of (lanes.works k).visits) (lanes.works k).heard boxes.works l.only l.each (λ c low. (box_known c low).each k below) (lane_outcomes k below) b box;
-    told_only = λ k below. (lane_known k below).only;
+    stored = exchanged.stored;
+    owed = exchanged.owed;
+    owed_only = exchanged.owed_only;
+    told = exchanged.told;
+    told_only = exchanged.told_only;
+    one_lane = λ one modelled. one_lane_runs site state lanes.works boxes.works handed_in handed_back exchanged modelled each_box some_boxes one;
   }

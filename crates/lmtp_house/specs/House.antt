@@ -8,6 +8,8 @@ use Rattle.mail_world.specs.Lists.{of_lane, due, transactions, VerdictsFit, Outc
 use Rattle.mbox_rd.specs.Spool.{SpoolState}
 use Rattle.box_worker.specs.Told.{owed_to}
 use Rattle.lmtp_house.specs.declared.house.sizes.Sizes.{Sizes}
+use Rattle.lmtp_house.specs.Handed.{HandedIn, HandedBack}
+use Rattle.lmtp_house.specs.RunOfModel.{AreModelled, IsRunOfModel}
 use Rattle.mail_world.specs.Counts.{counted}
 use Rattle.lmtp_talk.specs.Peer.{PeerState}
 use Rattle.lmtp_talk.specs.Served.{terms}
@@ -23,19 +25,6 @@ pub record IsSize (site : Site) (sizes : Sizes) (lanes spools gates : ℕ) : Typ
   pub some_lanes : (1 ≤ lanes) × (lanes ≤ LANE_LIMIT)
   pub each_spool : spools ≡ length site.boxes
   pub each_gate : gates ≡ length site.boxes
-
--- what is handed in: clients by lane, spools by mailbox, and the limit of bytes for each mailbox
-pub record HandedIn (V S : Type 0) : Type 0 where
-  pub visits : List V
-  pub spools : List S
-  pub quota : Option ℕ
-
--- what is handed back, and what is told of it: how many conversations each lane held, and what each worker did
-pub record HandedBack (V S : Type 0) : Type 0 where
-  pub visits : List V
-  pub spools : List S
-  pub conversations : List ℕ
-  pub tallies : List Tally
 
 -- Lane k served these clients until there were no more: its verdicts fit, each moment is one that the clock may answer,
 -- and each outcome is that of the slip that it heard.
@@ -71,3 +60,5 @@ pub record HasRun {V S : Type 0} (site : Site) (May : ℕ → Type 0) (view : Vi
       → of_worker b (lanes k).heard ≡ owed_to b (boxes b).outcomes k (boxes b).taken
   pub told_only : (k : ℕ) → k < length old.visits
       → AllByRecursion (λ slip. slip.worker < length old.spools) (lanes k).heard
+  -- with one lane all of this is a run of the model
+  pub one_lane : length old.visits ≡ 1 → AreModelled state old new → IsRunOfModel site state lanes boxes old new

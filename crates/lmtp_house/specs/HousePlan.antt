@@ -7,7 +7,8 @@ use Rattle.mail_world.specs.Site.{Site}
 use Rattle.mbox_rd.specs.Spool.{SpoolState}
 use Rattle.mail_post.specs.Channel.{Sender, Inbox}
 use Rattle.lmtp_threads.specs.Works.{VisitsView, share_of}
-use Rattle.lmtp_house.specs.House.{HandedIn, HandedBack, HasRun}
+use Rattle.lmtp_house.specs.Handed.{HandedIn, HandedBack}
+use Rattle.lmtp_house.specs.House.{HasRun}
 use Rattle.thread_crew.specs.Channels.{Shape, AreNewChannels}
 use Rattle.lmtp_threads.specs.Tasks.{LaneTask, lane_tasks, BoxTask, box_tasks}
 

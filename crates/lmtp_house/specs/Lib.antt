@@ -1,2 +1,4 @@
+pub mod Handed
+pub mod RunOfModel
 pub mod House
 pub mod HousePlan

@@ -9,6 +9,7 @@ use Rattle.mail_world.specs.Records.{Calendar, record_of, mended}
 use Rattle.mail_world.specs.Quotas.{fits, are_kept_behind, are_kept, kept, marked, outcomes_settled}
 use Rattle.mbox_rd.specs.Spool.{SpoolState}
 use Rattle.box_worker.specs.Limits.{StartsAt}
+use Rattle.lmtp_house.proofs.Courses.{unlimited}
 use Rattle.lmtpd_rehearse.specs.Account.{IsSettled}
 use Rattle.lmtpd_rehearse.specs.Copies.{kept_later}
 
@@ -67,16 +68,11 @@ module _ (calendar : Calendar) (host : List ℕ) where
   pub kept_parts : (quota : Option ℕ) (n : ℕ) (notes : List Note) → kept calendar host quota [] notes ≡ kept calendar host quota [] (take n notes) ++ kept_later calendar host quota n notes
   kept_parts quota n notes = marked_parts n (are_kept calendar host quota [] notes) notes ∙ ap (λ l. l ++ kept_later calendar host quota n notes) (sym (kept_front quota n notes))
 
-  -- without a quota it makes no difference how many bytes stand before
-  unlimited : (a b : ℕ) (notes : List Note) → are_kept_behind calendar host None a notes ≡ are_kept_behind calendar host None b notes
-  unlimited a b [] = refl
-  unlimited a b (x ∷ notes) = let size = length (record_of calendar host x) in ap (λ l. true ∷ l) (unlimited (a + size) (b + size) notes)
-
   -- a worker whose spool is empty marks them so
   pub same_marks : (quota : Option ℕ) (spool : SpoolState) (start : ℕ) (notes : List Note) → spool.bytes ≡ Some [] → IfSome quota (λ q. StartsAt spool start)
       → are_kept_behind calendar host quota start notes ≡ are_kept calendar host quota [] notes
   unfolding are_kept
-  same_marks None spool start notes empty starts = unlimited start 0 notes
+  same_marks None spool start notes empty starts = unlimited calendar host start 0 notes
   same_marks (Some quota) spool start notes empty starts =
       let P : Option (List ℕ) → Type 0 = λ bytes. IfSome bytes (λ held. start ≡ length (held ++ mended held)) in
       let nothing : start ≡ 0 = subst P empty starts.known in

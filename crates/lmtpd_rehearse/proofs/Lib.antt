@@ -1,6 +1,5 @@
 pub mod Listed
 pub mod Keeping
-pub mod Rising
 pub mod Naming
 pub mod Telling
 pub mod Boxes

@@ -9,7 +9,7 @@ use Rattle.mail_world.specs.declared.Outcome.TheVariants.{Failed}
 use Rattle.mail_world.specs.declared.Slip.{Slip}
 use Rattle.mail_world.specs.declared.Txn.{Txn}
 use Rattle.mail_world.specs.Slips.{names, of_worker, slip_of, slips_from}
-use Rattle.lmtpd_rehearse.proofs.Rising.{IsFrom, from_then, CopiesRise}
+use Rattle.mail_runs.proofs.Rising.{IsFrom, from_then, CopiesRise}
 
 -- lists of which all elements are such
 pub all_front : {A : Type 0} (P : A → Type 0) (xs ys : List A) → AllByRecursion P (xs ++ ys) → AllByRecursion P xs

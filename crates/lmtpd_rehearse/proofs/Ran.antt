@@ -29,7 +29,10 @@ use Rattle.lmtp_talk.specs.declared.ending.EndCause.{EndCause}
 use Rattle.lmtp_talk.specs.declared.ending.EndCause.TheVariants.{WriteFault}
 use Rattle.lmtp_threads.specs.declared.tally.Tally.{Tally}
 use Rattle.lmtp_threads.specs.Works.{share_of, setting_of, IsBoxWork, LaneWork, BoxWork}
-use Rattle.lmtp_house.specs.House.{HandedBack, HasRun}
+use Rattle.lmtp_house.specs.Handed.{HandedIn, HandedBack}
+use Rattle.lmtp_house.specs.House.{HasRun}
+use Rattle.lmtp_house.specs.RunOfModel.{IsToldAlone, IsCourseOf, AreModelled, threads_of, IsRunOfModel}
+use Rattle.lmtp_house.proofs.OneLane.{all_of_lane}
 use Rattle.lmtp_talk.specs.Peer.{PeerState}
 use Rattle.lmtp_talk.specs.Served.{terms, IsWritten, has_quit, transactions_in}
 use Rattle.mail_world.specs.declared.limits.TheConstants.{READ_LIMIT}
@@ -40,9 +43,12 @@ use Rattle.lmtpd_rehearse.specs.Account.{IsSettled, IsAllSettled}
 use Rattle.lmtpd_rehearse.specs.Copies.{HoldsCopies, kept_later}
 use Rattle.lmtpd_rehearse.specs.Client.{MayGive, told as told_by, is_over, IsOnlyOver}
 use Rattle.lmtpd_rehearse.specs.Mailboxes.{MailboxContent, kept_all, kept_at, bytes_of_all, empty_spool, mailbox_room, texts_of_mailboxes, IsCalm}
-use Rattle.lmtpd_rehearse.specs.Rehearsal.{AreMailboxes, copies_due, told_of_box, RehearsalEndsFor, HeldState, IsHeld, IsListed, IsRehearsed, Streams}
+use Rattle.lmtpd_rehearse.specs.Rehearsal.{AreMailboxes, copies_due, told_of_box, IsRunOfRehearsal, RehearsalEndsFor, HeldState, IsHeld, IsListed, IsRehearsed, Streams}
 use Rattle.lmtpd_rehearse.proofs.Boxes.{state_of, get_some, get_same, kept_is, length-kept, bytes_are, none_failed, all_calm, is_full, spool_has, holds_settled}
-use Rattle.lmtpd_rehearse.proofs.Rising.{NumbersRise, numbers_rise}
+use Rattle.mail_world.specs.Runs.{events_of, offers_by}
+use Rattle.mail_runs.specs.Histories.{Threads}
+use Rattle.mail_runs.specs.RunOf.{IsRunOf}
+use Rattle.mail_runs.proofs.Rising.{NumbersRise, numbers_rise}
 use Rattle.mbox_rd.proofs.Taken.{Appends-then}
 use Rattle.lmtpd_rehearse.proofs.Keeping.{all_settled, marked_none, same_marks}
 use Rattle.lmtpd_rehearse.proofs.Telling.{IsFrontOfOwed, AreSized, told_as_said, all_told_settled}
@@ -82,13 +88,6 @@ one_alone (x ∷ y ∷ xs) e = absurd (omega (arith, e))
 all_mapped : {A B : Type 0} (P : B → Type 0) (f : A → B) (xs : List A) → AllByRecursion (λ x. P (f x)) xs → AllByRecursion P (map f xs)
 all_mapped P f [] h = tt
 all_mapped P f (x ∷ xs) h = (h.0, all_mapped P f xs h.1)
-
-lane_zero : (n : ℕ) → n < 1 → (n == 0) ≡ true
-lane_zero n h = grind (arith, nat_tests, h)
-
-all_of_lane : (notes : List Note) → AllByRecursion (λ note. note.txn.lane < 1) notes → of_lane 0 notes ≡ notes
-all_of_lane [] h = refl
-all_of_lane (x ∷ notes) h = ap (λ b. cond b (x ∷ of_lane 0 notes) (of_lane 0 notes)) (lane_zero x.txn.lane h.0) ∙ ap (λ l. x ∷ l) (all_of_lane notes h.1)
 
 -- the only client's visit
 record OneVisit (visits : List Visit) (finished : Finished) : Type 0 where
@@ -185,9 +184,6 @@ module _ (site : Site) (quota : Option ℕ) (b : ℕ) (work : BoxWork) (spool : 
   tells : work.outcomes ≡ outcomes_settled (acc.stored + acc.over) (are_kept civil_at site.host quota [] work.taken)
   tells = acc.told ∙ ap (outcomes_settled (acc.stored + acc.over)) (same_marks civil_at site.host quota (state_of (empty_spool site)) acc.start work.taken refl acc.settled.starts)
 
-  tells_each : length work.outcomes ≡ length work.taken
-  tells_each = did.each
-
   tells_settled : tally.faulty ≡ false → AllByRecursion (IsSettled quota) work.outcomes
   tells_settled sound =
       let all : acc.stored + acc.over ≡ length work.taken = acc.settled.all sound in
@@ -228,6 +224,17 @@ holds_all host quota notes outcomes bytes h =
       held = h.held ∙ ap (λ l. held (take h.settled notes) ++ l) whole ∙ append-nil (held (take h.settled notes)) ∙ ap held taken;
     }
 
+-- what was told of a mailbox's copies is what its worker said
+said_of_box : (site : Site) (quota : Option ℕ) (c : Conversation) (work : AllWork) (spools : List MemorySpool) (tallies : List Tally)
+    → HaveWorked site quota (transactions_in site 0 c) work spools tallies
+    → (b : ℕ) → b < work.count → told_all b (transactions_in site 0 c) ≡ (work.boxes b).outcomes
+said_of_box site quota c work spools tallies h b low =
+    let ts : List Transaction = transactions_in site 0 c in
+    let told : ℕ → List Outcome = λ k. (work.boxes k).outcomes in
+    let some : 0 < 1 = omega arith in
+    let sized : AreSized told ts work.count = λ k below. let at = h.each k below in at.did.each ∙ ap length (h.taken k below) in
+    told_as_said work.heard told work.count 1 ts some (rising site c) h.answered h.known h.begun sized b low
+
 delivered : (site : Site) (quota : Option ℕ) (c : Conversation) (work : AllWork) (spools : List MemorySpool) (tallies : List Tally) (faulty : Bool)
     → c ≡ conversation c.bytes c.dispositions → IsAccount site c → HaveWorked site quota (transactions_in site 0 c) work spools tallies → work.count ≡ length site.boxes
     → faulty ≡ list_any (λ t. t.faulty) tallies
@@ -236,12 +243,10 @@ delivered site quota c work spools tallies faulty is accounted h size faulty_is 
     let ts : List Transaction = transactions_in site 0 c in
     let ks : List MailboxContent = kept_all spools tallies in
     let told : ℕ → List Outcome = λ k. (work.boxes k).outcomes in
-    let some : 0 < 1 = omega arith in
     let as_many : length tallies ≡ length spools = h.as_many.1 ∙ sym h.as_many.0 in
     let told_it : map (λ t. t.disposition) ts ≡ c.dispositions = account_told site 0 c accounted in
     let calm : faulty ≡ false → IsCalm ks = λ f. none_failed spools tallies as_many (sym faulty_is ∙ f) in
     let many : length ks ≡ work.count = length-kept spools tallies as_many ∙ h.as_many.0 in
-    let sized : AreSized told ts work.count = λ b low. let at = h.each b low in tells_each site quota b (work.boxes b) at.spool at.tally at.did ∙ ap length (h.taken b low) in
     let H : Conversation → ℕ → List ℕ → Bool → Type 0 = λ x box bytes failed. HoldsCopies civil_at site.host quota (due site 0 box (x ∷ [])) (outcomes_told site box (x ∷ [])) bytes failed in
     let each : (box : ℕ) → box < length site.boxes → H (conversation c.bytes c.dispositions) box (kept_at ks box).bytes (kept_at ks box).failed = λ box within.
     let low : box < work.count = omega (arith, size, within) in
@@ -253,7 +258,7 @@ delivered site quota c work spools tallies faulty is accounted h size faulty_is 
     let K : MailboxContent → Type 0 = λ k. H c box k.bytes k.failed in
     let C : Conversation → Type 0 = λ x. H x box (kept_at ks box).bytes (kept_at ks box).failed in
     let first : P (copies_owed 0 box ts) = subst P (h.taken box low) (holds site quota box (work.boxes box) at.spool at.tally at.did) in
-    let told_so : Q (told_all box ts) = subst Q (sym (told_as_said work.heard told work.count 1 ts some (rising site c) h.answered h.known h.begun sized box low)) first in
+    let told_so : Q (told_all box ts) = subst Q (sym (said_of_box site quota c work spools tallies h box low)) first in
     subst C is (subst K (sym at.is) (subst T (sym (told_is site box c)) (subst D (sym (due_is site box c)) told_so))) in
     let whole : faulty ≡ false → (box : ℕ) → box < length site.boxes
     → HoldsAll site.host quota (copies_due site c.bytes c.dispositions box) (told_of_box site c.bytes c.dispositions box) (kept_at ks box).bytes = λ f box within.
@@ -286,6 +291,9 @@ HasRunAlone site quota moment state peer count back =
     (record { visits = Waiting peer ∷ []; spools = replicate count (empty_spool site); quota = quota }) back
 
 module _ (site : Site) (quota : Option ℕ) (moment : ℕ) {P : Type 0} (state : P → PeerState) (peer : P) (count : ℕ) (back : HandedBack (OnlyClient P) MemorySpool) where
+  abbrev handed : HandedIn (OnlyClient P) MemorySpool
+  handed = record { visits = Waiting peer ∷ []; spools = replicate count (empty_spool site); quota = quota }
+
   -- the client has left
   pub only_over : HasRunAlone site quota moment state peer count back → IsOnlyOver back.visits
   only_over h =
@@ -325,6 +333,49 @@ module _ (site : Site) (quota : Option ℕ) (moment : ℕ) {P : Type 0} (state :
         as_many = (h.as_many_boxes.0 ∙ many, h.as_many_boxes.1 ∙ many);
       }
 
+  -- what lane and workers did is a run of the model
+  all_modelled : AreModelled state_of handed back
+  all_modelled = λ b before after tally e f g. inl (record { alone = refl; telling = refl })
+
+  run_of : (h : HasRunAlone site quota moment state peer count back) (c : Conversation) → conversations_of (h.lanes 0).visits ≡ c ∷ []
+      → HaveWorked site quota (transactions_in site 0 c) (all_work (h.lanes 0).heard h.boxes count) back.spools back.tallies
+      → c ≡ conversation c.bytes c.dispositions → count ≡ length site.boxes
+      → IsRunOfRehearsal site quota c.bytes c.dispositions (kept_all back.spools back.tallies)
+  run_of h c are worked is size =
+      let m : IsRunOfModel site state_of h.lanes h.boxes handed back = h.one_lane refl all_modelled in
+      let one : 0 < 1 = omega arith in
+      let many : length handed.spools ≡ length site.boxes = length-replicate count (empty_spool site) ∙ size in
+      let threads : Threads = threads_of site h.lanes m.courses in
+      let copies : ℕ → Conversation → List Note = λ b x. due site 0 b (x ∷ []) in
+      let R : ℕ → Type 0 = λ n.
+      (run : IsRunOf (record { calendar = civil_at; host = site.host; quota = quota; lanes = 1; boxes = n }) threads)
+      × ((b : ℕ) → b < n → offers_by 0 b (events_of run.run) ≡ copies b (conversation c.bytes c.dispositions)) in
+      let first : R (length handed.spools) =
+      (m.is, λ b low. m.offered 0 b one low ∙ ap (λ l. due site 0 b l) are ∙ ap (copies b) is) in
+      let run : R (length site.boxes) = subst R many first in
+      let alone : IsToldAlone (state_of (empty_spool site)) = record { alone = refl; telling = refl } in
+      record {
+        threads = threads;
+        is = run.0;
+        offered = run.1;
+        each = λ b within.
+            let low : b < count = omega (arith, within, size) in
+            let spool = get_some back.spools b (omega (arith, worked.as_many.0, low)) in
+            let tally = get_some back.tallies b (omega (arith, worked.as_many.1, low)) in
+            let kept : kept_at (kept_all back.spools back.tallies) b ≡ record { bytes = spool.0.bytes; failed = tally.0.faulty } =
+            kept_is back.spools back.tallies b spool.0 tally.0 spool.1 tally.1 in
+            let t : IsCourseOf (h.boxes b) (state_of (empty_spool site)) (state_of spool.0) tally.0 (m.courses b) =
+            m.are b (empty_spool site) spool.0 tally.0 (get_same count b (empty_spool site) low) spool.1 tally.1 in
+            let said = said_of_box site quota c (all_work (h.lanes 0).heard h.boxes count) back.spools back.tallies worked b low in
+            record {
+              old = t.old alone;
+              taken = t.taken ∙ worked.taken b low ∙ sym (due_is site b c) ∙ ap (copies b) is;
+              outcomes = t.outcomes ∙ sym said ∙ sym (told_is site b c) ∙ ap (λ x. outcomes_told site b (x ∷ [])) is;
+              spool = t.spool alone ∙ sym (ap (λ (k : MailboxContent). k.bytes) kept);
+              faulty = t.faulty ∙ sym (ap (λ (k : MailboxContent). k.failed) kept);
+            };
+      }
+
   pub held : (last : P) (end : EndCause) (faulty : Bool) → HasRunAlone site quota moment state peer count back → back.visits ≡ Over last end ∷ [] → ((p : P) → (state p).stops ≡ 0)
       → count ≡ length site.boxes → faulty ≡ list_any (λ t. t.faulty) back.tallies
       → IsHeld site quota moment (streams_of (state peer)) (streams_of (state last)) (record { spools = back.spools; faulty = faulty; end = end })
@@ -360,6 +411,7 @@ module _ (site : Site) (quota : Option ℕ) (moment : ℕ) {P : Type 0} (state :
         };
         mailboxes = kept_all back.spools back.tallies;
         delivered = delivered site quota c (all_work lane.heard h.boxes count) back.spools back.tallies faulty by.unstopped by.accounted worked size faulty_is;
+        run = run_of h c are worked by.unstopped size;
         holds = bytes_are back.spools back.tallies (worked.as_many.1 ∙ sym worked.as_many.0);
         said = by.said;
         output = by.output;
@@ -380,6 +432,7 @@ rehearsed site quota moment old between left after cut h w =
       accounted = h.accounted;
       mailboxes = h.mailboxes;
       delivered = h.delivered;
+      run = h.run;
       said = h.said;
       listed = w.listed;
       output = Appends-then old.written between.written after h.said w.listed h.output w.output;

@@ -18,7 +18,7 @@ use Rattle.mail_world.specs.Slips.{names, answer, of_worker, slip_of, slips_from
 use Rattle.mail_world.proofs.Deliveries.{copy_at}
 use Rattle.box_worker.specs.Told.{owed_to}
 use Rattle.lmtpd_rehearse.specs.Account.{IsSettled, IsSettledIf, IsAllSettled}
-use Rattle.lmtpd_rehearse.proofs.Rising.{NumbersRise, copies_rise}
+use Rattle.mail_runs.proofs.Rising.{NumbersRise, copies_rise}
 use Rattle.lmtpd_rehearse.proofs.Naming.{SayTheSame, all_agree, all_behind, all_filter, all_front, all_turned, left_after, next_of, slips_all, slips_all-append, slips_of_box}
 
 -- the first of a list that may lack it

@@ -12,6 +12,10 @@ use Rattle.mail_world.specs.Lists.{VerdictFits, transactions, due}
 use Rattle.mail_world.specs.Records.{mailbox}
 use Rattle.mail_world.specs.Quotas.{are_kept, kept, outcomes_settled}
 use Rattle.mail_world.specs.Deliveries.{outcomes_told}
+use Rattle.mail_world.specs.Runs.{events_of, offers_by}
+use Rattle.mail_runs.specs.Courses.{Server, Course}
+use Rattle.mail_runs.specs.Histories.{Threads}
+use Rattle.mail_runs.specs.RunOf.{IsRunOf}
 use Rattle.lmtp_text.specs.Calendar.{civil_at}
 use Rattle.lmtp_talk.specs.declared.ending.EndCause.{EndCause}
 use Rattle.lmtp_talk.specs.declared.ending.EndCause.TheVariants.{Quit, EndOfInput, WriteFault, Stopped, ReadBound}
@@ -56,6 +60,39 @@ pub record AreMailboxes (site : Site) (quota : Option ℕ) (read : List ℕ) (ac
   pub held : faulty ≡ false → (box : ℕ) → box < length site.boxes
       → (kept_at mailboxes box).bytes ≡ mailbox civil_at site.host [] (kept civil_at site.host quota [] (copies_due site read account box))
 
+-- A mailbox of the model came to what this one did: it was empty at first, took these copies, told this of each, holds
+-- these bytes, and failed where this one did.
+pub record IsCourseTo (copies : List Note) (told : List Outcome) (mailbox : MailboxContent)
+    (course : Course) : Type 0 where
+  pub old : course.old ≡ []
+  pub taken : course.taken ≡ copies
+  pub outcomes : course.outcomes ≡ told
+  pub spool : course.spool ≡ mailbox.bytes
+  pub faulty : course.faulty ≡ mailbox.failed
+
+-- the model's server: this site, its calendar and its host, this quota, one lane
+abbrev pub model_of : Site → Option ℕ → Server
+model_of site quota = record {
+  calendar = civil_at;
+  host = site.host;
+  quota = quota;
+  lanes = 1;
+  boxes = length site.boxes;
+}
+
+-- There is a run of the model of one lane and these mailboxes, from a start at which nothing has happened, in which the
+-- lane offers each mailbox just the copies that are due to it, and at whose end each mailbox has come to this. The run
+-- has a depot that is large enough, and channels with room.
+pub record IsRunOfRehearsal (site : Site) (quota : Option ℕ) (read : List ℕ) (account : List Disposition)
+    (mailboxes : List MailboxContent) : Type 0 where
+  pub threads : Threads
+  pub is : IsRunOf (model_of site quota) threads
+  pub offered : (box : ℕ) → box < length site.boxes
+      → offers_by 0 box (events_of is.run) ≡ copies_due site read account box
+  pub each : (box : ℕ) → box < length site.boxes
+      → IsCourseTo (copies_due site read account box) (told_of_box site read account box) (kept_at mailboxes box)
+      (threads.courses box)
+
 -- why the conversation ended
 pub record RehearsalEndsFor (site : Site) (read : List ℕ) (account : List Disposition) (left : Option (List ℕ))
     (end : EndCause) : Type 0 where
@@ -80,6 +117,7 @@ pub record IsRehearsed (site : Site) (quota : Option ℕ) (moment : ℕ) (old ne
   pub accounted : IsAccountAt site moment read account
   pub mailboxes : List MailboxContent
   pub delivered : AreMailboxes site quota read account mailboxes ending.faulty
+  pub run : IsRunOfRehearsal site quota read account mailboxes
   -- what was written of the replies, and then of the mailboxes
   pub said : List ℕ
   pub listed : List ℕ
@@ -102,6 +140,7 @@ pub record IsHeld (site : Site) (quota : Option ℕ) (moment : ℕ) (old new : S
   pub accounted : IsAccountAt site moment read account
   pub mailboxes : List MailboxContent
   pub delivered : AreMailboxes site quota read account mailboxes held.faulty
+  pub run : IsRunOfRehearsal site quota read account mailboxes
   pub holds : map (λ k. k.bytes) mailboxes ≡ bytes_of_all held.spools
   pub said : List ℕ
   pub output : Appends old.written new.written said

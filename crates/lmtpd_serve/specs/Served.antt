@@ -9,7 +9,8 @@ use Rattle.mail_world.specs.Text.{lf}
 use Rattle.mail_world.specs.Site.{Site}
 use Rattle.mbox_rd.specs.Spool.{SpoolState}
 use Rattle.lmtp_threads.specs.declared.tally.Tally.{Tally}
-use Rattle.lmtp_house.specs.House.{HandedBack, HasRun}
+use Rattle.lmtp_house.specs.Handed.{HandedBack}
+use Rattle.lmtp_house.specs.House.{HasRun}
 use Rattle.lmtp_lane.specs.TcpVisits.{conversations_ended, IsNewcomer, is_over}
 use Rattle.lmtp_talk.specs.Entries.{Entry}
 use Rattle.lmtpd_log.specs.Logged.{visits_in, log_in, told_of}

@@ -18,3 +18,5 @@ pub mod OneLane
 pub mod ByTime
 pub mod Timed
 pub mod Known
+pub mod Rising
+pub mod Recipients

@@ -1,6 +1,6 @@
 -- With one lane all copies can be given first. Then, for each slip that was heard, its worker takes the next copy of its
 -- mailbox and tells the slip, and the lane hears it.
-use Rattle.std.proofs.Common.{◌≡◌, ◌≢◌, ◌⊎◌, ℕ, ◌+◌, ◌<◌, ◌≤◌, ◌==◌, List, [], ◌∷◌, ◌++◌, length, map, Bool, true, false, cond, refl, ap, sym, ◌∙◌, subst, ⊎_elim, arith, length-append}
+use Rattle.std.proofs.Common.{◌≡◌, ◌≢◌, ℕ, ◌+◌, ◌<◌, ◌≤◌, ◌==◌, List, [], ◌∷◌, ◌++◌, length, map, Bool, true, false, cond, refl, ap, sym, ◌∙◌, subst, ⊎_elim, arith, length-append}
 use Rattle.std.specs.Prelude.{flat_map}
 use Rattle.std.specs.List.{AllByRecursion}
 use Rattle.std.proofs.lemmas.Bool.{eqb-true}
@@ -16,11 +16,9 @@ use Rattle.mail_runs.specs.Deeds.{Deed, Gave, Took, Told, Heard, turns_of, given
 use Rattle.mail_runs.specs.Courses.{Server, Spooled, TakesAll}
 use Rattle.mail_runs.specs.Histories.{Threads, RiseAbove, IsWithin, TakesGiven, HearsTold, IsHistory}
 use Rattle.mail_runs.specs.OneLane.{IsOfOneLane}
+use Rattle.mail_runs.proofs.ByTime.{same?, all_both}
 use Rattle.mail_runs.proofs.Parts.{passes, fails, same_number, other_number}
 use Rattle.mail_runs.proofs.Frames.{taken_by-append, told_to-append, heard_by-append, given_to-append}
-
-same? : (m n : ℕ) → (m ≡ n) ⊎ (m ≢ n)
-same? m n = grind arith
 
 -- what is left for each mailbox, without the next of mailbox w
 module _ {A : Type 0} where
@@ -233,10 +231,6 @@ all_turns s notes outcomes (slip ∷ slips) one l =
 abbrev pub NamesLane : ℕ → Note → Type 0
 NamesLane k note = note.txn.lane ≡ k
 
-both : {A : Type 0} (P : A → Type 0) (xs ys : List A) → AllByRecursion P xs → AllByRecursion P ys → AllByRecursion P (xs ++ ys)
-both P [] ys a b = b
-both P (x ∷ xs) ys a b = (a.0, both P xs ys a.1 b)
-
 from_lane : (k : ℕ) (t : Transaction) (place : ℕ) (boxes : List ℕ) → AllByRecursion (NamesLane k) (copies_from k t place boxes)
 from_lane k t place [] = tt
 from_lane k t place (box ∷ boxes) = (refl, from_lane k t (place + 1) boxes)
@@ -247,7 +241,7 @@ of_verdict k t _ = tt
 
 pub of_transactions : (k : ℕ) (ts : List Transaction) → AllByRecursion (NamesLane k) (flat_map (copies k) ts)
 of_transactions k [] = tt
-of_transactions k (t ∷ ts) = both (NamesLane k) (copies k t) (flat_map (copies k) ts) (of_verdict k t t.disposition.verdict) (of_transactions k ts)
+of_transactions k (t ∷ ts) = all_both (NamesLane k) (copies k t) (flat_map (copies k) ts) (of_verdict k t t.disposition.verdict) (of_transactions k ts)
 
 all_of_lane : (k : ℕ) (notes : List Note) → AllByRecursion (NamesLane k) notes → of_lane k notes ≡ notes
 all_of_lane k [] all = refl

@@ -1,7 +1,7 @@
 use Rattle.std.proofs.Common.{vec_items}
 use Rattle.std.specs.Arc.{arc_value}
 use Rattle.lmtp_threads.specs.Works.{VisitsView}
-use Rattle.lmtp_house.specs.House.{HandedIn}
+use Rattle.lmtp_house.specs.Handed.{HandedIn}
 use Rattle.lmtp_house.specs.HousePlan.{PlanState, HasRunAll}
 use Rattle.lmtp_house.proofs.HouseEnd.{if_ok}
 use Rattle.lmtp_house.proofs.house.run.run_at.Goals as goal

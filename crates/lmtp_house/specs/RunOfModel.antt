@@ -1,0 +1,74 @@
+-- What a server's threads did is a run of the model of `mail_world`: what holds of each run there, holds of this
+-- server.
+use Rattle.std.specs.Prelude.{◌≡◌, ◌⊎◌, ◌<◌, ℕ, false, length, slice_get, Option, Some, None, IsSome}
+use Rattle.std.specs.Option.{IfSome}
+use Rattle.mail_world.specs.Site.{Site}
+use Rattle.mail_world.specs.Lists.{transactions, due}
+use Rattle.mail_world.specs.Runs.{events_of, offers_by}
+use Rattle.mail_runs.specs.Courses.{Server, Course}
+use Rattle.mail_runs.specs.Histories.{Threads}
+use Rattle.mail_runs.specs.RunOf.{IsRunOf}
+use Rattle.lmtp_text.specs.Calendar.{civil_at}
+use Rattle.mbox_rd.specs.Spool.{SpoolState}
+use Rattle.lmtp_lane.specs.Visits.{conversations_of}
+use Rattle.lmtp_threads.specs.Works.{LaneWork, BoxWork}
+use Rattle.lmtp_threads.specs.declared.tally.Tally.{Tally}
+use Rattle.lmtp_house.specs.Handed.{HandedIn, HandedBack}
+
+-- no other program changes the spool, and it tells what it holds
+pub record IsToldAlone (spool : SpoolState) : Type 0 where
+  pub alone : spool.sharing.is_shared ≡ false
+  pub telling : IsSome spool.bytes
+
+-- The model has what the worker of this mailbox did, and what its spool holds: the spool is private and tells that. Of
+-- any other spool, as of a mailbox that a mail reader empties too, it has what the worker did where there is no quota
+-- and each turn was had, and nothing of what the spool holds.
+abbrev pub IsModelled : Option ℕ → SpoolState → Tally → Type 0
+IsModelled quota before tally = IsToldAlone before ⊎ ((quota ≡ None) × (tally.in_use ≡ 0))
+
+-- and so it is for each mailbox
+abbrev pub AreModelled : {V S : Type 0} → (S → SpoolState) → HandedIn V S → HandedBack V S → Type 0
+AreModelled {V} {S} state old new = (b : ℕ) (before after : S) (tally : Tally) → slice_get old.spools b ≡ Some before
+    → slice_get new.spools b ≡ Some after → slice_get new.tallies b ≡ Some tally
+    → IsModelled old.quota (state before) tally
+
+-- A mailbox of the model did what this server's did: it took the same copies in the same order, told the same of each,
+-- and failed where its spool did. Where the spool is private and tells what it holds, the model's held and holds the
+-- same bytes.
+pub record IsCourseOf (work : BoxWork) (before after : SpoolState) (tally : Tally) (course : Course) : Type 0 where
+  pub taken : course.taken ≡ work.taken
+  pub outcomes : course.outcomes ≡ work.outcomes
+  pub faulty : course.faulty ≡ tally.faulty
+  pub old : IsToldAlone before → IfSome before.bytes (λ held. course.old ≡ held)
+  pub spool : IsToldAlone before → IfSome after.bytes (λ held. course.spool ≡ held)
+
+-- the model's server: this site, its calendar and its host, this quota, as many lanes and mailboxes
+abbrev pub server_of : {V S : Type 0} → Site → HandedIn V S → Server
+server_of site old = record {
+  calendar = civil_at;
+  host = site.host;
+  quota = old.quota;
+  lanes = length old.visits;
+  boxes = length old.spools;
+}
+
+-- what its threads come to: each lane has the transactions of its conversations, and heard what this server's lane did
+abbrev pub threads_of : Site → (ℕ → LaneWork) → (ℕ → Course) → Threads
+threads_of site lanes courses = record {
+  transactions = λ k. transactions site 0 (conversations_of (lanes k).visits);
+  heard = λ k. (lanes k).heard;
+  courses = courses;
+}
+
+-- There is a run of the model, from a start at which nothing has happened, in which each lane offers each mailbox just
+-- the copies that its conversations owe, and at whose end each mailbox and each lane has what this server's has. The
+-- run has a depot that is large enough, and channels with room: of slots, blocks and waiting it says nothing.
+pub record IsRunOfModel {V S : Type 0} (site : Site) (state : S → SpoolState) (lanes : ℕ → LaneWork)
+    (boxes : ℕ → BoxWork) (old : HandedIn V S) (new : HandedBack V S) : Type 0 where
+  pub courses : ℕ → Course
+  pub are : (b : ℕ) (before after : S) (tally : Tally) → slice_get old.spools b ≡ Some before
+      → slice_get new.spools b ≡ Some after → slice_get new.tallies b ≡ Some tally
+      → IsCourseOf (boxes b) (state before) (state after) tally (courses b)
+  pub is : IsRunOf (server_of site old) (threads_of site lanes courses)
+  pub offered : (k b : ℕ) → k < length old.visits → b < length old.spools
+      → offers_by k b (events_of is.run) ≡ due site k b (conversations_of (lanes k).visits)
