@@ -12,11 +12,12 @@ use Rattle.mail_world.proofs.Heard.{all_more}
 use Rattle.mail_world.proofs.OneLine.{other_byte}
 use Rattle.mail_runs.specs.Deeds.{Deed, Gave, Heard, given_in, heard_in}
 use Rattle.mail_runs.specs.Timed.{TimedDeed, whats}
+use Rattle.mail_runs.specs.Known.{is_of_lanes}
 use Rattle.mail_post.specs.Channel.{Sender, Inbox, IsAccepted, IsTimed}
 use Rattle.mail_post.specs.Offered.{given, IsOffered}
 use Rattle.mail_post.specs.InTime.{Ends, clock_of, AreInTime}
 use Rattle.mail_post.proofs.InTime.{deed, none_done, gave_more, refused_more, took_more, took_none}
-use Rattle.lmtp_lane.specs.LaneExchange.{LaneEnds, thread_of, lane_sorts, is_of_lanes, is_ok, HasDone}
+use Rattle.lmtp_lane.specs.LaneExchange.{LaneEnds, thread_of, lane_sorts, is_ok, HasDone}
 
 -- a time that none of the lane's own is above
 abbrev pub lane_clock : LaneEnds → ℕ

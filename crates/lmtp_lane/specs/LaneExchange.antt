@@ -9,7 +9,8 @@ use Rattle.mail_world.specs.declared.Verdict.TheVariants.{Whole}
 use Rattle.mail_world.specs.Session.{Session}
 use Rattle.mail_world.specs.Lists.{Transaction, copies_from}
 use Rattle.mail_world.specs.Slips.{times_named, Gather, own_slip, txn_of, IsMerged}
-use Rattle.mail_runs.specs.Deeds.{Deed, Gave, Took, Told, Heard, given_in, heard_in}
+use Rattle.mail_runs.specs.Deeds.{given_in, heard_in}
+use Rattle.mail_runs.specs.Known.{is_heard, is_of_lanes}
 use Rattle.mail_runs.specs.Timed.{TimedDeed, whats, gives_to}
 use Rattle.mail_post.specs.Channel.{Sender, Inbox, taken}
 use Rattle.mail_post.specs.InTime.{Ends, Sorts, AreInTime}
@@ -27,16 +28,6 @@ pub record LaneEnds : Type 0 where
 -- the ends as those of a thread, and which of its deeds are of its senders and of its receiver
 abbrev pub thread_of : LaneEnds → Ends Note Slip
 thread_of ends = record { senders = ends.senders; inbox = ends.inbox }
-
-abbrev pub is_heard : Deed → Bool
-is_heard (Heard slip) = true
-is_heard _ = false
-
-abbrev pub is_of_lanes : Deed → Bool
-is_of_lanes (Gave note) = true
-is_of_lanes (Took note) = false
-is_of_lanes (Told slip) = false
-is_of_lanes (Heard slip) = true
 
 abbrev pub lane_sorts : Sorts
 lane_sorts = record { gives = gives_to; takes = is_heard }

@@ -10,19 +10,20 @@ use Rattle.mail_world.specs.Site.{Site}
 use Rattle.mail_world.specs.Conversation.{Conversation}
 use Rattle.mail_world.specs.Lists.{due, copies, transactions}
 use Rattle.mail_world.specs.Slips.{IsMerged}
-use Rattle.mail_runs.specs.Timed.{TimedDeed, RisesTo, times, those}
+use Rattle.mail_runs.specs.Timed.{TimedDeed}
+use Rattle.mail_post.specs.InTime.{AreInTime}
 use Rattle.mail_post.specs.Channel.{Channel, Sender, Inbox, taken}
 use Rattle.mail_post.proofs.Offered.{none_refused}
-use Rattle.lmtp_lane.specs.LaneExchange.{for_box, is_heard}
+use Rattle.lmtp_lane.specs.LaneExchange.{for_box, lane_sorts}
 use Rattle.mail_world.specs.declared.limits.TheConstants.{READ_LIMIT}
 use Rattle.lmtp_talk.specs.Served.{terms}
 use Rattle.lmtp_lane.specs.LaneRun.{HasServed}
 use Rattle.lmtp_lane.specs.Visits.{conversations_of}
 use Rattle.lmtp_threads.specs.Works.{VisitsView, LaneWork, lane_told}
 use Rattle.thread_crew.specs.Channels.{AreRows, none, HasGiven}
-use Rattle.lmtp_threads.specs.Tasks.{LaneTask, lane_task, lane_tasks, lane_before, LanesGiven, LanesBack, IsServedLane, HaveServed, TookSlips, LaneDid, given_at}
+use Rattle.lmtp_threads.specs.Tasks.{LaneTask, lane_task, lane_tasks, lane_before, LanesGiven, LanesBack, IsServedLane, HaveServed, TookSlips, LaneDid}
 use Rattle.thread_crew.proofs.Pairs.{AllZip-length, picks, picked}
-use Rattle.thread_crew.proofs.ChannelRows.{same_at, at_each, source, rows_given}
+use Rattle.thread_crew.proofs.ChannelRows.{same_at, at_map, at_each, source, rows_given}
 
 abbrev pub lanes_given : {V : Type 0} → List V → List (List (Sender Note)) → List (Inbox Slip) → LanesGiven V
 lanes_given visits rows inboxes = record { visits = visits; rows = rows; inboxes = inboxes }
@@ -81,11 +82,6 @@ module _ {V C : Type 0} where
 pub record LaneDone : Type 0 where
   pub work : LaneWork
   pub deeds : List TimedDeed
-
--- times that rise from a later one
-pub rises_from : (lo mid hi : ℕ) (ts : List ℕ) → lo ≤ mid → RisesTo mid hi ts → RisesTo lo hi ts
-rises_from lo mid hi [] le r = let within : mid ≤ hi = r in omega arith
-rises_from lo mid hi (t ∷ ts) le r = let first : mid < t = r.0 in (omega arith, r.1)
 
 -- nothing was merged in
 merged_none : (came heard : List Slip) → IsMerged came [] heard → came ≡ heard
@@ -155,8 +151,9 @@ module _ {V C R : Type 0} (May : C → ℕ → Type 0) (view : VisitsView V)
       inbox_is : slice_get given.inboxes k ≡ Some inbox
       report_is : slice_get reports k ≡ Some report
       served : IsServedLane site (May clock) (view.MayGive visit) k (works k) (lane_told view visit (rv report) (rc report))
-      given_out : HasGiven (λ b. given_at b (due site k b (conversations_of (works k).visits)) (deeds_of k)) row (rs report)
-      heard : TookSlips (works k).heard (times (those is_heard (deeds_of k))) inbox (rt report)
+      given_out : HasGiven (λ b. due site k b (conversations_of (works k).visits)) row (rs report)
+      heard : TookSlips (works k).heard inbox (rt report)
+      in_time : AreInTime lane_sorts (deeds_of k) (record { senders = row; inbox = inbox }) (record { senders = rs report; inbox = rt report })
       did : LaneDid (flat_map (copies k) (transactions site 0 (conversations_of (works k).visits))) (works k).heard (deeds_of k)
 
     lane_is : (k : ℕ) → k < length given.visits → LaneIs k
@@ -173,8 +170,9 @@ module _ {V C R : Type 0} (May : C → ℕ → Type 0) (view : VisitsView V)
         x.first ∙ (ap (λ l. x.accepted ++ l) (x.all (x.whole no)) ∙ append-nil x.accepted) in
         let Served : LaneTask V C → LaneWork → Type 0 = λ j w.
         IsServedLane j.site (May j.clock) (view.MayGive j.visits) j.lane w (lane_told view j.visits (rv p.right) (rc p.right)) in
-        let Given : LaneTask V C → LaneDone → Type 0 = λ j d. HasGiven (λ b. given_at b (due j.site j.lane b (conversations_of d.work.visits)) d.deeds) j.senders (rs p.right) in
-        let Heard : LaneTask V C → LaneDone → Type 0 = λ j d. TookSlips d.work.heard (times (those is_heard d.deeds)) j.slips (rt p.right) in
+        let Given : LaneTask V C → LaneDone → Type 0 = λ j d. HasGiven (λ b. due j.site j.lane b (conversations_of d.work.visits)) j.senders (rs p.right) in
+        let Heard : LaneTask V C → LaneDone → Type 0 = λ j d. TookSlips d.work.heard j.slips (rt p.right) in
+        let InTime : LaneTask V C → LaneDone → Type 0 = λ j d. AreInTime lane_sorts d.deeds (record { senders = j.senders; inbox = j.slips }) (record { senders = rs p.right; inbox = rt p.right }) in
         let Did : LaneTask V C → LaneDone → Type 0 = λ j d. LaneDid (flat_map (copies j.lane) (transactions j.site 0 (conversations_of d.work.visits))) d.work.heard d.deeds in
         let came : h.came ≡ h.heard = merged_none h.came h.heard (subst (λ l. IsMerged h.came l h.heard) none_own h.exchanged.merged) in
         let served : Served p.left (lane_done p.left p.right h).work = record {
@@ -191,20 +189,17 @@ module _ {V C R : Type 0} (May : C → ℕ → Type 0) (view : VisitsView V)
               let o = x.offered.each b before after e f in
               let sent : for_box b x.accepted ≡ due p.left.site p.left.lane b (conversations_of h.visits) =
               ap (for_box b) (sym notes_due) ∙ due_is p.left.site p.left.lane b (conversations_of h.visits) in
-              (o.channel, o.number, o.sent ∙ ap (λ l. before.sent ++ l) sent, x.done.in_time.gave b before after e f, none_refused (rs p.right) b after (x.whole no) f);
+              (o.channel, o.number, o.sent ∙ ap (λ l. before.sent ++ l) sent, none_refused (rs p.right) b after (x.whole no) f);
         } in
         let heard : Heard p.left (lane_done p.left p.right h) = record {
           channel = h.exchanged.channel;
           lanes = h.exchanged.lanes;
           took = h.exchanged.took ∙ ap (λ l. taken p.left.slips ++ l) came;
-          took_at = x.done.in_time.took;
         } in
         let did : Did p.left (lane_done p.left p.right h) = record {
-          gave = x.done.gave ∙ sym notes_due;
-          hears = x.done.heard ∙ came;
           only = x.done.only;
-          until = _;
-          rises = rises_from 0 _ _ (times x.done.deeds) (omega arith) x.done.in_time.rises;
+          gave = x.done.gave ∙ sym notes_due;
+          heard = x.done.heard ∙ came;
         } in record {
           visit = t.visit;
           row = t.row;
@@ -218,6 +213,7 @@ module _ {V C R : Type 0} (May : C → ℕ → Type 0) (view : VisitsView V)
           given_out = subst (λ j. Given j (dones k)) is (subst (λ d. Given p.left d) (sym p.picked) given_out);
           heard = subst (λ j. Heard j (dones k)) is (subst (λ d. Heard p.left d) (sym p.picked) heard);
           did = subst (λ j. Did j (dones k)) is (subst (λ d. Did p.left d) (sym p.picked) did);
+          in_time = subst (λ j. InTime j (dones k)) is (subst (λ d. InTime p.left d) (sym p.picked) x.done.in_time);
         }
 
     pub have_served : HaveServed site (May clock) view channels given (lanes_back reports)
@@ -237,18 +233,29 @@ module _ {V C R : Type 0} (May : C → ℕ → Type 0) (view : VisitsView V)
           subst (λ m. Served old new m) count_is (subst (λ y. Served old y (rc l.report)) new_is (subst (λ x. Served x (rv l.report) (rc l.report)) old_is l.served));
       deeds = deeds_of;
       did = λ k below. (lane_is k below).did;
-      rows_are = rows_given (length given.visits) channels (λ k b. given_at b (due site k b (conversations_of (works k).visits)) (deeds_of k)) given.rows (map rs reports) are (length-map reports rs ∙ reports_count)
+      in_time = λ k below.
+          let l = lane_is k below in
+          record {
+            old = record { senders = l.row; inbox = l.inbox };
+            new = record { senders = rs l.report; inbox = rt l.report };
+            row_was = l.row_is;
+            row_is = at_map rs reports k l.report l.report_is;
+            inbox_was = l.inbox_is;
+            inbox_is = at_map rt reports k l.report l.report_is;
+            are = l.in_time;
+          };
+      rows_are = rows_given (length given.visits) channels (λ k b. due site k b (conversations_of (works k).visits)) given.rows (map rs reports) are (length-map reports rs ∙ reports_count)
           (λ k row row' a b.
           let r = source rs reports k row' b in
           let l = lane_is k (omega (arith, are.count, slice_get_within given.rows k row a)) in
           let new_is : rs l.report ≡ row' = sym (r.gives ∙ ap rs (same_at reports k r.value l.report r.is l.report_is)) in
           let old_is : l.row ≡ row = same_at given.rows k l.row row l.row_is a in
-          let Given : List (Sender Note) → List (Sender Note) → Type 0 = λ x y. HasGiven (λ b. given_at b (due site k b (conversations_of (works k).visits)) (deeds_of k)) x y in
+          let Given : List (Sender Note) → List (Sender Note) → Type 0 = λ x y. HasGiven (λ b. due site k b (conversations_of (works k).visits)) x y in
           subst (λ y. Given row y) new_is (subst (λ x. Given x (rs l.report)) old_is l.given_out));
       heard = λ k old new a b.
           let r = source rt reports k new b in
           let l = lane_is k (omega (arith, inboxes_count, slice_get_within given.inboxes k old a)) in
           let new_is : rt l.report ≡ new = sym (r.gives ∙ ap rt (same_at reports k r.value l.report r.is l.report_is)) in
           let old_is : l.inbox ≡ old = same_at given.inboxes k l.inbox old l.inbox_is a in
-          subst (λ x. TookSlips (works k).heard (times (those is_heard (deeds_of k))) old x) new_is (subst (λ x. TookSlips (works k).heard (times (those is_heard (deeds_of k))) x (rt l.report)) old_is l.heard);
+          subst (λ x. TookSlips (works k).heard old x) new_is (subst (λ x. TookSlips (works k).heard x (rt l.report)) old_is l.heard);
     }

@@ -8,7 +8,9 @@ use Rattle.mail_world.specs.declared.limits.TheConstants.{READ_LIMIT}
 use Rattle.mail_world.specs.Site.{Site}
 use Rattle.mail_world.specs.Lists.{due, copies, transactions, VerdictsFit}
 use Rattle.mail_runs.specs.Deeds.{given_in, heard_in, turns_of}
-use Rattle.mail_runs.specs.Timed.{TimedDeed, RisesTo, whats, times, those, gives_to, tells_to}
+use Rattle.mail_runs.specs.Timed.{TimedDeed, whats}
+use Rattle.mail_runs.specs.Known.{is_of_lanes}
+use Rattle.mail_post.specs.InTime.{Ends, Sorts, AreInTime}
 use Rattle.mbox_rd.specs.Spool.{SpoolState}
 use Rattle.mail_post.specs.Channel.{Channel, Sender, Inbox, taken}
 use Rattle.mail_post.specs.Offered.{HaveNumber}
@@ -19,10 +21,10 @@ use Rattle.lmtp_talk.specs.Peer.{PeerState}
 use Rattle.lmtp_talk.specs.Served.{terms}
 use Rattle.mail_world.specs.Counts.{counted}
 use Rattle.lmtp_lane.specs.LaneAccount.{IsAnswered}
-use Rattle.lmtp_lane.specs.LaneExchange.{is_heard, is_of_lanes}
+use Rattle.lmtp_lane.specs.LaneExchange.{lane_sorts}
 use Rattle.lmtp_lane.specs.LaneRun.{LaneState}
 use Rattle.lmtp_lane.specs.Visits.{HasVisited, conversations_of}
-use Rattle.thread_crew.specs.Channels.{Accepted, AreRows, none}
+use Rattle.thread_crew.specs.Channels.{AreRows, none}
 use Rattle.lmtp_threads.specs.Works.{VisitsView, LaneWork, LaneTold, lane_told, WorkerShare, share_of, setting_of, BoxWork, IsBoxWork}
 
 -- what a lane is given
@@ -106,40 +108,34 @@ pub record IsServedLane (site : Site) (May : ℕ → Type 0) (MayCome : PeerStat
   pub moments : AllByRecursion (λ t. May t.disposition.moment) (transactions site 0 (conversations_of work.visits))
   pub answered : AllByRecursion (IsAnswered k work.heard) (transactions site 0 (conversations_of work.visits))
 
--- what a lane did, in its order and with times that rise: it gave these copies, and heard these slips
-pub record LaneDid (copies_given : List Note) (heard : List Slip) (deeds : List TimedDeed) : Type 0 where
-  pub gave : flat_map given_in (whats deeds) ≡ copies_given
-  pub hears : flat_map heard_in (whats deeds) ≡ heard
+-- what a lane did, in its order: it gave these copies, and heard these slips
+pub record LaneDid (notes : List Note) (slips : List Slip) (deeds : List TimedDeed) : Type 0 where
   pub only : AllByRecursion (λ deed. is_of_lanes deed ≡ true) (whats deeds)
-  pub until : ℕ
-  pub rises : RisesTo 0 until (times deeds)
+  pub gave : flat_map given_in (whats deeds) ≡ notes
+  pub heard : flat_map heard_in (whats deeds) ≡ slips
 
--- what a worker did: a turn for each copy, one after the other
-pub record WorkerDid (worker : ℕ) (work : BoxWork) (deeds : List TimedDeed) : Type 0 where
-  pub turns : whats deeds ≡ turns_of worker work.taken work.outcomes
-  pub until : ℕ
-  pub rises : RisesTo 0 until (times deeds)
+-- thread k did these deeds at its ends, its row of senders and its receiver, at times that rise
+pub record IsInTime {A B : Type 0} (sorts : Sorts) (k : ℕ) (rows rows' : List (List (Sender A)))
+    (inboxes inboxes' : List (Inbox B)) (deeds : List TimedDeed) : Type 0 where
+  pub old : Ends A B
+  pub new : Ends A B
+  pub row_was : slice_get rows k ≡ Some old.senders
+  pub row_is : slice_get rows' k ≡ Some new.senders
+  pub inbox_was : slice_get inboxes k ≡ Some old.inbox
+  pub inbox_is : slice_get inboxes' k ≡ Some new.inbox
+  pub are : AreInTime sorts deeds old new
 
--- what a lane gave to the mailbox, and a worker to the lane, with the times of these deeds
-abbrev pub given_at : ℕ → List Note → List TimedDeed → Accepted Note
-given_at b notes deeds = record { messages = notes; times = times (those (gives_to b) deeds) }
-
-abbrev pub told_at : ℕ → List Slip → List TimedDeed → Accepted Slip
-told_at k slips deeds = record { messages = slips; times = times (those (tells_to k) deeds) }
-
--- a receiver took these more, at these times
-pub record TookSlips (heard : List Slip) (at : List ℕ) (old new : Inbox Slip) : Type 0 where
+-- a receiver took these more
+pub record TookSlips (heard : List Slip) (old new : Inbox Slip) : Type 0 where
   pub channel : new.channel ≡ old.channel
   pub lanes : new.lanes ≡ old.lanes
   pub took : taken new ≡ taken old ++ heard
-  pub took_at : new.took_at ≡ old.took_at ++ at
 
--- a receiver took all of this up to its closing, since then at these times
-pub record TookAllNotes (all : List Note) (at : List ℕ) (old new : Inbox Note) : Type 0 where
+-- a receiver took all of this up to its closing
+pub record TookAllNotes (all : List Note) (old new : Inbox Note) : Type 0 where
   pub channel : new.channel ≡ old.channel
   pub lanes : new.lanes ≡ old.lanes
   pub took : taken new ≡ all
-  pub took_at : new.took_at ≡ old.took_at ++ at
   pub closed : new.gone ≡ Some Closed
 
 -- what lanes are given: their clients, a row of senders for each, and their receivers
@@ -178,14 +174,15 @@ pub record HaveServed {V : Type 0} (site : Site) (May : ℕ → Type 0) (view : 
   pub served : (k count : ℕ) (before after : V) → slice_get old.visits k ≡ Some before
       → slice_get new.visits k ≡ Some after → slice_get new.conversations k ≡ Some count
       → IsServedLane site May (view.MayGive before) k (works k) (lane_told view before after count)
+  pub rows_are : AreRows (length old.visits) channels (λ k b. due site k b (conversations_of (works k).visits))
+      new.rows
+  pub heard : (k : ℕ) (before after : Inbox Slip) → slice_get old.inboxes k ≡ Some before
+      → slice_get new.inboxes k ≡ Some after → TookSlips (works k).heard before after
+  -- its deeds, and that their times rise and are those that its ends were told
   pub deeds : ℕ → List TimedDeed
   pub did : (k : ℕ) → k < length old.visits
       → LaneDid (flat_map (copies k) (transactions site 0 (conversations_of (works k).visits))) (works k).heard (deeds k)
-  pub rows_are : AreRows (length old.visits) channels
-      (λ k b. given_at b (due site k b (conversations_of (works k).visits)) (deeds k)) new.rows
-  pub heard : (k : ℕ) (before after : Inbox Slip) → slice_get old.inboxes k ≡ Some before
-      → slice_get new.inboxes k ≡ Some after
-      → TookSlips (works k).heard (times (those is_heard (deeds k))) before after
+  pub in_time : (k : ℕ) → k < length old.visits → IsInTime lane_sorts k old.rows new.rows old.inboxes new.inboxes (deeds k)
 
 -- All workers have ended, and none found a channel gone.
 pub record HaveWorked {S : Type 0} (site : Site) (state : S → SpoolState) (channels : List (Channel Slip))
@@ -196,13 +193,14 @@ pub record HaveWorked {S : Type 0} (site : Site) (state : S → SpoolState) (cha
   pub stored : (b : ℕ) (before after : S) (tally : Tally) → slice_get old.spools b ≡ Some before
       → slice_get new.spools b ≡ Some after → slice_get new.tallies b ≡ Some tally
       → IsBoxWork (setting_of (share_of site old.quota) b) (works b) (state before) (state after) tally
-  pub deeds : ℕ → List TimedDeed
-  pub did : (b : ℕ) → b < length old.spools → WorkerDid b (works b) (deeds b)
-  pub rows_are : AreRows (length old.spools) channels
-      (λ b k. told_at k (owed_to b (works b).outcomes k (works b).taken) (deeds b)) new.rows
+  pub rows_are : AreRows (length old.spools) channels (λ b k. owed_to b (works b).outcomes k (works b).taken) new.rows
   pub took : (b : ℕ) (before after : Inbox Note) → slice_get old.inboxes b ≡ Some before
-      → slice_get new.inboxes b ≡ Some after
-      → TookAllNotes (works b).taken (times (those is_taken (deeds b))) before after
+      → slice_get new.inboxes b ≡ Some after → TookAllNotes (works b).taken before after
+  -- its deeds, a turn for each copy, and that their times rise and are those that its ends were told
+  pub deeds : ℕ → List TimedDeed
+  pub did : (b : ℕ) → b < length old.spools → whats (deeds b) ≡ turns_of b (works b).taken (works b).outcomes
+  pub in_time : (b : ℕ) → b < length old.spools
+      → IsInTime worker_sorts b old.rows new.rows old.inboxes new.inboxes (deeds b)
 
 -- whatever these tasks were made of, all lanes have ended
 abbrev pub HaveServedAll : {V C : Type 0} → (C → ℕ → Type 0) → VisitsView V → List (LaneTask V C) → LanesBack V → Type 0

@@ -16,7 +16,7 @@ pub invariant_of-self : goal.invariant_of-self
 invariant_of-self g c =
     let self = c.args.self.now in
     record {
-      of_lane = still_numbered _ self.lane c.args.failed.worker (λ sender. c.args.post) true self.senders.items c.offer_to.new.senders.items self.of_lane c.in-Ok.ensures;
+      of_lane = still_numbered self.lane _ c.args.failed.worker (λ sender. c.args.post) true self.senders.items c.offer_to.new.senders.items self.of_lane c.in-Ok.ensures;
       room = self.room;
       handed_back = self.handed_back ∙ sym (refused_as_before _ c.args.failed.worker (λ sender. c.args.post) self.senders.items c.offer_to.new.senders.items c.in-Ok.ensures);
       tells = self.tells;
@@ -26,7 +26,7 @@ pub invariant_of-self-in-Err : goal.invariant_of-self-in-Err
 invariant_of-self-in-Err g c =
     let self = c.args.self.now in
     record {
-      of_lane = still_numbered _ self.lane c.args.failed.worker (λ sender. c.args.post) false self.senders.items c.offer_to.new.senders.items self.of_lane c.in-Err.ensures;
+      of_lane = still_numbered self.lane _ c.args.failed.worker (λ sender. c.args.post) false self.senders.items c.offer_to.new.senders.items self.of_lane c.in-Err.ensures;
       room = self.room;
       handed_back = sym (refused_now _ c.args.failed.worker (λ sender. c.args.post) self.senders.items c.offer_to.new.senders.items c.in-Err.ensures);
       tells = λ refused. refl;
