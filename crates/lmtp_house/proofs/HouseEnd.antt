@@ -14,7 +14,7 @@ use Rattle.lmtp_lane.specs.Visits.{conversations_of}
 use Rattle.lmtp_threads.specs.Works.{VisitsView}
 use Rattle.lmtp_house.specs.Handed.{HandedIn}
 use Rattle.lmtp_house.specs.House.{HasRun}
-use Rattle.thread_crew.specs.Channels.{Shape, channels_of, AreRows, AreClosed, MayClose, CanSettle, IsSettled}
+use Rattle.thread_crew.specs.Channels.{Shape, channels_of, AreRows, AreClosed, HaveTimes, MayClose, CanSettle, IsSettled}
 use Rattle.lmtp_threads.specs.Tasks.{BoxTask, LanesGiven, LanesBack, WorkersGiven, WorkersBack, HaveServed, HaveServedAll, HaveWorked, HaveWorkedAll}
 use Rattle.lmtp_house.specs.HousePlan.{PlanState, IsPlanned}
 use Rattle.lmtp_house.proofs.HousePlan.{may_close}
@@ -89,10 +89,10 @@ module _ {V S C : Type 0} (May : C → ℕ → Type 0) (view : VisitsView V) (st
           can_settle (length handed.spools) (length handed.visits) owed_slips p.slip_rows p.slips lanes.inboxes slips_closed p.slips_new lanes_ran.as_many.2
           (λ k x y e f. let t = lanes_ran.heard k x y e f in (t.channel, t.lanes)) slips_shut
 
-      pub run_is : AllZip (IsSettled (λ (n : Note). n.txn.lane)) boxes.inboxes mail_closed
+      pub run_is : HaveTimes lanes.rows mail_closed → HaveTimes boxes.rows slips_closed → AllZip (IsSettled (λ (n : Note). n.txn.lane)) boxes.inboxes mail_closed
           → AllZip (IsSettled (λ (s : Slip). s.worker)) lanes.inboxes slips_closed
           → HasRun site (May clock) view state handed
           (record { visits = lanes.visits; spools = boxes.spools; conversations = lanes.conversations; tallies = boxes.tallies })
-      run_is mail_settled slips_settled =
+      run_is mail_times slips_times mail_settled slips_settled =
           has_run site (May clock) view state lanes_given lanes boxes_given boxes mail_closed slips_closed p.mail_new p.slips_new lanes_ran boxes_ran
-          mail_shut slips_shut mail_settled slips_settled p.each_box p.some_boxes
+          mail_shut slips_shut mail_times slips_times mail_settled slips_settled p.each_box p.some_boxes

@@ -24,7 +24,8 @@ module _ {M : Type 0} where
       → (b : ℕ) (sender : Sender M) → slice_get row b ≡ Some sender → sender.number ≡ k
   row_lane n count rows inboxes new k row e b sender f =
       let l = at (channels_of inboxes) b (omega (arith, new.rows_are.widths k row e, slice_get_within row b sender f)) in
-      ap (λ (v : Sender M). v.number) (same_at row b sender (lane_at l.value k []) f (new.rows_are.cells k b row l.value e l.is))
+      let cell = new.rows_are.cells k b row l.value e l.is in
+      ap (λ (v : Sender M). v.number) (same_at row b sender (lane_at l.value k [] cell.0) f cell.1)
 
   pub may_close : (n count : ℕ) (shape : Shape) (rows : List (List (Sender M))) (inboxes : List (Inbox M)) (sent : ℕ → ℕ → List M) (rows_after : List (List (Sender M))) → AreNewChannels n count rows inboxes
       → shape ≡ record { lanes = n; count = count } → 0 < n → AreRows n (channels_of inboxes) sent rows_after → MayClose shape rows_after

@@ -19,13 +19,14 @@ use Rattle.lmtp_lane.specs.Visits.{conversations_of}
 use Rattle.lmtp_threads.specs.Works.{VisitsView}
 use Rattle.lmtp_house.specs.Handed.{HandedIn, HandedBack}
 use Rattle.lmtp_house.specs.House.{HasRun}
-use Rattle.thread_crew.specs.Channels.{channels_of, AreNewChannels, IsClosedWith, AreClosed, CanSettle, IsSettled}
+use Rattle.thread_crew.specs.Channels.{channels_of, AreNewChannels, IsClosedWith, AreClosed, HaveTimes, CanSettle, IsSettled}
 use Rattle.lmtp_threads.specs.Tasks.{LanesGiven, LanesBack, WorkersGiven, WorkersBack, HaveServed, HaveWorked}
 use Rattle.lmtp_house.proofs.AnsweredAll.{outcomes_are_answers}
 use Rattle.lmtp_house.proofs.HeardAll.{heard_all}
 use Rattle.lmtp_house.proofs.NamedOnce.{named_once}
 use Rattle.lmtp_house.proofs.RunOfModel.{HaveExchanged}
-use Rattle.lmtp_house.proofs.OneLane.{one_lane_runs}
+use Rattle.lmtp_house.proofs.ManyLanes.{HaveDeeds, all_lanes_run}
+use Rattle.lmtp_house.proofs.HouseTimes.{have_deeds}
 use Rattle.thread_crew.proofs.ChannelRows.{at, at_map, zip_at, at_zip}
 
 module _ {M : Type 0} (lane : M → ℕ) where
@@ -96,6 +97,7 @@ module _ {V S : Type 0} (site : Site) (May : ℕ → Type 0) (view : VisitsView 
     (boxes : HaveWorked site state (channels_of old_lanes.inboxes) old_boxes new_boxes)
     (mail_shut : AreClosed (length old_lanes.visits) (channels_of old_boxes.inboxes) (λ k b. due site k b (conversations_of (lanes.works k).visits)) mail_closed)
     (slips_shut : AreClosed (length old_boxes.spools) (channels_of old_lanes.inboxes) (λ b k. owed_to b (boxes.works b).outcomes k (boxes.works b).taken) slips_closed)
+    (mail_times : HaveTimes new_lanes.rows mail_closed) (slips_times : HaveTimes new_boxes.rows slips_closed)
     (mail_settled : AllZip (IsSettled (λ (n : Note). n.txn.lane)) new_boxes.inboxes mail_closed)
     (slips_settled : AllZip (IsSettled (λ (s : Slip). s.worker)) new_lanes.inboxes slips_closed)
     (each_box : length old_boxes.spools ≡ length site.boxes) (some_boxes : 0 < length old_boxes.spools) where
@@ -179,6 +181,11 @@ module _ {V S : Type 0} (site : Site) (May : ℕ → Type 0) (view : VisitsView 
     told_only = λ k below. (lane_known k below).only;
   }
 
+  deeds_told : HaveDeeds site (length old_lanes.visits) (length old_boxes.spools) lanes.works boxes.works
+  deeds_told =
+      have_deeds site May view state old_lanes new_lanes old_boxes new_boxes mail_closed slips_closed mail_new slips_new lanes boxes
+      mail_shut slips_shut mail_times slips_times mail_settled slips_settled
+
   pub has_run : HasRun site May view state handed_in handed_back
   has_run = record {
     lanes = lanes.works;
@@ -200,5 +207,5 @@ module _ {V S : Type 0} (site : Site) (May : ℕ → Type 0) (view : VisitsView 
     owed_only = exchanged.owed_only;
     told = exchanged.told;
     told_only = exchanged.told_only;
-    one_lane = λ one modelled. one_lane_runs site state lanes.works boxes.works handed_in handed_back exchanged modelled each_box some_boxes one;
+    is_run = λ modelled. all_lanes_run site state lanes.works boxes.works handed_in handed_back exchanged modelled each_box some_boxes deeds_told;
   }

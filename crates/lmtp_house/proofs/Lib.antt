@@ -9,4 +9,7 @@ pub mod Copying
 pub mod Turns
 pub mod Courses
 pub mod RunOfModel
-pub mod OneLane
+pub mod Bridge
+pub mod BridgeRows
+pub mod ManyLanes
+pub mod HouseTimes

@@ -8,18 +8,22 @@ use Rattle.mail_world.specs.declared.Note.{Note}
 use Rattle.mail_world.specs.declared.Slip.{Slip}
 use Rattle.mail_world.specs.Site.{Site}
 use Rattle.mbox_rd.specs.Spool.{SpoolState}
+use Rattle.mail_runs.specs.Deeds.{turns_of}
+use Rattle.mail_runs.specs.Timed.{TimedDeed, whats}
+use Rattle.mail_post.specs.InTime.{AreInTime}
 use Rattle.mail_post.specs.Channel.{Channel, Sender, Inbox, taken}
 use Rattle.box_worker.specs.Told.{worker_of, owed_to}
 use Rattle.box_worker.specs.Stored.{mailbox_of}
+use Rattle.box_worker.specs.TurnTimes.{worker_sorts}
 use Rattle.box_worker.specs.Worked.{idle, HasWorked}
 use Rattle.box_worker.proofs.Handling.{was_closed, none_came_back}
 use Rattle.mail_post.proofs.Offered.{none_refused}
 use Rattle.lmtp_threads.specs.declared.tally.Tally.{Tally}
 use Rattle.lmtp_threads.specs.Works.{WorkerShare, share_of, setting_of, BoxWork, IsBoxWork}
-use Rattle.thread_crew.specs.Channels.{AreRows, none, lane_at, HasGiven}
+use Rattle.thread_crew.specs.Channels.{AreRows, none, lane_at, HasLane, HasGiven}
 use Rattle.lmtp_threads.specs.Tasks.{BoxTask, box_task, box_tasks, WorkersGiven, WorkersBack, HaveWorked, TookAllNotes}
 use Rattle.thread_crew.proofs.Pairs.{AllZip-length, picks, picked}
-use Rattle.thread_crew.proofs.ChannelRows.{at, same_at, at_each, source, rows_given}
+use Rattle.thread_crew.proofs.ChannelRows.{at, at_map, same_at, at_each, source, rows_given}
 
 module _ {S : Type 0} where
   -- the task of worker k, and what it was made of
@@ -53,25 +57,30 @@ module _ {S : Type 0} where
   tasks_count share (inbox ∷ inboxes) (row ∷ rows) (spool ∷ spools) a b = ap suc (tasks_count share inboxes rows spools (omega arith) (omega arith))
 
 -- the number of the worker whose new senders these are
-pub numbered : (b : ℕ) (channel : Channel Slip) (row : List (Sender Slip)) → slice_get row 0 ≡ Some (lane_at channel b []) → worker_of row ≡ b
-numbered b channel [] e = let bad : ◌≡◌ {A = Option (Sender Slip)} None (Some (lane_at channel b [])) = e in absurd (cc)
-numbered b channel (x ∷ xs) e = let s : ◌≡◌ {A = Option (Sender Slip)} (Some x) (Some (lane_at channel b [])) = e in let t : x ≡ lane_at channel b [] = cc in ap (λ (v : Sender Slip). v.number) t
+pub numbered : (b : ℕ) (channel : Channel Slip) (row : List (Sender Slip)) → HasLane row 0 channel b [] → worker_of row ≡ b
+numbered b channel [] has =
+    let bad : ◌≡◌ {A = Option (Sender Slip)} None (Some (lane_at channel b [] has.0)) = has.1 in
+    absurd (cc)
+numbered b channel (x ∷ xs) has =
+    let s : ◌≡◌ {A = Option (Sender Slip)} (Some x) (Some (lane_at channel b [] has.0)) = has.1 in
+    let t : x ≡ lane_at channel b [] has.0 = cc in
+    ap (λ (v : Sender Slip). v.number) t
+
+-- what a worker did, and when
+pub record BoxDone : Type 0 where
+  pub work : BoxWork
+  pub deeds : List TimedDeed
 
 module _ {S R : Type 0} (state : S → SpoolState) (rr : R → Inbox Note) (rs : R → List (Sender Slip)) (rp : R → S) (rt : R → Tally) (rl : R → Bool) where
   abbrev pub BoxOk : BoxTask S → R → Type 0
   BoxOk j r = HasWorked (setting_of j.share (worker_of j.slips)) j.receiver (rr r) (idle j.slips (state j.spool))
       (record { slips = rs r; mailbox = mailbox_of (state (rp r)) (rt r).stored (rt r).over (rt r).faulty; in_use = (rt r).in_use; taken = (rt r).taken; lost = rl r })
 
-  abbrev box_work : (j : BoxTask S) (r : R) → BoxOk j r → BoxWork
-  box_work j r h =
-      let handled = h.handled in
-      record {
-        taken = taken (rr r);
-        outcomes = handled.outcomes;
-      }
+  abbrev box_done : (j : BoxTask S) (r : R) → BoxOk j r → BoxDone
+  box_done j r h = record { work = record { taken = taken (rr r); outcomes = h.handled.outcomes }; deeds = h.turns.deeds }
 
-  abbrev no_work : BoxWork
-  no_work = record { taken = []; outcomes = [] }
+  abbrev none_done : BoxDone
+  none_done = record { work = record { taken = []; outcomes = [] }; deeds = [] }
 
   -- what reports tell together
   abbrev pub workers_back : List R → WorkersBack S
@@ -91,8 +100,14 @@ module _ {S R : Type 0} (state : S → SpoolState) (rr : R → Inbox Note) (rs :
     abbrev tasks : List (BoxTask S)
     tasks = box_tasks share given.inboxes given.rows given.spools
 
+    abbrev dones : ℕ → BoxDone
+    dones = picks BoxOk box_done none_done tasks reports all
+
     abbrev works : ℕ → BoxWork
-    works = picks BoxOk box_work no_work tasks reports all
+    works k = (dones k).work
+
+    abbrev deeds_of : ℕ → List TimedDeed
+    deeds_of k = (dones k).deeds
 
     count : length tasks ≡ length given.spools
     count = tasks_count share given.inboxes given.rows given.spools inboxes_count are.count
@@ -113,10 +128,12 @@ module _ {S R : Type 0} (state : S → SpoolState) (rr : R → Inbox Note) (rs :
       stored : IsBoxWork (setting_of share k) (works k) (state spool) (state (rp report)) (rt report)
       given_out : HasGiven (λ j. owed_to k (works k).outcomes j (works k).taken) row (rs report)
       took : TookAllNotes (works k).taken inbox (rr report)
+      did : whats (deeds_of k) ≡ turns_of k (works k).taken (works k).outcomes
+      in_time : AreInTime worker_sorts (deeds_of k) (record { senders = row; inbox = inbox }) (record { senders = rs report; inbox = rr report })
 
     box_is : (k : ℕ) → k < length given.spools → BoxIs k
     box_is k below =
-        let p = picked BoxOk box_work no_work tasks reports all k (omega (arith, count, below)) in
+        let p = picked BoxOk box_done none_done tasks reports all k (omega (arith, count, below)) in
         let t = task_at share given.inboxes given.rows given.spools k p.left p.left_is in
         let h = p.holds in
         let no = at_each (λ r. rl r ≡ false) reports sound k p.right p.right_is in
@@ -125,8 +142,10 @@ module _ {S R : Type 0} (state : S → SpoolState) (rr : R → Inbox Note) (rs :
         let Stored : WorkerShare → ℕ → S → BoxWork → Type 0 = λ by b spool w. IsBoxWork (setting_of by b) w (state spool) (state (rp p.right)) (rt p.right) in
         let Given : ℕ → List (Sender Slip) → BoxWork → Type 0 = λ b row w. HasGiven (λ j. owed_to b w.outcomes j w.taken) row (rs p.right) in
         let Took : Inbox Note → BoxWork → Type 0 = λ inbox w. TookAllNotes w.taken inbox (rr p.right) in
+        let Did : ℕ → BoxDone → Type 0 = λ b d. whats d.deeds ≡ turns_of b d.work.taken d.work.outcomes in
+        let InTime : BoxTask S → BoxDone → Type 0 = λ j d. AreInTime worker_sorts d.deeds (record { senders = j.slips; inbox = j.receiver }) (record { senders = rs p.right; inbox = rr p.right }) in
         let handled = h.handled in
-        let stored : Stored p.left.share (worker_of p.left.slips) p.left.spool (box_work p.left p.right h) = record {
+        let stored : Stored p.left.share (worker_of p.left.slips) p.left.spool (box_done p.left p.right h).work = record {
           each = handled.each;
           taken_count = handled.taken_count;
           stored_count = handled.stored_count;
@@ -135,17 +154,20 @@ module _ {S R : Type 0} (state : S → SpoolState) (rr : R → Inbox Note) (rs :
           shared = handled.shared;
         } in
         let stored_at : Stored share (worker_of t.row) t.spool (works k) =
-        subst (λ (j : BoxTask S). Stored j.share (worker_of j.slips) j.spool (works k)) t.is (subst (λ w. Stored p.left.share (worker_of p.left.slips) p.left.spool w) (sym p.picked) stored) in
-        let given_out : Given (worker_of p.left.slips) p.left.slips (box_work p.left p.right h) = record {
+        subst (λ (j : BoxTask S). Stored j.share (worker_of j.slips) j.spool (works k)) t.is (subst (λ d. Stored p.left.share (worker_of p.left.slips) p.left.spool d.work) (sym p.picked) stored) in
+        let given_out : Given (worker_of p.left.slips) p.left.slips (box_done p.left p.right h).work = record {
           as_many = h.handled.told.as_many;
           each = λ j before after e f.
               let o = h.handled.told.each j before after e f in
               let kept : after.refused ≡ false = none_refused (rs p.right) j after (none_came_back _ _ _ _ _ h no) f in
               (o.sent.channel, o.sent.number, o.sent.sent ∙ ap (λ l. before.sent ++ l) (o.all kept), kept);
         } in
-        let took : Took p.left.receiver (box_work p.left p.right h) = record { channel = h.channel; lanes = h.lanes; took = refl; closed = was_closed _ _ _ _ _ h no } in
+        let took : Took p.left.receiver (box_done p.left p.right h).work = record { channel = h.channel; lanes = h.lanes; took = refl; closed = was_closed _ _ _ _ _ h no } in
         let given_at : Given (worker_of t.row) t.row (works k) =
-        subst (λ (j : BoxTask S). Given (worker_of j.slips) j.slips (works k)) t.is (subst (λ w. Given (worker_of p.left.slips) p.left.slips w) (sym p.picked) given_out) in record {
+        subst (λ (j : BoxTask S). Given (worker_of j.slips) j.slips (works k)) t.is (subst (λ d. Given (worker_of p.left.slips) p.left.slips d.work) (sym p.picked) given_out) in
+        let did_at : Did (worker_of t.row) (dones k) =
+        subst (λ (j : BoxTask S). Did (worker_of j.slips) (dones k)) t.is
+        (subst (λ d. Did (worker_of p.left.slips) d) (sym p.picked) (h.turns.all (none_came_back _ _ _ _ _ h no))) in record {
           inbox = t.inbox;
           row = t.row;
           spool = t.spool;
@@ -156,7 +178,9 @@ module _ {S R : Type 0} (state : S → SpoolState) (rr : R → Inbox Note) (rs :
           report_is = p.right_is;
           stored = subst (λ b. Stored share b t.spool (works k)) worker_is stored_at;
           given_out = subst (λ b. Given b t.row (works k)) worker_is given_at;
-          took = subst (λ (j : BoxTask S). Took j.receiver (works k)) t.is (subst (λ w. Took p.left.receiver w) (sym p.picked) took);
+          took = subst (λ (j : BoxTask S). Took j.receiver (works k)) t.is (subst (λ d. Took p.left.receiver d.work) (sym p.picked) took);
+          did = subst (λ b. Did b (dones k)) worker_is did_at;
+          in_time = subst (λ (j : BoxTask S). InTime j (dones k)) t.is (subst (λ d. InTime p.left d) (sym p.picked) h.turns.in_time);
         }
 
     pub have_worked : HaveWorked site state channels given (workers_back reports)
@@ -173,6 +197,19 @@ module _ {S R : Type 0} (state : S → SpoolState) (rr : R → Inbox Note) (rs :
           subst (λ x. IsBoxWork (setting_of share k) (works k) (state old) (state new) x) tally_is
           (subst (λ x. IsBoxWork (setting_of share k) (works k) (state old) (state x) (rt l.report)) new_is
           (subst (λ x. IsBoxWork (setting_of share k) (works k) (state x) (state (rp l.report)) (rt l.report)) old_is l.stored));
+      deeds = deeds_of;
+      did = λ k below. (box_is k below).did;
+      in_time = λ k below.
+          let l = box_is k below in
+          record {
+            old = record { senders = l.row; inbox = l.inbox };
+            new = record { senders = rs l.report; inbox = rr l.report };
+            row_was = l.row_is;
+            row_is = at_map rs reports k l.report l.report_is;
+            inbox_was = l.inbox_is;
+            inbox_is = at_map rr reports k l.report l.report_is;
+            are = l.in_time;
+          };
       rows_are = rows_given (length given.spools) channels (λ b k. owed_to b (works b).outcomes k (works b).taken) given.rows (map rs reports) are (length-map reports rs ∙ reports_count)
           (λ k row row' a b.
           let r = source rs reports k row' b in

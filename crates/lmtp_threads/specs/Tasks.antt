@@ -16,6 +16,7 @@ use Rattle.mail_post.specs.Channel.{Channel, Sender, Inbox, taken}
 use Rattle.mail_post.specs.Offered.{HaveNumber}
 use Rattle.mail_post.specs.declared.channel.Gone.TheVariants.{Closed}
 use Rattle.box_worker.specs.Told.{worker_of, owed_to}
+use Rattle.box_worker.specs.TurnTimes.{worker_sorts}
 use Rattle.lmtp_threads.specs.declared.tally.Tally.{Tally}
 use Rattle.lmtp_talk.specs.Peer.{PeerState}
 use Rattle.lmtp_talk.specs.Served.{terms}

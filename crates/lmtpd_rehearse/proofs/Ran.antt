@@ -32,7 +32,6 @@ use Rattle.lmtp_threads.specs.Works.{share_of, setting_of, IsBoxWork, LaneWork, 
 use Rattle.lmtp_house.specs.Handed.{HandedIn, HandedBack}
 use Rattle.lmtp_house.specs.House.{HasRun}
 use Rattle.lmtp_house.specs.RunOfModel.{IsToldAlone, IsCourseOf, AreModelled, threads_of, IsRunOfModel}
-use Rattle.lmtp_house.proofs.OneLane.{all_of_lane}
 use Rattle.lmtp_talk.specs.Peer.{PeerState}
 use Rattle.lmtp_talk.specs.Served.{terms, IsWritten, has_quit, transactions_in}
 use Rattle.mail_world.specs.declared.limits.TheConstants.{READ_LIMIT}
@@ -52,6 +51,15 @@ use Rattle.mail_runs.proofs.Rising.{NumbersRise, numbers_rise}
 use Rattle.mbox_rd.proofs.Taken.{Appends-then}
 use Rattle.lmtpd_rehearse.proofs.Keeping.{all_settled, marked_none, same_marks}
 use Rattle.lmtpd_rehearse.proofs.Telling.{IsFrontOfOwed, AreSized, told_as_said, all_told_settled}
+
+-- all that is of lanes below 1 is of lane 0
+lane_zero : (n : ℕ) → n < 1 → (n == 0) ≡ true
+lane_zero n h = grind (arith, nat_tests, h)
+
+all_of_lane : (notes : List Note) → AllByRecursion (λ note. note.txn.lane < 1) notes → of_lane 0 notes ≡ notes
+all_of_lane [] h = refl
+all_of_lane (x ∷ notes) h =
+    ap (λ b. cond b (x ∷ of_lane 0 notes) (of_lane 0 notes)) (lane_zero x.txn.lane h.0) ∙ ap (λ l. x ∷ l) (all_of_lane notes h.1)
 
 -- a peer that never says to stop
 never_rises : (n : ℕ) → n ≡ 0 → Rises 0 n → ⊥
@@ -342,7 +350,7 @@ module _ (site : Site) (quota : Option ℕ) (moment : ℕ) {P : Type 0} (state :
       → c ≡ conversation c.bytes c.dispositions → count ≡ length site.boxes
       → IsRunOfRehearsal site quota c.bytes c.dispositions (kept_all back.spools back.tallies)
   run_of h c are worked is size =
-      let m : IsRunOfModel site state_of h.lanes h.boxes handed back = h.one_lane refl all_modelled in
+      let m : IsRunOfModel site state_of h.lanes h.boxes handed back = h.is_run all_modelled in
       let one : 0 < 1 = omega arith in
       let many : length handed.spools ≡ length site.boxes = length-replicate count (empty_spool site) ∙ size in
       let threads : Threads = threads_of site h.lanes m.courses in

@@ -1,6 +1,9 @@
 //! An order of all that the threads of a server did is a run of the model.
 
 ghost use Rattle.mail_runs.specs.RunOf.{AHistoryGivesARun};
+ghost use Rattle.mail_runs.specs.OneLane.{OneLaneHasAHistory};
+ghost use Rattle.mail_runs.specs.Timed.{TimesGiveAHistory};
+ghost use Rattle.mail_runs.specs.Known.{KnownAreTimed};
 
 /// Where all that the lanes and workers did stands in one order, that of each thread and of each channel, there is a
 /// run of the model from a start with as many lanes and mailboxes, over a depot that is large enough, in whose last
@@ -8,9 +11,6 @@ ghost use Rattle.mail_runs.specs.RunOf.{AHistoryGivesARun};
 pub fn a_history_gives_a_run()
     ensures { AHistoryGivesARun }
 {}
-
-ghost use Rattle.mail_runs.specs.OneLane.{OneLaneHasAHistory};
-ghost use Rattle.mail_runs.specs.Timed.{TimesGiveAHistory};
 
 /// Where a server has one lane, whose copies are just those that its workers took, each in the lane's order, and where
 /// the lane heard just the workers' slips, each worker's in its order, there is one order of all that they did.
@@ -24,8 +24,6 @@ pub fn one_lane_has_a_history()
 pub fn times_give_a_history()
     ensures { TimesGiveAHistory }
 {}
-
-ghost use Rattle.mail_runs.specs.Known.{KnownAreTimed};
 
 /// Where times rise along each thread and each channel, and each channel's are those that its threads gave and took at,
 /// what the threads did and what passed the channels agrees by time.

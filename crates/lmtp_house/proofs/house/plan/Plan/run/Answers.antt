@@ -17,23 +17,23 @@ pub close-slips_closed-requires : goal.close-slips_closed-requires
 close-slips_closed-requires g c =
     let r = c.requires in
     let worked = worked_as g.S.Spool.state _ _ _ c.in_ok-ends.ensures.working (c.finish-done.ensures c.if-done.false) in
-    slips_may_close g.C.Clock.May _ g.S.Spool.state _ r.site r.clock r.handed r.planned _ c.in_ok-ends.ensures.served _ worked _ c.close-closed.ensures
+    slips_may_close g.C.Clock.May _ g.S.Spool.state _ r.site r.clock r.handed r.planned _ c.in_ok-ends.ensures.served _ worked _ c.close-closed.ensures.sent
 
 pub settle_all-requires : goal.settle_all-requires
 settle_all-requires g c =
     let r = c.requires in
     let worked = worked_as g.S.Spool.state _ _ _ c.in_ok-ends.ensures.working (c.finish-done.ensures c.if-done.false) in
-    mail_may_settle g.C.Clock.May _ g.S.Spool.state _ r.site r.clock r.handed r.planned _ c.in_ok-ends.ensures.served _ worked _ c.close-closed.ensures
+    mail_may_settle g.C.Clock.May _ g.S.Spool.state _ r.site r.clock r.handed r.planned _ c.in_ok-ends.ensures.served _ worked _ c.close-closed.ensures.sent
 
 pub settle_all-requires-2 : goal.settle_all-requires-2
 settle_all-requires-2 g c =
     let r = c.requires in
     let worked = worked_as g.S.Spool.state _ _ _ c.in_ok-ends.ensures.working (c.finish-done.ensures c.if-done.false) in
-    slips_may_settle g.C.Clock.May _ g.S.Spool.state _ r.site r.clock r.handed r.planned _ c.in_ok-ends.ensures.served _ worked _ c.close-closed.ensures
-    _ c.close-slips_closed.ensures
+    slips_may_settle g.C.Clock.May _ g.S.Spool.state _ r.site r.clock r.handed r.planned _ c.in_ok-ends.ensures.served _ worked _ c.close-closed.ensures.sent
+    _ c.close-slips_closed.ensures.sent
 
 pub returns-clause-ran : goal.returns-clause-ran
 returns-clause-ran g c site clock handed planned =
     let worked = worked_as g.S.Spool.state _ _ _ c.in_ok-ends.ensures.working (c.finish-done.ensures c.if-done.false) in
-    run_is g.C.Clock.May _ g.S.Spool.state _ site clock handed planned _ c.in_ok-ends.ensures.served _ worked _ c.close-closed.ensures
-    _ c.close-slips_closed.ensures c.settle_all.ensures c.settle_all-2.ensures
+    run_is g.C.Clock.May _ g.S.Spool.state _ site clock handed planned _ c.in_ok-ends.ensures.served _ worked _ c.close-closed.ensures.sent
+    _ c.close-slips_closed.ensures.sent c.close-closed.ensures.times c.close-slips_closed.ensures.times c.settle_all.ensures c.settle_all-2.ensures
