@@ -7,7 +7,7 @@ use Rattle.mail_post.specs.declared.rule.View.{View}
 use Rattle.mail_post.specs.declared.channel.Gone.{Gone}
 use Rattle.mail_post.specs.declared.channel.Gone.TheVariants.{Closed, Lost}
 use Rattle.mail_post.specs.Parcels.{messages, has_mark}
-use Rattle.mail_post.specs.Times.{AreTimed}
+use Rattle.mail_post.specs.Times.{HaveMoments}
 use Rattle.mail_post.specs.Views.{taker, IsTook}
 use Rattle.mail_post.specs.Rule.{IsFair}
 use Rattle.mail_post.specs.Channel.{IsInbox, Inbox, IsTimed, channel_of, view_of}
@@ -22,7 +22,7 @@ module _ {M : Type 0} (lane : M → ℕ) where
 
   -- what the outcome of a take says
   abbrev Takes : ℕ → View M → Parcel M → View M → Type 0
-  Takes after v x w = IsTook after v x w × IsFair lane w.lanes w.got × AreTimed w.got_at w.took_at
+  Takes after v x w = IsTook after v x w × IsFair lane w.lanes w.got × HaveMoments w.got_at w.took_at
 
   -- what the receiver's pass knows after x
   got_is : (after : ℕ) (v w : View M) (x : Parcel M) → IsTook after v x w → w.got ≡ v.got ++ x ∷ []
@@ -61,7 +61,7 @@ module _ {M : Type 0} (lane : M → ℕ) where
     later = step.0.3;
     got_more = c ∙ ap (λ (t : View M). t.got_at) step.0.4 ∙ ap (λ l. l ++ step.0.0 ∷ []) (sym a);
     took_more = d ∙ ap (λ (t : View M). t.took_at) step.0.4 ∙ ap (λ l. l ++ step.0.1 ∷ []) (sym b);
-    timed = subst (λ (y : List ℕ × List ℕ). AreTimed y.0 y.1) (λ i. (sym c i, sym d i)) step.2;
+    timed = subst (λ (y : List ℕ × List ℕ). HaveMoments y.0 y.1) (λ i. (sym c i, sym d i)) step.2;
   }
 
   -- a message that is taken is one of the lanes'

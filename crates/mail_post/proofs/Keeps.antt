@@ -9,7 +9,7 @@ use Rattle.atomic_table.proofs.Lists.{at_set}
 use Rattle.mail_post.specs.declared.rule.Parcel.{Parcel}
 use Rattle.mail_post.specs.declared.rule.Parcel.TheVariants.{Copy, Mark}
 use Rattle.mail_post.specs.declared.rule.View.{View}
-use Rattle.mail_post.specs.Times.{AreTimed, Times, KeepsTime}
+use Rattle.mail_post.specs.Times.{HaveMoments, Times, KeepsTime}
 use Rattle.mail_post.specs.Views.{sender, taker, knower, settled, IsPut, IsTook}
 use Rattle.mail_post.specs.Parcels.{of, lane_of, part, messages, all_of_lane}
 use Rattle.mail_post.specs.Rule.{Traffic, FitsKnown, Fits, Carries, IsFair, Agrees, HasPassed}
@@ -165,7 +165,7 @@ module _ {M : Type 0} (lane : M → ℕ) where
 
   -- what a taken parcel leaves
   abbrev Leaves : ℕ → List (Parcel M) → List (View M) → View M → Type 0
-  Leaves pass items views w = Carries lane items (set views pass w) × IsFair lane w.lanes w.got × AreTimed w.got_at w.took_at
+  Leaves pass items views w = Carries lane items (set views pass w) × IsFair lane w.lanes w.got × HaveMoments w.got_at w.took_at
 
   taken_as : (pass : ℕ) (v : View M) (x : Parcel M) (items : List (Parcel M)) (views : List (View M)) (h : Carries lane (x ∷ items) views) (accepted_at taken_at : List ℕ) (q : Times)
       → v.takes ≡ true → get_elem? views pass ≡ some v → accepted_at ≡ q.got_at → taken_at ≡ q.took_at
@@ -192,11 +192,11 @@ module _ {M : Type 0} (lane : M → ℕ) where
               (λ j u apart e. let f = h.fits j u e in (f.0, (λ p. absurd (apart ((f.1 p).0 ∙ sym mine.0))), f.2));
         },
         subst (λ (y : ℕ × List (Parcel M)). IsFair lane y.0 y.1) (λ i. (sym mine.1 i, sym mine.2 i ++ x ∷ [])) fair,
-        subst (λ (y : List ℕ × List ℕ). AreTimed y.0 y.1) (λ i. (sym got_is i, sym took_is i)) (timed_of lane (messages got) (messages items) h.traffic.sent_at q timed),
+        subst (λ (y : List ℕ × List ℕ). HaveMoments y.0 y.1) (λ i. (sym got_is i, sym took_is i)) (timed_of lane (messages got) (messages items) h.traffic.sent_at q timed),
       )
 
   -- the oldest parcel is taken, a message after any given time
-  pub takes : (after pass : ℕ) (v : View M) → v.takes ≡ true → Pops (Carries lane) pass v (λ x w. IsTook after v x w × IsFair lane w.lanes w.got × AreTimed w.got_at w.took_at)
+  pub takes : (after pass : ℕ) (v : View M) → v.takes ≡ true → Pops (Carries lane) pass v (λ x w. IsTook after v x w × IsFair lane w.lanes w.got × HaveMoments w.got_at w.took_at)
   takes after pass v may (Copy m) items views h at =
       let old = h.traffic in
       let mine = (h.fits pass v at).1 may in

@@ -2,7 +2,8 @@
 use Rattle.std.proofs.Common.{◌≡◌, ◌≢◌, ◌==◌, ◌+◌, ◌≤◌, ◌<◌, ◌⊎◌, ℕ, true, false, cond, List, [], ◌∷◌, ◌++◌, length, refl, sym, ap, ◌∙◌, subst, ⊎_elim, arith, append_assoc, append-nil, length-append}
 use Rattle.std.proofs.lemmas.Bool.{eq-eqb, ne_eqb, cond-true, cond-false}
 use Rattle.mail_runs.specs.Timed.{RisesTo}
-use Rattle.mail_post.specs.Times.{AreLater, AreTimed, Times, KeepsTime, times_of}
+use Rattle.mail_post.specs.Times.{HaveMoments, Times, KeepsTime}
+use Rattle.mail_runs.specs.Known.{AreLater, times_of}
 
 pub rises_snoc : (lo hi : ℕ) (xs : List ℕ) (y z : ℕ) → RisesTo lo hi xs → hi < y → y ≤ z → RisesTo lo z (xs ++ y ∷ [])
 rises_snoc lo hi [] y z r above le = ((omega arith), le)
@@ -33,7 +34,7 @@ later_snoc (x ∷ xs) (u ∷ us) s t h below = (h.0, later_snoc xs us s t h.1 be
 same? : (j k : ℕ) → (j ≡ k) ⊎ (j ≢ k)
 same? j k = grind arith
 
-pub timed_none : AreTimed [] []
+pub timed_none : HaveMoments [] []
 timed_none = record { until = 0; rises = omega arith; takes_rise = omega arith; later = tt }
 
 module _ {M : Type 0} (lane : M → ℕ) where
@@ -120,7 +121,7 @@ module _ {M : Type 0} (lane : M → ℕ) where
   take_time after got queue f times m h = take_of after got queue f times m h times.queue_at refl
 
   -- what was taken is in order of time
-  pub timed_of : (got queue : List M) (f : ℕ → List ℕ) (times : Times) → KeepsTime lane got queue f times → AreTimed times.got_at times.took_at
+  pub timed_of : (got queue : List M) (f : ℕ → List ℕ) (times : Times) → KeepsTime lane got queue f times → HaveMoments times.got_at times.took_at
   timed_of got queue f times h = record {
     until = times.latest;
     rises = rises_prefix 0 times.latest times.got_at times.queue_at h.rises;

@@ -12,7 +12,8 @@ use Rattle.mail_post.specs.declared.channel.Gone.{Gone}
 use Rattle.mail_post.specs.declared.channel.Gone.TheVariants.{Closed}
 use Rattle.mail_post.specs.Parcels.{of, messages, has_mark}
 use Rattle.mail_runs.specs.Timed.{RisesTo}
-use Rattle.mail_post.specs.Times.{AreLater, AreTimed, times_of}
+use Rattle.mail_post.specs.Times.{HaveMoments}
+use Rattle.mail_runs.specs.Known.{AreLater, times_of}
 use Rattle.mail_post.specs.Views.{taker}
 use Rattle.mail_post.specs.Rule.{IsFair}
 
@@ -114,7 +115,7 @@ module _ {M : Type 0} where
     pub later : accepted_at < taken_at
     pub got_more : new.got_at ≡ old.got_at ++ accepted_at ∷ []
     pub took_more : new.took_at ≡ old.took_at ++ taken_at ∷ []
-    pub timed : AreTimed new.got_at new.took_at
+    pub timed : HaveMoments new.got_at new.took_at
 
   -- no message more was taken
   abbrev pub HasSameTimes : Inbox M → Inbox M → Type 0
@@ -175,4 +176,4 @@ pub record IsInbox {M : Type 0} (lane : M → ℕ) (lanes marks : ℕ) (gone : O
   pub fair : IsFair lane lanes v.got
   pub counted : count_senders (λ k. has_mark k v.got) lanes ≡ marks
   pub all : gone ≡ Some Closed → marks ≡ lanes
-  pub timed : AreTimed v.got_at v.took_at
+  pub timed : HaveMoments v.got_at v.took_at

@@ -1,22 +1,16 @@
 -- Times, which exist in proofs alone: numbers that rise along a channel.
-use Rattle.std.specs.Prelude.{◌≡◌, ◌==◌, ℕ, ◌<◌, if◌then◌else◌, List, [], ◌∷◌, ◌++◌, length}
+use Rattle.std.specs.Prelude.{◌≡◌, ℕ, List, [], ◌∷◌, ◌++◌, length}
 use Rattle.mail_runs.specs.Timed.{RisesTo}
+use Rattle.mail_runs.specs.Known.{AreLater, times_of}
 
 -- the last of them, or else lo
 abbrev pub last_of : ℕ → List ℕ → ℕ
 last_of lo [] = lo
 last_of lo (x ∷ xs) = last_of x xs
 
--- as many of both, and each was taken later than it was accepted
-abbrev pub AreLater : List ℕ → List ℕ → Type 0
-AreLater [] [] = Unit {0}
-AreLater [] (t ∷ taken) = ⊥
-AreLater (s ∷ accepted) [] = ⊥
-AreLater (s ∷ accepted) (t ∷ taken) = (s < t) × AreLater accepted taken
-
 -- Messages that were accepted at the first times were taken at the second. Both rise, and each was taken later than it
 -- was accepted.
-pub record AreTimed (accepted taken : List ℕ) : Type 0 where
+pub record HaveMoments (accepted taken : List ℕ) : Type 0 where
   pub until : ℕ
   pub rises : RisesTo 0 until accepted
   pub takes_rise : RisesTo 0 until taken
@@ -31,13 +25,6 @@ pub record Times : Type 0 where
   pub queue_at : List ℕ
   -- no time is above it
   pub latest : ℕ
-
-module _ {M : Type 0} (lane : M → ℕ) where
-  -- the times of lane k's messages, where all have those times
-  abbrev pub times_of : ℕ → List M → List ℕ → List ℕ
-  times_of k [] ts = []
-  times_of k (m ∷ ms) [] = []
-  times_of k (m ∷ ms) (t ∷ ts) = if lane m == k then t ∷ times_of k ms ts else times_of k ms ts
 
 -- Each message that was taken or waits has its time. Of each lane they are those that the lane was told. Along the
 -- channel the times of acceptance rise, and so do those of taking; each message was taken later than it was accepted.

@@ -85,9 +85,9 @@ pub struct Takes<K> {
 impl<M: FromSender, K: Moment> Outcome<Parcel<M>, View<M>> for Takes<K> {
     ghost use Rattle.mail_post.specs.Views.{IsTook};
     ghost use Rattle.mail_post.specs.Rule.{IsFair};
-    ghost use Rattle.mail_post.specs.Times.{AreTimed};
+    ghost use Rattle.mail_post.specs.Times.{HaveMoments};
 
-    ghost then = { λ v x w. IsTook K.after v x w × IsFair M.sender w.lanes w.got × AreTimed w.got_at w.took_at };
+    ghost then = { λ v x w. IsTook K.after v x w × IsFair M.sender w.lanes w.got × HaveMoments w.got_at w.took_at };
 }
 
 impl<M: FromSender, K: Moment> Lesson<Parcel<M>, View<M>> for Takes<K> {

@@ -1,5 +1,5 @@
 -- What of a house stands after a deed that changes one mailbox, one lane, or none.
-use Rattle.std.proofs.Common.{◌≡◌, ◌≢◌, ◌⊎◌, ℕ, zero, suc, ◌<◌, List, [], ◌∷◌, length, Some, inl, inr, refl, ap, sym, ◌∙◌, subst, arith}
+use Rattle.std.proofs.Common.{◌≡◌, ◌≢◌, ℕ, ◌<◌, List, ◌∷◌, length, Some, ◌∙◌, arith}
 use Rattle.std.specs.Prelude.{slice_get, slice_set}
 use Rattle.mail_world.specs.House.{Lane, Box, House}
 use Rattle.mail_world.specs.Events.{LaneIs, BoxIs}

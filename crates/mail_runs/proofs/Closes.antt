@@ -1,6 +1,6 @@
 -- The house in which a history ends, once all channels are closed.
-use Rattle.std.proofs.Common.{◌≡◌, ◌≢◌, ℕ, zero, suc, ◌+◌, ◌-◌, ◌<◌, ◌≤◌, List, [], ◌∷◌, ◌++◌, length, drop, Bool, true, false, Option, Some, None, inl, inr, refl, ap, sym, ◌∙◌, subst, append-nil, arith, length-append, length-drop}
-use Rattle.std.specs.Prelude.{◌⊎◌, slice_get, slice_set}
+use Rattle.std.proofs.Common.{◌≡◌, ◌≢◌, ℕ, zero, suc, ◌+◌, ◌<◌, ◌≤◌, List, [], ◌∷◌, length, drop, true, Option, Some, None, inl, inr, refl, ap, sym, ◌∙◌, subst, append-nil, arith, length-drop}
+use Rattle.std.specs.Prelude.{◌⊎◌, slice_get}
 use Rattle.std.proofs.lemmas.Option.{slice_get_within}
 use Rattle.mail_world.specs.declared.Note.{Note}
 use Rattle.mail_world.specs.declared.Slip.{Slip}
@@ -9,18 +9,18 @@ use Rattle.mail_world.specs.declared.Event.TheVariants.{Close}
 use Rattle.mail_world.specs.Lists.{of_lane}
 use Rattle.mail_world.specs.House.{House, Lane, Box, Copy, Post, notes_of, with_box}
 use Rattle.mail_world.specs.Events.{LaneIs, BoxIs, CloseStep}
-use Rattle.mail_world.specs.Runs.{last_house, events_of, offers_by}
+use Rattle.mail_world.specs.Runs.{last_house}
 use Rattle.mail_world.proofs.LastSeal.{length_set}
 use Rattle.mail_world.proofs.OtherSteps.{there_is}
 use Rattle.mail_world.proofs.Once.{every_run_in_order}
-use Rattle.mail_runs.specs.Deeds.{Deed, Told, turns_of}
+use Rattle.mail_runs.specs.Deeds.{turns_of}
 use Rattle.mail_runs.specs.Courses.{Server, Spooled, Course, TakesAll}
 use Rattle.mail_runs.specs.Histories.{Threads}
 use Rattle.mail_runs.specs.RunOf.{EndsAs, HeardAs, IsRunOf}
 use Rattle.mail_runs.proofs.Parts.{each_set}
 use Rattle.mail_runs.proofs.Same.{Frame, frame_of, frame_run}
 use Rattle.mail_runs.proofs.Story.{Story, goes_on}
-use Rattle.mail_runs.proofs.Stands.{Begins, WorkLeft, BoxStands, LaneStands, IsIdle, IsGiving, Stands, spooled, in_the_end}
+use Rattle.mail_runs.proofs.Stands.{Begins, BoxStands, LaneStands, IsIdle, IsGiving, spooled, in_the_end}
 use Rattle.mail_runs.proofs.Next.{Next}
 
 -- a worker with nothing left to do has no copy in hand, and its spool is as it will be

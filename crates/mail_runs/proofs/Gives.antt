@@ -1,29 +1,21 @@
 -- A lane gives a copy: it seals the message first where this is its first copy.
-use Rattle.std.proofs.Common.{◌≡◌, ◌≢◌, ℕ, zero, suc, ◌+◌, ◌-◌, ◌<◌, ◌≤◌, ◌==◌, List, [], ◌∷◌, ◌++◌, length, take, drop, Bool, true, false, cond, Option, Some, None, inl, inr, refl, ap, sym, ◌∙◌, subst, append_assoc, arith, length-append}
-use Rattle.std.specs.Prelude.{⊤, ◌⊎◌, filter, flat_map, map, remove, slice_get, slice_set, sum_by}
-use Rattle.std.specs.List.{AllByRecursion}
-use Rattle.std.proofs.lemmas.Bool.{eq-eqb}
-use Rattle.std.proofs.lemmas.List.{map-append, drop-append-le, take-append-drop, length-take-le}
+use Rattle.std.proofs.Common.{◌≡◌, ℕ, ◌+◌, ◌-◌, ◌<◌, ◌≤◌, ◌==◌, List, [], ◌∷◌, ◌++◌, length, drop, Some, refl, ap, sym, ◌∙◌, append_assoc, arith, length-append}
+use Rattle.std.specs.Prelude.{flat_map, slice_get, slice_set, sum_by}
+use Rattle.std.proofs.lemmas.List.{map-append, drop-append-le}
 use Rattle.std.proofs.lemmas.List.Sums.{sum_by-cons}
 use Rattle.mail_world.specs.declared.Note.{Note}
 use Rattle.mail_world.specs.declared.Verdict.{Verdict}
 use Rattle.mail_world.specs.declared.Verdict.TheVariants.{Whole, TooLarge, NoRoom}
-use Rattle.mail_world.specs.declared.Event.TheVariants.{Begin, Put, Seal, Split, Offer}
-use Rattle.mail_world.specs.Slips.{gather_for, txn_of}
 use Rattle.mail_world.specs.Lists.{Transaction, copies, copies_if, copies_from}
-use Rattle.mail_world.specs.Depot.{Key, Held, Slot, Depot, Free, Draft, Sealed, Retired, blocks_for, held_at, held_under, with_held, occurrences}
-use Rattle.mail_world.specs.House.{House, Lane, Box, Hold, Post, SealedMessage, notes_of, with_lane, with_box, with_depot}
-use Rattle.mail_world.specs.Events.{LaneIs, BoxIs, BeginStep, PutStep, SealStep, sealed_up_to, without_copy}
-use Rattle.mail_world.proofs.Depots.{set_at, times-append}
-use Rattle.mail_world.proofs.Holds.{sum_set}
-use Rattle.mail_world.proofs.OtherSteps.{there_is}
-use Rattle.mail_runs.specs.Deeds.{Deed, Gave, given_in, given_by, given_to, turns_of}
+use Rattle.mail_world.specs.Depot.{Key, Held, Slot, Depot, Free, Draft, Sealed, Retired, blocks_for, held_at, held_under, with_held}
+use Rattle.mail_world.specs.House.{Box, Post, notes_of}
+use Rattle.mail_world.proofs.Depots.{set_at}
+use Rattle.mail_runs.specs.Deeds.{Deed, Gave, given_in, given_to}
 use Rattle.mail_runs.specs.Courses.{Server}
 use Rattle.mail_runs.specs.Histories.{Threads, RiseAbove}
-use Rattle.mail_runs.proofs.Parts.{passes, same_number, each_set, set_twice, same_first, same_rest, one_counts}
-use Rattle.mail_runs.proofs.Frames.{feeds_on, tells_on, box_past, lane_past, depot_past}
-use Rattle.mail_runs.proofs.Story.{Story, goes_on}
-use Rattle.mail_runs.proofs.Stands.{BoxStands, LaneStands, IsIdle, IsGiving, DepotStands, Stands, free_slot, one_if_free, slots_for, blocks_to_give}
+use Rattle.mail_runs.proofs.Parts.{passes, same_number, one_counts}
+use Rattle.mail_runs.proofs.Frames.{feeds_on}
+use Rattle.mail_runs.proofs.Stands.{BoxStands, DepotStands, free_slot, one_if_free, slots_for, blocks_to_give}
 
 rise_lower : (m n : ℕ) (ts : List Transaction) → m ≤ n → RiseAbove n ts → RiseAbove m ts
 rise_lower m n [] le rise = tt

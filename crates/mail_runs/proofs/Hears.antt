@@ -1,15 +1,14 @@
 -- A lane collects a slip.
-use Rattle.std.proofs.Common.{◌≡◌, ◌≢◌, ℕ, zero, suc, ◌+◌, ◌-◌, ◌<◌, ◌≤◌, ◌==◌, List, [], ◌∷◌, ◌++◌, length, drop, Option, Some, None, inl, inr, refl, ap, sym, ◌∙◌, subst, append_assoc, arith, length-append}
-use Rattle.std.specs.Prelude.{◌⊎◌, flat_map, slice_get, slice_set}
-use Rattle.std.specs.List.{AllByRecursion}
+use Rattle.std.proofs.Common.{◌≡◌, ℕ, suc, ◌+◌, ◌-◌, ◌<◌, ◌≤◌, ◌==◌, List, [], ◌∷◌, ◌++◌, length, drop, Some, refl, ap, sym, ◌∙◌, append_assoc, arith}
+use Rattle.std.specs.Prelude.{flat_map}
 use Rattle.mail_world.specs.declared.Slip.{Slip}
 use Rattle.mail_world.specs.declared.Event.TheVariants.{Collect}
-use Rattle.mail_world.specs.House.{House, Lane, Box, with_lane}
-use Rattle.mail_world.specs.Events.{LaneIs, BoxIs, CollectStep, with_heard}
+use Rattle.mail_world.specs.House.{House, Lane, with_lane}
+use Rattle.mail_world.specs.Events.{CollectStep, with_heard}
 use Rattle.mail_world.proofs.LastSeal.{length_set}
 use Rattle.mail_world.proofs.Holds.{drop_get}
 use Rattle.mail_world.proofs.OtherSteps.{there_is}
-use Rattle.mail_runs.specs.Deeds.{Deed, Heard, heard_in, given_by, told_to, heard_by, given_to, worked_by}
+use Rattle.mail_runs.specs.Deeds.{Deed, Heard, heard_in, told_to, heard_by}
 use Rattle.mail_runs.specs.Courses.{Server}
 use Rattle.mail_runs.specs.Histories.{Threads}
 use Rattle.mail_runs.proofs.Parts.{passes, same_number, same_first, same_rest}

@@ -1,6 +1,6 @@
 -- What is known of each thread and each channel gives times that agree.
 use Rattle.std.proofs.Common.{◌≡◌, ℕ, zero, suc, ◌+◌, ◌<◌, ◌≤◌, ◌==◌, if◌then◌else◌, List, [], ◌∷◌, ◌++◌, length, map, filter, Bool, true, false, refl, ap, sym, ◌∙◌, subst, ⊎_elim, arith}
-use Rattle.std.specs.Prelude.{◌⊎◌, flat_map}
+use Rattle.std.specs.Prelude.{flat_map}
 use Rattle.std.specs.List.{AllByRecursion}
 use Rattle.std.proofs.lemmas.Bool.{eqb-true}
 use Rattle.std.proofs.lemmas.List.{map-append, length-map}
@@ -232,14 +232,14 @@ lane_deeds : (s : Server) (k : ℕ) (ds : List Deed) → k < s.lanes → AllByRe
 lane_deeds s k [] low only notes slips = tt
 lane_deeds s k (Gave note ∷ ds) low only notes slips = (
   let lane : note.txn.lane ≡ k = notes.0.0 in
-  record { own = same_number note.txn.lane k lane; within = ((omega arith), notes.0.1); hears = refl },
+      record { own = same_number note.txn.lane k lane; within = ((omega arith), notes.0.1); hears = refl },
   lane_deeds s k ds low only.1 notes.1 slips,
 )
 lane_deeds s k (Took note ∷ ds) low only notes slips = absurd (cc only.0)
 lane_deeds s k (Told slip ∷ ds) low only notes slips = absurd (cc only.0)
 lane_deeds s k (Heard slip ∷ ds) low only notes slips = (
   let lane : slip.txn.lane ≡ k = slips.0.0 in
-  record { own = same_number slip.txn.lane k lane; within = ((omega arith), slips.0.1); hears = same_number slip.txn.lane k lane },
+      record { own = same_number slip.txn.lane k lane; within = ((omega arith), slips.0.1); hears = same_number slip.txn.lane k lane },
   lane_deeds s k ds low only.1 notes slips.1,
 )
 
@@ -254,7 +254,7 @@ worker_deeds s b [] outcomes low all = tt
 worker_deeds s b (note ∷ notes) [] low all = tt
 worker_deeds s b (note ∷ notes) (outcome ∷ outcomes) low all = (
   let box : note.mailbox ≡ b = all.0.1 in
-  record { own = same_number note.mailbox b box; within = (all.0.0, (omega arith)); takes = same_number note.mailbox b box },
+      record { own = same_number note.mailbox b box; within = (all.0.0, (omega arith)); takes = same_number note.mailbox b box },
   (record { own = same_number b b refl; within = (all.0.0, low); takes = refl }, worker_deeds s b notes outcomes low all.1),
 )
 

@@ -1,24 +1,22 @@
 -- A lane gives a copy that it has ready: it splits a hold off where more copies are left, and offers the copy.
-use Rattle.std.proofs.Common.{◌≡◌, ◌≢◌, ℕ, zero, suc, ◌+◌, ◌-◌, ◌<◌, ◌≤◌, ◌==◌, List, [], ◌∷◌, ◌++◌, length, drop, Option, Some, None, inl, inr, refl, ap, sym, ◌∙◌, subst, arith}
+use Rattle.std.proofs.Common.{◌≡◌, ℕ, ◌+◌, ◌-◌, ◌<◌, ◌==◌, List, [], ◌∷◌, ◌++◌, length, Some, inl, inr, refl, ap, sym, ◌∙◌, subst, arith}
 use Rattle.std.specs.Prelude.{◌⊎◌, flat_map, remove, slice_get, slice_set}
-use Rattle.std.specs.List.{AllByRecursion}
 use Rattle.mail_world.specs.declared.Note.{Note}
 use Rattle.mail_world.specs.declared.Event.TheVariants.{Split, Offer}
-use Rattle.mail_world.specs.Lists.{Transaction, copies, copies_from}
+use Rattle.mail_world.specs.Lists.{copies, copies_from}
 use Rattle.mail_world.specs.Depot.{Key}
 use Rattle.mail_world.specs.House.{House, Lane, Box, Hold, SealedMessage, with_lane, with_box}
-use Rattle.mail_world.specs.Events.{LaneIs, BoxIs, SplitStep, OfferStep, sealed_up_to, without_copy}
+use Rattle.mail_world.specs.Events.{BoxIs, SplitStep, OfferStep, sealed_up_to}
 use Rattle.mail_world.proofs.Depots.{set_at}
 use Rattle.mail_world.proofs.LastSeal.{length_set}
-use Rattle.mail_world.proofs.OtherSteps.{there_is}
-use Rattle.mail_runs.specs.Deeds.{Deed, Gave, given_in, given_by, told_to, heard_by}
+use Rattle.mail_runs.specs.Deeds.{Deed, Gave, given_in, given_by}
 use Rattle.mail_runs.specs.Courses.{Server}
-use Rattle.mail_runs.specs.Histories.{Threads, RiseAbove}
+use Rattle.mail_runs.specs.Histories.{Threads}
 use Rattle.mail_runs.proofs.Parts.{passes, same_number, set_twice, same_first, same_rest}
 use Rattle.mail_runs.proofs.Frames.{tells_on}
 use Rattle.mail_runs.proofs.Changes.{one_box, one_lane, box_there}
 use Rattle.mail_runs.proofs.Story.{Story, goes_on}
-use Rattle.mail_runs.proofs.Stands.{BoxStands, LaneStands, IsIdle, IsGiving, Stands}
+use Rattle.mail_runs.proofs.Stands.{LaneStands, IsIdle, IsGiving, Stands}
 use Rattle.mail_runs.proofs.Next.{Next}
 use Rattle.mail_runs.proofs.Gives.{given_here}
 use Rattle.mail_runs.proofs.Opens.{IsReady, opens}

@@ -1,5 +1,5 @@
 -- A lane seals its next message: it begins a draft, puts the bytes and seals it for all its copies.
-use Rattle.std.proofs.Common.{◌≡◌, ◌≢◌, ℕ, zero, suc, ◌+◌, ◌-◌, ◌<◌, ◌≤◌, ◌==◌, List, [], ◌∷◌, ◌++◌, length, take, drop, Option, Some, None, inl, inr, refl, ap, sym, ◌∙◌, subst, arith, length-append, length-drop}
+use Rattle.std.proofs.Common.{◌≡◌, ℕ, ◌+◌, ◌-◌, ◌<◌, ◌≤◌, ◌==◌, List, [], ◌∷◌, ◌++◌, length, take, drop, Some, None, inl, inr, refl, ap, sym, ◌∙◌, subst, arith, length-drop}
 use Rattle.std.specs.Prelude.{◌⊎◌, flat_map, slice_get, slice_set, sum_by}
 use Rattle.std.specs.List.{AllByRecursion}
 use Rattle.std.proofs.lemmas.List.{take-append-drop, length-take-le}
@@ -7,18 +7,17 @@ use Rattle.std.proofs.lemmas.List.Sums.{sum_by-cons}
 use Rattle.mail_world.specs.declared.Note.{Note}
 use Rattle.mail_world.specs.declared.Event.TheVariants.{Begin, Put, Seal}
 use Rattle.mail_world.specs.Slips.{gather_for, txn_of}
-use Rattle.mail_world.specs.Lists.{Transaction, copies, copies_from}
-use Rattle.mail_world.specs.Depot.{Key, Held, Slot, Depot, Free, Draft, Sealed, blocks_for, held_under, with_held, occurrences, Puts, Seals}
-use Rattle.mail_world.specs.House.{House, Lane, Box, Hold, SealedMessage, with_lane, with_depot}
+use Rattle.mail_world.specs.Lists.{Transaction}
+use Rattle.mail_world.specs.Depot.{Key, Slot, Depot, Free, Draft, Sealed, blocks_for, with_held, occurrences}
+use Rattle.mail_world.specs.House.{House, Lane, Box, with_lane, with_depot}
 use Rattle.mail_world.specs.Events.{LaneIs, BoxIs, BeginStep, PutStep, SealStep, sealed_up_to}
 use Rattle.mail_world.proofs.Depots.{set_at, times-append}
 use Rattle.mail_world.proofs.Holds.{sum_set}
 use Rattle.mail_world.proofs.LastSeal.{length_set}
-use Rattle.mail_world.proofs.OtherSteps.{there_is}
 use Rattle.mail_runs.specs.Deeds.{Deed, Gave, given_in, given_by}
 use Rattle.mail_runs.specs.Courses.{Server}
-use Rattle.mail_runs.specs.Histories.{Threads, RiseAbove, IsWithin}
-use Rattle.mail_runs.proofs.Parts.{passes, same_number, each_set, set_twice, same_first, same_rest}
+use Rattle.mail_runs.specs.Histories.{Threads, IsWithin}
+use Rattle.mail_runs.proofs.Parts.{passes, same_number, each_set, set_twice, same_first}
 use Rattle.mail_runs.proofs.Frames.{depot_past}
 use Rattle.mail_runs.proofs.Changes.{lane_there}
 use Rattle.mail_runs.proofs.Story.{Story, goes_on}

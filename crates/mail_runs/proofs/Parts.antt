@@ -1,6 +1,6 @@
 -- Parts of lists.
-use Rattle.std.proofs.Common.{◌≡◌, ◌≢◌, ℕ, zero, suc, ◌+◌, ◌≤◌, List, [], ◌∷◌, ◌++◌, length, drop, Bool, true, false, cond, ◌==◌, refl, ap, sym, ◌∙◌, arith}
-use Rattle.std.specs.Prelude.{filter, flat_map, map, sum_by, slice_get, slice_set, ◌⊎◌, Option, Some, ◌<◌}
+use Rattle.std.proofs.Common.{◌≡◌, ◌≢◌, ℕ, zero, suc, ◌≤◌, List, [], ◌∷◌, Bool, true, false, ◌==◌, refl, ap, sym, ◌∙◌, arith}
+use Rattle.std.specs.Prelude.{filter, sum_by, slice_get, slice_set, Some}
 use Rattle.std.proofs.Common.{inl, inr}
 use Rattle.mail_world.proofs.Accepted.{get_set}
 use Rattle.std.proofs.lemmas.Bool.{eq-eqb, eqb-true}

@@ -2,8 +2,8 @@
 use Rattle.std.proofs.Common.{List, [], ◌∷◌}
 use Rattle.mail_runs.specs.Deeds.{Deed, Gave, Took, Told, Heard}
 use Rattle.mail_runs.specs.Courses.{Server}
-use Rattle.mail_runs.specs.Histories.{Threads, IsHistory}
-use Rattle.mail_runs.specs.RunOf.{IsRunOf, AHistoryGivesARun}
+use Rattle.mail_runs.specs.Histories.{Threads}
+use Rattle.mail_runs.specs.RunOf.{AHistoryGivesARun}
 use Rattle.mail_runs.proofs.Next.{Next}
 use Rattle.mail_runs.proofs.Offers.{gives}
 use Rattle.mail_runs.proofs.Takes.{takes}

@@ -122,8 +122,7 @@ numbers_most site n session (MailData text d ∷ ps) =
     let p : Part = MailData text d in
     let next : Session = session_after site session (inputs_of p) in
     let last : ℕ = accepted_after site n session (p ∷ ps) in
-    let T : ℕ → Type 0 = λ k. AllByRecursion (λ t. t.number ≤ last) (transactions_of site k next ps) in
-    (
+    let T : ℕ → Type 0 = λ k. AllByRecursion (λ t. t.number ≤ last) (transactions_of site k next ps) in (
       accepted_grows site n session (p ∷ ps),
       subst T (same_behind_data site n session text d) (numbers_most site (accepted_behind site n session p) next ps),
     )

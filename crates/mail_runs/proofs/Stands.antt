@@ -1,6 +1,6 @@
 -- Where a house stands while the deeds are played: of each lane and of each mailbox, what is left of theirs.
-use Rattle.std.proofs.Common.{◌≡◌, ◌≢◌, ◌⊎◌, ℕ, zero, suc, ◌+◌, ◌-◌, ◌<◌, ◌≤◌, List, [], ◌∷◌, ◌++◌, length, drop, Bool, true, false, Option, Some, None, refl, ap, sym, ◌∙◌, subst, arith}
-use Rattle.std.specs.Prelude.{⊤, flat_map, slice_get, count_by, sum_by}
+use Rattle.std.proofs.Common.{◌≡◌, ◌⊎◌, ℕ, ◌+◌, ◌-◌, ◌<◌, ◌≤◌, List, [], ◌∷◌, ◌++◌, length, drop, true, false, Option, Some, None}
+use Rattle.std.specs.Prelude.{flat_map, slice_get, sum_by}
 use Rattle.std.specs.List.{AllByRecursion}
 use Rattle.mail_world.specs.declared.Note.{Note}
 use Rattle.mail_world.specs.declared.Slip.{Slip}
@@ -8,9 +8,9 @@ use Rattle.mail_world.specs.declared.Outcome.{Outcome}
 use Rattle.mail_world.specs.Slips.{slip_of}
 use Rattle.mail_world.specs.Lists.{Transaction, copies, copies_from}
 use Rattle.mail_world.specs.Depot.{Key, Depot, Slot, Held, Free, Draft, Sealed, Retired, blocks_for}
-use Rattle.mail_world.specs.House.{House, Lane, Box, Copy, Hold, notes_of}
+use Rattle.mail_world.specs.House.{House, Lane, Box, Copy, notes_of}
 use Rattle.mail_world.specs.Events.{LaneIs, BoxIs, outcome_of, sealed_up_to}
-use Rattle.mail_runs.specs.Deeds.{Deed, Gave, Took, Told, Heard, given_by, given_to, told_to, heard_by, worked_by, turns_of}
+use Rattle.mail_runs.specs.Deeds.{Deed, Gave, Told, given_by, given_to, told_to, heard_by, worked_by, turns_of}
 use Rattle.mail_runs.specs.Courses.{Server, Spooled, Course, TakesAll}
 use Rattle.mail_runs.specs.Histories.{Threads, RiseAbove, IsWithin, TakesGiven, HearsTold}
 

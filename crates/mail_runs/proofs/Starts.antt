@@ -1,20 +1,18 @@
 -- The house in which a history begins.
-use Rattle.std.proofs.Common.{◌≡◌, ℕ, zero, suc, ◌+◌, ◌<◌, ◌≤◌, ◌==◌, List, [], ◌∷◌, ◌++◌, length, Bool, true, false, cond, Some, None, inl, inr, refl, ap, sym, ◌∙◌, subst, append-nil, arith, length-append}
-use Rattle.std.specs.Prelude.{◌⊎◌, flat_map, sum_by, slice_get, replicate, nat_lt, if◌then◌else◌}
+use Rattle.std.proofs.Common.{◌≡◌, ℕ, zero, suc, ◌+◌, ◌<◌, ◌==◌, List, [], ◌∷◌, ◌++◌, length, Bool, true, false, cond, Some, None, inl, refl, ap, sym, ◌∙◌, subst, append-nil, arith}
+use Rattle.std.specs.Prelude.{flat_map, sum_by, slice_get, replicate, nat_lt, if◌then◌else◌}
 use Rattle.std.specs.List.{AllByRecursion}
 use Rattle.std.proofs.lemmas.Bool.Decides.{nat_tests}
 use Rattle.std.proofs.lemmas.List.Sums.{sum_by-cons}
 use Rattle.mail_world.specs.Slips.{txn_of}
-use Rattle.mail_world.specs.Depot.{Slot, Depot, Free, blocks_of, last_generation, occurrences, blocks_in_use, HasEachBlockOnce}
+use Rattle.mail_world.specs.Depot.{Slot, Depot, Free, blocks_of, occurrences, HasEachBlockOnce}
 use Rattle.mail_world.specs.House.{House, Lane, Box, IsFreshBox, IsFreshLane, IsFreshSlot, IsStart}
 use Rattle.mail_world.proofs.GivenAway.{count-cons}
 use Rattle.mail_world.proofs.Holds.{all_of}
-use Rattle.std.proofs.lemmas.Option.{slice_get_within}
-use Rattle.mail_runs.specs.Deeds.{Deed, given_to, told_to, heard_by}
+use Rattle.mail_runs.specs.Deeds.{Deed}
 use Rattle.mail_runs.specs.Courses.{Server, Course, IsCourse}
 use Rattle.mail_runs.specs.Histories.{Threads, IsHistory}
-use Rattle.mail_runs.proofs.Story.{Story}
-use Rattle.mail_runs.proofs.Stands.{BoxStands, LaneStands, DepotStands, Stands, free_slot, slots_for, blocks_to_give}
+use Rattle.mail_runs.proofs.Stands.{BoxStands, LaneStands, free_slot, slots_for, blocks_to_give}
 use Rattle.mail_runs.proofs.Next.{Next}
 
 -- a list with an element of each kind
