@@ -225,8 +225,8 @@ def a_thousand_addresses_are_logged(folder):
     """a letter for a thousand recipients, each of 254 bytes, has a line for each, with its own address"""
     names = [f"anna+{number:04}{'x' * 234}@mx.example" for number in range(1_000)]
     assert {len(name) for name in names} == {254}
-    given = ["--lanes", 1, "--log", "info", "--log-addresses", "--recipient-delimiter", "+"]
-    with Server(folder, ["anna"], 1, *given) as server:
+    log, given = folder / "log", ["--lanes", 1, "--log", "info", "--log-addresses", "--recipient-delimiter", "+"]
+    with log.open("wb") as errors, Server(folder, ["anna"], 1, *given, errors=errors) as server:
         with Client(server.address).greet() as client:
             client.send("MAIL FROM:<carl@a.example>", *(f"RCPT TO:<{name}>" for name in names), "RCPT TO:<ben@mx.example>")
             equal([client.hear()[:3] for _ in range(1_002)], ["250"] * 1_001 + ["550"])
@@ -234,7 +234,8 @@ def a_thousand_addresses_are_logged(folder):
             client.send("", ".")
             equal([client.hear() for _ in names], [stored("anna")] * 1_000)
             client.quit()
-        logged = server.end().errors
+        equal(server.end().status, 0)
+    logged = log.read_text().splitlines()
     equal(logged[0], "[INFO  lmtpd] command refused lane=0 verb=RCPT code=550 recipient=<ben@mx.example>")
     equal([line.split(" sender=")[1] for line in logged[1:-1]], [f"<carl@a.example> recipient=<{name}>" for name in names])
 
