@@ -28,7 +28,7 @@ CONNECT = (
 
 @case
 def five_questions(folder):
-    """the commands of the five questions of docs/operating/TROUBLE.md, typed as they stand, under systemd with Postfix"""
+    """the commands of docs/operating/TROUBLE.md that answer its five questions, typed as they stand, under systemd"""
     with machine(folder) as there:
         type_lines(there)
         it_arrived(there)

@@ -186,8 +186,8 @@ def naming_server(folder, *more):
 
 @case
 def addresses_are_logged_where_they_are_asked_for(folder):
-    """with --log-addresses a copy's line ends with its own sender and recipient, and that of a refused MAIL or RCPT with
-    the address that it named; no other line has one, and without the word none"""
+    """with --log-addresses a copy's line ends with its own sender and recipient, and that of a refused MAIL or RCPT
+    with the address that it named; no other line has one, and without the word none"""
     sent = "sender=<carl@a.example>"
     pairs = [f"{sent} recipient=<{name}>" for name in ["Anna+lists@MX.example", "ben@mx.example", "postmaster"]]
     pairs.append("sender=<> recipient=<ben+x@mx.example>")
@@ -228,7 +228,7 @@ def a_thousand_addresses_are_logged(folder):
     log, given = folder / "log", ["--lanes", 1, "--log", "info", "--log-addresses", "--recipient-delimiter", "+"]
     with log.open("wb") as errors, Server(folder, ["anna"], 1, *given, errors=errors) as server:
         with Client(server.address).greet() as client:
-            client.send("MAIL FROM:<carl@a.example>", *(f"RCPT TO:<{name}>" for name in names), "RCPT TO:<ben@mx.example>")
+            client.send("MAIL FROM:<carl@a.example>", *(f"RCPT TO:<{name}>" for name in [*names, "ben@mx.example"]))
             equal([client.hear()[:3] for _ in range(1_002)], ["250"] * 1_001 + ["550"])
             equal(client.ask("DATA"), GO_AHEAD)
             client.send("", ".")
@@ -237,7 +237,8 @@ def a_thousand_addresses_are_logged(folder):
         equal(server.end().status, 0)
     logged = log.read_text().splitlines()
     equal(logged[0], "[INFO  lmtpd] command refused lane=0 verb=RCPT code=550 recipient=<ben@mx.example>")
-    equal([line.split(" sender=")[1] for line in logged[1:-1]], [f"<carl@a.example> recipient=<{name}>" for name in names])
+    wanted = [f"<carl@a.example> recipient=<{name}>" for name in names]
+    equal([line.split(" sender=")[1] for line in logged[1:-1]], wanted)
 
 
 @case

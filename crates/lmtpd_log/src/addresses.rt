@@ -30,7 +30,8 @@ pub(crate) struct Addresses {
 impl Addresses {
     ghost use Rattle.std.specs.Prelude.{◌+◌, [], IfOk, length, get_or, nat_lt};
     ghost use Rattle.lmtpd_log.specs.Kept.{kept_texts, letter_of, KeepsPair, KeepsOne};
-    ghost use Rattle.lmtpd_log.specs.Letters.{address_in, address_text, after_copy, after_line, no_letter, with_recipient};
+    ghost use Rattle.lmtpd_log.specs.Letters.{address_in, address_text, after_copy, after_line};
+    ghost use Rattle.lmtpd_log.specs.Letters.{no_letter, with_recipient};
 
     /// Of no letter, and with none kept. No other call takes memory.
     pub(crate) fn new(alloc: Global) -> Result<Addresses, AllocError>

@@ -226,10 +226,16 @@ impl<G: Log + Drop, C: Clock + Drop> LineLog<G, C> {
         let client = str::from_utf8(self.client.as_slice()).unwrap_or("");
         match self.kept_pair(answered.addresses) {
             Some((sender, recipient)) => {
-                info!(self.log; target: "lmtpd", id:%, mailbox, outcome, code, bytes, seconds:%, client, sender:%, recipient:%; "copy answered");
+                info!(
+                    self.log; target: "lmtpd", id:%, mailbox, outcome, code, bytes, seconds:%, client, sender:%,
+                    recipient:%; "copy answered"
+                );
             }
             None => {
-                info!(self.log; target: "lmtpd", id:%, mailbox, outcome, code, bytes, seconds:%, client; "copy answered");
+                info!(
+                    self.log; target: "lmtpd", id:%, mailbox, outcome, code, bytes, seconds:%, client;
+                    "copy answered"
+                );
             }
         }
     }
