@@ -132,7 +132,9 @@ try 2 clap "${serve[@]}" --dir /nowhere --stop-file '' anna
 try 2 clap "${serve[@]}" --dir /nowhere --stop-file= anna
 try 2 clap "${serve[@]}" --dir /nowhere --heal=yes anna
 try 2 clap "${serve[@]}" --dir /nowhere --heal --heal anna
-for word in --heal --stop-file=stop --socket-mode=0660 --session-time=9 --connections=9; do
+try 2 clap "${serve[@]}" --dir /nowhere --log-addresses=yes anna
+try 2 clap "${serve[@]}" --dir /nowhere --log-addresses --log-addresses anna
+for word in --heal --log-addresses --stop-file=stop --socket-mode=0660 --session-time=9 --connections=9; do
     try 2 clap "${good[@]}" "$word" anna
     try 2 clap check "$word" anna.mbox
     try 1 'lmtpd: cannot open anna.mbox' "${serve[@]:0:5}" --dir /nowhere "$word" anna

@@ -9,9 +9,11 @@ import pathlib
 import shlex
 import subprocess
 import tempfile
+import time
 
 from cases import Absent, case, equal
 from machine import Machine
+from many_mailboxes import recipe
 from packages import program, want_root
 
 ROOT = pathlib.Path(__file__).parents[2]
@@ -58,7 +60,8 @@ a_package_on_a_plain_machine.seconds = 600
 
 @case
 def a_package_with_a_relay(folder):
-    """a plain Debian 12: apt-get installs the package and Postfix with it, whose letter is in the mailbox"""
+    """a plain Debian 12: apt-get installs the package and Postfix with it, whose letter is in the mailbox; an upgrade
+    has two instances begin again, and a purge ends them and leaves their files"""
     site, root = site_with_package(folder), folder / "debian"
     subprocess.run(["cp", "-a", plain_debian(), root], check=True)
     installed = shell(INSTALL, root, next(site.iterdir()))
@@ -76,7 +79,7 @@ def a_package_with_a_relay(folder):
         equal(there.run("lmtpd check /var/mail/lmtpd/anna.mbox"), (0, "/var/mail/lmtpd/anna.mbox letters 1\n"))
         whose = there.run("stat -c '%U %a %F' /var/spool/postfix/private/lmtpd")
         equal(whose, (0, "postfix 600 socket\n"))
-        equal(there.run("dpkg -P lmtpd && ! ls /var/spool/postfix/private/lmtpd")[0], 0)
+        look_at_instances(there)
 
 
 a_package_with_a_relay.seconds = 600
@@ -92,6 +95,35 @@ def look_at_upgrade(there):
     equal(socket_since(there), since)
 
 
+def look_at_instances(there):
+    """Two servers in the one's place, with anna and ben, and what an upgrade and a purge make of them."""
+    there.run("mkdir /etc/lmtpd; echo anna > /etc/lmtpd/a.boxes; echo ben > /etc/lmtpd/b.boxes")
+    send = "printf 'Subject: two\\n\\nhello\\n' | sendmail anna@mx.example ben@mx.example"
+    for line in [*recipe(), send]:
+        equal((line, there.run(line)[0]), (line, 0))
+    check = "lmtpd check /var/mail/lmtpd/anna.mbox /var/mail/lmtpd/ben.mbox"
+    until = time.monotonic() + 30
+    while there.run(check) != (0, letters(" letters ", anna=2, ben=1)):
+        assert time.monotonic() < until, there.run("postqueue -p; journalctl -n 30 --no-pager")[1][-800:]
+        time.sleep(0.5)
+    units = ["lmtpd@a", "lmtpd@b"]
+    before = [(main_process(there, unit), socket_since(there, unit)) for unit in units]
+    equal(there.run("dpkg -i lmtpd_*_amd64.deb")[0], 0)
+    equal(there.run("systemctl is-active lmtpd@a lmtpd@b lmtpd")[1], "active\nactive\ninactive\n")
+    for unit, (process, since) in zip(units, before):
+        equal((main_process(there, unit) != process, socket_since(there, unit)), (True, since))
+    equal(there.run("dpkg -P lmtpd")[0], 0)
+    sockets = [f"{unit}.socket" for unit in units]
+    equal(there.run(f"systemctl is-active {' '.join([*units, *sockets])}")[1], "inactive\n" * 4)
+    equal(there.run("find /etc/systemd /var/lib/systemd /var/spool/postfix/private -name '*lmtpd*'"), (0, ""))
+    equal(there.run("cat /etc/lmtpd/a.boxes /etc/lmtpd/b.boxes"), (0, "anna\nben\n"))
+    equal(there.run("grep -c ^hello /var/mail/lmtpd/anna.mbox /var/mail/lmtpd/ben.mbox")[1], letters(":", anna=2, ben=1))
+
+
+def letters(between, **counts):
+    return "".join(f"/var/mail/lmtpd/{name}.mbox{between}{count}\n" for name, count in counts.items())
+
+
 def look_at_purge(there):
     equal(there.run("dpkg -P lmtpd")[0], 0)
     equal(there.run("find /etc /usr /var/lib/systemd -name '*lmtpd*' | grep -v /share/doc/"), (1, ""))
@@ -100,12 +132,12 @@ def look_at_purge(there):
     equal(there.run("grep -c ^hello /var/mail/lmtpd/anna.mbox"), (0, "1\n"))
 
 
-def main_process(there):
-    return there.run("systemctl show -p MainPID --value lmtpd")[1]
+def main_process(there, unit="lmtpd"):
+    return there.run(f"systemctl show -p MainPID --value {unit}")[1]
 
 
-def socket_since(there):
-    return there.run("systemctl show -p ActiveEnterTimestampMonotonic --value lmtpd.socket")[1]
+def socket_since(there, unit="lmtpd"):
+    return there.run(f"systemctl show -p ActiveEnterTimestampMonotonic --value {unit}.socket")[1]
 
 
 def site_with_package(folder):

@@ -6,6 +6,7 @@ import debian  # noqa: F401  (each adds its cases)
 import disk_full_heals  # noqa: F401
 import exim_delivers  # noqa: F401
 import file_changed  # noqa: F401
+import five_questions  # noqa: F401
 import hundred_restarts  # noqa: F401
 import killed_server_lock  # noqa: F401
 import killed_under_load  # noqa: F401

@@ -54,7 +54,7 @@ a_service_that_ends_begins_again.seconds = 180
 
 @case
 def a_service_that_is_killed_begins_again(folder):
-    """systemd begins a server again at once behind SIGTERM, behind a fault after 5 s, never where a word is wrong"""
+    """systemd begins a server again at once after SIGTERM, after a fault in 5 s, never where a word is wrong"""
     with machine(folder) as there:
         type_lines(there)
         begun = time.monotonic()
@@ -66,7 +66,7 @@ def a_service_that_is_killed_begins_again(folder):
         there.run("cd /var/mail/lmtpd; mv ben.mbox ben.kept; mkdir ben.mbox")
         there.run("cd /var/mail/lmtpd; (sleep 8; rmdir ben.mbox; mv ben.kept ben.mbox) > /dev/null 2>&1 &")
         there.run("systemctl kill --signal=KILL lmtpd")
-        wait_for_letter(there, "behind")
+        wait_for_letter(there, "later")
         assert time.monotonic() - begun > 4, "it didn't wait"
         begun = time.monotonic()
         equal(there.run("systemctl stop lmtpd.socket lmtpd"), (0, ""))
@@ -91,7 +91,7 @@ def a_service_that_lacks_something(folder):
         equal((restarts(there) in [1, 2], restarts(there)), (True, restarts(there)))
         equal("lmtpd: cannot open anna.mbox" in there.run("journalctl -u lmtpd --no-pager")[1], True)
         there.run("mv /var/mail/away /var/mail/lmtpd")
-        wait_for_letter(there, "behind")
+        wait_for_letter(there, "later")
         there.run("mv /etc/lmtpd.conf /root; systemctl restart lmtpd")
         time.sleep(15)
         equal(there.run("systemctl is-failed lmtpd"), (0, "failed\n"))

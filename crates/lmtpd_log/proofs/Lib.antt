@@ -1,3 +1,4 @@
 mod Escapes
+mod Filled
 mod Printables
 mod Streams

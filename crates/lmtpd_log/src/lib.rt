@@ -2,6 +2,8 @@
 //! the log is written.
 #![tactic(auto)]
 
+mod address;
+mod addresses;
 mod all_visits;
 mod escaped;
 mod file;
@@ -12,6 +14,7 @@ mod lines;
 mod listener;
 mod logged_peer;
 mod mailbox;
+mod naming;
 mod stream;
 mod verb;
 mod visits;

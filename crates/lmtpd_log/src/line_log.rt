@@ -1,10 +1,17 @@
 //! A lane's log in lines: a line for each copy that was answered, for each command that was refused, and for each
 //! conversation that ended.
 
-ghost use Rattle.std.specs.Prelude.{◌≡◌};
+ghost use Rattle.std.specs.Prelude.{◌≡◌, ◌≤◌, ◌+◌, [], IfOk, get_or, length, option_map};
+ghost use Rattle.std.specs.Option.{IfSome};
+ghost use Rattle.lmtpd_log.specs.Kept.{kept_texts};
+ghost use Rattle.lmtpd_log.specs.Letters.{after_copy, after_line};
+ghost use Rattle.lmtpd_log.specs.Lines.{letter_in, shows_addresses};
 ghost use Rattle.lmtpd_log.specs.Logged.{cause_text, outcome_text, is_refusal};
+ghost use Rattle.lmtpd_log.specs.declared.addresses.TheConstants.{KEPT_LIMIT};
 
+use crate::addresses::Addresses;
 use crate::lane_log::{LaneLog, LaneLogs};
+use crate::naming::Shown;
 use crate::stream::Traffic;
 use crate::verb::verb_of;
 use lmtp_talk::EndCause;
@@ -31,6 +38,8 @@ pub struct LineSetting<G, C> {
     pub site: Arc<Site>,
     /// When the server began, in microseconds since 1970.
     pub start: u64,
+    /// The lines show the addresses of senders and recipients.
+    pub addresses: bool,
 }
 
 /// An entry that waits until its reply was written.
@@ -40,15 +49,22 @@ enum Waiting {
     Refused {
         verb: &'static str,
         reply: Reply,
+        /// Where the address is kept that it named.
+        address: Option<u32>,
     },
     /// A copy was answered.
-    Answered {
-        number: u64,
-        size: u64,
-        seconds: Seconds,
-        outcome: Outcome,
-        mailbox: u32,
-    },
+    Answered(Answered),
+}
+
+#[derive(Clone, Copy, Debug, Drop)]
+struct Answered {
+    number: u64,
+    size: u64,
+    seconds: Seconds,
+    outcome: Outcome,
+    mailbox: u32,
+    /// Where its sender is kept, and after it its recipient.
+    addresses: Option<u32>,
 }
 
 /// A lane's log over the crate `log`, at the level `info`. What it is told waits in memory that is taken once, and is
@@ -62,6 +78,8 @@ pub struct LineLog<G: Drop, C: Drop> {
     lane: u32,
     start: u64,
     waiting: Vec<Waiting>,
+    // the addresses, where the lines show them
+    addresses: Option<Addresses>,
     // the name of the client whose copies wait
     client: Vec<u8>,
     // when bytes came last
@@ -71,7 +89,14 @@ pub struct LineLog<G: Drop, C: Drop> {
 impl<G: Log + Copy + Drop, C: Clock + Copy + Drop> LaneLogs for LineSetting<G, C> {
     type Log = LineLog<G, C>;
 
-    fn log(&self, alloc: Global, lane: u32) -> Result<LineLog<G, C>, AllocError> {
+    fn log(&self, alloc: Global, lane: u32) -> Result<LineLog<G, C>, AllocError>
+        ensures { IfOk result (λ log. shows_addresses log ≡ self.now.addresses) }
+    {
+        let addresses = if self.addresses {
+            Some(Addresses::new(alloc)?)
+        } else {
+            None
+        };
         Ok(LineLog {
             log: self.log,
             clock: self.clock,
@@ -79,6 +104,7 @@ impl<G: Log + Copy + Drop, C: Clock + Copy + Drop> LaneLogs for LineSetting<G, C
             lane,
             start: self.start,
             waiting: Vec::with_capacity(alloc, WAITING_LIMIT)?,
+            addresses,
             client: Vec::with_capacity(alloc, NAME_LIMIT)?,
             came: None,
         })
@@ -90,16 +116,31 @@ impl<G: Log + Drop, C: Clock + Drop> LineLog<G, C> {
         log_enabled!(self.log; target: "lmtpd", Level::Info)
     }
 
-    // Has the entry wait. Where there is no room, which can't be, those that wait are shown first.
-    fn wait(&mut self, entry: Waiting) {
-        if self.waiting.len() >= WAITING_LIMIT {
+    // Makes room for an entry. Where there is none, which can't be, those that wait are shown first.
+    fn make_room(&mut self)
+        ensures letter { letter_in self.new ≡ letter_in self.old }
+        ensures room { IfSome self.new.addresses (λ a. length (kept_texts a) + 2 ≤ KEPT_LIMIT) }
+    {
+        let is_full = match &self.addresses {
+            Some(addresses) => addresses.is_full(),
+            None => false,
+        };
+        if is_full || self.waiting.len() >= WAITING_LIMIT {
             self.show_waiting();
         }
+    }
+
+    // Has the entry wait, for which there is room.
+    fn wait(&mut self, entry: Waiting)
+        ensures { letter_in self.new ≡ letter_in self.old }
+    {
         let _ = self.waiting.push(entry);
     }
 
     // Takes the name of the client whose copies wait from now on.
-    fn take_name(&mut self, client: &[u8]) {
+    fn take_name(&mut self, client: &[u8])
+        ensures { letter_in self.new ≡ letter_in self.old }
+    {
         if self.client.as_slice() == client {
             return;
         }
@@ -108,53 +149,114 @@ impl<G: Log + Drop, C: Clock + Drop> LineLog<G, C> {
         let _ = self.client.extend_from_slice(client);
     }
 
+    // Takes note of the reply for a copy: where its addresses are kept, if the lines show them.
+    fn note_copy(&mut self) -> Option<u32>
+        requires room { IfSome self.old.addresses (λ a. length (kept_texts a) + 2 ≤ KEPT_LIMIT) }
+        ensures letter { letter_in self.new ≡ option_map after_copy (letter_in self.old) }
+    {
+        match &mut self.addresses {
+            Some(addresses) => addresses.copy(),
+            None => None,
+        }
+    }
+
+    // Where the address is kept that a command names, if the lines show it.
+    fn keep(&mut self, line: &[u8]) -> Option<u32>
+        requires room { IfSome self.old.addresses (λ a. length (kept_texts a) + 2 ≤ KEPT_LIMIT) }
+        ensures letter { letter_in self.new ≡ letter_in self.old }
+    {
+        match &mut self.addresses {
+            Some(addresses) => addresses.keep(line),
+            None => None,
+        }
+    }
+
     // Shows what waits.
-    fn show_waiting(&mut self) {
+    fn show_waiting(&mut self)
+        ensures letter { letter_in self.new ≡ letter_in self.old }
+        ensures none_kept { IfSome self.new.addresses (λ a. kept_texts a ≡ []) }
+    {
         for entry in self.waiting.iter() {
             self.show(*entry);
         }
         self.waiting.clear();
+        if let Some(addresses) = &mut self.addresses {
+            addresses.forget_kept();
+        }
     }
 
     fn show(&self, entry: Waiting) {
         match entry {
-            Waiting::Refused { verb, reply } => self.show_refused(verb, reply),
-            Waiting::Answered {
-                number,
-                size,
-                seconds,
-                outcome,
-                mailbox,
-            } => self.show_answered(number, size, seconds, outcome, mailbox),
+            Waiting::Refused {
+                verb,
+                reply,
+                address,
+            } => self.show_refused(verb, reply, address),
+            Waiting::Answered(answered) => self.show_answered(answered),
         }
     }
 
-    fn show_refused(&self, verb: &str, reply: Reply) {
+    fn show_refused(&self, verb: &str, reply: Reply, address: Option<u32>) {
         let lane = self.lane;
         let text = self.reply_text(reply);
         let code = str::from_utf8(&text[..3]).unwrap_or("");
-        info!(self.log; target: "lmtpd", lane, verb, code; "command refused");
+        match self.kept(address) {
+            Some(recipient) if verb == "RCPT" => {
+                info!(self.log; target: "lmtpd", lane, verb, code, recipient:%; "command refused");
+            }
+            Some(sender) => {
+                info!(self.log; target: "lmtpd", lane, verb, code, sender:%; "command refused");
+            }
+            None => info!(self.log; target: "lmtpd", lane, verb, code; "command refused"),
+        }
     }
 
-    fn show_answered(
-        &self,
-        number: u64,
-        bytes: u64,
-        seconds: Seconds,
-        outcome: Outcome,
-        mailbox: u32,
-    ) {
+    fn show_answered(&self, answered: Answered) {
         let id = Id {
             start: self.start,
             lane: self.lane,
-            number,
+            number: answered.number,
         };
-        let text = self.reply_text(Reply::Result(outcome, mailbox));
+        let text = self.reply_text(Reply::Result(answered.outcome, answered.mailbox));
         let code = str::from_utf8(&text[..3]).unwrap_or("");
-        let outcome = outcome_text(outcome);
-        let mailbox = str::from_utf8(self.site.box_name(mailbox)).unwrap_or("");
+        let outcome = outcome_text(answered.outcome);
+        let mailbox = str::from_utf8(self.site.box_name(answered.mailbox)).unwrap_or("");
+        let bytes = answered.size;
+        let seconds = answered.seconds;
         let client = str::from_utf8(self.client.as_slice()).unwrap_or("");
-        info!(self.log; target: "lmtpd", id:%, mailbox, outcome, code, bytes, seconds:%, client; "copy answered");
+        match self.kept_pair(answered.addresses) {
+            Some((sender, recipient)) => {
+                info!(
+                    self.log; target: "lmtpd", id:%, mailbox, outcome, code, bytes, seconds:%, client, sender:%,
+                    recipient:%; "copy answered"
+                );
+            }
+            None => {
+                info!(
+                    self.log; target: "lmtpd", id:%, mailbox, outcome, code, bytes, seconds:%, client;
+                    "copy answered"
+                );
+            }
+        }
+    }
+
+    // The address that is kept there.
+    fn kept(&self, at: Option<u32>) -> Option<Shown<'_>>
+        ensures { IfSome result (λ shown. IfSome self.now.addresses
+            (λ a. IfSome at (λ at. shown.0.now ≡ get_or (kept_texts a) at []))) }
+    {
+        let addresses = self.addresses.as_ref()?;
+        Some(Shown(addresses.at(at? as usize)))
+    }
+
+    // The sender that is kept there, and the recipient after it.
+    fn kept_pair(&self, at: Option<u32>) -> Option<(Shown<'_>, Shown<'_>)>
+        ensures { IfSome result (λ pair. IfSome self.now.addresses (λ a. IfSome at (λ at.
+            (pair.0.0.now ≡ get_or (kept_texts a) at []) × (pair.1.0.now ≡ get_or (kept_texts a) (at + 1) [])))) }
+    {
+        let addresses = self.addresses.as_ref()?;
+        let at = at? as usize;
+        Some((Shown(addresses.at(at)), Shown(addresses.at(at + 1))))
     }
 
     fn reply_text(&self, reply: Reply) -> [u8; REPLY_LIMIT] {
@@ -178,34 +280,53 @@ impl<G: Log + Drop, C: Clock + Drop> LaneLog for LineLog<G, C> {
     ghost told = { λ _. None };
 
     /// A line for a command that was refused.
-    fn command(&mut self, line: &[u8], reply: Reply) {
+    fn command(&mut self, line: &[u8], reply: Reply)
+        ensures letter { letter_in self.new ≡ option_map (λ l. after_line l line.now reply) (letter_in self.old) }
+    {
+        if let Some(addresses) = &mut self.addresses {
+            addresses.line(line, reply);
+        }
         if is_refusal(reply) && self.is_on() {
+            self.make_room();
             let verb = verb_of(line);
-            self.wait(Waiting::Refused { verb, reply });
+            let address = self.keep(line);
+            self.wait(Waiting::Refused {
+                verb,
+                reply,
+                address,
+            });
         }
     }
 
     /// A line for each copy.
-    fn copy(&mut self, number: u64, size: u64, client: &[u8], reply: Reply) {
-        if !self.is_on() {
-            return;
+    fn copy(&mut self, number: u64, size: u64, client: &[u8], reply: Reply)
+        ensures letter { letter_in self.new ≡ option_map after_copy (letter_in self.old) }
+    {
+        if self.is_on() {
+            self.take_name(client);
         }
+        self.make_room();
+        let addresses = self.note_copy();
         let Reply::Result(outcome, mailbox) = reply else {
             return;
         };
-        self.take_name(client);
-        let seconds = self.since(self.came);
-        self.wait(Waiting::Answered {
-            number,
-            size,
-            seconds,
-            outcome,
-            mailbox,
-        });
+        if self.is_on() {
+            let seconds = self.since(self.came);
+            self.wait(Waiting::Answered(Answered {
+                number,
+                size,
+                seconds,
+                outcome,
+                mailbox,
+                addresses,
+            }));
+        }
     }
 
     /// The last line of a conversation.
-    fn ended(&mut self, cause: EndCause, traffic: Traffic) {
+    fn ended(&mut self, cause: EndCause, traffic: Traffic)
+        ensures letter { letter_in self.new ≡ letter_in self.old }
+    {
         self.show_waiting();
         let lane = self.lane;
         let client = traffic.client;
@@ -216,12 +337,16 @@ impl<G: Log + Drop, C: Clock + Drop> LaneLog for LineLog<G, C> {
         info!(self.log; target: "lmtpd", lane, client:%, cause, read, written, seconds:%; "conversation ended");
     }
 
-    fn written(&mut self) {
+    fn written(&mut self)
+        ensures letter { letter_in self.new ≡ letter_in self.old }
+    {
         self.show_waiting();
     }
 
     /// The seconds of a copy's line count from here: its data had ended with what came last.
-    fn came(&mut self) {
+    fn came(&mut self)
+        ensures letter { letter_in self.new ≡ letter_in self.old }
+    {
         if self.is_on() {
             self.came = self.clock.monotonic().ok();
         }

@@ -21,6 +21,14 @@ pub heal_left_out : of_rows (one_of (codes "heal")) (served (codes "anna" ∷ []
 unfolding clap_on_literals
 heal_left_out = refl
 
+pub log_addresses_given : of_rows (one_of (codes "log-addresses")) (served (codes "--log-addresses" ∷ codes "anna" ∷ [])) ≡ Some (Some (codes "true"))
+unfolding clap_on_literals
+log_addresses_given = refl
+
+pub log_addresses_left_out : of_rows (one_of (codes "log-addresses")) (served (codes "anna" ∷ [])) ≡ Some (Some (codes "false"))
+unfolding clap_on_literals
+log_addresses_left_out = refl
+
 pub connections_given : of_rows (one_of (codes "connections")) (served (codes "--connections" ∷ codes "7" ∷ codes "anna" ∷ [])) ≡ Some (Some (codes "7"))
 unfolding clap_on_literals
 connections_given = refl

@@ -92,6 +92,9 @@ session_time_rule = number_rule (codes "session-time") 1 86400
 abbrev pub log_rule : Rule
 log_rule = text_rule (codes "log")
 
+abbrev pub log_addresses_rule : Rule
+log_addresses_rule = flag_rule (codes "log-addresses")
+
 abbrev pub quota_rule : Rule
 quota_rule = bytes_rule (codes "quota")
 
@@ -128,7 +131,7 @@ limited_app =
 
 abbrev pub kept_app : App
 kept_app =
-    with_rule (with_rule (with_rule (with_rule (with_rule limited_app log_rule) quota_rule) lock_wait_rule) mailbox_mode_rule) socket_mode_rule
+    with_rule (with_rule (with_rule (with_rule (with_rule (with_rule limited_app log_rule) log_addresses_rule) quota_rule) lock_wait_rule) mailbox_mode_rule) socket_mode_rule
 
 abbrev pub serve_app : App
 serve_app =

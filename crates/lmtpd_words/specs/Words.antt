@@ -159,6 +159,7 @@ pub record IsServeRead (rows : List Row) (words : ServeWords) : Type 0 where
   pub timeout : IsNumberOr DEFAULT_TIMEOUT (one_of (codes "timeout") rows) words.timeout
   pub session_time : IsNumberOr DEFAULT_SESSION_TIME (one_of (codes "session-time") rows) words.session_time
   pub log : IsLevel (first_of (codes "log") rows) words.log
+  pub log_addresses : IsFlag (one_of (codes "log-addresses") rows) words.log_addresses
   pub quota : IsLimit (one_of (codes "quota") rows) words.quota
   pub lock_wait : IsNumberOr DEFAULT_LOCK_WAIT (one_of (codes "lock-wait") rows) words.lock_wait
   pub mailbox_mode : IsModeOr DEFAULT_MAILBOX_MODE (first_of (codes "mailbox-mode") rows) words.mailbox_mode

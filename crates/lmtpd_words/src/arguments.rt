@@ -71,7 +71,7 @@ pub const REHEARSE: [Argument; 9] = [
 ];
 
 /// What a server takes: what must be given, what may be, what ends it, and the mailboxes.
-pub const SERVE: [Argument; 22] = [
+pub const SERVE: [Argument; 23] = [
     HOST,
     LISTEN,
     DIR,
@@ -85,6 +85,7 @@ pub const SERVE: [Argument; 22] = [
     TIMEOUT,
     SESSION_TIME,
     LOG,
+    LOG_ADDRESSES,
     QUOTA,
     LOCK_WAIT,
     MAILBOX_MODE,
@@ -235,6 +236,14 @@ const LOG: Argument = Argument {
     help: "What is logged on standard error: off, error or info [default: off]",
     is_required: false,
     kind: ValueKind::Text,
+};
+
+const LOG_ADDRESSES: Argument = Argument {
+    name: "log-addresses",
+    value: "",
+    help: "Has the log's lines at info show the addresses of senders and recipients",
+    is_required: false,
+    kind: ValueKind::Flag,
 };
 
 const QUOTA: Argument = Argument {

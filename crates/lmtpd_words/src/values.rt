@@ -129,12 +129,13 @@ fn serve_words<'a>(
         timeout: number_or(matches, "timeout", DEFAULT_TIMEOUT),
         session_time: number_or(matches, "session-time", DEFAULT_SESSION_TIME),
         log,
+        log_addresses: is_given(matches, "log-addresses"),
         quota: quota_of(matches),
         lock_wait: number_or(matches, "lock-wait", DEFAULT_LOCK_WAIT),
         mailbox_mode,
         socket_mode,
         stop_file,
-        heal: is_healing(matches),
+        heal: is_given(matches, "heal"),
     }))
 }
 
@@ -316,11 +317,11 @@ fn path_in(text: &str) -> Option<&str>
     Some(text)
 }
 
-// Whether the server is to end after a mailbox failed.
-fn is_healing(matches: &ArgMatches<'_>) -> bool
-    ensures { IsFlag (one_of (codes "heal") (rows_of (found_of matches.now))) result }
+// Whether that flag was given.
+fn is_given(matches: &ArgMatches<'_>, name: &str) -> bool
+    ensures { IsFlag (one_of name.now (rows_of (found_of matches.now))) result }
 {
-    matches.get_one::<bool>("heal").unwrap_or(false)
+    matches.get_one::<bool>(name).unwrap_or(false)
 }
 
 // The level that was given, and else the usual one; none where the text names no level of ours.

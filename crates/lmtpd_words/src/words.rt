@@ -94,6 +94,8 @@ pub struct ServeWords<'a> {
     pub session_time: u32,
     /// What is logged.
     pub log: LevelFilter,
+    /// The log shows the addresses of senders and recipients.
+    pub log_addresses: bool,
     /// The bytes that a mailbox may hold, if there is a limit.
     pub quota: Option<u64>,
     /// The seconds that a turn at a mailbox is waited for.

@@ -84,7 +84,7 @@ where
     };
     let curfew = shared_curfew(threads, alloc, words)?;
     let spools = open_mailboxes(threads, alloc, access, &words.site.boxes, &curfew, log)?;
-    let logs = line_setting(threads, log, &site)?;
+    let logs = line_setting(threads, log, words, &site)?;
     let Opened { socket, file } = open_place(rt, alloc, place, words.socket_mode, &log)?;
     let conversations = Conversations {
         lanes: words.lanes,

@@ -1,10 +1,11 @@
 //! The log of a server.
 
-ghost use Rattle.std.specs.Prelude.{◌≡◌, IfErr};
+ghost use Rattle.std.specs.Prelude.{◌≡◌, IfErr, IfOk};
 
 use crate::fault::Fault;
 use lmtp_text::Site;
 use lmtpd_log::{ErrorLines, LineSetting, is_journal};
+use lmtpd_words::ServeWords;
 use log::{LevelFilter, Logged};
 use std::env::Env;
 use std::fs::Files;
@@ -21,19 +22,23 @@ pub fn server_log<P: Files + Env, H: Copy>(rt: &P, threads: H, level: LevelFilte
     Logged::new(threads, level, lines)
 }
 
-/// What the lanes' lines have in common: they name the mailboxes of the site, and when the server began, which is now.
+/// What the lanes' lines have in common: they name the mailboxes of the site, and when the server began, which is now;
+/// they show addresses where the words say so.
 pub fn line_setting<H: Clock + Copy>(
     threads: H,
     log: ServerLog<H>,
+    words: &ServeWords<'_>,
     site: &Arc<Site>,
 ) -> Result<LineSetting<ServerLog<H>, H>, Fault>
-    ensures { IfErr result (λ f. f ≡ Fault.Memory) }
+    ensures memory { IfErr result (λ f. f ≡ Fault.Memory) }
+    ensures addresses { IfOk result (λ setting. setting.addresses ≡ words.now.log_addresses) }
 {
     Ok(LineSetting {
         log,
         clock: threads,
         site: Arc::try_clone(site)?,
         start: microseconds(threads.since_1970()),
+        addresses: words.log_addresses,
     })
 }
 

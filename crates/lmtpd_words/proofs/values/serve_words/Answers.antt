@@ -21,11 +21,12 @@ returns c =
       timeout = c.number_or-3.ensures;
       session_time = c.number_or-4.ensures;
       log = c.in-Some-Some-2.ensures';
+      log_addresses = c.is_given.ensures;
       quota = c.quota_of.ensures;
       lock_wait = c.number_or-5.ensures;
       mailbox_mode = c.in-Some-Some-3.ensures;
       socket_mode = c.in-Some-Some-3.ensures';
       connections = c.in-Some-Some.ensures';
       stop_file = c.in-Some-Some-2.ensures;
-      heal = c.is_healing.ensures;
+      heal = c.is_given-2.ensures;
     }

@@ -1,0 +1,56 @@
+-- What a lane's log knows of the letter under way, where its lines show addresses.
+use Rattle.std.specs.Prelude.{ℕ, ◌-◌, ◌^◌, nat_lt, List, [], ◌∷◌, ◌++◌, length, take, drop, map, if◌then◌else◌, Option, Some, None, option_map, Ok}
+use Rattle.std.specs.Option.{option_map_or}
+use Rattle.mail_world.specs.declared.Reply.{Reply}
+use Rattle.mail_world.specs.declared.Reply.TheVariants as replies
+use Rattle.mail_world.specs.declared.limits.TheConstants.{PATH_LIMIT, RECIPIENT_LIMIT}
+use Rattle.mail_world.specs.Commands.{Answer, Mail, Rcpt, command_at}
+use Rattle.mail_world.specs.Grammar.{mailbox_text}
+use Rattle.lmtp_talk.specs.Entries.{Entry, OfLine, OfCopy, OfEnd}
+use Rattle.lmtpd_log.specs.declared.address.Address.{Address}
+
+-- the sender, and the recipients of whose copies the log wasn't told yet, in their order
+pub record Letter : Type 0 where
+  pub sender : List ℕ
+  pub recipients : List (List ℕ)
+
+abbrev pub no_letter : Letter
+no_letter = record { sender = []; recipients = [] }
+
+-- an address, and none longer than one may be
+abbrev pub address_text : Address → List ℕ
+address_text a = take a.size a.bytes
+
+-- the address of a command as it is spelled, without brackets and route
+abbrev pub address_of : Answer → Option (List ℕ)
+address_of (Ok (Mail sender)) = Some (take PATH_LIMIT sender)
+address_of (Ok (Rcpt target)) = Some (take PATH_LIMIT (mailbox_text target))
+address_of _ = None
+
+-- the address that a command line names, where it can be read, whatever the size that MAIL says
+abbrev pub address_in : List ℕ → Option (List ℕ)
+address_in line = address_of (command_at (2 ^ 32 - 1) line)
+
+abbrev pub named_by : List ℕ → List ℕ
+named_by line = option_map_or (λ text. text) (address_in line) []
+
+-- a recipient more, as many as a message may have
+abbrev pub with_recipient : Letter → List ℕ → Letter
+with_recipient letter recipient =
+    if nat_lt (length letter.recipients) RECIPIENT_LIMIT
+    then record letter { recipients = letter.recipients ++ recipient ∷ [] } else letter
+
+-- after the reply to a line: a sender begins a letter
+abbrev pub after_line : Letter → List ℕ → Reply → Letter
+after_line letter line replies.SenderOk = record { sender = named_by line; recipients = [] }
+after_line letter line replies.RecipientOk = with_recipient letter (named_by line)
+after_line letter line _ = letter
+
+-- after the reply for a copy, which is that of the first recipient
+abbrev pub after_copy : Letter → Letter
+after_copy letter = record letter { recipients = drop 1 letter.recipients }
+
+abbrev pub after_entry : Letter → Entry → Letter
+after_entry letter (OfLine line reply) = after_line letter line reply
+after_entry letter (OfCopy number size client reply) = after_copy letter
+after_entry letter (OfEnd cause) = letter

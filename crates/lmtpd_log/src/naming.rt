@@ -1,0 +1,91 @@
+//! The address that a command line names, and how a line of the log shows it.
+
+ghost use Rattle.std.specs.Prelude.{◌≡◌, take, option_map};
+ghost use Rattle.mail_world.specs.Grammar.{local_text, mailbox_text};
+ghost use Rattle.mail_world.specs.declared.limits.TheConstants.{PATH_LIMIT};
+ghost use Rattle.lmtp_text.specs.Seen.{seen_target};
+ghost use Rattle.lmtpd_log.specs.Letters.{address_in, address_text, named_by};
+ghost use Rattle.lmtpd_log.specs.Shown.{shown_address};
+
+use crate::address::Address;
+use lmtp_text::{Command, Target, read_command_at};
+use percent_encoding::{AsciiSet, CONTROLS, ascii_set, percent_encode};
+use std::fmt;
+use std::fmt::{Display, Formatter};
+
+/// What has an escape in an address, beside what isn't ASCII: with the space it is one word.
+pub const ESCAPED: AsciiSet = ascii_set!(CONTROLS.add(b' '));
+
+/// The address that a command line names, where it is one of MAIL or RCPT that can be read. A size that MAIL says is
+/// not looked at.
+pub(crate) fn address_in(line: &[u8]) -> Option<Address>
+    ensures { option_map address_text result ≡ address_in line.now }
+{
+    match read_command_at(line, u32::MAX) {
+        Ok(Command::Mail(sender)) => Some(sender_address(sender)),
+        Ok(Command::Rcpt(target)) => Some(recipient_address(target)),
+        _ => None,
+    }
+}
+
+/// The same, and the null reverse path where it names none.
+pub(crate) fn named_by(line: &[u8]) -> Address
+    ensures { address_text result ≡ named_by line.now }
+{
+    address_in(line).unwrap_or(Address::empty())
+}
+
+fn sender_address(sender: &[u8]) -> Address
+    ensures { address_text result ≡ take PATH_LIMIT sender.now }
+{
+    let mut address = Address::empty();
+    address.add(sender);
+    address
+}
+
+// As the line spells it.
+fn recipient_address(target: Target<'_>) -> Address
+    ensures { address_text result ≡ take PATH_LIMIT (mailbox_text (seen_target target.entry)) }
+{
+    let mut address = local_address(target.local, target.quoted);
+    match target.domain {
+        Some(domain) => {
+            address.add(b"@");
+            address.add(domain);
+            address
+        }
+        None => address,
+    }
+}
+
+// The local part, in its quotes where it has them.
+fn local_address(local: &[u8], quoted: bool) -> Address
+    ensures { address_text result ≡ take PATH_LIMIT (local_text quoted local.now) }
+{
+    let mut address = Address::empty();
+    if quoted {
+        address.add(b"\"");
+        address.add(local);
+        address.add(b"\"");
+        address
+    } else {
+        address.add(local);
+        address
+    }
+}
+
+/// An address as a line shows it.
+#[derive(Clone, Copy, Drop)]
+pub(crate) struct Shown<'a>(pub &'a [u8]);
+
+impl Display for Shown<'_> {
+    ghost use Rattle.std.specs.Prelude.{Some};
+
+    ghost output = { λ shown. Some (shown_address shown.0.now) };
+
+    fn fmt<W: fmt::Write>(&self, f: &mut Formatter<W>) -> fmt::Result {
+        f.write_str("<")?;
+        f.write(&percent_encode(self.0, ESCAPED))?;
+        f.write_str(">")
+    }
+}
