@@ -184,36 +184,39 @@ module _ (at : Setting) (copies : List Note) (old now : WorkerState) (before : O
     counts = λ e. (shared (t.whose ∙ e) at.quota (t.counts e).0 (t.counts e).1).1;
   }
 
-  pub handled_more : (outcome : Outcome) (after : CountedMailbox) → Tallies outcome now.mailbox after.mailbox
+  pub handled_more : (moment : ℕ) (outcome : Outcome) (after : CountedMailbox) → Tallies outcome now.mailbox after.mailbox
       → after.mailbox.state.sharing.is_shared ≡ now.mailbox.state.sharing.is_shared
       → (now.mailbox.state.sharing.is_shared ≡ false → TakesCopy (record_of at.calendar at.host note) outcome (counted_of now before) after)
       → (now.mailbox.state.sharing.is_shared ≡ false → after.in_use ≡ now.in_use)
       → (now.mailbox.state.sharing.is_shared ≡ true → TurnsCopy (record_of at.calendar at.host note) outcome (counted_of now before) after)
-      → IsOffered note.txn.lane (slip_by note.txn note.place outcome) accepted now.slips next
-      → IsCounting at (copies ++ note ∷ []) old (record { slips = next; mailbox = after.mailbox; in_use = after.in_use; taken = counted (now.taken + 1); lost = any_refused next }) after.limit
-  handled_more outcome after tallied whose alone never shared offered =
+      → IsOffered moment note.txn.lane (slip_by note.txn note.place outcome) accepted now.slips next
+      → (y : IsCounting at (copies ++ note ∷ []) old (record { slips = next; mailbox = after.mailbox; in_use = after.in_use; taken = counted (now.taken + 1); lost = any_refused next }) after.limit)
+      × (y.outcomes ≡ x.outcomes ++ outcome ∷ [])
+  handled_more moment outcome after tallied whose alone never shared offered =
       let mine : offered.sender.number ≡ at.worker = x.numbered note.txn.lane offered.sender offered.is in
       let slip_is : slip_by note.txn note.place outcome offered.sender ≡ slip_of at.worker note outcome =
       ap (λ (w : ℕ). let s : Slip = record { txn = note.txn; place = note.place; worker = w; outcome = outcome } in s) mine in
       let all = x.outcomes ++ outcome ∷ [] in
       let one = length-append x.outcomes (outcome ∷ []) in
       let more = length-append copies (note ∷ []) in
-      let each = x.each in
-      record {
-        outcomes = all;
-        each = omega (arith, one, more, each);
-        told = offered_more note.txn.lane (slip_by note.txn note.place outcome) old.slips now.slips next
-            (λ k. owed_to at.worker x.outcomes k copies) (λ k. owed_to at.worker all k (copies ++ note ∷ [])) accepted (slip_of at.worker note outcome)
-            x.told offered slip_is (owed_more at.worker x.outcomes all copies note outcome x.each refl);
-        numbered = still_numbered at.worker note.txn.lane (slip_by note.txn note.place outcome) accepted now.slips next x.numbered offered;
-        taken_count = ap (λ m. counted (m + 1)) x.taken_count ∙ counted_more (length copies) ∙ ap counted (sym more);
-        stored_count = stored_more' outcome (count_by is_stored x.outcomes) now.mailbox after.mailbox tallied x.stored_count ∙ ap counted (sym (count-append is_stored x.outcomes (outcome ∷ [])));
-        over_count = over_more' outcome (count_by is_over x.outcomes) now.mailbox after.mailbox tallied x.over_count ∙ ap counted (sym (count-append is_over x.outcomes (outcome ∷ [])));
-        tended = tended_more outcome after whose alone never shared;
-      }
+      let each = x.each in (
+        record {
+          outcomes = all;
+          each = omega (arith, one, more, each);
+          told = offered_more moment note.txn.lane (slip_by note.txn note.place outcome) old.slips now.slips next
+              (λ k. owed_to at.worker x.outcomes k copies) (λ k. owed_to at.worker all k (copies ++ note ∷ [])) accepted (slip_of at.worker note outcome)
+              x.told offered slip_is (owed_more at.worker x.outcomes all copies note outcome x.each refl);
+          numbered = still_numbered at.worker moment note.txn.lane (slip_by note.txn note.place outcome) accepted now.slips next x.numbered offered;
+          taken_count = ap (λ m. counted (m + 1)) x.taken_count ∙ counted_more (length copies) ∙ ap counted (sym more);
+          stored_count = stored_more' outcome (count_by is_stored x.outcomes) now.mailbox after.mailbox tallied x.stored_count ∙ ap counted (sym (count-append is_stored x.outcomes (outcome ∷ [])));
+          over_count = over_more' outcome (count_by is_over x.outcomes) now.mailbox after.mailbox tallied x.over_count ∙ ap counted (sym (count-append is_over x.outcomes (outcome ∷ [])));
+          tended = tended_more outcome after whose alone never shared;
+        },
+        refl,
+      )
 
 -- what is handled between two copies
-pub handled_of : (at : Setting) (copies : List Note) (old now : WorkerState) (limit : Option Limit) → IsCounting at copies old now limit → HasHandled at copies old now
+abbrev pub handled_of : (at : Setting) (copies : List Note) (old now : WorkerState) (limit : Option Limit) → IsCounting at copies old now limit → HasHandled at copies old now
 handled_of at copies old now limit x = record {
   outcomes = x.outcomes;
   each = x.each;
@@ -234,7 +237,7 @@ pub counting_none : (at : Setting) (slips : List (Sender Slip)) (old : SpoolStat
     → (new.mailbox.stored ≡ 0) × (new.mailbox.over ≡ 0) × (new.in_use ≡ 0)
     → ((start : ℕ) × IfSome at.quota (λ quota. StartsAt old start) × CountsTo at.quota start new.limit)
     → new.mailbox.state.sharing.is_shared ≡ old.sharing.is_shared
-    → IsCounting at [] (idle slips old) (record { slips = slips; mailbox = new.mailbox; in_use = new.in_use; taken = 0; lost = any_refused slips }) new.limit
+    → (y : IsCounting at [] (idle slips old) (record { slips = slips; mailbox = new.mailbox; in_use = new.in_use; taken = 0; lost = any_refused slips }) new.limit) × (y.outcomes ≡ [])
 counting_none at slips old new mine stored broken left none begins whose =
     let mailbox = new.mailbox in
     let limit = new.limit in
@@ -261,26 +264,28 @@ counting_none at slips old new mine stored broken left none begins whose =
         over_count = none.1;
       };
       counts = λ sound. subst Q start_is begins.2;
-    } in
-    record {
-      outcomes = [];
-      each = refl;
-      told = accepted_nothing (λ k. owed_to at.worker [] k []) slips (λ k. refl);
-      numbered = mine;
-      taken_count = refl;
-      stored_count = none.0;
-      over_count = none.1;
-      tended = record {
-        whose = whose;
-        alone = k;
-        never_in_use = λ e. none.2;
-        shared = λ e. ap (λ (m : MailboxState). shared_of m.state m.faulty new.in_use) (left e) ∙ ap (λ (n : ℕ). shared_of old false n) none.2;
-        counts = λ e. (begins.0, begins.2);
-      };
-    }
+    } in (
+      record {
+        outcomes = [];
+        each = refl;
+        told = accepted_nothing (λ k. owed_to at.worker [] k []) slips (λ k. refl);
+        numbered = mine;
+        taken_count = refl;
+        stored_count = none.0;
+        over_count = none.1;
+        tended = record {
+          whose = whose;
+          alone = k;
+          never_in_use = λ e. none.2;
+          shared = λ e. ap (λ (m : MailboxState). shared_of m.state m.faulty new.in_use) (left e) ∙ ap (λ (n : ℕ). shared_of old false n) none.2;
+          counts = λ e. (begins.0, begins.2);
+        };
+      },
+      refl,
+    )
 
 -- nothing more was handled where nothing more was taken, though a channel may be found gone
-pub handled_lost : (at : Setting) (copies : List Note) (old now : WorkerState) (lost : Bool) → HasHandled at copies old now → HasHandled at copies old (record now { lost = lost })
+abbrev pub handled_lost : (at : Setting) (copies : List Note) (old now : WorkerState) (lost : Bool) → HasHandled at copies old now → HasHandled at copies old (record now { lost = lost })
 handled_lost at copies old now lost x = record {
   outcomes = x.outcomes;
   each = x.each;

@@ -4,4 +4,5 @@ pub mod Counting
 pub mod Settling
 pub mod Telling
 pub mod Handling
+pub mod Working
 pub mod Turning

@@ -2,4 +2,5 @@ pub mod Limits
 pub mod Stored
 pub mod Told
 pub mod Turned
+pub mod TurnTimes
 pub mod Worked

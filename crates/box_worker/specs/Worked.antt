@@ -9,6 +9,7 @@ use Rattle.mail_world.specs.Records.{record_of}
 use Rattle.mail_world.specs.Quotas.{outcomes_settled}
 use Rattle.mbox_rd.specs.Spool.{SpoolState}
 use Rattle.mail_post.specs.Channel.{Sender, Inbox, taken}
+use Rattle.mail_post.specs.InTime.{Ends}
 use Rattle.mail_post.specs.Offered.{HaveNumber, HaveAccepted, any_refused}
 use Rattle.mail_post.specs.declared.channel.Gone.{Gone}
 use Rattle.mail_post.specs.declared.channel.Gone.TheVariants.{Closed, Lost}
@@ -17,6 +18,7 @@ use Rattle.box_worker.specs.Limits.{Setting, marks_behind, kept_behind, CountsTo
 use Rattle.box_worker.specs.Stored.{MailboxState, mailbox_of, CountedMailbox, HasSettled}
 use Rattle.box_worker.specs.Turned.{shared_of, HaveTurned, HasTurned}
 use Rattle.box_worker.specs.Told.{owed_to, is_stored, is_over}
+use Rattle.box_worker.specs.TurnTimes.{TakeTurns}
 
 -- a worker: its senders of slips, its mailbox, how many turns weren't had, how many copies it took, and whether a
 -- channel was found gone
@@ -107,17 +109,28 @@ pub record IsCounting (at : Setting) (copies : List Note) (old new : WorkerState
   pub over_count : new.mailbox.over ≡ counted (count_by is_over outcomes)
   pub tended : IsTended at copies outcomes old.mailbox.state (counted_of new limit)
 
+-- its ends of the channels
+abbrev pub ends_of : WorkerState → Inbox Note → Ends Slip Note
+ends_of worker inbox = record { senders = worker.slips; inbox = inbox }
+
+-- and what it did at its ends of the channels
+pub record IsWorking (at : Setting) (copies : List Note) (before now : Inbox Note) (old new : WorkerState)
+    (limit : Option Limit) : Type 0 where
+  pub counting : IsCounting at copies old new limit
+  pub turns : TakeTurns at.worker copies counting.outcomes (ends_of old before) (ends_of new now)
+
 -- whether its channel was found gone before it was closed
 abbrev pub is_lost : Option Gone → Bool
 is_lost None = false
 is_lost (Some Closed) = false
 is_lost (Some Lost) = true
 
--- What a worker's run comes to: all that its channel gave it until that ended is handled. A channel was found gone just
--- where that one was, or where a slip was handed back.
+-- What a worker's run comes to: all that its channel gave it until that ended is handled, copy by copy, in order of time.
+-- A channel was found gone just where that one was, or where a slip was handed back.
 pub record HasWorked (at : Setting) (before after : Inbox Note) (old new : WorkerState) : Type 0 where
   pub channel : after.channel ≡ before.channel
   pub lanes : after.lanes ≡ before.lanes
   pub ended : IsSome after.gone
   pub lost : new.lost ≡ (any_refused new.slips || is_lost after.gone)
   pub handled : HasHandled at (taken after) old new
+  pub turns : TakeTurns at.worker (taken after) handled.outcomes (ends_of old before) (ends_of new after)

@@ -5,7 +5,7 @@ ghost use Rattle.std.specs.Prelude.{◌≡◌, ◌<◌, Bool, length};
 ghost use Rattle.mail_post.specs.Offered.{IsOffered, any_refused};
 ghost use Rattle.box_worker.specs.Told.{slip_by};
 
-use mail_post::SlipSender;
+use mail_post::{Moment, Receiver, SlipSender};
 use mail_world::{Outcome, Slip, Txn};
 use msg_depot::{Depot, DepotName, Hold};
 use std::marker::Model;
@@ -59,11 +59,18 @@ impl SlipSenders {
         SlipSenders { senders }
     }
 
-    /// Gives the copy's lane a slip. One that comes back is dropped, and its sender says that it did.
-    pub(crate) fn tell<R: Wait>(&mut self, rt: &R, copy: Released, outcome: Outcome)
+    /// Gives the copy's lane a slip, after the picked time, which may be the receiver's. One that comes back is dropped,
+    /// and its sender says that it did.
+    pub(crate) fn tell<K: Moment, N: DepotName, R: Wait>(
+        &mut self,
+        rt: &R,
+        copy: Released,
+        outcome: Outcome,
+        _receiver: &Receiver<N>,
+    )
         requires { copy.txn.lane < length self.old }
         ensures { (accepted : Bool)
-            × IsOffered copy.txn.lane (slip_by copy.txn copy.place outcome) accepted self.old self.new }
+            × IsOffered K.after copy.txn.lane (slip_by copy.txn copy.place outcome) accepted self.old self.new }
     {
         let Released { txn, place } = copy;
         let sender = &mut self.senders[txn.lane as usize];
@@ -73,7 +80,7 @@ impl SlipSenders {
             worker: sender.number(),
             outcome,
         };
-        let _ = sender.offer(rt, slip);
+        let _ = sender.offer::<K, R>(rt, slip);
     }
 
     /// Whether a slip of one of them came back.

@@ -1,21 +1,23 @@
 //! A worker's thread.
 
-ghost use Rattle.std.specs.Prelude.{◌≡◌, ◌<◌, ◌||◌, ℕ, List, [], ◌∷◌, ◌++◌, length, Option};
+ghost use Rattle.std.specs.Prelude.{◌≡◌, ◌<◌, ◌||◌, ℕ, List, [], ◌∷◌, ◌++◌, length, Option, IfOk, IfErr, OnOk, OnErr};
 ghost use Rattle.lmtp_text.specs.Calendar.{civil_at};
 ghost use Rattle.mail_world.specs.declared.Note.{Note};
-ghost use Rattle.mail_post.specs.Channel.{taken};
+ghost use Rattle.mail_post.specs.Channel.{Inbox, taken, IsTimed, HasSameTimes};
+ghost use Rattle.mail_post.specs.InTime.{clock_of};
 ghost use Rattle.mail_post.specs.Offered.{HaveNumber, any_refused};
 ghost use Rattle.box_worker.specs.Stored.{mailbox_of};
 ghost use Rattle.box_worker.specs.Told.{worker_of};
-ghost use Rattle.box_worker.specs.Worked.{WorkerState, idle, IsCounting, HasWorked};
+ghost use Rattle.box_worker.specs.Worked.{WorkerState, idle, IsWorking, HasWorked};
 
 use crate::gate::Gate;
 use crate::mailbox::Mailbox;
 use crate::release::{SlipSenders, release};
 use crate::report::WorkerReport;
-use mail_post::{Gone, Parts, Post, Receiver, SlipSender};
+use mail_post::{Gone, Moment, Parts, Post, Receiver, SlipSender};
 use mbox_rd::Spool;
 use msg_depot::{Depot, DepotName};
+use std::marker::Brand;
 use std::sync::Wait;
 
 /// Stores the copies that come, one after another, and gives each lane a slip for each of its own, until the channel is
@@ -54,8 +56,8 @@ pub fn worker_run<N: DepotName, S: Spool, G: Gate, R: Wait>(
         taken: 0,
     };
     for _ in rt.forever() {
-        match receiver.take(rt) {
-            Ok(post) => worker.handle(rt, depot, host, post),
+        match worker.take_next::<Brand, N, R>(rt, &mut receiver) {
+            Ok(post) => worker.handle(rt, depot, host, post, &receiver),
             Err(Gone::Closed) => return worker.report(receiver, false),
             Err(Gone::Lost) => return worker.report(receiver, true),
         }
@@ -73,17 +75,38 @@ pub struct Worker<S: Spool, G: Gate> {
 }
 
 impl<S: Spool, G: Gate> Worker<S, G> {
-    // One copy, from gate to slip. A slip takes what `release` makes of the hold, so that no lane is told before.
+    // The next copy, taken after the picked time, which may be that of the slips' senders.
+    fn take_next<K: Moment, N: DepotName, R: Wait>(
+        &self,
+        rt: &R,
+        receiver: &mut Receiver<N>,
+    ) -> Result<Post<N>, Gone>
+        ensures same { (receiver.new.channel ≡ receiver.old.channel) × (receiver.new.lanes ≡ receiver.old.lanes) }
+        ensures post { IfOk result (λ post. taken receiver.new ≡ taken receiver.old ++ post ∷ []) }
+        ensures lane { IfOk result (λ post. post.txn.lane < receiver.old.lanes) }
+        ensures timed { OnOk result (IsTimed K.after receiver.old receiver.new) }
+        ensures nothing { OnErr result (taken receiver.new ≡ taken receiver.old) }
+        ensures no_time { OnErr result (HasSameTimes receiver.old receiver.new) }
+        ensures gone { IfErr result (λ why. receiver.new.gone ≡ Some why) }
+    {
+        receiver.take::<K, R>(rt)
+    }
+
+    // One copy, from gate to slip. A slip takes what `release` makes of the hold, so that no lane is told before. In
+    // proofs the receiver says when the copy was taken.
     fn handle<N: DepotName, R: Wait>(
         &mut self,
         rt: &R,
         depot: &Depot<N>,
         host: &[u8],
         post: Post<N>,
+        receiver: &Receiver<N>,
     )
         requires lane { post.txn.lane < length self.old.slips }
-        ensures { (quota : Option ℕ) (worker : ℕ) (copies : List Note) (old : WorkerState)
-            → IsCounting (record { calendar = civil_at; host = host.now; quota = quota; worker = worker }) copies old
+        ensures { (quota : Option ℕ) (worker : ℕ) (copies : List Note) (old : WorkerState) (before was : Inbox Note)
+            → IsTimed (clock_of self.old.slips was) was receiver.now
+            → IsWorking (record { calendar = civil_at; host = host.now; quota = quota; worker = worker }) copies before
+            was old
             (record {
               slips = self.old.slips;
               mailbox = self.old.mailbox.mailbox;
@@ -91,8 +114,8 @@ impl<S: Spool, G: Gate> Worker<S, G> {
               taken = self.old.taken;
               lost = any_refused self.old.slips;
             }) self.old.mailbox.limit
-            → IsCounting (record { calendar = civil_at; host = host.now; quota = quota; worker = worker })
-            (copies ++ post ∷ []) old
+            → IsWorking (record { calendar = civil_at; host = host.now; quota = quota; worker = worker })
+            (copies ++ post ∷ []) before receiver.now old
             (record {
               slips = self.new.slips;
               mailbox = self.new.mailbox.mailbox;
@@ -112,7 +135,8 @@ impl<S: Spool, G: Gate> Worker<S, G> {
         let outcome = self.mailbox.take(rt, depot, host, &envelope, &mut hold);
         let released = release(rt, depot, txn, place, hold);
         self.gate.after(txn, place);
-        self.slips.tell(rt, released, outcome);
+        self.slips
+            .tell::<Brand, N, R>(rt, released, outcome, receiver);
         self.taken = self.taken.saturating_add(1);
     }
 

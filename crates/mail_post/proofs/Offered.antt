@@ -1,10 +1,10 @@
 -- Once a message more is owed to one of several senders, and offered by it or not.
-use Rattle.std.proofs.Common.{◌≡◌, ◌≢◌, ℕ, zero, suc, List, [], ◌∷◌, ◌++◌, length, Bool, true, false, ◌||◌, Some, inl, inr, refl, ap, sym, ◌∙◌, subst, append_assoc, append-nil}
-use Rattle.std.specs.Prelude.{slice_get, slice_set}
+use Rattle.std.proofs.Common.{◌≡◌, ◌≢◌, ℕ, zero, suc, ◌+◌, arith, List, [], ◌∷◌, ◌++◌, length, Bool, true, false, ◌||◌, Some, inl, inr, refl, ap, sym, ◌∙◌, subst, append_assoc, append-nil}
+use Rattle.std.specs.Prelude.{slice_get, slice_set, Result, Ok, Err, OnOk, OnErr}
 use Rattle.std.proofs.Common.{length-set}
 use Rattle.std.proofs.lemmas.Bool.{or_parts}
 use Rattle.mail_world.proofs.Accepted.{get_set}
-use Rattle.mail_post.specs.Channel.{Sender}
+use Rattle.mail_post.specs.Channel.{Sender, IsAccepted}
 use Rattle.mail_post.specs.Offered.{IsPart, HaveNumber, any_refused, given, IsOffered, HasSent, HaveSent, HasAccepted, HaveAccepted}
 
 or_refused : (a b : Bool) → b ≡ true → (a || b) ≡ true
@@ -13,7 +13,7 @@ or_refused false b is = is
 
 module _ {M : Type 0} where
   -- one element more of the whole, and of both
-  part_more : (xs all : List M) (m : M) → IsPart xs all → IsPart xs (all ++ m ∷ [])
+  pub part_more : (xs all : List M) (m : M) → IsPart xs all → IsPart xs (all ++ m ∷ [])
   part_more [] all m h = tt
   part_more (x ∷ xs) [] m h = absurd h
   part_more (x ∷ xs) (y ∷ all) m h = elim h [
@@ -21,7 +21,7 @@ module _ {M : Type 0} where
     | inr rest ↦ inr (part_more (x ∷ xs) all m rest)
   ]
 
-  part_both : (xs all : List M) (m : M) → IsPart xs all → IsPart (xs ++ m ∷ []) (all ++ m ∷ [])
+  pub part_both : (xs all : List M) (m : M) → IsPart xs all → IsPart (xs ++ m ∷ []) (all ++ m ∷ [])
   part_both [] [] m h = inl (refl, tt)
   part_both [] (y ∷ all) m h = inr (part_both [] all m h)
   part_both (x ∷ xs) [] m h = absurd h
@@ -103,6 +103,25 @@ module _ {M : Type 0} where
     all = λ sound. cc;
     some = part_more x.accepted owed m x.some;
   }
+
+module _ {M : Type 0} (moment at : ℕ) (message : Sender M → M) (m : M) (old : List (Sender M)) (sender new : Sender M) (is : slice_get old at ≡ Some sender) (same : message sender ≡ m) where
+  -- the sender at that place was offered the message, as its call says
+  pub offer_accepted : IsAccepted moment m sender new → IsOffered moment at message true old (slice_set old at new)
+  offer_accepted a = record {
+    sender = sender;
+    is = is;
+    when = a.0;
+    later = a.1;
+    after = ap (slice_set old at) (a.2 ∙ ap (λ (x : M). given sender x a.0 true) (sym same));
+  }
+
+  pub offer_handed_back : new ≡ record sender { refused = true } → IsOffered moment at message false old (slice_set old at new)
+  offer_handed_back back = record { sender = sender; is = is; when = moment + 1; later = omega arith; after = ap (slice_set old at) back }
+
+  pub offer_answered : {U : Type 0} (r : Result U M) → OnOk r (IsAccepted moment m sender new) → OnErr r (new ≡ record sender { refused = true })
+      → (accepted : Bool) × IsOffered moment at message accepted old (slice_set old at new)
+  offer_answered (Ok u) a back = (true, offer_accepted a)
+  offer_answered (Err e) a back = (false, offer_handed_back back)
 
 -- the message is owed to the sender at that place, and nothing more to the others
 pub record OwesOneMore {M : Type 0} (old new : ℕ → List M) (at : ℕ) (message : M) : Type 0 where

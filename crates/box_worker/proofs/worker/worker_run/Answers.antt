@@ -1,14 +1,15 @@
-use Rattle.std.proofs.Common.{List, [], refl, sym, subst, true, false, ◌||◌, ◌∙◌, rules}
+use Rattle.std.proofs.Common.{◌≡◌, List, [], refl, ap, sym, subst, true, false, Option, Some, IsSome, ◌||◌, ◌∙◌, rules}
 use Rattle.lmtp_text.specs.Calendar.{civil_at}
 use Rattle.mail_world.specs.declared.Note.{Note}
 use Rattle.mail_world.specs.declared.Slip.{Slip}
-use Rattle.mail_post.specs.Channel.{Sender, taken}
+use Rattle.mail_post.specs.Channel.{Sender, Inbox, taken}
+use Rattle.mail_post.specs.declared.channel.Gone.{Gone}
+use Rattle.mail_post.specs.declared.channel.Gone.TheVariants.{Closed, Lost}
 use Rattle.mail_post.specs.Offered.{any_refused}
 use Rattle.box_worker.specs.Limits.{Setting}
-use Rattle.box_worker.specs.Stored.{MailboxState}
 use Rattle.box_worker.specs.Told.{worker_of}
-use Rattle.box_worker.specs.Worked.{WorkerState, idle, HasHandled, IsCounting}
-use Rattle.box_worker.proofs.Handling.{counting_none, handled_of, handled_lost}
+use Rattle.box_worker.specs.Worked.{WorkerState, idle, is_lost, HasWorked, IsWorking}
+use Rattle.box_worker.proofs.Working.{working_none, worked}
 use Rattle.box_worker.proofs.worker.worker_run.Goals as goal
 
 pub loop-init : goal.loop-init
@@ -16,13 +17,13 @@ loop-init g c =
     let at : Setting = record { calendar = civil_at; host = c.args.host.now; quota = c.args.quota; worker = worker_of c.args.slips.items } in
     let start : WorkerState = idle c.args.slips.items (g.S.Spool.state c.args.spool) in
     let State : List (Sender Slip) → WorkerState = λ slips. record { slips = slips; mailbox = c.on.result.mailbox; in_use = c.on.result.in_use; taken = 0; lost = any_refused slips } in
-    let P : List Note → Type 0 = λ copies. IsCounting at copies start (State c.new.result) c.on.result.limit in
-    let R : List (Sender Slip) → Type 0 = λ slips. IsCounting at [] start (State slips) c.on.result.limit in
+    let P : List Note → Type 0 = λ copies. IsWorking at copies c.args.receiver c.args.receiver start (State c.new.result) c.on.result.limit in
+    let R : List (Sender Slip) → Type 0 = λ slips. IsWorking at [] c.args.receiver c.args.receiver start (State slips) c.on.result.limit in
     record {
       channel = refl;
       lanes = refl;
-      counting = subst P (sym c.requires.fresh) (subst R (sym c.new.ensures)
-          (counting_none at c.args.slips.items (g.S.Spool.state c.args.spool) c.on.result c.requires.worker
+      working = subst P (sym c.requires.fresh) (subst R (sym c.new.ensures)
+          (working_none at c.args.slips.items c.args.receiver (g.S.Spool.state c.args.spool) c.on.result c.requires.worker
           (λ e. c.on.ensures.mended e c.args.host.now) c.on.ensures.broken c.on.ensures.left_alone c.on.ensures.none c.on.ensures.counts c.on.ensures.whose));
     }
 
@@ -31,31 +32,38 @@ loop-preserved g c =
     let at : Setting = record { calendar = civil_at; host = c.args.host.now; quota = c.args.quota; worker = worker_of c.args.slips.items } in
     let start : WorkerState = idle c.args.slips.items (g.S.Spool.state c.args.spool) in
     let now = c.handle.new.self in
-    let P : List Note → Type 0 = λ copies. IsCounting at copies start (record { slips = now.slips; mailbox = now.mailbox.mailbox; in_use = now.mailbox.in_use; taken = now.taken; lost = any_refused now.slips }) now.mailbox.limit in
+    let P : List Note → Type 0 = λ copies. IsWorking at copies c.args.receiver c.take_next.new.receiver start (record { slips = now.slips; mailbox = now.mailbox.mailbox; in_use = now.mailbox.in_use; taken = now.taken; lost = any_refused now.slips }) now.mailbox.limit in
     record {
-      channel = c.take.ensures.same.0 ∙ c.loop.invariant.channel;
-      lanes = c.take.ensures.same.1 ∙ c.loop.invariant.lanes;
-      counting = subst P (sym c.in-Ok.ensures.post) (c.handle.ensures c.args.quota (worker_of c.args.slips.items) (taken c.loop.receiver) start c.loop.invariant.counting);
+      channel = c.take_next.ensures.same.0 ∙ c.loop.invariant.channel;
+      lanes = c.take_next.ensures.same.1 ∙ c.loop.invariant.lanes;
+      working = subst P (sym c.in-Ok.ensures.post)
+          (c.handle.ensures c.args.quota (worker_of c.args.slips.items) (taken c.loop.receiver) start c.args.receiver c.loop.receiver c.in-Ok.ensures.timed c.loop.invariant.working);
     }
 
 pub returns-in-Err-Lost : goal.returns-in-Err-Lost
 returns-in-Err-Lost g c =
     let worker = c.loop.worker in
+    let after = c.take_next.new.receiver in
     let at : Setting = record { calendar = civil_at; host = c.args.host.now; quota = c.args.quota; worker = worker_of c.args.slips.items } in
     let start : WorkerState = idle c.args.slips.items (g.S.Spool.state c.args.spool) in
     let now : WorkerState = record { slips = worker.slips; mailbox = worker.mailbox.mailbox; in_use = worker.mailbox.in_use; taken = worker.taken; lost = any_refused worker.slips } in
-    let P : MailboxState → Type 0 = λ mailbox. HasHandled at (taken c.loop.receiver) start (record now { mailbox = mailbox; lost = any_refused worker.slips || true }) in
-    let handled = subst P (sym c.report-in-Err-Lost.ensures.mailbox)
-    (handled_lost at (taken c.loop.receiver) start now (any_refused worker.slips || true) (handled_of at (taken c.loop.receiver) start now worker.mailbox.limit c.loop.invariant.counting)) in
-    search rules
+    let gone : after.gone ≡ Some Lost = search rules in
+    let e = c.report-in-Err-Lost.ensures in
+    let P : Inbox Note × WorkerState → Type 0 = λ p. HasWorked at c.args.receiver p.0 start p.1 in
+    subst P (λ i. (sym e.ends.0 i, record { slips = sym e.ends.1 i; mailbox = sym e.mailbox i; in_use = sym e.in_use i; taken = sym e.taken i; lost = sym e.lost i }))
+    (worked at c.args.receiver c.loop.receiver after start now worker.mailbox.limit c.loop.invariant.working (search rules) (search rules) c.in-Err-Lost.ensures.nothing c.in-Err-Lost.ensures.no_time
+    (subst IsSome (sym gone) refl) (any_refused worker.slips || true) (ap (λ (w : Option Gone). any_refused worker.slips || is_lost w) (sym gone)))
 
 pub returns-in-Err-Closed : goal.returns-in-Err-Closed
 returns-in-Err-Closed g c =
     let worker = c.loop.worker in
+    let after = c.take_next.new.receiver in
     let at : Setting = record { calendar = civil_at; host = c.args.host.now; quota = c.args.quota; worker = worker_of c.args.slips.items } in
     let start : WorkerState = idle c.args.slips.items (g.S.Spool.state c.args.spool) in
     let now : WorkerState = record { slips = worker.slips; mailbox = worker.mailbox.mailbox; in_use = worker.mailbox.in_use; taken = worker.taken; lost = any_refused worker.slips } in
-    let P : MailboxState → Type 0 = λ mailbox. HasHandled at (taken c.loop.receiver) start (record now { mailbox = mailbox; lost = any_refused worker.slips || false }) in
-    let handled = subst P (sym c.report.ensures.mailbox)
-    (handled_lost at (taken c.loop.receiver) start now (any_refused worker.slips || false) (handled_of at (taken c.loop.receiver) start now worker.mailbox.limit c.loop.invariant.counting)) in
-    search rules
+    let gone : after.gone ≡ Some Closed = search rules in
+    let e = c.report.ensures in
+    let P : Inbox Note × WorkerState → Type 0 = λ p. HasWorked at c.args.receiver p.0 start p.1 in
+    subst P (λ i. (sym e.ends.0 i, record { slips = sym e.ends.1 i; mailbox = sym e.mailbox i; in_use = sym e.in_use i; taken = sym e.taken i; lost = sym e.lost i }))
+    (worked at c.args.receiver c.loop.receiver after start now worker.mailbox.limit c.loop.invariant.working (search rules) (search rules) c.in-Err-Closed.ensures.nothing c.in-Err-Closed.ensures.no_time
+    (subst IsSome (sym gone) refl) (any_refused worker.slips || false) (ap (λ (w : Option Gone). any_refused worker.slips || is_lost w) (sym gone)))

@@ -3,18 +3,20 @@ use Rattle.lmtp_text.specs.Calendar.{civil_at}
 use Rattle.mail_world.specs.declared.Txn.{Txn}
 use Rattle.mail_world.specs.Records.{record_of}
 use Rattle.mail_post.specs.Copies.{envelope_of}
+use Rattle.mail_post.specs.InTime.{clock_of}
 use Rattle.mail_post.specs.Offered.{IsOffered, any_refused}
 use Rattle.mbox_rd.specs.Envelope.{Envelope, record_text}
 use Rattle.box_worker.specs.Limits.{Setting}
 use Rattle.box_worker.specs.Stored.{TakesCopy}
 use Rattle.box_worker.specs.Turned.{TurnsCopy}
 use Rattle.box_worker.specs.Told.{slip_by}
-use Rattle.box_worker.specs.Worked.{WorkerState, IsCounting}
-use Rattle.box_worker.proofs.Handling.{text_of, handled_more}
+use Rattle.box_worker.specs.Worked.{WorkerState, IsWorking}
+use Rattle.box_worker.proofs.Handling.{text_of}
+use Rattle.box_worker.proofs.Working.{working_more}
 use Rattle.box_worker.proofs.worker.Worker.handle.Goals as goal
 
 pub returns : goal.returns
-returns g c quota worker copies old x =
+returns g c quota worker copies old before was timed x =
     let host : List ℕ = c.args.host.now in
     let self = c.args.self.now in
     let took = c.take-outcome in
@@ -28,10 +30,11 @@ returns g c quota worker copies old x =
     let P : List ℕ → Type 0 = λ t. TakesCopy t took.result self.mailbox took.new.self in
     let K : List ℕ → Type 0 = λ t. TurnsCopy t took.result self.mailbox took.new.self in
     let gone = c.release-released.ensures in
+    let moment : ℕ = clock_of now.slips c.args.receiver.now in
     let accepted : Bool = told.ensures.0 in
-    let Q : Txn → Type 0 = λ t. IsOffered t.lane (slip_by t c.release-released.result.place took.result) accepted now.slips told.new.self in
-    let R : ℕ → Type 0 = λ p. IsOffered c.args.post.txn.lane (slip_by c.args.post.txn p took.result) accepted now.slips told.new.self in
-    let H : ℕ → Type 0 = λ n. IsCounting at (copies ++ c.args.post ∷ []) old (record {
+    let Q : Txn → Type 0 = λ t. IsOffered moment t.lane (slip_by t c.release-released.result.place took.result) accepted now.slips told.new.self in
+    let R : ℕ → Type 0 = λ p. IsOffered moment c.args.post.txn.lane (slip_by c.args.post.txn p took.result) accepted now.slips told.new.self in
+    let H : ℕ → Type 0 = λ n. IsWorking at (copies ++ c.args.post ∷ []) before c.args.receiver.now old (record {
       slips = told.new.self;
       mailbox = took.new.self.mailbox;
       in_use = took.new.self.in_use;
@@ -39,5 +42,5 @@ returns g c quota worker copies old x =
       lost = any_refused told.new.self;
     }) took.new.self.limit in
     subst H (sym c.saturating_add-self.ensures)
-    (handled_more at copies old now self.mailbox.limit told.new.self c.args.post accepted x took.result took.new.self
+    (working_more at copies before was c.args.receiver.now old now self.mailbox.limit told.new.self c.args.post accepted x timed took.result took.new.self
     took.ensures.tallied took.ensures.whose (λ e. subst P text (took.ensures.alone e)) took.ensures.never_in_use (λ e. subst K text (took.ensures.shared e)) (subst R (gone.1 ∙ parts.ensures.names.1) (subst Q (gone.0 ∙ parts.ensures.names.0) told.ensures.1)))
