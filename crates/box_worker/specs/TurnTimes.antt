@@ -9,13 +9,13 @@ use Rattle.mail_post.specs.Offered.{IsPart, any_refused}
 use Rattle.mail_post.specs.InTime.{Ends, Sorts, AreInTime}
 
 -- the worker took a copy
-abbrev pub is_take : Deed → Bool
-is_take (Took note) = true
-is_take _ = false
+abbrev pub is_taken : Deed → Bool
+is_taken (Took note) = true
+is_taken _ = false
 
 -- a worker gives the slips that it tells, and takes copies
 abbrev pub worker_sorts : Sorts
-worker_sorts = record { gives = tells_to; takes = is_take }
+worker_sorts = record { gives = tells_to; takes = is_taken }
 
 -- The worker took these copies, one after the other, and told of each before it took the next. Times rise along all that
 -- it did: it took each copy at the time that its receiver knows, and told of it at the one that the slip's sender knows.
