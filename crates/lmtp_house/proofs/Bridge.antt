@@ -114,8 +114,8 @@ module _ {M : Type 0} (lane : M → ℕ) where
     took_all k = elim (cases_lt k n) [
       | inl low ↦ ap (of lane k) c.got_is ∙ each k low ∙ sym (get_or_from_slice_get c.closed.sent k (sent k) [] (c.sent_is k low))
       | inr high ↦
-        let none : get_or c.closed.sent k [] ≡ [] = get_or_past c.closed.sent k [] (omega (arith, c.count, high)) in
-        no_first (of lane k (taken c.inbox)) (of lane k c.passed.waiting) (all_split k ∙ none) ∙ sym none
+          let none : get_or c.closed.sent k [] ≡ [] = get_or_past c.closed.sent k [] (omega (arith, c.count, high)) in
+          no_first (of lane k (taken c.inbox)) (of lane k c.passed.waiting) (all_split k ∙ none) ∙ sym none
     ]
 
     none_waits : c.passed.waiting ≡ []
@@ -186,17 +186,21 @@ module _ (s : Server) (t : Threads) (j : AreJoined s t) where
 
   mail_moments : (b : ℕ) → b < s.boxes → (m : Moments) × IsMail b m
   mail_moments b box =
-      let c = j.mail b box in
-      (_, has_moments (λ note. note.txn.lane) s.lanes (λ k. copies_owed k b (t.transactions k)) (λ k. times (those (gives_to b) (j.lane_deeds k)))
-      (t.courses b).taken (times (those is_taken (j.worker_deeds b))) c (λ k low. j.came_out.taken k b low box)
-      (taken_many s b (t.courses b) (j.worker_deeds b) (j.came_out.courses b box) (j.workers b box).turned))
+      let c = j.mail b box in (
+        _,
+        has_moments (λ note. note.txn.lane) s.lanes (λ k. copies_owed k b (t.transactions k)) (λ k. times (those (gives_to b) (j.lane_deeds k)))
+            (t.courses b).taken (times (those is_taken (j.worker_deeds b))) c (λ k low. j.came_out.taken k b low box)
+            (taken_many s b (t.courses b) (j.worker_deeds b) (j.came_out.courses b box) (j.workers b box).turned),
+      )
 
   slip_moments : (k : ℕ) → k < s.lanes → (m : Moments) × IsSlips k m
   slip_moments k low =
-      let c = j.slips k low in
-      (_, has_moments (λ slip. slip.worker) s.boxes (λ b. slips_to k (slips_from b (t.courses b).outcomes (t.courses b).taken))
-      (λ b. times (those (tells_to k) (j.worker_deeds b))) (t.heard k) (times (those is_heard (j.lane_deeds k))) c (λ b box. j.came_out.heard k b low box)
-      (heard_many (t.heard k) (j.lane_deeds k) (j.lanes k low).heard))
+      let c = j.slips k low in (
+        _,
+        has_moments (λ slip. slip.worker) s.boxes (λ b. slips_to k (slips_from b (t.courses b).outcomes (t.courses b).taken))
+            (λ b. times (those (tells_to k) (j.worker_deeds b))) (t.heard k) (times (those is_heard (j.lane_deeds k))) c (λ b box. j.came_out.heard k b low box)
+            (heard_many (t.heard k) (j.lane_deeds k) (j.lanes k low).heard),
+      )
 
   mail_at : (b : ℕ) → Chosen s.boxes IsMail b
   mail_at = choose s.boxes IsMail mail_moments

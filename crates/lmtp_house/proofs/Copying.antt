@@ -74,8 +74,7 @@ module _ (s : Server) where
       → TakesAll s (note ∷ notes) (outcomes_settled zero (t ∷ marks (next_len t len note) notes)) (spooled bytes false)
       (spooled (bytes ++ (flat_map text (take stored (marked (t ∷ marks (next_len t len note) notes) (note ∷ notes))) ++ torn)) true)
   torn_first true note notes len bytes zero torn e fit none one tears =
-      let new : Spooled = spooled (bytes ++ torn) true in
-      (
+      let new : Spooled = spooled (bytes ++ torn) true in (
         new,
         inr (record { sound = refl; fit = fit; torn = torn; rest = tears.rest; parts = tears.whole; after = refl }),
         all_fail (next_len true len note) notes new refl,
@@ -173,6 +172,6 @@ module _ (s : Server) where
           first = first;
           begun = inl (refl, refl);
           takes = subst (T outcomes) same
-          (subst (λ os. T os ((held ++ mended held) ++ (some ++ torn))) (sym told)
-          (torn_at n copies before_all (held ++ mended held) stored torn refl was next tears));
+              (subst (λ os. T os ((held ++ mended held) ++ (some ++ torn))) (sym told)
+              (torn_at n copies before_all (held ++ mended held) stored torn refl was next tears));
         }

@@ -108,8 +108,7 @@ module _ {V S : Type 0} (site : Site) (May : ℕ → Type 0) (view : VisitsView 
           let below : k < length old_lanes.visits = omega (arith, lanes.as_many.2, slice_get_within new_lanes.inboxes k inbox is) in
           let d = lanes.in_time k below in
           let same : inbox ≡ d.new.inbox = same_at new_lanes.inboxes k inbox d.new.inbox is d.inbox_is in
-          let none : taken d.old.inbox ≡ [] = ap (λ (i : Inbox Slip). taken i) (slips_new.inboxes_are k d.old.inbox d.inbox_was) in
-          (
+          let none : taken d.old.inbox ≡ [] = ap (λ (i : Inbox Slip). taken i) (slips_new.inboxes_are k d.old.inbox d.inbox_was) in (
             (lanes.heard k d.old.inbox inbox d.inbox_was is).took ∙ ap (λ l. l ++ (lanes.works k).heard) none,
             ap (λ (i : Inbox Slip). i.took_at) same ∙ (lane_ended k below).took,
           );

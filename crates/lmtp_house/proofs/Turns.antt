@@ -56,15 +56,17 @@ module _ (calendar : Calendar) (host : List ℕ) (lanes boxes b : ℕ) where
     | inr fails ↦ elim fails.1 [
       | inl missed ↦ (let n : new.in_use ≡ counted (old.in_use + 1) = ap (λ (m : SharedMailbox). m.in_use) missed.1 in absurd (omega (arith, n, none)))
       | inr broke ↦ (
-          let after : List ℕ = bytes ++ [] in
-          (after, inr (record {
-            sound = fails.0;
-            fit = refl;
-            torn = [];
-            rest = record_of calendar host note;
-            parts = refl;
-            after = ap (λ (m : SharedMailbox). spooled after m.faulty) broke.1;
-          }))
+          let after : List ℕ = bytes ++ [] in (
+            after,
+            inr (record {
+              sound = fails.0;
+              fit = refl;
+              torn = [];
+              rest = record_of calendar host note;
+              parts = refl;
+              after = ap (λ (m : SharedMailbox). spooled after m.faulty) broke.1;
+            }),
+          )
           )
     ]
   ]
