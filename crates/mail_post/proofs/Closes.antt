@@ -11,7 +11,7 @@ use Rattle.mail_post.specs.Views.{sender, IsPut}
 use Rattle.mail_post.specs.declared.channel.Gone.{Gone}
 use Rattle.mail_post.specs.declared.channel.Gone.TheVariants.{Closed}
 use Rattle.mail_runs.specs.Timed.{RisesTo}
-use Rattle.mail_runs.specs.Known.{AreLater, times_of}
+use Rattle.mail_runs.specs.Known.{AreLater}
 use Rattle.mail_post.specs.Channel.{IsInbox, Inbox, taken, TookSome, TookAll, HasPassedThrough}
 use Rattle.mail_post.proofs.Parcels.{of-copies}
 use Rattle.mail_post.proofs.Counts.{count_all}

@@ -10,7 +10,7 @@ use Rattle.mail_post.specs.Parcels.{messages, has_mark}
 use Rattle.mail_post.specs.Times.{HaveMoments}
 use Rattle.mail_post.specs.Views.{taker, IsTook}
 use Rattle.mail_post.specs.Rule.{IsFair}
-use Rattle.mail_post.specs.Channel.{IsInbox, Inbox, IsTimed, channel_of, view_of}
+use Rattle.mail_post.specs.Channel.{IsInbox, Inbox, IsTimed, channel_of}
 use Rattle.mail_post.proofs.Parcels.{copies-append}
 use Rattle.mail_post.proofs.Timing.{timed_none}
 use Rattle.mail_post.proofs.Counts.{count_le, count_marks, last_fits, after_copy, after_mark, no_marks}

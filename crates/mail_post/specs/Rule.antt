@@ -7,7 +7,6 @@ use Rattle.mail_post.specs.declared.rule.Parcel.{Parcel}
 use Rattle.mail_post.specs.declared.rule.View.{View}
 use Rattle.mail_post.specs.Parcels.{of, part, messages, has_mark, all_of_lane}
 use Rattle.mail_post.specs.Times.{Times, KeepsTime}
-use Rattle.mail_runs.specs.Known.{times_of}
 
 -- what has gone through a channel, and who knows of it
 pub record Traffic (M : Type 0) : Type 0 where
