@@ -24,7 +24,7 @@ use Rattle.mbox_rd.specs.Mending.{HasNotMended}
 use Rattle.mbox_rd.specs.Spool.{SpoolState}
 use Rattle.mbox_rd.specs.Envelope.{record_text}
 use Rattle.box_worker.specs.declared.limit.Limit.{Limit}
-use Rattle.box_worker.specs.Limits.{Setting, StartsAt, CountsTo, marks_behind, kept_behind}
+use Rattle.box_worker.specs.Limits.{Setting, StartsAt, CountsTo, marks_behind}
 use Rattle.box_worker.specs.Stored.{MailboxState, mailbox_of, CountedMailbox, TakesCopy, Tallies, HasStored, HasSettled}
 use Rattle.box_worker.specs.Told.{slip_by, owed_to, is_stored, is_over}
 use Rattle.box_worker.specs.Turned.{shared_of, TurnsCopy}

@@ -1,5 +1,5 @@
 -- A worker's turns at a shared spool: one copy, one copy more, and what a spool that tells its bytes lists of them.
-use Rattle.std.proofs.Common.{◌≡◌, ◌⊎◌, ◌||◌, ℕ, ◌+◌, ◌≤◌, List, [], ◌∷◌, ◌++◌, length, Bool, true, false, Option, Some, None, Result, Ok, Err, inl, inr, refl, ap, sym, ◌∙◌, subst, true≢false, arith, append_assoc, append-nil, length-append}
+use Rattle.std.proofs.Common.{◌≡◌, ◌⊎◌, ℕ, ◌+◌, ◌≤◌, List, [], ◌∷◌, ◌++◌, length, Bool, true, false, Option, Some, None, Result, Ok, Err, inl, inr, refl, ap, sym, ◌∙◌, subst, true≢false, arith, append_assoc, append-nil}
 use Rattle.std.specs.Prelude.{is_some, count_by, MatchBool}
 use Rattle.std.specs.Option.{IfSome, option_map}
 use Rattle.std.specs.Result.{OnOk, OnErr}
@@ -9,16 +9,15 @@ use Rattle.mail_world.specs.declared.Outcome.{Outcome}
 use Rattle.mail_world.specs.declared.Outcome.TheVariants.{Stored, Failed, NoRoom, TooLarge, OverQuota}
 use Rattle.mail_world.specs.Counts.{counted}
 use Rattle.mail_world.specs.Failures.{Rises}
-use Rattle.mail_world.specs.Records.{Calendar, record_of, mended}
+use Rattle.mail_world.specs.Records.{record_of, mended}
 use Rattle.mail_world.specs.Quotas.{fits}
-use Rattle.mail_world.specs.Turns.{Standing, Turn, NotHad, Had, AllFailed, AreTurns, IsTurn, breaks, has_room}
+use Rattle.mail_world.specs.Turns.{Standing, Turn, NotHad, Had, AllFailed, AreTurns, IsTurn, breaks}
 use Rattle.mail_world.proofs.GivenAway.{count-append}
-use Rattle.mbox_rd.specs.Envelope.{Envelope, record_text}
 use Rattle.mbox_rd.specs.Sharing.{Sharing, had, not_had}
-use Rattle.mbox_rd.specs.Spool.{SpoolState, tail_of, CoversAll, standing, BeginsTurn, MissesTurn, EndsTurn, StaysOrIsCut}
+use Rattle.mbox_rd.specs.Spool.{SpoolState, tail_of, CoversAll, standing, BeginsTurn, MissesTurn, EndsTurn}
 use Rattle.box_worker.specs.declared.limit.Limit.{Limit}
 use Rattle.box_worker.specs.Limits.{Setting, StartsAt, CountsTo, missing, IsLetIn, IsKeptOut}
-use Rattle.box_worker.specs.Stored.{MailboxState, CountedMailbox, HasKept, HasNotKept, IsMeasured}
+use Rattle.box_worker.specs.Stored.{MailboxState, CountedMailbox, HasKept, HasNotKept}
 use Rattle.box_worker.specs.Turned.{MeasuresAnew, SharedMailbox, shared_of, HasKeptMended, HasNotKeptMended, Measures, StoresInTurn, KeepsOutOfTurn, BreaksTurn, FromLock, HadTurn, TakesTurn, DoesInTurn, EndsInTurn, HaveTurned, is_not_had, TellsTurns}
 use Rattle.mbox_rd.specs.Mending.{HasMended, HasNotMended}
 use Rattle.mbox_rd.specs.declared.spool.Tail.{Tail}

@@ -1,5 +1,5 @@
 -- What a worker did with one copy more, in order of time.
-use Rattle.std.proofs.Common.{◌≡◌, ◌==◌, ◌||◌, ℕ, ◌+◌, List, [], ◌∷◌, ◌++◌, length, Bool, true, false, Option, IsSome, refl, ap, sym, ◌∙◌, subst, arith, append_assoc}
+use Rattle.std.proofs.Common.{◌≡◌, ◌||◌, ℕ, ◌+◌, List, [], ◌∷◌, ◌++◌, length, Bool, true, false, Option, IsSome, refl, ap, sym, ◌∙◌, subst, arith}
 use Rattle.std.specs.Option.{IfSome}
 use Rattle.std.proofs.lemmas.Bool.{eq-eqb, ne_eqb}
 use Rattle.std.proofs.lemmas.List.{map-append}
@@ -15,7 +15,7 @@ use Rattle.mbox_rd.specs.Mending.{HasNotMended}
 use Rattle.mbox_rd.specs.Spool.{SpoolState}
 use Rattle.mail_post.specs.Channel.{Sender, Inbox, taken, IsTimed, HasSameTimes}
 use Rattle.mail_post.specs.InTime.{Ends, clock_of, AreInTime}
-use Rattle.mail_post.specs.Offered.{IsPart, HaveNumber, IsOffered, given, any_refused}
+use Rattle.mail_post.specs.Offered.{IsPart, HaveNumber, IsOffered, any_refused}
 use Rattle.mail_post.proofs.InTime.{deed, none_done, gave_more, refused_more, took_more, took_none}
 use Rattle.mail_post.proofs.Offered.{part_more, part_both, refused_now, refused_as_before}
 use Rattle.box_worker.specs.declared.limit.Limit.{Limit}
@@ -24,7 +24,7 @@ use Rattle.box_worker.specs.Stored.{mailbox_of, CountedMailbox, TakesCopy, Talli
 use Rattle.box_worker.specs.Told.{slip_by}
 use Rattle.box_worker.specs.Turned.{TurnsCopy}
 use Rattle.box_worker.specs.TurnTimes.{worker_sorts, TakeTurns}
-use Rattle.box_worker.specs.Worked.{WorkerState, counted_of, idle, is_lost, HasHandled, IsCounting, ends_of, IsWorking, HasWorked}
+use Rattle.box_worker.specs.Worked.{WorkerState, counted_of, idle, is_lost, HasHandled, ends_of, IsWorking, HasWorked}
 use Rattle.box_worker.proofs.Handling.{handled_more, counting_none, handled_of, handled_lost}
 
 turns_more : (worker : ℕ) (copies : List Note) (outcomes : List Outcome) (note : Note) (outcome : Outcome) → length outcomes ≡ length copies
