@@ -1,6 +1,6 @@
 -- One deed more of a lane: a copy that it gave, or a slip that it heard.
-use Rattle.std.proofs.Common.{◌≡◌, ◌≢◌, ℕ, List, [], ◌∷◌, ◌++◌, true, false, refl, ap, sym, ◌∙◌, subst, append-nil}
-use Rattle.std.specs.Prelude.{flat_map, ◌==◌, ◌+◌, Some, slice_get, slice_set, Result, Ok, Err, OnOk, OnErr}
+use Rattle.std.proofs.Common.{◌≡◌, ℕ, List, [], ◌∷◌, ◌++◌, true, false, refl, ap, sym, ◌∙◌, subst, append-nil}
+use Rattle.std.specs.Prelude.{flat_map, ◌+◌, Some, slice_get, slice_set, Result, Ok, Err, OnOk, OnErr}
 use Rattle.std.proofs.Common.{arith}
 use Rattle.std.specs.List.{AllByRecursion}
 use Rattle.std.proofs.lemmas.Bool.{eq-eqb}
@@ -14,7 +14,7 @@ use Rattle.mail_runs.specs.Deeds.{Deed, Gave, Heard, given_in, heard_in}
 use Rattle.mail_runs.specs.Timed.{TimedDeed, whats}
 use Rattle.mail_runs.specs.Known.{is_of_lanes}
 use Rattle.mail_post.specs.Channel.{Sender, Inbox, IsAccepted, IsTimed}
-use Rattle.mail_post.specs.Offered.{given, IsOffered}
+use Rattle.mail_post.specs.Offered.{IsOffered}
 use Rattle.mail_post.specs.InTime.{Ends, clock_of, AreInTime}
 use Rattle.mail_post.proofs.InTime.{deed, none_done, gave_more, refused_more, took_more, took_none}
 use Rattle.lmtp_lane.specs.LaneExchange.{LaneEnds, thread_of, lane_sorts, is_ok, HasDone}
