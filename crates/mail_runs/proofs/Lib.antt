@@ -16,7 +16,9 @@ pub mod Closes
 pub mod Played
 pub mod OneLane
 pub mod ByTime
+pub mod Parted
 pub mod Timed
+pub mod TimedInOrder
 pub mod Known
 pub mod Rising
 pub mod Recipients

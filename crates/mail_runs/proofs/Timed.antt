@@ -12,11 +12,9 @@ use Rattle.mail_runs.specs.Courses.{Server}
 use Rattle.mail_runs.specs.Histories.{Threads, IsWithin, TakesGiven, HearsTold, IsHistory}
 use Rattle.mail_runs.specs.Timed.{TimedDeed, Passed, Timed, whats, those, is_of_lane, gives_to, takes_from, tells_to, hears_from, accepted_by, taken_of, AreTimed}
 use Rattle.mail_runs.proofs.Parts.{passes, fails, same_number, other_number}
-use Rattle.mail_runs.proofs.ByTime.{upto, filter_apart, filter_within, all_filter, all_both, all_upto, filter_upto, upto_same, here, Rises, whole, all_at_time, none_at_time, only_at_time, HasOwner, parts_make, ats, ClimbsTo, climbs_lists, climbs_pair, climbs_until, Between, cut}
+use Rattle.mail_runs.proofs.ByTime.{upto, filter_apart, filter_within, all_filter, all_both, all_upto, filter_upto, upto_same, here, Rises, whole, all_at_time, none_at_time, only_at_time, HasOwner, parts_make, ats, ClimbsTo, climbs_lists, climbs_pair, climbs_until}
+use Rattle.mail_runs.proofs.Parted.{at, Cut, cut_at, Parted, parted, no_more_taken}
 use Rattle.mail_runs.proofs.OneLane.{many}
-
-abbrev at : TimedDeed → ℕ
-at d = d.at
 
 -- deeds that pass a test, and what they are
 whats_at : (test : Deed → Bool) (d : TimedDeed) (ds : List TimedDeed) (b : Bool) → test d.what ≡ b → filter test (whats ds) ≡ whats (those test ds)
@@ -157,9 +155,9 @@ own_hearings k = sifted heard_in (λ (x : Slip). x.txn.lane == k) (is_of_lane k)
     each (Heard slip) = sifts_one heard_in (λ (x : Slip). x.txn.lane == k) (is_of_lane k) (Heard slip) slip refl refl
 
 -- given to a mailbox, taken from it, told to a lane and heard from its channel, and how many
-record Sifted {A : Type 0} (pick : Deed → List A) (p : A → Bool) (test : Deed → Bool) : Type 0 where
-  are : (ds : List TimedDeed) → filter p (flat_map pick (whats ds)) ≡ flat_map pick (whats (those test ds))
-  many_are : (ds : List TimedDeed) → length (filter p (flat_map pick (whats ds))) ≡ length (those test ds)
+pub record Sifted {A : Type 0} (pick : Deed → List A) (p : A → Bool) (test : Deed → Bool) : Type 0 where
+  pub are : (ds : List TimedDeed) → filter p (flat_map pick (whats ds)) ≡ flat_map pick (whats (those test ds))
+  pub many_are : (ds : List TimedDeed) → length (filter p (flat_map pick (whats ds))) ≡ length (those test ds)
 
 sift : {A : Type 0} (pick : Deed → List A) (p : A → Bool) (test : Deed → Bool) → ((d : Deed) → Sifts pick p test d)
     → ((d : Deed) → test d ≡ true → length (pick d) ≡ 1) → Sifted pick p test
@@ -168,7 +166,7 @@ sift pick p test each one = record {
   many_are = λ ds. ap length (sifted pick p test each ds) ∙ counted pick p test one ds;
 }
 
-gifts : (b : ℕ) → Sifted given_in (λ (n : Note). n.mailbox == b) (gives_to b)
+pub gifts : (b : ℕ) → Sifted given_in (λ (n : Note). n.mailbox == b) (gives_to b)
 gifts b = sift given_in (λ (n : Note). n.mailbox == b) (gives_to b) each one
   where
     each : (d : Deed) → Sifts given_in (λ (n : Note). n.mailbox == b) (gives_to b) d
@@ -183,7 +181,7 @@ gifts b = sift given_in (λ (n : Note). n.mailbox == b) (gives_to b) each one
     one (Told slip) e = cc
     one (Heard slip) e = cc
 
-takings : (b : ℕ) → Sifted taken_in (λ (n : Note). n.mailbox == b) (takes_from b)
+pub takings : (b : ℕ) → Sifted taken_in (λ (n : Note). n.mailbox == b) (takes_from b)
 takings b = sift taken_in (λ (n : Note). n.mailbox == b) (takes_from b) each one
   where
     each : (d : Deed) → Sifts taken_in (λ (n : Note). n.mailbox == b) (takes_from b) d
@@ -281,53 +279,6 @@ workers_own s (p ∷ ps) all = (
   workers_own s ps all.1,
 )
 
--- what was taken by a time was accepted before it
-no_sooner : {A : Type 0} (give take : A → Deed) (time : ℕ) (ps : List (Passed A)) (gb ga kb ka : List TimedDeed) → accepted_by give ps ≡ gb ++ ga
-    → taken_of take ps ≡ kb ++ ka
-    → AllByRecursion (λ p. p.accepted < p.taken) ps → AllByRecursion (λ (d : TimedDeed). d.at ≤ time) kb → AllByRecursion (λ (d : TimedDeed). time ≤ d.at) ga
-    → length kb ≤ length gb
-no_sooner give take time ps gb ga [] ka eg ek later kb_by ga_from = omega arith
-no_sooner give take time [] gb ga (k ∷ kb) ka eg ek later kb_by ga_from = absurd (cc)
-no_sooner give take time (p ∷ ps) [] [] (k ∷ kb) ka eg ek later kb_by ga_from = absurd (cc)
-no_sooner give take time (p ∷ ps) [] (g ∷ ga) (k ∷ kb) ka eg ek later kb_by ga_from =
-    let a : p.accepted ≡ g.at = cc in
-    let b : p.taken ≡ k.at = cc in
-    let l : p.accepted < p.taken = later.0 in
-    let m : k.at ≤ time = kb_by.0 in
-    let n : time ≤ g.at = ga_from.0 in
-    absurd (omega arith)
-no_sooner give take time (p ∷ ps) (g ∷ gb) ga (k ∷ kb) ka eg ek later kb_by ga_from =
-    let h : length kb ≤ length gb = no_sooner give take time ps gb ga kb ka (cc) (cc) later.1 kb_by.1 ga_from in omega arith
-
--- a list of deeds, cut where what they are is cut
-record Cut (ds : List TimedDeed) (before after : List Deed) : Type 0 where
-  first : List TimedDeed
-  last : List TimedDeed
-  both : ds ≡ first ++ last
-  first_are : whats first ≡ before
-
-cut_at : (ds : List TimedDeed) (before after : List Deed) → whats ds ≡ before ++ after → Cut ds before after
-cut_at ds [] after e = record { first = []; last = ds; both = refl; first_are = refl }
-cut_at [] (x ∷ before) after e = absurd (cc)
-cut_at (d ∷ ds) (x ∷ before) after e =
-    let c = cut_at ds before after (cc) in
-    let is : d.what ≡ x = cc in
-    record { first = d ∷ c.first; last = c.last; both = ap (λ l. d ∷ l) c.both; first_are = λ i. is i ∷ c.first_are i }
-
--- no more were taken of a channel than it had accepted
-no_more_taken : {A : Type 0} (give take : A → Deed) (gives takes : Deed → Bool) (ds : List TimedDeed) (hi : ℕ) (ps : List (Passed A))
-    → ClimbsTo 0 hi (ats at ds)
-    → those gives ds ≡ accepted_by give ps → those takes ds ≡ taken_of take ps → AllByRecursion (λ p. p.accepted < p.taken) ps
-    → (first last : List TimedDeed) → ds ≡ first ++ last → length (those takes first) ≤ length (those gives first)
-no_more_taken give take gives takes ds hi ps climbs given taken later first last both =
-    let between : Between at first last = cut at 0 hi first last (subst (λ (l : List TimedDeed). ClimbsTo 0 hi (ats at l)) both climbs) in
-    no_sooner give take between.time ps (those gives first) (those gives last) (those takes first) (those takes last)
-    (sym given ∙ ap (those gives) both ∙ filter-append (λ (d : TimedDeed). gives d.what) first last)
-    (sym taken ∙ ap (those takes) both ∙ filter-append (λ (d : TimedDeed). takes d.what) first last)
-    later
-    (all_filter (λ (d : TimedDeed). d.at ≤ between.time) (λ (d : TimedDeed). takes d.what) first between.not_after)
-    (all_filter (λ (d : TimedDeed). between.time ≤ d.at) (λ (d : TimedDeed). gives d.what) last between.not_before)
-
 -- what a worker takes in its turns
 pub taken_in_turns : (b : ℕ) (notes : List Note) (outcomes : List Outcome) → length outcomes ≡ length notes → flat_map taken_in (turns_of b notes outcomes) ≡ notes
 taken_in_turns b [] outcomes e = refl
@@ -335,10 +286,10 @@ taken_in_turns b (note ∷ notes) [] e = absurd (omega arith)
 taken_in_turns b (note ∷ notes) (outcome ∷ outcomes) e = ap (λ l. note ∷ l) (taken_in_turns b notes outcomes (omega arith))
 
 module _ (s : Server) (t : Threads) (x : Timed) (h : AreTimed s t x) where
-  abbrev at_time : ℕ → List TimedDeed
+  abbrev pub at_time : ℕ → List TimedDeed
   at_time n = all_at_time at s.lanes x.lanes n ++ all_at_time at s.boxes x.workers n
 
-  abbrev all : List TimedDeed
+  abbrev pub all : List TimedDeed
   all = upto (h.agree.until + 1) at_time
 
   abbrev passing : (Deed → Bool) → TimedDeed → Bool
@@ -365,7 +316,7 @@ module _ (s : Server) (t : Threads) (x : Timed) (h : AreTimed s t x) where
       filter-append (passing test) (all_at_time at s.lanes x.lanes n) (all_at_time at s.boxes x.workers n)
       ∙ ap (λ l. l ++ those test (all_at_time at s.boxes x.workers n)) (none_at_time at (passing test) s.lanes x.lanes n none)
 
-  of_lane : (k : ℕ) → k < s.lanes → those (is_of_lane k) all ≡ x.lanes k
+  pub of_lane : (k : ℕ) → k < s.lanes → those (is_of_lane k) all ≡ x.lanes k
   of_lane k low = made_of (is_of_lane k) (x.lanes k) (h.agree.lanes_rise k low) (λ n.
       of_lanes_alone (is_of_lane k) n (λ b below. none_own (is_of_lane k) (is_of_worker b) (x.workers b) (h.of_workers b below) (no_lane b k))
       ∙ only_at_time at (passing (is_of_lane k)) s.lanes x.lanes n k low (h.of_lanes k low)
@@ -438,12 +389,21 @@ module _ (s : Server) (t : Threads) (x : Timed) (h : AreTimed s t x) where
       sym (slips_heard (x.slips k)) ∙ ap (λ l. flat_map heard_in (whats l)) (sym (h.agree.heard k low)) ∙ sym ((hearings k).are (x.lanes k))
       ∙ own_hearings k (x.lanes k) ∙ ap (λ l. flat_map heard_in (whats l)) (h.of_lanes k low) ∙ h.heard k low
 
+  -- a mailbox's channel and a lane's, where the deeds are cut
+  pub copies_parted : (b : ℕ) → b < s.boxes → (first last : List TimedDeed) → all ≡ first ++ last
+      → Parted Gave Took (gives_to b) (takes_from b) (x.copies b) first last
+  copies_parted b low = parted Gave Took (gives_to b) (takes_from b) all (h.agree.until + 1) (x.copies b) climbs (copies_accepted b low) (copies_taken b low)
+
+  slips_parted : (k : ℕ) → k < s.lanes → (first last : List TimedDeed) → all ≡ first ++ last
+      → Parted Told Heard (tells_to k) (hears_from k) (x.slips k) first last
+  slips_parted k low = parted Told Heard (tells_to k) (hears_from k) all (h.agree.until + 1) (x.slips k) climbs (slips_accepted k low) (slips_taken k low)
+
   taken_given : (b : ℕ) → b < s.boxes → TakesGiven b 0 (whats all)
   taken_given b low before after whole =
       let c : Cut all before after = cut_at all before after whole in
       let few : length (those (takes_from b) c.first) ≤ length (those (gives_to b) c.first) =
-      no_more_taken Gave Took (gives_to b) (takes_from b) all (h.agree.until + 1) (x.copies b) climbs (copies_accepted b low) (copies_taken b low)
-      (h.agree.copies_later b low) c.first c.last c.both in
+      no_more_taken Gave Took (gives_to b) (takes_from b) (x.copies b) c.first c.last (copies_parted b low c.first c.last c.both)
+      (h.agree.copies_later b low) in
       let took : length (taken_by b before) ≡ length (those (takes_from b) c.first) = sym (ap (λ l. length (taken_by b l)) c.first_are)
       ∙ (takings b).many_are c.first in
       let gave : length (given_to b before) ≡ length (those (gives_to b) c.first) = sym (ap (λ l. length (given_to b l)) c.first_are)
@@ -454,15 +414,15 @@ module _ (s : Server) (t : Threads) (x : Timed) (h : AreTimed s t x) where
   heard_told k low before after whole =
       let c : Cut all before after = cut_at all before after whole in
       let few : length (those (hears_from k) c.first) ≤ length (those (tells_to k) c.first) =
-      no_more_taken Told Heard (tells_to k) (hears_from k) all (h.agree.until + 1) (x.slips k) climbs (slips_accepted k low) (slips_taken k low)
-      (h.agree.slips_later k low) c.first c.last c.both in
+      no_more_taken Told Heard (tells_to k) (hears_from k) (x.slips k) c.first c.last (slips_parted k low c.first c.last c.both)
+      (h.agree.slips_later k low) in
       let took : length (heard_by k before) ≡ length (those (hears_from k) c.first) = sym (ap (λ l. length (heard_by k l)) c.first_are)
       ∙ (hearings k).many_are c.first in
       let gave : length (told_to k before) ≡ length (those (tells_to k) c.first) = sym (ap (λ l. length (told_to k l)) c.first_are)
       ∙ (tellings k).many_are c.first in
       omega arith
 
-  history : IsHistory s t (whats all)
+  pub history : IsHistory s t (whats all)
   history = record {
     within = all_within;
     lanes = λ k low. own_gifts k all ∙ ap (λ l. flat_map given_in (whats l)) (of_lane k low) ∙ h.lanes k low;

@@ -5,3 +5,4 @@ pub mod RunOf
 pub mod OneLane
 pub mod Timed
 pub mod Known
+pub mod Ordered

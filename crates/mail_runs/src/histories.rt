@@ -4,6 +4,7 @@ ghost use Rattle.mail_runs.specs.RunOf.{AHistoryGivesARun};
 ghost use Rattle.mail_runs.specs.OneLane.{OneLaneHasAHistory};
 ghost use Rattle.mail_runs.specs.Timed.{TimesGiveAHistory};
 ghost use Rattle.mail_runs.specs.Known.{KnownAreTimed};
+ghost use Rattle.mail_runs.specs.Ordered.{AnOrderlyHistoryGivesAnOrderlyRun, TimesGiveAnOrderlyHistory};
 
 /// Where all that the lanes and workers did stands in one order, that of each thread and of each channel, there is a
 /// run of the model from a start with as many lanes and mailboxes, over a depot that is large enough, in whose last
@@ -29,4 +30,16 @@ pub fn times_give_a_history()
 /// what the threads did and what passed the channels agrees by time.
 pub fn known_are_timed()
     ensures { KnownAreTimed }
+{}
+
+/// Where in such an order each lane sends one message after the other, and hears the slips of one before it gives the
+/// next, and copies find room in their channels, the run is an orderly one, over channels of that capacity.
+pub fn an_orderly_history_gives_an_orderly_run()
+    ensures { AnOrderlyHistoryGivesAnOrderlyRun }
+{}
+
+/// Where besides the times of each mailbox's channel say that it made room for what it accepted, the order of all deeds
+/// is such a one.
+pub fn times_give_an_orderly_history()
+    ensures { TimesGiveAnOrderlyHistory }
 {}
