@@ -9,6 +9,7 @@ use Rattle.mail_runs.specs.Deeds.{Deed}
 use Rattle.mail_runs.specs.Courses.{Server}
 use Rattle.mail_runs.specs.Histories.{Threads}
 use Rattle.mail_runs.proofs.Parts.{each_set}
+use Rattle.mail_runs.proofs.Manners.{Manner}
 use Rattle.mail_runs.proofs.Stands.{BoxStands, LaneStands}
 use Rattle.mail_runs.proofs.Frames.{IsPastBox, IsPastLane, box_past, lane_past}
 
@@ -16,8 +17,8 @@ use Rattle.mail_runs.proofs.Frames.{IsPastBox, IsPastLane, box_past, lane_past}
 abbrev pub AllBoxes : Server → Threads → ℕ → List Deed → List Box → Type 0
 AllBoxes s t capacity left boxes = (b : ℕ) (box : Box) → slice_get boxes b ≡ Some box → BoxStands s capacity b (t.courses b) left box
 
-abbrev pub AllLanes : Threads → List Deed → List Lane → Type 0
-AllLanes t left lanes = (k : ℕ) (lane : Lane) → slice_get lanes k ≡ Some lane → LaneStands k (t.heard k) left lane
+abbrev pub AllLanes : Manner → Threads → List Deed → List Lane → Type 0
+AllLanes m t left lanes = (k : ℕ) (lane : Lane) → slice_get lanes k ≡ Some lane → LaneStands m k (t.heard k) left lane
 
 -- none changes
 pub no_box : (s : Server) (t : Threads) (capacity : ℕ) (d : Deed) (rest : List Deed) (boxes : List Box) → ((b : ℕ) → IsPastBox b d)
@@ -25,7 +26,8 @@ pub no_box : (s : Server) (t : Threads) (capacity : ℕ) (d : Deed) (rest : List
     → AllBoxes s t capacity rest boxes
 no_box s t capacity d rest boxes past all b box is = box_past s capacity b (t.courses b) d rest box (past b) (all b box is)
 
-pub no_lane : (t : Threads) (d : Deed) (rest : List Deed) (lanes : List Lane) → ((k : ℕ) → IsPastLane k d) → AllLanes t (d ∷ rest) lanes → AllLanes t rest lanes
+pub no_lane : {m : Manner} (t : Threads) (d : Deed) (rest : List Deed) (lanes : List Lane) → ((k : ℕ) → IsPastLane k d) → AllLanes m t (d ∷ rest) lanes
+    → AllLanes m t rest lanes
 no_lane t d rest lanes past all k lane is = lane_past k (t.heard k) d rest lane (past k) (all k lane is)
 
 -- one does
@@ -35,10 +37,10 @@ pub one_box : (s : Server) (t : Threads) (capacity : ℕ) (d : Deed) (rest : Lis
 one_box s t capacity d rest boxes b changed past here all =
     each_set (λ n x. BoxStands s capacity n (t.courses n) rest x) boxes b changed (λ c x other was. box_past s capacity c (t.courses c) d rest x (past c other) (all c x was)) here
 
-pub one_lane : (t : Threads) (d : Deed) (rest : List Deed) (lanes : List Lane) (k : ℕ) (changed : Lane) → ((c : ℕ) → c ≢ k → IsPastLane c d)
-    → LaneStands k (t.heard k) rest changed → AllLanes t (d ∷ rest) lanes → AllLanes t rest (slice_set lanes k changed)
-one_lane t d rest lanes k changed past here all =
-    each_set (λ n x. LaneStands n (t.heard n) rest x) lanes k changed (λ c x other was. lane_past c (t.heard c) d rest x (past c other) (all c x was)) here
+pub one_lane : {m : Manner} (t : Threads) (d : Deed) (rest : List Deed) (lanes : List Lane) (k : ℕ) (changed : Lane) → ((c : ℕ) → c ≢ k → IsPastLane c d)
+    → LaneStands m k (t.heard k) rest changed → AllLanes m t (d ∷ rest) lanes → AllLanes m t rest (slice_set lanes k changed)
+one_lane {m} t d rest lanes k changed past here all =
+    each_set (λ n x. LaneStands m n (t.heard n) rest x) lanes k changed (λ c x other was. lane_past c (t.heard c) d rest x (past c other) (all c x was)) here
 
 -- a list has as many after an element was written
 pub as_many_set : {A : Type 0} (xs : List A) (i n : ℕ) (x : A) → length xs ≡ n → length (slice_set xs i x) ≡ n

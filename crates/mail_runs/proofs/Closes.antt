@@ -13,10 +13,12 @@ use Rattle.mail_world.specs.Runs.{last_house}
 use Rattle.mail_world.proofs.LastSeal.{length_set}
 use Rattle.mail_world.proofs.OtherSteps.{there_is}
 use Rattle.mail_world.proofs.Once.{every_run_in_order}
+use Rattle.mail_progress.specs.Orderly.{IsOrderly}
 use Rattle.mail_runs.specs.Deeds.{turns_of}
 use Rattle.mail_runs.specs.Courses.{Server, Spooled, Course, TakesAll}
 use Rattle.mail_runs.specs.Histories.{Threads}
 use Rattle.mail_runs.specs.RunOf.{EndsAs, HeardAs, IsRunOf}
+use Rattle.mail_runs.proofs.Manners.{Manner, Owed}
 use Rattle.mail_runs.proofs.Parts.{each_set}
 use Rattle.mail_runs.proofs.Same.{Frame, frame_of, frame_run}
 use Rattle.mail_runs.proofs.Story.{Story, goes_on}
@@ -66,17 +68,17 @@ closed s capacity b course box stands =
     }
 
 -- the first n channels are closed
-record IsClosing (s : Server) (t : Threads) (capacity n : ℕ) : Type 0 where
+record IsClosing (m : Manner) (s : Server) (t : Threads) (capacity n : ℕ) : Type 0 where
   house : House
-  story : Story house
+  story : Story m house
   room : house.capacity ≡ capacity
   setting : (house.calendar ≡ s.calendar) × (house.host ≡ s.host) × (house.quota ≡ s.quota)
   as_many : (length house.boxes ≡ s.boxes) × (length house.lanes ≡ s.lanes)
   shut : (b : ℕ) (box : Box) → BoxIs house b box → b < n → EndsAs (t.courses b) box
   open_yet : (b : ℕ) (box : Box) → BoxIs house b box → n ≤ b → BoxStands s capacity b (t.courses b) [] box
-  lanes : (k : ℕ) (lane : Lane) → LaneIs house k lane → LaneStands k (t.heard k) [] lane
+  lanes : (k : ℕ) (lane : Lane) → LaneIs house k lane → LaneStands m k (t.heard k) [] lane
 
-close_next : (s : Server) (t : Threads) (capacity n : ℕ) → n < s.boxes → IsClosing s t capacity n → IsClosing s t capacity (suc n)
+close_next : {m : Manner} (s : Server) (t : Threads) (capacity n : ℕ) → n < s.boxes → IsClosing m s t capacity n → IsClosing m s t capacity (suc n)
 close_next s t capacity n low c =
     let h = c.house in
     let b = there_is h.boxes n (subst (λ m. n < m) (sym c.as_many.0) low) in
@@ -86,7 +88,7 @@ close_next s t capacity n low c =
     let step : CloseStep h n new = (b.0, b.1, stood.still_open, refl) in
     record {
       house = new;
-      story = goes_on h new (Close n) c.story step;
+      story = goes_on h new (Close n) c.story step (λ o. tt);
       room = c.room;
       setting = c.setting;
       as_many = (length_set h.boxes n now ∙ c.as_many.0, c.as_many.1);
@@ -100,15 +102,15 @@ close_next s t capacity n low c =
     lower : (j n : ℕ) → j < suc n → j ≢ n → j < n
     lower j n less differ = omega (arith, differ)
 
-closes : (s : Server) (t : Threads) (capacity n left : ℕ) → n + left ≡ s.boxes → IsClosing s t capacity n → IsClosing s t capacity s.boxes
-closes s t capacity n zero e c = let same : n ≡ s.boxes = omega arith in subst (IsClosing s t capacity) same c
+closes : {m : Manner} (s : Server) (t : Threads) (capacity n left : ℕ) → n + left ≡ s.boxes → IsClosing m s t capacity n → IsClosing m s t capacity s.boxes
+closes {m} s t capacity n zero e c = let same : n ≡ s.boxes = omega arith in subst (IsClosing m s t capacity) same c
 closes s t capacity n (suc left) e c = closes s t capacity (suc n) left (omega arith) (close_next s t capacity n (omega arith) c)
 
-nothing_to_give : (k : ℕ) (lane : Lane) → IsIdle k [] lane ⊎ IsGiving k [] lane → lane.holds ≡ []
+nothing_to_give : {m : Manner} (k : ℕ) (lane : Lane) → IsIdle m k [] lane ⊎ IsGiving m k [] lane → lane.holds ≡ []
 nothing_to_give k lane (inl idle) = idle.no_hold
 nothing_to_give k lane (inr giving) = let wrong = giving.gives in cc
 
-heard_as : (k : ℕ) (all : List Slip) (lane : Lane) → LaneStands k all [] lane → HeardAs all lane
+heard_as : {m : Manner} (k : ℕ) (all : List Slip) (lane : Lane) → LaneStands m k all [] lane → HeardAs all lane
 heard_as k all lane stands = record {
   slips = sym (append-nil lane.slips) ∙ stands.all_told;
   heard = sym (append-nil lane.heard) ∙ stands.all_heard;
@@ -117,11 +119,17 @@ heard_as k all lane stands = record {
   no_hold = nothing_to_give k lane stands.gives;
 }
 
-pub ends : (s : Server) (t : Threads) → Next s t [] → IsRunOf s t
-ends s t next =
+-- the run to the last house is one of the server's, over channels of the capacity, in order where that is owed
+pub record HasEnded (m : Manner) (s : Server) (t : Threads) : Type 0 where
+  pub is : IsRunOf s t
+  pub capacity_is : is.start.capacity ≡ m.capacity
+  pub orderly : Owed m → IsOrderly m.room is.start is.run
+
+pub ends : {m : Manner} (s : Server) (t : Threads) → Next m s t [] → HasEnded m s t
+ends {m} s t next =
     let h = next.house in
     let capacity : ℕ = h.capacity in
-    let before : IsClosing s t capacity 0 = record {
+    let before : IsClosing m s t capacity 0 = record {
       house = h;
       story = next.story;
       room = refl;
@@ -140,16 +148,20 @@ ends s t next =
     let box_is : (b : ℕ) (box : Box) → BoxIs c.house b box → BoxIs (last_house story.start story.run) b box = λ b box is. ap (λ (x : House). slice_get x.boxes b) last ∙ is in
     let below : (b : ℕ) (box : Box) → BoxIs c.house b box → b < s.boxes = λ b box is. subst (λ n. b < n) c.as_many.0 (slice_get_within c.house.boxes b box is) in
     record {
-      blocks = story.blocks;
-      start = story.start;
-      run = story.run;
-      starts = story.starts;
-      runs = story.runs;
-      setting = (sym (ap (λ (f : Frame). f.calendar) frame) ∙ c.setting.0, host, sym (ap (λ (f : Frame). f.quota) frame) ∙ c.setting.2);
-      as_many = (sym (ap (λ (f : Frame). f.boxes) frame) ∙ c.as_many.0, sym (ap (λ (f : Frame). f.lanes) frame) ∙ c.as_many.1);
-      offered = λ k b low.
-          let box = there_is c.house.boxes b (subst (λ n. b < n) (sym c.as_many.0) low) in
-          sym (accepts.order k b box.0 (box_is b box.0 box.1)) ∙ ap (of_lane k) (c.shut b box.0 box.1 low).accepted;
-      mailboxes = λ b box is. let at : BoxIs c.house b box = ap (λ (x : House). slice_get x.boxes b) (sym last) ∙ is in c.shut b box at (below b box at);
-      lanes = λ k lane is. heard_as k (t.heard k) lane (c.lanes k lane (ap (λ (x : House). slice_get x.lanes k) (sym last) ∙ is));
+      is = record {
+        blocks = story.blocks;
+        start = story.start;
+        run = story.run;
+        starts = story.starts;
+        runs = story.runs;
+        setting = (sym (ap (λ (f : Frame). f.calendar) frame) ∙ c.setting.0, host, sym (ap (λ (f : Frame). f.quota) frame) ∙ c.setting.2);
+        as_many = (sym (ap (λ (f : Frame). f.boxes) frame) ∙ c.as_many.0, sym (ap (λ (f : Frame). f.lanes) frame) ∙ c.as_many.1);
+        offered = λ k b low.
+            let box = there_is c.house.boxes b (subst (λ n. b < n) (sym c.as_many.0) low) in
+            sym (accepts.order k b box.0 (box_is b box.0 box.1)) ∙ ap (of_lane k) (c.shut b box.0 box.1 low).accepted;
+        mailboxes = λ b box is. let at : BoxIs c.house b box = ap (λ (x : House). slice_get x.boxes b) (sym last) ∙ is in c.shut b box at (below b box at);
+        lanes = λ k lane is. heard_as k (t.heard k) lane (c.lanes k lane (ap (λ (x : House). slice_get x.lanes k) (sym last) ∙ is));
+      };
+      capacity_is = story.capacity_is;
+      orderly = story.orderly;
     }

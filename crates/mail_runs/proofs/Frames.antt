@@ -6,13 +6,18 @@ use Rattle.std.proofs.lemmas.Grind.{flat_map-append}
 use Rattle.std.proofs.lemmas.List.Sums.{sum_by-cons}
 use Rattle.mail_world.specs.declared.Note.{Note}
 use Rattle.mail_world.specs.declared.Slip.{Slip}
+use Rattle.mail_world.specs.Lists.{Transaction, copies_from}
 use Rattle.mail_world.specs.House.{Lane, Box, notes_of}
 use Rattle.mail_world.specs.Depot.{Depot}
 use Rattle.mail_runs.specs.Deeds.{Deed, Gave, Took, Told, Heard, turns_of, given_in, taken_in, told_in, heard_in, given_by, given_to, taken_by, told_to, heard_by, is_of_worker, worked_by, of_mailbox, slips_to}
 use Rattle.mail_runs.specs.Courses.{Server, Course}
-use Rattle.mail_runs.specs.Histories.{TakesGiven, HearsTold}
+use Rattle.mail_runs.specs.Histories.{HearsTold}
+use Rattle.mail_runs.specs.Timed.{is_of_lane}
+use Rattle.mail_runs.specs.Ordered.{done_by}
+use Rattle.mail_runs.proofs.Manners.{Manner, Owed}
+use Rattle.mail_runs.proofs.Exchanges.{Keeps}
 use Rattle.mail_runs.proofs.Parts.{fails, other_number}
-use Rattle.mail_runs.proofs.Stands.{Begins, BoxStands, LaneStands, IsIdle, IsGiving, DepotStands, slots_for, blocks_to_give}
+use Rattle.mail_runs.proofs.Stands.{Begins, Flows, BoxStands, LaneStands, IsIdle, IsGiving, DepotStands, slots_for, blocks_to_give}
 
 -- the deed isn't of the mailbox
 abbrev pub IsPastBox : ℕ → Deed → Type 0
@@ -42,12 +47,26 @@ pub heard_by-append : (k : ℕ) (xs ys : List Deed) → heard_by k (xs ++ ys) �
 heard_by-append k xs ys = ap (slips_to k) (flat_map-append heard_in xs ys) ∙ filter-append (λ slip. slip.txn.lane == k) (flat_map heard_in xs) (flat_map heard_in ys)
 
 -- as many more wait after a deed that gives, and as many fewer after one that takes
-pub feeds_on : (b w n : ℕ) (d : Deed) (rest : List Deed) → n + length (taken_by b (d ∷ [])) ≡ w + length (given_to b (d ∷ [])) → TakesGiven b w (d ∷ rest) → TakesGiven b n rest
-feeds_on b w n d rest e fed before after whole =
-    let f : length (taken_by b (d ∷ before)) ≤ w + length (given_to b (d ∷ before)) = fed (d ∷ before) after (ap (λ ds. d ∷ ds) whole) in
-    let t : length (taken_by b (d ∷ before)) ≡ length (taken_by b (d ∷ [])) + length (taken_by b before) = ap length (taken_by-append b (d ∷ []) before) ∙ length-append (taken_by b (d ∷ [])) (taken_by b before) in
-    let g : length (given_to b (d ∷ before)) ≡ length (given_to b (d ∷ [])) + length (given_to b before) = ap length (given_to-append b (d ∷ []) before) ∙ length-append (given_to b (d ∷ [])) (given_to b before) in
-    omega arith
+pub flows_on : (capacity b w n : ℕ) (d : Deed) (rest : List Deed) → n + length (taken_by b (d ∷ [])) ≡ w + length (given_to b (d ∷ []))
+    → Flows capacity b w (d ∷ rest) → Flows capacity b n rest
+flows_on capacity b w n d rest e flows =
+    let t : (ds : List Deed) → length (taken_by b (d ∷ ds)) ≡ length (taken_by b (d ∷ [])) + length (taken_by b ds) =
+    λ ds. ap length (taken_by-append b (d ∷ []) ds) ∙ length-append (taken_by b (d ∷ [])) (taken_by b ds) in
+    let g : (ds : List Deed) → length (given_to b (d ∷ ds)) ≡ length (given_to b (d ∷ [])) + length (given_to b ds) =
+    λ ds. ap length (given_to-append b (d ∷ []) ds) ∙ length-append (given_to b (d ∷ [])) (given_to b ds) in
+    record {
+      taken_later = λ before after whole.
+          let f : length (taken_by b (d ∷ before)) ≤ w + length (given_to b (d ∷ before)) = flows.taken_later (d ∷ before) after (ap (λ ds. d ∷ ds) whole) in
+          let u = t before in
+          let v = g before in
+          omega arith;
+      finds_room = λ before after note whole to.
+          let f : w + length (given_to b (d ∷ before)) < capacity + length (taken_by b (d ∷ before)) =
+          flows.finds_room (d ∷ before) after note (ap (λ ds. d ∷ ds) whole) to in
+          let u = t before in
+          let v = g before in
+          omega arith;
+    }
 
 pub tells_on : (k w n : ℕ) (d : Deed) (rest : List Deed) → n + length (heard_by k (d ∷ [])) ≡ w + length (told_to k (d ∷ [])) → HearsTold k w (d ∷ rest) → HearsTold k n rest
 tells_on k w n d rest e fed before after whole =
@@ -83,16 +102,14 @@ past_box b (Heard slip) past = record { given = λ rest. refl; taken = λ rest. 
 pub box_past : (s : Server) (capacity b : ℕ) (course : Course) (d : Deed) (rest : List Deed) (box : Box) → IsPastBox b d → BoxStands s capacity b course (d ∷ rest) box → BoxStands s capacity b course rest box
 box_past s capacity b course d rest box past stands =
     let p = past_box b d past in
-    let more : length box.accepted + length (d ∷ rest) < capacity = stands.room in
     let none_taken : length (taken_by b (d ∷ [])) ≡ 0 = ap length (p.taken []) in
     let none_given : length (given_to b (d ∷ [])) ≡ 0 = ap length (p.given []) in
     record {
       old = stands.old;
       still_open = stands.still_open;
-      room = omega arith;
       prefix = stands.prefix;
       all = sym (ap (λ l. notes_of box.accepted ++ l) (p.given rest)) ∙ stands.all;
-      fed = feeds_on b (length box.accepted - box.taken) (length box.accepted - box.taken) d rest (omega arith) stands.fed;
+      flows = flows_on capacity b (length box.accepted - box.taken) (length box.accepted - box.taken) d rest (omega arith) stands.flows;
       work = record {
         notes = stands.work.notes;
         outcomes = stands.work.outcomes;
@@ -106,32 +123,46 @@ record BesideLane (k : ℕ) (d : Deed) : Type 0 where
   given : (rest : List Deed) → given_by k (d ∷ rest) ≡ given_by k rest
   told : (rest : List Deed) → told_to k (d ∷ rest) ≡ told_to k rest
   heard : (rest : List Deed) → heard_by k (d ∷ rest) ≡ heard_by k rest
+  done : (rest : List Deed) → done_by k (d ∷ rest) ≡ done_by k rest
 
 past_lane : (k : ℕ) (d : Deed) → IsPastLane k d → BesideLane k d
 past_lane k (Gave note) past = record {
   given = λ rest. fails (λ (n : Note). n.txn.lane == k) note (flat_map given_in rest) (other_number note.txn.lane k past);
   told = λ rest. refl;
   heard = λ rest. refl;
+  done = λ rest. fails (is_of_lane k) (Gave note) rest (other_number note.txn.lane k past);
 }
-past_lane k (Took note) past = record { given = λ rest. refl; told = λ rest. refl; heard = λ rest. refl }
+past_lane k (Took note) past = record { given = λ rest. refl; told = λ rest. refl; heard = λ rest. refl; done = λ rest. refl }
 past_lane k (Told slip) past = record {
   given = λ rest. refl;
   told = λ rest. fails (λ (x : Slip). x.txn.lane == k) slip (flat_map told_in rest) (other_number slip.txn.lane k past);
   heard = λ rest. refl;
+  done = λ rest. refl;
 }
 past_lane k (Heard slip) past = record {
   given = λ rest. refl;
   told = λ rest. refl;
   heard = λ rest. fails (λ (x : Slip). x.txn.lane == k) slip (flat_map heard_in rest) (other_number slip.txn.lane k past);
+  done = λ rest. fails (is_of_lane k) (Heard slip) rest (other_number slip.txn.lane k past);
 }
 
+-- a lane keeps to its order where this is so of each way to go on
+abbrev pub KeepsOn : Manner → ℕ → List Deed → List Deed → Lane → Lane → Type 0
+KeepsOn m k left rest lane new = Owed m → (notes : List Note) (ts : List Transaction) → Keeps m.room k notes ts lane.gather (done_by k left)
+    → Keeps m.room k notes ts new.gather (done_by k rest)
+
 -- a lane has as much to give where its messages, its holds and its number stay
-pub gives_still : (k : ℕ) (left rest : List Deed) (lane new : Lane) → given_by k left ≡ given_by k rest → new.holds ≡ lane.holds → new.messages ≡ lane.messages
-    → new.number ≡ lane.number
-    → IsIdle k left lane ⊎ IsGiving k left lane → IsIdle k rest new ⊎ IsGiving k rest new
-gives_still k left rest lane new same holds messages number (inl idle) =
-    inl (record { ts = idle.ts; no_hold = holds ∙ idle.no_hold; gives = sym same ∙ idle.gives; rise = rw number idle.rise })
-gives_still k left rest lane new same holds messages number (inr g) = inr (record {
+pub gives_still : {m : Manner} (k : ℕ) (left rest : List Deed) (lane new : Lane) → given_by k left ≡ given_by k rest → new.holds ≡ lane.holds
+    → new.messages ≡ lane.messages → new.number ≡ lane.number → KeepsOn m k left rest lane new
+    → IsIdle m k left lane ⊎ IsGiving m k left lane → IsIdle m k rest new ⊎ IsGiving m k rest new
+gives_still k left rest lane new same holds messages number keeps (inl idle) = inl (record {
+  ts = idle.ts;
+  no_hold = holds ∙ idle.no_hold;
+  gives = sym same ∙ idle.gives;
+  rise = rw number idle.rise;
+  keeps = λ o. keeps o [] idle.ts (idle.keeps o);
+})
+gives_still k left rest lane new same holds messages number keeps (inr g) = inr (record {
   key = g.key;
   t = g.t;
   place = g.place;
@@ -143,10 +174,12 @@ gives_still k left rest lane new same holds messages number (inr g) = inr (recor
   message = ap (λ ms. slice_get ms g.at) messages ∙ g.message;
   gives = sym same ∙ g.gives;
   rise = rw number g.rise;
+  keeps = λ o. keeps o (copies_from k g.t g.place (g.box ∷ g.boxes)) g.ts (g.keeps o);
 })
 
-pub lane_past : (k : ℕ) (heard : List Slip) (d : Deed) (rest : List Deed) (lane : Lane) → IsPastLane k d → LaneStands k heard (d ∷ rest) lane → LaneStands k heard rest lane
-lane_past k heard d rest lane past stands =
+pub lane_past : {m : Manner} (k : ℕ) (heard : List Slip) (d : Deed) (rest : List Deed) (lane : Lane) → IsPastLane k d → LaneStands m k heard (d ∷ rest) lane
+    → LaneStands m k heard rest lane
+lane_past {m} k heard d rest lane past stands =
     let p = past_lane k d past in
     let none_heard : length (heard_by k (d ∷ [])) ≡ 0 = ap length (p.heard []) in
     let none_told : length (told_to k (d ∷ [])) ≡ 0 = ap length (p.told []) in
@@ -157,7 +190,8 @@ lane_past k heard d rest lane past stands =
       all_told = sym (ap (λ l. lane.slips ++ l) (p.told rest)) ∙ stands.all_told;
       all_heard = sym (ap (λ l. lane.heard ++ l) (p.heard rest)) ∙ stands.all_heard;
       fed = tells_on k (length lane.slips - lane.collected) (length lane.slips - lane.collected) d rest (omega arith) stands.fed;
-      gives = gives_still k (d ∷ rest) rest lane lane (p.given rest) refl refl refl stands.gives;
+      gives = gives_still k (d ∷ rest) rest lane lane (p.given rest) refl refl refl
+          (λ o notes ts keeps. subst (Keeps m.room k notes ts lane.gather) (p.done rest) keeps) stands.gives;
     }
 
 -- a depot has room for what is left once it has it for all

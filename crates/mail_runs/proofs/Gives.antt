@@ -13,8 +13,10 @@ use Rattle.mail_world.proofs.Depots.{set_at}
 use Rattle.mail_runs.specs.Deeds.{Deed, Gave, given_in, given_to}
 use Rattle.mail_runs.specs.Courses.{Server}
 use Rattle.mail_runs.specs.Histories.{Threads, RiseAbove}
-use Rattle.mail_runs.proofs.Parts.{passes, same_number, one_counts}
-use Rattle.mail_runs.proofs.Frames.{feeds_on}
+use Rattle.mail_runs.proofs.Parts.{passes, same_number, same_first, one_counts}
+use Rattle.mail_runs.proofs.Manners.{Manner, Owed}
+use Rattle.mail_runs.proofs.Exchanges.{GoOn, IsPlanned, goes_past, planned}
+use Rattle.mail_runs.proofs.Frames.{flows_on}
 use Rattle.mail_runs.proofs.Stands.{BoxStands, DepotStands, free_slot, one_if_free, slots_for, blocks_to_give}
 
 rise_lower : (m n : ℕ) (ts : List Transaction) → m ≤ n → RiseAbove n ts → RiseAbove m ts
@@ -22,7 +24,7 @@ rise_lower m n [] le rise = tt
 rise_lower m n (t ∷ ts) le rise = let low : n < t.number = rise.0 in (omega arith, rise.1)
 
 -- the next message of a lane, of which this is the first copy
-pub record IsOpening (k lo : ℕ) (note : Note) (more : List Note) : Type 0 where
+pub record IsOpening (m : Manner) (k lo : ℕ) (note : Note) (more : List Note) (left : List Deed) : Type 0 where
   pub t : Transaction
   pub box : ℕ
   pub boxes : List ℕ
@@ -30,33 +32,43 @@ pub record IsOpening (k lo : ℕ) (note : Note) (more : List Note) : Type 0 wher
   pub above : lo < t.number
   pub rise : RiseAbove t.number ts
   pub gives : note ∷ more ≡ copies_from k t 0 (box ∷ boxes) ++ flat_map (copies k) ts
+  pub planned : Owed m → IsPlanned m.room k t box boxes ts (Gave note ∷ left)
 
-opening_by : (k lo : ℕ) (note : Note) (more : List Note) (t : Transaction) (ts : List Transaction) → RiseAbove lo (t ∷ ts) → note ∷ more ≡ copies k t ++ flat_map (copies k) ts
-    → (copies k t ≡ [] → IsOpening k lo note more) → (boxes : List ℕ) → copies k t ≡ copies_from k t 0 boxes → IsOpening k lo note more
-opening_by k lo note more t ts rise e later [] same = later same
-opening_by k lo note more t ts rise e later (box ∷ boxes) same = record {
-  t = t;
-  box = box;
-  boxes = boxes;
-  ts = ts;
-  above = rise.0;
-  rise = rise.1;
-  gives = e ∙ ap (λ cs. cs ++ flat_map (copies k) ts) same;
-}
+module _ (m : Manner) (k lo : ℕ) (note : Note) (more : List Note) (left : List Deed) where
+  opening_by : (t : Transaction) (ts : List Transaction) → RiseAbove lo (t ∷ ts) → note ∷ more ≡ copies k t ++ flat_map (copies k) ts
+      → (Owed m → GoOn m.room k (t ∷ ts) (Gave note ∷ left)) → (copies k t ≡ [] → IsOpening m k lo note more left)
+      → (boxes : List ℕ) → copies k t ≡ copies_from k t 0 boxes → IsOpening m k lo note more left
+  opening_by t ts rise e goes later [] same = later same
+  opening_by t ts rise e goes later (box ∷ boxes) same = record {
+    t = t;
+    box = box;
+    boxes = boxes;
+    ts = ts;
+    above = rise.0;
+    rise = rise.1;
+    gives = e ∙ ap (λ cs. cs ++ flat_map (copies k) ts) same;
+    planned = λ o. planned m.room k t box boxes ts (Gave note ∷ left) same (goes o);
+  }
 
-opening_of : (k lo : ℕ) (note : Note) (more : List Note) (t : Transaction) (ts : List Transaction) → RiseAbove lo (t ∷ ts) → note ∷ more ≡ copies k t ++ flat_map (copies k) ts
-    → (copies k t ≡ [] → IsOpening k lo note more) → (v : Verdict) → t.disposition.verdict ≡ v → IsOpening k lo note more
-opening_of k lo note more t ts rise e later Whole is = opening_by k lo note more t ts rise e later t.session.recipients (ap (copies_if k t) is)
-opening_of k lo note more t ts rise e later TooLarge is = later (ap (copies_if k t) is)
-opening_of k lo note more t ts rise e later NoRoom is = later (ap (copies_if k t) is)
+  opening_of : (t : Transaction) (ts : List Transaction) → RiseAbove lo (t ∷ ts) → note ∷ more ≡ copies k t ++ flat_map (copies k) ts
+      → (Owed m → GoOn m.room k (t ∷ ts) (Gave note ∷ left)) → (copies k t ≡ [] → IsOpening m k lo note more left)
+      → (v : Verdict) → t.disposition.verdict ≡ v → IsOpening m k lo note more left
+  opening_of t ts rise e goes later Whole is = opening_by t ts rise e goes later t.session.recipients (ap (copies_if k t) is)
+  opening_of t ts rise e goes later TooLarge is = later (ap (copies_if k t) is)
+  opening_of t ts rise e goes later NoRoom is = later (ap (copies_if k t) is)
 
-pub opening : (k lo : ℕ) (note : Note) (more : List Note) (ts : List Transaction) → RiseAbove lo ts → note ∷ more ≡ flat_map (copies k) ts → IsOpening k lo note more
-opening k lo note more [] rise e = cc
-opening k lo note more (t ∷ ts) rise e =
-    let above : lo < t.number = rise.0 in
-    opening_of k lo note more t ts rise e
-    (λ none. opening k lo note more ts (rise_lower lo t.number ts (omega arith) rise.1) (e ∙ ap (λ cs. cs ++ flat_map (copies k) ts) none))
-    t.disposition.verdict refl
+  pub opening : (ts : List Transaction) → RiseAbove lo ts → note ∷ more ≡ flat_map (copies k) ts → (Owed m → GoOn m.room k ts (Gave note ∷ left))
+      → IsOpening m k lo note more left
+  opening [] rise e goes = cc
+  opening (t ∷ ts) rise e goes =
+      let above : lo < t.number = rise.0 in
+      opening_of t ts rise e goes
+      (λ none. opening ts (rise_lower lo t.number ts (omega arith) rise.1) (e ∙ ap (λ cs. cs ++ flat_map (copies k) ts) none)
+      (λ o. goes_past m.room k note t ts left none (goes o)))
+      t.disposition.verdict refl
+
+pub message_is : {m : Manner} {k lo : ℕ} {note : Note} {more : List Note} {left : List Deed} (o : IsOpening m k lo note more left) → note.message ≡ o.t.message
+message_is o = ap (λ (n : Note). n.message) (same_first _ _ _ _ o.gives)
 
 -- what is held under a key that was just written
 pub held_now : (d : Depot) (key : Key) (slot : Slot) (held : Held) (free : List ℕ) → slice_get d.slots key.slot ≡ Some slot → held_under (with_held d key held free) key ≡ held
@@ -101,7 +113,6 @@ given_here s capacity t note key rest box stands =
     let b : ℕ = note.mailbox in
     let post : Post = record { note = note; key = key } in
     let given : (ds : List Deed) → given_to b (Gave note ∷ ds) ≡ note ∷ given_to b ds = λ ds. passes (λ (n : Note). n.mailbox == b) note (flat_map given_in ds) (same_number b b refl) in
-    let more : length box.accepted + length (Gave note ∷ rest) < capacity = stands.room in
     let longer : length (box.accepted ++ post ∷ []) ≡ length box.accepted + 1 = length-append box.accepted (post ∷ []) in
     let one : length (given_to b (Gave note ∷ [])) ≡ 1 = ap length (given []) in
     let notes : notes_of (box.accepted ++ post ∷ []) ≡ notes_of box.accepted ++ note ∷ [] = map-append (λ (p : Post). p.note) box.accepted (post ∷ []) in
@@ -111,10 +122,9 @@ given_here s capacity t note key rest box stands =
     record {
       old = stands.old;
       still_open = stands.still_open;
-      room = omega arith;
       prefix = omega arith;
       all = ap (λ l. l ++ given_to b rest) notes ∙ append_assoc (notes_of box.accepted) (note ∷ []) (given_to b rest) ∙ ap (λ l. notes_of box.accepted ++ l) (sym (given rest)) ∙ stands.all;
-      fed = feeds_on b (length box.accepted - box.taken) (length (box.accepted ++ post ∷ []) - box.taken) (Gave note) rest (omega arith) stands.fed;
+      flows = flows_on capacity b (length box.accepted - box.taken) (length (box.accepted ++ post ∷ []) - box.taken) (Gave note) rest (omega arith) stands.flows;
       work = record {
         notes = stands.work.notes;
         outcomes = stands.work.outcomes;

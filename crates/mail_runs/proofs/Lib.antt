@@ -1,4 +1,6 @@
 pub mod Parts
+pub mod Manners
+pub mod Exchanges
 pub mod Story
 pub mod Stands
 pub mod Frames

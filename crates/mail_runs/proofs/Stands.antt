@@ -1,5 +1,5 @@
 -- Where a house stands while the deeds are played: of each lane and of each mailbox, what is left of theirs.
-use Rattle.std.proofs.Common.{◌≡◌, ◌⊎◌, ℕ, ◌+◌, ◌-◌, ◌<◌, ◌≤◌, List, [], ◌∷◌, ◌++◌, length, drop, true, false, Option, Some, None}
+use Rattle.std.proofs.Common.{◌≡◌, ◌⊎◌, ℕ, ◌+◌, ◌-◌, ◌≤◌, List, [], ◌∷◌, ◌++◌, length, drop, true, false, Option, Some, None}
 use Rattle.std.specs.Prelude.{flat_map, slice_get, sum_by}
 use Rattle.std.specs.List.{AllByRecursion}
 use Rattle.mail_world.specs.declared.Note.{Note}
@@ -13,6 +13,9 @@ use Rattle.mail_world.specs.Events.{LaneIs, BoxIs, outcome_of, sealed_up_to}
 use Rattle.mail_runs.specs.Deeds.{Deed, Gave, Told, given_by, given_to, told_to, heard_by, worked_by, turns_of}
 use Rattle.mail_runs.specs.Courses.{Server, Spooled, Course, TakesAll}
 use Rattle.mail_runs.specs.Histories.{Threads, RiseAbove, IsWithin, TakesGiven, HearsTold}
+use Rattle.mail_runs.specs.Ordered.{done_by, FindsRoom}
+use Rattle.mail_runs.proofs.Manners.{Manner, Owed}
+use Rattle.mail_runs.proofs.Exchanges.{Keeps}
 
 -- what a mailbox's spool holds, and whether its worker is faulty
 abbrev pub spooled : Box → Spooled
@@ -33,25 +36,30 @@ pub record WorkLeft (s : Server) (b : ℕ) (course : Course) (left : List Deed) 
   pub queue : notes_of (drop box.taken box.accepted) ++ given_to b left ≡ notes
   pub takes : TakesAll s notes outcomes (spooled box) (in_the_end course)
 
+-- what is left of the deeds takes what the channel has accepted by then, and gives where it has room, where so many copies wait
+pub record Flows (capacity b waiting : ℕ) (left : List Deed) : Type 0 where
+  pub taken_later : TakesGiven b waiting left
+  pub finds_room : FindsRoom capacity b waiting left
+
 -- a mailbox
 pub record BoxStands (s : Server) (capacity b : ℕ) (course : Course) (left : List Deed) (box : Box) : Type 0 where
   pub old : box.old ≡ course.old
   pub still_open : box.closed ≡ false
-  pub room : length box.accepted + length left < capacity
   pub prefix : box.taken ≤ length box.accepted
   pub all : notes_of box.accepted ++ given_to b left ≡ course.taken
-  pub fed : TakesGiven b (length box.accepted - box.taken) left
+  pub flows : Flows capacity b (length box.accepted - box.taken) left
   pub work : WorkLeft s b course left box
 
 -- a lane with nothing to give away, which may begin its next transactions
-pub record IsIdle (k : ℕ) (left : List Deed) (lane : Lane) : Type 0 where
+pub record IsIdle (m : Manner) (k : ℕ) (left : List Deed) (lane : Lane) : Type 0 where
   pub ts : List Transaction
   pub no_hold : lane.holds ≡ []
   pub gives : given_by k left ≡ flat_map (copies k) ts
   pub rise : RiseAbove lane.number ts
+  pub keeps : Owed m → Keeps m.room k [] ts lane.gather (done_by k left)
 
 -- a lane with a message of which copies are left
-pub record IsGiving (k : ℕ) (left : List Deed) (lane : Lane) : Type 0 where
+pub record IsGiving (m : Manner) (k : ℕ) (left : List Deed) (lane : Lane) : Type 0 where
   pub key : Key
   pub t : Transaction
   pub place : ℕ
@@ -63,16 +71,17 @@ pub record IsGiving (k : ℕ) (left : List Deed) (lane : Lane) : Type 0 where
   pub message : slice_get lane.messages at ≡ Some (sealed_up_to key t.number t.message place)
   pub gives : given_by k left ≡ copies_from k t place (box ∷ boxes) ++ flat_map (copies k) ts
   pub rise : RiseAbove lane.number ts
+  pub keeps : Owed m → Keeps m.room k (copies_from k t place (box ∷ boxes)) ts lane.gather (done_by k left)
 
 -- a lane
-pub record LaneStands (k : ℕ) (heard : List Slip) (left : List Deed) (lane : Lane) : Type 0 where
+pub record LaneStands (m : Manner) (k : ℕ) (heard : List Slip) (left : List Deed) (lane : Lane) : Type 0 where
   pub no_draft : lane.draft ≡ None
   pub within : lane.collected ≤ length lane.slips
   pub queue : drop lane.collected lane.slips ++ told_to k left ≡ heard_by k left
   pub all_told : lane.slips ++ told_to k left ≡ heard
   pub all_heard : lane.heard ++ heard_by k left ≡ heard
   pub fed : HearsTold k (length lane.slips - lane.collected) left
-  pub gives : IsIdle k left lane ⊎ IsGiving k left lane
+  pub gives : IsIdle m k left lane ⊎ IsGiving m k left lane
 
 -- a slot and as many blocks as its message takes for each copy that is left to give, which is more than are needed
 abbrev pub slots_for : Deed → ℕ
@@ -97,10 +106,10 @@ pub record DepotStands (left : List Deed) (d : Depot) : Type 0 where
   pub blocks : sum_by blocks_to_give left ≤ length d.free
 
 -- the house
-pub record Stands (s : Server) (t : Threads) (left : List Deed) (h : House) : Type 0 where
+pub record Stands (m : Manner) (s : Server) (t : Threads) (left : List Deed) (h : House) : Type 0 where
   pub setting : (h.calendar ≡ s.calendar) × (h.host ≡ s.host) × (h.quota ≡ s.quota)
   pub as_many : (length h.boxes ≡ s.boxes) × (length h.lanes ≡ s.lanes)
   pub within : AllByRecursion (IsWithin s) left
   pub boxes : (b : ℕ) (box : Box) → BoxIs h b box → BoxStands s h.capacity b (t.courses b) left box
-  pub lanes : (k : ℕ) (lane : Lane) → LaneIs h k lane → LaneStands k (t.heard k) left lane
+  pub lanes : (k : ℕ) (lane : Lane) → LaneIs h k lane → LaneStands m k (t.heard k) left lane
   pub depot : DepotStands left h.depot

@@ -12,8 +12,17 @@ use Rattle.mail_world.proofs.Holds.{all_of}
 use Rattle.mail_runs.specs.Deeds.{Deed}
 use Rattle.mail_runs.specs.Courses.{Server, Course, IsCourse}
 use Rattle.mail_runs.specs.Histories.{Threads, IsHistory}
+use Rattle.mail_runs.specs.Ordered.{AreExchanges, FindsRoom, done_by}
+use Rattle.mail_runs.proofs.Manners.{Manner, Owed}
+use Rattle.mail_runs.proofs.Exchanges.{go_on}
 use Rattle.mail_runs.proofs.Stands.{BoxStands, LaneStands, free_slot, slots_for, blocks_to_give}
 use Rattle.mail_runs.proofs.Next.{Next}
+
+-- the deeds that are to be played: a history, with room for each copy, and in order where that is owed
+pub record IsPlayed (m : Manner) (s : Server) (t : Threads) (deeds : List Deed) : Type 0 where
+  pub history : IsHistory s t deeds
+  pub finds_room : (b : ℕ) → b < s.boxes → FindsRoom m.capacity b 0 deeds
+  pub exchanges : Owed m → (k : ℕ) → k < s.lanes → AreExchanges m.room k (t.transactions k) (done_by k deeds)
 
 -- a list with an element of each kind
 record IsListed {A : Type 0} (P : ℕ → A → Type 0) (n : ℕ) : Type 0 where
@@ -92,8 +101,10 @@ record IsFirst (s : Server) (capacity b : ℕ) (course : Course) (deeds : List D
   fresh : IsFreshBox box
   stands : BoxStands s capacity b course deeds box
 
-a_first_box : (s : Server) (t : Threads) (deeds : List Deed) → IsHistory s t deeds → (b : ℕ) → b < s.boxes → (box : Box) × IsFirst s (suc (length deeds)) b (t.courses b) deeds box
-a_first_box s t deeds h b low =
+a_first_box : (m : Manner) (s : Server) (t : Threads) (deeds : List Deed) → IsPlayed m s t deeds → (b : ℕ) → b < s.boxes
+    → (box : Box) × IsFirst s m.capacity b (t.courses b) deeds box
+a_first_box m s t deeds p b low =
+    let h : IsHistory s t deeds = p.history in
     let course : Course = t.courses b in
     let c : IsCourse s course = h.courses b low in (
       first_box course c.first.bytes c.first.faulty,
@@ -102,44 +113,55 @@ a_first_box s t deeds h b low =
         stands = record {
           old = refl;
           still_open = refl;
-          room = omega arith;
           prefix = omega arith;
           all = h.accepted b low;
-          fed = h.taken_later b low;
+          flows = record { taken_later = h.taken_later b low; finds_room = p.finds_room b low };
           work = record { notes = course.taken; outcomes = course.outcomes; program = h.workers b low; queue = h.accepted b low; takes = c.takes };
         };
       },
     )
 
-record IsFirstLane (t : Threads) (deeds : List Deed) (k : ℕ) (lane : Lane) : Type 0 where
+record IsFirstLane (m : Manner) (t : Threads) (deeds : List Deed) (k : ℕ) (lane : Lane) : Type 0 where
   fresh : IsFreshLane lane
-  stands : LaneStands k (t.heard k) deeds lane
+  stands : LaneStands m k (t.heard k) deeds lane
 
-a_first_lane : (s : Server) (t : Threads) (deeds : List Deed) → IsHistory s t deeds → (k : ℕ) → k < s.lanes → (lane : Lane) × IsFirstLane t deeds k lane
-a_first_lane s t deeds h k low = (
+a_first_lane : (m : Manner) (s : Server) (t : Threads) (deeds : List Deed) → IsPlayed m s t deeds → (k : ℕ) → k < s.lanes
+    → (lane : Lane) × IsFirstLane m t deeds k lane
+a_first_lane m s t deeds p k low = (
   first_lane,
   record {
     fresh = record { number = refl; draft = refl; messages = refl; holds = refl; places = refl; slips = refl; collected = refl; heard = refl };
     stands = record {
       no_draft = refl;
       within = omega arith;
-      queue = h.told k low ∙ sym (h.heard k low);
-      all_told = h.told k low;
-      all_heard = h.heard k low;
-      fed = h.heard_later k low;
-      gives = inl (record { ts = t.transactions k; no_hold = refl; gives = h.lanes k low; rise = h.rise k low });
+      queue = p.history.told k low ∙ sym (p.history.heard k low);
+      all_told = p.history.told k low;
+      all_heard = p.history.heard k low;
+      fed = p.history.heard_later k low;
+      gives = inl (record {
+        ts = t.transactions k;
+        no_hold = refl;
+        gives = p.history.lanes k low;
+        rise = p.history.rise k low;
+        keeps = λ o. record {
+          slips = [];
+          after = done_by k deeds;
+          are = refl;
+          answered = tt;
+          goes = go_on m.room k (t.transactions k) (done_by k deeds) (p.exchanges o k low);
+        };
+      });
     };
   },
 )
 
-pub begins : (s : Server) (t : Threads) (deeds : List Deed) → IsHistory s t deeds → Next s t deeds
-begins s t deeds h =
-    let capacity : ℕ = suc (length deeds) in
-    let boxes = listed (λ b box. IsFirst s capacity b (t.courses b) deeds box) s.boxes (a_first_box s t deeds h) in
-    let lanes = listed (IsFirstLane t deeds) s.lanes (a_first_lane s t deeds h) in
+pub begins : (m : Manner) (s : Server) (t : Threads) (deeds : List Deed) → IsPlayed m s t deeds → Next m s t deeds
+begins m s t deeds p =
+    let boxes = listed (λ b box. IsFirst s m.capacity b (t.courses b) deeds box) s.boxes (a_first_box m s t deeds p) in
+    let lanes = listed (IsFirstLane m t deeds) s.lanes (a_first_lane m s t deeds p) in
     let slots : ℕ = sum_by slots_for deeds in
     let blocks : ℕ = sum_by blocks_to_give deeds in
-    let start : House = record { calendar = s.calendar; host = s.host; quota = s.quota; capacity = capacity; depot = large slots blocks; boxes = boxes.all; lanes = lanes.all } in
+    let start : House = record { calendar = s.calendar; host = s.host; quota = s.quota; capacity = m.capacity; depot = large slots blocks; boxes = boxes.all; lanes = lanes.all } in
     let starts : IsStart blocks start = record {
       boxes = all_of IsFreshBox boxes.all (λ b box is. (boxes.each b box is).fresh);
       lanes = all_of IsFreshLane lanes.all (λ k lane is. (lanes.each k lane is).fresh);
@@ -148,11 +170,11 @@ begins s t deeds h =
     } in
     record {
       house = start;
-      story = record { blocks = blocks; start = start; run = []; starts = starts; runs = tt; last = refl };
+      story = record { blocks = blocks; start = start; run = []; starts = starts; runs = tt; last = refl; capacity_is = refl; orderly = λ o. tt };
       stands = record {
         setting = (refl, refl, refl);
         as_many = (boxes.long, lanes.long);
-        within = h.within;
+        within = p.history.within;
         boxes = λ b box is. (boxes.each b box is).stands;
         lanes = λ k lane is. (lanes.each k lane is).stands;
         depot = record { slots = let e = slots_count slots in omega arith; blocks = let e = length-numbers blocks in omega arith };

@@ -8,16 +8,22 @@ use Rattle.mail_world.specs.Events.{Step, MayHappen, LaneIs, BoxIs, outcome_of}
 use Rattle.mail_world.specs.Runs.{Happened, Run, last_house}
 use Rattle.mail_world.proofs.MayHappen.{put_happens, seal_happens, release_happens}
 use Rattle.mail_world.proofs.Senders.{slip_happens}
+use Rattle.mail_progress.specs.Orderly.{IsInOrder, IsOrderly}
+use Rattle.mail_progress.specs.OrderlyRuns.{SlipsFindRoom}
+use Rattle.mail_progress.proofs.Within.{slips_find_room}
+use Rattle.mail_runs.proofs.Manners.{Manner, Owed}
 use Rattle.std.specs.Prelude.{◌≤◌}
 
--- a run from a start to the house
-pub record Story (h : House) : Type 0 where
+-- a run from a start to the house, over channels of the capacity, in order where that is owed
+pub record Story (m : Manner) (h : House) : Type 0 where
   pub blocks : ℕ
   pub start : House
   pub run : List Happened
   pub starts : IsStart blocks start
   pub runs : Run start run
   pub last : last_house start run ≡ h
+  pub capacity_is : start.capacity ≡ m.capacity
+  pub orderly : Owed m → IsOrderly m.room start run
 
 last_more : (start : House) (run : List Happened) (x : Happened) → last_house start (run ++ x ∷ []) ≡ x.house
 last_more start [] x = refl
@@ -27,9 +33,14 @@ run_more : (start : House) (run : List Happened) (x : Happened) → Run start ru
 run_more start [] x r step = (step, tt)
 run_more start (y ∷ run) x r step = (r.0, run_more y.house run x r.1 step)
 
+orderly_more : (room : ℕ) (start : House) (run : List Happened) (x : Happened) → IsOrderly room start run → IsInOrder room (last_house start run) x.event
+    → IsOrderly room start (run ++ x ∷ [])
+orderly_more room start [] x o order = (order, tt)
+orderly_more room start (y ∷ run) x o order = (o.0, orderly_more room y.house run x o.1 order)
+
 -- one step more
-pub goes_on : (h new : House) (event : Event) → Story h → Step h event new → Story new
-goes_on h new event story step =
+pub goes_on : {m : Manner} (h new : House) (event : Event) → Story m h → Step h event new → (Owed m → IsInOrder m.room h event) → Story m new
+goes_on {m} h new event story step order =
     let x : Happened = record { event = event; house = new } in
     let there : Step (last_house story.start story.run) event new = subst (λ g. Step g event new) (sym story.last) step in
     record {
@@ -39,25 +50,31 @@ goes_on h new event story step =
       starts = story.starts;
       runs = run_more story.start story.run x story.runs there;
       last = last_more story.start story.run x;
+      capacity_is = story.capacity_is;
+      orderly = λ o. orderly_more m.room story.start story.run x (story.orderly o) (subst (λ g. IsInOrder m.room g event) (sym story.last) (order o));
     }
 
+-- the slip of a copy that was let go finds room
+pub finds_room : {m : Manner} (h : House) → Story m h → Owed m → SlipsFindRoom m.room h
+finds_room {m} h story o = subst (SlipsFindRoom m.room) story.last (slips_find_room m.room story.blocks story.start story.run story.starts story.runs (story.orderly o))
+
 -- what a lane and a worker may do in a house to which a run has come
-pub may_put : (h : House) → Story h → (k : ℕ) (bytes : List ℕ) (lane : Lane) (key : Key) → LaneIs h k lane → lane.draft ≡ Some key → HasRoom h.depot key bytes → MayHappen h (Put k bytes)
+pub may_put : {m : Manner} (h : House) → Story m h → (k : ℕ) (bytes : List ℕ) (lane : Lane) (key : Key) → LaneIs h k lane → lane.draft ≡ Some key → HasRoom h.depot key bytes → MayHappen h (Put k bytes)
 may_put h story k bytes lane key =
     subst (λ g. LaneIs g k lane → lane.draft ≡ Some key → HasRoom g.depot key bytes → MayHappen g (Put k bytes)) story.last
     (put_happens story.blocks story.start story.run story.starts story.runs k bytes lane key)
 
-pub may_seal : (h : House) → Story h → (k n : ℕ) (lane : Lane) (key : Key) → LaneIs h k lane → lane.draft ≡ Some key → 1 ≤ n → MayHappen h (Seal k n)
+pub may_seal : {m : Manner} (h : House) → Story m h → (k n : ℕ) (lane : Lane) (key : Key) → LaneIs h k lane → lane.draft ≡ Some key → 1 ≤ n → MayHappen h (Seal k n)
 may_seal h story k n lane key =
     subst (λ g. LaneIs g k lane → lane.draft ≡ Some key → 1 ≤ n → MayHappen g (Seal k n)) story.last
     (seal_happens story.blocks story.start story.run story.starts story.runs k n lane key)
 
-pub may_release : (h : House) → Story h → (w : ℕ) (box : Box) (copy : Copy) → BoxIs h w box → box.hand ≡ Some copy → copy.released ≡ false → MayHappen h (Release w)
+pub may_release : {m : Manner} (h : House) → Story m h → (w : ℕ) (box : Box) (copy : Copy) → BoxIs h w box → box.hand ≡ Some copy → copy.released ≡ false → MayHappen h (Release w)
 may_release h story w box copy =
     subst (λ g. BoxIs g w box → box.hand ≡ Some copy → copy.released ≡ false → MayHappen g (Release w)) story.last
     (release_happens story.blocks story.start story.run story.starts story.runs w box copy)
 
-pub may_give : (h : House) → Story h → (w : ℕ) (box : Box) (copy : Copy) → BoxIs h w box → box.hand ≡ Some copy → copy.released ≡ true → MayHappen h (GiveSlip w (outcome_of copy))
+pub may_give : {m : Manner} (h : House) → Story m h → (w : ℕ) (box : Box) (copy : Copy) → BoxIs h w box → box.hand ≡ Some copy → copy.released ≡ true → MayHappen h (GiveSlip w (outcome_of copy))
 may_give h story w box copy =
     subst (λ g. BoxIs g w box → box.hand ≡ Some copy → copy.released ≡ true → MayHappen g (GiveSlip w (outcome_of copy))) story.last
     (slip_happens story.blocks story.start story.run story.starts story.runs w box copy)

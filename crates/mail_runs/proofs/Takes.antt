@@ -17,10 +17,11 @@ use Rattle.mail_world.proofs.OtherSteps.{there_is}
 use Rattle.mail_runs.specs.Deeds.{Deed, Took, Told, given_to, taken_by, worked_by, turns_of, is_of_worker}
 use Rattle.mail_runs.specs.Courses.{Server, Spooled, Course, TakesOne, TakesAll, fits_after}
 use Rattle.mail_runs.specs.Histories.{Threads, TakesGiven}
+use Rattle.mail_runs.proofs.Manners.{Manner}
 use Rattle.mail_runs.proofs.Parts.{set_twice, passes, same_number}
 use Rattle.mail_runs.proofs.Story.{Story, goes_on, may_release}
 use Rattle.mail_runs.proofs.Stands.{Begins, BoxStands, DepotStands, Stands, spooled, in_the_end, free_slot}
-use Rattle.mail_runs.proofs.Frames.{feeds_on, depot_past}
+use Rattle.mail_runs.proofs.Frames.{flows_on, depot_past}
 use Rattle.mail_runs.proofs.Changes.{one_box, no_lane, as_many_set, box_there}
 use Rattle.mail_runs.proofs.Next.{Next}
 
@@ -125,16 +126,14 @@ box_after : (s : Server) (capacity : ℕ) (course : Course) (note : Note) (rest 
     → BoxStands s capacity note.mailbox course rest (handed box settled spool copy)
 box_after s capacity course note rest box stands turn front settled spool copy let_go is says after =
     let b : ℕ = note.mailbox in
-    let more : length box.accepted + length (Took note ∷ rest) < capacity = stands.room in
-    let some : 1 ≤ length box.accepted - box.taken = one_waits note (length box.accepted - box.taken) rest stands.fed in
+    let some : 1 ≤ length box.accepted - box.taken = one_waits note (length box.accepted - box.taken) rest stands.flows.taken_later in
     let one : length (taken_by b (Took note ∷ [])) ≡ 1 = ap length (passes (λ (n : Note). n.mailbox == b) note [] (same_number b b refl)) in
     record {
       old = stands.old;
       still_open = stands.still_open;
-      room = omega arith;
       prefix = omega arith;
       all = stands.all;
-      fed = feeds_on b (length box.accepted - box.taken) (length box.accepted - (box.taken + 1)) (Took note) rest (omega arith) stands.fed;
+      flows = flows_on capacity b (length box.accepted - box.taken) (length box.accepted - (box.taken + 1)) (Took note) rest (omega arith) stands.flows;
       work = record {
         notes = turn.notes;
         outcomes = turn.outcomes;
@@ -164,12 +163,12 @@ again h b x y = ap (λ (boxes : List Box). let g : House = record h { boxes = bo
 abbrev just_taken : Post → Bool → Copy
 just_taken post over = record { post = post; written = 0; synced = false; over = over; released = false }
 
-take_story : (h : House) (b : ℕ) (box : Box) (post : Post) (over : Bool) → BoxIs h b box → box.hand ≡ None → slice_get box.accepted box.taken ≡ Some post
-    → is_over_quota h box post.note ≡ over → Story h
-    → Story (with_box h b (handed box (if over then box.settled + 1 else box.settled) (spooled box) (just_taken post over)))
+take_story : {m : Manner} (h : House) (b : ℕ) (box : Box) (post : Post) (over : Bool) → BoxIs h b box → box.hand ≡ None → slice_get box.accepted box.taken ≡ Some post
+    → is_over_quota h box post.note ≡ over → Story m h
+    → Story m (with_box h b (handed box (if over then box.settled + 1 else box.settled) (spooled box) (just_taken post over)))
 take_story h b box post over is free_hand at e story =
     let after = ap (λ o. with_box h b (with_taken box post o)) (sym e) in
-    goes_on h _ (Take b) story (record { box = box; post = post; is = is; free_hand = free_hand; front = at; after = after })
+    goes_on h _ (Take b) story (record { box = box; post = post; is = is; free_hand = free_hand; front = at; after = after }) (λ o. tt)
 
 abbrev more_in : Spooled → List ℕ → Spooled
 more_in spool bytes = record { bytes = spool.bytes ++ bytes; faulty = spool.faulty }
@@ -177,10 +176,10 @@ more_in spool bytes = record { bytes = spool.bytes ++ bytes; faulty = spool.faul
 abbrev more_of : Copy → List ℕ → Copy
 more_of copy bytes = record copy { written = copy.written + length bytes }
 
-write_story : (h : House) (b : ℕ) (box old : Box) (settled : ℕ) (spool : Spooled) (copy : Copy) (bytes more : List ℕ) → BoxIs h b old → spool.faulty ≡ false
+write_story : {m : Manner} (h : House) (b : ℕ) (box old : Box) (settled : ℕ) (spool : Spooled) (copy : Copy) (bytes more : List ℕ) → BoxIs h b old → spool.faulty ≡ false
     → copy.released ≡ false → is_settled copy ≡ false
-    → drop copy.written (record_of h.calendar h.host copy.post.note) ≡ bytes ++ more → Story (with_box h b (handed box settled spool copy))
-    → Story (with_box h b (handed box settled (more_in spool bytes) (more_of copy bytes)))
+    → drop copy.written (record_of h.calendar h.host copy.post.note) ≡ bytes ++ more → Story m (with_box h b (handed box settled spool copy))
+    → Story m (with_box h b (handed box settled (more_in spool bytes) (more_of copy bytes)))
 write_story h b box old settled spool copy bytes more is sound held unsettled next story =
     let mid : Box = handed box settled spool copy in
     goes_on (with_box h b mid) _ (Write b bytes) story (record {
@@ -194,12 +193,12 @@ write_story h b box old settled spool copy bytes more is sound held unsettled ne
       unsettled = unsettled;
       next = next;
       after = again h b mid (handed box settled (more_in spool bytes) (more_of copy bytes));
-    })
+    }) (λ o. tt)
 
-sync_story : (h : House) (b : ℕ) (box old : Box) (settled : ℕ) (spool : Spooled) (copy : Copy) → BoxIs h b old → spool.faulty ≡ false → copy.released ≡ false
+sync_story : {m : Manner} (h : House) (b : ℕ) (box old : Box) (settled : ℕ) (spool : Spooled) (copy : Copy) → BoxIs h b old → spool.faulty ≡ false → copy.released ≡ false
     → is_settled copy ≡ false
-    → copy.written ≡ length (record_of h.calendar h.host copy.post.note) → Story (with_box h b (handed box settled spool copy))
-    → Story (with_box h b (handed box (settled + 1) spool (record copy { synced = true })))
+    → copy.written ≡ length (record_of h.calendar h.host copy.post.note) → Story m (with_box h b (handed box settled spool copy))
+    → Story m (with_box h b (handed box (settled + 1) spool (record copy { synced = true })))
 sync_story h b box old settled spool copy is sound held unsettled whole story =
     let mid : Box = handed box settled spool copy in
     goes_on (with_box h b mid) _ (Sync b) story (record {
@@ -212,7 +211,7 @@ sync_story h b box old settled spool copy is sound held unsettled whole story =
       unsettled = unsettled;
       whole = whole;
       after = again h b mid (handed box (settled + 1) spool (record copy { synced = true }));
-    })
+    }) (λ o. tt)
 
 -- the hold goes
 abbrev let_go_of : Copy → Copy
@@ -221,10 +220,10 @@ let_go_of copy = record copy { released = true }
 abbrev spool_after : Spooled → Copy → Spooled
 spool_after spool copy = record { bytes = spool.bytes; faulty = spool.faulty || not (is_settled copy) }
 
-record IsReleased (h : House) (b : ℕ) (box : Box) (settled : ℕ) (spool : Spooled) (copy : Copy) : Type 0 where
+record IsReleased (m : Manner) (h : House) (b : ℕ) (box : Box) (settled : ℕ) (spool : Spooled) (copy : Copy) : Type 0 where
   depot : Depot
   releases : Releases h.depot copy.post.key depot
-  story : Story (with_box (with_depot h depot) b (handed box settled (spool_after spool copy) (let_go_of copy)))
+  story : Story m (with_box (with_depot h depot) b (handed box settled (spool_after spool copy) (let_go_of copy)))
 
 same_copy : (b : ℕ) (h : House) (mid box : Box) (copy other : Copy) → BoxIs h b mid → mid.hand ≡ Some copy → BoxIs h b box → box.hand ≡ Some other
     → other ≡ copy
@@ -233,9 +232,9 @@ same_copy b h mid box copy other is in_hand there its =
     let hand : box.hand ≡ mid.hand = ap (λ (x : Box). x.hand) same in
     cc
 
-release_story : (h : House) (b : ℕ) (box old : Box) (settled : ℕ) (spool : Spooled) (copy : Copy) → BoxIs h b old → copy.released ≡ false
-    → Story (with_box h b (handed box settled spool copy))
-    → IsReleased h b box settled spool copy
+release_story : {m : Manner} (h : House) (b : ℕ) (box old : Box) (settled : ℕ) (spool : Spooled) (copy : Copy) → BoxIs h b old → copy.released ≡ false
+    → Story m (with_box h b (handed box settled spool copy))
+    → IsReleased m h b box settled spool copy
 release_story h b box old settled spool copy is held story =
     let mid : Box = handed box settled spool copy in
     let at : BoxIs (with_box h b mid) b mid = set_at h.boxes b mid old is in
@@ -255,11 +254,11 @@ release_story h b box old settled spool copy is held story =
         held = held;
         releases = releases;
         after = again (with_depot h st.depot) b mid (handed box settled (spool_after spool copy) (let_go_of copy));
-      });
+      }) (λ o. tt);
     }
 
 -- the copy was written as far as its outcome says, and its hold is still there
-record IsWritten (h : House) (b : ℕ) (box : Box) (note : Note) (outcome : Outcome) (between : Spooled) : Type 0 where
+record IsWritten (m : Manner) (h : House) (b : ℕ) (box : Box) (note : Note) (outcome : Outcome) (between : Spooled) : Type 0 where
   settled : ℕ
   spool : Spooled
   copy : Copy
@@ -267,7 +266,7 @@ record IsWritten (h : House) (b : ℕ) (box : Box) (note : Note) (outcome : Outc
   is : copy.post.note ≡ note
   says : outcome_of copy ≡ outcome
   after : spool_after spool copy ≡ between
-  story : Story (with_box h b (handed box settled spool copy))
+  story : Story m (with_box h b (handed box settled spool copy))
 
 abbrev IsSetting : Server → House → Type 0
 IsSetting s h = (h.calendar ≡ s.calendar) × (h.host ≡ s.host) × (h.quota ≡ s.quota)
@@ -287,11 +286,11 @@ written_as : (xs ys : List ℕ) (t u : Bool) → xs ≡ ys → t ≡ u
     → (let x : Spooled = record { bytes = xs; faulty = t } in x) ≡ (let y : Spooled = record { bytes = ys; faulty = u } in y)
 written_as xs ys t u e f = cc
 
-written : (s : Server) (h : House) (b : ℕ) (box : Box) (note : Note) (post : Post) (outcome : Outcome) (between : Spooled)
+written : {m : Manner} (s : Server) (h : House) (b : ℕ) (box : Box) (note : Note) (post : Post) (outcome : Outcome) (between : Spooled)
     → IsSetting s h
     → BoxIs h b box → box.hand ≡ None → slice_get box.accepted box.taken ≡ Some post → post.note ≡ note → TakesOne s note outcome (spooled box) between
-    → Story h
-    → IsWritten h b box note outcome between
+    → Story m h
+    → IsWritten m h b box note outcome between
 written s h b box note post Stored between setting is free_hand at same (sound, fit, after) story =
     let whole : List ℕ = record_of s.calendar s.host note in
     let e : record_of h.calendar h.host post.note ≡ whole = record_is s h post note setting same in
@@ -350,9 +349,9 @@ written s h b box note post Failed between setting is free_hand at same (inr tea
 written s h b box note post _ between setting is free_hand at same takes story = absurd takes
 
 -- the house after all of them
-after_stands : (s : Server) (t : Threads) (note : Note) (rest : List Deed) (h : House) (changed : Box) (depot : Depot) (key : Key)
-    → Stands s t (Took note ∷ rest) h → Releases h.depot key depot
-    → BoxStands s h.capacity note.mailbox (t.courses note.mailbox) rest changed → Stands s t rest (with_box (with_depot h depot) note.mailbox changed)
+after_stands : {m : Manner} (s : Server) (t : Threads) (note : Note) (rest : List Deed) (h : House) (changed : Box) (depot : Depot) (key : Key)
+    → Stands m s t (Took note ∷ rest) h → Releases h.depot key depot
+    → BoxStands s h.capacity note.mailbox (t.courses note.mailbox) rest changed → Stands m s t rest (with_box (with_depot h depot) note.mailbox changed)
 after_stands s t note rest h changed depot key stands releases its = record {
   setting = stands.setting;
   as_many = (as_many_set h.boxes note.mailbox s.boxes changed stands.as_many.0, stands.as_many.1);
@@ -362,11 +361,11 @@ after_stands s t note rest h changed depot key stands releases its = record {
   depot = depot_after rest h.depot key depot releases (depot_past (Took note) rest h.depot stands.depot);
 }
 
-takes_turn : (s : Server) (t : Threads) (note : Note) (rest : List Deed) (h : House) (box : Box)
+takes_turn : {m : Manner} (s : Server) (t : Threads) (note : Note) (rest : List Deed) (h : House) (box : Box)
     (here : BoxStands s h.capacity note.mailbox (t.courses note.mailbox) (Took note ∷ rest) box)
     → (turn : TurnOf s (t.courses note.mailbox) note rest box)
-    → IsFront note (given_to note.mailbox rest) turn.notes box → BoxIs h note.mailbox box → IsWritten h note.mailbox box note turn.outcome turn.between
-    → Stands s t (Took note ∷ rest) h → Next s t rest
+    → IsFront note (given_to note.mailbox rest) turn.notes box → BoxIs h note.mailbox box → IsWritten m h note.mailbox box note turn.outcome turn.between
+    → Stands m s t (Took note ∷ rest) h → Next m s t rest
 takes_turn s t note rest h box here turn front is w stands =
     let gone = release_story h note.mailbox box box w.settled w.spool w.copy is w.held w.story in
     let course : Course = t.courses note.mailbox in
@@ -380,12 +379,13 @@ takes_turn s t note rest h box here turn front is w stands =
       stands = after_stands s t note rest h changed gone.depot w.copy.post.key stands gone.releases its;
     }
 
-pub takes : (s : Server) (t : Threads) (note : Note) (rest : List Deed) (h : House) → Stands s t (Took note ∷ rest) h → Story h → Next s t rest
+pub takes : {m : Manner} (s : Server) (t : Threads) (note : Note) (rest : List Deed) (h : House) → Stands m s t (Took note ∷ rest) h → Story m h
+    → Next m s t rest
 takes s t note rest h stands story =
     let there = box_there h s.boxes note.mailbox stands.as_many.0 stands.within.0.1 in
     let here = stands.boxes note.mailbox there.0 there.1 in
     let turn = turn_next s h.capacity (t.courses note.mailbox) note rest there.0 here in
-    let some : 1 ≤ length there.0.accepted - there.0.taken = one_waits note (length there.0.accepted - there.0.taken) rest here.fed in
+    let some : 1 ≤ length there.0.accepted - there.0.taken = one_waits note (length there.0.accepted - there.0.taken) rest here.flows.taken_later in
     let front = front_of note (given_to note.mailbox rest) turn.notes there.0 (omega arith) turn.queue in
     let b : ℕ = note.mailbox in
     let w = written s h b there.0 note front.post turn.outcome turn.between stands.setting there.1 turn.free_hand front.at front.is turn.takes_one story in

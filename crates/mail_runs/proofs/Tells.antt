@@ -1,6 +1,6 @@
 -- A worker tells a slip: one event, by which the slip of its copy in hand goes to its lane.
 use Rattle.std.proofs.Common.{◌≡◌, ℕ, ◌+◌, ◌-◌, ◌<◌, ◌≤◌, ◌==◌, List, [], ◌∷◌, ◌++◌, length, drop, true, Option, Some, None, refl, ap, sym, ◌∙◌, subst, append_assoc, arith, length-append}
-use Rattle.std.specs.Prelude.{flat_map}
+use Rattle.std.specs.Prelude.{flat_map, IfSome}
 use Rattle.std.proofs.lemmas.List.{drop-append-le}
 use Rattle.mail_world.specs.declared.Note.{Note}
 use Rattle.mail_world.specs.declared.Slip.{Slip}
@@ -12,10 +12,13 @@ use Rattle.mail_world.specs.Events.{Step, LaneIs, BoxIs, outcome_of}
 use Rattle.mail_runs.specs.Deeds.{Deed, Told, told_to, worked_by, turns_of, told_in, is_of_worker}
 use Rattle.mail_runs.specs.Courses.{Server, Course}
 use Rattle.mail_runs.specs.Histories.{Threads}
+use Rattle.mail_runs.proofs.Manners.{Manner}
+use Rattle.mail_progress.specs.Orderly.{IsInOrder, OfLane, uncollected}
+use Rattle.mail_progress.specs.OrderlyRuns.{SlipsFindRoom}
 use Rattle.mail_runs.proofs.Parts.{passes, same_number}
-use Rattle.mail_runs.proofs.Story.{Story, goes_on}
+use Rattle.mail_runs.proofs.Story.{Story, goes_on, finds_room}
 use Rattle.mail_runs.proofs.Stands.{Begins, BoxStands, LaneStands, Stands}
-use Rattle.mail_runs.proofs.Frames.{feeds_on, tells_on, depot_past, gives_still}
+use Rattle.mail_runs.proofs.Frames.{flows_on, tells_on, depot_past, gives_still}
 use Rattle.mail_runs.proofs.Changes.{one_box, one_lane, as_many_set, box_there, lane_there}
 use Rattle.mail_runs.proofs.Next.{Next}
 
@@ -59,14 +62,12 @@ box_after : (s : Server) (capacity : ℕ) (course : Course) (slip : Slip) (rest 
     → BoxStands s capacity slip.worker course (Told slip ∷ rest) box
     → BoxStands s capacity slip.worker course rest (freed box)
 box_after s capacity course slip rest box stands =
-    let more : length box.accepted + length (Told slip ∷ rest) < capacity = stands.room in
     record {
       old = stands.old;
       still_open = stands.still_open;
-      room = omega arith;
       prefix = stands.prefix;
       all = stands.all;
-      fed = feeds_on slip.worker (length box.accepted - box.taken) (length box.accepted - box.taken) (Told slip) rest refl stands.fed;
+      flows = flows_on capacity slip.worker (length box.accepted - box.taken) (length box.accepted - box.taken) (Told slip) rest refl stands.flows;
       work = record {
         notes = stands.work.notes;
         outcomes = stands.work.outcomes;
@@ -80,8 +81,8 @@ box_after s capacity course slip rest box stands =
 abbrev with_slip : Lane → Slip → Lane
 with_slip lane slip = record lane { slips = lane.slips ++ slip ∷ [] }
 
-lane_after : (heard : List Slip) (slip : Slip) (rest : List Deed) (lane : Lane) → LaneStands slip.txn.lane heard (Told slip ∷ rest) lane
-    → LaneStands slip.txn.lane heard rest (with_slip lane slip)
+lane_after : {m : Manner} (heard : List Slip) (slip : Slip) (rest : List Deed) (lane : Lane) → LaneStands m slip.txn.lane heard (Told slip ∷ rest) lane
+    → LaneStands m slip.txn.lane heard rest (with_slip lane slip)
 lane_after heard slip rest lane stands =
     let k : ℕ = slip.txn.lane in
     let its : told_to k (Told slip ∷ rest) ≡ slip ∷ told_to k rest =
@@ -99,7 +100,7 @@ lane_after heard slip rest lane stands =
       all_told = append_assoc lane.slips (slip ∷ []) (told_to k rest) ∙ sym (ap (λ l. lane.slips ++ l) its) ∙ stands.all_told;
       all_heard = stands.all_heard;
       fed = tells_on k (length lane.slips - lane.collected) (length (lane.slips ++ slip ∷ []) - lane.collected) (Told slip) rest (omega arith) stands.fed;
-      gives = gives_still k (Told slip ∷ rest) rest lane (with_slip lane slip) refl refl refl refl stands.gives;
+      gives = gives_still k (Told slip ∷ rest) rest lane (with_slip lane slip) refl refl refl refl (λ o notes ts keeps. keeps) stands.gives;
     }
 
 -- the house after the event
@@ -125,8 +126,21 @@ slip_step h slip box lane copy is in_hand let_go says to =
           ∙ ap (λ x. with_lane (with_box h slip.worker (freed box)) copy.post.note.txn.lane (with_slip lane x)) says;
     }
 
-after_stands : (s : Server) (t : Threads) (slip : Slip) (rest : List Deed) (h : House) (box : Box) (lane : Lane) → Stands s t (Told slip ∷ rest) h
-    → BoxIs h slip.worker box → LaneIs h slip.txn.lane lane → Stands s t rest (after_slip h slip box lane)
+-- in order the slip finds room
+slip_in_order : (room : ℕ) (h : House) (slip : Slip) (box : Box) (lane : Lane) (copy : Copy) → BoxIs h slip.worker box → box.hand ≡ Some copy
+    → copy.released ≡ true → slip ≡ slip_of slip.worker copy.post.note (outcome_of copy) → LaneIs h slip.txn.lane lane → SlipsFindRoom room h
+    → IsInOrder room h (GiveSlip slip.worker (outcome_of copy))
+slip_in_order room h slip box lane copy is in_hand let_go says to finds =
+    let k : ℕ = copy.post.note.txn.lane in
+    let there : LaneIs h k lane = subst (λ n. LaneIs h n lane) (ap (λ x. x.txn.lane) says) to in
+    let low : uncollected lane < room = finds slip.worker box copy lane is in_hand let_go there in
+    let of_lane : OfLane h k (λ l. uncollected l < room) = subst (λ (o : Option Lane). IfSome o (λ l. uncollected l < room)) (sym there) low in
+    let of_hand : IfSome box.hand (λ c. OfLane h c.post.note.txn.lane (λ l. uncollected l < room)) =
+    subst (λ (o : Option Copy). IfSome o (λ c. OfLane h c.post.note.txn.lane (λ l. uncollected l < room))) (sym in_hand) of_lane in
+    subst (λ (o : Option Box). IfSome o (λ b. IfSome b.hand (λ c. OfLane h c.post.note.txn.lane (λ l. uncollected l < room)))) (sym is) of_hand
+
+after_stands : {m : Manner} (s : Server) (t : Threads) (slip : Slip) (rest : List Deed) (h : House) (box : Box) (lane : Lane) → Stands m s t (Told slip ∷ rest) h
+    → BoxIs h slip.worker box → LaneIs h slip.txn.lane lane → Stands m s t rest (after_slip h slip box lane)
 after_stands s t slip rest h box lane stands is to = record {
   setting = stands.setting;
   as_many = (
@@ -143,14 +157,16 @@ after_stands s t slip rest h box lane stands is to = record {
   depot = depot_past (Told slip) rest h.depot stands.depot;
 }
 
-pub tells : (s : Server) (t : Threads) (slip : Slip) (rest : List Deed) (h : House) → Stands s t (Told slip ∷ rest) h → Story h → Next s t rest
-tells s t slip rest h stands story =
+pub tells : {m : Manner} (s : Server) (t : Threads) (slip : Slip) (rest : List Deed) (h : House) → Stands m s t (Told slip ∷ rest) h → Story m h
+    → Next m s t rest
+tells {m} s t slip rest h stands story =
     let box = box_there h s.boxes slip.worker stands.as_many.0 stands.within.0.1 in
     let lane = lane_there h s.lanes slip.txn.lane stands.as_many.1 stands.within.0.0 in
     let telling = of_box s h.capacity (t.courses slip.worker) slip rest box.0 (stands.boxes slip.worker box.0 box.1) in
     let step = slip_step h slip box.0 lane.0 telling.copy box.1 telling.in_hand telling.let_go telling.says lane.1 in
     record {
       house = after_slip h slip box.0 lane.0;
-      story = goes_on h (after_slip h slip box.0 lane.0) (GiveSlip slip.worker (outcome_of telling.copy)) story step;
+      story = goes_on h (after_slip h slip box.0 lane.0) (GiveSlip slip.worker (outcome_of telling.copy)) story step
+          (λ o. slip_in_order m.room h slip box.0 lane.0 telling.copy box.1 telling.in_hand telling.let_go telling.says lane.1 (finds_room h story o));
       stands = after_stands s t slip rest h box.0 lane.0 stands box.1 lane.1;
     }
