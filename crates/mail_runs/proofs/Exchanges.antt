@@ -31,7 +31,7 @@ abbrev pub GoOn : ℕ → ℕ → List Transaction → List Deed → Type 0
 GoOn room k [] deeds = deeds ≡ []
 GoOn room k (t ∷ ts) deeds = AreExchanges room k (t ∷ ts) deeds ⊎ ((copies k t ≡ []) × GoOn room k ts deeds)
 
--- so a lane with these copies to give and this gatherer goes on to its next transactions
+-- a lane goes in order: it gives these copies, hears slips by which its gatherer has each answer, and goes on to its next transactions
 pub record Keeps (room k : ℕ) (notes : List Note) (ts : List Transaction) (g : Gather) (deeds : List Deed) : Type 0 where
   pub slips : List Slip
   pub after : List Deed
@@ -109,7 +109,8 @@ record Later (room k : ℕ) (ts : List Transaction) (deeds : List Deed) : Type 0
 later_still : (room k : ℕ) (t : Transaction) (ts : List Transaction) (deeds : List Deed) → copies k t ≡ [] → Later room k ts deeds → Later room k (t ∷ ts) deeds
 later_still room k t ts deeds none l = record { slips = l.slips; after = l.after; are = l.are; goes = inr (none, l.goes) }
 
-later_by : (room k : ℕ) (t : Transaction) (ts : List Transaction) (slip : Slip) (deeds : List Deed) → (GoOn room k ts (Heard slip ∷ deeds) → Later room k ts deeds)
+later_by : (room k : ℕ) (t : Transaction) (ts : List Transaction) (slip : Slip) (deeds : List Deed)
+    → (GoOn room k ts (Heard slip ∷ deeds) → Later room k ts deeds)
     → (slips : List Slip) (rest : List Deed) → AreExchanges room k ts rest → (notes : List Note) → copies k t ≡ notes
     → Heard slip ∷ deeds ≡ map Gave notes ++ map Heard slips ++ rest → Later room k (t ∷ ts) deeds
 later_by room k t ts slip deeds next slips rest more (note ∷ notes) same e = cc
@@ -128,7 +129,8 @@ later room k (t ∷ ts) slip deeds (inl x) =
     later_by room k t ts slip deeds (later room k ts slip deeds) x.0 x.1 x.5 (copies k t) refl x.2
 later room k (t ∷ ts) slip deeds (inr passed) = later_still room k t ts deeds passed.0 (later room k ts slip deeds passed.1)
 
-hears_by : (room k : ℕ) (slip : Slip) (ts : List Transaction) (g : Gather) (deeds after : List Deed) (slips : List Slip) → Heard slip ∷ deeds ≡ map Heard slips ++ after
+hears_by : (room k : ℕ) (slip : Slip) (ts : List Transaction) (g : Gather) (deeds after : List Deed) (slips : List Slip)
+    → Heard slip ∷ deeds ≡ map Heard slips ++ after
     → AreAnswered (all_gathered g slips).places → GoOn room k ts after → Keeps room k [] ts (gathered g slip) deeds
 hears_by room k slip ts g deeds after [] e answered goes =
     let l = later room k ts slip deeds (subst (GoOn room k ts) (sym e) goes) in
@@ -155,7 +157,8 @@ pub record IsOver (room k : ℕ) (ts : List Transaction) (g : Gather) (deeds : L
   pub answered : AreAnswered g.places
   pub goes : GoOn room k ts deeds
 
-over_by : (room k : ℕ) (note : Note) (ts : List Transaction) (g : Gather) (deeds after : List Deed) (slips : List Slip) → Gave note ∷ deeds ≡ map Heard slips ++ after
+over_by : (room k : ℕ) (note : Note) (ts : List Transaction) (g : Gather) (deeds after : List Deed) (slips : List Slip)
+    → Gave note ∷ deeds ≡ map Heard slips ++ after
     → AreAnswered (all_gathered g slips).places → GoOn room k ts after → IsOver room k ts g (Gave note ∷ deeds)
 over_by room k note ts g deeds after [] e answered goes = record { answered = answered; goes = subst (GoOn room k ts) (sym e) goes }
 over_by room k note ts g deeds after (s ∷ slips) e answered goes = cc
@@ -170,7 +173,8 @@ past_by : (room k : ℕ) (note : Note) (ts : List Transaction) (deeds rest : Lis
 past_by room k note ts deeds rest [] e more = subst (GoOn room k ts) (sym e) (go_on room k ts rest more)
 past_by room k note ts deeds rest (s ∷ slips) e more = cc
 
-pub goes_past : (room k : ℕ) (note : Note) (t : Transaction) (ts : List Transaction) (deeds : List Deed) → copies k t ≡ [] → GoOn room k (t ∷ ts) (Gave note ∷ deeds)
+pub goes_past : (room k : ℕ) (note : Note) (t : Transaction) (ts : List Transaction) (deeds : List Deed) → copies k t ≡ []
+    → GoOn room k (t ∷ ts) (Gave note ∷ deeds)
     → GoOn room k ts (Gave note ∷ deeds)
 goes_past room k note t ts deeds none (inl x) =
     past_by room k note ts deeds x.1 x.0 (x.2 ∙ ap (λ ns. map Gave ns ++ map Heard x.0 ++ x.1) none) x.5
@@ -185,7 +189,8 @@ length_copies : (k : ℕ) (t : Transaction) (place : ℕ) (boxes : List ℕ) →
 length_copies k t place [] = refl
 length_copies k t place (box ∷ boxes) = let e = length_copies k t (place + 1) boxes in omega arith
 
-pub planned : (room k : ℕ) (t : Transaction) (box : ℕ) (boxes : List ℕ) (ts : List Transaction) (deeds : List Deed) → copies k t ≡ copies_from k t 0 (box ∷ boxes)
+pub planned : (room k : ℕ) (t : Transaction) (box : ℕ) (boxes : List ℕ) (ts : List Transaction) (deeds : List Deed)
+    → copies k t ≡ copies_from k t 0 (box ∷ boxes)
     → GoOn room k (t ∷ ts) deeds → IsPlanned room k t box boxes ts deeds
 planned room k t box boxes ts deeds same (inr passed) = let wrong = passed.0 in cc
 planned room k t box boxes ts deeds same (inl x) =

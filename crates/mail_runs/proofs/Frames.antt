@@ -146,7 +146,7 @@ past_lane k (Heard slip) past = record {
   done = λ rest. fails (is_of_lane k) (Heard slip) rest (other_number slip.txn.lane k past);
 }
 
--- a lane keeps to its order where this is so of each way to go on
+-- a lane that went in order before a deed goes on so after it
 abbrev pub KeepsOn : Manner → ℕ → List Deed → List Deed → Lane → Lane → Type 0
 KeepsOn m k left rest lane new = Owed m → (notes : List Note) (ts : List Transaction) → Keeps m.room k notes ts lane.gather (done_by k left)
     → Keeps m.room k notes ts new.gather (done_by k rest)

@@ -124,7 +124,8 @@ given_here s capacity t note key rest box stands =
       still_open = stands.still_open;
       prefix = omega arith;
       all = ap (λ l. l ++ given_to b rest) notes ∙ append_assoc (notes_of box.accepted) (note ∷ []) (given_to b rest) ∙ ap (λ l. notes_of box.accepted ++ l) (sym (given rest)) ∙ stands.all;
-      flows = flows_on capacity b (length box.accepted - box.taken) (length (box.accepted ++ post ∷ []) - box.taken) (Gave note) rest (omega arith) stands.flows;
+      flows = flows_on capacity b (length box.accepted - box.taken) (length (box.accepted ++ post ∷ []) - box.taken) (Gave note) rest (omega arith)
+          stands.flows;
       work = record {
         notes = stands.work.notes;
         outcomes = stands.work.outcomes;

@@ -72,7 +72,8 @@ abbrev one_hold : Key → ℕ → Hold
 one_hold key n = record { key = key; weight = n }
 
 -- the last copy of a message goes with the lane's hold
-offer_last : {m : Manner} (s : Server) (t : Threads) (note : Note) (rest : List Deed) (r : IsReady m s t note rest) → r.giving.boxes ≡ [] → IsOffered m s t note rest r []
+offer_last : {m : Manner} (s : Server) (t : Threads) (note : Note) (rest : List Deed) (r : IsReady m s t note rest) → r.giving.boxes ≡ []
+    → IsOffered m s t note rest r []
 offer_last {m} s t note rest r last =
     let k : ℕ = note.txn.lane in
     let h = r.house in
@@ -105,12 +106,14 @@ offer_last {m} s t note rest r last =
     record {
       box = b.0;
       box_is = b.1;
-      story = subst (λ hs. Story m (with_box (with_lane h k (lane_after r.lane hs g.at g.key note)) note.mailbox (record b.0 { accepted = b.0.accepted ++ record { note = note; key = g.key } ∷ [] })))
+      story = subst (λ hs. Story m (with_box (with_lane h k (lane_after r.lane hs g.at g.key note)) note.mailbox
+          (record b.0 { accepted = b.0.accepted ++ record { note = note; key = g.key } ∷ [] })))
           none (goes_on h new (Offer k note) r.story step (λ o. offer_in_order m.room h k note b.0 b.1 room));
     }
 
 -- before that a hold of weight 1 is split off for each
-offer_more : {m : Manner} (s : Server) (t : Threads) (note : Note) (rest : List Deed) (r : IsReady m s t note rest) (box : ℕ) (boxes : List ℕ) → r.giving.boxes ≡ box ∷ boxes
+offer_more : {m : Manner} (s : Server) (t : Threads) (note : Note) (rest : List Deed) (r : IsReady m s t note rest) (box : ℕ) (boxes : List ℕ)
+    → r.giving.boxes ≡ box ∷ boxes
     → IsOffered m s t note rest r (one_hold r.giving.key (length (box ∷ boxes)) ∷ [])
 offer_more {m} s t note rest r box boxes more =
     let k : ℕ = note.txn.lane in
@@ -154,11 +157,15 @@ offer_more {m} s t note rest r box boxes more =
     record {
       box = b.0;
       box_is = b.1;
-      story = subst (λ ls. Story m (record h { lanes = ls; boxes = slice_set h.boxes note.mailbox (record b.0 { accepted = b.0.accepted ++ record { note = note; key = g.key } ∷ [] }) })) lanes there;
+      story = subst (λ ls. Story m (record h {
+        lanes = ls;
+        boxes = slice_set h.boxes note.mailbox (record b.0 { accepted = b.0.accepted ++ record { note = note; key = g.key } ∷ [] });
+      })) lanes there;
     }
 
 -- where all of it stands once the copy is offered
-offered : {m : Manner} (s : Server) (t : Threads) (note : Note) (rest : List Deed) (r : IsReady m s t note rest) (holds : List Hold) → IsOffered m s t note rest r holds
+offered : {m : Manner} (s : Server) (t : Threads) (note : Note) (rest : List Deed) (r : IsReady m s t note rest) (holds : List Hold)
+    → IsOffered m s t note rest r holds
     → IsIdle m note.txn.lane rest (lane_after r.lane holds r.giving.at r.giving.key note)
     ⊎ IsGiving m note.txn.lane rest (lane_after r.lane holds r.giving.at r.giving.key note)
     → Next m s t rest
@@ -191,7 +198,8 @@ offered {m} s t note rest r holds o gives =
       };
     }
 
-given_by_boxes : {m : Manner} (s : Server) (t : Threads) (note : Note) (rest : List Deed) (r : IsReady m s t note rest) (boxes : List ℕ) → r.giving.boxes ≡ boxes → Next m s t rest
+given_by_boxes : {m : Manner} (s : Server) (t : Threads) (note : Note) (rest : List Deed) (r : IsReady m s t note rest) (boxes : List ℕ)
+    → r.giving.boxes ≡ boxes → Next m s t rest
 given_by_boxes {m} s t note rest r [] last =
     let k : ℕ = note.txn.lane in
     let g = r.giving in

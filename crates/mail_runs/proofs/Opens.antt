@@ -155,8 +155,8 @@ last_is [] x = refl
 last_is (y ∷ xs) x = last_is xs x
 
 -- the lane as it has sealed the message has its first copy to give
-lane_opened : {m : Manner} (k : ℕ) (note : Note) (rest : List Deed) (lane : Lane) (key : Key) (o : IsOpening m k lane.number note (given_by k rest) (done_by k rest))
-    → note.txn.lane ≡ k → lane.holds ≡ []
+lane_opened : {m : Manner} (k : ℕ) (note : Note) (rest : List Deed) (lane : Lane) (key : Key)
+    (o : IsOpening m k lane.number note (given_by k rest) (done_by k rest)) → note.txn.lane ≡ k → lane.holds ≡ []
     → IsGiving m k (Gave note ∷ rest) (record lane {
       number = o.t.number;
       draft = None;
@@ -199,7 +199,8 @@ opened {m} s t note rest h stands story lane is none answered o =
     let now : Lane = lane₃ h k lane o.t p.key n in
     let story₁ = goes_on h (house₁ h k lane o.t p.key n) (Begin k) story (begins h k lane o.t p.key n is stood.no_draft o.above p.is)
     (λ owed. lane_done h k lane is none (answered owed)) in
-    let story₂ = goes_on (house₁ h k lane o.t p.key n) (house₂ h k lane o.t p.key n) (Put k o.t.message) story₁ (puts h k lane o.t p.key n is p.is enough) (λ owed. tt) in
+    let story₂ = goes_on (house₁ h k lane o.t p.key n) (house₂ h k lane o.t p.key n) (Put k o.t.message) story₁
+    (puts h k lane o.t p.key n is p.is enough) (λ owed. tt) in
     let story₃ = goes_on (house₂ h k lane o.t p.key n) new (Seal k n) story₂ (seals h k lane o.t p.key n is (omega arith) p.is)
     (λ owed. (o.planned owed).fits) in
     let giving : IsGiving m k (Gave note ∷ rest) now = lane_opened k note rest lane p.key o refl none in
@@ -219,7 +220,8 @@ opened {m} s t note rest h stands story lane is none answered o =
       as_many = (stands.as_many.0, ap length (lanes_are h k lane o.t p.key n) ∙ length_set h.lanes k now ∙ stands.as_many.1);
       within = stands.within;
       boxes = stands.boxes;
-      lanes = λ j l at. each_set (λ i x. LaneStands m i (t.heard i) (Gave note ∷ rest) x) h.lanes k now (λ i x differ was. stands.lanes i x was) stands_now j l (ap (λ ls. slice_get ls j) (sym (lanes_are h k lane o.t p.key n)) ∙ at);
+      lanes = λ j l at. each_set (λ i x. LaneStands m i (t.heard i) (Gave note ∷ rest) x) h.lanes k now (λ i x differ was. stands.lanes i x was) stands_now
+          j l (ap (λ ls. slice_get ls j) (sym (lanes_are h k lane o.t p.key n)) ∙ at);
       depot = depot_sealed h.depot note rest p.key o.t.message (take (blocks_for (length o.t.message)) h.depot.free) n new.depot.slots new.depot.free stands.depot p.is bytes (slots_are h k lane o.t p.key n) refl enough;
       lane = now;
       is = ap (λ ls. slice_get ls k) (lanes_are h k lane o.t p.key n) ∙ set_at h.lanes k now lane is;
@@ -231,7 +233,8 @@ by_state : {m : Manner} (s : Server) (t : Threads) (note : Note) (rest : List De
     → IsReady m s t note rest
 by_state {m} s t note rest h stands story lane is (inl idle) =
     let k : ℕ = note.txn.lane in
-    let first : given_by k (Gave note ∷ rest) ≡ note ∷ given_by k rest = passes (λ (n : Note). n.txn.lane == k) note (flat_map given_in rest) (same_number k k refl) in
+    let first : given_by k (Gave note ∷ rest) ≡ note ∷ given_by k rest =
+    passes (λ (n : Note). n.txn.lane == k) note (flat_map given_in rest) (same_number k k refl) in
     let own : done_by k (Gave note ∷ rest) ≡ Gave note ∷ done_by k rest = passes (is_of_lane k) (Gave note) rest (same_number k k refl) in
     let over : Owed m → IsOver m.room k idle.ts lane.gather (Gave note ∷ done_by k rest) =
     λ owed. is_over m.room k note idle.ts lane.gather (done_by k (Gave note ∷ rest)) (done_by k rest) own (idle.keeps owed) in

@@ -41,7 +41,8 @@ room_for_all : (b : ℕ) (deeds : List Deed) → FindsRoom (suc (length deeds)) 
 room_for_all b deeds before after note whole to =
     let few : length (flat_map given_in before) ≤ length before = given_few before in
     let to_it : length (given_to b before) ≡ count_by (λ note. note.mailbox == b) (flat_map given_in before) = length-filter _ (flat_map given_in before) in
-    let among : count_by (λ note. note.mailbox == b) (flat_map given_in before) ≤ length (flat_map given_in before) = count_by-le-length _ (flat_map given_in before) in
+    let among : count_by (λ note. note.mailbox == b) (flat_map given_in before) ≤ length (flat_map given_in before) =
+    count_by-le-length _ (flat_map given_in before) in
     let all : length deeds ≡ length before + length (Gave note ∷ after) = ap length whole ∙ length-append before (Gave note ∷ after) in
     omega arith
 

@@ -161,7 +161,15 @@ begins m s t deeds p =
     let lanes = listed (IsFirstLane m t deeds) s.lanes (a_first_lane m s t deeds p) in
     let slots : ℕ = sum_by slots_for deeds in
     let blocks : ℕ = sum_by blocks_to_give deeds in
-    let start : House = record { calendar = s.calendar; host = s.host; quota = s.quota; capacity = m.capacity; depot = large slots blocks; boxes = boxes.all; lanes = lanes.all } in
+    let start : House = record {
+      calendar = s.calendar;
+      host = s.host;
+      quota = s.quota;
+      capacity = m.capacity;
+      depot = large slots blocks;
+      boxes = boxes.all;
+      lanes = lanes.all;
+    } in
     let starts : IsStart blocks start = record {
       boxes = all_of IsFreshBox boxes.all (λ b box is. (boxes.each b box is).fresh);
       lanes = all_of IsFreshLane lanes.all (λ k lane is. (lanes.each k lane is).fresh);

@@ -1,18 +1,15 @@
 -- A run that has come to a house, and its next step.
-use Rattle.std.proofs.Common.{◌≡◌, ℕ, List, [], ◌∷◌, ◌++◌, true, false, Some, refl, sym, subst}
+use Rattle.std.proofs.Common.{◌≡◌, ℕ, List, [], ◌∷◌, ◌++◌, false, Some, refl, sym, subst}
 use Rattle.mail_world.specs.declared.Event.{Event}
-use Rattle.mail_world.specs.declared.Event.TheVariants.{Put, Seal, Release, GiveSlip}
-use Rattle.mail_world.specs.Depot.{Key, HasRoom}
-use Rattle.mail_world.specs.House.{House, Lane, Box, Copy, IsStart}
-use Rattle.mail_world.specs.Events.{Step, MayHappen, LaneIs, BoxIs, outcome_of}
+use Rattle.mail_world.specs.declared.Event.TheVariants.{Release}
+use Rattle.mail_world.specs.House.{House, Box, Copy, IsStart}
+use Rattle.mail_world.specs.Events.{Step, MayHappen, BoxIs}
 use Rattle.mail_world.specs.Runs.{Happened, Run, last_house}
-use Rattle.mail_world.proofs.MayHappen.{put_happens, seal_happens, release_happens}
-use Rattle.mail_world.proofs.Senders.{slip_happens}
+use Rattle.mail_world.proofs.MayHappen.{release_happens}
 use Rattle.mail_progress.specs.Orderly.{IsInOrder, IsOrderly}
 use Rattle.mail_progress.specs.OrderlyRuns.{SlipsFindRoom}
 use Rattle.mail_progress.proofs.Within.{slips_find_room}
 use Rattle.mail_runs.proofs.Manners.{Manner, Owed}
-use Rattle.std.specs.Prelude.{◌≤◌}
 
 -- a run from a start to the house, over channels of the capacity, in order where that is owed
 pub record Story (m : Manner) (h : House) : Type 0 where
@@ -56,25 +53,12 @@ goes_on {m} h new event story step order =
 
 -- the slip of a copy that was let go finds room
 pub finds_room : {m : Manner} (h : House) → Story m h → Owed m → SlipsFindRoom m.room h
-finds_room {m} h story o = subst (SlipsFindRoom m.room) story.last (slips_find_room m.room story.blocks story.start story.run story.starts story.runs (story.orderly o))
+finds_room {m} h story o =
+    subst (SlipsFindRoom m.room) story.last (slips_find_room m.room story.blocks story.start story.run story.starts story.runs (story.orderly o))
 
--- what a lane and a worker may do in a house to which a run has come
-pub may_put : {m : Manner} (h : House) → Story m h → (k : ℕ) (bytes : List ℕ) (lane : Lane) (key : Key) → LaneIs h k lane → lane.draft ≡ Some key → HasRoom h.depot key bytes → MayHappen h (Put k bytes)
-may_put h story k bytes lane key =
-    subst (λ g. LaneIs g k lane → lane.draft ≡ Some key → HasRoom g.depot key bytes → MayHappen g (Put k bytes)) story.last
-    (put_happens story.blocks story.start story.run story.starts story.runs k bytes lane key)
-
-pub may_seal : {m : Manner} (h : House) → Story m h → (k n : ℕ) (lane : Lane) (key : Key) → LaneIs h k lane → lane.draft ≡ Some key → 1 ≤ n → MayHappen h (Seal k n)
-may_seal h story k n lane key =
-    subst (λ g. LaneIs g k lane → lane.draft ≡ Some key → 1 ≤ n → MayHappen g (Seal k n)) story.last
-    (seal_happens story.blocks story.start story.run story.starts story.runs k n lane key)
-
-pub may_release : {m : Manner} (h : House) → Story m h → (w : ℕ) (box : Box) (copy : Copy) → BoxIs h w box → box.hand ≡ Some copy → copy.released ≡ false → MayHappen h (Release w)
+-- what a worker may do in a house to which a run has come
+pub may_release : {m : Manner} (h : House) → Story m h → (w : ℕ) (box : Box) (copy : Copy) → BoxIs h w box → box.hand ≡ Some copy → copy.released ≡ false
+    → MayHappen h (Release w)
 may_release h story w box copy =
     subst (λ g. BoxIs g w box → box.hand ≡ Some copy → copy.released ≡ false → MayHappen g (Release w)) story.last
     (release_happens story.blocks story.start story.run story.starts story.runs w box copy)
-
-pub may_give : {m : Manner} (h : House) → Story m h → (w : ℕ) (box : Box) (copy : Copy) → BoxIs h w box → box.hand ≡ Some copy → copy.released ≡ true → MayHappen h (GiveSlip w (outcome_of copy))
-may_give h story w box copy =
-    subst (λ g. BoxIs g w box → box.hand ≡ Some copy → copy.released ≡ true → MayHappen g (GiveSlip w (outcome_of copy))) story.last
-    (slip_happens story.blocks story.start story.run story.starts story.runs w box copy)

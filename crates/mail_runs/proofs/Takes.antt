@@ -163,7 +163,8 @@ again h b x y = ap (λ (boxes : List Box). let g : House = record h { boxes = bo
 abbrev just_taken : Post → Bool → Copy
 just_taken post over = record { post = post; written = 0; synced = false; over = over; released = false }
 
-take_story : {m : Manner} (h : House) (b : ℕ) (box : Box) (post : Post) (over : Bool) → BoxIs h b box → box.hand ≡ None → slice_get box.accepted box.taken ≡ Some post
+take_story : {m : Manner} (h : House) (b : ℕ) (box : Box) (post : Post) (over : Bool) → BoxIs h b box → box.hand ≡ None
+    → slice_get box.accepted box.taken ≡ Some post
     → is_over_quota h box post.note ≡ over → Story m h
     → Story m (with_box h b (handed box (if over then box.settled + 1 else box.settled) (spooled box) (just_taken post over)))
 take_story h b box post over is free_hand at e story =
@@ -176,7 +177,8 @@ more_in spool bytes = record { bytes = spool.bytes ++ bytes; faulty = spool.faul
 abbrev more_of : Copy → List ℕ → Copy
 more_of copy bytes = record copy { written = copy.written + length bytes }
 
-write_story : {m : Manner} (h : House) (b : ℕ) (box old : Box) (settled : ℕ) (spool : Spooled) (copy : Copy) (bytes more : List ℕ) → BoxIs h b old → spool.faulty ≡ false
+write_story : {m : Manner} (h : House) (b : ℕ) (box old : Box) (settled : ℕ) (spool : Spooled) (copy : Copy) (bytes more : List ℕ) → BoxIs h b old
+    → spool.faulty ≡ false
     → copy.released ≡ false → is_settled copy ≡ false
     → drop copy.written (record_of h.calendar h.host copy.post.note) ≡ bytes ++ more → Story m (with_box h b (handed box settled spool copy))
     → Story m (with_box h b (handed box settled (more_in spool bytes) (more_of copy bytes)))
@@ -195,7 +197,8 @@ write_story h b box old settled spool copy bytes more is sound held unsettled ne
       after = again h b mid (handed box settled (more_in spool bytes) (more_of copy bytes));
     }) (λ o. tt)
 
-sync_story : {m : Manner} (h : House) (b : ℕ) (box old : Box) (settled : ℕ) (spool : Spooled) (copy : Copy) → BoxIs h b old → spool.faulty ≡ false → copy.released ≡ false
+sync_story : {m : Manner} (h : House) (b : ℕ) (box old : Box) (settled : ℕ) (spool : Spooled) (copy : Copy) → BoxIs h b old → spool.faulty ≡ false
+    → copy.released ≡ false
     → is_settled copy ≡ false
     → copy.written ≡ length (record_of h.calendar h.host copy.post.note) → Story m (with_box h b (handed box settled spool copy))
     → Story m (with_box h b (handed box (settled + 1) spool (record copy { synced = true })))

@@ -9,12 +9,12 @@ use Rattle.mail_world.specs.declared.Event.TheVariants.{GiveSlip}
 use Rattle.mail_world.specs.Slips.{slip_of}
 use Rattle.mail_world.specs.House.{House, Lane, Box, Copy, with_box, with_lane}
 use Rattle.mail_world.specs.Events.{Step, LaneIs, BoxIs, outcome_of}
+use Rattle.mail_progress.specs.Orderly.{IsInOrder, OfLane, uncollected}
+use Rattle.mail_progress.specs.OrderlyRuns.{SlipsFindRoom}
 use Rattle.mail_runs.specs.Deeds.{Deed, Told, told_to, worked_by, turns_of, told_in, is_of_worker}
 use Rattle.mail_runs.specs.Courses.{Server, Course}
 use Rattle.mail_runs.specs.Histories.{Threads}
 use Rattle.mail_runs.proofs.Manners.{Manner}
-use Rattle.mail_progress.specs.Orderly.{IsInOrder, OfLane, uncollected}
-use Rattle.mail_progress.specs.OrderlyRuns.{SlipsFindRoom}
 use Rattle.mail_runs.proofs.Parts.{passes, same_number}
 use Rattle.mail_runs.proofs.Story.{Story, goes_on, finds_room}
 use Rattle.mail_runs.proofs.Stands.{Begins, BoxStands, LaneStands, Stands}
@@ -139,7 +139,8 @@ slip_in_order room h slip box lane copy is in_hand let_go says to finds =
     subst (λ (o : Option Copy). IfSome o (λ c. OfLane h c.post.note.txn.lane (λ l. uncollected l < room))) (sym in_hand) of_lane in
     subst (λ (o : Option Box). IfSome o (λ b. IfSome b.hand (λ c. OfLane h c.post.note.txn.lane (λ l. uncollected l < room)))) (sym is) of_hand
 
-after_stands : {m : Manner} (s : Server) (t : Threads) (slip : Slip) (rest : List Deed) (h : House) (box : Box) (lane : Lane) → Stands m s t (Told slip ∷ rest) h
+after_stands : {m : Manner} (s : Server) (t : Threads) (slip : Slip) (rest : List Deed) (h : House) (box : Box) (lane : Lane)
+    → Stands m s t (Told slip ∷ rest) h
     → BoxIs h slip.worker box → LaneIs h slip.txn.lane lane → Stands m s t rest (after_slip h slip box lane)
 after_stands s t slip rest h box lane stands is to = record {
   setting = stands.setting;
