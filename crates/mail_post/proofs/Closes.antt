@@ -12,16 +12,20 @@ use Rattle.mail_post.specs.declared.channel.Gone.{Gone}
 use Rattle.mail_post.specs.declared.channel.Gone.TheVariants.{Closed}
 use Rattle.mail_runs.specs.Timed.{RisesTo}
 use Rattle.mail_runs.specs.Known.{AreLater}
+use Rattle.mail_runs.specs.Ordered.{MakesRoom}
 use Rattle.mail_post.specs.Channel.{IsInbox, Inbox, taken, TookSome, TookAll, HasPassedThrough}
 use Rattle.mail_post.proofs.Parcels.{of-copies}
 use Rattle.mail_post.proofs.Counts.{count_all}
 use Rattle.mail_post.specs.Rule.{Carries, Agrees, HasPassed}
 use Rattle.mail_post.proofs.Keeps.{marks}
+use Rattle.mail_post.proofs.Timing.{any_room}
 
 module _ {M : Type 0} (lane : M → ℕ) where
   -- the mark of a lane, by its number
-  pub marks_of : (after n pass : ℕ) (v : View M) (k : ℕ) → v ≡ sender k v.sent v.sent_at false → Pushes (Carries lane) n pass v (Mark k) (IsPut after v (Mark k))
-  marks_of after n pass v k is = subst (λ (j : ℕ). Pushes (Carries lane) n pass v (Mark j) (IsPut after v (Mark j))) (ap (λ (t : View M). t.lane) is) (marks lane after n pass v (ap (λ (t : View M). t.sends) is) (ap (λ (t : View M). t.shut) is))
+  pub marks_of : (after n pass : ℕ) (v : View M) (k room : ℕ) → v ≡ sender room k v.sent v.sent_at false
+      → Pushes (Carries lane) n pass v (Mark k) (IsPut after v (Mark k))
+  marks_of after n pass v k room is = subst (λ (j : ℕ). Pushes (Carries lane) n pass v (Mark j) (IsPut after v (Mark j))) (ap (λ (t : View M). t.lane) is)
+      (marks lane after n pass v (ap (λ (t : View M). t.sends) is) (ap (λ (t : View M). t.shut) is))
 
   below? : (k n : ℕ) → (k < n) ⊎ (n ≤ k)
   below? k n = grind arith
@@ -71,7 +75,8 @@ module _ {M : Type 0} (lane : M → ℕ) where
   module _ (lanes marks : ℕ) (v w : View M) (inbox : Inbox M) (sent : List (List M)) (sent_at : List (List ℕ)) (h : IsInbox lane lanes marks inbox.gone v)
       (is : (inbox.got ≡ v.got) × (inbox.got_at ≡ v.got_at) × (inbox.took_at ≡ v.took_at))
       (lanes_are : w.lanes ≡ lanes) (got : w.got ≡ v.got) (got_at : w.got_at ≡ v.got_at) (took_at : w.took_at ≡ v.took_at) (known : w.known ≡ sent) (known_at : w.known_at ≡ sent_at)
-      (len : length sent ≡ lanes) (as_many : length sent_at ≡ length sent) (agrees : Agrees lane w) (passed : HasPassed lane w) where
+      (len : length sent ≡ lanes) (as_many : length sent_at ≡ length sent) (room : 0 < lanes → w.room ≡ inbox.capacity)
+      (agrees : Agrees lane w) (passed : HasPassed lane w) where
     mine : messages w.got ≡ taken inbox
     mine = ap messages (got ∙ sym is.0)
 
@@ -90,6 +95,15 @@ module _ {M : Type 0} (lane : M → ℕ) where
         let q = passed.others k (omega (arith, lanes_are)) in
         (q.0 ∙ sym (get_or-eq_default sent [] {n = k} (omega arith)), q.1 ∙ sym (get_or-eq_default sent_at [] {n = k} (omega arith))))
         (below? k lanes)
+
+    -- where there is no lane, nothing was accepted
+    makes_room : MakesRoom inbox.capacity (passed.times.got_at ++ passed.times.queue_at) passed.times.took_at
+    makes_room =
+        let times = passed.times in ⊎_elim
+        (λ (some : 0 < lanes). subst (λ (n : ℕ). MakesRoom n (times.got_at ++ times.queue_at) times.took_at) (room some) passed.keeps.makes_room)
+        (λ (none : lanes ≤ 0). any_room lane w.room inbox.capacity (messages w.got) passed.waiting passed.sent_at times passed.keeps
+        (λ k. (passed.others k (omega (arith, lanes_are))).1))
+        (below? 0 lanes)
 
     pub passed_through : HasPassedThrough lane inbox sent sent_at
     passed_through =
@@ -112,4 +126,5 @@ module _ {M : Type 0} (lane : M → ℕ) where
           takes_rise = subst (λ (l : List ℕ). RisesTo 0 times.latest l) took_at_is keeps.takes_rise;
           later = subst (λ (y : List ℕ × List ℕ). AreLater y.0 y.1) (λ i. (got_at_is i, took_at_is i)) keeps.later;
           all = λ gone. let e = ap length (none gone) in (none gone, no_times times.queue_at (omega (arith, keeps.queue_as_many, e)));
+          makes_room = subst (λ (l : List ℕ). MakesRoom inbox.capacity (times.got_at ++ times.queue_at) l) took_at_is makes_room;
         }

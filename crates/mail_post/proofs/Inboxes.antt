@@ -29,13 +29,20 @@ module _ {M : Type 0} (lane : M → ℕ) where
   got_is after v w (Copy m) is = ap (λ (t : View M). t.got) is.4
   got_is after v w (Mark k) is = ap (λ (t : View M). t.got) is
 
-  module _ (after lanes : ℕ) (v w : View M) (was : v ≡ taker lanes v.got v.got_at v.took_at) where
+  -- there is as much room as before
+  pub room_copy : (after : ℕ) (v w : View M) (p : M) → Takes after v (Copy p) w → w.room ≡ v.room
+  room_copy after v w p step = ap (λ (t : View M). t.room) step.0.4
+
+  pub room_mark : (after : ℕ) (v w : View M) (k : ℕ) → Takes after v (Mark k) w → w.room ≡ v.room
+  room_mark after v w k step = ap (λ (t : View M). t.room) step.0
+
+  module _ (after lanes : ℕ) (v w : View M) (was : v ≡ taker v.room lanes v.got v.got_at v.took_at) where
     number_is : v.lanes ≡ lanes
     number_is = ap (λ (t : View M). t.lanes) was
 
-    taker_is : (x : Parcel M) → IsTook after v x w → w ≡ taker lanes w.got w.got_at w.took_at
-    taker_is (Copy m) is = is.4 ∙ (λ i. taker (number_is i) (sym is.4 i).got (sym is.4 i).got_at (sym is.4 i).took_at)
-    taker_is (Mark k) is = is ∙ (λ i. taker (number_is i) (sym is i).got (sym is i).got_at (sym is i).took_at)
+    taker_is : (x : Parcel M) → IsTook after v x w → w ≡ taker w.room lanes w.got w.got_at w.took_at
+    taker_is (Copy m) is = is.4 ∙ (λ i. taker (sym is.4 i).room (number_is i) (sym is.4 i).got (sym is.4 i).got_at (sym is.4 i).took_at)
+    taker_is (Mark k) is = is ∙ (λ i. taker (sym is i).room (number_is i) (sym is i).got (sym is i).got_at (sym is i).took_at)
 
     lanes_are : (x : Parcel M) → IsTook after v x w → w.lanes ≡ lanes
     lanes_are x is = ap (λ (t : View M). t.lanes) (taker_is x is)
@@ -65,7 +72,7 @@ module _ {M : Type 0} (lane : M → ℕ) where
   }
 
   -- a message that is taken is one of the lanes'
-  pub copy_fits : (after lanes : ℕ) (v w : View M) (p : M) → v ≡ taker lanes v.got v.got_at v.took_at → Takes after v (Copy p) w → lane p < lanes
+  pub copy_fits : (after lanes : ℕ) (v w : View M) (p : M) → v ≡ taker v.room lanes v.got v.got_at v.took_at → Takes after v (Copy p) w → lane p < lanes
   copy_fits after lanes v w p was step =
       let n : w.lanes ≡ lanes = lanes_are after lanes v w was (Copy p) step.0 in
       let is : w.got ≡ v.got ++ Copy p ∷ [] = got_is after v w (Copy p) step.0 in
@@ -100,5 +107,5 @@ module _ {M : Type 0} (lane : M → ℕ) where
   pub inbox_lost : (lanes marks : ℕ) (gone : Option Gone) (v w : View M) → IsInbox lane lanes marks gone v → w ≡ v → IsInbox lane lanes marks (Some Lost) w
   inbox_lost lanes marks why v w h is = subst (λ (t : View M). IsInbox lane lanes marks (Some Lost) t) (sym is) (record { knows = h.knows; fair = h.fair; counted = h.counted; all = λ e. absurd (cc); timed = h.timed })
 
-  pub inbox_new : (lanes : ℕ) (v : View M) → v ≡ taker lanes [] [] [] → IsInbox lane lanes 0 None v
+  pub inbox_new : (lanes : ℕ) (v : View M) → v ≡ taker v.room lanes [] [] [] → IsInbox lane lanes 0 None v
   inbox_new lanes v is = subst (λ (t : View M). IsInbox lane lanes 0 None t) (sym is) (record { knows = refl; fair = λ k. (([], false, refl), (λ le. refl)); counted = no_marks lane lanes; all = λ e. absurd (cc); timed = timed_none })

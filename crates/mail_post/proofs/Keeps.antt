@@ -9,12 +9,13 @@ use Rattle.atomic_table.proofs.Lists.{at_set}
 use Rattle.mail_post.specs.declared.rule.Parcel.{Parcel}
 use Rattle.mail_post.specs.declared.rule.Parcel.TheVariants.{Copy, Mark}
 use Rattle.mail_post.specs.declared.rule.View.{View}
+use Rattle.mail_runs.specs.Ordered.{MakesRoom}
 use Rattle.mail_post.specs.Times.{HaveMoments, Times, KeepsTime}
 use Rattle.mail_post.specs.Views.{sender, taker, knower, settled, IsPut, IsTook}
 use Rattle.mail_post.specs.Parcels.{of, lane_of, part, messages, all_of_lane}
 use Rattle.mail_post.specs.Rule.{Traffic, FitsKnown, Fits, Carries, IsFair, Agrees, HasPassed}
-use Rattle.mail_post.proofs.Parcels.{part-append, part-here, part-else, of-copies, copies-append, copies-all_of_lane, all_of_lane-put, all_of_lane-end, front, all-there, has_mark-part}
-use Rattle.mail_post.proofs.Timing.{begin_time, same_time, put_time, take_time, timed_of}
+use Rattle.mail_post.proofs.Parcels.{part-append, part-here, part-else, messages_at_most, of-copies, copies-append, copies-all_of_lane, all_of_lane-put, all_of_lane-end, front, all-there, has_mark-part}
+use Rattle.mail_post.proofs.Timing.{begin_time, same_time, put_time, take_time, timed_of, any_room, roomier}
 
 module _ {M : Type 0} (lane : M → ℕ) where
   -- f, but a at k
@@ -81,27 +82,28 @@ module _ {M : Type 0} (lane : M → ℕ) where
     got = [];
     sent_at = λ _. [];
     times = record { got_at = []; took_at = []; queue_at = []; latest = 0 };
+    room = 0;
   }
 
-  pub begins : Carries lane [] (taker 0 [] [] [] ∷ [])
+  pub begins : Carries lane [] (taker 0 0 [] [] [] ∷ [])
   begins = record {
     traffic = none_yet;
     order = λ _. refl;
     others = λ _ _. (refl, refl, refl, refl);
     timed = begin_time lane;
-    fits = all_set (Fits none_yet) (taker 0 [] [] [] ∷ []) 0 (taker 0 [] [] [])
-        ((λ p. absurd (true≢false (sym p))), (λ _. (refl, refl, refl, refl, refl)), (λ k h. absurd (omega arith)))
-        (λ j u other e. ⊎_elim (λ x. absurd (some-ne-none u (sym x))) (λ x. absurd (other x.0)) (at_end [] (taker 0 [] [] []) u j e));
+    fits = all_set (Fits none_yet) (taker 0 0 [] [] [] ∷ []) 0 (taker 0 0 [] [] [])
+        ((λ p. absurd (true≢false (sym p))), (λ _. (refl, refl, refl, refl, refl, refl)), (λ k h. absurd (omega arith)))
+        (λ j u other e. ⊎_elim (λ x. absurd (some-ne-none u (sym x))) (λ x. absurd (other x.0)) (at_end [] (taker 0 0 [] [] []) u j e));
   }
 
   -- a lane's pass puts x, after which it was told that s was accepted, at these times
   moved : (pass : ℕ) (v : View M) (x : Parcel M) (s : List M) (told : List ℕ) (b : Bool) (items : List (Parcel M)) (views : List (View M)) (h : Carries lane items views) (q : Times)
       → v.sends ≡ true → lane_of lane x ≡ v.lane → all_of_lane v.lane s b ≡ all_of_lane v.lane v.sent v.shut ++ x ∷ [] → get_elem? views pass ≡ some v
       → (q.got_at ≡ h.traffic.times.got_at) × (q.took_at ≡ h.traffic.times.took_at)
-      → KeepsTime lane (messages h.traffic.got) (messages (items ++ x ∷ [])) (changed h.traffic.sent_at v.lane told) q
-      → Carries lane (items ++ x ∷ []) (set views pass (sender v.lane s told b))
+      → KeepsTime lane h.traffic.room (messages h.traffic.got) (messages (items ++ x ∷ [])) (changed h.traffic.sent_at v.lane told) q
+      → Carries lane (items ++ x ∷ []) (set views pass (sender v.room v.lane s told b))
   moved pass v x s told b items views h q may is grown at same timed =
-      let w : View M = sender v.lane s told b in
+      let w : View M = sender v.room v.lane s told b in
       let mine = (h.fits pass v at).0 may in
       let sent : ℕ → List M = changed h.traffic.sent v.lane s in
       let closed : ℕ → Bool = changed h.traffic.closed v.lane b in
@@ -116,19 +118,25 @@ module _ {M : Type 0} (lane : M → ℕ) where
             (q.0, changed_else h.traffic.sent v.lane s k other ∙ q.1, changed_else h.traffic.closed v.lane b k other ∙ q.2, changed_else h.traffic.sent_at v.lane told k other ∙ q.3);
         timed = timed;
         fits = all_set (Fits new) views pass w
-            ((λ _. (mine.0, changed_here h.traffic.sent v.lane s, changed_here h.traffic.closed v.lane b, changed_here h.traffic.sent_at v.lane told)), (λ p. absurd (true≢false (sym p))), (λ k l. absurd (omega arith)))
+            ((λ _. (mine.0, changed_here h.traffic.sent v.lane s, changed_here h.traffic.closed v.lane b, changed_here h.traffic.sent_at v.lane told, mine.4)), (λ p. absurd (true≢false (sym p))), (λ k l. absurd (omega arith)))
             (λ j u apart e. let f = h.fits j u e in (
-              (λ p. let q = f.0 p in let other : u.lane ≢ v.lane = λ t. apart (some-injective j pass (sym q.0 ∙ ap h.traffic.seat t ∙ mine.0)) in
-                  (q.0, changed_else h.traffic.sent v.lane s u.lane other ∙ q.1, changed_else h.traffic.closed v.lane b u.lane other ∙ q.2, changed_else h.traffic.sent_at v.lane told u.lane other ∙ q.3)),
-              (λ p. let r = f.1 p in (r.0, r.1, r.2, r.3 ∙ sym same.0, r.4 ∙ sym same.1)),
+              (λ p. let q = f.0 p in let other : u.lane ≢ v.lane = λ t. apart (some-injective j pass (sym q.0 ∙ ap h.traffic.seat t ∙ mine.0)) in (
+                q.0,
+                changed_else h.traffic.sent v.lane s u.lane other ∙ q.1,
+                changed_else h.traffic.closed v.lane b u.lane other ∙ q.2,
+                changed_else h.traffic.sent_at v.lane told u.lane other ∙ q.3,
+                q.4,
+              )),
+              (λ p. let r = f.1 p in (r.0, r.1, r.2, r.3 ∙ sym same.0, r.4 ∙ sym same.1, r.5)),
               (λ k l. let q = f.2 k l in let other = taken k q.1 in
                   (q.0, q.1, q.2 ∙ sym (changed_else h.traffic.sent v.lane s k other), q.3 ∙ sym (changed_else h.traffic.sent_at v.lane told k other))),
             ));
       }
 
-  -- a copy of the lane is accepted, after any given time
-  pub offers : (after n pass : ℕ) (v : View M) (p : M) → v.sends ≡ true → v.shut ≡ false → lane p ≡ v.lane → Pushes (Carries lane) n pass v (Copy p) (IsPut after v (Copy p))
-  offers after n pass v p may not_shut is items views _ h at =
+  -- a copy of the lane is accepted, after any given time, where the channel has the room that the lane knows
+  pub offers : (after n pass : ℕ) (v : View M) (p : M) → v.sends ≡ true → v.shut ≡ false → v.room ≡ n → lane p ≡ v.lane
+      → Pushes (Carries lane) n pass v (Copy p) (IsPut after v (Copy p))
+  offers after n pass v p may not_shut room is items views short h at =
       let old = h.traffic in
       let mine = (h.fits pass v at).0 may in
       let t : ℕ = (old.times.latest + after) + 1 in
@@ -136,12 +144,14 @@ module _ {M : Type 0} (lane : M → ℕ) where
       let g : ℕ → List ℕ = changed old.sent_at v.lane told in
       let q : Times = record old.times { queue_at = old.times.queue_at ++ t ∷ []; latest = t } in
       let here : g v.lane ≡ old.sent_at v.lane ++ t ∷ [] = changed_here old.sent_at v.lane told ∙ ap (λ l. l ++ t ∷ []) (sym mine.3) in
-      let timed = put_time lane after (messages old.got) (messages items) old.sent_at g old.times p v.lane is h.timed here (changed_else old.sent_at v.lane told) in
+      let fits : length (messages items) < old.room = omega (arith, messages_at_most lane items, short, room, mine.4) in
+      let timed = put_time lane old.room after (messages old.got) (messages items) old.sent_at g old.times p v.lane is fits h.timed here
+      (changed_else old.sent_at v.lane told) in
       let grown : all_of_lane v.lane (v.sent ++ p ∷ []) false ≡ all_of_lane v.lane v.sent v.shut ++ Copy p ∷ [] =
       sym (all_of_lane-put lane v.lane v.sent p) ∙ (λ i. all_of_lane v.lane v.sent (sym not_shut i) ++ Copy p ∷ []) in (
-        sender v.lane (v.sent ++ p ∷ []) told false,
+        sender v.room v.lane (v.sent ++ p ∷ []) told false,
         moved pass v (Copy p) (v.sent ++ p ∷ []) told false items views h q may is grown at (refl, refl)
-            (subst (λ (l : List M). KeepsTime lane (messages old.got) l g q) (sym (copies-append lane items (Copy p ∷ []))) timed),
+            (subst (λ (l : List M). KeepsTime lane old.room (messages old.got) l g q) (sym (copies-append lane items (Copy p ∷ []))) timed),
         (t, (omega arith), refl),
       )
 
@@ -157,9 +167,10 @@ module _ {M : Type 0} (lane : M → ℕ) where
       let grown : all_of_lane v.lane v.sent true ≡ all_of_lane v.lane v.sent v.shut ++ Mark v.lane ∷ [] =
       sym (all_of_lane-end lane v.lane v.sent) ∙ (λ i. all_of_lane v.lane v.sent (sym not_shut i) ++ Mark v.lane ∷ []) in
       let none_more : messages items ≡ messages (items ++ Mark v.lane ∷ []) = sym (copies-append lane items (Mark v.lane ∷ []) ∙ append-nil (messages items)) in (
-        sender v.lane v.sent v.sent_at true,
+        sender v.room v.lane v.sent v.sent_at true,
         moved pass v (Mark v.lane) v.sent v.sent_at true items views h old.times may refl grown at (refl, refl)
-            (subst (λ (l : List M). KeepsTime lane (messages old.got) l g old.times) none_more (same_time lane (messages old.got) (messages items) old.sent_at g old.times same h.timed)),
+            (subst (λ (l : List M). KeepsTime lane old.room (messages old.got) l g old.times) none_more
+            (same_time lane old.room (messages old.got) (messages items) old.sent_at g old.times same h.timed)),
         refl,
       )
 
@@ -169,10 +180,10 @@ module _ {M : Type 0} (lane : M → ℕ) where
 
   taken_as : (pass : ℕ) (v : View M) (x : Parcel M) (items : List (Parcel M)) (views : List (View M)) (h : Carries lane (x ∷ items) views) (accepted_at taken_at : List ℕ) (q : Times)
       → v.takes ≡ true → get_elem? views pass ≡ some v → accepted_at ≡ q.got_at → taken_at ≡ q.took_at
-      → KeepsTime lane (messages (h.traffic.got ++ x ∷ [])) (messages items) h.traffic.sent_at q
-      → Leaves pass items views (taker v.lanes (v.got ++ x ∷ []) accepted_at taken_at)
+      → KeepsTime lane h.traffic.room (messages (h.traffic.got ++ x ∷ [])) (messages items) h.traffic.sent_at q
+      → Leaves pass items views (taker v.room v.lanes (v.got ++ x ∷ []) accepted_at taken_at)
   taken_as pass v x items views h accepted_at taken_at q may at got_is took_is timed =
-      let w : View M = taker v.lanes (v.got ++ x ∷ []) accepted_at taken_at in
+      let w : View M = taker v.room v.lanes (v.got ++ x ∷ []) accepted_at taken_at in
       let mine = (h.fits pass v at).1 may in
       let got : List (Parcel M) = h.traffic.got ++ x ∷ [] in
       let new : Traffic M = record h.traffic { got = got; times = q } in
@@ -187,12 +198,16 @@ module _ {M : Type 0} (lane : M → ℕ) where
           order = there;
           others = h.others;
           timed = timed;
-          fits = all_set (Fits new) views pass w
-              ((λ p. absurd (true≢false (sym p))), (λ _. (mine.0, mine.1, ap (λ l. l ++ x ∷ []) mine.2, got_is, took_is)), (λ k l. absurd (omega arith)))
+          fits = all_set (Fits new) views pass w (
+            (λ p. absurd (true≢false (sym p))),
+            (λ _. (mine.0, mine.1, ap (λ l. l ++ x ∷ []) mine.2, got_is, took_is, mine.5)),
+            (λ k l. absurd (omega arith)),
+          )
               (λ j u apart e. let f = h.fits j u e in (f.0, (λ p. absurd (apart ((f.1 p).0 ∙ sym mine.0))), f.2));
         },
         subst (λ (y : ℕ × List (Parcel M)). IsFair lane y.0 y.1) (λ i. (sym mine.1 i, sym mine.2 i ++ x ∷ [])) fair,
-        subst (λ (y : List ℕ × List ℕ). HaveMoments y.0 y.1) (λ i. (sym got_is i, sym took_is i)) (timed_of lane (messages got) (messages items) h.traffic.sent_at q timed),
+        subst (λ (y : List ℕ × List ℕ). HaveMoments y.0 y.1) (λ i. (sym got_is i, sym took_is i))
+            (timed_of lane h.traffic.room (messages got) (messages items) h.traffic.sent_at q timed),
       )
 
   -- the oldest parcel is taken, a message after any given time
@@ -201,13 +216,13 @@ module _ {M : Type 0} (lane : M → ℕ) where
       let old = h.traffic in
       let mine = (h.fits pass v at).1 may in
       let t : ℕ = (old.times.latest + after) + 1 in
-      let step = take_time lane after (messages old.got) (messages items) old.sent_at old.times m h.timed in
+      let step = take_time lane old.room after (messages old.got) (messages items) old.sent_at old.times m h.timed in
       let s : ℕ = step.accepted_at in
       let q : Times = record { got_at = old.times.got_at ++ s ∷ []; took_at = old.times.took_at ++ t ∷ []; queue_at = step.rest; latest = t } in
       let all = taken_as pass v (Copy m) items views h (v.got_at ++ s ∷ []) (v.took_at ++ t ∷ []) q may at (ap (λ l. l ++ s ∷ []) mine.3) (ap (λ l. l ++ t ∷ []) mine.4)
-      (subst (λ (l : List M). KeepsTime lane l (messages items) old.sent_at q) (sym (copies-append lane old.got (Copy m ∷ []))) step.keeps) in
+      (subst (λ (l : List M). KeepsTime lane old.room l (messages items) old.sent_at q) (sym (copies-append lane old.got (Copy m ∷ []))) step.keeps) in
       let below : s ≤ old.times.latest = step.below in (
-        taker v.lanes (v.got ++ Copy m ∷ []) (v.got_at ++ s ∷ []) (v.took_at ++ t ∷ []),
+        taker v.room v.lanes (v.got ++ Copy m ∷ []) (v.got_at ++ s ∷ []) (v.took_at ++ t ∷ []),
         all.0,
         ((s, t, (omega arith), (omega arith), refl), all.1, all.2),
       )
@@ -215,25 +230,43 @@ module _ {M : Type 0} (lane : M → ℕ) where
       let old = h.traffic in
       let mine = (h.fits pass v at).1 may in
       let all = taken_as pass v (Mark k) items views h v.got_at v.took_at old.times may at mine.3 mine.4
-      (subst (λ (l : List M). KeepsTime lane l (messages items) old.sent_at old.times) (sym (copies-append lane old.got (Mark k ∷ []) ∙ append-nil (messages old.got))) h.timed) in (
-        taker v.lanes (v.got ++ Mark k ∷ []) v.got_at v.took_at,
+      (subst (λ (l : List M). KeepsTime lane old.room l (messages items) old.sent_at old.times)
+      (sym (copies-append lane old.got (Mark k ∷ []) ∙ append-nil (messages old.got))) h.timed) in (
+        taker v.room v.lanes (v.got ++ Mark k ∷ []) v.got_at v.took_at,
         all.0,
         (refl, all.1, all.2),
       )
 
-  -- the next lane gets its pass
-  pub lanes : (pass : ℕ) (v : View M) → v.takes ≡ true → Forks (Carries lane) pass v (taker (v.lanes + 1) v.got v.got_at v.took_at) (sender v.lanes [] [] false)
-  lanes pass v may items views h at =
-      let left : View M = taker (v.lanes + 1) v.got v.got_at v.took_at in
-      let right : View M = sender v.lanes [] [] false in
+  -- the next lane gets its pass; which room there is may be picked with the first
+  pub lanes : (room pass : ℕ) (v : View M) → v.takes ≡ true → (0 < v.lanes → v.room ≡ room)
+      → Forks (Carries lane) pass v (taker room (v.lanes + 1) v.got v.got_at v.took_at) (sender room v.lanes [] [] false)
+  lanes room pass v may picked items views h at =
+      let left : View M = taker room (v.lanes + 1) v.got v.got_at v.took_at in
+      let right : View M = sender room v.lanes [] [] false in
       let mine = (h.fits pass v at).1 may in
+      let old_room : 0 < h.traffic.lanes → h.traffic.room ≡ room = λ some. let is : v.lanes ≡ h.traffic.lanes = mine.1 in sym mine.5 ∙ picked (omega arith) in
+      let makes_room : MakesRoom room (h.traffic.times.got_at ++ h.traffic.times.queue_at) h.traffic.times.took_at = ⊎_elim
+      (λ (some : 0 < h.traffic.lanes). subst (λ (n : ℕ). MakesRoom n (h.traffic.times.got_at ++ h.traffic.times.queue_at) h.traffic.times.took_at)
+      (old_room some) h.timed.makes_room)
+      (λ (none : h.traffic.lanes ≤ 0). any_room lane h.traffic.room room (messages h.traffic.got) (messages items)
+      h.traffic.sent_at h.traffic.times h.timed (λ k. (h.others k (omega arith)).3))
+      (below? 0 h.traffic.lanes) in
       let vs : List (View M) = set views pass left in
       let seat : ℕ → Option ℕ = changed h.traffic.seat v.lanes (some (length vs)) in
       let free = h.others v.lanes (let e : v.lanes ≡ h.traffic.lanes = mine.1 in omega arith) in
-      let old : All (Fits (record h.traffic { seat = seat; lanes = v.lanes + 1 })) vs = all_set (Fits (record h.traffic { seat = seat; lanes = v.lanes + 1 })) views pass left
-      ((λ p. absurd (true≢false (sym p))), (λ _. (mine.0, refl, mine.2, mine.3, mine.4)), (λ k l. absurd (omega arith)))
+      let new : Traffic M = record h.traffic { seat = seat; lanes = v.lanes + 1; room = room } in
+      let old : All (Fits new) vs = all_set (Fits new) views pass left
+      ((λ p. absurd (true≢false (sym p))), (λ _. (mine.0, refl, mine.2, mine.3, mine.4, refl)), (λ k l. absurd (omega arith)))
       (λ j u apart e. let f = h.fits j u e in (
-        (λ p. let q = f.0 p in (changed_else h.traffic.seat v.lanes (some (length vs)) u.lane (λ t. some-ne-none j (sym q.0 ∙ ap h.traffic.seat t ∙ free.0)) ∙ q.0, q.1, q.2, q.3)),
+        (λ p. let q = f.0 p in (
+          changed_else h.traffic.seat v.lanes (some (length vs)) u.lane (λ t. some-ne-none j (sym q.0 ∙ ap h.traffic.seat t ∙ free.0)) ∙ q.0,
+          q.1,
+          q.2,
+          q.3,
+          q.4 ∙ old_room (⊎_elim (λ (low : u.lane < h.traffic.lanes). omega arith)
+              (λ (le : h.traffic.lanes ≤ u.lane). absurd (some-ne-none j (sym q.0 ∙ (h.others u.lane le).0)))
+              (below? u.lane h.traffic.lanes)),
+        )),
         (λ p. absurd (apart ((f.1 p).0 ∙ sym mine.0))),
         (λ k l. let q = f.2 k l in let below : k < h.traffic.lanes = q.0 in let is : v.lanes ≡ h.traffic.lanes = mine.1 in (
           (omega arith),
@@ -242,13 +275,16 @@ module _ {M : Type 0} (lane : M → ℕ) where
           q.3,
         )),
       )) in record {
-        traffic = record h.traffic { seat = seat; lanes = v.lanes + 1 };
+        traffic = new;
         order = h.order;
         others = λ k le. let is : v.lanes ≡ h.traffic.lanes = mine.1 in let q = h.others k (omega arith) in (changed_else h.traffic.seat v.lanes (some (length vs)) k (λ t. omega arith) ∙ q.0, q.1, q.2, q.3);
-        timed = h.timed;
+        timed = roomier lane h.traffic.room room (messages h.traffic.got) (messages items) h.traffic.sent_at h.traffic.times h.timed makes_room;
         fits = (λ j u e. ⊎_elim (old j u)
-            (λ (is : (j ≡ length vs) × (right ≡ u)). subst (λ (y : ℕ × View M). Fits (record h.traffic { seat = seat; lanes = v.lanes + 1 }) y.0 y.1) (λ i. (sym is.0 i, is.1 i))
-            ((λ _. (changed_here h.traffic.seat v.lanes (some (length vs)), free.1, free.2, free.3)), (λ p. absurd (true≢false (sym p))), (λ k l. absurd (omega arith))))
+            (λ (is : (j ≡ length vs) × (right ≡ u)). subst (λ (y : ℕ × View M). Fits new y.0 y.1) (λ i. (sym is.0 i, is.1 i)) (
+              (λ _. (changed_here h.traffic.seat v.lanes (some (length vs)), free.1, free.2, free.3, refl)),
+              (λ p. absurd (true≢false (sym p))),
+              (λ k l. absurd (omega arith)),
+            ))
             (at_end vs right u j e));
       }
 
@@ -292,7 +328,14 @@ module _ {M : Type 0} (lane : M → ℕ) where
       let now : (j : ℕ) (u : View M) → j ≢ other → get_elem? (set views pass both) j ≡ some u → F j u = λ j u away e. ⊎_elim
       (λ (is : (j ≡ pass) × (both ≡ u)). subst (F j) is.1 ((λ p. absurd (true≢false (sym p))), (λ p. absurd (true≢false (sym p))), known))
       (λ (is : (j ≢ pass) × (get_elem? views j ≡ some u)). let f = h.fits j u is.1 in (
-        (λ p. let q = f.0 p in (changed_else h.traffic.seat w.lane none u.lane (λ t. away (some-injective j other (sym q.0 ∙ ap h.traffic.seat t ∙ theirs.0))) ∙ q.0, q.1, q.2, q.3)),
+        (λ p. let q = f.0 p in (
+          changed_else h.traffic.seat w.lane none u.lane (λ t. away (some-injective j other (sym q.0 ∙ ap h.traffic.seat t ∙ theirs.0)))
+              ∙ q.0,
+          q.1,
+          q.2,
+          q.3,
+          q.4,
+        )),
         f.1,
         (λ k l. let q = f.2 k l in (q.0, gone k q.1, q.2, q.3)),
       ))
@@ -313,7 +356,7 @@ module _ {M : Type 0} (lane : M → ℕ) where
       let F : ℕ → View M → Type 0 = Fits (record h.traffic { reader = pass }) in
       let now : (j : ℕ) (u : View M) → j ≢ other → get_elem? (set views pass both) j ≡ some u → F j u = λ j u away e. ⊎_elim
       (λ (is : (j ≡ pass) × (both ≡ u)). subst (λ (y : ℕ × View M). F y.0 y.1) (λ i. (sym is.0 i, is.1 i))
-      ((λ p. absurd (true≢false (sym p))), (λ _. (refl, theirs.1, theirs.2, theirs.3, theirs.4)), (h.fits pass v at).2))
+      ((λ p. absurd (true≢false (sym p))), (λ _. (refl, theirs.1, theirs.2, theirs.3, theirs.4, theirs.5)), (h.fits pass v at).2))
       (λ (is : (j ≢ pass) × (get_elem? views j ≡ some u)). let f = h.fits j u is.1 in (f.0, (λ p. absurd (away ((f.1 p).0 ∙ sym theirs.0))), f.2))
       (at_set views pass j both u e) in record {
         traffic = record h.traffic { reader = pass };
@@ -350,7 +393,8 @@ module _ {M : Type 0} (lane : M → ℕ) where
         times = h.traffic.times;
         got_is = mine.3;
         took_is = mine.4;
-        keeps = subst (λ (l : List (Parcel M)). KeepsTime lane (messages l) (messages items) h.traffic.sent_at h.traffic.times) (sym got) h.timed;
+        keeps = subst (λ (y : ℕ × List (Parcel M)). KeepsTime lane y.0 (messages y.1) (messages items) h.traffic.sent_at h.traffic.times)
+            (λ i. (sym mine.5 i, sym got i)) h.timed;
         same = λ k l. let q = f.2 k l in (all k ∙ sym q.2, sym q.3);
         others = λ k le. let is : v.lanes ≡ h.traffic.lanes = mine.1 in let q = h.others k (omega arith) in (all k ∙ q.1, q.3);
       }

@@ -1,4 +1,5 @@
 pub mod Parcels
+pub mod Rooms
 pub mod Timing
 pub mod Keeps
 pub mod Counts

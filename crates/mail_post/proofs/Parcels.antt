@@ -1,5 +1,5 @@
 -- The steps of one lane among those of all.
-use Rattle.std.proofs.Common.{◌≡◌, ◌≢◌, ◌==◌, ℕ, Bool, true, false, ◌||◌, cond, List, [], ◌∷◌, ◌++◌, refl, sym, ap, ◌∙◌, true≢false, append-nil}
+use Rattle.std.proofs.Common.{◌≡◌, ◌≢◌, ◌==◌, ℕ, Bool, true, false, ◌||◌, ◌≤◌, cond, List, [], ◌∷◌, ◌++◌, length, refl, sym, ap, ◌∙◌, true≢false, append-nil, arith}
 use Rattle.std.proofs.lemmas.Bool.{eq-eqb, ne_eqb, cond-true, cond-false}
 use Rattle.std.proofs.lemmas.List.Elements.{filter-append}
 use Rattle.mail_post.specs.declared.rule.Parcel.{Parcel}
@@ -20,6 +20,12 @@ module _ {M : Type 0} (lane : M → ℕ) where
   copies-append [] ys = refl
   copies-append (Copy n ∷ xs) ys = ap (λ l. n ∷ l) (copies-append xs ys)
   copies-append (Mark j ∷ xs) ys = copies-append xs ys
+
+  -- the messages are at most all parcels
+  pub messages_at_most : (xs : List (Parcel M)) → length (messages xs) ≤ length xs
+  messages_at_most [] = omega arith
+  messages_at_most (Copy n ∷ xs) = let more = messages_at_most xs in omega arith
+  messages_at_most (Mark j ∷ xs) = let more = messages_at_most xs in omega arith
 
   pub of-copies : (k : ℕ) (xs : List (Parcel M)) → of lane k (messages xs) ≡ messages (part lane k xs)
   of-copies k [] = refl

@@ -14,6 +14,7 @@ use Rattle.mail_post.specs.Parcels.{of, messages, has_mark}
 use Rattle.mail_runs.specs.Timed.{RisesTo}
 use Rattle.mail_post.specs.Times.{HaveMoments}
 use Rattle.mail_runs.specs.Known.{AreLater, times_of}
+use Rattle.mail_runs.specs.Ordered.{MakesRoom}
 use Rattle.mail_post.specs.Views.{taker}
 use Rattle.mail_post.specs.Rule.{IsFair}
 
@@ -30,10 +31,11 @@ pub record Sender (M : Type 0) : Type 0 where
   pub sent_at : List ℕ
   pub refused : Bool
 
--- the receiver: the number of lanes, what was taken (messages and marks), when each of the messages was accepted and
--- taken, and why no more is
+-- the receiver: how many parcels its channel has room for, the number of lanes, what was taken (messages and marks),
+-- when each of the messages was accepted and taken, and why no more is
 pub record Inbox (M : Type 0) : Type 0 where
   pub channel : Channel M
+  pub capacity : ℕ
   pub lanes : ℕ
   pub got : List (Parcel M)
   pub got_at : List ℕ
@@ -74,10 +76,17 @@ module _ {M : Type 0} where
   new_senders channel (suc n) =
       new_senders channel n ++ record { channel = channel; number = n; sent = []; sent_at = []; refused = false } ∷ []
 
-  -- the receiver that a channel begins with
-  abbrev pub new_inbox : Channel M → ℕ → Inbox M
-  new_inbox channel lanes =
-      record { channel = channel; lanes = lanes; got = []; got_at = []; took_at = []; gone = None }
+  -- the receiver that a channel of that capacity begins with
+  abbrev pub new_inbox : Channel M → ℕ → ℕ → Inbox M
+  new_inbox channel capacity lanes = record {
+    channel = channel;
+    capacity = capacity;
+    lanes = lanes;
+    got = [];
+    got_at = [];
+    took_at = [];
+    gone = None;
+  }
 
   -- they are of lanes i, i + 1, .. of one channel
   abbrev pub AreSendersFrom : ℕ → Channel M → List (Sender M) → Type 0
@@ -152,7 +161,8 @@ module _ {M : Type 0} where
 
     -- What went through a channel, in one order, that of its acceptance, with times that rise. Of each lane it is what
     -- the lane was told was accepted, at the times that it was told. What was taken is a prefix of it, in the same
-    -- order, each later than it was accepted; and all of it once every mark was taken.
+    -- order, each later than it was accepted; and all of it once every mark was taken. What was accepted was accepted
+    -- after what stood as many places before it as the channel has room for was taken.
     pub record HasPassedThrough (inbox : Inbox M) (sent : List (List M)) (sent_at : List (List ℕ)) : Type 0 where
       pub accepted : List M
       pub accepted_at : List ℕ
@@ -168,11 +178,12 @@ module _ {M : Type 0} where
       pub takes_rise : RisesTo 0 until inbox.took_at
       pub later : AreLater inbox.got_at inbox.took_at
       pub all : inbox.gone ≡ Some Closed → (waiting ≡ []) × (waiting_at ≡ [])
+      pub makes_room : MakesRoom inbox.capacity accepted_at inbox.took_at
 
 -- what a receiver keeps of what its pass knows: the marks taken are counted, and it is closed only with those of all
 -- lanes; and the times rise
 pub record IsInbox {M : Type 0} (lane : M → ℕ) (lanes marks : ℕ) (gone : Option Gone) (v : View M) : Type 0 where
-  pub knows : v ≡ taker lanes v.got v.got_at v.took_at
+  pub knows : v ≡ taker v.room lanes v.got v.got_at v.took_at
   pub fair : IsFair lane lanes v.got
   pub counted : count_senders (λ k. has_mark k v.got) lanes ≡ marks
   pub all : gone ≡ Some Closed → marks ≡ lanes

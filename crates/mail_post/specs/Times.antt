@@ -2,6 +2,7 @@
 use Rattle.std.specs.Prelude.{◌≡◌, ℕ, List, [], ◌∷◌, ◌++◌, length}
 use Rattle.mail_runs.specs.Timed.{RisesTo}
 use Rattle.mail_runs.specs.Known.{AreLater, times_of}
+use Rattle.mail_runs.specs.Ordered.{MakesRoom}
 
 -- the last of them, or else lo
 abbrev pub last_of : ℕ → List ℕ → ℕ
@@ -27,8 +28,9 @@ pub record Times : Type 0 where
   pub latest : ℕ
 
 -- Each message that was taken or waits has its time. Of each lane they are those that the lane was told. Along the
--- channel the times of acceptance rise, and so do those of taking; each message was taken later than it was accepted.
-pub record KeepsTime {M : Type 0} (lane : M → ℕ) (got queue : List M) (sent_at : ℕ → List ℕ) (times : Times)
+-- channel the times of acceptance rise, and so do those of taking; each message was taken later than it was accepted,
+-- and accepted after there was room for it.
+pub record KeepsTime {M : Type 0} (lane : M → ℕ) (room : ℕ) (got queue : List M) (sent_at : ℕ → List ℕ) (times : Times)
     : Type 0 where
   pub got_as_many : length times.got_at ≡ length got
   pub queue_as_many : length times.queue_at ≡ length queue
@@ -36,3 +38,4 @@ pub record KeepsTime {M : Type 0} (lane : M → ℕ) (got queue : List M) (sent_
   pub rises : RisesTo 0 times.latest (times.got_at ++ times.queue_at)
   pub takes_rise : RisesTo 0 times.latest times.took_at
   pub later : AreLater times.got_at times.took_at
+  pub makes_room : MakesRoom room (times.got_at ++ times.queue_at) times.took_at

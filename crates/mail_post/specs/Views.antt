@@ -5,9 +5,10 @@ use Rattle.mail_post.specs.declared.rule.Parcel.TheVariants.{Copy, Mark}
 use Rattle.mail_post.specs.declared.rule.View.{View}
 
 module _ {M : Type 0} where
-  -- lane k's pass, which was told that s was accepted, and when, and has put its mark or not
-  abbrev pub sender : ℕ → List M → List ℕ → Bool → View M
-  sender k s at b = record {
+  -- lane k's pass of a channel that has room for r parcels, which was told that s was accepted, and when, and has put
+  -- its mark or not
+  abbrev pub sender : ℕ → ℕ → List M → List ℕ → Bool → View M
+  sender r k s at b = record {
     sends = true;
     lane = k;
     sent = s;
@@ -20,12 +21,13 @@ module _ {M : Type 0} where
     took_at = [];
     known = [];
     known_at = [];
+    room = r;
   }
 
-  -- the receiver's, which knows how many lanes there are and what was taken, and of the messages when each was accepted
-  -- and taken
-  abbrev pub taker : ℕ → List (Parcel M) → List ℕ → List ℕ → View M
-  taker n g accepted_at taken_at = record {
+  -- the receiver's of such a channel, which knows how many lanes there are and what was taken, and of the messages when
+  -- each was accepted and taken
+  abbrev pub taker : ℕ → ℕ → List (Parcel M) → List ℕ → List ℕ → View M
+  taker r n g accepted_at taken_at = record {
     sends = false;
     lane = 0;
     sent = [];
@@ -38,6 +40,7 @@ module _ {M : Type 0} where
     took_at = taken_at;
     known = [];
     known_at = [];
+    room = r;
   }
 
   -- one that knows what the first lanes sent, and when that was accepted
@@ -55,6 +58,7 @@ module _ {M : Type 0} where
     took_at = [];
     known = ls;
     known_at = at;
+    room = 0;
   }
 
   -- the receiver's, which knows that too
@@ -72,16 +76,17 @@ module _ {M : Type 0} where
     took_at = w.took_at;
     known = v.known;
     known_at = v.known_at;
+    room = w.room;
   }
 
   -- a lane's pass with its parcel put: a message was accepted at a time after that one
   abbrev pub IsPut : ℕ → View M → Parcel M → View M → Type 0
   IsPut after v (Copy m) w = (t : ℕ) × (after < t)
-      × (w ≡ sender v.lane (v.sent ++ m ∷ []) (v.sent_at ++ t ∷ []) false)
-  IsPut after v (Mark k) w = w ≡ sender v.lane v.sent v.sent_at true
+      × (w ≡ sender v.room v.lane (v.sent ++ m ∷ []) (v.sent_at ++ t ∷ []) false)
+  IsPut after v (Mark k) w = w ≡ sender v.room v.lane v.sent v.sent_at true
 
   -- the receiver's with a parcel taken: a message was accepted at a time, and taken later, and after that one
   abbrev pub IsTook : ℕ → View M → Parcel M → View M → Type 0
   IsTook after v (Copy m) w = (s t : ℕ) × (after < t) × (s < t)
-      × (w ≡ taker v.lanes (v.got ++ Copy m ∷ []) (v.got_at ++ s ∷ []) (v.took_at ++ t ∷ []))
-  IsTook after v (Mark k) w = w ≡ taker v.lanes (v.got ++ Mark k ∷ []) v.got_at v.took_at
+      × (w ≡ taker v.room v.lanes (v.got ++ Copy m ∷ []) (v.got_at ++ s ∷ []) (v.took_at ++ t ∷ []))
+  IsTook after v (Mark k) w = w ≡ taker v.room v.lanes (v.got ++ Mark k ∷ []) v.got_at v.took_at

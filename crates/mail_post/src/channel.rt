@@ -1,15 +1,15 @@
 //! A channel from numbered lanes to one receiver. Copies and slips both go through it.
 
-ghost use Rattle.std.specs.Prelude.{◌≡◌, true, false, ◌<◌, [], ◌∷◌, ◌++◌, IfOk, IfErr, IfSome, OnOk, OnErr, length};
+ghost use Rattle.std.specs.Prelude.{◌≡◌, true, false, ◌<◌, ◌+◌, [], ◌∷◌, ◌++◌, IfOk, IfErr, IfSome, OnOk, OnErr, length};
 ghost use Rattle.crossbeam_channel.specs.Claims.{IsSeatAt};
-ghost use Rattle.crossbeam_channel.specs.Ends.{sends_on, receives_on};
-ghost use Rattle.mail_post.specs.Views.{sender};
+ghost use Rattle.crossbeam_channel.specs.Ends.{sends_on, receives_on, ruled_capacity};
+ghost use Rattle.mail_post.specs.Views.{sender, taker};
 ghost use Rattle.mail_post.specs.Channel.{view_of, taken, IsNext, IsDrained, TookSome, TookAll};
 ghost use Rattle.mail_post.specs.Channel.{new_senders, new_inbox, AreSenders, AreSendersOf, sent_by, sent_at_by};
 ghost use Rattle.mail_post.specs.Channel.{IsAccepted, IsTimed, HasSameTimes, HasPassedThrough};
 
 use crate::rule::{
-    Ends, FromSender, LaneOrder, Lanes, Moment, Offers, Opens, Parcel, Settles, Takes, View,
+    Ends, FromSender, LaneOrder, Lanes, Moment, Offers, Opens, Parcel, Room, Settles, Takes, View,
 };
 use crossbeam_channel::{Pass, RuledReceiver, RuledSender, bounded_with};
 use std::alloc::{AllocError, Global};
@@ -36,14 +36,14 @@ pub fn open_channel<M: FromSender>(
 ) -> Result<(Vec<ChannelSender<M>>, ChannelReceiver<M>), AllocError>
     requires { 0 < capacity }
     ensures senders { IfOk result (λ ends. ends.0.items ≡ new_senders ends.1.channel lanes) }
-    ensures receiver { IfOk result (λ ends. ends.1 ≡ new_inbox ends.1.channel lanes) }
+    ensures receiver { IfOk result (λ ends. ends.1 ≡ new_inbox ends.1.channel capacity lanes) }
 {
     let mut senders = Vec::with_capacity(alloc, lanes as usize)?;
     let (to, from, mut first) = bounded_with::<Parcel<M>, View<M>, LaneOrder<M>, Global>(
         alloc, capacity,
     )?;
     for lane in 0..lanes {
-        let pass = to.another::<Lanes>(&mut first);
+        let pass = lane_pass::<M, Brand>(&to, &mut first);
         let end = to.try_clone()?;
         senders.push(ChannelSender {
             end,
@@ -64,6 +64,22 @@ pub fn open_channel<M: FromSender>(
     ))
 }
 
+// The next lane's pass, made from the receiver's. How many parcels there is room for is picked with the first.
+fn lane_pass<M: FromSender, K: Room>(
+    to: &RuledSender<Parcel<M>, View<M>, LaneOrder<M>>,
+    first: &mut Pass<Parcel<M>, View<M>>,
+) -> Pass<Parcel<M>, View<M>>
+    requires seat { IsSeatAt (sends_on to.now) first.old }
+    requires takes { (view_of first.old).takes ≡ true }
+    requires room { 0 < (view_of first.old).lanes → (view_of first.old).room ≡ K.room }
+    ensures seats { IsSeatAt (sends_on to.now) first.new × IsSeatAt (sends_on to.now) result }
+    ensures receiver { view_of first.new ≡ taker K.room ((view_of first.old).lanes + 1) (view_of first.old).got
+        (view_of first.old).got_at (view_of first.old).took_at }
+    ensures lane { view_of result ≡ sender K.room (view_of first.old).lanes [] [] false }
+{
+    to.another::<Lanes<K>>(first)
+}
+
 /// A sender of a channel.
 #[derive(Drop)]
 pub struct ChannelSender<M: FromSender> {
@@ -76,7 +92,7 @@ pub struct ChannelSender<M: FromSender> {
 impl<M: FromSender> Model for ChannelSender<M> {
     ghost use Rattle.std.specs.Prelude.{◌≡◌, false};
     ghost use Rattle.crossbeam_channel.specs.Claims.{IsSeatAt};
-    ghost use Rattle.crossbeam_channel.specs.Ends.{sends_on};
+    ghost use Rattle.crossbeam_channel.specs.Ends.{sends_on, ruled_capacity};
     ghost use Rattle.mail_post.specs.Views.{sender};
     ghost use Rattle.mail_post.specs.Channel.{Sender, channel_of, view_of};
 
@@ -91,7 +107,8 @@ impl<M: FromSender> Model for ChannelSender<M> {
     } };
 
     ghost invariant = { λ s. IsSeatAt (sends_on s.end) s.pass
-        × (view_of s.pass ≡ sender s.number (view_of s.pass).sent (view_of s.pass).sent_at false) };
+        × (view_of s.pass ≡ sender (ruled_capacity (sends_on s.end)) s.number (view_of s.pass).sent
+        (view_of s.pass).sent_at false) };
 }
 
 impl<M: FromSender> ChannelSender<M> {
@@ -143,14 +160,16 @@ pub struct ChannelReceiver<M: FromSender> {
 }
 
 impl<M: FromSender> Model for ChannelReceiver<M> {
+    ghost use Rattle.std.specs.Prelude.{◌≡◌, ◌<◌};
     ghost use Rattle.crossbeam_channel.specs.Claims.{IsSeatAt};
-    ghost use Rattle.crossbeam_channel.specs.Ends.{receives_on};
+    ghost use Rattle.crossbeam_channel.specs.Ends.{receives_on, ruled_capacity};
     ghost use Rattle.mail_post.specs.Channel.{Inbox, IsInbox, channel_of, view_of};
 
     ghost Value = { Inbox M };
 
     ghost view = { λ r. record {
       channel = channel_of r.pass;
+      capacity = ruled_capacity (receives_on r.end);
       lanes = r.lanes;
       got = (view_of r.pass).got;
       got_at = (view_of r.pass).got_at;
@@ -159,14 +178,16 @@ impl<M: FromSender> Model for ChannelReceiver<M> {
     } };
 
     ghost invariant = { λ r. IsSeatAt (receives_on r.end) r.pass
-        × IsInbox M.sender r.lanes r.marks r.gone (view_of r.pass) };
+        × IsInbox M.sender r.lanes r.marks r.gone (view_of r.pass)
+        × (0 < r.lanes → (view_of r.pass).room ≡ ruled_capacity (receives_on r.end)) };
 }
 
 impl<M: FromSender> ChannelReceiver<M> {
     /// The oldest post, taken after the picked time. After a `Gone` each later call answers the same, and receives
     /// nothing.
     pub fn take<K: Moment, R: Wait>(&mut self, rt: &R) -> Result<M, Gone>
-        ensures same { (self.new.channel ≡ self.old.channel) × (self.new.lanes ≡ self.old.lanes) }
+        ensures same { (self.new.channel ≡ self.old.channel) × (self.new.lanes ≡ self.old.lanes)
+            × (self.new.capacity ≡ self.old.capacity) }
         ensures post { IfOk result (λ post. taken self.new ≡ taken self.old ++ post ∷ []) }
         ensures lane { IfOk result (λ post. M.sender post < self.old.lanes) }
         ensures timed { OnOk result (IsTimed K.after self.old self.new) }
@@ -191,7 +212,8 @@ impl<M: FromSender> ChannelReceiver<M> {
     // What one parcel answers: None where it was a mark, and another is missing.
     fn next<K: Moment, R: Wait>(&mut self, rt: &R) -> Option<Result<M, Gone>>
         requires { self.old.gone ≡ None }
-        ensures same { (self.new.channel ≡ self.old.channel) × (self.new.lanes ≡ self.old.lanes) }
+        ensures same { (self.new.channel ≡ self.old.channel) × (self.new.lanes ≡ self.old.lanes)
+            × (self.new.capacity ≡ self.old.capacity) }
         ensures next { IsNext M.sender K.after self.old self.new result }
     {
         match self.end.recv_as::<Takes<K>, R>(rt, &mut self.pass) {
@@ -250,7 +272,8 @@ fn put_mark<M: FromSender, R: Wait>(
     is_lost: bool,
 ) -> bool
     requires seat { IsSeatAt (sends_on end.now) pass.old }
-    requires knows { view_of pass.old ≡ sender lane (view_of pass.old).sent (view_of pass.old).sent_at false }
+    requires knows { view_of pass.old ≡ sender (ruled_capacity (sends_on end.now)) lane (view_of pass.old).sent
+        (view_of pass.old).sent_at false }
     ensures seat { IsSeatAt (sends_on end.now) pass.new }
     ensures knows { ((view_of pass.new).sends ≡ true) × ((view_of pass.new).lane ≡ lane)
         × ((view_of pass.new).sent ≡ (view_of pass.old).sent)
@@ -326,7 +349,7 @@ pub fn close_channel<M: FromSender, R: Wait>(
 
 /// Both ends of a channel, handed back: what was taken of each lane is the start of what the lane was told was
 /// accepted, and all of it once the receiver answered Closed; and all that the channel accepted has one order, in which
-/// times rise. It costs nothing when it runs.
+/// times rise and no more wait than the channel has room for. It costs nothing when it runs.
 pub fn settle<M: FromSender>(receiver: ChannelReceiver<M>, closed: ChannelClosed<M>)
     requires channel { receiver.channel ≡ closed.channel }
     requires lanes { length closed.sent ≡ receiver.lanes }

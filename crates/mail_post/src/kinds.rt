@@ -53,7 +53,7 @@ pub fn mail_line<N: DepotName>(
     requires capacity { 0 < capacity }
     requires lanes { 0 < lanes }
     ensures senders { IfOk result (λ ends. ends.0.items ≡ new_senders ends.1.channel lanes) }
-    ensures receiver { IfOk result (λ ends. ends.1 ≡ new_inbox ends.1.channel lanes) }
+    ensures receiver { IfOk result (λ ends. ends.1 ≡ new_inbox ends.1.channel capacity lanes) }
 {
     open_channel(alloc, capacity, lanes)
 }
@@ -73,7 +73,7 @@ pub fn close<N: DepotName, R: Wait>(senders: Vec<Sender<N>>, rt: &R) -> Closed<N
 pub fn slip_line(alloc: Global, workers: u32) -> Result<(Vec<SlipSender>, SlipReceiver), AllocError>
     requires { 0 < workers }
     ensures senders { IfOk result (λ ends. ends.0.items ≡ new_senders ends.1.channel workers) }
-    ensures receiver { IfOk result (λ ends. ends.1 ≡ new_inbox ends.1.channel workers) }
+    ensures receiver { IfOk result (λ ends. ends.1 ≡ new_inbox ends.1.channel SLIP_CAPACITY workers) }
 {
     open_channel(alloc, SLIP_CAPACITY, workers)
 }

@@ -15,6 +15,15 @@ impl Moment for Brand {
     ghost after = { 0 };
 }
 
+/// How many parcels a channel has room for, in proofs alone. A caller that passes `Brand` picks it.
+pub trait Room {
+    ghost room: { ℕ };
+}
+
+impl Room for Brand {
+    ghost room = { 0 };
+}
+
 /// A message that says the number of its sender.
 pub trait FromSender: Drop {
     ghost sender: { Self → ℕ };
@@ -46,6 +55,8 @@ pub struct View<M: Drop> {
     /// What the first lanes sent in all, and when each was accepted.
     pub known: LinkedList<LinkedList<M>>,
     pub known_at: LinkedList<LinkedList<u64>>,
+    /// Where it is a lane's or the receiver's: how many parcels the channel has room for.
+    pub room: usize,
 }
 
 pub struct LaneOrder<M> {
@@ -59,7 +70,7 @@ impl<M: FromSender> Protocol<Parcel<M>, View<M>> for LaneOrder<M> {
 
     ghost holds = { Carries M.sender };
 
-    ghost first = { taker 0 [] [] [] };
+    ghost first = { taker 0 0 [] [] [] };
 }
 
 /// A lane's accepted parcel, a message after that time.
@@ -94,16 +105,18 @@ impl<M: FromSender, K: Moment> Lesson<Parcel<M>, View<M>> for Takes<K> {
     ghost fact = { λ v items. Unit {0} };
 }
 
-/// The receiver's pass makes those of the lanes, by their numbers.
-pub struct Lanes;
+/// The receiver's pass makes those of the lanes, by their numbers. All know how many parcels there is room for.
+pub struct Lanes<K> {
+    marker: PhantomData<K>,
+}
 
-impl<M: FromSender> Split<View<M>> for Lanes {
+impl<M: FromSender, K: Room> Split<View<M>> for Lanes<K> {
     ghost use Rattle.std.specs.Prelude.{[], ◌+◌, false};
     ghost use Rattle.mail_post.specs.Views.{taker, sender};
 
-    ghost left = { λ v. taker (v.lanes + 1) v.got v.got_at v.took_at };
+    ghost left = { λ v. taker K.room (v.lanes + 1) v.got v.got_at v.took_at };
 
-    ghost right = { λ v. sender v.lanes [] [] false };
+    ghost right = { λ v. sender K.room v.lanes [] [] false };
 }
 
 /// A pass that knows of no lane, beside any other.

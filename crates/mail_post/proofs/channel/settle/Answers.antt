@@ -54,5 +54,6 @@ returns-clause-passed g c =
     (ap (λ (t : View _). t.known_at) both ∙ ap (λ (s : Sent _). s.sent_at) there)
     (c.requires.lanes ∙ ap (λ (r : Inbox _). r.lanes) (sym is))
     (ap (λ (s : Sent _). length s.sent_at) (sym there) ∙ c.closed.invariant.2 ∙ ap (λ (s : Sent _). length s.sent) there)
+    (λ some. ap (λ (t : View _). t.room) both ∙ c.receiver.invariant.2 some ∙ ap (λ (r : Inbox _). r.capacity) is)
     c.learn_as.ensures.rule.1.0
     c.learn_as.ensures.rule.1.1

@@ -2,7 +2,7 @@ use Rattle.std.proofs.Common.{◌≡◌, ◌≤◌, ◌<◌, ℕ, ◌+◌, ◌++
 use Rattle.mail_post.specs.Channel.{Inbox, view_of, taken}
 use Rattle.mail_post.specs.declared.rule.View.{View}
 use Rattle.mail_post.proofs.Keeps.{takes}
-use Rattle.mail_post.proofs.Inboxes.{inbox_copy, taken_copy, timed_copy, copy_fits, inbox_mark, taken_mark, timeless_mark, more_marks_fit, inbox_lost}
+use Rattle.mail_post.proofs.Inboxes.{room_copy, room_mark, inbox_copy, taken_copy, timed_copy, copy_fits, inbox_mark, taken_mark, timeless_mark, more_marks_fit, inbox_lost}
 use Rattle.mail_post.specs.declared.channel.Gone.TheVariants.{Closed}
 use Rattle.mail_post.proofs.Names.{drained}
 use Rattle.mail_post.proofs.channel.ChannelReceiver.next.Goals as goal
@@ -11,7 +11,12 @@ pub recv_as-requires-clause-rule : goal.recv_as-requires-clause-rule
 recv_as-requires-clause-rule g c = (takes g.M.FromSender.sender g.K.Moment.after _ _ (ap (λ (v : View _). v.takes) c.self.invariant.1.knows), (λ items views h at. tt))
 
 pub invariant_of-self : goal.invariant_of-self
-invariant_of-self g c = (c.recv_as.ensures.channel.0, inbox_copy g.M.FromSender.sender g.K.Moment.after _ _ _ _ _ _ c.self.invariant.1 (rw c.in-Ok-Copy.field-0-is at c.in-Ok-Copy.ensures.rule))
+invariant_of-self g c =
+    let step = rw c.in-Ok-Copy.field-0-is at c.in-Ok-Copy.ensures.rule in (
+      c.recv_as.ensures.channel.0,
+      inbox_copy g.M.FromSender.sender g.K.Moment.after _ _ _ _ _ _ c.self.invariant.1 step,
+      λ some. room_copy g.M.FromSender.sender g.K.Moment.after (view_of c.self.inside.pass) (view_of c.recv_as.new.pass) _ step ∙ c.self.invariant.2 some,
+    )
 
 pub overflow_add-self : goal.overflow_add-self
 overflow_add-self g c =
@@ -20,17 +25,28 @@ overflow_add-self g c =
 pub invariant_of-self-then-self-lanes : goal.invariant_of-self-then-self-lanes
 invariant_of-self-then-self-lanes g c =
     let none = ap (λ (r : Inbox _). r.gone) c.self.view_is ∙ c.requires in
-    (c.recv_as.ensures.channel.0, inbox_mark g.M.FromSender.sender g.K.Moment.after _ _ _ _ _ _ _ c.self.invariant.1 (rw c.in-Ok-Mark.field-0-is at c.in-Ok-Mark.ensures.rule) (λ e. absurd (cc)))
+    let step = rw c.in-Ok-Mark.field-0-is at c.in-Ok-Mark.ensures.rule in (
+      c.recv_as.ensures.channel.0,
+      inbox_mark g.M.FromSender.sender g.K.Moment.after _ _ _ _ _ _ _ c.self.invariant.1 step (λ e. absurd (cc)),
+      λ some. room_mark g.M.FromSender.sender g.K.Moment.after (view_of c.self.inside.pass) (view_of c.recv_as.new.pass) _ step ∙ c.self.invariant.2 some,
+    )
 
 pub invariant_of-self-in-Ok-Mark : goal.invariant_of-self-in-Ok-Mark
 invariant_of-self-in-Ok-Mark g c =
     let step = rw c.in-Ok-Mark.field-0-is at c.in-Ok-Mark.ensures.rule in
     let h : c.self.inside.marks + 1 ≤ c.self.inside.lanes = more_marks_fit g.M.FromSender.sender g.K.Moment.after _ _ _ _ _ _ c.self.invariant.1 step in
-    let full : c.self.inside.marks + 1 ≡ c.self.inside.lanes = omega (arith, c.if-self-lanes.false) in
-    (c.recv_as.ensures.channel.0, inbox_mark g.M.FromSender.sender g.K.Moment.after _ _ _ _ _ _ _ c.self.invariant.1 step (λ e. full))
+    let full : c.self.inside.marks + 1 ≡ c.self.inside.lanes = omega (arith, c.if-self-lanes.false) in (
+      c.recv_as.ensures.channel.0,
+      inbox_mark g.M.FromSender.sender g.K.Moment.after _ _ _ _ _ _ _ c.self.invariant.1 step (λ e. full),
+      λ some. room_mark g.M.FromSender.sender g.K.Moment.after (view_of c.self.inside.pass) (view_of c.recv_as.new.pass) _ step ∙ c.self.invariant.2 some,
+    )
 
 pub invariant_of-self-in-Err : goal.invariant_of-self-in-Err
-invariant_of-self-in-Err g c = (c.recv_as.ensures.channel.0, inbox_lost g.M.FromSender.sender _ _ _ _ _ c.self.invariant.1 c.in-Err.ensures.rule.0)
+invariant_of-self-in-Err g c = (
+  c.recv_as.ensures.channel.0,
+  inbox_lost g.M.FromSender.sender _ _ _ _ _ c.self.invariant.1 c.in-Err.ensures.rule.0,
+  λ some. ap (λ (v : View _). v.room) c.in-Err.ensures.rule.0 ∙ c.self.invariant.2 some,
+)
 
 -- the channel and the number of lanes stay
 pub returns-then-self-lanes-clause-next : goal.returns-then-self-lanes-clause-next
