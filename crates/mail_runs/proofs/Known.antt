@@ -12,13 +12,13 @@ use Rattle.mail_world.specs.Slips.{slip_of, slips_from}
 use Rattle.mail_world.specs.Lists.{copies}
 use Rattle.mail_runs.specs.Deeds.{Deed, Gave, Took, Told, Heard, given_in, taken_in, told_in, heard_in, of_mailbox, slips_to, is_of_worker, turns_of}
 use Rattle.mail_runs.specs.Courses.{Server, Course, IsCourse}
-use Rattle.mail_runs.specs.Histories.{Threads, IsWithin, IsHistory}
+use Rattle.mail_runs.specs.Histories.{Threads, IsWithin}
 use Rattle.mail_runs.specs.Timed.{TimedDeed, Timed, whats, times, those, is_of_lane, gives_to, takes_from, tells_to, hears_from, accepted_by, taken_of, RisesTo, AreTimed}
 use Rattle.mail_runs.specs.Known.{AreLater, times_of, passed, is_of_lanes, is_heard, is_taken, Known, AreKnown, timed_of}
 use Rattle.mail_runs.proofs.Parts.{passes, fails, same_number}
 use Rattle.mail_runs.proofs.ByTime.{low?}
 use Rattle.mail_runs.proofs.OneLane.{of_transactions, many}
-use Rattle.mail_runs.proofs.Timed.{whats_those, taken_in_turns, by_times}
+use Rattle.mail_runs.proofs.Timed.{whats_those, taken_in_turns}
 
 -- what deeds are and when they were done is all of them
 same_deeds : (xs ys : List TimedDeed) → whats xs ≡ whats ys → times xs ≡ times ys → xs ≡ ys
@@ -138,14 +138,14 @@ turns_take s b c is =
 
 -- what passed a channel, as deeds: what they are, their times, and those of one lane or worker
 module _ {A : Type 0} (make : A → Deed) where
-  accepted_times : (ms : List A) (ts us : List ℕ) → length ts ≡ length ms → AreLater ts us → times (accepted_by make (passed ms ts us)) ≡ ts
+  pub accepted_times : (ms : List A) (ts us : List ℕ) → length ts ≡ length ms → AreLater ts us → times (accepted_by make (passed ms ts us)) ≡ ts
   accepted_times [] [] us e later = refl
   accepted_times [] (t ∷ ts) us e later = absurd (omega arith)
   accepted_times (a ∷ ms) [] us e later = absurd (omega arith)
   accepted_times (a ∷ ms) (t ∷ ts) [] e later = absurd later
   accepted_times (a ∷ ms) (t ∷ ts) (u ∷ us) e later = ap (λ l. t ∷ l) (accepted_times ms ts us (omega arith) later.1)
 
-  taken_times : (ms : List A) (ts us : List ℕ) → length ts ≡ length ms → AreLater ts us → times (taken_of make (passed ms ts us)) ≡ us
+  pub taken_times : (ms : List A) (ts us : List ℕ) → length ts ≡ length ms → AreLater ts us → times (taken_of make (passed ms ts us)) ≡ us
   taken_times [] [] [] e later = refl
   taken_times [] [] (u ∷ us) e later = absurd later
   taken_times [] (t ∷ ts) us e later = absurd (omega arith)
@@ -337,7 +337,7 @@ module _ (s : Server) (t : Threads) (x : Known) (h : AreKnown s t x) where
   y = timed_of t x
 
   -- as many moments as copies and slips
-  copies_many : (b : ℕ) → b < s.boxes → length (x.copies b).accepted ≡ length (t.courses b).taken
+  pub copies_many : (b : ℕ) → b < s.boxes → length (x.copies b).accepted ≡ length (t.courses b).taken
   copies_many b box =
       later_many (x.copies b).accepted (x.copies b).taken (h.copies b box).later ∙ ap length (h.took b box)
       ∙ taken_many s b (t.courses b) (x.workers b) (h.came_out.courses b box) (h.workers b box).turned
@@ -447,6 +447,3 @@ module _ (s : Server) (t : Threads) (x : Known) (h : AreKnown s t x) where
         workers = λ b box. (h.workers b box).turned;
         courses = h.came_out.courses;
       }
-
-  pub known_in_order : (deeds : List Deed) × IsHistory s t deeds
-  known_in_order = by_times s t (timed_of t x) known_are_timed

@@ -22,5 +22,6 @@ pub mod Parted
 pub mod Timed
 pub mod TimedInOrder
 pub mod Known
+pub mod KnownInOrder
 pub mod Rising
 pub mod Recipients

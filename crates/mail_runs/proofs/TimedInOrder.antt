@@ -30,11 +30,11 @@ no_fuller zero time (g ∷ gb) ga [] (k ∷ ka) room by from =
     absurd (omega arith)
 
 -- the times of what passed a channel, and of deeds on which there is a bound
-times_accepted : {A : Type 0} (give : A → Deed) (ps : List (Passed A)) → ats at (accepted_by give ps) ≡ map (λ p. p.accepted) ps
+pub times_accepted : {A : Type 0} (give : A → Deed) (ps : List (Passed A)) → ats at (accepted_by give ps) ≡ map (λ p. p.accepted) ps
 times_accepted give [] = refl
 times_accepted give (p ∷ ps) = ap (λ l. p.accepted ∷ l) (times_accepted give ps)
 
-times_taken : {A : Type 0} (take : A → Deed) (ps : List (Passed A)) → ats at (taken_of take ps) ≡ map (λ p. p.taken) ps
+pub times_taken : {A : Type 0} (take : A → Deed) (ps : List (Passed A)) → ats at (taken_of take ps) ≡ map (λ p. p.taken) ps
 times_taken take [] = refl
 times_taken take (p ∷ ps) = ap (λ l. p.taken ∷ l) (times_taken take ps)
 

@@ -12,6 +12,7 @@ use Rattle.mail_runs.specs.Courses.{Server}
 use Rattle.mail_runs.specs.Histories.{Threads, IsHistory}
 use Rattle.mail_runs.specs.RunOf.{IsRunOf}
 use Rattle.mail_runs.specs.Timed.{Timed, whats, is_of_lane, AreTimed}
+use Rattle.mail_runs.specs.Known.{Known, AreKnown, timed_of}
 
 -- what a lane did
 abbrev pub done_by : ℕ → List Deed → List Deed
@@ -70,3 +71,14 @@ pub record AreTimedInOrder (room capacity : ℕ) (s : Server) (t : Threads) (x :
 abbrev pub TimesGiveAnOrderlyHistory : Type 0
 TimesGiveAnOrderlyHistory = (room capacity : ℕ) (s : Server) (t : Threads) (x : Timed)
     → AreTimedInOrder room capacity s t x → (deeds : List Deed) × IsOrderlyHistory room capacity s t deeds
+
+-- what is known of a server once all its threads have ended, where each lane and each mailbox's channel went on so
+pub record AreKnownInOrder (room capacity : ℕ) (s : Server) (t : Threads) (x : Known) : Type 0 where
+  pub known : AreKnown s t x
+  pub exchanges : (k : ℕ) → k < s.lanes → AreExchanges room k (t.transactions k) (whats (x.lanes k))
+  pub makes_room : (b : ℕ) → b < s.boxes → MakesRoom capacity (x.copies b).accepted (x.copies b).taken
+
+-- then the deeds with their times are so
+abbrev pub KnownAreTimedInOrder : Type 0
+KnownAreTimedInOrder = (room capacity : ℕ) (s : Server) (t : Threads) (x : Known)
+    → AreKnownInOrder room capacity s t x → AreTimedInOrder room capacity s t (timed_of t x)

@@ -5,6 +5,7 @@ ghost use Rattle.mail_runs.specs.OneLane.{OneLaneHasAHistory};
 ghost use Rattle.mail_runs.specs.Timed.{TimesGiveAHistory};
 ghost use Rattle.mail_runs.specs.Known.{KnownAreTimed};
 ghost use Rattle.mail_runs.specs.Ordered.{AnOrderlyHistoryGivesAnOrderlyRun, TimesGiveAnOrderlyHistory};
+ghost use Rattle.mail_runs.specs.Ordered.{KnownAreTimedInOrder};
 
 /// Where all that the lanes and workers did stands in one order, that of each thread and of each channel, there is a
 /// run of the model from a start with as many lanes and mailboxes, over a depot that is large enough, in whose last
@@ -42,4 +43,10 @@ pub fn an_orderly_history_gives_an_orderly_run()
 /// is such a one.
 pub fn times_give_an_orderly_history()
     ensures { TimesGiveAnOrderlyHistory }
+{}
+
+/// Where besides each lane is known to go on so, and each mailbox's channel to have made room, it is so of the deeds with
+/// their times.
+pub fn known_are_timed_in_order()
+    ensures { KnownAreTimedInOrder }
 {}
