@@ -12,17 +12,19 @@ use Rattle.mail_world.specs.declared.Outcome.{Outcome}
 use Rattle.mail_world.specs.declared.Slip.{Slip}
 use Rattle.mail_world.specs.declared.Verdict.{Verdict}
 use Rattle.mail_world.specs.declared.Verdict.TheVariants.{Whole, TooLarge, NoRoom}
-use Rattle.mail_world.specs.declared.limits.TheConstants.{NUMBER_LIMIT}
+use Rattle.mail_world.specs.declared.limits.TheConstants.{NUMBER_LIMIT, RECIPIENT_LIMIT}
 use Rattle.mail_world.specs.Session.{Session}
 use Rattle.mail_world.specs.Lists.{Transaction, VerdictFits, OutcomesIn, copies, copies_if, copies_from}
 use Rattle.mail_world.proofs.Heard.{all_more}
 use Rattle.msg_depot.specs.declared.view.Claim.{Claim}
+use Rattle.mail_runs.specs.Deeds.{Gave, Heard}
 use Rattle.mail_post.specs.Channel.{taken}
 use Rattle.mail_post.specs.Offered.{any_refused}
 use Rattle.mail_post.proofs.Offered.{sent_nothing}
-use Rattle.lmtp_lane.specs.LaneExchange.{LaneEnds, for_box, HasExchanged, Episode, joined, IsEpisode, sent_as}
+use Rattle.lmtp_lane.specs.LaneExchange.{LaneEnds, for_box, HasExchangedBy, Episode, joined, IsEpisode, sent_as}
 use Rattle.mail_world.specs.Counts.{counted}
 use Rattle.lmtp_lane.proofs.Doing.{done_nothing}
+use Rattle.lmtp_lane.proofs.Turns.{exchanges_none, exchanged_whole}
 use Rattle.lmtp_lane.proofs.Exchanging.{no_episode, joined_none}
 use Rattle.lmtp_lane.specs.LaneAccount.{IsAnswered, AreEpisodes, IsHeardInTurn, HasOffered, HoldsDraft, verdict_with, verdict_on, Delivers}
 use Rattle.lmtp_talk.specs.Delivery.{EndsDraft}
@@ -149,6 +151,24 @@ turns_none lane ts all t told x =
     subst (λ e. IsHeardInTurn lane (ts ++ t ∷ []) e) (joined_none all)
     (turns_more lane ts all t no_episode (record { timely = (refl, refl); named = tt }) told x)
 
+-- one DATA command more was accepted
+pub more_accepted : (limit : ℕ) (May : ℕ → Type 0) (old now : LaneEnds) (accepted accepted' n : ℕ) (ts : List Transaction) → accepted' ≡ counted (accepted + 1)
+    → HasOffered limit May accepted old now n ts → HasOffered limit May accepted' old now (n + 1) ts
+more_accepted limit May old now accepted accepted' n ts more x = record {
+  count = omega (arith, more, x.count);
+  came = x.came;
+  own = x.own;
+  heard = x.heard;
+  exchanged = x.exchanged;
+  did = x.did;
+  in_order = x.in_order;
+  exchanges = x.exchanges;
+  turns = x.turns;
+  answered = x.answered;
+  verdicts = x.verdicts;
+  moments = x.moments;
+}
+
 -- a message that is refused
 pub ended_refused : (limit : ℕ) (May : ℕ → Type 0) (old now : LaneEnds) (accepted size : ℕ) (draft : Option Claim) (session : Session) (moment : ℕ)
     (v : Verdict) → limit < 2 ^ 32 → v ≡ verdict_on limit accepted size draft → (v ≡ Whole → ⊥) → May moment
@@ -161,13 +181,17 @@ ended_refused limit May old now accepted size draft session moment v small is ot
     let t : Transaction = record { number = n; session = session; message = message; disposition = record { verdict = v; moment = moment; outcomes = [] } } in
     let same : flat_map (copies lane) (ts ++ t ∷ []) ≡ flat_map (copies lane) ts =
     copies-snoc lane ts t ∙ ap (λ l. flat_map (copies lane) ts ++ l) (no_copy lane t v other) ∙ append-nil (flat_map (copies lane) ts) in
-    let P : List Note → Type 0 = λ l. HasExchanged l all old now in
+    let P : List Note → Type 0 = λ l. HasExchangedBy l all x.did old now in
+    let y = subst P (sym same) (record { exchanged = x.exchanged; in_order = x.in_order }) in
     record {
       count = x.count;
       came = x.came;
       own = x.own;
       heard = x.heard;
-      exchanged = subst P (sym same) x.exchanged;
+      exchanged = y.exchanged;
+      did = x.did;
+      in_order = y.in_order;
+      exchanges = exchanges_none RECIPIENT_LIMIT lane ts t x.did (no_copy lane t v other) x.exchanges;
       turns = turns_none lane ts all t (no_outcome lane [] t v other) x.turns;
       answered = all_more (IsAnswered lane x.heard) ts t x.answered (record { before = x.heard; since = []; whole = sym (append-nil x.heard); outcomes = no_outcome lane [] t v other });
       verdicts = all_more (VerdictFits limit) ts t x.verdicts (verdict_fits limit t accepted size draft small x.count h.1.long is);
@@ -200,16 +224,21 @@ whole_same limit May old now next accepted size draft claim session moment told 
     let number : accepted ≡ n = omega (arith, x.count, low) in
     let bytes : claim.bytes ≡ message = bytes_are draft claim message there h.1.bytes in
     let D : ℕ → List ℕ → Type 0 = λ k m. Delivers (sent_as k session moment m) told now next in
-    let d = subst (λ m. D n m) bytes (subst (λ k. D k claim.bytes) number delivers) (flat_map (copies lane) ts) all old x.exchanged in
-    let same : flat_map (copies lane) ts ++ copies_from lane (sent_as n session moment message) 0 session.recipients ≡ flat_map (copies lane) (ts ++ t ∷ []) =
-    ap (λ l. flat_map (copies lane) ts ++ l) (copies_told lane n session moment message told 0 session.recipients) ∙ sym (copies-snoc lane ts t) in
-    let P : List Note → Type 0 = λ l. HasExchanged l (joined all d.now) old next in
+    let d = subst (λ m. D n m) bytes (subst (λ k. D k claim.bytes) number delivers) (flat_map (copies lane) ts) all x.did old
+    (record { exchanged = x.exchanged; in_order = x.in_order }) in
+    let P : List Note → Type 0 = λ l. HasExchangedBy (flat_map (copies lane) ts ++ l) (joined all d.now)
+    (x.did ++ map Gave l ++ map Heard d.now.heard) old next in
+    let Q : List Note → Type 0 = λ l. HasExchangedBy l (joined all d.now) (x.did ++ map Gave (copies lane t) ++ map Heard d.now.heard) old next in
+    let y = subst Q (sym (copies-snoc lane ts t)) (subst P (copies_told lane n session moment message told 0 session.recipients) d.exchanged) in
     record {
       count = x.count;
       came = x.came ++ d.now.came;
       own = x.own ++ d.now.own;
       heard = x.heard ++ d.now.heard;
-      exchanged = subst P same d.exchanged;
+      exchanged = y.exchanged;
+      did = x.did ++ map Gave (copies lane t) ++ map Heard d.now.heard;
+      in_order = y.in_order;
+      exchanges = exchanged_whole RECIPIENT_LIMIT lane ts t d.now.heard x.did refl d.few told d.outcomes x.exchanges;
       turns = turns_more lane ts all t d.now d.is d.outcomes x.turns;
       answered = all_more (IsAnswered lane (x.heard ++ d.now.heard)) ts t (answered_later lane x.heard d.now.heard ts x.answered)
           (record { before = x.heard; since = d.now.heard; whole = refl; outcomes = d.outcomes });
@@ -234,33 +263,38 @@ or_false false = refl
 
 -- a lane that was given nothing to do
 offered_none : (limit : ℕ) (May : ℕ → Type 0) (ends : LaneEnds) → HasOffered limit May 0 ends (record ends { gone = any_refused ends.senders }) 0 []
-offered_none limit May ends = record {
-  count = refl;
-  came = [];
-  own = [];
-  heard = [];
-  exchanged = record {
-    lane = refl;
-    accepted = [];
-    left = [];
-    first = refl;
-    offered = sent_nothing (λ box. for_box box []) ends.senders (λ box. refl);
-    all = λ none. refl;
-    whole = λ none. none;
-    tells = λ fresh. sym (ap (λ g. any_refused ends.senders || is_some g) fresh ∙ or_false (any_refused ends.senders));
-    channel = refl;
-    lanes = refl;
-    took = sym (append-nil (taken ends.inbox));
-    merged = (refl, refl);
-    made = tt;
-    sound = λ none. refl;
-    done = done_nothing ends (record ends { gone = any_refused ends.senders }) refl refl;
-  };
-  turns = record { episodes = []; each = tt; came_is = refl; own_is = refl; heard_is = refl };
-  answered = tt;
-  verdicts = tt;
-  moments = tt;
-}
+offered_none limit May ends =
+    let done = done_nothing ends (record ends { gone = any_refused ends.senders }) refl refl in
+    record {
+      count = refl;
+      came = [];
+      own = [];
+      heard = [];
+      exchanged = record {
+        lane = refl;
+        accepted = [];
+        left = [];
+        first = refl;
+        offered = sent_nothing (λ box. for_box box []) ends.senders (λ box. refl);
+        all = λ none. refl;
+        whole = λ none. none;
+        tells = λ fresh. sym (ap (λ g. any_refused ends.senders || is_some g) fresh ∙ or_false (any_refused ends.senders));
+        channel = refl;
+        lanes = refl;
+        took = sym (append-nil (taken ends.inbox));
+        merged = (refl, refl);
+        made = tt;
+        sound = λ none. refl;
+        done = done.0;
+      };
+      did = [];
+      in_order = λ none. done.1;
+      exchanges = refl;
+      turns = record { episodes = []; each = tt; came_is = refl; own_is = refl; heard_is = refl };
+      answered = tt;
+      verdicts = tt;
+      moments = tt;
+    }
 
 pub offered_start : (limit : ℕ) (May : ℕ → Type 0) (old new : LaneEnds) → new ≡ record old { gone = any_refused old.senders } → HasOffered limit May 0 old new 0 []
 offered_start limit May old new same = subst (λ e. HasOffered limit May 0 old e 0 []) (sym same) (offered_none limit May old)

@@ -1,7 +1,7 @@
 -- What is under way while copies are offered one by one, and while their slips come.
-use Rattle.std.proofs.Common.{◌≡◌, ℕ, zero, suc, ◌+◌, ◌<◌, List, [], ◌∷◌, ◌++◌, length, map, take, get_or, Bool, true, false, cond, Option, Some, None, inl, inr, refl, ap, sym, ◌∙◌, subst, append_assoc, add-one, arith, length-take-le}
+use Rattle.std.proofs.Common.{◌≡◌, ℕ, zero, suc, ◌+◌, ◌<◌, List, [], ◌∷◌, ◌++◌, length, map, take, get_or, Bool, true, false, cond, Option, Some, None, inl, inr, refl, ap, sym, ◌∙◌, subst, append_assoc, append-nil, add-one, arith, length-take-le}
 use Rattle.std.proofs.Math.Seq.{take-suc}
-use Rattle.std.proofs.lemmas.List.{take_all}
+use Rattle.std.proofs.lemmas.List.{take_all, map-append}
 use Rattle.mail_world.specs.declared.Txn.{Txn}
 use Rattle.mail_world.specs.declared.Note.{Note}
 use Rattle.mail_world.specs.declared.Slip.{Slip}
@@ -12,10 +12,11 @@ use Rattle.mail_world.proofs.GivenAway.{count-cons}
 use Rattle.mail_world.specs.declared.Outcome.{Outcome}
 use Rattle.mail_world.specs.Session.{Session}
 use Rattle.mail_world.specs.Lists.{Transaction, copies_from}
+use Rattle.mail_runs.specs.Deeds.{Deed, Gave}
 use Rattle.mail_post.specs.Channel.{IsTimed, HasSameTimes, Inbox, taken}
 use Rattle.mail_post.specs.Gathering.{HasGathered, IsAwaited}
 use Rattle.mail_world.proofs.LastSeal.{length_placed}
-use Rattle.lmtp_lane.specs.LaneExchange.{LaneEnds, Sending, found_gone, is_silent, KeepsRoom, IsAmong, own_slip_of, HasExchanged, IsUnderWay, Continues, Awaits, Sends, TakesOne, sent_as, copy_at}
+use Rattle.lmtp_lane.specs.LaneExchange.{LaneEnds, Sending, found_gone, is_silent, KeepsRoom, IsAmong, own_slip_of, HasExchangedBy, IsUnderWay, IsOffering, Continues, Awaits, Sends, TakesOne, sent_as, copy_at}
 use Rattle.lmtp_lane.proofs.Doing.{lane_clock}
 use Rattle.lmtp_lane.proofs.Exchanging.{HearsSlip, sending, with_inbox, no_episode, joined_none, way_failed, way_heard, way_gone}
 
@@ -43,7 +44,7 @@ with_copies notes lane number session moment message = notes ++ copies_from lane
 answered_by : (number place mailbox : ℕ) (session : Session) (now : Sending) (gather : Gather) (taken_so : Bool)
     → place < length session.recipients → mailbox ≡ get_or session.recipients place 0 → now.ends.gone ≡ true → is_silent now.ends ≡ true
     → TakesOne (own_slip now.ends.lane number place mailbox) now.gather gather taken_so → Awaits number session now (sending now.ends gather)
-answered_by number place mailbox session now gather true low is went silent takes moment message notes n past old x =
+answered_by number place mailbox session now gather true low is went silent takes moment message notes gave n past old x =
     let lane : ℕ = now.ends.lane in
     let t : Transaction = sent_as number session moment message in
     let all : List Note = with_copies notes lane number session moment message in
@@ -53,11 +54,13 @@ answered_by number place mailbox session now gather true low is went silent take
     let P : ℕ → Type 0 = λ b. IsAmong (copy_at lane t place b) all in
     let among : IsAmong note all = subst P (sym is)
     (among_right (copy_at lane t place (get_or session.recipients place 0)) notes (copies_from lane t 0 session.recipients) (subst C low_sum (among_copies lane t 0 session.recipients place low))) in
-    let same : lane ≡ old.lane = x.exchanged.lane in
+    let same : lane ≡ old.lane = x.exchanged.exchanged.lane in
     let N : ℕ → Type 0 = λ l. (times_named (own_slip_of l note).txn place x.now.heard ≡ 0) × HasGathered (txn_of lane number) n (x.now.heard ++ own_slip_of l note ∷ []) gather in
-    way_failed all (txn_of lane number) n past old now x note gather among silent went (ap (λ l. txn_of l number) (sym same)) (subst N same (takes (txn_of lane number) n x.now.heard x.gathered))
-answered_by number place mailbox session now gather false low is went silent kept moment message notes n past old x =
-    subst (λ g. IsUnderWay (with_copies notes now.ends.lane number session moment message) (txn_of now.ends.lane number) n past old (sending now.ends g)) (sym kept) x
+    way_failed all gave (txn_of lane number) n past old now x note gather among silent went (ap (λ l. txn_of l number) (sym same))
+    (subst N same (takes (txn_of lane number) n x.now.heard x.gathered))
+answered_by number place mailbox session now gather false low is went silent kept moment message notes gave n past old x =
+    subst (λ g. IsUnderWay (with_copies notes now.ends.lane number session moment message) gave (txn_of now.ends.lane number) n past old (sending now.ends g))
+    (sym kept) x
 
 pub answered_next : (number place mailbox : ℕ) (session : Session) (now next : Sending) (taken_so : Bool)
     → place < length session.recipients → mailbox ≡ get_or session.recipients place 0 → (now.ends.gone ≡ true) × (is_silent now.ends ≡ true) → next.ends ≡ now.ends
@@ -70,29 +73,34 @@ pub heard_next : (number : ℕ) (session : Session) (now : Sending) (inbox : Inb
     → (inbox.channel ≡ now.ends.inbox.channel) × (inbox.lanes ≡ now.ends.inbox.lanes) → taken inbox ≡ taken now.ends.inbox ++ slip ∷ []
     → inbox.gone ≡ now.ends.inbox.gone → IsTimed (lane_clock now.ends) now.ends.inbox inbox → HearsSlip slip now.gather gather
     → Awaits number session now (sending (with_inbox now.ends inbox) gather)
-heard_next number session now inbox gather slip same took still timed hears moment message notes n past old x =
-    way_heard (with_copies notes now.ends.lane number session moment message) (txn_of now.ends.lane number) n past old now x
+heard_next number session now inbox gather slip same took still timed hears moment message notes gave n past old x =
+    way_heard (with_copies notes now.ends.lane number session moment message) gave (txn_of now.ends.lane number) n past old now x
     slip inbox gather same.0 same.1 took still timed (hears (txn_of now.ends.lane number) n x.now.heard x.gathered)
 
 -- the channel of slips is gone, and then the lane answered itself
 pub nothing_then : (number : ℕ) (session : Session) (now next : Sending) (inbox : Inbox Slip)
     → (inbox.channel ≡ now.ends.inbox.channel) × (inbox.lanes ≡ now.ends.inbox.lanes) → taken inbox ≡ taken now.ends.inbox → is_some inbox.gone ≡ true
     → HasSameTimes now.ends.inbox inbox → Awaits number session (sending (found_gone (with_inbox now.ends inbox)) now.gather) next → Awaits number session now next
-nothing_then number session now next inbox same took silent same_times after moment message notes n past old x =
-    after moment message notes n past old
-    (way_gone (with_copies notes now.ends.lane number session moment message) (txn_of now.ends.lane number) n past old now x inbox same.0 same.1 took silent same_times)
+nothing_then number session now next inbox same took silent same_times after moment message notes gave n past old x =
+    after moment message notes gave n past old
+    (way_gone (with_copies notes now.ends.lane number session moment message) gave (txn_of now.ends.lane number) n past old now x
+    inbox same.0 same.1 took silent same_times)
 
 -- one after the other
 pub awaits_then : (number : ℕ) (session : Session) (a b c : Sending) → b.ends.lane ≡ a.ends.lane → Awaits number session a b → Awaits number session b c → Awaits number session a c
-awaits_then number session a b c same first second moment message notes n past old x =
-    let W : ℕ → Type 0 = λ l. IsUnderWay (with_copies notes l number session moment message) (txn_of l number) n past old b
-    → IsUnderWay (with_copies notes l number session moment message) (txn_of l number) n past old c in
-    subst W same (second moment message notes n past old) (first moment message notes n past old x)
+awaits_then number session a b c same first second moment message notes gave n past old x =
+    let W : ℕ → Type 0 = λ l. IsUnderWay (with_copies notes l number session moment message) gave (txn_of l number) n past old b
+    → IsUnderWay (with_copies notes l number session moment message) gave (txn_of l number) n past old c in
+    subst W same (second moment message notes gave n past old) (first moment message notes gave n past old x)
 
 pub continues_then : (txn : Txn) (xs ys zs : List Note) (a b c : Sending) → xs ++ ys ≡ zs → Continues txn xs a b → Continues txn ys b c → Continues txn zs a c
-continues_then txn xs ys zs a b c e first second notes n past old x =
-    let P : List Note → Type 0 = λ l. IsUnderWay l txn n past old c in
-    subst P (append_assoc notes xs ys ∙ ap (λ l. notes ++ l) e) (second (notes ++ xs) n past old (first notes n past old x))
+continues_then txn xs ys zs a b c e first second notes gave n past old x =
+    let given : (gave ++ map Gave xs) ++ map Gave ys ≡ gave ++ map Gave (xs ++ ys) =
+    append_assoc gave (map Gave xs) (map Gave ys) ∙ ap (λ l. gave ++ l) (sym (map-append Gave xs ys)) in
+    let P : List Note → Type 0 = λ l. IsOffering l ((gave ++ map Gave xs) ++ map Gave ys) txn n past old c in
+    let Q : List Deed → Type 0 = λ l. IsOffering (notes ++ (xs ++ ys)) l txn n past old c in
+    let R : List Note → Type 0 = λ l. IsOffering (notes ++ l) (gave ++ map Gave l) txn n past old c in
+    subst R e (subst Q given (subst P (append_assoc notes xs ys) (second (notes ++ xs) (gave ++ map Gave xs) n past old (first notes gave n past old x))))
 
 -- one copy more of a transaction
 copies-snoc : (lane : ℕ) (t : Transaction) (first : ℕ) (boxes : List ℕ) (box : ℕ)
@@ -144,17 +152,23 @@ pub sent_way : (number : ℕ) (session : Session) (moment : ℕ) (message : List
     → Continues (txn_of ends.lane number) (copies_from ends.lane (sent_as number session moment message) 0 session.recipients) (sending ends gather) b
     → Awaits number session b c
     → Sends (sent_as number session moment message) ends c
-sent_way number session moment message places ends gather b c same count begun first second notes past old x =
-    let W : ℕ → Type 0 = λ l. IsUnderWay (with_copies notes l number session moment message) (txn_of l number) (length session.recipients) past old b
-    → IsUnderWay (with_copies notes l number session moment message) (txn_of l number) (length session.recipients) past old c in
-    let N : ℕ → Type 0 = λ n. HasGathered (txn_of ends.lane number) n [] gather in
-    let start : IsUnderWay notes (txn_of ends.lane number) (length session.recipients) past old (sending ends gather) = record {
-      now = no_episode;
-      is = record { timely = (refl, refl); named = tt };
-      exchanged = subst (λ e. HasExchanged notes e old ends) (sym (joined_none past)) x;
-      gathered = subst N count begun;
+sent_way number session moment message places ends gather b c same count begun first second notes did past old x =
+    let n : ℕ = length session.recipients in
+    let gave : List Deed = did ++ map Gave (copies_from ends.lane (sent_as number session moment message) 0 session.recipients) in
+    let W : ℕ → Type 0 = λ l. IsUnderWay (with_copies notes l number session moment message) gave (txn_of l number) n past old b
+    → IsUnderWay (with_copies notes l number session moment message) gave (txn_of l number) n past old c in
+    let N : ℕ → Type 0 = λ m. HasGathered (txn_of ends.lane number) m [] gather in
+    let start : IsOffering notes did (txn_of ends.lane number) n past old (sending ends gather) = record {
+      way = record {
+        now = no_episode;
+        is = record { timely = (refl, refl); named = tt };
+        exchanged = subst (λ e. HasExchangedBy notes e (did ++ []) old ends) (sym (joined_none past))
+            (subst (λ l. HasExchangedBy notes past l old ends) (sym (append-nil did)) x);
+        gathered = subst N count begun;
+      };
+      none_heard = λ sound. refl;
     } in
-    subst W same (second moment message notes (length session.recipients) past old) (first notes (length session.recipients) past old start)
+    subst W same (second moment message notes gave n past old) (first notes did n past old start).way
 
 -- a slip changes no number of places
 same_by : (g : Gather) (slip : Slip) (t : Bool) → length (cond t (record { txn = g.txn; places = place_outcome g.places slip.place slip.outcome (slice_get g.places slip.place) }) g).places ≡ length g.places

@@ -1,5 +1,5 @@
 -- What became of a whole message.
-use Rattle.std.proofs.Common.{true, false, ◌≡◌, ℕ, List, [], ◌∷◌, ◌++◌, length, map, Some, refl, ap, sym, ◌∙◌, subst}
+use Rattle.std.proofs.Common.{true, false, ◌≡◌, ◌≤◌, ℕ, List, [], ◌∷◌, ◌++◌, length, map, Some, refl, ap, sym, ◌∙◌, subst}
 use Rattle.std.specs.Prelude.{Option, None, IsSome}
 use Rattle.std.specs.List.{AllByRecursion}
 use Rattle.std.proofs.lemmas.List.{length-map}
@@ -7,6 +7,8 @@ use Rattle.std.proofs.lemmas.List.Elements.{recursion_from_All}
 use Rattle.mail_world.specs.declared.Outcome.{Outcome}
 use Rattle.mail_world.specs.declared.Txn.{Txn}
 use Rattle.mail_world.specs.declared.Slip.{Slip}
+use Rattle.mail_world.specs.declared.limits.TheConstants.{RECIPIENT_LIMIT}
+use Rattle.mail_runs.specs.Deeds.{Gave}
 use Rattle.mail_world.specs.Slips.{answers, Gather, txn_of}
 use Rattle.mail_world.specs.Lists.{Transaction, copies_from}
 use Rattle.mail_post.specs.Gathering.{HasGathered, IsDone}
@@ -37,16 +39,20 @@ pub told_count : (gather : Gather) (n : ℕ) → IsDone gather → length gather
 told_count gather n done size =
     sym (length-map (told_by gather) (λ o. Some o)) ∙ ap length (told_all gather.places (recursion_from_All IsSome gather.places done)) ∙ size
 
-delivered_by : (t : Transaction) (told : List Outcome) (now : LaneEnds) (next : Sending) → Answers next.gather told → Sends t now next → Delivers t told now next.ends
-delivered_by t told now next says way notes past old x =
-    let W : ℕ → Type 0 = λ l. IsUnderWay (notes ++ copies_from l t 0 t.session.recipients) (txn_of l t.number) (length t.session.recipients) past old next in
-    let u : W old.lane = subst W x.lane (way notes past old x) in
+delivered_by : (t : Transaction) (told : List Outcome) (now : LaneEnds) (next : Sending) → length t.session.recipients ≤ RECIPIENT_LIMIT
+    → Answers next.gather told → Sends t now next → Delivers t told now next.ends
+delivered_by t told now next few says way notes past did old x =
+    let W : ℕ → Type 0 = λ l. IsUnderWay (notes ++ copies_from l t 0 t.session.recipients)
+    (did ++ map Gave (copies_from l t 0 t.session.recipients)) (txn_of l t.number) (length t.session.recipients) past old next in
+    let u : W old.lane = subst W x.exchanged.lane (way notes did past old x) in
     record {
+      few = few;
       now = u.now;
       is = u.is;
       exchanged = u.exchanged;
       outcomes = says (txn_of old.lane t.number) (length t.session.recipients) u.now.heard u.gathered;
     }
 
-pub delivered : (t t' : Transaction) (told : List Outcome) (now : LaneEnds) (next : Sending) → t' ≡ t → Answers next.gather told → Sends t' now next → Delivers t told now next.ends
-delivered t t' told now next same says way = subst (λ u. Delivers u told now next.ends) same (delivered_by t' told now next says way)
+pub delivered : (t t' : Transaction) (told : List Outcome) (now : LaneEnds) (next : Sending) → t' ≡ t → length t'.session.recipients ≤ RECIPIENT_LIMIT
+    → Answers next.gather told → Sends t' now next → Delivers t told now next.ends
+delivered t t' told now next same few says way = subst (λ u. Delivers u told now next.ends) same (delivered_by t' told now next few says way)

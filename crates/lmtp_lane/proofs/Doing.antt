@@ -35,19 +35,23 @@ only_more deeds d all is = subst (AllByRecursion (λ what. is_of_lanes what ≡ 
 
 module _ (accepted : List Note) (came : List Slip) (old now : LaneEnds) where
   -- a copy more was accepted
-  pub done_offered : (note : Note) (next : List (Sender Note)) → HasDone accepted came old now → IsOffered (lane_clock now) note.mailbox (λ sender. note) true now.senders next
-      → HasDone (accepted ++ note ∷ []) came old (record now { senders = next })
+  pub done_offered : (note : Note) (next : List (Sender Note)) (x : HasDone accepted came old now)
+      → IsOffered (lane_clock now) note.mailbox (λ sender. note) true now.senders next
+      → (y : HasDone (accepted ++ note ∷ []) came old (record now { senders = next })) × (whats y.deeds ≡ whats x.deeds ++ Gave note ∷ [])
   done_offered note next x o =
       let d : TimedDeed = deed (Gave note) o.when in
       let in_time = gave_more lane_sorts x.deeds (thread_of old) (thread_of now) note.mailbox o.when o.sender note (Gave note) x.in_time o.is o.later
-      (eq-eqb note.mailbox note.mailbox refl) (λ c away. other_byte note.mailbox c (λ e. away (sym e))) refl in
-      record {
-        deeds = x.deeds ++ d ∷ [];
-        gave = part_more given_in x.deeds d ∙ ap (λ l. l ++ note ∷ []) x.gave;
-        heard = part_more heard_in x.deeds d ∙ append-nil (flat_map heard_in (whats x.deeds)) ∙ x.heard;
-        only = only_more x.deeds d x.only refl;
-        in_time = subst (λ senders. AreInTime lane_sorts (x.deeds ++ d ∷ []) (thread_of old) (record { senders = senders; inbox = now.inbox })) (sym o.after) in_time;
-      }
+      (eq-eqb note.mailbox note.mailbox refl) (λ c away. other_byte note.mailbox c (λ e. away (sym e))) refl in (
+        record {
+          deeds = x.deeds ++ d ∷ [];
+          gave = part_more given_in x.deeds d ∙ ap (λ l. l ++ note ∷ []) x.gave;
+          heard = part_more heard_in x.deeds d ∙ append-nil (flat_map heard_in (whats x.deeds)) ∙ x.heard;
+          only = only_more x.deeds d x.only refl;
+          in_time = subst (λ senders. AreInTime lane_sorts (x.deeds ++ d ∷ []) (thread_of old) (record { senders = senders; inbox = now.inbox }))
+              (sym o.after) in_time;
+        },
+        whats_more x.deeds d,
+      )
 
   -- one was handed back
   pub done_refused : (note : Note) (next : List (Sender Note)) → HasDone accepted came old now → IsOffered (lane_clock now) note.mailbox (λ sender. note) false now.senders next
@@ -63,17 +67,20 @@ module _ (accepted : List Note) (came : List Slip) (old now : LaneEnds) where
       }
 
   -- a slip more was heard
-  pub done_heard : (slip : Slip) (next : Inbox Slip) → HasDone accepted came old now → IsTimed (lane_clock now) now.inbox next
-      → HasDone accepted (came ++ slip ∷ []) old (record now { inbox = next })
+  pub done_heard : (slip : Slip) (next : Inbox Slip) (x : HasDone accepted came old now) → IsTimed (lane_clock now) now.inbox next
+      → (y : HasDone accepted (came ++ slip ∷ []) old (record now { inbox = next })) × (whats y.deeds ≡ whats x.deeds ++ Heard slip ∷ [])
   done_heard slip next x timed =
-      let d : TimedDeed = deed (Heard slip) timed.taken_at in
-      record {
-        deeds = x.deeds ++ d ∷ [];
-        gave = part_more given_in x.deeds d ∙ append-nil (flat_map given_in (whats x.deeds)) ∙ x.gave;
-        heard = part_more heard_in x.deeds d ∙ ap (λ l. l ++ slip ∷ []) x.heard;
-        only = only_more x.deeds d x.only refl;
-        in_time = took_more lane_sorts x.deeds (thread_of old) (thread_of now) next timed.taken_at (Heard slip) x.in_time timed.took_more timed.moment refl (λ at. refl);
-      }
+      let d : TimedDeed = deed (Heard slip) timed.taken_at in (
+        record {
+          deeds = x.deeds ++ d ∷ [];
+          gave = part_more given_in x.deeds d ∙ append-nil (flat_map given_in (whats x.deeds)) ∙ x.gave;
+          heard = part_more heard_in x.deeds d ∙ ap (λ l. l ++ slip ∷ []) x.heard;
+          only = only_more x.deeds d x.only refl;
+          in_time = took_more lane_sorts x.deeds (thread_of old) (thread_of now) next timed.taken_at (Heard slip) x.in_time
+              timed.took_more timed.moment refl (λ at. refl);
+        },
+        whats_more x.deeds d,
+      )
 
   -- none was
   pub done_none : (next : Inbox Slip) → HasDone accepted came old now → next.took_at ≡ now.inbox.took_at → HasDone accepted came old (record now { inbox = next; gone = true })
@@ -86,16 +93,18 @@ module _ (accepted : List Note) (came : List Slip) (old now : LaneEnds) where
   }
 
 -- nothing was done
-pub done_nothing : (old now : LaneEnds) → now.senders ≡ old.senders → now.inbox ≡ old.inbox → HasDone [] [] old now
+pub done_nothing : (old now : LaneEnds) → now.senders ≡ old.senders → now.inbox ≡ old.inbox → (y : HasDone [] [] old now) × (whats y.deeds ≡ [])
 done_nothing old now senders inbox =
-    let P : Ends Note Slip → Type 0 = λ ends. AreInTime lane_sorts [] (thread_of old) ends in
-    record {
-      deeds = [];
-      gave = refl;
-      heard = refl;
-      only = tt;
-      in_time = subst P (λ i. record { senders = sym senders i; inbox = sym inbox i }) (none_done lane_sorts (thread_of old));
-    }
+    let P : Ends Note Slip → Type 0 = λ ends. AreInTime lane_sorts [] (thread_of old) ends in (
+      record {
+        deeds = [];
+        gave = refl;
+        heard = refl;
+        only = tt;
+        in_time = subst P (λ i. record { senders = sym senders i; inbox = sym inbox i }) (none_done lane_sorts (thread_of old));
+      },
+      refl,
+    )
 
 -- what a sender's call answers, said of all senders
 pub offered_as : {M E : Type 0} (after at : ℕ) (post : M) (result : Result Unit E) (senders : List (Sender M)) (sender new : Sender M) → slice_get senders at ≡ Some sender

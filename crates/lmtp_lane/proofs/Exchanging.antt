@@ -1,6 +1,6 @@
 -- One copy more, or one slip more, between a lane and the channels.
 use Rattle.std.proofs.Common.{◌≡◌, ◌⊎◌, ℕ, List, [], ◌∷◌, ◌++◌, Bool, true, false, ◌||◌, cond, inl, inr, refl, ap, sym, ◌∙◌, subst, append_assoc, append-nil}
-use Rattle.std.specs.Prelude.{◌==◌, is_some}
+use Rattle.std.specs.Prelude.{◌==◌, map, is_some}
 use Rattle.std.specs.List.{AllByRecursion}
 use Rattle.std.proofs.lemmas.Bool.{eq-eqb}
 use Rattle.std.proofs.lemmas.List.Elements.{filter-append}
@@ -11,12 +11,15 @@ use Rattle.mail_world.specs.Slips.{times_named, Gather, txn_of}
 use Rattle.mail_world.proofs.Heard.{all_more}
 use Rattle.mail_world.proofs.Merged.{merged_front, merged_own}
 use Rattle.mail_world.proofs.OneLine.{other_byte}
+use Rattle.mail_runs.specs.Deeds.{Deed, Gave, Heard}
+use Rattle.mail_runs.specs.Timed.{whats}
 use Rattle.mail_post.specs.Channel.{Sender, Inbox, taken, IsTimed, HasSameTimes}
 use Rattle.mail_post.specs.Gathering.{HasGathered}
 use Rattle.mail_post.specs.Offered.{any_refused, IsOffered}
 use Rattle.mail_post.proofs.Offered.{OwesOneMore, sent_more, sent_no_more, refused_now, refused_as_before}
 use Rattle.lmtp_lane.proofs.Doing.{lane_clock, done_offered, done_refused, done_heard, done_none}
-use Rattle.lmtp_lane.specs.LaneExchange.{LaneEnds, Sending, found_gone, is_silent, IsAmong, for_box, own_slip_of, IsOwnSlip, Episode, joined, HasExchanged, IsTimely, IsEpisode, IsUnderWay, TakesOne, Continues}
+use Rattle.lmtp_lane.specs.LaneExchange.{LaneEnds, Sending, found_gone, is_silent, IsAmong, for_box, own_slip_of, IsOwnSlip, Episode, joined, HasExchanged, HasExchangedBy, IsTimely, IsEpisode, IsUnderWay, IsOffering, TakesOne, Continues}
+use Rattle.lmtp_lane.proofs.Turns.{gave_last, heard_last}
 
 -- one more at the end of a list that is merged in time
 timely_front : (before came own heard : List Slip) (x : Slip) → IsTimely before came own heard → IsTimely before (came ++ x ∷ []) own (heard ++ x ∷ [])
@@ -127,32 +130,35 @@ for_boxes all box = for_box box all
 module _ (notes : List Note) (e : Episode) (old now : LaneEnds) (x : HasExchanged notes e old now) where
   -- a copy more that its channel accepted
   pub offered_more : (note : Note) (next : List (Sender Note)) → any_refused now.senders ≡ false → IsOffered (lane_clock now) note.mailbox (λ sender. note) true now.senders next
-      → HasExchanged (notes ++ note ∷ []) e old (with_senders now next)
+      → (y : HasExchanged (notes ++ note ∷ []) e old (with_senders now next)) × (whats y.done.deeds ≡ whats x.done.deeds ++ Gave note ∷ [])
   offered_more note next none o =
       let empty : x.left ≡ [] = x.all none in
-      let same : any_refused next ≡ any_refused now.senders = refused_as_before (lane_clock now) note.mailbox (λ sender. note) now.senders next o in
-      record {
-        lane = x.lane;
-        accepted = x.accepted ++ note ∷ [];
-        left = [];
-        first = ap (λ l. l ++ note ∷ []) (x.first ∙ ap (λ l. x.accepted ++ l) empty ∙ append-nil x.accepted) ∙ sym (append-nil (x.accepted ++ note ∷ []));
-        offered = sent_more (lane_clock now) note.mailbox (λ sender. note) old.senders now.senders next (for_boxes x.accepted) (for_boxes (x.accepted ++ note ∷ [])) note x.offered o refl
-            (owed_more x.accepted note);
-        all = λ sound. refl;
-        whole = λ sound. same ∙ x.whole sound;
-        tells = λ fresh. x.tells fresh ∙ ap (λ b. b || is_silent now) (sym same);
-        channel = x.channel;
-        lanes = x.lanes;
-        took = x.took;
-        merged = x.merged;
-        made = made_weaker old.lane notes x.left (notes ++ note ∷ []) [] (is_silent now) (is_silent now)
-            (λ n h. elim h [
-              | inl l ↦ absurd (among_none n x.left empty l)
-              | inr a ↦ inr (among_more n note notes a.0, a.1)
-            ]) e.own x.made;
-        sound = x.sound;
-        done = done_offered x.accepted e.came old now note next x.done o;
-      }
+      let done = done_offered x.accepted e.came old now note next x.done o in
+      let same : any_refused next ≡ any_refused now.senders = refused_as_before (lane_clock now) note.mailbox (λ sender. note) now.senders next o in (
+        record {
+          lane = x.lane;
+          accepted = x.accepted ++ note ∷ [];
+          left = [];
+          first = ap (λ l. l ++ note ∷ []) (x.first ∙ ap (λ l. x.accepted ++ l) empty ∙ append-nil x.accepted) ∙ sym (append-nil (x.accepted ++ note ∷ []));
+          offered = sent_more (lane_clock now) note.mailbox (λ sender. note) old.senders now.senders next (for_boxes x.accepted)
+              (for_boxes (x.accepted ++ note ∷ [])) note x.offered o refl (owed_more x.accepted note);
+          all = λ sound. refl;
+          whole = λ sound. same ∙ x.whole sound;
+          tells = λ fresh. x.tells fresh ∙ ap (λ b. b || is_silent now) (sym same);
+          channel = x.channel;
+          lanes = x.lanes;
+          took = x.took;
+          merged = x.merged;
+          made = made_weaker old.lane notes x.left (notes ++ note ∷ []) [] (is_silent now) (is_silent now)
+              (λ n h. elim h [
+                | inl l ↦ absurd (among_none n x.left empty l)
+                | inr a ↦ inr (among_more n note notes a.0, a.1)
+              ]) e.own x.made;
+          sound = x.sound;
+          done = done.0;
+        },
+        done.1,
+      )
 
   left_made : (note : Note) → AllByRecursion (IsOwnSlip old.lane (notes ++ note ∷ []) (x.left ++ note ∷ []) (is_silent now)) e.own
   left_made note = made_weaker old.lane notes x.left (notes ++ note ∷ []) (x.left ++ note ∷ []) (is_silent now) (is_silent now)
@@ -235,24 +241,29 @@ module _ (notes : List Note) (e : Episode) (old now : LaneEnds) (x : HasExchange
 
   -- a slip that came
   pub heard_more : (slip : Slip) (next : Inbox Slip) → next.channel ≡ now.inbox.channel → next.lanes ≡ now.inbox.lanes → taken next ≡ taken now.inbox ++ slip ∷ []
-      → next.gone ≡ now.inbox.gone → IsTimed (lane_clock now) now.inbox next → HasExchanged notes (with_came e slip) old (with_inbox now next)
-  heard_more slip next channel lanes took still timed = record {
-    lane = x.lane;
-    accepted = x.accepted;
-    left = x.left;
-    first = x.first;
-    offered = x.offered;
-    all = x.all;
-    whole = x.whole;
-    tells = λ fresh. x.tells fresh ∙ ap (λ g. any_refused now.senders || is_some g) (sym still);
-    channel = channel ∙ x.channel;
-    lanes = lanes ∙ x.lanes;
-    took = took ∙ ap (λ l. l ++ slip ∷ []) x.took ∙ append_assoc (taken old.inbox) e.came (slip ∷ []);
-    merged = merged_front e.came e.own e.heard slip x.merged;
-    made = subst (λ g. AllByRecursion (IsOwnSlip old.lane notes x.left (is_some g)) e.own) (sym still) x.made;
-    sound = x.sound;
-    done = done_heard x.accepted e.came old now slip next x.done timed;
-  }
+      → next.gone ≡ now.inbox.gone → IsTimed (lane_clock now) now.inbox next
+      → (y : HasExchanged notes (with_came e slip) old (with_inbox now next)) × (whats y.done.deeds ≡ whats x.done.deeds ++ Heard slip ∷ [])
+  heard_more slip next channel lanes took still timed =
+      let done = done_heard x.accepted e.came old now slip next x.done timed in (
+        record {
+          lane = x.lane;
+          accepted = x.accepted;
+          left = x.left;
+          first = x.first;
+          offered = x.offered;
+          all = x.all;
+          whole = x.whole;
+          tells = λ fresh. x.tells fresh ∙ ap (λ g. any_refused now.senders || is_some g) (sym still);
+          channel = channel ∙ x.channel;
+          lanes = lanes ∙ x.lanes;
+          took = took ∙ ap (λ l. l ++ slip ∷ []) x.took ∙ append_assoc (taken old.inbox) e.came (slip ∷ []);
+          merged = merged_front e.came e.own e.heard slip x.merged;
+          made = subst (λ g. AllByRecursion (IsOwnSlip old.lane notes x.left (is_some g)) e.own) (sym still) x.made;
+          sound = x.sound;
+          done = done.0;
+        },
+        done.1,
+      )
 
   -- the channel of slips was found silent
   pub gone_more : (next : Inbox Slip) → next.channel ≡ now.inbox.channel → next.lanes ≡ now.inbox.lanes → taken next ≡ taken now.inbox
@@ -283,75 +294,108 @@ module _ (notes : List Note) (e : Episode) (old now : LaneEnds) (x : HasExchange
 abbrev pub sending : LaneEnds → Gather → Sending
 sending ends gather = record { ends = ends; gather = gather }
 
+-- once a channel was found gone nothing is said of the order
+pub in_any_order : (notes : List Note) (e : Episode) (did : List Deed) (old now : LaneEnds) → now.gone ≡ true → HasExchanged notes e old now
+    → HasExchangedBy notes e did old now
+in_any_order notes e did old now went x = record { exchanged = x; in_order = λ none. let bad : true ≡ false = sym went ∙ none in cc }
+
 -- a copy more is left where these ends were
 abbrev pub Leaves : Note → LaneEnds → LaneEnds → Type 0
 Leaves note now next = (notes : List Note) (e : Episode) (old : LaneEnds) → HasExchanged notes e old now
     → (y : HasExchanged (notes ++ note ∷ []) e old next) × IsAmong note y.left
 
 -- the same steps within a message
-module _ (notes : List Note) (txn : Txn) (n : ℕ) (past : Episode) (old : LaneEnds) (now : Sending) (x : IsUnderWay notes txn n past old now) where
-  pub way_offered : (note : Note) (next : List (Sender Note)) → any_refused now.ends.senders ≡ false → IsOffered (lane_clock now.ends) note.mailbox (λ sender. note) true now.ends.senders next
-      → IsUnderWay (notes ++ note ∷ []) txn n past old (sending (with_senders now.ends next) now.gather)
-  way_offered note next none o = record {
-    now = x.now;
-    is = x.is;
-    exchanged = offered_more notes (joined past x.now) old now.ends x.exchanged note next none o;
-    gathered = x.gathered;
-  }
-
-  pub way_left : (note : Note) (next : LaneEnds) (gather : Gather) → Leaves note now.ends next → next.gone ≡ true → (own_slip_of old.lane note).txn ≡ txn
-      → (times_named (own_slip_of old.lane note).txn (own_slip_of old.lane note).place x.now.heard ≡ 0) × HasGathered txn n (x.now.heard ++ own_slip_of old.lane note ∷ []) gather
-      → IsUnderWay (notes ++ note ∷ []) txn n past old (sending next gather)
-  way_left note next gather leaves went same g =
-      let slip : Slip = own_slip_of old.lane note in
-      let y = leaves notes (joined past x.now) old x.exchanged in
+module _ (notes : List Note) (gave : List Deed) (txn : Txn) (n : ℕ) (past : Episode) (old : LaneEnds) (now : Sending)
+    (x : IsUnderWay notes gave txn n past old now) where
+  pub way_offered : (note : Note) (next : List (Sender Note)) → any_refused now.ends.senders ≡ false → (now.ends.gone ≡ false → x.now.heard ≡ [])
+      → IsOffered (lane_clock now.ends) note.mailbox (λ sender. note) true now.ends.senders next
+      → IsOffering (notes ++ note ∷ []) (gave ++ map Gave (note ∷ [])) txn n past old (sending (with_senders now.ends next) now.gather)
+  way_offered note next none unheard o =
+      let y = offered_more notes (joined past x.now) old now.ends x.exchanged.exchanged note next none o in
       record {
-        now = with_own x.now slip;
-        is = episode_own txn x.now slip same g.0 x.is;
-        exchanged = subst (λ e. HasExchanged (notes ++ note ∷ []) e old next) (joined_own past x.now slip)
-            (own_more (notes ++ note ∷ []) (joined past x.now) old next y.0 note (inl y.1) went);
-        gathered = g.1;
+        way = record {
+          now = x.now;
+          is = x.is;
+          exchanged = record {
+            exchanged = y.0;
+            in_order = λ sound. y.1 ∙ ap (λ l. l ++ Gave note ∷ []) (x.exchanged.in_order sound) ∙ gave_last gave note x.now.heard (unheard sound);
+          };
+          gathered = x.gathered;
+        };
+        none_heard = unheard;
       }
 
-  pub way_kept : (note : Note) (next : LaneEnds) → Leaves note now.ends next → IsUnderWay (notes ++ note ∷ []) txn n past old (sending next now.gather)
-  way_kept note next leaves = record {
-    now = x.now;
-    is = x.is;
-    exchanged = (leaves notes (joined past x.now) old x.exchanged).0;
-    gathered = x.gathered;
+  pub way_left : (did : List Deed) (note : Note) (next : LaneEnds) (gather : Gather) → Leaves note now.ends next → next.gone ≡ true
+      → (own_slip_of old.lane note).txn ≡ txn
+      → (times_named (own_slip_of old.lane note).txn (own_slip_of old.lane note).place x.now.heard ≡ 0) × HasGathered txn n (x.now.heard ++ own_slip_of old.lane note ∷ []) gather
+      → IsOffering (notes ++ note ∷ []) did txn n past old (sending next gather)
+  way_left did note next gather leaves went same g =
+      let slip : Slip = own_slip_of old.lane note in
+      let y = leaves notes (joined past x.now) old x.exchanged.exchanged in
+      record {
+        way = record {
+          now = with_own x.now slip;
+          is = episode_own txn x.now slip same g.0 x.is;
+          exchanged = in_any_order (notes ++ note ∷ []) (joined past (with_own x.now slip)) (did ++ map Heard (x.now.heard ++ slip ∷ [])) old next went
+              (subst (λ e. HasExchanged (notes ++ note ∷ []) e old next) (joined_own past x.now slip)
+              (own_more (notes ++ note ∷ []) (joined past x.now) old next y.0 note (inl y.1) went));
+          gathered = g.1;
+        };
+        none_heard = λ none. let bad : true ≡ false = sym went ∙ none in cc;
+      }
+
+  pub way_kept : (did : List Deed) (note : Note) (next : LaneEnds) → Leaves note now.ends next → next.gone ≡ true
+      → IsOffering (notes ++ note ∷ []) did txn n past old (sending next now.gather)
+  way_kept did note next leaves went = record {
+    way = record {
+      now = x.now;
+      is = x.is;
+      exchanged = in_any_order (notes ++ note ∷ []) (joined past x.now) (did ++ map Heard x.now.heard) old next went
+          (leaves notes (joined past x.now) old x.exchanged.exchanged).0;
+      gathered = x.gathered;
+    };
+    none_heard = λ none. let bad : true ≡ false = sym went ∙ none in cc;
   }
 
   pub way_failed : (note : Note) (next : Gather) → IsAmong note notes → is_silent now.ends ≡ true → now.ends.gone ≡ true → (own_slip_of old.lane note).txn ≡ txn
       → (times_named (own_slip_of old.lane note).txn (own_slip_of old.lane note).place x.now.heard ≡ 0) × HasGathered txn n (x.now.heard ++ own_slip_of old.lane note ∷ []) next
-      → IsUnderWay notes txn n past old (sending now.ends next)
+      → IsUnderWay notes gave txn n past old (sending now.ends next)
   way_failed note next among silent went same g =
       let slip : Slip = own_slip_of old.lane note in
       record {
         now = with_own x.now slip;
         is = episode_own txn x.now slip same g.0 x.is;
-        exchanged = subst (λ e. HasExchanged notes e old now.ends) (joined_own past x.now slip)
-            (own_more notes (joined past x.now) old now.ends x.exchanged note (inr (among, silent)) went);
+        exchanged = in_any_order notes (joined past (with_own x.now slip)) (gave ++ map Heard (x.now.heard ++ slip ∷ [])) old now.ends went
+            (subst (λ e. HasExchanged notes e old now.ends) (joined_own past x.now slip)
+            (own_more notes (joined past x.now) old now.ends x.exchanged.exchanged note (inr (among, silent)) went));
         gathered = g.1;
       }
 
   pub way_heard : (slip : Slip) (after : Inbox Slip) (next : Gather) → after.channel ≡ now.ends.inbox.channel → after.lanes ≡ now.ends.inbox.lanes
       → taken after ≡ taken now.ends.inbox ++ slip ∷ [] → after.gone ≡ now.ends.inbox.gone → IsTimed (lane_clock now.ends) now.ends.inbox after
       → HasGathered txn n (x.now.heard ++ slip ∷ []) next
-      → IsUnderWay notes txn n past old (sending (with_inbox now.ends after) next)
-  way_heard slip after next channel lanes took still timed g = record {
-    now = with_came x.now slip;
-    is = episode_came txn x.now slip x.is;
-    exchanged = subst (λ e. HasExchanged notes e old (with_inbox now.ends after)) (joined_came past x.now slip)
-        (heard_more notes (joined past x.now) old now.ends x.exchanged slip after channel lanes took still timed);
-    gathered = g;
-  }
+      → IsUnderWay notes gave txn n past old (sending (with_inbox now.ends after) next)
+  way_heard slip after next channel lanes took still timed g =
+      let y = heard_more notes (joined past x.now) old now.ends x.exchanged.exchanged slip after channel lanes took still timed in
+      record {
+        now = with_came x.now slip;
+        is = episode_came txn x.now slip x.is;
+        exchanged = subst (λ e. HasExchangedBy notes e (gave ++ map Heard (x.now.heard ++ slip ∷ [])) old (with_inbox now.ends after))
+            (joined_came past x.now slip) (record {
+              exchanged = y.0;
+              in_order = λ sound. y.1 ∙ ap (λ l. l ++ Heard slip ∷ []) (x.exchanged.in_order sound) ∙ heard_last gave x.now.heard slip;
+            });
+        gathered = g;
+      }
 
   pub way_gone : (after : Inbox Slip) → after.channel ≡ now.ends.inbox.channel → after.lanes ≡ now.ends.inbox.lanes → taken after ≡ taken now.ends.inbox
-      → is_some after.gone ≡ true → HasSameTimes now.ends.inbox after → IsUnderWay notes txn n past old (sending (found_gone (with_inbox now.ends after)) now.gather)
+      → is_some after.gone ≡ true → HasSameTimes now.ends.inbox after
+      → IsUnderWay notes gave txn n past old (sending (found_gone (with_inbox now.ends after)) now.gather)
   way_gone after channel lanes took silent same_times = record {
     now = x.now;
     is = x.is;
-    exchanged = gone_more notes (joined past x.now) old now.ends x.exchanged after channel lanes took silent same_times;
+    exchanged = in_any_order notes (joined past x.now) (gave ++ map Heard x.now.heard) old (found_gone (with_inbox now.ends after)) refl
+        (gone_more notes (joined past x.now) old now.ends x.exchanged.exchanged after channel lanes took silent same_times);
     gathered = x.gathered;
   }
 
@@ -363,20 +407,23 @@ HearsSlip slip old new = (txn : Txn) (n : ℕ) (heard : List Slip) → HasGather
 left_by : (note : Note) (now : Sending) (next : LaneEnds) (gather : Gather) (taken_so : Bool) → note.txn.lane ≡ now.ends.lane → Leaves note now.ends next → next.gone ≡ true
     → TakesOne (own_slip_of now.ends.lane note) now.gather gather taken_so
     → Continues note.txn (note ∷ []) now (sending next gather)
-left_by note now next gather true here leaves went takes notes n past old x =
-    let same : now.ends.lane ≡ old.lane = x.exchanged.lane in
+left_by note now next gather true here leaves went takes notes gave n past old x =
+    let same : now.ends.lane ≡ old.lane = x.way.exchanged.exchanged.lane in
     let named : txn_of now.ends.lane note.txn.number ≡ note.txn = ap (λ l. txn_of l note.txn.number) (sym here) in
-    let N : ℕ → Type 0 = λ l. (times_named (own_slip_of l note).txn note.place x.now.heard ≡ 0) × HasGathered note.txn n (x.now.heard ++ own_slip_of l note ∷ []) gather in
-    way_left notes note.txn n past old now x note next gather leaves went (ap (λ l. txn_of l note.txn.number) (sym same) ∙ named) (subst N same (takes note.txn n x.now.heard x.gathered))
-left_by note now next gather false here leaves went kept notes n past old x =
-    subst (λ g. IsUnderWay (notes ++ note ∷ []) note.txn n past old (sending next g)) (sym kept) (way_kept notes note.txn n past old now x note next leaves)
+    let N : ℕ → Type 0 = λ l. (times_named (own_slip_of l note).txn note.place x.way.now.heard ≡ 0)
+    × HasGathered note.txn n (x.way.now.heard ++ own_slip_of l note ∷ []) gather in
+    way_left notes gave note.txn n past old now x.way (gave ++ map Gave (note ∷ [])) note next gather leaves went
+    (ap (λ l. txn_of l note.txn.number) (sym same) ∙ named) (subst N same (takes note.txn n x.way.now.heard x.way.gathered))
+left_by note now next gather false here leaves went kept notes gave n past old x =
+    subst (λ g. IsOffering (notes ++ note ∷ []) (gave ++ map Gave (note ∷ [])) note.txn n past old (sending next g)) (sym kept)
+    (way_kept notes gave note.txn n past old now x.way (gave ++ map Gave (note ∷ [])) note next leaves went)
 
 pub left_way : (slip : Slip) (note : Note) (now next : Sending) (ends : LaneEnds) (taken_so : Bool) → note.txn.lane ≡ now.ends.lane → slip ≡ own_slip_of now.ends.lane note
     → Leaves note now.ends ends → ends.gone ≡ true → next.ends ≡ ends → TakesOne slip now.gather next.gather taken_so → Continues note.txn (note ∷ []) now next
-left_way slip note now next ends taken_so here is leaves went same takes notes n past old x =
+left_way slip note now next ends taken_so here is leaves went same takes notes gave n past old x =
     let T : Slip → Type 0 = λ s. TakesOne s now.gather next.gather taken_so in
-    subst (λ e. IsUnderWay (notes ++ note ∷ []) note.txn n past old (sending e next.gather)) (sym same)
-    (left_by note now ends next.gather taken_so here leaves went (subst T is takes) notes n past old x)
+    subst (λ e. IsOffering (notes ++ note ∷ []) (gave ++ map Gave (note ∷ [])) note.txn n past old (sending e next.gather)) (sym same)
+    (left_by note now ends next.gather taken_so here leaves went (subst T is takes) notes gave n past old x)
 
 pub leaves_refused : (mailbox : ℕ) (note : Note) (now : LaneEnds) (next : List (Sender Note)) → note.mailbox ≡ mailbox → IsOffered (lane_clock now) mailbox (λ sender. note) false now.senders next
     → Leaves note now (found_gone (with_senders now next))
@@ -389,6 +436,6 @@ leaves_unoffered note now refused notes e old x = unoffered_more notes e old now
 
 pub offered_way : (mailbox : ℕ) (note : Note) (now : Sending) (next : List (Sender Note)) → note.mailbox ≡ mailbox → any_refused now.ends.senders ≡ false
     → IsOffered (lane_clock now.ends) mailbox (λ sender. note) true now.ends.senders next → Continues note.txn (note ∷ []) now (sending (with_senders now.ends next) now.gather)
-offered_way mailbox note now next is none o notes n past old x =
+offered_way mailbox note now next is none o notes gave n past old x =
     let P : ℕ → Type 0 = λ b. IsOffered (lane_clock now.ends) b (λ sender. note) true now.ends.senders next in
-    way_offered notes note.txn n past old now x note next none (subst P (sym is) o)
+    way_offered notes gave note.txn n past old now x.way note next none x.none_heard (subst P (sym is) o)

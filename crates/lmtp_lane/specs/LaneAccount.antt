@@ -1,5 +1,5 @@
 -- What the delivery of a lane has come to.
-use Rattle.std.specs.Prelude.{◌≡◌, ⊤, ℕ, nat_lt, if◌then◌else◌, List, [], ◌∷◌, ◌++◌, length}
+use Rattle.std.specs.Prelude.{◌≡◌, ◌≤◌, ⊤, ℕ, false, nat_lt, if◌then◌else◌, List, [], ◌∷◌, ◌++◌, length}
 use Rattle.std.specs.Prelude.{map, flat_map, Option, Some, None}
 use Rattle.std.specs.Option.{IfSome}
 use Rattle.std.specs.List.{AllByRecursion}
@@ -8,12 +8,15 @@ use Rattle.mail_world.specs.declared.Slip.{Slip}
 use Rattle.mail_world.specs.declared.Outcome.{Outcome}
 use Rattle.mail_world.specs.declared.Verdict.{Verdict}
 use Rattle.mail_world.specs.declared.Verdict.TheVariants.{Whole, TooLarge, NoRoom}
-use Rattle.mail_world.specs.declared.limits.TheConstants.{NUMBER_LIMIT}
+use Rattle.mail_world.specs.declared.limits.TheConstants.{NUMBER_LIMIT, RECIPIENT_LIMIT}
 use Rattle.mail_world.specs.Counts.{counted}
 use Rattle.mail_world.specs.Slips.{answers, txn_of, Gather}
 use Rattle.mail_world.specs.Lists.{Transaction, VerdictFits, OutcomesIn, copies, copies_from}
 use Rattle.msg_depot.specs.declared.view.Claim.{Claim}
-use Rattle.lmtp_lane.specs.LaneExchange.{LaneEnds, HasExchanged, Episode, joined, IsEpisode}
+use Rattle.mail_runs.specs.Deeds.{Deed, Gave, Heard}
+use Rattle.mail_runs.specs.Timed.{whats}
+use Rattle.mail_runs.specs.Ordered.{AreExchanges}
+use Rattle.lmtp_lane.specs.LaneExchange.{LaneEnds, HasExchanged, HasExchangedBy, Episode, joined, IsEpisode}
 
 -- the outcomes of a whole message are those of the slips that were heard since it was sealed
 pub record IsAnswered (lane : ℕ) (heard : List Slip) (t : Transaction) : Type 0 where
@@ -44,7 +47,8 @@ abbrev pub AgreesWith : (ℕ → Type 0) → (ℕ → Type 0) → Type 0
 AgreesWith May Known = (moment : ℕ) → May moment → Known moment
 
 -- Where n DATA commands were accepted, and this became of the data that ended: the senders gave what is owed, the
--- outcomes are those of the slips, each verdict fits the limit, and each moment is one that the clock may answer.
+-- outcomes are those of the slips, each verdict fits the limit, and each moment is one that the clock may answer. There
+-- are deeds that are an exchange for each, one after the other, and where no channel was found gone the lane did them.
 pub record HasOffered (limit : ℕ) (May : ℕ → Type 0) (accepted : ℕ) (old new : LaneEnds) (n : ℕ) (ts : List Transaction)
     : Type 0 where
   pub count : accepted ≡ counted n
@@ -52,6 +56,9 @@ pub record HasOffered (limit : ℕ) (May : ℕ → Type 0) (accepted : ℕ) (old
   pub own : List Slip
   pub heard : List Slip
   pub exchanged : HasExchanged (flat_map (copies old.lane) ts) (record { came = came; own = own; heard = heard }) old new
+  pub did : List Deed
+  pub in_order : new.gone ≡ false → whats exchanged.done.deeds ≡ did
+  pub exchanges : AreExchanges RECIPIENT_LIMIT old.lane ts did
   pub turns : IsHeardInTurn old.lane ts (record { came = came; own = own; heard = heard })
   pub answered : AllByRecursion (IsAnswered old.lane heard) ts
   pub verdicts : AllByRecursion (VerdictFits limit) ts
@@ -83,15 +90,18 @@ outcomes_in (None ∷ places) = outcomes_in places
 abbrev pub told_by : Gather → List Outcome
 told_by gather = outcomes_in gather.places
 
--- A whole message went to its recipients: its copies more are owed, and its outcomes are those of slips heard since.
-pub record IsDelivered (t : Transaction) (told : List Outcome) (notes : List Note) (past : Episode) (old new : LaneEnds)
-    : Type 0 where
+-- A whole message went to its recipients, who aren't too many: its copies more are owed, and its outcomes are those of
+-- slips heard since. It is one exchange more.
+pub record IsDelivered (t : Transaction) (told : List Outcome) (notes : List Note) (past : Episode) (did : List Deed)
+    (old new : LaneEnds) : Type 0 where
+  pub few : length t.session.recipients ≤ RECIPIENT_LIMIT
   pub now : Episode
   pub is : IsEpisode (txn_of old.lane t.number) now
-  pub exchanged : HasExchanged (notes ++ copies_from old.lane t 0 t.session.recipients) (joined past now) old new
+  pub exchanged : HasExchangedBy (notes ++ copies_from old.lane t 0 t.session.recipients) (joined past now)
+      (did ++ map Gave (copies_from old.lane t 0 t.session.recipients) ++ map Heard now.heard) old new
   pub outcomes : map (λ o. Some o) told ≡ answers (txn_of old.lane t.number) (length t.session.recipients) now.heard
 
 -- so it is, whatever was exchanged before
 abbrev pub Delivers : Transaction → List Outcome → LaneEnds → LaneEnds → Type 0
-Delivers t told now next = (notes : List Note) (past : Episode) (old : LaneEnds)
-    → HasExchanged notes past old now → IsDelivered t told notes past old next
+Delivers t told now next = (notes : List Note) (past : Episode) (did : List Deed) (old : LaneEnds)
+    → HasExchangedBy notes past did old now → IsDelivered t told notes past did old next

@@ -1,6 +1,6 @@
 -- What a lane gave to the mailboxes' channels, and what it heard of the copies.
 use Rattle.std.specs.Prelude.{◌≡◌, ◌⊎◌, ℕ, ◌==◌, Bool, true, false, ◌||◌, List, [], ◌∷◌, ◌++◌}
-use Rattle.std.specs.Prelude.{filter, flat_map, length, None, is_some, Result, Ok, Err}
+use Rattle.std.specs.Prelude.{filter, map, flat_map, length, None, is_some, Result, Ok, Err}
 use Rattle.std.specs.List.{AllByRecursion}
 use Rattle.mail_world.specs.declared.Txn.{Txn}
 use Rattle.mail_world.specs.declared.Note.{Note}
@@ -9,7 +9,7 @@ use Rattle.mail_world.specs.declared.Verdict.TheVariants.{Whole}
 use Rattle.mail_world.specs.Session.{Session}
 use Rattle.mail_world.specs.Lists.{Transaction, copies_from}
 use Rattle.mail_world.specs.Slips.{times_named, Gather, own_slip, txn_of, IsMerged}
-use Rattle.mail_runs.specs.Deeds.{given_in, heard_in}
+use Rattle.mail_runs.specs.Deeds.{Deed, Gave, Heard, given_in, heard_in}
 use Rattle.mail_runs.specs.Known.{is_heard, is_of_lanes}
 use Rattle.mail_runs.specs.Timed.{TimedDeed, whats, gives_to}
 use Rattle.mail_post.specs.Channel.{Sender, Inbox, taken}
@@ -146,6 +146,11 @@ pub record HasExchanged (notes : List Note) (e : Episode) (old new : LaneEnds) :
   pub sound : new.gone ≡ false → e.own ≡ []
   pub done : HasDone accepted e.came old new
 
+-- so much was exchanged, and where no channel was found gone the lane did these deeds, in this order
+pub record HasExchangedBy (notes : List Note) (e : Episode) (did : List Deed) (old new : LaneEnds) : Type 0 where
+  pub exchanged : HasExchanged notes e old new
+  pub in_order : new.gone ≡ false → whats exchanged.done.deeds ≡ did
+
 -- What was heard is merged of what came and of a lane's own slips, and one of its own stands only where none of these
 -- before it names its place.
 abbrev pub IsTimely : List Slip → List Slip → List Slip → List Slip → Type 0
@@ -160,13 +165,21 @@ pub record IsEpisode (txn : Txn) (e : Episode) : Type 0 where
   pub timely : IsTimely [] e.came e.own e.heard
   pub named : AllByRecursion (λ slip. slip.txn ≡ txn) e.own
 
--- within a message of n recipients, before which this was heard: its gatherer has the answers of the slips heard since
-pub record IsUnderWay (notes : List Note) (txn : Txn) (n : ℕ) (past : Episode) (old : LaneEnds) (new : Sending)
-    : Type 0 where
+-- Within a message of n recipients, before which this was heard: its gatherer has the answers of the slips heard since.
+-- Where no channel was found gone, what was done is these deeds, the last of them the message's copies, and then that
+-- these slips were heard.
+pub record IsUnderWay (notes : List Note) (gave : List Deed) (txn : Txn) (n : ℕ) (past : Episode) (old : LaneEnds)
+    (new : Sending) : Type 0 where
   pub now : Episode
   pub is : IsEpisode txn now
-  pub exchanged : HasExchanged notes (joined past now) old new.ends
+  pub exchanged : HasExchangedBy notes (joined past now) (gave ++ map Heard now.heard) old new.ends
   pub gathered : HasGathered txn n now.heard new.gather
+
+-- the same while copies are still offered: where no channel was found gone, no slip was heard since
+pub record IsOffering (notes : List Note) (gave : List Deed) (txn : Txn) (n : ℕ) (past : Episode) (old : LaneEnds)
+    (new : Sending) : Type 0 where
+  pub way : IsUnderWay notes gave txn n past old new
+  pub none_heard : new.ends.gone ≡ false → way.now.heard ≡ []
 
 -- a gatherer that was given a slip for a place that had none, or for one that keeps what it has
 abbrev pub TakesOne : Slip → Gather → Gather → Bool → Type 0
@@ -174,22 +187,24 @@ TakesOne slip old new true = (txn : Txn) (n : ℕ) (heard : List Slip) → HasGa
     → (times_named slip.txn slip.place heard ≡ 0) × HasGathered txn n (heard ++ slip ∷ []) new
 TakesOne slip old new false = new ≡ old
 
--- what was under way is so with these copies more
+-- what was offered is so with these copies more
 abbrev pub Continues : Txn → List Note → Sending → Sending → Type 0
-Continues txn more now next = (notes : List Note) (n : ℕ) (past : Episode) (old : LaneEnds)
-    → IsUnderWay notes txn n past old now → IsUnderWay (notes ++ more) txn n past old next
+Continues txn more now next = (notes : List Note) (gave : List Deed) (n : ℕ) (past : Episode) (old : LaneEnds)
+    → IsOffering notes gave txn n past old now → IsOffering (notes ++ more) (gave ++ map Gave more) txn n past old next
 
 -- what was under way with the copies of the transaction of that number is so, whatever was heard since
 abbrev pub Awaits : ℕ → Session → Sending → Sending → Type 0
 Awaits number session now next =
-    (moment : ℕ) (message : List ℕ) (notes : List Note) (n : ℕ) (past : Episode) (old : LaneEnds)
-    → IsUnderWay (notes ++ copies_from now.ends.lane (sent_as number session moment message) 0 session.recipients)
+    (moment : ℕ) (message : List ℕ) (notes : List Note) (gave : List Deed) (n : ℕ) (past : Episode) (old : LaneEnds)
+    → IsUnderWay (notes ++ copies_from now.ends.lane (sent_as number session moment message) 0 session.recipients) gave
     (txn_of now.ends.lane number) n past old now
-    → IsUnderWay (notes ++ copies_from now.ends.lane (sent_as number session moment message) 0 session.recipients)
+    → IsUnderWay (notes ++ copies_from now.ends.lane (sent_as number session moment message) 0 session.recipients) gave
     (txn_of now.ends.lane number) n past old next
 
 -- a message that was sent, from its first offer to its last answer
 abbrev pub Sends : Transaction → LaneEnds → Sending → Type 0
-Sends t now next = (notes : List Note) (past : Episode) (old : LaneEnds) → HasExchanged notes past old now
-    → IsUnderWay (notes ++ copies_from now.lane t 0 t.session.recipients) (txn_of now.lane t.number)
+Sends t now next = (notes : List Note) (did : List Deed) (past : Episode) (old : LaneEnds)
+    → HasExchangedBy notes past did old now
+    → IsUnderWay (notes ++ copies_from now.lane t 0 t.session.recipients)
+    (did ++ map Gave (copies_from now.lane t 0 t.session.recipients)) (txn_of now.lane t.number)
     (length t.session.recipients) past old next

@@ -2,8 +2,11 @@
 use Rattle.std.specs.Prelude.{◌≡◌, ℕ, Bool, true, false, List, length, flat_map}
 use Rattle.std.specs.List.{AllByRecursion}
 use Rattle.mail_world.specs.declared.Slip.{Slip}
+use Rattle.mail_world.specs.declared.limits.TheConstants.{RECIPIENT_LIMIT}
 use Rattle.mail_world.specs.Lists.{transactions, VerdictsFit, copies}
 use Rattle.mail_world.specs.Counts.{counted}
+use Rattle.mail_runs.specs.Timed.{whats}
+use Rattle.mail_runs.specs.Ordered.{AreExchanges}
 use Rattle.lmtp_talk.specs.Peer.{PeerState}
 use Rattle.lmtp_talk.specs.Served.{Terms}
 use Rattle.lmtp_lane.specs.LaneExchange.{LaneEnds, HasExchanged}
@@ -19,7 +22,9 @@ pub record LaneState : Type 0 where
 
 -- A lane served these clients: each conversation's replies are those to its inputs, the senders gave the mailboxes what
 -- the conversations owe them, up to a copy that was handed back, the outcomes are those of the slips that were heard,
--- and each moment is one that the clock may answer. Without a gone channel it ended because there was no client more.
+-- and each moment is one that the clock may answer. Without a gone channel it ended because there was no client more,
+-- and it sent one message after the other: it gave all copies of a message, and then heard slips until each was
+-- answered.
 pub record HasServed (by : Terms) (May : ℕ → Type 0) (MayCome : PeerState → Type 0) (old new : LaneState) : Type 0 where
   pub visits : List Visit
   pub visited : HasVisited by MayCome old.finished new.finished visits
@@ -30,6 +35,9 @@ pub record HasServed (by : Terms) (May : ℕ → Type 0) (MayCome : PeerState �
   pub heard : List Slip
   pub exchanged : HasExchanged (flat_map (copies old.ends.lane) (transactions by.site 0 (conversations_of visits)))
       (record { came = came; own = own; heard = heard }) old.ends new.ends
+  pub in_turn : new.ends.gone ≡ false
+      → AreExchanges RECIPIENT_LIMIT old.ends.lane (transactions by.site 0 (conversations_of visits))
+      (whats exchanged.done.deeds)
   pub turns : IsHeardInTurn old.ends.lane (transactions by.site 0 (conversations_of visits))
       (record { came = came; own = own; heard = heard })
   pub answered : AllByRecursion (IsAnswered old.ends.lane heard) (transactions by.site 0 (conversations_of visits))

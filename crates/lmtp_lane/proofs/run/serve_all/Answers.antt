@@ -1,4 +1,8 @@
-use Rattle.std.proofs.Common.{◌∙◌}
+use Rattle.std.proofs.Common.{◌∙◌, sym, subst, rules}
+use Rattle.mail_world.specs.declared.limits.TheConstants.{RECIPIENT_LIMIT}
+use Rattle.mail_world.specs.Lists.{transactions}
+use Rattle.mail_runs.specs.Ordered.{AreExchanges}
+use Rattle.lmtp_lane.specs.Visits.{conversations_of}
 use Rattle.lmtp_lane.proofs.Visiting.{called_none, called_more}
 use Rattle.lmtp_lane.proofs.run.serve_all.Goals as goal
 
@@ -19,4 +23,26 @@ loop-preserved g c =
       others = λ peer may. before.others peer (c.next-in-loop.ensures.others peer (c.converse.ensures.others peer may));
       called = called_more c.args.reads _ _ _ _ _ _ _ _ _ _ _ _ before.here c.in-Some-next.ensures.lends c.saturating_add-conversations.ensures
           (before.others _ c.in-Some-next.ensures.client) before.called c.converse.ensures.converses;
+    }
+
+pub returns-in_default : goal.returns-in_default
+returns-in_default g c =
+    let S = g.S.LaneStart in
+    let called = c.loop.invariant.called in
+    let x = called.come.0 in
+    record {
+      visits = called.visits;
+      visited = search rules;
+      ended = search rules;
+      counts = called.counts;
+      came = x.came;
+      own = x.own;
+      heard = x.heard;
+      exchanged = x.exchanged;
+      in_turn = λ sound.
+          subst (AreExchanges RECIPIENT_LIMIT S.ends.lane (transactions S.site 0 (conversations_of called.visits))) (sym (x.in_order sound)) x.exchanges;
+      turns = x.turns;
+      answered = x.answered;
+      verdicts = x.verdicts;
+      moments = x.moments;
     }

@@ -1,4 +1,5 @@
-use Rattle.std.proofs.Common.{List, ℕ, ap}
+use Rattle.std.proofs.Common.{◌≤◌, List, ℕ, ap, subst}
+use Rattle.mail_world.specs.declared.limits.TheConstants.{RECIPIENT_LIMIT}
 use Rattle.mail_world.specs.Lists.{Transaction}
 use Rattle.lmtp_lane.specs.LaneExchange.{ends_of, sending_of, sent_as}
 use Rattle.lmtp_lane.specs.LaneAccount.{told_by}
@@ -11,4 +12,5 @@ returns-clause-delivers g c =
     let new = c.send.new.self in
     let sent : List ℕ → Transaction = λ bytes. sent_as self.accepted c.args.session.now.session self.moment bytes in
     delivered (sent c.args.draft.bytes) (sent c.seal-hold.result.bytes) (told_by new.gather.gather) (ends_of self.exchange) (sending_of new)
-    (ap sent c.seal-hold.ensures.0) (told_answers new.gather.gather c.send.ensures.done) c.send.ensures.way
+    (ap sent c.seal-hold.ensures.0) (subst (λ n. n ≤ RECIPIENT_LIMIT) c.recipient_count.ensures.count c.recipient_count.ensures.bound)
+    (told_answers new.gather.gather c.send.ensures.done) c.send.ensures.way
