@@ -114,21 +114,21 @@ module _ {M : Type 0} where
   new_at channel zero k below = absurd (omega arith)
   new_at channel (suc n) k below = new_by channel n k below (new_at channel n k)
 
-  module _ (n : ℕ) (columns : List (List (Sender M))) (inboxes : List (Inbox M)) (all : AllZip (IsNewChannel n) columns inboxes) where
+  module _ (capacity n : ℕ) (columns : List (List (Sender M))) (inboxes : List (Inbox M)) (all : AllZip (IsNewChannel capacity n) columns inboxes) where
     -- a new sender was told nothing, at no time
     new_cell : (b k : ℕ) (column : List (Sender M)) (channel : Channel M) → slice_get columns b ≡ Some column → slice_get (channels_of inboxes) b ≡ Some channel → k < n
         → slice_get column k ≡ Some (lane_at channel k [] [])
     new_cell b k column channel e f below =
         let p = source (λ (i : Inbox M). i.channel) inboxes b channel f in
-        let new = zip_at (IsNewChannel n) columns inboxes all b column p.value e p.is in
+        let new = zip_at (IsNewChannel capacity n) columns inboxes all b column p.value e p.is in
         ap (λ l. slice_get l k) new.senders_are ∙ (new_at p.value.channel n k below ∙ ap (λ (l : Channel M). Some (lane_at l k [] [])) (sym p.gives))
 
     pub columns_new : AreColumns n (channels_of inboxes) none columns
     columns_new = record {
-      count = AllZip-length (IsNewChannel n) columns inboxes all ∙ sym (length-map inboxes (λ (i : Inbox M). i.channel));
+      count = AllZip-length (IsNewChannel capacity n) columns inboxes all ∙ sym (length-map inboxes (λ (i : Inbox M). i.channel));
       widths = λ b column e.
-          let p = at inboxes b (omega (arith, AllZip-length (IsNewChannel n) columns inboxes all, slice_get_within columns b column e)) in
-          let new = zip_at (IsNewChannel n) columns inboxes all b column p.value e p.is in
+          let p = at inboxes b (omega (arith, AllZip-length (IsNewChannel capacity n) columns inboxes all, slice_get_within columns b column e)) in
+          let new = zip_at (IsNewChannel capacity n) columns inboxes all b column p.value e p.is in
           ap length new.senders_are ∙ new_count p.value.channel n;
       cells = λ b k column channel e f below. ([], new_cell b k column channel e f below);
     }
@@ -139,7 +139,8 @@ module _ {M : Type 0} where
         let c = at columns b (omega (arith, columns_new.count, slice_get_within (channels_of inboxes) b channel f)) in
         turned_at columns rows b k c.value row (lane_at channel k [] []) turn c.is e (new_cell b k c.value channel c.is f (omega (arith, rows_count, slice_get_within rows k row e)))
 
-    pub rows_new : (count : ℕ) (rows : List (List (Sender M))) → IsTransposed columns rows → length rows ≡ n → length inboxes ≡ count → AreNewChannels n count rows inboxes
+    pub rows_new : (count : ℕ) (rows : List (List (Sender M))) → IsTransposed columns rows → length rows ≡ n → length inboxes ≡ count
+        → AreNewChannels capacity n count rows inboxes
     rows_new count rows turn rows_count inboxes_count = record {
       counts = inboxes_count;
       rows_are = record {
@@ -151,8 +152,8 @@ module _ {M : Type 0} where
           let l = at (channels_of inboxes) b (omega (arith, turned_width columns rows k row turn e, columns_new.count, slice_get_within row b sender f)) in
           ap (λ (s : Sender M). s.sent_at) (same_at row b sender (lane_at l.value k [] []) f (new_row rows turn rows_count k b row l.value e l.is));
       inboxes_are = λ b inbox e.
-          let c = at columns b (omega (arith, AllZip-length (IsNewChannel n) columns inboxes all, slice_get_within inboxes b inbox e)) in
-          (zip_at (IsNewChannel n) columns inboxes all b c.value inbox c.is e).inbox_is;
+          let c = at columns b (omega (arith, AllZip-length (IsNewChannel capacity n) columns inboxes all, slice_get_within inboxes b inbox e)) in
+          (zip_at (IsNewChannel capacity n) columns inboxes all b c.value inbox c.is e).inbox_is;
     }
 
   -- the senders stand by their channels again

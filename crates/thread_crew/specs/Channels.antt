@@ -26,10 +26,10 @@ module _ {M : Type 0} where
   abbrev pub none : ℕ → ℕ → List M
   none k b = []
 
-  -- a new channel's senders and its receiver
-  pub record IsNewChannel (lanes : ℕ) (senders : List (Sender M)) (inbox : Inbox M) : Type 0 where
+  -- the senders and the receiver of a new channel of that capacity
+  pub record IsNewChannel (capacity lanes : ℕ) (senders : List (Sender M)) (inbox : Inbox M) : Type 0 where
     pub senders_are : senders ≡ new_senders inbox.channel lanes
-    pub inbox_is : inbox ≡ new_inbox inbox.channel lanes
+    pub inbox_is : inbox ≡ new_inbox inbox.channel capacity lanes
 
   -- row k has lane k's sender of each channel, in the channels' order
   pub record AreRows (n : ℕ) (channels : List (Channel M)) (sent : ℕ → ℕ → List M) (rows : List (List (Sender M)))
@@ -47,13 +47,15 @@ module _ {M : Type 0} where
     pub cells : (b k : ℕ) (column : List (Sender M)) (channel : Channel M) → slice_get columns b ≡ Some column
         → slice_get channels b ≡ Some channel → k < n → HasLane column k channel k (sent k b)
 
-  -- new channels: nothing was sent, and nothing taken
-  pub record AreNewChannels (n count : ℕ) (rows : List (List (Sender M))) (inboxes : List (Inbox M)) : Type 0 where
+  -- new channels of that capacity: nothing was sent, and nothing taken
+  pub record AreNewChannels (capacity n count : ℕ) (rows : List (List (Sender M))) (inboxes : List (Inbox M))
+      : Type 0 where
     pub counts : length inboxes ≡ count
     pub rows_are : AreRows n (channels_of inboxes) none rows
     pub timeless : (k b : ℕ) (row : List (Sender M)) (sender : Sender M) → slice_get rows k ≡ Some row
         → slice_get row b ≡ Some sender → sender.sent_at ≡ []
-    pub inboxes_are : (b : ℕ) (inbox : Inbox M) → slice_get inboxes b ≡ Some inbox → inbox ≡ new_inbox inbox.channel n
+    pub inboxes_are : (b : ℕ) (inbox : Inbox M) → slice_get inboxes b ≡ Some inbox
+        → inbox ≡ new_inbox inbox.channel capacity n
 
   -- the channel was closed by n lanes, which had sent this
   pub record IsClosedWith (n : ℕ) (channel : Channel M) (sent : ℕ → List M) (closed : Sent M) : Type 0 where
@@ -79,7 +81,7 @@ module _ {M : Type 0} where
     pub lanes : length closed.sent ≡ inbox.lanes
 
   -- what was taken is the start of what was sent, and all of it once the receiver is closed; and all that the channel
-  -- accepted has one order, in which times rise
+  -- accepted has one order, in which times rise and no more wait than the channel has room for
   pub record IsSettled (lane : M → ℕ) (inbox : Inbox M) (closed : Sent M) : Type 0 where
     pub front : TookSome lane (taken inbox) closed.sent
     pub all : inbox.gone ≡ Some Closed → TookAll lane (taken inbox) closed.sent

@@ -15,7 +15,7 @@ use std::alloc::{AllocError, Global};
 use std::marker::Model;
 use std::sync::Wait;
 
-/// So many channels, each with a sender for each lane. The senders stand lane by lane.
+/// So many channels of that capacity, each with a sender for each lane. The senders stand lane by lane.
 pub fn open_channels<M: FromSender>(
     alloc: Global,
     capacity: usize,
@@ -23,7 +23,7 @@ pub fn open_channels<M: FromSender>(
     count: usize,
 ) -> Result<(Vec<Vec<ChannelSender<M>>>, Vec<ChannelReceiver<M>>), AllocError>
     requires { 0 < capacity }
-    ensures { IfOk result (λ ends. AreNewChannels lanes count (lists ends.0.items) ends.1.items) }
+    ensures { IfOk result (λ ends. AreNewChannels capacity lanes count (lists ends.0.items) ends.1.items) }
 {
     let (columns, receivers) = open_columns(alloc, capacity, lanes, count)?;
     let rows = empty_rows(alloc, lanes as usize, count)?;
@@ -39,7 +39,7 @@ fn open_columns<M: FromSender>(
 ) -> Result<(Vec<Vec<ChannelSender<M>>>, Vec<ChannelReceiver<M>>), AllocError>
     requires { 0 < capacity }
     ensures count { IfOk result (λ ends. vec_len ends.1 ≡ count) }
-    ensures channels { IfOk result (λ ends. AllZip (IsNewChannel lanes) (lists ends.0.items) ends.1.items) }
+    ensures channels { IfOk result (λ ends. AllZip (IsNewChannel capacity lanes) (lists ends.0.items) ends.1.items) }
 {
     let mut columns = Vec::new(alloc);
     let mut receivers = Vec::new(alloc);

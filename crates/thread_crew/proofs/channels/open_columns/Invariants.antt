@@ -7,5 +7,5 @@ use Rattle.thread_crew.proofs.channels.open_columns.Given as goal
 abbrev pub invariant-loop : goal.invariant-loop
 invariant-loop g l = record {
   count : vec_len l.receivers ≡ l.counter;
-  channels : AllZip (IsNewChannel l.lanes) (lists (vec_items l.columns)) (vec_items l.receivers);
+  channels : AllZip (IsNewChannel l.capacity l.lanes) (lists (vec_items l.columns)) (vec_items l.receivers);
 }
