@@ -131,11 +131,12 @@ working_none at slips inbox old new mine stored broken left none begins whose =
 
 -- a worker whose channel has ended
 pub worked : (at : Setting) (before was after : Inbox Note) (old now : WorkerState) (limit : Option Limit) → IsWorking at (taken was) before was old now limit
-    → after.channel ≡ before.channel → after.lanes ≡ before.lanes → taken after ≡ taken was → HasSameTimes was after → IsSome after.gone
+    → after.channel ≡ before.channel → after.lanes ≡ before.lanes → after.capacity ≡ before.capacity
+    → taken after ≡ taken was → HasSameTimes was after → IsSome after.gone
     → (lost : Bool) → lost ≡ (any_refused now.slips || is_lost after.gone) → HasWorked at before after old (record now { lost = lost })
-worked at before was after old now limit x channel lanes took same over lost found =
+worked at before was after old now limit x channel lanes capacity took same over lost found =
     let new : WorkerState = record now { lost = lost } in
     let P : List Note → Type 0 = λ copies. (h : HasHandled at copies old new) × TakeTurns at.worker copies h.outcomes (ends_of old before) (ends_of new after) in
     let h : HasHandled at (taken was) old new = handled_lost at (taken was) old now lost (handled_of at (taken was) old now limit x.counting) in
     let all = subst P (sym took) (h, turns_end at.worker (taken was) x.counting.outcomes (ends_of old before) now.slips was after same x.turns) in
-    record { channel = channel; lanes = lanes; ended = over; lost = found; handled = all.0; turns = all.1 }
+    record { channel = channel; lanes = lanes; capacity = capacity; ended = over; lost = found; handled = all.0; turns = all.1 }

@@ -130,6 +130,7 @@ is_lost (Some Lost) = true
 pub record HasWorked (at : Setting) (before after : Inbox Note) (old new : WorkerState) : Type 0 where
   pub channel : after.channel ≡ before.channel
   pub lanes : after.lanes ≡ before.lanes
+  pub capacity : after.capacity ≡ before.capacity
   pub ended : IsSome after.gone
   pub lost : new.lost ≡ (any_refused new.slips || is_lost after.gone)
   pub handled : HasHandled at (taken after) old new

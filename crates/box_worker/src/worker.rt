@@ -81,7 +81,8 @@ impl<S: Spool, G: Gate> Worker<S, G> {
         rt: &R,
         receiver: &mut Receiver<N>,
     ) -> Result<Post<N>, Gone>
-        ensures same { (receiver.new.channel ≡ receiver.old.channel) × (receiver.new.lanes ≡ receiver.old.lanes) }
+        ensures same { (receiver.new.channel ≡ receiver.old.channel) × (receiver.new.lanes ≡ receiver.old.lanes)
+            × (receiver.new.capacity ≡ receiver.old.capacity) }
         ensures post { IfOk result (λ post. taken receiver.new ≡ taken receiver.old ++ post ∷ []) }
         ensures lane { IfOk result (λ post. post.txn.lane < receiver.old.lanes) }
         ensures timed { OnOk result (IsTimed K.after receiver.old receiver.new) }

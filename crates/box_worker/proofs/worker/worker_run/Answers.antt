@@ -22,6 +22,7 @@ loop-init g c =
     record {
       channel = refl;
       lanes = refl;
+      capacity = refl;
       working = subst P (sym c.requires.fresh) (subst R (sym c.new.ensures)
           (working_none at c.args.slips.items c.args.receiver (g.S.Spool.state c.args.spool) c.on.result c.requires.worker
           (λ e. c.on.ensures.mended e c.args.host.now) c.on.ensures.broken c.on.ensures.left_alone c.on.ensures.none c.on.ensures.counts c.on.ensures.whose));
@@ -36,6 +37,7 @@ loop-preserved g c =
     record {
       channel = c.take_next.ensures.same.0 ∙ c.loop.invariant.channel;
       lanes = c.take_next.ensures.same.1 ∙ c.loop.invariant.lanes;
+      capacity = c.take_next.ensures.same.2 ∙ c.loop.invariant.capacity;
       working = subst P (sym c.in-Ok.ensures.post)
           (c.handle.ensures c.args.quota (worker_of c.args.slips.items) (taken c.loop.receiver) start c.args.receiver c.loop.receiver c.in-Ok.ensures.timed c.loop.invariant.working);
     }
@@ -51,7 +53,8 @@ returns-in-Err-Lost g c =
     let e = c.report-in-Err-Lost.ensures in
     let P : Inbox Note × WorkerState → Type 0 = λ p. HasWorked at c.args.receiver p.0 start p.1 in
     subst P (λ i. (sym e.ends.0 i, record { slips = sym e.ends.1 i; mailbox = sym e.mailbox i; in_use = sym e.in_use i; taken = sym e.taken i; lost = sym e.lost i }))
-    (worked at c.args.receiver c.loop.receiver after start now worker.mailbox.limit c.loop.invariant.working (search rules) (search rules) c.in-Err-Lost.ensures.nothing c.in-Err-Lost.ensures.no_time
+    (worked at c.args.receiver c.loop.receiver after start now worker.mailbox.limit c.loop.invariant.working (search rules) (search rules) (search rules)
+    c.in-Err-Lost.ensures.nothing c.in-Err-Lost.ensures.no_time
     (subst IsSome (sym gone) refl) (any_refused worker.slips || true) (ap (λ (w : Option Gone). any_refused worker.slips || is_lost w) (sym gone)))
 
 pub returns-in-Err-Closed : goal.returns-in-Err-Closed
@@ -65,5 +68,6 @@ returns-in-Err-Closed g c =
     let e = c.report.ensures in
     let P : Inbox Note × WorkerState → Type 0 = λ p. HasWorked at c.args.receiver p.0 start p.1 in
     subst P (λ i. (sym e.ends.0 i, record { slips = sym e.ends.1 i; mailbox = sym e.mailbox i; in_use = sym e.in_use i; taken = sym e.taken i; lost = sym e.lost i }))
-    (worked at c.args.receiver c.loop.receiver after start now worker.mailbox.limit c.loop.invariant.working (search rules) (search rules) c.in-Err-Closed.ensures.nothing c.in-Err-Closed.ensures.no_time
+    (worked at c.args.receiver c.loop.receiver after start now worker.mailbox.limit c.loop.invariant.working (search rules) (search rules) (search rules)
+    c.in-Err-Closed.ensures.nothing c.in-Err-Closed.ensures.no_time
     (subst IsSome (sym gone) refl) (any_refused worker.slips || false) (ap (λ (w : Option Gone). any_refused worker.slips || is_lost w) (sym gone)))
