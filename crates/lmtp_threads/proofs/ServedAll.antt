@@ -10,12 +10,13 @@ use Rattle.mail_world.specs.Site.{Site}
 use Rattle.mail_world.specs.Conversation.{Conversation}
 use Rattle.mail_world.specs.Lists.{due, copies, transactions}
 use Rattle.mail_world.specs.Slips.{IsMerged}
-use Rattle.mail_runs.specs.Timed.{TimedDeed}
+use Rattle.mail_runs.specs.Timed.{TimedDeed, whats}
+use Rattle.mail_runs.specs.Ordered.{AreExchanges}
 use Rattle.mail_post.specs.InTime.{AreInTime}
 use Rattle.mail_post.specs.Channel.{Channel, Sender, Inbox, taken}
 use Rattle.mail_post.proofs.Offered.{none_refused}
 use Rattle.lmtp_lane.specs.LaneExchange.{for_box, lane_sorts}
-use Rattle.mail_world.specs.declared.limits.TheConstants.{READ_LIMIT}
+use Rattle.mail_world.specs.declared.limits.TheConstants.{READ_LIMIT, RECIPIENT_LIMIT}
 use Rattle.lmtp_talk.specs.Served.{terms}
 use Rattle.lmtp_lane.specs.LaneRun.{HasServed}
 use Rattle.lmtp_lane.specs.Visits.{conversations_of}
@@ -155,6 +156,7 @@ module _ {V C R : Type 0} (May : C → ℕ → Type 0) (view : VisitsView V)
       heard : TookSlips (works k).heard inbox (rt report)
       in_time : AreInTime lane_sorts (deeds_of k) (record { senders = row; inbox = inbox }) (record { senders = rs report; inbox = rt report })
       did : LaneDid (flat_map (copies k) (transactions site 0 (conversations_of (works k).visits))) (works k).heard (deeds_of k)
+      in_turn : AreExchanges RECIPIENT_LIMIT k (transactions site 0 (conversations_of (works k).visits)) (whats (deeds_of k))
 
     lane_is : (k : ℕ) → k < length given.visits → LaneIs k
     lane_is k below =
@@ -174,6 +176,8 @@ module _ {V C R : Type 0} (May : C → ℕ → Type 0) (view : VisitsView V)
         let Heard : LaneTask V C → LaneDone → Type 0 = λ j d. TookSlips d.work.heard j.slips (rt p.right) in
         let InTime : LaneTask V C → LaneDone → Type 0 = λ j d. AreInTime lane_sorts d.deeds (record { senders = j.senders; inbox = j.slips }) (record { senders = rs p.right; inbox = rt p.right }) in
         let Did : LaneTask V C → LaneDone → Type 0 = λ j d. LaneDid (flat_map (copies j.lane) (transactions j.site 0 (conversations_of d.work.visits))) d.work.heard d.deeds in
+        let InTurn : LaneTask V C → LaneDone → Type 0 = λ j d.
+        AreExchanges RECIPIENT_LIMIT j.lane (transactions j.site 0 (conversations_of d.work.visits)) (whats d.deeds) in
         let came : h.came ≡ h.heard = merged_none h.came h.heard (subst (λ l. IsMerged h.came l h.heard) none_own h.exchanged.merged) in
         let served : Served p.left (lane_done p.left p.right h).work = record {
           visited = h.visited;
@@ -213,6 +217,7 @@ module _ {V C R : Type 0} (May : C → ℕ → Type 0) (view : VisitsView V)
           given_out = subst (λ j. Given j (dones k)) is (subst (λ d. Given p.left d) (sym p.picked) given_out);
           heard = subst (λ j. Heard j (dones k)) is (subst (λ d. Heard p.left d) (sym p.picked) heard);
           did = subst (λ j. Did j (dones k)) is (subst (λ d. Did p.left d) (sym p.picked) did);
+          in_turn = subst (λ j. InTurn j (dones k)) is (subst (λ d. InTurn p.left d) (sym p.picked) (h.in_turn no));
           in_time = subst (λ j. InTime j (dones k)) is (subst (λ d. InTime p.left d) (sym p.picked) x.done.in_time);
         }
 
@@ -233,6 +238,7 @@ module _ {V C R : Type 0} (May : C → ℕ → Type 0) (view : VisitsView V)
           subst (λ m. Served old new m) count_is (subst (λ y. Served old y (rc l.report)) new_is (subst (λ x. Served x (rv l.report) (rc l.report)) old_is l.served));
       deeds = deeds_of;
       did = λ k below. (lane_is k below).did;
+      in_turn = λ k below. (lane_is k below).in_turn;
       in_time = λ k below.
           let l = lane_is k below in
           record {

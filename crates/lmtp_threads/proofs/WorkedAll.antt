@@ -162,7 +162,13 @@ module _ {S R : Type 0} (state : S → SpoolState) (rr : R → Inbox Note) (rs :
               let kept : after.refused ≡ false = none_refused (rs p.right) j after (none_came_back _ _ _ _ _ h no) f in
               (o.sent.channel, o.sent.number, o.sent.sent ∙ ap (λ l. before.sent ++ l) (o.all kept), kept);
         } in
-        let took : Took p.left.receiver (box_done p.left p.right h).work = record { channel = h.channel; lanes = h.lanes; took = refl; closed = was_closed _ _ _ _ _ h no } in
+        let took : Took p.left.receiver (box_done p.left p.right h).work = record {
+          channel = h.channel;
+          capacity = h.capacity;
+          lanes = h.lanes;
+          took = refl;
+          closed = was_closed _ _ _ _ _ h no;
+        } in
         let given_at : Given (worker_of t.row) t.row (works k) =
         subst (λ (j : BoxTask S). Given (worker_of j.slips) j.slips (works k)) t.is (subst (λ d. Given (worker_of p.left.slips) p.left.slips d.work) (sym p.picked) given_out) in
         let did_at : Did (worker_of t.row) (dones k) =

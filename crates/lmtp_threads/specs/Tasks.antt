@@ -4,12 +4,13 @@ use Rattle.std.specs.Prelude.{Option, Some}
 use Rattle.std.specs.List.{AllByRecursion}
 use Rattle.mail_world.specs.declared.Note.{Note}
 use Rattle.mail_world.specs.declared.Slip.{Slip}
-use Rattle.mail_world.specs.declared.limits.TheConstants.{READ_LIMIT}
+use Rattle.mail_world.specs.declared.limits.TheConstants.{READ_LIMIT, RECIPIENT_LIMIT}
 use Rattle.mail_world.specs.Site.{Site}
 use Rattle.mail_world.specs.Lists.{due, copies, transactions, VerdictsFit}
 use Rattle.mail_runs.specs.Deeds.{given_in, heard_in, turns_of}
 use Rattle.mail_runs.specs.Timed.{TimedDeed, whats}
 use Rattle.mail_runs.specs.Known.{is_of_lanes}
+use Rattle.mail_runs.specs.Ordered.{AreExchanges}
 use Rattle.mail_post.specs.InTime.{Ends, Sorts, AreInTime}
 use Rattle.mbox_rd.specs.Spool.{SpoolState}
 use Rattle.mail_post.specs.Channel.{Channel, Sender, Inbox, taken}
@@ -135,6 +136,7 @@ pub record TookSlips (heard : List Slip) (old new : Inbox Slip) : Type 0 where
 -- a receiver took all of this up to its closing
 pub record TookAllNotes (all : List Note) (old new : Inbox Note) : Type 0 where
   pub channel : new.channel ≡ old.channel
+  pub capacity : new.capacity ≡ old.capacity
   pub lanes : new.lanes ≡ old.lanes
   pub took : taken new ≡ all
   pub closed : new.gone ≡ Some Closed
@@ -179,10 +181,12 @@ pub record HaveServed {V : Type 0} (site : Site) (May : ℕ → Type 0) (view : 
       new.rows
   pub heard : (k : ℕ) (before after : Inbox Slip) → slice_get old.inboxes k ≡ Some before
       → slice_get new.inboxes k ≡ Some after → TookSlips (works k).heard before after
-  -- its deeds, and that their times rise and are those that its ends were told
+  -- its deeds, message by message, and that their times rise and are those that its ends were told
   pub deeds : ℕ → List TimedDeed
   pub did : (k : ℕ) → k < length old.visits
       → LaneDid (flat_map (copies k) (transactions site 0 (conversations_of (works k).visits))) (works k).heard (deeds k)
+  pub in_turn : (k : ℕ) → k < length old.visits
+      → AreExchanges RECIPIENT_LIMIT k (transactions site 0 (conversations_of (works k).visits)) (whats (deeds k))
   pub in_time : (k : ℕ) → k < length old.visits → IsInTime lane_sorts k old.rows new.rows old.inboxes new.inboxes (deeds k)
 
 -- All workers have ended, and none found a channel gone.
