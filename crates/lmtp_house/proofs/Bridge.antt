@@ -11,15 +11,17 @@ use Rattle.mail_world.specs.Lists.{copies, copies_owed}
 use Rattle.mail_world.proofs.OtherSteps.{there_is}
 use Rattle.mail_runs.specs.Deeds.{Deed, slips_to, turns_of}
 use Rattle.mail_runs.specs.Courses.{Server}
-use Rattle.mail_runs.specs.Histories.{Threads, IsHistory}
-use Rattle.mail_runs.specs.Timed.{TimedDeed, times, those, gives_to, tells_to, RisesTo}
+use Rattle.mail_runs.specs.Histories.{Threads}
+use Rattle.mail_runs.specs.Timed.{TimedDeed, whats, times, those, gives_to, tells_to, RisesTo}
 use Rattle.mail_runs.specs.Known.{ComeOut, Moments, HavePassed, times_of, is_heard, is_taken, AreLaneDeeds, AreWorkerDeeds, Known, AreKnown}
+use Rattle.mail_runs.specs.Ordered.{AreExchanges, MakesRoom, IsOrderlyHistory, AreKnownInOrder}
 use Rattle.mail_post.specs.Parcels.{of}
 use Rattle.mail_post.specs.Times.{last_of}
 use Rattle.mail_post.specs.Channel.{Sender, Inbox, Sent, taken, HasPassedThrough}
 use Rattle.mail_post.specs.InTime.{Ends, clock_of, Sorts, AreInTime}
 use Rattle.mail_runs.proofs.Parts.{passes, same_number}
-use Rattle.mail_runs.proofs.Known.{later_many, heard_many, taken_many, known_in_order}
+use Rattle.mail_runs.proofs.Known.{later_many, heard_many, taken_many}
+use Rattle.mail_runs.proofs.KnownInOrder.{known_in_order}
 
 -- a thread's ends before it did anything
 pub record AreFresh {A B : Type 0} (ends : Ends A B) : Type 0 where
@@ -56,12 +58,13 @@ module _ {A B : Type 0} where
     took = h.took ∙ ap (λ l. l ++ times (those sorts.takes deeds)) fresh.inbox;
   }
 
--- A channel of n senders that was closed and settled: what each was told was accepted, and when, what was taken, and
--- when.
-pub record IsSettledAs {M : Type 0} (lane : M → ℕ) (n : ℕ) (sent : ℕ → List M) (sent_at : ℕ → List ℕ) (got : List M) (took_at : List ℕ) : Type 0 where
+-- A channel of n senders and that capacity that was closed and settled: what each was told was accepted, and when, what
+-- was taken, and when.
+pub record IsSettledAs {M : Type 0} (lane : M → ℕ) (n capacity : ℕ) (sent : ℕ → List M) (sent_at : ℕ → List ℕ) (got : List M) (took_at : List ℕ) : Type 0 where
   pub inbox : Inbox M
   pub closed : Sent M
   pub passed : HasPassedThrough lane inbox closed.sent closed.sent_at
+  pub capacity_is : inbox.capacity ≡ capacity
   pub count : length closed.sent ≡ n
   pub sent_is : (k : ℕ) → k < n → slice_get closed.sent k ≡ Some (sent k)
   pub sent_at_is : (k : ℕ) → k < n → slice_get closed.sent_at k ≡ Some (sent_at k)
@@ -69,12 +72,14 @@ pub record IsSettledAs {M : Type 0} (lane : M → ℕ) (n : ℕ) (sent : ℕ →
   pub took_at_is : inbox.took_at ≡ took_at
 
 -- the same, where what was sent and taken is said otherwise
-pub said_otherwise : {M : Type 0} (lane : M → ℕ) (n : ℕ) (sent sent' : ℕ → List M) (sent_at : ℕ → List ℕ) (got got' : List M) (took_at : List ℕ)
-    → ((k : ℕ) → k < n → sent k ≡ sent' k) → got ≡ got' → IsSettledAs lane n sent sent_at got took_at → IsSettledAs lane n sent' sent_at got' took_at
-said_otherwise lane n sent sent' sent_at got got' took_at same same_got c = record {
+pub said_otherwise : {M : Type 0} (lane : M → ℕ) (n capacity : ℕ) (sent sent' : ℕ → List M) (sent_at : ℕ → List ℕ) (got got' : List M) (took_at : List ℕ)
+    → ((k : ℕ) → k < n → sent k ≡ sent' k) → got ≡ got' → IsSettledAs lane n capacity sent sent_at got took_at
+    → IsSettledAs lane n capacity sent' sent_at got' took_at
+said_otherwise lane n capacity sent sent' sent_at got got' took_at same same_got c = record {
   inbox = c.inbox;
   closed = c.closed;
   passed = c.passed;
+  capacity_is = c.capacity_is;
   count = c.count;
   sent_is = λ k low. c.sent_is k low ∙ (λ i. Some (same k low i));
   sent_at_is = c.sent_at_is;
@@ -83,10 +88,11 @@ said_otherwise lane n sent sent' sent_at got got' took_at same same_got c = reco
 }
 
 -- its moments
-pub record HasMoments {M : Type 0} (lane : M → ℕ) (n : ℕ) (sent_at : ℕ → List ℕ) (got : List M) (took_at : List ℕ) (at : Moments) : Type 0 where
+pub record HasMoments {M : Type 0} (lane : M → ℕ) (n capacity : ℕ) (sent_at : ℕ → List ℕ) (got : List M) (took_at : List ℕ) (at : Moments) : Type 0 where
   pub passed : HavePassed at
   pub gave : (k : ℕ) → k < n → times_of lane k got at.accepted ≡ sent_at k
   pub took : at.taken ≡ took_at
+  pub makes_room : MakesRoom capacity at.accepted at.taken
 
 no_first : {A : Type 0} (xs ys : List A) → xs ++ ys ≡ [] → xs ≡ []
 no_first [] ys e = refl
@@ -104,8 +110,8 @@ module _ {M : Type 0} (lane : M → ℕ) where
       let here : m ∷ of lane (lane m) ms ≡ [] = sym (passes (λ (x : M). lane x == lane m) m ms (same_number (lane m) (lane m) refl)) ∙ each (lane m) in
       absurd (cc)
 
-  module _ (n : ℕ) (sent : ℕ → List M) (sent_at : ℕ → List ℕ) (got : List M) (took_at : List ℕ)
-      (c : IsSettledAs lane n sent sent_at got took_at) (each : (k : ℕ) → k < n → of lane k got ≡ sent k) (many : length took_at ≡ length got) where
+  module _ (n capacity : ℕ) (sent : ℕ → List M) (sent_at : ℕ → List ℕ) (got : List M) (took_at : List ℕ)
+      (c : IsSettledAs lane n capacity sent sent_at got took_at) (each : (k : ℕ) → k < n → of lane k got ≡ sent k) (many : length took_at ≡ length got) where
     all_split : (k : ℕ) → of lane k (taken c.inbox) ++ of lane k c.passed.waiting ≡ get_or c.closed.sent k []
     all_split k = sym (ap (of lane k) c.passed.first ∙ filter-append (λ (m : M). lane m == k) (taken c.inbox) c.passed.waiting) ∙ c.passed.same k
 
@@ -139,7 +145,7 @@ module _ {M : Type 0} (lane : M → ℕ) where
     abbrev moments : Moments
     moments = record { accepted = c.inbox.got_at; taken = c.inbox.took_at }
 
-    has_moments : HasMoments lane n sent_at got took_at moments
+    has_moments : HasMoments lane n capacity sent_at got took_at moments
     has_moments = record {
       passed = record {
         until = c.passed.until;
@@ -149,6 +155,8 @@ module _ {M : Type 0} (lane : M → ℕ) where
       gave = λ k low. sym (λ i. times_of lane k (accepted_is i) (accepted_at_is i)) ∙ c.passed.same_at k
           ∙ get_or_from_slice_get c.closed.sent_at k (sent_at k) [] (c.sent_at_is k low);
       took = c.took_at_is;
+      makes_room = subst (λ m. MakesRoom m c.inbox.got_at c.inbox.took_at) c.capacity_is
+          (subst (λ ts. MakesRoom c.inbox.capacity ts c.inbox.took_at) accepted_at_is c.passed.makes_room);
     }
 
 -- those of channel i, where it is below n, and else none
@@ -163,32 +171,36 @@ module _ (n : ℕ) (P : ℕ → Moments → Type 0) where
   choose : ((i : ℕ) → i < n → (m : Moments) × P i m) → (i : ℕ) → Chosen i
   choose each i = choose_by i (cases_lt i n) (λ low. each i low)
 
--- All threads were joined and all channels settled.
-pub record AreJoined (s : Server) (t : Threads) : Type 0 where
+-- All threads were joined and all channels settled, those of the mailboxes of that capacity, and each lane sent one
+-- message after the other.
+pub record AreJoined (room capacity : ℕ) (s : Server) (t : Threads) : Type 0 where
   pub came_out : ComeOut s t
   pub lane_deeds : ℕ → List TimedDeed
   pub worker_deeds : ℕ → List TimedDeed
   pub lanes : (k : ℕ) → k < s.lanes → AreLaneDeeds (flat_map (copies k) (t.transactions k)) (t.heard k) (lane_deeds k)
   pub workers : (b : ℕ) → b < s.boxes → AreWorkerDeeds (turns_of b (t.courses b).taken (t.courses b).outcomes) (worker_deeds b)
-  pub mail : (b : ℕ) → b < s.boxes → IsSettledAs (λ note. note.txn.lane) s.lanes (λ k. copies_owed k b (t.transactions k))
+  pub exchanges : (k : ℕ) → k < s.lanes → AreExchanges room k (t.transactions k) (whats (lane_deeds k))
+  pub mail : (b : ℕ) → b < s.boxes → IsSettledAs (λ note. note.txn.lane) s.lanes capacity (λ k. copies_owed k b (t.transactions k))
       (λ k. times (those (gives_to b) (lane_deeds k))) (t.courses b).taken (times (those is_taken (worker_deeds b)))
-  pub slips : (k : ℕ) → k < s.lanes → IsSettledAs (λ slip. slip.worker) s.boxes (λ b. slips_to k (slips_from b (t.courses b).outcomes (t.courses b).taken))
+  pub slip_room : ℕ → ℕ
+  pub slips : (k : ℕ) → k < s.lanes → IsSettledAs (λ slip. slip.worker) s.boxes (slip_room k)
+      (λ b. slips_to k (slips_from b (t.courses b).outcomes (t.courses b).taken))
       (λ b. times (those (tells_to k) (worker_deeds b))) (t.heard k) (times (those is_heard (lane_deeds k)))
 
-module _ (s : Server) (t : Threads) (j : AreJoined s t) where
+module _ (room capacity : ℕ) (s : Server) (t : Threads) (j : AreJoined room capacity s t) where
   abbrev IsMail : ℕ → Moments → Type 0
-  IsMail b at = HasMoments (λ note. note.txn.lane) s.lanes (λ k. times (those (gives_to b) (j.lane_deeds k))) (t.courses b).taken
+  IsMail b at = HasMoments (λ note. note.txn.lane) s.lanes capacity (λ k. times (those (gives_to b) (j.lane_deeds k))) (t.courses b).taken
       (times (those is_taken (j.worker_deeds b))) at
 
   abbrev IsSlips : ℕ → Moments → Type 0
-  IsSlips k at = HasMoments (λ slip. slip.worker) s.boxes (λ b. times (those (tells_to k) (j.worker_deeds b))) (t.heard k)
+  IsSlips k at = HasMoments (λ slip. slip.worker) s.boxes (j.slip_room k) (λ b. times (those (tells_to k) (j.worker_deeds b))) (t.heard k)
       (times (those is_heard (j.lane_deeds k))) at
 
   mail_moments : (b : ℕ) → b < s.boxes → (m : Moments) × IsMail b m
   mail_moments b box =
       let c = j.mail b box in (
         _,
-        has_moments (λ note. note.txn.lane) s.lanes (λ k. copies_owed k b (t.transactions k)) (λ k. times (those (gives_to b) (j.lane_deeds k)))
+        has_moments (λ note. note.txn.lane) s.lanes capacity (λ k. copies_owed k b (t.transactions k)) (λ k. times (those (gives_to b) (j.lane_deeds k)))
             (t.courses b).taken (times (those is_taken (j.worker_deeds b))) c (λ k low. j.came_out.taken k b low box)
             (taken_many s b (t.courses b) (j.worker_deeds b) (j.came_out.courses b box) (j.workers b box).turned),
       )
@@ -197,7 +209,7 @@ module _ (s : Server) (t : Threads) (j : AreJoined s t) where
   slip_moments k low =
       let c = j.slips k low in (
         _,
-        has_moments (λ slip. slip.worker) s.boxes (λ b. slips_to k (slips_from b (t.courses b).outcomes (t.courses b).taken))
+        has_moments (λ slip. slip.worker) s.boxes (j.slip_room k) (λ b. slips_to k (slips_from b (t.courses b).outcomes (t.courses b).taken))
             (λ b. times (those (tells_to k) (j.worker_deeds b))) (t.heard k) (times (those is_heard (j.lane_deeds k))) c (λ b box. j.came_out.heard k b low box)
             (heard_many (t.heard k) (j.lane_deeds k) (j.lanes k low).heard),
       )
@@ -224,6 +236,9 @@ module _ (s : Server) (t : Threads) (j : AreJoined s t) where
     heard = λ k low. ((slips_at k).1 low).took;
   }
 
+  are_in_order : AreKnownInOrder room capacity s t known
+  are_in_order = record { known = are_known; exchanges = j.exchanges; makes_room = λ b box. ((mail_at b).1 box).makes_room }
+
   -- then there is an order of all that they did
-  pub joined_in_order : (deeds : List Deed) × IsHistory s t deeds
-  joined_in_order = known_in_order s t known are_known
+  pub joined_in_order : (deeds : List Deed) × IsOrderlyHistory room capacity s t deeds
+  joined_in_order = known_in_order room capacity s t known are_in_order

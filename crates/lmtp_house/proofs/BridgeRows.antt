@@ -18,9 +18,9 @@ zip_at R (x' ∷ xs) (y' ∷ ys) all (suc k) x y a b = zip_at R xs ys all.1 k x 
 
 module _ {M : Type 0} where
   -- the channels were closed with these rows of senders, and their receivers settled: what each sender was told was
-  -- accepted, and when; and of each channel what was taken, and when
-  pub record AreSettledAs (lane : M → ℕ) (n count : ℕ) (sent : ℕ → ℕ → List M) (sent_at : ℕ → ℕ → List ℕ) (got : ℕ → List M) (took_at : ℕ → List ℕ)
-      : Type 0 where
+  -- accepted, and when; and of each channel its capacity, what was taken, and when
+  pub record AreSettledAs (lane : M → ℕ) (n count : ℕ) (capacity : ℕ → ℕ) (sent : ℕ → ℕ → List M) (sent_at : ℕ → ℕ → List ℕ)
+      (got : ℕ → List M) (took_at : ℕ → List ℕ) : Type 0 where
     pub channels : List (Channel M)
     pub rows : List (List (Sender M))
     pub inboxes : List (Inbox M)
@@ -33,11 +33,13 @@ module _ {M : Type 0} where
     pub settled : AllZip (IsSettled lane) inboxes closed
     pub told : (k b : ℕ) (row : List (Sender M)) (sender : Sender M) → slice_get rows k ≡ Some row → slice_get row b ≡ Some sender
         → sender.sent_at ≡ sent_at k b
-    pub took : (b : ℕ) (inbox : Inbox M) → slice_get inboxes b ≡ Some inbox → (taken inbox ≡ got b) × (inbox.took_at ≡ took_at b)
+    pub took : (b : ℕ) (inbox : Inbox M) → slice_get inboxes b ≡ Some inbox
+        → (taken inbox ≡ got b) × (inbox.took_at ≡ took_at b) × (inbox.capacity ≡ capacity b)
 
-  pub settled_as : (lane : M → ℕ) (n count : ℕ) (sent : ℕ → ℕ → List M) (sent_at : ℕ → ℕ → List ℕ) (got : ℕ → List M) (took_at : ℕ → List ℕ)
-      → AreSettledAs lane n count sent sent_at got took_at → (b : ℕ) → b < count → IsSettledAs lane n (λ k. sent k b) (λ k. sent_at k b) (got b) (took_at b)
-  settled_as lane n count sent sent_at got took_at h b low =
+  pub settled_as : (lane : M → ℕ) (n count : ℕ) (capacity : ℕ → ℕ) (sent : ℕ → ℕ → List M) (sent_at : ℕ → ℕ → List ℕ) (got : ℕ → List M) (took_at : ℕ → List ℕ)
+      → AreSettledAs lane n count capacity sent sent_at got took_at → (b : ℕ) → b < count
+      → IsSettledAs lane n (capacity b) (λ k. sent k b) (λ k. sent_at k b) (got b) (took_at b)
+  settled_as lane n count capacity sent sent_at got took_at h b low =
       let inbox = there_is h.inboxes b (omega (arith, h.inbox_count)) in
       let closed = there_is h.closed b (omega (arith, h.shut.count, h.channel_count)) in
       let channel = there_is h.channels b (omega (arith, h.channel_count)) in
@@ -46,6 +48,7 @@ module _ {M : Type 0} where
         inbox = inbox.0;
         closed = closed.0;
         passed = (zip_at (IsSettled lane) h.inboxes h.closed h.settled b inbox.0 closed.0 inbox.1 closed.1).passed;
+        capacity_is = (h.took b inbox.0 inbox.1).2;
         count = w.count;
         sent_is = w.each;
         sent_at_is = λ k below.

@@ -16,18 +16,21 @@ use Rattle.lmtp_threads.proofs.WorkedAll.{task_at as box_task_at, numbered}
 
 module _ {M : Type 0} where
   -- as many senders in a row as channels
-  row_width : (n count : ℕ) (rows : List (List (Sender M))) (inboxes : List (Inbox M)) → AreNewChannels n count rows inboxes → (k : ℕ) (row : List (Sender M)) → slice_get rows k ≡ Some row → length row ≡ count
+  row_width : {capacity : ℕ} (n count : ℕ) (rows : List (List (Sender M))) (inboxes : List (Inbox M))
+      → AreNewChannels capacity n count rows inboxes → (k : ℕ) (row : List (Sender M)) → slice_get rows k ≡ Some row → length row ≡ count
   row_width n count rows inboxes new k row e = new.rows_are.widths k row e ∙ (length-map inboxes (λ (i : Inbox M). i.channel) ∙ new.counts)
 
   -- each is of the row's lane
-  row_lane : (n count : ℕ) (rows : List (List (Sender M))) (inboxes : List (Inbox M)) → AreNewChannels n count rows inboxes → (k : ℕ) (row : List (Sender M)) → slice_get rows k ≡ Some row
+  row_lane : {capacity : ℕ} (n count : ℕ) (rows : List (List (Sender M))) (inboxes : List (Inbox M))
+      → AreNewChannels capacity n count rows inboxes → (k : ℕ) (row : List (Sender M)) → slice_get rows k ≡ Some row
       → (b : ℕ) (sender : Sender M) → slice_get row b ≡ Some sender → sender.number ≡ k
   row_lane n count rows inboxes new k row e b sender f =
       let l = at (channels_of inboxes) b (omega (arith, new.rows_are.widths k row e, slice_get_within row b sender f)) in
       let cell = new.rows_are.cells k b row l.value e l.is in
       ap (λ (v : Sender M). v.number) (same_at row b sender (lane_at l.value k [] cell.0) f cell.1)
 
-  pub may_close : (n count : ℕ) (shape : Shape) (rows : List (List (Sender M))) (inboxes : List (Inbox M)) (sent : ℕ → ℕ → List M) (rows_after : List (List (Sender M))) → AreNewChannels n count rows inboxes
+  pub may_close : {capacity : ℕ} (n count : ℕ) (shape : Shape) (rows : List (List (Sender M))) (inboxes : List (Inbox M)) (sent : ℕ → ℕ → List M)
+      (rows_after : List (List (Sender M))) → AreNewChannels capacity n count rows inboxes
       → shape ≡ record { lanes = n; count = count } → 0 < n → AreRows n (channels_of inboxes) sent rows_after → MayClose shape rows_after
   may_close n count shape rows inboxes sent rows_after new is some are = record {
     channels = channels_of inboxes;

@@ -76,7 +76,8 @@ module _ {M : Type 0} (lane : M → ℕ) where
 
 module _ {M : Type 0} where
   -- receivers that are still those of before may be settled with their closed channels
-  pub can_settle : (n count : ℕ) (sent : ℕ → ℕ → List M) (rows : List (List (Sender M))) (inboxes after : List (Inbox M)) (closed : List (Sent M)) → AreNewChannels n count rows inboxes → length after ≡ count
+  pub can_settle : {capacity : ℕ} (n count : ℕ) (sent : ℕ → ℕ → List M) (rows : List (List (Sender M))) (inboxes after : List (Inbox M))
+      (closed : List (Sent M)) → AreNewChannels capacity n count rows inboxes → length after ≡ count
       → ((b : ℕ) (x y : Inbox M) → slice_get inboxes b ≡ Some x → slice_get after b ≡ Some y → (y.channel ≡ x.channel) × (y.lanes ≡ x.lanes)) → AreClosed n (channels_of inboxes) sent closed → AllZip CanSettle after closed
   can_settle n count sent rows inboxes after closed new after_count same are =
       at_zip CanSettle after closed (after_count ∙ (sym new.counts ∙ (sym (length-map inboxes (λ (i : Inbox M). i.channel)) ∙ sym are.count))) (λ b y c e f.
@@ -88,11 +89,11 @@ module _ {M : Type 0} where
         lanes = w.count ∙ sym (s.1 ∙ ap (λ (i : Inbox M). i.lanes) fresh);
       })
 
-module _ {V S : Type 0} (site : Site) (May : ℕ → Type 0) (view : VisitsView V) (state : S → SpoolState)
+module _ {V S : Type 0} {capacity room : ℕ} (site : Site) (May : ℕ → Type 0) (view : VisitsView V) (state : S → SpoolState)
     (old_lanes : LanesGiven V) (new_lanes : LanesBack V) (old_boxes : WorkersGiven S) (new_boxes : WorkersBack S)
     (mail_closed : List (Sent Note)) (slips_closed : List (Sent Slip))
-    (mail_new : AreNewChannels (length old_lanes.visits) (length old_boxes.spools) old_lanes.rows old_boxes.inboxes)
-    (slips_new : AreNewChannels (length old_boxes.spools) (length old_lanes.visits) old_boxes.rows old_lanes.inboxes)
+    (mail_new : AreNewChannels capacity (length old_lanes.visits) (length old_boxes.spools) old_lanes.rows old_boxes.inboxes)
+    (slips_new : AreNewChannels room (length old_boxes.spools) (length old_lanes.visits) old_boxes.rows old_lanes.inboxes)
     (lanes : HaveServed site May view (channels_of old_boxes.inboxes) old_lanes new_lanes)
     (boxes : HaveWorked site state (channels_of old_lanes.inboxes) old_boxes new_boxes)
     (mail_shut : AreClosed (length old_lanes.visits) (channels_of old_boxes.inboxes) (λ k b. due site k b (conversations_of (lanes.works k).visits)) mail_closed)
@@ -158,7 +159,7 @@ module _ {V S : Type 0} (site : Site) (May : ℕ → Type 0) (view : VisitsView 
       (lanes.served k c.value x.value y.value x.is y.is c.is).answered
 
   abbrev handed_in : HandedIn V S
-  handed_in = record { visits = old_lanes.visits; spools = old_boxes.spools; quota = old_boxes.quota }
+  handed_in = record { visits = old_lanes.visits; spools = old_boxes.spools; capacity = capacity; quota = old_boxes.quota }
 
   abbrev handed_back : HandedBack V S
   handed_back = record {
@@ -181,7 +182,7 @@ module _ {V S : Type 0} (site : Site) (May : ℕ → Type 0) (view : VisitsView 
     told_only = λ k below. (lane_known k below).only;
   }
 
-  deeds_told : HaveDeeds site (length old_lanes.visits) (length old_boxes.spools) lanes.works boxes.works
+  deeds_told : HaveDeeds site (length old_lanes.visits) (length old_boxes.spools) capacity lanes.works boxes.works
   deeds_told =
       have_deeds site May view state old_lanes new_lanes old_boxes new_boxes mail_closed slips_closed mail_new slips_new lanes boxes
       mail_shut slips_shut mail_times slips_times mail_settled slips_settled

@@ -1,9 +1,9 @@
 -- The deeds of lanes and workers, once all have ended and their channels are settled.
-use Rattle.std.proofs.Common.{◌≡◌, ℕ, ◌<◌, List, [], ◌++◌, length, refl, sym, ap, ◌∙◌, subst, arith, Some}
+use Rattle.std.proofs.Common.{◌≡◌, ℕ, ◌<◌, List, [], ◌++◌, length, map, get_or, refl, sym, ap, ◌∙◌, subst, arith, Some}
 use Rattle.std.specs.Prelude.{slice_get}
 use Rattle.std.specs.List.{AllZip}
 use Rattle.std.proofs.lemmas.List.{length-map}
-use Rattle.std.proofs.lemmas.Option.{slice_get_within}
+use Rattle.std.proofs.lemmas.Option.{slice_get_within, get_or_from_slice_get}
 use Rattle.mail_world.specs.declared.Note.{Note}
 use Rattle.mail_world.specs.declared.Slip.{Slip}
 use Rattle.mail_world.specs.Site.{Site}
@@ -18,14 +18,15 @@ use Rattle.lmtp_lane.specs.LaneExchange.{lane_sorts}
 use Rattle.lmtp_lane.specs.Visits.{conversations_of}
 use Rattle.lmtp_threads.specs.Works.{VisitsView}
 use Rattle.thread_crew.specs.Channels.{channels_of, AreNewChannels, AreClosed, HaveTimes, IsSettled}
-use Rattle.thread_crew.proofs.ChannelRows.{at, same_at}
+use Rattle.thread_crew.proofs.ChannelRows.{at_map, same_at}
 use Rattle.lmtp_threads.specs.Tasks.{LanesGiven, LanesBack, WorkersGiven, WorkersBack, IsInTime, HaveServed, HaveWorked}
 use Rattle.lmtp_house.proofs.Bridge.{AreFresh, HasEnded, has_ended}
 use Rattle.lmtp_house.proofs.ManyLanes.{HaveDeeds}
 
 -- the ends of a thread over new channels
-module _ {A B : Type 0} (n m count : ℕ) (rows rows' : List (List (Sender A))) (others : List (List (Sender B))) (ins : List (Inbox A)) (inboxes inboxes' : List (Inbox B))
-    (given : AreNewChannels n count rows ins) (heard : AreNewChannels m n others inboxes) (sorts : Sorts) (k : ℕ) (deeds : List TimedDeed)
+module _ {A B : Type 0} {capacity room : ℕ} (n m count : ℕ) (rows rows' : List (List (Sender A)))
+    (others : List (List (Sender B))) (ins : List (Inbox A)) (inboxes inboxes' : List (Inbox B))
+    (given : AreNewChannels capacity n count rows ins) (heard : AreNewChannels room m n others inboxes) (sorts : Sorts) (k : ℕ) (deeds : List TimedDeed)
     (d : IsInTime sorts k rows rows' inboxes inboxes' deeds) where
   ended : HasEnded sorts deeds d.new
   ended =
@@ -35,11 +36,11 @@ module _ {A B : Type 0} (n m count : ℕ) (rows rows' : List (List (Sender A))) 
       } in
       has_ended sorts deeds d.old d.new fresh d.are
 
-module _ {V S : Type 0} (site : Site) (May : ℕ → Type 0) (view : VisitsView V) (state : S → SpoolState)
+module _ {V S : Type 0} {capacity room : ℕ} (site : Site) (May : ℕ → Type 0) (view : VisitsView V) (state : S → SpoolState)
     (old_lanes : LanesGiven V) (new_lanes : LanesBack V) (old_boxes : WorkersGiven S) (new_boxes : WorkersBack S)
     (mail_closed : List (Sent Note)) (slips_closed : List (Sent Slip))
-    (mail_new : AreNewChannels (length old_lanes.visits) (length old_boxes.spools) old_lanes.rows old_boxes.inboxes)
-    (slips_new : AreNewChannels (length old_boxes.spools) (length old_lanes.visits) old_boxes.rows old_lanes.inboxes)
+    (mail_new : AreNewChannels capacity (length old_lanes.visits) (length old_boxes.spools) old_lanes.rows old_boxes.inboxes)
+    (slips_new : AreNewChannels room (length old_boxes.spools) (length old_lanes.visits) old_boxes.rows old_lanes.inboxes)
     (lanes : HaveServed site May view (channels_of old_boxes.inboxes) old_lanes new_lanes)
     (boxes : HaveWorked site state (channels_of old_lanes.inboxes) old_boxes new_boxes)
     (mail_shut : AreClosed (length old_lanes.visits) (channels_of old_boxes.inboxes) (λ k b. due site k b (conversations_of (lanes.works k).visits)) mail_closed)
@@ -57,7 +58,7 @@ module _ {V S : Type 0} (site : Site) (May : ℕ → Type 0) (view : VisitsView 
       ended (length old_boxes.spools) (length old_lanes.visits) (length old_lanes.visits) old_boxes.rows new_boxes.rows old_lanes.rows old_lanes.inboxes old_boxes.inboxes new_boxes.inboxes
       slips_new mail_new worker_sorts b (boxes.deeds b) (boxes.in_time b below)
 
-  pub have_deeds : HaveDeeds site (length old_lanes.visits) (length old_boxes.spools) lanes.works boxes.works
+  pub have_deeds : HaveDeeds site (length old_lanes.visits) (length old_boxes.spools) capacity lanes.works boxes.works
   have_deeds = record {
     lane_deeds = lanes.deeds;
     worker_deeds = boxes.deeds;
@@ -66,6 +67,7 @@ module _ {V S : Type 0} (site : Site) (May : ℕ → Type 0) (view : VisitsView 
         let d = lanes.did k below in
         record { until = e.until; rises = e.rises; only = d.only; gave = d.gave; heard = d.heard };
     of_workers = λ b below. let e = worker_ended b below in record { until = e.until; rises = e.rises; turned = boxes.did b below };
+    exchanges = lanes.in_turn;
     mail = record {
       channels = channels_of old_boxes.inboxes;
       rows = new_lanes.rows;
@@ -86,8 +88,13 @@ module _ {V S : Type 0} (site : Site) (May : ℕ → Type 0) (view : VisitsView 
           let below : b < length old_boxes.spools = omega (arith, boxes.as_many.2, slice_get_within new_boxes.inboxes b inbox is) in
           let d = boxes.in_time b below in
           let same : inbox ≡ d.new.inbox = same_at new_boxes.inboxes b inbox d.new.inbox is d.inbox_is in
-          ((boxes.took b d.old.inbox inbox d.inbox_was is).took, ap (λ (i : Inbox Note). i.took_at) same ∙ (worker_ended b below).took);
+          let all = boxes.took b d.old.inbox inbox d.inbox_was is in (
+            all.took,
+            ap (λ (i : Inbox Note). i.took_at) same ∙ (worker_ended b below).took,
+            all.capacity ∙ ap (λ (i : Inbox Note). i.capacity) (mail_new.inboxes_are b d.old.inbox d.inbox_was),
+          );
     };
+    slip_room = λ k. get_or (map (λ (i : Inbox Slip). i.capacity) new_lanes.inboxes) k 0;
     slips = record {
       channels = channels_of old_lanes.inboxes;
       rows = new_boxes.rows;
@@ -111,6 +118,8 @@ module _ {V S : Type 0} (site : Site) (May : ℕ → Type 0) (view : VisitsView 
           let none : taken d.old.inbox ≡ [] = ap (λ (i : Inbox Slip). taken i) (slips_new.inboxes_are k d.old.inbox d.inbox_was) in (
             (lanes.heard k d.old.inbox inbox d.inbox_was is).took ∙ ap (λ l. l ++ (lanes.works k).heard) none,
             ap (λ (i : Inbox Slip). i.took_at) same ∙ (lane_ended k below).took,
+            sym (get_or_from_slice_get (map (λ (i : Inbox Slip). i.capacity) new_lanes.inboxes) k inbox.capacity 0
+                (at_map (λ (i : Inbox Slip). i.capacity) new_lanes.inboxes k inbox is)),
           );
     };
   }

@@ -1,9 +1,10 @@
--- A server with any number of lanes: what its threads did, at times that rise, is a run of the model.
+-- A server with any number of lanes: what its threads did, at times that rise, is an orderly run of the model.
 use Rattle.std.proofs.Common.{◌≡◌, ℕ, ◌<◌, List, length, refl, sym, ap, ◌∙◌, subst, arith}
 use Rattle.std.specs.Prelude.{flat_map}
 use Rattle.std.specs.List.{AllByRecursion}
 use Rattle.mail_world.specs.declared.Note.{Note}
 use Rattle.mail_world.specs.declared.Slip.{Slip}
+use Rattle.mail_world.specs.declared.limits.TheConstants.{RECIPIENT_LIMIT}
 use Rattle.mail_world.specs.Site.{Site}
 use Rattle.mail_world.specs.Conversation.{Conversation}
 use Rattle.mail_world.specs.Slips.{slips_from}
@@ -11,9 +12,10 @@ use Rattle.mail_world.specs.Lists.{of_lane, copies, copies_owed, due, transactio
 use Rattle.mail_runs.specs.Deeds.{slips_to, turns_of}
 use Rattle.mail_runs.specs.Courses.{Server, Course}
 use Rattle.mail_runs.specs.Histories.{Threads}
-use Rattle.mail_runs.specs.Timed.{TimedDeed, times, those, gives_to, tells_to}
+use Rattle.mail_runs.specs.Timed.{TimedDeed, whats, times, those, gives_to, tells_to}
 use Rattle.mail_runs.specs.Known.{ComeOut, is_heard, is_taken, AreLaneDeeds, AreWorkerDeeds}
-use Rattle.mail_runs.proofs.Played.{a_history_plays}
+use Rattle.mail_runs.specs.Ordered.{AreExchanges}
+use Rattle.mail_runs.proofs.Played.{an_orderly_history_plays}
 use Rattle.mail_runs.proofs.Rising.{lane_rises}
 use Rattle.mail_runs.proofs.Recipients.{lane_known}
 use Rattle.mbox_rd.specs.Spool.{SpoolState}
@@ -31,21 +33,24 @@ unfolding due
 due_is site k b cs = refl
 
 -- all that lanes and workers did, with its times, and what was settled of their channels
-pub record HaveDeeds (site : Site) (n_lanes n_boxes : ℕ) (lanes : ℕ → LaneWork) (boxes : ℕ → BoxWork) : Type 0 where
+pub record HaveDeeds (site : Site) (n_lanes n_boxes capacity : ℕ) (lanes : ℕ → LaneWork) (boxes : ℕ → BoxWork) : Type 0 where
   pub lane_deeds : ℕ → List TimedDeed
   pub worker_deeds : ℕ → List TimedDeed
   pub of_lanes : (k : ℕ) → k < n_lanes
       → AreLaneDeeds (flat_map (copies k) (transactions site 0 (conversations_of (lanes k).visits))) (lanes k).heard (lane_deeds k)
   pub of_workers : (b : ℕ) → b < n_boxes → AreWorkerDeeds (turns_of b (boxes b).taken (boxes b).outcomes) (worker_deeds b)
-  pub mail : AreSettledAs (λ note. note.txn.lane) n_lanes n_boxes (λ k b. due site k b (conversations_of (lanes k).visits))
+  pub exchanges : (k : ℕ) → k < n_lanes
+      → AreExchanges RECIPIENT_LIMIT k (transactions site 0 (conversations_of (lanes k).visits)) (whats (lane_deeds k))
+  pub mail : AreSettledAs (λ note. note.txn.lane) n_lanes n_boxes (λ b. capacity) (λ k b. due site k b (conversations_of (lanes k).visits))
       (λ k b. times (those (gives_to b) (lane_deeds k))) (λ b. (boxes b).taken) (λ b. times (those is_taken (worker_deeds b)))
-  pub slips : AreSettledAs (λ slip. slip.worker) n_boxes n_lanes (λ b k. owed_to b (boxes b).outcomes k (boxes b).taken)
+  pub slip_room : ℕ → ℕ
+  pub slips : AreSettledAs (λ slip. slip.worker) n_boxes n_lanes slip_room (λ b k. owed_to b (boxes b).outcomes k (boxes b).taken)
       (λ b k. times (those (tells_to k) (worker_deeds b))) (λ k. (lanes k).heard) (λ k. times (those is_heard (lane_deeds k)))
 
 module _ {V S : Type 0} (site : Site) (state : S → SpoolState) (lanes : ℕ → LaneWork) (boxes : ℕ → BoxWork)
     (old : HandedIn V S) (new : HandedBack V S) (h : HaveExchanged site state lanes boxes old new) (modelled : AreModelled state old new)
     (each_box : length old.spools ≡ length site.boxes) (some_boxes : 0 < length old.spools)
-    (d : HaveDeeds site (length old.visits) (length old.spools) lanes boxes) where
+    (d : HaveDeeds site (length old.visits) (length old.spools) old.capacity lanes boxes) where
   abbrev server : Server
   server = server_of site old
 
@@ -80,28 +85,30 @@ module _ {V S : Type 0} (site : Site) (state : S → SpoolState) (lanes : ℕ �
     heard_only = h.told_only;
   }
 
-  mail_at : (b : ℕ) → b < length old.spools → IsSettledAs (λ note. note.txn.lane) (length old.visits) (λ k. copies_owed k b (transactions site 0 (held_by k)))
+  mail_at : (b : ℕ) → b < length old.spools → IsSettledAs (λ note. note.txn.lane) (length old.visits) old.capacity
+      (λ k. copies_owed k b (transactions site 0 (held_by k)))
       (λ k. times (those (gives_to b) (d.lane_deeds k))) (ran b).taken (times (those is_taken (d.worker_deeds b)))
   mail_at b below =
-      said_otherwise (λ note. note.txn.lane) (length old.visits) (λ k. due site k b (held_by k)) (λ k. copies_owed k b (transactions site 0 (held_by k)))
+      said_otherwise (λ note. note.txn.lane) (length old.visits) old.capacity (λ k. due site k b (held_by k))
+      (λ k. copies_owed k b (transactions site 0 (held_by k)))
       (λ k. times (those (gives_to b) (d.lane_deeds k))) (boxes b).taken (ran b).taken (times (those is_taken (d.worker_deeds b)))
       (λ k low. due_is site k b (held_by k)) (sym (known_at b below).taken)
-      (settled_as (λ note. note.txn.lane) (length old.visits) (length old.spools) (λ k c. due site k c (held_by k))
+      (settled_as (λ note. note.txn.lane) (length old.visits) (length old.spools) (λ c. old.capacity) (λ k c. due site k c (held_by k))
       (λ k c. times (those (gives_to c) (d.lane_deeds k))) (λ c. (boxes c).taken) (λ c. times (those is_taken (d.worker_deeds c))) d.mail b below)
 
   abbrev course_slips : ℕ → ℕ → List Slip
   course_slips k b = slips_to k (slips_from b (ran b).outcomes (ran b).taken)
 
-  slips_at : (k : ℕ) → k < length old.visits → IsSettledAs (λ slip. slip.worker) (length old.spools) (course_slips k)
+  slips_at : (k : ℕ) → k < length old.visits → IsSettledAs (λ slip. slip.worker) (length old.spools) (d.slip_room k) (course_slips k)
       (λ b. times (those (tells_to k) (d.worker_deeds b))) (lanes k).heard (times (those is_heard (d.lane_deeds k)))
   slips_at k low =
-      said_otherwise (λ slip. slip.worker) (length old.spools) (λ b. owed_to b (boxes b).outcomes k (boxes b).taken) (course_slips k)
+      said_otherwise (λ slip. slip.worker) (length old.spools) (d.slip_room k) (λ b. owed_to b (boxes b).outcomes k (boxes b).taken) (course_slips k)
       (λ b. times (those (tells_to k) (d.worker_deeds b))) (lanes k).heard (lanes k).heard (times (those is_heard (d.lane_deeds k)))
       (λ b below. owed_same b k below) refl
-      (settled_as (λ slip. slip.worker) (length old.spools) (length old.visits) (λ b j. owed_to b (boxes b).outcomes j (boxes b).taken)
+      (settled_as (λ slip. slip.worker) (length old.spools) (length old.visits) d.slip_room (λ b j. owed_to b (boxes b).outcomes j (boxes b).taken)
       (λ b j. times (those (tells_to j) (d.worker_deeds b))) (λ j. (lanes j).heard) (λ j. times (those is_heard (d.lane_deeds j))) d.slips k low)
 
-  joined : AreJoined server threads
+  joined : AreJoined RECIPIENT_LIMIT old.capacity server threads
   joined = record {
     came_out = came_out;
     lane_deeds = d.lane_deeds;
@@ -110,11 +117,13 @@ module _ {V S : Type 0} (site : Site) (state : S → SpoolState) (lanes : ℕ �
     workers = λ b below.
         let w = known_at b below in
         subst (λ l. AreWorkerDeeds l (d.worker_deeds b)) (sym (λ i. turns_of b (w.taken i) (w.outcomes i))) (d.of_workers b below);
+    exchanges = d.exchanges;
     mail = mail_at;
+    slip_room = d.slip_room;
     slips = slips_at;
   }
 
   pub all_lanes_run : IsRunOfModel site state lanes boxes old new
   all_lanes_run =
-      let order = joined_in_order server threads joined in
-      run_of site state lanes boxes old new h modelled (a_history_plays server threads order.0 order.1)
+      let order = joined_in_order RECIPIENT_LIMIT old.capacity server threads joined in
+      run_of site state lanes boxes old new h modelled (an_orderly_history_plays RECIPIENT_LIMIT old.capacity server threads order.0 order.1)

@@ -1,12 +1,13 @@
--- A server's run is a run of the model where there is a run of the model for what its workers did.
+-- A server's run is an orderly run of the model where there is one for what its workers did.
 use Rattle.std.proofs.Common.{◌≡◌, ℕ, ◌<◌, [], length, false, Option, Some, None, refl, ap, ◌∙◌, subst, arith}
 use Rattle.std.specs.Prelude.{slice_get}
 use Rattle.std.specs.List.{AllByRecursion}
+use Rattle.mail_world.specs.declared.limits.TheConstants.{RECIPIENT_LIMIT}
 use Rattle.mail_world.specs.Site.{Site}
 use Rattle.mail_world.specs.Slips.{of_worker}
 use Rattle.mail_world.specs.Lists.{of_lane, due}
 use Rattle.mail_runs.specs.Courses.{Server, Course, IsCourse}
-use Rattle.mail_runs.specs.RunOf.{IsRunOf}
+use Rattle.mail_runs.specs.Ordered.{IsOrderlyRunOf}
 use Rattle.mbox_rd.specs.Spool.{SpoolState}
 use Rattle.box_worker.specs.Told.{owed_to}
 use Rattle.lmtp_lane.specs.Visits.{conversations_of}
@@ -94,10 +95,10 @@ module _ {V S : Type 0} (site : Site) (state : S → SpoolState) (lanes : ℕ �
         record { is = t.0; taken = t.1.taken; outcomes = t.1.outcomes }
 
     -- a run of the model for these courses
-    pub run_of : IsRunOf server (threads_of site lanes courses) → IsRunOfModel site state lanes boxes old new
+    pub run_of : IsOrderlyRunOf RECIPIENT_LIMIT old.capacity server (threads_of site lanes courses) → IsRunOfModel site state lanes boxes old new
     run_of is = record {
       courses = courses;
       are = λ b before after tally e f g. ((course_at b).takes before after tally e f g).1;
       is = is;
-      offered = λ k b low below. is.offered k b below ∙ ap (of_lane k) (known b below).taken ∙ h.owed k b low below;
+      offered = λ k b low below. is.is.offered k b below ∙ ap (of_lane k) (known b below).taken ∙ h.owed k b low below;
     }

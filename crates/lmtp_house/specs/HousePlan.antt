@@ -6,6 +6,7 @@ use Rattle.mail_world.specs.declared.Slip.{Slip}
 use Rattle.mail_world.specs.Site.{Site}
 use Rattle.mbox_rd.specs.Spool.{SpoolState}
 use Rattle.mail_post.specs.Channel.{Sender, Inbox}
+use Rattle.mail_post.specs.declared.kinds.TheConstants.{SLIP_CAPACITY}
 use Rattle.lmtp_threads.specs.Works.{VisitsView, share_of}
 use Rattle.lmtp_house.specs.Handed.{HandedIn, HandedBack}
 use Rattle.lmtp_house.specs.House.{HasRun}
@@ -19,8 +20,8 @@ pub record PlanState (V S C : Type 0) : Type 0 where
   pub mail : Shape
   pub slips : Shape
 
--- Lanes for these visits and workers for these spools, over new channels that nobody has used, and what closes the
--- channels.
+-- Lanes for these visits and workers for these spools, over new channels that nobody has used, those of mail of the
+-- capacity that is handed in, and what closes the channels.
 pub record IsPlanned {V S C : Type 0} (site : Site) (clock : C) (handed : HandedIn V S) (plan : PlanState V S C)
     : Type 0 where
   pub mail_rows : List (List (Sender Note))
@@ -29,8 +30,8 @@ pub record IsPlanned {V S C : Type 0} (site : Site) (clock : C) (handed : Handed
   pub slips : List (Inbox Slip)
   pub lanes_are : plan.lanes ≡ lane_tasks site clock 0 handed.visits mail_rows slips
   pub workers_are : plan.workers ≡ box_tasks (share_of site handed.quota) mail slip_rows handed.spools
-  pub mail_new : AreNewChannels (length handed.visits) (length handed.spools) mail_rows mail
-  pub slips_new : AreNewChannels (length handed.spools) (length handed.visits) slip_rows slips
+  pub mail_new : AreNewChannels handed.capacity (length handed.visits) (length handed.spools) mail_rows mail
+  pub slips_new : AreNewChannels SLIP_CAPACITY (length handed.spools) (length handed.visits) slip_rows slips
   pub mail_closes : plan.mail ≡ record { lanes = length handed.visits; count = length handed.spools }
   pub slips_close : plan.slips ≡ record { lanes = length handed.spools; count = length handed.visits }
   pub some_lanes : 0 < length handed.visits

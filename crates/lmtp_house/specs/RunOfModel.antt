@@ -1,13 +1,14 @@
--- What a server's threads did is a run of the model of `mail_world`: what holds of each run there, holds of this
--- server.
+-- What a server's threads did is an orderly run of the model of `mail_world`: what holds of each run there, and what
+-- `mail_progress` says of each orderly run, holds of this server.
 use Rattle.std.specs.Prelude.{◌≡◌, ◌⊎◌, ◌<◌, ℕ, false, length, slice_get, Option, Some, None, IsSome}
 use Rattle.std.specs.Option.{IfSome}
+use Rattle.mail_world.specs.declared.limits.TheConstants.{RECIPIENT_LIMIT}
 use Rattle.mail_world.specs.Site.{Site}
 use Rattle.mail_world.specs.Lists.{transactions, due}
 use Rattle.mail_world.specs.Runs.{events_of, offers_by}
 use Rattle.mail_runs.specs.Courses.{Server, Course}
 use Rattle.mail_runs.specs.Histories.{Threads}
-use Rattle.mail_runs.specs.RunOf.{IsRunOf}
+use Rattle.mail_runs.specs.Ordered.{IsOrderlyRunOf}
 use Rattle.lmtp_text.specs.Calendar.{civil_at}
 use Rattle.mbox_rd.specs.Spool.{SpoolState}
 use Rattle.lmtp_lane.specs.Visits.{conversations_of}
@@ -60,15 +61,18 @@ threads_of site lanes courses = record {
   courses = courses;
 }
 
--- There is a run of the model, from a start at which nothing has happened, in which each lane offers each mailbox just
--- the copies that its conversations owe, and at whose end each mailbox and each lane has what this server's has. The
--- run has a depot that is large enough, and channels with room: of slots, blocks and waiting it says nothing.
+-- There is an orderly run of the model, from a start at which nothing has happened, in which each lane offers each
+-- mailbox just the copies that its conversations owe, and at whose end each mailbox and each lane has what this
+-- server's has. Its mailboxes' channels have this server's capacity, and a lane's channel has room for the slips of a
+-- message to as many recipients as there may be: no copy is offered and no slip given to a full channel, and a lane
+-- begins a message once each copy of its last one is answered. The run has a depot that is large enough: of slots and
+-- blocks it says nothing.
 pub record IsRunOfModel {V S : Type 0} (site : Site) (state : S → SpoolState) (lanes : ℕ → LaneWork)
     (boxes : ℕ → BoxWork) (old : HandedIn V S) (new : HandedBack V S) : Type 0 where
   pub courses : ℕ → Course
   pub are : (b : ℕ) (before after : S) (tally : Tally) → slice_get old.spools b ≡ Some before
       → slice_get new.spools b ≡ Some after → slice_get new.tallies b ≡ Some tally
       → IsCourseOf (boxes b) (state before) (state after) tally (courses b)
-  pub is : IsRunOf (server_of site old) (threads_of site lanes courses)
+  pub is : IsOrderlyRunOf RECIPIENT_LIMIT old.capacity (server_of site old) (threads_of site lanes courses)
   pub offered : (k b : ℕ) → k < length old.visits → b < length old.spools
-      → offers_by k b (events_of is.run) ≡ due site k b (conversations_of (lanes k).visits)
+      → offers_by k b (events_of is.is.run) ≡ due site k b (conversations_of (lanes k).visits)

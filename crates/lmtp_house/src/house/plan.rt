@@ -58,7 +58,12 @@ where
             × (length handed.spools.items ≡ length (arc_value shared.now.site).boxes) }
         requires gates { length handed.gates.items ≡ length handed.spools.items }
         ensures { IfOk result (λ plan. IsPlanned (arc_value shared.now.site) (arc_value shared.now.clock)
-            (record { visits = handed.visits.items; spools = handed.spools.items; quota = handed.quota })
+            (record {
+              visits = handed.visits.items;
+              spools = handed.spools.items;
+              capacity = handed.capacity;
+              quota = handed.quota;
+            })
             (record { lanes = plan.lanes; workers = plan.workers; mail = plan.mail; slips = plan.slips })) }
     {
         let HandedIn {

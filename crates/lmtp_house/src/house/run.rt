@@ -44,7 +44,12 @@ where
     requires none_out { AllByRecursion (λ v. V.out v ≡ false) visits.items }
     ensures ran { IfOk result (λ report. HasRun (arc_value site) (C.May clock)
         (record { MayGive = V.MayGive; finished = V.finished; over = V.over }) S.state
-        (record { visits = visits.items; spools = spools.items; quota = sizes.quota })
+        (record {
+          visits = visits.items;
+          spools = spools.items;
+          capacity = sizes.capacity;
+          quota = sizes.quota;
+        })
         (record {
           visits = report.visits.items;
           spools = report.spools.items;
@@ -95,7 +100,12 @@ where
     requires none_out { AllByRecursion (λ v. V.out v ≡ false) handed.visits.items }
     ensures ran { IfOk result (λ report. HasRun (arc_value site) (C.May (arc_value clock))
         (record { MayGive = V.MayGive; finished = V.finished; over = V.over }) S.state
-        (record { visits = handed.visits.items; spools = handed.spools.items; quota = handed.quota })
+        (record {
+          visits = handed.visits.items;
+          spools = handed.spools.items;
+          capacity = handed.capacity;
+          quota = handed.quota;
+        })
         (record {
           visits = report.visits.items;
           spools = report.spools.items;

@@ -11,7 +11,12 @@ returns-clause-ran g c =
     let made = c.in_ok-plan.plan in
     let plan : PlanState _ _ _ = record { lanes = made.lanes; workers = made.workers; mail = made.mail; slips = made.slips } in
     let view : VisitsView _ = record { MayGive = g.V.Visits.MayGive; finished = g.V.Visits.finished; over = g.V.Visits.over } in
-    let handed : HandedIn _ _ = record { visits = vec_items c.args.handed.visits; spools = vec_items c.args.handed.spools; quota = c.args.handed.quota } in
+    let handed : HandedIn _ _ = record {
+      visits = vec_items c.args.handed.visits;
+      spools = vec_items c.args.handed.spools;
+      capacity = c.args.handed.capacity;
+      quota = c.args.handed.quota;
+    } in
     if_ok (λ report. HasRunAll g.C.Clock.May view g.S.Spool.state plan (record {
       visits = vec_items report.visits;
       spools = vec_items report.spools;
