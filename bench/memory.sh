@@ -2,7 +2,7 @@
 # What the program takes from the system, by its size: a table of the address space that it has and of what is
 # resident, in KiB. Of `serve` once all its threads wait, then after 20 messages of 4 KiB for ten mailboxes on each
 # of its lanes at once, and after as many again; of `rehearse` before its first byte of input, and after the reply
-# to a message for all of its mailboxes. It fails where the address space of a server has grown after its start, or
+# to a message for all of its mailboxes. It fails where the address space of a server has grown since its start, or
 # what is resident after the second half by more than 1 MiB. bench/serve/load.rs checks each reply.
 # usage: bench/memory.sh --build or --try, which only builds, or bench/memory.sh
 set -euo pipefail
