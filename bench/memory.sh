@@ -1,9 +1,9 @@
 #!/usr/bin/env bash
 # What the program takes from the system, by its size: a table of the address space that it has and of what is
-# resident, in KiB. Of `serve` once all its threads wait, then behind 20 messages of 4 KiB for ten mailboxes on each
-# of its lanes at once, and behind as many again; of `rehearse` before its first byte of input, and behind the reply
-# to a message for all of its mailboxes. It fails where the address space of a server has grown behind its start, or
-# what is resident behind the second half by more than 1 MiB. bench/serve/load.rs checks each reply.
+# resident, in KiB. Of `serve` once all its threads wait, then after 20 messages of 4 KiB for ten mailboxes on each
+# of its lanes at once, and after as many again; of `rehearse` before its first byte of input, and after the reply
+# to a message for all of its mailboxes. It fails where the address space of a server has grown since its start, or
+# what is resident after the second half by more than 1 MiB. bench/serve/load.rs checks each reply.
 # usage: bench/memory.sh --build or --try, which only builds, or bench/memory.sh
 set -euo pipefail
 cd "$(dirname "$0")/.."
@@ -24,7 +24,7 @@ kilobytes() { awk -v name="$1:" '$1 == name { print $2 }' "/proc/$program/status
 
 names() { seq -f 'u%.0f' 0 $(($1 - 1)); }
 
-# until_waits THREADS: so many threads are there, and all of them wait.
+# until_waits THREADS: that many threads are there, and all of them wait.
 until_waits() {
     local states
     for _ in {1..200}; do

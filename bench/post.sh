@@ -3,7 +3,7 @@
 # doing the same with an Arc of the message in a hold's place (bench/post/channels.rs, by `rustc -O`):
 #   posts L   copies of sealed messages, 100 of each, from 1, 2 and 4 lane threads to one receiver, at capacity 16: how
 #             many a second. A lane seals each message, splits a hold off for each copy and offers it with an envelope
-#             of its own; the receiver releases each hold, and gives the blocks back behind a message's last one
+#             of its own; the receiver releases each hold, and gives the blocks back after a message's last one
 #   trips     such a copy to a worker's thread, which releases it, and its slip back: microseconds a trip
 # Prints the best of RUNS times of each (9 if it isn't set) and std's time over ours. Fails where the counts differ.
 # Both run by turns, so that a ratio means something on a machine that does other work.
@@ -23,7 +23,7 @@ OURS, STD, RUNS = sys.argv[1], sys.argv[2], int(sys.argv[3])
 
 
 def run(program):
-    """By name the microseconds that the program printed and the counts behind them."""
+    """By name the microseconds that the program printed and the counts after them."""
     said = subprocess.run([program], check=True, capture_output=True, text=True).stdout
     rows = [line.split(" ", 2) for line in said.splitlines()]
     return {name: (int(number), counts) for name, number, counts in rows}

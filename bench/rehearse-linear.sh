@@ -3,7 +3,7 @@
 # the larger run's peak of memory, and fails where the ratio is above 5 or the peak above three times the input.
 # A conversation is many messages for 24 mailboxes, and in its midst one command line of 10,000,000 letters
 # (a quarter of that in the smaller one). LMTPD names a program that is built already.
-# usage: bench/rehearse-linear.sh [--build | --try]: with a word nothing, since the program is all that it wants built
+# usage: bench/rehearse-linear.sh [--build | --try]: with a word nothing, since the program is all that it needs built
 set -euo pipefail
 cd "$(dirname "$0")/.."
 . tests/needs python3

@@ -22,7 +22,7 @@ OURS, LOOPS, RUNS = sys.argv[1], sys.argv[2], int(sys.argv[3])
 
 
 def run(program):
-    """By name the number that the program printed and the counts behind it."""
+    """By name the number that the program printed and the counts after it."""
     said = subprocess.run([program], check=True, capture_output=True, text=True).stdout
     rows = [line.split(" ", 2) for line in said.splitlines()]
     return {name: (int(number), counts) for name, number, counts in rows}

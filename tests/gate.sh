@@ -30,7 +30,7 @@ play() {
     echo "$status" > "$said/$(basename "$1").status"
 }
 
-# play_on_sources: plays those that want the sources alone, one after the other.
+# play_on_sources: plays those that need the sources alone, one after the other.
 play_on_sources() {
     local script
     for script in tests/{calls,units,benchmarks,wrong_bodies}.sh; do play "$script" 3600; done

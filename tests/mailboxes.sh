@@ -63,7 +63,7 @@ def letters(box):
 
 
 def rehearse():
-    """The bytes of each mailbox that the program prints behind the replies."""
+    """The bytes of each mailbox that the program prints after the replies."""
     words = [os.environ["LMTPD"], "rehearse", "--host", "mx.example", "--time", "0"] + BOXES
     given = b"".join(line + b"\r\n" for line in dialogue())
     said = subprocess.run(words, input=given, stdout=subprocess.PIPE, check=True).stdout
@@ -82,7 +82,7 @@ def by_git(path):
         )
         for name in sorted(os.listdir(folder)):
             first, rest = pathlib.Path(folder, name).read_bytes().split(b"\n", 1)
-            # it leaves the empty line behind the letter
+            # it leaves the empty line after the letter
             yield first.removeprefix(b"From "), rest.removesuffix(b"\n")
 
 

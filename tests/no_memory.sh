@@ -1,5 +1,5 @@
 #!/usr/bin/env bash
-# Want of memory and of threads is answered by its own line, and nothing is lost by it: refuses each allocation and each
+# Lack of memory and of threads is answered by its own line, and nothing is lost by it: refuses each allocation and each
 # thread of a rehearsal for two recipients, of one for one recipient, of one whose second mailbox a file names, of a
 # server of two lanes and two mailboxes, and of a check of files in turn (tests/memory/refuse.c, preloaded), once that
 # one alone and once all later ones too, until a run ends well. A refused run says `lmtpd: memory`, or `lmtpd: no

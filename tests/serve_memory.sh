@@ -4,7 +4,7 @@
 # start a thread, and has bench/serve/load.rs deliver over 10,000 copies in about a thousand conversations, 4
 # at once: 2 KiB to one mailbox, 20 KiB to ten, 1 MiB to one. strace may see none of these calls, and the size
 # of the process must stay the same. What is resident grows where pages that were taken at the start are used
-# for the first time: that may come to 256 KiB at most behind the first copies of all sizes. Says what it
+# for the first time: that may come to 256 KiB at most after the first copies of all sizes. Says what it
 # counted. Where strace isn't there, or may not look, that is said, and sizes alone are compared. LMTPD names a
 # program that is built already.
 # usage: tests/serve_memory.sh
@@ -25,7 +25,7 @@ fail() {
     exit 1
 }
 
-# until SECONDS COMMAND..: the command holds within so many seconds.
+# until SECONDS COMMAND..: the command holds within that many seconds.
 until_holds() {
     local tries=$(($1 * 20))
     shift
@@ -48,14 +48,14 @@ all_wait() {
 # strace looks at the server, or has ended.
 has_begun() { grep -q "^TracerPid:	$tracer$" "/proc/$server/status" || ! kill -0 "$tracer" 2> /dev/null; }
 
-# deliver CONVERSATIONS MESSAGES RECIPIENTS SIZE: on each of 4 connections so many conversations.
+# deliver CONVERSATIONS MESSAGES RECIPIENTS SIZE: on each of 4 connections that many conversations.
 deliver() {
     timeout 120 "$folder/load" "$address" m 4 "$@" "$BOXES" > /dev/null || fail "a reply is wrong"
     conversations=$((conversations + 4 * $1))
     copies=$((copies + 4 * $1 * $2 * $3))
 }
 
-# take_turns SHARE: all sizes, so many times as often.
+# take_turns SHARE: all sizes, that many times as often.
 take_turns() {
     deliver $((8 * $1)) 5 1 2048
     deliver $((2 * $1)) 3 10 20480

@@ -2,7 +2,7 @@
 //!
 //! usage: load ADDRESS:PORT TAG CONNECTIONS CONVERSATIONS MESSAGES RECIPIENTS SIZE BOXES
 //!
-//! Each connection has a thread, which holds CONVERSATIONS one behind the other and sends MESSAGES in each,
+//! Each connection has a thread, which holds CONVERSATIONS one after the other and sends MESSAGES in each,
 //! of SIZE bytes with header and CRLFs, without pipelining. Recipient j of a message on connection c is the
 //! mailbox with number (c * RECIPIENTS + j) mod BOXES, `u0` and so on. A message's id is <TAG.c.i@load>, i
 //! counted over the thread's conversations.
@@ -91,7 +91,7 @@ fn send(client: &mut Client, recipients: &[String], message: &[u8]) -> Result<()
     Ok(())
 }
 
-/// So many bytes, more than one, in lines of 64 with their CRLF. None begins with a dot.
+/// That many bytes, more than one, in lines of 64 with their CRLF. None begins with a dot.
 fn body(size: usize) -> Vec<u8> {
     let mut text = Vec::with_capacity(size);
     while text.len() < size {

@@ -27,7 +27,7 @@ class Work:
     recipients: int
     size: int
     boxes: int
-    # Of all but Dovecot so many times as many messages, so that no run is too short to tell. A mailbox that
+    # Of all but Dovecot that many times as many messages, so that no run is too short to tell. A mailbox that
     # grows costs Dovecot time, so the smaller number is in its favour.
     times: int
     # The least ratio of ours to a peer. `before` is a program from before a site chose its message limit (7757243).

@@ -68,7 +68,7 @@ fn next(seed: u32) -> u32 {
     seed.wrapping_mul(1_664_525).wrapping_add(1_013_904_223)
 }
 
-// Lines: the letters of a line are kept, up to 1,022, and its CR behind them.
+// Lines: the letters of a line are kept, up to 1,022, and its CR after them.
 
 struct Read {
     lines: u64,
@@ -195,7 +195,7 @@ fn count_made(made: &mut Made, bytes: &[u8]) {
     }
 }
 
-// Records: LF for CRLF, and one `>` more before `From ` at a line's front or behind its `>`s.
+// Records: LF for CRLF, and one `>` more before `From ` at a line's start or after its `>`s.
 
 const FROM: &[u8] = b"From ";
 
@@ -284,7 +284,7 @@ fn write_byte(sink: &mut Sink, held: Held, byte: u8) -> Held {
     }
 }
 
-// Behind n bytes of `From `, which are held back.
+// After n bytes of `From `, which are held back.
 fn write_word(sink: &mut Sink, n: usize, byte: u8) -> Held {
     if byte != FROM[n] {
         sink.put_all(&FROM[..n]);

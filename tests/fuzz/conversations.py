@@ -84,7 +84,7 @@ def made(random):
 
 
 def one_of_the_first(random, options, counts):
-    """One of the first options: of so many as one of the counts says, so that the first ones come more often."""
+    """One of the first options: of as many as one of the counts says, so that the first ones come more often."""
     return random.choice(options[: random.choice(counts)])
 
 

@@ -49,7 +49,7 @@ def run(seed, number):
             for piece in conversations.pieces(chance, given):
                 process.stdin.write(piece)
         except BrokenPipeError:
-            pass  # it doesn't read behind QUIT
+            pass  # it doesn't read after QUIT
         try:
             said, errors = process.communicate(timeout=SECONDS)
         finally:

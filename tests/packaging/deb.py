@@ -42,7 +42,7 @@ def told(*words, **more):
 
 
 def made_in(folder):
-    """The package, made anew in that folder."""
+    """The package, made from the start in that folder."""
     folder.mkdir()
     path = told("make", "-s", "deb", f"PROGRAM={LMTPD}", f"FOLDER={folder}").strip()
     assert [path] == [str(it) for it in folder.iterdir()], path

@@ -33,7 +33,7 @@ def said_by(*words, **more):
 
 
 def help_of(command):
-    """By option the text that the help has behind it. It has examples and the three statuses too."""
+    """By option the text that the help has after it. It has examples and the three statuses too."""
     status, said = said_by(LMTPD, *command.split(), "--help")
     assert status == 0, said
     examples = re.findall(r"^  (?:printf .* \| )?lmtpd (.*)$", said, re.MULTILINE)

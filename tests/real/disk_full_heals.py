@@ -129,7 +129,7 @@ class Sender:
             return client.ask_or_end("\r\n".join([*self.letter(), "."])) if heard.startswith("354") else heard
 
     def delivers(self, count, seconds):
-        """Delivers so many letters; how long the first one took, which is to be told 250 within these seconds."""
+        """Delivers that many letters; how long the first one took, which is to be told 250 within these seconds."""
         since, first = time.monotonic(), None
         for _ in range(count):
             while (final := self.try_once()) != STORED:
@@ -206,7 +206,7 @@ def mount(there, words):
 
 
 def fill(place, left):
-    """Leaves so many bytes of room, and with 0 no file can be made."""
+    """Leaves that many bytes of room, and with 0 no file can be made."""
     filler = place / "filler"
     with filler.open("wb", buffering=0) as file:
         while room(place) > 0:

@@ -106,7 +106,7 @@ def exim_sends(folder, program, server, delivery):
 
 @contextlib.contextmanager
 def user(name):
-    """A user of that name, which the program wants to find."""
+    """A user of that name, which the program needs to find."""
     is_new = subprocess.run(["id", name], capture_output=True).returncode != 0
     if is_new and subprocess.run(["useradd", "--system", "--user-group", name], capture_output=True).returncode:
         raise Absent(f"no user {name} can be made")

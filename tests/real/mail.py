@@ -36,6 +36,6 @@ def message(name):
 
 
 def equal_mailbox(path, names):
-    """The mailbox has just these messages, byte for byte behind the lines that relays put in front."""
+    """The mailbox has just these messages, byte for byte after the lines that relays put before them."""
     found = [OF_RELAYS.sub(b"", text, count=1) for text in letters.messages(path)]
     equal(found, [message(name).replace(b"\r\n", b"\n") for name in names])

@@ -16,7 +16,7 @@ status=$?
 [ "$status" != 3 ] || status=1
 exit "$status"
 """
-# A mailbox without letters, or one that another program wrote anew, has mutt drop the keys that it was given, and it
+# A mailbox without letters, or one that another program rewrote, has mutt drop the keys that it was given, and it
 # waits for others.
 DROPS, LEAVE = (b"There are no messages", b"externally modified"), b"x"
 SETTINGS = "set delete=yes move=no quit=yes confirmappend=no confirmcreate=no sleep_time=0 record=''"

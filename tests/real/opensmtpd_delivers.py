@@ -1,5 +1,5 @@
 """OpenSMTPD delivers to `lmtpd serve`. Its package can't stand beside Postfix's, so its files are only unpacked, and
-what it wants at a fixed place is there as long as the case runs."""
+what it needs at a fixed place is there as long as the case runs."""
 
 import contextlib
 import pathlib
@@ -102,7 +102,7 @@ def tried(log, name):
 
 @contextlib.contextmanager
 def places(files):
-    """The folders that it wants, with the program that it delivers by."""
+    """The folders that it needs, with the program that it delivers by."""
     new = [path for path in [HELPERS, HOME, SPOOL] if not path.exists()]
     try:
         for path in [HELPERS, HOME / "empty"]:

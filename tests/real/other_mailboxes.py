@@ -61,7 +61,7 @@ def dovecot_quotes_nothing(folder):
         with dovecot.login() as client:
             client.append("INBOX", None, None, message("two", *MARKS))
         said = path.read_text()
-        # of each letter two lines behind an empty one look like the next letter's first
+        # of each letter two lines after an empty one look like the next letter's first
         equal((said.count("\n\n" + "\n".join(LINES) + "\n\n"), checked(path)), (2, "letters 6"))
         length = len("\n".join([*LINES, ""]))
         equal((said.count(f"\nContent-Length: {length}\n"), said.count("Content-Length: 3")), (2, 0))
@@ -176,12 +176,12 @@ def quoted(lines):
 
 
 def body(letter):
-    """The lines of a letter behind its header."""
+    """The lines of a letter after its header."""
     return letter.decode().partition("\n\n")[2].removesuffix("\n").split("\n")
 
 
 def letters_of(path):
-    """The texts of a file between From lines that stand behind an empty line."""
+    """The texts of a file between From lines that stand after an empty line."""
     return [text.removesuffix(b"\n") for text in re.split(rb"(?:\A|(?<=\n\n))From [^\n]*\n", path.read_bytes())[1:]]
 
 
@@ -213,7 +213,7 @@ def moved_and_delivered_behind(home, path, tool, bodies):
 
 
 def deliver_behind(home, count):
-    """A server delivers one letter more to anna's file, which then has so many."""
+    """A server delivers one letter more to anna's file, which then has that many."""
     with Server(home, ["anna"], 1, "--lanes", 1) as server:
         deliver_to(server)
         equal(server.end().status, 0)

@@ -118,12 +118,12 @@ class Postfix:
         return path.read_text() if path.exists() else ""
 
     def fates(self, recipient):
-        """For each try at that recipient the word of its status and the text behind it, in their order."""
+        """For each try at that recipient the word of its status and the text after it, in their order."""
         found = re.findall(rf"to=<{re.escape(recipient)}>.* status=(\w+) \((.*)\)", self.log())
         return [(word, text) for word, text in found]
 
     def fate(self, recipient, count=1):
-        """The last of these, once there are so many."""
+        """The last of these, once there are that many."""
         until = time.monotonic() + 30
         while time.monotonic() < until:
             found = self.fates(recipient)

@@ -43,7 +43,7 @@ def a_full_disk_keeps_the_queue(folder):
             equal(postfix.fate("anna@mx.example", 2), ("sent", stored("anna")))
             equal(sum(word == "sent" for word, _ in postfix.fates("anna@mx.example")), 1)
             said = server.mailbox("anna").read_bytes()
-            # a front of the first record may stand before it
+            # a prefix of the first record may stand before it
             equal(said.count(b"Subject: late\n"), said.count(b"Message-ID: <late@a.example>\n"))
             equal(said.endswith(LONG.replace(b"\r\n", b"\n") + b"\n"), True)
 

@@ -52,7 +52,7 @@ def in_place_of(path, other):
 
 
 def go_read_only(path):
-    """As the kernel does behind an error of the disk's, with files open that are written to."""
+    """As the kernel does after an error of the disk's, with files open that are written to."""
     subprocess.run(["mount", "-o", "remount,abort", path], stderr=subprocess.DEVNULL)
     try:
         (path / "probe").write_bytes(b"x")

@@ -14,7 +14,7 @@ from mutt import Mutt
 from packages import program
 
 LOCKS = ["mbox_read_locks = fcntl", "mbox_write_locks = fcntl dotlock"]  # Debian's
-# Of the first letters it cuts those of one reader, and writes the mailbox anew in its place.
+# Of the first letters it cuts those of one reader, and writes a new mailbox in its place.
 BY_FORMAIL = r"""
 cd "$3" || exit 1
 lockfile -1 -r 100 "$1.lock" || exit 0

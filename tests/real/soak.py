@@ -1,4 +1,4 @@
-"""A million deliveries, and what the server's memory and descriptors come to meanwhile and behind them."""
+"""A million deliveries, and what the server's memory and descriptors come to meanwhile and after them."""
 
 import os
 import pathlib
@@ -16,12 +16,12 @@ RECIPIENTS = 4  # of each message: the mailboxes of its connection, which are th
 SIZE = 512
 LOAD = pathlib.Path(__file__).parents[2] / "bench/serve/load.rs"
 EVERY = 0.5  # seconds between two looks
-SETTLED = 10  # per cent of the looks behind which nothing grows with what is delivered
+SETTLED = 10  # per cent of the looks after which nothing grows with what is delivered
 ID = re.compile(rb"^Message-ID: <soak\.(\d+)\.(\d+)@load>$", re.MULTILINE)
 
 
 class Work(NamedTuple):
-    """Connections, one a lane, each of so many conversations of so many messages."""
+    """Connections, one a lane, each of that many conversations of that many messages."""
 
     lanes: int
     conversations: int
@@ -42,7 +42,7 @@ class Work(NamedTuple):
 
     @property
     def leak(self):
-        """KiB: half a byte for each delivery behind the looks of the start."""
+        """KiB: half a byte for each delivery after the looks of the start."""
         return self.deliveries * (100 - SETTLED) // 100 // 2 // 1024
 
 
@@ -66,10 +66,10 @@ def soak(folder, work):
     load = compiled(folder)
     mailboxes = folder / "mailboxes"
     mailboxes.mkdir()
-    # a conversation more for each lane, so that the server is still there behind the load
+    # a conversation more for each lane, so that the server is still there after the load
     conversations = work.lanes * (work.conversations + 1)
     with Server(mailboxes, work.boxes, conversations, "--lanes", work.lanes) as server:
-        time.sleep(EVERY)  # its threads start behind the line that says that it listens
+        time.sleep(EVERY)  # its threads start after the line that says that it listens
         begun, pid = time.monotonic(), server.process.pid
         before = Look(begun, pid)
         looks = watch(begun, pid, deliver(load, server.text, work))
@@ -138,7 +138,7 @@ def watch(begun, pid, load):
 
 
 def look_behind(begun, pid, before):
-    """The look behind the last client, for whose connection to be closed it waits a while."""
+    """The look after the last client, for whose connection to be closed it waits a while."""
     until = time.monotonic() + 5
     while True:
         look = Look(begun, pid)
@@ -148,7 +148,7 @@ def look_behind(begun, pid, before):
 
 
 def say_goodbye(address, count):
-    """So many conversations without a message."""
+    """That many conversations without a message."""
     for _ in range(count):
         with Client(address).greet() as client:
             client.quit()

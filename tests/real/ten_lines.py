@@ -103,7 +103,7 @@ a_service_that_lacks_something.seconds = 180
 
 @contextlib.contextmanager
 def machine(folder):
-    """With the sources in place that `make install` wants, and the built program."""
+    """With the sources in place that `make install` needs, and the built program."""
     want_root()
     for name in ["make", "postfix"]:
         program(name, name)
@@ -129,7 +129,7 @@ def type_lines(there):
 
 
 def begin_for_few(there, count):
-    """Has the service end after so many conversations, and Postfix hold one for each letter."""
+    """Has the service end after that many conversations, and Postfix hold one for each letter."""
     unit = there.run("cat /usr/local/lib/systemd/system/lmtpd.service")[1]
     begin = re.search("^ExecStart=.*$", unit, re.MULTILINE)[0].replace(" serve ", f" serve --connections {count} ")
     there.run(f"mkdir {os.path.dirname(FEW)}; printf '%s\\n' '[Service]' ExecStart= '{begin}' > {FEW}")
@@ -142,7 +142,7 @@ def checked(**letters):
 
 
 def wait_for_letters(there, count):
-    """Has Postfix try its queue until anna has so many letters."""
+    """Has Postfix try its queue until anna has that many letters."""
     until = time.monotonic() + 90
     while time.monotonic() < until:
         if there.run("lmtpd check /var/mail/lmtpd/anna.mbox") == (0, checked(anna=count)):

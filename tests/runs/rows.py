@@ -364,7 +364,7 @@ def quotas():
 
 
 def keeps(quota, records):
-    """For each record whether a mailbox keeps it that was empty: it fits behind what is held by then."""
+    """For each record whether a mailbox keeps it that was empty: it fits after what is held by then."""
     held = 0
     for text in records:
         fits = held + len(text) <= quota
@@ -404,7 +404,7 @@ def moments():
 
 
 def smuggled():
-    """What looks like the end of the data and isn't: QUIT behind it is content. By the rule a dot directly behind CRLF
+    """What looks like the end of the data and isn't: QUIT after it is content. By the rule a dot directly after CRLF
     is dropped, and a CR directly before LF."""
     texts_of = {
         b"\n.\n": b"\n.\n",
@@ -441,7 +441,7 @@ class Check:
 
 
 def checks():
-    """A From line begins a letter at the front, and behind an empty line. Places count from 0: the first byte that no
+    """A From line begins a letter at the head, and after an empty line. Places count from 0: the first byte that no
     mailbox has there, and at the end of the bytes the end itself."""
     letter = record(HELLO_STORED)
     rows = [

@@ -10,7 +10,7 @@ SECONDS = 60  # that a case may take, where it says no other number itself
 
 
 class Absent(Exception):
-    """Something that a case wants isn't on this machine; the text says what."""
+    """Something that a case needs isn't on this machine; the text says what."""
 
 
 def case(function):

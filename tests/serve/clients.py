@@ -101,7 +101,7 @@ class Client:
         return asked[1:], [self.hear() for _ in accepted]
 
     def quit(self):
-        """The reply to QUIT; behind it the stream ends."""
+        """The reply to QUIT; after it the stream ends."""
         answer = self.ask("QUIT")
         assert self.lines.read() == b""
         return answer

@@ -10,7 +10,7 @@ from clients import Client, deliver_one
 from replies import CLOSING, STOPPING, stored
 from server import Server
 
-# By the state in which a client goes away: what it has said by then behind the greeting, and the bytes of
+# By the state in which a client goes away: what it has said by then after the greeting, and the bytes of
 # half a line.
 COMMANDS = ["LHLO relay.example", "MAIL FROM:<carl@a.example>", "RCPT TO:<anna@mx.example>", "DATA"]
 STATES = {

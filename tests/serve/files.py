@@ -33,7 +33,7 @@ def a_device_that_is_full(folder):
 
 
 def of_size(limit):
-    """How a server is started whose files grow to so many bytes at most: a write beyond fails, and no signal comes."""
+    """How a server is started whose files grow to that many bytes at most: a write beyond fails without a signal."""
     both = (limit, limit)
     return {"restore_signals": False, "preexec_fn": lambda: resource.setrlimit(resource.RLIMIT_FSIZE, both)}
 
@@ -100,7 +100,7 @@ def killed_in_the_midst(folder):
     found = [record.partition(b" +0000\n")[2] + b"\n" for record in records]
     rest = [letter for letter in found if letter not in told]
     equal([letter[:20] for letter in told if letter not in found], [])
-    # what wasn't told is a front of its letter, or all of it
+    # what wasn't told is a prefix of its letter, or all of it
     equal([letter[:20] for letter in rest[:-1] if not any(one.startswith(letter[:-1]) for one in untold)], [])
     equal((rest[-1], len(rest) - 1 <= len(untold)), (b"last\n", True))
 

@@ -43,7 +43,7 @@ def by_git(path):
         words = ["git", "mailsplit", "--mboxrd", "--keep-cr", "-d8", f"-o{folder}", path]
         subprocess.run(words, stdout=subprocess.DEVNULL, check=True)
         for name in sorted(os.listdir(folder)):
-            # it leaves the empty line behind the letter
+            # it leaves the empty line after the letter
             yield pathlib.Path(folder, name).read_bytes().removeprefix(b"From ").removesuffix(b"\n")
 
 

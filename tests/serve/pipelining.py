@@ -12,7 +12,7 @@ from server import Server
 
 COMMAND, REPLY = b"NOOP\r\n", f"{NOOP_OK}\r\n".encode()
 FIRST, LAST = f"{GREETING}\r\n".encode(), f"{STOPPING}\r\n".encode()
-# Stops after so many seconds of sending, so that they meet the server at several places in what it has read.
+# Stops after that many seconds of sending, so that they meet the server at several places in what it has read.
 STOPS = [0.3, 0.37, 0.43, 0.51, 0.59, 0.68]
 TCP, UNIX = "127.0.0.1:0", "unix:{}/sock"
 

@@ -31,7 +31,7 @@ def ended_in_time(server, since):
 
 
 def restart_under_load(folder, begin, address, times):
-    """So many servers, one after the other, each of which ends in time and with status 0: each numbered letter is there
+    """That many servers, one after the other, each ending in time and with status 0: each numbered letter is there
     once. `begin` starts one that the file `stop` ends. It says how often a client was refused."""
     with Load(address) as load:
         for _ in range(times):

@@ -9,7 +9,7 @@ from dataclasses import dataclass
 @dataclass
 class Ended:
     status: int
-    said: list  # the lines on standard output behind the one that says where it listens
+    said: list  # the lines on standard output after the one that says where it listens
     errors: list  # the lines on standard error
 
 

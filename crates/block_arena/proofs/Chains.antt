@@ -1,4 +1,4 @@
--- Chains of blocks: what a changed link does to them, how one is put behind another.
+-- Chains of blocks: what a changed link does to them, how one is put after another.
 use Rattle.std.proofs.Common.{◌≡◌, ℕ, zero, suc, ◌+◌, ◌<◌, ◌≤◌, List, [], ◌∷◌, ◌++◌, Bool, true, false, cond, ◌==◌, get_or, length, set, refl, ap, sym, ◌∙◌, arith}
 use Rattle.std.proofs.lemmas.List.{get_or-set_same, get_or-set_other}
 use Rattle.std.proofs.lemmas.Bool.{eq-eqb}
@@ -39,7 +39,7 @@ chain_last (suc n) xs f = ap (λ t. f ∷ t) (chain_last n xs (get_or xs f 0))
 chain_step : (k j : ℕ) (xs : List ℕ) (f : ℕ) → k ≡ suc j → chain k xs f ≡ f ∷ chain j xs (get_or xs f 0)
 chain_step k j xs f e = ap (λ n. chain n xs f) e
 
--- one chain behind another, by the link of its last block
+-- one chain after another, by the link of its last block
 pub splice : (n m : ℕ) (xs : List ℕ) (f g b : ℕ) → node n xs f ≡ b → occurrences b (chain n xs f) ≡ 0 → b < length xs → occurrences b (chain m xs g) ≡ 0
     → chain (suc n + m) (set xs b g) f ≡ chain (suc n) xs f ++ chain m xs g
 splice zero m xs f g b e h low free =

@@ -79,7 +79,7 @@ all_front P (x ∷ xs) ys h = (h.0, all_front P xs ys h.1)
 len_parts : (n blocks : ℕ) → blocks ≡ d.blocks_for n → 0 < n % BLOCK_SIZE → n ≡ BLOCK_SIZE * (blocks - 1) + n % BLOCK_SIZE
 len_parts n blocks e some = omega (arith, e, some)
 
--- the bytes behind a piece that went into the last block
+-- the bytes after a piece that went into the last block
 pub filled_bytes : (key : Key) (depot : d.Depot) (a : ArenaFields) (run : Run) (n : ℕ) (piece : List ℕ)
     → Sees key depot a (Draft run) → 0 < run.length % BLOCK_SIZE → n ≤ BLOCK_SIZE - run.length % BLOCK_SIZE → length piece ≡ n
     → bytes_in (set a.store run.last (take (run.length % BLOCK_SIZE) (get_or a.store run.last []) ++ piece ++ drop (run.length % BLOCK_SIZE + n) (get_or a.store run.last []))) a.next (longer run n) ≡ bytes_in a.store a.next run ++ piece

@@ -123,7 +123,7 @@ last_of next free free_count n first last is within =
       there = (let here : occurrences last (chain n next first) ≡ 0 = p.0 in omega (arith, count, here));
     }
 
--- the blocks of a run go to the front of the free ones
+-- the blocks of a run go to the head of the free ones
 splice_free : (next : List ℕ) (free free_count : ℕ) (run : Run) → IsLast next free free_count (run.blocks - 1) run.first run.last → 0 < run.blocks
     → chain (free_count + run.blocks) (set next run.last free) run.first ≡ chain run.blocks next run.first ++ chain free_count next free
 splice_free next free free_count run l some =
@@ -175,7 +175,7 @@ freed_turn key depot a content run s o some =
           let b : occurrences x held ≡ occurrences x these = ap (occurrences x) h in
           omega (arith, a, b, times-append x these those)
 
--- what a turn of the slot behind its generation frees
+-- what a turn of the slot past its generation frees
 pub frees : (key : Key) (depot : d.Depot) (a : ArenaFields) (content : Content) (a' : ArenaFields)
     → Sees key depot a content
     → Turn a key.slot (slot_at key.generation content) (slot_behind key.generation) a'

@@ -15,7 +15,7 @@ use Rattle.mail_world.proofs.Accepted.{each_at}
 use Rattle.block_arena.proofs.Slots.{slot_at, relabelled, map_set}
 use Rattle.block_arena.proofs.Seen.{Sees, under, stands}
 
--- the depot behind such a call
+-- the depot after such a call
 pub held_behind : (key : Key) (depot : d.Depot) (a : ArenaFields) (old content : Content) → Sees key depot a old
     → depot_of (record a { slots = slice_set a.slots key.slot (slot_at key.generation content) }) ≡ d.with_held depot (depot_key key) (held a.store a.next content) depot.free
 held_behind key depot a old content s =

@@ -1,4 +1,4 @@
--- A draft gets a free block, which is written first and linked behind its last.
+-- A draft gets a free block, which is written first and linked after its last.
 use Rattle.std.proofs.Common.{◌≡◌, ℕ, suc, ◌+◌, ◌-◌, ◌*◌, ◌%◌, ◌<◌, ◌≤◌, ◌≢◌, List, [], ◌∷◌, ◌++◌, Bool, true, false, cond, ◌==◌, Some, get_or, min, take, drop, length, set, map, refl, ap, sym, ◌∙◌, subst, arith, length-set, length-append, length-take, length-drop, append-nil}
 use Rattle.std.specs.Prelude.{slice_get, slice_set, flat_map, nat_lt}
 use Rattle.std.specs.List.{AllByRecursion}
@@ -27,7 +27,7 @@ use Rattle.block_arena.proofs.Puts.{Gains, room_to}
 use Rattle.block_arena.proofs.Filled.{draft_owns}
 use Rattle.block_arena.proofs.Pieces.{flat, flat_append, slot_stays, next_run, full_run, take_behind, take_exact}
 
--- a block is free: the first free one, and those behind it
+-- a block is free: the first free one, and those after it
 free_front : (next : List ℕ) (free free_count : ℕ) → 1 ≤ free_count → chain free_count next free ≡ free ∷ chain (free_count - 1) next (get_or next free 0)
 free_front next free free_count some =
     let one : free_count ≡ suc (free_count - 1) = omega (arith, some) in
@@ -79,7 +79,7 @@ spare key depot a content row s some size =
       at = s.at;
     }
 
--- the first free block stands behind a run: by these links, from that first block on
+-- the first free block stands after a run: by these links, from that first block on
 record Links (a : ArenaFields) (i : ℕ) (run : Run) (next' : List ℕ) (first : ℕ) : Type 0 where
   stay : length next' ≡ length a.next
   others : (s : Slot) → map (slot_of a.store next') (slice_set a.slots i s) ≡ slice_set (map (slot_of a.store a.next) a.slots) i (slot_of a.store next' s)
@@ -209,7 +209,7 @@ linked_turn key depot a run n piece row s f =
 take_all_of : (k : ℕ) (xs : List ℕ) → length xs ≡ k → take k xs ≡ xs
 take_all_of k xs e = ap (take k) (sym (append-nil xs)) ∙ take_exact k xs [] e
 
--- the bytes behind a piece in a block of its own
+-- the bytes after a piece in a block of its own
 pub linked_bytes : (key : Key) (depot : d.Depot) (a : ArenaFields) (run : Run) (n : ℕ) (piece row : List ℕ) → Sees key depot a (Draft run) → IsNextRun a.free_count run n piece row
     → get_or a.store a.free [] ≡ row
     → bytes_in a.store (linked_next a.next run a.free) (longer (linked_run run a.free) n) ≡ bytes_in a.store a.next run ++ piece
@@ -245,7 +245,7 @@ linked_gains key depot a run n piece row s f there = record {
 room_left : (blocks k n count : ℕ) → blocks ≡ d.blocks_for k → k % BLOCK_SIZE ≡ 0 → 0 < n → d.blocks_for (k + n) ≤ blocks + count → 1 ≤ count
 room_left blocks k n count e full some h = omega (arith, e, full, some, h)
 
--- where there is room for a byte behind full blocks, a block is free
+-- where there is room for a byte after full blocks, a block is free
 pub some_free : (key : Key) (depot : d.Depot) (a : ArenaFields) (run : Run) (bytes : List ℕ) → Sees key depot a (Draft run)
     → d.HasRoom depot (depot_key key) bytes → 0 < length bytes → run.length % BLOCK_SIZE ≡ 0 → 1 ≤ a.free_count
 some_free key depot a run bytes s room some full =

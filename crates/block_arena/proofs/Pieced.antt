@@ -141,7 +141,7 @@ few key depot a run n bytes k =
     let p : (a.free_count + run.blocks ≤ BLOCK_LIMIT) × (run.length ≤ BLOCK_SIZE * run.blocks) = run_few key depot a run k.sees in
     (p.0, p.1, omega (arith, k.least))
 
--- room for so many bytes, as the code counts it
+-- room for that many bytes, as the code counts it
 pub room_is : (key : Key) (depot : d.Depot) (a : ArenaFields) (run : Run) (bytes : List ℕ) → Sees key depot a (Draft run)
     → (d.HasRoom depot (depot_key key) bytes → length bytes ≤ BLOCK_SIZE * (run.blocks + a.free_count) - run.length) × (length bytes ≤ BLOCK_SIZE * (run.blocks + a.free_count) - run.length → d.HasRoom depot (depot_key key) bytes)
 room_is key depot a run bytes s = (

@@ -62,7 +62,7 @@ take_exact zero (x ∷ xs) ys e = absurd (omega (arith, e))
 take_exact (suc k) [] ys e = absurd (omega (arith, e))
 take_exact (suc k) (x ∷ xs) ys e = ap (λ t. x ∷ t) (take_exact k xs ys (omega (arith, e)))
 
--- the bytes of a run whose last block gets a piece behind those that it has
+-- the bytes of a run whose last block gets a piece after those that it has
 pub written : (store : List (List ℕ)) (bs : List ℕ) (last m at n len : ℕ) (piece : List ℕ) → occurrences last bs ≡ 0 → last < length store → length (flat store bs) ≡ m → length (get_or store last []) ≡ BLOCK_SIZE
     → len ≡ m + at → length piece ≡ n → at + n ≤ BLOCK_SIZE
     → take (len + n) (flat (set store last (take at (get_or store last []) ++ piece ++ drop (at + n) (get_or store last []))) (bs ++ last ∷ []))

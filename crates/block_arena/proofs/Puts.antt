@@ -22,7 +22,7 @@ content_if : (g : ℕ) (c : Content) (t : Bool) → (g == g) ≡ t → cond t c 
 content_if g c true e = refl
 content_if g c false e = let yes' : (g == g) ≡ true = eq-eqb g g refl in cc
 
--- the draft behind a turn of its slot
+-- the draft after a turn of its slot
 pub sees_new : (key : Key) (depot : d.Depot) (a : ArenaFields) (run run' : Run) (a' : ArenaFields)
     → Turn a key.slot (slot_at key.generation (Draft run)) (slot_at key.generation (Draft run')) a'
     → Sees key (depot_of a') a' (Draft run')
@@ -114,7 +114,7 @@ puts_none key depot a run s =
           );
     }
 
--- one put behind another
+-- one put after another
 pub puts_then : (a b c : d.Depot) (key : d.Key) (xs ys : List ℕ) → d.Puts a key xs b → d.Puts b key ys c → d.Puts a key (xs ++ ys) c
 puts_then a b c key xs ys p q =
     let was : slice_get a.slots key.slot ≡ Some (record { generation = key.generation; held = d.Draft p.bytes p.blocks }) = used a key (d.Draft p.bytes p.blocks) p.draft (λ e. cc) in

@@ -17,7 +17,7 @@ node_low k zero i next first low h = absurd (omega (arith, h))
 node_low k (suc m) zero next first low h = low.0
 node_low k (suc m) (suc i) next first low h = node_low k m i next (get_or next first 0) low.1 (omega (arith, h))
 
--- the bytes of so many blocks from one on, each whole
+-- the bytes of that many blocks from one on, each whole
 abbrev pub whole : List (List ℕ) → List ℕ → ℕ → ℕ → List ℕ
 whole store next m block = flat_map (λ b. get_or store b []) (chain m next block)
 
@@ -43,7 +43,7 @@ drop_in zero xs ys h = refl
 drop_in (suc n) [] ys h = absurd (omega (arith, h))
 drop_in (suc n) (x ∷ xs) ys h = drop_in n xs ys (omega (arith, h))
 
--- behind so many whole blocks the rest of the chain stands
+-- after that many whole blocks the rest of the chain stands
 walk : (store : List (List ℕ)) (next : List ℕ) (q m n first : ℕ) → n ≡ q + m → All (λ (bytes : List ℕ). length bytes ≡ BLOCK_SIZE) store → length store ≡ length next → AllByRecursion (λ b. b < length next) (chain n next first)
     → (drop (BLOCK_SIZE * q) (whole store next n first) ≡ whole store next m (node q next first)) × AllByRecursion (λ b. b < length next) (chain m next (node q next first))
 walk store next zero m n first e sizes count low =
@@ -61,7 +61,7 @@ walk store next (suc q) m (suc n) first e sizes count low =
       rest.1,
     )
 
--- what is to be copied: so many of all bytes from a place on, to the front of a slice
+-- what is to be copied: that many of all bytes from a place on, to the beginning of a slice
 pub record Copying : Type 0 where
   pub all : List ℕ
   pub total : ℕ

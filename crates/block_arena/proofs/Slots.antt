@@ -49,7 +49,7 @@ found (Some slot) g content e filled =
     let p : (slot.generation ≡ g) × (slot.content ≡ content) = found_if slot.generation g (slot.generation == g) slot.content content refl e filled in
     ap (λ (x : Slot). Some x) (same_slot slot.generation g slot.content content p.0 p.1)
 
--- what a step of one slot owes for the arena to stand behind it
+-- what a step of one slot owes for the arena to stand after it
 pub record Turn (a : ArenaFields) (i : ℕ) (old s : Slot) (a' : ArenaFields) : Type 0 where
   pub arena : IsArena a
   pub was : slice_get a.slots i ≡ Some old
@@ -98,7 +98,7 @@ turned a i old s a' t = record {
       omega (arith, split, total, used, times-append x (chain a'.free_count a'.next a'.free) (flat_map (λ (slot : d.Slot). d.blocks_of slot.held) (map (slot_of a'.store a'.next) a'.slots)), times-append x (chain a.free_count a.next a.free) (flat_map (λ (slot : d.Slot). d.blocks_of slot.held) (map (slot_of a.store a.next) a.slots))) in
       moved ∙ t.arena.once x ∙ ap (λ n. cond (nat_lt x n) 1 0) (sym t.next_stay)
 
--- the slot behind the step
+-- the slot after the step
 pub turned_at : (a : ArenaFields) (i : ℕ) (old s : Slot) (a' : ArenaFields) → Turn a i old s a' → slice_get a'.slots i ≡ Some s
 turned_at a i old s a' t = ap (λ ss. slice_get ss i) t.slots ∙ set_at a.slots i s old t.was
 

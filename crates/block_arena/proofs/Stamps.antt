@@ -43,7 +43,7 @@ goes_past true next next' g old block stamp h = let past : stamp.generation ≤ 
 }
 goes_past false next next' g old block stamp h = record { past = h.past; here = λ same. tt }
 
--- a block is stamped anew
+-- a block is stamped again
 pub stamped_new : (next : List ℕ) (slots : List Slot) (stamps : List Stamp) (b : ℕ) (v : Stamp) → AreStamped next slots stamps
     → ((slot : Slot) → slice_get slots v.slot ≡ Some slot → IsStamped next slot b v) → AreStamped next slots (slice_set stamps b v)
 stamped_new next slots stamps b v all new block stamp slot at named =

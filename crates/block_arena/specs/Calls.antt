@@ -48,7 +48,7 @@ RefusesMessage (d.Draft bytes blocks) f = f ≡ fault.Draft
 RefusesMessage (d.Sealed bytes blocks weight) f = ⊥
 RefusesMessage d.Retired f = f ≡ fault.Stale
 
--- a message has so many holds, if it is one
+-- a message has that many holds, if it is one
 abbrev pub MayGiveBack : ℕ → d.Held → Type 0
 MayGiveBack k d.Free = Unit {0}
 MayGiveBack k (d.Draft bytes blocks) = Unit {0}
@@ -61,12 +61,12 @@ IsMessage (d.Draft bytes blocks) = ⊥
 IsMessage (d.Sealed bytes blocks weight) = Unit {0}
 IsMessage d.Retired = ⊥
 
--- so many holds go, one after another
+-- that many holds go, one after another
 abbrev pub ReleasesAll : ℕ → d.Depot → d.Key → d.Depot → Type 0
 ReleasesAll zero old key new = new ≡ old
 ReleasesAll (suc k) old key new = (between : d.Depot) × d.Releases old key between × ReleasesAll k between key new
 
--- holds go, and behind the last one the message
+-- holds go, and after the last one the message
 abbrev pub IsGivenBack : ℕ → d.Depot → d.Key → d.Depot → Bool → Type 0
 IsGivenBack k old key new false = ReleasesAll k old key new × (0 < d.weight_under new key)
 IsGivenBack k old key new true = (between : d.Depot) × ReleasesAll k old key between × d.Reclaims between key new

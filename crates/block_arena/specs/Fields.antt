@@ -32,7 +32,7 @@ abbrev pub chain : ℕ → List ℕ → ℕ → List ℕ
 chain zero next first = []
 chain (suc n) next first = first ∷ chain n next (get_or next first 0)
 
--- the block n links behind the first
+-- the block n links after the first
 abbrev pub node : ℕ → List ℕ → ℕ → ℕ
 node zero next first = first
 node (suc n) next first = node n next (get_or next first 0)
@@ -149,7 +149,7 @@ pub record IsReadable (blocks : List (List ℕ)) (next : List ℕ) (run : Run) :
   pub low : AllByRecursion (λ b. b < length next) (blocks_in next run)
   pub enough : run.length ≤ BLOCK_SIZE * run.blocks
 
--- a run of the same blocks, with so many bytes more
+-- a run of the same blocks, with that many bytes more
 abbrev pub longer : Run → ℕ → Run
 longer run n = record {
   first = run.first;
@@ -158,7 +158,7 @@ longer run n = record {
   length = run.length + n;
 }
 
--- a run with a block more behind its last, and the links that make it one
+-- a run with a block more after its last, and the links that make it one
 abbrev pub linked_run : Run → ℕ → Run
 linked_run run block = record {
   first = if run.blocks == 0 then block else run.first;

@@ -143,7 +143,7 @@ impl Arena {
         }
     }
 
-    /// Takes the key's slot and blocks back: the blocks go to the front of the free ones, by one link.
+    /// Takes the key's slot and blocks back: the blocks go to the head of the free ones, by one link.
     fn release(&mut self, key: Key)
         requires { IsInUse (held_under self.old (depot_key key)) }
         ensures { Frees self.old (depot_key key) self.new }
@@ -161,7 +161,7 @@ impl Arena {
     }
 }
 
-/// The slot behind a message of that generation.
+/// The slot after a message of that generation.
 fn behind(generation: u64) -> Slot
     requires { generation ≤ last_generation }
     ensures { result ≡ slot_behind generation }

@@ -14,7 +14,7 @@ use Rattle.mbox_rd.specs.declared.spool.Tail.TheVariants.{Empty, NoLf, OneLf, Tw
 use Rattle.box_worker.specs.declared.limit.Limit.{Limit}
 use Rattle.box_worker.specs.Limits.{CountsTo, StartsAt, missing, IsLetIn, IsKeptOut}
 
--- a count that stays at its largest value is exact wherever something fits behind it
+-- a count that stays at its largest value is exact wherever something fits after it
 exact : (quota n size : ℕ) → quota < 2 ^ 64 → 1 ≤ size → counted n + size ≤ quota → counted n ≡ n
 exact quota n size below some h = omega (arith, below, some, h)
 

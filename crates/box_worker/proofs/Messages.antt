@@ -12,7 +12,7 @@ use Rattle.mbox_rd.proofs.Parts.{record_split}
 use Rattle.mbox_rd.proofs.Taken.{SpoolTook-then, SpoolTook-as, SpoolFailed-first, SpoolFailed-later, SpoolFailed-as}
 use Rattle.mbox_rd.proofs.Wholes.{BeginsRecord, WritesPiece-then, FailsPiece-then}
 
--- a failure in the front of a text is one in the text
+-- a failure in a prefix of a text is one in the text
 FailsPiece-more : (s t : SpoolState) (a : Pending) (p q : List ℕ) → FailsPiece s t a p → FailsPiece s t a (p ++ q)
 FailsPiece-more s t a p q x = record {
   text = x.text;

@@ -27,7 +27,7 @@ module _ (at : Setting) (start : ℕ) (copies : List Note) (note : Note) where
   abbrev size : ℕ
   size = length (record_of at.calendar at.host note)
 
-  -- whether the copy behind these is kept
+  -- whether the copy after these is kept
   abbrev pub is_kept : Bool
   is_kept = fits at.quota (bytes_behind at start copies) size
 

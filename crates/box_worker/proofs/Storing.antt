@@ -25,7 +25,7 @@ module _ (calendar : Calendar) (host : List ℕ) (note : Note) where
   abbrev text : List ℕ
   text = record_of calendar host note
 
-  -- what is behind the stored copies, with one copy more behind those
+  -- what is after the stored copies, with one copy more after those
   torn_more : (rest : List Note) (torn : List ℕ) → IsTorn calendar host rest torn → IsTorn calendar host (rest ++ note ∷ []) torn
   torn_more [] torn e = record { rest = text; whole = ap (λ (l : List ℕ). l ++ text) (sym e) }
   torn_more (x ∷ rest) torn h = h

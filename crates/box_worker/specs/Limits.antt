@@ -18,7 +18,7 @@ pub record Setting : Type 0 where
   pub quota : Option ℕ
   pub worker : ℕ
 
--- for each copy whether it is kept, where so many bytes stand before the first record
+-- for each copy whether it is kept, where that many bytes stand before the first record
 abbrev pub marks_behind : Setting → ℕ → List Note → List Bool
 marks_behind at start copies = are_kept_behind at.calendar at.host at.quota start copies
 
@@ -26,7 +26,7 @@ marks_behind at start copies = are_kept_behind at.calendar at.host at.quota star
 abbrev pub kept_behind : Setting → ℕ → List Note → List Note
 kept_behind at start copies = marked (marks_behind at start copies) copies
 
--- So many bytes stand before the first record: what the spool held, and what mends that, which is two bytes at most
+-- That many bytes stand before the first record: what the spool held, and what mends that, which is two bytes at most
 -- where the spool doesn't tell what it holds.
 pub record StartsAt (spool : SpoolState) (start : ℕ) : Type 0 where
   pub mending : ℕ
@@ -41,7 +41,7 @@ missing NoLf = 2
 missing OneLf = 1
 missing TwoLf = 0
 
--- the count of a worker in whose mailbox so many bytes stand: there is none without a quota
+-- the count of a worker in whose mailbox that many bytes stand: there is none without a quota
 abbrev pub CountsTo : Option ℕ → ℕ → Option Limit → Type 0
 CountsTo None n limit = limit ≡ None
 CountsTo (Some quota) n limit = (quota < 2 ^ 64) × (limit ≡ Some (record { quota = quota; held = counted n }))
@@ -57,7 +57,7 @@ abbrev pub IsKeptOut : Option Limit → ℕ → Type 0
 IsKeptOut None size = ⊥
 IsKeptOut (Some limit) size = limit.quota < limit.held + size
 
--- what a count is behind a record of that size, if the record is let in
+-- what a count is after a record of that size, if the record is let in
 abbrev pub Admits : Limit → ℕ → Option Limit → Type 0
 Admits old size None = IsKeptOut (Some old) size
 Admits old size (Some new) = IsLetIn (Some old) size (Some new)

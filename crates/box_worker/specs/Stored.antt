@@ -23,7 +23,7 @@ pub record HasKept (old new : SpoolState) (text : List ℕ) : Type 0 where
   pub covered : CoversAll new.bytes new.synced
   pub turn : new.sharing ≡ record old.sharing { is_unsynced = false }
 
--- the spool failed before a sync covered the text, of which it took a front; one with a limit is full
+-- the spool failed before a sync covered the text, of which it took a prefix; one with a limit is full
 pub record HasNotKept (old new : SpoolState) (text : List ℕ) : Type 0 where
   pub front : List ℕ
   pub rest : List ℕ
@@ -84,7 +84,7 @@ IsTornAt calendar host old notes stored settled bytes =
     ⊎ ((front : List ℕ) × (settled ≡ 0) × (bytes ≡ old ++ front) × IsFront front (mended old))
 
 -- A spool took the records of the first of these notes, as many as are stored: of all of them unless it failed, and one
--- with a limit that failed is full. The last good sync covers them and nothing behind them, and where none is stored
+-- with a limit that failed is full. The last good sync covers them and nothing after them, and where none is stored
 -- there was none.
 pub record HasStored (calendar : Calendar) (host : List ℕ) (notes : List Note) (old : SpoolState)
     (new : MailboxState) : Type 0 where
@@ -101,7 +101,7 @@ pub record HasStored (calendar : Calendar) (host : List ℕ) (notes : List Note)
   -- no append stands after the last sync
   pub kept : new.faulty ≡ false → 0 < new.stored → new.state.sharing.is_unsynced ≡ false
 
--- behind the first n copies, of which so many are kept, stands one that is kept too
+-- after the first n copies, of which `stored` are kept, stands one that is kept too
 abbrev pub IsKeptNext : Setting → ℕ → List Note → ℕ → ℕ → Type 0
 IsKeptNext at start copies n stored = (n < length copies)
     × (length (kept_behind at start (take (n + 1) copies)) ≡ stored + 1)
@@ -112,7 +112,7 @@ HasFailedFirst old new settled = (settled ≡ 0) × HasNotMended old new
 
 -- The first copies that a worker took are settled: all of them unless the spool failed, which it did as it was mended
 -- or at the record of the next copy. Of those that are settled each that is kept under the quota is stored, and any
--- other is over the quota and left no byte. So many bytes stand before the first record.
+-- other is over the quota and left no byte. That many bytes stand before the first record.
 pub record HasSettled (at : Setting) (start : ℕ) (copies : List Note) (old : SpoolState)
     (new : MailboxState) : Type 0 where
   pub starts : IfSome at.quota (λ quota. StartsAt old start)

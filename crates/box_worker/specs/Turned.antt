@@ -106,7 +106,7 @@ EndsInTurn quota text OverQuota old new = FromLock (KeepsOutOfTurn quota text) o
 EndsInTurn quota text Failed old new = FromLock (BreaksTurn quota text) old.state new.state × (new.faulty ≡ true)
 EndsInTurn quota text _ old new = ⊥
 
--- the worker counts anew what stands there at the lock
+-- the worker counts again what stands there at the lock
 abbrev pub MeasuresAnew : SpoolState → Option Limit → Option Limit → Type 0
 MeasuresAnew locked old new = (quota : Option ℕ) (n : ℕ) → CountsTo quota n old
     → ((start : ℕ) × IfSome quota (λ _. StartsAt locked start) × CountsTo quota start new)

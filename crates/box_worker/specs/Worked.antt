@@ -38,11 +38,11 @@ abbrev pub idle : List (Sender Slip) → SpoolState → WorkerState
 idle slips spool =
     record { slips = slips; mailbox = mailbox_of spool 0 0 false; in_use = 0; taken = 0; lost = false }
 
--- what is told of these copies, where so many bytes stand before the first record and so many copies are settled
+-- what is told of these copies, where that many bytes stand before the first record and that many copies are settled
 abbrev pub outcomes_behind : Setting → ℕ → ℕ → List Note → List Outcome
 outcomes_behind at start settled copies = outcomes_settled settled (marks_behind at start copies)
 
--- how many bytes stand behind the records of these copies, where so many stand before the first
+-- how many bytes stand after the records of these copies, where that many stand before the first
 abbrev pub bytes_behind : Setting → ℕ → List Note → ℕ
 bytes_behind at start copies = start + length (flat_map (record_of at.calendar at.host) (kept_behind at start copies))
 

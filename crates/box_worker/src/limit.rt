@@ -22,7 +22,7 @@ impl Limit {
         Limit::at(quota, spool.held(), spool.tail())
     }
 
-    /// For a mailbox of so many bytes that end so: what mends it is counted already.
+    /// For a mailbox of that many bytes that end so: what mends it is counted already.
     pub fn at(quota: u64, held: u64, tail: Tail) -> Limit
         ensures { result ≡ record { quota = quota; held = counted (held + missing tail) } }
     {
@@ -32,7 +32,7 @@ impl Limit {
         }
     }
 
-    /// The count behind a record of that size too, if the quota lets it in. A record without a size has 2^64 bytes or
+    /// The count after a record of that size too, if the quota lets it in. A record without a size has 2^64 bytes or
     /// more.
     pub fn admit(self, size: Option<u64>) -> Option<Limit>
         ensures { (n : ℕ) → SomeIff size (n < 2 ^ 64) n → Admits self n result }
@@ -45,7 +45,7 @@ impl Limit {
     }
 }
 
-// How many bytes end the last line, and the empty line behind it, where a mailbox ends so.
+// How many bytes end the last line, and the empty line after it, where a mailbox ends so.
 fn missing(tail: Tail) -> u64
     ensures { result ≡ missing tail }
 {

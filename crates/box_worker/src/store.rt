@@ -14,7 +14,7 @@ use mbox_rd::{CountSpool, Envelope, RecordWriter, Spool, SpoolFault, mend};
 use msg_depot::{Depot, DepotName, Hold};
 use std::sync::Wait;
 
-/// Appends the record of the held message and has it kept. After a fault the spool holds a front of the record.
+/// Appends the record of the held message and has it kept. After a fault the spool holds a prefix of the record.
 pub(crate) fn store<N: DepotName, S: Spool, R: Wait>(
     rt: &R,
     spool: &mut S,

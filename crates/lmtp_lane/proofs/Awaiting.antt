@@ -36,7 +36,7 @@ among_copies lane t first (box ∷ boxes) (suc p) low =
     let P : ℕ → Type 0 = λ k. IsAmong (copy_at lane t k (get_or boxes p 0)) (copies_from lane t (first + 1) boxes) in
     inr (subst P e (among_copies lane t (first + 1) boxes p (omega arith)))
 
--- the copies that are owed behind these, where the transaction's are offered
+-- the copies that are owed after these, where the transaction's are offered
 abbrev pub with_copies : List Note → ℕ → ℕ → Session → ℕ → List ℕ → List Note
 with_copies notes lane number session moment message = notes ++ copies_from lane (sent_as number session moment message) 0 session.recipients
 

@@ -26,7 +26,7 @@ conversed by old new before after Before After cause x reads finishes counts log
   logged = λ n ts first. logs ∙ ap (λ (o : Option (List Entry)). with_entries o (OfEnd cause ∷ [])) (x.logged n ts first) ∙ with_both before.told (entries_in by.site n x.conversation) (OfEnd cause ∷ []);
 }
 
--- how many DATA commands were accepted behind these conversations
+-- how many DATA commands were accepted after these conversations
 abbrev pub accepted_all : Site → ℕ → List Conversation → ℕ
 accepted_all site n [] = n
 accepted_all site n (c ∷ cs) = accepted_all site (accepted_behind_all site n c) cs

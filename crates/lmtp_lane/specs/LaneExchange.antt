@@ -125,7 +125,7 @@ pub record Episode : Type 0 where
 abbrev pub joined : Episode → Episode → Episode
 joined a b = record { came = a.came ++ b.came; own = a.own ++ b.own; heard = a.heard ++ b.heard }
 
--- What a lane that owed these copies gave to the channels: the first so many, and once a channel handed one back no
+-- What a lane that owed these copies gave to the channels: a prefix of them, and once a channel handed one back no
 -- more. And what it heard: slips that its channel gave, in their order, and between them its own, each of a copy that
 -- was left, or of one whose slip can't come any more. It says that a channel is gone just where one is, unless the
 -- channel of slips was silent from the first.
@@ -146,7 +146,7 @@ pub record HasExchanged (notes : List Note) (e : Episode) (old new : LaneEnds) :
   pub sound : new.gone ≡ false → e.own ≡ []
   pub done : HasDone accepted e.came old new
 
--- so much was exchanged, and where no channel was found gone the lane did these deeds, in this order
+-- that much was exchanged, and where no channel was found gone the lane did these deeds, in this order
 pub record HasExchangedBy (notes : List Note) (e : Episode) (did : List Deed) (old new : LaneEnds) : Type 0 where
   pub exchanged : HasExchanged notes e old new
   pub in_order : new.gone ≡ false → whats exchanged.done.deeds ≡ did

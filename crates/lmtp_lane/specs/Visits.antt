@@ -33,7 +33,7 @@ abbrev pub Finishes : Option (List Finished) → Option (List Finished) → Peer
 Finishes None new peer cause = new ≡ None
 Finishes (Some told) new peer cause = new ≡ Some (told ++ record { peer = peer; cause = cause } ∷ [])
 
--- a client who was served: the client before and behind the conversation, the bytes that were read and what became of
+-- a client who was served: the client before and after the conversation, the bytes that were read and what became of
 -- their data, and why it ended
 pub record Visit : Type 0 where
   pub before : PeerState
@@ -81,8 +81,8 @@ pub record HasVisited (by : Terms) (MayCome : PeerState → Type 0) (old new : V
   pub each : AllByRecursion (IsVisit by MayCome) visits
   pub logged : new.log ≡ with_entries old.log (lane_entries by.site 0 visits)
 
--- this client was served, and handed back; a delivery that had come to so much before has come to its messages more, and
--- the client's log, which is given back, was told the entries of the conversation
+-- this client was served, and handed back; a delivery that had come to that much before has come to its messages
+-- more, and the client's log, which is given back, was told the entries of the conversation
 pub record HasConversed (by : Terms) (peer : PeerState) (old new : VisitsTold)
     (Before After : ℕ → List Transaction → Type 0) : Type 0 where
   pub visit : Visit

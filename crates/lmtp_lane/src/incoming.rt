@@ -10,7 +10,7 @@ use mail_world::limits::NUMBER_LIMIT;
 use msg_depot::{Depot, DepotName, Draft};
 use std::sync::Wait;
 
-/// The draft of a message, and how long the message is so far. There is no draft once room was wanting or the message
+/// The draft of a message, and how long the message is so far. There is no draft once room was lacking or the message
 /// was too large.
 #[derive(Drop)]
 pub struct Incoming<N: DepotName> {

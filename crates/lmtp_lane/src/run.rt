@@ -61,7 +61,7 @@ pub fn lane_run<N: DepotName, V: Visits, C: Clock, R: Wait>(
     )
 }
 
-/// The same, where each conversation may make so many reads.
+/// The same, where each conversation may make that many reads.
 pub fn lane_run_at<N: DepotName, V: Visits, C: Clock, R: Wait>(
     rt: &R,
     lane: u32,

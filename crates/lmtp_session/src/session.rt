@@ -62,7 +62,7 @@ impl Session {
         })
     }
 
-    /// Begins a conversation anew, in any state: nothing of the one before is kept. The reply is 220 (RFC 5321, 4.3.1).
+    /// Begins a new conversation, in any state: nothing of the one before is kept. The reply is 220 (RFC 5321, 4.3.1).
     pub fn greeting(&mut self) -> Reply
         ensures reply { result ≡ Reply.Greeting }
         ensures session { self.new.session ≡ fresh }

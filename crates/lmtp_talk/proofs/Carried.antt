@@ -49,7 +49,7 @@ as_line Content dialogue rest come drafts h x = cc
 as_line Waiting dialogue rest come drafts h x = cc
 as_line Ended dialogue rest come drafts h x = cc
 
--- behind a line: at the front of the next, or inside data, or at the end
+-- after a line: at the beginning of the next, or inside data, or at the end
 behind_line : (state : State) (dialogue : Dialogue) (come : Type 0) (drafts : List ℕ → Type 0) → GoesOn state → IsBehind dialogue.wire []
     → (is_content state ≡ true → InData dialogue [] drafts) → (is_content state ≡ false → come) → IsInside state dialogue [] come drafts
 behind_line Fresh dialogue come drafts g w h k = record { behind = w; comes = k refl }

@@ -1,4 +1,4 @@
--- Parts at the front of a text stay its parts, whatever follows them.
+-- Parts at the beginning of a text stay its parts, whatever follows them.
 use Rattle.std.proofs.Common.{◌≡◌, ℕ, ◌+◌, ◌-◌, ◌≤◌, List, [], ◌∷◌, ◌++◌, length, take, drop, Option, Some, sym, ap, ◌∙◌, subst, arith, append_assoc, length-append, length-take-le, take-append-drop, take-take}
 use Rattle.std.specs.Prelude.{Bool, flat_map}
 use Rattle.std.proofs.lemmas.List.{take-append-le}
@@ -32,7 +32,7 @@ cut_up site front ps h = record {
   fit = (h []).fit;
 }
 
--- what is found in a front is found in the whole, at the same place, and the other way round
+-- what is found in a prefix is found in the whole, at the same place, and the other way round
 one_place : (o : Option ℕ) (a b : ℕ) → o ≡ Some a → o ≡ Some b → a ≡ b
 one_place o a b e f = let same : ◌≡◌ {A = Option ℕ} (Some a) (Some b) = sym e ∙ f in cc
 

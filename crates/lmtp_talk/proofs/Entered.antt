@@ -21,7 +21,7 @@ use Rattle.lmtp_session.specs.declared.act.Act.TheVariants.{Deliver}
 use Rattle.lmtp_talk.specs.Saying.{OutboxView, HasSaid, IsSaid, said}
 use Rattle.lmtp_talk.specs.Telling.{entries_for}
 
--- no entry more, and entries behind others
+-- no entry more, and entries after others
 pub with_none : (told : Option (List Entry)) → told ≡ with_entries told []
 with_none None = refl
 with_none (Some entries) = ap (λ l. Some l) (sym (append-nil entries))

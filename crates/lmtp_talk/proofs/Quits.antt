@@ -216,7 +216,7 @@ pub quits_long : (site : Site) (s : Session) (xs : List Input) → TakesLines s.
 quits_long site s xs h q = quits_more xs (LongLine ∷ []) s.state _ (not_ended s.state h) q
     (λ e. absurd (not_ended s.state h e)) (λ e. cc)
 
--- behind data the session takes lines again
+-- after data the session takes lines again
 pub data_greets : (v : Verdict) (site : Site) (s : Session) (d : Disposition) → (session_after site s (DataEnded v ∷ outcomes_of d v)).state ≡ Greeted
 data_greets Whole site s d = refl
 data_greets TooLarge site s d = refl

@@ -111,7 +111,7 @@ one_more site rs i r text within is =
 pub all_said : (site : Site) (rs : List Reply) (n : ℕ) (text : List ℕ) → n ≡ length rs → text ++ reply_texts site (take n rs) ≡ text ++ reply_texts site rs
 all_said site rs n text e = ap (λ l. text ++ reply_texts site l) (ap (λ k. take k rs) e ∙ take-length rs)
 
--- what is put behind a front of a buffer follows that front
+-- what is put after a prefix of a buffer follows that prefix
 pub put_behind : (k n size : ℕ) (buffer new post tail : List ℕ) → k ≤ length buffer → k + n ≤ size → n ≤ length new
     → take (k + n) (take size ((take k buffer ++ (new ++ post)) ++ tail)) ≡ take k buffer ++ take n new
 put_behind k n size buffer new post tail within fits wrote =

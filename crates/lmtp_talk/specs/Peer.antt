@@ -65,6 +65,6 @@ HasBrought old new buffer (Bytes n) = (1 ≤ n) × (n ≤ length buffer) × HasT
 HasBrought old new buffer End = HasTransferred old new [] [] × IsAtEnd new.unread
 HasBrought old new buffer Stop = HasStopped old new
 
--- so many bytes of the front were accepted
+-- a prefix of that many bytes was accepted
 abbrev pub HasWritten : PeerState → PeerState → List ℕ → ℕ → Type 0
 HasWritten old new bytes n = (1 ≤ n) × (n ≤ length bytes) × HasTransferred old new [] (take n bytes)

@@ -7,13 +7,13 @@ use Rattle.lmtp_talk.specs.declared.tcp.read_buffer.ReadBuffer.{ReadBuffer}
 abbrev pub waiting : ReadBuffer → List ℕ
 waiting b = take (b.end - b.start) (drop b.start b.bytes.items)
 
--- a read of the stream: so many bytes of it wait now, none only at its end; and where it failed nothing came
+-- a read of the stream: that many bytes of it wait now, none only at its end; and where it failed nothing came
 abbrev pub Refills : {E : Type 0} → Option (List ℕ) → Option (List ℕ) → Result ℕ E → List ℕ → Type 0
 Refills old new result waits = MatchResult result
     (λ n. (n ≡ length waits) × Consumes old new waits × (n ≡ 0 → IsAtEnd new))
     (λ _. Keeps old new × (waits ≡ []))
 
--- what waited was n bytes, which stand at the front of the buffer, and what waits now; none only where none waited or
+-- what waited was n bytes, which stand first in the buffer, and what waits now; none only where none waited or
 -- there is no room
 pub record HandsOut (old new buffer : List ℕ) (n : ℕ) : Type 0 where
   pub handed : old ≡ take n buffer ++ new

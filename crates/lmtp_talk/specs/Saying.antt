@@ -8,7 +8,7 @@ use Rattle.lmtp_session.specs.declared.act.Act.{Act}
 use Rattle.lmtp_session.specs.declared.act.Act.TheVariants.{Say, ReadData, Deliver, Answer, Quit}
 use Rattle.lmtp_talk.specs.Peer.{PeerState, HasMoved}
 
--- a front of the bytes was written, and a write failed
+-- a prefix of the bytes was written, and a write failed
 pub record BreaksOff (old new : PeerState) (bytes : List ℕ) : Type 0 where
   pub front : List ℕ
   pub begins : IsFront front bytes
@@ -22,7 +22,7 @@ pub record IsWhole (start now : PeerState) (written pending text : List ℕ) : T
   pub whole : text ≡ written ++ pending
   pub sound : now.failures ≡ start.failures
 
--- a write failed, and nothing was written behind it
+-- a write failed, and nothing was written after it
 pub record IsBroken (start now : PeerState) (written text : List ℕ) : Type 0 where
   pub begins : IsFront written text
   pub failed : Rises start.failures now.failures
@@ -42,12 +42,12 @@ pub record HasSaid (start now : PeerState) (outbox : OutboxView) (came text : Li
   pub moved : HasMoved start now came written
   pub is : IsSaid outbox.broken start now written outbox.pending text
 
--- whatever was said before, this text was said behind it
+-- whatever was said before, this text was said after it
 abbrev pub Says : PeerState → PeerState → OutboxView → OutboxView → List ℕ → Type 0
 Says before after old new more = (start : PeerState) (came text : List ℕ) → HasSaid start before old came text
     → HasSaid start after new came (text ++ more)
 
--- whatever was said before, nothing was said behind it
+-- whatever was said before, nothing was said after it
 abbrev pub SaysNoMore : PeerState → PeerState → OutboxView → OutboxView → Type 0
 SaysNoMore before after old new = (start : PeerState) (came text : List ℕ) → HasSaid start before old came text
     → HasSaid start after new came text

@@ -26,12 +26,12 @@ abbrev pub has_quit : List Input → Bool
 has_quit [] = false
 has_quit (x ∷ xs) = is_quit x || has_quit xs
 
--- a text is written, or a front of it where a write failed
+-- a text is written, or a prefix of it where a write failed
 pub record IsWritten (text : List ℕ) (fails : Type 0) (done : List ℕ) : Type 0 where
   pub begins : IsFront done text
   pub whole : (fails → ⊥) → done ≡ text
 
--- the data of a conversation, before which n DATA commands were accepted, and how many were accepted behind it
+-- the data of a conversation, before which n DATA commands were accepted, and how many were accepted after it
 abbrev pub transactions_in : Site → ℕ → Conversation → List Transaction
 transactions_in site n c = transactions_of site n fresh (parts site fresh c.bytes c.dispositions)
 
@@ -51,7 +51,7 @@ pub record EndsFor (by : Terms) (c : Conversation) (old new : PeerState) (end : 
   pub quit : end ≡ ends.Quit → has_quit (inputs by.site c) ≡ true
   pub quits : has_quit (inputs by.site c) ≡ true → (end ≡ ends.Quit) ⊎ (end ≡ ends.WriteFault)
   pub end_of_input : end ≡ ends.EndOfInput → IsAtEnd new.unread
-  -- each read behind which it went on brought a byte
+  -- each read after which it went on brought a byte
   pub read_bound : end ≡ ends.ReadBound → by.reads ≤ length c.bytes
   pub stop : end ≡ ends.Stopped → c.stopped ≡ true
   pub stops : c.stopped ≡ true → (end ≡ ends.Stopped) ⊎ (end ≡ ends.WriteFault)
@@ -62,7 +62,7 @@ pub record EndsFor (by : Terms) (c : Conversation) (old new : PeerState) (end : 
   pub write_fault : end ≡ ends.WriteFault → Rises old.failures new.failures
   pub sound : (end ≡ ends.ReadFault → ⊥) → (end ≡ ends.WriteFault → ⊥) → new.failures ≡ old.failures
 
--- so many reads were made, never more than may be, and all of these where that ended the conversation
+-- how many reads were made: never more than may be, and all of these where that ended the conversation
 pub record HasRead (reads : ℕ) (old new : PeerState) (end : EndCause) : Type 0 where
   pub made : ℕ
   pub counts : WasRead made old new

@@ -17,7 +17,7 @@ use Rattle.lmtp_talk.specs.Peer.{PeerState}
 use Rattle.lmtp_talk.specs.Saying.{HasSaid}
 use Rattle.lmtp_talk.specs.Served.{has_quit}
 
--- these parts stand at the front, whatever follows them
+-- these parts stand at the beginning, whatever follows them
 pub record IsCutUp (site : Site) (done : List ℕ) (ps : List Part) : Type 0 where
   pub goes : (more : List ℕ) (ds : List Disposition)
       → parts site fresh (done ++ more) (dispositions_of ps ++ ds) ≡ ps
@@ -30,7 +30,7 @@ pub record QuitsWith (state : State) (xs : List Input) : Type 0 where
   pub ends : state ≡ Ended → has_quit xs ≡ true
   pub quit : has_quit xs ≡ true → state ≡ Ended
 
--- what a delivery has come to behind the parts, from what it had come to before them
+-- what a delivery has come to after the parts, from what it had come to before them
 abbrev pub Comes : Site → List Part → (ℕ → List Transaction → Type 0) → (ℕ → List Transaction → Type 0) → Type 0
 Comes site ps Before Now = (n : ℕ) (ts : List Transaction) → Before n ts
     → Now (accepted_after site n fresh ps) (ts ++ transactions_of site n fresh ps)

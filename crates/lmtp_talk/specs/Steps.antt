@@ -27,7 +27,7 @@ abbrev pub TellsLine : Input → Dialogue → PeerState → PeerState → Type 0
 TellsLine input dialogue before after = after.told
     ≡ with_entries before.told (line_entries (line_in input) (replies_to dialogue.session.site dialogue.session.session (input ∷ [])))
 
--- the log was told an entry for each reply to data that ended, of a message of that number and of so many bytes
+-- the log was told an entry for each reply to data that ended, of a message of that number and size
 abbrev pub TellsCopies : ℕ → ℕ → List Input → Dialogue → PeerState → PeerState → Type 0
 TellsCopies number size inputs dialogue before after = after.told
     ≡ with_entries before.told (copy_entries (counted number) (counted size) dialogue.session.session.client

@@ -45,7 +45,7 @@ TakesTurn {D} HasCome IsDrafting old new = (site : Site) (start : PeerState) (fi
     → IsSoFar (beginning site start (HasCome first)) (standing_of HasCome IsDrafting old) handled handled
     → IsFurther (beginning site start (HasCome first)) (standing_of HasCome IsDrafting new) handled
 
--- what is behind the last turn of a conversation that may make so many reads
+-- what holds after the last turn of a conversation that may make that many reads
 abbrev pub EndsTurn : {D : Type 0} → (D → ℕ → List Transaction → Type 0) → (D → ℕ → List Transaction → List ℕ → Type 0)
     → ℕ → Talk D → Talk D → EndCause → Type 0
 EndsTurn {D} HasCome IsDrafting reads old new end = (site : Site) (start : PeerState) (first : D) (handled : List ℕ)

@@ -20,7 +20,7 @@ use mail_world::State;
 const READ_SIZE: usize = 4_096;
 
 /// Serves one conversation. All that was read is handled, and its replies are written, before the next read; nothing is
-/// read behind QUIT, and so many reads are made at most. Where a write fails the conversation ends once the bytes that
+/// read after QUIT, and that many reads are made at most. Where a write fails the conversation ends once the bytes that
 /// were read are handled.
 pub fn serve<P: Peer, D: Delivery>(
     dialogue: &mut Dialogue,
@@ -150,7 +150,7 @@ fn take_piece<P: Peer, D: Delivery>(
     dialogue.outbox.flush(peer);
 }
 
-// Behind QUIT the conversation has ended. A write that failed before it is noticed now, and else in the next turn.
+// After QUIT the conversation has ended. A write that failed before it is noticed now, and else in the next turn.
 fn end_or_go_on(dialogue: &Dialogue) -> Option<EndCause>
     ensures { result ≡ end_behind dialogue.now.session.session.state dialogue.now.outbox.broken }
 {

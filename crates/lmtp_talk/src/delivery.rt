@@ -15,7 +15,7 @@ pub trait Delivery {
     // the site whose mailboxes it delivers to
     ghost site: { Self → Site };
 
-    // so many DATA commands were accepted, and this became of the data that ended
+    // that many DATA commands were accepted, and this became of the data that ended
     ghost HasCome: { Self → ℕ → List Transaction → Type 0 };
 
     // the same, with a draft of these message bytes in hand

@@ -13,6 +13,6 @@ pub enum EndCause {
     WriteFault,
     /// The peer said that the server stops.
     Stopped,
-    /// So many reads were made as one conversation may make.
+    /// As many reads were made as one conversation may make.
     ReadBound,
 }

@@ -40,7 +40,7 @@ pub fn handle<P: Peer, D: Delivery>(
     }
 }
 
-// Handles a front of the bytes, and says how many; `None` behind QUIT.
+// Handles a prefix of the bytes, and says how many; `None` after QUIT.
 fn take_front<P: Peer, D: Delivery>(
     dialogue: &mut Dialogue,
     peer: &mut P,

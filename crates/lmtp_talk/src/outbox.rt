@@ -112,7 +112,7 @@ impl Outbox {
         }
     }
 
-    /// Says a reply: it waits behind the others, and all are written first where there is no room for it.
+    /// Says a reply: it waits after the others, and all are written first where there is no room for it.
     pub fn say<P: Peer>(&mut self, peer: &mut P, site: &Site, reply: Reply)
         ensures says { Says (P.state peer.old) (P.state peer.new) self.old self.new (reply_text site.now reply) }
         ensures goes { (P.state peer.new).stops ≡ (P.state peer.old).stops }
@@ -127,7 +127,7 @@ impl Outbox {
         self.add(site, reply);
     }
 
-    // Puts a reply behind the others.
+    // Puts a reply after the others.
     fn add(&mut self, site: &Site, reply: Reply)
         requires { length self.old.pending + REPLY_LIMIT ≤ OUTBOX_SIZE }
         ensures text { self.new.pending ≡ self.old.pending ++ reply_text site.now reply }
@@ -155,7 +155,7 @@ impl Outbox {
     }
 }
 
-// Writes all of the bytes. After a fault a front of them was written.
+// Writes all of the bytes. After a fault a prefix of them was written.
 fn write_all<P: Peer>(peer: &mut P, bytes: &[u8]) -> Result<(), PeerFault>
     ensures ok { OnOk result (HasTransferred (P.state peer.old) (P.state peer.new) [] bytes.now) }
     ensures err { OnErr result (BreaksOff (P.state peer.old) (P.state peer.new) bytes.now) }

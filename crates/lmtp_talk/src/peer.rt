@@ -15,7 +15,7 @@ pub struct PeerFault;
 /// What a read came to.
 #[derive(Clone, Copy, Debug, PartialEq, Eq)]
 pub enum Came {
-    /// So many bytes came, one at least.
+    /// That many bytes came, one at least.
     Bytes(usize),
     /// There are no more.
     End,
@@ -29,14 +29,14 @@ pub trait Peer {
     // was told
     ghost state: { Self → PeerState };
 
-    /// Reads bytes to the front of the buffer.
+    /// Reads bytes into the beginning of the buffer.
     fn read(&mut self, buffer: &mut [u8]) -> Result<Came, PeerFault>
         requires { 0 < length buffer.old }
         ensures reads { WasRead 1 (state self.old) (state self.new) }
         ensures ok { IfOk result (λ came. HasBrought (state self.old) (state self.new) buffer.new came) }
         ensures err { OnErr result (PeerFailed (state self.old) (state self.new)) };
 
-    /// Writes bytes of the front, one at least, and says how many.
+    /// Writes a prefix of the bytes, one at least, and says how many.
     fn write(&mut self, bytes: &[u8]) -> Result<usize, PeerFault>
         requires { 0 < length bytes.now }
         ensures reads { (state self.new).reads ≡ (state self.old).reads }
@@ -48,7 +48,7 @@ pub trait Peer {
     fn tell_command(&mut self, line: &[u8], reply: Reply)
         ensures { state self.new ≡ with_told (state self.old) (OfLine line.now reply ∷ []) };
 
-    /// Its log is told the reply for a copy of a message of that number and of so many bytes, to a client who gave that
+    /// Its log is told the reply for a copy of a message of that number and size, to a client who gave that
     /// name. The reply waits to be written.
     fn tell_copy(&mut self, number: u64, size: u64, client: &[u8], reply: Reply)
         ensures { state self.new ≡ with_told (state self.old) (OfCopy number size client.now reply ∷ []) };

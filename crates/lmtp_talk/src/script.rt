@@ -16,7 +16,7 @@ pub type Turn<'a> = (&'a [u8], Then<'a>);
 pub enum Then<'a> {
     /// Says these bytes, as many as there is room for; no bytes are the end.
     Says(&'a [u8]),
-    /// Says the same in so many reads, once at least.
+    /// Says the same in that many reads, once at least.
     Repeats(&'a [u8], usize),
     /// Has no more bytes.
     Ends,
@@ -124,7 +124,7 @@ impl<'a> Script<'a> {
     }
 }
 
-// Puts bytes to the front of the buffer, as many as go, and says how many.
+// Puts bytes into the beginning of the buffer, as many as go, and says how many.
 fn say(bytes: &[u8], buffer: &mut [u8]) -> usize
     ensures { result ≤ length buffer.new }
 {

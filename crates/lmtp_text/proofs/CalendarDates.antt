@@ -95,6 +95,6 @@ same_date p n d h e =
     let high : pos d.year ≤ℤ pos 9999 = omega (arith, signed_arith) in
     epoch_day_injective p (as_plain d n h high) (e ∙ sym h.number)
 
--- the library's date with that day number is the one so many days after 1 January 1970
+-- the library's date with that day number is the one that many days after 1 January 1970
 pub date_is : (p : Plain) (n : ℕ) → epoch_day p ≡ pos n → (p.year ≡ pos (date_after n).year) × (p.month ≡ (date_after n).month) × (p.day ≡ (date_after n).day)
 date_is p n e = same_date p n (date_after n) (is_day n) e

@@ -1,4 +1,4 @@
--- What the searches for a byte find, as the lengths of fronts and ends.
+-- What the searches for a byte find, as the lengths of prefixes and ends.
 use Rattle.std.proofs.Common.{◌≡◌, ℕ, suc, ◌+◌, ◌-◌, Bool, cond, nat_lt, true, false, not, ◌==◌, ◌||◌, List, [], ◌∷◌, length, get_or, sym, ◌∙◌, refl, arith, rules}
 use Rattle.std.specs.List.{position_or_len, prefix_len, suffix_len}
 use Rattle.std.proofs.lemmas.Bool.{false_from_ne_true}
@@ -16,7 +16,7 @@ first_at p text k none here = position_or_len_is p text k 0 (omega arith) (λ j 
 pub first_nowhere : (p : ℕ → Bool) (text : List ℕ) → Nowhere (Passes p text) 0 (length text) → position_or_len p text ≡ length text
 first_nowhere p text none = position_or_len_is p text (length text) 0 (omega arith) (λ j below. false_from_ne_true _ (none j (omega arith) below)) (λ h. absurd (omega arith))
 
--- a search for a byte outside a set: the set's bytes stand before the first and behind the last
+-- a search for a byte outside a set: the set's bytes stand before the first and after the last
 not_true : (b : Bool) → not b ≡ true → b ≡ false
 not_true true h = cc
 not_true false h = search rules

@@ -1,4 +1,4 @@
--- The place of the first byte that fails a test, as the length of the front that passes.
+-- The place of the first byte that fails a test, as the length of the prefix that passes.
 use Rattle.std.proofs.Common.{◌≡◌, ℕ, ◌+◌, ◌≤◌, Bool, true, false, not, cond, ltb, List, [], ◌∷◌, length, Option, Some, None, ap, ◌∙◌, refl, arith}
 use Rattle.std.specs.Prelude.{unwrap_or}
 use Rattle.std.specs.List.{position_or_len, prefix_len}

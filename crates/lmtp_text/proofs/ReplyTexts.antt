@@ -1,4 +1,4 @@
--- Texts joined from pieces, and what stands behind a text that was written.
+-- Texts joined from pieces, and what stands after a text that was written.
 use Rattle.std.proofs.Common.{◌≡◌, ◌+◌, ◌-◌, ◌≤◌, ℕ, List, ◌++◌, drop, refl, ap, ◌∙◌, append_assoc, arith}
 use Rattle.std.proofs.lemmas.List.{drop-drop}
 use Rattle.std.specs.Prelude.{codes, decimal}
@@ -14,7 +14,7 @@ pub greeting-is : (site : Site) (reply : Reply) → reply ≡ replies.Greeting
 unfolding reply_text
 greeting-is site reply e = rw e (simp append_assoc)
 
--- what the offer says behind the host's name, in front of the limit
+-- what the offer says after the host's name, before the limit
 abbrev offers : List ℕ
 offers = codes "\r\n250-PIPELINING\r\n250-ENHANCEDSTATUSCODES\r\n250-8BITMIME\r\n250 SIZE "
 

@@ -42,7 +42,7 @@ name_in (x ∷ xs) (suc i) e = name_in xs i (front_true _ _ e).1
 pub box_name-bounded : (site : Site) (i : ℕ) → IsSite site → length (box_name site i) ≤ BOX_NAME_LIMIT
 box_name-bounded site i sound = name_in site.boxes i (boxes_named site sound)
 
--- behind the last mailbox there is no name
+-- after the last mailbox there is no name
 pub owned-past : (names : List (Vec ℕ Global)) (i : ℕ) → length names ≤ i → [] ≡ unwrap_or (slice_get (owned names) i) []
 owned-past [] i h = refl
 owned-past (x ∷ xs) zero h = absurd (omega arith)

@@ -16,7 +16,7 @@ next_date d =
     else (if nat_lt d.month 12 then record { year = d.year; month = d.month + 1; day = 1 }
     else record { year = d.year + 1; month = 1; day = 1 })
 
--- the day that lies so many days after 1 January 1970
+-- the day that lies that many days after 1 January 1970
 unfoldable pub date_after : ℕ → Date
 date_after zero = record { year = 1970; month = 1; day = 1 }
 date_after (suc n) = next_date (date_after n)

@@ -127,7 +127,7 @@ fn all_of_name(text: &[u8]) -> bool
         .all(|b| is_visible_byte(*b) && !b"()<>;,\"\\".contains(b))
 }
 
-/// What stands behind the label and further spaces, where the text begins with the label in any case of letters.
+/// What stands after the label and further spaces, where the text begins with the label in any case of letters.
 fn behind_label<'a>(label: &[u8], text: &'a [u8]) -> Option<&'a [u8]>
     ensures { option_map (λ rest. rest.now) result ≡ m.behind_label label.now text.now }
 {

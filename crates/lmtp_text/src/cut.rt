@@ -39,7 +39,7 @@ pub(crate) fn without_blanks_behind(text: &[u8]) -> &[u8]
     }
 }
 
-/// The text without the spaces at its front.
+/// The text without the spaces at its beginning.
 pub(crate) fn without_spaces_before(text: &[u8]) -> &[u8]
     ensures { result.now ≡ behind_spaces text.now }
 {

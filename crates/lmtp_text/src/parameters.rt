@@ -1,4 +1,4 @@
-//! The parameters behind a path (RFC 5321, 4.1.2): SIZE (RFC 1870) and BODY (RFC 6152), which are checked and then
+//! The parameters after a path (RFC 5321, 4.1.2): SIZE (RFC 1870) and BODY (RFC 6152), which are checked and then
 //! forgotten.
 
 ghost use Rattle.std.specs.Prelude.{◌≡◌, ◌++◌, ◌==◌, [], ◌∷◌, List, ℕ, IfSome, is_some, nat_lt, length, option_map};
@@ -10,7 +10,7 @@ use crate::names::is_word;
 use mail_world::BadCommand;
 use mail_world::limits::SIZE_DIGIT_LIMIT;
 
-/// A keyword, and what stands behind its equals sign, if there is one.
+/// A keyword, and what stands after its equals sign, if there is one.
 #[derive(Clone, Copy)]
 struct Parameter<'a> {
     keyword: &'a [u8],

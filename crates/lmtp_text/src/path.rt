@@ -1,4 +1,4 @@
-//! Reverse and forward paths (RFC 5321, 4.1.2). Each reader takes what stands at the front of its text, and gives what
+//! Reverse and forward paths (RFC 5321, 4.1.2). Each reader takes what its text begins with, and gives what
 //! follows that; nothing where no such part stands there.
 
 ghost use Rattle.std.specs.Prelude.{false, ◌≡◌, ◌==◌, ◌<◌, ◌≤◌, length, option_map, IfSome};
@@ -28,7 +28,7 @@ pub(crate) struct Path<'a> {
     pub(crate) target: Target<'a>,
 }
 
-/// How many bytes at the front may stand bare in a local part.
+/// How many bytes at the beginning may stand bare in a local part.
 fn plain_len(text: &[u8]) -> usize
     ensures value { result ≡ prefix_len is_plain text.now }
     ensures bound { result ≤ length text.now }
@@ -38,7 +38,7 @@ fn plain_len(text: &[u8]) -> usize
         .unwrap_or(text.len())
 }
 
-/// How many bytes at the front may stand in an address between brackets.
+/// How many bytes at the beginning may stand in an address between brackets.
 fn literal_len(text: &[u8]) -> usize
     ensures value { result ≡ prefix_len is_of_literal text.now }
     ensures bound { result ≤ length text.now }
@@ -48,7 +48,7 @@ fn literal_len(text: &[u8]) -> usize
         .unwrap_or(text.len())
 }
 
-/// How many bytes at the front may stand in a domain.
+/// How many bytes at the beginning may stand in a domain.
 fn domain_len(text: &[u8]) -> usize
     ensures value { result ≡ prefix_len is_of_domain text.now }
     ensures bound { result ≤ length text.now }
@@ -89,7 +89,7 @@ fn is_hop(text: &[u8]) -> bool
     }
 }
 
-/// Of the text behind the quote that opens a local part, how many bytes stand before the one that closes it.
+/// Of the text after the quote that opens a local part, how many bytes stand before the one that closes it.
 fn quoted_len(text: &[u8]) -> Option<usize>
     ensures value { result ≡ m.quoted_len false text.now }
     ensures bound { IfSome result (λ n. n < length text.now) }
@@ -128,7 +128,7 @@ fn plain_local(text: &[u8]) -> Option<Found<&[u8]>>
     some_front(text, plain_len(text))
 }
 
-/// The text behind the quote that opens a local part: the part without its quotes.
+/// The text after the quote that opens a local part: the part without its quotes.
 fn quoted_local(text: &[u8]) -> Option<Found<&[u8]>>
     ensures value { option_map seen_text result ≡ m.quoted_local text.now }
     ensures within { IfSome result (λ found. length found.rest.now ≤ length text.now) }
@@ -178,7 +178,7 @@ fn host_at(text: &[u8]) -> Option<Found<&[u8]>>
     }
 }
 
-/// A local part with the host part behind it, where an at sign leads to one.
+/// A local part with the host part after it, where an at sign leads to one.
 fn with_host<'a>(quoted: bool, local: Found<'a, &'a [u8]>) -> Option<Found<'a, Target<'a>>>
     ensures value { option_map (seen_found seen_target) result ≡ m.with_host quoted (seen_text local.entry) }
     ensures within { IfSome result (λ found. length found.rest.now ≤ length local.entry.rest.now) }
@@ -213,7 +213,7 @@ fn mailbox_at(text: &[u8]) -> Option<Found<Target>>
     }
 }
 
-/// What stands behind a source route (RFC 5321, Appendix C); the text itself where no at sign begins one.
+/// What stands after a source route (RFC 5321, Appendix C); the text itself where no at sign begins one.
 fn behind_route(text: &[u8]) -> Option<&[u8]>
     ensures { option_map (λ rest. rest.now) result ≡ m.behind_route text.now }
 {
@@ -224,7 +224,7 @@ fn behind_route(text: &[u8]) -> Option<&[u8]>
     if are_hops(route) { Some(rest) } else { None }
 }
 
-/// The mailbox that was found at the front of the text, if a bracket closes its path and it is short enough.
+/// The mailbox that was found at the beginning of the text, if a bracket closes its path and it is short enough.
 fn closed_at<'a>(text: &'a [u8], found: Found<'a, Target<'a>>) -> Option<Found<'a, Path<'a>>>
     requires { length found.rest.now ≤ length text.now }
     ensures { option_map (seen_found seen_path) result ≡ m.closed_at text.now (seen_found seen_target found.entry) }

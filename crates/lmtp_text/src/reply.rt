@@ -13,7 +13,7 @@ use mail_world::{BadCommand, Outcome, Reply};
 /// Bytes in which each reply has room.
 pub const REPLY_LIMIT: usize = 1024;
 
-/// What stands before a name, the name, what stands behind it.
+/// What stands before a name, the name, what stands after it.
 type Pieces<'a> = (&'static [u8], &'a [u8], &'static [u8]);
 
 fn refusal(why: BadCommand) -> &'static [u8]
@@ -97,7 +97,7 @@ fn write_offer(site: &Site, out: &mut [u8]) -> usize
     put(out, sized, b"\r\n")
 }
 
-/// Writes the reply's lines, each with CRLF, at the front of `out`, and says how many bytes they take. A result that
+/// Writes the reply's lines, each with CRLF, at the head of `out`, and says how many bytes they take. A result that
 /// names no mailbox has an empty name.
 pub fn write_reply(reply: Reply, site: &Site, out: &mut [u8]) -> usize
     requires { REPLY_LIMIT ≤ length out.old }

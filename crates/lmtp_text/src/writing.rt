@@ -1,4 +1,4 @@
-//! Texts put one behind the other.
+//! Texts put one after the other.
 
 ghost use Rattle.std.specs.Prelude.{◌≡◌, ◌+◌, ◌≤◌, ◌++◌, length, take, drop};
 

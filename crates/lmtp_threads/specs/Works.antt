@@ -46,7 +46,7 @@ pub record BoxWork : Type 0 where
   pub taken : List Note
   pub outcomes : List Outcome
 
--- what is told of a lane's run: the conversations that had ended before it and behind it, whether no client was left,
+-- what is told of a lane's run: the conversations that had ended before it and after it, whether no client was left,
 -- and how many it held
 pub record LaneTold : Type 0 where
   pub before : VisitsTold

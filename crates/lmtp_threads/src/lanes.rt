@@ -153,7 +153,7 @@ pub struct LaneReports<N: DepotName, V: Visits> {
 }
 
 impl<N: DepotName, V: Visits> LaneReports<N, V> {
-    // The memory for the parts of so many lanes.
+    // The memory for the parts of that many lanes.
     fn with_capacity(alloc: Global, lanes: usize) -> Result<LaneReports<N, V>, AllocError>
         ensures visits { IfOk result (λ ends. IsRoom lanes ends.visits) }
         ensures senders { IfOk result (λ ends. IsRoom lanes ends.senders) }

@@ -140,7 +140,7 @@ pub struct WorkerReports<N: DepotName, S: Spool + Drop, G: Gate + Drop> {
 }
 
 impl<N: DepotName, S: Spool + Drop, G: Gate + Drop> WorkerReports<N, S, G> {
-    // The memory for the parts of so many workers.
+    // The memory for the parts of that many workers.
     fn with_capacity(alloc: Global, workers: usize) -> Result<WorkerReports<N, S, G>, AllocError>
         ensures receivers { IfOk result (λ ends. IsRoom workers ends.receivers) }
         ensures slips { IfOk result (λ ends. IsRoom workers ends.slips) }

@@ -72,7 +72,7 @@ one_dot a b [] n e = let at = place_of_stands dotted (a ∷ b ∷ []) n e in
     absurd (omega (arith, ap length at.whole, length-append (at.front ++ dotted) at.rest, length-append at.front dotted))
 one_dot a b (c ∷ text) n e = some_by (begins_with dotted (a ∷ b ∷ c ∷ text)) a b c text (place_of dotted (b ∷ c ∷ text)) n refl e (λ m h. one_dot b c text m h)
 
--- behind a doubled dot, or anything else that no CRLF ends
+-- after a doubled dot, or anything else that no CRLF ends
 later : (o : Option ℕ) → option_map (λ n. suc n) (option_map (λ n. suc n) o) ≡ option_map (λ n. suc (suc n)) o
 later None = refl
 later (Some n) = refl
@@ -80,7 +80,7 @@ later (Some n) = refl
 behind_dot : (text : List ℕ) → place_of dotted (lf ∷ dot ∷ text) ≡ option_map (λ n. suc (suc n)) (place_of dotted text)
 behind_dot text = later (place_of dotted text)
 
--- a turn of the loop: up to the next dot, and what is left behind it
+-- a turn of the loop: up to the next dot, and what is left after it
 pub next_run : (text : List ℕ) (n : ℕ) → place_of dotted text ≡ Some n
     → with_dots lf dot text ≡ take (n + 2) text ++ dot ∷ dot ∷ with_dots lf dot (drop (n + 3) text)
 next_run text n e =

@@ -1,4 +1,4 @@
--- A byte of data, where what came last is the longest front of the end: the place of the end moves by what no longer can begin it.
+-- A byte of data, where what came last is the longest prefix of the end: the place of the end moves by what no longer can begin it.
 use Rattle.std.proofs.Common.{◌≡◌, ℕ, zero, suc, ◌+◌, List, ◌∷◌, false, ◌==◌, Option, Some, None, refl, ap, ◌∙◌, arith}
 use Rattle.std.specs.Prelude.{option_map}
 use Rattle.mail_world.specs.Text.{cr, lf, place_of}

@@ -1,4 +1,4 @@
--- The end of a text with one byte more; what a dot's place and dots behind a text depend on.
+-- The end of a text with one byte more; what a dot's place and dots after a text depend on.
 use Rattle.std.proofs.Common.{◌≡◌, ℕ, ◌-◌, ◌≤◌, List, [], ◌∷◌, ◌++◌, length, drop, Bool, true, false, ◌&&◌, ◌==◌, inl, inr, refl, ap, sym, ◌∙◌, arith, length-append}
 use Rattle.std.proofs.Math.Bool.{and-false}
 use Rattle.std.proofs.lemmas.List.{drop-append-le}
@@ -46,12 +46,12 @@ ends_more xs u c b =
     ∙ same_more xs (drop (length u - length xs) u) c b
 
 -- the byte before the last counts only where it is CR
--- behind text, nothing of the end of data
+-- after text, nothing of the end of data
 pub fades : (a b : ℕ) (text : List ℕ) → (b == cr) ≡ false → ((a == cr) && (b == lf)) ≡ false → without_dots a b text ≡ without_dots 0 0 text
 fades a b [] e f = refl
 fades a b (c ∷ text) e f = rw f (ap (λ l. c ∷ l) (same_window b 0 c text e refl))
 
--- behind a CR
+-- after a CR
 pub fades_cr : (a : ℕ) (text : List ℕ) → without_dots a cr text ≡ without_dots 0 cr text
 fades_cr a [] = refl
 fades_cr a (c ∷ text) = rw (and-false) refl

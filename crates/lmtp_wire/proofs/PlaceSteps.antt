@@ -1,4 +1,4 @@
--- What one byte makes of the message behind data that was taken, by where the data stands.
+-- What one byte makes of the message after data that was taken, by where the data stands.
 use Rattle.std.proofs.Common.{◌≡◌, ℕ, ◌+◌, ◌-◌, List, [], ◌∷◌, ◌++◌, length, take, drop, Bool, true, false, cond, not, ◌&&◌, ◌==◌, Some, None, refl, ap, sym, ◌∙◌, arith, length-append, append_assoc, append-nil, subst}
 use Rattle.std.specs.Prelude.{unwrap_or}
 use Rattle.std.proofs.Math.Seq.{take-append_seam, drop-append_seam}
@@ -20,7 +20,7 @@ pub record Adds (place : Place) (taken : List ℕ) (byte : ℕ) (new : List ℕ)
   pub stands : IsAtPlace place (taken ++ byte ∷ [])
   pub shows : shown (taken ++ byte ∷ []) ≡ shown taken ++ new
 
--- what a byte does behind the data that was taken
+-- what a byte does after the data that was taken
 abbrev pub Brings : List ℕ → ℕ → Effect → Type 0
 Brings taken byte (Nothing place) = Adds place taken byte []
 Brings taken byte (Byte place) = Adds place taken byte (byte ∷ [])
@@ -159,7 +159,7 @@ adds_dot taken s =
       shows = all ∙ same ∙ s.sure;
     }
 
--- a CR behind such a dot is held back
+-- a CR after such a dot is held back
 step_held : PlaceStep BehindDot BehindDotCr cr (cr ∷ [])
 step_held = record { gone = 0; count = refl; finds = λ t. refl; cr_last = refl; crlf_last = refl; dot_last = refl; behind = λ t. refl }
 
@@ -175,7 +175,7 @@ adds_held taken s =
       shows = same ∙ s.sure;
     }
 
--- LF behind that CR ends the data
+-- LF after that CR ends the data
 ends_data : (taken : List ℕ) → IsAtPlace BehindDotCr taken → IsDataEnd (taken ++ lf ∷ []) (shown taken)
 unfolding data_end message
 ends_data taken s =
@@ -190,7 +190,7 @@ ends_data taken s =
           ∙ ap (λ o. unstuffed (take (unwrap_or o (length (taken ++ lf ∷ []))) (taken ++ lf ∷ []))) (sym found);
     }
 
--- bytes that are content, and LF behind CR
+-- bytes that are content, and LF after CR
 step_text : (b : ℕ) → (b == cr) ≡ false → (cr == b) ≡ false → PlaceStep InText InText b (b ∷ [])
 step_text b e f = record {
   gone = 1;

@@ -33,7 +33,7 @@ is_long stage ends_in_cr line taken bytes e h =
     let parts = subst (λ (s : Stage). Keeps s line taken) e h in
     let long = parts.1 in omega (arith, length-append taken bytes)
 
--- bytes without a CRLF don't begin with it, and have none behind their first
+-- bytes without a CRLF don't begin with it, and have none after their first
 apart : (t : Bool) (o : Option ℕ) → cond t (Some 0) (option_map (λ n. suc n) o) ≡ None → (t ≡ false) × (o ≡ None)
 apart true o e = cc
 apart false None e = (refl, refl)
@@ -43,7 +43,7 @@ apart false (Some n) e = cc
 next : (b c : ℕ) (t more : List ℕ) → begins_with crlf (b ∷ c ∷ t) ≡ false → place_of crlf (b ∷ c ∷ more) ≡ option_map (λ n. suc n) (place_of crlf (c ∷ more))
 next b c t more e = ap (λ v. cond v (Some 0) (option_map (λ n. suc n) (place_of crlf (c ∷ more)))) e
 
--- the CRLF of a CR at the end of the bytes and an LF behind them
+-- the CRLF of a CR at the end of the bytes and an LF after them
 abbrev EndsAtLf : List ℕ → List ℕ → Type 0
 EndsAtLf taken rest = EndsIn taken (lf ∷ rest) (Some 1)
 

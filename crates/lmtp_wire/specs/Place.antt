@@ -8,7 +8,7 @@ use Rattle.lmtp_wire.specs.declared.dot.Place.TheVariants.{InText, BehindCr, Lin
 use Rattle.lmtp_wire.specs.declared.dot.Effect.{Effect}
 use Rattle.lmtp_wire.specs.declared.dot.Effect.TheVariants.{Nothing, Byte, HeldCr, End}
 
--- the front of the end of data that came last
+-- the prefix of the end of data that came last
 abbrev pub came : Place → List ℕ
 came InText = []
 came BehindCr = cr ∷ []
@@ -75,7 +75,7 @@ effect_of LineStart byte = if byte == dot then Nothing BehindDot else Byte (plac
 effect_of BehindDot byte = if byte == cr then Nothing BehindDotCr else Byte (place_next BehindDot byte)
 effect_of BehindDotCr byte = if byte == lf then End else HeldCr (place_next BehindDotCr byte)
 
--- the text behind that place, without its dots
+-- the text after that place, without its dots
 abbrev pub without_dots_at : Place → List ℕ → List ℕ
 without_dots_at InText rest = without_dots 0 0 rest
 without_dots_at BehindCr rest = without_dots 0 cr rest
@@ -83,7 +83,7 @@ without_dots_at LineStart rest = without_dots cr lf rest
 without_dots_at BehindDot rest = without_dots 0 0 rest
 without_dots_at BehindDotCr rest = without_dots 0 cr rest
 
--- a place that is so much further behind
+-- a place that is that much further on
 abbrev pub moved : ℕ → Option ℕ → Option ℕ
 moved zero o = o
 moved (suc k) o = option_map (λ n. suc n) (moved k o)

@@ -3,7 +3,7 @@ use Rattle.std.specs.Prelude.{◌≡◌, ◌<◌, ℕ, List, ◌∷◌, ◌++◌
 use Rattle.mail_world.specs.Text.{lf}
 use Rattle.mail_world.specs.Data.{dot, with_dots}
 
--- behind a line's end or a doubled dot: no dot is doubled up to the end of the run, and the one behind it is
+-- after a line's end or a doubled dot: no dot is doubled up to the end of the run, and the one after it is
 pub record CutsRun (text run behind : List ℕ) : Type 0 where
   pub whole : with_dots lf dot text ≡ run ++ dot ∷ dot ∷ with_dots lf dot behind
   pub shorter : length behind < length text

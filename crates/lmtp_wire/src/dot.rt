@@ -69,7 +69,7 @@ impl Dot {
         }
     }
 
-    /// Takes a front of the piece and puts what it has of the message into `out`, until the piece is used up, `out` is
+    /// Takes a prefix of the piece and puts what it has of the message into `out`, until the piece is used up, `out` is
     /// full or the data has ended. Nothing after the end of data is taken. It isn't fed again once the data has ended.
     pub fn feed(&mut self, piece: &[u8], out: &mut [u8]) -> Fed
         requires { 0 < length out.old }

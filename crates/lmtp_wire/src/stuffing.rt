@@ -8,7 +8,7 @@ ghost use Rattle.lmtp_wire.specs.Runs.{CutsRun, GoesOnFrom};
 use memchr::memmem;
 use std::alloc::AllocError;
 
-/// Adds the message with its dots doubled and the line of the lone dot behind it. Where memory is wanting, nothing is
+/// Adds the message with its dots doubled and the line of the lone dot after it. Where memory is lacking, nothing is
 /// added. It reserves room for a message without dots of transparency, and more as they come.
 pub fn stuff(message: &[u8], out: &mut Vec<u8>) -> Result<(), AllocError>
     requires { EmptyOrEndsIn crlf message.now }
@@ -25,7 +25,7 @@ pub fn stuff(message: &[u8], out: &mut Vec<u8>) -> Result<(), AllocError>
     }
 }
 
-// Adds it, or a front of it where memory is wanting.
+// Adds it, or a prefix of it where memory is lacking.
 fn add_stuffed(message: &[u8], out: &mut Vec<u8>) -> Result<(), AllocError>
     ensures ok { OnOk result (out.new.items ≡ out.old.items ++ stuffed message.now) }
     ensures memory { OnErr result (GoesOnFrom out.old.items out.new.items) }
@@ -43,7 +43,7 @@ fn add_stuffed(message: &[u8], out: &mut Vec<u8>) -> Result<(), AllocError>
     Ok(())
 }
 
-// A dot before the one that the message begins with. From there on dots are doubled behind a CRLF that is read.
+// A dot before the one that the message begins with. From there on dots are doubled after a CRLF that is read.
 fn add_first_dot(message: &[u8], out: &mut Vec<u8>) -> Result<(), AllocError>
     ensures ok { OnOk result
         (out.new.items ++ with_dots lf dot message.now ≡ out.old.items ++ with_dots cr lf message.now) }
@@ -57,7 +57,7 @@ fn add_first_dot(message: &[u8], out: &mut Vec<u8>) -> Result<(), AllocError>
     Ok(())
 }
 
-// The text up to the next CRLF that a dot follows, and what stands behind the dot.
+// The text up to the next CRLF that a dot follows, and what stands after the dot.
 fn cut_run(text: &[u8]) -> Option<(&[u8], &[u8])>
     ensures { MatchOption result (with_dots lf dot text.now ≡ text.now) (λ cut. CutsRun text.now cut.0.now cut.1.now) }
 {

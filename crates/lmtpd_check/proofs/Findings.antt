@@ -25,7 +25,7 @@ module _ {X : Type 0} (f : List ℕ → X → List ℕ) where
       ap (λ (t : List ℕ). f name y ++ t) (pairs_more names xs x d (omega (arith, h)))
       ∙ sym (append_assoc (f name y) (pair_texts f names xs) (f (get_or names (length xs) d) x))
 
--- so many files have their findings and their lines
+-- that many files have their findings and their lines
 pub record HasWritten {F : Type 0} (remaining : F → Option (List ℕ)) (names : List (Bor (List ℕ))) (i : ℕ) (before after : Option (List ℕ)) (findings : List Finding) : Type 0 where
   pub count : length findings ≡ i
   pub each : All (IsFindingOf remaining) findings

@@ -58,7 +58,7 @@ module _ {F : Type 0} (remaining : F → Option (List ℕ)) where
   IsFindingOf Unread = ⊤
 
   -- What was found of the files of these names, and written of it from one state of a writer to the next: for each a
-  -- finding and its line, unless a write failed. Then of the first ones, and a front of their lines. Some of those
+  -- finding and its line, unless a write failed. Then of the first ones, and a prefix of their lines. Some of those
   -- that were looked at were read without their lock.
   pub record IsChecked (names : List (List ℕ)) (before after : Option (List ℕ)) (findings : List Finding)
       (unlocked : List (List ℕ)) (cut : Bool) : Type 0 where

@@ -8,7 +8,7 @@ use mbox_check::BadForm;
 /// What was found of a file.
 #[derive(Clone, Copy, Debug, PartialEq, Eq)]
 pub enum Finding {
-    /// A mailbox of so many letters, a count that stays at 2^64 - 1.
+    /// A mailbox of that many letters, a count that stays at 2^64 - 1.
     Letters(u64),
     /// What breaks the form of a mailbox.
     Form(BadForm),

@@ -23,7 +23,7 @@ pub trait LaneLog: Drop {
     fn copy(&mut self, number: u64, size: u64, client: &[u8], reply: Reply)
         ensures { told self.new ≡ with_entries (told self.old) (OfCopy number size client.now reply ∷ []) };
 
-    /// The conversation ended for that cause, after so much had come and gone; its replies were written, or never are.
+    /// The conversation ended for that cause once that much had come and gone; its replies were written, or never are.
     fn ended(&mut self, cause: EndCause, traffic: Traffic)
         ensures { told self.new ≡ with_entries (told self.old) (OfEnd cause ∷ []) };
 

@@ -1,9 +1,9 @@
--- What a writer holds where a write failed, and texts that are written one behind the other.
+-- What a writer holds where a write failed, and texts that are written one after the other.
 use Rattle.std.specs.Prelude.{ℕ, List, [], ◌∷◌, ◌++◌, Option}
 use Rattle.std.specs.Io.KnownBytes.{Appends}
 use Rattle.mail_world.specs.Fronts.{IsFront}
 
--- a front of the text more
+-- a prefix of the text more
 pub record IsCutOff (old new : Option (List ℕ)) (text : List ℕ) : Type 0 where
   pub front : List ℕ
   pub begins : IsFront front text

@@ -5,7 +5,7 @@ use Rattle.clap.specs.Simple.{App, with_rule}
 use Rattle.lmtpd_words.specs.Arguments.{argument_rule, with_rules}
 use Rattle.lmtpd_words.specs.declared.arguments.Argument.{Argument}
 
--- a command with so many of the arguments, and the next
+-- a command with that many of the arguments, and the next
 pub one_more : (app : App) (all : List Argument) (i : ℕ) (none : Argument) → i < length all
     → with_rule (with_rules app (map argument_rule (take i all))) (argument_rule (get_or all i none)) ≡ with_rules app (map argument_rule (take (i + 1) all))
 one_more app all i none low =

@@ -1,4 +1,4 @@
-//! The version, the errors that `clap` leaves to us, and what help says behind the words: examples, and what each exit
+//! The version, the errors that `clap` leaves to us, and what help says after the words: examples, and what each exit
 //! status means.
 
 /// The program's version, and the toolchain that proves it, as `rt version` names it: `make toolchain` writes it here.
@@ -30,7 +30,7 @@ pub const BAD_DELIMITER: &str =
 /// The error for words that aren't UTF-8.
 pub const BAD_TEXT: &str = "invalid UTF-8 was detected in one or more arguments";
 
-/// Behind the subcommands.
+/// After the subcommands.
 pub const BEHIND_PROGRAM: &str = "\
 Examples:
   lmtpd serve --host mx.example --listen 127.0.0.1:2003 --dir mail anna ben
@@ -42,7 +42,7 @@ Exit status:
   1  The machine or a file was wanting, and a line says what
   2  A word can't be used, and nothing was done";
 
-/// Behind a rehearsal's words.
+/// After a rehearsal's words.
 pub const BEHIND_REHEARSE: &str = "\
 Example:
   printf 'LHLO relay.example\\r\\nQUIT\\r\\n' | lmtpd rehearse --host mx.example --time 0 anna ben
@@ -52,7 +52,7 @@ Exit status:
   1  Memory, threads, the blocks, a mailbox's room, reading or writing was wanting; standard error says which
   2  A word can't be used, and nothing was done";
 
-/// Behind a server's words.
+/// After a server's words.
 pub const BEHIND_SERVE: &str = "\
 Examples:
   lmtpd serve --host mx.example --listen 127.0.0.1:2003 --dir mail anna ben
@@ -64,7 +64,7 @@ Exit status:
   1  A mailbox's file, FILE, the listener, a thread, memory or a size was wanting; standard error says which
   2  A word can't be used, and nothing was done";
 
-/// Behind the words of a check.
+/// After the words of a check.
 pub const BEHIND_CHECK: &str = "\
 Example:
   lmtpd check mail/anna.mbox mail/ben.mbox

@@ -246,7 +246,7 @@ fn blocks_of(matches: &ArgMatches<'_>, lanes: u32, limit: u32) -> u32
 }
 
 // The blocks where no number of them was given: a largest message for each lane has room in them, as far as there may
-// be so many.
+// be that many.
 fn usual_blocks(lanes: u32, limit: u32) -> u32
     ensures { result ≡ usual_blocks lanes limit }
 {

@@ -67,7 +67,7 @@ module _ {M : Type 0} (lane : M → ℕ) where
   all_of_lane-end k [] = refl
   all_of_lane-end k (m ∷ s) = ap (λ l. Copy m ∷ l) (all_of_lane-end k s)
 
-  -- a front of what a lane puts in all is copies, and behind them at most its mark
+  -- a prefix of what a lane puts in all is copies, and after them at most its mark
   pub front : (k : ℕ) (xs ys : List (Parcel M)) (s : List M) (b : Bool) → xs ++ ys ≡ all_of_lane k s b → (t : List M) × (c : Bool) × (xs ≡ all_of_lane k t c)
   front k [] ys s b e = ([], false, refl)
   front k (x ∷ xs) ys [] false e = absurd (cc)
@@ -78,7 +78,7 @@ module _ {M : Type 0} (lane : M → ℕ) where
       let more = front k xs ys ns b (cc) in
       (n ∷ more.0, more.1, (λ i. h i ∷ more.2 i))
 
-  -- nothing stands behind a lane's mark
+  -- nothing stands after a lane's mark
   pub front-has_mark : (k : ℕ) (xs ys : List (Parcel M)) (s : List M) (b : Bool) → xs ++ ys ≡ all_of_lane k s b → has_mark k xs ≡ true → ys ≡ []
   front-has_mark k [] ys s b e h = absurd (true≢false (sym h))
   front-has_mark k (x ∷ xs) ys [] false e h = absurd (cc)

@@ -131,14 +131,14 @@ module _ {M : Type 0} where
   HasSameTimes old new = (new.got_at ≡ old.got_at) × (new.took_at ≡ old.took_at)
 
   module _ (lane : M → ℕ) where
-    -- the messages of lane k in front of its mark
+    -- the messages of lane k before its mark
     abbrev pub before_mark : ℕ → List (Parcel M) → Option (List M)
     before_mark k [] = None
     before_mark k (Copy m ∷ xs) = if lane m == k then with m (before_mark k xs) else before_mark k xs
     before_mark k (Mark j ∷ xs) = if j == k then Some [] else before_mark k xs
 
-    -- all lanes' marks were taken, and no message of a lane behind its mark. A mark carries its lane's number alone;
-    -- that the messages in front of it are all that the lane was told was accepted is the law NamesAll
+    -- all lanes' marks were taken, and no message of a lane after its mark. A mark carries its lane's number alone;
+    -- that the messages before it are all that the lane was told was accepted is the law NamesAll
     abbrev pub IsDrained : Inbox M → Type 0
     IsDrained r = (k : ℕ) → k < r.lanes → before_mark k r.got ≡ Some (of lane k (taken r))
 

@@ -19,7 +19,7 @@ module _ {M : Type 0} (lane : M → ℕ) where
   IsNothingElse = (items : List (Parcel M)) (views : List (View M)) (h : Carries lane items views) (k : ℕ)
       → h.traffic.lanes ≤ k → of lane k (messages (h.traffic.got ++ items)) ≡ []
 
-  -- a mark that was put names all that its lane was told was accepted: nothing of the lane stands behind it
+  -- a mark that was put names all that its lane was told was accepted: nothing of the lane stands after it
   abbrev pub NamesAll : Type 0
   NamesAll = (items : List (Parcel M)) (views : List (View M)) (h : Carries lane items views) (k : ℕ)
       → h.traffic.closed k ≡ true → before_mark lane k (h.traffic.got ++ items) ≡ Some (h.traffic.sent k)

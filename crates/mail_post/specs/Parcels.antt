@@ -16,7 +16,7 @@ module _ {M : Type 0} where
   has_mark k (Copy m ∷ xs) = has_mark k xs
   has_mark k (Mark j ∷ xs) = (j == k) || has_mark k xs
 
-  -- what lane k puts in all: its messages, and behind them at most its closing mark
+  -- what lane k puts in all: its messages, and after them at most its closing mark
   abbrev pub all_of_lane : ℕ → List M → Bool → List (Parcel M)
   all_of_lane k [] false = []
   all_of_lane k [] true = Mark k ∷ []

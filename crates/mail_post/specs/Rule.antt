@@ -46,7 +46,7 @@ module _ {M : Type 0} where
   Fits t pass v = FitsLane t pass v × FitsTaker t pass v × FitsKnown t v
 
   module _ (lane : M → ℕ) where
-    -- what was taken of a lane is messages, and behind them at most its mark; of other lanes nothing was taken
+    -- what was taken of a lane is messages, and after them at most its mark; of other lanes nothing was taken
     abbrev pub IsFair : ℕ → List (Parcel M) → Type 0
     IsFair lanes got = (k : ℕ) → ((s : List M) × (b : Bool) × (part lane k got ≡ all_of_lane k s b))
         × (lanes ≤ k → part lane k got ≡ [])
@@ -72,7 +72,7 @@ module _ {M : Type 0} where
       pub others : (k : ℕ) → v.lanes ≤ k → (of lane k (messages v.got ++ waiting) ≡ []) × (sent_at k ≡ [])
 
 -- the rule: the parcels of each lane, those taken and then those in the channel, are all that the lane was told was
--- accepted, and behind that its mark where it has put it; and nothing is of another than the lanes. Each message has its
+-- accepted, and after that its mark where it has put it; and nothing is of another than the lanes. Each message has its
 -- times, which rise, and was accepted after there was room for it.
 pub record Carries {M : Type 0} (lane : M → ℕ) (items : List (Parcel M)) (views : List (View M)) : Type 0 where
   pub traffic : Traffic M

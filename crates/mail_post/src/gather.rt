@@ -60,7 +60,7 @@ impl Gather {
         })
     }
 
-    /// Begins anew, for a transaction with so many recipients.
+    /// Begins again, for a transaction with that many recipients.
     pub fn begin(&mut self, txn: Txn, places: u32)
         requires { places ≤ self.old.limit }
         ensures begun { self.new ≡ record self.old { gather = gather_for txn places } }

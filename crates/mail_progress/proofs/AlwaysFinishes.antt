@@ -74,7 +74,7 @@ by_copies room blocks start is some (suc n) run r o can less =
 pub always_finishes : AlwaysFinishes
 always_finishes room blocks start run is r o some can = by_copies room blocks start is some (suc (copies_left room (last_house start run))) run r o can (omega arith)
 
--- the first steps, one behind the other
+-- the first steps, one after the other
 abbrev FirstsFrom : ℕ → ℕ → (House → ℕ → ℕ) → List Event → House → Type 0
 FirstsFrom room blocks next events h = (rest : List Happened) × Run h rest × IsOrderly room h rest × AreFirst room next h rest × IsFinished blocks (events ++ events_of rest) (last_house h rest)
 

@@ -21,7 +21,7 @@ use Rattle.mail_progress.proofs.Within.{to_give, AllWithin, within_step, within_
 use Rattle.mail_progress.proofs.Kept.{IsSome, IsKept, kept_step, kept_start}
 use Rattle.mail_progress.proofs.Tracked.{AreLast, AllTracked, last_of_its_key, no_hold, tracked_step, tracked_start}
 
--- messages that were sealed for so many copies each: of the last one some are still to be given away, of the others none
+-- messages that were sealed for that many copies each: of the last one some are still to be given away, of the others none
 pub record AreSealedFor (ts : List SealedMessage) (rest : ℕ) (ns : List ℕ) : Type 0 where
   pub count : length ns ≡ length ts
   pub before : (i n : ℕ) (t : SealedMessage) → slice_get ts i ≡ Some t → slice_get ns i ≡ Some n → i + 1 < length ts → t.offered ≡ n

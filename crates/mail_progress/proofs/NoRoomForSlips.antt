@@ -47,7 +47,7 @@ released place = record (synced place) { released = true }
 abbrev slip : Slip
 slip = slip_of 0 (note 0) Stored
 
--- the lane with these holds, so many of its copies given away and these slips
+-- the lane with these holds, that many of its copies given away and these slips
 abbrev lane : List Hold → ℕ → List Slip → Lane
 lane holds offered slips = record lane₀ {
   number = 1;

@@ -10,9 +10,9 @@ use Rattle.mail_progress.specs.NothingStuck.{AreThere, AreClosed}
 use Rattle.mail_progress.specs.Finished.{IsFinished}
 use Rattle.mail_progress.specs.InTurn.{IsFirst}
 
--- After these events, whatever mailboxes of the house the lanes' next copies are for, anew in each house: all is
--- finished or a step is first; and whichever of the steps that go on is taken, the house that it leads to finishes too.
--- As this is built up from the last houses, no steps follow one another without end.
+-- After these events, whatever mailboxes of the house the lanes' next copies are for, chosen again in each house: all
+-- is finished or a step is first; and whichever of the steps that go on is taken, the house that it leads to finishes
+-- too. As this is built up from the last houses, no steps follow one another without end.
 pub data Finishes (room blocks : ℕ) : List Event → House → Type 0 where
   WhateverFollows : (events : List Event) (h : House)
       → ((next : ℕ → ℕ) → AreThere next h → IsFinished blocks events h ⊎ ((event : Event) × IsFirst room next h event))

@@ -39,7 +39,7 @@ post_of (Some copy) = copy.post ∷ []
 abbrev pub on_way : Box → List Post
 on_way box = post_of box.hand ++ drop box.taken box.accepted
 
--- the event finds the house as the order wants it, where a lane's channel has room for that many slips
+-- the event finds the house as the order needs it, where a lane's channel has room for that many slips
 abbrev pub IsInOrder : ℕ → House → Event → Type 0
 IsInOrder room h (Offer k note) = OfBox h note.mailbox (λ box. not_taken box < h.capacity)
 IsInOrder room h (GiveSlip w outcome) =

@@ -11,11 +11,11 @@ pub fn steps_are_tried_in_turn()
 {}
 
 /// From each house of each orderly run, with room for a slip or more, and a capacity of 1 or more or all channels
-/// closed: such steps come to an end, whichever of them are taken and whatever mailboxes the next copies are for, anew
-/// in each house. In each house on the way, where these are mailboxes of the house, all is finished or a step is first.
-/// So where they are in each house that may follow, the first steps in turn, one after the other, are an orderly run to
-/// a house in which all is finished. They are so always where each lane's is always for the same mailbox, which is
-/// there: mailboxes stay.
+/// closed: such steps come to an end, whichever of them are taken and whatever mailboxes the next copies are for,
+/// chosen again in each house. In each house on the way, where these are mailboxes of the house, all is finished or a
+/// step is first. So where they are in each house that may follow, the first steps in turn, one after the other, are an
+/// orderly run to a house in which all is finished. They are so always where each lane's is always for the same
+/// mailbox, which is there: mailboxes stay.
 pub fn steps_in_turn_finish()
     ensures always { AlwaysFinishes }
     ensures in_turn { FinishesInTurn }

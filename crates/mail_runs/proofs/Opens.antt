@@ -43,7 +43,7 @@ pub record IsReady (m : Manner) (s : Server) (t : Threads) (note : Note) (rest :
   pub is : LaneIs house note.txn.lane lane
   pub giving : IsGiving m note.txn.lane (Gave note ∷ rest) lane
 
--- the depot behind the three steps has a slot less that is free, and the blocks that were put
+-- the depot after the three steps has a slot less that is free, and the blocks that were put
 abbrev sealed_slot : Key → List ℕ → List ℕ → ℕ → Slot
 sealed_slot key message blocks n = record { generation = key.generation; held = Sealed message blocks n }
 

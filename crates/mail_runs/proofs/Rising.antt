@@ -59,7 +59,7 @@ next_low : (n : ℕ) (b : Bool) → cond b n (n + 1) ≤ n + 1
 next_low n true = omega arith
 next_low n false = omega arith
 
--- behind a command line the next number is one more than those accepted before it
+-- after a command line the next number is one more than those accepted before it
 behind_line : (n : ℕ) (b : Bool) (ts : List Transaction)
     → NumbersRise (cond b (cond b (n + 1) n) (cond b (n + 1) n + 1)) ts → NumbersRise (n + 1) ts
 behind_line n true ts h = h

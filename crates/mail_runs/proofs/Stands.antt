@@ -36,7 +36,7 @@ pub record WorkLeft (s : Server) (b : ℕ) (course : Course) (left : List Deed) 
   pub queue : notes_of (drop box.taken box.accepted) ++ given_to b left ≡ notes
   pub takes : TakesAll s notes outcomes (spooled box) (in_the_end course)
 
--- what is left of the deeds takes what the channel has accepted by then, and gives where it has room, where so many copies wait
+-- what is left of the deeds takes what the channel has accepted by then, and gives where it has room, where that many copies wait
 pub record Flows (capacity b waiting : ℕ) (left : List Deed) : Type 0 where
   pub taken_later : TakesGiven b waiting left
   pub finds_room : FindsRoom capacity b waiting left

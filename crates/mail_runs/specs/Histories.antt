@@ -24,7 +24,7 @@ IsWithin s (Took note) = (note.txn.lane < s.lanes) × (note.mailbox < s.boxes)
 IsWithin s (Told slip) = (slip.txn.lane < s.lanes) × (slip.worker < s.boxes)
 IsWithin s (Heard slip) = (slip.txn.lane < s.lanes) × (slip.worker < s.boxes)
 
--- at each time no more copies were taken from the mailbox's channel than it had accepted, where so many waited at first
+-- at no time were more copies taken from the mailbox's channel than it had accepted, where that many waited at first
 abbrev pub TakesGiven : ℕ → ℕ → List Deed → Type 0
 TakesGiven b waiting deeds = (before after : List Deed) → deeds ≡ before ++ after
     → length (taken_by b before) ≤ waiting + length (given_to b before)

@@ -28,7 +28,7 @@ AreExchanges room k (t ∷ ts) deeds = (slips : List Slip) × (rest : List Deed)
     × AllByRecursion IsAnswered (answers (txn_of k t.number) (length (copies k t)) slips)
     × AreExchanges room k ts rest
 
--- as a copy was given, fewer waited in the mailbox's channel than the capacity, where so many waited at first
+-- as a copy was given, fewer waited in the mailbox's channel than the capacity, where that many waited at first
 abbrev pub FindsRoom : ℕ → ℕ → ℕ → List Deed → Type 0
 FindsRoom capacity b waiting deeds = (before after : List Deed) (note : Note) → deeds ≡ before ++ Gave note ∷ after
     → note.mailbox ≡ b → waiting + length (given_to b before) < capacity + length (taken_by b before)
@@ -56,7 +56,7 @@ AreBefore taken [] = Unit {0}
 AreBefore [] (a ∷ accepted) = ⊥
 AreBefore (t ∷ taken) (a ∷ accepted) = (t < a) × AreBefore taken accepted
 
--- what a channel of that capacity accepted was accepted after what stood so many places before it was taken
+-- what a channel of that capacity accepted was accepted after what stood that many places before it was taken
 abbrev pub MakesRoom : ℕ → List ℕ → List ℕ → Type 0
 MakesRoom capacity accepted taken = AreBefore taken (drop capacity accepted)
 

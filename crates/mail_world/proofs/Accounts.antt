@@ -18,7 +18,7 @@ record TakesFront (taken ds : List Disposition) : Type 0 where
   rest : List Disposition
   whole : ds ≡ taken ++ rest
 
--- a part takes its disposition from the front of the list
+-- a part takes its disposition from the head of the list
 cut_one : (ds left : List Disposition) (p : ℕ → Part) (size : ℕ → ℕ) (o : Option ℕ) (c : Cut) → ((n : ℕ) → ds ≡ disposition_of (p n) ++ left)
     → option_map (λ n. record { part = p n; size = size n; dispositions = left }) o ≡ Some c → ds ≡ disposition_of c.part ++ c.dispositions
 cut_one ds left p size None c h e = cc

@@ -1,4 +1,4 @@
--- What an engine has handled of the bytes of a conversation: parts at their front, and what goes on from there.
+-- What an engine has handled of the bytes of a conversation: parts at their beginning, and what goes on from there.
 use Rattle.std.proofs.Common.{◌≡◌, ℕ, cond, ◌+◌, ◌≤◌, List, [], ◌∷◌, ◌++◌, length, take, drop, Some, None, refl, sym, ap, ◌∙◌, arith, append_assoc, length-drop, length-append, drop-drop, length-take-le}
 use Rattle.std.specs.Prelude.{option_map, flat_map, sum_by, count_by, false, ⊤}
 use Rattle.std.proofs.lemmas.List.{append-nil}
@@ -16,7 +16,7 @@ use Rattle.mail_world.specs.Dispositions.{disposition_of, dispositions_of}
 use Rattle.mail_world.proofs.Places.{place_of_stands}
 use Rattle.mail_world.proofs.Cuts.{parts-cut}
 
--- nothing at the front of the text has ended
+-- nothing at the beginning of the text has ended
 abbrev pub HasNoPart : State → List ℕ → Type 0
 HasNoPart Content s = data_end s ≡ None
 HasNoPart Ended s = ⊤
@@ -77,7 +77,7 @@ one_more (MailData text d) ps = omega arith
 pub counted : (ps : List Part) → count_by is_data ps ≡ length (dispositions_of ps)
 counted ps = sym (is_count_by (λ l. length (dispositions_of l)) is_data refl one_more ps)
 
--- the parts are those at the front of the text, they take so many bytes, and what goes on from them is read in the session behind them
+-- the parts are those at the beginning of the text, they take that many bytes, and what goes on from them is read in the session after them
 pub record Handled (site : Site) (s : List ℕ) (at : ℕ) (ps : List Part) : Type 0 where
   pub goes : (ds : List Disposition) → parts site fresh s (dispositions_of ps ++ ds) ≡ ps ++ parts site (session_behind site fresh ps) (drop at s) ds
   pub size : sum_by size_of ps ≡ at

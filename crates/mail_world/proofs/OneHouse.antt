@@ -59,7 +59,7 @@ with_draft h = with_lane (with_depot h (with_held h.depot key (Draft [] []) (0 �
 abbrev pub with_bytes : House → House
 with_bytes h = with_depot h (with_held h.depot key (Draft bytes (0 ∷ [])) (1 ∷ []))
 
--- which becomes a message of so many copies
+-- which becomes a message of that many copies
 abbrev pub lane_sealed : ℕ → Lane
 lane_sealed n = record lane₁ {
   draft = None;

@@ -12,7 +12,7 @@ use Rattle.mail_world.specs.Lists.{Transaction, is_content, accepted_after, tran
 use Rattle.mail_world.specs.Dispositions.{dispositions_of}
 use Rattle.mail_world.proofs.Handled.{session_after-append, account_of}
 
--- how many DATA commands were accepted behind one part
+-- how many DATA commands were accepted after one part
 abbrev pub accepted_behind : Site → ℕ → Session → Part → ℕ
 accepted_behind site n session p = if is_content (session_after site session (inputs_of p)).state then n + 1 else n
 

@@ -36,7 +36,7 @@ begins-is : (c : ℕ) (text : List ℕ) → begins c text ≡ true → text ≡ 
 begins-is c [] e = cc
 begins-is c (b ∷ text) e = ap (λ x. x ∷ text) (eqb-true b c e)
 
--- the front that passes
+-- the prefix that passes
 run_by : (p : ℕ → Bool) (x : ℕ) (xs : List ℕ) (t : Bool) → p x ≡ t → list_all p (take (prefix_len p xs) xs) ≡ true → list_all p (take (cond t (1 + prefix_len p xs) 0) (x ∷ xs)) ≡ true
 run_by p x xs true e ih = let one : 1 + prefix_len p xs ≡ suc (prefix_len p xs) = omega arith in rw (one, e) ih
 run_by p x xs false e ih = refl
@@ -45,7 +45,7 @@ prefix_len-all : (p : ℕ → Bool) (xs : List ℕ) → list_all p (take (prefix
 prefix_len-all p [] = refl
 prefix_len-all p (x ∷ xs) = run_by p x xs (p x) refl (prefix_len-all p xs)
 
--- a front and what follows it
+-- a prefix and what follows it
 record IsFront (n : ℕ) (text : List ℕ) (f : Found (List ℕ)) : Type 0 where
   positive : 0 < n
   value : f.value ≡ take n text
@@ -61,7 +61,7 @@ front_by n text f false z e =
 some_front-reads : (n : ℕ) (text : List ℕ) (f : Found (List ℕ)) → some_front n text ≡ Some f → IsFront n text f
 some_front-reads n text f e = front_by n text f (n == 0) refl e
 
--- the front that passes, and what follows it
+-- the prefix that passes, and what follows it
 run-reads : (p : ℕ → Bool) (text : List ℕ) (f : Found (List ℕ)) → some_front (prefix_len p text) text ≡ Some f → IsSomeOf p f.value × (text ≡ f.value ++ f.rest)
 run-reads p text f e =
     let r = some_front-reads (prefix_len p text) text f e in (
@@ -167,7 +167,7 @@ host-reads text f e = host_by (begins (byte "[") text) refl e
     host_by true bracket e' = let r = literal-reads text f bracket e' in (inr r.0, r.1)
     host_by false bracket e' = let r = domain-reads text f e' in (inl r.0, r.1)
 
--- the host part behind a local part
+-- the host part after a local part
 record IsHosted (quoted : Bool) (local : Found (List ℕ)) (found : Found Target) : Type 0 where
   name : found.value.local ≡ local.value
   quotes : found.value.quoted ≡ quoted
@@ -221,7 +221,7 @@ mailbox_by text found false quote e =
 mailbox-reads : (text : List ℕ) (found : Found Target) → mailbox_at text ≡ Some found → IsRead text found
 mailbox-reads text found e = mailbox_by text found (begins (byte "\"") text) refl e
 
--- what stands before the first such byte, the byte, and what stands behind it
+-- what stands before the first such byte, the byte, and what stands after it
 first_by : (c b : ℕ) (text : List ℕ) (n : ℕ) (t : Bool) → (b == c) ≡ t → (t || has_byte text c) ≡ true → (has_byte text c ≡ true → text ≡ take n text ++ c ∷ drop (n + 1) text)
     → b ∷ text ≡ take (cond (not t) (1 + n) 0) (b ∷ text) ++ c ∷ drop (cond (not t) (1 + n) 0 + 1) (b ∷ text)
 first_by c b text n true same has ih = ap (λ x. x ∷ text) (eqb-true b c same)
@@ -234,7 +234,7 @@ first-splits : (c : ℕ) (text : List ℕ) → has_byte text c ≡ true → text
 first-splits c [] has = cc
 first-splits c (b ∷ text) has = first_by c b text (prefix_len (λ x. not (x == c)) text) (b == c) refl has (first-splits c text)
 
--- parts of a route are domains, each behind an at sign
+-- parts of a route are domains, each after an at sign
 abbrev hops : List (List ℕ) → List (List ℕ)
 hops ds = map (λ name. byte "@" ∷ name) ds
 

@@ -109,7 +109,7 @@ mailbox-first : (quoted : Bool) (local ys : List ℕ) → IsLocalPart quoted loc
 mailbox-first false local ys h = begins-first is_plain (byte "@") local ys refl h.nonempty h.each
 mailbox-first true local ys h = refl
 
--- the domains of a route, each behind its at sign, with commas between them
+-- the domains of a route, each after its at sign, with commas between them
 abbrev hops : List (List ℕ) → List (List ℕ)
 hops ds = map (λ name. byte "@" ∷ name) ds
 

@@ -23,14 +23,14 @@ module _ (calendar : Calendar) (host : List ℕ) where
   abbrev pub total : List Note → ℕ
   total notes = length (flat_map (record_of calendar host) notes)
 
-  -- a note with its mark, and those behind it
+  -- a note with its mark, and those after it
   pub grows_by : (t : Bool) (len : ℕ) (note : Note) (notes : List Note) (marks : List Bool)
       → (if t then len + size note else len) + total (marked marks notes) ≡ len + total (marked (t ∷ marks) (note ∷ notes))
   grows_by true len note notes marks =
       let e = length-append (record_of calendar host note) (flat_map (record_of calendar host) (marked marks notes)) in omega (arith, e)
   grows_by false len note notes marks = refl
 
-  -- the bytes that stand there behind these notes
+  -- the bytes that stand there after these notes
   abbrev pub behind : Option ℕ → ℕ → List Note → ℕ
   behind quota len notes = len + total (marked (are_kept_behind calendar host quota len notes) notes)
 

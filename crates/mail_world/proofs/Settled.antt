@@ -1,4 +1,4 @@
--- What is told of copies of which the first so many were settled, one copy more at a time.
+-- What is told of copies of which the first ones were settled, one copy more at a time.
 use Rattle.std.proofs.Common.{◌≡◌, ℕ, zero, suc, ◌+◌, ◌≤◌, ◌<◌, List, [], ◌∷◌, ◌++◌, length, Bool, true, false, Option, refl, ap, ◌∙◌, arith}
 use Rattle.std.specs.Prelude.{if◌then◌else◌}
 use Rattle.mail_world.specs.declared.Note.{Note}
@@ -60,7 +60,7 @@ module _ (calendar : Calendar) (host : List ℕ) (quota : Option ℕ) where
   unfolding are_kept
   length-are_kept old notes = length-kept_behind notes (length (old ++ mended old))
 
-  -- the record of the note may stand behind those that the mailbox keeps of these
+  -- the record of the note may stand after those that the mailbox keeps of these
   abbrev pub fits_after : List ℕ → List Note → Note → Bool
   fits_after old notes note = fits quota (length (mailbox calendar host old (kept calendar host quota old notes))) (length (record_of calendar host note))
 

@@ -7,7 +7,7 @@ use Rattle.mail_world.specs.Text.{cr, lf, crlf, EmptyOrEndsIn}
 use Rattle.mail_world.specs.Data.{dot, data_end, without_dots, unstuffed, message, with_dots, stuffed}
 use Rattle.mail_world.proofs.PathsSpelled.{and_parts}
 
--- the text without its dots, and then with as many as it wants
+-- the text without its dots, and then with as many as it needs
 abbrev again : ℕ → ℕ → List ℕ → List ℕ
 again a b text = with_dots a b (without_dots a b text)
 
@@ -16,7 +16,7 @@ pub same_window : (a a' b : ℕ) (text : List ℕ) → (a == cr) ≡ false → (
 same_window a a' b [] e f = refl
 same_window a a' b (c ∷ text) e f = rw (e, f) refl
 
--- a dot is dropped, and the byte behind it stands at the line's start
+-- a dot is dropped, and the byte after it stands at the line's start
 behind_dot_by : (d : ℕ) (text : List ℕ) (t : Bool) → (d == dot) ≡ t → length (again dot d text) ≤ length text
     → length (cond t (dot ∷ d ∷ with_dots lf d (without_dots dot d text)) (d ∷ with_dots lf d (without_dots dot d text))) ≤ suc (suc (length text))
 behind_dot_by d text true e ih =

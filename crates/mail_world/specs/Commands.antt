@@ -26,7 +26,7 @@ pub data Command : Type 0 where
 abbrev pub Answer : Type 0
 Answer = Result Command BadCommand
 
--- the text without the spaces and tabs at its end, without the spaces at its front
+-- the text without the spaces and tabs at its end, without the spaces at its beginning
 abbrev pub trimmed : List ℕ → List ℕ
 trimmed text = take (length text - suffix_len (has_byte (space ∷ tab ∷ [])) text) text
 
@@ -37,7 +37,7 @@ behind_spaces text = drop (prefix_len (λ b. b == space) text) text
 abbrev pub is_word : List ℕ → List ℕ → Bool
 is_word word text = str_eq_ignore_ascii_case text word
 
--- what stands behind `FROM:` or `TO:` and spaces, if the text begins so
+-- what stands after `FROM:` or `TO:` and spaces, if the text begins so
 abbrev pub behind_label : List ℕ → List ℕ → Option (List ℕ)
 behind_label label text =
     if is_word label (take (length label) text) then Some (behind_spaces (drop (length label) text)) else None
@@ -47,7 +47,7 @@ abbrev pub is_client_name : List ℕ → Bool
 is_client_name text =
     is_between 1 NAME_LIMIT (length text) && list_all (λ b. is_visible b && not (has_byte (codes "()<>;,\"\\") b)) text
 
--- parameters: what stands before the first equals sign, and what stands behind it if there is one
+-- parameters: what stands before the first equals sign, and what stands after it if there is one
 pub record Parameter : Type 0 where
   pub keyword : List ℕ
   pub value : Option (List ℕ)
@@ -110,7 +110,7 @@ rcpt_with target (p ∷ ps) = Err bad.Parameter
 abbrev pub ends_path : List ℕ → Bool
 ends_path rest = is_empty rest || begins space rest
 
--- what stands behind `FROM:`, behind `TO:`
+-- what stands after `FROM:`, after `TO:`
 abbrev pub mail_path : ℕ → Option (Found (List ℕ)) → Answer
 mail_path limit None = Err bad.SenderSyntax
 mail_path limit (Some found) =

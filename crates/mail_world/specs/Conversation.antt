@@ -40,7 +40,7 @@ cut_data s [] = None
 cut_data s (d ∷ ds) =
     option_map (λ n. record { part = MailData (take (n + 3) s) d; size = n + 3; dispositions = ds }) (data_end s)
 
--- the part that stands at the front, if it has ended
+-- the part that stands at the beginning, if it has ended
 abbrev pub cut : State → List ℕ → List Disposition → Option Cut
 cut Content s ds = cut_data s ds
 cut Waiting s ds = None
@@ -80,7 +80,7 @@ parts_within (suc n) site session s ds =
 unfoldable pub parts : Site → Session → List ℕ → List Disposition → List Part
 parts site session s ds = parts_within (length s) site session s ds
 
--- the session behind parts, how many bytes they take, and how many of them are data
+-- the session after parts, how many bytes they take, and how many of them are data
 abbrev pub session_behind : Site → Session → List Part → Session
 session_behind site session ps = session_after site session (flat_map inputs_of ps)
 

@@ -1,4 +1,4 @@
--- What was told of the copies for one mailbox, and what may stand behind its whole records.
+-- What was told of the copies for one mailbox, and what may stand after its whole records.
 use Rattle.std.specs.Prelude.{◌≡◌, ℕ, ◌==◌, List, [], ◌∷◌, flat_map, if◌then◌else◌}
 use Rattle.mail_world.specs.declared.Outcome.{Outcome}
 use Rattle.mail_world.specs.declared.Verdict.{Verdict}
@@ -31,7 +31,7 @@ told_all box ts = flat_map (told_of box) ts
 unfoldable pub outcomes_told : Site → ℕ → List Conversation → List Outcome
 outcomes_told site box cs = told_all box (transactions site 0 cs)
 
--- behind the whole records there is nothing, or a front of the record of the first copy that is lost
+-- after the whole records there is nothing, or a prefix of the record of the first copy that is lost
 abbrev pub IsTorn : Calendar → List ℕ → List Note → List ℕ → Type 0
 IsTorn calendar host [] torn = torn ≡ []
 IsTorn calendar host (note ∷ lost) torn = IsFront torn (record_of calendar host note)

@@ -36,7 +36,7 @@ pub record IsSomeOf (p : ℕ → Bool) (text : List ℕ) : Type 0 where
   pub nonempty : 0 < length text
   pub each : list_all p text ≡ true
 
--- what stands between the quotes of a local part: bytes from 32 to 126, a quote only behind a backslash, and each
+-- what stands between the quotes of a local part: bytes from 32 to 126, a quote only after a backslash, and each
 -- backslash before the byte that it goes with. `escaped`: such a backslash stands before the text
 abbrev pub IsQuotedText : Bool → List ℕ → Type 0
 IsQuotedText false [] = ⊤

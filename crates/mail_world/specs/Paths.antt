@@ -1,4 +1,4 @@
--- Paths read from the front of a text: what was found, and what follows it. The grammar has one reading of each text
+-- Paths read from the head of a text: what was found, and what follows it. The grammar has one reading of each text
 -- (laws.rt).
 use Rattle.std.specs.Prelude.{◌≡◌, ◌++◌, ℕ, suc, ◌+◌, ◌-◌, Bool, true, false, not, ◌&&◌, ◌||◌, ◌==◌, nat_lt, nat_le, List, [], ◌∷◌, length, take, drop, if◌then◌else◌, Option, Some, None, option_map, option_and_then, codes}
 use Rattle.std.specs.List.{list_all, prefix_len, before_first, after_first, slice_split}
@@ -42,7 +42,7 @@ literal_at text = let n = prefix_len is_of_literal (drop 1 text) in
 abbrev pub host_at : List ℕ → Option (Found (List ℕ))
 host_at text = if begins (byte "[") text then literal_at text else domain_at text
 
--- the host part behind a local part, where an at sign leads to one
+-- the host part after a local part, where an at sign leads to one
 abbrev pub with_host : Bool → Found (List ℕ) → Option (Found Target)
 with_host quoted local =
     if begins (byte "@") local.rest
@@ -59,7 +59,7 @@ mailbox_at text =
 abbrev pub is_hop : List ℕ → Bool
 is_hop text = begins (byte "@") text && is_domain (drop 1 text)
 
--- the text behind a source route, which is dropped (RFC 5321, Appendix C); the text itself where no at sign begins one
+-- the text after a source route, which is dropped (RFC 5321, Appendix C); the text itself where no at sign begins one
 abbrev pub behind_route : List ℕ → Option (List ℕ)
 behind_route text =
     if not (begins (byte "@") text) then Some text
@@ -92,7 +92,7 @@ reverse_path text =
     if begins_with (codes "<>") text then Some (record { value = []; rest = drop 2 text })
     else option_map (λ found. record { value = found.value.mailbox; rest = found.rest }) (forward_path text)
 
--- what stands at the front of the text is spelled as this path, through some route
+-- what stands at the beginning of the text is spelled as this path, through some route
 pub record IsPathRead (text : List ℕ) (found : Found Path) : Type 0 where
   pub route : List (List ℕ)
   pub path : IsPath route found.value.target

@@ -5,12 +5,12 @@ use Rattle.mail_world.specs.declared.Outcome.{Outcome}
 use Rattle.mail_world.specs.declared.Outcome.TheVariants.{Stored, Failed, OverQuota}
 use Rattle.mail_world.specs.Records.{Calendar, record_of, mended}
 
--- a record of that size may stand behind so many bytes
+-- a record of that size may stand after that many bytes
 abbrev pub fits : Option ℕ → ℕ → ℕ → Bool
 fits None len size = true
 fits (Some quota) len size = nat_le (len + size) quota
 
--- for each note whether it is kept behind so many bytes, which grow by the record of a note that is
+-- for each note whether it is kept after that many bytes, which grow by the record of a note that is
 abbrev pub are_kept_behind : Calendar → List ℕ → Option ℕ → ℕ → List Note → List Bool
 are_kept_behind calendar host quota len [] = []
 are_kept_behind calendar host quota len (note ∷ notes) =
@@ -18,7 +18,7 @@ are_kept_behind calendar host quota len (note ∷ notes) =
     let is_kept = fits quota len size in
     is_kept ∷ are_kept_behind calendar host quota (if is_kept then len + size else len) notes
 
--- the first stand behind the old bytes and what mends them, which no quota refuses
+-- the first stand after the old bytes and what mends them, which no quota refuses
 unfoldable pub are_kept : Calendar → List ℕ → Option ℕ → List ℕ → List Note → List Bool
 are_kept calendar host quota old notes = are_kept_behind calendar host quota (length (old ++ mended old)) notes
 
@@ -32,8 +32,8 @@ marked _ _ = []
 abbrev pub kept : Calendar → List ℕ → Option ℕ → List ℕ → List Note → List Note
 kept calendar host quota old notes = marked (are_kept calendar host quota old notes) notes
 
--- what is told of notes, by whether each is kept: the first so many were settled, so that a kept one is Stored and any
--- other OverQuota; those behind are Failed
+-- what is told of notes, by whether each is kept: that many, the first ones, were settled, so that a kept one is
+-- Stored and any other OverQuota; those after them are Failed
 abbrev pub outcomes_settled : ℕ → List Bool → List Outcome
 outcomes_settled settled [] = []
 outcomes_settled zero (is_kept ∷ marks) = Failed ∷ outcomes_settled zero marks

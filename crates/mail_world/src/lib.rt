@@ -116,7 +116,7 @@ pub enum BadCommand {
     /// EXPN, which isn't offered.
     #[error("not offered")]
     NotDone,
-    /// Text behind a command that stands alone, or a wrong parameter.
+    /// Text after a command that stands alone, or a wrong parameter.
     #[error("bad arguments")]
     Arguments,
     /// MAIL without a reverse path.

@@ -45,7 +45,7 @@ pub const BLOCK_SIZE: usize = 4096;
 /// The blocks of an arena.
 pub const BLOCK_LIMIT: u32 = 65_536;
 
-/// The last generation of a slot, which is retired behind it: 2^48 - 1.
+/// The last generation of a slot, which is retired after it: 2^48 - 1.
 pub const LAST_GENERATION: u64 = 281_474_976_710_655;
 
 /// The bytes of a message that a worker reads at once.

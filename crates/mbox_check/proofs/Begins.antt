@@ -63,7 +63,7 @@ part_grown part text start b o e f g =
     ap (λ (l : List ℕ). l ++ b ∷ []) e ∙ append_assoc start (part_text part) (b ∷ []) ∙ ap (λ c. start ++ (part_text part ++ c ∷ [])) (sym f)
     ∙ ap (λ (l : List ℕ). start ++ l) (part_longer part ∙ ap text_of g)
 
--- another byte behind it
+-- another byte after it
 pub part_else : (part : Part) (b : ℕ) (more : List ℕ) → (next_byte part == b) ≡ false → begins_from (part_text part ++ b ∷ more) ≡ false
 part_else Nothing b more e = rw e refl
 part_else F b more e = rw e refl
@@ -95,7 +95,7 @@ part_ends From e = record { front = codes "Fro"; last = 109; whole = refl; other
 pub ends_in_part : (part : Part) (text start : List ℕ) → text ≡ start ++ part_text part → is_nothing part ≡ false → EndsInLine text
 ends_in_part part text start e some = subst EndsInLine (sym e) (ends_behind start (part_text part) (part_ends part some))
 
--- ---- a part of `From ` behind the lines of a letter
+-- ---- a part of `From ` after the lines of a letter
 
 pub record IsStarted (text : List ℕ) (n : ℕ) (part : Part) : Type 0 where
   pub start : List ℕ

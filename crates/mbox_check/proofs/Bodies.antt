@@ -54,7 +54,7 @@ line_short text s letters m = elim (written_end letters) [
   | inr f ↦ ends_not_lf text f.0 s (same_from_push text (f.0 ++ lf ∷ []) lf lf (sym m.whole ∙ f.1 ∙ sym (append_assoc f.0 (lf ∷ []) (lf ∷ [])))).0
 ]
 
--- ---- letters one behind the other
+-- ---- letters one after the other
 
 letters-push : (ls : List Letter) (l : Letter) → AreLetters ls → IsLetter l → AreLetters (ls ++ l ∷ [])
 letters-push [] l h k = (k, tt)

@@ -26,7 +26,7 @@ take_next : (text more : List ℕ) (b : ℕ) → take (suc (length text)) (text 
 take_next [] more b = refl
 take_next (c ∷ text) more b = ap (λ l. c ∷ l) (take_next text more b)
 
--- at the byte behind the text, or at its end
+-- at the byte after the text, or at its end
 breaks_next : (text more : List ℕ) (b : ℕ) → BeginsMailbox text → (BeginsMailbox (text ++ b ∷ []) → ⊥) → BreaksAt (text ++ b ∷ more) (length text)
 breaks_next text more b begins breaks =
     let long : length (text ++ b ∷ more) ≡ length text + suc (length more) = length-append text (b ∷ more) in record {
@@ -72,7 +72,7 @@ front_breaks part text more n b taken t at e = (
   (length text, t, breaks_next text more b (at_begins (Front part) text n at) (no_front part text b at.1 e)),
 )
 
--- nor has it a From line behind a line that isn't empty
+-- nor has it a From line after a line that isn't empty
 no_line : (part : Part) (text : List ℕ) (n b : ℕ) → IsLine text n part → next_byte part ≡ b → longer part ≡ None → BeginsMailbox (text ++ b ∷ []) → ⊥
 no_line part text n b l e f m =
     let front : List ℕ = l.before ++ lf ∷ [] in

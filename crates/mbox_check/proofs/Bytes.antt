@@ -72,7 +72,7 @@ inside_byte text n b i false e = inside_more text n b [] i (one_line-cons b [] e
 
 -- ---- in a line that may be free
 
--- behind an empty line, or behind one that isn't
+-- after an empty line, or after one that isn't
 started_line_lf : (part : Part) (text : List ℕ) (n : ℕ) → IsStarted text n part → is_nothing part ≡ false → IsLine (text ++ lf ∷ []) n Nothing
 started_line_lf part text n s e = record {
   before = text;

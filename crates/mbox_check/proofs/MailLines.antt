@@ -1,4 +1,4 @@
--- The lines of a mailbox: each From line but the first stands behind an empty line, and the last line is empty.
+-- The lines of a mailbox: each From line but the first stands after an empty line, and the last line is empty.
 use Rattle.std.proofs.Common.{◌≡◌, ◌⊎◌, inl, inr, ℕ, Bool, true, false, ◌==◌, List, [], ◌∷◌, ◌++◌, map, sym, ap, ◌∙◌, refl, append_assoc, append-nil, true≢false}
 use Rattle.std.specs.Prelude.{codes}
 use Rattle.std.specs.List.{AllByRecursion}
@@ -16,7 +16,7 @@ pub no_nil : (xs ys : List ℕ) (b : ℕ) → [] ≡ xs ++ b ∷ ys → ⊥
 no_nil [] ys b e = cc
 no_nil (x ∷ xs) ys b e = cc
 
--- each From line stands behind an empty one; the line before the first is given
+-- each From line stands after an empty one; the line before the first is given
 abbrev IsSpaced : List ℕ → List (List ℕ) → Type 0
 IsSpaced before [] = Unit {0}
 IsSpaced before (l ∷ ls) = (begins_from l ≡ true → before ≡ []) × IsSpaced l ls
@@ -74,7 +74,7 @@ behind_empty : (before : List ℕ) (ls : List (List ℕ)) (text more : List ℕ)
 behind_empty before [] text more h s e = absurd (no_nil text (codes "From " ++ more) lf e)
 behind_empty before (l ∷ ls) text more h s e = behind_by l ls text more h.0 s.1 e (λ rest f. behind_empty l ls rest more h.1 s.1 f) (first_line text)
 
--- a From line behind other bytes stands behind an empty line
+-- a From line after other bytes stands after an empty line
 pub from_behind : (letters : List Letter) (text more : List ℕ) → AreLetters letters → written letters ≡ text ++ lf ∷ (codes "From " ++ more) → EmptyOrEndsIn (lf ∷ []) text
 from_behind letters text more h e = behind_empty [] (letters_lines letters) text more (letters_lines-each letters h) (spaced_mail letters) (sym (written-lines letters) ∙ e)
 

@@ -27,12 +27,12 @@ pub record BreaksAt (text : List ℕ) (place : ℕ) : Type 0 where
   pub breaks : place < length text → BeginsMailbox (take (suc place) text) → ⊥
   pub short : place ≡ length text → (letters : List Letter) → IsMailbox text letters → ⊥
 
--- what is wrong with the text: a From line is wanting at its front, or else an empty line
+-- what is wrong with the text: a From line is missing at its beginning, or else an empty line
 abbrev pub IsBad : List ℕ → BadForm → Type 0
 IsBad text (NoFromLine place) = (is_boundary text ≡ false) × ((p : ℕ) × (place ≡ counted p) × BreaksAt text p)
 IsBad text (NoEmptyLine place) = (is_boundary text ≡ true) × ((p : ℕ) × (place ≡ counted p) × BreaksAt text p)
 
--- so many letters as the text has
+-- as many letters as the text has
 abbrev pub IsLetterCount : List ℕ → ℕ → Type 0
 IsLetterCount text count = (letters : List Letter) × IsMailbox text letters × (count ≡ counted (length letters))
 

@@ -21,7 +21,7 @@ pub record EndsInLine (text : List ℕ) : Type 0 where
   pub whole : text ≡ front ++ last ∷ []
   pub other : (last == lf) ≡ false
 
--- n letters have begun, and the text ends behind a line of the last
+-- n letters have begun, and the text ends after a line of the last
 pub record IsBody (text : List ℕ) (n : ℕ) : Type 0 where
   pub letters : List Letter
   pub are : AreLetters letters
@@ -32,13 +32,13 @@ pub record IsBody (text : List ℕ) (n : ℕ) : Type 0 where
   pub one : AllByRecursion IsOneLine ls
   pub whole : text ≡ written letters ++ (codes "From " ++ (head ++ lf ∷ with_lf (map quoted ls)))
 
--- a part of `From ` stands behind an empty line
+-- a part of `From ` stands after an empty line
 pub record IsOpen (text : List ℕ) (n : ℕ) (part : Part) : Type 0 where
   pub before : List ℕ
   pub body : IsBody before n
   pub whole : text ≡ (before ++ lf ∷ []) ++ part_text part
 
--- it stands behind a line that isn't empty
+-- it stands after a line that isn't empty
 pub record IsLine (text : List ℕ) (n : ℕ) (part : Part) : Type 0 where
   pub before : List ℕ
   pub ends : EndsInLine before
@@ -64,10 +64,10 @@ pub record IsReadSoFar (text : List ℕ) (form : FormCheck) : Type 0 where
   pub taken : form.taken ≡ counted (length text)
   pub at : IsAt text n form.place
 
--- whatever came before, the bytes came behind it
+-- whatever came before, the bytes came after it
 pub record HasTaken (old new : FormCheck) (bytes : List ℕ) : Type 0 where
   pub goes : (front : List ℕ) → IsReadSoFar front old → IsReadSoFar (front ++ bytes) new
 
--- whatever came before, and whatever comes behind them, the bytes break the form
+-- whatever came before, and whatever comes after them, the bytes break the form
 pub record BreaksIn (old : FormCheck) (bytes : List ℕ) (bad : BadForm) : Type 0 where
   pub goes : (front more : List ℕ) → IsReadSoFar front old → IsBad (front ++ (bytes ++ more)) bad

@@ -42,7 +42,7 @@ impl FormCheck {
         Ok(())
     }
 
-    /// Ends the text: its letters were so many.
+    /// Ends the text: says how many letters it had.
     pub(crate) fn end(&self) -> Result<u64, BadForm>
         ensures ok { IfOk result (λ count. (text : List ℕ) → IsReadSoFar text self.now → IsLetterCount text count) }
         ensures err { IfErr result (λ bad. (text : List ℕ) → IsReadSoFar text self.now → IsBad text bad) }
@@ -54,7 +54,7 @@ impl FormCheck {
         }
     }
 
-    // Takes bytes at the front of the text, one at least, and says how many.
+    // Takes bytes at the beginning of the text, one at least, and says how many.
     fn turn(&mut self, text: &[u8]) -> Result<usize, BadForm>
         requires { 0 < length text.now }
         ensures within { IfOk result (λ n. (1 ≤ n) × (n ≤ length text.now)) }
@@ -106,7 +106,7 @@ impl FormCheck {
         }
     }
 
-    // So many bytes lead to the place.
+    // That many bytes lead to the place.
     fn go(&mut self, place: Place, size: usize)
         ensures { self.new ≡ record self.old { place = place; taken = counted (self.old.taken + size) } }
     {

@@ -17,9 +17,9 @@ pub(crate) enum Part {
 pub(crate) enum Place {
     /// In the first line, which has to be a From line.
     Front(Part),
-    /// In a line behind an empty one, which may be a From line.
+    /// In a line after an empty one, which may be a From line.
     Open(Part),
-    /// In a line behind one that isn't empty, which may not be a From line.
+    /// In a line after one that isn't empty, which may not be a From line.
     Line(Part),
     /// In a line of which the rest is free.
     Inside,

@@ -1,4 +1,4 @@
--- The lines behind a From line, read one by one.
+-- The lines after a From line, read one by one.
 use Rattle.std.proofs.Common.{◌≡◌, ◌⊎◌, inl, inr, ℕ, ◌-◌, length, take, drop, arith, Bool, true, false, ◌&&◌, ◌||◌, ◌==◌, List, [], ◌∷◌, ◌++◌, map, sym, ap, subst, ◌∙◌, refl, append_assoc, append-nil}
 use Rattle.std.specs.Prelude.{codes}
 use Rattle.std.specs.List.{AllByRecursion}
@@ -27,7 +27,7 @@ same_cut (a ∷ x) (b ∷ y) v w h k e =
     let more = same_cut x y v w (one_line-tail a x h) (one_line-tail b y k) rest in
     (ap (λ c. c ∷ x) same ∙ ap (λ l. b ∷ l) more.0, more.1)
 
--- whether a From line stands in front is told by the first line
+-- whether a From line stands at the beginning is told by the first line
 pub from-line : (line more : List ℕ) → begins_from (line ++ lf ∷ more) ≡ begins_from line
 from-line [] more = refl
 from-line (a ∷ []) more = refl
@@ -43,7 +43,7 @@ boundary-line (b ∷ line) more = from-line (b ∷ line) more
 quoted-not_from : (line : List ℕ) → begins_from (quoted line) ≡ false
 quoted-not_from line = quoted-not_from_by line (is_from_line line) refl
 
--- a reading of the lines behind a From line, up to the rest
+-- a reading of the lines after a From line, up to the rest
 pub record IsTail (text rest : List ℕ) : Type 0 where
   pub ls : List (List ℕ)
   pub one : AllByRecursion IsOneLine ls
@@ -71,7 +71,7 @@ next_by (l ∷ ls) line more rest h k b e =
     let cut = same_cut line (quoted l) more (with_lf (map quoted ls) ++ lf ∷ rest) k quote (e ∙ tail-cons l ls rest) in
     inr (record { ls = ls; one = h.1; whole = cut.1; ends = b })
 
--- the first line is the empty one behind the body, or the reading goes on behind it
+-- the first line is the empty one after the body, or the reading goes on after it
 pub IsTail-next : (text line more rest : List ℕ) → IsLineCut text line more → IsTail text rest → ((line ≡ []) × (more ≡ rest)) ⊎ IsTail more rest
 IsTail-next text line more rest cut t = next_by t.ls line more rest t.one cut.one t.ends (sym cut.whole ∙ t.whole)
 
@@ -168,7 +168,7 @@ IsBodyUpTo-quoted text body run rest line more front copied b cut plain open' q 
       goes = λ after t. let t' = b.goes after t in goes_on more after line open' t'.ends (IsTail-next rest line more after cut t');
     }
 
--- at the empty line behind the body
+-- at the empty line after the body
 pub lines-whole : (ls : List (List ℕ)) → AllByRecursion IsOneLine ls → lines (with_lf ls) ≡ ls
 lines-whole ls one = ap lines (sym (append-nil (with_lf ls))) ∙ lines-with_lf ls [] one ∙ append-nil ls
 

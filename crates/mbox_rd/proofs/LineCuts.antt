@@ -21,7 +21,7 @@ none_within : (text : List ℕ) → ((j : ℕ) → j < length text → ¬ ((slic
 none_within [] p = refl
 none_within (b ∷ text) p = rw (not_true (b == lf) (p 0 (omega arith))) (none_within text (λ j q. p (suc j) (omega arith)))
 
--- what stands behind a place, as a slice gives it
+-- what stands after a place, as a slice gives it
 rest_is : (text : List ℕ) (k : ℕ) → take (length text - k) (drop k text) ≡ drop k text
 rest_is text k = grind (arith, common_steps)
 

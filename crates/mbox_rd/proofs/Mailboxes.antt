@@ -62,7 +62,7 @@ boundary-letters (l ∷ ls) rest e = begins_with-append (codes "From ") l.head
 pub same_cause : {T E : Type 0} → (r : Result T E) (x y cause : E) → r ≡ Err x → x ≡ cause → r ≡ Err y → cause ≡ y
 same_cause r x y cause e f g = let both : Err x ≡ Err y = sym e ∙ g in cc
 
--- a letter in front ends at one place
+-- a letter at the beginning ends at one place
 same_rest : (rest other line : List ℕ) → ((line ≡ []) × (rest ≡ other)) ⊎ IsTail rest other → is_boundary rest ≡ true → rest ≡ other
 same_rest rest other line (inl e) b = e.1
 same_rest rest other line (inr t) b = let no' : is_boundary rest ≡ false = IsTail-inside rest other t in cc

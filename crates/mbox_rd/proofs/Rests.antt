@@ -1,4 +1,4 @@
--- The rest of a line and what stands behind it, as it is written.
+-- The rest of a line and what stands after it, as it is written.
 use Rattle.std.proofs.Common.{◌≡◌, ◌≢◌, ℕ, Bool, true, false, ◌&&◌, ◌==◌, List, [], ◌∷◌, ◌++◌, map, sym, ap, ◌∙◌, refl, inl, inr, append_assoc}
 use Rattle.std.specs.Prelude.{codes, if◌then◌else◌}
 use Rattle.std.specs.List.{onto_first}
@@ -8,7 +8,7 @@ use Rattle.mail_world.specs.Records.{is_from_line, quoted, quoted_text}
 use Rattle.mail_world.proofs.Quoting.{quoted_more}
 use Rattle.mbox_rd.specs.Writing.{line_rest, behind_mark}
 
--- the text up to its first LF, and behind it
+-- the text up to its first LF, and after it
 abbrev pub first_line : List ℕ → List ℕ
 first_line [] = []
 first_line (b ∷ text) = if b == lf then [] else b ∷ first_line text
@@ -50,7 +50,7 @@ pub plain_line : (b : ℕ) (text : List ℕ) → is_from_line (first_line (b ∷
 plain_line b text e = quoted_text-first b text ∙ ap (λ (t : Bool). (if t then 62 ∷ first_line (b ∷ text) else first_line (b ∷ text)) ++ lf ∷ quoted_text (behind_line (b ∷ text))) e
     ∙ sym (line_rest-first (b ∷ text))
 
--- a `>` at its front, and the rest
+-- a `>` at its beginning, and the rest
 pub marked_line : (text : List ℕ) → quoted_text (62 ∷ text) ≡ 62 ∷ behind_mark text
 marked_line [] = refl
 marked_line (b ∷ text) =

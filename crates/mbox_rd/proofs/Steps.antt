@@ -1,4 +1,4 @@
--- Steps, and one behind another.
+-- Steps, and one after another.
 use Rattle.std.proofs.Common.{◌≡◌, ℕ, ◌+◌, ◌-◌, ◌*◌, ◌<◌, ◌≤◌, arith, List, [], ◌++◌, length, take, drop, sym, ap, ◌∙◌, append_assoc, append-nil}
 use Rattle.std.proofs.lemmas.List.{length-drop, drop-drop}
 use Rattle.std.proofs.Math.Seq.{take-add}
@@ -20,7 +20,7 @@ IsWriterStep-plain before next piece n step a b c d within is smaller goes = rec
   goes = λ rest. rw (a, b, c, d, append-nil (take n piece)) (goes rest);
 }
 
--- a step behind bytes that are written as they are
+-- a step after bytes that are written as they are
 abbrev pub both : Step → Step → Step
 both step more = record { len = step.len + more.len; taken = step.taken + more.taken; extra = more.extra; next = more.next }
 

@@ -1,4 +1,4 @@
--- How bytes end once more stand behind them: the last two tell.
+-- How bytes end once more stand after them: the last two tell.
 use lib.Pointwise.{pointwise}
 use Rattle.std.proofs.Common.{◌≡◌, ◌≢◌, ◌⊎◌, ℕ, suc, ◌-◌, ◌<◌, ◌≤◌, arith, ap₂, drop, Bool, true, false, ◌==◌, List, [], ◌∷◌, ◌++◌, length, inl, inr, refl, sym, ap, ◌∙◌}
 use Rattle.std.specs.Bool.{Decides}

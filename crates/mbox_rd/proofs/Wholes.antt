@@ -69,7 +69,7 @@ module _ (calendar : Calendar) (host : List ℕ) (e : Envelope) (message : List 
       SpoolFailed-as s v text ((head ++ x.text) ++ (bytes_owed last [] ++ lf ∷ [])) (record_parts t u first last begins x)
       (SpoolFailed-later s u v (head ++ x.text) (bytes_owed last [] ++ lf ∷ []) (SpoolTook-then s t u head x.text h x.taken) y)
 
--- whatever message the piece was the front of
+-- whatever message the piece was a prefix of
 pub piece_failed : (calendar : Calendar) (host : List ℕ) (e : Envelope) (piece rest : List ℕ) (s t u : SpoolState) (first : Pending)
     → SpoolTook s t (head_text calendar host e) → BeginsRecord first → FailsPiece t u first piece → SpoolFailed s u (record_text calendar host e (piece ++ rest))
 piece_failed calendar host e piece rest s t u first h begins x =

@@ -1,4 +1,4 @@
--- What follows a part of `From ` at the front of a line.
+-- What follows a part of `From ` at the beginning of a line.
 use Rattle.std.proofs.Common.{◌≡◌, ◌≢◌, ℕ, zero, suc, ◌+◌, ◌-◌, ◌<◌, ◌≤◌, arith, Bool, true, false, ◌&&◌, ◌==◌, List, [], ◌∷◌, ◌++◌, length, take, drop, sym, ap, ◌∙◌, ap₂, subst, inl, inr, refl, append_assoc, append-nil}
 use Rattle.std.specs.Prelude.{codes, if◌then◌else◌}
 use Rattle.std.proofs.lemmas.Bool.{or_parts, and_parts, eqb-true, false≢true}
@@ -13,7 +13,7 @@ use Rattle.mbox_rd.proofs.Rests.{first_line, plain_line, from_line}
 abbrev pub word : List ℕ
 word = codes "From "
 
--- what is missing behind n bytes of it
+-- what is missing after n bytes of it
 abbrev pub missing : ℕ → List ℕ
 missing n = take (5 - n) (drop n word)
 
@@ -39,7 +39,7 @@ word_found n piece back rest e =
     ∙ ap (λ (w : List ℕ). w ++ (back ++ rest)) (sym (word_split n)) in
     sym (ap (λ (l : List ℕ). quoted_text (unix l)) whole ∙ from_line (unix (back ++ rest)))
 
--- a front of it follows, and that's all of the piece
+-- a prefix of it follows, and that's all of the piece
 pub shorter : (want piece back : List ℕ) → want ≡ piece ++ back → ((more : List ℕ) → piece ≢ want ++ more) → length piece < length want
 shorter want piece [] e other = absurd (other [] (sym (append-nil piece) ∙ sym e ∙ sym (append-nil want)))
 shorter want piece (b ∷ back) e other = rw (e, length-append piece (b ∷ back)) (omega arith)

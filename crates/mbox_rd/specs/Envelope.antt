@@ -28,7 +28,7 @@ note_of envelope message = record {
 abbrev pub record_text : Calendar → List ℕ → Envelope → List ℕ → List ℕ
 record_text calendar host envelope message = record_of calendar host (note_of envelope message)
 
--- the front of it that stands before the message: the From line and the trace lines
+-- the prefix of it that stands before the message: the From line and the trace lines
 abbrev pub from_line : List ℕ → Civil → List ℕ
 from_line sender civil = codes "From " ++ from_head sender civil ++ lf ∷ []
 

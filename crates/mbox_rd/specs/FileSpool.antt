@@ -25,7 +25,7 @@ pub record FileSpool (F : Type 0) : Type 0 where
 abbrev pub contents_of : {F : Type 0} → (F → Option (List ℕ)) → FileSpool F → Option (List ℕ)
 contents_of contents spool = append_known (contents spool.file) spool.waiting
 
--- of known bytes a front is left
+-- of known bytes a prefix is left
 abbrev pub KeepsFront : Option (List ℕ) → Option (List ℕ) → Type 0
 KeepsFront None new = ⊤
 KeepsFront (Some held) None = ⊥
@@ -44,7 +44,7 @@ pub record StaysSound {F : Type 0} (old new : FileSpool F) : Type 0 where
   pub tail : new.tail ≡ old.tail
   pub failures : new.failures ≡ old.failures
 
--- it failed: the file has a front of what it had and what waited, and what isn't in it is thrown away
+-- it failed: the file has a prefix of what it had and what waited, and what isn't in it is thrown away
 pub record Breaks {F : Type 0} (contents : F → Option (List ℕ)) (old new : FileSpool F) : Type 0 where
   pub front : KeepsFront (contents_of contents old) (contents new.file)
   pub empty : new.waiting ≡ []

@@ -23,7 +23,7 @@ pub record IsLineCut (text line rest : List ℕ) : Type 0 where
   pub one : IsOneLine line
   pub whole : text ≡ line ++ lf ∷ rest
 
--- the text behind a From line is this body, an empty line, and then the rest, where the letter ends
+-- the text after a From line is this body, an empty line, and then the rest, where the letter ends
 pub record IsBodyRead (text body rest : List ℕ) : Type 0 where
   pub lines : EmptyOrEndsIn (lf ∷ []) body
   pub whole : text ≡ quoted_text body ++ lf ∷ rest

@@ -7,11 +7,11 @@ use Rattle.mbox_rd.specs.declared.file.FileEnd.{FileEnd}
 use Rattle.mbox_rd.specs.Spool.{tail_of}
 
 -- Other programs change the file, and what the path names, only while a lock isn't held. Contracts see it in the calls
--- that ask for a lock or open the path anew.
+-- that ask for a lock or open the path again.
 pub record FileState : Type 0 where
   -- what the open file holds
   pub bytes : List ℕ
-  -- so many of its first bytes are kept through a crash
+  -- how many of its first bytes are kept through a crash
   pub kept : ℕ
   -- the lock file is this holder's
   pub has_lock_file : Bool
@@ -116,7 +116,7 @@ pub record HasNotKept (old new : FileState) : Type 0 where
   pub same : new ≡ record old { kept = new.kept; faults = new.faults }
   pub failed : Rises old.faults new.faults
 
--- only so many of the first bytes are left
+-- only that many of the first bytes are left
 pub record HasCut (old new : FileState) (size : ℕ) : Type 0 where
   pub same : new ≡ record old { bytes = take size old.bytes; kept = min old.kept size; changes = new.changes }
   pub changed : Rises old.changes new.changes

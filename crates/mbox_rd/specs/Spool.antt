@@ -53,7 +53,7 @@ pub record SpoolTook (old new : SpoolState) (text : List ℕ) : Type 0 where
   pub grown : Grows old.held new.held (length text)
   pub turn : IsSameTurn old.sharing new.sharing
 
--- the spool took a front of the text, and failed, which one with a limit does only once it is full
+-- the spool took a prefix of the text, and failed, which one with a limit does only once it is full
 pub record SpoolFailed (old new : SpoolState) (text : List ℕ) : Type 0 where
   pub front : List ℕ
   pub rest : List ℕ
@@ -92,7 +92,7 @@ standing spool =
     option_map (λ bytes. let s : Standing = record { bytes = bytes; synced = spool.synced; failures = spool.failures } in s)
     spool.bytes
 
--- A turn of a shared spool began. Others may have changed all but its counts, and so many bytes stand there now.
+-- A turn of a shared spool began. Others may have changed all but its counts, and that many bytes stand there now.
 pub record BeginsTurn (old new : SpoolState) (held : ℕ) : Type 0 where
   pub free : old.sharing.in_turn ≡ false
   pub telling : is_some new.bytes ≡ is_some old.bytes

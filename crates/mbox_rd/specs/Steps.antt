@@ -4,7 +4,7 @@ use Rattle.mbox_rd.specs.declared.pending.Step.{Step}
 use Rattle.mbox_rd.specs.declared.pending.Pending.TheVariants.{Inside}
 use Rattle.mbox_rd.specs.Writing.{Pending, IsPending, bytes_owed}
 
--- the texts that a step writes: bytes of the piece as they are, and others behind them
+-- the texts that a step writes: bytes of the piece as they are, and others after them
 abbrev pub step_text : Step → List ℕ → List ℕ
 step_text step piece = take step.len piece ++ step.extra.now
 

@@ -58,7 +58,7 @@ pub record IsBetweenTries (old new : FileState) : Type 0 where
   pub unchanged : new.changes ≡ old.changes
   pub sound : new.faults ≡ old.faults
 
--- Only so many of the first bytes are left, and a crash leaves them; or the cut failed, or that it be kept.
+-- Only that many of the first bytes are left, and a crash leaves them; or the cut failed, or that it be kept.
 pub record IsCutBack (old new : FileState) (size : ℕ) : Type 0 where
   pub left : (new.bytes ≡ old.bytes) ⊎ (new.bytes ≡ take size old.bytes)
   pub cut : ((new.bytes ≡ take size old.bytes) × (new.kept ≡ length new.bytes)) ⊎ Rises old.faults new.faults

@@ -16,12 +16,12 @@ abbrev pub IsPending : Pending → Type 0
 IsPending (Word n) = (1 ≤ n) × (n ≤ 4)
 IsPending _ = ⊤
 
--- the rest of a line that isn't a From line, with LF at its end, and the lines behind it
+-- the rest of a line that isn't a From line, with LF at its end, and the lines after it
 abbrev pub line_rest : List ℕ → List ℕ
 line_rest [] = lf ∷ []
 line_rest (b ∷ text) = if b == lf then lf ∷ quoted_text text else b ∷ line_rest text
 
--- the rest of a line that began with `>`, and the lines behind it
+-- the rest of a line that began with `>`, and the lines after it
 abbrev pub behind_mark : List ℕ → List ℕ
 behind_mark [] = lf ∷ []
 behind_mark (b ∷ text) = quoted_text (b ∷ text)

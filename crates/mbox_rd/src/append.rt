@@ -4,7 +4,7 @@ ghost use Rattle.mbox_rd.specs.Spool.{SpoolTook, SpoolFailed};
 
 use crate::spool::{Spool, SpoolFault};
 
-// Appends the pieces one behind the other.
+// Appends the pieces one after the other.
 pub(crate) fn append_each<S: Spool>(spool: &mut S, pieces: &[&[u8]]) -> Result<(), SpoolFault>
     ensures ok { OnOk result
         (SpoolTook (S.state spool.old) (S.state spool.new) (flat_map (λ piece. piece.now) pieces.now)) }

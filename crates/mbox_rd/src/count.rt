@@ -40,7 +40,7 @@ impl CountSpool {
 
 const LF: &[u8] = b"\n";
 
-// How bytes that end so end with the piece behind them.
+// How bytes that end so end with the piece after them.
 pub(crate) fn tail_behind(tail: Tail, piece: &[u8]) -> Tail
     requires { 0 < length piece.now }
     ensures { (front : List ℕ) → tail ≡ tail_of front → result ≡ tail_of (front ++ piece.now) }

@@ -27,7 +27,7 @@ pub(crate) const OWNER_ONLY: u32 = 0o600;
 /// Why a mailbox's file can't be used.
 #[derive(Clone, Copy, Debug, PartialEq, Eq, Error)]
 pub enum OpenFault {
-    /// Memory is wanting, the system's or that of the buffer.
+    /// Memory is lacking, the system's or that of the buffer.
     #[error("memory")]
     Memory = 1,
     /// The file can't be made or opened, it isn't plain where it is to be shared, another holder has it locked, its end
@@ -50,7 +50,7 @@ impl FileLock for File {
 }
 
 /// A spool over a file that takes bytes at its end. They wait in a buffer of 65,536 bytes until that is
-/// full, until a sync, or until the spool is dropped. Behind its first fault it is broken: what waited is
+/// full, until a sync, or until the spool is dropped. After its first fault it is broken: what waited is
 /// thrown away, nothing more goes to the file, also when it is dropped, and each append and each sync is a
 /// fault. The file stays open, and so locked, until the drop.
 #[derive(Drop)]

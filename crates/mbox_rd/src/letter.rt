@@ -6,7 +6,7 @@ ghost use Rattle.mbox_rd.specs.Letters.{letter_headed};
 
 use std::marker::Model;
 
-/// A letter of a mailbox: what follows `From ` on its From line, and the lines behind it, each with its LF and without
+/// A letter of a mailbox: what follows `From ` on its From line, and the lines after it, each with its LF and without
 /// the quoting.
 #[derive(Debug, Drop)]
 pub struct Letter {
@@ -41,7 +41,7 @@ impl Letter {
         &self.head
     }
 
-    /// The lines behind the From line as they were before they were quoted, each with LF at its end. The empty line
+    /// The lines after the From line as they were before they were quoted, each with LF at its end. The empty line
     /// that ends the letter isn't one of them.
     pub fn body(&self) -> &[u8]
         ensures value { result.now ≡ self.now.body }

@@ -8,7 +8,7 @@ use std::alloc::{AllocError, Global};
 use std::io;
 
 /// The file of a mailbox that no other program uses. It keeps its bytes as long as it is there itself, and a write
-/// fails where memory is wanting.
+/// fails where memory is lacking.
 #[derive(Debug, Drop)]
 pub struct MemoryFile {
     bytes: Vec<u8>,

@@ -1,11 +1,11 @@
-//! What an old mailbox wants at its end before a record may follow.
+//! What an old mailbox needs at its end before a record may follow.
 ghost use Rattle.std.specs.Prelude.{OnOk, OnErr};
 ghost use Rattle.mbox_rd.specs.Mending.{HasMended, HasNotMended};
 
 use crate::append::append_all;
 use crate::spool::{Spool, SpoolFault, Tail};
 
-/// Ends an old mailbox's last line, and the empty line behind it, so that a record may follow (RFC 4155, Appendix A).
+/// Ends an old mailbox's last line, and the empty line after it, so that a record may follow (RFC 4155, Appendix A).
 /// To an empty spool it appends nothing.
 pub fn mend<S: Spool>(spool: &mut S) -> Result<(), SpoolFault>
     ensures ok { OnOk result (HasMended (S.state spool.old) (S.state spool.new)) }

@@ -16,10 +16,10 @@ pub(crate) const FROM: &[u8] = b"From ";
 pub(crate) enum Pending {
     // At a line's start.
     Start,
-    // Behind the `>`s at a line's front, one or more. They are written at once: a From line's further `>` is the same
-    // behind them as before them.
+    // After the `>`s at a line's start, one or more. They are written at once: a From line's further `>` is the same
+    // after them as before them.
     Marks,
-    // That many bytes of `From ` are held back, which stand at a line's start or behind its `>`s.
+    // That many bytes of `From ` are held back, which stand at a line's start or after its `>`s.
     Word(usize),
     // Inside a line that isn't a From line, or is one and has its `>`.
     Inside,
@@ -27,7 +27,7 @@ pub(crate) enum Pending {
     Cr,
 }
 
-// What comes of the front of a piece: its first `len` bytes as they are, then `extra`, in place of its first `taken`
+// What comes of a prefix of a piece: its first `len` bytes as they are, then `extra`, in place of its first `taken`
 // bytes.
 #[derive(Clone, Copy, Debug)]
 pub(crate) struct Step {
@@ -157,7 +157,7 @@ fn short_step(pending: Pending, piece: &[u8]) -> Step
     }
 }
 
-// At a line's start or behind its `>`s.
+// At a line's start or after its `>`s.
 fn front_step(piece: &[u8]) -> Step
     requires some { 0 < length piece.now }
     ensures start { IsWriterStep Start piece.now result }
@@ -170,7 +170,7 @@ fn front_step(piece: &[u8]) -> Step
     }
 }
 
-// Behind n bytes of `From `.
+// After n bytes of `From `.
 fn word_step(n: usize, piece: &[u8]) -> Step
     requires some { 0 < length piece.now }
     requires within { n ≤ 4 }
@@ -229,7 +229,7 @@ fn line_step(piece: &[u8]) -> Step
     }
 }
 
-// Behind a CR.
+// After a CR.
 fn cr_step(piece: &[u8]) -> Step
     requires some { 0 < length piece.now }
     ensures { IsWriterStep Cr piece.now result }

@@ -71,7 +71,7 @@ fn is_boundary(text: &[u8]) -> bool
     text.is_empty() || text.starts_with(b"From ")
 }
 
-// Reads the letter at the front, and gives what follows it.
+// Reads the letter at the beginning, and gives what follows it.
 fn read_letter(alloc: Global, text: &[u8]) -> Result<(Letter, &[u8]), BadMailbox>
     requires { begins_with (codes "From ") text.now ≡ true }
     ensures read { IfOk result (λ found. IsLetterRead text.now found.0 found.1.now) }
@@ -87,7 +87,7 @@ fn read_letter(alloc: Global, text: &[u8]) -> Result<(Letter, &[u8]), BadMailbox
     Ok((Letter::new(head, body), rest))
 }
 
-// Reads the lines behind a From line, and gives what follows the empty line behind them.
+// Reads the lines after a From line, and gives what follows the empty line after them.
 fn read_body(alloc: Global, text: &[u8]) -> Result<(Vec<u8>, &[u8]), BadMailbox>
     ensures read { IfOk result (λ found. IsBodyRead text.now found.0.items found.1.now) }
     ensures no_empty_line { result ≡ Err BadMailbox.NoEmptyLine
@@ -120,7 +120,7 @@ fn before<'a>(text: &'a [u8], rest: &[u8]) -> &'a [u8]
     &text[..text.len() - rest.len()]
 }
 
-// Cuts off the line at the front, unless that is a From line.
+// Cuts off the line at the beginning, unless that is a From line.
 fn cut_body_line(text: &[u8]) -> Option<(&[u8], &[u8])>
     ensures cut { IfSome result (λ parts. IsLineCut text.now parts.0.now parts.1.now) }
     ensures plain { IfSome result (λ _. begins_with (codes "From ") text.now ≡ false) }
@@ -133,7 +133,7 @@ fn cut_body_line(text: &[u8]) -> Option<(&[u8], &[u8])>
     }
 }
 
-// The line at the front, without its LF, and what follows that LF.
+// The line at the beginning, without its LF, and what follows that LF.
 fn cut_line(text: &[u8]) -> Option<(&[u8], &[u8])>
     ensures cut { IfSome result (λ parts. IsLineCut text.now parts.0.now parts.1.now) }
     ensures none { IfNone result (has_byte text.now lf ≡ false) }

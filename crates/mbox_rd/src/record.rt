@@ -16,7 +16,7 @@ use crate::pending::{FROM, Pending, Step, long_step, plain_line};
 use crate::spool::{Spool, SpoolFault};
 use std::marker::Model;
 
-/// Writes the record of a message that comes in pieces. It holds back a CR, or the front of a line's `From `, and keeps
+/// Writes the record of a message that comes in pieces. It holds back a CR, or a prefix of a line's `From `, and keeps
 /// no bytes of the message.
 #[derive(Debug, Drop)]
 pub struct RecordWriter {
@@ -53,7 +53,7 @@ impl RecordWriter {
     }
 
     /// Writes what is sure of the message's bytes, with LF for CRLF and one `>` more before a From line. The piece may
-    /// end anywhere. After a fault the spool holds a front of the record, and the writer is gone.
+    /// end anywhere. After a fault the spool holds a prefix of the record, and the writer is gone.
     pub fn piece<S: Spool>(self, spool: &mut S, piece: &[u8]) -> Result<RecordWriter, SpoolFault>
         ensures ok { IfOk result (λ writer. WritesPiece (S.state spool.old) (S.state spool.new) self writer piece.now) }
         ensures err { OnErr result (FailsPiece (S.state spool.old) (S.state spool.new) self piece.now) }
@@ -75,7 +75,7 @@ impl RecordWriter {
         Ok(RecordWriter { pending })
     }
 
-    /// Writes what is left of the message, with LF behind a last line that has none, and the empty line that ends a
+    /// Writes what is left of the message, with LF after a last line that has none, and the empty line that ends a
     /// record.
     pub fn end<S: Spool>(self, spool: &mut S) -> Result<(), SpoolFault>
         ensures ok { OnOk result (SpoolTook (S.state spool.old) (S.state spool.new) (bytes_owed self [] ++ lf ∷ [])) }

@@ -1,5 +1,5 @@
 //! A mailbox in a file that other programs read and empty too: it takes bytes in turns, and what stands there is
-//! looked at anew in each.
+//! looked at again in each.
 ghost use Rattle.std.specs.Prelude.{◌≡◌, ◌⊎◌, ◌↔◌, ℕ, ◌+◌, ◌-◌, ◌^◌, ◌<◌, ◌≤◌, [], List, ◌++◌, true, false, min, length, take};
 ghost use Rattle.std.specs.Prelude.{None, IsErr, IfOk, OnOk, OnErr};
 ghost use Rattle.std.specs.Option.{IfSome};
@@ -67,7 +67,7 @@ impl<F: MailboxFile + Drop, C: Clock + Drop> Model for SharedSpool<F, C> {
 impl<F: MailboxFile + Drop, C: Clock + Drop> SharedSpool<F, C> {
     ghost use Rattle.mbox_rd.specs.SharedSpool.{IsOpened};
 
-    /// Over a file of which neither lock is held. A lock waits so many seconds for other programs, 3,600 at most; 0 is
+    /// Over a file with neither lock held. A lock waits that many seconds for other programs, 3,600 at most; 0 is
     /// one try. From here on it takes no memory.
     pub fn new(alloc: Global, file: F, clock: C, wait: u32) -> Result<SharedSpool<F, C>, AllocError>
         ensures opened { IfOk result IsOpened }

@@ -34,7 +34,7 @@ pub enum Tail {
     Empty,
     /// The last line has no LF.
     NoLf,
-    /// The last line has its LF, and no empty line stands behind it.
+    /// The last line has its LF, and no empty line stands after it.
     OneLf,
     /// The last two bytes are LFs.
     TwoLf,
@@ -64,7 +64,7 @@ pub trait Spool {
         ensures none { (state self.old).sharing.in_turn ≡ false → state self.new ≡ state self.old }
         ensures over { (state self.old).sharing.in_turn ≡ true → EndsTurn (state self.old) (state self.new) };
 
-    /// Takes bytes at the front of the piece, one at least, and says how many.
+    /// Takes bytes at the beginning of the piece, one at least, and says how many.
     fn append(&mut self, piece: &[u8]) -> Result<usize, SpoolFault>
         requires { 0 < length piece.now }
         ensures within { IfOk result (λ n. (1 ≤ n) × (n ≤ length piece.now)) }

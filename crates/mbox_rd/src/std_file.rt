@@ -77,7 +77,7 @@ where
 {
     /// Opens the plain file at that path. Where it is missing it is made with these permission bits, and the folder
     /// that holds it is synced. Neither lock is held, and a lock file that was left behind is gone. An error says why
-    /// it can't be used, of `ErrorKind::OutOfMemory` where memory is wanting.
+    /// it can't be used, of `ErrorKind::OutOfMemory` where memory is lacking.
     pub fn open(rt: R, alloc: Global, path: &str, mode: u32) -> io::Result<StdMailboxFile<R>> {
         let mut file = StdMailboxFile {
             path: format!(in alloc; "{path}")?,
@@ -95,8 +95,8 @@ where
         Ok(file)
     }
 
-    // Makes the file that lock files are linked from. One that was left behind goes; where a server has one there is none
-    // for this one.
+    // Makes the file that lock files are linked from. One that was left behind goes; where a server has one there is
+    // none for this one.
     fn make_source(&self) -> io::Result<OpenNode<R::File>> {
         match fs::symlink_metadata(&self.rt, self.source_path.as_str()) {
             Ok(found) if self.is_left(self.source_path.as_str(), &found) => {
@@ -213,7 +213,7 @@ where
     }
 
     // Under the lock on the bytes of the file that the path names nobody else removes what was left behind, and what
-    // was found is looked at anew.
+    // was found is looked at again.
     fn remove_same(&mut self, found: &Metadata) -> Result<bool, InUse> {
         if !self.is_named()? {
             return Ok(false);
@@ -336,7 +336,7 @@ where
 
     /// Opens the plain file at that path. Where it is missing it is made, for its owner alone, and the folder that
     /// holds it is synced. A lock file that was left behind is removed, nothing is written, and no lock is held. A
-    /// lock waits so many seconds for other programs, 3,600 at most; 0 is one try.
+    /// lock waits that many seconds for other programs, 3,600 at most; 0 is one try.
     pub fn at(
         rt: R,
         alloc: Global,

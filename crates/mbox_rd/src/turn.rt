@@ -1,5 +1,5 @@
 //! How a turn at a mailbox's file begins: both locks are taken, on the file that the path names, and its end is looked
-//! at anew.
+//! at again.
 ghost use Rattle.std.specs.Prelude.{◌≡◌, true, IfOk, OnOk, OnErr};
 ghost use Rattle.mbox_rd.specs.MailboxFile.{HasRefused};
 ghost use Rattle.mbox_rd.specs.Turn.{HasBegun, HasMissed, HasTried, HasSeen, HasTakenLocks, HasLetGo, HasCutBack};
@@ -22,7 +22,7 @@ const PAUSE_MS: u64 = 100;
 /// The longest wait for a turn, in seconds.
 pub(crate) const LONGEST_WAIT: u32 = 3_600;
 
-/// How many tries take so many seconds, with a pause between each two.
+/// How many tries take that many seconds, with a pause between each two.
 pub(crate) fn tries_in(seconds: u32) -> u64 {
     let seconds = seconds.min(LONGEST_WAIT);
     if seconds == 0 {
@@ -61,7 +61,7 @@ fn pause_after(pauses: u64) -> Duration {
     }
 }
 
-// The path may name another file than the open one, which is then opened, and it is tried anew.
+// The path may name another file than the open one, which is then opened, and it is tried again.
 fn begin_turn<F: MailboxFile>(file: &mut F) -> Result<FileEnd, InUse>
     ensures ok { F.tells ≡ true → IfOk result (HasBegun (F.state file.old) (F.state file.new)) }
     ensures err { F.tells ≡ true → OnErr result (HasMissed (F.state file.old) (F.state file.new)) }

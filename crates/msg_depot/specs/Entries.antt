@@ -29,7 +29,7 @@ entry_of slot = entry (phase_held slot.held) slot.generation (d.bytes_of slot.he
 abbrev pub entries_of : d.Depot → List Entry
 entries_of depot = map entry_of depot.slots
 
--- the slot behind a message of that generation
+-- the slot after a message of that generation
 abbrev pub slot_given_back : ℕ → d.Slot
 slot_given_back generation =
     if nat_lt generation d.last_generation then record { generation = generation + 1; held = d.Free }

@@ -115,7 +115,7 @@ Used Drafted w d s = (w ≡ 0) × (d ≡ 1) × (s ≡ 0)
 Used Sealed w d s = (d ≡ 0) × (s + positive w ≡ 1)
 Used Retired w d s = (w ≡ 0) × (d ≡ 0) × (s ≡ 0)
 
--- where a slot's word stands: behind words that are nobody's, and those of the slots before it
+-- where a slot's word stands: after words that are nobody's, and those of the slots before it
 abbrev pub word_of : ℕ → ℕ
 word_of i = (i + 1) * WORDS_PER_SLOT
 

@@ -1,4 +1,4 @@
-//! The depot: the keeper behind a lock, and beside it the words on which holds are split and released without the lock.
+//! The depot: the keeper under a lock, and beside it the words on which holds are split and released without the lock.
 
 ghost use Rattle.std.specs.Prelude.{◌≡◌, ◌+◌, ◌-◌, ◌^◌, ◌*◌, ◌<◌, ◌≤◌, ◌++◌, [], length, take, drop, min, replicate};
 ghost use Rattle.std.specs.Prelude.{IfOk, IfErr, IfSome};

@@ -147,7 +147,7 @@ fn second_use<N: DepotName + Send + Sync, R: Threads + Wait + Abort + Sync>(
     Ok(())
 }
 
-// From the second byte on, and behind the last one nothing.
+// From the second byte on, and after the last one nothing.
 fn is_second<N: DepotName, R: Wait>(rt: &R, depot: &Depot<N>, mut hold: Hold<N>) -> bool {
     let mut out = [0; 6];
     depot.read(rt, &mut hold, 6, &mut out) == 0

@@ -93,7 +93,7 @@ module _ {M : Type 0} where
     pub sent : closed.sent ≡ sent_by senders
     pub sent_at : closed.sent_at ≡ sent_at_by senders
 
-  -- the rows are of so many channels, and at least one lane
+  -- the rows are of that many channels, and at least one lane
   pub record MayClose (shape : Shape) (rows : List (List (Sender M))) : Type 0 where
     pub channels : List (Channel M)
     pub sent : ℕ → ℕ → List M

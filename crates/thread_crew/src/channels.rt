@@ -15,7 +15,7 @@ use std::alloc::{AllocError, Global};
 use std::marker::Model;
 use std::sync::Wait;
 
-/// So many channels of that capacity, each with a sender for each lane. The senders stand lane by lane.
+/// That many channels of that capacity, each with a sender for each lane. The senders stand lane by lane.
 pub fn open_channels<M: FromSender>(
     alloc: Global,
     capacity: usize,
@@ -75,7 +75,7 @@ impl<M: FromSender> Model for Closing<M> {
 }
 
 impl<M: FromSender> Closing<M> {
-    /// The memory for so many channels, each of so many lanes.
+    /// The memory for that many channels, each of that many lanes.
     pub fn new(alloc: Global, lanes: usize, count: usize) -> Result<Closing<M>, AllocError>
         ensures { IfOk result (λ c. c ≡ record { lanes = lanes; count = count }) }
     {

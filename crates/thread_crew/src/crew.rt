@@ -59,7 +59,7 @@ impl<T: Task> Model for Crew<T> {
 }
 
 impl<T: Task> Crew<T> {
-    /// No thread yet, and room for so many.
+    /// No thread yet, and room for that many.
     pub fn with_capacity(alloc: Global, room: usize) -> Result<Crew<T>, AllocError>
         ensures { IfOk result (λ c. c ≡ record { tasks = []; room = room }) }
     {

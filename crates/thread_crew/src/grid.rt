@@ -6,7 +6,7 @@ ghost use Rattle.thread_crew.specs.Grid.{IsTransposed, lists, zip_push};
 
 use std::alloc::{AllocError, Global};
 
-/// Lists with nothing in them, each with room for so many.
+/// Lists with nothing in them, each with room for that many.
 pub fn empty_rows<T: Drop>(
     alloc: Global,
     rows: usize,

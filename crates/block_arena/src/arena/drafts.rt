@@ -133,7 +133,7 @@ fn longer_draft(key: Key, run: Run, n: usize) -> Slot
     }
 }
 
-/// Puts a block behind the run.
+/// Puts a block after the run.
 fn link(next: &mut Vec<u32>, run: Run, block: u32) -> Run
     requires last { 0 < run.blocks → run.last < length next.old.items }
     requires few { run.blocks < BLOCK_LIMIT }
