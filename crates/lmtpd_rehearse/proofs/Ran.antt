@@ -34,7 +34,8 @@ use Rattle.lmtp_house.specs.House.{HasRun}
 use Rattle.lmtp_house.specs.RunOfModel.{IsToldAlone, IsCourseOf, AreModelled, threads_of, IsRunOfModel}
 use Rattle.lmtp_talk.specs.Peer.{PeerState}
 use Rattle.lmtp_talk.specs.Served.{terms, IsWritten, has_quit, transactions_in}
-use Rattle.mail_world.specs.declared.limits.TheConstants.{READ_LIMIT}
+use Rattle.mail_world.specs.declared.limits.TheConstants.{READ_LIMIT, RECIPIENT_LIMIT}
+use Rattle.lmtpd_words.specs.declared.words.TheConstants.{DEFAULT_CAPACITY}
 use Rattle.lmtp_lane.specs.Visits.{Finished, Visit, IsVisit, conversations_of, finished_of}
 use Rattle.lmtpd_rehearse.specs.declared.client.OnlyClient.{OnlyClient}
 use Rattle.lmtpd_rehearse.specs.declared.client.OnlyClient.TheVariants.{Waiting, Over}
@@ -46,7 +47,7 @@ use Rattle.lmtpd_rehearse.specs.Rehearsal.{AreMailboxes, copies_due, told_of_box
 use Rattle.lmtpd_rehearse.proofs.Boxes.{state_of, get_some, get_same, kept_is, length-kept, bytes_are, none_failed, all_calm, is_full, spool_has, holds_settled}
 use Rattle.mail_world.specs.Runs.{events_of, offers_by}
 use Rattle.mail_runs.specs.Histories.{Threads}
-use Rattle.mail_runs.specs.RunOf.{IsRunOf}
+use Rattle.mail_runs.specs.Ordered.{IsOrderlyRunOf}
 use Rattle.mail_runs.proofs.Rising.{NumbersRise, numbers_rise}
 use Rattle.mbox_rd.proofs.Taken.{Appends-then}
 use Rattle.lmtpd_rehearse.proofs.Keeping.{all_settled, marked_none, same_marks}
@@ -296,11 +297,11 @@ abbrev pub HasRunAlone : (site : Site) (quota : Option ℕ) (moment : ℕ) {P : 
     (back : HandedBack (OnlyClient P) MemorySpool) → Type 0
 HasRunAlone site quota moment state peer count back =
     HasRun site (λ m. m ≡ moment) (record { MayGive = λ c p. MayGive state c p; finished = λ c. told_by state c; over = λ c. is_over c }) state_of
-    (record { visits = Waiting peer ∷ []; spools = replicate count (empty_spool site); quota = quota }) back
+    (record { visits = Waiting peer ∷ []; spools = replicate count (empty_spool site); capacity = DEFAULT_CAPACITY; quota = quota }) back
 
 module _ (site : Site) (quota : Option ℕ) (moment : ℕ) {P : Type 0} (state : P → PeerState) (peer : P) (count : ℕ) (back : HandedBack (OnlyClient P) MemorySpool) where
   abbrev handed : HandedIn (OnlyClient P) MemorySpool
-  handed = record { visits = Waiting peer ∷ []; spools = replicate count (empty_spool site); quota = quota }
+  handed = record { visits = Waiting peer ∷ []; spools = replicate count (empty_spool site); capacity = DEFAULT_CAPACITY; quota = quota }
 
   -- the client has left
   pub only_over : HasRunAlone site quota moment state peer count back → IsOnlyOver back.visits
@@ -341,7 +342,7 @@ module _ (site : Site) (quota : Option ℕ) (moment : ℕ) {P : Type 0} (state :
         as_many = (h.as_many_boxes.0 ∙ many, h.as_many_boxes.1 ∙ many);
       }
 
-  -- what lane and workers did is a run of the model
+  -- what lane and workers did is an orderly run of the model
   all_modelled : AreModelled state_of handed back
   all_modelled = λ b before after tally e f g. inl (record { alone = refl; telling = refl })
 
@@ -356,8 +357,8 @@ module _ (site : Site) (quota : Option ℕ) (moment : ℕ) {P : Type 0} (state :
       let threads : Threads = threads_of site h.lanes m.courses in
       let copies : ℕ → Conversation → List Note = λ b x. due site 0 b (x ∷ []) in
       let R : ℕ → Type 0 = λ n.
-      (run : IsRunOf (record { calendar = civil_at; host = site.host; quota = quota; lanes = 1; boxes = n }) threads)
-      × ((b : ℕ) → b < n → offers_by 0 b (events_of run.run) ≡ copies b (conversation c.bytes c.dispositions)) in
+      (run : IsOrderlyRunOf RECIPIENT_LIMIT DEFAULT_CAPACITY (record { calendar = civil_at; host = site.host; quota = quota; lanes = 1; boxes = n }) threads)
+      × ((b : ℕ) → b < n → offers_by 0 b (events_of run.is.run) ≡ copies b (conversation c.bytes c.dispositions)) in
       let first : R (length handed.spools) =
       (m.is, λ b low. m.offered 0 b one low ∙ ap (λ l. due site 0 b l) are ∙ ap (copies b) is) in
       let run : R (length site.boxes) = subst R many first in

@@ -2,7 +2,7 @@
 use Rattle.std.specs.Prelude.{◌≡◌, ◌↔◌, ◌⊎◌, ◌<◌, ◌≤◌, ℕ, Bool, true, false, List, [], ◌∷◌, ◌++◌, length, map, Option}
 use Rattle.std.specs.List.{AllByRecursion}
 use Rattle.std.specs.Io.KnownBytes.{Consumes, Appends, IsAtEnd}
-use Rattle.mail_world.specs.declared.limits.TheConstants.{READ_LIMIT, BLOCK_LIMIT}
+use Rattle.mail_world.specs.declared.limits.TheConstants.{READ_LIMIT, BLOCK_LIMIT, RECIPIENT_LIMIT}
 use Rattle.mail_world.specs.declared.Note.{Note}
 use Rattle.mail_world.specs.declared.Outcome.{Outcome}
 use Rattle.mail_world.specs.Site.{Site}
@@ -15,11 +15,12 @@ use Rattle.mail_world.specs.Deliveries.{outcomes_told}
 use Rattle.mail_world.specs.Runs.{events_of, offers_by}
 use Rattle.mail_runs.specs.Courses.{Server, Course}
 use Rattle.mail_runs.specs.Histories.{Threads}
-use Rattle.mail_runs.specs.RunOf.{IsRunOf}
+use Rattle.mail_runs.specs.Ordered.{IsOrderlyRunOf}
 use Rattle.lmtp_text.specs.Calendar.{civil_at}
 use Rattle.lmtp_talk.specs.declared.ending.EndCause.{EndCause}
 use Rattle.lmtp_talk.specs.declared.ending.EndCause.TheVariants.{Quit, EndOfInput, WriteFault, Stopped, ReadBound}
 use Rattle.lmtp_talk.specs.Served.{IsWritten, has_quit}
+use Rattle.lmtpd_words.specs.declared.words.TheConstants.{DEFAULT_CAPACITY}
 use Rattle.lmtpd_rehearse.specs.declared.ending.Ending.{Ending}
 use Rattle.lmtpd_rehearse.specs.Mailboxes.{MailboxContent, kept_at, mailbox_room, mailboxes_text, bytes_of_all, IsCalm}
 use Rattle.lmtpd_rehearse.specs.Account.{IsAllSettled}
@@ -80,15 +81,16 @@ model_of site quota = record {
   boxes = length site.boxes;
 }
 
--- There is a run of the model of one lane and these mailboxes, from a start at which nothing has happened, in which the
--- lane offers each mailbox just the copies that are due to it, and at whose end each mailbox has come to this. The run
--- has a depot that is large enough, and channels with room.
+-- There is an orderly run of the model of one lane and these mailboxes, from a start at which nothing has happened, in
+-- which the lane offers each mailbox just the copies that are due to it, and at whose end each mailbox has come to
+-- this. Its mailboxes' channels have the usual capacity, and the lane's channel has room for the slips of a message to
+-- as many recipients as there may be. The run has a depot that is large enough.
 pub record IsRunOfRehearsal (site : Site) (quota : Option ℕ) (read : List ℕ) (account : List Disposition)
     (mailboxes : List MailboxContent) : Type 0 where
   pub threads : Threads
-  pub is : IsRunOf (model_of site quota) threads
+  pub is : IsOrderlyRunOf RECIPIENT_LIMIT DEFAULT_CAPACITY (model_of site quota) threads
   pub offered : (box : ℕ) → box < length site.boxes
-      → offers_by 0 box (events_of is.run) ≡ copies_due site read account box
+      → offers_by 0 box (events_of is.is.run) ≡ copies_due site read account box
   pub each : (box : ℕ) → box < length site.boxes
       → IsCourseTo (copies_due site read account box) (told_of_box site read account box) (kept_at mailboxes box)
       (threads.courses box)
