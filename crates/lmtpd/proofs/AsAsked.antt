@@ -49,7 +49,7 @@ pub served_as_asked : (L C E : Type 0) {G S : Type 0} (told : G → Option (List
     → IsPlace words.listen.now → (site ≡ named_site words.site) × (first_fault (named_site words.site) ≡ None) → sizes ≡ sizes_asked words
     → length spools ≡ length words.site.boxes.items
     → (◌≡◌ {A = Result Served HouseFault} (Ok served) (Err house.Size)) ⊎ IsSize site sizes words.lanes (length spools) (length spools)
-    → IsServerRun L C E site state told (record { lanes = words.lanes; quota = sizes.quota }) spools served
+    → IsServerRun L C E site state told (record { lanes = words.lanes; capacity = sizes.capacity; quota = sizes.quota }) spools served
     → IsServedAsAsked L C E told state words served
 served_as_asked L C E told state words served site sizes spools address made asked boxes good ran = record {
   place = address;
@@ -57,8 +57,10 @@ served_as_asked L C E told state words served site sizes spools address made ask
   sizes = size_asked words site sizes (length spools) made.0 asked boxes (size_of_sum served (IsSize site sizes words.lanes (length spools) (length spools)) good);
   spools = spools;
   each_box = boxes;
-  ran = subst (λ quota. IsServerRun L C E (named_site words.site) state told (record { lanes = words.lanes; quota = quota }) spools served) (ap (λ (s : Sizes). s.quota) asked)
-      (subst (λ (s : Site). IsServerRun L C E s state told (record { lanes = words.lanes; quota = sizes.quota }) spools served) made.0 ran);
+  ran =
+      let R : Site → Sizes → Type 0 = λ s z.
+      IsServerRun L C E s state told (record { lanes = words.lanes; capacity = z.capacity; quota = z.quota }) spools served in
+      subst (λ z. R (named_site words.site) z) asked (subst (λ s. R s sizes) made.0 ran);
 }
 
 pub no_server : (words : ServeWords) (cause : HouseFault) (site : Site) (sizes : Sizes) (count : ℕ)

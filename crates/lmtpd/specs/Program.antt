@@ -141,7 +141,8 @@ pub record IsServedAsAsked (L C E : Type 0) {G S : Type 0} (told : G → Option 
   pub sizes : IsSizeAsked words
   pub spools : List S
   pub each_box : length spools ≡ length words.site.boxes.items
-  pub ran : IsServerRun L C E (named_site words.site) state told (record { lanes = words.lanes; quota = words.quota }) spools served
+  pub ran : IsServerRun L C E (named_site words.site) state told
+      (record { lanes = words.lanes; capacity = words.capacity; quota = words.quota }) spools served
 
 -- why none ran though its site is sound: a mailbox's file, what it listens on, or the server; a port that none may
 -- have is seen only now where the socket was passed

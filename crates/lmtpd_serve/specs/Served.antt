@@ -56,9 +56,10 @@ lines_of trouble served = pair_texts (trouble_told trouble) (arc_value served.si
 abbrev pub trouble_lines : Served → List ℕ
 trouble_lines served = lines_of InUse served ++ lines_of OverQuota served
 
--- how many lanes a server has, and the limit of bytes for each mailbox
+-- how many lanes a server has, how many copies may wait for a mailbox's worker, and the limit of bytes for each mailbox
 pub record Extent : Type 0 where
   pub lanes : ℕ
+  pub capacity : ℕ
   pub quota : Option ℕ
 
 -- each of these visits has a log
@@ -76,7 +77,7 @@ pub record IsServerRun (L C E : Type 0) {S G : Type 0} (site : Site) (state : S 
   pub logs : HaveLogs visits
   pub none_ended : AllByRecursion (λ v. conversations_ended (visits_in v) ≡ 0) visits
   pub ran : HasRun site (λ moment. moment < 2 ^ 32) (record { MayGive = λ _ peer. IsNewcomer peer; finished = λ v. told_of told v; over = λ v. is_over (visits_in v) })
-      state (record { visits = visits; spools = spools; quota = extent.quota }) back
+      state (record { visits = visits; spools = spools; capacity = extent.capacity; quota = extent.quota }) back
   pub same_site : arc_value served.site ≡ site
   pub tallies : served.tallies.items ≡ back.tallies
   pub faulty : served.ending.faulty ≡ list_any (λ tally. tally.faulty) back.tallies

@@ -55,7 +55,7 @@ where
     ensures sized { let count = length spools.items in
         (result ≡ Err HouseFault.Size) ⊎ IsSize (arc_value site) sizes conversations.lanes count count }
     ensures ran { IfOk result (IsServerRun L H E (arc_value site) S.state G.Log.told
-        (record { lanes = conversations.lanes; quota = sizes.quota }) spools.items) }
+        (record { lanes = conversations.lanes; capacity = sizes.capacity; quota = sizes.quota }) spools.items) }
 {
     let lanes = conversations.lanes as usize;
     if !is_size(&site, sizes, lanes, spools.len(), spools.len()) {
