@@ -45,8 +45,8 @@ pub fn times_give_an_orderly_history()
     ensures { TimesGiveAnOrderlyHistory }
 {}
 
-/// Where besides each lane is known to go on so, and each mailbox's channel to have made room, it is so of the deeds with
-/// their times.
+/// Where besides each lane is known to go on so, and each mailbox's channel to have made room, it is so of the deeds
+/// with their times.
 pub fn known_are_timed_in_order()
     ensures { KnownAreTimedInOrder }
 {}
