@@ -13,24 +13,17 @@ set -euo pipefail
 cd "$(dirname "$0")/.."
 . tests/needs python3
 . bench/program
-make_program arena arena "mail_world block_arena anyhow" "${1:-}" mail_world block_arena
+make_program arena arena "mail_world block_arena anyhow" "${1:-}"
 
-python3 - out/arena "${RUNS:-9}" <<'PYTHON'
-import subprocess
+python3 -B - out/arena "${RUNS:-9}" <<'PYTHON'
 import sys
+
+from turns import run
 
 PROGRAM, RUNS = sys.argv[1], int(sys.argv[2])
 
-
-def run():
-    """By name the microseconds."""
-    said = subprocess.run([PROGRAM], check=True, capture_output=True, text=True).stdout
-    rows = [line.split(" ") for line in said.splitlines()]
-    return {name: int(number) for name, number in rows}
-
-
-runs = [run() for _ in range(RUNS)]
-best = {name: min(one[name] for one in runs) / 1_000_000 for name in runs[0]}
+runs = [run(PROGRAM) for _ in range(RUNS)]
+best = {name: min(one[name][0] for one in runs) / 1_000_000 for name in runs[0]}
 
 slow = False
 for name in ["put", "copy_on"]:

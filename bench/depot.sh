@@ -12,40 +12,27 @@ set -euo pipefail
 cd "$(dirname "$0")/.."
 . tests/needs rustc python3
 . bench/program
-make_program depot_bench depot "mail_world msg_depot anyhow" "${1:-}" mail_world block_arena msg_depot
+make_program depot_bench depot "mail_world msg_depot anyhow" "${1:-}"
 
-python3 - out/depot_bench "$folder/loops" "${RUNS:-9}" <<'PYTHON'
-import subprocess
+python3 -B - out/depot_bench "$folder/loops" "${RUNS:-9}" <<'PYTHON'
 import sys
+
+from turns import best, by_turns
 
 OURS, PEER, RUNS = sys.argv[1], sys.argv[2], int(sys.argv[3])
 THREADS = ["1", "2", "4"]
 
-
-def run(program):
-    """By name and threads the microseconds and the count that the program printed."""
-    said = subprocess.run([program], check=True, capture_output=True, text=True).stdout
-    rows = [line.split(" ") for line in said.splitlines()]
-    return {(name, threads): (int(micros), int(count.split("=")[1])) for name, threads, micros, count in rows}
-
-
-def best(runs, key):
-    return min(run[key][0] for run in runs)
-
-
-ours, peer = [], []
-for _ in range(RUNS):
-    ours.append(run(OURS))
-    peer.append(run(PEER))
+ours, peer = by_turns([OURS, PEER], RUNS, words=2)
 
 for name, unit in [("read", "MB/s"), ("holds", "M turns/s")]:
     for threads in THREADS:
-        key = (name, threads)
-        count = ours[0][key][1]
-        if peer[0][key][1] != count:
-            sys.exit(f"{name} by {threads}: {count}, and the peer has {peer[0][key][1]}")
+        key = f"{name} {threads}"
+        counts = ours[0][key][1]
+        if peer[0][key][1] != counts:
+            sys.exit(f"{name} by {threads}: {counts}, and the peer has {peer[0][key][1]}")
+        count = int(counts.split("=")[1])
         us, them = best(ours, key), best(peer, key)
-        first = best(ours, (name, "1")) * int(threads) / us
+        first = best(ours, f"{name} 1") * int(threads) / us
         ours_said = f"{count / us:.1f} {unit}, {first:.2f} of one thread's"
         peer_said = f"peer {count / them:.1f}, ratio {them / us:.2f}"
         print(f"{name} by {threads}: {ours_said}, {peer_said}")

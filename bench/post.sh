@@ -12,31 +12,16 @@ set -euo pipefail
 cd "$(dirname "$0")/.."
 . tests/needs rustc python3
 . bench/program
-crates=(mail_world mail_progress mail_runs lmtp_text mbox_rd block_arena msg_depot mail_post)
-make_program post post "mail_world mbox_rd msg_depot mail_post anyhow" "${1:-}" "${crates[@]}"
+make_program post post "mail_world mbox_rd msg_depot mail_post anyhow" "${1:-}"
 
-python3 - out/post "$folder/channels" "${RUNS:-9}" <<'PYTHON'
-import subprocess
+python3 -B - out/post "$folder/channels" "${RUNS:-9}" <<'PYTHON'
 import sys
+
+from turns import best, by_turns
 
 OURS, STD, RUNS = sys.argv[1], sys.argv[2], int(sys.argv[3])
 
-
-def run(program):
-    """By name the microseconds that the program printed and the counts after them."""
-    said = subprocess.run([program], check=True, capture_output=True, text=True).stdout
-    rows = [line.split(" ", 2) for line in said.splitlines()]
-    return {name: (int(number), counts) for name, number, counts in rows}
-
-
-def best(runs, name):
-    return min(run[name][0] for run in runs)
-
-
-ours, std = [], []
-for _ in range(RUNS):
-    ours.append(run(OURS))
-    std.append(run(STD))
+ours, std = by_turns([OURS, STD], RUNS)
 
 for name, (_, counts) in ours[0].items():
     if counts != std[0][name][1]:

@@ -9,12 +9,14 @@ cd "$(dirname "$0")/.."
 . tests/needs python3
 [ "${1:-}" = --try ] || . tests/built_program
 case "${1:-}" in --build | --try) exit 0 ;; esac
-exec python3 - <<'PYTHON'
+exec python3 -B - <<'PYTHON'
 import os
 import subprocess
 import sys
 import tempfile
 import time
+
+from replies import LINE_TOO_LONG, stored
 
 MIB = 1024 * 1024
 BOXES = [f"box{i}" for i in range(24)]
@@ -57,9 +59,9 @@ def run(given, said):
 def check(said, count):
     said.seek(0)
     answer = said.read()
-    stored = answer.count(b"250 2.0.0 Stored for ")
-    if stored != count or b"500 5.5.2 Line too long" not in answer:
-        sys.exit(f"{stored} of {count} messages were stored")
+    told = answer.count(stored("").encode())
+    if told != count or LINE_TOO_LONG.encode() not in answer:
+        sys.exit(f"{told} of {count} messages were stored")
 
 
 def measure(size):

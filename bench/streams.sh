@@ -12,36 +12,22 @@ set -euo pipefail
 cd "$(dirname "$0")/.."
 . tests/needs rustc python3
 . bench/program
-make_program streams streams "mail_world lmtp_wire mbox_rd anyhow" "${1:-}" mail_world lmtp_text lmtp_wire mbox_rd
+make_program streams streams "mail_world lmtp_wire mbox_rd anyhow" "${1:-}"
 
-python3 - out/streams "$folder/loops" "${RUNS:-9}" <<'PYTHON'
-import subprocess
+python3 -B - out/streams "$folder/loops" "${RUNS:-9}" <<'PYTHON'
 import sys
+
+from turns import best, by_turns
 
 OURS, LOOPS, RUNS = sys.argv[1], sys.argv[2], int(sys.argv[3])
 
-
-def run(program):
-    """By name the number that the program printed and the counts after it."""
-    said = subprocess.run([program], check=True, capture_output=True, text=True).stdout
-    rows = [line.split(" ", 2) for line in said.splitlines()]
-    return {name: (int(number), counts) for name, number, counts in rows}
-
-
-def best(runs, name):
-    return min(run[name][0] for run in runs) / 1_000_000
-
-
-ours, loops = [], []
-for _ in range(RUNS):
-    ours.append(run(OURS))
-    loops.append(run(LOOPS))
+ours, loops = by_turns([OURS, LOOPS], RUNS)
 
 slow = False
 for name in ["lines", "data", "record"]:
     if ours[0][name][1] != loops[0][name][1]:
         sys.exit(f"{name}: {ours[0][name][1]}, and the loop has {loops[0][name][1]}")
-    us, loop = best(ours, name), best(loops, name)
+    us, loop = best(ours, name) / 1_000_000, best(loops, name) / 1_000_000
     print(f"{name}: {us:.4f} s, loop {loop:.4f} s, ratio {loop / us:.2f} (at least 1.0)")
     slow = slow or loop < us
 

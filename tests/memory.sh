@@ -7,7 +7,7 @@ set -euo pipefail
 cd "$(dirname "$0")/.."
 . tests/copies
 refused=$PWD/tests/memory/refused.rt.in
-copy_crates sources mail_world block_arena msg_depot
+copy_crates sources msg_depot
 add_tests
 cd "$folder/crates/msg_depot"
 mkdir -p src/tests

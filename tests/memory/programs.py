@@ -8,6 +8,7 @@ import sys
 import tempfile
 
 from cases import none_failed, tell
+from replies import CLOSING, as_bytes, stored
 
 LMTPD, LIBRARY = os.environ["LMTPD"], sys.argv[1]
 SECONDS = 20  # that a run may take
@@ -15,10 +16,10 @@ MOST = 2000  # calls of a run
 MEMORY, NO_THREAD = b"lmtpd: memory\n", b"lmtpd: no thread\n"
 COMMANDS = b"LHLO relay.example\r\nMAIL FROM:<carl@a.example>\r\nRCPT TO:<anna>\r\nRCPT TO:<ben>\r\nDATA\r\n"
 GIVEN = COMMANDS + b"Subject: hi\r\n\r\nhello\r\n.\r\nQUIT\r\n"
-STORED = b"250 2.0.0 Stored for anna\r\n250 2.0.0 Stored for ben\r\n221 2.0.0 mx.example closing\r\n"
+STORED = as_bytes([stored("anna"), stored("ben"), CLOSING])
 # the first worked example: one recipient
 ONE_GIVEN = GIVEN.replace(b"<anna>", b"<anna@mx.example>").replace(b"RCPT TO:<ben>\r\n", b"")
-ONE_STORED = STORED.replace(b"250 2.0.0 Stored for ben\r\n", b"")
+ONE_STORED = as_bytes([stored("anna"), CLOSING])
 COUNTED = b"anna stored 2\nben stored 2\n"
 
 

@@ -6,33 +6,16 @@ import os
 import pathlib
 import re
 import shutil
-import subprocess
 import sys
 import tempfile
 
+from installed import INSTALLED, said_by
+
 LMTPD = os.environ["LMTPD"]
 TOOLS = ["dpkg-deb", "dpkg-shlibdeps", "dpkg-gencontrol", "dpkg-parsechangelog", "strip"]
-FILES = [
-    "etc/lmtpd.boxes",
-    "etc/lmtpd.conf",
-    "usr/lib/systemd/system/lmtpd.service",
-    "usr/lib/systemd/system/lmtpd.socket",
-    "usr/lib/systemd/system/lmtpd@.service",
-    "usr/lib/systemd/system/lmtpd@.socket",
-    "usr/lib/sysusers.d/lmtpd.conf",
-    "usr/lib/tmpfiles.d/lmtpd.conf",
-    "usr/sbin/lmtpd",
-    "usr/share/bash-completion/completions/lmtpd",
-    "usr/share/doc/lmtpd/changelog.gz",
-    "usr/share/man/man8/lmtpd.8.gz",
-]
+FILES = sorted([*INSTALLED, "usr/share/doc/lmtpd/changelog.gz"])
 # The owner has not said which licence the sources have, so the package has no file that says it.
 LACKING = ["E: lmtpd: no-copyright-file"]
-
-
-def said_by(*words, **more):
-    said = subprocess.run(words, stdout=subprocess.PIPE, stderr=subprocess.STDOUT, text=True, timeout=120, **more)
-    return said.returncode, said.stdout
 
 
 def told(*words, **more):

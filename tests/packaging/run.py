@@ -9,27 +9,11 @@ import subprocess
 import sys
 import tempfile
 
+from installed import INSTALLED, said_by
+
 LMTPD = os.environ["LMTPD"]
 PAGE = pathlib.Path("packaging/lmtpd.8").read_text()
 COMPLETION = pathlib.Path("packaging/lmtpd.bash").read_text()
-INSTALLED = [
-    "etc/lmtpd.boxes",
-    "etc/lmtpd.conf",
-    "usr/lib/systemd/system/lmtpd.service",
-    "usr/lib/systemd/system/lmtpd.socket",
-    "usr/lib/systemd/system/lmtpd@.service",
-    "usr/lib/systemd/system/lmtpd@.socket",
-    "usr/lib/sysusers.d/lmtpd.conf",
-    "usr/lib/tmpfiles.d/lmtpd.conf",
-    "usr/sbin/lmtpd",
-    "usr/share/bash-completion/completions/lmtpd",
-    "usr/share/man/man8/lmtpd.8.gz",
-]
-
-
-def said_by(*words, **more):
-    said = subprocess.run(words, capture_output=True, text=True, timeout=60, **more)
-    return said.returncode, said.stdout + said.stderr
 
 
 def help_of(command):

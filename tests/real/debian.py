@@ -15,6 +15,7 @@ from cases import Absent, case, equal
 from machine import Machine
 from many_mailboxes import recipe
 from packages import program, want_root
+from replies import stored
 
 ROOT = pathlib.Path(__file__).parents[2]
 MIRROR = "http://deb.debian.org/debian"
@@ -50,7 +51,7 @@ def a_package_on_a_plain_machine(folder):
         equal((lacking[0], "Assertion failed on job for lmtpd.socket." in lacking[1]), (2, True))
         equal(there.run(f"{EDITED}; systemctl daemon-reload; systemctl enable --now lmtpd.socket")[0], 0)
         said = there.run(f"bash -c {shlex.quote(LETTER)}")
-        equal((said[0], "250 2.0.0 Stored for anna\r\n" in said[1]), (0, True))
+        equal((said[0], f"{stored('anna')}\r\n" in said[1]), (0, True))
         look_at_upgrade(there)
         look_at_purge(there)
 

@@ -5,13 +5,11 @@ import os
 import pathlib
 import shutil
 import smtplib
-import socket
 import subprocess
-import time
 
 from cases import Absent
 from packages import install, program, want_root
-from postfix import free_port
+from started import Started, free_port, wait_for_port
 
 CONFIGURATION = """
 base_dir = {folder}/run
@@ -64,8 +62,8 @@ namespace inbox {{
 """
 
 
-class Dovecot:
-    """It runs from its start to the end of a `with`, as the user mail, to whom it gives the file where there is one."""
+class Dovecot(Started):
+    """It runs as the user mail, to whom it gives the file where there is one."""
 
     def __init__(self, folder, path, *more):
         want_root()
@@ -85,29 +83,17 @@ class Dovecot:
         places = {"folder": self.folder, "path": path, "imap": self.imap, "lmtp": self.lmtp}
         self.conf.write_text(CONFIGURATION.format(**places, more="\n".join(more)))
 
-    def __enter__(self):
+    def start(self):
         words = [self.command, "-F", "-c", self.conf]
         self.process = subprocess.Popen(words, stdin=subprocess.DEVNULL, stderr=subprocess.DEVNULL)
-        try:
-            for port in [self.imap, self.lmtp]:
-                self.wait(port)
-        except BaseException:
-            self.__exit__()
-            raise
-        return self
 
-    def __exit__(self, *_):
+    def wait(self):
+        for port in [self.imap, self.lmtp]:
+            wait_for_port(port, 15, self.log)
+
+    def end(self):
         self.process.terminate()
         self.process.wait(10)
-
-    def wait(self, port):
-        until = time.monotonic() + 15
-        while time.monotonic() < until:
-            with socket.socket() as probe:
-                if probe.connect_ex(("127.0.0.1", port)) == 0:
-                    return
-            time.sleep(0.1)
-        raise RuntimeError(self.log()[-500:])
 
     def log(self):
         path = self.folder / "log"

@@ -6,7 +6,7 @@ import time
 
 from cases import case, equal
 from clients import Client
-from replies import NO_SUCH_BOX
+from replies import NO_SUCH_BOX, not_stored
 from ten_lines import ROOT, machine, type_lines
 
 HEADING = "## Five questions"
@@ -94,7 +94,7 @@ def mailbox_is_held(there):
     wait_for(there, locks, r"^ *\d+ perl +WRITE +/var/mail/lmtpd/anna\.mbox$")
     said(there, SEND.format("late"))
     queue, faults = commands("Why is it late?")
-    wait_for(there, queue, r"451 4\.3\.0 Not stored for anna")
+    wait_for(there, queue, re.escape(not_stored("anna")))
     assert re.search(r" mailbox in use mailbox=anna reason=\S", said(there, faults)), said(there, faults)
     said(there, "touch /run/go")
     wait_for(there, "postqueue -f; grep ^Subject: anna.mbox || true", "^Subject: late$")

@@ -1,6 +1,7 @@
 """The server is killed while several clients deliver."""
 
 import collections
+import contextlib
 import random
 import threading
 import time
@@ -22,17 +23,9 @@ def killed_a_hundred_times(folder):
     chance = random.Random(1)
     told = {name: [] for name in BOXES}
     for number in range(ROUNDS):
-        with Server(folder, BOXES, 1000) as server:
-            loads = [
-                threading.Thread(target=deliver, args=(server.address, told, f"{number}.{client}"))
-                for client in range(CLIENTS)
-            ]
-            for load in loads:
-                load.start()
+        with Server(folder, BOXES, 1000) as server, under_load(server, told, number):
             time.sleep(chance.uniform(0.05, 0.25))
             server.process.kill()
-            for load in loads:
-                load.join()
     with Server(folder, BOXES, 1, "--lanes", 1) as server, Client(server.address).greet() as client:
         equal(client.deliver(BOXES, "last")[1], [stored(name) for name in BOXES])
     for name in BOXES:
@@ -45,6 +38,19 @@ def killed_a_hundred_times(folder):
 
 
 killed_a_hundred_times.seconds = 240
+
+
+@contextlib.contextmanager
+def under_load(server, told, load):
+    """Clients deliver to the server, until it is killed."""
+    clients = [
+        threading.Thread(target=deliver, args=(server.address, told, f"{load}.{client}")) for client in range(CLIENTS)
+    ]
+    for client in clients:
+        client.start()
+    yield
+    for client in clients:
+        client.join()
 
 
 def deliver(address, told, load):

@@ -12,6 +12,7 @@ import time
 
 from cases import Absent
 from packages import program, want_root
+from started import Started
 
 SYSTEMD = "/lib/systemd/systemd"
 PATH = "/usr/local/sbin:/usr/local/bin:/usr/sbin:/usr/bin:/sbin:/bin"
@@ -48,9 +49,7 @@ exec env -i PATH="$3" container=other "$4" --unit=basic.target
 APART = ["--mount", "--pid", "--net", "--uts", "--ipc", "--cgroup"]
 
 
-class Machine:
-    """It runs from its start to the end of a `with`."""
-
+class Machine(Started):
     def __init__(self, folder, site, root="/"):
         """It has the files of the folder `root`; the folder `site` is copied to /root/site there."""
         want_root()
@@ -64,7 +63,7 @@ class Machine:
         self.group = control_groups() / f"lmtpd-test-{os.getpid()}"
         self.nsenter = program("nsenter", "util-linux")
 
-    def __enter__(self):
+    def start(self):
         try:
             self.group.mkdir()
         except OSError as fault:
@@ -74,14 +73,8 @@ class Machine:
         enter = f'echo $$ > "{self.group}/cgroup.procs"; exec "$@"'
         ends = {"stdin": subprocess.DEVNULL, "stdout": self.log.open("wb"), "stderr": subprocess.STDOUT}
         self.process = subprocess.Popen(["sh", "-c", enter, "sh", *words], **ends)
-        try:
-            self.wait()
-        except BaseException:
-            self.__exit__()
-            raise
-        return self
 
-    def __exit__(self, *_):
+    def end(self):
         self.process.kill()
         self.process.wait()
         until = time.monotonic() + 10

@@ -77,12 +77,7 @@ def one_that_never_reads(folder, listen):
     """a client that never reads is left once its time is over, and the next one has the lane"""
     with Server(folder, ["anna"], 2, "--lanes", 1, "--timeout", 2, listen=listen) as server:
         with Client(server.address) as deaf:
-            deaf.socket.settimeout(10)
-            try:
-                while True:
-                    deaf.socket.sendall(b"HELP\r\n" * 10_000)
-            except OSError:
-                pass
+            deaf.send_until_stuck(10, "HELP")
             equal(deliver_one(server.address, ["anna"], "hello"), [stored("anna")])
         equal(server.end().said, ["anna stored 1"])
 

@@ -12,9 +12,9 @@ from cases import Absent, case, equal
 from exim_delivers import user
 from mail import equal_mailbox, message
 from packages import install, unpacked, want_root
-from postfix import free_port
 from replies import NO_SUCH_BOX
 from server import Server
+from started import free_port
 
 CONFIGURATION = """
 listen on 127.0.0.1 port {port} hostname relay.example

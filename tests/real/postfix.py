@@ -3,11 +3,11 @@
 import pathlib
 import re
 import smtplib
-import socket
 import subprocess
 import time
 
 from packages import program, want_root
+from started import Started, free_port, wait_for_port
 
 MAIN = """
 compatibility_level = 3.6
@@ -57,15 +57,7 @@ postlog unix-dgram n - n - 1 postlogd
 """
 
 
-def free_port():
-    with socket.socket() as probe:
-        probe.bind(("127.0.0.1", 0))
-        return probe.getsockname()[1]
-
-
-class Postfix:
-    """It runs from its start to the end of a `with`."""
-
+class Postfix(Started):
     def __init__(self, folder, *more):
         want_root()
         self.command = program("postfix", "postfix")
@@ -80,30 +72,18 @@ class Postfix:
         (conf / "main.cf").write_text(MAIN.format(folder=self.folder, more="\n".join(more)))
         (conf / "master.cf").write_text(MASTER.format(port=self.port))
 
-    def __enter__(self):
+    def start(self):
         self.control("start")
-        try:
-            self.wait()
-        except BaseException:
-            self.__exit__()
-            raise
-        return self
 
-    def __exit__(self, *_):
+    def wait(self):
+        wait_for_port(self.port, 20, self.log)
+
+    def end(self):
         self.control("abort")
 
     def control(self, verb):
         quiet = {"stdout": subprocess.DEVNULL, "stderr": subprocess.DEVNULL}
         subprocess.run([self.command, "-c", self.folder / "conf", verb], timeout=30, **quiet)
-
-    def wait(self):
-        until = time.monotonic() + 20
-        while time.monotonic() < until:
-            with socket.socket() as probe:
-                if probe.connect_ex(("127.0.0.1", self.port)) == 0:
-                    return
-            time.sleep(0.1)
-        raise RuntimeError(f"postfix doesn't listen: {self.log()[-500:]}")
 
     def send(self, recipients, message, sender="carl@a.example"):
         with smtplib.SMTP("127.0.0.1", self.port, local_hostname="client.example", timeout=20) as client:

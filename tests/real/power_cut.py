@@ -5,11 +5,10 @@ import random
 import shutil
 import signal
 import subprocess
-import threading
 import time
 
 from cases import Absent, case, equal
-from killed_under_load import BOXES, CLIENTS, deliver
+from killed_under_load import BOXES, under_load
 from packages import program, want_root
 from server import Server
 
@@ -29,7 +28,7 @@ def power_cut(folder):
     subprocess.run([program("mkfs.ext4", "e2fsprogs"), "-q", "-F", disk], check=True)
     for number in range(ROUNDS):
         with mounted(disk, folder / "mail") as mail:
-            run_until_the_cut(mail, disk, copy, told, f"{number}", chance.uniform(0.1, 0.4))
+            run_until_the_cut(mail, disk, copy, told, number, chance.uniform(0.1, 0.4))
         # what was written to the files and not to the disk is gone
         copy.rename(disk)
         with mounted(disk, folder / "mail") as mail:
@@ -46,19 +45,11 @@ power_cut.seconds = 240
 
 def run_until_the_cut(mail, disk, copy, told, load, seconds):
     """Clients deliver for so long; then the copy is what the disk has been given."""
-    with Server(mail, BOXES, 1000) as server:
-        loads = [
-            threading.Thread(target=deliver, args=(server.address, told, f"{load}.{client}"))
-            for client in range(CLIENTS)
-        ]
-        for one in loads:
-            one.start()
+    with Server(mail, BOXES, 1000) as server, under_load(server, told, load):
         time.sleep(seconds)
         server.process.send_signal(signal.SIGSTOP)
         shutil.copyfile(disk, copy)
         server.process.kill()
-        for one in loads:
-            one.join()
 
 
 @contextlib.contextmanager

@@ -4,8 +4,9 @@ import time
 
 from cases import case, equal
 from mail import equal_mailbox, message
-from postfix import Postfix, free_port
+from postfix import Postfix
 from server import Server
+from started import free_port
 
 NAMES = ["anna", "ben", "carla"]
 ROUNDS = 10

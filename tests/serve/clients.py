@@ -54,6 +54,15 @@ class Client:
     def send(self, *lines):
         self.socket.sendall(b"".join(line.encode() + b"\r\n" for line in lines))
 
+    def send_until_stuck(self, seconds, line):
+        """Sends the line again and again, and reads nothing, until the server takes no more for so long, or is gone."""
+        self.socket.settimeout(seconds)
+        try:
+            while True:
+                self.send(*[line] * 10_000)
+        except OSError:
+            pass
+
     def ask(self, line):
         self.send(line)
         return self.hear()

@@ -120,12 +120,7 @@ def deaf(folder):
     """a client that asks on and takes no reply: after --timeout 1 its lane serves the next one"""
     with Server(folder, ["anna"], 2, "--lanes", 1, "--timeout", 1) as server:
         with Client(server.address) as client:
-            client.socket.settimeout(0.5)
-            try:
-                while True:
-                    client.socket.sendall(b"NOOP\r\n" * 10_000)
-            except OSError:
-                pass
+            client.send_until_stuck(0.5, "NOOP")
             equal(deliver_one(server.address, ["anna"], "next"), [stored("anna")])
         equal(vars(server.end()), {"status": 0, "said": ["anna stored 1"], "errors": []})
 

@@ -14,9 +14,10 @@ from cases import Absent, case, equal
 from clients import Client, connected, deliver_one
 from failing import MOST_CALLS, built, environment
 from inherited import Inheriting, handed, passed
+from replies import CLOSING, stored
 from server import Server, run, words
 
-STORED = "250 2.0.0 Stored for anna"
+STORED = stored("anna")
 REFUSED = {"status": 1, "said": [], "errors": ["lmtpd: cannot listen"]}
 NO_ADDRESS = {"status": 2, "said": [], "errors": ["lmtpd: bad address"]}
 MODE = "--socket-mode"
@@ -220,7 +221,7 @@ def only_the_own_file_goes(folder):
         path.unlink()
         stale_socket(path)
         other = path.stat().st_ino
-        equal(client.quit(), "221 2.0.0 mx.example closing")
+        equal(client.quit(), CLOSING)
         equal(server.end().status, 0)
     equal(path.stat().st_ino, other)
 

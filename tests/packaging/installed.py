@@ -1,0 +1,24 @@
+"""What `make install PREFIX=/usr` puts in its place, and what a command says."""
+
+import subprocess
+
+INSTALLED = [
+    "etc/lmtpd.boxes",
+    "etc/lmtpd.conf",
+    "usr/lib/systemd/system/lmtpd.service",
+    "usr/lib/systemd/system/lmtpd.socket",
+    "usr/lib/systemd/system/lmtpd@.service",
+    "usr/lib/systemd/system/lmtpd@.socket",
+    "usr/lib/sysusers.d/lmtpd.conf",
+    "usr/lib/tmpfiles.d/lmtpd.conf",
+    "usr/sbin/lmtpd",
+    "usr/share/bash-completion/completions/lmtpd",
+    "usr/share/man/man8/lmtpd.8.gz",
+]
+
+
+def said_by(*words, **more):
+    """The status of a command, and what it says on both streams."""
+    ends = {"stdout": subprocess.PIPE, "stderr": subprocess.STDOUT, **more}
+    said = subprocess.run(words, text=True, timeout=120, **ends)
+    return said.returncode, said.stdout
