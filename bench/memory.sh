@@ -9,6 +9,7 @@ set -euo pipefail
 cd "$(dirname "$0")/.."
 . tests/needs rustc
 [ "${1:-}" = --try ] || . tests/built_program
+. tests/processes
 folder=$(mktemp -d)
 program=''
 trap 'kill $program 2> /dev/null || true; wait; rm -rf "$folder"' EXIT
@@ -16,22 +17,7 @@ rustc -O -o "$folder/load" bench/serve/load.rs
 case "${1:-}" in --build | --try) exit 0 ;; esac
 failed=0
 
-# kilobytes NAME: what the system says of the program's memory.
-kilobytes() { awk -v name="$1:" '$1 == name { print $2 }' "/proc/$program/status"; }
-
 names() { seq -f 'u%.0f' 0 $(($1 - 1)); }
-
-# until_waits THREADS: that many threads are there, and all of them wait.
-until_waits() {
-    local states
-    for _ in {1..200}; do
-        states=$(cat "/proc/$program"/task/*/status | awk '$1 == "State:" { print $2 }')
-        [ "$(wc -l <<< "$states")" != "$1" ] || grep -qv S <<< "$states" || return 0
-        sleep 0.05
-    done
-    echo "FAIL: there aren't $1 threads that wait" >&2
-    exit 1
-}
 
 # serve LANES MAILBOXES BLOCKS
 serve() {
@@ -44,15 +30,15 @@ serve() {
     program=$!
     until grep -q listening "$folder/said"; do sleep 0.05; done
     address=$(sed 's/^listening on //' "$folder/said")
-    until_waits $((1 + lanes + boxes))
-    size=$(kilobytes VmSize) start=$(kilobytes VmRSS)
+    until_holds 10 all_wait "$program" $((1 + lanes + boxes))
+    size=$(kilobytes "$program" VmSize) start=$(kilobytes "$program" VmRSS)
     "$folder/load" "$address" m "$lanes" 1 20 $((boxes < 10 ? boxes : 10)) 4096 "$boxes" > /dev/null
-    first=$(kilobytes VmRSS)
+    first=$(kilobytes "$program" VmRSS)
     "$folder/load" "$address" m "$lanes" 1 20 $((boxes < 10 ? boxes : 10)) 4096 "$boxes" > /dev/null
-    second=$(kilobytes VmRSS)
+    second=$(kilobytes "$program" VmRSS)
     echo "| \`serve\` | $lanes | $boxes | $blocks | $size | $start | $first | $second |"
-    if [ "$(kilobytes VmSize)" != "$size" ] || [ $((second - first)) -gt 1024 ]; then
-        echo 'FAIL: it grows' >&2
+    if [ "$(kilobytes "$program" VmSize)" != "$size" ] || [ $((second - first)) -gt 1024 ]; then
+        echo 'FAILED: it grows' >&2
         failed=1
     fi
     kill "$program"
@@ -70,15 +56,15 @@ rehearse() {
         >> "$folder/said" &
     program=$!
     exec 3> "$folder/input"
-    until_waits $((2 + boxes))
-    size=$(kilobytes VmSize) start=$(kilobytes VmRSS)
+    until_holds 10 all_wait "$program" $((2 + boxes))
+    size=$(kilobytes "$program" VmSize) start=$(kilobytes "$program" VmRSS)
     {
         printf 'LHLO a\r\nMAIL FROM:<>\r\n'
         for name in $(names "$boxes"); do printf 'RCPT TO:<%s>\r\n' "$name"; done
         printf 'DATA\r\nhello\r\n.\r\n'
     } >&3
     until [ "$(grep -c Stored "$folder/said")" = "$boxes" ]; do sleep 0.05; done
-    echo "| \`rehearse\` | 1 | $boxes | $blocks | $size | $start | $(kilobytes VmRSS) | |"
+    echo "| \`rehearse\` | 1 | $boxes | $blocks | $size | $start | $(kilobytes "$program" VmRSS) | |"
     exec 3>&-
     wait "$program"
     program=''

@@ -12,35 +12,11 @@ set -euo pipefail
 cd "$(dirname "$0")/.."
 . tests/needs rustc
 . tests/built_program
+. tests/processes
 folder=$(mktemp -d)
 server='' tracer=''
 trap 'kill $tracer $server 2> /dev/null || true; wait; rm -rf "$folder"' EXIT
 LANES=4 BOXES=10
-
-fail() {
-    echo "FAIL: $1" >&2
-    exit 1
-}
-
-# until SECONDS COMMAND..: the command holds within that many seconds.
-until_holds() {
-    local tries=$(($1 * 20))
-    shift
-    until "$@"; do
-        ((tries-- > 0)) || fail "$* doesn't hold"
-        sleep 0.05
-    done
-}
-
-# kilobytes NAME: what the system says of the server's memory.
-kilobytes() { awk -v name="$1:" '$1 == name { print $2 }' "/proc/$server/status"; }
-
-# All threads wait: the main one, the lanes, and a worker for each mailbox.
-all_wait() {
-    local states
-    states=$(cat /proc/"$server"/task/*/status | awk '$1 == "State:" { print $2 }')
-    [ "$(wc -l <<< "$states")" = $((1 + LANES + BOXES)) ] && ! grep -qv S <<< "$states"
-}
 
 # strace looks at the server, or has ended.
 has_begun() { grep -q "^TracerPid:	$tracer$" "/proc/$server/status" || ! kill -0 "$tracer" 2> /dev/null; }
@@ -66,7 +42,8 @@ mapfile -t boxes < <(seq -f 'u%g' 0 $((BOXES - 1)))
 server=$!
 until_holds 10 grep -qs '^listening on ' "$folder/output"
 address=$(sed -n 's/^listening on //p' "$folder/output")
-until_holds 10 all_wait
+# the main one, the lanes, and a worker for each mailbox
+until_holds 10 all_wait "$server" $((1 + LANES + BOXES))
 
 if command -v strace > /dev/null; then
     calls=mmap,brk,munmap,mremap,clone,clone3
@@ -80,12 +57,12 @@ if command -v strace > /dev/null; then
 else
     echo "strace isn't installed: sizes alone are compared"
 fi
-size=$(kilobytes VmSize) before=$(kilobytes VmRSS)
+size=$(kilobytes "$server" VmSize) before=$(kilobytes "$server" VmRSS)
 take_turns 1
 deliver 1 3 1 1048576
-early=$(kilobytes VmRSS) early_copies=$copies
+early=$(kilobytes "$server" VmRSS) early_copies=$copies
 take_turns 24
-late=$(kilobytes VmRSS)
+late=$(kilobytes "$server" VmRSS)
 if [ -n "$tracer" ]; then
     # It writes what it saw when it leaves.
     kill "$tracer"
@@ -97,8 +74,8 @@ if [ -n "$tracer" ]; then
 fi
 stored=$(grep -hac '^Message-ID: <m[.]' "$folder"/*.mbox | awk '{ count += $1 } END { print count + 0 }')
 echo "$conversations conversations, $copies copies, $stored in the mailboxes"
-echo "size of the process: $size KiB before the first client, $(kilobytes VmSize) KiB at the end"
+echo "size of the process: $size KiB before the first client, $(kilobytes "$server" VmSize) KiB at the end"
 echo "resident: $before KiB before the first client, $early behind $early_copies copies, $late at the end"
 [ "$stored" = "$copies" ] || fail 'copies are missing'
-[ "$(kilobytes VmSize)" = "$size" ] || fail 'the size of the process changed'
+[ "$(kilobytes "$server" VmSize)" = "$size" ] || fail 'the size of the process changed'
 [ $((late - early)) -le 256 ] || fail 'what is resident grows'
