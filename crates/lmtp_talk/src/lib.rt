@@ -9,7 +9,6 @@ mod ending;
 mod handling;
 mod outbox;
 mod peer;
-mod script;
 mod tcp;
 mod telling;
 
@@ -20,6 +19,5 @@ pub use dialogue::Dialogue;
 pub use ending::EndCause;
 pub use outbox::Outbox;
 pub use peer::{Came, Peer, PeerFault};
-pub use script::{Script, Then, Turn};
 pub use tcp::{Bounds, ClientStream, ReadBuffer, TcpPeer, is_silence};
 pub use telling::Asked;
