@@ -1,4 +1,8 @@
 //! `lmtpd`, the last hop of a mail site: it speaks LMTP (RFC 2033) and delivers into mboxrd mailboxes.
+//!
+//! `run_program` does what the words ask for: here the site is made, sockets and files are opened, and faults become a
+//! line on standard error and a status. Nothing stands above it but the system; how mail is served it never knows: that
+//! is done below.
 #![tactic(auto)]
 
 mod boxes;

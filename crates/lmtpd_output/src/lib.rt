@@ -1,4 +1,7 @@
 //! Bytes to a writer: all of them, or a prefix and a failure.
+//!
+//! What the program does for its words writes its lines by `write_bytes` and `write_each`. It never knows what the
+//! bytes say.
 #![tactic(auto)]
 
 ghost use Rattle.std.specs.Prelude.{◌≡◌, ◌++◌, length, flat_map, OnOk, OnErr};
