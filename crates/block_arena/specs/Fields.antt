@@ -1,5 +1,7 @@
 -- The arena's fields, and the depot that they stand for.
-use Rattle.std.specs.Prelude.{◌≡◌, ℕ, zero, suc, ◌+◌, ◌-◌, ◌*◌, ◌<◌, ◌≤◌, ◌==◌, ◌&&◌, nat_lt, slice_get, List, [], ◌∷◌, length, take, slice_set, map, get_or, if◌then◌else◌, Option, Some, None, Bool, true, false, flat_map, sum_by}
+use Rattle.std.specs.Prelude.{◌≡◌, ℕ, zero, suc, ◌+◌, ◌-◌, ◌*◌, ◌<◌, ◌≤◌, ◌==◌, ◌&&◌, nat_lt, slice_get, List, [], ◌∷◌}
+use Rattle.std.specs.Prelude.{length, take, slice_set, map, get_or, if◌then◌else◌, Option, Some, None, Bool, true}
+use Rattle.std.specs.Prelude.{false, flat_map, sum_by}
 use Rattle.std.specs.List.{All, AllByRecursion}
 use Rattle.mail_world.specs.Depot as d
 use Rattle.mail_world.specs.declared.limits.TheConstants.{BLOCK_SIZE, BLOCK_LIMIT, SLOT_LIMIT}

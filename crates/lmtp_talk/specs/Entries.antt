@@ -7,7 +7,8 @@ use Rattle.mail_world.specs.Counts.{counted}
 use Rattle.mail_world.specs.Data.{message}
 use Rattle.mail_world.specs.Site.{Site}
 use Rattle.mail_world.specs.Session.{Session, fresh, Input, Line}
-use Rattle.mail_world.specs.Conversation.{Conversation, Part, CommandLine, MailData, inputs_of, session_after, replies_to, parts}
+use Rattle.mail_world.specs.Conversation.{Conversation, Part, CommandLine, MailData, inputs_of, session_after}
+use Rattle.mail_world.specs.Conversation.{replies_to, parts}
 use Rattle.mail_world.specs.Lists.{is_content}
 use Rattle.lmtp_talk.specs.declared.ending.EndCause.{EndCause}
 

@@ -6,7 +6,8 @@ use Rattle.mail_world.specs.declared.Reply.TheVariants.{Greeting}
 use Rattle.mail_world.specs.Site.{Site}
 use Rattle.mail_world.specs.Session.{fresh, Input}
 use Rattle.mail_world.specs.Replies.{reply_text, reply_texts}
-use Rattle.mail_world.specs.Conversation.{Disposition, Part, inputs_of, session_behind, replies_to, parts, size_of, AllFit}
+use Rattle.mail_world.specs.Conversation.{Disposition, Part, inputs_of, session_behind, replies_to, parts, size_of}
+use Rattle.mail_world.specs.Conversation.{AllFit}
 use Rattle.mail_world.specs.Dispositions.{dispositions_of}
 use Rattle.mail_world.specs.Lists.{Transaction, accepted_after, transactions_of}
 use Rattle.lmtp_wire.specs.Wire.{IsBehind}

@@ -1,6 +1,7 @@
 -- What a run of the program comes to: the words say what is asked for, and then come what was done, the lines on
 -- standard error and the status.
-use Rattle.std.specs.Prelude.{◌≡◌, ◌⊎◌, ◌*◌, ◌-◌, ◌^◌, min, ℕ, true, List, [], ◌∷◌, ◌++◌, length, codes, Option, Some, None, Contains}
+use Rattle.std.specs.Prelude.{◌≡◌, ◌⊎◌, ◌*◌, ◌-◌, ◌^◌, min, ℕ, true, List, [], ◌∷◌, ◌++◌, length, codes, Option, Some}
+use Rattle.std.specs.Prelude.{None, Contains}
 use Rattle.std.specs.Option.{option_map_or}
 use Rattle.clap.specs.Words.{Text, kind_of, subcommand_of, takes}
 use Rattle.clap.specs.declared.error.Error.{Error}
@@ -25,7 +26,8 @@ use Rattle.lmtpd_listen.specs.Opened.{IsUnopened}
 use Rattle.lmtpd_listen.specs.declared.fault.ListenFault.{ListenFault}
 use Rattle.lmtpd_listen.specs.declared.place.Place.{Place}
 use Rattle.lmtpd.specs.Boxes.{IsUnfilled}
-use Rattle.lmtpd.specs.Faults.{check_fault, check_status, fault_text, first_fault, listen_refusal, rehearsal_fault, server_fault, status_of, stop_for, stop_status}
+use Rattle.lmtpd.specs.Faults.{check_fault, check_status, fault_text, first_fault, listen_refusal, rehearsal_fault}
+use Rattle.lmtpd.specs.Faults.{server_fault, status_of, stop_for, stop_status}
 use Rattle.lmtpd_check.specs.Checked.{IsChecked, unlocked_lines}
 use Rattle.lmtpd_check.specs.declared.checked.Checked.{Checked as CheckedFiles}
 use Rattle.lmtpd_rehearse.specs.Rehearsal.{IsBlockCount, IsRehearsed, Streams}

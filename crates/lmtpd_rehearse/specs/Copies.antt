@@ -1,5 +1,6 @@
 -- What became of the copies for one mailbox that was empty: which it holds, and what was told of each.
-use Rattle.std.specs.Prelude.{◌≡◌, ◌≤◌, ℕ, nat_lt, Bool, true, List, [], ◌++◌, length, take, drop, slice_get, Option, Some}
+use Rattle.std.specs.Prelude.{◌≡◌, ◌≤◌, ℕ, nat_lt, Bool, true, List, [], ◌++◌, length, take, drop, slice_get, Option}
+use Rattle.std.specs.Prelude.{Some}
 use Rattle.mail_world.specs.declared.Note.{Note}
 use Rattle.mail_world.specs.declared.Outcome.{Outcome}
 use Rattle.mail_world.specs.Records.{Calendar, mailbox}

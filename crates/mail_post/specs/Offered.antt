@@ -1,5 +1,6 @@
 -- Messages that senders are offered, and what their channels accept of what is owed to them.
-use Rattle.std.specs.Prelude.{◌≡◌, ◌⊎◌, ⊤, ℕ, Bool, true, false, List, [], ◌∷◌, ◌++◌, length, slice_get, slice_set, Some, ◌<◌}
+use Rattle.std.specs.Prelude.{◌≡◌, ◌⊎◌, ⊤, ℕ, Bool, true, false, List, [], ◌∷◌, ◌++◌, length, slice_get, slice_set}
+use Rattle.std.specs.Prelude.{Some, ◌<◌}
 use Rattle.std.specs.List.{list_any}
 use Rattle.mail_post.specs.Channel.{Sender}
 

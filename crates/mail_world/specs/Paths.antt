@@ -1,11 +1,14 @@
 -- Paths read from the head of a text: what was found, and what follows it. The grammar has one reading of each text
 -- (laws.rt).
-use Rattle.std.specs.Prelude.{◌≡◌, ◌++◌, ℕ, suc, ◌+◌, ◌-◌, Bool, true, false, not, ◌&&◌, ◌||◌, ◌==◌, nat_lt, nat_le, List, [], ◌∷◌, length, take, drop, if◌then◌else◌, Option, Some, None, option_map, option_and_then, codes}
+use Rattle.std.specs.Prelude.{◌≡◌, ◌++◌, ℕ, suc, ◌+◌, ◌-◌, Bool, true, false, not, ◌&&◌, ◌||◌, ◌==◌, nat_lt, nat_le}
+use Rattle.std.specs.Prelude.{List, [], ◌∷◌, length, take, drop, if◌then◌else◌, Option, Some, None, option_map}
+use Rattle.std.specs.Prelude.{option_and_then, codes}
 use Rattle.std.specs.List.{list_all, prefix_len, before_first, after_first, slice_split}
 use Rattle.std.specs.Str.{byte}
 use Rattle.mail_world.specs.declared.limits.TheConstants.{NAME_LIMIT, PATH_LIMIT}
 use Rattle.mail_world.specs.Text.{has_byte, begins, begins_with}
-use Rattle.mail_world.specs.Grammar.{is_between, is_plain, is_of_domain, is_of_literal, is_domain, Target, IsPath, mailbox_text, path_text}
+use Rattle.mail_world.specs.Grammar.{is_between, is_plain, is_of_domain, is_of_literal, is_domain, Target, IsPath}
+use Rattle.mail_world.specs.Grammar.{mailbox_text, path_text}
 
 -- Of a quoted local part, how many bytes stand before the quote that closes it. `escaped`: a backslash stands before
 -- the text.

@@ -1,6 +1,7 @@
 //! A mailbox in a file that other programs read and empty too: it takes bytes in turns, and what stands there is
 //! looked at again in each.
-ghost use Rattle.std.specs.Prelude.{◌≡◌, ◌⊎◌, ◌↔◌, ℕ, ◌+◌, ◌-◌, ◌^◌, ◌<◌, ◌≤◌, [], List, ◌++◌, true, false, min, length, take};
+ghost use Rattle.std.specs.Prelude.{◌≡◌, ◌⊎◌, ◌↔◌, ℕ, ◌+◌, ◌-◌, ◌^◌, ◌<◌, ◌≤◌, [], List, ◌++◌, true, false, min};
+ghost use Rattle.std.specs.Prelude.{length, take};
 ghost use Rattle.std.specs.Prelude.{None, IsErr, IfOk, OnOk, OnErr};
 ghost use Rattle.std.specs.Option.{IfSome};
 ghost use Rattle.mail_world.specs.Counts.{counted};
@@ -193,7 +194,8 @@ impl<F: MailboxFile + Drop, C: Clock + Drop> SharedSpool<F, C> {
 impl<F: MailboxFile + Drop, C: Clock + Drop> Spool for SharedSpool<F, C> {
     ghost use Rattle.std.specs.Prelude.{None};
     ghost use Rattle.mbox_rd.specs.SharedSpool.{HasTurn, HasNoTurn, StartsTurn, CountsRefusal, HasEnded, StopsTurn};
-    ghost use Rattle.mbox_rd.specs.SharedSpool.{HasTaken, KeepsAll, StaysSound, Breaks, HasLost, failed_again, contents_of};
+    ghost use Rattle.mbox_rd.specs.SharedSpool.{HasTaken, KeepsAll, StaysSound, Breaks, HasLost, failed_again};
+    ghost use Rattle.mbox_rd.specs.SharedSpool.{contents_of};
 
     ghost state = { λ s. record {
       bytes = None;

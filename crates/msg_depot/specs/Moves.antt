@@ -1,5 +1,6 @@
 -- What each step makes of the view of the seat that takes it.
-use Rattle.std.specs.Prelude.{◌≡◌, ◌⊎◌, ℕ, ◌+◌, ◌-◌, ◌%◌, ◌==◌, Bool, true, false, List, [], ◌++◌, slice_set, slice_index_or}
+use Rattle.std.specs.Prelude.{◌≡◌, ◌⊎◌, ℕ, ◌+◌, ◌-◌, ◌%◌, ◌==◌, Bool, true, false, List, [], ◌++◌, slice_set}
+use Rattle.std.specs.Prelude.{slice_index_or}
 use Rattle.atomic_table.specs.Table.{Me, Step}
 use Rattle.msg_depot.specs.declared.view.TheConstants.{GENERATION_UNIT}
 use Rattle.msg_depot.specs.declared.view.View.{View}
