@@ -129,13 +129,15 @@ is_not_had NotHad = true
 is_not_had (Had lock unlock) = false
 
 -- The turns that a spool lists since: they are the copies' own, and those that weren't had are counted.
-pub record TellsTurns (at : Setting) (copies : List Note) (outcomes : List Outcome) (old new : SharedMailbox) : Type 0 where
+pub record TellsTurns (at : Setting) (copies : List Note) (outcomes : List Outcome)
+    (old new : SharedMailbox) : Type 0 where
   pub turns : List Turn
   pub added : new.state.sharing.turns ≡ old.state.sharing.turns ++ turns
   pub are : AreTurns at.calendar at.host at.quota copies outcomes turns new.faulty
   pub missed : new.in_use ≡ counted (old.in_use + count_by is_not_had turns)
 
 -- What a worker came to at a shared spool.
-pub record HasTurned (at : Setting) (copies : List Note) (outcomes : List Outcome) (old new : SharedMailbox) : Type 0 where
+pub record HasTurned (at : Setting) (copies : List Note) (outcomes : List Outcome)
+    (old new : SharedMailbox) : Type 0 where
   pub each : HaveTurned at copies outcomes old new
   pub told : IfSome old.state.bytes (λ _. TellsTurns at copies outcomes old new)

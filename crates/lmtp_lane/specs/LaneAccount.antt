@@ -55,7 +55,8 @@ pub record HasOffered (limit : ℕ) (May : ℕ → Type 0) (accepted : ℕ) (old
   pub came : List Slip
   pub own : List Slip
   pub heard : List Slip
-  pub exchanged : HasExchanged (flat_map (copies old.lane) ts) (record { came = came; own = own; heard = heard }) old new
+  pub exchanged : HasExchanged (flat_map (copies old.lane) ts)
+      (record { came = came; own = own; heard = heard }) old new
   pub did : List Deed
   pub in_order : new.gone ≡ false → whats exchanged.done.deeds ≡ did
   pub exchanges : AreExchanges RECIPIENT_LIMIT old.lane ts did

@@ -70,7 +70,8 @@ visit_entries site n v = entries_in site n v.conversation ++ OfEnd v.cause ∷ [
 -- the entries of conversations, one after another
 abbrev pub lane_entries : Site → ℕ → List Visit → List Entry
 lane_entries site n [] = []
-lane_entries site n (v ∷ visits) = visit_entries site n v ++ lane_entries site (accepted_behind_all site n v.conversation) visits
+lane_entries site n (v ∷ visits) = visit_entries site n v
+    ++ lane_entries site (accepted_behind_all site n v.conversation) visits
 
 -- the clients that were served, one after another, and each was handed back; the log was told the entries of all of
 -- them

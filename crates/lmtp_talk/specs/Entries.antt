@@ -39,7 +39,8 @@ abbrev pub entries_of_part : Site → ℕ → Session → Part → List Entry
 entries_of_part site n session (CommandLine text) =
     line_entries (line_kept text) (replies_to site session (inputs_of (CommandLine text)))
 entries_of_part site n session (MailData text d) =
-    copy_entries (counted n) (counted (length (message text))) session.client (replies_to site session (inputs_of (MailData text d)))
+    copy_entries (counted n) (counted (length (message text))) session.client
+      (replies_to site session (inputs_of (MailData text d)))
 
 abbrev pub entries_of : Site → ℕ → Session → List Part → List Entry
 entries_of site n session [] = []

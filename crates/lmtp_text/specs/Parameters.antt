@@ -24,7 +24,9 @@ pub record Tallies (limit : ℕ) (t : Tally) (ps : List m.Parameter) : Type 0 wh
   pub unknown : t.unknown ≡ not (list_all m.is_known ps)
   pub has_size : t.has_size ≡ nat_lt 0 (count_of (codes "SIZE") ps)
   pub has_body : t.has_body ≡ nat_lt 0 (count_of (codes "BODY") ps)
-  pub wrong : t.unknown ≡ false → t.wrong ≡ (not (list_all m.is_well_valued ps) || m.stands_twice (codes "SIZE") ps || m.stands_twice (codes "BODY") ps)
+  pub wrong : t.unknown ≡ false
+      → t.wrong ≡ (not (list_all m.is_well_valued ps) || m.stands_twice (codes "SIZE") ps
+      || m.stands_twice (codes "BODY") ps)
   pub large : t.unknown ≡ false → t.wrong ≡ false → t.large ≡ list_any (m.is_too_large limit) ps
 
 -- the tally u is t with a SIZE, with a BODY more

@@ -185,10 +185,12 @@ pub record HaveServed {V : Type 0} (site : Site) (May : ℕ → Type 0) (view : 
   -- its deeds, message by message, and that their times rise and are those that its ends were told
   pub deeds : ℕ → List TimedDeed
   pub did : (k : ℕ) → k < length old.visits
-      → LaneDid (flat_map (copies k) (transactions site 0 (conversations_of (works k).visits))) (works k).heard (deeds k)
+      → LaneDid (flat_map (copies k) (transactions site 0 (conversations_of (works k).visits)))
+        (works k).heard (deeds k)
   pub in_turn : (k : ℕ) → k < length old.visits
       → AreExchanges RECIPIENT_LIMIT k (transactions site 0 (conversations_of (works k).visits)) (whats (deeds k))
-  pub in_time : (k : ℕ) → k < length old.visits → IsInTime lane_sorts k old.rows new.rows old.inboxes new.inboxes (deeds k)
+  pub in_time : (k : ℕ) → k < length old.visits
+      → IsInTime lane_sorts k old.rows new.rows old.inboxes new.inboxes (deeds k)
 
 -- All workers have ended, and none found a channel gone.
 pub record HaveWorked {S : Type 0} (site : Site) (state : S → SpoolState) (channels : List (Channel Slip))

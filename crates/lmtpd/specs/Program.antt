@@ -132,7 +132,8 @@ ends_asked words = record { stop_file = words.stop_file; heals = words.heal; ses
 
 abbrev pub IsSizeAsked : ServeWords → Type 0
 IsSizeAsked words =
-    IsSize (named_site words.site) (sizes_asked words) words.lanes (length words.site.boxes.items) (length words.site.boxes.items)
+    IsSize (named_site words.site) (sizes_asked words) words.lanes (length words.site.boxes.items)
+      (length words.site.boxes.items)
 
 -- A server that its words asked for ran: where they say, at the site that they name, with their sizes, over a spool for
 -- each mailbox.
@@ -164,8 +165,8 @@ IsNotServed words s = (s ≡ stop.Fault fault.Memory)
     ⊎ ((first_fault (named_site words.site) ≡ None) × IsNotServedAt words s))))
 
 -- The same of a server, once the file of its mailboxes was read: `IsRun` says which runs its words ask for then.
-abbrev pub IsServedFilled : (SiteWords → SiteWords → Type 0) → (ServeWords → ServedRun → Type 0) → ServeWords → ServedRun
-    → Type 0
+abbrev pub IsServedFilled : (SiteWords → SiteWords → Type 0) → (ServeWords → ServedRun → Type 0) → ServeWords
+    → ServedRun → Type 0
 IsServedFilled Fills IsRun words served =
     (site : SiteWords) × Fills words.site site × IsRun (record words { site = site }) served
 
@@ -188,7 +189,8 @@ IsStopped Fills texts s = ((error : Error) × (s ≡ stop_for error)
     × (takes program_app texts ≡ true → (kind_of error ≡ OutOfMemory) ⊎ IsLacking (subcommand_of program_app texts)))
     ⊎ (((words : RehearseWords) × IsAsked (subcommand_of program_app texts) (Rehearse words)
     × IsNotRehearsedFilled Fills words s)
-    ⊎ (((words : ServeWords) × IsAsked (subcommand_of program_app texts) (Serve words) × IsNotServedFilled Fills words s)
+    ⊎ (((words : ServeWords) × IsAsked (subcommand_of program_app texts) (Serve words)
+      × IsNotServedFilled Fills words s)
     ⊎ ((words : CheckWords) × IsAsked (subcommand_of program_app texts) (Check words) × (s ≡ stop.Fault fault.Memory))))
 
 -- What the program did is what its words ask for: `streams` is what contracts see of a reader and a writer, `Fills` says
@@ -201,7 +203,8 @@ module _ {R W : Type 0} where
       (words : RehearseWords) × IsAsked (subcommand_of program_app texts) (Rehearse words)
       × IsRehearsedFilled Fills words old (streams it.reader it.writer) it.ending
   IsDoneAsAsked streams Fills IsRun IsCheck texts old (Served it) =
-      (words : ServeWords) × IsAsked (subcommand_of program_app texts) (Serve words) × IsServedFilled Fills IsRun words it
+      (words : ServeWords) × IsAsked (subcommand_of program_app texts) (Serve words)
+      × IsServedFilled Fills IsRun words it
   IsDoneAsAsked streams Fills IsRun IsCheck texts old (Checked it) =
       (words : CheckWords) × IsAsked (subcommand_of program_app texts) (Check words) × IsCheck words it
   IsDoneAsAsked streams Fills IsRun IsCheck texts old (Stopped s) = IsStopped Fills texts s

@@ -158,7 +158,8 @@ pub record IsServeRead (rows : List Row) (words : ServeWords) : Type 0 where
   pub listen : first_of (codes "listen") rows ≡ Some words.listen.now
   pub dir : IsPath (first_of (codes "dir") rows) words.dir.now
   pub lanes : IsNumberOr DEFAULT_LANES (one_of (codes "lanes") rows) words.lanes
-  pub blocks : IsNumberOr (usual_blocks words.lanes words.site.message_limit) (one_of (codes "blocks") rows) words.blocks
+  pub blocks : IsNumberOr (usual_blocks words.lanes words.site.message_limit)
+      (one_of (codes "blocks") rows) words.blocks
   pub capacity : IsNumberOr DEFAULT_CAPACITY (one_of (codes "capacity") rows) words.capacity
   pub reads : IsNumberOr DEFAULT_READS (one_of (codes "reads") rows) words.reads
   pub timeout : IsNumberOr DEFAULT_TIMEOUT (one_of (codes "timeout") rows) words.timeout
@@ -187,16 +188,19 @@ LacksNumber name rows = (text : Text) → one_of name rows ≡ Some text → IsN
 
 abbrev pub LacksSite : List Row → Type 0
 LacksSite rows = LacksText (codes "host") rows
-    ⊎ (IsNoMessageLimit (one_of (codes "message-limit") rows) ⊎ IsNoDelimiter (first_of (codes "recipient-delimiter") rows))
+    ⊎ (IsNoMessageLimit (one_of (codes "message-limit") rows)
+      ⊎ IsNoDelimiter (first_of (codes "recipient-delimiter") rows))
 
 abbrev pub LacksRehearse : List Row → Type 0
 LacksRehearse rows = LacksNumber (codes "time") rows ⊎ LacksSite rows
 
 abbrev pub LacksServe : List Row → Type 0
 LacksServe rows =
-    LacksText (codes "listen") rows ⊎ (IsNoPath (first_of (codes "dir") rows) ⊎ (IsNoNumber (one_of (codes "connections") rows)
+    LacksText (codes "listen") rows
+    ⊎ (IsNoPath (first_of (codes "dir") rows) ⊎ (IsNoNumber (one_of (codes "connections") rows)
     ⊎ (IsEmpty (first_of (codes "stop-file") rows) ⊎ (IsNoLevel (first_of (codes "log") rows)
-    ⊎ (IsNoMode (first_of (codes "mailbox-mode") rows) ⊎ (IsNoMode (first_of (codes "socket-mode") rows) ⊎ LacksSite rows))))))
+    ⊎ (IsNoMode (first_of (codes "mailbox-mode") rows)
+      ⊎ (IsNoMode (first_of (codes "socket-mode") rows) ⊎ LacksSite rows))))))
 
 abbrev pub LacksCheck : List Row → Type 0
 LacksCheck rows = all_of (codes "file") rows ≡ None

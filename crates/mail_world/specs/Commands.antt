@@ -153,7 +153,8 @@ by_verb limit verb rest =
 -- The verb stands before the first space, the rest after it and after further spaces. The limit is that of a message.
 unfoldable pub command_at : ℕ → List ℕ → Answer
 command_at limit line =
-    let w = trimmed line in by_verb limit (before_first (λ b. b == space) w) (behind_spaces (after_first (λ b. b == space) w))
+    let w = trimmed line in
+    by_verb limit (before_first (λ b. b == space) w) (behind_spaces (after_first (λ b. b == space) w))
 
 -- so it is where the site names no other limit
 abbrev pub command : List ℕ → Answer

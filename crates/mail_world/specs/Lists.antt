@@ -94,7 +94,8 @@ pub record VerdictFits (limit : ℕ) (t : Transaction) : Type 0 where
 -- the outcomes of a whole message are those of the slips
 abbrev pub OutcomesIn : ℕ → List Slip → Transaction → Verdict → Type 0
 OutcomesIn lane slips t verdicts.Whole =
-    map (λ o. Some o) t.disposition.outcomes ≡ answers (record { lane = lane; number = t.number }) (length t.session.recipients) slips
+    map (λ o. Some o) t.disposition.outcomes
+    ≡ answers (record { lane = lane; number = t.number }) (length t.session.recipients) slips
 OutcomesIn lane slips t _ = ⊤
 
 -- so it is for all transactions of a lane

@@ -61,7 +61,8 @@ abbrev pub add_recipient : Session → Option ℕ → Transition
 add_recipient s None = says replies.NoSuchBox s
 add_recipient s (Some box) =
     if nat_lt (length s.recipients) RECIPIENT_LIMIT
-    then says replies.RecipientOk (record { state = Recipients; client = s.client; sender = s.sender; recipients = s.recipients ++ box ∷ [] })
+    then says replies.RecipientOk
+      (record { state = Recipients; client = s.client; sender = s.sender; recipients = s.recipients ++ box ∷ [] })
     else says replies.TooMany s
 
 abbrev pub on_rcpt : State → Session → Option ℕ → Transition
