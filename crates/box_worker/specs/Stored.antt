@@ -69,7 +69,7 @@ TakesCopy text OverQuota old new = (old.mailbox.faulty ≡ false) × IsKeptOut o
 TakesCopy text Failed old new = (new.mailbox ≡ mailbox_of new.mailbox.state old.mailbox.stored old.mailbox.over true)
     × (((old.mailbox.faulty ≡ true) × (new.mailbox.state ≡ old.mailbox.state))
     ⊎ ((old.mailbox.faulty ≡ false) × IsLetIn old.limit (length text) new.limit
-      × HasNotKept old.mailbox.state new.mailbox.state text))
+    × HasNotKept old.mailbox.state new.mailbox.state text))
 TakesCopy text _ old new = ⊥
 
 -- what is counted of a copy by what its lane is told
@@ -83,7 +83,7 @@ Tallies _ old new = (new.stored ≡ old.stored) × (new.over ≡ old.over)
 abbrev pub IsTornAt : Calendar → List ℕ → List ℕ → List Note → ℕ → ℕ → List ℕ → Type 0
 IsTornAt calendar host old notes stored settled bytes =
     ((torn : List ℕ) × (stored < length notes) × (bytes ≡ mailbox calendar host old (take stored notes) ++ torn)
-      × IsTorn calendar host (drop stored notes) torn)
+    × IsTorn calendar host (drop stored notes) torn)
     ⊎ ((front : List ℕ) × (settled ≡ 0) × (bytes ≡ old ++ front) × IsFront front (mended old))
 
 -- A spool took the records of the first of these notes, as many as are stored: of all of them unless it failed, and one

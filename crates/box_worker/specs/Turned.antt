@@ -1,4 +1,5 @@
--- A worker at a mailbox that other programs read and empty too: it takes a turn for each copy, from a lock to an unlock.
+-- A worker at a mailbox that other programs read and empty too: it takes a turn for each copy, from a lock to an
+-- unlock.
 use Rattle.std.specs.Prelude.{◌≡◌, ◌⊎◌, ℕ, ◌+◌, Bool, true, false, List, [], ◌∷◌, ◌++◌, length, count_by, Option}
 use Rattle.std.specs.Option.{IfSome}
 use Rattle.mail_world.specs.declared.Note.{Note}

@@ -125,8 +125,8 @@ is_lost None = false
 is_lost (Some Closed) = false
 is_lost (Some Lost) = true
 
--- What a worker's run comes to: all that its channel gave it until that ended is handled, copy by copy, in order of time.
--- A channel was found gone just where that one was, or where a slip was handed back.
+-- What a worker's run comes to: all that its channel gave it until that ended is handled, copy by copy, in order of
+-- time. A channel was found gone just where that one was, or where a slip was handed back.
 pub record HasWorked (at : Setting) (before after : Inbox Note) (old new : WorkerState) : Type 0 where
   pub channel : after.channel ≡ before.channel
   pub lanes : after.lanes ≡ before.lanes

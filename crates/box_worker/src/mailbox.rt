@@ -73,8 +73,8 @@ impl<S: Spool> Mailbox<S> {
         }
     }
 
-    /// Stores a copy of the held message in a turn of its own, or says that it is over the quota or lost. Where the turn
-    /// isn't had nothing is appended, and this copy alone is lost: the next one gets a new try.
+    /// Stores a copy of the held message in a turn of its own, or says that it is over the quota or lost. Where the
+    /// turn isn't had nothing is appended, and this copy alone is lost: the next one gets a new try.
     pub fn take<N: DepotName, R: Wait>(
         &mut self,
         rt: &R,

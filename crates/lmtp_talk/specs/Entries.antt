@@ -1,5 +1,5 @@
--- What a log is to have of conversations: an entry for each reply to a line or to data that ended, and one for each end.
--- The greeting and the reply to a stop have none.
+-- What a log is to have of conversations: an entry for each reply to a line or to data that ended, and one for each
+-- end. The greeting and the reply to a stop have none.
 use Rattle.std.specs.Prelude.{ℕ, ◌+◌, nat_lt, List, [], ◌∷◌, ◌++◌, length, map, if◌then◌else◌, Option, option_map}
 use Rattle.mail_world.specs.declared.Reply.{Reply}
 use Rattle.mail_world.specs.declared.limits.TheConstants.{LINE_LIMIT}
@@ -40,7 +40,7 @@ entries_of_part site n session (CommandLine text) =
     line_entries (line_kept text) (replies_to site session (inputs_of (CommandLine text)))
 entries_of_part site n session (MailData text d) =
     copy_entries (counted n) (counted (length (message text))) session.client
-      (replies_to site session (inputs_of (MailData text d)))
+    (replies_to site session (inputs_of (MailData text d)))
 
 abbrev pub entries_of : Site → ℕ → Session → List Part → List Entry
 entries_of site n session [] = []

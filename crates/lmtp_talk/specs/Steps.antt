@@ -27,7 +27,7 @@ pub record TakesInputs (inputs : List Input) (old new : Dialogue) (before after 
 abbrev pub TellsLine : Input → Dialogue → PeerState → PeerState → Type 0
 TellsLine input dialogue before after = after.told
     ≡ with_entries before.told
-      (line_entries (line_in input) (replies_to dialogue.session.site dialogue.session.session (input ∷ [])))
+    (line_entries (line_in input) (replies_to dialogue.session.site dialogue.session.session (input ∷ [])))
 
 -- the log was told an entry for each reply to data that ended, of a message of that number and size
 abbrev pub TellsCopies : ℕ → ℕ → List Input → Dialogue → PeerState → PeerState → Type 0
@@ -73,7 +73,7 @@ pub record EndsData {D : Type 0} (HasCome : D → ℕ → List Transaction → T
       → EndsDraft (HasCome new.delivery) n ts old.dialogue.session.session message disposition
   pub told : (n : ℕ) (ts : List Transaction) (message : List ℕ) → IsDrafting old.delivery n ts message
       → TellsCopies n (length message) (DataEnded disposition.verdict ∷ outcomes_of disposition disposition.verdict)
-        old.dialogue old.peer new.peer
+      old.dialogue old.peer new.peer
 
 -- wherever the conversation stood before, it stands with these bytes more
 abbrev pub Advances : {D : Type 0} → (D → ℕ → List Transaction → Type 0) → (D → ℕ → List Transaction → List ℕ → Type 0)

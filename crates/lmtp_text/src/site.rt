@@ -105,8 +105,8 @@ fn name_at(names: &[Vec<u8>], i: usize) -> &[u8]
 }
 
 impl Site {
-    /// A site takes memory for its names; its messages have at most 1,048,576 bytes, and it has no delimiter. Of several broken rules the answer
-    /// is the first in the order `Host`, `Domain`, `Count`, `Box`, `Twice`.
+    /// A site takes memory for its names; its messages have at most 1,048,576 bytes, and it has no delimiter. Of
+    /// several broken rules the answer is the first in the order `Host`, `Domain`, `Count`, `Box`, `Twice`.
     pub fn new(
         alloc: Global,
         host: &[u8],

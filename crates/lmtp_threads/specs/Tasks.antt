@@ -186,7 +186,7 @@ pub record HaveServed {V : Type 0} (site : Site) (May : ℕ → Type 0) (view : 
   pub deeds : ℕ → List TimedDeed
   pub did : (k : ℕ) → k < length old.visits
       → LaneDid (flat_map (copies k) (transactions site 0 (conversations_of (works k).visits)))
-        (works k).heard (deeds k)
+      (works k).heard (deeds k)
   pub in_turn : (k : ℕ) → k < length old.visits
       → AreExchanges RECIPIENT_LIMIT k (transactions site 0 (conversations_of (works k).visits)) (whats (deeds k))
   pub in_time : (k : ℕ) → k < length old.visits

@@ -22,7 +22,7 @@ module _ {F : Type 0} (remaining : F → Option Text) where
   abbrev pub IsFilled : SiteWords → SiteWords → Type 0
   IsFilled words filled =
       MatchOption words.boxes_file (filled ≡ words)
-        (λ path. (text : Text) × IsTextOfFile text × HasListed text words filled)
+      (λ path. (text : Text) × IsTextOfFile text × HasListed text words filled)
 
 -- why they weren't filled: memory is wanting, or the file that they name can't be read
 abbrev pub IsUnfilled : SiteWords → Stop → Type 0

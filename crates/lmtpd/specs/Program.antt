@@ -133,7 +133,7 @@ ends_asked words = record { stop_file = words.stop_file; heals = words.heal; ses
 abbrev pub IsSizeAsked : ServeWords → Type 0
 IsSizeAsked words =
     IsSize (named_site words.site) (sizes_asked words) words.lanes (length words.site.boxes.items)
-      (length words.site.boxes.items)
+    (length words.site.boxes.items)
 
 -- A server that its words asked for ran: where they say, at the site that they name, with their sizes, over a spool for
 -- each mailbox.
@@ -190,12 +190,12 @@ IsStopped Fills texts s = ((error : Error) × (s ≡ stop_for error)
     ⊎ (((words : RehearseWords) × IsAsked (subcommand_of program_app texts) (Rehearse words)
     × IsNotRehearsedFilled Fills words s)
     ⊎ (((words : ServeWords) × IsAsked (subcommand_of program_app texts) (Serve words)
-      × IsNotServedFilled Fills words s)
+    × IsNotServedFilled Fills words s)
     ⊎ ((words : CheckWords) × IsAsked (subcommand_of program_app texts) (Check words) × (s ≡ stop.Fault fault.Memory))))
 
--- What the program did is what its words ask for: `streams` is what contracts see of a reader and a writer, `Fills` says
--- what the words of a site are once the file of its mailboxes was read, `IsRun` which runs of a server its words ask for
--- then, and `IsCheck` which checks of files.
+-- What the program did is what its words ask for: `streams` is what contracts see of a reader and a writer, `Fills`
+-- says what the words of a site are once the file of its mailboxes was read, `IsRun` which runs of a server its words
+-- ask for then, and `IsCheck` which checks of files.
 module _ {R W : Type 0} where
   abbrev pub IsDoneAsAsked : (R → W → Streams) → (SiteWords → SiteWords → Type 0) → (ServeWords → ServedRun → Type 0)
       → (CheckWords → CheckedFiles W → Type 0) → List Text → Streams → Done R W → Type 0

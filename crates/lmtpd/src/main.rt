@@ -21,9 +21,9 @@ use std::process::ExitCode;
 use std::{env, io};
 use stop::Stop;
 
-// It hands on the words, room for the text of a file that they name, standard input, output and error, and ends with the
-// status that it is given: that is all that no contract says of it. The lanes and workers start by a handle of their
-// own, which threads may take.
+// It hands on the words, room for the text of a file that they name, standard input, output and error, and ends with
+// the status that it is given: that is all that no contract says of it. The lanes and workers start by a handle of
+// their own, which threads may take.
 fn main(rt: HostRuntime) -> ExitCode {
     let mut error = rt.stderr();
     let mut room = Vec::new(rt.alloc());

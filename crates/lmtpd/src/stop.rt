@@ -22,8 +22,8 @@ pub struct Exit {
     pub cut: bool,
 }
 
-/// Words that `clap` refuses or answers with help, a fault, a mailbox whose file can't be opened, or a file of mailboxes
-/// that can't be read.
+/// Words that `clap` refuses or answers with help, a fault, a mailbox whose file can't be opened, or a file of
+/// mailboxes that can't be read.
 #[derive(Debug, Drop)]
 pub enum Stop<'a> {
     Words(Error),

@@ -78,8 +78,11 @@ pub record IsServerRun (L C E : Type 0) {S G : Type 0} (site : Site) (state : S 
   pub logs : HaveLogs visits
   pub none_ended : AllByRecursion (λ v. conversations_ended (visits_in v) ≡ 0) visits
   pub ran : HasRun site (λ moment. moment < 2 ^ 32)
-      (record { MayGive = λ _ peer. IsNewcomer peer; finished = λ v. told_of told v;
-      over = λ v. is_over (visits_in v) })
+      (record {
+        MayGive = λ _ peer. IsNewcomer peer;
+        finished = λ v. told_of told v;
+        over = λ v. is_over (visits_in v);
+      })
       state (record { visits = visits; spools = spools; capacity = extent.capacity; quota = extent.quota }) back
   pub same_site : arc_value served.site ≡ site
   pub tallies : served.tallies.items ≡ back.tallies

@@ -1,5 +1,5 @@
-//! What a server says: on standard output where it listens and what it stored, on standard error which turns weren't had
-//! and what was over quotas.
+//! What a server says: on standard output where it listens and what it stored, on standard error which turns weren't
+//! had and what was over quotas.
 
 ghost use Rattle.std.specs.Prelude.{◌≡◌, length, string_bytes, IfOk, OnOk, OnErr};
 ghost use Rattle.std.specs.Io.KnownBytes.{Appends};

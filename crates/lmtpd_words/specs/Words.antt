@@ -189,7 +189,7 @@ LacksNumber name rows = (text : Text) → one_of name rows ≡ Some text → IsN
 abbrev pub LacksSite : List Row → Type 0
 LacksSite rows = LacksText (codes "host") rows
     ⊎ (IsNoMessageLimit (one_of (codes "message-limit") rows)
-      ⊎ IsNoDelimiter (first_of (codes "recipient-delimiter") rows))
+    ⊎ IsNoDelimiter (first_of (codes "recipient-delimiter") rows))
 
 abbrev pub LacksRehearse : List Row → Type 0
 LacksRehearse rows = LacksNumber (codes "time") rows ⊎ LacksSite rows
@@ -200,7 +200,7 @@ LacksServe rows =
     ⊎ (IsNoPath (first_of (codes "dir") rows) ⊎ (IsNoNumber (one_of (codes "connections") rows)
     ⊎ (IsEmpty (first_of (codes "stop-file") rows) ⊎ (IsNoLevel (first_of (codes "log") rows)
     ⊎ (IsNoMode (first_of (codes "mailbox-mode") rows)
-      ⊎ (IsNoMode (first_of (codes "socket-mode") rows) ⊎ LacksSite rows))))))
+    ⊎ (IsNoMode (first_of (codes "socket-mode") rows) ⊎ LacksSite rows))))))
 
 abbrev pub LacksCheck : List Row → Type 0
 LacksCheck rows = all_of (codes "file") rows ≡ None

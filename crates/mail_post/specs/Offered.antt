@@ -25,8 +25,8 @@ module _ {M : Type 0} where
       record sender { sent = sender.sent ++ message ∷ []; sent_at = sender.sent_at ++ t ∷ [] }
   given sender message t false = record sender { refused = true }
 
--- The sender at that place was offered the message, which its channel accepted at a time after that one, or handed back.
--- A message may name its sender's number.
+-- The sender at that place was offered the message, which its channel accepted at a time after that one, or handed
+-- back. A message may name its sender's number.
 pub record IsOffered {M : Type 0} (moment at : ℕ) (message : Sender M → M) (accepted : Bool)
     (old new : List (Sender M)) : Type 0 where
   pub sender : Sender M

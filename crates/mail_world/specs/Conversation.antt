@@ -76,7 +76,7 @@ abbrev pub parts_within : ℕ → Site → Session → List ℕ → List Disposi
 parts_within zero site session s ds = []
 parts_within (suc n) site session s ds =
     cut_then (cut session.state s ds)
-      (λ c. parts_within n site (session_after site session (inputs_of c.part)) (drop c.size s) c.dispositions)
+    (λ c. parts_within n site (session_after site session (inputs_of c.part)) (drop c.size s) c.dispositions)
 
 -- all of them: each takes a byte at least
 unfoldable pub parts : Site → Session → List ℕ → List Disposition → List Part

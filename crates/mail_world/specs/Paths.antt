@@ -49,8 +49,10 @@ host_at text = if begins (byte "[") text then literal_at text else domain_at tex
 abbrev pub with_host : Bool → Found (List ℕ) → Option (Found Target)
 with_host quoted local =
     if begins (byte "@") local.rest
-    then option_map (λ host. record { value = record { local = local.value; quoted = quoted; domain = Some host.value };
-      rest = host.rest }) (host_at (drop 1 local.rest))
+    then option_map (λ host. record {
+      value = record { local = local.value; quoted = quoted; domain = Some host.value };
+      rest = host.rest;
+    }) (host_at (drop 1 local.rest))
     else Some (record { value = record { local = local.value; quoted = quoted; domain = None }; rest = local.rest })
 
 abbrev pub mailbox_at : List ℕ → Option (Found Target)
@@ -68,7 +70,7 @@ abbrev pub behind_route : List ℕ → Option (List ℕ)
 behind_route text =
     if not (begins (byte "@") text) then Some text
     else if has_byte text (byte ":")
-      && list_all is_hop (slice_split (λ b. b == byte ",") (before_first (λ b. b == byte ":") text))
+    && list_all is_hop (slice_split (λ b. b == byte ",") (before_first (λ b. b == byte ":") text))
     then Some (after_first (λ b. b == byte ":") text)
     else None
 

@@ -62,7 +62,7 @@ add_recipient s None = says replies.NoSuchBox s
 add_recipient s (Some box) =
     if nat_lt (length s.recipients) RECIPIENT_LIMIT
     then says replies.RecipientOk
-      (record { state = Recipients; client = s.client; sender = s.sender; recipients = s.recipients ++ box ∷ [] })
+    (record { state = Recipients; client = s.client; sender = s.sender; recipients = s.recipients ++ box ∷ [] })
     else says replies.TooMany s
 
 abbrev pub on_rcpt : State → Session → Option ℕ → Transition

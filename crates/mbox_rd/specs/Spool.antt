@@ -90,7 +90,7 @@ pub record HasNotSynced (old new : SpoolState) : Type 0 where
 abbrev pub standing : SpoolState → Option Standing
 standing spool =
     option_map
-      (λ bytes. let s : Standing = record { bytes = bytes; synced = spool.synced; failures = spool.failures } in s)
+    (λ bytes. let s : Standing = record { bytes = bytes; synced = spool.synced; failures = spool.failures } in s)
     spool.bytes
 
 -- A turn of a shared spool began. Others may have changed all but its counts, and that many bytes stand there now.

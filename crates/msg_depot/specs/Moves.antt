@@ -82,7 +82,7 @@ longer c bs = claim c.slot c.generation (c.bytes ++ bs) c.weight
 abbrev pub put : View → List ℕ → View
 put v bs =
     keeping (entered v.book v.claim.slot (entry Drafted v.claim.generation (v.claim.bytes ++ bs))) Draft
-      (longer v.claim bs)
+    (longer v.claim bs)
 
 -- a step that adds them
 abbrev pub Put : List ℕ → Step (Unit {0}) → Me (Unit {0}) View → ℕ → Me (Unit {0}) View → Type 0

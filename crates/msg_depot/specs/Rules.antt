@@ -135,7 +135,7 @@ pub record ObeysHoldRule (words : List ℕ) (views : List View) : Type 0 where
   pub fits : (j : ℕ) (v : View) → get_elem? views j ≡ some v → MatchesEntry book v
   pub stands : (i : ℕ) (e : Entry) → get_elem? book i ≡ some e
       → IsWordOf e (slice_index words (word_of i)) (total (at i weight) views) (total (at i drafts) views)
-        (total (at i spents) views)
+      (total (at i spents) views)
 
 -- the entries of slots that have had no message
 abbrev pub free_slots : ℕ → ℕ → List Entry
