@@ -151,7 +151,7 @@ pub record IsReadable (blocks : List (List ℕ)) (next : List ℕ) (run : Run) :
   pub low : AllByRecursion (λ b. b < length next) (blocks_in next run)
   pub enough : run.length ≤ BLOCK_SIZE * run.blocks
 
--- a run of the same blocks, with that many bytes more
+-- a run of the same blocks, with that many more bytes
 abbrev pub longer : Run → ℕ → Run
 longer run n = record {
   first = run.first;

@@ -46,7 +46,7 @@ pub record MailboxState : Type 0 where
 abbrev pub mailbox_of : SpoolState → ℕ → ℕ → Bool → MailboxState
 mailbox_of state stored over faulty = record { state = state; stored = stored; over = over; faulty = faulty }
 
--- a mailbox, its worker's count under a quota, and how many turns weren't had
+-- a mailbox, its worker's count under a quota, and how many turns were missed
 pub record CountedMailbox : Type 0 where
   pub mailbox : MailboxState
   pub limit : Option Limit

@@ -52,6 +52,6 @@ entries_of site n session (p ∷ ps) =
 abbrev pub entries_in : Site → ℕ → Conversation → List Entry
 entries_in site n c = entries_of site n fresh (parts site fresh c.bytes c.dispositions)
 
--- what a log was told, with these entries more, where it tells
+-- what a log was told, with these further entries, where it tells
 abbrev pub with_entries : Option (List Entry) → List Entry → Option (List Entry)
 with_entries told more = option_map (λ entries. entries ++ more) told

@@ -47,7 +47,7 @@ pub record HasStopped (old new : PeerState) : Type 0 where
   pub stopped : Rises old.stops new.stops
   pub untold : new.told ≡ old.told
 
--- the log was told these entries more, and nothing else happened
+-- the log was told these further entries, and nothing else happened
 abbrev pub with_told : PeerState → List Entry → PeerState
 with_told peer more = record peer { told = with_entries peer.told more }
 

@@ -75,7 +75,7 @@ pub record EndsData {D : Type 0} (HasCome : D → ℕ → List Transaction → T
       → TellsCopies n (length message) (DataEnded disposition.verdict ∷ outcomes_of disposition disposition.verdict)
       old.dialogue old.peer new.peer
 
--- wherever the conversation stood before, it stands with these bytes more
+-- wherever the conversation stood before, it stands with these further bytes
 abbrev pub Advances : {D : Type 0} → (D → ℕ → List Transaction → Type 0) → (D → ℕ → List Transaction → List ℕ → Type 0)
     → Talk D → Talk D → List ℕ → Type 0
 Advances {D} HasCome IsDrafting old new more = (site : Site) (start : PeerState) (first : D) (handled came : List ℕ)

@@ -92,7 +92,7 @@ impl<'a> Script<'a> {
         }
     }
 
-    // The turn comes again until it was had so often.
+    // The turn comes again until it has come that often.
     fn repeat(&mut self, times: usize)
         ensures same { (self.new.failures ≡ self.old.failures) × (self.new.stops ≡ self.old.stops) }
         ensures reads { self.new.reads ≡ self.old.reads }

@@ -29,7 +29,7 @@ pub record Tallies (limit : ℕ) (t : Tally) (ps : List m.Parameter) : Type 0 wh
       || m.stands_twice (codes "BODY") ps)
   pub large : t.unknown ≡ false → t.wrong ≡ false → t.large ≡ list_any (m.is_too_large limit) ps
 
--- the tally u is t with a SIZE, with a BODY more
+-- the tally u is t with one more SIZE, with one more BODY
 pub record IsWithSize (limit : ℕ) (t : Tally) (value : Option (List ℕ)) (u : Tally) : Type 0 where
   pub unknown : u.unknown ≡ t.unknown
   pub has_size : u.has_size ≡ true

@@ -24,6 +24,6 @@ module _ {F : Type 0} (remaining : F → Option Text) where
       MatchOption words.boxes_file (filled ≡ words)
       (λ path. (text : Text) × IsTextOfFile text × HasListed text words filled)
 
--- why they weren't filled: memory is wanting, or the file that they name can't be read
+-- why they weren't filled: memory is lacking, or the file that they name can't be read
 abbrev pub IsUnfilled : SiteWords → Stop → Type 0
 IsUnfilled words s = (s ≡ stop.Fault fault.Memory) ⊎ MatchOption words.boxes_file ⊥ (λ path. s ≡ stop.Unread path)

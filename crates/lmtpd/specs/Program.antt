@@ -69,7 +69,7 @@ abbrev pub status_after : Option Fault → ℕ
 status_after None = 0
 status_after (Some f) = status_of f
 
--- why a server of a size didn't run, where memory wasn't wanting
+-- why a server of a size didn't run, where memory wasn't lacking
 abbrev pub IsNotRun : Type 0 → Fault → Type 0
 IsNotRun IsSize fault.Size = ¬ IsSize
 IsNotRun IsSize fault.NoThread = IsSize
@@ -83,7 +83,7 @@ pub record IsRehearsedAsAsked (words : RehearseWords) (old new : Streams) (endin
   pub blocks : IsBlockCount words.blocks
   pub rehearsed : IsRehearsed (named_site words.site) words.quota words.time old new ending
 
--- Why none was held: memory is wanting, and else the first fault of the site, and then one of the server that was to
+-- Why none was held: memory is lacking, and else the first fault of the site, and then one of the server that was to
 -- run.
 abbrev pub IsNotRehearsed : RehearseWords → Fault → Type 0
 IsNotRehearsed words f = (f ≡ fault.Memory)
@@ -156,7 +156,7 @@ IsNotServedAt words (stop.Unopened name) = Contains words.site.boxes.items name
 IsNotServedAt words (stop.Fault f) = (f ≡ fault.Listen)
     ⊎ (((f ≡ fault.Port) × AsksInherited words.listen.now) ⊎ IsNotRun (IsSizeAsked words) f)
 
--- Why none ran: memory is wanting, and else the first of the place, the site, the files, what listens and the server
+-- Why none ran: memory is lacking, and else the first of the place, the site, the files, what listens and the server
 -- itself.
 abbrev pub IsNotServed : ServeWords → Stop → Type 0
 IsNotServed words s = (s ≡ stop.Fault fault.Memory)
@@ -182,7 +182,7 @@ IsCheckedAsAsked remaining contents before words checked =
     IsChecked remaining (texts words.files.items) before (contents checked.writer) checked.findings.items
     (texts checked.unlocked.items) checked.cut
 
--- why the program stopped early: clap's answer to its words, why there was no rehearsal or no server, or want of memory
+-- why the program stopped early: clap's answer to its words, why there was no rehearsal or no server, or lack of memory
 -- for a check
 abbrev pub IsStopped : (SiteWords → SiteWords → Type 0) → List Text → Stop → Type 0
 IsStopped Fills texts s = ((error : Error) × (s ≡ stop_for error)
@@ -217,7 +217,7 @@ module _ {R W : Type 0} where
   exit_status (Checked it) = check_status it.findings.items it.cut
   exit_status (Stopped s) = stop_status s
 
-  -- a server's mailboxes whose turns weren't all had, and those over their quota, come before its fault, and so do a
+  -- a server's mailboxes that missed turns, and those over their quota, come before its fault, and so do a
   -- check's files that were read without their lock
   abbrev pub exit_lines : Done R W → List ℕ
   exit_lines (Rehearsed it) = line_after (rehearsal_fault it.ending)

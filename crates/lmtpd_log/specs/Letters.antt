@@ -35,7 +35,7 @@ address_in line = address_of (command_at (2 ^ 32 - 1) line)
 abbrev pub named_by : List ℕ → List ℕ
 named_by line = option_map_or (λ text. text) (address_in line) []
 
--- a recipient more, as many as a message may have
+-- one more recipient, as many as a message may have
 abbrev pub with_recipient : Letter → List ℕ → Letter
 with_recipient letter recipient =
     if nat_lt (length letter.recipients) RECIPIENT_LIMIT

@@ -47,7 +47,7 @@ pub fn empty_spools(alloc: Global, site: &Site, count: u32) -> Result<Vec<Memory
     Ok(spools)
 }
 
-/// So many open gates.
+/// That many open gates.
 pub fn open_gates(alloc: Global, count: u32) -> Result<Vec<OpenGate>, AllocError>
     ensures { IfOk result (λ gates. length gates.items ≡ count) }
 {

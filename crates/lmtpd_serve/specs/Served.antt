@@ -33,7 +33,7 @@ count_line name tally = name ++ codes " stored " ++ decimal tally.stored ++ (lf 
 abbrev pub counts_text : List (List ℕ) → List Tally → List ℕ
 counts_text names tallies = pair_texts count_line names tallies
 
--- the copies of a mailbox that an administrator is told of: those whose turn wasn't had, or those over the quota
+-- the copies of a mailbox that an administrator is told of: those whose turn was missed, or those over the quota
 abbrev pub count_of : Trouble → Tally → ℕ
 count_of InUse tally = tally.in_use
 count_of OverQuota tally = tally.over

@@ -39,7 +39,7 @@ Examples:
 
 Exit status:
   0  All was done that was asked for
-  1  The machine or a file was wanting, and a line says what
+  1  Something was lacking or failed, and a line says what
   2  A word can't be used, and nothing was done";
 
 /// After a rehearsal's words.
@@ -49,7 +49,7 @@ Example:
 
 Exit status:
   0  The conversation was held, and the mailboxes were printed
-  1  Memory, threads, the blocks, a mailbox's room, reading or writing was wanting; standard error says which
+  1  Memory, a thread, blocks or room in a mailbox was lacking, or a read or a write failed; standard error says which
   2  A word can't be used, and nothing was done";
 
 /// After a server's words.
@@ -61,7 +61,8 @@ Examples:
 
 Exit status:
   0  The server ended in order, after its conversations or for its stop file
-  1  A mailbox's file, FILE, the listener, a thread, memory or a size was wanting; standard error says which
+  1  A mailbox's file, FILE or the listener failed, a thread or memory was lacking, or a size is out of its limits;
+     standard error says which
   2  A word can't be used, and nothing was done";
 
 /// After the words of a check.
@@ -71,5 +72,5 @@ Example:
 
 Exit status:
   0  Each file is a mailbox
-  1  A file breaks the form or can't be read, as its line says; or memory or standard output was wanting
+  1  A file breaks the form or can't be read, as its line says; or memory was lacking, or a write failed
   2  A word can't be used, and nothing was done";

@@ -108,7 +108,7 @@ pub record BeginsTurn (old new : SpoolState) (held : ℕ) : Type 0 where
     began = standing new;
   }
 
--- A turn wasn't had, and one refusal more is counted: nothing was appended.
+-- A turn was missed, and one more refusal is counted: nothing was appended.
 abbrev pub MissesTurn : SpoolState → SpoolState → Type 0
 MissesTurn old new = new ≡ record old {
   sharing = record old.sharing {

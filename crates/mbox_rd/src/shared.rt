@@ -134,7 +134,7 @@ impl<F: MailboxFile + Drop, C: Clock + Drop> SharedSpool<F, C> {
         self.file.keep()
     }
 
-    // Counts a turn that wasn't had.
+    // Counts a missed turn.
     fn refuse(&mut self, in_use: InUse) -> Result<Option<u64>, InUse>
         ensures new { self.new ≡ record self.old { refusals = counted (self.old.refusals + 1) } }
         ensures result { result ≡ Err in_use }
@@ -218,7 +218,7 @@ impl<F: MailboxFile + Drop, C: Clock + Drop> Spool for SharedSpool<F, C> {
         true
     }
 
-    /// Waits for programs that have the mailbox locked, and after a turn that wasn't had not at all. In a turn it is
+    /// Waits for programs that have the mailbox locked, and after a missed turn not at all. In a turn it is
     /// refused, and the turn goes on.
     fn lock(&mut self) -> Result<Option<u64>, InUse>
         ensures within { self.old.in_turn ≡ true → (result ≡ Err InUse.Locked) × (self.new.file ≡ self.old.file) }

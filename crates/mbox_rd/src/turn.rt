@@ -99,7 +99,7 @@ fn begin_or_reopen<F: MailboxFile>(file: &mut F) -> Result<Option<FileEnd>, InUs
 }
 
 // The lock file comes first, since a program that puts a new file in the place of the old one fails where it finds the
-// new one's bytes locked for a moment. Where the second lock isn't had the first is given back before anything is
+// new one's bytes locked for a moment. Where the second lock is refused the first is given back before anything is
 // waited for, since others take them in the other order.
 fn take_locks<F: MailboxFile>(file: &mut F) -> Result<(), InUse>
     ensures ok { F.tells ≡ true → OnOk result (HasTakenLocks (F.state file.old) (F.state file.new)) }
