@@ -25,7 +25,7 @@ pub record SharedSpool (F : Type 0) : Type 0 where
   pub began : ℕ
   -- how the file ended then, with the bytes taken since
   pub tail : Tail
-  -- so long it was, and the bytes taken since; it stays at 2^64 - 1
+  -- how long it was, and the bytes taken since; it stays at 2^64 - 1
   pub held : ℕ
   pub failures : ℕ
   -- how many turns were missed

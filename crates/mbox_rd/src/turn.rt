@@ -33,7 +33,7 @@ pub(crate) fn tries_in(seconds: u32) -> u64 {
     1 + SHORT_PAUSES + long
 }
 
-/// Tries for a turn so often, and pauses after each try that others' locks were in the way of, but the last.
+/// Tries for a turn that often, and pauses after each try that others' locks were in the way of, but the last.
 pub(crate) fn wait_for_turn<F: MailboxFile, C: Clock>(
     file: &mut F,
     clock: &C,
