@@ -4,26 +4,26 @@
 /// The program's version, and the toolchain that proves it, as `rt version` names it: `make toolchain` writes it here.
 pub const VERSION: &str = "0.1.0 (rattle-kit-13f, logic dac8208d650f15bf)";
 
-/// The error for a folder that is none.
+/// The error for a bad folder.
 pub const BAD_FOLDER: &str =
     "invalid value for '--dir <FOLDER>': it is the path of a folder, and not empty";
 
-/// The error for a level that is none.
+/// The error for a bad level.
 pub const BAD_LEVEL: &str = "invalid value for '--log <LEVEL>': it is off, error or info";
 
-/// The error for a mailbox's mode that is none.
+/// The error for a bad mode of a mailbox.
 pub const BAD_MAILBOX_MODE: &str =
     "invalid value for '--mailbox-mode <MODE>': it is 1 to 4 octal digits, 0777 at most";
 
-/// The error for a socket's mode that is none.
+/// The error for a bad mode of a socket.
 pub const BAD_SOCKET_MODE: &str =
     "invalid value for '--socket-mode <MODE>': it is 1 to 4 octal digits, 0777 at most";
 
-/// The error for the path of a stop file that is none.
+/// The error for a bad path of a stop file.
 pub const BAD_STOP_FILE: &str =
     "invalid value for '--stop-file <PATH>': it is the path of a file, and not empty";
 
-/// The error for a delimiter that is none.
+/// The error for a bad delimiter.
 pub const BAD_DELIMITER: &str =
     "invalid value for '--recipient-delimiter <BYTE>': it is one of + - = # ~";
 

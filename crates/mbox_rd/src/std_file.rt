@@ -135,7 +135,7 @@ where
     }
 
     // Links the lock file from the source, with the time of now, by which others judge whether it is left behind. None:
-    // there is no source, or no link can be had.
+    // there is no source, or no link is possible.
     fn link_lock_file(&mut self) -> Option<bool> {
         let source = self.source.as_ref()?;
         let now = SystemTime::now(&self.rt).ok()?;

@@ -77,7 +77,7 @@ fn begin_turn<F: MailboxFile>(file: &mut F) -> Result<FileEnd, InUse>
     }
 }
 
-// With both locks it is looked whether they are on the file that the path names. None: they weren't, and were given
+// With both locks it is seen whether they are on the file that the path names. None: they weren't, and were given
 // back, and that file is open now.
 fn begin_or_reopen<F: MailboxFile>(file: &mut F) -> Result<Option<FileEnd>, InUse>
     ensures ok { F.tells ≡ true → IfOk result (HasTried (F.state file.old) (F.state file.new)) }
