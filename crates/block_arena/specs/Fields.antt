@@ -160,7 +160,7 @@ longer run n = record {
   length = run.length + n;
 }
 
--- a run with a block more after its last, and the links that make it one
+-- a run with one more block after its last, and the links that make it one
 abbrev pub linked_run : Run → ℕ → Run
 linked_run run block = record {
   first = if run.blocks == 0 then block else run.first;

@@ -91,7 +91,7 @@ outcomes_in (None ∷ places) = outcomes_in places
 abbrev pub told_by : Gather → List Outcome
 told_by gather = outcomes_in gather.places
 
--- A whole message went to its recipients, who aren't too many: its copies more are owed, and its outcomes are those of
+-- A whole message went to its recipients, who aren't too many: its copies are owed too, and its outcomes are those of
 -- slips heard since. It is one more exchange.
 pub record IsDelivered (t : Transaction) (told : List Outcome) (notes : List Note) (past : Episode) (did : List Deed)
     (old new : LaneEnds) : Type 0 where

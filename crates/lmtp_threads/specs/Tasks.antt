@@ -128,7 +128,7 @@ pub record IsInTime {A B : Type 0} (sorts : Sorts) (k : ℕ) (rows rows' : List 
   pub inbox_is : slice_get inboxes' k ≡ Some new.inbox
   pub are : AreInTime sorts deeds old new
 
--- a receiver took these more
+-- a receiver took these too
 pub record TookSlips (heard : List Slip) (old new : Inbox Slip) : Type 0 where
   pub channel : new.channel ≡ old.channel
   pub lanes : new.lanes ≡ old.lanes

@@ -87,7 +87,7 @@ is_log_level filter.Error = true
 is_log_level filter.Info = true
 is_log_level _ = false
 
--- the level that a text names, in any case, and else the usual one
+-- the level that a text names, in any letter case, and else the usual one
 abbrev pub IsLevel : Option Text → LevelFilter → Type 0
 IsLevel None level = level ≡ DEFAULT_LOG
 IsLevel (Some text) level = (parse_filter text ≡ Some level) × (is_log_level level ≡ true)

@@ -127,7 +127,7 @@ module _ {M : Type 0} where
     pub took_more : new.took_at ≡ old.took_at ++ taken_at ∷ []
     pub timed : HaveMoments new.got_at new.took_at
 
-  -- no message more was taken
+  -- no further message was taken
   abbrev pub HasSameTimes : Inbox M → Inbox M → Type 0
   HasSameTimes old new = (new.got_at ≡ old.got_at) × (new.took_at ≡ old.took_at)
 
