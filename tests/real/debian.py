@@ -154,7 +154,7 @@ def site_with_package(folder):
 
 @functools.lru_cache(None)
 def plain_debian():
-    """A folder with what debootstrap makes without a word more."""
+    """A folder with what debootstrap makes without a further word."""
     want_root()
     if os.environ.get("PLAIN_DEBIAN"):
         return os.environ["PLAIN_DEBIAN"]

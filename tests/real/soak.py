@@ -66,7 +66,7 @@ def soak(folder, work):
     load = compiled(folder)
     mailboxes = folder / "mailboxes"
     mailboxes.mkdir()
-    # a conversation more for each lane, so that the server is still there after the load
+    # one more conversation for each lane, so that the server is still there after the load
     conversations = work.lanes * (work.conversations + 1)
     with Server(mailboxes, work.boxes, conversations, "--lanes", work.lanes) as server:
         time.sleep(EVERY)  # its threads start after the line that says that it listens
