@@ -45,7 +45,7 @@ power_cut.seconds = 240
 
 
 def run_until_the_cut(mail, disk, copy, told, load, seconds):
-    """Clients deliver for so long; then the copy is what the disk has been given."""
+    """Clients deliver for that long; then the copy is what the disk has been given."""
     with Server(mail, BOXES, 1000) as server:
         loads = [
             threading.Thread(target=deliver, args=(server.address, told, f"{load}.{client}"))

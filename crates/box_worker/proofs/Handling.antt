@@ -48,7 +48,7 @@ some_text calendar host note = omega arith
 counted_more : (n : ℕ) → min (counted n + 1) (2 ^ 64 - 1) ≡ counted (n + 1)
 counted_more n = omega arith
 
--- what is told of one copy more, which is settled or not
+-- what is told of one more copy, which is settled or not
 module _ (at : Setting) (start : ℕ) (copies : List Note) (note : Note) where
   abbrev told : ℕ → List Outcome
   told n = outcomes_behind at start n copies
@@ -150,7 +150,7 @@ module _ (at : Setting) (copies : List Note) (old : SpoolState) (now : MailboxSt
   copy_counted NoRoom after take = absurd take
   copy_counted TooLarge after take = absurd take
 
--- a count of one outcome more
+-- a count of one more outcome
 stored_more' : (outcome : Outcome) (n : ℕ) (old new : MailboxState) → Tallies outcome old new → old.stored ≡ counted n → new.stored ≡ counted (n + count_by is_stored (outcome ∷ []))
 stored_more' Stored n old new t e = t.0 ∙ ap (λ m. counted (m + 1)) e ∙ counted_more n
 stored_more' Failed n old new t e = let z : n ≡ n + 0 = omega arith in t.0 ∙ e ∙ ap counted z

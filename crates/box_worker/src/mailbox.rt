@@ -18,8 +18,8 @@ use msg_depot::{Depot, DepotName, Hold};
 use std::marker::Model;
 use std::sync::Wait;
 
-/// A spool, the number of records that it took and has kept, that of copies over the quota, that of turns that weren't
-/// had, and whether the spool failed. Once it has, it is left alone.
+/// A spool, the number of records that it took and has kept, that of copies over the quota, that of missed turns, and
+/// whether the spool failed. Once it has, it is left alone.
 #[derive(Drop)]
 pub struct Mailbox<S: Spool> {
     pub spool: S,
@@ -73,8 +73,8 @@ impl<S: Spool> Mailbox<S> {
         }
     }
 
-    /// Stores a copy of the held message in a turn of its own, or says that it is over the quota or lost. Where the turn
-    /// isn't had nothing is appended, and this copy alone is lost: the next one gets a new try.
+    /// Stores a copy of the held message in a turn of its own, or says that it is over the quota or lost. Where the
+    /// turn is missed nothing is appended, and this copy alone is lost: the next one gets a new try.
     pub fn take<N: DepotName, R: Wait>(
         &mut self,
         rt: &R,

@@ -11,7 +11,7 @@ pub struct WorkerReport<N: DepotName, S: Spool, G: Gate> {
     pub spool: S,
     pub gate: G,
     /// The copies that it took, those of them that it stored, those that were over the quota, and those whose turn at
-    /// the mailbox wasn't had. A count stays at its largest value.
+    /// the mailbox was missed. A count stays at its largest value.
     pub taken: u64,
     pub stored: u64,
     pub over: u64,

@@ -34,7 +34,7 @@ pub(crate) fn store<N: DepotName, S: Spool, R: Wait>(
 }
 
 /// Appends what mends the spool and then the record of the held message, and has both kept. After a fault the spool
-/// holds a prefix of them more.
+/// has gained a prefix of them.
 pub(crate) fn mend_and_store<N: DepotName, S: Spool, R: Wait>(
     rt: &R,
     spool: &mut S,

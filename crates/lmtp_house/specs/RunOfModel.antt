@@ -23,7 +23,7 @@ pub record IsToldAlone (spool : SpoolState) : Type 0 where
 
 -- The model has what the worker of this mailbox did, and what its spool holds: the spool is private and tells that. Of
 -- any other spool, as of a mailbox that a mail reader empties too, it has what the worker did where there is no quota
--- and each turn was had, and nothing of what the spool holds.
+-- and no turn was missed, and nothing of what the spool holds.
 abbrev pub IsModelled : Option ℕ → SpoolState → Tally → Type 0
 IsModelled quota before tally = IsToldAlone before ⊎ ((quota ≡ None) × (tally.in_use ≡ 0))
 

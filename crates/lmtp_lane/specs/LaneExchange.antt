@@ -187,7 +187,7 @@ TakesOne slip old new true = (txn : Txn) (n : ℕ) (heard : List Slip) → HasGa
     → (times_named slip.txn slip.place heard ≡ 0) × HasGathered txn n (heard ++ slip ∷ []) new
 TakesOne slip old new false = new ≡ old
 
--- what was offered is so with these copies more
+-- what was offered is so with these further copies
 abbrev pub Continues : Txn → List Note → Sending → Sending → Type 0
 Continues txn more now next = (notes : List Note) (gave : List Deed) (n : ℕ) (past : Episode) (old : LaneEnds)
     → IsOffering notes gave txn n past old now → IsOffering (notes ++ more) (gave ++ map Gave more) txn n past old next

@@ -93,7 +93,7 @@ fn bind<R: Files>(
     Ok(rt.bind_unix(socket.as_fd(), address)?)
 }
 
-// Gives the file the very mode, and has the socket listen.
+// Gives the file just that mode, and has the socket listen.
 fn expose<R: Files>(
     rt: &R,
     socket: &ServerSocket,

@@ -162,7 +162,7 @@ record BoxAt (site : Site) (quota : Option ℕ) (work : BoxWork) (spools : List 
   is : kept_at (kept_all spools tallies) b ≡ record { bytes = spool.bytes; failed = tally.faulty }
   did : IsBoxWork (setting_of (share_of site quota) b) work (state_of (empty_spool site)) (state_of spool) tally
 
--- what the lane heard, and what each of so many workers did
+-- what the lane heard, and what each of that many workers did
 record AllWork : Type 0 where
   heard : List Slip
   boxes : ℕ → BoxWork
@@ -428,7 +428,7 @@ module _ (site : Site) (quota : Option ℕ) (moment : ℕ) {P : Type 0} (state :
         ends = subst E one.cause by.ends;
       }
 
--- the mailboxes behind the replies
+-- the mailboxes after the replies
 pub rehearsed : (site : Site) (quota : Option ℕ) (moment : ℕ) (old between : Streams) (left : HeldState) (after : Option (List ℕ)) (cut : Bool)
     → IsHeld site quota moment old between left → IsListed (texts_of_mailboxes site.boxes (bytes_of_all left.spools)) between.written after cut
     → IsRehearsed site quota moment old (record { unread = between.unread; written = after }) (record { end = left.end; faulty = left.faulty; cut = cut })

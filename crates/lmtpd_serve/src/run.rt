@@ -110,7 +110,7 @@ fn visits_of<L: Drop, E: Drop, G: LaneLogs, H: Copy + Drop>(
     Ok(logged)
 }
 
-/// How it went to say where the server listens.
+/// What came of saying where the server listens.
 #[derive(Clone, Copy)]
 struct Announced {
     /// The listener can't tell where it listens.

@@ -1,4 +1,4 @@
--- A letter that has begun: lines more, its end, the next letter.
+-- A letter that has begun: more lines, its end, the next letter.
 use Rattle.std.proofs.Common.{◌≡◌, inl, inr, ℕ, suc, Bool, true, false, cond, ◌&&◌, ◌==◌, List, [], ◌∷◌, ◌++◌, map, length, sym, ap, subst, ◌∙◌, refl, append_assoc, append-nil, true≢false}
 use Rattle.std.specs.Prelude.{codes}
 use Rattle.std.specs.Str.{byte}
@@ -67,7 +67,7 @@ length-push (x ∷ ls) l = ap (λ n. suc n) (length-push ls l)
 written-push : (ls : List Letter) (l : Letter) → written (ls ++ l ∷ []) ≡ written ls ++ (codes "From " ++ (l.head ++ lf ∷ (quoted_text l.body ++ lf ∷ [])))
 written-push ls l = flat_map-append letter_text ls (l ∷ []) ∙ ap (λ t. written ls ++ t) (letter-lines l [])
 
--- ---- a line more
+-- ---- one more line
 
 quoted_by : (b : ℕ) (line : List ℕ) (t : Bool) → ((b == byte ">") && is_from_line line) ≡ t → begins_from (b ∷ line) ≡ false → quoted (cond t line (b ∷ line)) ≡ b ∷ line
 quoted_by b line true e plain =

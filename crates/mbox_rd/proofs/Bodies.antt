@@ -100,7 +100,7 @@ IsBodyUpTo-start text = record {
   goes = λ after t. t;
 }
 
--- a line more
+-- one more line
 with_lf-push : (ls : List (List ℕ)) (line : List ℕ) → with_lf (ls ++ line ∷ []) ≡ with_lf ls ++ (line ++ lf ∷ [])
 with_lf-push ls line = flat_map-append (λ l. l ++ lf ∷ []) ls (line ∷ []) ∙ ap (λ l. with_lf ls ++ l) (append-nil (line ++ lf ∷ []))
 

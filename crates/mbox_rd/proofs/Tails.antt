@@ -10,7 +10,7 @@ use Rattle.mbox_rd.specs.declared.spool.Tail.{Tail}
 use Rattle.mbox_rd.specs.declared.spool.Tail.TheVariants.{Empty, NoLf, OneLf, TwoLf}
 use Rattle.mbox_rd.specs.Spool.{tail_of}
 
--- with an LF more
+-- with one more LF
 abbrev pub one_lf_more : Tail → Tail
 one_lf_more Empty = OneLf
 one_lf_more NoLf = OneLf

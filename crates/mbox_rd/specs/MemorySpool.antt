@@ -3,7 +3,7 @@ use Rattle.std.specs.Prelude.{ℕ, Bool, List}
 
 pub record MemorySpool : Type 0 where
   pub bytes : List ℕ
-  -- how many bytes more it takes
+  -- how many more bytes it takes
   pub room : ℕ
   pub failures : ℕ
   -- how many of its first bytes the last sync covered

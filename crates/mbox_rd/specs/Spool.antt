@@ -89,7 +89,8 @@ pub record HasNotSynced (old new : SpoolState) : Type 0 where
 -- how a spool stands that tells its bytes
 abbrev pub standing : SpoolState → Option Standing
 standing spool =
-    option_map (λ bytes. let s : Standing = record { bytes = bytes; synced = spool.synced; failures = spool.failures } in s)
+    option_map
+    (λ bytes. let s : Standing = record { bytes = bytes; synced = spool.synced; failures = spool.failures } in s)
     spool.bytes
 
 -- A turn of a shared spool began. Others may have changed all but its counts, and that many bytes stand there now.
@@ -107,7 +108,7 @@ pub record BeginsTurn (old new : SpoolState) (held : ℕ) : Type 0 where
     began = standing new;
   }
 
--- A turn wasn't had, and one refusal more is counted: nothing was appended.
+-- A turn was missed, and one more refusal is counted: nothing was appended.
 abbrev pub MissesTurn : SpoolState → SpoolState → Type 0
 MissesTurn old new = new ≡ record old {
   sharing = record old.sharing {

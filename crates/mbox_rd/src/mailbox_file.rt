@@ -2,7 +2,8 @@
 ghost use Rattle.std.specs.Prelude.{◌≡◌, Bool, true, false, IfOk, OnOk, OnErr};
 ghost use Rattle.mbox_rd.specs.MailboxFile.{FileState, HasMadeLockFile, HasNotMadeLockFile, HasRemovedLockFile};
 ghost use Rattle.mbox_rd.specs.MailboxFile.{HasLockedRange, HasNotLockedRange, HasReopened, HasRefused, HasLooked};
-ghost use Rattle.mbox_rd.specs.MailboxFile.{HasFoundEnd, HasWritten, HasNotWritten, HasKept, HasNotKept, HasCut, HasNotCut};
+ghost use Rattle.mbox_rd.specs.MailboxFile.{HasFoundEnd, HasWritten, HasNotWritten, HasKept, HasNotKept, HasCut};
+ghost use Rattle.mbox_rd.specs.MailboxFile.{HasNotCut};
 
 use crate::file::FileEnd;
 use crate::spool::InUse;

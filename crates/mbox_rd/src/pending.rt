@@ -1,4 +1,4 @@
-//! How far a piece of the message is sure to be written: CRLF becomes LF, and a From line gets one `>` more.
+//! How far a piece of the message is sure to be written: CRLF becomes LF, and a From line gets one more `>`.
 ghost use Rattle.std.specs.Prelude.{◌≡◌, ◌≢◌, ◌<◌, ◌≤◌, [], length, true, false};
 ghost use Rattle.std.specs.Option.{IfSome};
 ghost use Rattle.std.specs.Str.{byte};

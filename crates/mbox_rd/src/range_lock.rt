@@ -11,8 +11,8 @@ pub enum LockKind {
     Exclusive,
 }
 
-/// A lock on all bytes of an open file as a trait, so that a test can stand in for it. Programs that lock by `fcntl` see
-/// it, and it sees theirs.
+/// A lock on all bytes of an open file as a trait, so that a test can stand in for it. Programs that lock by `fcntl`
+/// see it, and it sees theirs.
 pub trait RangeLock {
     /// Fails at once, with `ErrorKind::WouldBlock`, where another program has some byte locked.
     fn try_lock_bytes(&self, kind: LockKind) -> io::Result<()>;

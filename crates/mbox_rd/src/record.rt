@@ -52,7 +52,7 @@ impl RecordWriter {
         })
     }
 
-    /// Writes what is sure of the message's bytes, with LF for CRLF and one `>` more before a From line. The piece may
+    /// Writes what is sure of the message's bytes, with LF for CRLF and one more `>` before a From line. The piece may
     /// end anywhere. After a fault the spool holds a prefix of the record, and the writer is gone.
     pub fn piece<S: Spool>(self, spool: &mut S, piece: &[u8]) -> Result<RecordWriter, SpoolFault>
         ensures ok { IfOk result (λ writer. WritesPiece (S.state spool.old) (S.state spool.new) self writer piece.now) }

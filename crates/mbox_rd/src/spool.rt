@@ -13,7 +13,7 @@ use thiserror::Error;
 #[error("the spool failed")]
 pub struct SpoolFault;
 
-/// Why a turn at a mailbox wasn't had. Nothing was appended, and a later turn may be had.
+/// Why a turn at a mailbox was missed. Nothing was appended, and a later turn may come.
 #[derive(Clone, Copy, Debug, PartialEq, Eq, Error)]
 pub enum InUse {
     /// Other programs had it locked all the while.

@@ -1,4 +1,4 @@
-//! Lock files that nobody has: their process is no more, or they are older than any turn.
+//! Lock files that nobody has: their process is gone, or they are older than any turn.
 ghost use Rattle.std.specs.Prelude.{◌≤◌, length, IfOk};
 
 use crate::plain::node_of;

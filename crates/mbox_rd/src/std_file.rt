@@ -1,7 +1,7 @@
 //! The file under a shared spool in the file system, beside its lock file.
 //!
-//! A lock file is linked from one that is made at the start and stays, `PATH.source.lock`: to make a file and write to it
-//! for each turn takes ten times as long. Where there can be no link it is made.
+//! A lock file is linked from one that is made at the start and stays, `PATH.source.lock`: to make a file and write to
+//! it for each turn takes ten times as long. Where there can be no link it is made.
 use crate::file::{FileEnd, OWNER_ONLY, OpenFault, end_of_file, fault_of};
 use crate::mailbox_file::MailboxFile;
 use crate::plain::{Node, OpenNode, is_plain, node_of, open_plain, system_fault};
@@ -135,7 +135,7 @@ where
     }
 
     // Links the lock file from the source, with the time of now, by which others judge whether it is left behind. None:
-    // there is no source, or no link can be had.
+    // there is no source, or no link is possible.
     fn link_lock_file(&mut self) -> Option<bool> {
         let source = self.source.as_ref()?;
         let now = SystemTime::now(&self.rt).ok()?;

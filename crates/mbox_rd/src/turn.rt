@@ -33,7 +33,7 @@ pub(crate) fn tries_in(seconds: u32) -> u64 {
     1 + SHORT_PAUSES + long
 }
 
-/// Tries for a turn so often, and pauses after each try that others' locks were in the way of, but the last.
+/// Tries for a turn that often, and pauses after each try that others' locks were in the way of, but the last.
 pub(crate) fn wait_for_turn<F: MailboxFile, C: Clock>(
     file: &mut F,
     clock: &C,
@@ -77,7 +77,7 @@ fn begin_turn<F: MailboxFile>(file: &mut F) -> Result<FileEnd, InUse>
     }
 }
 
-// With both locks it is looked whether they are on the file that the path names. None: they weren't, and were given
+// With both locks it is seen whether they are on the file that the path names. None: they weren't, and were given
 // back, and that file is open now.
 fn begin_or_reopen<F: MailboxFile>(file: &mut F) -> Result<Option<FileEnd>, InUse>
     ensures ok { F.tells ≡ true → IfOk result (HasTried (F.state file.old) (F.state file.new)) }
@@ -99,7 +99,7 @@ fn begin_or_reopen<F: MailboxFile>(file: &mut F) -> Result<Option<FileEnd>, InUs
 }
 
 // The lock file comes first, since a program that puts a new file in the place of the old one fails where it finds the
-// new one's bytes locked for a moment. Where the second lock isn't had the first is given back before anything is
+// new one's bytes locked for a moment. Where the second lock is refused the first is given back before anything is
 // waited for, since others take them in the other order.
 fn take_locks<F: MailboxFile>(file: &mut F) -> Result<(), InUse>
     ensures ok { F.tells ≡ true → OnOk result (HasTakenLocks (F.state file.old) (F.state file.new)) }
