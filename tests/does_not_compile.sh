@@ -12,7 +12,7 @@ trap 'rm -rf "$folder"' EXIT
 
 mkdir "$folder/crates"
 cp HANDLES crates.txt "$folder/"
-for crate in mail_world mail_progress mail_runs lmtp_text mbox_rd block_arena msg_depot mail_post box_worker; do
+for crate in mail_world mail_progress mail_runs lmtp_text mbox_record block_arena msg_depot mail_post box_worker; do
     cp -a "crates/$crate" "$folder/crates/"
     grep -E "^$crate( |:)" crates.txt
 done > "$folder/crates.txt"
