@@ -69,7 +69,7 @@ deb:
 check:
 	rt all check --jobs $$(building/jobs_at_once)
 
-# Proves everything, tries the must-fail edits, and runs the program, the tests and the scripts of tests/.
+# Proves everything, tries the must-fail edits, and runs the program and the scripts of tests/.
 test:
 	@tests/gate.sh
 

@@ -12,9 +12,5 @@ folder=$(mktemp -d -p /dev/shm)
 trap 'rm -rf "$folder"' EXIT
 rustc -O -o "$folder/load" bench/serve/load.rs
 case "${1:-}" in --build | --try) exit 0 ;; esac
-if [ -z "${LMTPD:-}" ] && [ "${1:-}" != --try ]; then
-    make -s build
-    LMTPD=$PWD/crates/lmtpd/out/lmtpd
-fi
-export LMTPD
+[ "${1:-}" = --try ] || . tests/built_program
 exec python3 -B bench/large_messages/rounds.py "$folder" "${1:-5}"

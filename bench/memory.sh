@@ -8,10 +8,7 @@
 set -euo pipefail
 cd "$(dirname "$0")/.."
 . tests/needs rustc
-if [ -z "${LMTPD:-}" ] && [ "${1:-}" != --try ]; then
-    make -s build
-    LMTPD=$PWD/crates/lmtpd/out/lmtpd
-fi
+[ "${1:-}" = --try ] || . tests/built_program
 folder=$(mktemp -d)
 program=''
 trap 'kill $program 2> /dev/null || true; wait; rm -rf "$folder"' EXIT

@@ -7,11 +7,7 @@
 set -euo pipefail
 cd "$(dirname "$0")/.."
 . tests/needs python3
-if [ -z "${LMTPD:-}" ] && [ "${1:-}" != --try ]; then
-    make -s build
-    LMTPD=$PWD/crates/lmtpd/out/lmtpd
-fi
-export LMTPD
+[ "${1:-}" = --try ] || . tests/built_program
 case "${1:-}" in --build | --try) exit 0 ;; esac
 exec python3 - <<'PYTHON'
 import os

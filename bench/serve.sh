@@ -26,11 +26,7 @@
 set -euo pipefail
 cd "$(dirname "$0")/.."
 . tests/needs rustc python3
-if [ -z "${LMTPD:-}" ] && [ "${1:-}" != --try ]; then
-    make -s build
-    LMTPD=$PWD/crates/lmtpd/out/lmtpd
-fi
-export LMTPD
+[ "${1:-}" = --try ] || . tests/built_program
 folder=$(mktemp -d)
 trap 'rm -rf "$folder"' EXIT
 

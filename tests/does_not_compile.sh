@@ -6,35 +6,25 @@
 #   first, one that sends a slip past `tell`, and one that doesn't tell.
 set -euo pipefail
 cd "$(dirname "$0")/.."
-. tests/needs python3
-folder=$(mktemp -d)
-trap 'rm -rf "$folder"' EXIT
-
-mkdir "$folder/crates"
-cp HANDLES crates.txt "$folder/"
-for crate in mail_world mail_progress mail_runs lmtp_text mbox_rd block_arena msg_depot mail_post box_worker; do
-    cp -a "crates/$crate" "$folder/crates/"
-    grep -E "^$crate( |:)" crates.txt
-done > "$folder/crates.txt"
+. tests/copies
+copy_crates kept mail_world mail_progress mail_runs lmtp_text mbox_rd block_arena msg_depot mail_post box_worker
 
 # refuses CRATE MODULE OLD NEW WHY: with NEW in the place of OLD the module doesn't compile, and the compiler says why.
 refuses() {
-    cd "$folder/crates/$1"
-    cp "src/$2.rt" before
-    python3 - "src/$2.rt" "$3" "$4" <<'PYTHON'
-import sys
-
-path, old, new = sys.argv[1:]
-text = open(path).read()
-assert text.count(old) == 1, f"{path} has {old!r} {text.count(old)} times"
-open(path, "w").write(text.replace(old, new))
-PYTHON
-    if rt check --only "$1::$2" > log 2>&1; then
+    local file=$folder/crates/$1/src/$2.rt text rest
+    text=$(< "$file")
+    rest=${text#*"$3"}
+    if [ "$rest" = "$text" ] || [[ $rest == *"$3"* ]]; then
+        echo "$1/src/$2.rt doesn't have this once: $3" >&2
+        exit 1
+    fi
+    printf '%s%s%s\n' "${text%%"$3"*}" "$4" "$rest" > "$file"
+    if (cd "$folder/crates/$1" && rt check --only "$1::$2") > "$folder/log" 2>&1; then
         echo "no refusal: $4" >&2
         exit 1
     fi
-    grep -m 1 -E "error.*($5)" log || { cat log >&2; exit 1; }
-    mv before "src/$2.rt"
+    grep -m 1 -E "error.*($5)" "$folder/log" || { cat "$folder/log" >&2; exit 1; }
+    printf '%s\n' "$text" > "$file"
 }
 
 own='Err(NoRoom { of: () })'

@@ -1,17 +1,17 @@
 #!/usr/bin/env bash
 # The gate. First the program's version gets the name of the toolchain that proves it (`make toolchain`), which is said
-# where it had another. Then `rt ci`: proves every crate and its tests, tries the must-fail edits, runs the program and
-# the tests; and beside it, on the cores that it leaves idle, the scripts of tests/ that need the sources alone. Then,
-# over what was built, the other scripts, side by side. A script that lacks something of the machine says so and ends
-# with status 77: that is counted apart, as absent. The last line counts all: 'N passed, M failed'. The benchmarks'
-# programs are only compiled (tests/benchmarks.sh), and proved by `make benchmarks`.
+# where it had another. Then `rt ci`: proves every crate, tries the must-fail edits and runs the program; and beside it,
+# on the cores that it leaves idle, the scripts of tests/ that need the sources alone. Then, over what was built, the
+# other scripts, side by side. A script that lacks something of the machine says so and ends with status 77: that is
+# counted apart, as absent. The last line counts all: 'N passed, M failed'. The benchmarks' programs are only compiled
+# (tests/benchmarks.sh), and proved by `make benchmarks`.
 # usage: tests/gate.sh [--scripts]: with the word only the scripts, on what stands built
 set -uo pipefail
 cd "$(dirname "$0")/.."
 export LMTPD=$PWD/crates/lmtpd/out/lmtpd
 passed=0 failed=0 absent=0
 
-# count FILE: adds the last line of `rt ci`, which counts crates, edits, the program and the tests.
+# count FILE: adds the last line of `rt ci`, which counts crates, edits and the program.
 count() {
     local line
     line=$(tail -n 1 "$1")
@@ -33,7 +33,7 @@ play() {
 # play_on_sources: plays those that need the sources alone, one after the other.
 play_on_sources() {
     local script
-    for script in tests/{calls,units,benchmarks,wrong_bodies}.sh; do play "$script" 3600; done
+    for script in tests/{calls,units,memory,benchmarks,wrong_bodies}.sh; do play "$script" 3600; done
 }
 
 # play_others: plays each script of tests/ that wasn't, as many at a time as there are cores but one.

@@ -6,12 +6,8 @@
 set -euo pipefail
 cd "$(dirname "$0")/.."
 . tests/needs git python3
-if [ -z "${LMTPD:-}" ]; then
-    make -s build
-    LMTPD=$PWD/crates/lmtpd/out/lmtpd
-fi
-export LMTPD
-exec python3 - <<'PYTHON'
+. tests/built_program
+exec python3 -B - <<'PYTHON'
 import mailbox
 import os
 import pathlib
@@ -20,6 +16,8 @@ import subprocess
 import sys
 import tempfile
 import time
+
+from cases import compare, none_failed
 
 TEST = pathlib.Path("crates/mbox_rd/src/reading/tests.rt.in")
 DATE = b"Thu Jan  1 00:00:00 1970"
@@ -110,24 +108,18 @@ def of_python(path):
     return pathlib.Path(path).read_bytes()
 
 
-def tell(case, holds):
-    print(f"{'ok' if holds else 'FAILED'}: {case}")
-    return holds
-
-
 def main():
-    verdicts = []
     with tempfile.TemporaryDirectory() as folder:
         for box, written in rehearse().items():
             path = os.path.join(folder, box)
             pathlib.Path(path).write_bytes(written)
             sent = list(letters(box))
             for reader, read in [("git mailsplit --mboxrd", by_git), ("Python's mailbox", by_python)]:
-                verdicts.append(tell(f"{reader} finds the {len(sent)} letters of {box}", list(read(path)) == sent))
+                compare(f"{reader} finds the {len(sent)} letters of {box}", list(read(path)), sent)
         constant = TEST.read_bytes().split(b'const PYTHON: &[u8] = b"', 1)[1].split(b'";', 1)[0]
-        same = constant == of_python(os.path.join(folder, "python"))
-        verdicts.append(tell("the test of read_mailbox takes what Python's mailbox writes", same))
-    sys.exit(0 if all(verdicts) else 1)
+        written = of_python(os.path.join(folder, "python"))
+        compare("the test of read_mailbox takes what Python's mailbox writes", constant, written)
+    sys.exit(0 if none_failed() else 1)
 
 
 main()

@@ -8,10 +8,6 @@
 set -euo pipefail
 cd "$(dirname "$0")/.."
 . tests/needs bash gzip make python3
-if [ -z "${LMTPD:-}" ]; then
-    make -s build
-    LMTPD=$PWD/crates/lmtpd/out/lmtpd
-fi
-export LMTPD
+. tests/built_program
 python3 -B tests/packaging/run.py
 exec python3 -B tests/packaging/deb.py

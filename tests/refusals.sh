@@ -3,10 +3,7 @@
 # and fails where a case does. LMTPD names a program that is built already.
 set -euo pipefail
 cd "$(dirname "$0")/.."
-if [ -z "${LMTPD:-}" ]; then
-    make -s build
-    LMTPD=$PWD/crates/lmtpd/out/lmtpd
-fi
+. tests/built_program
 failed=0
 
 # try STATUS LINE WORD..: the status, the one line on standard error ('clap' for a text of clap's there,

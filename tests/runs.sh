@@ -5,10 +5,5 @@
 set -euo pipefail
 cd "$(dirname "$0")/.."
 . tests/needs python3
-if [ -z "${LMTPD:-}" ]; then
-    make -s build
-    LMTPD=$PWD/crates/lmtpd/out/lmtpd
-fi
-export LMTPD
-export PYTHONPATH=$PWD/tests
+. tests/built_program
 exec python3 -B tests/runs/run.py

@@ -2,17 +2,12 @@
 # `serve` as it is built, over loopback: what it says to words that it can't use, real clients (Python's
 # smtplib, and swaks and smtp-source where they are installed), clients at once, clients that go away or say
 # nothing, and files that fail or are torn. Mailboxes are read back by `git mailsplit --mboxrd` and Python's
-# `mailbox`, which must agree. It prints one line a case (ok, FAIL, or absent for what this machine hasn't),
+# `mailbox`, which must agree. It prints one line a case (ok, FAILED, or absent for what this machine hasn't),
 # and then their count; it fails where a case does. Each case has 60 seconds at most. LMTPD names a program
 # that is built already.
 # usage: tests/serve.sh [NAME..]: the cases whose text has one of these words, or all
 set -euo pipefail
 cd "$(dirname "$0")/.."
 . tests/needs git python3
-if [ -z "${LMTPD:-}" ]; then
-    make -s build
-    LMTPD=$PWD/crates/lmtpd/out/lmtpd
-fi
-export LMTPD
-export PYTHONPATH=$PWD/tests
+. tests/built_program
 exec python3 -B tests/serve/run.py "$@"

@@ -11,10 +11,7 @@
 set -euo pipefail
 cd "$(dirname "$0")/.."
 . tests/needs rustc
-if [ -z "${LMTPD:-}" ]; then
-    make -s build
-    LMTPD=$PWD/crates/lmtpd/out/lmtpd
-fi
+. tests/built_program
 folder=$(mktemp -d)
 server='' tracer=''
 trap 'kill $tracer $server 2> /dev/null || true; wait; rm -rf "$folder"' EXIT

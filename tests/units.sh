@@ -10,14 +10,8 @@ wanted=("$@")
 [ "$#" != 0 ] || mapfile -t wanted < <(find crates -name 'tests.rt.in' | cut -d/ -f2 | sort -u)
 # shellcheck disable=SC2046
 copy_crates sources $(grep -oE '^[a-z0-9_]+' crates.txt)
+add_tests
 cd "$folder"
-find crates -name '*.rt.in' | while read -r file; do
-    mv "$file" "${file%.in}"
-    [ "$(basename "$file")" = tests.rt.in ] || continue
-    module=$(dirname "$file").rt
-    [ -f "$module" ] || module=$(dirname "$file")/lib.rt
-    printf '\n#[cfg(test)]\nmod tests;\n' >> "$module"
-done
 
 declare -A running
 for crate in "${wanted[@]}"; do
@@ -28,8 +22,8 @@ failed=0
 for crate in "${wanted[@]}"; do
     status=0
     wait "${running[$crate]}" || status=$?
-    tests=$(grep -rhE '^[[:space:]]*#\[test\]' "crates/$crate/src" | wc -l)
-    passed=$(sed -nE 's/^test result: ok\. ([0-9]+) passed; 0 failed; 0 ignored.*/\1/p' "$crate.said")
+    tests=$(tests_in "crates/$crate/src")
+    passed=$(passed_in "$crate.said")
     if [ "$status" = 0 ] && [ "${passed:-0}" = "$tests" ]; then
         echo "ok: $crate: $tests tests passed"
     else

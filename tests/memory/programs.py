@@ -7,6 +7,8 @@ import subprocess
 import sys
 import tempfile
 
+from cases import none_failed, tell
+
 LMTPD, LIBRARY = os.environ["LMTPD"], sys.argv[1]
 SECONDS = 20  # that a run may take
 MOST = 2000  # calls of a run
@@ -156,8 +158,7 @@ def in_turn(name, run, is_all):
             raise Wrong(f"{name}, call {number}{' and all later ones' if is_all else ''}: {wrong}") from None
         if not what:
             later = " and all later ones" if is_all else ""
-            refused = f"each of {counts[b'r']} allocations and {counts[b't']} threads refused in turn{later}"
-            print(f"ok: {name}: {refused}", flush=True)
+            tell(f"{name}: each of {counts[b'r']} allocations and {counts[b't']} threads refused in turn{later}")
             return
         counts[what[:1]] += 1
     raise Wrong(f"{name}: no end after {MOST} calls")
@@ -171,5 +172,5 @@ try:
         in_turn("serve", serve, is_all)
         in_turn("check", check, is_all)
 except Wrong as wrong:
-    print(f"FAILED: {wrong}")
-    sys.exit(1)
+    tell("refused in turn", "FAILED", str(wrong))
+sys.exit(0 if none_failed() else 1)

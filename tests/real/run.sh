@@ -3,7 +3,7 @@
 # mailboxes (git, Python, Perl, formail, mutt, Dovecot's IMAP), under systemd by the lines of docs/operating/SETUP.md,
 # from its package on a plain Debian, and after the mailboxes of others. Each case starts what it needs in a folder of
 # its own, on loopback, and ends it again. What isn't installed is fetched with apt-get where that may be (root,
-# Debian), and else the case is left out, and that is said. It prints one line a case (ok, FAIL or absent) and their
+# Debian), and else the case is left out, and that is said. It prints one line a case (ok, FAILED or absent) and their
 # count, and fails where a case does; a case has a minute, and some have more, a quarter of an hour at most. It is no
 # part of the gate, since it needs root and packages. Where SOAK_GRAPHS names a folder, the cases of a million
 # deliveries draw the server's memory there; RESTARTS is how many restarts a server has beside clients, 100 without it.
@@ -12,10 +12,6 @@
 set -euo pipefail
 cd "$(dirname "$0")/../.."
 . tests/needs git python3
-if [ -z "${LMTPD:-}" ]; then
-    make -s build
-    LMTPD=$PWD/crates/lmtpd/out/lmtpd
-fi
-export LMTPD
+. tests/built_program
 export PYTHONPATH=$PWD/tests:$PWD/tests/serve
 exec python3 -B tests/real/run.py "$@"

@@ -10,6 +10,7 @@ import tempfile
 import listed
 import replies
 import rows
+from cases import compare, none_failed
 
 LMTPD = os.path.abspath(os.environ["LMTPD"])
 SECONDS = 60  # that a run may take
@@ -132,7 +133,7 @@ def check_beside(folder, kind, seconds, locked):
     return ended.returncode, ended.stdout, ended.stderr
 
 
-def locks():
+def compare_locks():
     """A file that another program has locked to write is waited for, and then read all the same, with a line."""
     said = b"anna.mbox letters 1\nben.mbox no From line at 0\ncarla.mbox letters 2\n"
     beside = [
@@ -146,14 +147,7 @@ def locks():
         told = "".join(f"lmtpd: {name} read without its lock\n" for name in sorted(locked) if is_held).encode()
         with tempfile.TemporaryDirectory() as folder:
             found = check_beside(folder, kind, seconds, locked)
-        yield tell(f"check: {kind} of {' and '.join(locked)} for {seconds} s", found, (1, said, told))
-
-
-def tell(name, found, wanted):
-    print(f"{'ok' if found == wanted else 'FAILED'}: {name}", flush=True)
-    if found != wanted:
-        print(f"  found  {found!r:.600}\n  wanted {wanted!r:.600}")
-    return found == wanted
+        compare(f"check: {kind} of {' and '.join(locked)} for {seconds} s", found, (1, said, told))
 
 
 def wrong_quotas():
@@ -165,27 +159,26 @@ def wrong_quotas():
             yield quota, found
 
 
-def verdicts():
+def compare_all():
     for row in [*rows.rows(), *listed.rows()]:
         wanted = (0, row.output(), b"")
-        yield tell(row.name, play(row), wanted)
+        compare(row.name, play(row), wanted)
         if len(row.input()) < 400:
-            yield tell(f"{row.name}, byte by byte", play_in_pieces(row), wanted)
-    yield tell("one mailbox twice and each quota from 0 to 378", list(wrong_quotas()), [])
-    yield tell("a message of 200 MiB, byte for byte", play_largest(), True)
+            compare(f"{row.name}, byte by byte", play_in_pieces(row), wanted)
+    compare("one mailbox twice and each quota from 0 to 378", list(wrong_quotas()), [])
+    compare("a message of 200 MiB, byte for byte", play_largest(), True)
     first = next(rows.rows())
-    yield tell("standard output is full", play_on_full(first), (1, b"", b"lmtpd: device fault\n"))
+    compare("standard output is full", play_on_full(first), (1, b"", b"lmtpd: device fault\n"))
     for blocks in [0, 65_537]:
         found = play_with_blocks(first, blocks)
-        yield tell(f"{blocks} blocks: nothing is read or written", found, (1, b"", b"lmtpd: size\n", 0))
+        compare(f"{blocks} blocks: nothing is read or written", found, (1, b"", b"lmtpd: size\n", 0))
     for row in rows.checks():
-        yield tell(f"check: {row.name}", check(row), (row.status(), row.output(), b""))
+        compare(f"check: {row.name}", check(row), (row.status(), row.output(), b""))
         found = check_on_full(row)
-        yield tell(f"check: {row.name}, standard output is full", found, (1, None, b"lmtpd: device fault\n"))
-    yield tell("check: a folder", check_folder(), (1, b"/ cannot read\n", b""))
-    yield from locks()
+        compare(f"check: {row.name}, standard output is full", found, (1, None, b"lmtpd: device fault\n"))
+    compare("check: a folder", check_folder(), (1, b"/ cannot read\n", b""))
+    compare_locks()
 
 
-found = list(verdicts())
-print(f"{sum(found)} of {len(found)} runs hold")
-sys.exit(0 if all(found) else 1)
+compare_all()
+sys.exit(0 if none_failed() else 1)

@@ -19,6 +19,3 @@ pub use keeper::{Keeper, NoRoom};
 pub use rule::HoldRule;
 pub use token::{Board, DepotName, Draft, Hold, Spent};
 pub use view::{Claim, Entry, Kind, Opening, Phase, View};
-
-#[cfg(test)]
-mod tests;

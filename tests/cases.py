@@ -1,0 +1,94 @@
+"""What the tests in Python share: each case is told by a line of its own, with its verdict (ok, FAILED, or absent for
+what this machine hasn't), and in the end their count. A case is a function whose text is its name, or one comparison."""
+
+import pathlib
+import signal
+import tempfile
+import traceback
+
+CASES = []
+SECONDS = 60  # that a case may take, where it says no other number itself
+VERDICTS = []  # of those that were told
+
+
+class Absent(Exception):
+    """Something that a case needs isn't on this machine; the text says what."""
+
+
+def case(function):
+    CASES.append(function)
+    return function
+
+
+def run_all(wanted):
+    """Runs the cases whose names have one of these texts, or all; says whether none failed."""
+    for function in CASES:
+        if not wanted or any(text in name_of(function) for text in wanted):
+            run(function)
+    return none_failed()
+
+
+def name_of(function):
+    return " ".join(function.__doc__.split())
+
+
+def run(function):
+    signal.signal(signal.SIGALRM, too_long)
+    signal.alarm(getattr(function, "seconds", SECONDS))
+    try:
+        with tempfile.TemporaryDirectory() as folder:
+            function(pathlib.Path(folder))
+        verdict, why = "ok", ""
+    except Absent as absent:
+        verdict, why = "absent", str(absent)
+    except Exception as fault:
+        verdict, why = "FAILED", f"{place(fault)}: {fault!r}"
+    finally:
+        signal.alarm(0)
+    tell(name_of(function), verdict, why)
+
+
+def too_long(*_):
+    raise TimeoutError("more seconds than it may take")
+
+
+def place(fault):
+    """The file and line of a test in which it came up."""
+    here = str(pathlib.Path(__file__).parent)
+    frames = [it for it in traceback.extract_tb(fault.__traceback__) if it.filename.startswith(here)]
+    at = [it for it in frames if it.filename != __file__][-1]
+    return f"{pathlib.Path(at.filename).name}:{at.lineno}"
+
+
+def compare(name, found, wanted):
+    """A case that is one comparison."""
+    is_same = found == wanted
+    tell(name, "ok" if is_same else "FAILED", "" if is_same else both(found, wanted))
+
+
+def tell(name, verdict="ok", why=""):
+    """The line of one case."""
+    VERDICTS.append(verdict)
+    print(f"{verdict}: {name}{why and f' ({why})'}", flush=True)
+
+
+def none_failed():
+    """Counts the cases that were told, and gives whether none failed."""
+    held, failed, absent = [VERDICTS.count(verdict) for verdict in ["ok", "FAILED", "absent"]]
+    print(f"{held} of {len(VERDICTS)} cases hold, {failed} fail, {absent} left out")
+    return failed == 0
+
+
+def equal(found, wanted):
+    """A comparison within a case, which says both where they differ."""
+    if found != wanted:
+        raise AssertionError(both(found, wanted))
+
+
+def both(found, wanted):
+    return f"found {short(found)}, wanted {short(wanted)}"
+
+
+def short(value):
+    text = repr(value)
+    return text if len(text) < 600 else text[:500] + " .. " + text[-90:]
