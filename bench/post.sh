@@ -12,8 +12,8 @@ set -euo pipefail
 cd "$(dirname "$0")/.."
 . tests/needs rustc python3
 . bench/program
-crates=(mail_world mail_progress mail_runs lmtp_text mbox_rd block_arena msg_depot mail_post)
-make_program post post "mail_world mbox_rd msg_depot mail_post anyhow" "${1:-}" "${crates[@]}"
+crates=(mail_world mail_progress mail_runs lmtp_text mbox_record block_arena msg_depot mail_post)
+make_program post post "mail_world mbox_record msg_depot mail_post anyhow" "${1:-}" "${crates[@]}"
 
 python3 - out/post "$folder/channels" "${RUNS:-9}" <<'PYTHON'
 import subprocess

@@ -7,7 +7,7 @@
 set -euo pipefail
 cd "$(dirname "$0")/.."
 . tests/copies
-copy_crates kept mail_world mail_progress mail_runs lmtp_text mbox_rd block_arena msg_depot mail_post box_worker
+copy_crates kept mail_world mail_progress mail_runs lmtp_text mbox_record block_arena msg_depot mail_post box_worker
 
 # refuses CRATE MODULE OLD NEW WHY: with NEW in the place of OLD the module doesn't compile, and the compiler says why.
 refuses() {

@@ -20,9 +20,9 @@ use Rattle.mail_post.specs.declared.channel.Gone.TheVariants.{Closed, Lost}
 use Rattle.mail_post.specs.Copies.{envelope_of}
 use Rattle.mail_post.specs.Offered.{HaveNumber, IsOffered, any_refused}
 use Rattle.mail_post.proofs.Offered.{still_numbered, accepted_nothing, offered_more}
-use Rattle.mbox_rd.specs.Mending.{HasNotMended}
-use Rattle.mbox_rd.specs.Spool.{SpoolState}
-use Rattle.mbox_rd.specs.Envelope.{record_text}
+use Rattle.mbox_record.specs.Mending.{HasNotMended}
+use Rattle.mbox_record.specs.Spool.{SpoolState}
+use Rattle.mbox_record.specs.Envelope.{record_text}
 use Rattle.box_worker.specs.declared.limit.Limit.{Limit}
 use Rattle.box_worker.specs.Limits.{Setting, StartsAt, CountsTo, marks_behind}
 use Rattle.box_worker.specs.Stored.{MailboxState, mailbox_of, CountedMailbox, TakesCopy, Tallies, HasStored, HasSettled}

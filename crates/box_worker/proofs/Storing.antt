@@ -8,8 +8,8 @@ use Rattle.mail_world.specs.Failures.{Rises}
 use Rattle.mail_world.specs.Records.{Calendar, record_of, mailbox}
 use Rattle.mail_world.specs.Deliveries.{IsTorn}
 use Rattle.mail_world.proofs.Spools.{mailbox-one_more}
-use Rattle.mbox_rd.specs.Sharing.{Sharing}
-use Rattle.mbox_rd.specs.Spool.{SpoolState, CoversAll}
+use Rattle.mbox_record.specs.Sharing.{Sharing}
+use Rattle.mbox_record.specs.Spool.{SpoolState, CoversAll}
 use Rattle.mail_world.specs.declared.Outcome.{Outcome}
 use Rattle.mail_world.specs.declared.Outcome.TheVariants.{Stored, Failed, NoRoom, TooLarge, OverQuota}
 use Rattle.box_worker.specs.Stored.{HasKept, HasNotKept, IsTornAt, MailboxState, mailbox_of, CountedMailbox, TakesCopy, Tallies, HasStored}

@@ -13,15 +13,15 @@ use Rattle.mail_world.specs.Records.{record_of, mended}
 use Rattle.mail_world.specs.Quotas.{fits}
 use Rattle.mail_world.specs.Turns.{Standing, Turn, NotHad, Had, AllFailed, AreTurns, IsTurn, breaks}
 use Rattle.mail_world.proofs.GivenAway.{count-append}
-use Rattle.mbox_rd.specs.Sharing.{Sharing, had, not_had}
-use Rattle.mbox_rd.specs.Spool.{SpoolState, tail_of, CoversAll, standing, BeginsTurn, MissesTurn, EndsTurn}
+use Rattle.mbox_record.specs.Sharing.{Sharing, had, not_had}
+use Rattle.mbox_record.specs.Spool.{SpoolState, tail_of, CoversAll, standing, BeginsTurn, MissesTurn, EndsTurn}
 use Rattle.box_worker.specs.declared.limit.Limit.{Limit}
 use Rattle.box_worker.specs.Limits.{Setting, StartsAt, CountsTo, missing, IsLetIn, IsKeptOut}
 use Rattle.box_worker.specs.Stored.{MailboxState, CountedMailbox, HasKept, HasNotKept}
 use Rattle.box_worker.specs.Turned.{MeasuresAnew, SharedMailbox, shared_of, HasKeptMended, HasNotKeptMended, Measures, StoresInTurn, KeepsOutOfTurn, BreaksTurn, FromLock, HadTurn, TakesTurn, DoesInTurn, EndsInTurn, HaveTurned, is_not_had, TellsTurns}
-use Rattle.mbox_rd.specs.Mending.{HasMended, HasNotMended}
-use Rattle.mbox_rd.specs.declared.spool.Tail.{Tail}
-use Rattle.mbox_rd.proofs.Taken.{Appends-then, FailsTurn-then}
+use Rattle.mbox_record.specs.Mending.{HasMended, HasNotMended}
+use Rattle.mbox_record.specs.declared.spool.Tail.{Tail}
+use Rattle.mbox_record.proofs.Taken.{Appends-then, FailsTurn-then}
 use Rattle.box_worker.proofs.Counting.{starts_at, let_in, kept_out}
 
 -- one more copy

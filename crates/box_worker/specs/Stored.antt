@@ -11,8 +11,8 @@ use Rattle.mail_world.specs.Failures.{Rises}
 use Rattle.mail_world.specs.Records.{Calendar, mended, mailbox}
 use Rattle.mail_world.specs.Fronts.{IsFront}
 use Rattle.mail_world.specs.Deliveries.{IsTorn}
-use Rattle.mbox_rd.specs.Spool.{SpoolState, CoversAll, IsFull, FailsTurn}
-use Rattle.mbox_rd.specs.Mending.{HasNotMended}
+use Rattle.mbox_record.specs.Spool.{SpoolState, CoversAll, IsFull, FailsTurn}
+use Rattle.mbox_record.specs.Mending.{HasNotMended}
 use Rattle.box_worker.specs.declared.limit.Limit.{Limit}
 use Rattle.box_worker.specs.Limits.{Setting, kept_behind, StartsAt, IsLetIn, IsKeptOut}
 

@@ -9,7 +9,7 @@ use Rattle.mail_world.specs.Counts.{counted}
 use Rattle.mail_world.specs.Records.{mended, record_of}
 use Rattle.mail_world.specs.Quotas.{fits}
 use Rattle.mail_world.specs.Turns.{Turn, NotHad, Had, AreTurns}
-use Rattle.mbox_rd.specs.Spool.{SpoolState, BeginsTurn, MissesTurn, EndsTurn}
+use Rattle.mbox_record.specs.Spool.{SpoolState, BeginsTurn, MissesTurn, EndsTurn}
 use Rattle.box_worker.specs.declared.limit.Limit.{Limit}
 use Rattle.box_worker.specs.Limits.{Setting, StartsAt, CountsTo}
 use Rattle.box_worker.specs.Stored.{HasKept, HasNotKept, MailboxState, CountedMailbox}

@@ -7,7 +7,7 @@ use Rattle.mail_world.specs.declared.Outcome.{Outcome}
 use Rattle.mail_world.specs.Counts.{counted}
 use Rattle.mail_world.specs.Records.{record_of}
 use Rattle.mail_world.specs.Quotas.{outcomes_settled}
-use Rattle.mbox_rd.specs.Spool.{SpoolState}
+use Rattle.mbox_record.specs.Spool.{SpoolState}
 use Rattle.mail_post.specs.Channel.{Sender, Inbox, taken}
 use Rattle.mail_post.specs.InTime.{Ends}
 use Rattle.mail_post.specs.Offered.{HaveNumber, HaveAccepted, any_refused}

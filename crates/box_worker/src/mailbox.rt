@@ -3,8 +3,8 @@
 ghost use Rattle.std.specs.Prelude.{◌≡◌, ◌+◌, ℕ, true, false, List, [], length, OnOk, OnErr};
 ghost use Rattle.std.specs.Option.{IfSome};
 ghost use Rattle.lmtp_text.specs.Calendar.{civil_at};
-ghost use Rattle.mbox_rd.specs.Envelope.{record_text};
-ghost use Rattle.mbox_rd.specs.Mending.{HasNotMended};
+ghost use Rattle.mbox_record.specs.Envelope.{record_text};
+ghost use Rattle.mbox_record.specs.Mending.{HasNotMended};
 ghost use Rattle.mail_world.specs.Counts.{counted};
 ghost use Rattle.box_worker.specs.Limits.{CountsTo, StartsAt};
 ghost use Rattle.box_worker.specs.Stored.{mailbox_of, HasStored, IsMeasured, TakesCopy, Tallies};
@@ -13,7 +13,7 @@ ghost use Rattle.box_worker.specs.Turned.{MeasuresAnew, DoesInTurn, EndsInTurn, 
 use crate::limit::Limit;
 use crate::store::{mend_and_store, record_size, store};
 use mail_world::Outcome;
-use mbox_rd::{Envelope, Spool, SpoolFault, mend};
+use mbox_record::{Envelope, Spool, SpoolFault, mend};
 use msg_depot::{Depot, DepotName, Hold};
 use std::marker::Model;
 use std::sync::Wait;

@@ -2,7 +2,7 @@
 
 use crate::gate::Gate;
 use mail_post::{Receiver, SlipSender};
-use mbox_rd::Spool;
+use mbox_record::Spool;
 use msg_depot::DepotName;
 
 /// What became of a worker's copies, and all that it was lent.

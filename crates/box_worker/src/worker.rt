@@ -15,7 +15,7 @@ use crate::mailbox::Mailbox;
 use crate::release::{SlipSenders, release};
 use crate::report::WorkerReport;
 use mail_post::{Gone, Moment, Parts, Post, Receiver, SlipSender};
-use mbox_rd::Spool;
+use mbox_record::Spool;
 use msg_depot::{Depot, DepotName};
 use std::marker::Brand;
 use std::sync::Wait;

@@ -10,7 +10,7 @@ use Rattle.mail_world.specs.Records.{Calendar, record_of, mended, mailbox}
 use Rattle.mail_world.specs.Quotas.{are_kept_behind, marked, outcomes_settled}
 use Rattle.mail_world.specs.Deliveries.{IsTorn}
 use Rattle.mail_runs.specs.Courses.{Server, Course, IsCourse}
-use Rattle.mbox_rd.specs.Spool.{SpoolState}
+use Rattle.mbox_record.specs.Spool.{SpoolState}
 use Rattle.box_worker.specs.Limits.{Setting, marks_behind, kept_behind, StartsAt}
 use Rattle.box_worker.specs.Stored.{mailbox_of, IsTornAt, HasSettled}
 use Rattle.box_worker.specs.Turned.{SharedMailbox, shared_of, HaveTurned}

@@ -13,7 +13,7 @@ use Rattle.mail_world.specs.Slips.{of_worker}
 use Rattle.mail_world.specs.Lists.{of_lane, due, OutcomesAreAnswers}
 use Rattle.mail_post.specs.Channel.{Channel, Sender, Inbox, Sent, taken, TookSome, TookAll}
 use Rattle.mail_post.specs.Parcels.{of}
-use Rattle.mbox_rd.specs.Spool.{SpoolState}
+use Rattle.mbox_record.specs.Spool.{SpoolState}
 use Rattle.box_worker.specs.Told.{owed_to}
 use Rattle.lmtp_lane.specs.Visits.{conversations_of}
 use Rattle.lmtp_threads.specs.Works.{VisitsView}

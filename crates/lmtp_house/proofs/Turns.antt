@@ -6,7 +6,7 @@ use Rattle.mail_world.specs.declared.Outcome.TheVariants.{Stored, Failed, NoRoom
 use Rattle.mail_world.specs.Counts.{counted}
 use Rattle.mail_world.specs.Records.{Calendar, record_of}
 use Rattle.mail_runs.specs.Courses.{Server, TakesOne, TakesAll, IsCourse}
-use Rattle.mbox_rd.specs.Spool.{SpoolState}
+use Rattle.mbox_record.specs.Spool.{SpoolState}
 use Rattle.box_worker.specs.Limits.{Setting}
 use Rattle.box_worker.specs.Turned.{SharedMailbox, shared_of, TakesTurn, HaveTurned}
 use Rattle.lmtp_house.proofs.Copying.{spooled}

@@ -12,7 +12,7 @@ use Rattle.mail_runs.specs.Timed.{TimedDeed, whats}
 use Rattle.mail_runs.specs.Known.{is_of_lanes}
 use Rattle.mail_runs.specs.Ordered.{AreExchanges}
 use Rattle.mail_post.specs.InTime.{Ends, Sorts, AreInTime}
-use Rattle.mbox_rd.specs.Spool.{SpoolState}
+use Rattle.mbox_record.specs.Spool.{SpoolState}
 use Rattle.mail_post.specs.Channel.{Channel, Sender, Inbox, taken}
 use Rattle.mail_post.specs.Offered.{HaveNumber}
 use Rattle.mail_post.specs.declared.channel.Gone.TheVariants.{Closed}

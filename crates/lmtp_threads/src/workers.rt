@@ -16,7 +16,7 @@ use crate::tally::Tally;
 use box_worker::{Gate, WorkerReport, worker_run};
 use lmtp_text::Site;
 use mail_post::{Receiver, SlipSender};
-use mbox_rd::Spool;
+use mbox_record::Spool;
 use msg_depot::{Depot, DepotName};
 use std::alloc::{AllocError, Global};
 use std::marker::Model;

@@ -3,7 +3,7 @@ use Rattle.std.proofs.Common.{◌∙◌, ◌++◌, List, ℕ, Option, Err, Ok, O
 use Rattle.std.specs.Prelude.{Result}
 use Rattle.std.specs.Io.KnownBytes.{Appends}
 use Rattle.lmtpd_output.specs.Output.{IsCutOff}
-use Rattle.mbox_rd.proofs.Taken.{Appends-then}
+use Rattle.mbox_record.proofs.Taken.{Appends-then}
 
 cut_behind : (u v w : Option (List ℕ)) (before text : List ℕ) → Appends u v before → IsCutOff v w text → IsCutOff u w (before ++ text)
 cut_behind u v w before text written cut = record {

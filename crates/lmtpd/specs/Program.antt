@@ -8,7 +8,7 @@ use Rattle.clap.specs.declared.error.Error.{Error}
 use Rattle.clap.specs.declared.error.kind.ErrorKind.TheVariants.{OutOfMemory}
 use Rattle.mail_world.specs.Text.{lf}
 use Rattle.lmtp_text.specs.Sites.{texts}
-use Rattle.mbox_rd.specs.Spool.{SpoolState}
+use Rattle.mbox_record.specs.Spool.{SpoolState}
 use Rattle.lmtp_talk.specs.Entries.{Entry}
 use Rattle.lmtp_house.specs.House.{IsSize}
 use Rattle.lmtp_house.specs.declared.house.sizes.Sizes.{Sizes}

@@ -4,7 +4,7 @@ ghost use Rattle.std.specs.Prelude.{◌≡◌, false};
 ghost use Rattle.lmtpd_log.specs.Logged.{spool_in};
 
 use log::{Log, error};
-use mbox_rd::{InUse, Spool, SpoolFault, Tail};
+use mbox_record::{InUse, Spool, SpoolFault, Tail};
 use std::io;
 
 /// A spool of which the first missed turn is logged, by the name of its mailbox, and the next that isn't.

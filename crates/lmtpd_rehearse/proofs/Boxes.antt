@@ -12,13 +12,13 @@ use Rattle.mail_world.specs.Records.{Calendar, mailbox}
 use Rattle.mail_world.specs.Quotas.{are_kept, kept, marked, outcomes_settled}
 use Rattle.mail_world.specs.Deliveries.{IsTorn}
 use Rattle.lmtp_text.specs.Calendar.{civil_at}
-use Rattle.mbox_rd.specs.MemorySpool.{MemorySpool}
-use Rattle.mbox_rd.specs.Spool.{SpoolState, IsFull}
+use Rattle.mbox_record.specs.MemorySpool.{MemorySpool}
+use Rattle.mbox_record.specs.Spool.{SpoolState, IsFull}
 use Rattle.box_worker.specs.Limits.{Setting, kept_behind}
 use Rattle.box_worker.specs.Stored.{mailbox_of, HasStored, HasSettled}
 use Rattle.lmtp_threads.specs.Works.{share_of, setting_of}
 use Rattle.lmtp_threads.specs.declared.tally.Tally.{Tally}
-use Rattle.mbox_rd.specs.Sharing.{alone}
+use Rattle.mbox_record.specs.Sharing.{alone}
 use Rattle.lmtpd_rehearse.specs.Mailboxes.{MailboxContent, kept_all, kept_at, bytes_of_all, empty_spool, mailbox_room, IsCalm}
 use Rattle.lmtpd_rehearse.specs.Copies.{HoldsCopies, kept_later}
 use Rattle.lmtpd_rehearse.proofs.Keeping.{kept_front, kept_parts, length-marked, marked_next, marked_none, same_marks}

@@ -6,7 +6,7 @@ use Rattle.mail_world.specs.declared.limits.TheConstants.{READ_LIMIT, BLOCK_LIMI
 use Rattle.mail_world.specs.declared.Note.{Note}
 use Rattle.mail_world.specs.declared.Outcome.{Outcome}
 use Rattle.mail_world.specs.Site.{Site}
-use Rattle.mbox_rd.specs.MemorySpool.{MemorySpool}
+use Rattle.mbox_record.specs.MemorySpool.{MemorySpool}
 use Rattle.mail_world.specs.Conversation.{Disposition, IsAccount, conversation, inputs, replies}
 use Rattle.mail_world.specs.Lists.{VerdictFits, transactions, due}
 use Rattle.mail_world.specs.Records.{mailbox}

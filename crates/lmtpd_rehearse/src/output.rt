@@ -8,7 +8,7 @@ ghost use Rattle.lmtpd_rehearse.specs.Mailboxes.{bytes_of_all, mailbox_line, tex
 use itoa::Buffer;
 use lmtp_text::Site;
 use lmtpd_output::{WriteFault, write_each};
-use mbox_rd::MemorySpool;
+use mbox_record::MemorySpool;
 use std::io::Write;
 
 // Writes the line of a mailbox, and what it holds.

@@ -15,7 +15,7 @@ use super::parts::{empty_spools, open_gates, sizes};
 use super::peer::StreamPeer;
 use lmtp_house::{EndCause, HouseFault, has_failed, run_house};
 use lmtp_text::Site;
-use mbox_rd::MemorySpool;
+use mbox_record::MemorySpool;
 use std::alloc::Global;
 use std::io::{Read, Write};
 use std::sync::{Arc, Wait};

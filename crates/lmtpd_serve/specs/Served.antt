@@ -8,7 +8,7 @@ use Rattle.lmtp_lane.specs.declared.tcp.listener.Endpoint.{Endpoint}
 use Rattle.lmtp_lane.specs.declared.tcp.listener.Endpoint.TheVariants.{Ip, Unix}
 use Rattle.mail_world.specs.Text.{lf}
 use Rattle.mail_world.specs.Site.{Site}
-use Rattle.mbox_rd.specs.Spool.{SpoolState}
+use Rattle.mbox_record.specs.Spool.{SpoolState}
 use Rattle.lmtp_threads.specs.declared.tally.Tally.{Tally}
 use Rattle.lmtp_house.specs.Handed.{HandedBack}
 use Rattle.lmtp_house.specs.House.{HasRun}

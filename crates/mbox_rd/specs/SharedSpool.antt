@@ -3,9 +3,9 @@ use Rattle.std.specs.Prelude.{◌≡◌, ℕ, ◌+◌, ◌-◌, ◌^◌, min, �
 use Rattle.mail_world.specs.Counts.{counted}
 use Rattle.mail_world.specs.Failures.{Rises}
 use Rattle.mail_world.specs.Fronts.{IsFront}
-use Rattle.mbox_rd.specs.declared.spool.Tail.{Tail}
-use Rattle.mbox_rd.specs.MailboxFile.{FileState, LeavesNoLockFile}
-use Rattle.mbox_rd.specs.Spool.{tail_of}
+use Rattle.mbox_record.specs.declared.spool.Tail.{Tail}
+use Rattle.mbox_file.specs.MailboxFile.{FileState, LeavesNoLockFile}
+use Rattle.mbox_record.specs.Spool.{tail_of}
 use Rattle.mbox_rd.specs.Turn.{IsCutBack}
 
 pub record SharedSpool (F : Type 0) : Type 0 where

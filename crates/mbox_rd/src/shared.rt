@@ -7,13 +7,13 @@ ghost use Rattle.std.specs.Option.{IfSome};
 ghost use Rattle.mail_world.specs.Counts.{counted};
 ghost use Rattle.mail_world.specs.Failures.{Rises};
 ghost use Rattle.mail_world.specs.Fronts.{IsFront};
-ghost use Rattle.mbox_rd.specs.Spool.{SpoolTook, SpoolFailed, HasSynced, HasNotSynced, AsksForTurn, EndsTurn, tail_of};
+ghost use Rattle.mbox_record.specs.Spool.{SpoolTook, SpoolFailed, HasSynced, HasNotSynced, AsksForTurn, EndsTurn};
+ghost use Rattle.mbox_record.specs.Spool.{tail_of};
 
-use crate::count::tail_behind;
-use crate::file::{BUFFER_SIZE, FileEnd};
-use crate::mailbox_file::MailboxFile;
-use crate::spool::{InUse, Spool, SpoolFault, Tail};
+use crate::file::BUFFER_SIZE;
 use crate::turn::{cut_back, let_go, tries_in, wait_for_turn};
+use mbox_file::{FileEnd, MailboxFile};
+use mbox_record::{InUse, Spool, SpoolFault, Tail, tail_behind};
 use std::alloc::{AllocError, Global};
 use std::io;
 use std::marker::Model;
@@ -95,7 +95,7 @@ impl<F: MailboxFile + Drop, C: Clock + Drop> SharedSpool<F, C> {
 }
 
 impl<F: MailboxFile + Drop, C: Clock + Drop> SharedSpool<F, C> {
-    ghost use Rattle.mbox_rd.specs.MailboxFile.{HasWritten, HasNotWritten};
+    ghost use Rattle.mbox_file.specs.MailboxFile.{HasWritten, HasNotWritten};
     ghost use Rattle.mbox_rd.specs.SharedSpool.{KeepsAll, HasLost, failed_again};
 
     // Counts a failure, and throws away what waits.

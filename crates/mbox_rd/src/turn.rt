@@ -1,12 +1,11 @@
 //! How a turn at a mailbox's file begins: both locks are taken, on the file that the path names, and its end is looked
 //! at again.
 ghost use Rattle.std.specs.Prelude.{◌≡◌, true, IfOk, OnOk, OnErr};
-ghost use Rattle.mbox_rd.specs.MailboxFile.{HasRefused};
+ghost use Rattle.mbox_file.specs.MailboxFile.{HasRefused};
 ghost use Rattle.mbox_rd.specs.Turn.{HasBegun, HasMissed, HasTried, HasSeen, HasTakenLocks, HasLetGo, HasCutBack};
 
-use crate::file::FileEnd;
-use crate::mailbox_file::MailboxFile;
-use crate::spool::InUse;
+use mbox_file::{FileEnd, MailboxFile};
+use mbox_record::InUse;
 use std::time::{Clock, Duration};
 
 /// How many files are looked at in one try, where the path names another one each time.
