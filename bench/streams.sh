@@ -12,7 +12,8 @@ set -euo pipefail
 cd "$(dirname "$0")/.."
 . tests/needs rustc python3
 . bench/program
-make_program streams streams "mail_world lmtp_wire mbox_record anyhow" "${1:-}" mail_world lmtp_text lmtp_wire mbox_record
+make_program streams streams "mail_world lmtp_wire mbox_record anyhow" "${1:-}" \
+    mail_world lmtp_text lmtp_wire mbox_record
 
 python3 - out/streams "$folder/loops" "${RUNS:-9}" <<'PYTHON'
 import subprocess

@@ -243,7 +243,7 @@ LINE = b"x" * 62  # of 64 bytes with CRLF, and 63 in a mailbox
 
 def at_limit(names, limit, words):
     """Three rows for a site whose words give it that limit: the sizes that MAIL may name, a message of as many bytes,
-    and one of one more byte."""
+    and one that is a byte longer."""
     sizes, largest, above = names
     offers = replies.offer(limit=limit)
     count = limit // (len(LINE) + 2)
