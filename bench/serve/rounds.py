@@ -120,7 +120,7 @@ class Bench:
         self.preload = str(folder / "slowsync.so") if is_slow else None
         self.is_slow = is_slow
         if is_slow and not (folder / "slowsync.so").exists():
-            sys.exit("--slow-sync wants a C compiler (cc)")
+            sys.exit("--slow-sync needs a C compiler (cc)")
 
     def run(self, name, peer):
         """One run of a work with a fresh store, which is gone afterwards."""

@@ -75,7 +75,7 @@ def checked(said):
         texts[box] = said[line.end() : at]
         told[box] = answers.count(replies.stored(box).encode())
     if at != len(said):
-        raise Wrong("bytes behind the mailboxes")
+        raise Wrong("bytes after the mailboxes")
     return told, texts
 
 

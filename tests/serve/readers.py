@@ -260,7 +260,7 @@ def its_own_number(folder):
 def another_users(folder):
     """a lock file of another user's process that is gone stays until it is old"""
     if os.geteuid() != 0:
-        raise Absent("it wants root")
+        raise Absent("it needs root")
     with Server(folder, ["anna"], 1, "--lanes", 1, "--lock-wait", 0) as server:
         with Client(server.address).greet() as client:
             for age, reply in [(0, not_stored("anna")), (400, stored("anna"))]:

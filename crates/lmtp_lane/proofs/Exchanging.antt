@@ -218,7 +218,7 @@ module _ (notes : List Note) (e : Episode) (old now : LaneEnds) (x : HasExchange
     among_last note x.left,
   )
 
-  -- a slip more that the lane made of a copy that is left, or of any while the channel of slips is silent
+  -- a slip more that the lane made of a copy that is left, or of any while the channel of slips is gone
   pub own_more : (note : Note) → IsAmong note x.left ⊎ (IsAmong note notes × (is_silent now ≡ true)) → now.gone ≡ true
       → HasExchanged notes (with_own e (own_slip_of old.lane note)) old now
   own_more note owed went = record {
@@ -265,7 +265,7 @@ module _ (notes : List Note) (e : Episode) (old now : LaneEnds) (x : HasExchange
         done.1,
       )
 
-  -- the channel of slips was found silent
+  -- the channel of slips was found gone
   pub gone_more : (next : Inbox Slip) → next.channel ≡ now.inbox.channel → next.lanes ≡ now.inbox.lanes → taken next ≡ taken now.inbox
       → is_some next.gone ≡ true → HasSameTimes now.inbox next → HasExchanged notes e old (found_gone (with_inbox now next))
   gone_more next channel lanes took silent same_times = record {

@@ -179,7 +179,7 @@ IsCheckedAsAsked remaining contents before words checked =
     IsChecked remaining (texts words.files.items) before (contents checked.writer) checked.findings.items
     (texts checked.unlocked.items) checked.cut
 
--- why the program stopped early: clap's answer to its words, why there was no rehearsal or no server, or want of memory
+-- why the program stopped early: clap's answer to its words, why there was no rehearsal or no server, or lack of memory
 -- for a check
 abbrev pub IsStopped : (SiteWords → SiteWords → Type 0) → List Text → Stop → Type 0
 IsStopped Fills texts s = ((error : Error) × (s ≡ stop_for error)

@@ -88,7 +88,7 @@ all_calm (s ∷ spools) (t ∷ tallies) size calm =
     any_first t tallies ∙ ap (λ b. b || list_any (λ x. x.faulty) tallies) (calm 0 (omega arith))
     ∙ all_calm spools tallies (omega arith) (calm_behind (record { bytes = s.bytes; failed = t.faulty }) (kept_all spools tallies) calm)
 
--- a front of nothing
+-- a prefix of nothing
 no_front : (front rest : List ℕ) → [] ≡ front ++ rest → front ≡ []
 no_front [] rest e = refl
 no_front (x ∷ front) rest e = cc

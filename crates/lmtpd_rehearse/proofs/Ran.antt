@@ -428,7 +428,7 @@ module _ (site : Site) (quota : Option ℕ) (moment : ℕ) {P : Type 0} (state :
         ends = subst E one.cause by.ends;
       }
 
--- the mailboxes behind the replies
+-- the mailboxes after the replies
 pub rehearsed : (site : Site) (quota : Option ℕ) (moment : ℕ) (old between : Streams) (left : HeldState) (after : Option (List ℕ)) (cut : Bool)
     → IsHeld site quota moment old between left → IsListed (texts_of_mailboxes site.boxes (bytes_of_all left.spools)) between.written after cut
     → IsRehearsed site quota moment old (record { unread = between.unread; written = after }) (record { end = left.end; faulty = left.faulty; cut = cut })

@@ -149,7 +149,7 @@ pub record IsHeld (site : Site) (quota : Option ℕ) (moment : ℕ) (old new : S
   pub says : IsWritten (replies site (inputs site (conversation read account))) (held.end ≡ WriteFault) said
   pub ends : RehearsalEndsFor site read account new.unread held.end
 
--- a text was written behind that, or a front of it where it was cut
+-- a text was written after that, or a prefix of it where it was cut
 pub record IsListed (text : List ℕ) (before after : Option (List ℕ)) (cut : Bool) : Type 0 where
   pub listed : List ℕ
   pub output : Appends before after listed

@@ -26,7 +26,7 @@ fn write_mailbox<W: Write>(writer: &mut W, name: &[u8], bytes: &[u8]) -> Result<
     )
 }
 
-/// Writes the mailboxes of the site, in their order, each behind a line of its name and size.
+/// Writes the mailboxes of the site, in their order, each after a line of its name and size.
 pub fn write_mailboxes<W: Write>(
     writer: &mut W,
     site: &Site,

@@ -37,7 +37,7 @@ fn write_count<W: Write>(writer: &mut W, name: &[u8], tally: &Tally) -> Result<(
     write_each(writer, &[name, b" stored ", stored.as_bytes(), b"\n"])
 }
 
-/// Says of each mailbox of the site, in their order, how many copies it stored. After a fault the writer holds a front
+/// Says of each mailbox of the site, in their order, how many copies it stored. After a fault the writer holds a prefix
 /// of these lines more.
 pub fn write_counts<W: Write>(
     writer: &mut W,
