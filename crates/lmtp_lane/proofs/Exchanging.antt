@@ -265,7 +265,7 @@ module _ (notes : List Note) (e : Episode) (old now : LaneEnds) (x : HasExchange
         done.1,
       )
 
-  -- the channel of slips was found silent
+  -- the channel of slips was found gone
   pub gone_more : (next : Inbox Slip) → next.channel ≡ now.inbox.channel → next.lanes ≡ now.inbox.lanes → taken next ≡ taken now.inbox
       → is_some next.gone ≡ true → HasSameTimes now.inbox next → HasExchanged notes e old (found_gone (with_inbox now next))
   gone_more next channel lanes took silent same_times = record {
