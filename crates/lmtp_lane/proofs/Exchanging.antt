@@ -218,7 +218,7 @@ module _ (notes : List Note) (e : Episode) (old now : LaneEnds) (x : HasExchange
     among_last note x.left,
   )
 
-  -- one more slip that the lane made of a copy that is left, or of any while the channel of slips is silent
+  -- one more slip that the lane made of a copy that is left, or of any while the channel of slips is gone
   pub own_more : (note : Note) → IsAmong note x.left ⊎ (IsAmong note notes × (is_silent now ≡ true)) → now.gone ≡ true
       → HasExchanged notes (with_own e (own_slip_of old.lane note)) old now
   own_more note owed went = record {
