@@ -1,7 +1,7 @@
 #!/usr/bin/env bash
-# What a mailbox's lock file costs for each letter: one that is made and written, and one that is linked from a file that
-# stays, as the server does it; both with what is looked at and removed, in microseconds, medians of five rounds. The
-# files are in a folder of mktemp, so TMPDIR says on which disk.
+# What a mailbox's lock file costs for each letter: one that is made and written, and one that is linked from a file
+# that stays, as the server does it; both with what is looked at and removed, in microseconds, medians of five rounds.
+# The files are in a folder of mktemp, so TMPDIR says on which disk.
 # usage: bench/lock_files.sh --build or --try, which only builds, or bench/lock_files.sh
 set -euo pipefail
 cd "$(dirname "$0")/.."

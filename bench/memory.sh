@@ -71,7 +71,7 @@ rehearse() {
     rm "$folder/input"
 }
 
-echo '| Words | Lanes | Mailboxes | Blocks | Address space | At the start | Behind messages | Behind as many again |'
+echo '| Words | Lanes | Mailboxes | Blocks | Address space | At the start | After messages | After as many again |'
 echo '|---|---|---|---|---|---|---|---|'
 serve 1 1 256
 serve 4 10 1024

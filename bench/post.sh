@@ -12,7 +12,7 @@ set -euo pipefail
 cd "$(dirname "$0")/.."
 . tests/needs rustc python3
 . bench/program
-make_program post post "mail_world mbox_rd msg_depot mail_post anyhow" "${1:-}"
+make_program post post "mail_world mbox_record msg_depot mail_post anyhow" "${1:-}"
 
 python3 -B - out/post "$folder/channels" "${RUNS:-9}" <<'PYTHON'
 import sys

@@ -5,7 +5,7 @@
 two of them. Here the crate with the longest chain above it is proved by as many processes as there are cores, up to
 four, and the others fill what it leaves, by one process each and at a lower priority. As rt holds the folders of all
 crates below the one that it works in, each works in a room of its own, which has the crates below by hard links; what
-it kept is moved to the crate's own folder then, where `rt all check` and `rt run` take it. A crate that isn't proved
+it kept is moved to the crate's own folder then, where `rt run` takes it. A crate that isn't proved
 ends this with status 1, and what it said is printed.
 usage: building/prove.py, at the top of the repository
 """

@@ -1,5 +1,6 @@
 """What the tests in Python share: each case is told by a line of its own, with its verdict (ok, FAILED, or absent for
-what this machine hasn't), and in the end their count. A case is a function whose text is its name, or a comparison."""
+what this machine doesn't have), and in the end their count. A case is a function whose text is its name, or one
+comparison."""
 
 import pathlib
 import signal

@@ -23,7 +23,7 @@ count() {
     fi
 }
 
-# play SCRIPT SECONDS: runs it, for so long at most, and keeps what it said and how it ended.
+# play SCRIPT SECONDS: runs it, for that long at most, and keeps what it said and how it ended.
 play() {
     local status=0
     timeout --kill-after=10 "$2" "$1" < /dev/null > "$said/$(basename "$1")" 2>&1 || status=$?

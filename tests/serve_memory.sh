@@ -75,7 +75,7 @@ fi
 stored=$(grep -hac '^Message-ID: <m[.]' "$folder"/*.mbox | awk '{ count += $1 } END { print count + 0 }')
 echo "$conversations conversations, $copies copies, $stored in the mailboxes"
 echo "size of the process: $size KiB before the first client, $(kilobytes "$server" VmSize) KiB at the end"
-echo "resident: $before KiB before the first client, $early behind $early_copies copies, $late at the end"
+echo "resident: $before KiB before the first client, $early after $early_copies copies, $late at the end"
 [ "$stored" = "$copies" ] || fail 'copies are missing'
 [ "$(kilobytes "$server" VmSize)" = "$size" ] || fail 'the size of the process changed'
 [ $((late - early)) -le 256 ] || fail 'what is resident grows'

@@ -49,7 +49,7 @@ impl Client {
         self.ask(b"QUIT\r\n", b"221", "QUIT")?;
         let behind = self.said.len() + self.fill("end of stream")?;
         if behind > 0 {
-            Err(format!("{behind} bytes behind the reply to QUIT"))
+            Err(format!("{behind} bytes after the reply to QUIT"))
         } else {
             Ok(())
         }

@@ -59,7 +59,7 @@ service stats {{
 def absent(name):
     """Why that peer can't run here, or None."""
     if name == "dovecot" and os.geteuid() != 0:
-        return "it wants root"
+        return "it needs root"
     if name == "dovecot" and not pathlib.Path("/usr/lib/dovecot/lmtp").exists():
         return "dovecot-lmtpd isn't installed"
     if name == "smtp-sink" and shutil.which("smtp-sink", path=SEARCHED) is None:

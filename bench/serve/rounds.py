@@ -120,7 +120,7 @@ class Bench:
         self.preload = str(folder / "slowsync.so") if is_slow else None
         self.is_slow = is_slow
         if is_slow and not (folder / "slowsync.so").exists():
-            sys.exit("--slow-sync wants a C compiler (cc)")
+            sys.exit("--slow-sync needs a C compiler (cc)")
 
     def run(self, name, peer):
         """One run of a work with a fresh store, which is gone afterwards."""
@@ -191,7 +191,7 @@ def print_tables(works, names, given, runs):
             rate = f"{statistics.median(rates):,.0f} ({min(rates):,.0f} to {max(rates):,.0f})"
             uneven = max(run.uneven for run in all_of)
             print(f"| {work} | {name} | {rate} | {p50:.2f} | {p99:.2f} | {uneven:.2f} |")
-    print("\n| work | | to | ratio (least to most) | wanted | |")
+    print("\n| work | | to | ratio (least to most) | target | |")
     print("|---|---|---|---|---|---|")
     missed = 0
     for work in works:

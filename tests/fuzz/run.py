@@ -75,7 +75,7 @@ def checked(said):
         texts[box] = said[line.end() : at]
         told[box] = answers.count(replies.stored(box).encode())
     if at != len(said):
-        raise Wrong("bytes behind the mailboxes")
+        raise Wrong("bytes after the mailboxes")
     return told, texts
 
 
@@ -121,7 +121,7 @@ def main(cases, seed):
     took = time.monotonic() - began
     print(f"ok: {done} conversations, {stored} letters told Stored and read back as often, in {took:.0f} s")
     if done < cases:
-        print(f"{cases - done} were left out for time")
+        print(f"{cases - done} were left out, since the time was over")
 
 
 try:

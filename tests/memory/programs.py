@@ -87,7 +87,7 @@ def rehearse(refusing, says=GIVEN, stored=STORED, names=("anna", "ben")):
     if is_refused(what, ended, refusing.is_all):
         check_refused(what, ended, [b""])
         if errors == MEMORY and read:
-            raise Wrong(f"want of memory, and yet {read} bytes were read")
+            raise Wrong(f"lack of memory, and yet {read} bytes were read")
     elif ended[0] != 0 or errors or stored not in output:
         raise Wrong(f"not refused: {ended!r:.300}")
     return what
@@ -129,7 +129,7 @@ def check_kept(errors, heard, files):
     lie in the mailboxes as were told Stored."""
     told = sum(text.count(b"Stored for") for text in heard)
     if errors == MEMORY and (any(files) or any(b"354 " in text for text in heard)):
-        raise Wrong(f"want of memory, and yet {heard!r:.300}, {files!r:.300}")
+        raise Wrong(f"lack of memory, and yet {heard!r:.300}, {files!r:.300}")
     if sum(text.count(b"From carl@a.example ") for text in files) != told:
         raise Wrong(f"told {told} times Stored, and {files!r:.300}")
 

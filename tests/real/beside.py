@@ -67,7 +67,7 @@ class Beside:
             return Server(self.path.parent, ["anna"], connections, *self.more, *more, **self.how)
 
     def run(self, readers, clients=CLIENTS, seconds=SECONDS):
-        """Delivers for so long beside the readers, each a function of a name, and gives how the server ended."""
+        """Delivers for that long beside the readers, each a function of a name, and gives how the server ended."""
         with self.server(clients, "--lanes", clients, "--timeout", 120) as server:
             until = time.monotonic() + seconds
             jobs = [threading.Thread(target=self.guard, args=(self.read, who, reads)) for who, reads in readers.items()]

@@ -118,7 +118,8 @@ def look_at_instances(there):
     equal(there.run(f"systemctl is-active {' '.join([*units, *sockets])}")[1], "inactive\n" * 4)
     equal(there.run("find /etc/systemd /var/lib/systemd /var/spool/postfix/private -name '*lmtpd*'"), (0, ""))
     equal(there.run("cat /etc/lmtpd/a.boxes /etc/lmtpd/b.boxes"), (0, "anna\nben\n"))
-    equal(there.run("grep -c ^hello /var/mail/lmtpd/anna.mbox /var/mail/lmtpd/ben.mbox")[1], letters(":", anna=2, ben=1))
+    counted = there.run("grep -c ^hello /var/mail/lmtpd/anna.mbox /var/mail/lmtpd/ben.mbox")
+    equal(counted[1], letters(":", anna=2, ben=1))
 
 
 def letters(between, **counts):
@@ -154,7 +155,7 @@ def site_with_package(folder):
 
 @functools.lru_cache(None)
 def plain_debian():
-    """A folder with what debootstrap makes without a word more."""
+    """A folder with what debootstrap makes without a further word."""
     want_root()
     if os.environ.get("PLAIN_DEBIAN"):
         return os.environ["PLAIN_DEBIAN"]

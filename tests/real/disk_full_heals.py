@@ -141,7 +141,7 @@ class Sender:
         return first
 
     def hears_451(self, seconds):
-        """Tries so long on a full disk."""
+        """Tries for that long on a full disk."""
         until = time.monotonic() + seconds
         while time.monotonic() < until:
             self.refused += self.is_refused(self.try_once())

@@ -17,8 +17,8 @@ from started import Started
 SYSTEMD = "/lib/systemd/systemd"
 PATH = "/usr/local/sbin:/usr/local/bin:/usr/sbin:/usr/bin:/sbin:/bin"
 
-# What comes to be its first process; $1 is a folder for its files, $2 one that is copied to /root/site, $5 the one whose
-# files it has.
+# What comes to be its first process; $1 is a folder for its files, $2 one that is copied to /root/site, $5 the one
+# whose files it has.
 BEGIN = r"""
 set -e
 mount -t tmpfs none "$1"

@@ -11,7 +11,7 @@ SEND = "printf 'Subject: {}\\n\\nhello\\n' | sendmail {}"
 
 @case
 def instances_of_the_service(folder):
-    """the recipe of docs/operating/SETUP.md, typed as it stands: 512 mailboxes on two servers, and a user more"""
+    """the recipe of docs/operating/SETUP.md, typed as it stands: 512 mailboxes on two servers, and one more user"""
     names = {part: [f"{part}{number}" for number in range(256)] for part in "ab"}
     with machine(folder) as there:
         type_lines(there)

@@ -197,7 +197,7 @@ def said_by(*words, wanted=(0,)):
 
 
 def moved_and_delivered_behind(home, path, tool, bodies):
-    """Types what MOVING has for that tool; then a server delivers one letter more, and readers find all."""
+    """Types what MOVING has for that tool; then a server delivers one more letter, and readers find all."""
     home.mkdir(exist_ok=True)
     lines = next(text for text in MOVING.split("```\n")[1::2] if tool in text)
     places = {"/var/mail/lmtpd/anna.mbox": home / "anna.mbox", "/var/mail/anna": path, "lmtpd:": "root:"}
@@ -213,7 +213,7 @@ def moved_and_delivered_behind(home, path, tool, bodies):
 
 
 def deliver_behind(home, count):
-    """A server delivers one letter more to anna's file, which then has that many."""
+    """A server delivers one more letter to anna's file, which then has that many."""
     with Server(home, ["anna"], 1, "--lanes", 1) as server:
         deliver_to(server)
         equal(server.end().status, 0)

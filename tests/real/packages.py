@@ -51,4 +51,4 @@ def unpacked(package, folder):
 
 def want_root():
     if os.geteuid() != 0:
-        raise Absent("it wants root")
+        raise Absent("it needs root")

@@ -44,7 +44,7 @@ power_cut.seconds = 240
 
 
 def run_until_the_cut(mail, disk, copy, told, load, seconds):
-    """Clients deliver for so long; then the copy is what the disk has been given."""
+    """Clients deliver for that long; then the copy is what the disk has been given."""
     with Server(mail, BOXES, 1000) as server, under_load(server, told, load):
         time.sleep(seconds)
         server.process.send_signal(signal.SIGSTOP)

@@ -66,7 +66,7 @@ def soak(folder, work):
     load = compiled(folder)
     mailboxes = folder / "mailboxes"
     mailboxes.mkdir()
-    # a conversation more for each lane, so that the server is still there after the load
+    # one more conversation for each lane, so that the server is still there after the load
     conversations = work.lanes * (work.conversations + 1)
     with Server(mailboxes, work.boxes, conversations, "--lanes", work.lanes) as server:
         time.sleep(EVERY)  # its threads start after the line that says that it listens
@@ -95,9 +95,9 @@ def judge(before, looks, behind, work):
     """Neither memory nor descriptors grow with what is delivered, and no descriptor is left."""
     settled = [*looks[len(looks) * SETTLED // 100 :], behind]
     first, most = settled[0].memory, max(look.memory for look in settled)
-    print(f"{work.deliveries} deliveries in {behind.seconds:.0f} s; resident {first} KiB behind a tenth,", end=" ")
+    print(f"{work.deliveries} deliveries in {behind.seconds:.0f} s; resident {first} KiB after a tenth,", end=" ")
     print(f"{behind.memory} at the end, {most} at most;", end=" ")
-    print(f"descriptors {before.descriptors} before, {behind.descriptors} behind")
+    print(f"descriptors {before.descriptors} before, {behind.descriptors} after")
     assert most - first < work.leak, f"from {first} to {most} KiB"
     # one for each client, who comes and goes
     assert max(look.descriptors for look in looks) <= before.descriptors + work.lanes, "more than the clients'"

@@ -226,7 +226,7 @@ def texts():
     # near the end of what a lane and a worker take at once, and of a block
     for size in [*range(505, 514), *range(4_089, 4_098)]:
         yield message(
-            f"a quoted line behind {size} bytes",
+            f"a quoted line after {size} bytes",
             [b"x" * (size - 2), b">>>From q", b"."],
             b"x" * (size - 2) + b"\n>>>>From q\n",
         )
@@ -243,7 +243,7 @@ LINE = b"x" * 62  # of 64 bytes with CRLF, and 63 in a mailbox
 
 def at_limit(names, limit, words):
     """Three rows for a site whose words give it that limit: the sizes that MAIL may name, a message of as many bytes,
-    and one of a byte more."""
+    and one that is a byte longer."""
     sizes, largest, above = names
     offers = replies.offer(limit=limit)
     count = limit // (len(LINE) + 2)
@@ -336,7 +336,7 @@ def quotas():
             ["--quota", str(quota)],
         )
     yield Row(
-        "a shorter message fits behind one that is over the quota",
+        "a shorter message fits after one that is over the quota",
         [*PROLOGUE, TO_ANNA, TO_ANNA, b"DATA", *HELLO, PROLOGUE[1], TO_ANNA, b"DATA", b".", b"QUIT"],
         [
             *OPENED,
@@ -452,8 +452,8 @@ def checks():
         ("an empty line inside a letter", b"From a\n\n\nFrom b\n\n", "letters 2"),
         ("lines that look like From lines", b"From a\n>From b\n>>From c\n\nFromage\nFrom\n\n", "letters 1"),
         ("text that is no mailbox", b"hello\n", "no From line at 0"),
-        ("an empty line at the front", b"\n", "no From line at 0"),
-        ("a front of From", b"Fro", "no From line at 3"),
+        ("an empty line at the start", b"\n", "no From line at 0"),
+        ("a prefix of From", b"Fro", "no From line at 3"),
         ("a frog", b"Frog\n\n", "no From line at 3"),
         ("From with no space", b"From\n\n", "no From line at 4"),
         ("a From line that breaks off", b"From a", "no empty line at 6"),
@@ -461,8 +461,8 @@ def checks():
         ("a last line with no line feed", letter[:-2], "no empty line at 187"),
         ("no empty line at the end", letter[:-1], "no empty line at 188"),
         ("a second letter that breaks off", letter + letter[:-1], "no empty line at 377"),
-        ("a From line behind a line", b"From a\nb\nFrom c\n\n", "no empty line at 13"),
-        ("a From line behind a From line", b"From a\nFrom b\n\n", "no empty line at 11"),
+        ("a From line after a line", b"From a\nb\nFrom c\n\n", "no empty line at 13"),
+        ("a From line after a From line", b"From a\nFrom b\n\n", "no empty line at 11"),
         ("bytes above 127, NUL and CR", b"From \xff\n\0\r\n\r\n\n", "letters 1"),
     ]
     for name, text, said in rows:

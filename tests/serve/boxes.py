@@ -44,7 +44,7 @@ def no_name_but_those_of_a_file(folder):
 
 @case
 def a_line_more(folder):
-    """a line more in the file: the running server doesn't know the name, and the next one does"""
+    """one more line in the file: the running server doesn't know the name, and the next one does"""
     (folder / "boxes").write_bytes(b"ben\n")
     with Server(folder, [], 1, "--boxes", folder / "boxes") as server:
         (folder / "boxes").write_bytes(b"ben\nfrieda\n")

@@ -64,7 +64,7 @@ CHANGES = {
 @case
 def it_goes_on_in_the_right_file(folder):
     """a mailbox renamed, removed, emptied, torn, replaced, rewritten: the next letter is in the file that the path
-    names, behind what stands there, and all older ones where they were moved to"""
+    names, after what stands there, and all older ones where they were moved to"""
     for change, wanted in CHANGES.items():
         place = folder / change.__name__
         place.mkdir()

@@ -16,10 +16,10 @@ COMMANDS = ["LHLO relay.example", "MAIL FROM:<carl@a.example>", "RCPT TO:<anna@m
 STATES = {
     "connected": (COMMANDS[:0], b""),
     "half a command": (COMMANDS[:0], b"LHLO rel"),
-    "behind LHLO": (COMMANDS[:1], b""),
-    "behind MAIL": (COMMANDS[:2], b""),
-    "behind RCPT": (COMMANDS[:3], b""),
-    "behind DATA": (COMMANDS, b""),
+    "after LHLO": (COMMANDS[:1], b""),
+    "after MAIL": (COMMANDS[:2], b""),
+    "after RCPT": (COMMANDS[:3], b""),
+    "after DATA": (COMMANDS, b""),
     "half a line of data": (COMMANDS, b"whole line\r\nhalf a l"),
 }
 
@@ -139,7 +139,7 @@ def a_number_of_reads(folder):
 
 @case
 def bytes_behind_quit(folder):
-    """bytes behind QUIT don't cost its reply, nor the orderly end"""
+    """bytes after QUIT don't cost its reply, nor the orderly end"""
     with Server(folder, ["anna"], 10, "--lanes", 1) as server:
         for _ in range(10):
             with Client(server.address).greet() as client:
@@ -152,7 +152,7 @@ def bytes_behind_quit(folder):
 
 @case
 def bytes_behind_the_last_read(folder):
-    """bytes behind the last read don't cost the 421 reply"""
+    """bytes after the last read don't cost the 421 reply"""
     with Server(folder, ["anna"], 10, "--lanes", 1, "--reads", 1) as server:
         for _ in range(10):
             with Client(server.address) as client:
@@ -167,7 +167,7 @@ def bytes_behind_the_last_read(folder):
 
 @case
 def one_client_more(folder):
-    """3 conversations for 2 lanes: it ends behind the third, and refuses a fourth"""
+    """3 conversations for 2 lanes: it ends after the third, and refuses a fourth"""
     with Server(folder, ["anna"], 3, "--lanes", 2) as server:
         for number in range(3):
             equal(deliver_one(server.address, ["anna"], f"{number}"), [stored("anna")])

@@ -29,7 +29,7 @@ BOXES = ["anna", "ben", "carla"]
 
 @case
 def one_call_fails(folder):
-    """each call on a mailbox and its lock file fails in turn: before the first byte that copy alone is told 451, behind
+    """each call on a mailbox and its lock file fails in turn: before the first byte that copy alone is told 451, after
     it all later ones, where the lock file isn't written or removed none; the other mailbox 250"""
     fail_in_turn(folder, {}, {"refused", "in use", "broken", "harmless", "well"})
 

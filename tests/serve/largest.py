@@ -48,7 +48,7 @@ def all_lanes_at_once(folder):
 
 @case
 def a_thousand_recipients(folder):
-    """one message for 1,000 recipients over 256 mailboxes: each reply in its place; one recipient more is told 452"""
+    """one message for 1,000 recipients over 256 mailboxes: each reply in its place; one more recipient is told 452"""
     names = [BOXES[place * 7 % 256] for place in range(1000)]
     with Server(folder, BOXES, 1) as server:
         with Client(server.address) as client:

@@ -10,7 +10,7 @@ LINE = "x" * 62
 
 @case
 def a_limit_of_the_site(folder):
-    """a limit of 65,536 bytes: what is offered, a size above it, a message of as many bytes, and one of a byte more"""
+    """a limit of 65,536 bytes: what is offered, a size above it, a message of as many bytes, and one a byte longer"""
     limit = 65_536
     count = limit // (len(LINE) + 2)
     with Server(folder, ["anna"], 1, "--message-limit", limit) as server:

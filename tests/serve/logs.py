@@ -276,7 +276,11 @@ def no_name_forges_a_line(folder):
 @case
 def clients_of_the_other_version(folder):
     """a client over IPv6 is logged by its address"""
-    logged = one_conversation(folder, lambda address: deliver_one(address, ["anna"], *LETTER), listen="[::1]:0", copies=1)
+
+    def deliver(address):
+        return deliver_one(address, ["anna"], *LETTER)
+
+    logged = one_conversation(folder, deliver, listen="[::1]:0", copies=1)
     equal(logged[1], "::1")
 
 

@@ -148,7 +148,7 @@ def no_wait_at_all(folder):
 @case
 def in_use_is_told(folder):
     """mailboxes that were in use: a line for each with its count, in the order of the site, before those over quota;
-    the log has a line as the first turn isn't had, and one as it is had again"""
+    the log has a line as the first turn is missed, and one as the mailbox is free again"""
     names = ["ben", "anna", "carla", "dora"]
     for name in ["anna", "ben"]:
         (folder / f"{name}.mbox").write_bytes(b"x" * 998 + b"\n\n")
@@ -260,7 +260,7 @@ def its_own_number(folder):
 def another_users(folder):
     """a lock file of another user's process that is gone stays until it is old"""
     if os.geteuid() != 0:
-        raise Absent("it wants root")
+        raise Absent("it needs root")
     with Server(folder, ["anna"], 1, "--lanes", 1, "--lock-wait", 0) as server:
         with Client(server.address).greet() as client:
             for age, reply in [(0, not_stored("anna")), (400, stored("anna"))]:

@@ -24,7 +24,7 @@ def function_at(source, line):
 
 
 def places_of(edit, crate):
-    """The functions that the wrong body changes: of each its file and its name, or None where it changes no function."""
+    """The functions that the wrong body changes: of each its file and its name, or None where it changes none."""
     path, found = None, set()
     for line in edit.read_text(encoding="utf-8").splitlines():
         word, _, rest = line.partition(": ")

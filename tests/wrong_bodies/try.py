@@ -1,9 +1,9 @@
 """Has the prover try wrong bodies: try.py ROOT JOBS [--own] [CRATE..], over what stands proved in ROOT: those of this
-folder, or with the word those that stand with the crates themselves, which `rt ci` tries one by one. Each crate has a room of
-its own, with its sources and what its checks kept, and the crates below it by hard links. There wrong bodies of
-different functions are put into their places at once, and checked; each that no goal of its own function refuses then is
-tried again alone, since a function isn't tried that calls a refused one. What is said of each, and the last line, are
-those of told.py."""
+folder, or with the word those that stand with the crates themselves, which `rt ci` tries one by one. Each crate has a
+room of its own, with its sources and what its checks kept, and the crates below it by hard links. There wrong bodies of
+different functions are put into their places at once, and checked; each that no goal of its own function refuses then
+is tried again alone, since a function isn't tried that calls a refused one. What is said of each, and the last line,
+are those of told.py."""
 import concurrent.futures
 import contextlib
 import dataclasses
@@ -70,7 +70,8 @@ class Room:
         return told.met(edit, self.crate, texts, *self.said_with(texts))
 
     def refused_at_once(self, edits, texts):
-        """Those of the wrong bodies, which make these texts together, that a goal of each of their functions refuses."""
+        """Those of the wrong bodies, which make these texts together, that a goal of each of their functions
+        refuses."""
         status, said = self.said_with(texts)
         if status == 0:
             return []

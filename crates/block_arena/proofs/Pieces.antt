@@ -42,7 +42,7 @@ pub longer_run : (next : List ℕ) (run : Run) (n : ℕ) → IsRun next run → 
     → IsRun next (longer run n)
 longer_run next run n is some fits = record { enough = omega (arith, is.enough, some, fits); last = is.last }
 
--- a whole block more
+-- one more whole block
 pub next_run : (blocks n k : ℕ) → blocks ≡ d.blocks_for k → k % BLOCK_SIZE ≡ 0 → 0 < n → n ≤ BLOCK_SIZE → blocks + 1 ≡ d.blocks_for (k + n)
 next_run blocks n k e full some fits = omega (arith, e, full, some, fits)
 

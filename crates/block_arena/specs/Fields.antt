@@ -1,5 +1,7 @@
 -- The arena's fields, and the depot that they stand for.
-use Rattle.std.specs.Prelude.{◌≡◌, ℕ, zero, suc, ◌+◌, ◌-◌, ◌*◌, ◌<◌, ◌≤◌, ◌==◌, ◌&&◌, nat_lt, slice_get, List, [], ◌∷◌, length, take, slice_set, map, get_or, if◌then◌else◌, Option, Some, None, Bool, true, false, flat_map, sum_by}
+use Rattle.std.specs.Prelude.{◌≡◌, ℕ, zero, suc, ◌+◌, ◌-◌, ◌*◌, ◌<◌, ◌≤◌, ◌==◌, ◌&&◌, nat_lt, slice_get, List, [], ◌∷◌}
+use Rattle.std.specs.Prelude.{length, take, slice_set, map, get_or, if◌then◌else◌, Option, Some, None, Bool, true}
+use Rattle.std.specs.Prelude.{false, flat_map, sum_by}
 use Rattle.std.specs.List.{All, AllByRecursion}
 use Rattle.mail_world.specs.Depot as d
 use Rattle.mail_world.specs.declared.limits.TheConstants.{BLOCK_SIZE, BLOCK_LIMIT, SLOT_LIMIT}
@@ -149,7 +151,7 @@ pub record IsReadable (blocks : List (List ℕ)) (next : List ℕ) (run : Run) :
   pub low : AllByRecursion (λ b. b < length next) (blocks_in next run)
   pub enough : run.length ≤ BLOCK_SIZE * run.blocks
 
--- a run of the same blocks, with that many bytes more
+-- a run of the same blocks, with that many more bytes
 abbrev pub longer : Run → ℕ → Run
 longer run n = record {
   first = run.first;
@@ -158,7 +160,7 @@ longer run n = record {
   length = run.length + n;
 }
 
--- a run with a block more after its last, and the links that make it one
+-- a run with one more block after its last, and the links that make it one
 abbrev pub linked_run : Run → ℕ → Run
 linked_run run block = record {
   first = if run.blocks == 0 then block else run.first;

@@ -7,10 +7,10 @@ use Rattle.mail_world.specs.Counts.{counted}
 use Rattle.mail_world.specs.Quotas.{fits}
 use Rattle.mail_world.specs.Records.{mended}
 use Rattle.mail_world.specs.Text.{lf, ends_in}
-use Rattle.mbox_rd.specs.Sharing.{Sharing}
-use Rattle.mbox_rd.specs.Spool.{SpoolState, tail_of}
-use Rattle.mbox_rd.specs.declared.spool.Tail.{Tail}
-use Rattle.mbox_rd.specs.declared.spool.Tail.TheVariants.{Empty, NoLf, OneLf, TwoLf}
+use Rattle.mbox_record.specs.Sharing.{Sharing}
+use Rattle.mbox_record.specs.Spool.{SpoolState, tail_of}
+use Rattle.mbox_record.specs.declared.spool.Tail.{Tail}
+use Rattle.mbox_record.specs.declared.spool.Tail.TheVariants.{Empty, NoLf, OneLf, TwoLf}
 use Rattle.box_worker.specs.declared.limit.Limit.{Limit}
 use Rattle.box_worker.specs.Limits.{CountsTo, StartsAt, missing, IsLetIn, IsKeptOut}
 

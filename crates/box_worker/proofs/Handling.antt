@@ -20,9 +20,9 @@ use Rattle.mail_post.specs.declared.channel.Gone.TheVariants.{Closed, Lost}
 use Rattle.mail_post.specs.Copies.{envelope_of}
 use Rattle.mail_post.specs.Offered.{HaveNumber, IsOffered, any_refused}
 use Rattle.mail_post.proofs.Offered.{still_numbered, accepted_nothing, offered_more}
-use Rattle.mbox_rd.specs.Mending.{HasNotMended}
-use Rattle.mbox_rd.specs.Spool.{SpoolState}
-use Rattle.mbox_rd.specs.Envelope.{record_text}
+use Rattle.mbox_record.specs.Mending.{HasNotMended}
+use Rattle.mbox_record.specs.Spool.{SpoolState}
+use Rattle.mbox_record.specs.Envelope.{record_text}
 use Rattle.box_worker.specs.declared.limit.Limit.{Limit}
 use Rattle.box_worker.specs.Limits.{Setting, StartsAt, CountsTo, marks_behind}
 use Rattle.box_worker.specs.Stored.{MailboxState, mailbox_of, CountedMailbox, TakesCopy, Tallies, HasStored, HasSettled}
@@ -48,7 +48,7 @@ some_text calendar host note = omega arith
 counted_more : (n : ℕ) → min (counted n + 1) (2 ^ 64 - 1) ≡ counted (n + 1)
 counted_more n = omega arith
 
--- what is told of one copy more, which is settled or not
+-- what is told of one more copy, which is settled or not
 module _ (at : Setting) (start : ℕ) (copies : List Note) (note : Note) where
   abbrev told : ℕ → List Outcome
   told n = outcomes_behind at start n copies
@@ -150,7 +150,7 @@ module _ (at : Setting) (copies : List Note) (old : SpoolState) (now : MailboxSt
   copy_counted NoRoom after take = absurd take
   copy_counted TooLarge after take = absurd take
 
--- a count of one outcome more
+-- a count of one more outcome
 stored_more' : (outcome : Outcome) (n : ℕ) (old new : MailboxState) → Tallies outcome old new → old.stored ≡ counted n → new.stored ≡ counted (n + count_by is_stored (outcome ∷ []))
 stored_more' Stored n old new t e = t.0 ∙ ap (λ m. counted (m + 1)) e ∙ counted_more n
 stored_more' Failed n old new t e = let z : n ≡ n + 0 = omega arith in t.0 ∙ e ∙ ap counted z

@@ -5,12 +5,12 @@ use Rattle.std.proofs.Math.Seq.{take-add}
 use Rattle.mail_world.specs.Counts.{counted}
 use Rattle.mail_world.specs.Records.{Calendar, quoted_text}
 use Rattle.mail_world.specs.Text.{lf, unix}
-use Rattle.mbox_rd.specs.Envelope.{Envelope, record_text, head_text}
-use Rattle.mbox_rd.specs.Spool.{SpoolState, SpoolTook, SpoolFailed}
-use Rattle.mbox_rd.specs.Writing.{Pending, bytes_owed, WritesPiece, FailsPiece}
-use Rattle.mbox_rd.proofs.Parts.{record_split}
-use Rattle.mbox_rd.proofs.Taken.{SpoolTook-then, SpoolTook-as, SpoolFailed-first, SpoolFailed-later, SpoolFailed-as}
-use Rattle.mbox_rd.proofs.Wholes.{BeginsRecord, WritesPiece-then, FailsPiece-then}
+use Rattle.mbox_record.specs.Envelope.{Envelope, record_text, head_text}
+use Rattle.mbox_record.specs.Spool.{SpoolState, SpoolTook, SpoolFailed}
+use Rattle.mbox_record.specs.Writing.{Pending, bytes_owed, WritesPiece, FailsPiece}
+use Rattle.mbox_record.proofs.Parts.{record_split}
+use Rattle.mbox_record.proofs.Taken.{SpoolTook-then, SpoolTook-as, SpoolFailed-first, SpoolFailed-later, SpoolFailed-as}
+use Rattle.mbox_record.proofs.Wholes.{BeginsRecord, WritesPiece-then, FailsPiece-then}
 
 -- a failure in a prefix of a text is one in the text
 FailsPiece-more : (s t : SpoolState) (a : Pending) (p q : List ℕ) → FailsPiece s t a p → FailsPiece s t a (p ++ q)

@@ -8,7 +8,7 @@ use Rattle.mail_world.specs.Records.{record_of}
 use Rattle.mail_world.specs.Quotas.{fits, marked}
 use Rattle.mail_world.proofs.Quotas.{next_behind}
 use Rattle.mail_world.proofs.Settled.{length-kept_behind}
-use Rattle.mbox_rd.specs.Spool.{SpoolState}
+use Rattle.mbox_record.specs.Spool.{SpoolState}
 use Rattle.box_worker.specs.Limits.{Setting, marks_behind, kept_behind}
 use Rattle.box_worker.specs.Stored.{HasKept, HasNotKept, mailbox_of, HasStored, HasFailedFirst, IsKeptNext, HasSettled}
 use Rattle.box_worker.specs.Worked.{bytes_behind}

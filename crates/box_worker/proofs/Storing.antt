@@ -1,4 +1,4 @@
--- What a spool holds once its worker took one copy more that is kept.
+-- What a spool holds once its worker took one more copy that is kept.
 use Rattle.std.proofs.Common.{◌≡◌, ℕ, ◌+◌, ◌≤◌, List, [], ◌∷◌, ◌++◌, length, take, drop, true, false, Option, Some, None, inl, inr, refl, ap, sym, ◌∙◌, subst, true≢false, arith, length-append}
 use Rattle.std.proofs.lemmas.List.{take_all, take-append-le, drop-append-le, drop_all}
 use Rattle.std.specs.Option.{IfSome}
@@ -8,8 +8,8 @@ use Rattle.mail_world.specs.Failures.{Rises}
 use Rattle.mail_world.specs.Records.{Calendar, record_of, mailbox}
 use Rattle.mail_world.specs.Deliveries.{IsTorn}
 use Rattle.mail_world.proofs.Spools.{mailbox-one_more}
-use Rattle.mbox_rd.specs.Sharing.{Sharing}
-use Rattle.mbox_rd.specs.Spool.{SpoolState, CoversAll}
+use Rattle.mbox_record.specs.Sharing.{Sharing}
+use Rattle.mbox_record.specs.Spool.{SpoolState, CoversAll}
 use Rattle.mail_world.specs.declared.Outcome.{Outcome}
 use Rattle.mail_world.specs.declared.Outcome.TheVariants.{Stored, Failed, NoRoom, TooLarge, OverQuota}
 use Rattle.box_worker.specs.Stored.{HasKept, HasNotKept, IsTornAt, MailboxState, mailbox_of, CountedMailbox, TakesCopy, Tallies, HasStored}
@@ -25,7 +25,7 @@ module _ (calendar : Calendar) (host : List ℕ) (note : Note) where
   abbrev text : List ℕ
   text = record_of calendar host note
 
-  -- what is after the stored copies, with one copy more after those
+  -- what is after the stored copies, with one more copy after those
   torn_more : (rest : List Note) (torn : List ℕ) → IsTorn calendar host rest torn → IsTorn calendar host (rest ++ note ∷ []) torn
   torn_more [] torn e = record { rest = text; whole = ap (λ (l : List ℕ). l ++ text) (sym e) }
   torn_more (x ∷ rest) torn h = h

@@ -1,4 +1,4 @@
--- What a worker owes the lanes for one copy more.
+-- What a worker owes the lanes for one more copy.
 use Rattle.std.proofs.Common.{◌≡◌, ℕ, List, [], ◌∷◌, ◌++◌, length, cond, ◌==◌, refl, ap, sym, ◌∙◌, append-nil}
 use Rattle.std.specs.Prelude.{filter}
 use Rattle.std.proofs.lemmas.Bool.{eq-eqb}
@@ -12,7 +12,7 @@ use Rattle.mail_world.proofs.Settled.{slips_from-append}
 use Rattle.mail_post.proofs.Offered.{OwesOneMore}
 use Rattle.box_worker.specs.Told.{owed_to}
 
--- the slips that are owed to each lane for one copy more, whose outcome stands after those of the others
+-- the slips that are owed to each lane for one more copy, whose outcome stands after those of the others
 pub owed_more : (worker : ℕ) (before after : List Outcome) (copies : List Note) (note : Note) (outcome : Outcome) → length before ≡ length copies → after ≡ before ++ outcome ∷ []
     → OwesOneMore (λ k. owed_to worker before k copies) (λ k. owed_to worker after k (copies ++ note ∷ [])) note.txn.lane (slip_of worker note outcome)
 owed_more worker before after copies note outcome long last =

@@ -1,4 +1,4 @@
--- A worker's turns at a shared spool: one copy, one copy more, and what a spool that tells its bytes lists of them.
+-- A worker's turns at a shared spool: one copy, one more copy, and what a spool that tells its bytes lists of them.
 use Rattle.std.proofs.Common.{◌≡◌, ◌⊎◌, ℕ, ◌+◌, ◌≤◌, List, [], ◌∷◌, ◌++◌, length, Bool, true, false, Option, Some, None, Result, Ok, Err, inl, inr, refl, ap, sym, ◌∙◌, subst, true≢false, arith, append_assoc, append-nil}
 use Rattle.std.specs.Prelude.{is_some, count_by, MatchBool}
 use Rattle.std.specs.Option.{IfSome, option_map}
@@ -13,18 +13,18 @@ use Rattle.mail_world.specs.Records.{record_of, mended}
 use Rattle.mail_world.specs.Quotas.{fits}
 use Rattle.mail_world.specs.Turns.{Standing, Turn, NotHad, Had, AllFailed, AreTurns, IsTurn, breaks}
 use Rattle.mail_world.proofs.GivenAway.{count-append}
-use Rattle.mbox_rd.specs.Sharing.{Sharing, had, not_had}
-use Rattle.mbox_rd.specs.Spool.{SpoolState, tail_of, CoversAll, standing, BeginsTurn, MissesTurn, EndsTurn}
+use Rattle.mbox_record.specs.Sharing.{Sharing, had, not_had}
+use Rattle.mbox_record.specs.Spool.{SpoolState, tail_of, CoversAll, standing, BeginsTurn, MissesTurn, EndsTurn}
 use Rattle.box_worker.specs.declared.limit.Limit.{Limit}
 use Rattle.box_worker.specs.Limits.{Setting, StartsAt, CountsTo, missing, IsLetIn, IsKeptOut}
 use Rattle.box_worker.specs.Stored.{MailboxState, CountedMailbox, HasKept, HasNotKept}
 use Rattle.box_worker.specs.Turned.{MeasuresAnew, SharedMailbox, shared_of, HasKeptMended, HasNotKeptMended, Measures, StoresInTurn, KeepsOutOfTurn, BreaksTurn, FromLock, HadTurn, TakesTurn, DoesInTurn, EndsInTurn, HaveTurned, is_not_had, TellsTurns}
-use Rattle.mbox_rd.specs.Mending.{HasMended, HasNotMended}
-use Rattle.mbox_rd.specs.declared.spool.Tail.{Tail}
-use Rattle.mbox_rd.proofs.Taken.{Appends-then, FailsTurn-then}
+use Rattle.mbox_record.specs.Mending.{HasMended, HasNotMended}
+use Rattle.mbox_record.specs.declared.spool.Tail.{Tail}
+use Rattle.mbox_record.proofs.Taken.{Appends-then, FailsTurn-then}
 use Rattle.box_worker.proofs.Counting.{starts_at, let_in, kept_out}
 
--- one copy more
+-- one more copy
 pub turned_more : (at : Setting) (notes : List Note) (outcomes : List Outcome) (note : Note) (outcome : Outcome) (old now new : SharedMailbox)
     → HaveTurned at notes outcomes old now → TakesTurn at.quota (record_of at.calendar at.host note) outcome now new
     → HaveTurned at (notes ++ note ∷ []) (outcomes ++ outcome ∷ []) old new
@@ -358,7 +358,7 @@ module _ (quota : Option ℕ) (start : ℕ) (text : List ℕ) (old new : Counted
       let P : Option Limit → Type 0 = λ l. CountsTo quota start l in
       ((record { measured = record { start = start; starts = starts; is = out }; same = same }, sound), (start, subst P (sym unchanged) counts))
 
--- a mailbox with one copy more that is stored, that failed, or with one more that is over the quota
+-- a mailbox with one more copy that is stored, that failed, or with one more that is over the quota
 abbrev one_stored : CountedMailbox → CountedMailbox
 one_stored m = record m { mailbox = record m.mailbox { stored = counted (m.mailbox.stored + 1) } }
 

@@ -1,4 +1,4 @@
--- What a worker did with one copy more, in order of time.
+-- What a worker did with one more copy, in order of time.
 use Rattle.std.proofs.Common.{◌≡◌, ◌||◌, ℕ, ◌+◌, List, [], ◌∷◌, ◌++◌, length, Bool, true, false, Option, IsSome, refl, ap, sym, ◌∙◌, subst, arith}
 use Rattle.std.specs.Option.{IfSome}
 use Rattle.std.proofs.lemmas.Bool.{eq-eqb, ne_eqb}
@@ -11,8 +11,8 @@ use Rattle.mail_world.specs.Records.{record_of}
 use Rattle.mail_world.specs.Slips.{slip_of}
 use Rattle.mail_runs.specs.Deeds.{Deed, Took, Told, turns_of}
 use Rattle.mail_runs.specs.Timed.{TimedDeed, whats}
-use Rattle.mbox_rd.specs.Mending.{HasNotMended}
-use Rattle.mbox_rd.specs.Spool.{SpoolState}
+use Rattle.mbox_record.specs.Mending.{HasNotMended}
+use Rattle.mbox_record.specs.Spool.{SpoolState}
 use Rattle.mail_post.specs.Channel.{Sender, Inbox, taken, IsTimed, HasSameTimes}
 use Rattle.mail_post.specs.InTime.{Ends, clock_of, AreInTime}
 use Rattle.mail_post.specs.Offered.{IsPart, HaveNumber, IsOffered, any_refused}
@@ -97,7 +97,7 @@ turns_end worker copies outcomes before slips was now same x = record {
   some = x.some;
 }
 
--- one copy more
+-- one more copy
 pub working_more : (at : Setting) (copies : List Note) (before was inbox : Inbox Note) (old now : WorkerState) (limit : Option Limit) (next : List (Sender Slip)) (note : Note) (accepted : Bool)
     → IsWorking at copies before was old now limit → IsTimed (clock_of now.slips was) was inbox → (outcome : Outcome) (after : CountedMailbox) → Tallies outcome now.mailbox after.mailbox
     → after.mailbox.state.sharing.is_shared ≡ now.mailbox.state.sharing.is_shared

@@ -5,9 +5,9 @@ use Rattle.mail_world.specs.declared.Note.{Note}
 use Rattle.mail_world.specs.Counts.{counted}
 use Rattle.mail_world.specs.Records.{Calendar, mended}
 use Rattle.mail_world.specs.Quotas.{are_kept_behind, marked}
-use Rattle.mbox_rd.specs.Spool.{SpoolState, Grows}
-use Rattle.mbox_rd.specs.declared.spool.Tail.{Tail}
-use Rattle.mbox_rd.specs.declared.spool.Tail.TheVariants.{Empty, NoLf, OneLf, TwoLf}
+use Rattle.mbox_record.specs.Spool.{SpoolState, Grows}
+use Rattle.mbox_record.specs.declared.spool.Tail.{Tail}
+use Rattle.mbox_record.specs.declared.spool.Tail.TheVariants.{Empty, NoLf, OneLf, TwoLf}
 use Rattle.box_worker.specs.declared.limit.Limit.{Limit}
 
 -- what stays while a worker runs: the calendar and the host of its records, the limit of bytes for its mailbox, and its

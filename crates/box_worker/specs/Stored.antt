@@ -1,5 +1,6 @@
 -- What a mailbox's spool holds of the copies that its worker took.
-use Rattle.std.specs.Prelude.{◌≡◌, ◌⊎◌, ℕ, ◌+◌, ◌<◌, ◌≤◌, Bool, true, false, List, ◌++◌, length, take, drop, Option, Some}
+use Rattle.std.specs.Prelude.{◌≡◌, ◌⊎◌, ℕ, ◌+◌, ◌<◌, ◌≤◌, Bool, true, false, List, ◌++◌, length, take, drop, Option}
+use Rattle.std.specs.Prelude.{Some}
 use Rattle.std.specs.Option.{IfSome}
 use Rattle.std.specs.Io.KnownBytes.{Appends}
 use Rattle.mail_world.specs.declared.Note.{Note}
@@ -10,8 +11,8 @@ use Rattle.mail_world.specs.Failures.{Rises}
 use Rattle.mail_world.specs.Records.{Calendar, mended, mailbox}
 use Rattle.mail_world.specs.Fronts.{IsFront}
 use Rattle.mail_world.specs.Deliveries.{IsTorn}
-use Rattle.mbox_rd.specs.Spool.{SpoolState, CoversAll, IsFull, FailsTurn}
-use Rattle.mbox_rd.specs.Mending.{HasNotMended}
+use Rattle.mbox_record.specs.Spool.{SpoolState, CoversAll, IsFull, FailsTurn}
+use Rattle.mbox_record.specs.Mending.{HasNotMended}
 use Rattle.box_worker.specs.declared.limit.Limit.{Limit}
 use Rattle.box_worker.specs.Limits.{Setting, kept_behind, StartsAt, IsLetIn, IsKeptOut}
 
@@ -45,7 +46,7 @@ pub record MailboxState : Type 0 where
 abbrev pub mailbox_of : SpoolState → ℕ → ℕ → Bool → MailboxState
 mailbox_of state stored over faulty = record { state = state; stored = stored; over = over; faulty = faulty }
 
--- a mailbox, its worker's count under a quota, and how many turns weren't had
+-- a mailbox, its worker's count under a quota, and how many turns were missed
 pub record CountedMailbox : Type 0 where
   pub mailbox : MailboxState
   pub limit : Option Limit
@@ -67,7 +68,8 @@ TakesCopy text OverQuota old new = (old.mailbox.faulty ≡ false) × IsKeptOut o
     × (new.mailbox ≡ mailbox_of old.mailbox.state old.mailbox.stored (counted (old.mailbox.over + 1)) false)
 TakesCopy text Failed old new = (new.mailbox ≡ mailbox_of new.mailbox.state old.mailbox.stored old.mailbox.over true)
     × (((old.mailbox.faulty ≡ true) × (new.mailbox.state ≡ old.mailbox.state))
-    ⊎ ((old.mailbox.faulty ≡ false) × IsLetIn old.limit (length text) new.limit × HasNotKept old.mailbox.state new.mailbox.state text))
+    ⊎ ((old.mailbox.faulty ≡ false) × IsLetIn old.limit (length text) new.limit
+    × HasNotKept old.mailbox.state new.mailbox.state text))
 TakesCopy text _ old new = ⊥
 
 -- what is counted of a copy by what its lane is told
@@ -80,7 +82,8 @@ Tallies _ old new = (new.stored ≡ old.stored) × (new.over ≡ old.over)
 -- next one, which is lost, or, where no copy was settled, a prefix of what mending adds.
 abbrev pub IsTornAt : Calendar → List ℕ → List ℕ → List Note → ℕ → ℕ → List ℕ → Type 0
 IsTornAt calendar host old notes stored settled bytes =
-    ((torn : List ℕ) × (stored < length notes) × (bytes ≡ mailbox calendar host old (take stored notes) ++ torn) × IsTorn calendar host (drop stored notes) torn)
+    ((torn : List ℕ) × (stored < length notes) × (bytes ≡ mailbox calendar host old (take stored notes) ++ torn)
+    × IsTorn calendar host (drop stored notes) torn)
     ⊎ ((front : List ℕ) × (settled ≡ 0) × (bytes ≡ old ++ front) × IsFront front (mended old))
 
 -- A spool took the records of the first of these notes, as many as are stored: of all of them unless it failed, and one
@@ -95,8 +98,10 @@ pub record HasStored (calendar : Calendar) (host : List ℕ) (notes : List Note)
   pub limited : new.state.limit ≡ old.limit
   pub full : new.faulty ≡ true → IsFull new.state.limit new.state.bytes
   pub whole : new.faulty ≡ false → IfSome old.bytes (λ held. new.state.bytes ≡ Some (mailbox calendar host held notes))
-  pub torn : new.faulty ≡ true → IfSome old.bytes (λ held. IfSome new.state.bytes (λ bytes. IsTornAt calendar host held notes new.stored (new.stored + new.over) bytes))
-  pub covered : 0 < new.stored → IfSome old.bytes (λ held. new.state.synced ≡ length (mailbox calendar host held (take new.stored notes)))
+  pub torn : new.faulty ≡ true → IfSome old.bytes (λ held. IfSome new.state.bytes
+      (λ bytes. IsTornAt calendar host held notes new.stored (new.stored + new.over) bytes))
+  pub covered : 0 < new.stored
+      → IfSome old.bytes (λ held. new.state.synced ≡ length (mailbox calendar host held (take new.stored notes)))
   pub unsynced : new.stored ≡ 0 → new.state.synced ≡ old.synced
   -- no append stands after the last sync
   pub kept : new.faulty ≡ false → 0 < new.stored → new.state.sharing.is_unsynced ≡ false

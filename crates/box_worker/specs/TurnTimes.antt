@@ -13,9 +13,9 @@ use Rattle.mail_post.specs.InTime.{Ends, Sorts, AreInTime}
 abbrev pub worker_sorts : Sorts
 worker_sorts = record { gives = tells_to; takes = is_taken }
 
--- The worker took these copies, one after the other, and told of each before it took the next. Times rise along all that
--- it did: it took each copy at the time that its receiver knows, and told of it at the one that the slip's sender knows.
--- A slip that was handed back has none.
+-- The worker took these copies, one after the other, and told of each before it took the next. Times rise along all
+-- that it did: it took each copy at the time that its receiver knows, and told of it at the one that the slip's sender
+-- knows. A slip that was handed back has none.
 pub record TakeTurns (worker : ℕ) (copies : List Note) (outcomes : List Outcome) (old new : Ends Slip Note)
     : Type 0 where
   pub deeds : List TimedDeed

@@ -1,4 +1,5 @@
--- A worker at a mailbox that other programs read and empty too: it takes a turn for each copy, from a lock to an unlock.
+-- A worker at a mailbox that other programs read and empty too: it takes a turn for each copy, from a lock to an
+-- unlock.
 use Rattle.std.specs.Prelude.{◌≡◌, ◌⊎◌, ℕ, ◌+◌, Bool, true, false, List, [], ◌∷◌, ◌++◌, length, count_by, Option}
 use Rattle.std.specs.Option.{IfSome}
 use Rattle.mail_world.specs.declared.Note.{Note}
@@ -8,12 +9,12 @@ use Rattle.mail_world.specs.Counts.{counted}
 use Rattle.mail_world.specs.Records.{mended, record_of}
 use Rattle.mail_world.specs.Quotas.{fits}
 use Rattle.mail_world.specs.Turns.{Turn, NotHad, Had, AreTurns}
-use Rattle.mbox_rd.specs.Spool.{SpoolState, BeginsTurn, MissesTurn, EndsTurn}
+use Rattle.mbox_record.specs.Spool.{SpoolState, BeginsTurn, MissesTurn, EndsTurn}
 use Rattle.box_worker.specs.declared.limit.Limit.{Limit}
 use Rattle.box_worker.specs.Limits.{Setting, StartsAt, CountsTo}
 use Rattle.box_worker.specs.Stored.{HasKept, HasNotKept, MailboxState, CountedMailbox}
 
--- a shared spool, whether its worker gave it up, and how many turns weren't had
+-- a shared spool, whether its worker gave it up, and how many turns were missed
 pub record SharedMailbox : Type 0 where
   pub state : SpoolState
   pub faulty : Bool
@@ -61,14 +62,14 @@ pub record FromLock (Does : SpoolState → SpoolState → Type 0) (locked new : 
   pub does : Does locked done
   pub ends : EndsTurn done new
 
--- a turn that was had
+-- a turn that wasn't missed
 pub record HadTurn (Does : SpoolState → SpoolState → Type 0) (old new : SpoolState) : Type 0 where
   pub held : ℕ
   pub locked : SpoolState
   pub begins : BeginsTurn old locked held
   pub rest : FromLock Does locked new
 
--- the copy's turn wasn't had, or it broke, and the worker gives the spool up
+-- the copy's turn was missed, or it broke, and the worker gives the spool up
 abbrev pub FailsInTurn : Option ℕ → List ℕ → SharedMailbox → SharedMailbox → Type 0
 FailsInTurn quota text old new =
     (MissesTurn old.state new.state × (new ≡ shared_of new.state false (counted (old.in_use + 1))))
@@ -128,14 +129,16 @@ abbrev pub is_not_had : Turn → Bool
 is_not_had NotHad = true
 is_not_had (Had lock unlock) = false
 
--- The turns that a spool lists since: they are the copies' own, and those that weren't had are counted.
-pub record TellsTurns (at : Setting) (copies : List Note) (outcomes : List Outcome) (old new : SharedMailbox) : Type 0 where
+-- The turns that a spool lists since: they are the copies' own, and those that were missed are counted.
+pub record TellsTurns (at : Setting) (copies : List Note) (outcomes : List Outcome)
+    (old new : SharedMailbox) : Type 0 where
   pub turns : List Turn
   pub added : new.state.sharing.turns ≡ old.state.sharing.turns ++ turns
   pub are : AreTurns at.calendar at.host at.quota copies outcomes turns new.faulty
   pub missed : new.in_use ≡ counted (old.in_use + count_by is_not_had turns)
 
 -- What a worker came to at a shared spool.
-pub record HasTurned (at : Setting) (copies : List Note) (outcomes : List Outcome) (old new : SharedMailbox) : Type 0 where
+pub record HasTurned (at : Setting) (copies : List Note) (outcomes : List Outcome)
+    (old new : SharedMailbox) : Type 0 where
   pub each : HaveTurned at copies outcomes old new
   pub told : IfSome old.state.bytes (λ _. TellsTurns at copies outcomes old new)

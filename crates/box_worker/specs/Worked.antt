@@ -7,7 +7,7 @@ use Rattle.mail_world.specs.declared.Outcome.{Outcome}
 use Rattle.mail_world.specs.Counts.{counted}
 use Rattle.mail_world.specs.Records.{record_of}
 use Rattle.mail_world.specs.Quotas.{outcomes_settled}
-use Rattle.mbox_rd.specs.Spool.{SpoolState}
+use Rattle.mbox_record.specs.Spool.{SpoolState}
 use Rattle.mail_post.specs.Channel.{Sender, Inbox, taken}
 use Rattle.mail_post.specs.InTime.{Ends}
 use Rattle.mail_post.specs.Offered.{HaveNumber, HaveAccepted, any_refused}
@@ -20,7 +20,7 @@ use Rattle.box_worker.specs.Turned.{shared_of, HaveTurned, HasTurned}
 use Rattle.box_worker.specs.Told.{owed_to, is_stored, is_over}
 use Rattle.box_worker.specs.TurnTimes.{TakeTurns}
 
--- a worker: its senders of slips, its mailbox, how many turns weren't had, how many copies it took, and whether a
+-- a worker: its senders of slips, its mailbox, how many turns were missed, how many copies it took, and whether a
 -- channel was found gone
 pub record WorkerState : Type 0 where
   pub slips : List (Sender Slip)
@@ -60,7 +60,7 @@ pub record IsAccounted (at : Setting) (copies : List Note) (outcomes : List Outc
   pub stored_count : new.stored ≡ counted stored
   pub over_count : new.over ≡ counted over
 
--- a private mailbox has no turn that isn't had
+-- a private mailbox misses no turn
 pub record IsAlone (at : Setting) (copies : List Note) (outcomes : List Outcome) (old : SpoolState)
     (new : MailboxState) (in_use : ℕ) : Type 0 where
   pub accounted : IsAccounted at copies outcomes old new
@@ -125,8 +125,8 @@ is_lost None = false
 is_lost (Some Closed) = false
 is_lost (Some Lost) = true
 
--- What a worker's run comes to: all that its channel gave it until that ended is handled, copy by copy, in order of time.
--- A channel was found gone just where that one was, or where a slip was handed back.
+-- What a worker's run comes to: all that its channel gave it until that ended is handled, copy by copy, in order of
+-- time. A channel was found gone just where that one was, or where a slip was handed back.
 pub record HasWorked (at : Setting) (before after : Inbox Note) (old new : WorkerState) : Type 0 where
   pub channel : after.channel ≡ before.channel
   pub lanes : after.lanes ≡ before.lanes

@@ -1,5 +1,9 @@
 //! The worker of one mailbox: it takes copies from the lanes, stores each as a record, and tells the lane what became
 //! of it.
+//!
+//! A server's threads use `worker_run`: each copy that it takes has one outcome, which a slip tells, and its record
+//! where that is Stored. A `Gate` may hold a worker before and after a copy. It never knows of a conversation or of
+//! another mailbox.
 #![tactic(auto)]
 
 mod gate;

@@ -4,7 +4,7 @@ ghost use Rattle.std.specs.Prelude.{◌≡◌, ◌+◌, ◌<◌, ◌^◌, ℕ, S
 ghost use Rattle.mail_world.specs.Counts.{counted};
 ghost use Rattle.box_worker.specs.Limits.{StartsAt, Admits, missing};
 
-use mbox_rd::{Spool, Tail};
+use mbox_record::{Spool, Tail};
 
 /// A quota of bytes, and how many stand in the mailbox by the worker's own count, which stays at 2^64 - 1.
 #[derive(Clone, Copy, Debug, PartialEq, Eq)]

@@ -3,8 +3,8 @@
 ghost use Rattle.std.specs.Prelude.{◌≡◌, ◌+◌, ℕ, true, false, List, [], length, OnOk, OnErr};
 ghost use Rattle.std.specs.Option.{IfSome};
 ghost use Rattle.lmtp_text.specs.Calendar.{civil_at};
-ghost use Rattle.mbox_rd.specs.Envelope.{record_text};
-ghost use Rattle.mbox_rd.specs.Mending.{HasNotMended};
+ghost use Rattle.mbox_record.specs.Envelope.{record_text};
+ghost use Rattle.mbox_record.specs.Mending.{HasNotMended};
 ghost use Rattle.mail_world.specs.Counts.{counted};
 ghost use Rattle.box_worker.specs.Limits.{CountsTo, StartsAt};
 ghost use Rattle.box_worker.specs.Stored.{mailbox_of, HasStored, IsMeasured, TakesCopy, Tallies};
@@ -13,13 +13,13 @@ ghost use Rattle.box_worker.specs.Turned.{MeasuresAnew, DoesInTurn, EndsInTurn, 
 use crate::limit::Limit;
 use crate::store::{mend_and_store, record_size, store};
 use mail_world::Outcome;
-use mbox_rd::{Envelope, Spool, SpoolFault, mend};
+use mbox_record::{Envelope, Spool, SpoolFault, mend};
 use msg_depot::{Depot, DepotName, Hold};
 use std::marker::Model;
 use std::sync::Wait;
 
-/// A spool, the number of records that it took and has kept, that of copies over the quota, that of turns that weren't
-/// had, and whether the spool failed. Once it has, it is left alone.
+/// A spool, the number of records that it took and has kept, that of copies over the quota, that of missed turns, and
+/// whether the spool failed. Once it has, it is left alone.
 #[derive(Drop)]
 pub struct Mailbox<S: Spool> {
     pub spool: S,
@@ -73,8 +73,8 @@ impl<S: Spool> Mailbox<S> {
         }
     }
 
-    /// Stores a copy of the held message in a turn of its own, or says that it is over the quota or lost. Where the turn
-    /// isn't had nothing is appended, and this copy alone is lost: the next one gets a new try.
+    /// Stores a copy of the held message in a turn of its own, or says that it is over the quota or lost. Where the
+    /// turn is missed nothing is appended, and this copy alone is lost: the next one gets a new try.
     pub fn take<N: DepotName, R: Wait>(
         &mut self,
         rt: &R,

@@ -59,8 +59,8 @@ impl SlipSenders {
         SlipSenders { senders }
     }
 
-    /// Gives the copy's lane a slip, after the picked time, which may be the receiver's. One that comes back is dropped,
-    /// and its sender says that it did.
+    /// Gives the copy's lane a slip, after the picked time, which may be the receiver's. One that comes back is
+    /// dropped, and its sender says that it did.
     pub(crate) fn tell<K: Moment, N: DepotName, R: Wait>(
         &mut self,
         rt: &R,

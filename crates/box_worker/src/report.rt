@@ -2,7 +2,7 @@
 
 use crate::gate::Gate;
 use mail_post::{Receiver, SlipSender};
-use mbox_rd::Spool;
+use mbox_record::Spool;
 use msg_depot::DepotName;
 
 /// What became of a worker's copies, and all that it was lent.
@@ -11,7 +11,7 @@ pub struct WorkerReport<N: DepotName, S: Spool, G: Gate> {
     pub spool: S,
     pub gate: G,
     /// The copies that it took, those of them that it stored, those that were over the quota, and those whose turn at
-    /// the mailbox wasn't had. A count stays at its largest value.
+    /// the mailbox was missed. A count stays at its largest value.
     pub taken: u64,
     pub stored: u64,
     pub over: u64,

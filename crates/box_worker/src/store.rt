@@ -3,14 +3,14 @@
 ghost use Rattle.std.specs.Prelude.{◌≡◌, ◌<◌, ◌^◌, [], ◌∷◌, ◌++◌, length, OnOk, OnErr, IfOk, SomeIff};
 ghost use Rattle.mail_world.specs.Text.{lf};
 ghost use Rattle.lmtp_text.specs.Calendar.{civil_at};
-ghost use Rattle.mbox_rd.specs.Envelope.{record_text};
-ghost use Rattle.mbox_rd.specs.Spool.{SpoolTook, SpoolFailed};
-ghost use Rattle.mbox_rd.specs.Writing.{bytes_owed, WritesPiece, FailsPiece};
+ghost use Rattle.mbox_record.specs.Envelope.{record_text};
+ghost use Rattle.mbox_record.specs.Spool.{SpoolTook, SpoolFailed};
+ghost use Rattle.mbox_record.specs.Writing.{bytes_owed, WritesPiece, FailsPiece};
 ghost use Rattle.box_worker.specs.Stored.{HasKept, HasNotKept};
 ghost use Rattle.box_worker.specs.Turned.{HasKeptMended, HasNotKeptMended};
 
 use mail_world::limits::WORKER_BUFFER_SIZE;
-use mbox_rd::{CountSpool, Envelope, RecordWriter, Spool, SpoolFault, mend};
+use mbox_record::{CountSpool, Envelope, RecordWriter, Spool, SpoolFault, mend};
 use msg_depot::{Depot, DepotName, Hold};
 use std::sync::Wait;
 
@@ -34,7 +34,7 @@ pub(crate) fn store<N: DepotName, S: Spool, R: Wait>(
 }
 
 /// Appends what mends the spool and then the record of the held message, and has both kept. After a fault the spool
-/// holds a prefix of them more.
+/// has gained a prefix of them.
 pub(crate) fn mend_and_store<N: DepotName, S: Spool, R: Wait>(
     rt: &R,
     spool: &mut S,

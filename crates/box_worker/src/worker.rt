@@ -15,7 +15,7 @@ use crate::mailbox::Mailbox;
 use crate::release::{SlipSenders, release};
 use crate::report::WorkerReport;
 use mail_post::{Gone, Moment, Parts, Post, Receiver, SlipSender};
-use mbox_rd::Spool;
+use mbox_record::Spool;
 use msg_depot::{Depot, DepotName};
 use std::marker::Brand;
 use std::sync::Wait;
@@ -23,7 +23,7 @@ use std::sync::Wait;
 /// Stores the copies that come, one after another, and gives each lane a slip for each of its own, until the channel is
 /// closed or lost. Under a quota a copy whose record would bring the mailbox above it isn't stored, and its
 /// lane is told so. At a mailbox that other programs use too each copy has a turn, from a lock to an unlock; one whose
-/// turn isn't had is told Failed, and the next gets a new try. It takes no memory.
+/// turn is missed is told Failed, and the next gets a new try. It takes no memory.
 pub fn worker_run<N: DepotName, S: Spool, G: Gate, R: Wait>(
     rt: &R,
     receiver: Receiver<N>,

@@ -1,4 +1,4 @@
--- What a worker of the model makes of copies of which the first so many are settled.
+-- What a worker of the model makes of copies of which the first ones are settled.
 use Rattle.std.proofs.Common.{◌≡◌, ℕ, zero, suc, ◌+◌, ◌≤◌, List, [], ◌∷◌, ◌++◌, length, take, drop, Bool, true, false, inl, inr, refl, sym, ap, ◌∙◌, subst, arith, append_assoc, append-nil}
 use Rattle.std.specs.Prelude.{flat_map, if◌then◌else◌}
 use Rattle.std.proofs.lemmas.List.{length-append}
@@ -19,7 +19,7 @@ module _ (s : Server) where
   abbrev text : Note → List ℕ
   text note = record_of s.calendar s.host note
 
-  -- the marks of copies before the first of which so many bytes stand, and the copies that are kept
+  -- the marks of copies, before the first of which that many bytes stand, and the copies that are kept
   abbrev pub marks : ℕ → List Note → List Bool
   marks len notes = are_kept_behind s.calendar s.host s.quota len notes
 

@@ -10,7 +10,7 @@ use Rattle.mail_world.specs.Records.{Calendar, record_of, mended, mailbox}
 use Rattle.mail_world.specs.Quotas.{are_kept_behind, marked, outcomes_settled}
 use Rattle.mail_world.specs.Deliveries.{IsTorn}
 use Rattle.mail_runs.specs.Courses.{Server, Course, IsCourse}
-use Rattle.mbox_rd.specs.Spool.{SpoolState}
+use Rattle.mbox_record.specs.Spool.{SpoolState}
 use Rattle.box_worker.specs.Limits.{Setting, marks_behind, kept_behind, StartsAt}
 use Rattle.box_worker.specs.Stored.{mailbox_of, IsTornAt, HasSettled}
 use Rattle.box_worker.specs.Turned.{SharedMailbox, shared_of, HaveTurned}
@@ -194,7 +194,7 @@ module _ (at : Setting) (lanes boxes : ℕ) where
     not_silent : old.bytes ≡ None → IsToldAlone old → ⊥
     not_silent e t = let some : IsSome old.bytes = t.telling in let none : is_some old.bytes ≡ false = ap is_some e in true≢false (sym some ∙ none)
 
-    -- a mailbox without a quota, each of whose turns was had
+    -- a mailbox without a quota, none of whose turns was missed
     unlimited_course : IsBoxWork at work old new tally → at.quota ≡ None → tally.in_use ≡ 0 → (shared : Bool) → old.sharing.is_shared ≡ shared
         → (o : Option (List ℕ)) → old.bytes ≡ o → HasCourse work old new tally
     unlimited_course w none never true s o e = shared_course none never (not_shared s) (w.shared s).each

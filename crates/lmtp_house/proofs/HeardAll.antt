@@ -23,7 +23,7 @@ use Rattle.mail_world.proofs.Merged.{own_named}
 use Rattle.lmtp_house.proofs.AnsweredAll.{found_counts}
 use Rattle.lmtp_house.proofs.NamedOnce.{is_copy, slips_copy, fewer, due_counts, named_once}
 
--- what counts is counted here or behind
+-- what counts is counted here or after
 here_or_behind : (X : Type 0) (t : Bool) (m : ℕ) → (t ≡ true → X) → (1 ≤ m → X) → 1 ≤ cond t 1 0 + m → X
 here_or_behind X true m here behind some = here refl
 here_or_behind X false m here behind some = behind (omega (arith, some))
@@ -119,7 +119,7 @@ module _ (site : Site) (k boxes : ℕ) (cs : List Conversation) (heard : List Sl
     is_of = behind_front (λ s. s.worker ≡ b) (of_worker b heard) slip rest
         (subst (λ l. AllByRecursion (λ s. s.worker ≡ b) l) whole (owed_of b k (works b).outcomes (works b).taken))
 
-    -- had it been heard too, the lane would still have heard a front of what each worker owes it
+    -- had it been heard too, the lane would still have heard a prefix of what each worker owes it
     front_by : (c : ℕ) (t : Bool) → (slip.worker == c) ≡ t → c < boxes → IsFront (of_worker c heard ++ cond t (slip ∷ []) []) (owed_by c)
     front_by c true is below =
         let same : c ≡ b = sym (same_number slip.worker c is) ∙ is_of in

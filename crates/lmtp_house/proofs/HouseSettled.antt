@@ -13,7 +13,7 @@ use Rattle.mail_world.specs.Slips.{of_worker}
 use Rattle.mail_world.specs.Lists.{of_lane, due, OutcomesAreAnswers}
 use Rattle.mail_post.specs.Channel.{Channel, Sender, Inbox, Sent, taken, TookSome, TookAll}
 use Rattle.mail_post.specs.Parcels.{of}
-use Rattle.mbox_rd.specs.Spool.{SpoolState}
+use Rattle.mbox_record.specs.Spool.{SpoolState}
 use Rattle.box_worker.specs.Told.{owed_to}
 use Rattle.lmtp_lane.specs.Visits.{conversations_of}
 use Rattle.lmtp_threads.specs.Works.{VisitsView}
@@ -67,7 +67,7 @@ module _ {M : Type 0} (lane : M → ℕ) where
     pub took_below : (ms : List M) → TookAll lane ms c.sent → AllByRecursion (λ m. lane m < n) ms
     took_below ms took = all_below n ms (λ k high. took k ∙ sent_none k high)
 
-    -- a front of what was sent was taken, and nothing else
+    -- a prefix of what was sent was taken, and nothing else
     pub front_each : (ms : List M) → TookSome lane ms c.sent → (k : ℕ) → k < n → IsFront (of lane k ms) (sent k)
     front_each ms took k below = record { rest = (took k).rest; whole = sym (sent_is k below) ∙ (took k).whole }
 

@@ -11,7 +11,7 @@ use Rattle.mail_world.specs.Lists.{due}
 use Rattle.mail_runs.specs.Timed.{TimedDeed}
 use Rattle.mail_post.specs.Channel.{Sender, Inbox, Sent, taken}
 use Rattle.mail_post.specs.InTime.{Ends, Sorts}
-use Rattle.mbox_rd.specs.Spool.{SpoolState}
+use Rattle.mbox_record.specs.Spool.{SpoolState}
 use Rattle.box_worker.specs.Told.{owed_to}
 use Rattle.box_worker.specs.TurnTimes.{worker_sorts}
 use Rattle.lmtp_lane.specs.LaneExchange.{lane_sorts}

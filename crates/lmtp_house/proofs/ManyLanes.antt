@@ -18,7 +18,7 @@ use Rattle.mail_runs.specs.Ordered.{AreExchanges}
 use Rattle.mail_runs.proofs.Played.{an_orderly_history_plays}
 use Rattle.mail_runs.proofs.Rising.{lane_rises}
 use Rattle.mail_runs.proofs.Recipients.{lane_known}
-use Rattle.mbox_rd.specs.Spool.{SpoolState}
+use Rattle.mbox_record.specs.Spool.{SpoolState}
 use Rattle.box_worker.specs.Told.{owed_to}
 use Rattle.lmtp_lane.specs.Visits.{conversations_of}
 use Rattle.lmtp_threads.specs.Works.{LaneWork, BoxWork}

@@ -164,7 +164,7 @@ data_cut Content s (d ∷ ds) c e = cut_by (λ n. n + 3) (data_end s) (λ n. Mai
 data_cut Waiting s ds c e = let bad : ◌≡◌ {A = Option Cut} None (Some c) = e in absurd (cc)
 data_cut Ended s ds c e = let bad : ◌≡◌ {A = Option Cut} None (Some c) = e in absurd (cc)
 
--- behind a part the numbers go on
+-- after a part the numbers go on
 later_first : (t : Bool) (n m last : ℕ) (w : ℕ) → w ≤ inside (if t then (if t then n + 1 else n) else (if t then n + 1 else n) + 1) last m → w ≤ inside (n + 1) last m
 later_first true n m last w le = le
 later_first false n m last w le = le

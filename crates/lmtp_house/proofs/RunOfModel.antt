@@ -8,7 +8,7 @@ use Rattle.mail_world.specs.Slips.{of_worker}
 use Rattle.mail_world.specs.Lists.{of_lane, due}
 use Rattle.mail_runs.specs.Courses.{Server, Course, IsCourse}
 use Rattle.mail_runs.specs.Ordered.{IsOrderlyRunOf}
-use Rattle.mbox_rd.specs.Spool.{SpoolState}
+use Rattle.mbox_record.specs.Spool.{SpoolState}
 use Rattle.box_worker.specs.Told.{owed_to}
 use Rattle.lmtp_lane.specs.Visits.{conversations_of}
 use Rattle.lmtp_threads.specs.Works.{LaneWork, BoxWork, share_of, setting_of, IsBoxWork}

@@ -1,4 +1,4 @@
--- A worker's turns at a shared spool without a quota, each of which was had, are those of a worker of the model.
+-- A worker's turns at a shared spool without a quota, none of which was missed, are those of a worker of the model.
 use Rattle.std.proofs.Common.{◌≡◌, ℕ, ◌+◌, List, [], ◌∷◌, ◌++◌, false, Option, Some, None, inl, inr, refl, sym, ap, ◌∙◌, true≢false, arith}
 use Rattle.mail_world.specs.declared.Note.{Note}
 use Rattle.mail_world.specs.declared.Outcome.{Outcome}
@@ -6,12 +6,12 @@ use Rattle.mail_world.specs.declared.Outcome.TheVariants.{Stored, Failed, NoRoom
 use Rattle.mail_world.specs.Counts.{counted}
 use Rattle.mail_world.specs.Records.{Calendar, record_of}
 use Rattle.mail_runs.specs.Courses.{Server, TakesOne, TakesAll, IsCourse}
-use Rattle.mbox_rd.specs.Spool.{SpoolState}
+use Rattle.mbox_record.specs.Spool.{SpoolState}
 use Rattle.box_worker.specs.Limits.{Setting}
 use Rattle.box_worker.specs.Turned.{SharedMailbox, shared_of, TakesTurn, HaveTurned}
 use Rattle.lmtp_house.proofs.Copying.{spooled}
 
--- the count of turns that weren't had falls never to 0
+-- the count of turns that were missed never falls to 0
 count_stays : (quota : Option ℕ) (text : List ℕ) (outcome : Outcome) (old new : SharedMailbox) → TakesTurn quota text outcome old new → new.in_use ≡ 0
     → old.in_use ≡ 0
 count_stays quota text Stored old new h none = sym (ap (λ (m : SharedMailbox). m.in_use) h.2) ∙ none

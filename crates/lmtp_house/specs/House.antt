@@ -1,11 +1,12 @@
 -- What a server's run comes to: its lanes and its workers taken together.
 use Rattle.std.specs.Prelude.{◌≡◌, ◌<◌, ◌≤◌, ℕ, true, List, length, slice_get, Option, Some}
 use Rattle.std.specs.List.{AllByRecursion}
-use Rattle.mail_world.specs.declared.limits.TheConstants.{LANE_LIMIT, BLOCK_LIMIT, SLOT_LIMIT, CAPACITY_LIMIT, READ_LIMIT}
+use Rattle.mail_world.specs.declared.limits.TheConstants.{LANE_LIMIT, BLOCK_LIMIT, SLOT_LIMIT, CAPACITY_LIMIT}
+use Rattle.mail_world.specs.declared.limits.TheConstants.{READ_LIMIT}
 use Rattle.mail_world.specs.Site.{Site}
 use Rattle.mail_world.specs.Slips.{of_worker}
 use Rattle.mail_world.specs.Lists.{of_lane, due, transactions, VerdictsFit, OutcomesAreAnswers}
-use Rattle.mbox_rd.specs.Spool.{SpoolState}
+use Rattle.mbox_record.specs.Spool.{SpoolState}
 use Rattle.box_worker.specs.Told.{owed_to}
 use Rattle.lmtp_house.specs.declared.house.sizes.Sizes.{Sizes}
 use Rattle.lmtp_house.specs.Handed.{HandedIn, HandedBack}
@@ -14,7 +15,8 @@ use Rattle.mail_world.specs.Counts.{counted}
 use Rattle.lmtp_talk.specs.Peer.{PeerState}
 use Rattle.lmtp_talk.specs.Served.{terms}
 use Rattle.lmtp_lane.specs.Visits.{HasVisited, conversations_of}
-use Rattle.lmtp_threads.specs.Works.{VisitsView, LaneWork, BoxWork, LaneTold, lane_told, share_of, setting_of, IsBoxWork}
+use Rattle.lmtp_threads.specs.Works.{VisitsView, LaneWork, BoxWork, LaneTold, lane_told, share_of, setting_of}
+use Rattle.lmtp_threads.specs.Works.{IsBoxWork}
 use Rattle.lmtp_threads.specs.declared.tally.Tally.{Tally}
 
 -- the sizes that a server may have

@@ -10,7 +10,7 @@ use Rattle.mail_runs.specs.Courses.{Server, Course}
 use Rattle.mail_runs.specs.Histories.{Threads}
 use Rattle.mail_runs.specs.Ordered.{IsOrderlyRunOf}
 use Rattle.lmtp_text.specs.Calendar.{civil_at}
-use Rattle.mbox_rd.specs.Spool.{SpoolState}
+use Rattle.mbox_record.specs.Spool.{SpoolState}
 use Rattle.lmtp_lane.specs.Visits.{conversations_of}
 use Rattle.lmtp_threads.specs.Works.{LaneWork, BoxWork}
 use Rattle.lmtp_threads.specs.declared.tally.Tally.{Tally}
@@ -23,7 +23,7 @@ pub record IsToldAlone (spool : SpoolState) : Type 0 where
 
 -- The model has what the worker of this mailbox did, and what its spool holds: the spool is private and tells that. Of
 -- any other spool, as of a mailbox that a mail reader empties too, it has what the worker did where there is no quota
--- and each turn was had, and nothing of what the spool holds.
+-- and no turn was missed, and nothing of what the spool holds.
 abbrev pub IsModelled : Option ℕ → SpoolState → Tally → Type 0
 IsModelled quota before tally = IsToldAlone before ⊎ ((quota ≡ None) × (tally.in_use ≡ 0))
 

@@ -123,7 +123,7 @@ no_outcome lane since t NoRoom f = tt
 copies-snoc : (lane : ℕ) (ts : List Transaction) (t : Transaction) → flat_map (copies lane) (ts ++ t ∷ []) ≡ flat_map (copies lane) ts ++ copies lane t
 copies-snoc lane ts t = flat_map-append (copies lane) ts (t ∷ []) ∙ ap (λ l. flat_map (copies lane) ts ++ l) (append-nil (copies lane t))
 
--- one transaction more, with its episode
+-- one more transaction, with its episode
 episodes_more : (lane : ℕ) (ts : List Transaction) (es : List Episode) (t : Transaction) (e : Episode) → AreEpisodes lane ts es → IsEpisode (txn_of lane t.number) e
     → OutcomesIn lane e.heard t t.disposition.verdict → AreEpisodes lane (ts ++ t ∷ []) (es ++ e ∷ [])
 episodes_more lane [] [] t e h is told = (is, told, tt)

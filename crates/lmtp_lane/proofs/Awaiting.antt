@@ -102,7 +102,7 @@ continues_then txn xs ys zs a b c e first second notes gave n past old x =
     let R : List Note → Type 0 = λ l. IsOffering (notes ++ l) (gave ++ map Gave l) txn n past old c in
     subst R e (subst Q given (subst P (append_assoc notes xs ys) (second (notes ++ xs) (gave ++ map Gave xs) n past old (first notes gave n past old x))))
 
--- one copy more of a transaction
+-- one more copy of a transaction
 copies-snoc : (lane : ℕ) (t : Transaction) (first : ℕ) (boxes : List ℕ) (box : ℕ)
     → copies_from lane t first (boxes ++ box ∷ []) ≡ copies_from lane t first boxes ++ copy_at lane t (first + length boxes) box ∷ []
 copies-snoc lane t first [] box =

@@ -34,7 +34,7 @@ only_more : (deeds : List TimedDeed) (d : TimedDeed) → AllByRecursion (λ what
 only_more deeds d all is = subst (AllByRecursion (λ what. is_of_lanes what ≡ true)) (sym (whats_more deeds d)) (all_more (λ what. is_of_lanes what ≡ true) (whats deeds) d.what all is)
 
 module _ (accepted : List Note) (came : List Slip) (old now : LaneEnds) where
-  -- a copy more was accepted
+  -- one more copy was accepted
   pub done_offered : (note : Note) (next : List (Sender Note)) (x : HasDone accepted came old now)
       → IsOffered (lane_clock now) note.mailbox (λ sender. note) true now.senders next
       → (y : HasDone (accepted ++ note ∷ []) came old (record now { senders = next })) × (whats y.deeds ≡ whats x.deeds ++ Gave note ∷ [])
@@ -66,7 +66,7 @@ module _ (accepted : List Note) (came : List Slip) (old now : LaneEnds) where
         in_time = subst (λ senders. AreInTime lane_sorts x.deeds (thread_of old) (record { senders = senders; inbox = now.inbox })) (sym o.after) in_time;
       }
 
-  -- a slip more was heard
+  -- one more slip was heard
   pub done_heard : (slip : Slip) (next : Inbox Slip) (x : HasDone accepted came old now) → IsTimed (lane_clock now) now.inbox next
       → (y : HasDone accepted (came ++ slip ∷ []) old (record now { inbox = next })) × (whats y.deeds ≡ whats x.deeds ++ Heard slip ∷ [])
   done_heard slip next x timed =

@@ -1,4 +1,4 @@
--- One copy more, or one slip more, between a lane and the channels.
+-- One more copy, or one more slip, between a lane and the channels.
 use Rattle.std.proofs.Common.{◌≡◌, ◌⊎◌, ℕ, List, [], ◌∷◌, ◌++◌, Bool, true, false, ◌||◌, cond, inl, inr, refl, ap, sym, ◌∙◌, subst, append_assoc, append-nil}
 use Rattle.std.specs.Prelude.{◌==◌, map, is_some}
 use Rattle.std.specs.List.{AllByRecursion}
@@ -42,7 +42,7 @@ timely_own before came own (y ∷ heard) x none m =
       | inr mine ↦ inr (mine.0 ++ x ∷ [], ap (λ l. l ++ x ∷ []) mine.1, mine.2, timely_own (before ++ y ∷ []) came mine.0 heard x rest mine.3)
     ]
 
--- an episode with one slip more at its end: the lane's own, or one that came
+-- an episode with one more slip at its end: the lane's own, or one that came
 abbrev pub with_own : Episode → Slip → Episode
 with_own e slip = record { came = e.came; own = e.own ++ slip ∷ []; heard = e.heard ++ slip ∷ [] }
 
@@ -128,7 +128,7 @@ abbrev for_boxes : List Note → ℕ → List Note
 for_boxes all box = for_box box all
 
 module _ (notes : List Note) (e : Episode) (old now : LaneEnds) (x : HasExchanged notes e old now) where
-  -- a copy more that its channel accepted
+  -- one more copy that its channel accepted
   pub offered_more : (note : Note) (next : List (Sender Note)) → any_refused now.senders ≡ false → IsOffered (lane_clock now) note.mailbox (λ sender. note) true now.senders next
       → (y : HasExchanged (notes ++ note ∷ []) e old (with_senders now next)) × (whats y.done.deeds ≡ whats x.done.deeds ++ Gave note ∷ [])
   offered_more note next none o =
@@ -170,7 +170,7 @@ module _ (notes : List Note) (e : Episode) (old now : LaneEnds) (x : HasExchange
   left_first : (note : Note) → notes ++ note ∷ [] ≡ x.accepted ++ (x.left ++ note ∷ [])
   left_first note = ap (λ l. l ++ note ∷ []) x.first ∙ append_assoc x.accepted x.left (note ∷ [])
 
-  -- a copy more that was handed back
+  -- one more copy that was handed back
   pub refused_more : (note : Note) (next : List (Sender Note)) → IsOffered (lane_clock now) note.mailbox (λ sender. note) false now.senders next
       → (y : HasExchanged (notes ++ note ∷ []) e old (found_gone (with_senders now next))) × IsAmong note y.left
   refused_more note next o =
@@ -195,7 +195,7 @@ module _ (notes : List Note) (e : Episode) (old now : LaneEnds) (x : HasExchange
         among_last note x.left,
       )
 
-  -- a copy more that wasn't offered, since one was handed back before
+  -- one more copy that wasn't offered, since one was handed back before
   pub unoffered_more : (note : Note) → any_refused now.senders ≡ true → (y : HasExchanged (notes ++ note ∷ []) e old now) × IsAmong note y.left
   unoffered_more note refused = (
     record {
@@ -218,7 +218,7 @@ module _ (notes : List Note) (e : Episode) (old now : LaneEnds) (x : HasExchange
     among_last note x.left,
   )
 
-  -- a slip more that the lane made of a copy that is left, or of any while the channel of slips is silent
+  -- one more slip that the lane made of a copy that is left, or of any while the channel of slips is gone
   pub own_more : (note : Note) → IsAmong note x.left ⊎ (IsAmong note notes × (is_silent now ≡ true)) → now.gone ≡ true
       → HasExchanged notes (with_own e (own_slip_of old.lane note)) old now
   own_more note owed went = record {
@@ -265,7 +265,7 @@ module _ (notes : List Note) (e : Episode) (old now : LaneEnds) (x : HasExchange
         done.1,
       )
 
-  -- the channel of slips was found silent
+  -- the channel of slips was found gone
   pub gone_more : (next : Inbox Slip) → next.channel ≡ now.inbox.channel → next.lanes ≡ now.inbox.lanes → taken next ≡ taken now.inbox
       → is_some next.gone ≡ true → HasSameTimes now.inbox next → HasExchanged notes e old (found_gone (with_inbox now next))
   gone_more next channel lanes took silent same_times = record {
@@ -299,7 +299,7 @@ pub in_any_order : (notes : List Note) (e : Episode) (did : List Deed) (old now 
     → HasExchangedBy notes e did old now
 in_any_order notes e did old now went x = record { exchanged = x; in_order = λ none. let bad : true ≡ false = sym went ∙ none in cc }
 
--- a copy more is left where these ends were
+-- one more copy is left where these ends were
 abbrev pub Leaves : Note → LaneEnds → LaneEnds → Type 0
 Leaves note now next = (notes : List Note) (e : Episode) (old : LaneEnds) → HasExchanged notes e old now
     → (y : HasExchanged (notes ++ note ∷ []) e old next) × IsAmong note y.left

@@ -19,7 +19,7 @@ map-push f g xs x n so is =
     map-append f xs (x ∷ []) ∙ ap (λ ys. ys ++ f x ∷ []) so ∙ ap (λ y. map g (range_with_len 0 n) ++ y ∷ []) is
     ∙ sym (map-range_with_len_more g 0 n n (zero-add n))
 
--- one lane more
+-- one more lane
 one_more : (p q r n : ℕ) → p + min n r + (q + cond (nat_lt n r) 1 0) ≡ q + p + min (n + 1) r
 one_more p q r n = grind (arith, nat_tests)
 

@@ -12,7 +12,7 @@ use Rattle.mail_progress.specs.Orderly.{IsAnswered}
 use Rattle.mail_runs.specs.Deeds.{Deed, Gave, Heard}
 use Rattle.mail_runs.specs.Ordered.{AreExchanges}
 
--- a copy more was given while nothing was heard, and a slip more was heard
+-- one more copy was given while nothing was heard, and one more slip was heard
 pub gave_last : (gave : List Deed) (note : Note) (heard : List Slip) → heard ≡ []
     → (gave ++ map Heard heard) ++ Gave note ∷ [] ≡ (gave ++ map Gave (note ∷ [])) ++ map Heard heard
 gave_last gave note heard none =
@@ -26,7 +26,7 @@ heard_last gave heard slip = append_assoc gave (map Heard heard) (Heard slip ∷
 after_rest : (first rest d e : List Deed) → ((first ++ rest) ++ d) ++ e ≡ first ++ ((rest ++ d) ++ e)
 after_rest first rest d e = ap (λ l. l ++ e) (append_assoc first rest d) ∙ append_assoc first (rest ++ d) e
 
--- one exchange more, after the others
+-- one more exchange, after the others
 exchanges_more : (room k : ℕ) (ts : List Transaction) (t : Transaction) (slips : List Slip) (deeds : List Deed) → length (copies k t) ≤ room
     → AllByRecursion IsAnswered (answers (txn_of k t.number) (length (copies k t)) slips) → AreExchanges room k ts deeds
     → AreExchanges room k (ts ++ t ∷ []) (deeds ++ map Gave (copies k t) ++ map Heard slips)

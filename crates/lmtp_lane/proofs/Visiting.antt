@@ -51,7 +51,7 @@ conversations_last : (vs : List Visit) (v : Visit) → conversations_of (vs ++ v
 conversations_last [] v = refl
 conversations_last (x ∷ vs) v = ap (λ l. x.conversation ∷ l) (conversations_last vs v)
 
--- the entries of one conversation more
+-- the entries of one more conversation
 entries_last : (site : Site) (n : ℕ) (vs : List Visit) (v : Visit)
     → lane_entries site n (vs ++ v ∷ []) ≡ lane_entries site n vs ++ visit_entries site (accepted_all site n (conversations_of vs)) v
 entries_last site n [] v = append-nil (visit_entries site n v)
@@ -87,7 +87,7 @@ called_none by MayCome old Come come = record {
   come = subst (λ ts. Come 0 ts) (sym (transactions_first by.site 0)) come;
 }
 
--- one client more
+-- one more client
 finished_last : (vs : List Visit) (v : Visit) → map finished_of (vs ++ v ∷ []) ≡ map finished_of vs ++ finished_of v ∷ []
 finished_last [] v = refl
 finished_last (x ∷ vs) v = ap (λ l. finished_of x ∷ l) (finished_last vs v)

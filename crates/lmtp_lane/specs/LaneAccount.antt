@@ -55,7 +55,8 @@ pub record HasOffered (limit : ℕ) (May : ℕ → Type 0) (accepted : ℕ) (old
   pub came : List Slip
   pub own : List Slip
   pub heard : List Slip
-  pub exchanged : HasExchanged (flat_map (copies old.lane) ts) (record { came = came; own = own; heard = heard }) old new
+  pub exchanged : HasExchanged (flat_map (copies old.lane) ts)
+      (record { came = came; own = own; heard = heard }) old new
   pub did : List Deed
   pub in_order : new.gone ≡ false → whats exchanged.done.deeds ≡ did
   pub exchanges : AreExchanges RECIPIENT_LIMIT old.lane ts did
@@ -90,8 +91,8 @@ outcomes_in (None ∷ places) = outcomes_in places
 abbrev pub told_by : Gather → List Outcome
 told_by gather = outcomes_in gather.places
 
--- A whole message went to its recipients, who aren't too many: its copies more are owed, and its outcomes are those of
--- slips heard since. It is one exchange more.
+-- A whole message went to its recipients, who aren't too many: its copies are owed too, and its outcomes are those of
+-- slips heard since. It is one more exchange.
 pub record IsDelivered (t : Transaction) (told : List Outcome) (notes : List Note) (past : Episode) (did : List Deed)
     (old new : LaneEnds) : Type 0 where
   pub few : length t.session.recipients ≤ RECIPIENT_LIMIT

@@ -60,7 +60,7 @@ found_gone ends = record { lane = ends.lane; senders = ends.senders; inbox = end
 abbrev pub is_silent : LaneEnds → Bool
 is_silent ends = is_some ends.inbox.gone
 
--- a channel is gone: a mailbox's handed a copy back, or the channel of slips is silent
+-- a channel is gone: a mailbox's handed a copy back, or the channel of slips is gone
 abbrev pub is_gone : LaneEnds → Bool
 is_gone ends = any_refused ends.senders || is_silent ends
 
@@ -104,7 +104,7 @@ for_box box notes = filter (λ note. note.mailbox == box) notes
 abbrev pub own_slip_of : ℕ → Note → Slip
 own_slip_of lane note = own_slip lane note.txn.number note.place note.mailbox
 
--- a slip that a lane made itself: of one of the copies that are left, or, once the channel of slips is silent, of any
+-- a slip that a lane made itself: of one of the copies that are left, or, once the channel of slips is gone, of any
 pub record IsOwnSlip (lane : ℕ) (notes left : List Note) (silent : Bool) (slip : Slip) : Type 0 where
   pub note : Note
   pub owed : IsAmong note left ⊎ (IsAmong note notes × (silent ≡ true))
@@ -128,7 +128,7 @@ joined a b = record { came = a.came ++ b.came; own = a.own ++ b.own; heard = a.h
 -- What a lane that owed these copies gave to the channels: a prefix of them, and once a channel handed one back no
 -- more. And what it heard: slips that its channel gave, in their order, and between them its own, each of a copy that
 -- was left, or of one whose slip can't come any more. It says that a channel is gone just where one is, unless the
--- channel of slips was silent from the first.
+-- channel of slips was gone from the first.
 pub record HasExchanged (notes : List Note) (e : Episode) (old new : LaneEnds) : Type 0 where
   pub lane : new.lane ≡ old.lane
   pub accepted : List Note
@@ -187,7 +187,7 @@ TakesOne slip old new true = (txn : Txn) (n : ℕ) (heard : List Slip) → HasGa
     → (times_named slip.txn slip.place heard ≡ 0) × HasGathered txn n (heard ++ slip ∷ []) new
 TakesOne slip old new false = new ≡ old
 
--- what was offered is so with these copies more
+-- what was offered is so with these further copies
 abbrev pub Continues : Txn → List Note → Sending → Sending → Type 0
 Continues txn more now next = (notes : List Note) (gave : List Deed) (n : ℕ) (past : Episode) (old : LaneEnds)
     → IsOffering notes gave txn n past old now → IsOffering (notes ++ more) (gave ++ map Gave more) txn n past old next

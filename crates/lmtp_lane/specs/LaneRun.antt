@@ -22,7 +22,7 @@ pub record LaneState : Type 0 where
 
 -- A lane served these clients: each conversation's replies are those to its inputs, the senders gave the mailboxes what
 -- the conversations owe them, up to a copy that was handed back, the outcomes are those of the slips that were heard,
--- and each moment is one that the clock may answer. Without a gone channel it ended because there was no client more,
+-- and each moment is one that the clock may answer. Without a gone channel it ended because there were no more clients,
 -- and it sent one message after the other: it gave all copies of a message, and then heard slips until each was
 -- answered.
 pub record HasServed (by : Terms) (May : ℕ → Type 0) (MayCome : PeerState → Type 0) (old new : LaneState) : Type 0 where

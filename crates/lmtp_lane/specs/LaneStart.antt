@@ -5,8 +5,15 @@ use Rattle.mail_post.specs.Channel.{Inbox}
 
 abbrev pub no_inbox : Inbox Slip
 no_inbox = record {
-  channel =
-      (record { words = 0; slots = 0; views_name = 0; atom = 0; block = 0; offset = 0; slot_names = [] }, record { marker = record {}; table_id = record { words = 0; slots = 0; views_name = 0; atom = 0; block = 0; offset = 0; slot_names = [] }; id = 0; views = [] });
+  channel = (
+    record { words = 0; slots = 0; views_name = 0; atom = 0; block = 0; offset = 0; slot_names = [] },
+    record {
+      marker = record {};
+      table_id = record { words = 0; slots = 0; views_name = 0; atom = 0; block = 0; offset = 0; slot_names = [] };
+      id = 0;
+      views = [];
+    },
+  );
   capacity = 0;
   lanes = 0;
   got = [];

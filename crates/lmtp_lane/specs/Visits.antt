@@ -58,7 +58,7 @@ finished_of v = record { peer = v.after; cause = v.cause }
 abbrev pub conversations_of : List Visit → List Conversation
 conversations_of visits = map (λ v. v.conversation) visits
 
--- these more are told, where conversations are told
+-- these are told too, where conversations are told
 abbrev pub HasFinished : Option (List Finished) → Option (List Finished) → List Visit → Type 0
 HasFinished None new visits = new ≡ None
 HasFinished (Some told) new visits = new ≡ Some (told ++ map finished_of visits)
@@ -70,7 +70,8 @@ visit_entries site n v = entries_in site n v.conversation ++ OfEnd v.cause ∷ [
 -- the entries of conversations, one after another
 abbrev pub lane_entries : Site → ℕ → List Visit → List Entry
 lane_entries site n [] = []
-lane_entries site n (v ∷ visits) = visit_entries site n v ++ lane_entries site (accepted_behind_all site n v.conversation) visits
+lane_entries site n (v ∷ visits) = visit_entries site n v
+    ++ lane_entries site (accepted_behind_all site n v.conversation) visits
 
 -- the clients that were served, one after another, and each was handed back; the log was told the entries of all of
 -- them
@@ -82,7 +83,7 @@ pub record HasVisited (by : Terms) (MayCome : PeerState → Type 0) (old new : V
   pub logged : new.log ≡ with_entries old.log (lane_entries by.site 0 visits)
 
 -- this client was served, and handed back; a delivery that had come to that much before has come to its messages
--- more, and the client's log, which is given back, was told the entries of the conversation
+-- too, and the client's log, which is given back, was told the entries of the conversation
 pub record HasConversed (by : Terms) (peer : PeerState) (old new : VisitsTold)
     (Before After : ℕ → List Transaction → Type 0) : Type 0 where
   pub visit : Visit

@@ -1,4 +1,8 @@
 //! A lane of an LMTP server: it serves clients, one after another, and delivers what they send.
+//!
+//! A server's threads use `lane_run`: unless a channel was gone, each mailbox's sender gave what the lane's
+//! conversations owe it, and each copy's reply is of its own slip. `TcpVisits` are the clients of a listener, until an
+//! end is asked for. It never knows of workers or spools: it has its ends of their channels.
 #![tactic(auto)]
 
 mod clock;

@@ -167,7 +167,8 @@ fn serve_all<'a, N: DepotName, V: Visits, C: Clock, R: Wait, S: LaneStart>(
     reads: u32,
 ) -> u64
     requires here { dialogue.old.session.site ≡ S.site }
-    requires begun { HasOffered S.site.message_limit S.May delivery.old.accepted S.ends (ends_of delivery.old.exchange) 0 [] }
+    requires begun { HasOffered S.site.message_limit S.May delivery.old.accepted S.ends
+        (ends_of delivery.old.exchange) 0 [] }
     requires clock { AgreesWith (C.May delivery.old.clock.now) S.May }
     requires none_out { V.out visits.old ≡ false }
     ensures { HasServed (terms S.site reads) S.May (V.MayGive visits.old)

@@ -1,4 +1,4 @@
--- What a command line's texts may be as long as.
+-- How long a command line's texts may be.
 use Rattle.std.specs.Prelude.{◌≤◌, ⊤, length, Ok}
 use Rattle.mail_world.specs.declared.limits.TheConstants.{NAME_LIMIT, PATH_LIMIT}
 use Rattle.mail_world.specs.Commands.{Answer, Lhlo, Mail}

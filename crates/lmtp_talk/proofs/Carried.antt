@@ -60,7 +60,7 @@ behind_line Content dialogue come drafts g w h k = h refl
 behind_line Waiting dialogue come drafts g w h k = absurd g
 behind_line Ended dialogue come drafts g w h k = k refl
 
--- one part more: the session, what is said, the transactions
+-- one more part: the session, what is said, the transactions
 pub session_more : (site : Site) (ps : List Part) (p : Part) (old new : Dialogue) (before after : PeerState)
     → TakesInputs (inputs_of p) old new before after → old.session.site ≡ site → old.session.session ≡ session_behind site fresh ps
     → new.session.session ≡ session_behind site fresh (ps ++ p ∷ [])

@@ -21,7 +21,7 @@ use Rattle.lmtp_session.specs.declared.act.Act.TheVariants.{Deliver}
 use Rattle.lmtp_talk.specs.Saying.{OutboxView, HasSaid, IsSaid, said}
 use Rattle.lmtp_talk.specs.Telling.{entries_for}
 
--- no entry more, and entries after others
+-- no more entries, and entries after others
 pub with_none : (told : Option (List Entry)) → told ≡ with_entries told []
 with_none None = refl
 with_none (Some entries) = ap (λ l. Some l) (sym (append-nil entries))
@@ -107,7 +107,7 @@ pub entries-snoc : (site : Site) (n : ℕ) (ps : List Part) (p : Part)
 entries-snoc site n ps p =
     entries-append site n fresh ps (p ∷ []) ∙ ap (λ l. entries_of site n fresh ps ++ l) (append-nil (entries_of_part site (accepted_after site n fresh ps) (session_behind site fresh ps) p))
 
--- the log was told the entries of one part more
+-- the log was told the entries of one more part
 pub logged_more : (site : Site) (n : ℕ) (ps : List Part) (p : Part) (start before after : Option (List Entry)) (entries : List Entry)
     → after ≡ with_entries before entries → before ≡ with_entries start (entries_of site n fresh ps)
     → entries ≡ entries_of_part site (accepted_after site n fresh ps) (session_behind site fresh ps) p

@@ -190,7 +190,7 @@ pub has_quit-append : (xs ys : List Input) → has_quit (xs ++ ys) ≡ has_quit 
 has_quit-append [] ys = refl
 has_quit-append (x ∷ xs) ys = ap (λ b. is_quit x || b) (has_quit-append xs ys) ∙ or_assoc (is_quit x) (has_quit xs) (has_quit ys)
 
--- inputs more, of which QUIT ends the session exactly where it is among them
+-- more inputs, of which QUIT ends the session exactly where it is among them
 quits_more : (xs ys : List Input) (before after : State) → (before ≡ Ended → ⊥) → QuitsWith before xs
     → (after ≡ Ended → has_quit ys ≡ true) → (has_quit ys ≡ true → after ≡ Ended) → QuitsWith after (xs ++ ys)
 quits_more xs ys before after open' q to from = record {

@@ -12,7 +12,7 @@ abbrev pub ended_so : Result (Unit {0}) Verdict → ℕ → List Outcome → Dis
 ended_so (Ok done) moment told = record { verdict = Whole; moment = moment; outcomes = told }
 ended_so (Err verdict) moment told = record { verdict = verdict; moment = moment; outcomes = [] }
 
--- the draft is one transaction more: of this session, with this message, and this became of it
+-- the draft is one more transaction: of this session, with this message, and this became of it
 abbrev pub EndsDraft : (ℕ → List Transaction → Type 0) → ℕ → List Transaction → Session → List ℕ → Disposition → Type 0
 EndsDraft HasCome n ts session message disposition =
     HasCome n (ts ++ record { number = n; session = session; message = message; disposition = disposition } ∷ [])

@@ -1,5 +1,5 @@
--- What a log is to have of conversations: an entry for each reply to a line or to data that ended, and one for each end.
--- The greeting and the reply to a stop have none.
+-- What a log is to have of conversations: an entry for each reply to a line or to data that ended, and one for each
+-- end. The greeting and the reply to a stop have none.
 use Rattle.std.specs.Prelude.{ℕ, ◌+◌, nat_lt, List, [], ◌∷◌, ◌++◌, length, map, if◌then◌else◌, Option, option_map}
 use Rattle.mail_world.specs.declared.Reply.{Reply}
 use Rattle.mail_world.specs.declared.limits.TheConstants.{LINE_LIMIT}
@@ -7,7 +7,8 @@ use Rattle.mail_world.specs.Counts.{counted}
 use Rattle.mail_world.specs.Data.{message}
 use Rattle.mail_world.specs.Site.{Site}
 use Rattle.mail_world.specs.Session.{Session, fresh, Input, Line}
-use Rattle.mail_world.specs.Conversation.{Conversation, Part, CommandLine, MailData, inputs_of, session_after, replies_to, parts}
+use Rattle.mail_world.specs.Conversation.{Conversation, Part, CommandLine, MailData, inputs_of, session_after}
+use Rattle.mail_world.specs.Conversation.{replies_to, parts}
 use Rattle.mail_world.specs.Lists.{is_content}
 use Rattle.lmtp_talk.specs.declared.ending.EndCause.{EndCause}
 
@@ -38,7 +39,8 @@ abbrev pub entries_of_part : Site → ℕ → Session → Part → List Entry
 entries_of_part site n session (CommandLine text) =
     line_entries (line_kept text) (replies_to site session (inputs_of (CommandLine text)))
 entries_of_part site n session (MailData text d) =
-    copy_entries (counted n) (counted (length (message text))) session.client (replies_to site session (inputs_of (MailData text d)))
+    copy_entries (counted n) (counted (length (message text))) session.client
+    (replies_to site session (inputs_of (MailData text d)))
 
 abbrev pub entries_of : Site → ℕ → Session → List Part → List Entry
 entries_of site n session [] = []
@@ -50,6 +52,6 @@ entries_of site n session (p ∷ ps) =
 abbrev pub entries_in : Site → ℕ → Conversation → List Entry
 entries_in site n c = entries_of site n fresh (parts site fresh c.bytes c.dispositions)
 
--- what a log was told, with these entries more, where it tells
+-- what a log was told, with these further entries, where it tells
 abbrev pub with_entries : Option (List Entry) → List Entry → Option (List Entry)
 with_entries told more = option_map (λ entries. entries ++ more) told

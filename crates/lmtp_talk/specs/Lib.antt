@@ -7,7 +7,6 @@ pub mod Served
 pub mod Standing
 pub mod Steps
 pub mod Turns
-pub mod Script
 pub mod ReadBuffer
 pub mod Silence
 pub mod TcpPeer

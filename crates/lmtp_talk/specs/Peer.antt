@@ -47,15 +47,15 @@ pub record HasStopped (old new : PeerState) : Type 0 where
   pub stopped : Rises old.stops new.stops
   pub untold : new.told ≡ old.told
 
--- the log was told these entries more, and nothing else happened
+-- the log was told these further entries, and nothing else happened
 abbrev pub with_told : PeerState → List Entry → PeerState
 with_told peer more = record peer { told = with_entries peer.told more }
 
--- a count that stops at 2^64 - 1 went up so often
+-- a count that stops at 2^64 - 1 went up that often
 abbrev pub RisesBy : ℕ → ℕ → ℕ → Type 0
 RisesBy times old new = (new ≡ old + times) ⊎ ((2 ^ 64 - 1 ≤ old + times) × (2 ^ 64 - 1 ≤ new))
 
--- it was read so often
+-- it was read that often
 abbrev pub WasRead : ℕ → PeerState → PeerState → Type 0
 WasRead made old new = RisesBy made old.reads new.reads
 

@@ -3,6 +3,6 @@ use Rattle.std.specs.Prelude.{◌≡◌, ◌⊎◌}
 use Rattle.std.specs.declared.io.ErrorKind.{ErrorKind}
 use Rattle.std.specs.declared.io.ErrorKind.TheVariants.{WouldBlock, TimedOut}
 
--- the system gave the call up for time: a timeout of a socket is told as either
+-- the call timed out: a timeout of a socket is told as either
 abbrev pub IsSilence : ErrorKind → Type 0
 IsSilence kind = (kind ≡ WouldBlock) ⊎ (kind ≡ TimedOut)

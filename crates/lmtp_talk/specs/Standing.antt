@@ -6,7 +6,8 @@ use Rattle.mail_world.specs.declared.Reply.TheVariants.{Greeting}
 use Rattle.mail_world.specs.Site.{Site}
 use Rattle.mail_world.specs.Session.{fresh, Input}
 use Rattle.mail_world.specs.Replies.{reply_text, reply_texts}
-use Rattle.mail_world.specs.Conversation.{Disposition, Part, inputs_of, session_behind, replies_to, parts, size_of, AllFit}
+use Rattle.mail_world.specs.Conversation.{Disposition, Part, inputs_of, session_behind, replies_to, parts, size_of}
+use Rattle.mail_world.specs.Conversation.{AllFit}
 use Rattle.mail_world.specs.Dispositions.{dispositions_of}
 use Rattle.mail_world.specs.Lists.{Transaction, accepted_after, transactions_of}
 use Rattle.lmtp_wire.specs.Wire.{IsBehind}
@@ -83,8 +84,10 @@ pub record IsSoFar (first : Beginning) (now : Standing) (handled came : List ℕ
   pub same_site : now.dialogue.session.site ≡ first.site
   pub session : now.dialogue.session.session ≡ session_behind first.site fresh done
   pub quits : QuitsWith now.dialogue.session.session.state (flat_map inputs_of done)
-  pub said : HasSaid first.peer now.peer now.dialogue.outbox came (reply_text first.site Greeting ++ reply_texts first.site (replies_to first.site fresh (flat_map inputs_of done)))
+  pub said : HasSaid first.peer now.peer now.dialogue.outbox came
+      (reply_text first.site Greeting ++ reply_texts first.site (replies_to first.site fresh (flat_map inputs_of done)))
   pub goes : now.peer.stops ≡ first.peer.stops
-  pub logged : (n : ℕ) (ts : List Transaction) → first.come n ts → now.peer.told ≡ with_entries first.peer.told (entries_of first.site n fresh done)
+  pub logged : (n : ℕ) (ts : List Transaction) → first.come n ts
+      → now.peer.told ≡ with_entries first.peer.told (entries_of first.site n fresh done)
   pub inside : IsInside now.dialogue.session.session.state now.dialogue rest (Comes first.site done first.come now.come)
       (λ made. Comes first.site done first.come (λ n ts. now.drafting n ts made))

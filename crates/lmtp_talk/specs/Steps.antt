@@ -18,14 +18,16 @@ use Rattle.lmtp_talk.specs.Standing.{beginning, Standing, standing, IsSoFar}
 pub record TakesInputs (inputs : List Input) (old new : Dialogue) (before after : PeerState) : Type 0 where
   pub site : new.session.site ≡ old.session.site
   pub session : new.session.session ≡ session_after old.session.site old.session.session inputs
-  pub says : Says before after old.outbox new.outbox (reply_texts old.session.site (replies_to old.session.site old.session.session inputs))
+  pub says : Says before after old.outbox new.outbox
+      (reply_texts old.session.site (replies_to old.session.site old.session.session inputs))
   pub wire : new.wire ≡ old.wire
   pub same : after.stops ≡ before.stops
 
 -- the log was told an entry for each reply to a line
 abbrev pub TellsLine : Input → Dialogue → PeerState → PeerState → Type 0
 TellsLine input dialogue before after = after.told
-    ≡ with_entries before.told (line_entries (line_in input) (replies_to dialogue.session.site dialogue.session.session (input ∷ [])))
+    ≡ with_entries before.told
+    (line_entries (line_in input) (replies_to dialogue.session.site dialogue.session.session (input ∷ [])))
 
 -- the log was told an entry for each reply to data that ended, of a message of that number and size
 abbrev pub TellsCopies : ℕ → ℕ → List Input → Dialogue → PeerState → PeerState → Type 0
@@ -64,14 +66,16 @@ pub record TakesLine {D : Type 0} (HasCome : D → ℕ → List Transaction → 
 pub record EndsData {D : Type 0} (HasCome : D → ℕ → List Transaction → Type 0)
     (IsDrafting : D → ℕ → List Transaction → List ℕ → Type 0) (old new : Talk D) : Type 0 where
   pub disposition : Disposition
-  pub takes : TakesInputs (DataEnded disposition.verdict ∷ outcomes_of disposition disposition.verdict) old.dialogue new.dialogue old.peer new.peer
+  pub takes : TakesInputs (DataEnded disposition.verdict ∷ outcomes_of disposition disposition.verdict)
+      old.dialogue new.dialogue old.peer new.peer
   pub fits : OutcomesFit old.dialogue.session.session.recipients disposition disposition.verdict
   pub ended : (n : ℕ) (ts : List Transaction) (message : List ℕ) → IsDrafting old.delivery n ts message
       → EndsDraft (HasCome new.delivery) n ts old.dialogue.session.session message disposition
   pub told : (n : ℕ) (ts : List Transaction) (message : List ℕ) → IsDrafting old.delivery n ts message
-      → TellsCopies n (length message) (DataEnded disposition.verdict ∷ outcomes_of disposition disposition.verdict) old.dialogue old.peer new.peer
+      → TellsCopies n (length message) (DataEnded disposition.verdict ∷ outcomes_of disposition disposition.verdict)
+      old.dialogue old.peer new.peer
 
--- wherever the conversation stood before, it stands with these bytes more
+-- wherever the conversation stood before, it stands with these further bytes
 abbrev pub Advances : {D : Type 0} → (D → ℕ → List Transaction → Type 0) → (D → ℕ → List Transaction → List ℕ → Type 0)
     → Talk D → Talk D → List ℕ → Type 0
 Advances {D} HasCome IsDrafting old new more = (site : Site) (start : PeerState) (first : D) (handled came : List ℕ)

@@ -42,7 +42,8 @@ WaitedFor remaining old new _ = HasTransferred (tcp_state remaining old) (tcp_st
 
 -- one read fewer is left; where none was left, it says stop; what waits is handed out first, unless the conversation is
 -- over; in neither case is the stream touched
-pub record TakesRead {T E F : Type 0} (IsOver : E → ℕ → Type 0) (old new : TcpPeer T E) (result : Result Came F) : Type 0 where
+pub record TakesRead {T E F : Type 0} (IsOver : E → ℕ → Type 0) (old new : TcpPeer T E)
+    (result : Result Came F) : Type 0 where
   pub counts : new.reads_left ≡ old.reads_left - 1
   pub stops : old.reads_left ≡ 0 → result ≡ Ok Stop
   pub waits : 0 < old.reads_left → 0 < length (waiting old.buffer)

@@ -57,7 +57,8 @@ abbrev pub HandlesPiece : {D : Type 0} → (D → ℕ → List Transaction → T
     → (D → ℕ → List Transaction → List ℕ → Type 0) → Talk D → Talk D → List ℕ → Type 0
 HandlesPiece {D} HasCome IsDrafting old new piece = (site : Site) (start : PeerState) (first : D) (handled : List ℕ)
     → IsSoFar (beginning site start (HasCome first)) (standing_of HasCome IsDrafting old) handled (handled ++ piece)
-    → IsSoFar (beginning site start (HasCome first)) (standing_of HasCome IsDrafting new) (handled ++ piece) (handled ++ piece)
+    → IsSoFar (beginning site start (HasCome first)) (standing_of HasCome IsDrafting new) (handled ++ piece)
+    (handled ++ piece)
 
 -- where a turn ends with QUIT; a write that failed comes before it
 abbrev pub quit_or : Bool → EndCause

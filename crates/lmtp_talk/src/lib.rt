@@ -1,4 +1,9 @@
 //! The conversation of an LMTP server with one client, over any peer and any delivery (RFC 2033, RFC 5321).
+//!
+//! A lane uses `serve`: what was read has a complete account, what was written is its replies (a prefix of them after a
+//! failed write), and the delivery got its messages. `TcpPeer` is a client over a stream. It never knows what is done
+//! with a message, whether a stream is TCP or a Unix socket, or what a log shows: the peer is told each reply that
+//! answers a line or data.
 #![tactic(auto)]
 
 mod conversation;
@@ -9,7 +14,6 @@ mod ending;
 mod handling;
 mod outbox;
 mod peer;
-mod script;
 mod tcp;
 mod telling;
 
@@ -20,6 +24,5 @@ pub use dialogue::Dialogue;
 pub use ending::EndCause;
 pub use outbox::Outbox;
 pub use peer::{Came, Peer, PeerFault};
-pub use script::{Script, Then, Turn};
 pub use tcp::{Bounds, ClientStream, ReadBuffer, TcpPeer, is_silence};
 pub use telling::Asked;

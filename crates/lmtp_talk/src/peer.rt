@@ -43,8 +43,8 @@ pub trait Peer {
         ensures ok { IfOk result (λ n. HasWritten (state self.old) (state self.new) bytes.now n) }
         ensures err { OnErr result (PeerFailed (state self.old) (state self.new)) };
 
-    /// Its log is told the reply to a command line, which has no line end, and is empty where it was too long. The reply
-    /// waits to be written.
+    /// Its log is told the reply to a command line, which has no line end, and is empty where it was too long. The
+    /// reply waits to be written.
     fn tell_command(&mut self, line: &[u8], reply: Reply)
         ensures { state self.new ≡ with_told (state self.old) (OfLine line.now reply ∷ []) };
 

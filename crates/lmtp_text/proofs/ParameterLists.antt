@@ -28,7 +28,7 @@ pub any_not_space : (text : List ℕ) → list_any (λ c. not (c == 32)) text �
 any_not_space [] = refl
 any_not_space (b ∷ text) = any_step b text (b == 32) (any_not_space text)
 
--- one piece more
+-- one more piece
 option_more : (o : Option Parameter) (xs ys zs : List Parameter) → xs ≡ ys ++ zs → cons_option o xs ≡ cons_option o ys ++ zs
 option_more None xs ys zs e = e
 option_more (Some p) xs ys zs e = ap (λ l. p ∷ l) e

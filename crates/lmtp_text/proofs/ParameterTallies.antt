@@ -1,4 +1,4 @@
--- A tally with one parameter more.
+-- A tally with one more parameter.
 use Rattle.std.proofs.Common.{◌≡◌, ℕ, ◌+◌, Bool, true, false, not, ◌||◌, ◌&&◌, cond, nat_lt, List, [], ◌∷◌, ◌++◌, ap, sym, ◌∙◌, refl, add-zero, arith}
 use Rattle.std.specs.Prelude.{codes}
 use Rattle.std.specs.List.{list_any, list_all}
@@ -39,7 +39,7 @@ twice_more n = grind (arith, nat_tests)
 above_zero : (n : ℕ) → nat_lt 0 (n + 1) ≡ true
 above_zero n = grind (arith, nat_tests)
 
--- what is wrong, with a SIZE more
+-- what is wrong, with one more SIZE
 size_wrong : (wrong has v d v' : Bool) (s b s' b' : ℕ) → wrong ≡ (not v || nat_lt 1 s || nat_lt 1 b) → has ≡ nat_lt 0 s → v' ≡ (v && d) → s' ≡ s + 1 → b' ≡ b
     → (wrong || has || not d) ≡ (not v' || nat_lt 1 s' || nat_lt 1 b')
 size_wrong wrong has v d v' s b s' b' e f g i j =

@@ -1,5 +1,6 @@
 -- The parameters of MAIL as they are read one by one, and what they come to.
-use Rattle.std.specs.Prelude.{◌≡◌, ℕ, true, false, not, ◌||◌, nat_lt, List, length, filter, Option, option_map, Result, Ok, Err, codes}
+use Rattle.std.specs.Prelude.{◌≡◌, ℕ, true, false, not, ◌||◌, nat_lt, List, length, filter, Option, option_map, Result}
+use Rattle.std.specs.Prelude.{Ok, Err, codes}
 use Rattle.std.specs.List.{list_any, list_all}
 use Rattle.std.specs.Borrow.{Bor}
 use Rattle.mail_world.specs.declared.BadCommand.{BadCommand}
@@ -23,10 +24,12 @@ pub record Tallies (limit : ℕ) (t : Tally) (ps : List m.Parameter) : Type 0 wh
   pub unknown : t.unknown ≡ not (list_all m.is_known ps)
   pub has_size : t.has_size ≡ nat_lt 0 (count_of (codes "SIZE") ps)
   pub has_body : t.has_body ≡ nat_lt 0 (count_of (codes "BODY") ps)
-  pub wrong : t.unknown ≡ false → t.wrong ≡ (not (list_all m.is_well_valued ps) || m.stands_twice (codes "SIZE") ps || m.stands_twice (codes "BODY") ps)
+  pub wrong : t.unknown ≡ false
+      → t.wrong ≡ (not (list_all m.is_well_valued ps) || m.stands_twice (codes "SIZE") ps
+      || m.stands_twice (codes "BODY") ps)
   pub large : t.unknown ≡ false → t.wrong ≡ false → t.large ≡ list_any (m.is_too_large limit) ps
 
--- the tally u is t with a SIZE, with a BODY more
+-- the tally u is t with one more SIZE, with one more BODY
 pub record IsWithSize (limit : ℕ) (t : Tally) (value : Option (List ℕ)) (u : Tally) : Type 0 where
   pub unknown : u.unknown ≡ t.unknown
   pub has_size : u.has_size ≡ true

@@ -16,7 +16,8 @@ texts names = map (λ name. name.now) names
 abbrev pub owned : List (Vec ℕ Global) → List (List ℕ)
 owned names = map (λ name. name.items) names
 
--- the site of that host, with those further domains and those mailboxes, that names no limit of its own and no delimiter
+-- the site of that host, with those further domains and those mailboxes, that names no limit of its own and no
+-- delimiter
 abbrev pub site_of : List ℕ → List (Bor (List ℕ)) → List (Bor (List ℕ)) → Site
 site_of host domains boxes =
     record {

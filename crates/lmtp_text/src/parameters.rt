@@ -75,7 +75,7 @@ fn is_body(value: Option<&[u8]>) -> bool
 }
 
 impl Tally {
-    /// The tally with one parameter more, under a limit of bytes.
+    /// The tally with one more parameter, under a limit of bytes.
     fn with(self, parameter: Parameter, limit: u32) -> Tally
         ensures { (before : List m.Parameter) → Tallies limit self before
             → Tallies limit result (before ++ seen_parameter parameter.entry ∷ []) }
@@ -92,7 +92,7 @@ impl Tally {
         }
     }
 
-    /// The tally with a SIZE more.
+    /// The tally with one more SIZE.
     fn with_size(self, value: Option<&[u8]>, limit: u32) -> Tally
         ensures { IsWithSize limit self (seen_value value.entry) result }
     {
@@ -111,7 +111,7 @@ impl Tally {
         }
     }
 
-    /// The tally with a BODY more.
+    /// The tally with one more BODY.
     fn with_body(self, value: Option<&[u8]>) -> Tally
         ensures { IsWithBody self (seen_value value.entry) result }
     {

@@ -1,6 +1,7 @@
 //! What a server is named and serves.
 
-ghost use Rattle.std.specs.Prelude.{◌≡◌, ◌≤◌, ◌<◌, [], Some, None, length, slice_get, unwrap_or, option_map, IfOk, IfErr, IfSome};
+ghost use Rattle.std.specs.Prelude.{◌≡◌, ◌≤◌, ◌<◌, [], Some, None, length, slice_get, unwrap_or, option_map, IfOk};
+ghost use Rattle.std.specs.Prelude.{IfErr, IfSome};
 ghost use Rattle.mail_world.specs.Site.{Fault, IsSite, IsDelimiter, IsMessageLimit, fault_of, box_name, is_delimiter};
 ghost use Rattle.mail_world.specs.Targets.{is_here, box_named, box_of, local_name, user_of};
 ghost use Rattle.lmtp_text.specs.Seen.{seen_target};
@@ -104,8 +105,8 @@ fn name_at(names: &[Vec<u8>], i: usize) -> &[u8]
 }
 
 impl Site {
-    /// A site takes memory for its names; its messages have at most 1,048,576 bytes, and it has no delimiter. Of several broken rules the answer
-    /// is the first in the order `Host`, `Domain`, `Count`, `Box`, `Twice`.
+    /// A site takes memory for its names; its messages have at most 1,048,576 bytes, and it has no delimiter. Of
+    /// several broken rules the answer is the first in the order `Host`, `Domain`, `Count`, `Box`, `Twice`.
     pub fn new(
         alloc: Global,
         host: &[u8],

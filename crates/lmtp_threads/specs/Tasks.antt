@@ -12,7 +12,7 @@ use Rattle.mail_runs.specs.Timed.{TimedDeed, whats}
 use Rattle.mail_runs.specs.Known.{is_of_lanes}
 use Rattle.mail_runs.specs.Ordered.{AreExchanges}
 use Rattle.mail_post.specs.InTime.{Ends, Sorts, AreInTime}
-use Rattle.mbox_rd.specs.Spool.{SpoolState}
+use Rattle.mbox_record.specs.Spool.{SpoolState}
 use Rattle.mail_post.specs.Channel.{Channel, Sender, Inbox, taken}
 use Rattle.mail_post.specs.Offered.{HaveNumber}
 use Rattle.mail_post.specs.declared.channel.Gone.TheVariants.{Closed}
@@ -27,7 +27,8 @@ use Rattle.lmtp_lane.specs.LaneExchange.{lane_sorts}
 use Rattle.lmtp_lane.specs.LaneRun.{LaneState}
 use Rattle.lmtp_lane.specs.Visits.{HasVisited, conversations_of}
 use Rattle.thread_crew.specs.Channels.{AreRows, none}
-use Rattle.lmtp_threads.specs.Works.{VisitsView, LaneWork, LaneTold, lane_told, WorkerShare, share_of, setting_of, BoxWork, IsBoxWork}
+use Rattle.lmtp_threads.specs.Works.{VisitsView, LaneWork, LaneTold, lane_told, WorkerShare, share_of, setting_of}
+use Rattle.lmtp_threads.specs.Works.{BoxWork, IsBoxWork}
 
 -- what a lane is given
 pub record LaneTask (V C : Type 0) : Type 0 where
@@ -127,7 +128,7 @@ pub record IsInTime {A B : Type 0} (sorts : Sorts) (k : ℕ) (rows rows' : List 
   pub inbox_is : slice_get inboxes' k ≡ Some new.inbox
   pub are : AreInTime sorts deeds old new
 
--- a receiver took these more
+-- a receiver took these too
 pub record TookSlips (heard : List Slip) (old new : Inbox Slip) : Type 0 where
   pub channel : new.channel ≡ old.channel
   pub lanes : new.lanes ≡ old.lanes
@@ -184,10 +185,12 @@ pub record HaveServed {V : Type 0} (site : Site) (May : ℕ → Type 0) (view : 
   -- its deeds, message by message, and that their times rise and are those that its ends were told
   pub deeds : ℕ → List TimedDeed
   pub did : (k : ℕ) → k < length old.visits
-      → LaneDid (flat_map (copies k) (transactions site 0 (conversations_of (works k).visits))) (works k).heard (deeds k)
+      → LaneDid (flat_map (copies k) (transactions site 0 (conversations_of (works k).visits)))
+      (works k).heard (deeds k)
   pub in_turn : (k : ℕ) → k < length old.visits
       → AreExchanges RECIPIENT_LIMIT k (transactions site 0 (conversations_of (works k).visits)) (whats (deeds k))
-  pub in_time : (k : ℕ) → k < length old.visits → IsInTime lane_sorts k old.rows new.rows old.inboxes new.inboxes (deeds k)
+  pub in_time : (k : ℕ) → k < length old.visits
+      → IsInTime lane_sorts k old.rows new.rows old.inboxes new.inboxes (deeds k)
 
 -- All workers have ended, and none found a channel gone.
 pub record HaveWorked {S : Type 0} (site : Site) (state : S → SpoolState) (channels : List (Channel Slip))

@@ -1,4 +1,7 @@
 //! The lanes and the workers of a server, each in a thread.
+//!
+//! The house uses what all lanes have served and what all workers have stored, each at its own ends of the channels. It
+//! never compares the two.
 #![tactic(auto)]
 
 mod lanes;

@@ -9,7 +9,7 @@ pub struct Tally {
     pub stored: u64,
     /// Those that were over the quota.
     pub over: u64,
-    /// Those whose turn at a mailbox that other programs use too wasn't had.
+    /// Those whose turn at a mailbox that other programs use too was missed.
     pub in_use: u64,
     /// Whether its spool failed.
     pub faulty: bool,

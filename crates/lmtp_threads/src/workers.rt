@@ -16,7 +16,7 @@ use crate::tally::Tally;
 use box_worker::{Gate, WorkerReport, worker_run};
 use lmtp_text::Site;
 use mail_post::{Receiver, SlipSender};
-use mbox_rd::Spool;
+use mbox_record::Spool;
 use msg_depot::{Depot, DepotName};
 use std::alloc::{AllocError, Global};
 use std::marker::Model;
@@ -170,7 +170,8 @@ impl<N: DepotName, S: Spool + Drop, G: Gate + Drop> WorkerReports<N, S, G> {
         ensures spools { self.new.spools.items ≡ self.old.spools.items ++ report.spool ∷ [] }
         ensures gates { self.new.gates.items ≡ self.old.gates.items ++ report.gate ∷ [] }
         ensures tallies { self.new.tallies.items
-            ≡ self.old.tallies.items ++ tally_of report.taken report.stored report.over report.in_use report.faulty ∷ [] }
+            ≡ self.old.tallies.items
+            ++ tally_of report.taken report.stored report.over report.in_use report.faulty ∷ [] }
         ensures lost { self.new.lost ≡ (self.old.lost || report.lost) }
         ensures room { (vec_capacity self.old.receivers ≤ vec_capacity self.new.receivers)
             × (vec_capacity self.old.slips ≤ vec_capacity self.new.slips)
@@ -203,7 +204,8 @@ impl<N: DepotName, S: Spool + Drop, G: Gate + Drop> WorkerReports<N, S, G> {
         ensures slips { lists result.slips.items ≡ map (λ r. r.slips.items) reports.items }
         ensures spools { result.spools.items ≡ map (λ r. r.spool) reports.items }
         ensures gates { result.gates.items ≡ map (λ r. r.gate) reports.items }
-        ensures tallies { result.tallies.items ≡ map (λ r. tally_of r.taken r.stored r.over r.in_use r.faulty) reports.items }
+        ensures tallies { result.tallies.items
+            ≡ map (λ r. tally_of r.taken r.stored r.over r.in_use r.faulty) reports.items }
         ensures lost { result.lost ≡ false → AllByRecursion (λ r. r.lost ≡ false) reports.items }
     {
         let mut ends = self;

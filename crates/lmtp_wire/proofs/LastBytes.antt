@@ -1,4 +1,4 @@
--- The end of a text with one byte more; what a dot's place and dots after a text depend on.
+-- The end of a text with one more byte; what a dot's place and dots after a text depend on.
 use Rattle.std.proofs.Common.{◌≡◌, ℕ, ◌-◌, ◌≤◌, List, [], ◌∷◌, ◌++◌, length, drop, Bool, true, false, ◌&&◌, ◌==◌, inl, inr, refl, ap, sym, ◌∙◌, arith, length-append}
 use Rattle.std.proofs.Math.Bool.{and-false}
 use Rattle.std.proofs.lemmas.List.{drop-append-le}
@@ -27,7 +27,7 @@ and_assoc : (x y z : Bool) → (x && (y && z)) ≡ (x && y && z)
 and_assoc true y z = refl
 and_assoc false y z = refl
 
--- two texts, each with a byte more
+-- two texts, each with one more byte
 same_more : (xs ys : List ℕ) (c b : ℕ) → pointwise nat_eq (xs ++ c ∷ []) (ys ++ b ∷ []) ≡ pointwise nat_eq xs ys && (c == b)
 same_more [] [] c b = and_comm (c == b) true
 same_more [] (y ∷ []) c b = (and-false) (c == y)
@@ -36,7 +36,7 @@ same_more (x ∷ []) [] c b = (and-false) (x == b)
 same_more (x ∷ z ∷ xs) [] c b = (and-false) (x == b)
 same_more (x ∷ xs) (y ∷ ys) c b = ap (λ r. (x == y) && r) (same_more xs ys c b) ∙ and_assoc (x == y) (pointwise nat_eq xs ys) (c == b)
 
--- a text ends in a part with a byte more
+-- a text ends in a part with one more byte
 pub ends_more : (xs u : List ℕ) (c b : ℕ) → ends_in (xs ++ c ∷ []) (u ++ b ∷ []) ≡ ends_in xs u && (c == b)
 ends_more xs u c b =
     let n : length (u ++ b ∷ []) - length (xs ++ c ∷ []) ≡ length u - length xs = omega (arith, length-append u (b ∷ []), length-append xs (c ∷ [])) in

@@ -15,7 +15,7 @@ use Rattle.lmtp_wire.specs.Place.{came, in_doubt, held_back, is_cr, is_start, is
 use Rattle.lmtp_wire.proofs.EndSteps.{end_in, text_other, cr_again, cr_other, start_cr, start_other, dot_other, dot_cr_again, dot_cr_other, moved_more, moved_none, moved_some}
 use Rattle.lmtp_wire.proofs.LastBytes.{eqb_comm, ends_more, fades, fades_cr}
 
--- with one byte more the data stands there, and more of the message is sure
+-- with one more byte the data stands there, and more of the message is sure
 pub record Adds (place : Place) (taken : List ℕ) (byte : ℕ) (new : List ℕ) : Type 0 where
   pub stands : IsAtPlace place (taken ++ byte ∷ [])
   pub shows : shown (taken ++ byte ∷ []) ≡ shown taken ++ new
@@ -71,7 +71,7 @@ record PlaceStep (p q : Place) (b : ℕ) (new : List ℕ) : Type 0 where
   dot_last : is_start p && (dot == b) ≡ is_dot q
   behind : (t : List ℕ) → without_dots_at p (b ∷ t) ≡ new ++ without_dots_at q t
 
--- one byte more
+-- one more byte
 snoc : (taken : List ℕ) (b : ℕ) (rest : List ℕ) → (taken ++ b ∷ []) ++ rest ≡ taken ++ b ∷ rest
 snoc taken b rest = append_assoc taken (b ∷ []) rest
 
@@ -99,7 +99,7 @@ step_behind p q taken b new s e rest =
     ap unstuffed (snoc taken b rest) ∙ s.behind (b ∷ rest) ∙ ap (λ l. unstuffed taken ++ l) (e.behind rest)
     ∙ sym (append_assoc (unstuffed taken) new (without_dots_at q rest)) ∙ ap (λ l. l ++ without_dots_at q rest) (sym (step_unstuffed p q taken b new s e))
 
--- what is sure with one byte more
+-- what is sure with one more byte
 front_of : (taken : List ℕ) (b : ℕ) → take (length (taken ++ b ∷ []) - 1) (taken ++ b ∷ []) ≡ taken
 front_of taken b =
     let n : length (taken ++ b ∷ []) - 1 ≡ length taken = omega (arith, length-append taken (b ∷ [])) in

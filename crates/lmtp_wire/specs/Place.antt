@@ -92,7 +92,8 @@ moved (suc k) o = option_map (λ n. suc n) (moved k o)
 pub record IsAtPlace (place : Place) (taken : List ℕ) : Type 0 where
   pub before : ℕ
   pub count : before + length (came place) ≡ length taken + 2
-  pub finds : (rest : List ℕ) → place_of end_of_data (crlf ++ (taken ++ rest)) ≡ moved before (place_of end_of_data (came place ++ rest))
+  pub finds : (rest : List ℕ)
+      → place_of end_of_data (crlf ++ (taken ++ rest)) ≡ moved before (place_of end_of_data (came place ++ rest))
   pub cr_last : ends_in (cr ∷ []) (crlf ++ taken) ≡ is_cr place
   pub crlf_last : ends_in crlf (crlf ++ taken) ≡ is_start place
   pub dot_last : ends_in (crlf ++ dot ∷ []) (crlf ++ taken) ≡ is_dot place

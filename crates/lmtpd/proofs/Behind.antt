@@ -1,9 +1,9 @@
--- A line behind lines that were written.
+-- A line after lines that were written.
 use Rattle.std.proofs.Common.{◌∙◌, ◌++◌, List, ℕ, Option, Err, Ok, OnErr, ap, append_assoc, sym}
 use Rattle.std.specs.Prelude.{Result}
 use Rattle.std.specs.Io.KnownBytes.{Appends}
 use Rattle.lmtpd_output.specs.Output.{IsCutOff}
-use Rattle.mbox_rd.proofs.Taken.{Appends-then}
+use Rattle.mbox_record.proofs.Taken.{Appends-then}
 
 cut_behind : (u v w : Option (List ℕ)) (before text : List ℕ) → Appends u v before → IsCutOff v w text → IsCutOff u w (before ++ text)
 cut_behind u v w before text written cut = record {
@@ -15,7 +15,7 @@ cut_behind u v w before text written cut = record {
   appended = Appends-then u v w before cut.front written cut.appended;
 }
 
--- a text that was cut off behind one that was written whole
+-- a text that was cut off after one that was written whole
 pub fails_behind : {T E : Type 0} (r : Result T E) (u v w : Option (List ℕ)) (before text : List ℕ) → Appends u v before
     → OnErr r (IsCutOff v w text) → OnErr r (IsCutOff u w (before ++ text))
 fails_behind (Ok x) u v w before text written cut = tt

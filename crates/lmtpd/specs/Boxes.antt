@@ -21,8 +21,9 @@ module _ {F : Type 0} (remaining : F → Option Text) where
   -- the words, with the mailboxes that the file lists where they name one, and else as they are
   abbrev pub IsFilled : SiteWords → SiteWords → Type 0
   IsFilled words filled =
-      MatchOption words.boxes_file (filled ≡ words) (λ path. (text : Text) × IsTextOfFile text × HasListed text words filled)
+      MatchOption words.boxes_file (filled ≡ words)
+      (λ path. (text : Text) × IsTextOfFile text × HasListed text words filled)
 
--- why they weren't filled: memory is wanting, or the file that they name can't be read
+-- why they weren't filled: memory is lacking, or the file that they name can't be read
 abbrev pub IsUnfilled : SiteWords → Stop → Type 0
 IsUnfilled words s = (s ≡ stop.Fault fault.Memory) ⊎ MatchOption words.boxes_file ⊥ (λ path. s ≡ stop.Unread path)

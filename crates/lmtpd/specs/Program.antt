@@ -1,13 +1,14 @@
 -- What a run of the program comes to: the words say what is asked for, and then come what was done, the lines on
 -- standard error and the status.
-use Rattle.std.specs.Prelude.{◌≡◌, ◌⊎◌, ◌*◌, ◌-◌, ◌^◌, min, ℕ, true, List, [], ◌∷◌, ◌++◌, length, codes, Option, Some, None, Contains}
+use Rattle.std.specs.Prelude.{◌≡◌, ◌⊎◌, ◌*◌, ◌-◌, ◌^◌, min, ℕ, true, List, [], ◌∷◌, ◌++◌, length, codes, Option, Some}
+use Rattle.std.specs.Prelude.{None, Contains}
 use Rattle.std.specs.Option.{option_map_or}
 use Rattle.clap.specs.Words.{Text, kind_of, subcommand_of, takes}
 use Rattle.clap.specs.declared.error.Error.{Error}
 use Rattle.clap.specs.declared.error.kind.ErrorKind.TheVariants.{OutOfMemory}
 use Rattle.mail_world.specs.Text.{lf}
 use Rattle.lmtp_text.specs.Sites.{texts}
-use Rattle.mbox_rd.specs.Spool.{SpoolState}
+use Rattle.mbox_record.specs.Spool.{SpoolState}
 use Rattle.lmtp_talk.specs.Entries.{Entry}
 use Rattle.lmtp_house.specs.House.{IsSize}
 use Rattle.lmtp_house.specs.declared.house.sizes.Sizes.{Sizes}
@@ -25,7 +26,8 @@ use Rattle.lmtpd_listen.specs.Opened.{IsUnopened}
 use Rattle.lmtpd_listen.specs.declared.fault.ListenFault.{ListenFault}
 use Rattle.lmtpd_listen.specs.declared.place.Place.{Place}
 use Rattle.lmtpd.specs.Boxes.{IsUnfilled}
-use Rattle.lmtpd.specs.Faults.{check_fault, check_status, fault_text, first_fault, listen_refusal, rehearsal_fault, server_fault, status_of, stop_for, stop_status}
+use Rattle.lmtpd.specs.Faults.{check_fault, check_status, fault_text, first_fault, listen_refusal, rehearsal_fault}
+use Rattle.lmtpd.specs.Faults.{server_fault, status_of, stop_for, stop_status}
 use Rattle.lmtpd_check.specs.Checked.{IsChecked, unlocked_lines}
 use Rattle.lmtpd_check.specs.declared.checked.Checked.{Checked as CheckedFiles}
 use Rattle.lmtpd_rehearse.specs.Rehearsal.{IsBlockCount, IsRehearsed, Streams}
@@ -67,7 +69,7 @@ abbrev pub status_after : Option Fault → ℕ
 status_after None = 0
 status_after (Some f) = status_of f
 
--- why a server of a size didn't run, where memory wasn't wanting
+-- why a server of a size didn't run, where memory wasn't lacking
 abbrev pub IsNotRun : Type 0 → Fault → Type 0
 IsNotRun IsSize fault.Size = ¬ IsSize
 IsNotRun IsSize fault.NoThread = IsSize
@@ -81,7 +83,7 @@ pub record IsRehearsedAsAsked (words : RehearseWords) (old new : Streams) (endin
   pub blocks : IsBlockCount words.blocks
   pub rehearsed : IsRehearsed (named_site words.site) words.quota words.time old new ending
 
--- Why none was held: memory is wanting, and else the first fault of the site, and then one of the server that was to
+-- Why none was held: memory is lacking, and else the first fault of the site, and then one of the server that was to
 -- run.
 abbrev pub IsNotRehearsed : RehearseWords → Fault → Type 0
 IsNotRehearsed words f = (f ≡ fault.Memory)
@@ -130,7 +132,8 @@ ends_asked words = record { stop_file = words.stop_file; heals = words.heal; ses
 
 abbrev pub IsSizeAsked : ServeWords → Type 0
 IsSizeAsked words =
-    IsSize (named_site words.site) (sizes_asked words) words.lanes (length words.site.boxes.items) (length words.site.boxes.items)
+    IsSize (named_site words.site) (sizes_asked words) words.lanes (length words.site.boxes.items)
+    (length words.site.boxes.items)
 
 -- A server that its words asked for ran: where they say, at the site that they name, with their sizes, over a spool for
 -- each mailbox.
@@ -153,7 +156,7 @@ IsNotServedAt words (stop.Unopened name) = Contains words.site.boxes.items name
 IsNotServedAt words (stop.Fault f) = (f ≡ fault.Listen)
     ⊎ (((f ≡ fault.Port) × AsksInherited words.listen.now) ⊎ IsNotRun (IsSizeAsked words) f)
 
--- Why none ran: memory is wanting, and else the first of the place, the site, the files, what listens and the server
+-- Why none ran: memory is lacking, and else the first of the place, the site, the files, what listens and the server
 -- itself.
 abbrev pub IsNotServed : ServeWords → Stop → Type 0
 IsNotServed words s = (s ≡ stop.Fault fault.Memory)
@@ -162,8 +165,8 @@ IsNotServed words s = (s ≡ stop.Fault fault.Memory)
     ⊎ ((first_fault (named_site words.site) ≡ None) × IsNotServedAt words s))))
 
 -- The same of a server, once the file of its mailboxes was read: `IsRun` says which runs its words ask for then.
-abbrev pub IsServedFilled : (SiteWords → SiteWords → Type 0) → (ServeWords → ServedRun → Type 0) → ServeWords → ServedRun
-    → Type 0
+abbrev pub IsServedFilled : (SiteWords → SiteWords → Type 0) → (ServeWords → ServedRun → Type 0) → ServeWords
+    → ServedRun → Type 0
 IsServedFilled Fills IsRun words served =
     (site : SiteWords) × Fills words.site site × IsRun (record words { site = site }) served
 
@@ -179,19 +182,20 @@ IsCheckedAsAsked remaining contents before words checked =
     IsChecked remaining (texts words.files.items) before (contents checked.writer) checked.findings.items
     (texts checked.unlocked.items) checked.cut
 
--- why the program stopped early: clap's answer to its words, why there was no rehearsal or no server, or want of memory
+-- why the program stopped early: clap's answer to its words, why there was no rehearsal or no server, or lack of memory
 -- for a check
 abbrev pub IsStopped : (SiteWords → SiteWords → Type 0) → List Text → Stop → Type 0
 IsStopped Fills texts s = ((error : Error) × (s ≡ stop_for error)
     × (takes program_app texts ≡ true → (kind_of error ≡ OutOfMemory) ⊎ IsLacking (subcommand_of program_app texts)))
     ⊎ (((words : RehearseWords) × IsAsked (subcommand_of program_app texts) (Rehearse words)
     × IsNotRehearsedFilled Fills words s)
-    ⊎ (((words : ServeWords) × IsAsked (subcommand_of program_app texts) (Serve words) × IsNotServedFilled Fills words s)
+    ⊎ (((words : ServeWords) × IsAsked (subcommand_of program_app texts) (Serve words)
+    × IsNotServedFilled Fills words s)
     ⊎ ((words : CheckWords) × IsAsked (subcommand_of program_app texts) (Check words) × (s ≡ stop.Fault fault.Memory))))
 
--- What the program did is what its words ask for: `streams` is what contracts see of a reader and a writer, `Fills` says
--- what the words of a site are once the file of its mailboxes was read, `IsRun` which runs of a server its words ask for
--- then, and `IsCheck` which checks of files.
+-- What the program did is what its words ask for: `streams` is what contracts see of a reader and a writer, `Fills`
+-- says what the words of a site are once the file of its mailboxes was read, `IsRun` which runs of a server its words
+-- ask for then, and `IsCheck` which checks of files.
 module _ {R W : Type 0} where
   abbrev pub IsDoneAsAsked : (R → W → Streams) → (SiteWords → SiteWords → Type 0) → (ServeWords → ServedRun → Type 0)
       → (CheckWords → CheckedFiles W → Type 0) → List Text → Streams → Done R W → Type 0
@@ -199,7 +203,8 @@ module _ {R W : Type 0} where
       (words : RehearseWords) × IsAsked (subcommand_of program_app texts) (Rehearse words)
       × IsRehearsedFilled Fills words old (streams it.reader it.writer) it.ending
   IsDoneAsAsked streams Fills IsRun IsCheck texts old (Served it) =
-      (words : ServeWords) × IsAsked (subcommand_of program_app texts) (Serve words) × IsServedFilled Fills IsRun words it
+      (words : ServeWords) × IsAsked (subcommand_of program_app texts) (Serve words)
+      × IsServedFilled Fills IsRun words it
   IsDoneAsAsked streams Fills IsRun IsCheck texts old (Checked it) =
       (words : CheckWords) × IsAsked (subcommand_of program_app texts) (Check words) × IsCheck words it
   IsDoneAsAsked streams Fills IsRun IsCheck texts old (Stopped s) = IsStopped Fills texts s
@@ -212,7 +217,7 @@ module _ {R W : Type 0} where
   exit_status (Checked it) = check_status it.findings.items it.cut
   exit_status (Stopped s) = stop_status s
 
-  -- a server's mailboxes whose turns weren't all had, and those over their quota, come before its fault, and so do a
+  -- a server's mailboxes that missed turns, and those over their quota, come before its fault, and so do a
   -- check's files that were read without their lock
   abbrev pub exit_lines : Done R W → List ℕ
   exit_lines (Rehearsed it) = line_after (rehearsal_fault it.ending)

@@ -5,7 +5,7 @@ use Rattle.lmtpd.specs.declared.fault.Fault.TheVariants as fault
 use Rattle.lmtpd.specs.declared.stop.Stop.{Stop}
 use Rattle.lmtpd.specs.declared.stop.Stop.TheVariants as stop
 
--- memory is wanting, or the file of one of these names can't be opened
+-- memory is lacking, or the file of one of these names can't be opened
 abbrev pub IsUnopened : List (Bor (List ℕ)) → Stop → Type 0
 IsUnopened names (stop.Unopened name) = Contains names name
 IsUnopened names (stop.Fault cause) = cause ≡ fault.Memory

@@ -53,7 +53,7 @@ pub fn report_checked<W, E: Write>(checked: &Checked<'_, W>, error: &mut E) -> E
     }
 }
 
-// Says both; behind a fault of the writer nothing.
+// Says both; after a fault of the writer nothing.
 #[tactic(auto, using(crate::proofs::Behind::fails_behind))]
 fn write_lines<E: Write>(
     unlocked: &[&str],

@@ -1,7 +1,8 @@
 //! What the program says on standard error, and the status that it then ends with.
 
 ghost use Rattle.std.specs.Prelude.{◌≡◌};
-ghost use Rattle.lmtpd.specs.Faults.{check_fault, fault_text, house_refusal, listen_refusal, refusal, rehearsal_fault, server_fault};
+ghost use Rattle.lmtpd.specs.Faults.{check_fault, fault_text, house_refusal, listen_refusal, refusal, rehearsal_fault};
+ghost use Rattle.lmtpd.specs.Faults.{server_fault};
 ghost use Rattle.lmtpd.specs.Faults.{status_of};
 
 use lmtp_text::SiteFault;

@@ -1,4 +1,8 @@
 //! `lmtpd`, the last hop of a mail site: it speaks LMTP (RFC 2033) and delivers into mboxrd mailboxes.
+//!
+//! `run_program` does what the words ask for: here the site is made, sockets and files are opened, and faults become a
+//! line on standard error and a status. Nothing stands above it but the system; how mail is served it never knows: that
+//! is done below.
 #![tactic(auto)]
 
 mod boxes;
@@ -17,9 +21,9 @@ use std::process::ExitCode;
 use std::{env, io};
 use stop::Stop;
 
-// It hands on the words, room for the text of a file that they name, standard input, output and error, and ends with the
-// status that it is given: that is all that no contract says of it. The lanes and workers start by a handle of their
-// own, which threads may take.
+// It hands on the words, room for the text of a file that they name, standard input, output and error, and ends with
+// the status that it is given: that is all that no contract says of it. The lanes and workers start by a handle of
+// their own, which threads may take.
 fn main(rt: HostRuntime) -> ExitCode {
     let mut error = rt.stderr();
     let mut room = Vec::new(rt.alloc());

@@ -45,8 +45,8 @@ pub struct Ended<'a, R, W> {
 }
 
 /// Runs the program with these words, its own name first. `rt` prints clap's texts, and opens files and listeners; by
-/// `threads` lanes and workers start. `room` keeps the text of the file that lists mailboxes. The program's own lines go
-/// to `error`.
+/// `threads` lanes and workers start. `room` keeps the text of the file that lists mailboxes. The program's own lines
+/// go to `error`.
 pub fn run_program<'a, P, H, R, W, E>(
     rt: &P,
     threads: H,

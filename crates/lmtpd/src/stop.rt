@@ -22,8 +22,8 @@ pub struct Exit {
     pub cut: bool,
 }
 
-/// Words that `clap` refuses or answers with help, a fault, a mailbox whose file can't be opened, or a file of mailboxes
-/// that can't be read.
+/// Words that `clap` refuses or answers with help, a fault, a mailbox whose file can't be opened, or a file of
+/// mailboxes that can't be read.
 #[derive(Debug, Drop)]
 pub enum Stop<'a> {
     Words(Error),
@@ -108,7 +108,7 @@ pub fn status_after(fault: Option<Fault>) -> u8
     }
 }
 
-/// Says on `error` what is lacking, if anything is. After a fault of the writer it holds a front of that line more.
+/// Says on `error` what is lacking, if anything is. After a fault of the writer it has gained a prefix of that line.
 pub fn write_fault<E: Write>(fault: Option<Fault>, error: &mut E) -> Result<(), WriteFault>
     ensures ok { OnOk result (Appends (E.contents error.old) (E.contents error.new) (line_after fault)) }
     ensures err { OnErr result (IsCutOff (E.contents error.old) (E.contents error.new) (line_after fault)) }

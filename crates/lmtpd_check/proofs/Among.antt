@@ -9,7 +9,7 @@ none_among : (names : List (List ℕ)) → AreAmong names []
 none_among [] = tt
 none_among (name ∷ names) = tt
 
--- a name more, that is left out
+-- one more name, that is left out
 left_out : (names xs : List (List ℕ)) (n : List ℕ) → AreAmong names xs → AreAmong (names ++ n ∷ []) xs
 left_out [] [] n h = tt
 left_out [] (x ∷ xs) n h = absurd h
@@ -17,7 +17,7 @@ left_out (name ∷ names) [] n h = tt
 left_out (name ∷ names) (x ∷ xs) n (inl h) = inl (h.0, left_out names xs n h.1)
 left_out (name ∷ names) (x ∷ xs) n (inr h) = inr (left_out names (x ∷ xs) n h)
 
--- a name more, that is picked
+-- one more name, that is picked
 picked : (names xs : List (List ℕ)) (n : List ℕ) → AreAmong names xs → AreAmong (names ++ n ∷ []) (xs ++ n ∷ [])
 picked [] [] n h = inl (refl, tt)
 picked [] (x ∷ xs) n h = absurd h

@@ -6,7 +6,7 @@ use Rattle.std.proofs.lemmas.List.{get_or-map, length-map}
 use Rattle.std.proofs.lemmas.List.Elements.{All-nil, All-push}
 use Rattle.lmtp_text.specs.Sites.{texts}
 use Rattle.lmtpd_output.specs.Output.{IsCutOff, pair_texts}
-use Rattle.mbox_rd.proofs.Taken.{Appends-then}
+use Rattle.mbox_record.proofs.Taken.{Appends-then}
 use Rattle.lmtpd_output.proofs.Written.{Appends-nil, breaks_next}
 use Rattle.lmtpd_check.specs.Checked.{AreAmong, finding_line, finding_lines, IsFindingOf, IsChecked}
 use Rattle.lmtpd_check.specs.declared.checked.Finding.{Finding}
@@ -16,7 +16,7 @@ module _ {X : Type 0} (f : List ℕ → X → List ℕ) where
   no_pairs [] = refl
   no_pairs (name ∷ names) = refl
 
-  -- a text more, of the name in its place
+  -- one more text, of the name in its place
   pairs_more : (names : List (List ℕ)) (xs : List X) (x : X) (d : List ℕ) → length xs < length names
       → pair_texts f names (xs ++ x ∷ []) ≡ pair_texts f names xs ++ f (get_or names (length xs) d) x
   pairs_more [] xs x d h = absurd (omega (arith, h))
@@ -52,7 +52,7 @@ line_more names i findings finding d count within =
     ∙ ap (λ (name : List ℕ). finding_lines (texts names) findings ++ finding_line name finding) (get_or-map (λ (name : Bor (List ℕ)). name.now) names i d d.now within)
 
 module _ {F : Type 0} (remaining : F → Option (List ℕ)) (names : List (Bor (List ℕ))) (i : ℕ) (u v w : Option (List ℕ)) (findings : List Finding) (finding : Finding) (d : Bor (List ℕ)) where
-  -- one file more
+  -- one more file
   pub written_more : HasWritten remaining names i u v findings → i < length names → IsFindingOf remaining finding
       → Appends v w (finding_line (get_or names i d).now finding) → HasWritten remaining names (i + 1) u w (findings ++ finding ∷ [])
   written_more h within found taken = record {

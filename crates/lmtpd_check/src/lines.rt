@@ -11,8 +11,8 @@ use lmtpd_output::{WriteFault, write_each};
 use mbox_check::BadForm;
 use std::io::Write;
 
-/// Says of each file that was read without its lock that it was. After a fault the writer holds a prefix of these lines
-/// more.
+/// Says of each file that was read without its lock that it was. After a fault the writer has gained a prefix of
+/// these lines.
 pub fn write_unlocked_lines<E: Write>(error: &mut E, names: &[&str]) -> Result<(), WriteFault>
     ensures ok { OnOk result (Appends (E.contents error.old) (E.contents error.new) (unlocked_lines names.now)) }
     ensures err { OnErr result (IsCutOff (E.contents error.old) (E.contents error.new) (unlocked_lines names.now)) }
@@ -33,7 +33,7 @@ fn write_unlocked<E: Write>(error: &mut E, name: &str) -> Result<(), WriteFault>
     )
 }
 
-/// Writes a file's line, and has the writer hand it on. After a fault the writer holds a prefix of the line more.
+/// Writes a file's line, and has the writer hand it on. After a fault the writer has gained a prefix of the line.
 #[tactic(auto, using(crate::proofs::Handed::whole_kept, crate::proofs::Handed::whole_cut))]
 pub fn write_finding<W: Write>(
     writer: &mut W,

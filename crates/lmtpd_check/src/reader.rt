@@ -5,7 +5,7 @@ ghost use Rattle.lmtpd_check.specs.Checked.{IsFindingOf};
 
 use crate::checked::Finding;
 use mbox_check::{CheckFault, check_mailbox};
-use mbox_rd::{LockKind, RangeLock};
+use mbox_file::{LockKind, RangeLock};
 use std::fs::{File, Files};
 use std::io::ErrorKind;
 use std::time::{Clock, Duration};
@@ -22,7 +22,7 @@ pub struct Reading {
     pub is_unlocked: bool,
 }
 
-/// Reads the file at this path, with its lock where that is had in time. The lock goes as the file is closed.
+/// Reads the file at this path, with its lock where it gets that in time. The lock goes as the file is closed.
 pub fn check_file<P: Files, C: Clock>(rt: &P, clock: &C, path: &str, buffer: &mut [u8]) -> Reading
 where
     P::File: RangeLock,
@@ -47,7 +47,7 @@ where
     }
 }
 
-// Whether the lock is had: beside other readers, and not while a program writes. A file that can't be locked at all is
+// Whether it gets the lock: beside other readers, and not while a program writes. A file that can't be locked at all is
 // waited for no longer.
 fn lock_shared<F: RangeLock, C: Clock>(file: &F, clock: &C) -> bool {
     for _ in 0..PAUSES {

@@ -49,7 +49,8 @@ IsEndpoint path (endpoint.Unix name) = path ≡ Some name.now
 -- removed at the end; any other is left where it is.
 abbrev pub IsOpened : Place → Opened → Type 0
 IsOpened (place.Tcp address) opened = (socket_path opened.socket ≡ None) × (file_path opened.file ≡ None)
-IsOpened (place.Unix path) opened = (socket_path opened.socket ≡ Some path.now) × (file_path opened.file ≡ Some path.now)
+IsOpened (place.Unix path) opened = (socket_path opened.socket ≡ Some path.now)
+    × (file_path opened.file ≡ Some path.now)
 IsOpened place.Inherited opened = file_path opened.file ≡ None
 
 -- nothing could be opened at a place, and the log says why

@@ -9,7 +9,7 @@ use crate::place::Place;
 use crate::server::ServerSocket;
 use crate::socket_file::SocketFile;
 use crate::unix::open_unix;
-use mbox_rd::FileLock;
+use mbox_file::FileLock;
 use std::alloc::Global;
 use std::env::Env;
 use std::fs::Files;

@@ -10,7 +10,7 @@ use crate::opened::Opened;
 use crate::server::ServerSocket;
 use crate::socket_file::{Mark, SocketFile, mark_of, remove_made};
 use libc::net::listen;
-use mbox_rd::FileLock;
+use mbox_file::FileLock;
 use std::alloc::Global;
 use std::fs;
 use std::fs::{Files, Permissions};
@@ -93,7 +93,7 @@ fn bind<R: Files>(
     Ok(rt.bind_unix(socket.as_fd(), address)?)
 }
 
-// Gives the file the very mode, and has the socket listen.
+// Gives the file just that mode, and has the socket listen.
 fn expose<R: Files>(
     rt: &R,
     socket: &ServerSocket,

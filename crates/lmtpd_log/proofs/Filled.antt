@@ -27,7 +27,7 @@ cut zero xs ys = refl
 cut (suc n) [] ys = refl
 cut (suc n) (x ∷ xs) ys = ap (λ zs. x ∷ zs) (cut n xs ys)
 
--- two texts more
+-- two more texts
 pub with_two : (n : ℕ) (xs a b t0 t1 t2 : List ℕ) → t0 ≡ take n xs → t1 ≡ take n (t0 ++ a) → t2 ≡ take n (t1 ++ b)
     → t2 ≡ take n (xs ++ (a ++ b))
 with_two n xs a b t0 t1 t2 first second third =

@@ -1,5 +1,6 @@
 -- What a lane's log knows of the letter under way, where its lines show addresses.
-use Rattle.std.specs.Prelude.{ℕ, ◌-◌, ◌^◌, nat_lt, List, [], ◌∷◌, ◌++◌, length, take, drop, if◌then◌else◌, Option, Some, None, Ok}
+use Rattle.std.specs.Prelude.{ℕ, ◌-◌, ◌^◌, nat_lt, List, [], ◌∷◌, ◌++◌, length, take, drop, if◌then◌else◌, Option, Some}
+use Rattle.std.specs.Prelude.{None, Ok}
 use Rattle.std.specs.Option.{option_map_or}
 use Rattle.mail_world.specs.declared.Reply.{Reply}
 use Rattle.mail_world.specs.declared.Reply.TheVariants as replies
@@ -34,7 +35,7 @@ address_in line = address_of (command_at (2 ^ 32 - 1) line)
 abbrev pub named_by : List ℕ → List ℕ
 named_by line = option_map_or (λ text. text) (address_in line) []
 
--- a recipient more, as many as a message may have
+-- one more recipient, as many as a message may have
 abbrev pub with_recipient : Letter → List ℕ → Letter
 with_recipient letter recipient =
     if nat_lt (length letter.recipients) RECIPIENT_LIMIT

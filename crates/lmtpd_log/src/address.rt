@@ -27,7 +27,7 @@ impl Address {
         }
     }
 
-    /// The text more, as far as there is room.
+    /// The text after it, as far as there is room.
     pub(crate) fn add(&mut self, text: &[u8])
         ensures { address_text self.new ≡ take PATH_LIMIT (address_text self.old ++ text.now) }
     {

@@ -66,7 +66,7 @@ impl Addresses {
         self.recipients.clear();
     }
 
-    // A recipient more, as many as a message may have.
+    // One more recipient, as many as a message may have.
     fn add(&mut self, recipient: Address)
         ensures letter { letter_of self.new ≡ with_recipient (letter_of self.old) (address_text recipient) }
         ensures kept { kept_texts self.new ≡ kept_texts self.old }

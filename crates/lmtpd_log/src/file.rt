@@ -4,7 +4,8 @@ ghost use Rattle.std.specs.Prelude.{◌≡◌, false};
 ghost use Rattle.lmtpd_log.specs.Logged.{file_in};
 
 use log::{Log, error};
-use mbox_rd::{FileEnd, InUse, MailboxFile};
+use mbox_file::{FileEnd, MailboxFile};
+use mbox_record::InUse;
 use std::io;
 
 /// A file of which the first write or sync that failed is logged, by the name of its mailbox and with what the system

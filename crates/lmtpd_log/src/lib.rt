@@ -1,5 +1,9 @@
 //! What is logged of a server: each conversation that ended, each mailbox that failed or is in use, and how a line of
 //! the log is written.
+//!
+//! The server's run uses that clients, mailboxes and files are as those within say, which are wrapped from outside: the
+//! layers below know of a log only that a peer is told of each reply that is said. It never knows of workers, or of the
+//! program's words.
 #![tactic(auto)]
 
 mod address;

@@ -4,10 +4,10 @@ ghost use Rattle.std.specs.Prelude.{◌≡◌, false};
 ghost use Rattle.lmtpd_log.specs.Logged.{spool_in};
 
 use log::{Log, error};
-use mbox_rd::{InUse, Spool, SpoolFault, Tail};
+use mbox_record::{InUse, Spool, SpoolFault, Tail};
 use std::io;
 
-/// A spool of which the first turn that isn't had is logged, by the name of its mailbox, and the next that is.
+/// A spool of which the first missed turn is logged, by the name of its mailbox, and the next that isn't.
 #[derive(Drop)]
 pub struct LoggedMailbox<S, G> {
     spool: S,
@@ -33,7 +33,7 @@ impl<S, G> LoggedMailbox<S, G> {
 }
 
 impl<S, G: Log> LoggedMailbox<S, G> {
-    // Logs that a turn wasn't had, and why, unless the one before wasn't either.
+    // Logs that a turn was missed, and why, unless the one before was too.
     fn tell_in_use(&mut self, in_use: InUse)
         ensures { spool_in self.new ≡ spool_in self.old }
     {
@@ -53,7 +53,7 @@ impl<S, G: Log> LoggedMailbox<S, G> {
         }
     }
 
-    // Logs that a turn was had again, if the one before wasn't.
+    // Logs that a turn wasn't missed, where the one before was.
     fn tell_free(&mut self)
         ensures { spool_in self.new ≡ spool_in self.old }
     {

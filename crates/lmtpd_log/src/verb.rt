@@ -1,7 +1,7 @@
 //! The verb of a command line, as the log shows it.
 
-/// The verb where it is one of SMTP's or LMTP's (RFC 5321, 4.1; RFC 2033), `other` for another one, and `long` where the
-/// line was too long, and so is empty here. Nothing else of the line is shown.
+/// The verb where it is one of SMTP's or LMTP's (RFC 5321, 4.1; RFC 2033), `other` for another one, and `long` where
+/// the line was too long, and so is empty here. Nothing else of the line is shown.
 pub fn verb_of(line: &[u8]) -> &'static str {
     if line.is_empty() {
         return "long";

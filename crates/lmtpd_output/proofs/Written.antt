@@ -3,7 +3,7 @@ use Rattle.std.proofs.Common.{◌≡◌, ℕ, ◌+◌, ◌-◌, ◌<◌, List, [
 use Rattle.std.proofs.lemmas.List.{take-append-drop, take_rest, drop_more}
 use Rattle.std.specs.List.{flat_map}
 use Rattle.std.specs.Io.KnownBytes.{Appends, Keeps}
-use Rattle.mbox_rd.proofs.Taken.{Appends-then}
+use Rattle.mbox_record.proofs.Taken.{Appends-then}
 use Rattle.lmtpd_output.specs.Output.{IsCutOff}
 
 -- a writer

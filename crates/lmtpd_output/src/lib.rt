@@ -1,4 +1,7 @@
 //! Bytes to a writer: all of them, or a prefix and a failure.
+//!
+//! What the program does for its words writes its lines by `write_bytes` and `write_each`. It never knows what the
+//! bytes say.
 #![tactic(auto)]
 
 ghost use Rattle.std.specs.Prelude.{◌≡◌, ◌++◌, length, flat_map, OnOk, OnErr};
@@ -13,7 +16,7 @@ use thiserror::Error;
 #[error("a write failed")]
 pub struct WriteFault;
 
-/// Writes all of the bytes. After a fault the writer holds a prefix of them more.
+/// Writes all of the bytes. After a fault the writer has gained a prefix of them.
 pub fn write_bytes<W: Write>(writer: &mut W, bytes: &[u8]) -> Result<(), WriteFault>
     ensures ok { OnOk result (Appends (W.contents writer.old) (W.contents writer.new) bytes.now) }
     ensures err { OnErr result (IsCutOff (W.contents writer.old) (W.contents writer.new) bytes.now) }
@@ -29,7 +32,7 @@ pub fn write_bytes<W: Write>(writer: &mut W, bytes: &[u8]) -> Result<(), WriteFa
     Ok(())
 }
 
-/// Writes the pieces one after the other. After a fault the writer holds a prefix of them more.
+/// Writes the pieces one after the other. After a fault the writer has gained a prefix of them.
 pub fn write_each<W: Write>(writer: &mut W, pieces: &[&[u8]]) -> Result<(), WriteFault>
     ensures ok { OnOk result (Appends (W.contents writer.old) (W.contents writer.new)
         (flat_map (λ piece. piece.now) pieces.now)) }

@@ -12,13 +12,13 @@ use Rattle.mail_world.specs.Records.{Calendar, mailbox}
 use Rattle.mail_world.specs.Quotas.{are_kept, kept, marked, outcomes_settled}
 use Rattle.mail_world.specs.Deliveries.{IsTorn}
 use Rattle.lmtp_text.specs.Calendar.{civil_at}
-use Rattle.mbox_rd.specs.MemorySpool.{MemorySpool}
-use Rattle.mbox_rd.specs.Spool.{SpoolState, IsFull}
+use Rattle.mbox_record.specs.MemorySpool.{MemorySpool}
+use Rattle.mbox_record.specs.Spool.{SpoolState, IsFull}
 use Rattle.box_worker.specs.Limits.{Setting, kept_behind}
 use Rattle.box_worker.specs.Stored.{mailbox_of, HasStored, HasSettled}
 use Rattle.lmtp_threads.specs.Works.{share_of, setting_of}
 use Rattle.lmtp_threads.specs.declared.tally.Tally.{Tally}
-use Rattle.mbox_rd.specs.Sharing.{alone}
+use Rattle.mbox_record.specs.Sharing.{alone}
 use Rattle.lmtpd_rehearse.specs.Mailboxes.{MailboxContent, kept_all, kept_at, bytes_of_all, empty_spool, mailbox_room, IsCalm}
 use Rattle.lmtpd_rehearse.specs.Copies.{HoldsCopies, kept_later}
 use Rattle.lmtpd_rehearse.proofs.Keeping.{kept_front, kept_parts, length-marked, marked_next, marked_none, same_marks}
@@ -88,7 +88,7 @@ all_calm (s ∷ spools) (t ∷ tallies) size calm =
     any_first t tallies ∙ ap (λ b. b || list_any (λ x. x.faulty) tallies) (calm 0 (omega arith))
     ∙ all_calm spools tallies (omega arith) (calm_behind (record { bytes = s.bytes; failed = t.faulty }) (kept_all spools tallies) calm)
 
--- a front of nothing
+-- a prefix of nothing
 no_front : (front rest : List ℕ) → [] ≡ front ++ rest → front ≡ []
 no_front [] rest e = refl
 no_front (x ∷ front) rest e = cc

@@ -1,4 +1,4 @@
--- What a mailbox that was empty keeps of its copies under a quota, front by front.
+-- What a mailbox that was empty keeps of its copies under a quota, prefix by prefix.
 use Rattle.std.proofs.Common.{◌≡◌, ℕ, zero, suc, ◌+◌, ◌≤◌, List, [], ◌∷◌, ◌++◌, length, take, drop, Bool, true, false, Option, Some, None, inl, inr, refl, sym, ap, ◌∙◌, subst, arith}
 use Rattle.std.specs.Prelude.{slice_get, if◌then◌else◌}
 use Rattle.std.specs.Option.{IfSome}
@@ -7,7 +7,7 @@ use Rattle.mail_world.specs.declared.Note.{Note}
 use Rattle.mail_world.specs.declared.Outcome.TheVariants.{Stored, OverQuota}
 use Rattle.mail_world.specs.Records.{Calendar, record_of, mended}
 use Rattle.mail_world.specs.Quotas.{fits, are_kept_behind, are_kept, kept, marked, outcomes_settled}
-use Rattle.mbox_rd.specs.Spool.{SpoolState}
+use Rattle.mbox_record.specs.Spool.{SpoolState}
 use Rattle.box_worker.specs.Limits.{StartsAt}
 use Rattle.lmtp_house.proofs.Courses.{unlimited}
 use Rattle.lmtpd_rehearse.specs.Account.{IsSettled}

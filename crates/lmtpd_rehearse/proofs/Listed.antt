@@ -2,7 +2,7 @@
 use Rattle.std.proofs.Common.{◌≡◌, ℕ, ◌<◌, List, [], length, get_or, sym, ap, ◌∙◌, arith}
 use Rattle.std.proofs.lemmas.List.{length-map, get_or-map}
 use Rattle.mail_world.specs.Site.{Site, box_name}
-use Rattle.mbox_rd.specs.MemorySpool.{MemorySpool}
+use Rattle.mbox_record.specs.MemorySpool.{MemorySpool}
 use Rattle.lmtpd_output.proofs.Listed.{IsPairAt}
 use Rattle.lmtpd_rehearse.specs.Mailboxes.{bytes_of_all}
 

@@ -76,7 +76,7 @@ agrees_earlier slip other from e =
     let is = names_as other.txn other.place slip e in
     absurd (not_from slip.txn.number slip.place other.txn.number other.place from (sym is.0) (sym is.1))
 
--- the outcome that a worker tells next, and those behind it
+-- the outcome that a worker tells next, and those after it
 abbrev pub next_of : List Outcome → Outcome
 next_of [] = Failed
 next_of (outcome ∷ outcomes) = outcome
@@ -85,11 +85,11 @@ abbrev pub behind_next : List Outcome → List Outcome
 behind_next [] = []
 behind_next (outcome ∷ outcomes) = outcomes
 
--- what each worker has left to tell behind a copy for that mailbox
+-- what each worker has left to tell after a copy for that mailbox
 abbrev pub left_behind : (ℕ → List Outcome) → ℕ → ℕ → List Outcome
 left_behind left mailbox b = if mailbox == b then behind_next (left b) else left b
 
--- and behind copies
+-- and after copies
 abbrev pub left_after : (ℕ → List Outcome) → List Note → ℕ → List Outcome
 left_after left [] b = left b
 left_after left (x ∷ xs) b = left_after (λ k. left_behind left x.mailbox k) xs b

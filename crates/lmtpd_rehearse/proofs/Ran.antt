@@ -24,7 +24,7 @@ use Rattle.box_worker.specs.Stored.{mailbox_of}
 use Rattle.box_worker.specs.Told.{owed_to}
 use Rattle.box_worker.specs.Worked.{IsAccounted}
 use Rattle.lmtp_text.specs.Calendar.{civil_at}
-use Rattle.mbox_rd.specs.MemorySpool.{MemorySpool}
+use Rattle.mbox_record.specs.MemorySpool.{MemorySpool}
 use Rattle.lmtp_talk.specs.declared.ending.EndCause.{EndCause}
 use Rattle.lmtp_talk.specs.declared.ending.EndCause.TheVariants.{WriteFault}
 use Rattle.lmtp_threads.specs.declared.tally.Tally.{Tally}
@@ -49,7 +49,7 @@ use Rattle.mail_world.specs.Runs.{events_of, offers_by}
 use Rattle.mail_runs.specs.Histories.{Threads}
 use Rattle.mail_runs.specs.Ordered.{IsOrderlyRunOf}
 use Rattle.mail_runs.proofs.Rising.{NumbersRise, numbers_rise}
-use Rattle.mbox_rd.proofs.Taken.{Appends-then}
+use Rattle.mbox_record.proofs.Taken.{Appends-then}
 use Rattle.lmtpd_rehearse.proofs.Keeping.{all_settled, marked_none, same_marks}
 use Rattle.lmtpd_rehearse.proofs.Telling.{IsFrontOfOwed, AreSized, told_as_said, all_told_settled}
 
@@ -162,7 +162,7 @@ record BoxAt (site : Site) (quota : Option ℕ) (work : BoxWork) (spools : List 
   is : kept_at (kept_all spools tallies) b ≡ record { bytes = spool.bytes; failed = tally.faulty }
   did : IsBoxWork (setting_of (share_of site quota) b) work (state_of (empty_spool site)) (state_of spool) tally
 
--- what the lane heard, and what each of so many workers did
+-- what the lane heard, and what each of that many workers did
 record AllWork : Type 0 where
   heard : List Slip
   boxes : ℕ → BoxWork
@@ -428,7 +428,7 @@ module _ (site : Site) (quota : Option ℕ) (moment : ℕ) {P : Type 0} (state :
         ends = subst E one.cause by.ends;
       }
 
--- the mailboxes behind the replies
+-- the mailboxes after the replies
 pub rehearsed : (site : Site) (quota : Option ℕ) (moment : ℕ) (old between : Streams) (left : HeldState) (after : Option (List ℕ)) (cut : Bool)
     → IsHeld site quota moment old between left → IsListed (texts_of_mailboxes site.boxes (bytes_of_all left.spools)) between.written after cut
     → IsRehearsed site quota moment old (record { unread = between.unread; written = after }) (record { end = left.end; faulty = left.faulty; cut = cut })

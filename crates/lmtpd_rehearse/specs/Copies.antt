@@ -1,18 +1,19 @@
 -- What became of the copies for one mailbox that was empty: which it holds, and what was told of each.
-use Rattle.std.specs.Prelude.{◌≡◌, ◌≤◌, ℕ, nat_lt, Bool, true, List, [], ◌++◌, length, take, drop, slice_get, Option, Some}
+use Rattle.std.specs.Prelude.{◌≡◌, ◌≤◌, ℕ, nat_lt, Bool, true, List, [], ◌++◌, length, take, drop, slice_get, Option}
+use Rattle.std.specs.Prelude.{Some}
 use Rattle.mail_world.specs.declared.Note.{Note}
 use Rattle.mail_world.specs.declared.Outcome.{Outcome}
 use Rattle.mail_world.specs.Records.{Calendar, mailbox}
 use Rattle.mail_world.specs.Quotas.{are_kept, kept, marked, outcomes_settled}
 use Rattle.mail_world.specs.Deliveries.{IsTorn}
 
--- of the copies behind the first so many those that are kept
+-- of the copies after the first n those that are kept
 abbrev pub kept_later : Calendar → List ℕ → Option ℕ → ℕ → List Note → List Note
 kept_later calendar host quota n notes = marked (drop n (are_kept calendar host quota [] notes)) (drop n notes)
 
--- A mailbox that was empty took these copies under a quota, and told these outcomes: the first so many were settled,
--- each that is kept Stored and any other OverQuota, and behind them all were told Failed. It holds the records of the
--- kept among those that were settled, and behind them at most a front of that of the next one that is kept; it failed
+-- A mailbox that was empty took these copies under a quota, and told these outcomes: the first ones were settled,
+-- each that is kept Stored and any other OverQuota, and after them all were told Failed. It holds the records of the
+-- kept among those that were settled, and after them at most a prefix of that of the next one that is kept; it failed
 -- where not all were settled.
 pub record HoldsCopies (calendar : Calendar) (host : List ℕ) (quota : Option ℕ) (notes : List Note)
     (outcomes : List Outcome) (bytes : List ℕ) (failed : Bool) : Type 0 where

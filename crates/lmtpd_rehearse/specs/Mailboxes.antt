@@ -1,8 +1,9 @@
 -- The mailboxes of a rehearsal: what they hold, and how they are written.
-use Rattle.std.specs.Prelude.{◌≡◌, ◌<◌, ◌*◌, max, ℕ, Bool, false, List, [], ◌∷◌, ◌++◌, length, map, slice_index_or, codes, decimal}
+use Rattle.std.specs.Prelude.{◌≡◌, ◌<◌, ◌*◌, max, ℕ, Bool, false, List, [], ◌∷◌, ◌++◌, length, map, slice_index_or}
+use Rattle.std.specs.Prelude.{codes, decimal}
 use Rattle.mail_world.specs.Text.{lf}
 use Rattle.mail_world.specs.Site.{Site}
-use Rattle.mbox_rd.specs.MemorySpool.{MemorySpool}
+use Rattle.mbox_record.specs.MemorySpool.{MemorySpool}
 use Rattle.lmtp_threads.specs.declared.tally.Tally.{Tally}
 use Rattle.lmtpd_output.specs.Output.{pair_texts}
 use Rattle.lmtpd_rehearse.specs.declared.parts.TheConstants.{MAILBOX_ROOM}

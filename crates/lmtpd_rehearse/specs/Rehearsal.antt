@@ -6,7 +6,7 @@ use Rattle.mail_world.specs.declared.limits.TheConstants.{READ_LIMIT, BLOCK_LIMI
 use Rattle.mail_world.specs.declared.Note.{Note}
 use Rattle.mail_world.specs.declared.Outcome.{Outcome}
 use Rattle.mail_world.specs.Site.{Site}
-use Rattle.mbox_rd.specs.MemorySpool.{MemorySpool}
+use Rattle.mbox_record.specs.MemorySpool.{MemorySpool}
 use Rattle.mail_world.specs.Conversation.{Disposition, IsAccount, conversation, inputs, replies}
 use Rattle.mail_world.specs.Lists.{VerdictFits, transactions, due}
 use Rattle.mail_world.specs.Records.{mailbox}
@@ -47,7 +47,8 @@ pub record AreMailboxes (site : Site) (quota : Option ℕ) (read : List ℕ) (ac
   -- each took the copies that were due to it: the first were settled, kept or over the quota; once its spool failed,
   -- the others were told Failed
   pub each : (box : ℕ) → box < length site.boxes
-      → HoldsCopies civil_at site.host quota (copies_due site read account box) (told_of_box site read account box) (kept_at mailboxes box).bytes (kept_at mailboxes box).failed
+      → HoldsCopies civil_at site.host quota (copies_due site read account box) (told_of_box site read account box)
+      (kept_at mailboxes box).bytes (kept_at mailboxes box).failed
   -- a spool failed only once its room was used up
   pub full : (box : ℕ) → box < length site.boxes → (kept_at mailboxes box).failed ≡ true
       → length (kept_at mailboxes box).bytes ≡ mailbox_room site.message_limit
@@ -57,9 +58,11 @@ pub record AreMailboxes (site : Site) (quota : Option ℕ) (read : List ℕ) (ac
   pub settled : faulty ≡ false → AllByRecursion (IsAllSettled quota) account
   -- which of the two says the quota, and each mailbox has the records of its copies that are kept
   pub told : faulty ≡ false → (box : ℕ) → box < length site.boxes
-      → told_of_box site read account box ≡ outcomes_settled (length (copies_due site read account box)) (are_kept civil_at site.host quota [] (copies_due site read account box))
+      → told_of_box site read account box ≡ outcomes_settled (length (copies_due site read account box))
+      (are_kept civil_at site.host quota [] (copies_due site read account box))
   pub held : faulty ≡ false → (box : ℕ) → box < length site.boxes
-      → (kept_at mailboxes box).bytes ≡ mailbox civil_at site.host [] (kept civil_at site.host quota [] (copies_due site read account box))
+      → (kept_at mailboxes box).bytes ≡ mailbox civil_at site.host []
+      (kept civil_at site.host quota [] (copies_due site read account box))
 
 -- A mailbox of the model came to what this one did: it was empty at first, took these copies, told this of each, holds
 -- these bytes, and failed where this one did.
@@ -149,7 +152,7 @@ pub record IsHeld (site : Site) (quota : Option ℕ) (moment : ℕ) (old new : S
   pub says : IsWritten (replies site (inputs site (conversation read account))) (held.end ≡ WriteFault) said
   pub ends : RehearsalEndsFor site read account new.unread held.end
 
--- a text was written behind that, or a front of it where it was cut
+-- a text was written after that, or a prefix of it where it was cut
 pub record IsListed (text : List ℕ) (before after : Option (List ℕ)) (cut : Bool) : Type 0 where
   pub listed : List ℕ
   pub output : Appends before after listed

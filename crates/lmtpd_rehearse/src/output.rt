@@ -8,7 +8,7 @@ ghost use Rattle.lmtpd_rehearse.specs.Mailboxes.{bytes_of_all, mailbox_line, tex
 use itoa::Buffer;
 use lmtp_text::Site;
 use lmtpd_output::{WriteFault, write_each};
-use mbox_rd::MemorySpool;
+use mbox_record::MemorySpool;
 use std::io::Write;
 
 // Writes the line of a mailbox, and what it holds.
@@ -26,7 +26,7 @@ fn write_mailbox<W: Write>(writer: &mut W, name: &[u8], bytes: &[u8]) -> Result<
     )
 }
 
-/// Writes the mailboxes of the site, in their order, each behind a line of its name and size.
+/// Writes the mailboxes of the site, in their order, each after a line of its name and size.
 pub fn write_mailboxes<W: Write>(
     writer: &mut W,
     site: &Site,

@@ -7,10 +7,10 @@ use box_worker::OpenGate;
 use lmtp_house::Sizes;
 use lmtp_text::Site;
 use lmtpd_words::DEFAULT_CAPACITY;
-use mbox_rd::MemorySpool;
+use mbox_record::MemorySpool;
 use std::alloc::{AllocError, Global};
 
-/// The bytes that a mailbox of a rehearsal has room for at the least.
+/// The bytes that a mailbox of a rehearsal has room for at least.
 pub const MAILBOX_ROOM: usize = 2_097_152;
 
 /// A rehearsal has one client, and so one lane.
@@ -47,7 +47,7 @@ pub fn empty_spools(alloc: Global, site: &Site, count: u32) -> Result<Vec<Memory
     Ok(spools)
 }
 
-/// So many open gates.
+/// That many open gates.
 pub fn open_gates(alloc: Global, count: u32) -> Result<Vec<OpenGate>, AllocError>
     ensures { IfOk result (λ gates. length gates.items ≡ count) }
 {

@@ -15,13 +15,13 @@ use super::parts::{empty_spools, open_gates, sizes};
 use super::peer::StreamPeer;
 use lmtp_house::{EndCause, HouseFault, has_failed, run_house};
 use lmtp_text::Site;
-use mbox_rd::MemorySpool;
+use mbox_record::MemorySpool;
 use std::alloc::Global;
 use std::io::{Read, Write};
 use std::sync::{Arc, Wait};
 use std::thread::Threads;
 
-/// Runs a server of one lane at the site for one conversation, and then writes the mailboxes, each behind the line
+/// Runs a server of one lane at the site for one conversation, and then writes the mailboxes, each after the line
 /// `mailbox NAME LENGTH`. The mailboxes are empty at the start and lie in memory, and each keeps those of its copies
 /// that fit under the quota, if there is one; every message is of the given moment, in seconds since 1970. All memory
 /// is taken first.
@@ -85,7 +85,7 @@ struct Conditions {
     moment: u32,
 }
 
-/// A conversation that has ended, and the mailboxes behind it.
+/// A conversation that has ended, and the mailboxes after it.
 #[derive(Drop)]
 struct Held<P> {
     peer: P,

@@ -1,5 +1,6 @@
 -- What a server says on standard output and on standard error, and what its run comes to.
-use Rattle.std.specs.Prelude.{◌≡◌, ◌==◌, ◌<◌, ◌^◌, ℕ, List, [], ◌∷◌, ◌++◌, length, codes, decimal, if◌then◌else◌, map, Option, Some}
+use Rattle.std.specs.Prelude.{◌≡◌, ◌==◌, ◌<◌, ◌^◌, ℕ, List, [], ◌∷◌, ◌++◌, length, codes, decimal, if◌then◌else◌, map}
+use Rattle.std.specs.Prelude.{Option, Some}
 use Rattle.std.specs.Arc.{arc_value}
 use Rattle.std.specs.List.{AllByRecursion, list_any}
 use Rattle.std.specs.Net.Text.{socket_text}
@@ -7,7 +8,7 @@ use Rattle.lmtp_lane.specs.declared.tcp.listener.Endpoint.{Endpoint}
 use Rattle.lmtp_lane.specs.declared.tcp.listener.Endpoint.TheVariants.{Ip, Unix}
 use Rattle.mail_world.specs.Text.{lf}
 use Rattle.mail_world.specs.Site.{Site}
-use Rattle.mbox_rd.specs.Spool.{SpoolState}
+use Rattle.mbox_record.specs.Spool.{SpoolState}
 use Rattle.lmtp_threads.specs.declared.tally.Tally.{Tally}
 use Rattle.lmtp_house.specs.Handed.{HandedBack}
 use Rattle.lmtp_house.specs.House.{HasRun}
@@ -32,7 +33,7 @@ count_line name tally = name ++ codes " stored " ++ decimal tally.stored ++ (lf 
 abbrev pub counts_text : List (List ℕ) → List Tally → List ℕ
 counts_text names tallies = pair_texts count_line names tallies
 
--- the copies of a mailbox that an administrator is told of: those whose turn wasn't had, or those over the quota
+-- the copies of a mailbox that an administrator is told of: those whose turn was missed, or those over the quota
 abbrev pub count_of : Trouble → Tally → ℕ
 count_of InUse tally = tally.in_use
 count_of OverQuota tally = tally.over
@@ -76,7 +77,12 @@ pub record IsServerRun (L C E : Type 0) {S G : Type 0} (site : Site) (state : S 
   pub each_lane : length visits ≡ extent.lanes
   pub logs : HaveLogs visits
   pub none_ended : AllByRecursion (λ v. conversations_ended (visits_in v) ≡ 0) visits
-  pub ran : HasRun site (λ moment. moment < 2 ^ 32) (record { MayGive = λ _ peer. IsNewcomer peer; finished = λ v. told_of told v; over = λ v. is_over (visits_in v) })
+  pub ran : HasRun site (λ moment. moment < 2 ^ 32)
+      (record {
+        MayGive = λ _ peer. IsNewcomer peer;
+        finished = λ v. told_of told v;
+        over = λ v. is_over (visits_in v);
+      })
       state (record { visits = visits; spools = spools; capacity = extent.capacity; quota = extent.quota }) back
   pub same_site : arc_value served.site ≡ site
   pub tallies : served.tallies.items ≡ back.tallies

@@ -10,7 +10,7 @@ use std::fs::Files;
 use std::sync::atomic::{AtomicBool, AtomicU64, Ordering};
 use std::time::{Clock, Duration};
 
-/// How often at most it is looked for the stop file.
+/// How often the stop file is looked for, at most.
 const LOOK_MS: u64 = 250;
 
 /// How long a server that heals goes on after a mailbox failed.

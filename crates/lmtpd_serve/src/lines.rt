@@ -1,5 +1,5 @@
-//! What a server says: on standard output where it listens and what it stored, on standard error which turns weren't had
-//! and what was over quotas.
+//! What a server says: on standard output where it listens and what it stored, on standard error which turns were
+//! missed and what was over quotas.
 
 ghost use Rattle.std.specs.Prelude.{◌≡◌, length, string_bytes, IfOk, OnOk, OnErr};
 ghost use Rattle.std.specs.Io.KnownBytes.{Appends};
@@ -37,8 +37,8 @@ fn write_count<W: Write>(writer: &mut W, name: &[u8], tally: &Tally) -> Result<(
     write_each(writer, &[name, b" stored ", stored.as_bytes(), b"\n"])
 }
 
-/// Says of each mailbox of the site, in their order, how many copies it stored. After a fault the writer holds a front
-/// of these lines more.
+/// Says of each mailbox of the site, in their order, how many copies it stored. After a fault the writer has gained
+/// a prefix of these lines.
 pub fn write_counts<W: Write>(
     writer: &mut W,
     site: &Site,
@@ -57,7 +57,7 @@ pub fn write_counts<W: Write>(
     Ok(())
 }
 
-/// The copies of a mailbox that an administrator is told of: those whose turn wasn't had while other programs had the
+/// The copies of a mailbox that an administrator is told of: those whose turn was missed while other programs had the
 /// mailbox locked, or those over the quota.
 #[derive(Clone, Copy, Debug, PartialEq, Eq)]
 pub enum Trouble {
@@ -140,8 +140,8 @@ fn write_all_of<W: Write>(
     Ok(())
 }
 
-/// Says of each mailbox, in the order of the site, how many turns weren't had, unless none was missed, and then of each
-/// how many copies were over its quota, unless none was. After a fault the writer holds a prefix of these lines more.
+/// Says of each mailbox, in the order of the site, how many turns were missed, unless none was, and then of each
+/// how many copies were over its quota, unless none was. After a fault the writer has gained a prefix of these lines.
 pub fn write_trouble_lines<W: Write>(writer: &mut W, served: &Served) -> Result<(), WriteFault>
     ensures ok { OnOk result (Appends (W.contents writer.old) (W.contents writer.new) (trouble_lines served.now)) }
     ensures err { OnErr result (IsCutOff (W.contents writer.old) (W.contents writer.new)

@@ -19,7 +19,7 @@ use lmtp_house::{
 use lmtp_text::Site;
 use lmtpd_log::{CountedListener, LaneLogs, LoggedVisits, lane_logs, logged_visits};
 use lmtpd_output::write_bytes;
-use mbox_rd::Spool;
+use mbox_record::Spool;
 use std::alloc::{AllocError, Global};
 use std::io::{Read, Write};
 use std::sync::{Arc, Wait};
@@ -110,7 +110,7 @@ fn visits_of<L: Drop, E: Drop, G: LaneLogs, H: Copy + Drop>(
     Ok(logged)
 }
 
-/// How it went to say where the server listens.
+/// What came of saying where the server listens.
 #[derive(Clone, Copy)]
 struct Announced {
     /// The listener can't tell where it listens.

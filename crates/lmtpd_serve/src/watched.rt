@@ -4,7 +4,7 @@ ghost use Rattle.std.specs.Prelude.{◌≡◌};
 ghost use Rattle.lmtpd_serve.specs.Watched.{watched_spool};
 
 use crate::ends::ServerCurfew;
-use mbox_rd::{InUse, Spool, SpoolFault, Tail};
+use mbox_record::{InUse, Spool, SpoolFault, Tail};
 use std::sync::Arc;
 use std::time::Clock;
 

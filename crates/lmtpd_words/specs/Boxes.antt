@@ -10,7 +10,8 @@ without_front text = drop (prefix_len is_ascii_whitespace text) text
 
 -- and without that which it ends with
 abbrev pub trimmed : List ℕ → List ℕ
-trimmed text = take (length (without_front text) - suffix_len is_ascii_whitespace (without_front text)) (without_front text)
+trimmed text = take (length (without_front text) - suffix_len is_ascii_whitespace (without_front text))
+    (without_front text)
 
 -- the name in a line: what stands before the first #, without white space around it
 abbrev pub name_in : List ℕ → List ℕ

@@ -119,7 +119,9 @@ heal_rule = flag_rule (codes "heal")
 
 abbrev pub rehearse_app : App
 rehearse_app =
-    with_rule (with_rule (with_rule (with_rule (with_rule (with_rule (with_rule (with_rule (with_rule (new_app (codes "rehearse")) host_rule) time_rule) domains_rule) recipient_delimiter_rule) message_limit_rule) blocks_rule) quota_rule) boxes_rule) box_rule
+    with_rule (with_rule (with_rule (with_rule (with_rule (with_rule (with_rule (with_rule (with_rule
+    (new_app (codes "rehearse")) host_rule) time_rule) domains_rule) recipient_delimiter_rule) message_limit_rule)
+    blocks_rule) quota_rule) boxes_rule) box_rule
 
 -- what must be given, then what may be, then what ends the server
 abbrev pub required_app : App
@@ -127,15 +129,19 @@ required_app = with_rule (with_rule (with_rule (new_app (codes "serve")) host_ru
 
 abbrev pub limited_app : App
 limited_app =
-    with_rule (with_rule (with_rule (with_rule (with_rule (with_rule (with_rule (with_rule (with_rule required_app domains_rule) recipient_delimiter_rule) message_limit_rule) lanes_rule) blocks_rule) capacity_rule) reads_rule) timeout_rule) session_time_rule
+    with_rule (with_rule (with_rule (with_rule (with_rule (with_rule (with_rule (with_rule (with_rule
+    required_app domains_rule) recipient_delimiter_rule) message_limit_rule) lanes_rule) blocks_rule) capacity_rule)
+    reads_rule) timeout_rule) session_time_rule
 
 abbrev pub kept_app : App
 kept_app =
-    with_rule (with_rule (with_rule (with_rule (with_rule (with_rule limited_app log_rule) log_addresses_rule) quota_rule) lock_wait_rule) mailbox_mode_rule) socket_mode_rule
+    with_rule (with_rule (with_rule (with_rule (with_rule (with_rule
+    limited_app log_rule) log_addresses_rule) quota_rule) lock_wait_rule) mailbox_mode_rule) socket_mode_rule
 
 abbrev pub serve_app : App
 serve_app =
-    with_rule (with_rule (with_rule (with_rule (with_rule kept_app connections_rule) stop_file_rule) heal_rule) boxes_rule) box_rule
+    with_rule (with_rule (with_rule (with_rule (with_rule
+    kept_app connections_rule) stop_file_rule) heal_rule) boxes_rule) box_rule
 
 abbrev pub file_rule : Rule
 file_rule = must (texts_rule (codes "file"))
@@ -145,7 +151,9 @@ check_app = with_rule (new_app (codes "check")) file_rule
 
 abbrev pub bare_app : App
 bare_app =
-    record (new_app (codes "lmtpd")) { top = record (new_app (codes "lmtpd")).top { has_version = true; subcommand_required = true } }
+    record (new_app (codes "lmtpd")) {
+      top = record (new_app (codes "lmtpd")).top { has_version = true; subcommand_required = true };
+    }
 
 -- the whole command line
 abbrev pub program_app : App

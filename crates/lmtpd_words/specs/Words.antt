@@ -1,5 +1,7 @@
 -- What the program's words ask for.
-use Rattle.std.specs.Prelude.{◌≡◌, ◌∷◌, ◌++◌, ◌⊎◌, ◌↔◌, IsTrue, ◌<◌, ◌≤◌, ◌^◌, ◌==◌, ◌+◌, ◌-◌, ◌*◌, ◌/◌, min, max, ℕ, Bool, true, false, List, [], Option, Some, None, option_map, map, codes, length, String, string_bytes}
+use Rattle.std.specs.Prelude.{◌≡◌, ◌∷◌, ◌++◌, ◌⊎◌, ◌↔◌, IsTrue, ◌<◌, ◌≤◌, ◌^◌, ◌==◌, ◌+◌, ◌-◌, ◌*◌, ◌/◌, min, max, ℕ}
+use Rattle.std.specs.Prelude.{Bool, true, false, List, [], Option, Some, None, option_map, map, codes, length, String}
+use Rattle.std.specs.Prelude.{string_bytes}
 use Rattle.std.specs.declared.alloc.Global.{Global}
 use Rattle.std.specs.Option.{option_map_or}
 use Rattle.std.specs.List.{slice_split}
@@ -11,7 +13,10 @@ use Rattle.log.specs.declared.level.LevelFilter.TheVariants as filter
 use Rattle.mail_world.specs.Site.{Site, IsMessageLimit, is_delimiter}
 use Rattle.lmtp_text.specs.Sites.{site_of, texts}
 use Rattle.lmtpd_words.specs.Boxes.{listed_boxes}
-use Rattle.lmtpd_words.specs.declared.words.TheConstants.{DEFAULT_BLOCKS, DEFAULT_CAPACITY, DEFAULT_LANES, DEFAULT_LOCK_WAIT, DEFAULT_LOG, DEFAULT_MAILBOX_MODE, DEFAULT_READS, DEFAULT_SESSION_TIME, DEFAULT_SOCKET_MODE, DEFAULT_TIMEOUT, MODE_DIGIT_LIMIT}
+use Rattle.lmtpd_words.specs.declared.words.TheConstants.{DEFAULT_BLOCKS, DEFAULT_CAPACITY, DEFAULT_LANES}
+use Rattle.lmtpd_words.specs.declared.words.TheConstants.{DEFAULT_LOCK_WAIT, DEFAULT_LOG, DEFAULT_MAILBOX_MODE}
+use Rattle.lmtpd_words.specs.declared.words.TheConstants.{DEFAULT_READS, DEFAULT_SESSION_TIME, DEFAULT_SOCKET_MODE}
+use Rattle.lmtpd_words.specs.declared.words.TheConstants.{DEFAULT_TIMEOUT, MODE_DIGIT_LIMIT}
 use Rattle.mail_world.specs.declared.limits.TheConstants.{MODE_LIMIT, MESSAGE_LIMIT, BLOCK_SIZE, BLOCK_LIMIT}
 use Rattle.lmtpd_words.specs.declared.words.SiteWords.{SiteWords}
 use Rattle.lmtpd_words.specs.declared.words.RehearseWords.{RehearseWords}
@@ -82,7 +87,7 @@ is_log_level filter.Error = true
 is_log_level filter.Info = true
 is_log_level _ = false
 
--- the level that a text names, in any case, and else the usual one
+-- the level that a text names, in any letter case, and else the usual one
 abbrev pub IsLevel : Option Text → LevelFilter → Type 0
 IsLevel None level = level ≡ DEFAULT_LOG
 IsLevel (Some text) level = (parse_filter text ≡ Some level) × (is_log_level level ≡ true)
@@ -153,7 +158,8 @@ pub record IsServeRead (rows : List Row) (words : ServeWords) : Type 0 where
   pub listen : first_of (codes "listen") rows ≡ Some words.listen.now
   pub dir : IsPath (first_of (codes "dir") rows) words.dir.now
   pub lanes : IsNumberOr DEFAULT_LANES (one_of (codes "lanes") rows) words.lanes
-  pub blocks : IsNumberOr (usual_blocks words.lanes words.site.message_limit) (one_of (codes "blocks") rows) words.blocks
+  pub blocks : IsNumberOr (usual_blocks words.lanes words.site.message_limit)
+      (one_of (codes "blocks") rows) words.blocks
   pub capacity : IsNumberOr DEFAULT_CAPACITY (one_of (codes "capacity") rows) words.capacity
   pub reads : IsNumberOr DEFAULT_READS (one_of (codes "reads") rows) words.reads
   pub timeout : IsNumberOr DEFAULT_TIMEOUT (one_of (codes "timeout") rows) words.timeout
@@ -182,16 +188,19 @@ LacksNumber name rows = (text : Text) → one_of name rows ≡ Some text → IsN
 
 abbrev pub LacksSite : List Row → Type 0
 LacksSite rows = LacksText (codes "host") rows
-    ⊎ (IsNoMessageLimit (one_of (codes "message-limit") rows) ⊎ IsNoDelimiter (first_of (codes "recipient-delimiter") rows))
+    ⊎ (IsNoMessageLimit (one_of (codes "message-limit") rows)
+    ⊎ IsNoDelimiter (first_of (codes "recipient-delimiter") rows))
 
 abbrev pub LacksRehearse : List Row → Type 0
 LacksRehearse rows = LacksNumber (codes "time") rows ⊎ LacksSite rows
 
 abbrev pub LacksServe : List Row → Type 0
 LacksServe rows =
-    LacksText (codes "listen") rows ⊎ (IsNoPath (first_of (codes "dir") rows) ⊎ (IsNoNumber (one_of (codes "connections") rows)
+    LacksText (codes "listen") rows
+    ⊎ (IsNoPath (first_of (codes "dir") rows) ⊎ (IsNoNumber (one_of (codes "connections") rows)
     ⊎ (IsEmpty (first_of (codes "stop-file") rows) ⊎ (IsNoLevel (first_of (codes "log") rows)
-    ⊎ (IsNoMode (first_of (codes "mailbox-mode") rows) ⊎ (IsNoMode (first_of (codes "socket-mode") rows) ⊎ LacksSite rows))))))
+    ⊎ (IsNoMode (first_of (codes "mailbox-mode") rows)
+    ⊎ (IsNoMode (first_of (codes "socket-mode") rows) ⊎ LacksSite rows))))))
 
 abbrev pub LacksCheck : List Row → Type 0
 LacksCheck rows = all_of (codes "file") rows ≡ None

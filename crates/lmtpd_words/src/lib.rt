@@ -1,4 +1,8 @@
-//! The words of `lmtpd`: its command line, and what a call of it asks for.
+//! The words of `lmtpd`: its command line, the usual numbers, the version and the help, and the mailboxes that a text
+//! lists.
+//!
+//! The program uses what `clap` took, the values in it, and the names of a text. It opens no file, and never knows what
+//! is done with the words.
 #![tactic(auto)]
 
 mod arguments;

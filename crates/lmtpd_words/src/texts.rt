@@ -4,26 +4,26 @@
 /// The program's version, and the toolchain that proves it, as `rt version` names it: `make toolchain` writes it here.
 pub const VERSION: &str = "0.1.0 (rattle-kit-13f, logic dac8208d650f15bf)";
 
-/// The error for a folder that is none.
+/// The error for a bad folder.
 pub const BAD_FOLDER: &str =
     "invalid value for '--dir <FOLDER>': it is the path of a folder, and not empty";
 
-/// The error for a level that is none.
+/// The error for a bad level.
 pub const BAD_LEVEL: &str = "invalid value for '--log <LEVEL>': it is off, error or info";
 
-/// The error for a mailbox's mode that is none.
+/// The error for a bad mode of a mailbox.
 pub const BAD_MAILBOX_MODE: &str =
     "invalid value for '--mailbox-mode <MODE>': it is 1 to 4 octal digits, 0777 at most";
 
-/// The error for a socket's mode that is none.
+/// The error for a bad mode of a socket.
 pub const BAD_SOCKET_MODE: &str =
     "invalid value for '--socket-mode <MODE>': it is 1 to 4 octal digits, 0777 at most";
 
-/// The error for the path of a stop file that is none.
+/// The error for a bad path of a stop file.
 pub const BAD_STOP_FILE: &str =
     "invalid value for '--stop-file <PATH>': it is the path of a file, and not empty";
 
-/// The error for a delimiter that is none.
+/// The error for a bad delimiter.
 pub const BAD_DELIMITER: &str =
     "invalid value for '--recipient-delimiter <BYTE>': it is one of + - = # ~";
 
@@ -39,7 +39,7 @@ Examples:
 
 Exit status:
   0  All was done that was asked for
-  1  The machine or a file was wanting, and a line says what
+  1  Something was lacking or failed, and a line says what
   2  A word can't be used, and nothing was done";
 
 /// After a rehearsal's words.
@@ -49,7 +49,7 @@ Example:
 
 Exit status:
   0  The conversation was held, and the mailboxes were printed
-  1  Memory, threads, the blocks, a mailbox's room, reading or writing was wanting; standard error says which
+  1  Memory, a thread, blocks or room in a mailbox was lacking, or a read or a write failed; standard error says which
   2  A word can't be used, and nothing was done";
 
 /// After a server's words.
@@ -61,7 +61,8 @@ Examples:
 
 Exit status:
   0  The server ended in order, after its conversations or for its stop file
-  1  A mailbox's file, FILE, the listener, a thread, memory or a size was wanting; standard error says which
+  1  A mailbox's file, FILE or the listener failed, a thread or memory was lacking, or a size is out of its limits;
+     standard error says which
   2  A word can't be used, and nothing was done";
 
 /// After the words of a check.
@@ -71,5 +72,5 @@ Example:
 
 Exit status:
   0  Each file is a mailbox
-  1  A file breaks the form or can't be read, as its line says; or memory or standard output was wanting
+  1  A file breaks the form or can't be read, as its line says; or memory was lacking, or a write failed
   2  A word can't be used, and nothing was done";

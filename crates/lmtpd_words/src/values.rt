@@ -28,7 +28,7 @@ use mail_world::limits::{
 };
 use std::alloc::{AllocError, Global};
 
-/// What the subcommand asks for, and none where a value is missing, or a number, a path, the level or a mode is none.
+/// What the subcommand asks for, and none where a value is missing, or a number, a path, the level or a mode is bad.
 pub fn words_of<'a>(
     alloc: Global,
     matches: &ArgMatches<'a>,
@@ -214,7 +214,7 @@ fn message_limit_of(matches: &ArgMatches<'_>) -> Option<u32>
     Some(limit)
 }
 
-// The delimiter that was given; none at all where a text was given that is none.
+// The delimiter that was given; none at all where the text is no delimiter.
 fn delimiter_of(matches: &ArgMatches<'_>) -> Option<Option<u8>>
     ensures { let given = first_of (codes "recipient-delimiter") (rows_of (found_of matches.now)) in
         MatchOption result (IsNoDelimiter given) (IsDelimiterIfGiven given) }
@@ -278,7 +278,7 @@ fn quota_of(matches: &ArgMatches<'_>) -> Option<u64>
     matches.get_one::<u64>("quota")
 }
 
-// The number of conversations that was given; none at all where a text was given that writes none.
+// The number of conversations that was given; none at all where the text writes no number.
 fn connections_of(matches: &ArgMatches<'_>) -> Option<Option<u32>>
     ensures { let given = one_of (codes "connections") (rows_of (found_of matches.now)) in
         MatchOption result (IsNoNumber given) (λ n. option_map number given ≡ n) }

@@ -14,7 +14,7 @@ use Rattle.mail_post.specs.Times.{last_of}
 use Rattle.mail_post.specs.Offered.{given}
 use Rattle.mail_post.specs.InTime.{Ends, clock_of, Sorts, AreInTime}
 
--- one time more, after all
+-- one more time, after all
 rises_more : (lo mid hi t : ℕ) (ts : List ℕ) → RisesTo lo mid ts → mid < t → t ≤ hi → RisesTo lo hi (ts ++ t ∷ [])
 rises_more lo mid hi t [] low later within = let le : lo ≤ mid = low in (omega arith, within)
 rises_more lo mid hi t (x ∷ ts) r later within = (r.0, rises_more x mid hi t ts r.1 later within)
@@ -27,7 +27,7 @@ last_more : (lo : ℕ) (ts : List ℕ) (t : ℕ) → last_of lo (ts ++ t ∷ [])
 last_more lo [] t = refl
 last_more lo (x ∷ ts) t = last_more x ts t
 
--- the times of one deed more, where it is one of those, and where it isn't
+-- the times of one more deed, where it is one of those, and where it isn't
 times_of_more : (f : Deed → Bool) (deeds : List TimedDeed) (d : TimedDeed) → times (those f (deeds ++ d ∷ [])) ≡ times (those f deeds) ++ times (those f (d ∷ []))
 times_of_more f deeds d =
     ap times (filter-append (λ (x : TimedDeed). f x.what) deeds (d ∷ [])) ∙ map-append (λ (x : TimedDeed). x.at) (those f deeds) (those f (d ∷ []))
@@ -41,7 +41,7 @@ none_of_those f d no_such = rw no_such refl
 abbrev pub deed : Deed → ℕ → TimedDeed
 deed what at = record { what = what; at = at }
 
--- a part of one deed more
+-- a part of one more deed
 part_more : (f : Deed → Bool) (deeds : List TimedDeed) (what : Deed) (t : ℕ) (old new : List ℕ) → new ≡ old ++ times (those f deeds) → f what ≡ true
     → new ++ t ∷ [] ≡ old ++ times (those f (deeds ++ deed what t ∷ []))
 part_more f deeds what t old new e is =

@@ -1,4 +1,4 @@
--- Once a message more is owed to one of several senders, and offered by it or not.
+-- Once one more message is owed to one of several senders, and offered by it or not.
 use Rattle.std.proofs.Common.{◌≡◌, ◌≢◌, ℕ, zero, suc, ◌+◌, arith, List, [], ◌∷◌, ◌++◌, length, Bool, true, false, ◌||◌, Some, inl, inr, refl, ap, sym, ◌∙◌, subst, append_assoc, append-nil}
 use Rattle.std.specs.Prelude.{slice_get, slice_set, Result, Ok, Err, OnOk, OnErr}
 use Rattle.std.proofs.Common.{length-set}
@@ -12,7 +12,7 @@ or_refused true b is = refl
 or_refused false b is = is
 
 module _ {M : Type 0} where
-  -- one element more of the whole, and of both
+  -- one more element of the whole, and of both
   pub part_more : (xs all : List M) (m : M) → IsPart xs all → IsPart xs (all ++ m ∷ [])
   part_more [] all m h = tt
   part_more (x ∷ xs) [] m h = absurd h
@@ -151,7 +151,7 @@ module _ {M : Type 0} where
   }
 
   module _ (moment at : ℕ) (message : Sender M → M) (old now next : List (Sender M)) where
-    -- a message more was accepted
+    -- one more message was accepted
     pub sent_more : (accepted accepted' : ℕ → List M) (m : M) → HaveSent accepted old now → (o : IsOffered moment at message true now next) → message o.sender ≡ m
         → OwesOneMore accepted accepted' at m → HaveSent accepted' old next
     sent_more accepted accepted' m x o is more =
@@ -185,7 +185,7 @@ module _ {M : Type 0} where
           ];
         }
 
-    -- a message more that is owed was offered
+    -- one more message that is owed was offered
     pub offered_more : (owed owed' : ℕ → List M) (accepted : Bool) (m : M) → HaveAccepted owed old now → (o : IsOffered moment at message accepted now next) → message o.sender ≡ m
         → OwesOneMore owed owed' at m → HaveAccepted owed' old next
     offered_more owed owed' accepted m x o is owes =

@@ -1,5 +1,6 @@
 -- What contracts see of a channel and its ends.
-use Rattle.std.specs.Prelude.{◌≡◌, ◌==◌, ℕ, zero, suc, ◌+◌, ◌<◌, Bool, false, length, if◌then◌else◌, slice_index_or, Option, Some, None, Result, Ok, Err, List, [], ◌∷◌, ◌++◌, map}
+use Rattle.std.specs.Prelude.{◌≡◌, ◌==◌, ℕ, zero, suc, ◌+◌, ◌<◌, Bool, false, length, if◌then◌else◌, slice_index_or}
+use Rattle.std.specs.Prelude.{Option, Some, None, Result, Ok, Err, List, [], ◌∷◌, ◌++◌, map}
 use Rattle.atomic_table.specs.Seated.{TableId}
 use Rattle.atomic_table.specs.declared.badge.Badge.{Badge}
 use Rattle.crossbeam_channel.specs.declared.flavors.array.Key.{Key}
@@ -126,7 +127,7 @@ module _ {M : Type 0} where
     pub took_more : new.took_at ≡ old.took_at ++ taken_at ∷ []
     pub timed : HaveMoments new.got_at new.took_at
 
-  -- no message more was taken
+  -- no further message was taken
   abbrev pub HasSameTimes : Inbox M → Inbox M → Type 0
   HasSameTimes old new = (new.got_at ≡ old.got_at) × (new.took_at ≡ old.took_at)
 

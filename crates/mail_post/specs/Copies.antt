@@ -2,7 +2,7 @@
 use Rattle.std.specs.Prelude.{ℕ, List}
 use Rattle.mail_world.specs.declared.Txn.{Txn}
 use Rattle.mail_world.specs.declared.Note.{Note}
-use Rattle.mbox_rd.specs.Envelope.{Envelope}
+use Rattle.mbox_record.specs.Envelope.{Envelope}
 
 -- the note of the transaction's copy for its recipient at that place, who has the mailbox of that number
 abbrev pub copy_of : Txn → ℕ → ℕ → Envelope → List ℕ → Note

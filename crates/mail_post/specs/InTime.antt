@@ -23,6 +23,7 @@ pub record Sorts : Type 0 where
 pub record AreInTime {A B : Type 0} (sorts : Sorts) (deeds : List TimedDeed) (old new : Ends A B) : Type 0 where
   pub rises : RisesTo (clock_of old.senders old.inbox) (clock_of new.senders new.inbox) (times deeds)
   pub as_many : length new.senders ≡ length old.senders
-  pub gave : (at : ℕ) (before after : Sender A) → slice_get old.senders at ≡ Some before → slice_get new.senders at ≡ Some after
+  pub gave : (at : ℕ) (before after : Sender A) → slice_get old.senders at ≡ Some before
+      → slice_get new.senders at ≡ Some after
       → after.sent_at ≡ before.sent_at ++ times (those (sorts.gives at) deeds)
   pub took : new.inbox.took_at ≡ old.inbox.took_at ++ times (those sorts.takes deeds)

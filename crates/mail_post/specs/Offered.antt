@@ -1,5 +1,6 @@
 -- Messages that senders are offered, and what their channels accept of what is owed to them.
-use Rattle.std.specs.Prelude.{◌≡◌, ◌⊎◌, ⊤, ℕ, Bool, true, false, List, [], ◌∷◌, ◌++◌, length, slice_get, slice_set, Some, ◌<◌}
+use Rattle.std.specs.Prelude.{◌≡◌, ◌⊎◌, ⊤, ℕ, Bool, true, false, List, [], ◌∷◌, ◌++◌, length, slice_get, slice_set}
+use Rattle.std.specs.Prelude.{Some, ◌<◌}
 use Rattle.std.specs.List.{list_any}
 use Rattle.mail_post.specs.Channel.{Sender}
 
@@ -24,8 +25,8 @@ module _ {M : Type 0} where
       record sender { sent = sender.sent ++ message ∷ []; sent_at = sender.sent_at ++ t ∷ [] }
   given sender message t false = record sender { refused = true }
 
--- The sender at that place was offered the message, which its channel accepted at a time after that one, or handed back.
--- A message may name its sender's number.
+-- The sender at that place was offered the message, which its channel accepted at a time after that one, or handed
+-- back. A message may name its sender's number.
 pub record IsOffered {M : Type 0} (moment at : ℕ) (message : Sender M → M) (accepted : Bool)
     (old new : List (Sender M)) : Type 0 where
   pub sender : Sender M

@@ -1,5 +1,6 @@
 -- A gatherer's fields, and what is true of them.
-use Rattle.std.specs.Prelude.{◌≡◌, ◌≤◌, Bool, not, List, [], ◌∷◌, length, take, count_by, if◌then◌else◌, Option, Some, None}
+use Rattle.std.specs.Prelude.{◌≡◌, ◌≤◌, Bool, not, List, [], ◌∷◌, length, take, count_by, if◌then◌else◌, Option, Some}
+use Rattle.std.specs.Prelude.{None}
 use Rattle.mail_world.specs.declared.Outcome.{Outcome}
 use Rattle.mail_post.specs.Gathering.{Gathering}
 use Rattle.mail_post.specs.declared.gather.Gather.TheInside.{Inside}

@@ -68,7 +68,8 @@ module _ {M : Type 0} where
       pub took_is : v.took_at ≡ times.took_at
       pub keeps : KeepsTime lane v.room (messages v.got) waiting sent_at times
       pub same : (k : ℕ) → k < length v.known
-          → (of lane k (messages v.got ++ waiting) ≡ slice_index_or v.known k []) × (sent_at k ≡ slice_index_or v.known_at k [])
+          → (of lane k (messages v.got ++ waiting) ≡ slice_index_or v.known k [])
+          × (sent_at k ≡ slice_index_or v.known_at k [])
       pub others : (k : ℕ) → v.lanes ≤ k → (of lane k (messages v.got ++ waiting) ≡ []) × (sent_at k ≡ [])
 
 -- the rule: the parcels of each lane, those taken and then those in the channel, are all that the lane was told was

@@ -1,5 +1,8 @@
 //! The channels between lanes and workers, a mailbox's copies and a lane's slips, and the gathering of a transaction's
 //! slips.
+//!
+//! Those at the ends use that of each lane what is taken is a prefix of what it was told was accepted, and all of it
+//! once the channel is closed. It never knows of threads or spools: of a copy it knows the envelope and the hold.
 #![tactic(auto)]
 
 mod channel;

@@ -4,7 +4,7 @@ ghost use Rattle.std.specs.Prelude.{◌≡◌};
 ghost use Rattle.mail_post.specs.Copies.{copy_of, envelope_of};
 
 use mail_world::Txn;
-use mbox_rd::Envelope;
+use mbox_record::Envelope;
 use msg_depot::{DepotName, Hold};
 use std::marker::Model;
 

@@ -131,7 +131,7 @@ impl<M: FromSender> Split<View<M>> for Opens {
     ghost right = { λ v. knower [] [] };
 }
 
-/// One lane more of which all is known.
+/// One more lane of which all is known.
 pub struct Ends;
 
 impl<M: FromSender> Join<View<M>> for Ends {

@@ -15,7 +15,7 @@ use Rattle.mail_progress.proofs.Shut.{closed_stays}
 use Rattle.mail_progress.proofs.CopiesLeft.{copies_left, goes_less}
 use Rattle.mail_progress.proofs.InTurn.{tried_in_turn}
 
--- a run and one event more
+-- a run and one more event
 record IsRunTo (room : ℕ) (start : House) (run : List Happened) (events : List Event) (h : House) : Type 0 where
   runs : Run start run
   orderly : IsOrderly room start run

@@ -36,7 +36,7 @@ AllSealedFor ns h = (k : ℕ) (lane : Lane) → LaneIs h k lane → LaneSealedFo
 before_last : (i n : ℕ) → i < n → (i + 1 < n) ⊎ (n ≡ i + 1)
 before_last i n low = grind arith
 
--- one message more, where nothing is left of the one before
+-- one more message, where nothing is left of the one before
 sealed_more : (ts : List SealedMessage) (ns : List ℕ) (t : SealedMessage) (n : ℕ) → t.offered ≡ 0 → AreSealedFor ts 0 ns → AreSealedFor (ts ++ t ∷ []) n (ns ++ n ∷ [])
 sealed_more ts ns t n none g =
     let longer : length (ts ++ t ∷ []) ≡ length ts + 1 = length-append ts (t ∷ []) in

@@ -1,7 +1,8 @@
 -- The order in which the steps that go on are tried.
 use Rattle.std.specs.Prelude.{◌⊎◌, ℕ, ◌≤◌, List}
 use Rattle.mail_world.specs.declared.Event.{Event}
-use Rattle.mail_world.specs.declared.Event.TheVariants.{Begin, Put, Cancel, Seal, Split, Offer, HandBack, Collect, Take, Write, Sync, Release, GiveSlip, Reclaim, Close}
+use Rattle.mail_world.specs.declared.Event.TheVariants.{Begin, Put, Cancel, Seal, Split, Offer, HandBack, Collect, Take}
+use Rattle.mail_world.specs.declared.Event.TheVariants.{Write, Sync, Release, GiveSlip, Reclaim, Close}
 use Rattle.mail_world.specs.House.{House, IsStart}
 use Rattle.mail_world.specs.Events.{MayHappen}
 use Rattle.mail_world.specs.Runs.{Happened, Run, last_house, events_of}

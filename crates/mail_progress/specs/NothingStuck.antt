@@ -1,9 +1,11 @@
 -- Whatever is under way can be moved, and by whom.
-use Rattle.std.specs.Prelude.{◌≡◌, ◌≢◌, ◌⊎◌, ℕ, Bool, ◌<◌, ◌≤◌, List, [], length, true, false, Some, None, slice_get, ◌==◌, ◌&&◌, map}
+use Rattle.std.specs.Prelude.{◌≡◌, ◌≢◌, ◌⊎◌, ℕ, Bool, ◌<◌, ◌≤◌, List, [], length, true, false, Some, None, slice_get}
+use Rattle.std.specs.Prelude.{◌==◌, ◌&&◌, map}
 use Rattle.std.specs.List.{list_any}
 use Rattle.mail_world.specs.declared.Txn.{Txn}
 use Rattle.mail_world.specs.declared.Event.{Event}
-use Rattle.mail_world.specs.declared.Event.TheVariants.{Begin, Put, Cancel, Seal, Split, Offer, HandBack, Collect, Take, Write, Sync, Release, GiveSlip, Reclaim, Close}
+use Rattle.mail_world.specs.declared.Event.TheVariants.{Begin, Put, Cancel, Seal, Split, Offer, HandBack, Collect, Take}
+use Rattle.mail_world.specs.declared.Event.TheVariants.{Write, Sync, Release, GiveSlip, Reclaim, Close}
 use Rattle.mail_world.specs.Depot.{Key, Slot, Sealed}
 use Rattle.mail_world.specs.House.{Hold, Post, Copy, Box, Lane, House, IsStart}
 use Rattle.mail_world.specs.Events.{LaneIs, BoxIs, MayHappen}

@@ -1,5 +1,6 @@
 -- How many events there may still be before a lane begins another message: a number that each of them lowers.
-use Rattle.std.specs.Prelude.{⊤, ℕ, ◌+◌, ◌-◌, ◌*◌, ◌<◌, ◌≤◌, List, [], ◌∷◌, ◌++◌, length, drop, sum_by, if◌then◌else◌, Option, Some, None}
+use Rattle.std.specs.Prelude.{⊤, ℕ, ◌+◌, ◌-◌, ◌*◌, ◌<◌, ◌≤◌, List, [], ◌∷◌, ◌++◌, length, drop, sum_by, if◌then◌else◌}
+use Rattle.std.specs.Prelude.{Option, Some, None}
 use Rattle.mail_world.specs.declared.limits.TheConstants.{BLOCK_SIZE}
 use Rattle.mail_world.specs.declared.Event.{Event}
 use Rattle.mail_world.specs.declared.Event.TheVariants.{Begin, Put, Offer, Write}
@@ -14,7 +15,7 @@ use Rattle.mail_progress.specs.Orderly.{uncollected, IsInOrder, IsOrderly}
 abbrev pub size : House → Note → ℕ
 size h note = length (record_of h.calendar h.host note)
 
--- a copy that a channel accepted is taken, written by one byte at a time at the least, synced and released, and its
+-- a copy that a channel accepted is taken, written at least one byte at a time, synced and released, and its
 -- slip is given and collected
 abbrev pub steps_of_copy : ℕ → ℕ
 steps_of_copy size = size + 5
@@ -41,7 +42,7 @@ steps_of_box h box =
     sum_by (λ post. steps_of_copy (size h post.note)) (drop box.taken box.accepted) + steps_in_hand h box.hand
     + (if box.closed then 0 else 1)
 
--- a draft grows by one byte at a time at the least, is sealed with at most as many copies as there is room for slips,
+-- a draft grows by at least one byte at a time, is sealed with at most as many copies as there is room for slips,
 -- and is reclaimed
 abbrev pub steps_of_slot : ℕ → ℕ → ℕ → Held → ℕ
 steps_of_slot blocks room bound Free = 0

@@ -138,7 +138,7 @@ module _ {A : Type 0} (at : A → ℕ) where
   none_of p lo hi [] r not = refl
   none_of p lo hi (x ∷ xs) r not = let above : lo < at x = r.0 in fails p x xs (not x above) ∙ none_of p (at x) hi xs r.1 (λ y a. not y (omega arith))
 
-  -- one time more
+  -- one more time
   next : (lo hi t : ℕ) (xs : List A) → Rises lo hi xs → early (t + 1) xs ≡ early t xs ++ here t xs
   next lo hi t [] r = refl
   next lo hi t (x ∷ xs) r = ⊎_elim

@@ -154,7 +154,7 @@ takes_on b w n d deeds e later (x ∷ before) after whole =
     ∙ length-append (given_to b (d ∷ [])) (given_to b before) in
     omega arith)
 
--- one turn more: a worker takes a copy and tells of it, and the lane hears it
+-- one more turn: a worker takes a copy and tells of it, and the lane hears it
 one_turn : (s : Server) (notes : ℕ → List Note) (outcomes : ℕ → List Outcome) (slip : Slip) (slips : List Slip) (deeds : List Deed) → s.lanes ≡ 1
     → AreLeft s notes outcomes (slip ∷ slips) → (o : OneLeft slip.worker slip (of_worker slip.worker slips) (outcomes slip.worker) (notes slip.worker))
     → AreTurns s (less slip.worker notes) (less slip.worker outcomes) slips deeds

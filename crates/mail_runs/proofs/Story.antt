@@ -35,7 +35,7 @@ orderly_more : (room : ℕ) (start : House) (run : List Happened) (x : Happened)
 orderly_more room start [] x o order = (order, tt)
 orderly_more room start (y ∷ run) x o order = (o.0, orderly_more room y.house run x o.1 order)
 
--- one step more
+-- one more step
 pub goes_on : {m : Manner} (h new : House) (event : Event) → Story m h → Step h event new → (Owed m → IsInOrder m.room h event) → Story m new
 goes_on {m} h new event story step order =
     let x : Happened = record { event = event; house = new } in

@@ -77,7 +77,7 @@ box_after s capacity course slip rest box stands =
       };
     }
 
--- and its lane has one slip more
+-- and its lane has one more slip
 abbrev with_slip : Lane → Slip → Lane
 with_slip lane slip = record lane { slips = lane.slips ++ slip ∷ [] }
 

@@ -3,7 +3,8 @@ use Rattle.std.specs.Prelude.{◌≡◌, ⊤, ℕ, ◌+◌, ◌<◌, ◌≤◌, 
 use Rattle.std.specs.List.{AllByRecursion}
 use Rattle.mail_world.specs.declared.Slip.{Slip}
 use Rattle.mail_world.specs.Lists.{Transaction, copies}
-use Rattle.mail_runs.specs.Deeds.{Deed, Gave, Took, Told, Heard, given_by, given_to, taken_by, told_to, heard_by, worked_by, turns_of}
+use Rattle.mail_runs.specs.Deeds.{Deed, Gave, Took, Told, Heard, given_by, given_to, taken_by, told_to, heard_by}
+use Rattle.mail_runs.specs.Deeds.{worked_by, turns_of}
 use Rattle.mail_runs.specs.Courses.{Server, Course, IsCourse}
 
 -- what the threads came to: the transactions of each lane, the slips that it heard, and each mailbox

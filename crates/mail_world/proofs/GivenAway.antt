@@ -68,7 +68,7 @@ count_some f (y ∷ xs) (suc i) x at e = omega (arith, count_some f xs i x at e,
 abbrev pub is_given : ℕ → ℕ → SealedMessage → Bool
 is_given number p t = (t.number == number) && nat_lt p t.offered
 
--- a place more
+-- one more place
 lt_more : (p n : ℕ) → ◌≡◌ {A = ℕ} (cond (nat_lt p (n + 1)) 1 0) (cond (nat_lt p n) 1 0 + cond (n == p) 1 0)
 lt_more p n = grind (arith, nat_tests)
 

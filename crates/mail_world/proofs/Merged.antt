@@ -76,7 +76,7 @@ handed_more : (k : ℕ) (events : List Event) (e : Event) (ms : List ℕ) → ha
 handed_more k events e ms is =
     flat_map-append (handed_back_by k) events (e ∷ []) ∙ ap (λ l. handed_back k events ++ l) (append-nil (handed_back_by k e) ∙ is)
 
--- what names one of the messages still does: one more was sealed, or a copy more of one is gone
+-- what names one of the messages still does: one more was sealed, or one more copy of one is gone
 of_more : (messages : List SealedMessage) (message : SealedMessage) (slip : Slip) → IsOfMessage messages slip → IsOfMessage (messages ++ message ∷ []) slip
 of_more messages message slip x = record { at = x.at; message = x.message; is = slice_get-append messages (message ∷ []) x.at x.message x.is; number = x.number; place = x.place }
 

@@ -51,7 +51,7 @@ transactions-append site n session (MailData text d ∷ ps) qs =
     ∙ ap (λ k. transactions_of site n (session_after site session (inputs_of p)) ps ++ transactions_of site (accepted_after site k (session_after site session (inputs_of p)) ps) (session_behind site session (p ∷ ps)) qs)
     (sym (same_behind_data site n session text d)))
 
--- one part more
+-- one more part
 pub accepted-snoc : (site : Site) (ps : List Part) (p : Part)
     → accepted_after site 0 fresh (ps ++ p ∷ []) ≡ accepted_behind site (accepted_after site 0 fresh ps) (session_behind site fresh ps) p
 accepted-snoc site ps p = accepted-append site 0 fresh ps (p ∷ [])

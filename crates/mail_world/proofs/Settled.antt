@@ -1,4 +1,4 @@
--- What is told of copies of which the first ones were settled, one copy more at a time.
+-- What is told of copies of which the first ones were settled, one more copy at a time.
 use Rattle.std.proofs.Common.{◌≡◌, ℕ, zero, suc, ◌+◌, ◌≤◌, ◌<◌, List, [], ◌∷◌, ◌++◌, length, Bool, true, false, Option, refl, ap, ◌∙◌, arith}
 use Rattle.std.specs.Prelude.{if◌then◌else◌}
 use Rattle.mail_world.specs.declared.Note.{Note}
@@ -21,7 +21,7 @@ length-outcomes n [] = refl
 length-outcomes zero (m ∷ marks) = ap (λ k. suc k) (length-outcomes zero marks)
 length-outcomes (suc n) (m ∷ marks) = ap (λ k. suc k) (length-outcomes n marks)
 
--- a copy more that was settled, and one that wasn't
+-- one more copy that was settled, and one that wasn't
 pub settled_more : (n : ℕ) (marks : List Bool) (m : Bool) → length marks < n → outcomes_settled n (marks ++ m ∷ []) ≡ outcomes_settled n marks ++ (if m then Stored else OverQuota) ∷ []
 settled_more zero marks m h = absurd (omega (arith, h))
 settled_more (suc n) [] m h = refl
@@ -92,7 +92,7 @@ module _ (calendar : Calendar) (host : List ℕ) (quota : Option ℕ) where
       let e = length-are_kept old notes in
       ap (λ os. slips_from w os notes) (all_settled n m (are_kept calendar host quota old notes) (omega (arith, h, e)) (omega (arith, i, e)))
 
-  -- what the mailbox keeps of one copy more
+  -- what the mailbox keeps of one more copy
   pub keeps_more : (old : List ℕ) (notes : List Note) (note : Note)
       → kept calendar host quota old (notes ++ note ∷ []) ≡ kept calendar host quota old notes ++ (if fits_after old notes note then note ∷ [] else [])
   keeps_more old notes note =

@@ -1,7 +1,9 @@
 -- What a command line means (RFC 5321, 4.1.1; RFC 2033, 4.1; RFC 1870, 3; RFC 6152, 2). The first rule that fits
 -- decides.
-use Rattle.std.specs.Prelude.{ℕ, ◌-◌, Bool, false, not, ◌&&◌, ◌||◌, ◌==◌, nat_lt, List, [], ◌∷◌, length, take, drop, filter, if◌then◌else◌, Option, Some, None, Result, Ok, Err, codes}
-use Rattle.std.specs.List.{list_any, list_all, prefix_len, suffix_len, before_first, after_first, slice_split, filter_map}
+use Rattle.std.specs.Prelude.{ℕ, ◌-◌, Bool, false, not, ◌&&◌, ◌||◌, ◌==◌, nat_lt, List, [], ◌∷◌, length, take, drop}
+use Rattle.std.specs.Prelude.{filter, if◌then◌else◌, Option, Some, None, Result, Ok, Err, codes}
+use Rattle.std.specs.List.{list_any, list_all, prefix_len, suffix_len, before_first, after_first, slice_split}
+use Rattle.std.specs.List.{filter_map}
 use Rattle.std.specs.Char.{is_ascii_digit}
 use Rattle.std.specs.Str.{byte, str_eq_ignore_ascii_case}
 use Rattle.std.specs.Str.Parse.{digits_value}
@@ -151,7 +153,8 @@ by_verb limit verb rest =
 -- The verb stands before the first space, the rest after it and after further spaces. The limit is that of a message.
 unfoldable pub command_at : ℕ → List ℕ → Answer
 command_at limit line =
-    let w = trimmed line in by_verb limit (before_first (λ b. b == space) w) (behind_spaces (after_first (λ b. b == space) w))
+    let w = trimmed line in
+    by_verb limit (before_first (λ b. b == space) w) (behind_spaces (after_first (λ b. b == space) w))
 
 -- so it is where the site names no other limit
 abbrev pub command : List ℕ → Answer

@@ -1,5 +1,6 @@
 -- A conversation: what is read, cut into inputs, and what is written.
-use Rattle.std.specs.Prelude.{◌≡◌, ⊤, ℕ, zero, suc, ◌+◌, Bool, true, false, nat_lt, List, [], ◌∷◌, ◌++◌, length, take, drop, flat_map, sum_by, count_by, if◌then◌else◌, Option, Some, None, option_map}
+use Rattle.std.specs.Prelude.{◌≡◌, ⊤, ℕ, zero, suc, ◌+◌, Bool, true, false, nat_lt, List, [], ◌∷◌, ◌++◌, length, take}
+use Rattle.std.specs.Prelude.{drop, flat_map, sum_by, count_by, if◌then◌else◌, Option, Some, None, option_map}
 use Rattle.mail_world.specs.declared.Outcome.{Outcome}
 use Rattle.mail_world.specs.declared.Verdict.{Verdict}
 use Rattle.mail_world.specs.declared.Verdict.TheVariants as verdicts
@@ -74,7 +75,8 @@ cut_then (Some c) more = c.part ∷ more c
 abbrev pub parts_within : ℕ → Site → Session → List ℕ → List Disposition → List Part
 parts_within zero site session s ds = []
 parts_within (suc n) site session s ds =
-    cut_then (cut session.state s ds) (λ c. parts_within n site (session_after site session (inputs_of c.part)) (drop c.size s) c.dispositions)
+    cut_then (cut session.state s ds)
+    (λ c. parts_within n site (session_after site session (inputs_of c.part)) (drop c.size s) c.dispositions)
 
 -- all of them: each takes a byte at least
 unfoldable pub parts : Site → Session → List ℕ → List Disposition → List Part
@@ -111,7 +113,8 @@ NoDataEnded _ s = ⊤
 pub record HasDispositions (site : Site) (session : Session) (s : List ℕ) (ds : List Disposition) : Type 0 where
   pub outcomes : AllFit site session (parts site session s ds)
   pub none_left : count_by is_data (parts site session s ds) ≡ length ds
-  pub none_lacks : NoDataEnded (session_behind site session (parts site session s ds)).state (drop (sum_by size_of (parts site session s ds)) s)
+  pub none_lacks : NoDataEnded (session_behind site session (parts site session s ds)).state
+      (drop (sum_by size_of (parts site session s ds)) s)
 
 -- what the peer sent until the conversation ended, what became of its data, and whether the peer said to stop
 pub record Conversation : Type 0 where

@@ -3,7 +3,8 @@ use Rattle.std.specs.List.{AllByRecursion}
 use Rattle.mail_world.specs.declared.Slip.{Slip}
 use Rattle.mail_world.specs.declared.limits.TheConstants.{NUMBER_LIMIT}
 use Rattle.mail_world.specs.Slips.{answers}
-use Rattle.std.specs.Prelude.{◌≡◌, ◌↔◌, ⊤, ◌<◌, ◌≤◌, length, map, Some, ℕ, ◌+◌, Bool, true, false, ◌==◌, List, [], ◌∷◌, ◌++◌, filter, flat_map, if◌then◌else◌}
+use Rattle.std.specs.Prelude.{◌≡◌, ◌↔◌, ⊤, ◌<◌, ◌≤◌, length, map, Some, ℕ, ◌+◌, Bool, true, false, ◌==◌, List, [], ◌∷◌}
+use Rattle.std.specs.Prelude.{◌++◌, filter, flat_map, if◌then◌else◌}
 use Rattle.mail_world.specs.declared.Note.{Note}
 use Rattle.mail_world.specs.declared.Verdict.{Verdict}
 use Rattle.mail_world.specs.declared.Verdict.TheVariants as verdicts
@@ -12,7 +13,8 @@ use Rattle.mail_world.specs.declared.State.TheVariants as states
 use Rattle.mail_world.specs.Data.{message}
 use Rattle.mail_world.specs.Site.{Site}
 use Rattle.mail_world.specs.Session.{Session, fresh}
-use Rattle.mail_world.specs.Conversation.{Disposition, Part, CommandLine, MailData, inputs_of, session_after, parts, Conversation}
+use Rattle.mail_world.specs.Conversation.{Disposition, Part, CommandLine, MailData, inputs_of, session_after, parts}
+use Rattle.mail_world.specs.Conversation.{Conversation}
 
 -- the notes of a lane, in their order
 abbrev pub of_lane : ℕ → List Note → List Note
@@ -92,7 +94,8 @@ pub record VerdictFits (limit : ℕ) (t : Transaction) : Type 0 where
 -- the outcomes of a whole message are those of the slips
 abbrev pub OutcomesIn : ℕ → List Slip → Transaction → Verdict → Type 0
 OutcomesIn lane slips t verdicts.Whole =
-    map (λ o. Some o) t.disposition.outcomes ≡ answers (record { lane = lane; number = t.number }) (length t.session.recipients) slips
+    map (λ o. Some o) t.disposition.outcomes
+    ≡ answers (record { lane = lane; number = t.number }) (length t.session.recipients) slips
 OutcomesIn lane slips t _ = ⊤
 
 -- so it is for all transactions of a lane

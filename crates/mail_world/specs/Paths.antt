@@ -1,11 +1,14 @@
 -- Paths read from the head of a text: what was found, and what follows it. The grammar has one reading of each text
 -- (laws.rt).
-use Rattle.std.specs.Prelude.{◌≡◌, ◌++◌, ℕ, suc, ◌+◌, ◌-◌, Bool, true, false, not, ◌&&◌, ◌||◌, ◌==◌, nat_lt, nat_le, List, [], ◌∷◌, length, take, drop, if◌then◌else◌, Option, Some, None, option_map, option_and_then, codes}
+use Rattle.std.specs.Prelude.{◌≡◌, ◌++◌, ℕ, suc, ◌+◌, ◌-◌, Bool, true, false, not, ◌&&◌, ◌||◌, ◌==◌, nat_lt, nat_le}
+use Rattle.std.specs.Prelude.{List, [], ◌∷◌, length, take, drop, if◌then◌else◌, Option, Some, None, option_map}
+use Rattle.std.specs.Prelude.{option_and_then, codes}
 use Rattle.std.specs.List.{list_all, prefix_len, before_first, after_first, slice_split}
 use Rattle.std.specs.Str.{byte}
 use Rattle.mail_world.specs.declared.limits.TheConstants.{NAME_LIMIT, PATH_LIMIT}
 use Rattle.mail_world.specs.Text.{has_byte, begins, begins_with}
-use Rattle.mail_world.specs.Grammar.{is_between, is_plain, is_of_domain, is_of_literal, is_domain, Target, IsPath, mailbox_text, path_text}
+use Rattle.mail_world.specs.Grammar.{is_between, is_plain, is_of_domain, is_of_literal, is_domain, Target, IsPath}
+use Rattle.mail_world.specs.Grammar.{mailbox_text, path_text}
 
 -- Of a quoted local part, how many bytes stand before the quote that closes it. `escaped`: a backslash stands before
 -- the text.
@@ -46,7 +49,10 @@ host_at text = if begins (byte "[") text then literal_at text else domain_at tex
 abbrev pub with_host : Bool → Found (List ℕ) → Option (Found Target)
 with_host quoted local =
     if begins (byte "@") local.rest
-    then option_map (λ host. record { value = record { local = local.value; quoted = quoted; domain = Some host.value }; rest = host.rest }) (host_at (drop 1 local.rest))
+    then option_map (λ host. record {
+      value = record { local = local.value; quoted = quoted; domain = Some host.value };
+      rest = host.rest;
+    }) (host_at (drop 1 local.rest))
     else Some (record { value = record { local = local.value; quoted = quoted; domain = None }; rest = local.rest })
 
 abbrev pub mailbox_at : List ℕ → Option (Found Target)
@@ -63,7 +69,8 @@ is_hop text = begins (byte "@") text && is_domain (drop 1 text)
 abbrev pub behind_route : List ℕ → Option (List ℕ)
 behind_route text =
     if not (begins (byte "@") text) then Some text
-    else if has_byte text (byte ":") && list_all is_hop (slice_split (λ b. b == byte ",") (before_first (λ b. b == byte ":") text))
+    else if has_byte text (byte ":")
+    && list_all is_hop (slice_split (λ b. b == byte ",") (before_first (λ b. b == byte ":") text))
     then Some (after_first (λ b. b == byte ":") text)
     else None
 

@@ -1,6 +1,7 @@
 -- The session (RFC 5321, 4.1.4, for the order of commands; RFC 2033, 4.2, for a reply to each recipient after the
 -- data).
-use Rattle.std.specs.Prelude.{ℕ, nat_lt, List, [], ◌∷◌, ◌++◌, length, zip, map, if◌then◌else◌, Option, Some, None, Result, Ok, Err}
+use Rattle.std.specs.Prelude.{ℕ, nat_lt, List, [], ◌∷◌, ◌++◌, length, zip, map, if◌then◌else◌, Option, Some, None}
+use Rattle.std.specs.Prelude.{Result, Ok, Err}
 use Rattle.mail_world.specs.declared.Outcome.{Outcome}
 use Rattle.mail_world.specs.declared.Outcome.TheVariants as outcomes
 use Rattle.mail_world.specs.declared.Verdict.{Verdict}
@@ -60,7 +61,8 @@ abbrev pub add_recipient : Session → Option ℕ → Transition
 add_recipient s None = says replies.NoSuchBox s
 add_recipient s (Some box) =
     if nat_lt (length s.recipients) RECIPIENT_LIMIT
-    then says replies.RecipientOk (record { state = Recipients; client = s.client; sender = s.sender; recipients = s.recipients ++ box ∷ [] })
+    then says replies.RecipientOk
+    (record { state = Recipients; client = s.client; sender = s.sender; recipients = s.recipients ++ box ∷ [] })
     else says replies.TooMany s
 
 abbrev pub on_rcpt : State → Session → Option ℕ → Transition

@@ -1,9 +1,11 @@
 -- What a server is named and serves.
-use Rattle.std.specs.Prelude.{◌≡◌, ◌≤◌, ℕ, Bool, false, not, ◌&&◌, ◌||◌, nat_lt, nat_le, ◌==◌, List, [], ◌∷◌, length, if◌then◌else◌, Option, Some, None, slice_get, unwrap_or, codes, IfSome, true}
+use Rattle.std.specs.Prelude.{◌≡◌, ◌≤◌, ℕ, Bool, false, not, ◌&&◌, ◌||◌, nat_lt, nat_le, ◌==◌, List, [], ◌∷◌, length}
+use Rattle.std.specs.Prelude.{if◌then◌else◌, Option, Some, None, slice_get, unwrap_or, codes, IfSome, true}
 use Rattle.std.specs.List.{list_all}
 use Rattle.std.specs.Char.{is_ascii_alphanumeric, is_ascii_lowercase, is_ascii_digit}
 use Rattle.std.specs.Str.{byte, bytes_eq}
-use Rattle.mail_world.specs.declared.limits.TheConstants.{NAME_LIMIT, BOX_NAME_LIMIT, BOX_LIMIT, LEAST_MESSAGE_LIMIT, LARGEST_MESSAGE_LIMIT}
+use Rattle.mail_world.specs.declared.limits.TheConstants.{NAME_LIMIT, BOX_NAME_LIMIT, BOX_LIMIT, LEAST_MESSAGE_LIMIT}
+use Rattle.mail_world.specs.declared.limits.TheConstants.{LARGEST_MESSAGE_LIMIT}
 use Rattle.mail_world.specs.Text.{has_byte, begins}
 
 -- the host's name, the further domains, the names of the mailboxes, how many bytes a message may have, and the byte

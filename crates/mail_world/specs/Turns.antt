@@ -16,7 +16,7 @@ pub record Standing : Type 0 where
   pub synced : ℕ
   pub failures : ℕ
 
--- what came of asking for a turn: the mailbox at its lock and at its unlock, where it was had
+-- what came of asking for a turn: the mailbox at its lock and at its unlock, where it wasn't missed
 pub data Turn : Type 0 where
   NotHad : Turn
   Had : Standing → Standing → Turn
@@ -62,7 +62,7 @@ IsTurn calendar host quota note OverQuota (Had lock unlock) = IsFullTurn calenda
 IsTurn calendar host quota note Failed (Had lock unlock) = IsBrokenTurn calendar host quota note lock unlock
 IsTurn calendar host quota note _ _ = ⊥
 
--- a turn that was had, and whose copy is told Failed, broke
+-- a turn that wasn't missed, and whose copy is told Failed, broke
 abbrev pub breaks : Outcome → Turn → Bool
 breaks Failed (Had lock unlock) = true
 breaks _ _ = false

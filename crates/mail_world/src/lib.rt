@@ -1,4 +1,9 @@
-//! What delivered mail, replies and mailboxes are: the definitions that all other crates cite.
+//! What delivered mail, replies and mailboxes are: the definitions that all other crates cite (`specs/`), the plain
+//! types that contracts speak of, and the limits.
+//!
+//! Functions with empty bodies state laws of the definitions (`laws`), worked examples (`rows`), and what holds in
+//! every run of a server as a model (`runs`, `steps`). Every crate above may name it. It never knows how a value is
+//! computed, kept in memory or shared: a thread is a number here, and what it does an event.
 #![tactic(auto)]
 
 use std::collections::LinkedList;

@@ -1,4 +1,4 @@
--- A letter that has begun: lines more, its end, the next letter.
+-- A letter that has begun: more lines, its end, the next letter.
 use Rattle.std.proofs.Common.{◌≡◌, inl, inr, ℕ, suc, Bool, true, false, cond, ◌&&◌, ◌==◌, List, [], ◌∷◌, ◌++◌, map, length, sym, ap, subst, ◌∙◌, refl, append_assoc, append-nil, true≢false}
 use Rattle.std.specs.Prelude.{codes}
 use Rattle.std.specs.Str.{byte}
@@ -11,9 +11,9 @@ use Rattle.mail_world.specs.Reading.{Letter, IsLetter, AreLetters, letter_text, 
 use Rattle.mail_world.proofs.OneLine.{one_line-tail, head_byte}
 use Rattle.mail_world.proofs.Letters.{ends-with_lf}
 use Rattle.mail_world.proofs.OneReading.{all-append}
-use Rattle.mbox_rd.specs.Letters.{is_boundary}
-use Rattle.mbox_rd.proofs.Bodies.{begins_from, lines-whole}
-use Rattle.mbox_rd.proofs.Mailboxes.{letter-lines, boundary-letters}
+use Rattle.mbox_record.specs.Letters.{is_boundary}
+use Rattle.mbox_record.proofs.Bodies.{begins_from, lines-whole}
+use Rattle.mbox_record.proofs.Mailboxes.{letter-lines, boundary-letters}
 use Rattle.mbox_check.specs.Form.{IsMailbox, BeginsMailbox}
 use Rattle.mbox_check.specs.SoFar.{EndsInLine, IsBody}
 use Rattle.mbox_check.proofs.MailLines.{no_nil, written_end}
@@ -67,7 +67,7 @@ length-push (x ∷ ls) l = ap (λ n. suc n) (length-push ls l)
 written-push : (ls : List Letter) (l : Letter) → written (ls ++ l ∷ []) ≡ written ls ++ (codes "From " ++ (l.head ++ lf ∷ (quoted_text l.body ++ lf ∷ [])))
 written-push ls l = flat_map-append letter_text ls (l ∷ []) ∙ ap (λ t. written ls ++ t) (letter-lines l [])
 
--- ---- a line more
+-- ---- one more line
 
 quoted_by : (b : ℕ) (line : List ℕ) (t : Bool) → ((b == byte ">") && is_from_line line) ≡ t → begins_from (b ∷ line) ≡ false → quoted (cond t line (b ∷ line)) ≡ b ∷ line
 quoted_by b line true e plain =

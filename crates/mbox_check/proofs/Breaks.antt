@@ -5,7 +5,7 @@ use Rattle.std.proofs.lemmas.List.{length-append, take_all}
 use Rattle.mail_world.specs.Counts.{counted}
 use Rattle.mail_world.specs.Text.{lf}
 use Rattle.mail_world.specs.Reading.{Letter, written}
-use Rattle.mbox_rd.specs.Letters.{is_boundary}
+use Rattle.mbox_record.specs.Letters.{is_boundary}
 use Rattle.mbox_check.specs.declared.place.Part.{Part}
 use Rattle.mbox_check.specs.declared.place.Place.{Place}
 use Rattle.mbox_check.specs.declared.place.Place.TheVariants.{Front, Open, Line, Inside}
@@ -14,7 +14,7 @@ use Rattle.mbox_check.specs.Form.{IsMailbox, BeginsMailbox, BreaksAt, IsBad}
 use Rattle.mbox_check.specs.Places.{part_text, next_byte, longer, is_whole, bad_at}
 use Rattle.mbox_check.specs.SoFar.{IsLine, IsAt}
 use Rattle.mbox_check.proofs.MailLines.{from_behind}
-use Rattle.mbox_rd.proofs.Mailboxes.{boundary-letters}
+use Rattle.mbox_record.proofs.Mailboxes.{boundary-letters}
 use Rattle.mbox_check.proofs.Bodies.{ends_not_lf, ends_not_empty}
 use Rattle.mbox_check.proofs.Begins.{part_grown, boundary_else, line_started, started_begins, at_begins, at_short, front_bad, open_good, line_good, inside_good}
 

@@ -6,7 +6,7 @@ use Rattle.mail_world.specs.Counts.{counted}
 use Rattle.mail_world.specs.Text.{lf, IsOneLine}
 use Rattle.mail_world.specs.Reading.{Letter, AreLetters, written}
 use Rattle.mail_world.proofs.OneLine.{one_line-cons, one_line-append, literal}
-use Rattle.mbox_rd.specs.Letters.{is_boundary}
+use Rattle.mbox_record.specs.Letters.{is_boundary}
 use Rattle.mbox_check.specs.declared.place.Part.{Part}
 use Rattle.mbox_check.specs.declared.place.Part.TheVariants.{Nothing, F, Fr, Fro, From}
 use Rattle.mbox_check.specs.declared.place.Place.{Place}
@@ -16,7 +16,7 @@ use Rattle.mbox_check.specs.declared.place.Effect.TheVariants.{To, Begin, Break}
 use Rattle.mbox_check.specs.Form.{IsBad}
 use Rattle.mbox_check.specs.Places.{part_text, next_byte, longer, is_nothing, line_place, front_with, open_with, line_with, effect_of, bad_at}
 use Rattle.mbox_check.specs.SoFar.{EndsInLine, IsBody, IsOpen, IsLine, IsInside, IsAt}
-use Rattle.mbox_rd.proofs.Mailboxes.{boundary-letters}
+use Rattle.mbox_record.proofs.Mailboxes.{boundary-letters}
 use Rattle.mbox_check.proofs.Bodies.{ends_behind, line_ends, body_line, body_ended, body_first}
 use Rattle.mbox_check.proofs.Begins.{part_one, part_grown, part_else, ends_in_part, IsStarted, open_started, line_started, started_begins, started_line}
 use Rattle.mbox_check.proofs.Breaks.{front_breaks, line_breaks}

@@ -1,8 +1,8 @@
 -- What is left of earlier tries for a turn.
 use Rattle.std.proofs.Common.{◌≡◌, ℕ, ◌≤◌, arith, refl, ◌∙◌, subst, inl, inr, Option, Some, None}
 use Rattle.mail_world.specs.Failures.{Rises}
-use Rattle.mbox_rd.specs.declared.file.FileEnd.{FileEnd}
-use Rattle.mbox_rd.specs.MailboxFile.{FileState, LeavesNoLockFile}
+use Rattle.mbox_file.specs.declared.file.FileEnd.{FileEnd}
+use Rattle.mbox_file.specs.MailboxFile.{FileState, LeavesNoLockFile}
 use Rattle.mbox_rd.specs.Turn.{HasBegun, HasMissed, HasTried, IsBetweenTries}
 
 -- from a count that is no larger

@@ -3,7 +3,7 @@ use Rattle.std.specs.Prelude.{◌≡◌, ℕ, ◌+◌, ◌-◌, ◌^◌, min, Bo
 use Rattle.std.specs.Io.KnownBytes.{append_known}
 use Rattle.std.specs.Io.Buffered.{writer_inner, writer_buffer}
 use Rattle.mail_world.specs.Fronts.{IsFront}
-use Rattle.mbox_rd.specs.declared.spool.Tail.{Tail}
+use Rattle.mbox_record.specs.declared.spool.Tail.{Tail}
 use Rattle.mbox_rd.specs.declared.file.Sink.{Sink}
 use Rattle.mbox_rd.specs.declared.file.Sink.TheVariants.{Sound, Broken}
 
@@ -53,7 +53,7 @@ pub record Breaks {F : Type 0} (contents : F → Option (List ℕ)) (old new : F
   pub failed : new.failures ≡ min (old.failures + 1) (2 ^ 64 - 1)
   pub held : new.held ≡ old.held
 
--- it only counts one failure more
+-- it only counts one more failure
 abbrev pub failed_again : {F : Type 0} → FileSpool F → FileSpool F
 failed_again spool = record spool { failures = min (spool.failures + 1) (2 ^ 64 - 1) }
 

@@ -1,14 +1,3 @@
-pub mod Envelope
-pub mod Sharing
-pub mod Spool
-pub mod MemorySpool
 pub mod FileSpool
-pub mod MailboxFile
 pub mod Turn
 pub mod SharedSpool
-pub mod CountSpool
-pub mod Mending
-pub mod Parts
-pub mod Writing
-pub mod Steps
-pub mod Letters

@@ -3,9 +3,9 @@ use Rattle.std.specs.Prelude.{◌≡◌, ℕ, ◌+◌, ◌-◌, ◌^◌, min, �
 use Rattle.mail_world.specs.Counts.{counted}
 use Rattle.mail_world.specs.Failures.{Rises}
 use Rattle.mail_world.specs.Fronts.{IsFront}
-use Rattle.mbox_rd.specs.declared.spool.Tail.{Tail}
-use Rattle.mbox_rd.specs.MailboxFile.{FileState, LeavesNoLockFile}
-use Rattle.mbox_rd.specs.Spool.{tail_of}
+use Rattle.mbox_record.specs.declared.spool.Tail.{Tail}
+use Rattle.mbox_file.specs.MailboxFile.{FileState, LeavesNoLockFile}
+use Rattle.mbox_record.specs.Spool.{tail_of}
 use Rattle.mbox_rd.specs.Turn.{IsCutBack}
 
 pub record SharedSpool (F : Type 0) : Type 0 where
@@ -25,10 +25,10 @@ pub record SharedSpool (F : Type 0) : Type 0 where
   pub began : ℕ
   -- how the file ended then, with the bytes taken since
   pub tail : Tail
-  -- so long it was, and the bytes taken since; it stays at 2^64 - 1
+  -- how long it was, and the bytes taken since; it stays at 2^64 - 1
   pub held : ℕ
   pub failures : ℕ
-  -- how many turns weren't had
+  -- how many turns were missed
   pub refusals : ℕ
 
 -- the file's bytes and then what waits
@@ -75,7 +75,7 @@ pub record StartsTurn {F : Type 0} (old new : SharedSpool F) : Type 0 where
     held = new.began;
   }
 
--- a turn that isn't had is counted, and else only the file may have changed
+-- a missed turn is counted, and else only the file may have changed
 abbrev pub CountsRefusal : {F : Type 0} → SharedSpool F → SharedSpool F → Type 0
 CountsRefusal old new = new ≡ record old { file = new.file; refusals = counted (old.refusals + 1) }
 
@@ -122,7 +122,7 @@ pub record StaysSound {F : Type 0} (old new : SharedSpool F) : Type 0 where
     held = new.held;
   }
 
--- it only counts one failure more, and is broken from then on
+-- it only counts one more failure, and is broken from then on
 abbrev pub failed_again : {F : Type 0} → SharedSpool F → SharedSpool F
 failed_again spool = record spool {
   waiting = [];

@@ -1,8 +1,8 @@
 -- How a turn at the file of a shared spool begins and ends.
 use Rattle.std.specs.Prelude.{◌≡◌, ◌⊎◌, ℕ, ◌≤◌, true, false, length, take, Option, Some, None}
 use Rattle.mail_world.specs.Failures.{Rises}
-use Rattle.mbox_rd.specs.declared.file.FileEnd.{FileEnd}
-use Rattle.mbox_rd.specs.MailboxFile.{FileState, IsSharedSince, LeavesNoLockFile, HasRefused, IsEnd}
+use Rattle.mbox_file.specs.declared.file.FileEnd.{FileEnd}
+use Rattle.mbox_file.specs.MailboxFile.{FileState, IsSharedSince, LeavesNoLockFile, HasRefused, IsEnd}
 
 -- Both locks are held, on the file that the path names, and its end is known. Nothing was written.
 pub record HasBegun (old new : FileState) (end : FileEnd) : Type 0 where

@@ -1,28 +1,26 @@
 //! A mailbox in a file: what it takes waits in a buffer, and a sync writes it and has it kept.
-ghost use Rattle.std.specs.Prelude.{◌≡◌, ◌↔◌, ◌+◌, ◌-◌, ◌^◌, ◌<◌, ◌≤◌, [], true, false, min, length, take, None, IsErr, IfOk};
+ghost use Rattle.std.specs.Prelude.{◌≡◌, ◌↔◌, ◌+◌, ◌-◌, ◌^◌, ◌<◌, ◌≤◌, [], true, false, min, length, take, None, IsErr};
+ghost use Rattle.std.specs.Prelude.{IfOk};
 ghost use Rattle.std.specs.Prelude.{OnOk, OnErr};
 ghost use Rattle.std.specs.Io.Buffered.{writer_buffer, writer_contents};
 ghost use Rattle.std.specs.Io.KnownBytes.{Appends, Keeps};
 ghost use Rattle.std.specs.IoError.{error_kind};
 ghost use Rattle.mail_world.specs.Counts.{counted};
 ghost use Rattle.mail_world.specs.Failures.{Rises};
-ghost use Rattle.mbox_rd.specs.Spool.{SpoolTook, SpoolFailed, HasSynced, HasNotSynced};
+ghost use Rattle.mbox_record.specs.Spool.{SpoolTook, SpoolFailed, HasSynced, HasNotSynced};
 
-use crate::spool::{InUse, Spool, SpoolFault, Tail, tail_of};
 use core::mem::replace_with;
+use mbox_file::{FileLock, OWNER_ONLY, end_of_file, open_or_make};
+use mbox_record::{InUse, Spool, SpoolFault, Tail};
 use std::alloc::Global;
-use std::fs::{File, Files, OpenFile, OpenOptions, Permissions};
+use std::fs::{Files, OpenFile};
 use std::io;
-use std::io::{BufWriter, ErrorKind, Read, Seek, SeekFrom, Write};
+use std::io::{BufWriter, ErrorKind, Read, Seek, Write};
 use std::marker::Model;
-use std::os::unix::fs::{OpenOptionsExt, PermissionsExt};
 use thiserror::Error;
 
 /// The bytes that wait at most before they are written.
 pub(crate) const BUFFER_SIZE: usize = 65_536;
-
-/// The permission bits of a file that is made: its owner reads and writes it, and nobody else.
-pub(crate) const OWNER_ONLY: u32 = 0o600;
 
 /// Why a mailbox's file can't be used.
 #[derive(Clone, Copy, Debug, PartialEq, Eq, Error)]
@@ -34,19 +32,6 @@ pub enum OpenFault {
     /// can't be read, or its folder can't be synced.
     #[error("cannot open")]
     Open,
-}
-
-/// The lock on an open file as a trait, so that a test can stand in for it.
-pub trait FileLock {
-    /// Locks the whole file until it is closed. It fails at once, with `ErrorKind::WouldBlock`, where
-    /// another open of the same file has it locked.
-    fn try_lock(&self) -> io::Result<()>;
-}
-
-impl FileLock for File {
-    fn try_lock(&self) -> io::Result<()> {
-        Ok(File::try_lock(self)?)
-    }
 }
 
 /// A spool over a file that takes bytes at its end. They wait in a buffer of 65,536 bytes until that is
@@ -117,58 +102,6 @@ impl<F: Read + Write + Seek + OpenFile + FileLock + Drop> FileSpool<F> {
     }
 }
 
-pub(crate) fn open_or_make<R: Files>(rt: &R, path: &str, mode: u32) -> io::Result<R::File> {
-    let made = OpenOptions::new()
-        .read(true)
-        .append(true)
-        .create_new(true)
-        .mode(mode)
-        .open(rt, path);
-    match made {
-        Ok(file) => {
-            if mode != OWNER_ONLY {
-                // what the process's mask took away
-                file.set_permissions(Permissions::from_mode(mode))?;
-            }
-            File::open(rt, folder_of(path))?.sync_all()?;
-            Ok(file)
-        }
-        Err(error) if error.kind() == ErrorKind::AlreadyExists => {
-            OpenOptions::new().read(true).append(true).open(rt, path)
-        }
-        Err(error) => Err(error),
-    }
-}
-
-fn folder_of(path: &str) -> &str {
-    match path.rsplit_once('/') {
-        None => ".",
-        Some(("", _)) => "/",
-        Some((folder, _)) => folder,
-    }
-}
-
-/// Where a file ends, and how.
-#[derive(Clone, Copy, Debug, PartialEq, Eq)]
-pub struct FileEnd {
-    pub at: u64,
-    pub tail: Tail,
-}
-
-// The last two bytes tell how a file ends.
-pub(crate) fn end_of_file<F: Read + Seek>(file: &mut F) -> io::Result<FileEnd> {
-    let at = file.seek(SeekFrom::End(0))?;
-    let count = at.min(2);
-    file.seek(SeekFrom::Start(at - count))?;
-    let mut last = [0; 2];
-    let last = &mut last[..count as usize];
-    file.read_exact(last)?;
-    Ok(FileEnd {
-        at,
-        tail: tail_of(last),
-    })
-}
-
 pub(crate) fn fault_of(error: io::Error) -> OpenFault
     ensures { (result ≡ OpenFault.Memory) ↔ (error_kind error ≡ ErrorKind.OutOfMemory) }
 {
@@ -222,7 +155,7 @@ fn write_and_keep<F: Write + OpenFile + Drop>(writer: &mut BufWriter<F>) -> io::
 
 impl<F: Write + OpenFile + Drop> Spool for FileSpool<F> {
     ghost use Rattle.std.specs.Prelude.{None};
-    ghost use Rattle.mbox_rd.specs.Sharing.{alone};
+    ghost use Rattle.mbox_record.specs.Sharing.{alone};
     ghost use Rattle.mbox_rd.specs.FileSpool.{StaysSound, Breaks, contents_of, failed_again};
 
     ghost state = { λ s. record {

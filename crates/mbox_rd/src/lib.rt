@@ -1,39 +1,21 @@
-//! Mailboxes in the mboxrd format (RFC 4155): the record of a delivered message, the spools that take it, and the
-//! letters that are read back.
+//! Mailboxes in the mboxrd format (RFC 4155) in files: a spool over a file that one program has alone, and one over a
+//! file that others use too, in turns.
+//!
+//! The program opens both by their paths, and has the names of the records and of the files below from here too. What
+//! a record is, how a file is locked and what the system says of it is never known here.
 #![tactic(auto)]
 
-mod append;
-mod count;
-mod envelope;
 mod file;
-mod head;
-mod letter;
-mod mailbox_file;
-mod memory;
-mod memory_file;
-mod mending;
-mod pending;
-mod plain;
-mod range_lock;
-mod reading;
-mod record;
+mod opening;
 mod shared;
-mod spool;
-mod stale;
-mod std_file;
 mod turn;
 
-pub use count::CountSpool;
-pub use envelope::Envelope;
-pub use file::{FileEnd, FileLock, FileSpool, OpenFault};
-pub use letter::Letter;
-pub use mailbox_file::MailboxFile;
-pub use memory::MemorySpool;
-pub use memory_file::MemoryFile;
-pub use mending::mend;
-pub use range_lock::{LockKind, RangeLock};
-pub use reading::{BadMailbox, read_mailbox};
-pub use record::RecordWriter;
+pub use file::{FileSpool, OpenFault};
+pub use mbox_file::{
+    FileEnd, FileLock, LockKind, MailboxFile, MemoryFile, RangeLock, StdMailboxFile,
+};
+pub use mbox_record::{
+    BadMailbox, CountSpool, Envelope, InUse, Letter, MemorySpool, RecordWriter, Spool, SpoolFault,
+    Tail, mend, read_mailbox,
+};
 pub use shared::SharedSpool;
-pub use spool::{InUse, Spool, SpoolFault, Tail};
-pub use std_file::StdMailboxFile;

@@ -1,18 +1,19 @@
 //! A mailbox in a file that other programs read and empty too: it takes bytes in turns, and what stands there is
 //! looked at again in each.
-ghost use Rattle.std.specs.Prelude.{◌≡◌, ◌⊎◌, ◌↔◌, ℕ, ◌+◌, ◌-◌, ◌^◌, ◌<◌, ◌≤◌, [], List, ◌++◌, true, false, min, length, take};
+ghost use Rattle.std.specs.Prelude.{◌≡◌, ◌⊎◌, ◌↔◌, ℕ, ◌+◌, ◌-◌, ◌^◌, ◌<◌, ◌≤◌, [], List, ◌++◌, true, false, min};
+ghost use Rattle.std.specs.Prelude.{length, take};
 ghost use Rattle.std.specs.Prelude.{None, IsErr, IfOk, OnOk, OnErr};
 ghost use Rattle.std.specs.Option.{IfSome};
 ghost use Rattle.mail_world.specs.Counts.{counted};
 ghost use Rattle.mail_world.specs.Failures.{Rises};
 ghost use Rattle.mail_world.specs.Fronts.{IsFront};
-ghost use Rattle.mbox_rd.specs.Spool.{SpoolTook, SpoolFailed, HasSynced, HasNotSynced, AsksForTurn, EndsTurn, tail_of};
+ghost use Rattle.mbox_record.specs.Spool.{SpoolTook, SpoolFailed, HasSynced, HasNotSynced, AsksForTurn, EndsTurn};
+ghost use Rattle.mbox_record.specs.Spool.{tail_of};
 
-use crate::count::tail_behind;
-use crate::file::{BUFFER_SIZE, FileEnd};
-use crate::mailbox_file::MailboxFile;
-use crate::spool::{InUse, Spool, SpoolFault, Tail};
+use crate::file::BUFFER_SIZE;
 use crate::turn::{cut_back, let_go, tries_in, wait_for_turn};
+use mbox_file::{FileEnd, MailboxFile};
+use mbox_record::{InUse, Spool, SpoolFault, Tail, tail_behind};
 use std::alloc::{AllocError, Global};
 use std::io;
 use std::marker::Model;
@@ -94,7 +95,7 @@ impl<F: MailboxFile + Drop, C: Clock + Drop> SharedSpool<F, C> {
 }
 
 impl<F: MailboxFile + Drop, C: Clock + Drop> SharedSpool<F, C> {
-    ghost use Rattle.mbox_rd.specs.MailboxFile.{HasWritten, HasNotWritten};
+    ghost use Rattle.mbox_file.specs.MailboxFile.{HasWritten, HasNotWritten};
     ghost use Rattle.mbox_rd.specs.SharedSpool.{KeepsAll, HasLost, failed_again};
 
     // Counts a failure, and throws away what waits.
@@ -133,7 +134,7 @@ impl<F: MailboxFile + Drop, C: Clock + Drop> SharedSpool<F, C> {
         self.file.keep()
     }
 
-    // Counts a turn that wasn't had.
+    // Counts a missed turn.
     fn refuse(&mut self, in_use: InUse) -> Result<Option<u64>, InUse>
         ensures new { self.new ≡ record self.old { refusals = counted (self.old.refusals + 1) } }
         ensures result { result ≡ Err in_use }
@@ -193,7 +194,8 @@ impl<F: MailboxFile + Drop, C: Clock + Drop> SharedSpool<F, C> {
 impl<F: MailboxFile + Drop, C: Clock + Drop> Spool for SharedSpool<F, C> {
     ghost use Rattle.std.specs.Prelude.{None};
     ghost use Rattle.mbox_rd.specs.SharedSpool.{HasTurn, HasNoTurn, StartsTurn, CountsRefusal, HasEnded, StopsTurn};
-    ghost use Rattle.mbox_rd.specs.SharedSpool.{HasTaken, KeepsAll, StaysSound, Breaks, HasLost, failed_again, contents_of};
+    ghost use Rattle.mbox_rd.specs.SharedSpool.{HasTaken, KeepsAll, StaysSound, Breaks, HasLost, failed_again};
+    ghost use Rattle.mbox_rd.specs.SharedSpool.{contents_of};
 
     ghost state = { λ s. record {
       bytes = None;
@@ -216,7 +218,7 @@ impl<F: MailboxFile + Drop, C: Clock + Drop> Spool for SharedSpool<F, C> {
         true
     }
 
-    /// Waits for programs that have the mailbox locked, and after a turn that wasn't had not at all. In a turn it is
+    /// Waits for programs that have the mailbox locked, and after a missed turn not at all. In a turn it is
     /// refused, and the turn goes on.
     fn lock(&mut self) -> Result<Option<u64>, InUse>
         ensures within { self.old.in_turn ≡ true → (result ≡ Err InUse.Locked) × (self.new.file ≡ self.old.file) }

@@ -1,12 +1,11 @@
 //! How a turn at a mailbox's file begins: both locks are taken, on the file that the path names, and its end is looked
 //! at again.
 ghost use Rattle.std.specs.Prelude.{◌≡◌, true, IfOk, OnOk, OnErr};
-ghost use Rattle.mbox_rd.specs.MailboxFile.{HasRefused};
+ghost use Rattle.mbox_file.specs.MailboxFile.{HasRefused};
 ghost use Rattle.mbox_rd.specs.Turn.{HasBegun, HasMissed, HasTried, HasSeen, HasTakenLocks, HasLetGo, HasCutBack};
 
-use crate::file::FileEnd;
-use crate::mailbox_file::MailboxFile;
-use crate::spool::InUse;
+use mbox_file::{FileEnd, MailboxFile};
+use mbox_record::InUse;
 use std::time::{Clock, Duration};
 
 /// How many files are looked at in one try, where the path names another one each time.
@@ -33,7 +32,7 @@ pub(crate) fn tries_in(seconds: u32) -> u64 {
     1 + SHORT_PAUSES + long
 }
 
-/// Tries for a turn so often, and pauses after each try that others' locks were in the way of, but the last.
+/// Tries for a turn that often, and pauses after each try that others' locks were in the way of, but the last.
 pub(crate) fn wait_for_turn<F: MailboxFile, C: Clock>(
     file: &mut F,
     clock: &C,
@@ -77,7 +76,7 @@ fn begin_turn<F: MailboxFile>(file: &mut F) -> Result<FileEnd, InUse>
     }
 }
 
-// With both locks it is looked whether they are on the file that the path names. None: they weren't, and were given
+// With both locks it is seen whether they are on the file that the path names. None: they weren't, and were given
 // back, and that file is open now.
 fn begin_or_reopen<F: MailboxFile>(file: &mut F) -> Result<Option<FileEnd>, InUse>
     ensures ok { F.tells ≡ true → IfOk result (HasTried (F.state file.old) (F.state file.new)) }
@@ -99,7 +98,7 @@ fn begin_or_reopen<F: MailboxFile>(file: &mut F) -> Result<Option<FileEnd>, InUs
 }
 
 // The lock file comes first, since a program that puts a new file in the place of the old one fails where it finds the
-// new one's bytes locked for a moment. Where the second lock isn't had the first is given back before anything is
+// new one's bytes locked for a moment. Where the second lock is refused the first is given back before anything is
 // waited for, since others take them in the other order.
 fn take_locks<F: MailboxFile>(file: &mut F) -> Result<(), InUse>
     ensures ok { F.tells ≡ true → OnOk result (HasTakenLocks (F.state file.old) (F.state file.new)) }

@@ -1,5 +1,6 @@
 -- What each step makes of the view of the seat that takes it.
-use Rattle.std.specs.Prelude.{◌≡◌, ◌⊎◌, ℕ, ◌+◌, ◌-◌, ◌%◌, ◌==◌, Bool, true, false, List, [], ◌++◌, slice_set, slice_index_or}
+use Rattle.std.specs.Prelude.{◌≡◌, ◌⊎◌, ℕ, ◌+◌, ◌-◌, ◌%◌, ◌==◌, Bool, true, false, List, [], ◌++◌, slice_set}
+use Rattle.std.specs.Prelude.{slice_index_or}
 use Rattle.atomic_table.specs.Table.{Me, Step}
 use Rattle.msg_depot.specs.declared.view.TheConstants.{GENERATION_UNIT}
 use Rattle.msg_depot.specs.declared.view.View.{View}
@@ -80,7 +81,8 @@ longer c bs = claim c.slot c.generation (c.bytes ++ bs) c.weight
 -- the keeper's view with more bytes in the draft that it has joined
 abbrev pub put : View → List ℕ → View
 put v bs =
-    keeping (entered v.book v.claim.slot (entry Drafted v.claim.generation (v.claim.bytes ++ bs))) Draft (longer v.claim bs)
+    keeping (entered v.book v.claim.slot (entry Drafted v.claim.generation (v.claim.bytes ++ bs))) Draft
+    (longer v.claim bs)
 
 -- a step that adds them
 abbrev pub Put : List ℕ → Step (Unit {0}) → Me (Unit {0}) View → ℕ → Me (Unit {0}) View → Type 0

@@ -1,5 +1,6 @@
 -- The rule of holds: the words of the table, the keeper's entries, and what each seat has a claim to.
-use Rattle.std.specs.Prelude.{◌≡◌, ◌≢◌, ℕ, zero, suc, ◌+◌, ◌*◌, ◌<◌, ◌≤◌, ◌==◌, Bool, true, false, List, [], ◌∷◌, length, replicate, slice_index}
+use Rattle.std.specs.Prelude.{◌≡◌, ◌≢◌, ℕ, zero, suc, ◌+◌, ◌*◌, ◌<◌, ◌≤◌, ◌==◌, Bool, true, false, List, [], ◌∷◌}
+use Rattle.std.specs.Prelude.{length, replicate, slice_index}
 use mathlib.Core.Option.{some}
 use lib.ListN.{get_elem?}
 use Rattle.atomic_table.specs.Seated.{TableId}
@@ -133,7 +134,8 @@ pub record ObeysHoldRule (words : List ℕ) (views : List View) : Type 0 where
   pub keeper : (j : ℕ) (v : View) → get_elem? views j ≡ some v → v.keeps ≡ true → (j ≡ seat) × (v.book ≡ book)
   pub fits : (j : ℕ) (v : View) → get_elem? views j ≡ some v → MatchesEntry book v
   pub stands : (i : ℕ) (e : Entry) → get_elem? book i ≡ some e
-      → IsWordOf e (slice_index words (word_of i)) (total (at i weight) views) (total (at i drafts) views) (total (at i spents) views)
+      → IsWordOf e (slice_index words (word_of i)) (total (at i weight) views) (total (at i drafts) views)
+      (total (at i spents) views)
 
 -- the entries of slots that have had no message
 abbrev pub free_slots : ℕ → ℕ → List Entry

@@ -110,7 +110,7 @@ impl Arena {
     }
 }
 
-/// How many bytes more the run can take.
+/// How many more bytes the run can take.
 fn room(run: Run, free_count: u32) -> usize
     requires few { run.blocks + free_count ≤ BLOCK_LIMIT }
     requires enough { run.length ≤ BLOCK_SIZE * run.blocks }
@@ -119,7 +119,7 @@ fn room(run: Run, free_count: u32) -> usize
     BLOCK_SIZE * (run.blocks + free_count) as usize - run.length
 }
 
-/// The slot of a draft that has n bytes more.
+/// The slot of a draft that has n more bytes.
 fn longer_draft(key: Key, run: Run, n: usize) -> Slot
     requires { run.length + n ≤ usize.MAX }
     ensures { result ≡ record { generation = key.generation; content = Content.Draft (longer run n) } }

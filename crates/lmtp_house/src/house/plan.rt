@@ -14,7 +14,7 @@ use lmtp_lane::{Clock, Visits};
 use lmtp_threads::{Lanes, Shared, Workers, lane_jobs, worker_jobs};
 use mail_post::{Post, SLIP_CAPACITY};
 use mail_world::Slip;
-use mbox_rd::Spool;
+use mbox_record::Spool;
 use msg_depot::{Depot, DepotName};
 use std::alloc::AllocError;
 use std::sync::{Arc, Wait};

@@ -15,7 +15,7 @@ use box_worker::Gate;
 use lmtp_lane::{Clock, Visits};
 use lmtp_text::Site;
 use lmtp_threads::Shared;
-use mbox_rd::Spool;
+use mbox_record::Spool;
 use msg_depot::{Blank, DepotName};
 use std::alloc::Global;
 use std::marker::Brand;

@@ -9,7 +9,7 @@ use crate::house::fault::HouseFault;
 use box_worker::Gate;
 use lmtp_lane::{Clock, Visits};
 use lmtp_threads::{LaneReports, Lanes, Workers, Working};
-use mbox_rd::Spool;
+use mbox_record::Spool;
 use msg_depot::DepotName;
 use std::sync::Wait;
 use std::thread::Threads;

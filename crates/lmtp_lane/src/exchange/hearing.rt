@@ -13,8 +13,8 @@ use msg_depot::DepotName;
 use std::marker::Brand;
 use std::sync::Wait;
 
-// Takes a slip, after the picked time. The senders are there for the pick alone, which is a time after all that the lane
-// knows.
+// Takes a slip, after the picked time. The senders are there for the pick alone, which is a time after all that the
+// lane knows.
 fn take_slip<N: DepotName, K: Moment, R: Wait>(
     rt: &R,
     _senders: &Vec<Sender<N>>,

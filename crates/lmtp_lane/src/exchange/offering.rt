@@ -10,7 +10,7 @@ use super::{Exchange, Postmark};
 use lmtp_session::Session;
 use mail_post::{Moment, Post, Sender, SlipReceiver};
 use mail_world::Slip;
-use mbox_rd::Envelope;
+use mbox_record::Envelope;
 use msg_depot::{Depot, DepotName, Hold};
 use std::marker::Brand;
 use std::sync::Wait;

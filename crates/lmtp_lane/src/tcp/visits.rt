@@ -156,8 +156,8 @@ where
 
     ghost over = { λ visits. is_over visits };
 
-    /// Waits for the next client; one that had gone before it was taken is passed over. After an accept that failed, and
-    /// once the server's end was asked for, there are no more.
+    /// Waits for the next client; one that had gone before it was taken is passed over. After an accept that failed,
+    /// and once the server's end was asked for, there are no more.
     fn next<R: Wait>(&mut self, rt: &R) -> Option<TcpPeer<L::Stream, E>>
         requires { is_out self.old ≡ false }
         ensures takes { TakesClient self.old self.new result }

@@ -32,8 +32,8 @@ pub struct Access<'a> {
     pub mode: u32,
 }
 
-/// Opens the file of each mailbox, `FOLDER/NAME.mbox`, in their order, up to the first that can't be opened, of which the
-/// log says why. A mailbox that fails is logged, and one that is in use.
+/// Opens the file of each mailbox, `FOLDER/NAME.mbox`, in their order, up to the first that can't be opened, of which
+/// the log says why. A mailbox that fails is logged, and one that is in use.
 pub fn open_mailboxes<'a, R, G>(
     rt: R,
     alloc: Global,

@@ -28,7 +28,7 @@ pub fn report_served<E: Write>(served: &Served, error: &mut E) -> Exit
     }
 }
 
-// Says both; behind a fault of the writer nothing.
+// Says both; after a fault of the writer nothing.
 #[tactic(auto, using(crate::proofs::Behind::fails_behind))]
 fn write_lines<E: Write>(
     served: &Served,

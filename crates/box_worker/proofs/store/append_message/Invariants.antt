@@ -1,6 +1,6 @@
 use Rattle.std.proofs.Common.{◌≡◌, ◌+◌, ◌-◌, ◌^◌, ◌<◌, min, length, take, drop}
 use Rattle.mail_world.specs.declared.limits.TheConstants.{WORKER_BUFFER_SIZE}
-use Rattle.mbox_rd.specs.Writing.{WritesPiece}
+use Rattle.mbox_record.specs.Writing.{WritesPiece}
 use Rattle.box_worker.proofs.store.append_message.Given as goal
 
 -- the writer has the message up to a place, and the next bytes are read

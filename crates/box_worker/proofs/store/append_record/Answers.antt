@@ -1,6 +1,6 @@
 use Rattle.lmtp_text.specs.Calendar.{civil_at}
-use Rattle.mbox_rd.proofs.Taken.{OnErr-any, OnOk-map, OnErr-map}
-use Rattle.mbox_rd.proofs.Wholes.{head_failed}
+use Rattle.mbox_record.proofs.Taken.{OnErr-any, OnOk-map, OnErr-map}
+use Rattle.mbox_record.proofs.Wholes.{head_failed}
 use Rattle.box_worker.proofs.Messages.{record_took, record_failed}
 use Rattle.box_worker.proofs.store.append_record.Goals as goal
 

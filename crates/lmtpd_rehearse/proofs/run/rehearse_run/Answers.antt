@@ -1,7 +1,7 @@
 use Rattle.std.proofs.Common.{◌∙◌, sym, ap, length, List, subst}
 use Rattle.std.specs.Arc.{arc_value}
 use Rattle.mail_world.specs.Site.{Site}
-use Rattle.mbox_rd.specs.MemorySpool.{MemorySpool}
+use Rattle.mbox_record.specs.MemorySpool.{MemorySpool}
 use Rattle.lmtpd_rehearse.specs.Mailboxes.{texts_of_mailboxes, bytes_of_all}
 use Rattle.lmtpd_rehearse.specs.Rehearsal.{HeldState, IsHeld, IsListed, Streams}
 use Rattle.lmtpd_rehearse.proofs.Ran.{as_many_spools, rehearsed}

@@ -3,7 +3,7 @@ use Rattle.std.specs.Vec.Iter.{into_iter_items, into_iter_len}
 use Rattle.thread_crew.specs.Grid.{lists, zip_push}
 use Rattle.thread_crew.proofs.grid.push_column.Given as goal
 
--- the first k rows have one element more
+-- the first k rows have one more element
 abbrev pub invariant-loop-x : goal.invariant-loop-x
 invariant-loop-x g l = record {
   rest : into_iter_items l.x-iterator ≡ drop l.k (vec_items l.fn.column);

@@ -1,6 +1,6 @@
 use Rattle.std.proofs.Common.{◌≡◌, ◌∙◌, Option, Some, ap, sym, subst}
 use Rattle.std.specs.Option.{IfSome}
-use Rattle.mbox_rd.specs.Spool.{SpoolState, tail_of}
+use Rattle.mbox_record.specs.Spool.{SpoolState, tail_of}
 use Rattle.box_worker.specs.declared.limit.Limit.{Limit}
 use Rattle.box_worker.specs.Stored.{CountedMailbox}
 use Rattle.box_worker.specs.Turned.{MeasuresAnew}

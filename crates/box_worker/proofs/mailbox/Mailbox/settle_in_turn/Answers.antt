@@ -1,8 +1,8 @@
 use Rattle.std.proofs.Common.{◌≡◌, ◌∙◌, ℕ, List, length, Option, ap, sym, subst}
 use Rattle.std.specs.Result.{OnOk, OnErr}
 use Rattle.lmtp_text.specs.Calendar.{civil_at}
-use Rattle.mbox_rd.specs.Envelope.{record_text}
-use Rattle.mbox_rd.specs.Spool.{SpoolState}
+use Rattle.mbox_record.specs.Envelope.{record_text}
+use Rattle.mbox_record.specs.Spool.{SpoolState}
 use Rattle.msg_depot.specs.declared.view.Claim.{Claim}
 use Rattle.box_worker.specs.declared.limit.Limit.{Limit}
 use Rattle.box_worker.specs.Limits.{IsLetIn}

@@ -5,7 +5,7 @@ use Rattle.mail_world.specs.Records.{record_of}
 use Rattle.mail_post.specs.Copies.{envelope_of}
 use Rattle.mail_post.specs.InTime.{clock_of}
 use Rattle.mail_post.specs.Offered.{IsOffered, any_refused}
-use Rattle.mbox_rd.specs.Envelope.{Envelope, record_text}
+use Rattle.mbox_record.specs.Envelope.{Envelope, record_text}
 use Rattle.box_worker.specs.Limits.{Setting}
 use Rattle.box_worker.specs.Stored.{TakesCopy}
 use Rattle.box_worker.specs.Turned.{TurnsCopy}

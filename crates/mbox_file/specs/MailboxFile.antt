@@ -1,0 +1,142 @@
+-- The file under a shared spool, where it tells: its bytes, which of them a crash leaves, and its two locks.
+use Rattle.std.specs.Prelude.{◌≡◌, ◌⊎◌, ℕ, ◌≤◌, Bool, true, false, List, [], ◌++◌, length, take, min}
+use Rattle.mail_world.specs.Counts.{counted}
+use Rattle.mail_world.specs.Failures.{Rises}
+use Rattle.mail_world.specs.Fronts.{IsFront}
+use Rattle.mbox_file.specs.declared.file.FileEnd.{FileEnd}
+use Rattle.mbox_record.specs.Spool.{tail_of}
+
+-- Other programs change the file, and what the path names, only while a lock isn't held. Contracts see it in the calls
+-- that ask for a lock or open the path again.
+pub record FileState : Type 0 where
+  -- what the open file holds
+  pub bytes : List ℕ
+  -- how many of its first bytes are kept through a crash
+  pub kept : ℕ
+  -- the lock file is this holder's
+  pub has_lock_file : Bool
+  -- and so is the lock on the bytes of the open file
+  pub has_range_lock : Bool
+  -- the open file is the one that the path names
+  pub is_named : Bool
+  -- how often a call that asks for a turn wasn't granted
+  pub refusals : ℕ
+  -- how often the lock file couldn't be removed
+  pub unremoved : ℕ
+  -- how often this holder wrote or cut
+  pub changes : ℕ
+  -- how often a write, a keep or a cut failed
+  pub faults : ℕ
+
+-- so it stands, but for what others may have changed
+abbrev pub IsSharedSince : FileState → FileState → Type 0
+IsSharedSince old new = new ≡ record old { bytes = new.bytes; kept = new.kept; is_named = new.is_named }
+
+-- the lock file was made, and is this holder's
+abbrev pub HasMadeLockFile : FileState → FileState → Type 0
+HasMadeLockFile old new = IsSharedSince (record old { has_lock_file = true }) new
+
+-- no lock file of this holder's is left, but where it couldn't be removed
+pub record LeavesNoLockFile (old new : FileState) : Type 0 where
+  pub removed : (new.has_lock_file ≡ false) ⊎ Rises old.unremoved new.unremoved
+  pub no_fewer : old.unremoved ≤ new.unremoved
+
+-- it wasn't made
+pub record HasNotMadeLockFile (old new : FileState) : Type 0 where
+  pub same : IsSharedSince (record old {
+    has_lock_file = new.has_lock_file;
+    refusals = new.refusals;
+    unremoved = new.unremoved;
+  }) new
+  pub free : LeavesNoLockFile old new
+  pub refused : Rises old.refusals new.refusals
+
+-- the lock file was removed, or couldn't be
+pub record HasRemovedLockFile (old new : FileState) : Type 0 where
+  pub same : new ≡ record old { has_lock_file = new.has_lock_file; unremoved = new.unremoved }
+  pub free : LeavesNoLockFile old new
+
+-- the bytes were locked
+abbrev pub HasLockedRange : FileState → FileState → Type 0
+HasLockedRange old new = IsSharedSince (record old { has_range_lock = true }) new
+
+-- they weren't
+pub record HasNotLockedRange (old new : FileState) : Type 0 where
+  pub same : IsSharedSince (record old { has_range_lock = false; refusals = new.refusals }) new
+  pub refused : Rises old.refusals new.refusals
+
+-- what is open now is what the path names or named; no lock goes with it
+abbrev pub HasReopened : FileState → FileState → Type 0
+HasReopened old new = IsSharedSince (record old { has_range_lock = false }) new
+
+-- it changed nothing, and wasn't granted
+pub record HasRefused (old new : FileState) : Type 0 where
+  pub same : new ≡ record old { refusals = new.refusals }
+  pub refused : Rises old.refusals new.refusals
+
+-- the path names the open file
+pub record IsFoundNamed (old new : FileState) : Type 0 where
+  pub same : new ≡ old
+  pub named : new.is_named ≡ true
+
+-- what the path is found to name
+abbrev pub HasLooked : FileState → FileState → Bool → Type 0
+HasLooked old new true = IsFoundNamed old new
+HasLooked old new false = HasRefused old new
+
+-- so the file ends
+pub record IsEnd (file : FileState) (end : FileEnd) : Type 0 where
+  pub at : end.at ≡ counted (length file.bytes)
+  pub tail : end.tail ≡ tail_of file.bytes
+
+-- the end was read, and nothing changed
+pub record HasFoundEnd (old new : FileState) (end : FileEnd) : Type 0 where
+  pub same : new ≡ old
+  pub is_end : IsEnd new end
+
+-- the bytes stand after what was there
+pub record HasWritten (old new : FileState) (text : List ℕ) : Type 0 where
+  pub same : new ≡ record old { bytes = old.bytes ++ text; changes = new.changes }
+  pub changed : Rises old.changes new.changes
+
+-- a write failed after some of the bytes
+pub record HasNotWritten (old new : FileState) (text : List ℕ) : Type 0 where
+  pub front : List ℕ
+  pub part : IsFront front text
+  pub same : new ≡ record old { bytes = old.bytes ++ front; changes = new.changes; faults = new.faults }
+  pub changed : Rises old.changes new.changes
+  pub failed : Rises old.faults new.faults
+
+-- a crash leaves all of it
+abbrev pub HasKept : FileState → FileState → Type 0
+HasKept old new = new ≡ record old { kept = length old.bytes }
+
+-- nobody knows what a crash leaves
+pub record HasNotKept (old new : FileState) : Type 0 where
+  pub same : new ≡ record old { kept = new.kept; faults = new.faults }
+  pub failed : Rises old.faults new.faults
+
+-- only that many of the first bytes are left
+pub record HasCut (old new : FileState) (size : ℕ) : Type 0 where
+  pub same : new ≡ record old { bytes = take size old.bytes; kept = min old.kept size; changes = new.changes }
+  pub changed : Rises old.changes new.changes
+
+-- a cut failed
+pub record HasNotCut (old new : FileState) : Type 0 where
+  pub same : new ≡ record old { changes = new.changes; faults = new.faults }
+  pub changed : Rises old.changes new.changes
+  pub failed : Rises old.faults new.faults
+
+-- of a file that tells nothing
+abbrev pub untold : FileState
+untold = record {
+  bytes = [];
+  kept = 0;
+  has_lock_file = false;
+  has_range_lock = false;
+  is_named = false;
+  refusals = 0;
+  unremoved = 0;
+  changes = 0;
+  faults = 0;
+}

@@ -1,0 +1,117 @@
+//! A mailbox's file in memory, which tells all.
+ghost use Rattle.std.specs.Prelude.{◌≡◌, [], true, false, length, IfOk};
+
+use crate::file::FileEnd;
+use crate::mailbox_file::MailboxFile;
+use mbox_record::{InUse, tail_of};
+use std::alloc::{AllocError, Global};
+use std::io;
+
+/// The file of a mailbox that no other program uses. It keeps its bytes as long as it is there itself, and a write
+/// fails where memory is lacking.
+#[derive(Debug, Drop)]
+pub struct MemoryFile {
+    bytes: Vec<u8>,
+    kept: usize,
+    has_lock_file: bool,
+    has_range_lock: bool,
+    changes: u64,
+    faults: u64,
+}
+
+impl MemoryFile {
+    /// Holds these bytes, all of them kept.
+    pub fn new(alloc: Global, old: &[u8]) -> Result<MemoryFile, AllocError>
+        ensures { IfOk result (λ file. ⟦<MemoryFile as MailboxFile>⟧.state file ≡ record {
+          bytes = old.now;
+          kept = length old.now;
+          has_lock_file = false;
+          has_range_lock = false;
+          is_named = true;
+          refusals = 0;
+          unremoved = 0;
+          changes = 0;
+          faults = 0;
+        }) }
+    {
+        Ok(MemoryFile {
+            bytes: Vec::from_slice(alloc, old)?,
+            kept: old.len(),
+            has_lock_file: false,
+            has_range_lock: false,
+            changes: 0,
+            faults: 0,
+        })
+    }
+}
+
+impl MailboxFile for MemoryFile {
+    ghost tells = { true };
+
+    ghost state = { λ s. record {
+      bytes = s.bytes.items;
+      kept = s.kept;
+      has_lock_file = s.has_lock_file;
+      has_range_lock = s.has_range_lock;
+      is_named = true;
+      refusals = 0;
+      unremoved = 0;
+      changes = s.changes;
+      faults = s.faults;
+    } };
+
+    fn try_lock_file(&mut self) -> Result<(), InUse> {
+        self.has_lock_file = true;
+        Ok(())
+    }
+
+    fn remove_lock_file(&mut self) {
+        self.has_lock_file = false;
+    }
+
+    fn try_range_lock(&mut self) -> Result<(), InUse> {
+        self.has_range_lock = true;
+        Ok(())
+    }
+
+    fn unlock_range(&mut self) {
+        self.has_range_lock = false;
+    }
+
+    fn is_named(&mut self) -> Result<bool, InUse> {
+        Ok(true)
+    }
+
+    fn reopen(&mut self) -> Result<(), InUse> {
+        self.has_range_lock = false;
+        Ok(())
+    }
+
+    fn end(&mut self) -> Result<FileEnd, InUse> {
+        Ok(FileEnd {
+            at: self.bytes.len() as u64,
+            tail: tail_of(&self.bytes),
+        })
+    }
+
+    fn write(&mut self, bytes: &[u8]) -> io::Result<()> {
+        self.changes = self.changes.saturating_add(1);
+        if let Err(error) = self.bytes.extend_from_slice(bytes) {
+            self.faults = self.faults.saturating_add(1);
+            return Err(io::Error::from(error));
+        }
+        Ok(())
+    }
+
+    fn keep(&mut self) -> io::Result<()> {
+        self.kept = self.bytes.len();
+        Ok(())
+    }
+
+    fn cut(&mut self, size: u64) -> io::Result<()> {
+        self.changes = self.changes.saturating_add(1);
+        self.bytes.truncate(size as usize);
+        self.kept = self.kept.min(size as usize);
+        Ok(())
+    }
+}

@@ -1,0 +1,327 @@
+//! The file under a shared spool in the file system, beside its lock file.
+//!
+//! A lock file is linked from one that is made at the start and stays, `PATH.source.lock`: to make a file and write to
+//! it for each turn takes ten times as long. Where there can be no link it is made.
+use crate::file::{FileEnd, end_of_file};
+use crate::mailbox_file::MailboxFile;
+use crate::plain::{Node, OpenNode, is_plain, node_of, open_plain, system_fault};
+use crate::range_lock::{LockKind, RangeLock};
+use crate::stale::{is_stale, owner_text};
+use mbox_record::InUse;
+use std::alloc::Global;
+use std::fs::{FileTimes, Files, Metadata, OpenFile, OpenOptions};
+use std::io::{ErrorKind, Write};
+use std::os::unix::fs::{MetadataExt, OpenOptionsExt};
+use std::time::{Clock, SystemTime};
+use std::{fs, io};
+
+/// Others read in a lock file whose it is.
+const LOCK_MODE: u32 = 0o644;
+
+/// A mailbox's file that is open, and its lock file `PATH.lock`. It tells contracts nothing.
+pub struct StdMailboxFile<R: Files + Clock + Drop> {
+    rt: R,
+    path: String,
+    mode: u32,
+    open: OpenNode<R::File>,
+    lock_path: String,
+    owner: String,
+    source_path: String,
+    source: Option<OpenNode<R::File>>,
+    lock_file: Held<R::File>,
+}
+
+/// What the lock files were linked from goes with it.
+impl<R: Files + Clock + Drop> Drop for StdMailboxFile<R> {
+    fn drop(self) {
+        let StdMailboxFile {
+            rt,
+            path: _,
+            mode: _,
+            open: _,
+            lock_path: _,
+            owner: _,
+            source_path,
+            source,
+            lock_file: _,
+        } = self;
+        if source.is_some() {
+            let _ = fs::remove_file(&rt, source_path.as_str());
+        }
+    }
+}
+
+// Its own lock file.
+#[derive(Drop)]
+enum Held<F: Drop> {
+    No,
+    /// It is another name of the source.
+    Linked(Node),
+    Made(OpenNode<F>),
+}
+
+impl<F: Drop> Held<F> {
+    fn node(&self) -> Option<Node> {
+        match self {
+            Held::No => None,
+            Held::Linked(node) => Some(*node),
+            Held::Made(own) => Some(own.node),
+        }
+    }
+}
+
+impl<R: Files + Clock + Drop> StdMailboxFile<R>
+where
+    R::File: RangeLock,
+{
+    /// Opens the plain file at that path. Where it is missing it is made with these permission bits, and the folder
+    /// that holds it is synced. Neither lock is held, and a lock file that was left behind is gone. An error says why
+    /// it can't be used, of `ErrorKind::OutOfMemory` where memory is lacking.
+    pub fn open(rt: R, alloc: Global, path: &str, mode: u32) -> io::Result<StdMailboxFile<R>> {
+        let mut file = StdMailboxFile {
+            path: format!(in alloc; "{path}")?,
+            mode,
+            open: open_plain(&rt, path, mode).map_err(error_of)?,
+            lock_path: format!(in alloc; "{path}.lock")?,
+            owner: owner_text(alloc)?,
+            source_path: format!(in alloc; "{path}.source.lock")?,
+            source: None,
+            lock_file: Held::No,
+            rt,
+        };
+        let _ = file.remove_stale();
+        file.source = file.make_source().ok();
+        Ok(file)
+    }
+
+    // Makes the file that lock files are linked from. One that was left behind goes; where a server has one there is
+    // none for this one.
+    fn make_source(&self) -> io::Result<OpenNode<R::File>> {
+        match fs::symlink_metadata(&self.rt, self.source_path.as_str()) {
+            Ok(found) if self.is_left(self.source_path.as_str(), &found) => {
+                fs::remove_file(&self.rt, self.source_path.as_str())?;
+            }
+            _ => {}
+        }
+        self.make_file(self.source_path.as_str())
+    }
+
+    fn is_left(&self, path: &str, found: &Metadata) -> bool {
+        is_stale(&self.rt, path, found, self.owner.as_str())
+    }
+
+    // Makes a file that says whose it is. Where that can't be written there is none afterwards.
+    fn make_file(&self, path: &str) -> io::Result<OpenNode<R::File>> {
+        let mut file = OpenOptions::new()
+            .write(true)
+            .create_new(true)
+            .mode(LOCK_MODE)
+            .open(&self.rt, path)?;
+        let made = match file.metadata() {
+            Ok(metadata) => match file.write_all(self.owner.as_bytes()) {
+                Ok(()) => Ok(node_of(&metadata)),
+                Err(error) => Err(error),
+            },
+            Err(error) => Err(error),
+        };
+        match made {
+            Ok(node) => Ok(OpenNode { file, node }),
+            Err(error) => {
+                let _ = fs::remove_file(&self.rt, path);
+                Err(error)
+            }
+        }
+    }
+
+    // Links the lock file from the source, with the time of now, by which others judge whether it is left behind. None:
+    // there is no source, or no link is possible.
+    fn link_lock_file(&mut self) -> Option<bool> {
+        let source = self.source.as_ref()?;
+        let now = SystemTime::now(&self.rt).ok()?;
+        let times = FileTimes::new().set_modified(now);
+        source.file.set_times(times).ok()?;
+        match fs::hard_link(&self.rt, self.source_path.as_str(), self.lock_path.as_str()) {
+            Ok(()) if has_two_names(&source.file) => {
+                self.lock_file = Held::Linked(source.node);
+                Some(true)
+            }
+            Ok(()) => {
+                // another server's source stands in the place of this one's
+                let _ = fs::remove_file(&self.rt, self.lock_path.as_str());
+                None
+            }
+            Err(error) if error.kind() == ErrorKind::AlreadyExists => Some(false),
+            Err(_) => None,
+        }
+    }
+
+    // Makes the lock file, unless there is one.
+    fn make_lock_file(&mut self) -> Result<bool, InUse> {
+        if let Some(is_linked) = self.link_lock_file() {
+            return Ok(is_linked);
+        }
+        self.source = None;
+        match self.make_file(self.lock_path.as_str()) {
+            Ok(made) => {
+                self.lock_file = Held::Made(made);
+                Ok(true)
+            }
+            Err(error) if error.kind() == ErrorKind::AlreadyExists => Ok(false),
+            Err(error) => Err(system_fault(error)),
+        }
+    }
+
+    // Whether the lock file is still its own.
+    fn owns_lock_file(&self) -> io::Result<bool> {
+        match fs::symlink_metadata(&self.rt, self.lock_path.as_str()) {
+            Ok(found) => Ok(Some(node_of(&found)) == self.lock_file.node()),
+            Err(error) if error.kind() == ErrorKind::NotFound => Ok(false),
+            Err(error) => Err(error),
+        }
+    }
+
+    // Removes the lock file, if one was made and it is still that one. Where that fails it is tried again later.
+    fn remove_own(&mut self) -> io::Result<()> {
+        if self.lock_file.node().is_none() {
+            return Ok(());
+        }
+        if self.owns_lock_file()? {
+            fs::remove_file(&self.rt, self.lock_path.as_str())?;
+        }
+        self.lock_file = Held::No;
+        Ok(())
+    }
+
+    // Removes a lock file that was left behind. True: there is none now.
+    fn remove_stale(&mut self) -> Result<bool, InUse> {
+        let found = match fs::symlink_metadata(&self.rt, self.lock_path.as_str()) {
+            Ok(found) => found,
+            Err(error) if error.kind() == ErrorKind::NotFound => return Ok(true),
+            Err(error) => return Err(system_fault(error)),
+        };
+        if !self.is_left(self.lock_path.as_str(), &found) {
+            return Ok(false);
+        }
+        if !self.is_named()? {
+            self.reopen()?;
+        }
+        self.try_range_lock()?;
+        let removed = self.remove_same(&found);
+        self.unlock_range();
+        removed
+    }
+
+    // Under the lock on the bytes of the file that the path names nobody else removes what was left behind, and what
+    // was found is looked at again.
+    fn remove_same(&mut self, found: &Metadata) -> Result<bool, InUse> {
+        if !self.is_named()? {
+            return Ok(false);
+        }
+        let removed = match fs::symlink_metadata(&self.rt, self.lock_path.as_str()) {
+            Ok(again) if is_same(&again, found) => {
+                fs::remove_file(&self.rt, self.lock_path.as_str())
+            }
+            Ok(_) => return Ok(false),
+            Err(error) => Err(error),
+        };
+        match removed {
+            Ok(()) => Ok(true),
+            Err(error) if error.kind() == ErrorKind::NotFound => Ok(true),
+            Err(error) => Err(system_fault(error)),
+        }
+    }
+}
+
+fn has_two_names<F: OpenFile>(file: &F) -> bool {
+    match file.metadata() {
+        Ok(metadata) => metadata.nlink() == 2,
+        Err(_) => false,
+    }
+}
+
+// A number may be given again to a file that is made after another one was removed.
+fn is_same(again: &Metadata, found: &Metadata) -> bool {
+    node_of(again) == node_of(found)
+        && again.mtime() == found.mtime()
+        && again.mtime_nsec() == found.mtime_nsec()
+}
+
+// What a file that can't be opened for a turn is at the start.
+fn error_of(in_use: InUse) -> io::Error {
+    match in_use {
+        InUse::System(code) => io::Error::from_raw_os_error(code),
+        InUse::Locked => io::Error::from(ErrorKind::WouldBlock),
+        InUse::NotPlain => io::Error::new(ErrorKind::PermissionDenied, "not plain"),
+    }
+}
+
+impl<R: Files + Clock + Drop> MailboxFile for StdMailboxFile<R>
+where
+    R::File: RangeLock,
+{
+    ghost use Rattle.std.specs.Prelude.{false};
+    ghost use Rattle.mbox_file.specs.MailboxFile.{untold};
+
+    ghost tells = { false };
+
+    ghost state = { λ _. untold };
+
+    fn try_lock_file(&mut self) -> Result<(), InUse> {
+        self.remove_own().map_err(system_fault)?;
+        if self.make_lock_file()? || self.remove_stale()? && self.make_lock_file()? {
+            Ok(())
+        } else {
+            Err(InUse::Locked)
+        }
+    }
+
+    fn remove_lock_file(&mut self) {
+        let _ = self.remove_own();
+    }
+
+    fn try_range_lock(&mut self) -> Result<(), InUse> {
+        match self.open.file.try_lock_bytes(LockKind::Exclusive) {
+            Ok(()) => Ok(()),
+            Err(error) if error.kind() == ErrorKind::WouldBlock => Err(InUse::Locked),
+            Err(error) => Err(system_fault(error)),
+        }
+    }
+
+    fn unlock_range(&mut self) {
+        let _ = self.open.file.unlock_bytes();
+    }
+
+    fn is_named(&mut self) -> Result<bool, InUse> {
+        match fs::symlink_metadata(&self.rt, self.path.as_str()) {
+            Ok(found) if !is_plain(&found) => Err(InUse::NotPlain),
+            Ok(found) => Ok(node_of(&found) == self.open.node),
+            Err(error) if error.kind() == ErrorKind::NotFound => Ok(false),
+            Err(error) => Err(system_fault(error)),
+        }
+    }
+
+    fn reopen(&mut self) -> Result<(), InUse> {
+        self.open = open_plain(&self.rt, self.path.as_str(), self.mode)?;
+        Ok(())
+    }
+
+    fn end(&mut self) -> Result<FileEnd, InUse> {
+        end_of_file(&mut self.open.file).map_err(system_fault)
+    }
+
+    fn write(&mut self, bytes: &[u8]) -> io::Result<()> {
+        self.open.file.write_all(bytes)
+    }
+
+    fn keep(&mut self) -> io::Result<()> {
+        self.open.file.sync_data()
+    }
+
+    /// Only while the lock file is its own: another program that took it for left behind may have written since.
+    fn cut(&mut self, size: u64) -> io::Result<()> {
+        if !self.owns_lock_file()? {
+            return Err(io::Error::from(ErrorKind::ResourceBusy));
+        }
+        self.open.file.set_len(size)
+    }
+}

@@ -1,0 +1,31 @@
+//! A spool over a file of the file system that other programs use too, by its path.
+use crate::file::{OpenFault, fault_of};
+use crate::shared::SharedSpool;
+use mbox_file::{OWNER_ONLY, RangeLock, StdMailboxFile};
+use std::alloc::Global;
+use std::fs::Files;
+use std::time::Clock;
+
+impl<R: Files + Clock + Copy + Drop> SharedSpool<StdMailboxFile<R>, R>
+where
+    R::File: RangeLock,
+{
+    ghost use Rattle.std.specs.Prelude.{◌≡◌, IfOk};
+    ghost use Rattle.mbox_rd.specs.SharedSpool.{IsOpened};
+
+    /// Opens the plain file at that path. Where it is missing it is made, for its owner alone, and the folder that
+    /// holds it is synced. A lock file that was left behind is removed, nothing is written, and no lock is held. A
+    /// lock waits that many seconds for other programs, 3,600 at most; 0 is one try.
+    pub fn at(
+        rt: R,
+        alloc: Global,
+        path: &str,
+        wait: u32,
+    ) -> Result<SharedSpool<StdMailboxFile<R>, R>, OpenFault>
+        ensures opened { IfOk result IsOpened }
+        ensures wait { IfOk result (λ spool. spool.wait ≡ wait) }
+    {
+        let file = StdMailboxFile::open(rt, alloc, path, OWNER_ONLY).map_err(fault_of)?;
+        SharedSpool::new(alloc, file, rt, wait).map_err(|_| OpenFault::Memory)
+    }
+}

@@ -1,0 +1,13 @@
+pub mod Taken
+pub mod Tails
+pub mod Parts
+pub mod Rests
+pub mod Words
+pub mod Steps
+pub mod Ends
+pub mod Runs
+pub mod Pieces
+pub mod Wholes
+pub mod Bodies
+pub mod LineCuts
+pub mod Mailboxes

@@ -1,0 +1,82 @@
+-- A message in pieces is the message, and its record is what a writer writes.
+use Rattle.std.proofs.Common.{◌≡◌, ℕ, List, [], ◌∷◌, ◌++◌, sym, ap, ◌∙◌, append_assoc, append-nil}
+use Rattle.mail_world.specs.Text.{lf, unix}
+use Rattle.mail_world.specs.Records.{Calendar, quoted_text}
+use Rattle.mbox_record.specs.Envelope.{Envelope, record_text, head_text}
+use Rattle.mbox_record.specs.Spool.{SpoolState, SpoolTook, SpoolFailed}
+use Rattle.mbox_record.specs.Writing.{Pending, bytes_owed, WritesPiece, FailsPiece}
+use Rattle.mbox_record.proofs.Parts.{record_split}
+use Rattle.mbox_record.proofs.Taken.{SpoolTook-then, SpoolTook-as, SpoolFailed-first, SpoolFailed-later, SpoolFailed-as}
+
+pub WritesPiece-then : (s t u : SpoolState) (a b c : Pending) (p q : List ℕ) → WritesPiece s t a b p → WritesPiece t u b c q → WritesPiece s u a c (p ++ q)
+WritesPiece-then s t u a b c p q x y = record {
+  text = x.text ++ y.text;
+  taken = SpoolTook-then s t u x.text y.text x.taken y.taken;
+  goes = λ rest. append_assoc x.text y.text (bytes_owed c rest) ∙ ap (λ (l : List ℕ). x.text ++ l) (y.goes rest) ∙ x.goes (q ++ rest) ∙ ap (bytes_owed a) (sym (append_assoc p q rest));
+}
+
+pub FailsPiece-then : (s t u : SpoolState) (a b : Pending) (p q : List ℕ) → WritesPiece s t a b p → FailsPiece t u b q → FailsPiece s u a (p ++ q)
+FailsPiece-then s t u a b p q x y = record {
+  text = x.text ++ y.text;
+  failed = SpoolFailed-later s t u x.text y.text x.taken y.failed;
+  sure = λ rest. let front = y.sure rest in record {
+    rest = front.rest;
+    whole = ap (bytes_owed a) (append_assoc p q rest) ∙ sym (x.goes (q ++ rest)) ∙ ap (λ (l : List ℕ). x.text ++ l) front.whole ∙ sym (append_assoc x.text y.text front.rest);
+  };
+}
+
+-- a writer that begins owes the message
+abbrev pub BeginsRecord : Pending → Type 0
+BeginsRecord first = (text : List ℕ) → bytes_owed first text ≡ quoted_text (unix text)
+
+module _ (calendar : Calendar) (host : List ℕ) (e : Envelope) (message : List ℕ) where
+  abbrev head : List ℕ
+  head = head_text calendar host e
+
+  abbrev text : List ℕ
+  text = record_text calendar host e message
+
+  abbrev content : List ℕ
+  content = quoted_text (unix message)
+
+  whole : text ≡ head ++ (content ++ lf ∷ [])
+  whole = record_split calendar host e message ∙ append_assoc head content (lf ∷ [])
+
+  -- what the writer wrote, and still writes at the end
+  parts : (t u : SpoolState) (first last : Pending) → BeginsRecord first → (x : WritesPiece t u first last message) → content ≡ x.text ++ bytes_owed last []
+  parts t u first last begins x = sym (x.goes [] ∙ ap (bytes_owed first) (append-nil message) ∙ begins message)
+
+  record_parts : (t u : SpoolState) (first last : Pending) → BeginsRecord first → (x : WritesPiece t u first last message)
+      → text ≡ (head ++ x.text) ++ (bytes_owed last [] ++ lf ∷ [])
+  record_parts t u first last begins x =
+      whole ∙ ap (λ (l : List ℕ). head ++ (l ++ lf ∷ [])) (parts t u first last begins x)
+      ∙ ap (λ (l : List ℕ). head ++ l) (append_assoc x.text (bytes_owed last []) (lf ∷ []))
+      ∙ sym (append_assoc head x.text (bytes_owed last [] ++ lf ∷ []))
+
+  pub record_taken : (s t u v : SpoolState) (first last : Pending) → SpoolTook s t head → BeginsRecord first
+      → WritesPiece t u first last message → SpoolTook u v (bytes_owed last [] ++ lf ∷ []) → SpoolTook s v text
+  record_taken s t u v first last h begins x y =
+      SpoolTook-as s v text ((head ++ x.text) ++ (bytes_owed last [] ++ lf ∷ [])) (record_parts t u first last begins x)
+      (SpoolTook-then s u v (head ++ x.text) (bytes_owed last [] ++ lf ∷ []) (SpoolTook-then s t u head x.text h x.taken) y)
+
+  -- a failure at the head, within a piece, at the end
+  pub head_failed : (s t : SpoolState) → SpoolFailed s t head → SpoolFailed s t text
+  head_failed s t h = SpoolFailed-as s t text (head ++ (content ++ lf ∷ [])) whole (SpoolFailed-first s t head (content ++ lf ∷ []) h)
+
+  pub end_failed : (s t u v : SpoolState) (first last : Pending) → SpoolTook s t head → BeginsRecord first
+      → WritesPiece t u first last message → SpoolFailed u v (bytes_owed last [] ++ lf ∷ []) → SpoolFailed s v text
+  end_failed s t u v first last h begins x y =
+      SpoolFailed-as s v text ((head ++ x.text) ++ (bytes_owed last [] ++ lf ∷ [])) (record_parts t u first last begins x)
+      (SpoolFailed-later s u v (head ++ x.text) (bytes_owed last [] ++ lf ∷ []) (SpoolTook-then s t u head x.text h x.taken) y)
+
+-- whatever message the piece was a prefix of
+pub piece_failed : (calendar : Calendar) (host : List ℕ) (e : Envelope) (piece rest : List ℕ) (s t u : SpoolState) (first : Pending)
+    → SpoolTook s t (head_text calendar host e) → BeginsRecord first → FailsPiece t u first piece → SpoolFailed s u (record_text calendar host e (piece ++ rest))
+piece_failed calendar host e piece rest s t u first h begins x =
+    let front = x.sure rest in
+    let head = head_text calendar host e in
+    let content : quoted_text (unix (piece ++ rest)) ++ lf ∷ [] ≡ x.text ++ (front.rest ++ lf ∷ []) =
+    ap (λ (l : List ℕ). l ++ lf ∷ []) (sym (begins (piece ++ rest)) ∙ front.whole) ∙ append_assoc x.text front.rest (lf ∷ []) in
+    SpoolFailed-as s u _ _
+    (record_split calendar host e (piece ++ rest) ∙ append_assoc head _ (lf ∷ []) ∙ ap (λ (l : List ℕ). head ++ l) content)
+    (SpoolFailed-later s t u head _ h (SpoolFailed-first t u x.text (front.rest ++ lf ∷ []) x.failed))

@@ -1,0 +1,10 @@
+pub mod Envelope
+pub mod Sharing
+pub mod Spool
+pub mod MemorySpool
+pub mod CountSpool
+pub mod Mending
+pub mod Parts
+pub mod Writing
+pub mod Steps
+pub mod Letters

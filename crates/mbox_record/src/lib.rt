@@ -1,0 +1,28 @@
+//! The record of a delivered message in the mboxrd format (RFC 4155), the spool that takes it, and the letters that are
+//! read back.
+//!
+//! A `RecordWriter` writes a record to any `Spool` while its message comes, `mend` writes what an old mailbox lacks at
+//! its end, and `read_mailbox` gives the letters of a mailbox. The layer above stores by these, or is a spool itself.
+//! What a spool is made of is never asked here: of the two that stand here one is in memory, and one only counts.
+#![tactic(auto)]
+
+mod append;
+mod count;
+mod envelope;
+mod head;
+mod letter;
+mod memory;
+mod mending;
+mod pending;
+mod reading;
+mod record;
+mod spool;
+
+pub use count::{CountSpool, tail_behind};
+pub use envelope::Envelope;
+pub use letter::Letter;
+pub use memory::MemorySpool;
+pub use mending::mend;
+pub use reading::{BadMailbox, read_mailbox};
+pub use record::RecordWriter;
+pub use spool::{InUse, Spool, SpoolFault, Tail, tail_of};
