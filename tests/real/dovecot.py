@@ -8,7 +8,7 @@ import smtplib
 import subprocess
 
 from cases import Absent
-from packages import install, program, want_root
+from packages import install, program, need_root
 from started import Started, free_port, wait_for_port
 
 CONFIGURATION = """
@@ -66,9 +66,9 @@ class Dovecot(Started):
     """It runs as the user mail, to whom it gives the file where there is one."""
 
     def __init__(self, folder, path, *more):
-        want_root()
+        need_root()
         for name in ["imapd", "lmtpd"]:
-            want(name)
+            need(name)
         self.command = program("dovecot", "dovecot-core")
         self.folder = pathlib.Path(folder) / "dovecot"
         home = self.folder / "home"
@@ -109,7 +109,7 @@ class Dovecot(Started):
             client.sendmail(sender, ["anna@mx.example"], message, mail_options=["BODY=8BITMIME"])
 
 
-def want(name):
+def need(name):
     """That part of Dovecot, which has a program of the same name without the d."""
     path = f"/usr/lib/dovecot/{name.removesuffix('d')}"
     if not os.path.exists(path):

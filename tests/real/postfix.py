@@ -6,7 +6,7 @@ import smtplib
 import subprocess
 import time
 
-from packages import program, want_root
+from packages import program, need_root
 from started import Started, free_port, wait_for_port
 
 MAIN = """
@@ -59,7 +59,7 @@ postlog unix-dgram n - n - 1 postlogd
 
 class Postfix(Started):
     def __init__(self, folder, *more):
-        want_root()
+        need_root()
         self.command = program("postfix", "postfix")
         self.folder = pathlib.Path(folder) / "postfix"
         self.port = free_port()

@@ -8,15 +8,15 @@ mod client;
 mod fault;
 mod folder;
 mod inherited;
+mod listen_address;
 mod opened;
-mod place;
 mod server;
 mod socket_file;
 mod unix;
 
 pub use client::ClientSocket;
 pub use fault::{ListenFault, Reason};
+pub use listen_address::{ListenAddress, SMTP_PORT, listen_address_of};
 pub use opened::{Opened, open};
-pub use place::{Place, SMTP_PORT, place_of};
 pub use server::ServerSocket;
 pub use socket_file::SocketFile;
