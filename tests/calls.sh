@@ -5,7 +5,7 @@
 set -euo pipefail
 cd "$(dirname "$0")/.."
 . tests/copies
-wanted=$(tests_in tests/calls/src)
+expected=$(tests_in tests/calls/src)
 crates=$(grep -oE '^[a-z0-9_]+' crates.txt | grep -vx lmtpd | tr '\n' ' ')
 # shellcheck disable=SC2086
 copy_crates sources $crates
@@ -16,4 +16,4 @@ rt try --test --seconds 2000 ${1:+-- "$1"} 2>&1 | tee "$folder/said" || status=$
 passed=$(passed_in "$folder/said")
 [ "$status" = 0 ] || { echo "rt try ended with status $status" >&2; exit 1; }
 [ "${passed:-0}" -gt 0 ] || { echo 'no test was run' >&2; exit 1; }
-[ -n "${1:-}" ] || [ "$passed" = "$wanted" ] || { echo "$passed of $wanted tests passed" >&2; exit 1; }
+[ -n "${1:-}" ] || [ "$passed" = "$expected" ] || { echo "$passed of $expected tests passed" >&2; exit 1; }

@@ -21,10 +21,10 @@ def case(function):
     return function
 
 
-def run_all(wanted):
+def run_all(expected):
     """Runs the cases whose names have one of these texts, or all; says whether none failed."""
     for function in CASES:
-        if not wanted or any(text in name_of(function) for text in wanted):
+        if not expected or any(text in name_of(function) for text in expected):
             run(function)
     return none_failed()
 
@@ -61,10 +61,10 @@ def place(fault):
     return f"{pathlib.Path(at.filename).name}:{at.lineno}"
 
 
-def compare(name, found, wanted):
+def compare(name, found, expected):
     """A case that is one comparison."""
-    is_same = found == wanted
-    tell(name, "ok" if is_same else "FAILED", "" if is_same else both(found, wanted))
+    is_same = found == expected
+    tell(name, "ok" if is_same else "FAILED", "" if is_same else both(found, expected))
 
 
 def tell(name, verdict="ok", why=""):
@@ -80,14 +80,14 @@ def none_failed():
     return failed == 0
 
 
-def equal(found, wanted):
+def equal(found, expected):
     """A comparison within a case, which says both where they differ."""
-    if found != wanted:
-        raise AssertionError(both(found, wanted))
+    if found != expected:
+        raise AssertionError(both(found, expected))
 
 
-def both(found, wanted):
-    return f"found {short(found)}, wanted {short(wanted)}"
+def both(found, expected):
+    return f"found {short(found)}, expected {short(expected)}"
 
 
 def short(value):

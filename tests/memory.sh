@@ -16,10 +16,10 @@ printf '\nmod refused;\n' >> src/tests.rt
 number=$(sed -nE 's/^const REFUSED: u32 = ([0-9]+);$/\1/p' "$refused")
 status=0
 rt try --test --fail-alloc "$number" -- refused > "$folder/said" 2>&1 || status=$?
-wanted=$(tests_in "$refused")
-if [ "$status" != 0 ] || [ "$(passed_in "$folder/said")" != "$wanted" ]; then
+expected=$(tests_in "$refused")
+if [ "$status" != 0 ] || [ "$(passed_in "$folder/said")" != "$expected" ]; then
     cat "$folder/said"
-    echo "FAILED: of $wanted tests that have an allocation refused"
+    echo "FAILED: of $expected tests that have an allocation refused"
     exit 1
 fi
-echo "ok: in $wanted tests makers alone take memory"
+echo "ok: in $expected tests makers alone take memory"

@@ -9,10 +9,10 @@ failed=0
 # try STATUS LINE WORD..: the status, the one line on standard error ('clap' for a text of clap's there,
 # 'none' for nothing) and the words.
 try() {
-    local wanted=$1 line=$2 status=0 said verdict=ok
+    local expected=$1 line=$2 status=0 said verdict=ok
     shift 2
     said=$("$LMTPD" "$@" 2>&1 >/dev/null < <(printf 'QUIT\r\n')) || status=$?
-    [ "$status" = "$wanted" ] || verdict=FAILED
+    [ "$status" = "$expected" ] || verdict=FAILED
     case $line in
     none) [ -z "$said" ] || verdict=FAILED ;;
     clap) [[ $said == error:* || $said == *Usage:* ]] || verdict=FAILED ;;

@@ -6,20 +6,20 @@
 set -euo pipefail
 cd "$(dirname "$0")/.."
 . tests/copies
-wanted=("$@")
-[ "$#" != 0 ] || mapfile -t wanted < <(find crates -name 'tests.rt.in' | cut -d/ -f2 | sort -u)
+needed=("$@")
+[ "$#" != 0 ] || mapfile -t needed < <(find crates -name 'tests.rt.in' | cut -d/ -f2 | sort -u)
 # shellcheck disable=SC2046
 copy_crates sources $(grep -oE '^[a-z0-9_]+' crates.txt)
 add_tests
 cd "$folder"
 
 declare -A running
-for crate in "${wanted[@]}"; do
+for crate in "${needed[@]}"; do
     (cd "crates/$crate" && rt try --test --seconds 2000) > "$crate.said" 2>&1 &
     running[$crate]=$!
 done
 failed=0
-for crate in "${wanted[@]}"; do
+for crate in "${needed[@]}"; do
     status=0
     wait "${running[$crate]}" || status=$?
     tests=$(tests_in "crates/$crate/src")

@@ -47,9 +47,9 @@ impl Client {
     /// Says QUIT, and hears its reply and then the end of the stream: a reply too many would show.
     pub fn quit(mut self) -> Result<(), String> {
         self.ask(b"QUIT\r\n", b"221", "QUIT")?;
-        let behind = self.said.len() + self.fill("end of stream")?;
-        if behind > 0 {
-            Err(format!("{behind} bytes after the reply to QUIT"))
+        let after = self.said.len() + self.fill("end of stream")?;
+        if after > 0 {
+            Err(format!("{after} bytes after the reply to QUIT"))
         } else {
             Ok(())
         }

@@ -31,7 +31,7 @@ class Work:
     # grows costs Dovecot time, so the smaller number is in its favour.
     times: int
     # The least ratio of ours to a peer. `before` is a program from before a site chose its message limit (7757243).
-    wanted: dict = field(default_factory=dict)
+    needed: dict = field(default_factory=dict)
 
 
 WORKS = {
@@ -43,8 +43,8 @@ WORKS = {
     "c4": Work(4, 10, 1, 1048576, 4, 3),
 }
 # The least ratio of ours with a log to ours without one.
-WANTED_LOGGED = {"a": 0.9}
-WANTED_SLOW = {"a": {"floor": 0.9}}
+NEEDED_LOGGED = {"a": 0.9}
+NEEDED_SLOW = {"a": {"floor": 0.9}}
 
 
 @dataclass
@@ -148,10 +148,10 @@ class Bench:
             run = self.load(server, "m", work, work.connections, messages, work.recipients)
         finally:
             server.end()
-        wanted = work.connections * messages * work.recipients
+        needed = work.connections * messages * work.recipients
         stored = count_copies(server.store)
-        if peer != "smtp-sink" and stored != wanted:
-            raise Fault(f"{peer}: {stored} of {wanted} copies are in the mailboxes")
+        if peer != "smtp-sink" and stored != needed:
+            raise Fault(f"{peer}: {stored} of {needed} copies are in the mailboxes")
         return run
 
     def load(self, server, tag, work, connections, messages, recipients):
@@ -195,25 +195,25 @@ def print_tables(works, names, given, runs):
     print("|---|---|---|---|---|---|")
     missed = 0
     for work in works:
-        wanted = WANTED_SLOW.get(work, {}) if given.slow_sync else WORKS[work].wanted
+        needed = NEEDED_SLOW.get(work, {}) if given.slow_sync else WORKS[work].needed
         for name, other in [("logged", "ours"), *((name, other) for name in ("ours", "plain") for other in names)]:
             if not {name, other} <= {*names} or other == name or other == "logged":
                 continue
             if name == "plain" and other in ("ours", "before"):
                 continue
             ratios = [runs[work, name, n].rate / runs[work, other, n].rate for n in range(given.rounds)]
-            least = {"ours": wanted.get(other), "logged": WANTED_LOGGED.get(work)}.get(name)
+            least = {"ours": needed.get(other), "logged": NEEDED_LOGGED.get(work)}.get(name)
             missed += print_ratio(work, name, other, ratios, least)
     return 1 if missed else 0
 
 
-def print_ratio(work, name, other, ratios, wanted):
+def print_ratio(work, name, other, ratios, needed):
     """Whether the median is less than it is to be."""
     ratio = statistics.median(ratios)
-    is_missed = wanted is not None and ratio < wanted
-    verdict = "" if wanted is None else "missed" if is_missed else "reached"
+    is_missed = needed is not None and ratio < needed
+    verdict = "" if needed is None else "missed" if is_missed else "reached"
     found = f"{ratio:.2f} ({min(ratios):.2f} to {max(ratios):.2f})"
-    print(f"| {work} | {name} | {other} | {found} | {wanted or ''} | {verdict} |")
+    print(f"| {work} | {name} | {other} | {found} | {needed or ''} | {verdict} |")
     return is_missed
 
 

@@ -44,7 +44,7 @@ fn mail_text() -> Vec<u8> {
     let mut seed = 1;
     for _ in 0..LINES {
         seed = next(seed);
-        text.extend_from_slice(front(seed));
+        text.extend_from_slice(prefix(seed));
         seed = next(seed);
         for _ in 0..60 + seed % 21 {
             seed = next(seed);
@@ -55,7 +55,7 @@ fn mail_text() -> Vec<u8> {
     text
 }
 
-fn front(seed: u32) -> &'static [u8] {
+fn prefix(seed: u32) -> &'static [u8] {
     match seed >> 28 {
         0 => b"..",
         1 => b"From ",
@@ -115,12 +115,12 @@ fn count_line(read: &mut Read, line: &[u8]) {
 // Data: a machine of five states.
 
 #[derive(Clone, Copy)]
-enum Place {
+enum DataPlace {
     InText,
-    BehindCr,
+    AfterCr,
     LineStart,
-    BehindDot,
-    BehindDotCr,
+    AfterDot,
+    AfterDotCr,
 }
 
 struct Made {
@@ -138,24 +138,24 @@ fn read_data(text: &[u8]) -> Made {
     };
     let mut out = [0; 4096];
     let mut len = 0;
-    let mut place = Place::LineStart;
+    let mut place = DataPlace::LineStart;
     'data: for piece in text.chunks(4096) {
         for &byte in piece {
             place = match (place, byte) {
-                (Place::LineStart, b'.') => Place::BehindDot,
-                (Place::BehindDot, CR) => Place::BehindDotCr,
-                (Place::BehindDotCr, LF) => {
+                (DataPlace::LineStart, b'.') => DataPlace::AfterDot,
+                (DataPlace::AfterDot, CR) => DataPlace::AfterDotCr,
+                (DataPlace::AfterDotCr, LF) => {
                     made.ended = true;
                     break 'data;
                 }
-                (Place::BehindDotCr, _) => {
+                (DataPlace::AfterDotCr, _) => {
                     put(CR, &mut out, &mut len, &mut made);
                     put(byte, &mut out, &mut len, &mut made);
                     begun(byte)
                 }
-                (Place::BehindCr, LF) => {
+                (DataPlace::AfterCr, LF) => {
                     put(byte, &mut out, &mut len, &mut made);
-                    Place::LineStart
+                    DataPlace::LineStart
                 }
                 _ => {
                     put(byte, &mut out, &mut len, &mut made);
@@ -170,11 +170,11 @@ fn read_data(text: &[u8]) -> Made {
     made
 }
 
-fn begun(byte: u8) -> Place {
+fn begun(byte: u8) -> DataPlace {
     if byte == CR {
-        Place::BehindCr
+        DataPlace::AfterCr
     } else {
-        Place::InText
+        DataPlace::InText
     }
 }
 

@@ -104,14 +104,14 @@ def check_refusals(folder):
     other = folder / "other"
     other.write_text("#!/bin/sh\necho 'lmtpd 77.0 (none, logic 0)'\n")
     other.chmod(0o755)
-    for program, path, wanted in [
+    for program, path, expected in [
         (LMTPD, str(tools), "dpkg-shlibdeps isn't installed (Debian's packages dpkg-dev and binutils"),
         (f"{folder}/none", os.environ["PATH"], "no proved program is built yet (make build)"),
         (other, os.environ["PATH"], "says '77.0 (none, logic 0)', and crates/lmtpd_words/src/texts.rt another version"),
     ]:
         words = ["packaging/debian/make.sh", str(program), str(folder)]
         status, said = said_by(*words, env=dict(os.environ, PATH=path))
-        assert status == 1 and wanted in said, said
+        assert status == 1 and expected in said, said
     assert not list(folder.glob("*.deb"))
 
 

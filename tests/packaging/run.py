@@ -62,8 +62,8 @@ def completed(line):
 def check_words():
     for command, letter in [("serve", "s"), ("rehearse", "r"), ("check", "c")]:
         told, listed = help_of(command), options_of_page(letter)
-        wanted = set(told) - {"--help"}
-        assert set(listed) == wanted, (command, set(listed) ^ wanted)
+        expected = set(told) - {"--help"}
+        assert set(listed) == expected, (command, set(listed) ^ expected)
         for option, text in told.items():
             # each limit and each usual number of the help stands in the page too
             numbers = set(re.findall(r"\d+", text.split("port")[0])) - {"127", "0", "1", "2003"}
@@ -71,7 +71,7 @@ def check_words():
             assert not missing, (command, option, missing)
         assert completed(f"lmtpd {command} --") == set(told), command
         synopsis = PAGE.split(f".Cm {command}\n")[1].split(".Nm")[0].split(".Sh")[0]
-        assert set(re.findall(r"Fl -([a-z-]+)", synopsis)) == {name[2:] for name in wanted}, command
+        assert set(re.findall(r"Fl -([a-z-]+)", synopsis)) == {name[2:] for name in expected}, command
     assert set(help_of("")) == {"--help", "--version"}
     assert completed("lmtpd ") == {"serve", "rehearse", "check", "help", "--help", "--version"}
     assert completed("lmtpd s") == {"serve"}
@@ -154,13 +154,13 @@ def check_map(folder):
     (folder / "full.boxes").write_text("".join(f"box{number}\n" for number in range(256)))
     status, said = said_by("bash", "-c", command.split(" /etc/lmtpd/")[0] + f" {folder}/*.boxes")
     assert status == 0, said
-    wanted = [
+    expected = [
         f"{name}@mx.example lmtp:unix:private/lmtpd-{path.stem}"
         for path in sorted(folder.glob("*.boxes"))
         if path.stem != "none"
         for name in boxes_in(path)
     ]
-    assert len(wanted) == 2 + 3 + 256 and said.splitlines() == wanted, said[:400]
+    assert len(expected) == 2 + 3 + 256 and said.splitlines() == expected, said[:400]
 
 
 def check_forms(folder):

@@ -17,7 +17,7 @@ import time
 from cases import equal
 from clients import Client
 from failing import environment
-from packages import want_root
+from packages import need_root
 from replies import not_stored, stored
 from server import Server, run
 
@@ -42,7 +42,7 @@ class Beside:
     """A server for one mailbox, by whom it is told, and what was told and deleted."""
 
     def __init__(self, folder, *more, how=MAIL):
-        want_root()
+        need_root()
         folder.chmod(0o755)
         self.folder, self.how, self.more = folder, how, more
         self.home = self.made(folder / "home")

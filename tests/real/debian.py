@@ -14,7 +14,7 @@ import time
 from cases import Absent, case, equal
 from machine import Machine
 from many_mailboxes import recipe
-from packages import program, want_root
+from packages import program, need_root
 
 ROOT = pathlib.Path(__file__).parents[2]
 MIRROR = "http://deb.debian.org/debian"
@@ -155,7 +155,7 @@ def site_with_package(folder):
 @functools.lru_cache(None)
 def plain_debian():
     """A folder with what debootstrap makes without a further word."""
-    want_root()
+    need_root()
     if os.environ.get("PLAIN_DEBIAN"):
         return os.environ["PLAIN_DEBIAN"]
     command = program("debootstrap", "debootstrap")

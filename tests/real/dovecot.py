@@ -10,7 +10,7 @@ import subprocess
 import time
 
 from cases import Absent
-from packages import install, program, want_root
+from packages import install, program, need_root
 from postfix import free_port
 
 CONFIGURATION = """
@@ -68,9 +68,9 @@ class Dovecot:
     """It runs from its start to the end of a `with`, as the user mail, to whom it gives the file where there is one."""
 
     def __init__(self, folder, path, *more):
-        want_root()
+        need_root()
         for name in ["imapd", "lmtpd"]:
-            want(name)
+            need(name)
         self.command = program("dovecot", "dovecot-core")
         self.folder = pathlib.Path(folder) / "dovecot"
         home = self.folder / "home"
@@ -123,7 +123,7 @@ class Dovecot:
             client.sendmail(sender, ["anna@mx.example"], message, mail_options=["BODY=8BITMIME"])
 
 
-def want(name):
+def need(name):
     """That part of Dovecot, which has a program of the same name without the d."""
     path = f"/usr/lib/dovecot/{name.removesuffix('d')}"
     if not os.path.exists(path):

@@ -7,7 +7,7 @@ import subprocess
 
 from cases import Absent, case, equal
 from mail import equal_mailbox, message
-from packages import install, unpacked, want_root
+from packages import install, unpacked, need_root
 from replies import NO_SUCH_BOX, stored
 from server import Server
 
@@ -78,7 +78,7 @@ def exim_delivers_over_a_unix_socket(folder):
 @contextlib.contextmanager
 def exim(folder):
     """The program, and the user that it runs as."""
-    want_root()
+    need_root()
     install("libidn12")  # the library of its that nothing else may have brought
     found = next(unpacked("exim4-daemon-light", folder / "exim").glob("usr/sbin/exim*"), None)
     if found is None:

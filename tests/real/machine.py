@@ -11,7 +11,7 @@ import subprocess
 import time
 
 from cases import Absent
-from packages import program, want_root
+from packages import program, need_root
 
 SYSTEMD = "/lib/systemd/systemd"
 PATH = "/usr/local/sbin:/usr/local/bin:/usr/sbin:/usr/bin:/sbin:/bin"
@@ -53,7 +53,7 @@ class Machine:
 
     def __init__(self, folder, site, root="/"):
         """It has the files of the folder `root`; the folder `site` is copied to /root/site there."""
-        want_root()
+        need_root()
         if not os.path.exists(f"{root}/{SYSTEMD}"):
             raise Absent("systemd isn't installed")
         self.site = site

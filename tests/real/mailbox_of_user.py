@@ -52,8 +52,8 @@ def another_users_when_root(folder):
     beside.path.touch()
     os.chown(beside.path, ANNA, ANNA)
     with Server(beside.path.parent, ["anna"], 1) as server:
-        wanted = {"status": 1, "said": [], "errors": ["lmtpd: cannot open anna.mbox"]}
-        equal((server.first, vars(server.end())), ("", wanted))
+        expected = {"status": 1, "said": [], "errors": ["lmtpd: cannot open anna.mbox"]}
+        equal((server.first, vars(server.end())), ("", expected))
 
 
 def spool_of_mail(spool):

@@ -11,7 +11,7 @@ import time
 from cases import Absent, case, equal
 from exim_delivers import user
 from mail import equal_mailbox, message
-from packages import install, unpacked, want_root
+from packages import install, unpacked, need_root
 from postfix import free_port
 from replies import NO_SUCH_BOX
 from server import Server
@@ -49,7 +49,7 @@ def opensmtpd_delivers_over_a_unix_socket(folder):
 @contextlib.contextmanager
 def opensmtpd(folder):
     """Its files, with its users and what it needs at fixed places."""
-    want_root()
+    need_root()
     install("libevent-2.1-7")
     files = unpacked("opensmtpd", folder / "opensmtpd")
     with user("opensmtpd"), user("opensmtpq"), places(files):

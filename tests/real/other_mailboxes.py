@@ -36,7 +36,7 @@ def postfix_quotes_once(folder):
         equal([f"\n{mark}\n" in two.decode() for mark in MARKS], [False] + [True] * 5)
         # of `>From` nobody knows any more who wrote the >
         kept = ["From x" if line == ">From x" else line for line in LINES]
-        moved_and_delivered_behind(folder / f"moved-{path.name}", path, "sed", [kept, kept])
+        moved_and_delivered_after(folder / f"moved-{path.name}", path, "sed", [kept, kept])
 
 
 @case
@@ -48,7 +48,7 @@ def a_mailbox_without_its_last_line(folder):
         home.mkdir()
         (home / "anna.mbox").write_bytes(whole[:-lost])
         equal(checked(home / "anna.mbox"), f"no empty line at {len(whole) - lost}")
-        deliver_behind(home, 3)
+        deliver_after(home, 3)
 
 
 @case
@@ -67,7 +67,7 @@ def dovecot_quotes_nothing(folder):
         equal((said.count(f"\nContent-Length: {length}\n"), said.count("Content-Length: 3")), (2, 0))
         equal([said.count(f"\n{mark}\n") for mark in MARKS[1:]], [0] * 5)
         equal(len(re.findall(r"^X-IMAPbase: \d+ \d+\nX-UID: 1\nStatus: ", said, re.MULTILINE)), 1)
-        moved_and_delivered_behind(folder / "home", path, "awk", [LINES, LINES])
+        moved_and_delivered_after(folder / "home", path, "awk", [LINES, LINES])
         dovecot.deliver(FLAWED.encode())
         path.write_text("From carl" + path.read_text().rpartition("\nFrom carl")[2])
         equal(checked(path), f"no empty line at {path.read_text().index('From x') + len('From')}")
@@ -105,9 +105,9 @@ def dovecot_writes_into_ours(folder):
         equal(path.read_text(), before)
         os.chown(path, 8, 8)
         look_by_imap(dovecot)
-        equal(names_behind(path, before), {"X-IMAPbase", "X-UID"})
+        equal(names_after(path, before), {"X-IMAPbase", "X-UID"})
         look_by_imap(dovecot, "\\Seen")
-        equal(names_behind(path, before), {"X-IMAPbase", "X-UID", "Status"})
+        equal(names_after(path, before), {"X-IMAPbase", "X-UID", "Status"})
         equal((body(letters_of(path)[0]), checked(path)), (quoted(LINES), "letters 1"))
 
 
@@ -120,7 +120,7 @@ def look_by_imap(dovecot, *flags):
         client.close()
 
 
-def names_behind(path, before):
+def names_after(path, before):
     """The names of the header lines that weren't there before."""
     return {line.partition(":")[0] for line in path.read_text().splitlines() if line not in before.splitlines()}
 
@@ -187,16 +187,16 @@ def letters_of(path):
 
 def checked(path):
     """What `lmtpd check` says of a file."""
-    return said_by(os.environ["LMTPD"], "check", path, wanted=(0, 1)).removeprefix(f"{path} ").removesuffix("\n")
+    return said_by(os.environ["LMTPD"], "check", path, expected=(0, 1)).removeprefix(f"{path} ").removesuffix("\n")
 
 
-def said_by(*words, wanted=(0,)):
+def said_by(*words, expected=(0,)):
     said = subprocess.run(words, capture_output=True, text=True, timeout=20)
-    equal((said.returncode in wanted, said.stderr), (True, ""))
+    equal((said.returncode in expected, said.stderr), (True, ""))
     return said.stdout
 
 
-def moved_and_delivered_behind(home, path, tool, bodies):
+def moved_and_delivered_after(home, path, tool, bodies):
     """Types what MOVING has for that tool; then a server delivers one more letter, and readers find all."""
     home.mkdir(exist_ok=True)
     lines = next(text for text in MOVING.split("```\n")[1::2] if tool in text)
@@ -207,12 +207,12 @@ def moved_and_delivered_behind(home, path, tool, bodies):
     said = subprocess.run(["sh", "-e"], input=lines, env=environment, capture_output=True, text=True, timeout=20)
     equal((said.returncode, said.stderr), (0, ""))
     equal(said.stdout, f"{home}/anna.mbox letters {len(bodies)}\n")
-    deliver_behind(home, len(bodies) + 1)
+    deliver_after(home, len(bodies) + 1)
     texts = list(letters.by_git(home / "anna.mbox"))
     equal([body(text) for text in texts], [*bodies, LINES])
 
 
-def deliver_behind(home, count):
+def deliver_after(home, count):
     """A server delivers one more letter to anna's file, which then has that many."""
     with Server(home, ["anna"], 1, "--lanes", 1) as server:
         deliver_to(server)

@@ -49,6 +49,6 @@ def unpacked(package, folder):
     return folder
 
 
-def want_root():
+def need_root():
     if os.geteuid() != 0:
         raise Absent("it needs root")

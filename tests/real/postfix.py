@@ -7,7 +7,7 @@ import socket
 import subprocess
 import time
 
-from packages import program, want_root
+from packages import program, need_root
 
 MAIN = """
 compatibility_level = 3.6
@@ -67,7 +67,7 @@ class Postfix:
     """It runs from its start to the end of a `with`."""
 
     def __init__(self, folder, *more):
-        want_root()
+        need_root()
         self.command = program("postfix", "postfix")
         self.folder = pathlib.Path(folder) / "postfix"
         self.port = free_port()

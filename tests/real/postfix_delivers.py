@@ -5,7 +5,7 @@ import subprocess
 
 from cases import Absent, case, equal
 from mail import equal_mailbox, message
-from packages import want_root
+from packages import need_root
 from postfix import Postfix, free_port
 from replies import NO_SUCH_BOX, not_stored, over_quota, stored
 from server import Server
@@ -74,7 +74,7 @@ def a_quota_keeps_the_queue(folder):
 @contextlib.contextmanager
 def small_disk(path):
     """A file system of 64 KiB in memory."""
-    want_root()
+    need_root()
     path.mkdir()
     if subprocess.run(["mount", "-t", "tmpfs", "-o", "size=64k", "none", path], stderr=subprocess.DEVNULL).returncode:
         raise Absent("no file system can be mounted")

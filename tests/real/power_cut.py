@@ -10,7 +10,7 @@ import time
 
 from cases import Absent, case, equal
 from killed_under_load import BOXES, CLIENTS, deliver
-from packages import program, want_root
+from packages import program, need_root
 from server import Server
 
 ROUNDS = 20
@@ -20,7 +20,7 @@ SIZE = 64 * 1024 * 1024
 @case
 def power_cut(folder):
     """the power goes twenty times: each copy that was told 250 is whole on what the disk had been given by then"""
-    want_root()
+    need_root()
     chance = random.Random(2)
     told = {name: [] for name in BOXES}
     disk, copy = folder / "disk", folder / "copy"

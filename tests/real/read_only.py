@@ -6,7 +6,7 @@ import subprocess
 import letters
 from cases import Absent, case, equal
 from clients import deliver_one
-from packages import program, want_root
+from packages import program, need_root
 from power_cut import SIZE, mounted
 from replies import not_stored, stored
 from server import Server, run, words
@@ -17,7 +17,7 @@ STORED = [stored("anna"), stored("ben")]
 @case
 def a_file_system_gone_read_only(folder):
     """a file system goes read-only: its mailbox is told 451, the other 250; none begins there till it may be written"""
-    want_root()
+    need_root()
     disk, mail = folder / "disk", folder / "mail"
     with disk.open("wb") as file:
         file.truncate(SIZE)

@@ -77,8 +77,8 @@ def mutt_reads(folder):
     words = ["script", "-qec", " ".join(["timeout", "20", mutt, *map(quote, given), "-f", str(path)]), "/dev/null"]
     said = subprocess.run(words, env=environment, stdin=subprocess.DEVNULL, capture_output=True, timeout=40, text=True)
     found = re.findall(r"<(\d+ letter \d+|\d+ in all)>", said.stdout)
-    wanted = [f"{number + 1} letter {number}" for number in range(COUNT)] + [f"{COUNT} in all"]
-    equal(sorted(set(found)), sorted(wanted))
+    expected = [f"{number + 1} letter {number}" for number in range(COUNT)] + [f"{COUNT} in all"]
+    equal(sorted(set(found)), sorted(expected))
 
 
 def quote(text):

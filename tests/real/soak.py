@@ -73,14 +73,14 @@ def soak(folder, work):
         begun, pid = time.monotonic(), server.process.pid
         before = Look(begun, pid)
         looks = watch(begun, pid, deliver(load, server.text, work))
-        behind = look_behind(begun, pid, before)
+        after = look_afterwards(begun, pid, before)
         say_goodbye(server.address, work.lanes)
         ended = server.end()
     equal((ended.status, ended.errors), (0, []))
     equal(ended.said, [f"{name} stored {work.stored}" for name in work.boxes])
     equal_ids(mailboxes, work)
-    draw([*looks, behind], work)
-    judge(before, looks, behind, work)
+    draw([*looks, after], work)
+    judge(before, looks, after, work)
 
 
 def equal_ids(mailboxes, work):
@@ -91,17 +91,17 @@ def equal_ids(mailboxes, work):
         equal(found, [(connection, b"%d" % message) for message in range(work.stored)])
 
 
-def judge(before, looks, behind, work):
+def judge(before, looks, after, work):
     """Neither memory nor descriptors grow with what is delivered, and no descriptor is left."""
-    settled = [*looks[len(looks) * SETTLED // 100 :], behind]
+    settled = [*looks[len(looks) * SETTLED // 100 :], after]
     first, most = settled[0].memory, max(look.memory for look in settled)
-    print(f"{work.deliveries} deliveries in {behind.seconds:.0f} s; resident {first} KiB after a tenth,", end=" ")
-    print(f"{behind.memory} at the end, {most} at most;", end=" ")
-    print(f"descriptors {before.descriptors} before, {behind.descriptors} after")
+    print(f"{work.deliveries} deliveries in {after.seconds:.0f} s; resident {first} KiB after a tenth,", end=" ")
+    print(f"{after.memory} at the end, {most} at most;", end=" ")
+    print(f"descriptors {before.descriptors} before, {after.descriptors} after")
     assert most - first < work.leak, f"from {first} to {most} KiB"
     # one for each client, who comes and goes
     assert max(look.descriptors for look in looks) <= before.descriptors + work.lanes, "more than the clients'"
-    equal(behind.descriptors, before.descriptors)
+    equal(after.descriptors, before.descriptors)
 
 
 def compiled(folder):
@@ -137,7 +137,7 @@ def watch(begun, pid, load):
     return looks
 
 
-def look_behind(begun, pid, before):
+def look_afterwards(begun, pid, before):
     """The look after the last client, for whose connection to be closed it waits a while."""
     until = time.monotonic() + 5
     while True:

@@ -9,7 +9,7 @@ import time
 
 from cases import case, equal
 from machine import Machine
-from packages import program, want_root
+from packages import program, need_root
 
 ROOT = pathlib.Path(__file__).parents[2]
 HEADING = "## From nothing to a letter in ten lines"
@@ -104,7 +104,7 @@ a_service_that_lacks_something.seconds = 180
 @contextlib.contextmanager
 def machine(folder):
     """With the sources in place that `make install` needs, and the built program."""
-    want_root()
+    need_root()
     for name in ["make", "postfix"]:
         program(name, name)
     site = folder / "site"

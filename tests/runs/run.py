@@ -161,10 +161,10 @@ def wrong_quotas():
 
 def compare_all():
     for row in [*rows.rows(), *listed.rows()]:
-        wanted = (0, row.output(), b"")
-        compare(row.name, play(row), wanted)
+        expected = (0, row.output(), b"")
+        compare(row.name, play(row), expected)
         if len(row.input()) < 400:
-            compare(f"{row.name}, byte by byte", play_in_pieces(row), wanted)
+            compare(f"{row.name}, byte by byte", play_in_pieces(row), expected)
     compare("one mailbox twice and each quota from 0 to 378", list(wrong_quotas()), [])
     compare("a message of 200 MiB, byte for byte", play_largest(), True)
     first = next(rows.rows())

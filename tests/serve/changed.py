@@ -65,7 +65,7 @@ CHANGES = {
 def it_goes_on_in_the_right_file(folder):
     """a mailbox renamed, removed, emptied, torn, replaced, rewritten: the next letter is in the file that the path
     names, after what stands there, and all older ones where they were moved to"""
-    for change, wanted in CHANGES.items():
+    for change, expected in CHANGES.items():
         place = folder / change.__name__
         place.mkdir()
         with Server(place, ["anna"], 1, "--lanes", 1) as server, Client(server.address).greet() as client:
@@ -77,7 +77,7 @@ def it_goes_on_in_the_right_file(folder):
             equal(client.deliver(["anna"], "hello")[1], [stored("anna")])
             client.quit()
             equal(vars(server.end()), {"status": 0, "said": ["anna stored 3"], "errors": []})
-        equal((change.__name__, letters.messages(path)), (change.__name__, wanted))
+        equal((change.__name__, letters.messages(path)), (change.__name__, expected))
         if change in [rename, remove]:
             equal(oct(stat.S_IMODE(path.stat().st_mode)), oct(0o600))
         if change == rename:
@@ -181,8 +181,8 @@ def not_plain_at_the_start(folder):
         path = place / "anna.mbox"
         make(path)
         before, names = path.lstat(), sorted(place.rglob("*"))
-        wanted = {"status": 1, "said": [], "errors": ["lmtpd: cannot open anna.mbox"]}
-        equal((make.__name__, vars(run(words(place, ["anna"], 1)))), (make.__name__, wanted))
+        expected = {"status": 1, "said": [], "errors": ["lmtpd: cannot open anna.mbox"]}
+        equal((make.__name__, vars(run(words(place, ["anna"], 1)))), (make.__name__, expected))
         after = path.lstat()
         equal((make.__name__, after.st_ino, after.st_mode), (make.__name__, before.st_ino, before.st_mode))
         equal((make.__name__, (place / "target").read_bytes()), (make.__name__, b"abc"))
@@ -235,8 +235,8 @@ def two_servers(folder):
             equal(vars(server.end()), {"status": 0, "said": [f"anna stored {2 * count}"], "errors": []})
     found = letters.messages(one.mailbox("anna"))
     for who in range(4):
-        wanted = [b"%d %d\n" % (who, number) for number in range(count)]
-        equal([letter for letter in found if letter.startswith(b"%d " % who)], wanted)
+        expected = [b"%d %d\n" % (who, number) for number in range(count)]
+        equal([letter for letter in found if letter.startswith(b"%d " % who)], expected)
     equal(len(found), 4 * count)
 
 

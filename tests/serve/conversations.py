@@ -50,8 +50,8 @@ def two_at_once(folder):
         for name in ["anna", "ben"]:
             found = letters.messages(server.mailbox(name))
             for who in [b"one", b"other"]:
-                wanted = [b"%s %d\n" % (who, number) for number in range(20)]
-                equal([message for message in found if message.startswith(who + b" ")], wanted)
+                expected = [b"%s %d\n" % (who, number) for number in range(20)]
+                equal([message for message in found if message.startswith(who + b" ")], expected)
 
 
 @case
@@ -69,9 +69,9 @@ def data_of_two_lanes_mixed(folder):
             for client in [one, other]:
                 equal(client.ask("."), stored("anna"))
                 equal(client.quit(), CLOSING)
-        wanted = [(letter * 200 + b"\n") * 50 for letter in [b"a", b"b"]]
+        expected = [(letter * 200 + b"\n") * 50 for letter in [b"a", b"b"]]
         equal(server.end().said, ["anna stored 2"])
-        equal(letters.messages(server.mailbox("anna")), wanted)
+        equal(letters.messages(server.mailbox("anna")), expected)
 
 
 @case
@@ -143,7 +143,7 @@ def a_number_of_reads(folder):
 
 
 @case
-def bytes_behind_quit(folder):
+def bytes_after_quit(folder):
     """bytes after QUIT don't cost its reply, nor the orderly end"""
     with Server(folder, ["anna"], 10, "--lanes", 1) as server:
         for _ in range(10):
@@ -156,7 +156,7 @@ def bytes_behind_quit(folder):
 
 
 @case
-def bytes_behind_the_last_read(folder):
+def bytes_after_the_last_read(folder):
     """bytes after the last read don't cost the 421 reply"""
     with Server(folder, ["anna"], 10, "--lanes", 1, "--reads", 1) as server:
         for _ in range(10):

@@ -43,7 +43,7 @@ def all_later_calls_fail(folder):
 one_call_fails.seconds = all_later_calls_fail.seconds = 120
 
 
-def fail_in_turn(folder, more, wanted):
+def fail_in_turn(folder, more, needed):
     library = built(folder)
     seen = set()
     for number in range(1, MOST_CALLS):
@@ -58,7 +58,7 @@ def fail_in_turn(folder, more, wanted):
             raise AssertionError(f"call {number}, {called(place)[number - 1 : number]}: {fault}") from fault
         if not told.exists():
             # all calls of a run that ends well have failed
-            equal(seen, wanted)
+            equal(seen, needed)
             return
     raise AssertionError(f"no end after {MOST_CALLS} calls")
 
@@ -125,10 +125,10 @@ def check_turns(turns, came_to, is_for_good):
     """What is stored, and where a lock file is left, as the call that failed says."""
     at = next((number for number, (turn, _, _) in enumerate(turns) if turn != "well"), LETTERS)
     for number, (turn, is_stored, is_left) in enumerate(turns):
-        is_wanted = turn in ["well", "harmless"]
+        is_needed = turn in ["well", "harmless"]
         if number > at and (is_for_good or came_to == "broken"):
-            is_wanted = False
-        equal((number, is_stored), (number, is_wanted))
+            is_needed = False
+        equal((number, is_stored), (number, is_needed))
         may_be_left = is_for_good and number >= at or number == at and came_to == "harmless" and is_stored
         assert may_be_left or not is_left, f"a lock file is left after letter {number}"
 

@@ -35,15 +35,15 @@ def all_lanes_at_once(folder):
         for client in served:
             equal(client.quit(), CLOSING)
         ended = server.end()
-    wanted = {name: [] for name in BOXES}
+    expected = {name: [] for name in BOXES}
     for number, names in enumerate(taken):
         for name in names:
-            wanted[name].append(b"from client %d\n" % number)
+            expected[name].append(b"from client %d\n" % number)
     equal((ended.status, ended.errors), (0, []))
-    equal(ended.said, [f"{name} stored {len(wanted[name])}" for name in BOXES])
-    equal(sum(map(len, wanted.values())), 640)
+    equal(ended.said, [f"{name} stored {len(expected[name])}" for name in BOXES])
+    equal(sum(map(len, expected.values())), 640)
     for name in BOXES:
-        equal(sorted(letters.messages(server.mailbox(name))), sorted(wanted[name]))
+        equal(sorted(letters.messages(server.mailbox(name))), sorted(expected[name]))
 
 
 @case

@@ -106,9 +106,9 @@ def copies_are_logged_as_they_are_answered(folder):
     logged = log.read_text().splitlines()
     lines = [answer(line) for line in logged if "copy answered" in line]
     first, small = (SIZE, "relay.example"), (len("Subject: b\r\n\r\n"), "relay.example")
-    wanted = [("0-1", "anna", "stored", "250", *first), ("0-1", "ben", "stored", "250", *first)]
-    wanted += [("0-2", "anna", "over-quota", "452", *first), ("0-3", "ben", "over-quota", "452", *small)]
-    equal([line for line, _ in lines], wanted)
+    expected = [("0-1", "anna", "stored", "250", *first), ("0-1", "ben", "stored", "250", *first)]
+    expected += [("0-2", "anna", "over-quota", "452", *first), ("0-3", "ben", "over-quota", "452", *small)]
+    equal([line for line, _ in lines], expected)
     assert all(seconds < 5 for _, seconds in lines), lines
     assert "secret" not in str(logged) and "@" not in str(logged), logged
     assert b" id 0-1;" in server.mailbox("anna").read_bytes()
@@ -138,8 +138,8 @@ def refused_commands_are_logged(folder):
     refused = [code[:3] for code in heard if code[0] in "45"]
     lines = [REFUSAL.fullmatch(line) for line in ended.errors[:-1]]
     assert all(lines), ended.errors
-    wanted = [("0", *logged) for _, logged in said if logged]
-    equal(([line.groups() for line in lines], [line[3] for line in lines]), (wanted, refused))
+    expected = [("0", *logged) for _, logged in said if logged]
+    equal(([line.groups() for line in lines], [line[3] for line in lines]), (expected, refused))
 
 
 # What a client says, and how the line of the log ends that it gets with --log-addresses, if it gets one.
@@ -199,8 +199,8 @@ def addresses_are_logged_where_they_are_asked_for(folder):
     (folder / "bare").mkdir()
     without = naming_server(folder / "bare")
     equal([varies(line) for line in without], [varies(line) for line in bare])
-    wanted = [("0-1", "anna"), ("0-1", "ben"), ("0-1", "anna"), ("0-2", "ben")]
-    equal([answer(line)[0][:2] for line in without[-4:]], wanted)
+    expected = [("0-1", "anna"), ("0-1", "ben"), ("0-1", "anna"), ("0-2", "ben")]
+    equal([answer(line)[0][:2] for line in without[-4:]], expected)
 
 
 def varies(line):
@@ -237,8 +237,8 @@ def a_thousand_addresses_are_logged(folder):
         equal(server.end().status, 0)
     logged = log.read_text().splitlines()
     equal(logged[0], "[INFO  lmtpd] command refused lane=0 verb=RCPT code=550 recipient=<ben@mx.example>")
-    wanted = [f"<carl@a.example> recipient=<{name}>" for name in names]
-    equal([line.split(" sender=")[1] for line in logged[1:-1]], wanted)
+    expected = [f"<carl@a.example> recipient=<{name}>" for name in names]
+    equal([line.split(" sender=")[1] for line in logged[1:-1]], expected)
 
 
 @case

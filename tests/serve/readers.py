@@ -156,8 +156,8 @@ def in_use_is_told(folder):
     with Server(folder, names, 1, *more) as server, Client(server.address).greet() as client:
         with bytes_held(server.mailbox("anna")), name_held(server.mailbox("carla")):
             for to in [["anna", "carla", "dora"], ["anna"], ["anna"]]:
-                wanted = [not_stored(name) if name in ["anna", "carla"] else stored(name) for name in to]
-                equal(client.deliver(to, "hello")[1], wanted)
+                expected = [not_stored(name) if name in ["anna", "carla"] else stored(name) for name in to]
+                equal(client.deliver(to, "hello")[1], expected)
         over = [over_quota(name) for name in ["anna", "ben"]]
         equal(client.deliver(["anna", "ben", "carla"], "hello")[1], [*over, stored("carla")])
         client.quit()

@@ -96,7 +96,7 @@ NUMBERS = [
 ]
 
 
-def wants(given, status, line):
+def expects(given, status, line):
     ended = run(given)
     equal((ended.status, ended.errors, ended.said), (status, [f"lmtpd: {line}"], []))
 
@@ -105,7 +105,7 @@ def wants(given, status, line):
 def the_words_in_order(folder):
     """words that can't be used: one line, in the order of the tests, status 2, and no mailbox is made"""
     for status, line, host, listen, more, boxes in ROWS:
-        wants(words(folder, boxes, 1, *more, listen=listen, host=host), status, line)
+        expects(words(folder, boxes, 1, *more, listen=listen, host=host), status, line)
     equal(list(folder.iterdir()), [])
 
 
@@ -114,7 +114,7 @@ def a_file_of_mailboxes(folder):
     """a file of mailboxes that can't be read, before all that is wrong with words: one line, status 1; or bad names"""
     boxes = folder / "boxes"
     for host, listen, names in [("mx_example", BAD, []), ("mx_example", GOOD, ["Anna"]), ("a.example", GOOD, ["anna"])]:
-        wants(words(folder, names, 1, "--boxes", boxes, listen=listen, host=host), 1, f"cannot read {boxes}")
+        expects(words(folder, names, 1, "--boxes", boxes, listen=listen, host=host), 1, f"cannot read {boxes}")
     for text, line in [
         ("", "no box"),
         ("# anna\n", "no box"),
@@ -124,10 +124,10 @@ def a_file_of_mailboxes(folder):
         ("anna\nben\nanna\n", "box named twice"),
     ]:
         boxes.write_text(text)
-        wants(words(folder, [], 1, "--boxes", boxes), 2, line)
+        expects(words(folder, [], 1, "--boxes", boxes), 2, line)
     boxes.write_text("anna\n")
-    wants(words(folder, ["anna"], 1, "--boxes", boxes), 2, "box named twice")
-    wants(words(folder, [], 1, "--boxes", boxes, listen=BAD), 2, "bad address")
+    expects(words(folder, ["anna"], 1, "--boxes", boxes), 2, "box named twice")
+    expects(words(folder, [], 1, "--boxes", boxes, listen=BAD), 2, "bad address")
     equal([path.name for path in folder.iterdir()], ["boxes"])
 
 
@@ -139,14 +139,14 @@ def what_the_machine_refuses(folder):
     listener, port = taken_port()
     with listener:
         for line, listen, more, boxes in LATER_ROWS:
-            wants(words(folder, boxes, 1, *more, listen=listen.replace("PORT", f"127.0.0.1:{port}")), 1, line)
+            expects(words(folder, boxes, 1, *more, listen=listen.replace("PORT", f"127.0.0.1:{port}")), 1, line)
     equal(sorted(path.name for path in folder.iterdir()), ["anna.mbox", "ben.mbox", "dora.mbox"])
 
 
 @case
 def no_folder(folder):
     """a folder that isn't there: the first mailbox can't be opened, status 1"""
-    wants(words(folder / "none", ["anna"], 1), 1, "cannot open anna.mbox")
+    expects(words(folder / "none", ["anna"], 1), 1, "cannot open anna.mbox")
 
 
 @case
@@ -163,7 +163,7 @@ def numbers_out_of_range(folder):
     for missing in ["--host", "--listen", "--dir"]:
         at = good.index(missing)
         equal((missing, run(good[:at] + good[at + 2 :]).status), (missing, 2))
-    wants(good[:-1], 2, "no box")
+    expects(good[:-1], 2, "no box")
     ended = run([*good, "--log", "off", "--log", "info"])
     equal((ended.status, ended.errors[0].split("'")[0]), (2, "error: the argument "))
     equal(run([*good, "--log", "warn"]).errors[0], "error: invalid value for '--log <LEVEL>': it is off, error or info")
@@ -187,14 +187,14 @@ def the_ends_of_what_a_lock_is_waited_for_and_of_a_mode(folder):
     taken += [("--stop-file", "0"), ("--socket-mode", "0600"), ("--socket-mode", "0777")]
     taken += [("--mailbox-mode", value) for value in ["0", "7", "600", "0600", "0777", "777", "0000", "660"]]
     for name, value in taken:
-        wants(words(folder, ["anna"], 1, name, value, listen=BAD), 2, "bad address")
+        expects(words(folder, ["anna"], 1, name, value, listen=BAD), 2, "bad address")
 
 
 @case
 def the_levels(folder):
     """each level, in any case: the words are taken, and what is told is the next thing that is wrong"""
     for level in ["off", "error", "info", "OFF", "Error", "iNFO"]:
-        wants(words(folder, ["anna"], 1, "--log", level, listen=BAD), 2, "bad address")
+        expects(words(folder, ["anna"], 1, "--log", level, listen=BAD), 2, "bad address")
 
 
 @case

@@ -72,9 +72,9 @@ fill_turn key depot a run n row s some fits size =
       split = λ x. refl;
     }
 
-all_front : (P : ℕ → Type 0) (xs ys : List ℕ) → AllByRecursion P (xs ++ ys) → AllByRecursion P xs
-all_front P [] ys h = tt
-all_front P (x ∷ xs) ys h = (h.0, all_front P xs ys h.1)
+all_prefix : (P : ℕ → Type 0) (xs ys : List ℕ) → AllByRecursion P (xs ++ ys) → AllByRecursion P xs
+all_prefix P [] ys h = tt
+all_prefix P (x ∷ xs) ys h = (h.0, all_prefix P xs ys h.1)
 
 len_parts : (n blocks : ℕ) → blocks ≡ d.blocks_for n → 0 < n % BLOCK_SIZE → n ≡ BLOCK_SIZE * (blocks - 1) + n % BLOCK_SIZE
 len_parts n blocks e some = omega (arith, e, some)
@@ -93,11 +93,11 @@ filled_bytes key depot a run n piece s some fits size =
     ap (λ k. chain k a.next run.first) one ∙ chain_last (run.blocks - 1) a.next run.first ∙ ap (λ b. chain (run.blocks - 1) a.next run.first ++ b ∷ []) l.1.is in
     let low : AllByRecursion (λ b. b < length a.next) (chain (run.blocks - 1) a.next run.first ++ run.last ∷ []) =
     subst (λ bs. AllByRecursion (λ b. b < length a.next) bs) parts (run_low a key.slot (slot_at key.generation (Draft run)) s.arena was) in
-    let front : length (flat a.store (chain (run.blocks - 1) a.next run.first)) ≡ BLOCK_SIZE * (run.blocks - 1) =
-    full_length a.store (length a.next) (chain (run.blocks - 1) a.next run.first) s.arena.count s.arena.sizes (all_front (λ b. b < length a.next) (chain (run.blocks - 1) a.next run.first) (run.last ∷ []) low) ∙ ap (λ k. BLOCK_SIZE * k) (chain_length (run.blocks - 1) a.next run.first) in
+    let prefix : length (flat a.store (chain (run.blocks - 1) a.next run.first)) ≡ BLOCK_SIZE * (run.blocks - 1) =
+    full_length a.store (length a.next) (chain (run.blocks - 1) a.next run.first) s.arena.count s.arena.sizes (all_prefix (λ b. b < length a.next) (chain (run.blocks - 1) a.next run.first) (run.last ∷ []) low) ∙ ap (λ k. BLOCK_SIZE * k) (chain_length (run.blocks - 1) a.next run.first) in
     let there : run.last < length a.store = omega (arith, l.1.low, s.arena.count) in
     ap (λ bs. take (run.length + n) (flat (set a.store run.last (take (run.length % BLOCK_SIZE) (get_or a.store run.last []) ++ piece ++ drop (run.length % BLOCK_SIZE + n) (get_or a.store run.last []))) bs)) parts
-    ∙ written a.store (chain (run.blocks - 1) a.next run.first) run.last (BLOCK_SIZE * (run.blocks - 1)) (run.length % BLOCK_SIZE) n run.length piece l.1.once there front (s.arena.sizes run.last [] there)
+    ∙ written a.store (chain (run.blocks - 1) a.next run.first) run.last (BLOCK_SIZE * (run.blocks - 1)) (run.length % BLOCK_SIZE) n run.length piece l.1.once there prefix (s.arena.sizes run.last [] there)
     (len_parts run.length run.blocks is.enough some) size (omega (arith, fits))
     ∙ ap (λ bs. take run.length (flat a.store bs) ++ piece) (sym parts)
 

@@ -11,7 +11,7 @@ use Rattle.block_arena.specs.declared.slot.Run.{Run}
 use Rattle.block_arena.specs.declared.slot.Content.{Content}
 use Rattle.block_arena.specs.declared.slot.Content.TheVariants.{Free, Draft, Sealed, Retired}
 use Rattle.block_arena.specs.declared.slot.Slot.{Slot}
-use Rattle.block_arena.specs.Fields.{ArenaFields, chain, node, held, slot_of, depot_of, slot_behind, run_of, block_count, IsContent, IsRun, IsArena}
+use Rattle.block_arena.specs.Fields.{ArenaFields, chain, node, held, slot_of, depot_of, slot_after, run_of, block_count, IsContent, IsRun, IsArena}
 use Rattle.block_arena.specs.Calls.{depot_key, IsInUse, Frees}
 use Rattle.block_arena.proofs.Chains.{chain_last, splice}
 use Rattle.mail_world.proofs.Heard.{all_set}
@@ -41,35 +41,35 @@ pub in_use : (key : Key) (depot : d.Depot) (a : ArenaFields) (content : Content)
     → Sees key depot a content → IsInUse (d.held_under depot (depot_key key)) → Owns a.store a.next content (run_of content)
 in_use key depot a content s h = owns a.store a.next content (subst (λ (x : d.Held). IsInUse x) (under key depot a content s) h)
 
-behind_content : (t : Bool) (next : List ℕ) (g k : ℕ) → IsContent next ((cond t (slot_at g Free) (slot_at k Retired)).content)
-behind_content true next g k = tt
-behind_content false next g k = tt
+after_content : (t : Bool) (next : List ℕ) (g k : ℕ) → IsContent next ((cond t (slot_at g Free) (slot_at k Retired)).content)
+after_content true next g k = tt
+after_content false next g k = tt
 
-behind_blocks : (t : Bool) (store : List (List ℕ)) (next : List ℕ) (g k : ℕ) → d.blocks_of (held store next ((cond t (slot_at g Free) (slot_at k Retired)).content)) ≡ []
-behind_blocks true store next g k = refl
-behind_blocks false store next g k = refl
+after_blocks : (t : Bool) (store : List (List ℕ)) (next : List ℕ) (g k : ℕ) → d.blocks_of (held store next ((cond t (slot_at g Free) (slot_at k Retired)).content)) ≡ []
+after_blocks true store next g k = refl
+after_blocks false store next g k = refl
 
-behind_count : (t : Bool) (g k : ℕ) → block_count ((cond t (slot_at g Free) (slot_at k Retired)).content) ≡ 0
-behind_count true g k = refl
-behind_count false g k = refl
+count_after : (t : Bool) (g k : ℕ) → block_count ((cond t (slot_at g Free) (slot_at k Retired)).content) ≡ 0
+count_after true g k = refl
+count_after false g k = refl
 
-behind_generation : (t : Bool) (g : ℕ) → nat_lt g d.last_generation ≡ t → g ≤ d.last_generation → (cond t (slot_at (g + 1) Free) (slot_at g Retired)).generation ≤ d.last_generation
-behind_generation true g e h = let low : g < d.last_generation = ltb-true g d.last_generation e in omega (arith, low)
-behind_generation false g e h = h
+after_generation : (t : Bool) (g : ℕ) → nat_lt g d.last_generation ≡ t → g ≤ d.last_generation → (cond t (slot_at (g + 1) Free) (slot_at g Retired)).generation ≤ d.last_generation
+after_generation true g e h = let low : g < d.last_generation = ltb-true g d.last_generation e in omega (arith, low)
+after_generation false g e h = h
 
 abbrev depot_with : List d.Slot → List ℕ → d.Depot
 depot_with slots free = record { slots = slots; free = free }
 
-behind_as : (t : Bool) (store : List (List ℕ)) (next : List ℕ) (slots : List d.Slot) (i g : ℕ) (free : List ℕ)
+after_as : (t : Bool) (store : List (List ℕ)) (next : List ℕ) (slots : List d.Slot) (i g : ℕ) (free : List ℕ)
     → depot_with (slice_set slots i (slot_of store next (cond t (slot_at (g + 1) Free) (slot_at g Retired)))) free
     ≡ cond t (depot_with (slice_set slots i (record { generation = g + 1; held = d.Free })) free) (depot_with (slice_set slots i (record { generation = g; held = d.Retired })) free)
-behind_as true store next slots i g free = refl
-behind_as false store next slots i g free = refl
+after_as true store next slots i g free = refl
+after_as false store next slots i g free = refl
 
 -- a slot without blocks
 pub empty_turn : (key : Key) (depot : d.Depot) (a : ArenaFields) (content : Content) (run : Run)
     → Sees key depot a content → Owns a.store a.next content run → run.blocks ≡ 0
-    → Turn a key.slot (slot_at key.generation content) (slot_behind key.generation) (record a { slots = slice_set a.slots key.slot (slot_behind key.generation) })
+    → Turn a key.slot (slot_at key.generation content) (slot_after key.generation) (record a { slots = slice_set a.slots key.slot (slot_after key.generation) })
 empty_turn key depot a content run s o none =
     let was : slice_get a.slots key.slot ≡ Some (slot_at key.generation content) = stands key depot a content s o.filled in
     record {
@@ -80,13 +80,13 @@ empty_turn key depot a content run s o none =
       blocks_stay = refl;
       next_stay = refl;
       stamps_stay = refl;
-      stamped = stamped_on a.next a.next a.slots a.stamps key.slot (slot_at key.generation content) (slot_behind key.generation) s.arena.stamped was (λ j x apart at index block h. h) (goes_past (nat_lt key.generation d.last_generation) a.next a.next key.generation content);
-      generation = behind_generation (nat_lt key.generation d.last_generation) key.generation refl (each_at (λ (slot : Slot). slot.generation ≤ d.last_generation) a.slots key.slot (slot_at key.generation content) s.arena.generations was);
-      count = omega (arith, behind_count (nat_lt key.generation d.last_generation) (key.generation + 1) key.generation, o.count, none);
-      others = map_set (slot_of a.store a.next) a.slots key.slot (slot_behind key.generation);
-      runs = all_set (λ (slot : Slot). IsContent a.next slot.content) a.slots key.slot (slot_behind key.generation) s.arena.runs (behind_content (nat_lt key.generation d.last_generation) a.next (key.generation + 1) key.generation);
+      stamped = stamped_on a.next a.next a.slots a.stamps key.slot (slot_at key.generation content) (slot_after key.generation) s.arena.stamped was (λ j x apart at index block h. h) (goes_past (nat_lt key.generation d.last_generation) a.next a.next key.generation content);
+      generation = after_generation (nat_lt key.generation d.last_generation) key.generation refl (each_at (λ (slot : Slot). slot.generation ≤ d.last_generation) a.slots key.slot (slot_at key.generation content) s.arena.generations was);
+      count = omega (arith, count_after (nat_lt key.generation d.last_generation) (key.generation + 1) key.generation, o.count, none);
+      others = map_set (slot_of a.store a.next) a.slots key.slot (slot_after key.generation);
+      runs = all_set (λ (slot : Slot). IsContent a.next slot.content) a.slots key.slot (slot_after key.generation) s.arena.runs (after_content (nat_lt key.generation d.last_generation) a.next (key.generation + 1) key.generation);
       split = λ x. ap (λ bs. occurrences x (chain a.free_count a.next a.free) + occurrences x bs)
-          (behind_blocks (nat_lt key.generation d.last_generation) a.store a.next (key.generation + 1) key.generation ∙ sym (ap (λ k. chain k a.next run.first) none) ∙ sym o.blocks);
+          (after_blocks (nat_lt key.generation d.last_generation) a.store a.next (key.generation + 1) key.generation ∙ sym (ap (λ k. chain k a.next run.first) none) ∙ sym o.blocks);
     }
 
 -- what holds of the last block of a run
@@ -142,8 +142,8 @@ last_in key depot a content run s o some =
 
 pub freed_turn : (key : Key) (depot : d.Depot) (a : ArenaFields) (content : Content) (run : Run)
     → Sees key depot a content → Owns a.store a.next content run → 0 < run.blocks
-    → Turn a key.slot (slot_at key.generation content) (slot_behind key.generation)
-    (record a { next = set a.next run.last a.free; slots = slice_set a.slots key.slot (slot_behind key.generation); free = run.first; free_count = a.free_count + run.blocks })
+    → Turn a key.slot (slot_at key.generation content) (slot_after key.generation)
+    (record a { next = set a.next run.last a.free; slots = slice_set a.slots key.slot (slot_after key.generation); free = run.first; free_count = a.free_count + run.blocks })
 freed_turn key depot a content run s o some =
     let was : slice_get a.slots key.slot ≡ Some (slot_at key.generation content) = stands key depot a content s o.filled in
     let l : IsLast a.next a.free a.free_count (run.blocks - 1) run.first run.last = last_in key depot a content run s o some in
@@ -158,15 +158,15 @@ freed_turn key depot a content run s o some =
       blocks_stay = refl;
       next_stay = length-set a.next run.last a.free;
       stamps_stay = refl;
-      stamped = stamped_on a.next (set a.next run.last a.free) a.slots a.stamps key.slot (slot_at key.generation content) (slot_behind key.generation) s.arena.stamped was (others_stay a.store a.next a.slots key.slot run.last a.free (slot_at 0 Free) else')
+      stamped = stamped_on a.next (set a.next run.last a.free) a.slots a.stamps key.slot (slot_at key.generation content) (slot_after key.generation) s.arena.stamped was (others_stay a.store a.next a.slots key.slot run.last a.free (slot_at 0 Free) else')
           (goes_past (nat_lt key.generation d.last_generation) a.next (set a.next run.last a.free) key.generation content);
-      generation = behind_generation (nat_lt key.generation d.last_generation) key.generation refl (each_at (λ (slot : Slot). slot.generation ≤ d.last_generation) a.slots key.slot (slot_at key.generation content) s.arena.generations was);
-      count = omega (arith, behind_count (nat_lt key.generation d.last_generation) (key.generation + 1) key.generation, o.count);
-      others = map_kept (slot_of a.store a.next) (slot_of a.store (set a.next run.last a.free)) (Without a.store a.next run.last) a.slots key.slot (slot_behind key.generation) (slot_at 0 Free) else' (slot_keeps a.store a.next run.last a.free);
-      runs = all_kept (Without a.store a.next run.last) (λ (slot : Slot). IsContent a.next slot.content) (λ (slot : Slot). IsContent (set a.next run.last a.free) slot.content) a.slots key.slot (slot_behind key.generation) (slot_at 0 Free) else' s.arena.runs
-          (λ (x : Slot) without is. content_keeps a.store a.next run.last a.free x.content without is) (behind_content (nat_lt key.generation d.last_generation) (set a.next run.last a.free) (key.generation + 1) key.generation);
+      generation = after_generation (nat_lt key.generation d.last_generation) key.generation refl (each_at (λ (slot : Slot). slot.generation ≤ d.last_generation) a.slots key.slot (slot_at key.generation content) s.arena.generations was);
+      count = omega (arith, count_after (nat_lt key.generation d.last_generation) (key.generation + 1) key.generation, o.count);
+      others = map_kept (slot_of a.store a.next) (slot_of a.store (set a.next run.last a.free)) (Without a.store a.next run.last) a.slots key.slot (slot_after key.generation) (slot_at 0 Free) else' (slot_keeps a.store a.next run.last a.free);
+      runs = all_kept (Without a.store a.next run.last) (λ (slot : Slot). IsContent a.next slot.content) (λ (slot : Slot). IsContent (set a.next run.last a.free) slot.content) a.slots key.slot (slot_after key.generation) (slot_at 0 Free) else' s.arena.runs
+          (λ (x : Slot) without is. content_keeps a.store a.next run.last a.free x.content without is) (after_content (nat_lt key.generation d.last_generation) (set a.next run.last a.free) (key.generation + 1) key.generation);
       split = λ x.
-          ap (λ bs. occurrences x (chain (a.free_count + run.blocks) (set a.next run.last a.free) run.first) + occurrences x bs) (behind_blocks (nat_lt key.generation d.last_generation) a.store (set a.next run.last a.free) (key.generation + 1) key.generation)
+          ap (λ bs. occurrences x (chain (a.free_count + run.blocks) (set a.next run.last a.free) run.first) + occurrences x bs) (after_blocks (nat_lt key.generation d.last_generation) a.store (set a.next run.last a.free) (key.generation + 1) key.generation)
           ∙ split_by x (chain (a.free_count + run.blocks) (set a.next run.last a.free) run.first) (chain run.blocks a.next run.first) (chain a.free_count a.next a.free) (d.blocks_of (held a.store a.next content)) (splice_free a.next a.free a.free_count run l some) o.blocks;
     } where
       split_by : (x : ℕ) (new these those held : List ℕ) → new ≡ these ++ those → held ≡ these → occurrences x new + 0 ≡ occurrences x those + occurrences x held
@@ -178,19 +178,19 @@ freed_turn key depot a content run s o some =
 -- what a turn of the slot past its generation frees
 pub frees : (key : Key) (depot : d.Depot) (a : ArenaFields) (content : Content) (a' : ArenaFields)
     → Sees key depot a content
-    → Turn a key.slot (slot_at key.generation content) (slot_behind key.generation) a'
+    → Turn a key.slot (slot_at key.generation content) (slot_after key.generation) a'
     → Frees depot (depot_key key) (depot_of a')
 frees key depot a content a' s t = record {
   free = chain a'.free_count a'.next a'.free;
   given = λ x.
-      let split : occurrences x (chain a'.free_count a'.next a'.free) + occurrences x (d.blocks_of (held a'.store a'.next ((slot_behind key.generation).content))) ≡ occurrences x (chain a.free_count a.next a.free) + occurrences x (d.blocks_of (held a.store a.next content)) = t.split x in
-      let none : occurrences x (d.blocks_of (held a'.store a'.next ((slot_behind key.generation).content))) ≡ 0 = ap (occurrences x) (behind_blocks (nat_lt key.generation d.last_generation) a'.store a'.next (key.generation + 1) key.generation) in
+      let split : occurrences x (chain a'.free_count a'.next a'.free) + occurrences x (d.blocks_of (held a'.store a'.next ((slot_after key.generation).content))) ≡ occurrences x (chain a.free_count a.next a.free) + occurrences x (d.blocks_of (held a.store a.next content)) = t.split x in
+      let none : occurrences x (d.blocks_of (held a'.store a'.next ((slot_after key.generation).content))) ≡ 0 = ap (occurrences x) (after_blocks (nat_lt key.generation d.last_generation) a'.store a'.next (key.generation + 1) key.generation) in
       let here : occurrences x (d.blocks_of (d.held_under depot (depot_key key))) ≡ occurrences x (d.blocks_of (held a.store a.next content)) = ap (λ h. occurrences x (d.blocks_of h)) (under key depot a content s) in
       let spare : occurrences x depot.free ≡ occurrences x (chain a.free_count a.next a.free) = ap (λ (e : d.Depot). occurrences x e.free) (sym s.view) in
       omega (arith, split, none, here, spare);
   after =
       ap (λ (ss : List d.Slot). depot_with ss (chain a'.free_count a'.next a'.free)) t.others
-      ∙ behind_as (nat_lt key.generation d.last_generation) a'.store a'.next (map (slot_of a.store a.next) a.slots) key.slot key.generation (chain a'.free_count a'.next a'.free)
+      ∙ after_as (nat_lt key.generation d.last_generation) a'.store a'.next (map (slot_of a.store a.next) a.slots) key.slot key.generation (chain a'.free_count a'.next a'.free)
       ∙ ap (λ (e : d.Depot). d.given_back e (depot_key key) (chain a'.free_count a'.next a'.free)) s.view;
 }
 
@@ -200,20 +200,20 @@ pub free_within : (a : ArenaFields) (i : ℕ) (s : Slot) → IsArena a → slice
 free_within a i s arena was = omega (arith, arena.total, sum_set (λ (slot : Slot). block_count slot.content) a.slots i s (slot_at 0 Free) was)
 
 -- the same, with the slot as code made it
-pub empty_arena : (key : Key) (depot : d.Depot) (a : ArenaFields) (content : Content) (run : Run) (slot : Slot) → Sees key depot a content → Owns a.store a.next content run → run.blocks ≡ 0 → slot ≡ slot_behind key.generation → IsArena (record a { slots = slice_set a.slots key.slot slot })
+pub empty_arena : (key : Key) (depot : d.Depot) (a : ArenaFields) (content : Content) (run : Run) (slot : Slot) → Sees key depot a content → Owns a.store a.next content run → run.blocks ≡ 0 → slot ≡ slot_after key.generation → IsArena (record a { slots = slice_set a.slots key.slot slot })
 empty_arena key depot a content run slot s o none e = subst (λ (x : Slot). IsArena (record a { slots = slice_set a.slots key.slot x })) (sym e)
-    (turned a key.slot (slot_at key.generation content) (slot_behind key.generation) _ (empty_turn key depot a content run s o none))
+    (turned a key.slot (slot_at key.generation content) (slot_after key.generation) _ (empty_turn key depot a content run s o none))
 
-pub empty_frees : (key : Key) (depot : d.Depot) (a : ArenaFields) (content : Content) (run : Run) (slot : Slot) → Sees key depot a content → Owns a.store a.next content run → run.blocks ≡ 0 → slot ≡ slot_behind key.generation → Frees depot (depot_key key) (depot_of (record a { slots = slice_set a.slots key.slot slot }))
+pub empty_frees : (key : Key) (depot : d.Depot) (a : ArenaFields) (content : Content) (run : Run) (slot : Slot) → Sees key depot a content → Owns a.store a.next content run → run.blocks ≡ 0 → slot ≡ slot_after key.generation → Frees depot (depot_key key) (depot_of (record a { slots = slice_set a.slots key.slot slot }))
 empty_frees key depot a content run slot s o none e = subst (λ (x : Slot). Frees depot (depot_key key) (depot_of (record a { slots = slice_set a.slots key.slot x }))) (sym e)
     (frees key depot a content _ s (empty_turn key depot a content run s o none))
 
-pub freed_arena : (key : Key) (depot : d.Depot) (a : ArenaFields) (content : Content) (run : Run) (slot : Slot) → Sees key depot a content → Owns a.store a.next content run → 0 < run.blocks → slot ≡ slot_behind key.generation
+pub freed_arena : (key : Key) (depot : d.Depot) (a : ArenaFields) (content : Content) (run : Run) (slot : Slot) → Sees key depot a content → Owns a.store a.next content run → 0 < run.blocks → slot ≡ slot_after key.generation
     → IsArena (record a { next = set a.next run.last a.free; slots = slice_set a.slots key.slot slot; free = run.first; free_count = a.free_count + run.blocks })
 freed_arena key depot a content run slot s o some e = subst (λ (x : Slot). IsArena (record a { next = set a.next run.last a.free; slots = slice_set a.slots key.slot x; free = run.first; free_count = a.free_count + run.blocks })) (sym e)
-    (turned a key.slot (slot_at key.generation content) (slot_behind key.generation) _ (freed_turn key depot a content run s o some))
+    (turned a key.slot (slot_at key.generation content) (slot_after key.generation) _ (freed_turn key depot a content run s o some))
 
-pub freed_frees : (key : Key) (depot : d.Depot) (a : ArenaFields) (content : Content) (run : Run) (slot : Slot) → Sees key depot a content → Owns a.store a.next content run → 0 < run.blocks → slot ≡ slot_behind key.generation
+pub freed_frees : (key : Key) (depot : d.Depot) (a : ArenaFields) (content : Content) (run : Run) (slot : Slot) → Sees key depot a content → Owns a.store a.next content run → 0 < run.blocks → slot ≡ slot_after key.generation
     → Frees depot (depot_key key) (depot_of (record a { next = set a.next run.last a.free; slots = slice_set a.slots key.slot slot; free = run.first; free_count = a.free_count + run.blocks }))
 freed_frees key depot a content run slot s o some e = subst (λ (x : Slot). Frees depot (depot_key key) (depot_of (record a { next = set a.next run.last a.free; slots = slice_set a.slots key.slot x; free = run.first; free_count = a.free_count + run.blocks }))) (sym e)
     (frees key depot a content _ s (freed_turn key depot a content run s o some))

@@ -11,7 +11,7 @@ use Rattle.block_arena.specs.Fields.{ArenaFields, held, slot_of, depot_of, block
 use Rattle.block_arena.specs.Calls.{depot_key, Frees, IsGivenBack, MayGiveBack}
 use Rattle.block_arena.proofs.Slots.{slot_at, get_map}
 use Rattle.block_arena.proofs.Seen.{Sees, under, stands}
-use Rattle.block_arena.proofs.Labels.{depot_slot, set_twice, held_there, releases, held_behind}
+use Rattle.block_arena.proofs.Labels.{depot_slot, set_twice, held_there, releases, held_after}
 
 pub cancels : (old : d.Depot) (key : d.Key) (new : d.Depot) (bytes blocks : List ℕ) → d.held_under old key ≡ d.Draft bytes blocks → Frees old key new → d.Cancels old key new
 cancels old key new bytes blocks e f = record {
@@ -72,7 +72,7 @@ gives_some key depot a run holds k s few =
     given_some k (holds - k) depot (depot_key key) (depot_of (record a { slots = slice_set a.slots key.slot (slot_at key.generation (Sealed run (holds - k))) })) (bytes_in a.store a.next run) (blocks_in a.next run)
     (depot_there key depot a (Sealed run holds) s (λ e. cc) ∙ ap (λ (x : d.Slot). Some x) (ap (λ n. depot_slot key.generation (d.Sealed (bytes_in a.store a.next run) (blocks_in a.next run) n)) sum))
     (omega (arith, few))
-    (held_behind key depot a (Sealed run holds) (Sealed run (holds - k)) s)
+    (held_after key depot a (Sealed run holds) (Sealed run (holds - k)) s)
 
 pub gives_last : (key : Key) (depot : d.Depot) (a : ArenaFields) (run : Run) (holds k : ℕ) (new : d.Depot)
     → Sees key depot a (Sealed run holds) → holds ≤ k → MayGiveBack k (d.held_under depot (depot_key key)) → Frees depot (depot_key key) new

@@ -16,9 +16,9 @@ use Rattle.block_arena.proofs.Slots.{slot_at, relabelled, map_set}
 use Rattle.block_arena.proofs.Seen.{Sees, under, stands}
 
 -- the depot after such a call
-pub held_behind : (key : Key) (depot : d.Depot) (a : ArenaFields) (old content : Content) → Sees key depot a old
+pub held_after : (key : Key) (depot : d.Depot) (a : ArenaFields) (old content : Content) → Sees key depot a old
     → depot_of (record a { slots = slice_set a.slots key.slot (slot_at key.generation content) }) ≡ d.with_held depot (depot_key key) (held a.store a.next content) depot.free
-held_behind key depot a old content s =
+held_after key depot a old content s =
     ap (λ (ss : List d.Slot). record { slots = ss; free = (depot_of a).free }) (map_set (slot_of a.store a.next) a.slots key.slot (slot_at key.generation content))
     ∙ ap (λ (e : d.Depot). d.with_held e (depot_key key) (held a.store a.next content) e.free) s.view
 
@@ -33,7 +33,7 @@ seals key depot a run n s = record {
   bytes = bytes_in a.store a.next run;
   blocks = blocks_in a.next run;
   draft = under key depot a (Draft run) s;
-  after = held_behind key depot a (Draft run) (Sealed run n) s;
+  after = held_after key depot a (Draft run) (Sealed run n) s;
 }
 
 pub lighter_arena : (key : Key) (depot : d.Depot) (a : ArenaFields) (run : Run) (holds n : ℕ) → Sees key depot a (Sealed run holds) → IsArena (record a { slots = slice_set a.slots key.slot (slot_at key.generation (Sealed run n)) })

@@ -25,11 +25,11 @@ use Rattle.block_arena.proofs.Seen.{Sees, stands, run_low, free_low, full_length
 use Rattle.block_arena.proofs.Freed.{IsLast, last_in}
 use Rattle.block_arena.proofs.Puts.{Gains, room_to}
 use Rattle.block_arena.proofs.Filled.{draft_owns}
-use Rattle.block_arena.proofs.Pieces.{flat, flat_append, slot_stays, next_run, full_run, take_behind, take_exact}
+use Rattle.block_arena.proofs.Pieces.{flat, flat_append, slot_stays, next_run, full_run, take_after, take_exact}
 
 -- a block is free: the first free one, and those after it
-free_front : (next : List ℕ) (free free_count : ℕ) → 1 ≤ free_count → chain free_count next free ≡ free ∷ chain (free_count - 1) next (get_or next free 0)
-free_front next free free_count some =
+free_first : (next : List ℕ) (free free_count : ℕ) → 1 ≤ free_count → chain free_count next free ≡ free ∷ chain (free_count - 1) next (get_or next free 0)
+free_first next free free_count some =
     let one : free_count ≡ suc (free_count - 1) = omega (arith, some) in
     ap (λ k. chain k next free) one
 
@@ -39,11 +39,11 @@ self_in b xs false e = absurd (eqb-false b b e refl)
 
 free_once : (next : List ℕ) (free free_count : ℕ) → 1 ≤ free_count → 1 ≤ occurrences free (chain free_count next free)
 free_once next free free_count some =
-    let count : occurrences free (chain free_count next free) ≡ occurrences free (free ∷ chain (free_count - 1) next (get_or next free 0)) = ap (occurrences free) (free_front next free free_count some) in
+    let count : occurrences free (chain free_count next free) ≡ occurrences free (free ∷ chain (free_count - 1) next (get_or next free 0)) = ap (occurrences free) (free_first next free free_count some) in
     omega (arith, count, times_cons free free (chain (free_count - 1) next (get_or next free 0)), self_in free (chain (free_count - 1) next (get_or next free 0)) (free == free) refl)
 
 free_within : (next : List ℕ) (free free_count : ℕ) → AllByRecursion (λ b. b < length next) (chain free_count next free) → 1 ≤ free_count → free < length next
-free_within next free free_count low some = (subst (λ bs. AllByRecursion (λ b. b < length next) bs) (free_front next free free_count some) low).0
+free_within next free free_count low some = (subst (λ bs. AllByRecursion (λ b. b < length next) bs) (free_first next free free_count some) low).0
 
 -- the first free block is written: the depot stays as it is
 spare_others : (a : ArenaFields) (row : List ℕ) → IsArena a → 1 ≤ a.free_count
@@ -111,7 +111,7 @@ links_some key depot a run s has some =
     let more : suc (run.blocks - 1) + 1 ≡ run.blocks + 1 = omega (arith, has) in
     let there : occurrences run.last (chain run.blocks a.next run.first) ≡ 1 = ap (λ k. occurrences run.last (chain k a.next run.first)) (sym one) ∙ l.there in
     let else' : AllByRecursion (Without a.store a.next run.last) (slice_set a.slots key.slot (slot_at 0 Free)) = none_else a key.slot (slot_at key.generation (Draft run)) run.last s.arena was (omega (arith, there)) in
-    let p : ((a.free ≡ run.last) → ⊥) × (occurrences run.last (chain (a.free_count - 1) a.next (get_or a.next a.free 0)) ≡ 0) = apart run.last a.free (chain (a.free_count - 1) a.next (get_or a.next a.free 0)) (ap (occurrences run.last) (sym (free_front a.next a.free a.free_count some)) ∙ l.apart) in
+    let p : ((a.free ≡ run.last) → ⊥) × (occurrences run.last (chain (a.free_count - 1) a.next (get_or a.next a.free 0)) ≡ 0) = apart run.last a.free (chain (a.free_count - 1) a.next (get_or a.next a.free 0)) (ap (occurrences run.last) (sym (free_first a.next a.free a.free_count some)) ∙ l.apart) in
     record {
       stay = length-set a.next run.last a.free;
       others = λ new. map_kept (slot_of a.store a.next) (slot_of a.store (set a.next run.last a.free)) (Without a.store a.next run.last) a.slots key.slot new (slot_at 0 Free) else' (slot_keeps a.store a.next run.last a.free);
@@ -151,7 +151,7 @@ pub record IsNextRun (free_count : ℕ) (run : Run) (n : ℕ) (piece row : List 
   pub fits : n ≤ BLOCK_SIZE
   pub size : length piece ≡ n
   pub row_size : length row ≡ BLOCK_SIZE
-  pub front : take n row ≡ piece
+  pub prefix : take n row ≡ piece
 
 linked_is : (key : Key) (depot : d.Depot) (a : ArenaFields) (run : Run) (n : ℕ) (piece row : List ℕ) → Sees key depot a (Draft run) → IsNextRun a.free_count run n piece row
     → IsRun (linked_next a.next run a.free) (longer (linked_run run a.free) n)
@@ -200,7 +200,7 @@ linked_turn key depot a run n piece row s f =
       others = l.others (slot_at key.generation (Draft (longer (linked_run run a.free) n)));
       runs = l.runs (slot_at key.generation (Draft (longer (linked_run run a.free) n))) (linked_is key depot a run n piece row s f);
       split = λ x.
-          let old : occurrences x (chain a.free_count a.next a.free) ≡ occurrences x (a.free ∷ chain (a.free_count - 1) a.next (get_or a.next a.free 0)) = ap (occurrences x) (free_front a.next a.free a.free_count f.free) in
+          let old : occurrences x (chain a.free_count a.next a.free) ≡ occurrences x (a.free ∷ chain (a.free_count - 1) a.next (get_or a.next a.free 0)) = ap (occurrences x) (free_first a.next a.free a.free_count f.free) in
           let rest : occurrences x (chain (a.free_count - 1) (linked_next a.next run a.free) (get_or a.next a.free 0)) ≡ occurrences x (chain (a.free_count - 1) a.next (get_or a.next a.free 0)) = ap (occurrences x) l.rest in
           let new : occurrences x (chain (run.blocks + 1) (linked_next a.next run a.free) ((linked_run run a.free).first)) ≡ occurrences x (chain run.blocks a.next run.first ++ a.free ∷ []) = ap (occurrences x) l.blocks in
           omega (arith, old, rest, new, times_cons x a.free (chain (a.free_count - 1) a.next (get_or a.next a.free 0)), times_cons x a.free [], times-append x (chain run.blocks a.next run.first) (a.free ∷ []));
@@ -222,8 +222,8 @@ linked_bytes key depot a run n piece row s f there =
     ∙ ap (λ k. BLOCK_SIZE * k) (chain_length run.blocks a.next run.first) ∙ sym (full_run run.blocks run.length is.enough f.full) in
     ap (λ bs. take (run.length + n) (flat a.store bs)) l.blocks
     ∙ ap (take (run.length + n)) (flat_append a.store (chain run.blocks a.next run.first) (a.free ∷ []) ∙ ap (λ t. flat a.store (chain run.blocks a.next run.first) ++ t) (append-nil (get_or a.store a.free []) ∙ there))
-    ∙ take_behind run.length n (flat a.store (chain run.blocks a.next run.first)) row size
-    ∙ ap (λ t. flat a.store (chain run.blocks a.next run.first) ++ t) f.front
+    ∙ take_after run.length n (flat a.store (chain run.blocks a.next run.first)) row size
+    ∙ ap (λ t. flat a.store (chain run.blocks a.next run.first) ++ t) f.prefix
     ∙ ap (λ t. t ++ piece) (sym (take_all_of run.length (flat a.store (chain run.blocks a.next run.first)) size))
 
 pub linked_gains : (key : Key) (depot : d.Depot) (a : ArenaFields) (run : Run) (n : ℕ) (piece row : List ℕ) → Sees key depot a (Draft run) → IsNextRun a.free_count run n piece row
@@ -237,7 +237,7 @@ linked_gains key depot a run n piece row s f there = record {
   bytes = linked_bytes key depot a run n piece row s f there;
   blocks = (links key depot a run s f.free).blocks;
   taken = λ x.
-      let old : occurrences x (chain a.free_count a.next a.free) ≡ occurrences x (a.free ∷ chain (a.free_count - 1) a.next (get_or a.next a.free 0)) = ap (occurrences x) (free_front a.next a.free a.free_count f.free) in
+      let old : occurrences x (chain a.free_count a.next a.free) ≡ occurrences x (a.free ∷ chain (a.free_count - 1) a.next (get_or a.next a.free 0)) = ap (occurrences x) (free_first a.next a.free a.free_count f.free) in
       let rest : occurrences x (chain (a.free_count - 1) (linked_next a.next run a.free) (get_or a.next a.free 0)) ≡ occurrences x (chain (a.free_count - 1) a.next (get_or a.next a.free 0)) = ap (occurrences x) ((links key depot a run s f.free).rest) in
       omega (arith, old, rest, times_cons x a.free (chain (a.free_count - 1) a.next (get_or a.next a.free 0)), times_cons x a.free []);
 }
@@ -274,5 +274,5 @@ next_by key depot a run n bytes old row other s room some full least was is =
       fits = omega (arith, least);
       size = piece;
       row_size = omega (arith, all, piece, least, same, size, length-append (take n bytes) (drop (0 + length (take n bytes)) old), length-drop (0 + length (take n bytes)) old);
-      front = ap (take n) is ∙ take_exact n (take n bytes) (drop (0 + length (take n bytes)) old) piece;
+      prefix = ap (take n) is ∙ take_exact n (take n bytes) (drop (0 + length (take n bytes)) old) piece;
     }

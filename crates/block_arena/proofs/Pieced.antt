@@ -78,7 +78,7 @@ put_free : (key : Key) (depot : d.Depot) (a : ArenaFields) (run : Run) (n : ℕ)
     → Knows key depot a run n bytes → run.length % BLOCK_SIZE ≡ 0 → old ≡ get_or a.store a.free other → row ≡ take 0 old ++ take n bytes ++ drop (0 + length (take n bytes)) old
     → rest ≡ get_or a.next a.free spare' → run' ≡ linked_run run a.free → next' ≡ linked_next a.next run a.free → slot ≡ slot_at key.generation (Draft (longer run' n))
     → IsPut key depot n bytes (record a { store = set a.store a.free row; next = next'; stamps = set a.stamps a.free (stamp_for key run.blocks); slots = slice_set a.slots key.slot slot; free = rest; free_count = a.free_count - 1 })
-put_free key depot a run n bytes old row other rest spare' run' next' slot k full was is behind runs links e =
+put_free key depot a run n bytes old row other rest spare' run' next' slot k full was is after runs links e =
     let f : IsNextRun a.free_count run n (take n bytes) row = next_by key depot a run n bytes old row other k.sees k.room k.some full k.least was is in
     let low : a.free < length a.next = free_there key depot a (Draft run) k.sees f.free in
     let s : Sees key depot (record a { store = set a.store a.free row }) (Draft run) = spare key depot a (Draft run) row k.sees f.free f.row_size in
@@ -86,7 +86,7 @@ put_free key depot a run n bytes old row other rest spare' run' next' slot k ful
     let same : slot ≡ slot_at key.generation (Draft (longer (linked_run run a.free) n)) = e ∙ ap (λ (r : Run). slot_at key.generation (Draft (longer r n))) runs in
     subst (λ (x : Slot). IsPut key depot n bytes (record a { store = set a.store a.free row; next = next'; stamps = set a.stamps a.free (stamp_for key run.blocks); slots = slice_set a.slots key.slot x; free = rest; free_count = a.free_count - 1 })) (sym same)
     (subst (λ ns. IsPut key depot n bytes (record a { store = set a.store a.free row; next = ns; stamps = set a.stamps a.free (stamp_for key run.blocks); slots = slice_set a.slots key.slot (slot_at key.generation (Draft (longer (linked_run run a.free) n))); free = rest; free_count = a.free_count - 1 })) (sym links)
-    (subst (λ b. IsPut key depot n bytes (record a { store = set a.store a.free row; next = linked_next a.next run a.free; stamps = set a.stamps a.free (stamp_for key run.blocks); slots = slice_set a.slots key.slot (slot_at key.generation (Draft (longer (linked_run run a.free) n))); free = b; free_count = a.free_count - 1 })) (sym (behind ∙ get_any a.next a.free spare' 0 low))
+    (subst (λ b. IsPut key depot n bytes (record a { store = set a.store a.free row; next = linked_next a.next run a.free; stamps = set a.stamps a.free (stamp_for key run.blocks); slots = slice_set a.slots key.slot (slot_at key.generation (Draft (longer (linked_run run a.free) n))); free = b; free_count = a.free_count - 1 })) (sym (after ∙ get_any a.next a.free spare' 0 low))
     (gained key depot (record a { store = set a.store a.free row }) run (longer (linked_run run a.free) n) n bytes _ s
     (linked_gains key depot (record a { store = set a.store a.free row }) run n (take n bytes) row s f there) (omega (arith, k.least)) k.room)))
 
@@ -94,9 +94,9 @@ pub put_next : (key : Key) (depot : d.Depot) (a : ArenaFields) (run : Run) (n : 
     → Knows key depot a run n bytes → run.length % BLOCK_SIZE ≡ 0 → store' ≡ set a.store a.free (written (get_or a.store a.free []) 0 (take n bytes))
     → rest ≡ get_or a.next a.free spare' → run' ≡ linked_run run a.free → next' ≡ linked_next a.next run a.free → slot ≡ slot_at key.generation (Draft (longer run' n))
     → IsPut key depot n bytes (record a { store = store'; next = next'; stamps = set a.stamps a.free (stamp_for key run.blocks); slots = slice_set a.slots key.slot slot; free = rest; free_count = a.free_count - 1 })
-put_next key depot a run n bytes store' rest spare' run' next' slot k full is behind runs links e =
+put_next key depot a run n bytes store' rest spare' run' next' slot k full is after runs links e =
     subst (λ (x : List (List ℕ)). IsPut key depot n bytes (record a { store = x; next = next'; stamps = set a.stamps a.free (stamp_for key run.blocks); slots = slice_set a.slots key.slot slot; free = rest; free_count = a.free_count - 1 })) (sym is)
-    (put_free key depot a run n bytes (get_or a.store a.free []) (written (get_or a.store a.free []) 0 (take n bytes)) [] rest spare' run' next' slot k full refl refl behind runs links e)
+    (put_free key depot a run n bytes (get_or a.store a.free []) (written (get_or a.store a.free []) 0 (take n bytes)) [] rest spare' run' next' slot k full refl refl after runs links e)
 
 -- bounds that the code needs
 pub last_low : (key : Key) (depot : d.Depot) (a : ArenaFields) (run : Run) (n : ℕ) (bytes : List ℕ) → Knows key depot a run n bytes → 0 < run.length % BLOCK_SIZE → run.last < length a.store

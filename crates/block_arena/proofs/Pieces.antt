@@ -49,12 +49,12 @@ next_run blocks n k e full some fits = omega (arith, e, full, some, fits)
 pub full_run : (blocks k : ℕ) → blocks ≡ d.blocks_for k → k % BLOCK_SIZE ≡ 0 → k ≡ BLOCK_SIZE * blocks
 full_run blocks k e full = omega (arith, e, full)
 
-pub take_behind : (k n : ℕ) (xs ys : List ℕ) → length xs ≡ k → take (k + n) (xs ++ ys) ≡ xs ++ take n ys
-take_behind k n [] ys e = let same : k + n ≡ n = omega (arith, e) in ap (λ j. take j ys) same
-take_behind zero n (x ∷ xs) ys e = absurd (omega (arith, e))
-take_behind (suc k) n (x ∷ xs) ys e =
+pub take_after : (k n : ℕ) (xs ys : List ℕ) → length xs ≡ k → take (k + n) (xs ++ ys) ≡ xs ++ take n ys
+take_after k n [] ys e = let same : k + n ≡ n = omega (arith, e) in ap (λ j. take j ys) same
+take_after zero n (x ∷ xs) ys e = absurd (omega (arith, e))
+take_after (suc k) n (x ∷ xs) ys e =
     let same : suc k + n ≡ suc (k + n) = omega arith in
-    ap (λ j. take j (x ∷ xs ++ ys)) same ∙ ap (λ t. x ∷ t) (take_behind k n xs ys (omega (arith, e)))
+    ap (λ j. take j (x ∷ xs ++ ys)) same ∙ ap (λ t. x ∷ t) (take_after k n xs ys (omega (arith, e)))
 
 pub take_exact : (k : ℕ) (xs ys : List ℕ) → length xs ≡ k → take k (xs ++ ys) ≡ xs
 take_exact zero [] ys e = refl
@@ -69,7 +69,7 @@ pub written : (store : List (List ℕ)) (bs : List ℕ) (last m at n len : ℕ) 
     ≡ take len (flat store (bs ++ last ∷ [])) ++ piece
 written store bs last m at n len piece apart low size row e long fits =
     let new : List ℕ = take at (get_or store last []) ++ piece ++ drop (at + n) (get_or store last []) in
-    let front : length (take at (get_or store last []) ++ piece) ≡ at + n = omega (arith, length-append (take at (get_or store last [])) piece, length-take at (get_or store last []), row, long, fits) in
+    let prefix : length (take at (get_or store last []) ++ piece) ≡ at + n = omega (arith, length-append (take at (get_or store last [])) piece, length-take at (get_or store last []), row, long, fits) in
     let one : flat (set store last (take at (get_or store last []) ++ piece ++ drop (at + n) (get_or store last []))) (bs ++ last ∷ []) ≡ flat store bs ++ (take at (get_or store last []) ++ piece ++ drop (at + n) (get_or store last [])) =
     flat_append (set store last (take at (get_or store last []) ++ piece ++ drop (at + n) (get_or store last []))) bs (last ∷ [])
     ∙ ap (λ t. t ++ flat (set store last (take at (get_or store last []) ++ piece ++ drop (at + n) (get_or store last []))) (last ∷ [])) (flat_keeps store last (take at (get_or store last []) ++ piece ++ drop (at + n) (get_or store last [])) bs apart)
@@ -78,7 +78,7 @@ written store bs last m at n len piece apart low size row e long fits =
     let sum : len + n ≡ m + (at + n) = omega (arith, e) in
     ap (take (len + n)) one
     ∙ ap (λ j. take j (flat store bs ++ (take at (get_or store last []) ++ piece ++ drop (at + n) (get_or store last [])))) sum
-    ∙ take_behind m (at + n) (flat store bs) (take at (get_or store last []) ++ piece ++ drop (at + n) (get_or store last [])) size
-    ∙ ap (λ t. flat store bs ++ t) (take_exact (at + n) (take at (get_or store last []) ++ piece) (drop (at + n) (get_or store last [])) front)
+    ∙ take_after m (at + n) (flat store bs) (take at (get_or store last []) ++ piece ++ drop (at + n) (get_or store last [])) size
+    ∙ ap (λ t. flat store bs ++ t) (take_exact (at + n) (take at (get_or store last []) ++ piece) (drop (at + n) (get_or store last [])) prefix)
     ∙ sym (append_assoc (flat store bs) (take at (get_or store last [])) piece)
-    ∙ ap (λ t. t ++ piece) (sym (take_behind m at (flat store bs) (get_or store last []) size) ∙ ap (λ j. take j (flat store bs ++ get_or store last [])) (sym e) ∙ ap (take len) (sym old))
+    ∙ ap (λ t. t ++ piece) (sym (take_after m at (flat store bs) (get_or store last []) size) ∙ ap (λ j. take j (flat store bs ++ get_or store last [])) (sym e) ∙ ap (take len) (sym old))

@@ -21,18 +21,18 @@ node_add (suc i) k next first =
     let same : suc i + k ≡ suc (i + k) = omega arith in
     ap (λ n. node n next first) same ∙ node_add i k next (get_or next first 0)
 
-chain_front : (P : ℕ → Type 0) (k m : ℕ) (next : List ℕ) (first : ℕ) → AllByRecursion P (chain m next first) → k ≤ m → AllByRecursion P (chain k next first)
-chain_front P zero m next first low h = tt
-chain_front P (suc k) zero next first low h = absurd (omega (arith, h))
-chain_front P (suc k) (suc m) next first low h = (low.0, chain_front P k m next (get_or next first 0) low.1 (omega (arith, h)))
+chain_first : (P : ℕ → Type 0) (k m : ℕ) (next : List ℕ) (first : ℕ) → AllByRecursion P (chain m next first) → k ≤ m → AllByRecursion P (chain k next first)
+chain_first P zero m next first low h = tt
+chain_first P (suc k) zero next first low h = absurd (omega (arith, h))
+chain_first P (suc k) (suc m) next first low h = (low.0, chain_first P k m next (get_or next first 0) low.1 (omega (arith, h)))
 
 chain_part : (P : ℕ → Type 0) (i k m : ℕ) (next : List ℕ) (first : ℕ) → AllByRecursion P (chain m next first) → i + k ≤ m → AllByRecursion P (chain k next (node i next first))
-chain_part P zero k m next first low h = chain_front P k m next first low (omega (arith, h))
+chain_part P zero k m next first low h = chain_first P k m next first low (omega (arith, h))
 chain_part P (suc i) k zero next first low h = absurd (omega (arith, h))
 chain_part P (suc i) k (suc m) next first low h = chain_part P i k m next (get_or next first 0) low.1 (omega (arith, h))
 
-pub front_low : (next : List ℕ) (run : Run) (n : ℕ) → AllByRecursion (λ b. b < length next) (blocks_in next run) → n ≤ run.blocks → AllByRecursion (λ b. b < length next) (chain n next run.first)
-front_low next run n low h = chain_front (λ b. b < length next) n run.blocks next run.first low h
+pub prefix_low : (next : List ℕ) (run : Run) (n : ℕ) → AllByRecursion (λ b. b < length next) (blocks_in next run) → n ≤ run.blocks → AllByRecursion (λ b. b < length next) (chain n next run.first)
+prefix_low next run n low h = chain_first (λ b. b < length next) n run.blocks next run.first low h
 
 pub part_low : (next : List ℕ) (run : Run) (from : Bookmark) (n : ℕ) → AllByRecursion (λ b. b < length next) (blocks_in next run) → IsPlace next run from → from.index ≤ n → n ≤ run.blocks → AllByRecursion (λ b. b < length next) (chain (n - from.index) next from.block)
 part_low next run from n low p h within =

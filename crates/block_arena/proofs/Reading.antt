@@ -21,11 +21,11 @@ node_low k (suc m) (suc i) next first low h = node_low k m i next (get_or next f
 abbrev pub whole : List (List ℕ) → List ℕ → ℕ → ℕ → List ℕ
 whole store next m block = flat_map (λ b. get_or store b []) (chain m next block)
 
-drop_front : (k : ℕ) (xs ys : List ℕ) → length xs ≡ k → drop k (xs ++ ys) ≡ ys
-drop_front zero [] ys e = refl
-drop_front zero (x ∷ xs) ys e = absurd (omega (arith, e))
-drop_front (suc k) [] ys e = absurd (omega (arith, e))
-drop_front (suc k) (x ∷ xs) ys e = drop_front k xs ys (omega (arith, e))
+drop_prefix : (k : ℕ) (xs ys : List ℕ) → length xs ≡ k → drop k (xs ++ ys) ≡ ys
+drop_prefix zero [] ys e = refl
+drop_prefix zero (x ∷ xs) ys e = absurd (omega (arith, e))
+drop_prefix (suc k) [] ys e = absurd (omega (arith, e))
+drop_prefix (suc k) (x ∷ xs) ys e = drop_prefix k xs ys (omega (arith, e))
 
 pub node_low_as : (k m i : ℕ) (next : List ℕ) (first block : ℕ) → block ≡ node i next first → AllByRecursion (λ b. b < k) (chain m next first) → i < m → block < k
 node_low_as k m i next first block e low h = subst (λ b. b < k) (sym e) (node_low k m i next first low h)
@@ -33,10 +33,10 @@ node_low_as k m i next first block e low h = subst (λ b. b < k) (sym e) (node_l
 pub node_next_as : (i : ℕ) (next : List ℕ) (first block d : ℕ) → block ≡ node i next first → d ≡ 0 → node (i + 1) next first ≡ get_or next block d
 node_next_as i next first block d e z = ap (λ n. node n next first) (let h : i + 1 ≡ suc i = omega arith in h) ∙ node_next i next first ∙ ap (λ b. get_or next b 0) (sym e) ∙ ap (λ k. get_or next block k) (sym z)
 
-take_front : (n : ℕ) (xs ys : List ℕ) → n ≤ length xs → take n (xs ++ ys) ≡ take n xs
-take_front zero xs ys h = refl
-take_front (suc n) [] ys h = absurd (omega (arith, h))
-take_front (suc n) (x ∷ xs) ys h = ap (λ t. x ∷ t) (take_front n xs ys (omega (arith, h)))
+take_prefix : (n : ℕ) (xs ys : List ℕ) → n ≤ length xs → take n (xs ++ ys) ≡ take n xs
+take_prefix zero xs ys h = refl
+take_prefix (suc n) [] ys h = absurd (omega (arith, h))
+take_prefix (suc n) (x ∷ xs) ys h = ap (λ t. x ∷ t) (take_prefix n xs ys (omega (arith, h)))
 
 drop_in : (n : ℕ) (xs ys : List ℕ) → n ≤ length xs → drop n (xs ++ ys) ≡ drop n xs ++ ys
 drop_in zero xs ys h = refl
@@ -56,7 +56,7 @@ walk store next (suc q) m (suc n) first e sizes count low =
     walk store next q m n (get_or next first 0) (omega (arith, e)) sizes count low.1 in (
       ap (λ k. drop k (get_or store first [] ++ whole store next n (get_or next first 0))) (let z : BLOCK_SIZE * suc q ≡ BLOCK_SIZE + BLOCK_SIZE * q = omega arith in z)
           ∙ sym (drop-drop (BLOCK_SIZE * q) BLOCK_SIZE (get_or store first [] ++ whole store next n (get_or next first 0)))
-          ∙ ap (drop (BLOCK_SIZE * q)) (drop_front BLOCK_SIZE (get_or store first []) (whole store next n (get_or next first 0)) here)
+          ∙ ap (drop (BLOCK_SIZE * q)) (drop_prefix BLOCK_SIZE (get_or store first []) (whole store next n (get_or next first 0)) here)
           ∙ rest.0,
       rest.1,
     )
@@ -110,9 +110,9 @@ reads_in store next run total at out block r inside room short e =
 
 joined : (out P S start piece whole_piece : List ℕ) (done n : ℕ) → out ≡ P ++ S → length P ≡ done → S ≡ drop done start → take done out ++ piece ++ drop (done + n) out ≡ P ++ piece ++ drop (done + n) start
 joined out P S start piece w done n e size s =
-    let front : take done out ≡ P = ap (take done) e ∙ (let k : done ≤ length P = omega (arith, size) in take_front done P S k) ∙ take_all done P (omega (arith, size)) in
-    let back : drop (done + n) out ≡ drop (done + n) start = ap (drop (done + n)) e ∙ sym (drop-drop n done (P ++ S)) ∙ ap (drop n) (drop_front done P S size ∙ s) ∙ drop-drop n done start in
-    ap (λ p. p ++ piece ++ drop (done + n) out) front ∙ ap (λ b. P ++ piece ++ b) back
+    let prefix : take done out ≡ P = ap (take done) e ∙ (let k : done ≤ length P = omega (arith, size) in take_prefix done P S k) ∙ take_all done P (omega (arith, size)) in
+    let back : drop (done + n) out ≡ drop (done + n) start = ap (drop (done + n)) e ∙ sym (drop-drop n done (P ++ S)) ∙ ap (drop n) (drop_prefix done P S size ∙ s) ∙ drop-drop n done start in
+    ap (λ p. p ++ piece ++ drop (done + n) out) prefix ∙ ap (λ b. P ++ piece ++ b) back
 
 step_by : (store : List (List ℕ)) (next : List ℕ) (c : Copying) (p : Progress) (n : ℕ) (row out' : List ℕ) (m : ℕ)
     → All (λ (bytes : List ℕ). length bytes ≡ BLOCK_SIZE) store → length store ≡ length next
@@ -129,8 +129,8 @@ step_by store next c p n row out' (suc m) sizes count low left enough some from_
     let fits : p.from + n ≤ BLOCK_SIZE = omega (arith, en, from_in) in
     let piece : take n (drop p.done (drop c.at c.all)) ≡ take n (drop p.from row) =
     ap (take n) (drop-drop p.done c.at c.all ∙ same ∙ drop_in p.from row (whole store next m (get_or next p.block 0)) (omega (arith, size, from_in)))
-    ∙ take_front n (drop p.from row) (whole store next m (get_or next p.block 0)) (omega (arith, length-drop p.from row, size, fits)) in
-    let front : length (take p.done (drop c.at c.all)) ≡ p.done = omega (arith, length-take p.done (drop c.at c.all), long, some) in
+    ∙ take_prefix n (drop p.from row) (whole store next m (get_or next p.block 0)) (omega (arith, length-drop p.from row, size, fits)) in
+    let prefix : length (take p.done (drop c.at c.all)) ≡ p.done = omega (arith, length-take p.done (drop c.at c.all), long, some) in
     record {
       m = m;
       low = low.1;
@@ -140,14 +140,14 @@ step_by store next c p n row out' (suc m) sizes count low left enough some from_
           ∙ sym (drop-drop n (c.at + p.done) c.all)
           ∙ ap (drop n) same
           ∙ drop-drop n p.from (row ++ whole store next m (get_or next p.block 0))
-          ∙ drop_front (p.from + n) row (whole store next m (get_or next p.block 0)) (size ∙ sym full);
+          ∙ drop_prefix (p.from + n) row (whole store next m (get_or next p.block 0)) (size ∙ sym full);
       enough = omega (arith, en, enough, from_in, some);
       within = omega (arith, en, some);
       from_in = omega arith;
       long = long;
       room = room;
       is = eo
-          ∙ joined p.out (take p.done (drop c.at c.all)) (drop p.done c.start) c.start (take n (drop p.from row)) [] p.done n is front refl
+          ∙ joined p.out (take p.done (drop c.at c.all)) (drop p.done c.start) c.start (take n (drop p.from row)) [] p.done n is prefix refl
           ∙ ap (λ xs. take p.done (drop c.at c.all) ++ xs ++ drop (p.done + n) c.start) (sym piece)
           ∙ ap (λ xs. xs ++ drop (p.done + n) c.start) (sym (take-add p.done n (drop c.at c.all)));
     }

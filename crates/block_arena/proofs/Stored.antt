@@ -23,15 +23,15 @@ padded_made made count n fits low =
     ∙ append_assoc made (replicate (n - length made) zeros) (replicate (count - (length made + (n - length made))) zeros)
     ∙ ap (λ t. made ++ t) (same_more (n - length made) (count - (length made + (n - length made))) zeros ∙ ap (λ k. replicate k zeros) all)
 
-pub get_front : {A : Type 0} (xs ys : List A) (k : ℕ) (e : A) → k < length xs → get_or (xs ++ ys) k e ≡ get_or xs k e
-get_front [] ys k e h = absurd (omega (arith, h))
-get_front (x ∷ xs) ys zero e h = refl
-get_front (x ∷ xs) ys (suc k) e h = get_front xs ys k e (omega (arith, h))
+pub get_prefix : {A : Type 0} (xs ys : List A) (k : ℕ) (e : A) → k < length xs → get_or (xs ++ ys) k e ≡ get_or xs k e
+get_prefix [] ys k e h = absurd (omega (arith, h))
+get_prefix (x ∷ xs) ys zero e h = refl
+get_prefix (x ∷ xs) ys (suc k) e h = get_prefix xs ys k e (omega (arith, h))
 
-pub set_front : {A : Type 0} (xs ys : List A) (k : ℕ) (v : A) → k < length xs → set (xs ++ ys) k v ≡ set xs k v ++ ys
-set_front [] ys k v h = absurd (omega (arith, h))
-set_front (x ∷ xs) ys zero v h = refl
-set_front (x ∷ xs) ys (suc k) v h = ap (λ t. x ∷ t) (set_front xs ys k v (omega (arith, h)))
+pub set_prefix : {A : Type 0} (xs ys : List A) (k : ℕ) (v : A) → k < length xs → set (xs ++ ys) k v ≡ set xs k v ++ ys
+set_prefix [] ys k v h = absurd (omega (arith, h))
+set_prefix (x ∷ xs) ys zero v h = refl
+set_prefix (x ∷ xs) ys (suc k) v h = ap (λ t. x ∷ t) (set_prefix xs ys k v (omega (arith, h)))
 
 -- how far the making is: the blocks before that one are made
 pub record IsMaking (old : List (List ℕ)) (room count : ℕ) (made : List (List ℕ)) (len capacity block : ℕ) : Type 0 where
@@ -67,8 +67,8 @@ filled made made' all count block at piece old row other view e low inside was i
     let long : length made' ≡ length (made ++ replicate ((block + 1) - length made) zeros) = ap length e in
     let there : block < length made' = omega (arith, long, length-append made (replicate ((block + 1) - length made) zeros), length_same ((block + 1) - length made) zeros) in
     let same : padded made' count ≡ all = ap (λ m. padded m count) e ∙ padded_made made count (block + 1) (omega (arith, inside, size)) low ∙ view in
-    let here : old ≡ get_or all block [] = was ∙ get_any made' block other [] there ∙ sym (get_front made' (replicate (count - length made') zeros) block [] there) ∙ ap (λ xs. get_or xs block []) same in
+    let here : old ≡ get_or all block [] = was ∙ get_any made' block other [] there ∙ sym (get_prefix made' (replicate (count - length made') zeros) block [] there) ∙ ap (λ xs. get_or xs block []) same in
     ap (λ k. set made' block row ++ replicate (count - k) zeros) (length-set made' block row)
-    ∙ sym (set_front made' (replicate (count - length made') zeros) block row there)
+    ∙ sym (set_prefix made' (replicate (count - length made') zeros) block row there)
     ∙ ap (λ xs. set xs block row) same
     ∙ ap (set all block) (is ∙ ap (λ r. written r at piece) here)

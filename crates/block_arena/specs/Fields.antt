@@ -24,8 +24,8 @@ links first zero = []
 links first (suc n) = first ∷ links (first + 1) n
 
 -- a slot whose message of that generation went
-abbrev pub slot_behind : ℕ → Slot
-slot_behind generation =
+abbrev pub slot_after : ℕ → Slot
+slot_after generation =
     if nat_lt generation d.last_generation then record { generation = generation + 1; content = Free }
     else record { generation = generation; content = Retired }
 

@@ -6,7 +6,7 @@ ghost use Rattle.mail_world.specs.Depot.{held_under, weight_under, bytes_of, las
 ghost use Rattle.mail_world.specs.Depot as depot;
 ghost use Rattle.std.specs.List.{position};
 ghost use Rattle.block_arena.specs.declared.slot.Slot.{Slot};
-ghost use Rattle.block_arena.specs.Fields.{is_free, links, slot_behind};
+ghost use Rattle.block_arena.specs.Fields.{is_free, links, slot_after};
 ghost use Rattle.block_arena.specs.Calls.{depot_key, IsUsed, IsInUse, Frees};
 
 use crate::fault::ArenaFault;
@@ -149,7 +149,7 @@ impl Arena {
         ensures { Frees self.old (depot_key key) self.new }
     {
         let run = run_in(content_under(&self.slots, key));
-        let slot = behind(key.generation);
+        let slot = released_slot(key.generation);
         if run.blocks == 0 {
             self.slots[key.slot as usize] = slot;
             return;
@@ -162,9 +162,9 @@ impl Arena {
 }
 
 /// The slot after a message of that generation.
-fn behind(generation: u64) -> Slot
+fn released_slot(generation: u64) -> Slot
     requires { generation ≤ last_generation }
-    ensures { result ≡ slot_behind generation }
+    ensures { result ≡ slot_after generation }
 {
     if generation < LAST_GENERATION {
         Slot {

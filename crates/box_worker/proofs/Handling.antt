@@ -18,17 +18,17 @@ use Rattle.mail_post.specs.Channel.{Sender, Inbox}
 use Rattle.mail_post.specs.declared.channel.Gone.{Gone}
 use Rattle.mail_post.specs.declared.channel.Gone.TheVariants.{Closed, Lost}
 use Rattle.mail_post.specs.Copies.{envelope_of}
-use Rattle.mail_post.specs.Offered.{HaveNumber, IsOffered, any_refused}
+use Rattle.mail_post.specs.Offered.{HaveNumber, IsOffered, any_gone}
 use Rattle.mail_post.proofs.Offered.{still_numbered, accepted_nothing, offered_more}
 use Rattle.mbox_record.specs.Mending.{HasNotMended}
 use Rattle.mbox_record.specs.Spool.{SpoolState}
 use Rattle.mbox_record.specs.Envelope.{record_text}
 use Rattle.box_worker.specs.declared.limit.Limit.{Limit}
-use Rattle.box_worker.specs.Limits.{Setting, StartsAt, CountsTo, marks_behind}
+use Rattle.box_worker.specs.Limits.{Setting, StartsAt, CountsTo, marks_after}
 use Rattle.box_worker.specs.Stored.{MailboxState, mailbox_of, CountedMailbox, TakesCopy, Tallies, HasStored, HasSettled}
 use Rattle.box_worker.specs.Told.{slip_by, owed_to, is_stored, is_over}
 use Rattle.box_worker.specs.Turned.{shared_of, TurnsCopy}
-use Rattle.box_worker.specs.Worked.{WorkerState, counted_of, idle, is_lost, outcomes_behind, bytes_behind, IsAccounted, HasHandled, IsCounted, IsTended, IsCounting, HasWorked}
+use Rattle.box_worker.specs.Worked.{WorkerState, counted_of, idle, is_lost, outcomes_after, bytes_after, IsAccounted, HasHandled, IsCounted, IsTended, IsCounting, HasWorked}
 use Rattle.box_worker.proofs.Turning.{turned_more, tells_told}
 use Rattle.box_worker.proofs.Counting.{let_in, kept_out}
 use Rattle.box_worker.proofs.Settling.{is_kept, marks_count, marks_next, bytes_one, bytes_none, settled_stored, settled_over, settled_not, settled_later}
@@ -51,19 +51,19 @@ counted_more n = omega arith
 -- what is told of one more copy, which is settled or not
 module _ (at : Setting) (start : ℕ) (copies : List Note) (note : Note) where
   abbrev told : ℕ → List Outcome
-  told n = outcomes_behind at start n copies
+  told n = outcomes_after at start n copies
 
   abbrev told_more : ℕ → List Outcome
-  told_more n = outcomes_behind at start n (copies ++ note ∷ [])
+  told_more n = outcomes_after at start n (copies ++ note ∷ [])
 
   told_count : (n : ℕ) → length (told n) ≡ length copies
-  told_count n = length-outcomes n (marks_behind at start copies) ∙ marks_count at start copies note
+  told_count n = length-outcomes n (marks_after at start copies) ∙ marks_count at start copies note
 
   tells_settled : (n : ℕ) (keeps : Bool) → n ≡ length copies → is_kept at start copies note ≡ keeps
       → told_more (n + 1) ≡ told n ++ (if keeps then Stored else OverQuota) ∷ []
   tells_settled n keeps all is =
       let count = marks_count at start copies note in
-      let marks = marks_behind at start copies in
+      let marks = marks_after at start copies in
       ap (outcomes_settled (n + 1)) (marks_next at start copies note) ∙ settled_more (n + 1) marks (is_kept at start copies note) (omega (arith, all, count))
       ∙ ap (λ l. l ++ (if is_kept at start copies note then Stored else OverQuota) ∷ []) (all_settled (n + 1) n marks (omega (arith, all, count)) (omega (arith, all, count)))
       ∙ ap (λ t. told n ++ (if t then Stored else OverQuota) ∷ []) is
@@ -71,17 +71,17 @@ module _ (at : Setting) (start : ℕ) (copies : List Note) (note : Note) where
   tells_failed : (n : ℕ) → n ≤ length copies → told_more n ≡ told n ++ Failed ∷ []
   tells_failed n within =
       let count = marks_count at start copies note in
-      ap (outcomes_settled n) (marks_next at start copies note) ∙ failed_more n (marks_behind at start copies) (is_kept at start copies note) (omega (arith, within, count))
+      ap (outcomes_settled n) (marks_next at start copies note) ∙ failed_more n (marks_after at start copies) (is_kept at start copies note) (omega (arith, within, count))
 
 module _ (at : Setting) (copies : List Note) (old : SpoolState) (now : MailboxState) (before : Option Limit) (used : ℕ) (note : Note) (outs : List Outcome) (x : IsCounted at copies outs old now before) where
   abbrev h : IsAccounted at copies outs old now
   h = x.accounted
 
   counted_by : (mailbox : MailboxState) (limit : Option Limit) (outcome : Outcome) (stored over : ℕ)
-      → outcomes_behind at h.start (stored + over) (copies ++ note ∷ []) ≡ outcomes_behind at h.start (h.stored + h.over) copies ++ outcome ∷ []
+      → outcomes_after at h.start (stored + over) (copies ++ note ∷ []) ≡ outcomes_after at h.start (h.stored + h.over) copies ++ outcome ∷ []
       → HasSettled at h.start (copies ++ note ∷ []) old (mailbox_of mailbox.state stored over mailbox.faulty)
       → mailbox.stored ≡ counted stored → mailbox.over ≡ counted over
-      → (mailbox.faulty ≡ false → CountsTo at.quota (bytes_behind at h.start (copies ++ note ∷ [])) limit)
+      → (mailbox.faulty ≡ false → CountsTo at.quota (bytes_after at h.start (copies ++ note ∷ [])) limit)
       → IsCounted at (copies ++ note ∷ []) (outs ++ outcome ∷ []) old mailbox limit
   counted_by mailbox limit outcome stored over tells settled stored_is over_is counts = record {
     accounted = record {
@@ -108,30 +108,30 @@ module _ (at : Setting) (copies : List Note) (old : SpoolState) (now : MailboxSt
       → IsCounted at (copies ++ note ∷ []) (outs ++ outcome ∷ []) old after.mailbox after.limit
   copy_counted Stored after take =
       let was = settled_at false take.0 in
-      let fit = let_in at.quota (bytes_behind at h.start copies) size before after.limit (some_text at.calendar at.host note) (x.counts take.0) take.1 in
+      let fit = let_in at.quota (bytes_after at h.start copies) size before after.limit (some_text at.calendar at.host note) (x.counts take.0) take.1 in
       let now_is = settled_stored at h.start copies note old now.state after.mailbox.state h.stored h.over was fit.0 take.2 in
       let P : Bool → Type 0 = λ b. HasSettled at h.start (copies ++ note ∷ []) old (mailbox_of after.mailbox.state (h.stored + 1) h.over b) in
       let count : h.stored + 1 + h.over ≡ h.stored + h.over + 1 = omega arith in
       counted_by after.mailbox after.limit Stored (h.stored + 1) h.over
-      (ap (λ n. outcomes_behind at h.start n (copies ++ note ∷ [])) count ∙ tells_settled at h.start copies note (h.stored + h.over) true (was.all refl) fit.0)
+      (ap (λ n. outcomes_after at h.start n (copies ++ note ∷ [])) count ∙ tells_settled at h.start copies note (h.stored + h.over) true (was.all refl) fit.0)
       (subst P (sym (ap (λ (m : MailboxState). m.faulty) take.3)) now_is)
       (ap (λ (m : MailboxState). m.stored) take.3 ∙ ap (λ m. counted (m + 1)) h.stored_count ∙ counted_more h.stored)
       (ap (λ (m : MailboxState). m.over) take.3 ∙ h.over_count)
       (λ sound. let Q : ℕ → Type 0 = λ n. CountsTo at.quota n after.limit in subst Q (sym (bytes_one at h.start copies note fit.0)) fit.1)
   copy_counted OverQuota after take =
       let was = settled_at false take.0 in
-      let out = kept_out at.quota (bytes_behind at h.start copies) size before (x.counts take.0) take.1 in
+      let out = kept_out at.quota (bytes_after at h.start copies) size before (x.counts take.0) take.1 in
       let now_is = settled_over at h.start copies note old now.state after.mailbox.state h.stored h.over was out in
       let P : MailboxState → Type 0 = λ m. HasSettled at h.start (copies ++ note ∷ []) old (mailbox_of m.state h.stored (h.over + 1) m.faulty) in
       let count : h.stored + (h.over + 1) ≡ h.stored + h.over + 1 = omega arith in
       counted_by after.mailbox after.limit OverQuota h.stored (h.over + 1)
-      (ap (λ n. outcomes_behind at h.start n (copies ++ note ∷ [])) count ∙ tells_settled at h.start copies note (h.stored + h.over) false (was.all refl) out)
+      (ap (λ n. outcomes_after at h.start n (copies ++ note ∷ [])) count ∙ tells_settled at h.start copies note (h.stored + h.over) false (was.all refl) out)
       (subst P (sym take.3) now_is)
       (ap (λ (m : MailboxState). m.stored) take.3 ∙ h.stored_count)
       (ap (λ (m : MailboxState). m.over) take.3 ∙ ap (λ m. counted (m + 1)) h.over_count ∙ counted_more h.over)
       (λ sound.
       let Q : ℕ → Type 0 = λ n. CountsTo at.quota n after.limit in
-      let R : Option Limit → Type 0 = λ l. CountsTo at.quota (bytes_behind at h.start copies) l in
+      let R : Option Limit → Type 0 = λ l. CountsTo at.quota (bytes_after at h.start copies) l in
       subst Q (sym (bytes_none at h.start copies note out)) (subst R (sym take.2) (x.counts take.0)))
   copy_counted Failed after take =
       let P : Bool → Type 0 = λ b. HasSettled at h.start (copies ++ note ∷ []) old (mailbox_of after.mailbox.state h.stored h.over b) in
@@ -141,7 +141,7 @@ module _ (at : Setting) (copies : List Note) (old : SpoolState) (now : MailboxSt
       (subst P (sym faulty) (elim take.1 [
         | inl before' ↦ settled_later at h.start copies note old now.state after.mailbox.state h.stored h.over (settled_at true before'.0) before'.1
         | inr fails ↦
-            let fit = let_in at.quota (bytes_behind at h.start copies) size before after.limit (some_text at.calendar at.host note) (x.counts fails.0) fails.1 in
+            let fit = let_in at.quota (bytes_after at h.start copies) size before after.limit (some_text at.calendar at.host note) (x.counts fails.0) fails.1 in
             settled_not at h.start copies note old now.state after.mailbox.state h.stored h.over (settled_at false fails.0) fit.0 fails.2
       ]))
       (ap (λ (m : MailboxState). m.stored) take.0 ∙ h.stored_count)
@@ -190,7 +190,7 @@ module _ (at : Setting) (copies : List Note) (old now : WorkerState) (before : O
       → (now.mailbox.state.sharing.is_shared ≡ false → after.in_use ≡ now.in_use)
       → (now.mailbox.state.sharing.is_shared ≡ true → TurnsCopy (record_of at.calendar at.host note) outcome (counted_of now before) after)
       → IsOffered moment note.txn.lane (slip_by note.txn note.place outcome) accepted now.slips next
-      → (y : IsCounting at (copies ++ note ∷ []) old (record { slips = next; mailbox = after.mailbox; in_use = after.in_use; taken = counted (now.taken + 1); lost = any_refused next }) after.limit)
+      → (y : IsCounting at (copies ++ note ∷ []) old (record { slips = next; mailbox = after.mailbox; in_use = after.in_use; taken = counted (now.taken + 1); lost = any_gone next }) after.limit)
       × (y.outcomes ≡ x.outcomes ++ outcome ∷ [])
   handled_more moment outcome after tallied whose alone never shared offered =
       let mine : offered.sender.number ≡ at.worker = x.numbered note.txn.lane offered.sender offered.is in
@@ -237,7 +237,7 @@ pub counting_none : (at : Setting) (slips : List (Sender Slip)) (old : SpoolStat
     → (new.mailbox.stored ≡ 0) × (new.mailbox.over ≡ 0) × (new.in_use ≡ 0)
     → ((start : ℕ) × IfSome at.quota (λ quota. StartsAt old start) × CountsTo at.quota start new.limit)
     → new.mailbox.state.sharing.is_shared ≡ old.sharing.is_shared
-    → (y : IsCounting at [] (idle slips old) (record { slips = slips; mailbox = new.mailbox; in_use = new.in_use; taken = 0; lost = any_refused slips }) new.limit) × (y.outcomes ≡ [])
+    → (y : IsCounting at [] (idle slips old) (record { slips = slips; mailbox = new.mailbox; in_use = new.in_use; taken = 0; lost = any_gone slips }) new.limit) × (y.outcomes ≡ [])
 counting_none at slips old new mine stored broken left none begins whose =
     let mailbox = new.mailbox in
     let limit = new.limit in
@@ -305,10 +305,10 @@ closed_by (Some Closed) ended sound = refl
 closed_by (Some Lost) ended sound = absurd (cc)
 
 module _ (at : Setting) (before after : Inbox Note) (old new : WorkerState) (h : HasWorked at before after old new) (sound : new.lost ≡ false) where
-  parts : (any_refused new.slips ≡ false) × (is_lost after.gone ≡ false)
-  parts = or_parts (any_refused new.slips) (is_lost after.gone) (sym h.lost ∙ sound)
+  parts : (any_gone new.slips ≡ false) × (is_lost after.gone ≡ false)
+  parts = or_parts (any_gone new.slips) (is_lost after.gone) (sym h.lost ∙ sound)
 
-  pub none_came_back : any_refused new.slips ≡ false
+  pub none_came_back : any_gone new.slips ≡ false
   none_came_back = parts.0
 
   pub was_closed : after.gone ≡ Some Closed

@@ -17,7 +17,7 @@ FailsPiece-more : (s t : SpoolState) (a : Pending) (p q : List ℕ) → FailsPie
 FailsPiece-more s t a p q x = record {
   text = x.text;
   failed = x.failed;
-  sure = λ rest. let front = x.sure (q ++ rest) in record { rest = front.rest; whole = ap (bytes_owed a) (append_assoc p q rest) ∙ front.whole };
+  sure = λ rest. let prefix = x.sure (q ++ rest) in record { rest = prefix.rest; whole = ap (bytes_owed a) (append_assoc p q rest) ∙ prefix.whole };
 }
 
 -- the next bytes of the message
@@ -48,10 +48,10 @@ text_taken s t u first last message x y =
 
 pub text_failed : (s t : SpoolState) (first : Pending) (message : List ℕ) → FailsPiece s t first message → SpoolFailed s t (bytes_owed first message ++ lf ∷ [])
 text_failed s t first message x =
-    let front = x.sure [] in
-    let whole : bytes_owed first message ++ lf ∷ [] ≡ x.text ++ (front.rest ++ lf ∷ []) =
-    ap (λ (l : List ℕ). l ++ lf ∷ []) (ap (bytes_owed first) (sym (append-nil message)) ∙ front.whole) ∙ append_assoc x.text front.rest (lf ∷ []) in
-    SpoolFailed-as s t _ _ whole (SpoolFailed-first s t x.text (front.rest ++ lf ∷ []) x.failed)
+    let prefix = x.sure [] in
+    let whole : bytes_owed first message ++ lf ∷ [] ≡ x.text ++ (prefix.rest ++ lf ∷ []) =
+    ap (λ (l : List ℕ). l ++ lf ∷ []) (ap (bytes_owed first) (sym (append-nil message)) ∙ prefix.whole) ∙ append_assoc x.text prefix.rest (lf ∷ []) in
+    SpoolFailed-as s t _ _ whole (SpoolFailed-first s t x.text (prefix.rest ++ lf ∷ []) x.failed)
 
 pub text_failed_at_end : (s t u : SpoolState) (first last : Pending) (message : List ℕ) → WritesPiece s t first last message
     → SpoolFailed t u (bytes_owed last [] ++ lf ∷ []) → SpoolFailed s u (bytes_owed first message ++ lf ∷ [])

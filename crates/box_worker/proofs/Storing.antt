@@ -36,7 +36,7 @@ module _ (calendar : Calendar) (host : List ℕ) (note : Note) where
     | inl some ↦ inl (
       some.0,
       omega (arith, some.1, one_more copies note),
-      some.2 ∙ ap (λ (front : List Note). mailbox calendar host held front ++ some.0) (sym (take-append-le n copies (note ∷ []) within)),
+      some.2 ∙ ap (λ (prefix : List Note). mailbox calendar host held prefix ++ some.0) (sym (take-append-le n copies (note ∷ []) within)),
       (let P : List Note → Type 0 = λ l. IsTorn calendar host l some.0 in subst P (sym (drop-append-le n copies (note ∷ []) within)) (torn_more (drop n copies) some.0 some.3)),
     )
     | inr none ↦ inr none
@@ -60,21 +60,21 @@ module _ (calendar : Calendar) (host : List ℕ) (note : Note) where
       let same : bytes ≡ mailbox calendar host held copies = cc in
       c ∙ ap length same ∙ ap (λ (l : List Note). length (mailbox calendar host held l)) (sym (take_all n copies (omega arith)))
 
-  torn_first : (u v w : Option (List ℕ)) (copies : List Note) (n settled : ℕ) (front rest : List ℕ) → n ≡ length copies → text ≡ front ++ rest
-      → IfSome u (λ held. v ≡ Some (mailbox calendar host held copies)) → Appends v w front
+  torn_first : (u v w : Option (List ℕ)) (copies : List Note) (n settled : ℕ) (prefix rest : List ℕ) → n ≡ length copies → text ≡ prefix ++ rest
+      → IfSome u (λ held. v ≡ Some (mailbox calendar host held copies)) → Appends v w prefix
       → IfSome u (λ held. IfSome w (λ bytes. IsTornAt calendar host held (copies ++ note ∷ []) n settled bytes))
-  torn_first None v w copies n settled front rest all is e a = tt
-  torn_first (Some held) None w copies n settled front rest all is e a = cc
-  torn_first (Some held) (Some ys) None copies n settled front rest all is e a = absurd a
-  torn_first (Some held) (Some ys) (Some zs) copies n settled front rest all is e a =
+  torn_first None v w copies n settled prefix rest all is e a = tt
+  torn_first (Some held) None w copies n settled prefix rest all is e a = cc
+  torn_first (Some held) (Some ys) None copies n settled prefix rest all is e a = absurd a
+  torn_first (Some held) (Some ys) (Some zs) copies n settled prefix rest all is e a =
       let before : ys ≡ mailbox calendar host held copies = cc in
       let taken : take n (copies ++ note ∷ []) ≡ copies = take-append-le n copies (note ∷ []) (omega arith) ∙ take_all n copies (omega arith) in
       let left : drop n (copies ++ note ∷ []) ≡ note ∷ [] = drop-append-le n copies (note ∷ []) (omega arith) ∙ ap (λ (l : List Note). l ++ note ∷ []) (drop_all n copies (omega arith)) in
-      let P : List Note → Type 0 = λ l. IsTorn calendar host l front in
+      let P : List Note → Type 0 = λ l. IsTorn calendar host l prefix in
       inl (
-        front,
+        prefix,
         omega (arith, all, one_more copies note),
-        a ∙ ap (λ (l : List ℕ). l ++ front) (before ∙ ap (λ (l : List Note). mailbox calendar host held l) (sym taken)),
+        a ∙ ap (λ (l : List ℕ). l ++ prefix) (before ∙ ap (λ (l : List Note). mailbox calendar host held l) (sym taken)),
         subst P (sym left) (record { rest = rest; whole = is }),
       )
 
@@ -126,7 +126,7 @@ module _ (calendar : Calendar) (host : List ℕ) (note : Note) where
           limited = y.limited ∙ x.limited;
           full = λ e. y.full;
           whole = λ e. absurd (true≢false e);
-          torn = λ e. torn_first old.bytes s.bytes t.bytes copies n (n + over) y.front y.rest all y.whole (x.whole refl) y.appended;
+          torn = λ e. torn_first old.bytes s.bytes t.bytes copies n (n + over) y.prefix y.rest all y.whole (x.whole refl) y.appended;
           covered = λ some. covered_later old.bytes copies n s.synced t.synced (omega arith) y.covered (x.covered some);
           unsynced = λ none. y.covered ∙ x.unsynced none;
           kept = λ e. absurd (true≢false e);

@@ -197,17 +197,17 @@ module _ (at : Setting) (note : Note) (old new : SharedMailbox) (held : List ℕ
       let mend = h.rest.does.broken in
       let broken = mend.broken in
       let mends : mend.mending ≡ mended lock.0 = known_of h.locked.bytes lock.0 (λ b. mend.mending ≡ mended b) lock.1 mend.mends in
-      let done = appended h.locked.bytes h.rest.done.bytes lock.0 broken.front lock.1 broken.appended in
+      let done = appended h.locked.bytes h.rest.done.bytes lock.0 broken.prefix lock.1 broken.appended in
       let l = listed old.state h.locked h.rest.done new.state h.held lock.0 done.0 h.begins lock.1 done.1
       (ap (λ (s : Sharing). s.began) broken.turn) (ap (λ (s : Sharing). s.turns) broken.turn) h.rest.ends in
-      let whole : mended lock.0 ++ text ≡ broken.front ++ broken.rest = ap (λ (m : List ℕ). m ++ text) (sym mends) ∙ broken.whole in
+      let whole : mended lock.0 ++ text ≡ broken.prefix ++ broken.rest = ap (λ (m : List ℕ). m ++ text) (sym mends) ∙ broken.whole in
       let lost : Rises h.locked.failures new.state.failures = let P : ℕ → Type 0 = λ n. Rises h.locked.failures n in subst P (sym h.rest.ends.sound) broken.failed in
       let room = room_of at.quota h.locked lock.0 (length text) true lock.1 h.rest.does.measured in
       record {
         turn = Had (stood lock.0 h.locked) (stood l.left new.state);
         added = l.added;
         is = elim l.stays [
-          | inl s ↦ record { room = room; failed = lost; prefix = broken.front; part = record { rest = broken.rest; whole = whole }; left = s.0 ∙ done.2 }
+          | inl s ↦ record { room = room; failed = lost; prefix = broken.prefix; part = record { rest = broken.rest; whole = whole }; left = s.0 ∙ done.2 }
           | inr c ↦ record { room = room; failed = lost; prefix = []; part = record { rest = mended lock.0 ++ text; whole = refl }; left = c.1 ∙ sym (append-nil lock.0) }
         ];
         broke = sym (ap (λ (m : SharedMailbox). m.faulty) is);
@@ -414,10 +414,10 @@ mended_and_lost s t u text x y = record {
   mending = x.text;
   mends = x.is;
   broken = record {
-    front = x.text ++ y.front;
+    prefix = x.text ++ y.prefix;
     rest = y.rest;
-    whole = ap (λ (l : List ℕ). x.text ++ l) y.whole ∙ sym (append_assoc x.text y.front y.rest);
-    appended = Appends-then s.bytes t.bytes u.bytes x.text y.front x.taken.appended y.appended;
+    whole = ap (λ (l : List ℕ). x.text ++ l) y.whole ∙ sym (append_assoc x.text y.prefix y.rest);
+    appended = Appends-then s.bytes t.bytes u.bytes x.text y.prefix x.taken.appended y.appended;
     failed = let P : ℕ → Type 0 = λ n. Rises n u.failures in subst P x.taken.sound y.failed;
     limited = y.limited ∙ x.taken.limited;
     full = y.full;
@@ -431,9 +431,9 @@ not_mended s t text x = record {
   mending = x.text;
   mends = x.is;
   broken = record {
-    front = x.failed.front;
+    prefix = x.failed.prefix;
     rest = x.failed.rest ++ text;
-    whole = ap (λ (l : List ℕ). l ++ text) x.failed.whole ∙ append_assoc x.failed.front x.failed.rest text;
+    whole = ap (λ (l : List ℕ). l ++ text) x.failed.whole ∙ append_assoc x.failed.prefix x.failed.rest text;
     appended = x.failed.appended;
     failed = x.failed.failed;
     limited = x.failed.limited;

@@ -15,9 +15,9 @@ use Rattle.mbox_record.specs.Mending.{HasNotMended}
 use Rattle.mbox_record.specs.Spool.{SpoolState}
 use Rattle.mail_post.specs.Channel.{Sender, Inbox, taken, IsTimed, HasSameTimes}
 use Rattle.mail_post.specs.InTime.{Ends, clock_of, AreInTime}
-use Rattle.mail_post.specs.Offered.{IsPart, HaveNumber, IsOffered, any_refused}
-use Rattle.mail_post.proofs.InTime.{deed, none_done, gave_more, refused_more, took_more, took_none}
-use Rattle.mail_post.proofs.Offered.{part_more, part_both, refused_now, refused_as_before}
+use Rattle.mail_post.specs.Offered.{IsPart, HaveNumber, IsOffered, any_gone}
+use Rattle.mail_post.proofs.InTime.{deed, none_done, gave_more, gone_keeps_time, took_more, took_none}
+use Rattle.mail_post.proofs.Offered.{part_more, part_both, gone_now, gone_as_before}
 use Rattle.box_worker.specs.declared.limit.Limit.{Limit}
 use Rattle.box_worker.specs.Limits.{Setting, StartsAt, CountsTo}
 use Rattle.box_worker.specs.Stored.{mailbox_of, CountedMailbox, TakesCopy, Tallies, HasStored}
@@ -66,7 +66,7 @@ module _ (worker : ℕ) (copies : List Note) (outcomes : List Outcome) (note : N
         deeds = deeds;
         in_time = subst (λ (l : List (Sender Slip)). AreInTime worker_sorts deeds before (record { senders = l; inbox = now })) (sym o.after) told;
         all = λ sound. whats_are
-            ∙ ap (λ l. (l ++ Took note ∷ []) ++ Told slip ∷ []) (x.all (sym (refused_as_before (clock_of slips now) note.txn.lane (slip_by note.txn note.place outcome) slips next o) ∙ sound))
+            ∙ ap (λ l. (l ++ Took note ∷ []) ++ Told slip ∷ []) (x.all (sym (gone_as_before (clock_of slips now) note.txn.lane (slip_by note.txn note.place outcome) slips next o) ∙ sound))
             ∙ turns_are;
         some = subst (λ (y : List Deed × List Deed). IsPart y.0 y.1) (λ i. (sym whats_are i, turns_are i)) parts;
       }
@@ -74,8 +74,8 @@ module _ (worker : ℕ) (copies : List Note) (outcomes : List Outcome) (note : N
       let slip : Slip = slip_by note.txn note.place outcome o.sender in
       let slip_is : slip ≡ slip_of worker note outcome = ap (λ (w : ℕ). let s : Slip = record { txn = note.txn; place = note.place; worker = w; outcome = outcome } in s) mine in
       let deeds : List TimedDeed = x.deeds ++ copy ∷ [] in
-      let back = refused_more worker_sorts deeds before (record { senders = slips; inbox = now }) note.txn.lane o.when o.sender slip taken_first o.is in
-      let refused = refused_now (clock_of slips now) note.txn.lane (slip_by note.txn note.place outcome) slips next o in
+      let back = gone_keeps_time worker_sorts deeds before (record { senders = slips; inbox = now }) note.txn.lane o.when o.sender slip taken_first o.is in
+      let slip_gone = gone_now (clock_of slips now) note.txn.lane (slip_by note.txn note.place outcome) slips next o in
       let whats_are : whats deeds ≡ whats x.deeds ++ Took note ∷ [] = whats_more x.deeds (Took note) took.taken_at in
       let turns_are : (turns_of worker copies outcomes ++ Took note ∷ []) ++ Told slip ∷ [] ≡ turns_of worker (copies ++ note ∷ []) (outcomes ++ outcome ∷ []) =
       ap (λ (s : Slip). (turns_of worker copies outcomes ++ Took note ∷ []) ++ Told s ∷ []) slip_is ∙ sym (turns_more worker copies outcomes note outcome long) in
@@ -83,7 +83,7 @@ module _ (worker : ℕ) (copies : List Note) (outcomes : List Outcome) (note : N
       record {
         deeds = deeds;
         in_time = subst (λ (l : List (Sender Slip)). AreInTime worker_sorts deeds before (record { senders = l; inbox = now })) (sym o.after) back;
-        all = λ sound. let bad : true ≡ false = sym refused ∙ sound in cc;
+        all = λ sound. let bad : true ≡ false = sym slip_gone ∙ sound in cc;
         some = subst (λ (y : List Deed × List Deed). IsPart y.0 y.1) (λ i. (sym whats_are i, turns_are i)) parts;
       }
 
@@ -105,7 +105,7 @@ pub working_more : (at : Setting) (copies : List Note) (before was inbox : Inbox
     → (now.mailbox.state.sharing.is_shared ≡ false → after.in_use ≡ now.in_use)
     → (now.mailbox.state.sharing.is_shared ≡ true → TurnsCopy (record_of at.calendar at.host note) outcome (counted_of now limit) after)
     → IsOffered (clock_of now.slips inbox) note.txn.lane (slip_by note.txn note.place outcome) accepted now.slips next
-    → IsWorking at (copies ++ note ∷ []) before inbox old (record { slips = next; mailbox = after.mailbox; in_use = after.in_use; taken = counted (now.taken + 1); lost = any_refused next }) after.limit
+    → IsWorking at (copies ++ note ∷ []) before inbox old (record { slips = next; mailbox = after.mailbox; in_use = after.in_use; taken = counted (now.taken + 1); lost = any_gone next }) after.limit
 working_more at copies before was inbox old now limit next note accepted x timed outcome after tallied whose alone never shared offered =
     let y = handled_more at copies old now limit next note accepted x.counting (clock_of now.slips inbox) outcome after tallied whose alone never shared offered in
     record {
@@ -123,7 +123,7 @@ pub working_none : (at : Setting) (slips : List (Sender Slip)) (inbox : Inbox No
     → (new.mailbox.stored ≡ 0) × (new.mailbox.over ≡ 0) × (new.in_use ≡ 0)
     → ((start : ℕ) × IfSome at.quota (λ quota. StartsAt old start) × CountsTo at.quota start new.limit)
     → new.mailbox.state.sharing.is_shared ≡ old.sharing.is_shared
-    → IsWorking at [] inbox inbox (idle slips old) (record { slips = slips; mailbox = new.mailbox; in_use = new.in_use; taken = 0; lost = any_refused slips }) new.limit
+    → IsWorking at [] inbox inbox (idle slips old) (record { slips = slips; mailbox = new.mailbox; in_use = new.in_use; taken = 0; lost = any_gone slips }) new.limit
 working_none at slips inbox old new mine stored broken left none begins whose =
     let y = counting_none at slips old new mine stored broken left none begins whose in
     let ends : Ends Slip Note = record { senders = slips; inbox = inbox } in
@@ -133,7 +133,7 @@ working_none at slips inbox old new mine stored broken left none begins whose =
 pub worked : (at : Setting) (before was after : Inbox Note) (old now : WorkerState) (limit : Option Limit) → IsWorking at (taken was) before was old now limit
     → after.channel ≡ before.channel → after.lanes ≡ before.lanes → after.capacity ≡ before.capacity
     → taken after ≡ taken was → HasSameTimes was after → IsSome after.gone
-    → (lost : Bool) → lost ≡ (any_refused now.slips || is_lost after.gone) → HasWorked at before after old (record now { lost = lost })
+    → (lost : Bool) → lost ≡ (any_gone now.slips || is_lost after.gone) → HasWorked at before after old (record now { lost = lost })
 worked at before was after old now limit x channel lanes capacity took same over lost found =
     let new : WorkerState = record now { lost = lost } in
     let P : List Note → Type 0 = λ copies. (h : HasHandled at copies old new) × TakeTurns at.worker copies h.outcomes (ends_of old before) (ends_of new after) in

@@ -4,7 +4,7 @@ use Rattle.std.specs.Option.{IfSome}
 use Rattle.mail_world.specs.declared.Note.{Note}
 use Rattle.mail_world.specs.Counts.{counted}
 use Rattle.mail_world.specs.Records.{Calendar, mended}
-use Rattle.mail_world.specs.Quotas.{are_kept_behind, marked}
+use Rattle.mail_world.specs.Quotas.{are_kept_after, marked}
 use Rattle.mbox_record.specs.Spool.{SpoolState, Grows}
 use Rattle.mbox_record.specs.declared.spool.Tail.{Tail}
 use Rattle.mbox_record.specs.declared.spool.Tail.TheVariants.{Empty, NoLf, OneLf, TwoLf}
@@ -19,12 +19,12 @@ pub record Setting : Type 0 where
   pub worker : ℕ
 
 -- for each copy whether it is kept, where that many bytes stand before the first record
-abbrev pub marks_behind : Setting → ℕ → List Note → List Bool
-marks_behind at start copies = are_kept_behind at.calendar at.host at.quota start copies
+abbrev pub marks_after : Setting → ℕ → List Note → List Bool
+marks_after at start copies = are_kept_after at.calendar at.host at.quota start copies
 
 -- the copies that are kept
-abbrev pub kept_behind : Setting → ℕ → List Note → List Note
-kept_behind at start copies = marked (marks_behind at start copies) copies
+abbrev pub kept_after : Setting → ℕ → List Note → List Note
+kept_after at start copies = marked (marks_after at start copies) copies
 
 -- That many bytes stand before the first record: what the spool held, and what mends that, which is two bytes at most
 -- where the spool doesn't tell what it holds.

@@ -9,12 +9,12 @@ use Rattle.mail_world.specs.declared.Outcome.TheVariants.{Stored, Failed, OverQu
 use Rattle.mail_world.specs.Counts.{counted}
 use Rattle.mail_world.specs.Failures.{Rises}
 use Rattle.mail_world.specs.Records.{Calendar, mended, mailbox}
-use Rattle.mail_world.specs.Fronts.{IsFront}
+use Rattle.mail_world.specs.Prefixes.{IsPrefix}
 use Rattle.mail_world.specs.Deliveries.{IsTorn}
 use Rattle.mbox_record.specs.Spool.{SpoolState, CoversAll, IsFull, FailsTurn}
 use Rattle.mbox_record.specs.Mending.{HasNotMended}
 use Rattle.box_worker.specs.declared.limit.Limit.{Limit}
-use Rattle.box_worker.specs.Limits.{Setting, kept_behind, StartsAt, IsLetIn, IsKeptOut}
+use Rattle.box_worker.specs.Limits.{Setting, kept_after, StartsAt, IsLetIn, IsKeptOut}
 
 -- the spool took the text, and a sync covers all that it holds
 pub record HasKept (old new : SpoolState) (text : List ℕ) : Type 0 where
@@ -26,10 +26,10 @@ pub record HasKept (old new : SpoolState) (text : List ℕ) : Type 0 where
 
 -- the spool failed before a sync covered the text, of which it took a prefix; one with a limit is full
 pub record HasNotKept (old new : SpoolState) (text : List ℕ) : Type 0 where
-  pub front : List ℕ
+  pub prefix : List ℕ
   pub rest : List ℕ
-  pub whole : text ≡ front ++ rest
-  pub appended : Appends old.bytes new.bytes front
+  pub whole : text ≡ prefix ++ rest
+  pub appended : Appends old.bytes new.bytes prefix
   pub failed : Rises old.failures new.failures
   pub limited : new.limit ≡ old.limit
   pub full : IsFull new.limit new.bytes
@@ -84,7 +84,7 @@ abbrev pub IsTornAt : Calendar → List ℕ → List ℕ → List Note → ℕ �
 IsTornAt calendar host old notes stored settled bytes =
     ((torn : List ℕ) × (stored < length notes) × (bytes ≡ mailbox calendar host old (take stored notes) ++ torn)
     × IsTorn calendar host (drop stored notes) torn)
-    ⊎ ((front : List ℕ) × (settled ≡ 0) × (bytes ≡ old ++ front) × IsFront front (mended old))
+    ⊎ ((prefix : List ℕ) × (settled ≡ 0) × (bytes ≡ old ++ prefix) × IsPrefix prefix (mended old))
 
 -- A spool took the records of the first of these notes, as many as are stored: of all of them unless it failed, and one
 -- with a limit that failed is full. The last good sync covers them and nothing after them, and where none is stored
@@ -109,7 +109,7 @@ pub record HasStored (calendar : Calendar) (host : List ℕ) (notes : List Note)
 -- after the first n copies, of which `stored` are kept, stands one that is kept too
 abbrev pub IsKeptNext : Setting → ℕ → List Note → ℕ → ℕ → Type 0
 IsKeptNext at start copies n stored = (n < length copies)
-    × (length (kept_behind at start (take (n + 1) copies)) ≡ stored + 1)
+    × (length (kept_after at start (take (n + 1) copies)) ≡ stored + 1)
 
 -- the spool failed as it was mended, before any copy
 abbrev pub HasFailedFirst : SpoolState → SpoolState → ℕ → Type 0
@@ -123,7 +123,7 @@ pub record HasSettled (at : Setting) (start : ℕ) (copies : List Note) (old : S
   pub starts : IfSome at.quota (λ quota. StartsAt old start)
   pub within : new.stored + new.over ≤ length copies
   pub all : new.faulty ≡ false → new.stored + new.over ≡ length copies
-  pub stored : new.stored ≡ length (kept_behind at start (take (new.stored + new.over) copies))
+  pub stored : new.stored ≡ length (kept_after at start (take (new.stored + new.over) copies))
   pub next : new.faulty ≡ true → HasFailedFirst old new.state (new.stored + new.over)
       ⊎ IsKeptNext at start copies (new.stored + new.over) new.stored
-  pub spool : HasStored at.calendar at.host (kept_behind at start copies) old new
+  pub spool : HasStored at.calendar at.host (kept_after at start copies) old new

@@ -6,7 +6,7 @@ use Rattle.mail_world.specs.declared.Outcome.{Outcome}
 use Rattle.mail_runs.specs.Deeds.{turns_of}
 use Rattle.mail_runs.specs.Timed.{TimedDeed, whats, tells_to}
 use Rattle.mail_runs.specs.Known.{is_taken}
-use Rattle.mail_post.specs.Offered.{IsPart, any_refused}
+use Rattle.mail_post.specs.Offered.{IsPart, any_gone}
 use Rattle.mail_post.specs.InTime.{Ends, Sorts, AreInTime}
 
 -- a worker gives the slips that it tells, and takes copies
@@ -20,5 +20,5 @@ pub record TakeTurns (worker : ℕ) (copies : List Note) (outcomes : List Outcom
     : Type 0 where
   pub deeds : List TimedDeed
   pub in_time : AreInTime worker_sorts deeds old new
-  pub all : any_refused new.senders ≡ false → whats deeds ≡ turns_of worker copies outcomes
+  pub all : any_gone new.senders ≡ false → whats deeds ≡ turns_of worker copies outcomes
   pub some : IsPart (whats deeds) (turns_of worker copies outcomes)

@@ -10,11 +10,11 @@ use Rattle.mail_world.specs.Quotas.{outcomes_settled}
 use Rattle.mbox_record.specs.Spool.{SpoolState}
 use Rattle.mail_post.specs.Channel.{Sender, Inbox, taken}
 use Rattle.mail_post.specs.InTime.{Ends}
-use Rattle.mail_post.specs.Offered.{HaveNumber, HaveAccepted, any_refused}
+use Rattle.mail_post.specs.Offered.{HaveNumber, HaveAccepted, any_gone}
 use Rattle.mail_post.specs.declared.channel.Gone.{Gone}
 use Rattle.mail_post.specs.declared.channel.Gone.TheVariants.{Closed, Lost}
 use Rattle.box_worker.specs.declared.limit.Limit.{Limit}
-use Rattle.box_worker.specs.Limits.{Setting, marks_behind, kept_behind, CountsTo}
+use Rattle.box_worker.specs.Limits.{Setting, marks_after, kept_after, CountsTo}
 use Rattle.box_worker.specs.Stored.{MailboxState, mailbox_of, CountedMailbox, HasSettled}
 use Rattle.box_worker.specs.Turned.{shared_of, HaveTurned, HasTurned}
 use Rattle.box_worker.specs.Told.{owed_to, is_stored, is_over}
@@ -39,12 +39,12 @@ idle slips spool =
     record { slips = slips; mailbox = mailbox_of spool 0 0 false; in_use = 0; taken = 0; lost = false }
 
 -- what is told of these copies, where that many bytes stand before the first record and that many copies are settled
-abbrev pub outcomes_behind : Setting → ℕ → ℕ → List Note → List Outcome
-outcomes_behind at start settled copies = outcomes_settled settled (marks_behind at start copies)
+abbrev pub outcomes_after : Setting → ℕ → ℕ → List Note → List Outcome
+outcomes_after at start settled copies = outcomes_settled settled (marks_after at start copies)
 
 -- how many bytes stand after the records of these copies, where that many stand before the first
-abbrev pub bytes_behind : Setting → ℕ → List Note → ℕ
-bytes_behind at start copies = start + length (flat_map (record_of at.calendar at.host) (kept_behind at start copies))
+abbrev pub bytes_after : Setting → ℕ → List Note → ℕ
+bytes_after at start copies = start + length (flat_map (record_of at.calendar at.host) (kept_after at start copies))
 
 -- Of a private mailbox: the outcomes of these copies, the first that its worker took, are those of what was stored and
 -- of what was over the quota.
@@ -56,7 +56,7 @@ pub record IsAccounted (at : Setting) (copies : List Note) (outcomes : List Outc
   pub stored : ℕ
   pub over : ℕ
   pub settled : HasSettled at start copies old (mailbox_of new.state stored over new.faulty)
-  pub told : outcomes ≡ outcomes_behind at start (stored + over) copies
+  pub told : outcomes ≡ outcomes_after at start (stored + over) copies
   pub stored_count : new.stored ≡ counted stored
   pub over_count : new.over ≡ counted over
 
@@ -85,7 +85,7 @@ pub record HasHandled (at : Setting) (copies : List Note) (old new : WorkerState
 pub record IsCounted (at : Setting) (copies : List Note) (outcomes : List Outcome) (old : SpoolState)
     (new : MailboxState) (limit : Option Limit) : Type 0 where
   pub accounted : IsAccounted at copies outcomes old new
-  pub counts : new.faulty ≡ false → CountsTo at.quota (bytes_behind at accounted.start copies) limit
+  pub counts : new.faulty ≡ false → CountsTo at.quota (bytes_after at accounted.start copies) limit
 
 -- a mailbox between two copies, and what its worker counted last
 pub record IsTended (at : Setting) (copies : List Note) (outcomes : List Outcome) (old : SpoolState)
@@ -132,6 +132,6 @@ pub record HasWorked (at : Setting) (before after : Inbox Note) (old new : Worke
   pub lanes : after.lanes ≡ before.lanes
   pub capacity : after.capacity ≡ before.capacity
   pub ended : IsSome after.gone
-  pub lost : new.lost ≡ (any_refused new.slips || is_lost after.gone)
+  pub lost : new.lost ≡ (any_gone new.slips || is_lost after.gone)
   pub handled : HasHandled at (taken after) old new
   pub turns : TakeTurns at.worker (taken after) handled.outcomes (ends_of old before) (ends_of new after)

@@ -2,7 +2,7 @@
 //! fields that are private to this module, so that no slip goes out for a copy that is still held.
 
 ghost use Rattle.std.specs.Prelude.{◌≡◌, ◌<◌, Bool, length};
-ghost use Rattle.mail_post.specs.Offered.{IsOffered, any_refused};
+ghost use Rattle.mail_post.specs.Offered.{IsOffered, any_gone};
 ghost use Rattle.box_worker.specs.Told.{slip_by};
 
 use mail_post::{Moment, Receiver, SlipSender};
@@ -84,10 +84,10 @@ impl SlipSenders {
     }
 
     /// Whether a slip of one of them came back.
-    pub(crate) fn any_refused(&self) -> bool
-        ensures { result ≡ any_refused self.now }
+    pub(crate) fn any_gone(&self) -> bool
+        ensures { result ≡ any_gone self.now }
     {
-        self.senders.iter().any(|sender| sender.is_refused())
+        self.senders.iter().any(|sender| sender.is_gone())
     }
 
     /// The senders, once no copy is left.

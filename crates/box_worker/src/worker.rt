@@ -5,7 +5,7 @@ ghost use Rattle.lmtp_text.specs.Calendar.{civil_at};
 ghost use Rattle.mail_world.specs.declared.Note.{Note};
 ghost use Rattle.mail_post.specs.Channel.{Inbox, taken, IsTimed, HasSameTimes};
 ghost use Rattle.mail_post.specs.InTime.{clock_of};
-ghost use Rattle.mail_post.specs.Offered.{HaveNumber, any_refused};
+ghost use Rattle.mail_post.specs.Offered.{HaveNumber, any_gone};
 ghost use Rattle.box_worker.specs.Stored.{mailbox_of};
 ghost use Rattle.box_worker.specs.Told.{worker_of};
 ghost use Rattle.box_worker.specs.Worked.{WorkerState, idle, IsWorking, HasWorked};
@@ -113,7 +113,7 @@ impl<S: Spool, G: Gate> Worker<S, G> {
               mailbox = self.old.mailbox.mailbox;
               in_use = self.old.mailbox.in_use;
               taken = self.old.taken;
-              lost = any_refused self.old.slips;
+              lost = any_gone self.old.slips;
             }) self.old.mailbox.limit
             → IsWorking (record { calendar = civil_at; host = host.now; quota = quota; worker = worker })
             (copies ++ post ∷ []) before receiver.now old
@@ -122,7 +122,7 @@ impl<S: Spool, G: Gate> Worker<S, G> {
               mailbox = self.new.mailbox.mailbox;
               in_use = self.new.mailbox.in_use;
               taken = self.new.taken;
-              lost = any_refused self.new.slips;
+              lost = any_gone self.new.slips;
             }) self.new.mailbox.limit }
     {
         let Parts {
@@ -148,7 +148,7 @@ impl<S: Spool, G: Gate> Worker<S, G> {
         ensures mailbox { mailbox_of (S.state result.spool) result.stored result.over result.faulty
             ≡ self.mailbox.mailbox }
         ensures in_use { result.in_use ≡ self.mailbox.in_use }
-        ensures lost { result.lost ≡ (any_refused self.slips || is_lost) }
+        ensures lost { result.lost ≡ (any_gone self.slips || is_lost) }
     {
         let Worker {
             mailbox,
@@ -172,7 +172,7 @@ impl<S: Spool, G: Gate> Worker<S, G> {
             over,
             in_use,
             faulty,
-            lost: slips.any_refused() || is_lost,
+            lost: slips.any_gone() || is_lost,
             receiver,
             slips: slips.into_senders(),
         }

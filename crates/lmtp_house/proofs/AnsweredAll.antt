@@ -34,29 +34,29 @@ alone_by : (p : Slip → Bool) (x : Slip) (xs more : List Slip) (o : Outcome) (t
 alone_by p x xs more o true once e = absurd (omega (arith, once, found_counts p (xs ++ more) o e))
 alone_by p x xs more o false once e = e
 
-found_behind : (p : Slip → Bool) (xs more : List Slip) (o : Outcome) → count_by p (xs ++ more) ≤ 1 → outcome_found p more ≡ Some o → outcome_found p (xs ++ more) ≡ Some o
-found_behind p [] more o once e = e
-found_behind p (x ∷ xs) more o once e =
+found_after_part : (p : Slip → Bool) (xs more : List Slip) (o : Outcome) → count_by p (xs ++ more) ≤ 1 → outcome_found p more ≡ Some o → outcome_found p (xs ++ more) ≡ Some o
+found_after_part p [] more o once e = e
+found_after_part p (x ∷ xs) more o once e =
     let all : cond (p x) 1 0 + count_by p (xs ++ more) ≤ 1 = omega (arith, once, count-cons p x (xs ++ more)) in
     let rest : count_by p (xs ++ more) ≤ 1 = omega (arith, all) in
-    alone_by p x xs more o (p x) all (found_behind p xs more o rest e)
+    alone_by p x xs more o (p x) all (found_after_part p xs more o rest e)
 
 -- the answers of the last slips are those of all
-answers_behind : (txn : Txn) (before since : List Slip) (a n : ℕ) (os : List Outcome) → ((place : ℕ) → times_named txn place (before ++ since) ≤ 1)
+answers_after : (txn : Txn) (before since : List Slip) (a n : ℕ) (os : List Outcome) → ((place : ℕ) → times_named txn place (before ++ since) ≤ 1)
     → map (λ o. Some o) os ≡ map (answer txn since) (range_with_len a n) → map (λ o. Some o) os ≡ map (answer txn (before ++ since)) (range_with_len a n)
-answers_behind txn before since a zero os once e = e
-answers_behind txn before since a (suc n) [] once e = cc
-answers_behind txn before since a (suc n) (o ∷ os) once e =
+answers_after txn before since a zero os once e = e
+answers_after txn before since a (suc n) [] once e = cc
+answers_after txn before since a (suc n) (o ∷ os) once e =
     let first : Some o ≡ answer txn since a = cc in
     let rest : map (λ o. Some o) os ≡ map (answer txn since) (range_with_len (a + 1) n) = cc in
-    ap (λ x. x ∷ map (λ o. Some o) os) (sym (found_behind (names txn a) before since o (once a) (sym first)))
-    ∙ ap (λ l. answer txn (before ++ since) a ∷ l) (answers_behind txn before since (a + 1) n os once rest)
+    ap (λ x. x ∷ map (λ o. Some o) os) (sym (found_after_part (names txn a) before since o (once a) (sym first)))
+    ∙ ap (λ l. answer txn (before ++ since) a ∷ l) (answers_after txn before since (a + 1) n os once rest)
 
 outcomes_by : (lane : ℕ) (before since : List Slip) (t : Transaction) (v : Verdict) → ((txn : Txn) (place : ℕ) → times_named txn place (before ++ since) ≤ 1)
     → OutcomesIn lane since t v → OutcomesIn lane (before ++ since) t v
 outcomes_by lane before since t Whole once h =
     let txn : Txn = record { lane = lane; number = t.number } in
-    answers_behind txn before since 0 (length t.session.recipients) t.disposition.outcomes (once txn) h
+    answers_after txn before since 0 (length t.session.recipients) t.disposition.outcomes (once txn) h
 outcomes_by lane before since t TooLarge once h = tt
 outcomes_by lane before since t NoRoom once h = tt
 

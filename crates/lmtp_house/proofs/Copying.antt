@@ -6,9 +6,9 @@ use Rattle.std.proofs.Math.Seq.{take-append_seam}
 use Rattle.mail_world.specs.declared.Note.{Note}
 use Rattle.mail_world.specs.declared.Outcome.{Outcome}
 use Rattle.mail_world.specs.declared.Outcome.TheVariants.{Stored, OverQuota}
-use Rattle.mail_world.specs.Fronts.{IsFront}
+use Rattle.mail_world.specs.Prefixes.{IsPrefix}
 use Rattle.mail_world.specs.Records.{record_of, mended, mailbox}
-use Rattle.mail_world.specs.Quotas.{fits, are_kept_behind, marked, outcomes_settled}
+use Rattle.mail_world.specs.Quotas.{fits, are_kept_after, marked, outcomes_settled}
 use Rattle.mail_world.specs.Deliveries.{IsTorn}
 use Rattle.mail_runs.specs.Courses.{Server, Spooled, TakesOne, TakesAll, IsCourse}
 
@@ -21,7 +21,7 @@ module _ (s : Server) where
 
   -- the marks of copies, before the first of which that many bytes stand, and the copies that are kept
   abbrev pub marks : ℕ → List Note → List Bool
-  marks len notes = are_kept_behind s.calendar s.host s.quota len notes
+  marks len notes = are_kept_after s.calendar s.host s.quota len notes
 
   abbrev pub keeps : ℕ → List Note → List Note
   keeps len notes = marked (marks len notes) notes
@@ -129,7 +129,7 @@ module _ (s : Server) where
     CourseTo spool faulty = IsCourse s (record { old = held; taken = copies; outcomes = outcomes; spool = spool; faulty = faulty })
 
     -- the spool failed as it was mended
-    pub faulty_first : (prefix : List ℕ) (len n : ℕ) → IsFront prefix (mended held) → n ≡ 0 → outcomes ≡ outcomes_settled n (marks len copies)
+    pub faulty_first : (prefix : List ℕ) (len n : ℕ) → IsPrefix prefix (mended held) → n ≡ 0 → outcomes ≡ outcomes_settled n (marks len copies)
         → CourseTo (held ++ prefix) true
     faulty_first prefix len n part none told =
         let first : Spooled = spooled (held ++ prefix) true in

@@ -5,16 +5,16 @@ use Rattle.std.specs.Option.{IfSome}
 use Rattle.std.specs.Io.KnownBytes.{Appends}
 use Rattle.mail_world.specs.declared.Note.{Note}
 use Rattle.mail_world.specs.declared.Outcome.{Outcome}
-use Rattle.mail_world.specs.Fronts.{IsFront}
+use Rattle.mail_world.specs.Prefixes.{IsPrefix}
 use Rattle.mail_world.specs.Records.{Calendar, record_of, mended, mailbox}
-use Rattle.mail_world.specs.Quotas.{are_kept_behind, marked, outcomes_settled}
+use Rattle.mail_world.specs.Quotas.{are_kept_after, marked, outcomes_settled}
 use Rattle.mail_world.specs.Deliveries.{IsTorn}
 use Rattle.mail_runs.specs.Courses.{Server, Course, IsCourse}
 use Rattle.mbox_record.specs.Spool.{SpoolState}
-use Rattle.box_worker.specs.Limits.{Setting, marks_behind, kept_behind, StartsAt}
+use Rattle.box_worker.specs.Limits.{Setting, marks_after, kept_after, StartsAt}
 use Rattle.box_worker.specs.Stored.{mailbox_of, IsTornAt, HasSettled}
 use Rattle.box_worker.specs.Turned.{SharedMailbox, shared_of, HaveTurned}
-use Rattle.box_worker.specs.Worked.{outcomes_behind, IsAccounted}
+use Rattle.box_worker.specs.Worked.{outcomes_after, IsAccounted}
 use Rattle.lmtp_threads.specs.Works.{BoxWork, IsBoxWork}
 use Rattle.lmtp_threads.specs.declared.tally.Tally.{Tally}
 use Rattle.lmtp_house.specs.RunOfModel.{IsToldAlone, IsModelled, IsCourseOf}
@@ -23,15 +23,15 @@ use Rattle.lmtp_house.proofs.Turns.{turns_to}
 
 module _ (calendar : Calendar) (host : List ℕ) where
   -- without a quota it makes no difference how many bytes stand before
-  pub unlimited : (a b : ℕ) (notes : List Note) → are_kept_behind calendar host None a notes ≡ are_kept_behind calendar host None b notes
+  pub unlimited : (a b : ℕ) (notes : List Note) → are_kept_after calendar host None a notes ≡ are_kept_after calendar host None b notes
   unlimited a b [] = refl
   unlimited a b (x ∷ notes) = let size = length (record_of calendar host x) in ap (λ l. true ∷ l) (unlimited (a + size) (b + size) notes)
 
   -- and with one the same bytes
   pub same_start : (quota : Option ℕ) (start len : ℕ) (notes : List Note) → IfSome quota (λ _. start ≡ len)
-      → are_kept_behind calendar host quota start notes ≡ are_kept_behind calendar host quota len notes
+      → are_kept_after calendar host quota start notes ≡ are_kept_after calendar host quota len notes
   same_start None start len notes same = unlimited start len notes
-  same_start (Some quota) start len notes same = ap (λ n. are_kept_behind calendar host (Some quota) n notes) same
+  same_start (Some quota) start len notes same = ap (λ n. are_kept_after calendar host (Some quota) n notes) same
 
 -- a spool that tells what it held has told how many bytes stand before the first record
 starts_known : (quota : Option ℕ) (old : SpoolState) (start : ℕ) (held : List ℕ) → old.bytes ≡ Some held → IfSome quota (λ _. StartsAt old start)
@@ -47,7 +47,7 @@ module _ (at : Setting) (lanes boxes : ℕ) where
 
   -- a private mailbox whose worker settled some of these copies
   module _ (held : List ℕ) (copies : List Note) (outcomes : List Outcome) (old new : SpoolState) (start stored over : ℕ)
-      (known : IfSome at.quota (λ _. start ≡ length (held ++ mended held))) (told : outcomes ≡ outcomes_behind at start (stored + over) copies) where
+      (known : IfSome at.quota (λ _. start ≡ length (held ++ mended held))) (told : outcomes ≡ outcomes_after at start (stored + over) copies) where
     abbrev Settled : Bool → Type 0
     Settled faulty = HasSettled at start copies old (mailbox_of new stored over faulty)
 
@@ -60,10 +60,10 @@ module _ (at : Setting) (lanes boxes : ℕ) where
     abbrev kept : List Note
     kept = keeps server len copies
 
-    same_marks : (notes : List Note) → marks_behind at start notes ≡ marks server len notes
+    same_marks : (notes : List Note) → marks_after at start notes ≡ marks server len notes
     same_marks notes = same_start at.calendar at.host at.quota start len notes known
 
-    same_kept : (notes : List Note) → kept_behind at start notes ≡ keeps server len notes
+    same_kept : (notes : List Note) → kept_after at start notes ≡ keeps server len notes
     same_kept notes = ap (λ ms. marked ms notes) (same_marks notes)
 
     outcomes_are : outcomes ≡ outcomes_settled (stored + over) (marks server len copies)
@@ -75,13 +75,13 @@ module _ (at : Setting) (lanes boxes : ℕ) where
 
     whole_told : Settled false → old.bytes ≡ Some held → IfSome new.bytes (λ bytes. mailbox at.calendar at.host held kept ≡ bytes)
     whole_told h e =
-        let P : Option (List ℕ) → Type 0 = λ o. IfSome o (λ l. new.bytes ≡ Some (mailbox at.calendar at.host l (kept_behind at start copies))) in
-        let now : new.bytes ≡ Some (mailbox at.calendar at.host held (kept_behind at start copies)) = subst P e (h.spool.whole refl) in
+        let P : Option (List ℕ) → Type 0 = λ o. IfSome o (λ l. new.bytes ≡ Some (mailbox at.calendar at.host l (kept_after at start copies))) in
+        let now : new.bytes ≡ Some (mailbox at.calendar at.host held (kept_after at start copies)) = subst P e (h.spool.whole refl) in
         let Q : Option (List ℕ) → Type 0 = λ o. IfSome o (λ bytes. mailbox at.calendar at.host held kept ≡ bytes) in
         subst Q (sym now) (ap (mailbox at.calendar at.host held) (sym (same_kept copies)))
 
     -- the spool failed at the record of the copy after those that are settled, of which these bytes are there
-    torn_to : Settled true → (torn : List ℕ) → length (kept_behind at start (take (stored + over + 1) copies)) ≡ stored + 1
+    torn_to : Settled true → (torn : List ℕ) → length (kept_after at start (take (stored + over + 1) copies)) ≡ stored + 1
         → IsTorn at.calendar at.host (drop stored kept) torn
         → To (mailbox at.calendar at.host held (take stored kept) ++ torn) true
     torn_to h torn one tears =
@@ -91,7 +91,7 @@ module _ (at : Setting) (lanes boxes : ℕ) where
         ends_torn server held copies outcomes n stored torn was next tears outcomes_are
 
     -- it failed as it was mended
-    first_to : (prefix : List ℕ) → IsFront prefix (mended held) → stored + over ≡ 0 → To (held ++ prefix) true
+    first_to : (prefix : List ℕ) → IsPrefix prefix (mended held) → stored + over ≡ 0 → To (held ++ prefix) true
     first_to prefix part none = faulty_first server held copies outcomes prefix len (stored + over) part none outcomes_are
 
     -- it failed, and doesn't tell what it holds
@@ -106,15 +106,15 @@ module _ (at : Setting) (lanes boxes : ℕ) where
     telling bytes e f h = elim (h.next refl) [
       | inl none ↦ (
           let broken = none.1.failed in
-          let A : Option (List ℕ) → Option (List ℕ) → Type 0 = λ o p. Appends o p broken.front in
-          let now : bytes ≡ held ++ broken.front = subst (A (Some held)) f (subst (λ o. A o new.bytes) e broken.appended) in
+          let A : Option (List ℕ) → Option (List ℕ) → Type 0 = λ o p. Appends o p broken.prefix in
+          let now : bytes ≡ held ++ broken.prefix = subst (A (Some held)) f (subst (λ o. A o new.bytes) e broken.appended) in
           let M : Option (List ℕ) → Type 0 = λ o. IfSome o (λ l. none.1.text ≡ mended l) in
           let mends : none.1.text ≡ mended held = subst M e none.1.is in
           let P : List ℕ → Type 0 = λ l. To l true in
-          subst P (sym now) (first_to broken.front (record { rest = broken.rest; whole = sym mends ∙ broken.whole }) none.0)
+          subst P (sym now) (first_to broken.prefix (record { rest = broken.rest; whole = sym mends ∙ broken.whole }) none.0)
           )
       | inr one ↦ (
-          let T : List ℕ → List ℕ → Type 0 = λ l b. IsTornAt at.calendar at.host l (kept_behind at start copies) stored (stored + over) b in
+          let T : List ℕ → List ℕ → Type 0 = λ l b. IsTornAt at.calendar at.host l (kept_after at start copies) stored (stored + over) b in
           let P : List ℕ → Type 0 = λ l. To l true in
           let A : Option (List ℕ) → Option (List ℕ) → Type 0 = λ o p. IfSome o (λ l. IfSome p (T l)) in
           let torn : T held bytes = subst (A (Some held)) f (subst (λ o. A o new.bytes) e (h.spool.torn refl)) in

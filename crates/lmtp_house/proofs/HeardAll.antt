@@ -12,7 +12,7 @@ use Rattle.mail_world.specs.declared.Txn.{Txn}
 use Rattle.mail_world.specs.declared.Verdict.{Verdict}
 use Rattle.mail_world.specs.declared.Verdict.TheVariants.{Whole, TooLarge, NoRoom}
 use Rattle.mail_world.specs.Conversation.{Conversation}
-use Rattle.mail_world.specs.Fronts.{IsFront}
+use Rattle.mail_world.specs.Prefixes.{IsPrefix}
 use Rattle.mail_world.specs.Lists.{Transaction, transactions, copies_from, copies_if, copies, of_lane, due, OutcomesIn, OutcomesAreAnswers}
 use Rattle.mail_world.specs.Site.{Site}
 use Rattle.mail_world.specs.Slips.{of_worker, names, times_named, answer, txn_of, slip_of}
@@ -24,14 +24,14 @@ use Rattle.lmtp_house.proofs.AnsweredAll.{found_counts}
 use Rattle.lmtp_house.proofs.NamedOnce.{is_copy, slips_copy, fewer, due_counts, named_once}
 
 -- what counts is counted here or after
-here_or_behind : (X : Type 0) (t : Bool) (m : ℕ) → (t ≡ true → X) → (1 ≤ m → X) → 1 ≤ cond t 1 0 + m → X
-here_or_behind X true m here behind some = here refl
-here_or_behind X false m here behind some = behind (omega (arith, some))
+here_or_after : (X : Type 0) (t : Bool) (m : ℕ) → (t ≡ true → X) → (1 ≤ m → X) → 1 ≤ cond t 1 0 + m → X
+here_or_after X true m here after some = here refl
+here_or_after X false m here after some = after (omega (arith, some))
 
 one_of_two : (X : Type 0) (n m : ℕ) → (1 ≤ n → X) → (1 ≤ m → X) → 1 ≤ n + m → X
-one_of_two X n m here behind some = elim (cases_lt 0 n) [
+one_of_two X n m here after some = elim (cases_lt 0 n) [
   | inl low ↦ here (omega (arith, low))
-  | inr high ↦ behind (omega (arith, high, some))
+  | inr high ↦ after (omega (arith, high, some))
 ]
 
 three_same : (a b c : Bool) → a && b && c ≡ true → (a ≡ true) × (b ≡ true) × (c ≡ true)
@@ -66,7 +66,7 @@ module _ (txn : Txn) (place k : ℕ) (heard : List Slip) where
       record { txn = txn_of k t.number; place = p; mailbox = box; sender = t.session.sender; client = t.session.client; moment = t.disposition.moment; message = t.message } in
       let found : answer (txn_of k t.number) heard p ≡ Some o = cc in
       let rest : map (λ o. Some o) os ≡ map (answer (txn_of k t.number) heard) (range_with_len (p + 1) (length boxes)) = cc in
-      here_or_behind (1 ≤ times_named txn place heard) (is_copy txn place note) (count_by (is_copy txn place) (copies_from k t (p + 1) boxes))
+      here_or_after (1 ≤ times_named txn place heard) (is_copy txn place note) (count_by (is_copy txn place) (copies_from k t (p + 1) boxes))
       (λ is. named_by t p o is found) (λ more. answered_from t (p + 1) boxes os rest more)
       (omega (arith, some, count-cons (is_copy txn place) note (copies_from k t (p + 1) boxes)))
 
@@ -94,9 +94,9 @@ owed_of b k (outcome ∷ outcomes) [] = tt
 owed_of b k (outcome ∷ outcomes) (note ∷ notes) =
     of_if b (note.txn.lane == k) (slip_of b note outcome) (owed_to b outcomes k notes) refl (owed_of b k outcomes notes)
 
-behind_front : {A : Type 0} (P : A → Type 0) (xs : List A) (y : A) (ys : List A) → AllByRecursion P (xs ++ y ∷ ys) → P y
-behind_front P [] y ys h = h.0
-behind_front P (x ∷ xs) y ys h = behind_front P xs y ys h.1
+after_prefix : {A : Type 0} (P : A → Type 0) (xs : List A) (y : A) (ys : List A) → AllByRecursion P (xs ++ y ∷ ys) → P y
+after_prefix P [] y ys h = h.0
+after_prefix P (x ∷ xs) y ys h = after_prefix P xs y ys h.1
 
 all_more : {A : Type 0} (P : A → Type 0) (xs : List A) (y : A) → AllByRecursion P xs → P y → AllByRecursion P (xs ++ y ∷ [])
 all_more P [] y h p = (p, tt)
@@ -108,7 +108,7 @@ counts_itself slip = ap {B = ℕ} (λ t. cond t 1 0) (own_named slip)
 
 module _ (site : Site) (k boxes : ℕ) (cs : List Conversation) (heard : List Slip) (works : ℕ → BoxWork)
     (only : AllByRecursion (λ slip. slip.worker < boxes) heard)
-    (each : (b : ℕ) → b < boxes → IsFront (of_worker b heard) (owed_to b (works b).outcomes k (works b).taken))
+    (each : (b : ℕ) → b < boxes → IsPrefix (of_worker b heard) (owed_to b (works b).outcomes k (works b).taken))
     (owed : (b : ℕ) → b < boxes → of_lane k (works b).taken ≡ due site k b cs)
     (answered : OutcomesAreAnswers site k heard cs) where
   abbrev owed_by : ℕ → List Slip
@@ -116,20 +116,20 @@ module _ (site : Site) (k boxes : ℕ) (cs : List Conversation) (heard : List Sl
 
   module _ (b : ℕ) (low : b < boxes) (slip : Slip) (rest : List Slip) (whole : owed_by b ≡ of_worker b heard ++ slip ∷ rest) where
     is_of : slip.worker ≡ b
-    is_of = behind_front (λ s. s.worker ≡ b) (of_worker b heard) slip rest
+    is_of = after_prefix (λ s. s.worker ≡ b) (of_worker b heard) slip rest
         (subst (λ l. AllByRecursion (λ s. s.worker ≡ b) l) whole (owed_of b k (works b).outcomes (works b).taken))
 
     -- had it been heard too, the lane would still have heard a prefix of what each worker owes it
-    front_by : (c : ℕ) (t : Bool) → (slip.worker == c) ≡ t → c < boxes → IsFront (of_worker c heard ++ cond t (slip ∷ []) []) (owed_by c)
-    front_by c true is below =
+    prefix_by : (c : ℕ) (t : Bool) → (slip.worker == c) ≡ t → c < boxes → IsPrefix (of_worker c heard ++ cond t (slip ∷ []) []) (owed_by c)
+    prefix_by c true is below =
         let same : c ≡ b = sym (same_number slip.worker c is) ∙ is_of in
-        subst (λ d. IsFront (of_worker d heard ++ slip ∷ []) (owed_by d)) (sym same) (record { rest = rest; whole = whole ∙ sym (append_assoc (of_worker b heard) (slip ∷ []) rest) })
-    front_by c false is below =
+        subst (λ d. IsPrefix (of_worker d heard ++ slip ∷ []) (owed_by d)) (sym same) (record { rest = rest; whole = whole ∙ sym (append_assoc (of_worker b heard) (slip ∷ []) rest) })
+    prefix_by c false is below =
         let f = each c below in record { rest = f.rest; whole = f.whole ∙ ap (λ l. l ++ f.rest) (sym (append-nil (of_worker c heard))) }
 
-    fronts : (c : ℕ) → c < boxes → IsFront (of_worker c (heard ++ slip ∷ [])) (owed_by c)
-    fronts c below =
-        subst (λ l. IsFront l (owed_by c)) (sym (filter-append (λ s. s.worker == c) heard (slip ∷ []))) (front_by c (slip.worker == c) refl below)
+    prefixes : (c : ℕ) → c < boxes → IsPrefix (of_worker c (heard ++ slip ∷ [])) (owed_by c)
+    prefixes c below =
+        subst (λ l. IsPrefix l (owed_by c)) (sym (filter-append (λ s. s.worker == c) heard (slip ∷ []))) (prefix_by c (slip.worker == c) refl below)
 
     never : ⊥
     never =
@@ -138,7 +138,7 @@ module _ (site : Site) (k boxes : ℕ) (cs : List Conversation) (heard : List Sl
         let notes = flat_map (copies k) (transactions site 0 cs) in
         let alone : count_by P (slip ∷ []) ≡ 1 = omega (arith, count-cons P slip [], counts_itself slip) in
         let more : times_named slip.txn slip.place (heard ++ slip ∷ []) ≤ 1 =
-        named_once site k boxes cs (heard ++ slip ∷ []) works (all_more (λ s. s.worker < boxes) heard slip only (omega (arith, is_of, low))) fronts owed slip.txn slip.place in
+        named_once site k boxes cs (heard ++ slip ∷ []) works (all_more (λ s. s.worker < boxes) heard slip only (omega (arith, is_of, low))) prefixes owed slip.txn slip.place in
         let some : 1 ≤ count_by P (owed_by b) =
         omega (
           arith,

@@ -7,7 +7,7 @@ use Rattle.std.proofs.lemmas.List.{length-map, get_or_past}
 use Rattle.std.proofs.lemmas.Option.{slice_get_within, get_or_from_slice_get}
 use Rattle.mail_world.specs.declared.Note.{Note}
 use Rattle.mail_world.specs.declared.Slip.{Slip}
-use Rattle.mail_world.specs.Fronts.{IsFront}
+use Rattle.mail_world.specs.Prefixes.{IsPrefix}
 use Rattle.mail_world.specs.Site.{Site}
 use Rattle.mail_world.specs.Slips.{of_worker}
 use Rattle.mail_world.specs.Lists.{of_lane, due, OutcomesAreAnswers}
@@ -68,11 +68,11 @@ module _ {M : Type 0} (lane : M → ℕ) where
     took_below ms took = all_below n ms (λ k high. took k ∙ sent_none k high)
 
     -- a prefix of what was sent was taken, and nothing else
-    pub front_each : (ms : List M) → TookSome lane ms c.sent → (k : ℕ) → k < n → IsFront (of lane k ms) (sent k)
-    front_each ms took k below = record { rest = (took k).rest; whole = sym (sent_is k below) ∙ (took k).whole }
+    pub prefix_each : (ms : List M) → TookSome lane ms c.sent → (k : ℕ) → k < n → IsPrefix (of lane k ms) (sent k)
+    prefix_each ms took k below = record { rest = (took k).rest; whole = sym (sent_is k below) ∙ (took k).whole }
 
-    pub front_below : (ms : List M) → TookSome lane ms c.sent → AllByRecursion (λ m. lane m < n) ms
-    front_below ms took = all_below n ms (λ k high. none_by (of lane k ms) (took k).rest (sym (took k).whole ∙ sent_none k high))
+    pub prefix_below : (ms : List M) → TookSome lane ms c.sent → AllByRecursion (λ m. lane m < n) ms
+    prefix_below ms took = all_below n ms (λ k high. none_by (of lane k ms) (took k).rest (sym (took k).whole ∙ sent_none k high))
 
 module _ {M : Type 0} where
   -- receivers that are still those of before may be settled with their closed channels
@@ -128,7 +128,7 @@ module _ {V S : Type 0} {capacity room : ℕ} (site : Site) (May : ℕ → Type 
 
   -- what is known of lane k
   record LaneKnown (k : ℕ) : Type 0 where
-    each : (b : ℕ) → b < length old_boxes.spools → IsFront (of_worker b (lanes.works k).heard) (owed_slips b k)
+    each : (b : ℕ) → b < length old_boxes.spools → IsPrefix (of_worker b (lanes.works k).heard) (owed_slips b k)
     only : AllByRecursion (λ (slip : Slip). slip.worker < length old_boxes.spools) (lanes.works k).heard
 
   lane_known : (k : ℕ) → k < length old_lanes.visits → LaneKnown k
@@ -141,9 +141,9 @@ module _ {V S : Type 0} {capacity room : ℕ} (site : Site) (May : ℕ → Type 
       let s = zip_at (IsSettled (λ (s : Slip). s.worker)) new_lanes.inboxes slips_closed slips_settled k y.value c.value y.is c.is in
       let fresh : taken x.value ≡ [] = ap (λ (i : Inbox Slip). taken i) (slips_new.inboxes_are k x.value x.is) in
       let took : taken y.value ≡ (lanes.works k).heard = heard.took ∙ ap (λ l. l ++ (lanes.works k).heard) fresh in
-      let front : TookSome (λ (s : Slip). s.worker) (lanes.works k).heard c.value.sent = subst (λ l. TookSome (λ (s : Slip). s.worker) l c.value.sent) took s.front in record {
-        each = front_each (λ (s : Slip). s.worker) (length old_boxes.spools) x.value.channel (λ b. owed_slips b k) c.value w (lanes.works k).heard front;
-        only = front_below (λ (s : Slip). s.worker) (length old_boxes.spools) x.value.channel (λ b. owed_slips b k) c.value w (lanes.works k).heard front;
+      let prefix : TookSome (λ (s : Slip). s.worker) (lanes.works k).heard c.value.sent = subst (λ l. TookSome (λ (s : Slip). s.worker) l c.value.sent) took s.prefix in record {
+        each = prefix_each (λ (s : Slip). s.worker) (length old_boxes.spools) x.value.channel (λ b. owed_slips b k) c.value w (lanes.works k).heard prefix;
+        only = prefix_below (λ (s : Slip). s.worker) (length old_boxes.spools) x.value.channel (λ b. owed_slips b k) c.value w (lanes.works k).heard prefix;
       }
 
   -- the lane's outcomes are those of all that it heard

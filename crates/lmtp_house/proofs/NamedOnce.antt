@@ -14,14 +14,14 @@ use Rattle.mail_world.specs.declared.Verdict.{Verdict}
 use Rattle.mail_world.specs.declared.Verdict.TheVariants.{Whole, TooLarge, NoRoom}
 use Rattle.mail_world.specs.Text.{crlf, place_of}
 use Rattle.mail_world.specs.Data.{message, data_end}
-use Rattle.mail_world.specs.Fronts.{IsFront}
+use Rattle.mail_world.specs.Prefixes.{IsPrefix}
 use Rattle.mail_world.specs.Site.{Site}
 use Rattle.mail_world.specs.Session.{Session, fresh}
 use Rattle.mail_world.specs.Conversation.{Disposition, Part, CommandLine, MailData, Cut, cut, cut_then, is_data, inputs_of, session_after, parts_within, parts, Conversation}
 use Rattle.mail_world.specs.Slips.{of_worker, names, times_named, slip_of, slips_from}
 use Rattle.mail_world.specs.Lists.{Transaction, is_content, accepted_after, transactions_of, transactions, copies_from, copies_if, copies, of_lane, due}
 use Rattle.mail_world.proofs.GivenAway.{count-append, count-cons}
-use Rattle.mail_world.proofs.Owed.{accepted_behind, same_behind_data}
+use Rattle.mail_world.proofs.Owed.{accepted_after_part, same_after_data}
 use Rattle.box_worker.specs.Told.{owed_to}
 use Rattle.lmtp_threads.specs.Works.{BoxWork}
 
@@ -181,7 +181,7 @@ data_by : (n m last w : ℕ) → n ≤ last → w ≤ inside (n + 1) last m → 
 data_by n m last w grows le = grind (arith, nat_tests, grows, le)
 
 one_more : (site : Site) (n : ℕ) (session : Session) (p : Part) (ps : List Part) → is_data p ≡ is_content session.state
-    → AreNumbered site (accepted_behind site n session p) (session_after site session (inputs_of p)) ps → AreNumbered site n session (p ∷ ps)
+    → AreNumbered site (accepted_after_part site n session p) (session_after site session (inputs_of p)) ps → AreNumbered site n session (p ∷ ps)
 one_more site n session (CommandLine text) ps e h =
     let next = session_after site session (inputs_of (CommandLine text)) in
     let last = accepted_after site n session (CommandLine text ∷ ps) in record {
@@ -198,9 +198,9 @@ one_more site n session (MailData text d) ps e h =
       once = λ m.
           let rest = transactions_of site n next ps in
           let t : Transaction = record { number = n; session = session; message = message text; disposition = d } in
-          let behind : times_numbered m (transactions_of site (accepted_behind site n session p) next ps) ≤ inside (n + 1) last m =
-          later_first (is_content next.state) n m last (times_numbered m (transactions_of site (accepted_behind site n session p) next ps)) (h.once m) in
-          let same : times_numbered m rest ≤ inside (n + 1) last m = subst (λ j. times_numbered m (transactions_of site j next ps) ≤ inside (n + 1) last m) (same_behind_data site n session text d) behind in
+          let after : times_numbered m (transactions_of site (accepted_after_part site n session p) next ps) ≤ inside (n + 1) last m =
+          later_first (is_content next.state) n m last (times_numbered m (transactions_of site (accepted_after_part site n session p) next ps)) (h.once m) in
+          let same : times_numbered m rest ≤ inside (n + 1) last m = subst (λ j. times_numbered m (transactions_of site j next ps) ≤ inside (n + 1) last m) (same_after_data site n session text d) after in
           let all : times_numbered m (t ∷ rest) ≤ inside n last m = omega (arith, count-cons (λ (x : Transaction). x.number == m) t rest, data_by n m last (times_numbered m rest) grows same) in
           subst (λ b. times_numbered m (t ∷ rest) ≤ inside (if b then n else n + 1) last m) e all;
     }
@@ -211,7 +211,7 @@ none_yet site n session = record { grows = omega arith; once = λ m. omega arith
 numbered_then : (site : Site) (n : ℕ) (session : Session) (o : Option Cut) (more : Cut → List Part) → ((c : Cut) → o ≡ Some c → is_data c.part ≡ is_content session.state)
     → ((c : Cut) (m : ℕ) → AreNumbered site m (session_after site session (inputs_of c.part)) (more c)) → AreNumbered site n session (cut_then o more)
 numbered_then site n session None more f g = none_yet site n session
-numbered_then site n session (Some c) more f g = one_more site n session c.part (more c) (f c refl) (g c (accepted_behind site n session c.part))
+numbered_then site n session (Some c) more f g = one_more site n session c.part (more c) (f c refl) (g c (accepted_after_part site n session c.part))
 
 numbered_within : (k : ℕ) (site : Site) (n : ℕ) (session : Session) (s : List ℕ) (ds : List Disposition) → AreNumbered site n session (parts_within k site session s ds)
 numbered_within zero site n session s ds = none_yet site n session
@@ -251,18 +251,18 @@ due_counts site k b cs f = refl
 
 pub named_once : (site : Site) (k boxes : ℕ) (cs : List Conversation) (heard : List Slip) (works : ℕ → BoxWork)
     → AllByRecursion (λ slip. slip.worker < boxes) heard
-    → ((b : ℕ) → b < boxes → IsFront (of_worker b heard) (owed_to b (works b).outcomes k (works b).taken))
+    → ((b : ℕ) → b < boxes → IsPrefix (of_worker b heard) (owed_to b (works b).outcomes k (works b).taken))
     → ((b : ℕ) → b < boxes → of_lane k (works b).taken ≡ due site k b cs)
     → (txn : Txn) (place : ℕ) → times_named txn place heard ≤ 1
 named_once site k boxes cs heard works only each owed txn place =
     let notes = flat_map (copies k) (transactions site 0 cs) in
     let by_box : (b : ℕ) → b < boxes → count_by (names txn place) (filter (λ slip. slip.worker == b) heard) ≤ count_by (is_copy txn place) (filter (λ note. note.mailbox == b) notes) =
     λ b low.
-    let front = each b low in
+    let prefix = each b low in
     omega (
       arith,
-      count-append (names txn place) (of_worker b heard) front.rest,
-      ap (count_by (names txn place)) front.whole,
+      count-append (names txn place) (of_worker b heard) prefix.rest,
+      ap (count_by (names txn place)) prefix.whole,
       slips_copy txn place b k (works b).outcomes (works b).taken,
       ap (count_by (is_copy txn place)) (owed b low),
       due_counts site k b cs (is_copy txn place),

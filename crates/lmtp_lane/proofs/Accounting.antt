@@ -19,7 +19,7 @@ use Rattle.mail_world.proofs.Heard.{all_more}
 use Rattle.msg_depot.specs.declared.view.Claim.{Claim}
 use Rattle.mail_runs.specs.Deeds.{Gave, Heard}
 use Rattle.mail_post.specs.Channel.{taken}
-use Rattle.mail_post.specs.Offered.{any_refused}
+use Rattle.mail_post.specs.Offered.{any_gone}
 use Rattle.mail_post.proofs.Offered.{sent_nothing}
 use Rattle.lmtp_lane.specs.LaneExchange.{LaneEnds, for_box, HasExchangedBy, Episode, joined, IsEpisode, sent_as}
 use Rattle.mail_world.specs.Counts.{counted}
@@ -30,15 +30,15 @@ use Rattle.lmtp_lane.specs.LaneAccount.{IsAnswered, AreEpisodes, IsHeardInTurn, 
 use Rattle.lmtp_talk.specs.Delivery.{EndsDraft}
 
 -- a slip that was found is found where more are heard
-front_by : (p : Slip → Bool) (x : Slip) (xs more : List Slip) (o : Outcome) (t : Bool)
+prefix_by : (p : Slip → Bool) (x : Slip) (xs more : List Slip) (o : Outcome) (t : Bool)
     → (option_map (λ s. s.outcome) (find p xs) ≡ Some o → option_map (λ s. s.outcome) (find p (xs ++ more)) ≡ Some o)
     → option_map (λ s. s.outcome) (cond t (Some x) (find p xs)) ≡ Some o → option_map (λ s. s.outcome) (cond t (Some x) (find p (xs ++ more))) ≡ Some o
-front_by p x xs more o true later e = e
-front_by p x xs more o false later e = later e
+prefix_by p x xs more o true later e = e
+prefix_by p x xs more o false later e = later e
 
-find_front : (p : Slip → Bool) (xs more : List Slip) (o : Outcome) → option_map (λ s. s.outcome) (find p xs) ≡ Some o → option_map (λ s. s.outcome) (find p (xs ++ more)) ≡ Some o
-find_front p [] more o e = let bad : ◌≡◌ {A = Option Outcome} None (Some o) = e in cc
-find_front p (x ∷ xs) more o e = front_by p x xs more o (p x) (find_front p xs more o) e
+find_prefix : (p : Slip → Bool) (xs more : List Slip) (o : Outcome) → option_map (λ s. s.outcome) (find p xs) ≡ Some o → option_map (λ s. s.outcome) (find p (xs ++ more)) ≡ Some o
+find_prefix p [] more o e = let bad : ◌≡◌ {A = Option Outcome} None (Some o) = e in cc
+find_prefix p (x ∷ xs) more o e = prefix_by p x xs more o (p x) (find_prefix p xs more o) e
 
 stays_range : (txn : Txn) (since more : List Slip) (a n : ℕ) (os : List Outcome) → map (λ o. Some o) os ≡ map (answer txn since) (range_with_len a n)
     → map (λ o. Some o) os ≡ map (answer txn (since ++ more)) (range_with_len a n)
@@ -47,7 +47,7 @@ stays_range txn since more a (suc n) [] e = cc
 stays_range txn since more a (suc n) (o ∷ os) e =
     let first : Some o ≡ answer txn since a = cc in
     let rest : map (λ o. Some o) os ≡ map (answer txn since) (range_with_len (a + 1) n) = cc in
-    ap (λ x. x ∷ map (λ o. Some o) os) (sym (find_front (names txn a) since more o (sym first)))
+    ap (λ x. x ∷ map (λ o. Some o) os) (sym (find_prefix (names txn a) since more o (sym first)))
     ∙ ap (λ l. answer txn (since ++ more) a ∷ l) (stays_range txn since more (a + 1) n os rest)
 
 stays_by : (lane : ℕ) (more since : List Slip) (t : Transaction) (v : Verdict) → OutcomesIn lane since t v → OutcomesIn lane (since ++ more) t v
@@ -262,9 +262,9 @@ or_false true = refl
 or_false false = refl
 
 -- a lane that was given nothing to do
-offered_none : (limit : ℕ) (May : ℕ → Type 0) (ends : LaneEnds) → HasOffered limit May 0 ends (record ends { gone = any_refused ends.senders }) 0 []
+offered_none : (limit : ℕ) (May : ℕ → Type 0) (ends : LaneEnds) → HasOffered limit May 0 ends (record ends { gone = any_gone ends.senders }) 0 []
 offered_none limit May ends =
-    let done = done_nothing ends (record ends { gone = any_refused ends.senders }) refl refl in
+    let done = done_nothing ends (record ends { gone = any_gone ends.senders }) refl refl in
     record {
       count = refl;
       came = [];
@@ -278,7 +278,7 @@ offered_none limit May ends =
         offered = sent_nothing (λ box. for_box box []) ends.senders (λ box. refl);
         all = λ none. refl;
         whole = λ none. none;
-        tells = λ fresh. sym (ap (λ g. any_refused ends.senders || is_some g) fresh ∙ or_false (any_refused ends.senders));
+        tells = λ fresh. sym (ap (λ g. any_gone ends.senders || is_some g) fresh ∙ or_false (any_gone ends.senders));
         channel = refl;
         lanes = refl;
         took = sym (append-nil (taken ends.inbox));
@@ -296,5 +296,5 @@ offered_none limit May ends =
       moments = tt;
     }
 
-pub offered_start : (limit : ℕ) (May : ℕ → Type 0) (old new : LaneEnds) → new ≡ record old { gone = any_refused old.senders } → HasOffered limit May 0 old new 0 []
+pub offered_start : (limit : ℕ) (May : ℕ → Type 0) (old new : LaneEnds) → new ≡ record old { gone = any_gone old.senders } → HasOffered limit May 0 old new 0 []
 offered_start limit May old new same = subst (λ e. HasOffered limit May 0 old e 0 []) (sym same) (offered_none limit May old)

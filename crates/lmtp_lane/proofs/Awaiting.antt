@@ -16,7 +16,7 @@ use Rattle.mail_runs.specs.Deeds.{Deed, Gave}
 use Rattle.mail_post.specs.Channel.{IsTimed, HasSameTimes, Inbox, taken}
 use Rattle.mail_post.specs.Gathering.{HasGathered, IsAwaited}
 use Rattle.mail_world.proofs.LastSeal.{length_placed}
-use Rattle.lmtp_lane.specs.LaneExchange.{LaneEnds, Sending, found_gone, is_silent, KeepsRoom, IsAmong, own_slip_of, HasExchangedBy, IsUnderWay, IsOffering, Continues, Awaits, Sends, TakesOne, sent_as, copy_at}
+use Rattle.lmtp_lane.specs.LaneExchange.{LaneEnds, Sending, found_gone, slips_gone, KeepsRoom, IsAmong, own_slip_of, HasExchangedBy, IsUnderWay, IsOffering, Continues, Awaits, Sends, TakesOne, sent_as, copy_at}
 use Rattle.lmtp_lane.proofs.Doing.{lane_clock}
 use Rattle.lmtp_lane.proofs.Exchanging.{HearsSlip, sending, with_inbox, no_episode, joined_none, way_failed, way_heard, way_gone}
 
@@ -42,9 +42,9 @@ with_copies notes lane number session moment message = notes ++ copies_from lane
 
 -- a copy that had no slip is answered by the lane; one that had is left
 answered_by : (number place mailbox : ℕ) (session : Session) (now : Sending) (gather : Gather) (taken_so : Bool)
-    → place < length session.recipients → mailbox ≡ get_or session.recipients place 0 → now.ends.gone ≡ true → is_silent now.ends ≡ true
+    → place < length session.recipients → mailbox ≡ get_or session.recipients place 0 → now.ends.gone ≡ true → slips_gone now.ends ≡ true
     → TakesOne (own_slip now.ends.lane number place mailbox) now.gather gather taken_so → Awaits number session now (sending now.ends gather)
-answered_by number place mailbox session now gather true low is went silent takes moment message notes gave n past old x =
+answered_by number place mailbox session now gather true low is went lost takes moment message notes gave n past old x =
     let lane : ℕ = now.ends.lane in
     let t : Transaction = sent_as number session moment message in
     let all : List Note = with_copies notes lane number session moment message in
@@ -56,14 +56,14 @@ answered_by number place mailbox session now gather true low is went silent take
     (among_right (copy_at lane t place (get_or session.recipients place 0)) notes (copies_from lane t 0 session.recipients) (subst C low_sum (among_copies lane t 0 session.recipients place low))) in
     let same : lane ≡ old.lane = x.exchanged.exchanged.lane in
     let N : ℕ → Type 0 = λ l. (times_named (own_slip_of l note).txn place x.now.heard ≡ 0) × HasGathered (txn_of lane number) n (x.now.heard ++ own_slip_of l note ∷ []) gather in
-    way_failed all gave (txn_of lane number) n past old now x note gather among silent went (ap (λ l. txn_of l number) (sym same))
+    way_failed all gave (txn_of lane number) n past old now x note gather among lost went (ap (λ l. txn_of l number) (sym same))
     (subst N same (takes (txn_of lane number) n x.now.heard x.gathered))
-answered_by number place mailbox session now gather false low is went silent kept moment message notes gave n past old x =
+answered_by number place mailbox session now gather false low is went lost kept moment message notes gave n past old x =
     subst (λ g. IsUnderWay (with_copies notes now.ends.lane number session moment message) gave (txn_of now.ends.lane number) n past old (sending now.ends g))
     (sym kept) x
 
 pub answered_next : (number place mailbox : ℕ) (session : Session) (now next : Sending) (taken_so : Bool)
-    → place < length session.recipients → mailbox ≡ get_or session.recipients place 0 → (now.ends.gone ≡ true) × (is_silent now.ends ≡ true) → next.ends ≡ now.ends
+    → place < length session.recipients → mailbox ≡ get_or session.recipients place 0 → (now.ends.gone ≡ true) × (slips_gone now.ends ≡ true) → next.ends ≡ now.ends
     → TakesOne (own_slip now.ends.lane number place mailbox) now.gather next.gather taken_so → Awaits number session now next
 answered_next number place mailbox session now next taken_so low is went same takes =
     subst (λ e. Awaits number session now (sending e next.gather)) (sym same) (answered_by number place mailbox session now next.gather taken_so low is went.0 went.1 takes)
@@ -81,10 +81,10 @@ heard_next number session now inbox gather slip same took still timed hears mome
 pub nothing_then : (number : ℕ) (session : Session) (now next : Sending) (inbox : Inbox Slip)
     → (inbox.channel ≡ now.ends.inbox.channel) × (inbox.lanes ≡ now.ends.inbox.lanes) → taken inbox ≡ taken now.ends.inbox → is_some inbox.gone ≡ true
     → HasSameTimes now.ends.inbox inbox → Awaits number session (sending (found_gone (with_inbox now.ends inbox)) now.gather) next → Awaits number session now next
-nothing_then number session now next inbox same took silent same_times after moment message notes gave n past old x =
+nothing_then number session now next inbox same took lost same_times after moment message notes gave n past old x =
     after moment message notes gave n past old
     (way_gone (with_copies notes now.ends.lane number session moment message) gave (txn_of now.ends.lane number) n past old now x
-    inbox same.0 same.1 took silent same_times)
+    inbox same.0 same.1 took lost same_times)
 
 -- one after the other
 pub awaits_then : (number : ℕ) (session : Session) (a b c : Sending) → b.ends.lane ≡ a.ends.lane → Awaits number session a b → Awaits number session b c → Awaits number session a c

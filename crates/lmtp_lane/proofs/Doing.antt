@@ -16,7 +16,7 @@ use Rattle.mail_runs.specs.Known.{is_of_lanes}
 use Rattle.mail_post.specs.Channel.{Sender, Inbox, IsAccepted, IsTimed}
 use Rattle.mail_post.specs.Offered.{IsOffered}
 use Rattle.mail_post.specs.InTime.{Ends, clock_of, AreInTime}
-use Rattle.mail_post.proofs.InTime.{deed, none_done, gave_more, refused_more, took_more, took_none}
+use Rattle.mail_post.proofs.InTime.{deed, none_done, gave_more, gone_keeps_time, took_more, took_none}
 use Rattle.lmtp_lane.specs.LaneExchange.{LaneEnds, thread_of, lane_sorts, is_ok, HasDone}
 
 -- a time that none of the lane's own is above
@@ -54,10 +54,10 @@ module _ (accepted : List Note) (came : List Slip) (old now : LaneEnds) where
       )
 
   -- one was handed back
-  pub done_refused : (note : Note) (next : List (Sender Note)) → HasDone accepted came old now → IsOffered (lane_clock now) note.mailbox (λ sender. note) false now.senders next
+  pub done_gone : (note : Note) (next : List (Sender Note)) → HasDone accepted came old now → IsOffered (lane_clock now) note.mailbox (λ sender. note) false now.senders next
       → HasDone accepted came old (record now { senders = next; gone = true })
-  done_refused note next x o =
-      let in_time = refused_more lane_sorts x.deeds (thread_of old) (thread_of now) note.mailbox o.when o.sender note x.in_time o.is in
+  done_gone note next x o =
+      let in_time = gone_keeps_time lane_sorts x.deeds (thread_of old) (thread_of now) note.mailbox o.when o.sender note x.in_time o.is in
       record {
         deeds = x.deeds;
         gave = x.gave;
@@ -108,7 +108,7 @@ done_nothing old now senders inbox =
 
 -- what a sender's call answers, said of all senders
 pub offered_as : {M E : Type 0} (after at : ℕ) (post : M) (result : Result Unit E) (senders : List (Sender M)) (sender new : Sender M) → slice_get senders at ≡ Some sender
-    → OnOk result (IsAccepted after post sender new) → OnErr result (new ≡ record sender { refused = true })
+    → OnOk result (IsAccepted after post sender new) → OnErr result (new ≡ record sender { gone = true })
     → IsOffered after at (λ s. post) (is_ok result) senders (slice_set senders at new)
 offered_as after at post (Ok x) senders sender new is ok err = record { sender = sender; is = is; when = ok.0; later = ok.1; after = ap (slice_set senders at) ok.2 }
 offered_as after at post (Err e) senders sender new is ok err = record { sender = sender; is = is; when = after + 1; later = omega arith; after = ap (slice_set senders at) err }

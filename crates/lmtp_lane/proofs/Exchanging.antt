@@ -9,24 +9,24 @@ use Rattle.mail_world.specs.declared.Note.{Note}
 use Rattle.mail_world.specs.declared.Slip.{Slip}
 use Rattle.mail_world.specs.Slips.{times_named, Gather, txn_of}
 use Rattle.mail_world.proofs.Heard.{all_more}
-use Rattle.mail_world.proofs.Merged.{merged_front, merged_own}
+use Rattle.mail_world.proofs.Merged.{merged_prefix, merged_own}
 use Rattle.mail_world.proofs.OneLine.{other_byte}
 use Rattle.mail_runs.specs.Deeds.{Deed, Gave, Heard}
 use Rattle.mail_runs.specs.Timed.{whats}
 use Rattle.mail_post.specs.Channel.{Sender, Inbox, taken, IsTimed, HasSameTimes}
 use Rattle.mail_post.specs.Gathering.{HasGathered}
-use Rattle.mail_post.specs.Offered.{any_refused, IsOffered}
-use Rattle.mail_post.proofs.Offered.{OwesOneMore, sent_more, sent_no_more, refused_now, refused_as_before}
-use Rattle.lmtp_lane.proofs.Doing.{lane_clock, done_offered, done_refused, done_heard, done_none}
-use Rattle.lmtp_lane.specs.LaneExchange.{LaneEnds, Sending, found_gone, is_silent, IsAmong, for_box, own_slip_of, IsOwnSlip, Episode, joined, HasExchanged, HasExchangedBy, IsTimely, IsEpisode, IsUnderWay, IsOffering, TakesOne, Continues}
+use Rattle.mail_post.specs.Offered.{any_gone, IsOffered}
+use Rattle.mail_post.proofs.Offered.{OwesOneMore, sent_more, sent_no_more, gone_now, gone_as_before}
+use Rattle.lmtp_lane.proofs.Doing.{lane_clock, done_offered, done_gone, done_heard, done_none}
+use Rattle.lmtp_lane.specs.LaneExchange.{LaneEnds, Sending, found_gone, slips_gone, IsAmong, for_box, own_slip_of, IsOwnSlip, Episode, joined, HasExchanged, HasExchangedBy, IsTimely, IsEpisode, IsUnderWay, IsOffering, TakesOne, Continues}
 use Rattle.lmtp_lane.proofs.Turns.{gave_last, heard_last}
 
 -- one more at the end of a list that is merged in time
-timely_front : (before came own heard : List Slip) (x : Slip) → IsTimely before came own heard → IsTimely before (came ++ x ∷ []) own (heard ++ x ∷ [])
-timely_front before came own [] x m = inl ([], ap (λ l. l ++ x ∷ []) m.0, (refl, m.1))
-timely_front before came own (y ∷ heard) x m = elim m [
-  | inl first ↦ inl (first.0 ++ x ∷ [], ap (λ l. l ++ x ∷ []) first.1, timely_front (before ++ y ∷ []) first.0 own heard x first.2)
-  | inr mine ↦ inr (mine.0, mine.1, mine.2, timely_front (before ++ y ∷ []) came mine.0 heard x mine.3)
+timely_prefix : (before came own heard : List Slip) (x : Slip) → IsTimely before came own heard → IsTimely before (came ++ x ∷ []) own (heard ++ x ∷ [])
+timely_prefix before came own [] x m = inl ([], ap (λ l. l ++ x ∷ []) m.0, (refl, m.1))
+timely_prefix before came own (y ∷ heard) x m = elim m [
+  | inl first ↦ inl (first.0 ++ x ∷ [], ap (λ l. l ++ x ∷ []) first.1, timely_prefix (before ++ y ∷ []) first.0 own heard x first.2)
+  | inr mine ↦ inr (mine.0, mine.1, mine.2, timely_prefix (before ++ y ∷ []) came mine.0 heard x mine.3)
 ]
 
 timely_own : (before came own heard : List Slip) (x : Slip) → times_named x.txn x.place (before ++ heard) ≡ 0 → IsTimely before came own heard
@@ -56,7 +56,7 @@ episode_own txn e x same none is = record {
 }
 
 episode_came : (txn : Txn) (e : Episode) (x : Slip) → IsEpisode txn e → IsEpisode txn (with_came e x)
-episode_came txn e x is = record { timely = timely_front [] e.came e.own e.heard x is.timely; named = is.named }
+episode_came txn e x is = record { timely = timely_prefix [] e.came e.own e.heard x is.timely; named = is.named }
 
 abbrev episode : List Slip → List Slip → List Slip → Episode
 episode came own heard = record { came = came; own = own; heard = heard }
@@ -92,12 +92,12 @@ among_last x [] = inl refl
 among_last x (y ∷ xs) = inr (among_last x xs)
 
 -- slips of the lane's own are so of more copies
-made_weaker : (lane : ℕ) (notes left notes' left' : List Note) (silent silent' : Bool)
-    → ((note : Note) → IsAmong note left ⊎ (IsAmong note notes × (silent ≡ true)) → IsAmong note left' ⊎ (IsAmong note notes' × (silent' ≡ true)))
-    → (own : List Slip) → AllByRecursion (IsOwnSlip lane notes left silent) own → AllByRecursion (IsOwnSlip lane notes' left' silent') own
-made_weaker lane notes left notes' left' silent silent' f [] h = tt
-made_weaker lane notes left notes' left' silent silent' f (slip ∷ own) h =
-    (record { note = h.0.note; owed = f h.0.note h.0.owed; made = h.0.made }, made_weaker lane notes left notes' left' silent silent' f own h.1)
+made_weaker : (lane : ℕ) (notes left notes' left' : List Note) (lost lost' : Bool)
+    → ((note : Note) → IsAmong note left ⊎ (IsAmong note notes × (lost ≡ true)) → IsAmong note left' ⊎ (IsAmong note notes' × (lost' ≡ true)))
+    → (own : List Slip) → AllByRecursion (IsOwnSlip lane notes left lost) own → AllByRecursion (IsOwnSlip lane notes' left' lost') own
+made_weaker lane notes left notes' left' lost lost' f [] h = tt
+made_weaker lane notes left notes' left' lost lost' f (slip ∷ own) h =
+    (record { note = h.0.note; owed = f h.0.note h.0.owed; made = h.0.made }, made_weaker lane notes left notes' left' lost lost' f own h.1)
 
 -- no copy is among none
 among_none : (note : Note) (left : List Note) → left ≡ [] → IsAmong note left → ⊥
@@ -129,12 +129,12 @@ for_boxes all box = for_box box all
 
 module _ (notes : List Note) (e : Episode) (old now : LaneEnds) (x : HasExchanged notes e old now) where
   -- one more copy that its channel accepted
-  pub offered_more : (note : Note) (next : List (Sender Note)) → any_refused now.senders ≡ false → IsOffered (lane_clock now) note.mailbox (λ sender. note) true now.senders next
+  pub offered_more : (note : Note) (next : List (Sender Note)) → any_gone now.senders ≡ false → IsOffered (lane_clock now) note.mailbox (λ sender. note) true now.senders next
       → (y : HasExchanged (notes ++ note ∷ []) e old (with_senders now next)) × (whats y.done.deeds ≡ whats x.done.deeds ++ Gave note ∷ [])
   offered_more note next none o =
       let empty : x.left ≡ [] = x.all none in
       let done = done_offered x.accepted e.came old now note next x.done o in
-      let same : any_refused next ≡ any_refused now.senders = refused_as_before (lane_clock now) note.mailbox (λ sender. note) now.senders next o in (
+      let same : any_gone next ≡ any_gone now.senders = gone_as_before (lane_clock now) note.mailbox (λ sender. note) now.senders next o in (
         record {
           lane = x.lane;
           accepted = x.accepted ++ note ∷ [];
@@ -144,12 +144,12 @@ module _ (notes : List Note) (e : Episode) (old now : LaneEnds) (x : HasExchange
               (for_boxes (x.accepted ++ note ∷ [])) note x.offered o refl (owed_more x.accepted note);
           all = λ sound. refl;
           whole = λ sound. same ∙ x.whole sound;
-          tells = λ fresh. x.tells fresh ∙ ap (λ b. b || is_silent now) (sym same);
+          tells = λ fresh. x.tells fresh ∙ ap (λ b. b || slips_gone now) (sym same);
           channel = x.channel;
           lanes = x.lanes;
           took = x.took;
           merged = x.merged;
-          made = made_weaker old.lane notes x.left (notes ++ note ∷ []) [] (is_silent now) (is_silent now)
+          made = made_weaker old.lane notes x.left (notes ++ note ∷ []) [] (slips_gone now) (slips_gone now)
               (λ n h. elim h [
                 | inl l ↦ absurd (among_none n x.left empty l)
                 | inr a ↦ inr (among_more n note notes a.0, a.1)
@@ -160,8 +160,8 @@ module _ (notes : List Note) (e : Episode) (old now : LaneEnds) (x : HasExchange
         done.1,
       )
 
-  left_made : (note : Note) → AllByRecursion (IsOwnSlip old.lane (notes ++ note ∷ []) (x.left ++ note ∷ []) (is_silent now)) e.own
-  left_made note = made_weaker old.lane notes x.left (notes ++ note ∷ []) (x.left ++ note ∷ []) (is_silent now) (is_silent now)
+  left_made : (note : Note) → AllByRecursion (IsOwnSlip old.lane (notes ++ note ∷ []) (x.left ++ note ∷ []) (slips_gone now)) e.own
+  left_made note = made_weaker old.lane notes x.left (notes ++ note ∷ []) (x.left ++ note ∷ []) (slips_gone now) (slips_gone now)
       (λ n h. elim h [
         | inl l ↦ inl (among_more n note x.left l)
         | inr a ↦ inr (among_more n note notes a.0, a.1)
@@ -171,40 +171,40 @@ module _ (notes : List Note) (e : Episode) (old now : LaneEnds) (x : HasExchange
   left_first note = ap (λ l. l ++ note ∷ []) x.first ∙ append_assoc x.accepted x.left (note ∷ [])
 
   -- one more copy that was handed back
-  pub refused_more : (note : Note) (next : List (Sender Note)) → IsOffered (lane_clock now) note.mailbox (λ sender. note) false now.senders next
+  pub gone_keeps_time : (note : Note) (next : List (Sender Note)) → IsOffered (lane_clock now) note.mailbox (λ sender. note) false now.senders next
       → (y : HasExchanged (notes ++ note ∷ []) e old (found_gone (with_senders now next))) × IsAmong note y.left
-  refused_more note next o =
-      let refused : any_refused next ≡ true = refused_now (lane_clock now) note.mailbox (λ sender. note) now.senders next o in (
+  gone_keeps_time note next o =
+      let box_gone : any_gone next ≡ true = gone_now (lane_clock now) note.mailbox (λ sender. note) now.senders next o in (
         record {
           lane = x.lane;
           accepted = x.accepted;
           left = x.left ++ note ∷ [];
           first = left_first note;
           offered = sent_no_more (lane_clock now) note.mailbox (λ sender. note) old.senders now.senders next (for_boxes x.accepted) x.offered o;
-          all = λ none. let bad : true ≡ false = sym refused ∙ none in cc;
+          all = λ none. let bad : true ≡ false = sym box_gone ∙ none in cc;
           whole = λ none. cc;
-          tells = λ fresh. sym (ap (λ b. b || is_silent now) refused);
+          tells = λ fresh. sym (ap (λ b. b || slips_gone now) box_gone);
           channel = x.channel;
           lanes = x.lanes;
           took = x.took;
           merged = x.merged;
           made = left_made note;
           sound = λ none. cc;
-          done = done_refused x.accepted e.came old now note next x.done o;
+          done = done_gone x.accepted e.came old now note next x.done o;
         },
         among_last note x.left,
       )
 
   -- one more copy that wasn't offered, since one was handed back before
-  pub unoffered_more : (note : Note) → any_refused now.senders ≡ true → (y : HasExchanged (notes ++ note ∷ []) e old now) × IsAmong note y.left
-  unoffered_more note refused = (
+  pub unoffered_more : (note : Note) → any_gone now.senders ≡ true → (y : HasExchanged (notes ++ note ∷ []) e old now) × IsAmong note y.left
+  unoffered_more note box_gone = (
     record {
       lane = x.lane;
       accepted = x.accepted;
       left = x.left ++ note ∷ [];
       first = left_first note;
       offered = x.offered;
-      all = λ none. let bad : true ≡ false = sym refused ∙ none in cc;
+      all = λ none. let bad : true ≡ false = sym box_gone ∙ none in cc;
       whole = x.whole;
       tells = x.tells;
       channel = x.channel;
@@ -219,7 +219,7 @@ module _ (notes : List Note) (e : Episode) (old now : LaneEnds) (x : HasExchange
   )
 
   -- one more slip that the lane made of a copy that is left, or of any while the channel of slips is gone
-  pub own_more : (note : Note) → IsAmong note x.left ⊎ (IsAmong note notes × (is_silent now ≡ true)) → now.gone ≡ true
+  pub own_more : (note : Note) → IsAmong note x.left ⊎ (IsAmong note notes × (slips_gone now ≡ true)) → now.gone ≡ true
       → HasExchanged notes (with_own e (own_slip_of old.lane note)) old now
   own_more note owed went = record {
     lane = x.lane;
@@ -234,7 +234,7 @@ module _ (notes : List Note) (e : Episode) (old now : LaneEnds) (x : HasExchange
     lanes = x.lanes;
     took = x.took;
     merged = merged_own e.came e.own e.heard (own_slip_of old.lane note) x.merged;
-    made = all_more (IsOwnSlip old.lane notes x.left (is_silent now)) e.own (own_slip_of old.lane note) x.made (record { note = note; owed = owed; made = refl });
+    made = all_more (IsOwnSlip old.lane notes x.left (slips_gone now)) e.own (own_slip_of old.lane note) x.made (record { note = note; owed = owed; made = refl });
     sound = λ none. let bad : true ≡ false = sym went ∙ none in cc;
     done = x.done;
   }
@@ -253,11 +253,11 @@ module _ (notes : List Note) (e : Episode) (old now : LaneEnds) (x : HasExchange
           offered = x.offered;
           all = x.all;
           whole = x.whole;
-          tells = λ fresh. x.tells fresh ∙ ap (λ g. any_refused now.senders || is_some g) (sym still);
+          tells = λ fresh. x.tells fresh ∙ ap (λ g. any_gone now.senders || is_some g) (sym still);
           channel = channel ∙ x.channel;
           lanes = lanes ∙ x.lanes;
           took = took ∙ ap (λ l. l ++ slip ∷ []) x.took ∙ append_assoc (taken old.inbox) e.came (slip ∷ []);
-          merged = merged_front e.came e.own e.heard slip x.merged;
+          merged = merged_prefix e.came e.own e.heard slip x.merged;
           made = subst (λ g. AllByRecursion (IsOwnSlip old.lane notes x.left (is_some g)) e.own) (sym still) x.made;
           sound = x.sound;
           done = done.0;
@@ -268,7 +268,7 @@ module _ (notes : List Note) (e : Episode) (old now : LaneEnds) (x : HasExchange
   -- the channel of slips was found gone
   pub gone_more : (next : Inbox Slip) → next.channel ≡ now.inbox.channel → next.lanes ≡ now.inbox.lanes → taken next ≡ taken now.inbox
       → is_some next.gone ≡ true → HasSameTimes now.inbox next → HasExchanged notes e old (found_gone (with_inbox now next))
-  gone_more next channel lanes took silent same_times = record {
+  gone_more next channel lanes took lost same_times = record {
     lane = x.lane;
     accepted = x.accepted;
     left = x.left;
@@ -276,15 +276,15 @@ module _ (notes : List Note) (e : Episode) (old now : LaneEnds) (x : HasExchange
     offered = x.offered;
     all = x.all;
     whole = λ none. cc;
-    tells = λ fresh. sym (ap (λ b. any_refused now.senders || b) silent ∙ or_true (any_refused now.senders));
+    tells = λ fresh. sym (ap (λ b. any_gone now.senders || b) lost ∙ or_true (any_gone now.senders));
     channel = channel ∙ x.channel;
     lanes = lanes ∙ x.lanes;
     took = took ∙ x.took;
     merged = x.merged;
-    made = made_weaker old.lane notes x.left notes x.left (is_silent now) (is_some next.gone)
+    made = made_weaker old.lane notes x.left notes x.left (slips_gone now) (is_some next.gone)
         (λ n h. elim h [
           | inl l ↦ inl l
-          | inr a ↦ inr (a.0, silent)
+          | inr a ↦ inr (a.0, lost)
         ]) e.own x.made;
     sound = λ none. cc;
     done = done_none x.accepted e.came old now next x.done same_times.1;
@@ -307,7 +307,7 @@ Leaves note now next = (notes : List Note) (e : Episode) (old : LaneEnds) → Ha
 -- the same steps within a message
 module _ (notes : List Note) (gave : List Deed) (txn : Txn) (n : ℕ) (past : Episode) (old : LaneEnds) (now : Sending)
     (x : IsUnderWay notes gave txn n past old now) where
-  pub way_offered : (note : Note) (next : List (Sender Note)) → any_refused now.ends.senders ≡ false → (now.ends.gone ≡ false → x.now.heard ≡ [])
+  pub way_offered : (note : Note) (next : List (Sender Note)) → any_gone now.ends.senders ≡ false → (now.ends.gone ≡ false → x.now.heard ≡ [])
       → IsOffered (lane_clock now.ends) note.mailbox (λ sender. note) true now.ends.senders next
       → IsOffering (notes ++ note ∷ []) (gave ++ map Gave (note ∷ [])) txn n past old (sending (with_senders now.ends next) now.gather)
   way_offered note next none unheard o =
@@ -357,17 +357,17 @@ module _ (notes : List Note) (gave : List Deed) (txn : Txn) (n : ℕ) (past : Ep
     none_heard = λ none. let bad : true ≡ false = sym went ∙ none in cc;
   }
 
-  pub way_failed : (note : Note) (next : Gather) → IsAmong note notes → is_silent now.ends ≡ true → now.ends.gone ≡ true → (own_slip_of old.lane note).txn ≡ txn
+  pub way_failed : (note : Note) (next : Gather) → IsAmong note notes → slips_gone now.ends ≡ true → now.ends.gone ≡ true → (own_slip_of old.lane note).txn ≡ txn
       → (times_named (own_slip_of old.lane note).txn (own_slip_of old.lane note).place x.now.heard ≡ 0) × HasGathered txn n (x.now.heard ++ own_slip_of old.lane note ∷ []) next
       → IsUnderWay notes gave txn n past old (sending now.ends next)
-  way_failed note next among silent went same g =
+  way_failed note next among lost went same g =
       let slip : Slip = own_slip_of old.lane note in
       record {
         now = with_own x.now slip;
         is = episode_own txn x.now slip same g.0 x.is;
         exchanged = in_any_order notes (joined past (with_own x.now slip)) (gave ++ map Heard (x.now.heard ++ slip ∷ [])) old now.ends went
             (subst (λ e. HasExchanged notes e old now.ends) (joined_own past x.now slip)
-            (own_more notes (joined past x.now) old now.ends x.exchanged.exchanged note (inr (among, silent)) went));
+            (own_more notes (joined past x.now) old now.ends x.exchanged.exchanged note (inr (among, lost)) went));
         gathered = g.1;
       }
 
@@ -391,11 +391,11 @@ module _ (notes : List Note) (gave : List Deed) (txn : Txn) (n : ℕ) (past : Ep
   pub way_gone : (after : Inbox Slip) → after.channel ≡ now.ends.inbox.channel → after.lanes ≡ now.ends.inbox.lanes → taken after ≡ taken now.ends.inbox
       → is_some after.gone ≡ true → HasSameTimes now.ends.inbox after
       → IsUnderWay notes gave txn n past old (sending (found_gone (with_inbox now.ends after)) now.gather)
-  way_gone after channel lanes took silent same_times = record {
+  way_gone after channel lanes took lost same_times = record {
     now = x.now;
     is = x.is;
     exchanged = in_any_order notes (joined past x.now) (gave ++ map Heard x.now.heard) old (found_gone (with_inbox now.ends after)) refl
-        (gone_more notes (joined past x.now) old now.ends x.exchanged.exchanged after channel lanes took silent same_times);
+        (gone_more notes (joined past x.now) old now.ends x.exchanged.exchanged after channel lanes took lost same_times);
     gathered = x.gathered;
   }
 
@@ -425,16 +425,16 @@ left_way slip note now next ends taken_so here is leaves went same takes notes g
     subst (λ e. IsOffering (notes ++ note ∷ []) (gave ++ map Gave (note ∷ [])) note.txn n past old (sending e next.gather)) (sym same)
     (left_by note now ends next.gather taken_so here leaves went (subst T is takes) notes gave n past old x)
 
-pub leaves_refused : (mailbox : ℕ) (note : Note) (now : LaneEnds) (next : List (Sender Note)) → note.mailbox ≡ mailbox → IsOffered (lane_clock now) mailbox (λ sender. note) false now.senders next
+pub leaves_gone : (mailbox : ℕ) (note : Note) (now : LaneEnds) (next : List (Sender Note)) → note.mailbox ≡ mailbox → IsOffered (lane_clock now) mailbox (λ sender. note) false now.senders next
     → Leaves note now (found_gone (with_senders now next))
-leaves_refused mailbox note now next is o notes e old x =
+leaves_gone mailbox note now next is o notes e old x =
     let P : ℕ → Type 0 = λ b. IsOffered (lane_clock now) b (λ sender. note) false now.senders next in
-    refused_more notes e old now x note next (subst P (sym is) o)
+    gone_keeps_time notes e old now x note next (subst P (sym is) o)
 
-pub leaves_unoffered : (note : Note) (now : LaneEnds) → any_refused now.senders ≡ true → Leaves note now now
-leaves_unoffered note now refused notes e old x = unoffered_more notes e old now x note refused
+pub leaves_unoffered : (note : Note) (now : LaneEnds) → any_gone now.senders ≡ true → Leaves note now now
+leaves_unoffered note now box_gone notes e old x = unoffered_more notes e old now x note box_gone
 
-pub offered_way : (mailbox : ℕ) (note : Note) (now : Sending) (next : List (Sender Note)) → note.mailbox ≡ mailbox → any_refused now.ends.senders ≡ false
+pub offered_way : (mailbox : ℕ) (note : Note) (now : Sending) (next : List (Sender Note)) → note.mailbox ≡ mailbox → any_gone now.ends.senders ≡ false
     → IsOffered (lane_clock now.ends) mailbox (λ sender. note) true now.ends.senders next → Continues note.txn (note ∷ []) now (sending (with_senders now.ends next) now.gather)
 offered_way mailbox note now next is none o notes gave n past old x =
     let P : ℕ → Type 0 = λ b. IsOffered (lane_clock now.ends) b (λ sender. note) true now.ends.senders next in

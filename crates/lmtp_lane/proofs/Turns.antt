@@ -8,7 +8,7 @@ use Rattle.mail_world.specs.declared.Slip.{Slip}
 use Rattle.mail_world.specs.declared.Verdict.TheVariants.{Whole}
 use Rattle.mail_world.specs.Lists.{Transaction, copies, copies_if, copies_from}
 use Rattle.mail_world.specs.Slips.{answers, txn_of}
-use Rattle.mail_progress.specs.Orderly.{IsAnswered}
+use Rattle.mail_progress.specs.Orderly.{HasOutcome}
 use Rattle.mail_runs.specs.Deeds.{Deed, Gave, Heard}
 use Rattle.mail_runs.specs.Ordered.{AreExchanges}
 
@@ -28,7 +28,7 @@ after_rest first rest d e = ap (λ l. l ++ e) (append_assoc first rest d) ∙ ap
 
 -- one more exchange, after the others
 exchanges_more : (room k : ℕ) (ts : List Transaction) (t : Transaction) (slips : List Slip) (deeds : List Deed) → length (copies k t) ≤ room
-    → AllByRecursion IsAnswered (answers (txn_of k t.number) (length (copies k t)) slips) → AreExchanges room k ts deeds
+    → AllByRecursion HasOutcome (answers (txn_of k t.number) (length (copies k t)) slips) → AreExchanges room k ts deeds
     → AreExchanges room k (ts ++ t ∷ []) (deeds ++ map Gave (copies k t) ++ map Heard slips)
 exchanges_more room k [] t slips deeds few told none =
     let gave : List Deed = map Gave (copies k t) in
@@ -43,7 +43,7 @@ exchanges_more room k (u ∷ ts) t slips deeds few told x =
 pub exchanges_none : (room k : ℕ) (ts : List Transaction) (t : Transaction) (deeds : List Deed) → copies k t ≡ [] → AreExchanges room k ts deeds
     → AreExchanges room k (ts ++ t ∷ []) deeds
 exchanges_none room k ts t deeds none x =
-    let E : List Note → Type 0 = λ l. length l ≤ room → AllByRecursion IsAnswered (answers (txn_of k t.number) (length l) [])
+    let E : List Note → Type 0 = λ l. length l ≤ room → AllByRecursion HasOutcome (answers (txn_of k t.number) (length l) [])
     → AreExchanges room k (ts ++ t ∷ []) ((deeds ++ map Gave l) ++ []) in
     let few : 0 ≤ room = omega arith in
     subst (AreExchanges room k (ts ++ t ∷ [])) (append-nil (deeds ++ []) ∙ append-nil deeds)
@@ -54,7 +54,7 @@ length_copies : (k : ℕ) (t : Transaction) (place : ℕ) (boxes : List ℕ) →
 length_copies k t place [] = refl
 length_copies k t place (box ∷ boxes) = let e = length_copies k t (place + 1) boxes in omega arith
 
-all_answered : (told : List Outcome) → AllByRecursion IsAnswered (map (λ o. Some o) told)
+all_answered : (told : List Outcome) → AllByRecursion HasOutcome (map (λ o. Some o) told)
 all_answered [] = tt
 all_answered (o ∷ told) = (tt, all_answered told)
 
@@ -63,6 +63,6 @@ pub exchanged_whole : (room k : ℕ) (ts : List Transaction) (t : Transaction) (
     → AreExchanges room k ts deeds → AreExchanges room k (ts ++ t ∷ []) (deeds ++ map Gave (copies k t) ++ map Heard slips)
 exchanged_whole room k ts t slips deeds whole few told outcomes x =
     let count : length (copies k t) ≡ length t.session.recipients = ap (λ v. length (copies_if k t v)) whole ∙ length_copies k t 0 t.session.recipients in
-    let A : ℕ → Type 0 = λ n. AllByRecursion IsAnswered (answers (txn_of k t.number) n slips) in
+    let A : ℕ → Type 0 = λ n. AllByRecursion HasOutcome (answers (txn_of k t.number) n slips) in
     exchanges_more room k ts t slips deeds (subst (λ n. n ≤ room) (sym count) few)
-    (subst A (sym count) (subst (AllByRecursion IsAnswered) outcomes (all_answered told))) x
+    (subst A (sym count) (subst (AllByRecursion HasOutcome) outcomes (all_answered told))) x

@@ -6,16 +6,16 @@ use Rattle.mail_world.specs.Conversation.{Conversation}
 use Rattle.mail_world.specs.Lists.{Transaction, transactions}
 use Rattle.lmtp_talk.specs.declared.ending.EndCause.{EndCause}
 use Rattle.lmtp_talk.specs.Peer.{PeerState, RisesBy}
-use Rattle.lmtp_talk.specs.Served.{Terms, terms, HasRead, IsServed, transactions_in, accepted_behind_all}
+use Rattle.lmtp_talk.specs.Served.{Terms, terms, HasRead, IsServed, transactions_in, accepted_after_conversation}
 use Rattle.lmtp_talk.proofs.Counting.{rises_then}
 use Rattle.lmtp_talk.specs.Entries.{Entry, OfEnd, entries_in, with_entries}
 use Rattle.lmtp_talk.proofs.Entered.{with_none, with_both}
-use Rattle.lmtp_lane.specs.Visits.{VisitsTold, Finished, Finishes, Visit, IsVisit, finished_of, conversations_of, HasFinished, HasVisited, HasConversed, LendsLog, visit_entries, lane_entries}
+use Rattle.lmtp_lane.specs.Visits.{VisitsTold, Finished, TellsFinished, Visit, IsVisit, finished_of, conversations_of, HasFinished, HasVisited, HasConversed, LendsLog, visit_entries, lane_entries}
 use Rattle.mail_world.specs.Counts.{counted}
 
 -- a client that was served, and is handed back
 pub conversed : (by : Terms) (old new : VisitsTold) (before after : PeerState) (Before After : ℕ → List Transaction → Type 0) (cause : EndCause)
-    → IsServed by before after Before After cause → HasRead by.reads before after cause → Finishes old.each new.each after cause → RisesBy 1 old.count new.count
+    → IsServed by before after Before After cause → HasRead by.reads before after cause → TellsFinished old.each new.each after cause → RisesBy 1 old.count new.count
     → new.log ≡ with_entries after.told (OfEnd cause ∷ []) → HasConversed by before old new Before After
 conversed by old new before after Before After cause x reads finishes counts logs = record {
   visit = record { before = before; after = after; conversation = x.conversation; cause = cause };
@@ -29,19 +29,19 @@ conversed by old new before after Before After cause x reads finishes counts log
 -- how many DATA commands were accepted after these conversations
 abbrev pub accepted_all : Site → ℕ → List Conversation → ℕ
 accepted_all site n [] = n
-accepted_all site n (c ∷ cs) = accepted_all site (accepted_behind_all site n c) cs
+accepted_all site n (c ∷ cs) = accepted_all site (accepted_after_conversation site n c) cs
 
-accepted_last : (site : Site) (n : ℕ) (cs : List Conversation) (c : Conversation) → accepted_all site n (cs ++ c ∷ []) ≡ accepted_behind_all site (accepted_all site n cs) c
+accepted_last : (site : Site) (n : ℕ) (cs : List Conversation) (c : Conversation) → accepted_all site n (cs ++ c ∷ []) ≡ accepted_after_conversation site (accepted_all site n cs) c
 accepted_last site n [] c = refl
-accepted_last site n (x ∷ cs) c = accepted_last site (accepted_behind_all site n x) cs c
+accepted_last site n (x ∷ cs) c = accepted_last site (accepted_after_conversation site n x) cs c
 
 transactions_last : (site : Site) (n : ℕ) (cs : List Conversation) (c : Conversation)
     → transactions site n (cs ++ c ∷ []) ≡ transactions site n cs ++ transactions_in site (accepted_all site n cs) c
 unfolding transactions
 transactions_last site n [] c = append-nil (transactions_in site n c)
 transactions_last site n (x ∷ cs) c =
-    ap (λ l. transactions_in site n x ++ l) (transactions_last site (accepted_behind_all site n x) cs c)
-    ∙ sym (append_assoc (transactions_in site n x) (transactions site (accepted_behind_all site n x) cs) (transactions_in site (accepted_all site (accepted_behind_all site n x) cs) c))
+    ap (λ l. transactions_in site n x ++ l) (transactions_last site (accepted_after_conversation site n x) cs c)
+    ∙ sym (append_assoc (transactions_in site n x) (transactions site (accepted_after_conversation site n x) cs) (transactions_in site (accepted_all site (accepted_after_conversation site n x) cs) c))
 
 transactions_first : (site : Site) (n : ℕ) → transactions site n [] ≡ []
 unfolding transactions
@@ -56,7 +56,7 @@ entries_last : (site : Site) (n : ℕ) (vs : List Visit) (v : Visit)
     → lane_entries site n (vs ++ v ∷ []) ≡ lane_entries site n vs ++ visit_entries site (accepted_all site n (conversations_of vs)) v
 entries_last site n [] v = append-nil (visit_entries site n v)
 entries_last site n (x ∷ vs) v =
-    let k : ℕ = accepted_behind_all site n x.conversation in
+    let k : ℕ = accepted_after_conversation site n x.conversation in
     ap (λ l. visit_entries site n x ++ l) (entries_last site k vs v)
     ∙ sym (append_assoc (visit_entries site n x) (lane_entries site k vs) (visit_entries site (accepted_all site k (conversations_of vs)) v))
 
@@ -92,7 +92,7 @@ finished_last : (vs : List Visit) (v : Visit) → map finished_of (vs ++ v ∷ [
 finished_last [] v = refl
 finished_last (x ∷ vs) v = ap (λ l. finished_of x ∷ l) (finished_last vs v)
 
-told_more : (old now next : Option (List Finished)) (vs : List Visit) (v : Visit) → HasFinished old now vs → Finishes now next v.after v.cause → HasFinished old next (vs ++ v ∷ [])
+told_more : (old now next : Option (List Finished)) (vs : List Visit) (v : Visit) → HasFinished old now vs → TellsFinished now next v.after v.cause → HasFinished old next (vs ++ v ∷ [])
 told_more None None next vs v h f = f
 told_more None (Some now) next vs v h f = let bad : ◌≡◌ {A = Option (List Finished)} (Some now) None = h in cc
 told_more (Some told) None next vs v h f = let bad : ◌≡◌ {A = Option (List Finished)} None (Some (told ++ map finished_of vs)) = h in cc
@@ -121,10 +121,10 @@ more_called by MayCome peer old now next Come Come' count count' e may lent x y 
     } in
     let all : conversations_of (x.visits ++ v ∷ []) ≡ cs ++ v.conversation ∷ [] = conversations_last x.visits v in
     let size : length (x.visits ++ v ∷ []) ≡ length x.visits + 1 = length-append x.visits (v ∷ []) in
-    let behind : Come' (accepted_behind_all site (accepted_all site 0 cs) v.conversation) (transactions site 0 cs ++ transactions_in site (accepted_all site 0 cs) v.conversation)
+    let with_last : Come' (accepted_after_conversation site (accepted_all site 0 cs) v.conversation) (transactions site 0 cs ++ transactions_in site (accepted_all site 0 cs) v.conversation)
     = y.delivered (accepted_all site 0 cs) (transactions site 0 cs) x.come in
     let counted_so : Come' (accepted_all site 0 (cs ++ v.conversation ∷ [])) (transactions site 0 cs ++ transactions_in site (accepted_all site 0 cs) v.conversation)
-    = subst (λ n. Come' n (transactions site 0 cs ++ transactions_in site (accepted_all site 0 cs) v.conversation)) (sym (accepted_last site 0 cs v.conversation)) behind in
+    = subst (λ n. Come' n (transactions site 0 cs ++ transactions_in site (accepted_all site 0 cs) v.conversation)) (sym (accepted_last site 0 cs v.conversation)) with_last in
     let come : Come' (accepted_all site 0 (cs ++ v.conversation ∷ [])) (transactions site 0 (cs ++ v.conversation ∷ []))
     = subst (λ ts. Come' (accepted_all site 0 (cs ++ v.conversation ∷ [])) ts) (sym (transactions_last site 0 cs v.conversation)) counted_so in
     record {
@@ -143,7 +143,7 @@ called_more reads site site' MayCome peer old now now' next Come Come' count cou
     let last : HasConversed (terms site reads) peer now next Come Come' = record {
       visit = z.visit;
       is = z.is;
-      told = subst (λ (o : Option (List Finished)). Finishes o next.each z.visit.after z.visit.cause) same.each z.told;
+      told = subst (λ (o : Option (List Finished)). TellsFinished o next.each z.visit.after z.visit.cause) same.each z.told;
       counts = subst (λ k. RisesBy 1 k next.count) same.count z.counts;
       delivered = z.delivered;
       logged = z.logged;

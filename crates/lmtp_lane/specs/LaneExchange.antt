@@ -15,7 +15,7 @@ use Rattle.mail_runs.specs.Timed.{TimedDeed, whats, gives_to}
 use Rattle.mail_post.specs.Channel.{Sender, Inbox, taken}
 use Rattle.mail_post.specs.InTime.{Ends, Sorts, AreInTime}
 use Rattle.mail_post.specs.Gathering.{HasGathered}
-use Rattle.mail_post.specs.Offered.{any_refused, HaveSent}
+use Rattle.mail_post.specs.Offered.{any_gone, HaveSent}
 use Rattle.lmtp_lane.specs.declared.exchange.Exchange.{Exchange}
 
 -- a lane's ends of the channels
@@ -57,12 +57,12 @@ abbrev pub found_gone : LaneEnds → LaneEnds
 found_gone ends = record { lane = ends.lane; senders = ends.senders; inbox = ends.inbox; gone = true }
 
 -- nothing more comes on the channel of slips
-abbrev pub is_silent : LaneEnds → Bool
-is_silent ends = is_some ends.inbox.gone
+abbrev pub slips_gone : LaneEnds → Bool
+slips_gone ends = is_some ends.inbox.gone
 
 -- a channel is gone: a mailbox's handed a copy back, or the channel of slips is gone
 abbrev pub is_gone : LaneEnds → Bool
-is_gone ends = any_refused ends.senders || is_silent ends
+is_gone ends = any_gone ends.senders || slips_gone ends
 
 -- as many senders, and as many places for outcomes
 pub record KeepsRoom (old new : Sending) : Type 0 where
@@ -105,9 +105,9 @@ abbrev pub own_slip_of : ℕ → Note → Slip
 own_slip_of lane note = own_slip lane note.txn.number note.place note.mailbox
 
 -- a slip that a lane made itself: of one of the copies that are left, or, once the channel of slips is gone, of any
-pub record IsOwnSlip (lane : ℕ) (notes left : List Note) (silent : Bool) (slip : Slip) : Type 0 where
+pub record IsOwnSlip (lane : ℕ) (notes left : List Note) (lost : Bool) (slip : Slip) : Type 0 where
   pub note : Note
-  pub owed : IsAmong note left ⊎ (IsAmong note notes × (silent ≡ true))
+  pub owed : IsAmong note left ⊎ (IsAmong note notes × (lost ≡ true))
   pub made : slip ≡ own_slip_of lane note
 
 -- whether a channel took what was offered
@@ -135,14 +135,14 @@ pub record HasExchanged (notes : List Note) (e : Episode) (old new : LaneEnds) :
   pub left : List Note
   pub first : notes ≡ accepted ++ left
   pub offered : HaveSent (λ box. for_box box accepted) old.senders new.senders
-  pub all : any_refused new.senders ≡ false → left ≡ []
-  pub whole : new.gone ≡ false → any_refused new.senders ≡ false
+  pub all : any_gone new.senders ≡ false → left ≡ []
+  pub whole : new.gone ≡ false → any_gone new.senders ≡ false
   pub tells : old.inbox.gone ≡ None → new.gone ≡ is_gone new
   pub channel : new.inbox.channel ≡ old.inbox.channel
   pub lanes : new.inbox.lanes ≡ old.inbox.lanes
   pub took : taken new.inbox ≡ taken old.inbox ++ e.came
   pub merged : IsMerged e.came e.own e.heard
-  pub made : AllByRecursion (IsOwnSlip old.lane notes left (is_silent new)) e.own
+  pub made : AllByRecursion (IsOwnSlip old.lane notes left (slips_gone new)) e.own
   pub sound : new.gone ≡ false → e.own ≡ []
   pub done : HasDone accepted e.came old new
 

@@ -8,7 +8,7 @@ use Rattle.lmtp_talk.specs.declared.ending.EndCause.{EndCause}
 use Rattle.lmtp_talk.specs.declared.ending.EndCause.TheVariants as ends
 use Rattle.lmtp_talk.specs.Entries.{Entry, OfEnd, entries_in, with_entries}
 use Rattle.lmtp_talk.specs.Peer.{PeerState, HasMoved, RisesBy}
-use Rattle.lmtp_talk.specs.Served.{Terms, IsWritten, EndsFor, HasRead, transactions_in, accepted_behind_all}
+use Rattle.lmtp_talk.specs.Served.{Terms, IsWritten, EndsFor, HasRead, transactions_in, accepted_after_conversation}
 
 -- a conversation that has ended: its client, as it was handed back, and the cause
 pub record Finished : Type 0 where
@@ -29,9 +29,9 @@ pub record LendsLog (old new : VisitsTold) (peer : PeerState) : Type 0 where
   pub log : peer.told ≡ old.log
 
 -- one more conversation is told, where they are told
-abbrev pub Finishes : Option (List Finished) → Option (List Finished) → PeerState → EndCause → Type 0
-Finishes None new peer cause = new ≡ None
-Finishes (Some told) new peer cause = new ≡ Some (told ++ record { peer = peer; cause = cause } ∷ [])
+abbrev pub TellsFinished : Option (List Finished) → Option (List Finished) → PeerState → EndCause → Type 0
+TellsFinished None new peer cause = new ≡ None
+TellsFinished (Some told) new peer cause = new ≡ Some (told ++ record { peer = peer; cause = cause } ∷ [])
 
 -- a client who was served: the client before and after the conversation, the bytes that were read and what became of
 -- their data, and why it ended
@@ -71,7 +71,7 @@ visit_entries site n v = entries_in site n v.conversation ++ OfEnd v.cause ∷ [
 abbrev pub lane_entries : Site → ℕ → List Visit → List Entry
 lane_entries site n [] = []
 lane_entries site n (v ∷ visits) = visit_entries site n v
-    ++ lane_entries site (accepted_behind_all site n v.conversation) visits
+    ++ lane_entries site (accepted_after_conversation site n v.conversation) visits
 
 -- the clients that were served, one after another, and each was handed back; the log was told the entries of all of
 -- them
@@ -88,9 +88,10 @@ pub record HasConversed (by : Terms) (peer : PeerState) (old new : VisitsTold)
     (Before After : ℕ → List Transaction → Type 0) : Type 0 where
   pub visit : Visit
   pub is : IsVisit by (λ client. client ≡ peer) visit
-  pub told : Finishes old.each new.each visit.after visit.cause
+  pub told : TellsFinished old.each new.each visit.after visit.cause
   pub counts : RisesBy 1 old.count new.count
   pub delivered : (n : ℕ) (ts : List Transaction) → Before n ts
-      → After (accepted_behind_all by.site n visit.conversation) (ts ++ transactions_in by.site n visit.conversation)
+      → After (accepted_after_conversation by.site n visit.conversation)
+      (ts ++ transactions_in by.site n visit.conversation)
   pub logged : (n : ℕ) (ts : List Transaction) → Before n ts
       → new.log ≡ with_entries peer.told (visit_entries by.site n visit)

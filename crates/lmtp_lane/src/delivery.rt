@@ -4,7 +4,7 @@ ghost use Rattle.std.specs.Prelude.{◌≡◌, ◌≤◌, ◌<◌, ◌^◌, ℕ,
 ghost use Rattle.mail_world.specs.declared.limits.TheConstants.{NUMBER_LIMIT};
 ghost use Rattle.mail_world.specs.Lists.{Transaction};
 ghost use Rattle.mail_post.specs.Gathering.{IsDone};
-ghost use Rattle.mail_post.specs.Offered.{any_refused};
+ghost use Rattle.mail_post.specs.Offered.{any_gone};
 ghost use Rattle.msg_depot.specs.declared.view.Claim.{Claim};
 ghost use Rattle.lmtp_lane.specs.LaneExchange.{ends_of, sent_as};
 ghost use Rattle.lmtp_lane.specs.LaneAccount.{AgreesWith, HasOffered, HoldsDraft, told_by, Delivers};
@@ -54,7 +54,7 @@ impl<'a, N: DepotName, C: Clock, R: Wait, S: LaneStart> LaneDelivery<'a, N, C, R
         requires limit { limit ≡ S.site.message_limit }
         requires count { length exchange.senders.items ≡ length S.site.boxes }
         requires none_missing { IsDone exchange.gather.gather }
-        requires start { ends_of exchange ≡ record S.ends { gone = any_refused S.ends.senders } }
+        requires start { ends_of exchange ≡ record S.ends { gone = any_gone S.ends.senders } }
         ensures begun { HasOffered S.site.message_limit S.May result.accepted S.ends (ends_of result.exchange) 0 [] }
         ensures clock { AgreesWith (C.May result.clock.now) (C.May clock.now) }
     {

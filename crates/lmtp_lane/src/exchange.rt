@@ -2,7 +2,7 @@
 
 ghost use Rattle.std.specs.Prelude.{◌≡◌, ◌≤◌, true};
 ghost use Rattle.mail_world.specs.declared.limits.TheConstants.{RECIPIENT_LIMIT};
-ghost use Rattle.mail_post.specs.Offered.{HaveNumber, any_refused};
+ghost use Rattle.mail_post.specs.Offered.{HaveNumber, any_gone};
 
 use mail_post::{Gather, Sender, SlipReceiver};
 use mail_world::limits::RECIPIENT_LIMIT;
@@ -29,11 +29,11 @@ pub struct Exchange<N: DepotName> {
     pub slips: SlipReceiver,
     pub gather: Gather,
     /// A mailbox's channel handed a copy back, so no more are offered.
-    pub refused: bool,
+    pub box_gone: bool,
     /// A channel was found gone.
     pub gone: bool,
     ghost of_lane: { HaveNumber lane senders.items },
     ghost room: { RECIPIENT_LIMIT ≤ gather.limit },
-    ghost handed_back: { refused ≡ any_refused senders.items },
-    ghost tells: { refused ≡ true → gone ≡ true },
+    ghost handed_back: { box_gone ≡ any_gone senders.items },
+    ghost tells: { box_gone ≡ true → gone ≡ true },
 }

@@ -4,7 +4,7 @@ ghost use Rattle.std.specs.Prelude.{◌≡◌, [], length, true, false};
 ghost use Rattle.lmtp_talk.specs.Peer.{PeerState};
 ghost use Rattle.lmtp_talk.specs.Served.{terms};
 ghost use Rattle.mail_post.specs.Gathering.{IsDone};
-ghost use Rattle.mail_post.specs.Offered.{HaveNumber, any_refused};
+ghost use Rattle.mail_post.specs.Offered.{HaveNumber, any_gone};
 ghost use Rattle.lmtp_lane.specs.LaneAccount.{AgreesWith, HasOffered};
 ghost use Rattle.lmtp_lane.specs.LaneExchange.{ends_of};
 ghost use Rattle.lmtp_lane.specs.LaneRun.{HasServed};
@@ -115,7 +115,7 @@ fn lane_at<S: LaneStart, N: DepotName, V: Visits, C: Clock, R: Wait>(
 ) -> LaneReport<N, V>
     requires here { bounded.dialogue.session.site ≡ S.site }
     requires count { length exchange.senders.items ≡ length S.site.boxes }
-    requires start { ends_of exchange ≡ record S.ends { gone = any_refused S.ends.senders } }
+    requires start { ends_of exchange ≡ record S.ends { gone = any_gone S.ends.senders } }
     requires none_missing { IsDone exchange.gather.gather }
     requires clock { AgreesWith (C.May clock.now) S.May }
     requires none_out { V.out visits ≡ false }

@@ -3,7 +3,7 @@
 ghost use Rattle.std.specs.Prelude.{◌≡◌, Bool, [], ◌∷◌, IfSome, IsNone, is_none, is_some, true, false};
 ghost use Rattle.lmtp_talk.specs.Entries.{OfEnd, with_entries};
 ghost use Rattle.lmtp_talk.specs.Peer.{PeerState, RisesBy};
-ghost use Rattle.lmtp_lane.specs.Visits.{VisitsTold, Finishes, LendsLog};
+ghost use Rattle.lmtp_lane.specs.Visits.{VisitsTold, TellsFinished, LendsLog};
 
 use lmtp_talk::{EndCause, Peer};
 use std::sync::Wait;
@@ -39,7 +39,7 @@ pub trait Visits: Drop {
     /// Takes the client back, whose conversation ended for that cause, and the log, which is told so.
     fn done(&mut self, peer: Self::P, end: EndCause)
         requires { out self.old ≡ true }
-        ensures finishes { Finishes (finished self.old).each (finished self.new).each (Self.P.state peer) end }
+        ensures finishes { TellsFinished (finished self.old).each (finished self.new).each (Self.P.state peer) end }
         ensures counts { RisesBy 1 (finished self.old).count (finished self.new).count }
         ensures logs { (finished self.new).log ≡ with_entries (Self.P.state peer).told (OfEnd end ∷ []) }
         ensures others { (peer : PeerState) → MayGive self.new peer → MayGive self.old peer }

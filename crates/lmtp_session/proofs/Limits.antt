@@ -6,8 +6,8 @@ use Rattle.std.specs.List.{before_first, after_first}
 use Rattle.std.proofs.lemmas.List.{length-take}
 use Rattle.mail_world.specs.declared.BadCommand.TheVariants as bad
 use Rattle.mail_world.specs.declared.limits.TheConstants.{NAME_LIMIT, PATH_LIMIT}
-use Rattle.mail_world.specs.Commands.{Answer, Lhlo, mail_with, mail_path, mail, rcpt_with, rcpt_path, rcpt, by_verb, command_at, Parameter, is_client_name, parameters, trimmed, behind_spaces}
-use Rattle.mail_world.specs.Paths.{Found, Path, reverse_path, forward_path, closed_at, mailbox_at, behind_route}
+use Rattle.mail_world.specs.Commands.{Answer, Lhlo, mail_with, mail_path, mail, rcpt_with, rcpt_path, rcpt, by_verb, command_at, Parameter, is_client_name, parameters, trimmed, after_spaces}
+use Rattle.mail_world.specs.Paths.{Found, Path, reverse_path, forward_path, closed_at, mailbox_at, after_route}
 use Rattle.mail_world.specs.Text.{begins, space}
 use Rattle.mail_world.specs.Grammar.{Target}
 use Rattle.lmtp_session.specs.CommandLimits.{IsWithinLimits}
@@ -65,8 +65,8 @@ forward_within : (text : List ℕ) → IfSome (forward_path text) HasShortMailbo
 unfolding forward_path
 forward_within text =
     if_some HasShortMailbox (begins (byte "<") text)
-    (option_and_then (λ inner. option_and_then (closed_at inner) (mailbox_at inner)) (behind_route (drop 1 text)))
-    (then_within HasShortMailbox (λ inner. option_and_then (closed_at inner) (mailbox_at inner)) (behind_route (drop 1 text)) inner_within)
+    (option_and_then (λ inner. option_and_then (closed_at inner) (mailbox_at inner)) (after_route (drop 1 text)))
+    (then_within HasShortMailbox (λ inner. option_and_then (closed_at inner) (mailbox_at inner)) (after_route (drop 1 text)) inner_within)
 
 reverse_within_if : (b : Bool) (rest : List ℕ) (path : Option (Found Path)) → IfSome path HasShortMailbox
     → IfSome {T = Found (List ℕ)} (if b then Some (record { value = []; rest = rest }) else option_map (λ found. record { value = found.value.mailbox; rest = found.rest }) path) HasShortSender
@@ -104,4 +104,4 @@ pub command_within : (limit : ℕ) (line : List ℕ) → IsWithinLimits (command
 unfolding command_at
 command_within limit line =
     let w = trimmed line in
-    by_verb_within limit (before_first (λ b. b == space) w) (behind_spaces (after_first (λ b. b == space) w))
+    by_verb_within limit (before_first (λ b. b == space) w) (after_spaces (after_first (λ b. b == space) w))

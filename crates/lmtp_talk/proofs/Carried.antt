@@ -14,12 +14,12 @@ use Rattle.mail_world.specs.Data.{message}
 use Rattle.mail_world.specs.Site.{Site}
 use Rattle.mail_world.specs.Replies.{reply_text, reply_texts}
 use Rattle.mail_world.specs.Session.{Session, fresh, Input, Line, LongLine, step}
-use Rattle.mail_world.specs.Conversation.{Disposition, Part, CommandLine, MailData, inputs_of, session_after, session_behind, replies_to}
+use Rattle.mail_world.specs.Conversation.{Disposition, Part, CommandLine, MailData, inputs_of, session_after, session_after_parts, replies_to}
 use Rattle.mail_world.specs.Lists.{Transaction, is_content, accepted_after, transactions_of}
-use Rattle.mail_world.proofs.Handled.{inputs-snoc, session_behind-snoc, replies_to-append, line_within}
-use Rattle.mail_world.proofs.Owed.{accepted_behind, accepted-append, transactions-append}
+use Rattle.mail_world.proofs.Handled.{inputs-snoc, session_after_parts-snoc, replies_to-append, line_within}
+use Rattle.mail_world.proofs.Owed.{accepted_after_part, accepted-append, transactions-append}
 use Rattle.lmtp_session.specs.Steps.{TakesLines}
-use Rattle.lmtp_wire.specs.Wire.{WireView, IsBehind, LineGoesOn, EndsLine}
+use Rattle.lmtp_wire.specs.Wire.{WireView, IsAfter, LineGoesOn, EndsLine}
 use Rattle.lmtp_talk.specs.declared.dialogue.Dialogue.{Dialogue}
 use Rattle.lmtp_talk.specs.Peer.{PeerState}
 use Rattle.lmtp_talk.specs.Saying.{HasSaid}
@@ -50,25 +50,25 @@ as_line Waiting dialogue rest come drafts h x = cc
 as_line Ended dialogue rest come drafts h x = cc
 
 -- after a line: at the beginning of the next, or inside data, or at the end
-behind_line : (state : State) (dialogue : Dialogue) (come : Type 0) (drafts : List ℕ → Type 0) → GoesOn state → IsBehind dialogue.wire []
+after_one_line : (state : State) (dialogue : Dialogue) (come : Type 0) (drafts : List ℕ → Type 0) → GoesOn state → IsAfter dialogue.wire []
     → (is_content state ≡ true → InData dialogue [] drafts) → (is_content state ≡ false → come) → IsInside state dialogue [] come drafts
-behind_line Fresh dialogue come drafts g w h k = record { behind = w; comes = k refl }
-behind_line Greeted dialogue come drafts g w h k = record { behind = w; comes = k refl }
-behind_line Sender dialogue come drafts g w h k = record { behind = w; comes = k refl }
-behind_line Recipients dialogue come drafts g w h k = record { behind = w; comes = k refl }
-behind_line Content dialogue come drafts g w h k = h refl
-behind_line Waiting dialogue come drafts g w h k = absurd g
-behind_line Ended dialogue come drafts g w h k = k refl
+after_one_line Fresh dialogue come drafts g w h k = record { after = w; comes = k refl }
+after_one_line Greeted dialogue come drafts g w h k = record { after = w; comes = k refl }
+after_one_line Sender dialogue come drafts g w h k = record { after = w; comes = k refl }
+after_one_line Recipients dialogue come drafts g w h k = record { after = w; comes = k refl }
+after_one_line Content dialogue come drafts g w h k = h refl
+after_one_line Waiting dialogue come drafts g w h k = absurd g
+after_one_line Ended dialogue come drafts g w h k = k refl
 
 -- one more part: the session, what is said, the transactions
 pub session_more : (site : Site) (ps : List Part) (p : Part) (old new : Dialogue) (before after : PeerState)
-    → TakesInputs (inputs_of p) old new before after → old.session.site ≡ site → old.session.session ≡ session_behind site fresh ps
-    → new.session.session ≡ session_behind site fresh (ps ++ p ∷ [])
+    → TakesInputs (inputs_of p) old new before after → old.session.site ≡ site → old.session.session ≡ session_after_parts site fresh ps
+    → new.session.session ≡ session_after_parts site fresh (ps ++ p ∷ [])
 session_more site ps p old new before after takes site_is session_is =
     takes.session ∙ ap (λ x. session_after x old.session.session (inputs_of p)) site_is ∙ ap (λ x. session_after site x (inputs_of p)) session_is
-    ∙ sym (session_behind-snoc site fresh ps p)
+    ∙ sym (session_after_parts-snoc site fresh ps p)
 
-texts_more : (site : Site) (ps : List Part) (p : Part) (view : Site) (s : Session) → view ≡ site → s ≡ session_behind site fresh ps
+texts_more : (site : Site) (ps : List Part) (p : Part) (view : Site) (s : Session) → view ≡ site → s ≡ session_after_parts site fresh ps
     → (reply_text site Greeting ++ reply_texts site (replies_to site fresh (flat_map inputs_of ps))) ++ reply_texts view (replies_to view s (inputs_of p))
     ≡ reply_text site Greeting ++ reply_texts site (replies_to site fresh (flat_map inputs_of (ps ++ p ∷ [])))
 texts_more site ps p view s site_is session_is =
@@ -77,19 +77,19 @@ texts_more site ps p view s site_is session_is =
     ap (λ x. (greeted ++ told) ++ reply_texts x (replies_to x s (inputs_of p))) site_is
     ∙ ap (λ x. (greeted ++ told) ++ reply_texts site (replies_to site x (inputs_of p))) session_is
     ∙ append_assoc greeted told _
-    ∙ ap (λ l. greeted ++ l) (sym (flat_map-append (reply_text site) (replies_to site fresh (flat_map inputs_of ps)) (replies_to site (session_behind site fresh ps) (inputs_of p))))
+    ∙ ap (λ l. greeted ++ l) (sym (flat_map-append (reply_text site) (replies_to site fresh (flat_map inputs_of ps)) (replies_to site (session_after_parts site fresh ps) (inputs_of p))))
     ∙ ap (λ l. greeted ++ reply_texts site l) (sym (replies_to-append site fresh (flat_map inputs_of ps) (inputs_of p)))
     ∙ ap (λ l. greeted ++ reply_texts site (replies_to site fresh l)) (sym (inputs-snoc ps p))
 
 pub says_part : (site : Site) (ps : List Part) (p : Part) (start before after : PeerState) (old new : Dialogue) (came : List ℕ)
-    → TakesInputs (inputs_of p) old new before after → old.session.site ≡ site → old.session.session ≡ session_behind site fresh ps
+    → TakesInputs (inputs_of p) old new before after → old.session.site ≡ site → old.session.session ≡ session_after_parts site fresh ps
     → HasSaid start before old.outbox came (reply_text site Greeting ++ reply_texts site (replies_to site fresh (flat_map inputs_of ps)))
     → HasSaid start after new.outbox came (reply_text site Greeting ++ reply_texts site (replies_to site fresh (flat_map inputs_of (ps ++ p ∷ []))))
 says_part site ps p start before after old new came takes site_is session_is h =
     let said : List ℕ → Type 0 = λ l. HasSaid start after new.outbox came l in
     subst said (texts_more site ps p old.session.site old.session.session site_is session_is) (takes.says start came _ h)
 
-pub accepted-snoc : (site : Site) (n : ℕ) (ps : List Part) (p : Part) → accepted_after site n fresh (ps ++ p ∷ []) ≡ accepted_behind site (accepted_after site n fresh ps) (session_behind site fresh ps) p
+pub accepted-snoc : (site : Site) (n : ℕ) (ps : List Part) (p : Part) → accepted_after site n fresh (ps ++ p ∷ []) ≡ accepted_after_part site (accepted_after site n fresh ps) (session_after_parts site fresh ps) p
 accepted-snoc site n ps p = accepted-append site n fresh ps (p ∷ [])
 
 transactions-line : (site : Site) (n : ℕ) (ps : List Part) (text : List ℕ) → transactions_of site n fresh (ps ++ CommandLine text ∷ []) ≡ transactions_of site n fresh ps
@@ -97,23 +97,23 @@ transactions-line site n ps text = transactions-append site n fresh ps (CommandL
 
 pub transactions-data : (site : Site) (n : ℕ) (ps : List Part) (text : List ℕ) (d : Disposition)
     → transactions_of site n fresh (ps ++ MailData text d ∷ [])
-    ≡ transactions_of site n fresh ps ++ record { number = accepted_after site n fresh ps; session = session_behind site fresh ps; message = message text; disposition = d } ∷ []
+    ≡ transactions_of site n fresh ps ++ record { number = accepted_after site n fresh ps; session = session_after_parts site fresh ps; message = message text; disposition = d } ∷ []
 transactions-data site n ps text d = transactions-append site n fresh ps (MailData text d ∷ [])
 
 -- no line ends in the bytes
 pub more_of_line : (site : Site) (start : PeerState) (Before Come : ℕ → List Transaction → Type 0) (Drafting : ℕ → List Transaction → List ℕ → Type 0) (old : Dialogue) (wire : WireView) (peer : PeerState)
     (handled came piece : List ℕ) (used : ℕ) → TakesLines old.session.session.state
-    → ((taken : List ℕ) → IsBehind old.wire taken → LineGoesOn wire (taken ++ piece) (length piece) used)
+    → ((taken : List ℕ) → IsAfter old.wire taken → LineGoesOn wire (taken ++ piece) (length piece) used)
     → IsSoFar (beginning site start Before) (standing old peer Come Drafting) handled came
     → IsSoFar (beginning site start Before) (standing (record old { wire = wire }) peer Come Drafting) (handled ++ take used piece) came
 more_of_line site start Before Come Drafting old wire peer handled came piece used lines takes h =
     let line = in_line old.session.session.state old h.rest _ _ lines h.inside in
-    let t = takes h.rest line.behind in
+    let t = takes h.rest line.after in
     record {
       done = h.done;
-      front = h.front;
+      prefix = h.prefix;
       rest = h.rest ++ piece;
-      whole = ap (λ n. handled ++ take n piece) t.all ∙ ap (λ l. handled ++ l) (take_all (length piece) piece (omega arith)) ∙ ap (λ l. l ++ piece) h.whole ∙ append_assoc h.front h.rest piece;
+      whole = ap (λ n. handled ++ take n piece) t.all ∙ ap (λ l. handled ++ l) (take_all (length piece) piece (omega arith)) ∙ ap (λ l. l ++ piece) h.whole ∙ append_assoc h.prefix h.rest piece;
       cut = h.cut;
       same_site = h.same_site;
       session = h.session;
@@ -121,7 +121,7 @@ more_of_line site start Before Come Drafting old wire peer handled came piece us
       said = h.said;
       goes = h.goes;
       logged = h.logged;
-      inside = as_line old.session.session.state (record old { wire = wire }) (h.rest ++ piece) _ _ lines (record { behind = t.behind; comes = line.comes });
+      inside = as_line old.session.session.state (record old { wire = wire }) (h.rest ++ piece) _ _ lines (record { after = t.after; comes = line.comes });
     }
 
 -- the bytes that were taken are those up to the end of the line
@@ -146,17 +146,17 @@ ended_line site start Before {D} HasCome IsDrafting old new wire before after de
     let mid : Dialogue = record old { wire = wire } in
     let line = in_line old.session.session.state old h.rest _ _ lines h.inside in
     let takes : TakesInputs (inputs_of p) mid new before after = subst (λ l. TakesInputs l mid new before after) (sym input_is) t.takes in
-    let behind_lines : TakesLines (session_behind site fresh h.done).state = subst (λ (s : Session). TakesLines s.state) h.session lines in
-    let session_is : new.session.session ≡ session_behind site fresh (h.done ++ p ∷ []) = session_more site h.done p mid new before after takes h.same_site h.session in
+    let after_lines : TakesLines (session_after_parts site fresh h.done).state = subst (λ (s : Session). TakesLines s.state) h.session lines in
+    let session_is : new.session.session ≡ session_after_parts site fresh (h.done ++ p ∷ []) = session_more site h.done p mid new before after takes h.same_site h.session in
     let goes' : GoesOn new.session.session.state = subst (λ (s : Session). GoesOn s.state) (sym t.takes.session) goes in
-    let state_is : is_content new.session.session.state ≡ is_content (session_after site (session_behind site fresh h.done) (inputs_of p)).state =
-    ap (λ (s : Session). is_content s.state) (session_is ∙ session_behind-snoc site fresh h.done p) in
+    let state_is : is_content new.session.session.state ≡ is_content (session_after site (session_after_parts site fresh h.done) (inputs_of p)).state =
+    ap (λ (s : Session). is_content s.state) (session_is ∙ session_after_parts-snoc site fresh h.done p) in
     record {
       done = h.done ++ p ∷ [];
-      front = h.front ++ take (end + 2) bytes;
+      prefix = h.prefix ++ take (end + 2) bytes;
       rest = [];
-      whole = ap (λ l. l ++ take used piece) h.whole ∙ append_assoc h.front h.rest (take used piece) ∙ ap (λ l. h.front ++ l) (sym (taken_is h.rest piece used (end + 2) ends.taken)) ∙ sym (append-nil (h.front ++ take (end + 2) bytes));
-      cut = cut_line site h.front bytes h.done end h.cut behind_lines ends.ends;
+      whole = ap (λ l. l ++ take used piece) h.whole ∙ append_assoc h.prefix h.rest (take used piece) ∙ ap (λ l. h.prefix ++ l) (sym (taken_is h.rest piece used (end + 2) ends.taken)) ∙ sym (append-nil (h.prefix ++ take (end + 2) bytes));
+      cut = cut_line site h.prefix bytes h.done end h.cut after_lines ends.ends;
       same_site = takes.site ∙ h.same_site;
       session = session_is;
       quits = subst (λ (s : Session). QuitsWith s.state (flat_map inputs_of (h.done ++ p ∷ []))) (sym t.takes.session)
@@ -164,14 +164,14 @@ ended_line site start Before {D} HasCome IsDrafting old new wire before after de
       said = says_part site h.done p start before after mid new came takes h.same_site h.session h.said;
       goes = takes.same ∙ h.goes;
       logged = λ n ts first. logged_more site n h.done p start.told before.told after.told _ t.told (h.logged n ts first)
-          (entries_line site old.session.site (accepted_after site n fresh h.done) old.session.session (session_behind site fresh h.done) (take end bytes) (line_in input) input h.same_site h.session input_is line_is);
-      inside = behind_line new.session.session.state new _ _ goes' (subst (λ w. IsBehind w []) (sym takes.wire) ends.behind)
+          (entries_line site old.session.site (accepted_after site n fresh h.done) old.session.session (session_after_parts site fresh h.done) (take end bytes) (line_in input) input h.same_site h.session input_is line_is);
+      inside = after_one_line new.session.session.state new _ _ goes' (subst (λ w. IsAfter w []) (sym takes.wire) ends.after)
           (λ content.
           let begins : BeginsIf HasCome IsDrafting true delivery (talk new after later) = subst (λ b. BeginsIf HasCome IsDrafting b delivery (talk new after later)) content t.begins in
           record {
             made = [];
-            next = subst (λ w. IsBehind w []) (sym takes.wire) ends.behind;
-            behind = begins.0;
+            next = subst (λ w. IsAfter w []) (sym takes.wire) ends.after;
+            after = begins.0;
             drafting = λ n ts first.
                 let count : accepted_after site n fresh h.done + 1 ≡ accepted_after site n fresh (h.done ++ p ∷ []) =
                 ap (λ b. if b then accepted_after site n fresh h.done + 1 else accepted_after site n fresh h.done) (sym content ∙ state_is) ∙ sym (accepted-snoc site n h.done p) in
@@ -195,13 +195,13 @@ size_is bytes end e = let within : end + 2 ≤ length bytes = line_within bytes 
 pub line_of : (site : Site) (start : PeerState) (Before : ℕ → List Transaction → Type 0) {D : Type 0} (HasCome : D → ℕ → List Transaction → Type 0) (IsDrafting : D → ℕ → List Transaction → List ℕ → Type 0)
     (old new : Dialogue) (wire : WireView) (before after : PeerState) (delivery later : D) (handled came piece : List ℕ) (used : ℕ)
     → TakesLines old.session.session.state
-    → ((taken : List ℕ) → IsBehind old.wire taken → (end : ℕ) × EndsLine wire (taken ++ piece) (length taken) used end × (end + 2 ≤ LINE_LIMIT) × (wire.line ≡ take end (taken ++ piece)))
+    → ((taken : List ℕ) → IsAfter old.wire taken → (end : ℕ) × EndsLine wire (taken ++ piece) (length taken) used end × (end + 2 ≤ LINE_LIMIT) × (wire.line ≡ take end (taken ++ piece)))
     → TakesLine HasCome IsDrafting (Line wire.line) (talk (record old { wire = wire }) before delivery) (talk new after later)
     → IsSoFar (beginning site start Before) (standing old before (HasCome delivery) (IsDrafting delivery)) handled came
     → IsSoFar (beginning site start Before) (standing new after (HasCome later) (IsDrafting later)) (handled ++ take used piece) came
 line_of site start Before {D} HasCome IsDrafting old new wire before after delivery later handled came piece used lines takes t h =
     let line = in_line old.session.session.state old h.rest _ _ lines h.inside in
-    let e = takes h.rest line.behind in
+    let e = takes h.rest line.after in
     let bytes : List ℕ = h.rest ++ piece in
     let short : nat_lt LINE_LIMIT (length (take e.0 bytes) + 2) ≡ false =
     (let size : length (take e.0 bytes) ≡ e.0 = size_is bytes e.0 e.1.ends in let fits : e.0 + 2 ≤ LINE_LIMIT = e.2 in grind (arith, nat_tests, size, fits)) in
@@ -213,14 +213,14 @@ line_of site start Before {D} HasCome IsDrafting old new wire before after deliv
 pub long_line_of : (site : Site) (start : PeerState) (Before : ℕ → List Transaction → Type 0) {D : Type 0} (HasCome : D → ℕ → List Transaction → Type 0) (IsDrafting : D → ℕ → List Transaction → List ℕ → Type 0)
     (old new : Dialogue) (wire : WireView) (before after : PeerState) (delivery : D) (handled came piece : List ℕ) (used : ℕ)
     → TakesLines old.session.session.state
-    → ((taken : List ℕ) → IsBehind old.wire taken → (end : ℕ) × EndsLine wire (taken ++ piece) (length taken) used end × (LINE_LIMIT < end + 2) × (wire.line ≡ []))
+    → ((taken : List ℕ) → IsAfter old.wire taken → (end : ℕ) × EndsLine wire (taken ++ piece) (length taken) used end × (LINE_LIMIT < end + 2) × (wire.line ≡ []))
     → TakesInputs (LongLine ∷ []) (record old { wire = wire }) new before after
     → TellsLine LongLine (record old { wire = wire }) before after
     → IsSoFar (beginning site start Before) (standing old before (HasCome delivery) (IsDrafting delivery)) handled came
     → IsSoFar (beginning site start Before) (standing new after (HasCome delivery) (IsDrafting delivery)) (handled ++ take used piece) came
 long_line_of site start Before {D} HasCome IsDrafting old new wire before after delivery handled came piece used lines takes t told h =
     let line = in_line old.session.session.state old h.rest _ _ lines h.inside in
-    let e = takes h.rest line.behind in
+    let e = takes h.rest line.after in
     let bytes : List ℕ = h.rest ++ piece in
     let long : nat_lt LINE_LIMIT (length (take e.0 bytes) + 2) ≡ true =
     (let size : length (take e.0 bytes) ≡ e.0 = size_is bytes e.0 e.1.ends in let over : LINE_LIMIT < e.0 + 2 = e.2 in grind (arith, nat_tests, size, over)) in

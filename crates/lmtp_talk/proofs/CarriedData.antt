@@ -6,11 +6,11 @@ use Rattle.mail_world.specs.declared.State.TheVariants.{Greeted, Content}
 use Rattle.mail_world.specs.Data.{message}
 use Rattle.mail_world.specs.Site.{Site}
 use Rattle.mail_world.specs.Session.{Session, fresh, DataEnded}
-use Rattle.mail_world.specs.Conversation.{Disposition, Part, MailData, inputs_of, outcomes_of, session_after, session_behind, OutcomesFit}
+use Rattle.mail_world.specs.Conversation.{Disposition, Part, MailData, inputs_of, outcomes_of, session_after, session_after_parts, OutcomesFit}
 use Rattle.mail_world.specs.Lists.{Transaction, accepted_after, transactions_of}
 use Rattle.mail_world.proofs.Handled.{inputs-snoc}
-use Rattle.mail_world.proofs.Owed.{same_behind_data}
-use Rattle.lmtp_wire.specs.Wire.{IsBehind}
+use Rattle.mail_world.proofs.Owed.{same_after_data}
+use Rattle.lmtp_wire.specs.Wire.{IsAfter}
 use Rattle.lmtp_wire.specs.declared.dot.Fed.{Fed}
 use Rattle.lmtp_wire.specs.declared.dot.Dot.{Dot}
 use Rattle.lmtp_wire.specs.Dot.{HasMade, DataGoesOn}
@@ -42,14 +42,14 @@ more_of_data site start Before {D} HasCome IsDrafting old dot peer delivery late
     let now : InData new text (λ made. Comes site h.done Before (λ n ts. IsDrafting later n ts made)) = record {
       made = inside.made ++ bytes;
       next = inside.next;
-      behind = (feeds h.rest inside.made inside.behind).behind;
+      after = (feeds h.rest inside.made inside.after).after;
       drafting = λ n ts first. grows _ _ inside.made (inside.drafting n ts first);
     } in
     record {
       done = h.done;
-      front = h.front;
+      prefix = h.prefix;
       rest = text;
-      whole = ap (λ l. l ++ take fed.used piece) h.whole ∙ append_assoc h.front h.rest (take fed.used piece);
+      whole = ap (λ l. l ++ take fed.used piece) h.whole ∙ append_assoc h.prefix h.rest (take fed.used piece);
       cut = h.cut;
       same_site = h.same_site;
       session = h.session;
@@ -73,21 +73,21 @@ end_of_data site start Before {D} HasCome IsDrafting old new dot before after de
     let inside = in_data old.session.session.state old h.rest _ _ content h.inside in
     let text : List ℕ = h.rest ++ take used piece in
     let between : Dialogue = record old { dot = dot } in
-    let ends = feeds h.rest inside.made inside.behind in
+    let ends = feeds h.rest inside.made inside.after in
     let d : Disposition = e.disposition in
     let p : Part = MailData text d in
-    let session_is : new.session.session ≡ session_behind site fresh (h.done ++ p ∷ []) = session_more site h.done p between new before after e.takes h.same_site h.session in
+    let session_is : new.session.session ≡ session_after_parts site fresh (h.done ++ p ∷ []) = session_more site h.done p between new before after e.takes h.same_site h.session in
     let greets : new.session.session.state ≡ Greeted = ap (λ (s : Session). s.state) e.takes.session ∙ data_greets d.verdict old.session.site old.session.session d in
     let now : InLine new [] (Comes site (h.done ++ p ∷ []) Before (HasCome later)) = record {
-      behind = subst (λ w. IsBehind w []) (sym e.takes.wire) inside.next;
+      after = subst (λ w. IsAfter w []) (sym e.takes.wire) inside.next;
       comes = λ n ts first.
           let t : Transaction = record { number = accepted_after site n fresh h.done; session = old.session.session; message = inside.made ++ bytes; disposition = d } in
-          let t' : Transaction = record { number = accepted_after site n fresh h.done; session = session_behind site fresh h.done; message = message text; disposition = d } in
+          let t' : Transaction = record { number = accepted_after site n fresh h.done; session = session_after_parts site fresh h.done; message = message text; disposition = d } in
           let same : t ≡ t' =
           ap (λ (s : Session). record { number = accepted_after site n fresh h.done; session = s; message = inside.made ++ bytes; disposition = d }) h.session
-          ∙ ap (λ (m : List ℕ). record { number = accepted_after site n fresh h.done; session = session_behind site fresh h.done; message = m; disposition = d }) ends.message in
+          ∙ ap (λ (m : List ℕ). record { number = accepted_after site n fresh h.done; session = session_after_parts site fresh h.done; message = m; disposition = d }) ends.message in
           let count : accepted_after site n fresh h.done ≡ accepted_after site n fresh (h.done ++ p ∷ []) =
-          sym (accepted-snoc site n h.done p ∙ same_behind_data site (accepted_after site n fresh h.done) (session_behind site fresh h.done) text d) in
+          sym (accepted-snoc site n h.done p ∙ same_after_data site (accepted_after site n fresh h.done) (session_after_parts site fresh h.done) text d) in
           let list : (ts ++ transactions_of site n fresh h.done) ++ t ∷ [] ≡ ts ++ transactions_of site n fresh (h.done ++ p ∷ []) =
           append_assoc ts (transactions_of site n fresh h.done) (t ∷ []) ∙ ap (λ (x : Transaction). ts ++ (transactions_of site n fresh h.done ++ x ∷ [])) same ∙ ap (λ l. ts ++ l) (sym (transactions-data site n h.done text d)) in
           subst (λ k. HasCome later k (ts ++ transactions_of site n fresh (h.done ++ p ∷ []))) count
@@ -96,10 +96,10 @@ end_of_data site start Before {D} HasCome IsDrafting old new dot before after de
     } in
     record {
       done = h.done ++ p ∷ [];
-      front = h.front ++ text;
+      prefix = h.prefix ++ text;
       rest = [];
-      whole = ap (λ l. l ++ take used piece) h.whole ∙ append_assoc h.front h.rest (take used piece) ∙ sym (append-nil (h.front ++ text));
-      cut = cut_data site h.front text h.done ends.end d h.cut (ap (λ (s : Session). s.state) (sym h.session) ∙ content) ends.ends ends.last
+      whole = ap (λ l. l ++ take used piece) h.whole ∙ append_assoc h.prefix h.rest (take used piece) ∙ sym (append-nil (h.prefix ++ text));
+      cut = cut_data site h.prefix text h.done ends.end d h.cut (ap (λ (s : Session). s.state) (sym h.session) ∙ content) ends.ends ends.last
           (subst (λ (s : Session). OutcomesFit s.recipients d d.verdict) h.session e.fits);
       same_site = e.takes.site ∙ h.same_site;
       session = session_is;
@@ -111,6 +111,6 @@ end_of_data site start Before {D} HasCome IsDrafting old new dot before after de
       logged = λ n ts first.
           let k : ℕ = accepted_after site n fresh h.done in
           logged_more site n h.done p start.told before.told after.told _ (e.told k _ (inside.made ++ bytes) (grows k _ inside.made (inside.drafting n ts first))) (h.logged n ts first)
-          (entries_data site old.session.site k old.session.session (session_behind site fresh h.done) text (inside.made ++ bytes) d h.same_site h.session ends.message);
+          (entries_data site old.session.site k old.session.session (session_after_parts site fresh h.done) text (inside.made ++ bytes) d h.same_site h.session ends.message);
       inside = subst (λ (s : State). IsInside s new [] (Comes site (h.done ++ p ∷ []) Before (HasCome later)) (λ made. Comes site (h.done ++ p ∷ []) Before (λ n ts. IsDrafting later n ts made))) (sym greets) now;
     }

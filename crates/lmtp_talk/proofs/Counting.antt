@@ -5,7 +5,7 @@ use Rattle.mail_world.specs.declared.State.{State}
 use Rattle.mail_world.specs.declared.State.TheVariants.{Fresh, Greeted, Sender, Recipients, Content, Waiting, Ended}
 use Rattle.lmtp_talk.specs.declared.ending.EndCause.{EndCause}
 use Rattle.lmtp_talk.specs.declared.ending.EndCause.TheVariants as ends
-use Rattle.lmtp_talk.specs.Turns.{quit_or, end_behind}
+use Rattle.lmtp_talk.specs.Turns.{quit_or, end_after}
 use Rattle.lmtp_talk.specs.Peer.{PeerState, RisesBy, WasRead}
 use Rattle.lmtp_talk.specs.Served.{HasRead}
 
@@ -27,7 +27,7 @@ quit_read false s t w = (λ e. cc, record { made = 1; counts = w; within = omega
 abbrev HasReadOne : Option EndCause → PeerState → PeerState → Type 0
 HasReadOne result s t = MatchOption result (WasRead 1 s t) (λ end. (end ≢ ends.ReadBound) × HasRead 1 s t end)
 
-read_by : (state : State) (broken : Bool) (s t : PeerState) → WasRead 1 s t → HasReadOne (end_behind state broken) s t
+read_by : (state : State) (broken : Bool) (s t : PeerState) → WasRead 1 s t → HasReadOne (end_after state broken) s t
 read_by Fresh broken s t w = w
 read_by Greeted broken s t w = w
 read_by Sender broken s t w = w
@@ -36,5 +36,5 @@ read_by Content broken s t w = w
 read_by Waiting broken s t w = quit_read broken s t w
 read_by Ended broken s t w = quit_read broken s t w
 
-pub read_one : (result : Option EndCause) (state : State) (broken : Bool) (s t u : PeerState) → result ≡ end_behind state broken → WasRead 1 s t → u.reads ≡ t.reads → HasReadOne result s u
+pub read_one : (result : Option EndCause) (state : State) (broken : Bool) (s t u : PeerState) → result ≡ end_after state broken → WasRead 1 s t → u.reads ≡ t.reads → HasReadOne result s u
 read_one result state broken s t u e w same = subst (λ o. HasReadOne o s u) (sym e) (read_by state broken s u (subst (λ n. RisesBy 1 s.reads n) (sym same) w))

@@ -10,7 +10,7 @@ use Rattle.mail_world.specs.Failures.{Rises}
 use Rattle.mail_world.specs.Site.{Site}
 use Rattle.mail_world.specs.Session.{Session, fresh, Input, Stop}
 use Rattle.mail_world.specs.Replies.{reply_text, reply_texts}
-use Rattle.mail_world.specs.Conversation.{Conversation, Part, inputs_of, session_behind, replies_to, parts, stop_at, inputs, replies, IsAccount}
+use Rattle.mail_world.specs.Conversation.{Conversation, Part, inputs_of, session_after_parts, replies_to, parts, stop_at, inputs, replies, IsAccount}
 use Rattle.mail_world.specs.Dispositions.{dispositions_of}
 use Rattle.mail_world.specs.Lists.{Transaction, is_content, accepted_after, transactions_of}
 use Rattle.mail_world.proofs.Handled.{HasNoPart, replies_to-append}
@@ -30,11 +30,11 @@ use Rattle.lmtp_talk.proofs.CutUp.{all_cut, all_accounted, all_inputs}
 
 -- nothing is left but what is inside
 nothing_ended : (state : State) (dialogue : Dialogue) (rest : List ℕ) (come : Type 0) (drafts : List ℕ → Type 0) → IsInside state dialogue rest come drafts → HasNoPart state rest
-nothing_ended Fresh dialogue rest come drafts x = x.behind.goes_on
-nothing_ended Greeted dialogue rest come drafts x = x.behind.goes_on
-nothing_ended Sender dialogue rest come drafts x = x.behind.goes_on
-nothing_ended Recipients dialogue rest come drafts x = x.behind.goes_on
-nothing_ended Content dialogue rest come drafts x = x.behind.goes_on
+nothing_ended Fresh dialogue rest come drafts x = x.after.goes_on
+nothing_ended Greeted dialogue rest come drafts x = x.after.goes_on
+nothing_ended Sender dialogue rest come drafts x = x.after.goes_on
+nothing_ended Recipients dialogue rest come drafts x = x.after.goes_on
+nothing_ended Content dialogue rest come drafts x = x.after.goes_on
 nothing_ended Waiting dialogue rest come drafts x = tt
 nothing_ended Ended dialogue rest come drafts x = tt
 
@@ -105,7 +105,7 @@ same_quit (x ∷ xs) ys e = ap (λ b. is_quit x || b) (same_quit xs ys e)
 
 -- all that is said in the end
 abbrev last_inputs : Site → List Part → Bool → List Input
-last_inputs site ps stopped = flat_map inputs_of ps ++ stop_at (session_behind site fresh ps).state stopped
+last_inputs site ps stopped = flat_map inputs_of ps ++ stop_at (session_after_parts site fresh ps).state stopped
 
 abbrev last_text : Site → List Input → List ℕ
 last_text site xs = reply_text site Greeting ++ reply_texts site (replies_to site fresh xs)
@@ -115,9 +115,9 @@ unfolding replies
 replies_are site c xs e = ap (last_text site) e
 
 text_not_stopped : (site : Site) (ps : List Part) → last_text site (flat_map inputs_of ps) ≡ last_text site (last_inputs site ps false)
-text_not_stopped site ps = ap (last_text site) (sym (ap (λ l. flat_map inputs_of ps ++ l) (no_stop (session_behind site fresh ps).state) ∙ append-nil (flat_map inputs_of ps)))
+text_not_stopped site ps = ap (last_text site) (sym (ap (λ l. flat_map inputs_of ps ++ l) (no_stop (session_after_parts site fresh ps).state) ∙ append-nil (flat_map inputs_of ps)))
 
-text_stopped : (site : Site) (ps : List Part) (view : Site) (s : Session) → view ≡ site → s ≡ session_behind site fresh ps → MayStop s.state
+text_stopped : (site : Site) (ps : List Part) (view : Site) (s : Session) → view ≡ site → s ≡ session_after_parts site fresh ps → MayStop s.state
     → last_text site (flat_map inputs_of ps) ++ reply_texts view (replies_to view s (Stop ∷ [])) ≡ last_text site (last_inputs site ps true)
 text_stopped site ps view s site_is session_is may =
     let greeted : List ℕ = reply_text site Greeting in
@@ -125,9 +125,9 @@ text_stopped site ps view s site_is session_is may =
     ap (λ x. last_text site xs ++ reply_texts x (replies_to x s (Stop ∷ []))) site_is
     ∙ ap (λ x. last_text site xs ++ reply_texts site (replies_to site x (Stop ∷ []))) session_is
     ∙ append_assoc greeted (reply_texts site (replies_to site fresh xs)) _
-    ∙ ap (λ l. greeted ++ l) (sym (flat_map-append (reply_text site) (replies_to site fresh xs) (replies_to site (session_behind site fresh ps) (Stop ∷ []))))
+    ∙ ap (λ l. greeted ++ l) (sym (flat_map-append (reply_text site) (replies_to site fresh xs) (replies_to site (session_after_parts site fresh ps) (Stop ∷ []))))
     ∙ ap (λ l. greeted ++ reply_texts site l) (sym (replies_to-append site fresh xs (Stop ∷ [])))
-    ∙ ap (λ l. last_text site (xs ++ l)) (sym (stop_is (session_behind site fresh ps).state (subst (λ (x : Session). MayStop x.state) session_is may)))
+    ∙ ap (λ l. last_text site (xs ++ l)) (sym (stop_is (session_after_parts site fresh ps).state (subst (λ (x : Session). MayStop x.state) session_is may)))
 
 -- what was said is written
 written_whole : (start now : PeerState) (pending came text : List ℕ) (fails : Type 0) (h : HasSaid start now (record { pending = pending; broken = false }) came text) → pending ≡ [] → IsWritten text fails h.written
@@ -163,7 +163,7 @@ record EndsBy (at : Final) (old new : PeerState) (end : EndCause) : Type 0 where
   pub sound : (end ≡ ends.ReadFault → ⊥) → (end ≡ ends.WriteFault → ⊥) → new.failures ≡ old.failures
 
 -- all that came is handled, and its replies are written as far as they were
-record Finishes (site : Site) (at : Final) (ps : List Part) (start now : PeerState) (end : EndCause) : Type 0 where
+record EndsConversation (site : Site) (at : Final) (ps : List Part) (start now : PeerState) (end : EndCause) : Type 0 where
   pub written : List ℕ
   pub moved : HasMoved start now at.handled written
   pub says : IsWritten (last_text site (last_inputs site ps at.stopped)) (end ≡ ends.WriteFault) written
@@ -172,23 +172,23 @@ record Finishes (site : Site) (at : Final) (ps : List Part) (start now : PeerSta
 finished : (reads : ℕ) (site : Site) (start before now : PeerState) (Before Come Last : ℕ → List Transaction → Type 0) (Drafting : ℕ → List Transaction → List ℕ → Type 0)
     (dialogue : Dialogue) (handled : List ℕ) (stopped : Bool) (end : EndCause)
     → (h : IsSoFar (beginning site start Before) (standing dialogue before Come Drafting) handled handled) → Comes site h.done Before Last
-    → now.told ≡ before.told → Finishes site (final reads dialogue.session.session.state stopped handled) h.done start now end → IsServed (terms site reads) start now Before Last end
+    → now.told ≡ before.told → EndsConversation site (final reads dialogue.session.session.state stopped handled) h.done start now end → IsServed (terms site reads) start now Before Last end
 finished reads site start before now Before Come Last Drafting dialogue handled stopped end h comes untold f =
     let c : Conversation = record { bytes = handled; dispositions = dispositions_of h.done; stopped = stopped } in
     let at : List ℕ → Conversation = λ l. record { bytes = l; dispositions = dispositions_of h.done; stopped = stopped } in
-    let none : HasNoPart (session_behind site fresh h.done).state h.rest =
+    let none : HasNoPart (session_after_parts site fresh h.done).state h.rest =
     subst (λ (s : Session). HasNoPart s.state h.rest) h.session (nothing_ended dialogue.session.session.state dialogue h.rest _ _ h.inside) in
     let parts_are : parts site fresh handled (dispositions_of h.done) ≡ h.done =
-    ap (λ l. parts site fresh l (dispositions_of h.done)) h.whole ∙ all_cut site h.front h.rest h.done h.cut none in
+    ap (λ l. parts site fresh l (dispositions_of h.done)) h.whole ∙ all_cut site h.prefix h.rest h.done h.cut none in
     let inputs_are : inputs site c ≡ last_inputs site h.done stopped =
-    ap (λ l. inputs site (at l)) h.whole ∙ all_inputs site h.front h.rest h.done stopped h.cut none in
+    ap (λ l. inputs site (at l)) h.whole ∙ all_inputs site h.prefix h.rest h.done stopped h.cut none in
     let quit_is : has_quit (inputs site c) ≡ has_quit (flat_map inputs_of h.done) =
-    ap has_quit inputs_are ∙ same_quit (flat_map inputs_of h.done) _ (stop_at_no_quit (session_behind site fresh h.done).state stopped) in
+    ap has_quit inputs_are ∙ same_quit (flat_map inputs_of h.done) _ (stop_at_no_quit (session_after_parts site fresh h.done).state stopped) in
     record {
       conversation = c;
       said = f.written;
       moved = f.moved;
-      accounted = subst (λ l. IsAccount site (at l)) (sym h.whole) (all_accounted site h.front h.rest h.done stopped h.cut none);
+      accounted = subst (λ l. IsAccount site (at l)) (sym h.whole) (all_accounted site h.prefix h.rest h.done stopped h.cut none);
       says = subst (λ l. IsWritten l (end ≡ ends.WriteFault) f.written) (sym (replies_are site c (last_inputs site h.done stopped) inputs_are)) f.says;
       delivered = λ n ts first. subst (λ ps. Last (accepted_after site n fresh ps) (ts ++ transactions_of site n fresh ps)) (sym parts_are) (comes n ts first);
       logged = λ n ts first. subst (λ ps. now.told ≡ with_entries start.told (entries_of site n fresh ps)) (sym parts_are) (untold ∙ h.logged n ts first);
@@ -240,7 +240,7 @@ said_broken start now broken pending came text e h = subst (λ b. HasSaid start 
 finishes_quiet : (reads : ℕ) (site : Site) (start now : PeerState) (dialogue : Dialogue) (ps : List Part) (handled : List ℕ) (end : EndCause) → IsQuiet dialogue
     → HasSaid start now dialogue.outbox handled (last_text site (flat_map inputs_of ps))
     → (now.failures ≡ start.failures → EndsBy (final reads dialogue.session.session.state false handled) start now end)
-    → Finishes site (final reads dialogue.session.session.state false handled) ps start now end
+    → EndsConversation site (final reads dialogue.session.session.state false handled) ps start now end
 finishes_quiet reads site start now dialogue ps handled end q h causes =
     let s : HasSaid start now (record { pending = []; broken = false }) handled (last_text site (last_inputs site ps false)) =
     subst (λ l. HasSaid start now (record { pending = []; broken = false }) handled l) (text_not_stopped site ps) (said_whole start now dialogue handled (last_text site (flat_map inputs_of ps)) q h) in
@@ -248,7 +248,7 @@ finishes_quiet reads site start now dialogue ps handled end q h causes =
 
 finishes_broken : (reads : ℕ) (site : Site) (start now : PeerState) (broken : Bool) (pending : List ℕ) (state : State) (stopped : Bool) (ps : List Part) (handled text : List ℕ) → broken ≡ true
     → text ≡ last_text site (last_inputs site ps stopped) → (stopped ≡ true → Rises start.stops now.stops) → (stopped ≡ false → now.stops ≡ start.stops) → HasSaid start now (record { pending = pending; broken = broken }) handled text
-    → Finishes site (final reads state stopped handled) ps start now ends.WriteFault
+    → EndsConversation site (final reads state stopped handled) ps start now ends.WriteFault
 finishes_broken reads site start now broken pending state stopped ps handled text e is rose kept h =
     let s : HasSaid start now (record { pending = pending; broken = true }) handled (last_text site (last_inputs site ps stopped)) =
     subst (λ l. HasSaid start now (record { pending = pending; broken = true }) handled l) is (said_broken start now broken pending handled text e h) in
@@ -393,7 +393,7 @@ text_in_the_end site start before Before Come Drafting dialogue handled came h m
 
 stopped_by : (reads : ℕ) (broken : Bool) (site : Site) (start now : PeerState) (pending : List ℕ) (state : State) (ps : List Part) (handled text : List ℕ) → (state ≡ Ended → ⊥) → Rises start.stops now.stops
     → text ≡ last_text site (last_inputs site ps true) → pending ≡ [] → HasSaid start now (record { pending = pending; broken = broken }) handled text
-    → Finishes site (final reads state true handled) ps start now (stopped_or broken)
+    → EndsConversation site (final reads state true handled) ps start now (stopped_or broken)
 stopped_by reads true site start now pending state ps handled text open' may is none h = finishes_broken reads site start now true pending state true ps handled text refl is (λ f. may) (λ f. cc) h
 stopped_by reads false site start now pending state ps handled text open' may is none h =
     let s : HasSaid start now (record { pending = pending; broken = false }) handled (last_text site (last_inputs site ps true)) = subst (λ l. HasSaid start now (record { pending = pending; broken = false }) handled l) is h in

@@ -8,10 +8,10 @@ use Rattle.mail_world.specs.Counts.{counted}
 use Rattle.mail_world.specs.Data.{message}
 use Rattle.mail_world.specs.Site.{Site}
 use Rattle.mail_world.specs.Session.{Session, fresh, Input}
-use Rattle.mail_world.specs.Conversation.{Disposition, Part, CommandLine, MailData, inputs_of, session_after, session_behind, replies_to}
+use Rattle.mail_world.specs.Conversation.{Disposition, Part, CommandLine, MailData, inputs_of, session_after, session_after_parts, replies_to}
 use Rattle.mail_world.specs.Lists.{accepted_after}
 use Rattle.mail_world.proofs.Handled.{session_after-append}
-use Rattle.mail_world.proofs.Owed.{accepted_behind}
+use Rattle.mail_world.proofs.Owed.{accepted_after_part}
 use Rattle.lmtp_talk.specs.declared.telling.Asked.{Asked}
 use Rattle.lmtp_talk.specs.declared.telling.Asked.TheVariants as asked
 use Rattle.lmtp_talk.specs.Entries.{Entry, line_entries, copy_entries, line_kept, entries_of_part, entries_of, with_entries}
@@ -91,26 +91,26 @@ said_told start now after outbox came text more e h =
 -- the entries of parts, one part after another
 pub entries-append : (site : Site) (n : ℕ) (session : Session) (ps qs : List Part)
     → entries_of site n session (ps ++ qs)
-    ≡ entries_of site n session ps ++ entries_of site (accepted_after site n session ps) (session_behind site session ps) qs
+    ≡ entries_of site n session ps ++ entries_of site (accepted_after site n session ps) (session_after_parts site session ps) qs
 entries-append site n session [] qs = refl
 entries-append site n session (p ∷ ps) qs =
     let next : Session = session_after site session (inputs_of p) in
-    let k : ℕ = accepted_behind site n session p in
+    let k : ℕ = accepted_after_part site n session p in
     let own : List Entry = entries_of_part site n session p in
     ap (λ l. own ++ l)
     (entries-append site k next ps qs
     ∙ ap (λ x. entries_of site k next ps ++ entries_of site (accepted_after site k next ps) x qs) (sym (session_after-append site session (inputs_of p) (flat_map inputs_of ps))))
-    ∙ sym (append_assoc own (entries_of site k next ps) (entries_of site (accepted_after site k next ps) (session_behind site session (p ∷ ps)) qs))
+    ∙ sym (append_assoc own (entries_of site k next ps) (entries_of site (accepted_after site k next ps) (session_after_parts site session (p ∷ ps)) qs))
 
 pub entries-snoc : (site : Site) (n : ℕ) (ps : List Part) (p : Part)
-    → entries_of site n fresh (ps ++ p ∷ []) ≡ entries_of site n fresh ps ++ entries_of_part site (accepted_after site n fresh ps) (session_behind site fresh ps) p
+    → entries_of site n fresh (ps ++ p ∷ []) ≡ entries_of site n fresh ps ++ entries_of_part site (accepted_after site n fresh ps) (session_after_parts site fresh ps) p
 entries-snoc site n ps p =
-    entries-append site n fresh ps (p ∷ []) ∙ ap (λ l. entries_of site n fresh ps ++ l) (append-nil (entries_of_part site (accepted_after site n fresh ps) (session_behind site fresh ps) p))
+    entries-append site n fresh ps (p ∷ []) ∙ ap (λ l. entries_of site n fresh ps ++ l) (append-nil (entries_of_part site (accepted_after site n fresh ps) (session_after_parts site fresh ps) p))
 
 -- the log was told the entries of one more part
 pub logged_more : (site : Site) (n : ℕ) (ps : List Part) (p : Part) (start before after : Option (List Entry)) (entries : List Entry)
     → after ≡ with_entries before entries → before ≡ with_entries start (entries_of site n fresh ps)
-    → entries ≡ entries_of_part site (accepted_after site n fresh ps) (session_behind site fresh ps) p
+    → entries ≡ entries_of_part site (accepted_after site n fresh ps) (session_after_parts site fresh ps) p
     → after ≡ with_entries start (entries_of site n fresh (ps ++ p ∷ []))
 logged_more site n ps p start before after entries told was is =
     told ∙ ap (λ (o : Option (List Entry)). with_entries o entries) was ∙ with_both start (entries_of site n fresh ps) entries

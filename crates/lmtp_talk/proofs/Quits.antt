@@ -9,7 +9,7 @@ use Rattle.mail_world.specs.declared.State.TheVariants.{Fresh, Greeted, Sender, 
 use Rattle.mail_world.specs.declared.Reply.TheVariants as replies
 use Rattle.mail_world.specs.declared.limits.TheConstants.{RECIPIENT_LIMIT, MESSAGE_LIMIT}
 use Rattle.mail_world.specs.Site.{Site}
-use Rattle.mail_world.specs.Commands.{Answer, Lhlo, Mail, Rcpt, StartData, Rset, Noop, Quit, Vrfy, Help, command, command_at, Parameter, mail_with, mail_path, mail, by_verb, parameters, trimmed, behind_spaces}
+use Rattle.mail_world.specs.Commands.{Answer, Lhlo, Mail, Rcpt, StartData, Rset, Noop, Quit, Vrfy, Help, command, command_at, Parameter, mail_with, mail_path, mail, by_verb, parameters, trimmed, after_spaces}
 use Rattle.mail_world.specs.Paths.{Found, reverse_path}
 use Rattle.mail_world.specs.Text.{space}
 use Rattle.std.specs.List.{before_first, after_first}
@@ -155,7 +155,7 @@ command_quit : (limit : ℕ) (text : List ℕ) → is_quit_answer (command_at li
 unfolding command_at
 command_quit limit text =
     let w = trimmed text in
-    (verbs_alike limit MESSAGE_LIMIT (before_first (λ b. b == space) w) (behind_spaces (after_first (λ b. b == space) w))).alike
+    (verbs_alike limit MESSAGE_LIMIT (before_first (λ b. b == space) w) (after_spaces (after_first (λ b. b == space) w))).alike
 
 -- the session ends exactly with QUIT
 line_ends : (site : Site) (s : Session) (text : List ℕ) → TakesLines s.state → (step site s (Line text)).next.state ≡ Ended → is_quit (Line text) ≡ true

@@ -14,7 +14,7 @@ use Rattle.lmtp_talk.specs.declared.ending.EndCause.TheVariants as ends
 use Rattle.lmtp_talk.specs.Peer.{PeerState, HasTransferred}
 use Rattle.lmtp_talk.specs.Saying.{OutboxView, HasSaid}
 use Rattle.lmtp_talk.specs.Standing.{Comes, IsInside, IsSoFar, standing, beginning}
-use Rattle.lmtp_talk.specs.Turns.{Greets, TakesTurn, EndsTurn, HandlesPiece, quit_or, end_behind}
+use Rattle.lmtp_talk.specs.Turns.{Greets, TakesTurn, EndsTurn, HandlesPiece, quit_or, end_after}
 use Rattle.lmtp_talk.proofs.Written.{moved_none, said_reading}
 use Rattle.lmtp_talk.proofs.CutUp.{cut_none}
 use Rattle.lmtp_talk.proofs.Entered.{with_none}
@@ -32,7 +32,7 @@ pub stands_reading : (site : Site) (start peer later : PeerState) (Before Come :
     → IsSoFar (beginning site start Before) (standing dialogue peer Come Drafting) handled came → HasTransferred peer later more [] → IsSoFar (beginning site start Before) (standing dialogue later Come Drafting) handled (came ++ more)
 stands_reading site start peer later Before Come Drafting dialogue handled came more h w = record {
   done = h.done;
-  front = h.front;
+  prefix = h.prefix;
   rest = h.rest;
   whole = h.whole;
   cut = h.cut;
@@ -52,11 +52,11 @@ stands_still site start peer later Before Come Drafting dialogue handled came h 
     subst (λ l. IsSoFar (beginning site start Before) (standing dialogue later Come Drafting) handled l) (append-nil came) (stands_reading site start peer later Before Come Drafting dialogue handled came [] h w)
 
 inside_same : (state : State) (dialogue : Dialogue) (outbox : OutboxView) (rest : List ℕ) (come : Type 0) (drafts : List ℕ → Type 0) → IsInside state dialogue rest come drafts → IsInside state (record dialogue { outbox = outbox }) rest come drafts
-inside_same Fresh dialogue outbox rest come drafts x = record { behind = x.behind; comes = x.comes }
-inside_same Greeted dialogue outbox rest come drafts x = record { behind = x.behind; comes = x.comes }
-inside_same Sender dialogue outbox rest come drafts x = record { behind = x.behind; comes = x.comes }
-inside_same Recipients dialogue outbox rest come drafts x = record { behind = x.behind; comes = x.comes }
-inside_same Content dialogue outbox rest come drafts x = record { made = x.made; next = x.next; behind = x.behind; drafting = x.drafting }
+inside_same Fresh dialogue outbox rest come drafts x = record { after = x.after; comes = x.comes }
+inside_same Greeted dialogue outbox rest come drafts x = record { after = x.after; comes = x.comes }
+inside_same Sender dialogue outbox rest come drafts x = record { after = x.after; comes = x.comes }
+inside_same Recipients dialogue outbox rest come drafts x = record { after = x.after; comes = x.comes }
+inside_same Content dialogue outbox rest come drafts x = record { made = x.made; next = x.next; after = x.after; drafting = x.drafting }
 inside_same Waiting dialogue outbox rest come drafts x = absurd x
 inside_same Ended dialogue outbox rest come drafts x = x
 
@@ -66,7 +66,7 @@ pub stands_flushed : (site : Site) (start peer later : PeerState) (Before Come :
     → later.stops ≡ peer.stops → later.told ≡ peer.told → IsSoFar (beginning site start Before) (standing dialogue peer Come Drafting) handled came → IsSoFar (beginning site start Before) (standing (record dialogue { outbox = outbox }) later Come Drafting) handled came
 stands_flushed site start peer later Before Come Drafting dialogue outbox handled came says same untold h = record {
   done = h.done;
-  front = h.front;
+  prefix = h.prefix;
   rest = h.rest;
   whole = h.whole;
   cut = h.cut;
@@ -93,7 +93,7 @@ pub begins : (site : Site) (before after : PeerState) (Come : ℕ → List Trans
     → old.session.site ≡ site → Greets old new before after → IsSoFar (beginning site before Come) (standing new after Come Drafting) [] []
 begins site before after Come Drafting old new here h = record {
   done = [];
-  front = [];
+  prefix = [];
   rest = [];
   whole = refl;
   cut = cut_none site;
@@ -104,7 +104,7 @@ begins site before after Come Drafting old new here h = record {
   logged = λ n ts c. h.untold ∙ with_none before.told;
   said = subst (λ l. HasSaid before after new.outbox [] l) (ap (λ (x : Site). reply_text x Greeting) here ∙ sym (append-nil (reply_text site Greeting))) h.said;
   inside = subst (λ (s : State). IsInside s new [] (Comes site [] Come Come) (λ made. Comes site [] Come (λ n ts. Drafting n ts made))) (sym (ap (λ (s : Session). s.state) h.session))
-      (record { behind = h.wire; comes = λ n ts c. subst (λ l. Come n l) (sym (append-nil ts)) c });
+      (record { after = h.wire; comes = λ n ts c. subst (λ l. Come n l) (sym (append-nil ts)) c });
 }
 
 -- bytes came and are handled: the conversation has ended with them, or goes on
@@ -135,7 +135,7 @@ module _ {D : Type 0} (HasCome : D → ℕ → List Transaction → Type 0) (IsD
       absurd (subst (λ (x : State). IsInside x new s.rest (Comes site s.done (HasCome first) (HasCome later)) (λ made. Comes site s.done (HasCome first) (λ n ts. IsDrafting later n ts made))) waits s.inside)
 
   pub turns_by : (state : State) → new.session.session.state ≡ state → new.outbox.pending ≡ [] → 0 < length piece → HasTransferred before read piece [] → HandlesPiece HasCome IsDrafting (talk old read delivery) (talk new after later) piece
-      → MatchOption (end_behind state new.outbox.broken) (TakesTurn HasCome IsDrafting (talk old before delivery) (talk new after later)) (λ end. (reads : ℕ) → EndsTurn HasCome IsDrafting reads (talk old before delivery) (talk new after later) end)
+      → MatchOption (end_after state new.outbox.broken) (TakesTurn HasCome IsDrafting (talk old before delivery) (talk new after later)) (λ end. (reads : ℕ) → EndsTurn HasCome IsDrafting reads (talk old before delivery) (talk new after later) end)
   turns_by Fresh e none some w handles = goes_on some w handles
   turns_by Greeted e none some w handles = goes_on some w handles
   turns_by Sender e none some w handles = goes_on some w handles

@@ -40,15 +40,15 @@ moved_reading s t u a b c x y = subst (λ l. HasMoved s u (a ++ b) l) (append-ni
 
 -- the peer was given the text up to the rest
 pub record GivenUpTo (old new : PeerState) (text rest : List ℕ) : Type 0 where
-  pub front : List ℕ
-  pub whole : text ≡ front ++ rest
-  pub worked : HasTransferred old new [] front
+  pub prefix : List ℕ
+  pub whole : text ≡ prefix ++ rest
+  pub worked : HasTransferred old new [] prefix
 
 pub given_next : (s t u : PeerState) (text a b : List ℕ) → GivenUpTo s t text (a ++ b) → HasTransferred t u [] a → GivenUpTo s u text b
 given_next s t u text a b x y = record {
-  front = x.front ++ a;
-  whole = x.whole ∙ sym (append_assoc x.front a b);
-  worked = record { moved = moved_writing s t u [] x.front a x.worked.moved y.moved; sound = y.sound ∙ x.worked.sound; same = y.same ∙ x.worked.same; untold = y.untold ∙ x.worked.untold };
+  prefix = x.prefix ++ a;
+  whole = x.whole ∙ sym (append_assoc x.prefix a b);
+  worked = record { moved = moved_writing s t u [] x.prefix a x.worked.moved y.moved; sound = y.sound ∙ x.worked.sound; same = y.same ∙ x.worked.same; untold = y.untold ∙ x.worked.untold };
 }
 
 pub given_more : (s t u : PeerState) (text rest : List ℕ) (n : ℕ) → GivenUpTo s t text rest → HasTransferred t u [] (take n rest)
@@ -68,12 +68,12 @@ flushed start s t (Ok x) pending came text h ok err = record {
   is = record { whole = h.is.whole ∙ sym (append-nil (h.written ++ pending)); sound = ok.sound ∙ h.is.sound };
 }
 flushed start s t (Err e) pending came text h ok err = record {
-  written = h.written ++ err.front;
-  moved = moved_writing start s t came h.written err.front h.moved err.moved;
+  written = h.written ++ err.prefix;
+  moved = moved_writing start s t came h.written err.prefix h.moved err.moved;
   is = record {
     begins = record {
       rest = err.begins.rest;
-      whole = h.is.whole ∙ ap (λ l. h.written ++ l) err.begins.whole ∙ sym (append_assoc h.written err.front err.begins.rest);
+      whole = h.is.whole ∙ ap (λ l. h.written ++ l) err.begins.whole ∙ sym (append_assoc h.written err.prefix err.begins.rest);
     };
     failed = rises_from start.failures s.failures t.failures h.is.sound err.failed;
   };
@@ -112,13 +112,13 @@ pub all_said : (site : Site) (rs : List Reply) (n : ℕ) (text : List ℕ) → n
 all_said site rs n text e = ap (λ l. text ++ reply_texts site l) (ap (λ k. take k rs) e ∙ take-length rs)
 
 -- what is put after a prefix of a buffer follows that prefix
-pub put_behind : (k n size : ℕ) (buffer new post tail : List ℕ) → k ≤ length buffer → k + n ≤ size → n ≤ length new
+pub put_after : (k n size : ℕ) (buffer new post tail : List ℕ) → k ≤ length buffer → k + n ≤ size → n ≤ length new
     → take (k + n) (take size ((take k buffer ++ (new ++ post)) ++ tail)) ≡ take k buffer ++ take n new
-put_behind k n size buffer new post tail within fits wrote =
-    let front : length (take k buffer) ≡ k = length-take-le k buffer within in
-    let long : k + n ≤ length (take k buffer ++ (new ++ post)) = omega (arith, front, wrote, length-append (take k buffer) (new ++ post), length-append new post) in
+put_after k n size buffer new post tail within fits wrote =
+    let prefix : length (take k buffer) ≡ k = length-take-le k buffer within in
+    let long : k + n ≤ length (take k buffer ++ (new ++ post)) = omega (arith, prefix, wrote, length-append (take k buffer) (new ++ post), length-append new post) in
     take-take (k + n) size ((take k buffer ++ (new ++ post)) ++ tail) fits
     ∙ take-append-le (k + n) (take k buffer ++ (new ++ post)) tail long
-    ∙ ap (λ j. take (j + n) (take k buffer ++ (new ++ post))) (sym front)
+    ∙ ap (λ j. take (j + n) (take k buffer ++ (new ++ post))) (sym prefix)
     ∙ take-append-add (take k buffer) (new ++ post) n
     ∙ ap (λ l. take k buffer ++ l) (take-append-le n new post wrote)

@@ -3,16 +3,16 @@ use Rattle.std.specs.Prelude.{◌≡◌, ℕ, ⊤, Bool, true, false, List, [], 
 use Rattle.mail_world.specs.declared.Reply.{Reply}
 use Rattle.mail_world.specs.declared.Reply.TheVariants.{GoAhead}
 use Rattle.mail_world.specs.Failures.{Rises}
-use Rattle.mail_world.specs.Fronts.{IsFront}
+use Rattle.mail_world.specs.Prefixes.{IsPrefix}
 use Rattle.lmtp_session.specs.declared.act.Act.{Act}
 use Rattle.lmtp_session.specs.declared.act.Act.TheVariants.{Say, ReadData, Deliver, Answer, Quit}
 use Rattle.lmtp_talk.specs.Peer.{PeerState, HasMoved}
 
 -- a prefix of the bytes was written, and a write failed
 pub record BreaksOff (old new : PeerState) (bytes : List ℕ) : Type 0 where
-  pub front : List ℕ
-  pub begins : IsFront front bytes
-  pub moved : HasMoved old new [] front
+  pub prefix : List ℕ
+  pub begins : IsPrefix prefix bytes
+  pub moved : HasMoved old new [] prefix
   pub failed : Rises old.failures new.failures
   pub same : new.stops ≡ old.stops
   pub untold : new.told ≡ old.told
@@ -24,7 +24,7 @@ pub record IsWhole (start now : PeerState) (written pending text : List ℕ) : T
 
 -- a write failed, and nothing was written after it
 pub record IsBroken (start now : PeerState) (written text : List ℕ) : Type 0 where
-  pub begins : IsFront written text
+  pub begins : IsPrefix written text
   pub failed : Rises start.failures now.failures
 
 abbrev pub IsSaid : Bool → PeerState → PeerState → List ℕ → List ℕ → List ℕ → Type 0

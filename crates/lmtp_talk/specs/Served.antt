@@ -7,7 +7,7 @@ use Rattle.mail_world.specs.Commands.{Answer, Quit, command}
 use Rattle.mail_world.specs.Session.{fresh, Input, Line}
 use Rattle.mail_world.specs.Conversation.{Conversation, IsAccount, inputs, replies, parts}
 use Rattle.mail_world.specs.Lists.{Transaction, accepted_after, transactions_of}
-use Rattle.mail_world.specs.Fronts.{IsFront}
+use Rattle.mail_world.specs.Prefixes.{IsPrefix}
 use Rattle.lmtp_talk.specs.declared.ending.EndCause.{EndCause}
 use Rattle.lmtp_talk.specs.declared.ending.EndCause.TheVariants as ends
 use Rattle.lmtp_talk.specs.Entries.{entries_in, with_entries}
@@ -28,15 +28,15 @@ has_quit (x ∷ xs) = is_quit x || has_quit xs
 
 -- a text is written, or a prefix of it where a write failed
 pub record IsWritten (text : List ℕ) (fails : Type 0) (done : List ℕ) : Type 0 where
-  pub begins : IsFront done text
+  pub begins : IsPrefix done text
   pub whole : (fails → ⊥) → done ≡ text
 
 -- the data of a conversation, before which n DATA commands were accepted, and how many were accepted after it
 abbrev pub transactions_in : Site → ℕ → Conversation → List Transaction
 transactions_in site n c = transactions_of site n fresh (parts site fresh c.bytes c.dispositions)
 
-abbrev pub accepted_behind_all : Site → ℕ → Conversation → ℕ
-accepted_behind_all site n c = accepted_after site n fresh (parts site fresh c.bytes c.dispositions)
+abbrev pub accepted_after_conversation : Site → ℕ → Conversation → ℕ
+accepted_after_conversation site n c = accepted_after site n fresh (parts site fresh c.bytes c.dispositions)
 
 -- what a conversation keeps to: the site, and how many reads it may make
 pub record Terms : Type 0 where
@@ -81,7 +81,7 @@ pub record IsServed (by : Terms) (old new : PeerState) (Before After : ℕ → L
   -- the delivery got just these messages, each in its session, in their order, and its outcomes are those of the
   -- account
   pub delivered : (n : ℕ) (ts : List Transaction) → Before n ts
-      → After (accepted_behind_all by.site n conversation) (ts ++ transactions_in by.site n conversation)
+      → After (accepted_after_conversation by.site n conversation) (ts ++ transactions_in by.site n conversation)
   -- the log was told an entry for each reply to its lines and its data, in their order
   pub logged : (n : ℕ) (ts : List Transaction) → Before n ts
       → new.told ≡ with_entries old.told (entries_in by.site n conversation)

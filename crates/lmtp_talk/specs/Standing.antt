@@ -6,11 +6,11 @@ use Rattle.mail_world.specs.declared.Reply.TheVariants.{Greeting}
 use Rattle.mail_world.specs.Site.{Site}
 use Rattle.mail_world.specs.Session.{fresh, Input}
 use Rattle.mail_world.specs.Replies.{reply_text, reply_texts}
-use Rattle.mail_world.specs.Conversation.{Disposition, Part, inputs_of, session_behind, replies_to, parts, size_of}
+use Rattle.mail_world.specs.Conversation.{Disposition, Part, inputs_of, session_after_parts, replies_to, parts, size_of}
 use Rattle.mail_world.specs.Conversation.{AllFit}
 use Rattle.mail_world.specs.Dispositions.{dispositions_of}
 use Rattle.mail_world.specs.Lists.{Transaction, accepted_after, transactions_of}
-use Rattle.lmtp_wire.specs.Wire.{IsBehind}
+use Rattle.lmtp_wire.specs.Wire.{IsAfter}
 use Rattle.lmtp_wire.specs.Dot.{HasMade}
 use Rattle.lmtp_talk.specs.declared.dialogue.Dialogue.{Dialogue}
 use Rattle.lmtp_talk.specs.Entries.{entries_of, with_entries}
@@ -22,7 +22,7 @@ use Rattle.lmtp_talk.specs.Served.{has_quit}
 pub record IsCutUp (site : Site) (done : List ℕ) (ps : List Part) : Type 0 where
   pub goes : (more : List ℕ) (ds : List Disposition)
       → parts site fresh (done ++ more) (dispositions_of ps ++ ds) ≡ ps
-      ++ parts site (session_behind site fresh ps) more ds
+      ++ parts site (session_after_parts site fresh ps) more ds
   pub size : sum_by size_of ps ≡ length done
   pub fit : AllFit site fresh ps
 
@@ -38,14 +38,14 @@ Comes site ps Before Now = (n : ℕ) (ts : List Transaction) → Before n ts
 
 -- inside a line, of which these bytes were taken
 pub record InLine (dialogue : Dialogue) (rest : List ℕ) (come : Type 0) : Type 0 where
-  pub behind : IsBehind dialogue.wire rest
+  pub after : IsAfter dialogue.wire rest
   pub comes : come
 
 -- inside data, of which these bytes were taken, with a draft of what was made of them
 pub record InData (dialogue : Dialogue) (rest : List ℕ) (drafts : List ℕ → Type 0) : Type 0 where
   pub made : List ℕ
-  pub next : IsBehind dialogue.wire []
-  pub behind : HasMade dialogue.dot rest made
+  pub next : IsAfter dialogue.wire []
+  pub after : HasMade dialogue.dot rest made
   pub drafting : drafts made
 
 abbrev pub IsInside : State → Dialogue → List ℕ → Type 0 → (List ℕ → Type 0) → Type 0
@@ -77,12 +77,12 @@ standing dialogue peer come drafting = record { dialogue = dialogue; peer = peer
 -- Of the bytes that came since the beginning of the conversation, these are handled.
 pub record IsSoFar (first : Beginning) (now : Standing) (handled came : List ℕ) : Type 0 where
   pub done : List Part
-  pub front : List ℕ
+  pub prefix : List ℕ
   pub rest : List ℕ
-  pub whole : handled ≡ front ++ rest
-  pub cut : IsCutUp first.site front done
+  pub whole : handled ≡ prefix ++ rest
+  pub cut : IsCutUp first.site prefix done
   pub same_site : now.dialogue.session.site ≡ first.site
-  pub session : now.dialogue.session.session ≡ session_behind first.site fresh done
+  pub session : now.dialogue.session.session ≡ session_after_parts first.site fresh done
   pub quits : QuitsWith now.dialogue.session.session.state (flat_map inputs_of done)
   pub said : HasSaid first.peer now.peer now.dialogue.outbox came
       (reply_text first.site Greeting ++ reply_texts first.site (replies_to first.site fresh (flat_map inputs_of done)))

@@ -5,7 +5,7 @@ use Rattle.mail_world.specs.Site.{Site}
 use Rattle.mail_world.specs.Session.{fresh}
 use Rattle.mail_world.specs.Replies.{reply_text}
 use Rattle.mail_world.specs.Lists.{Transaction}
-use Rattle.lmtp_wire.specs.Wire.{IsBehind}
+use Rattle.lmtp_wire.specs.Wire.{IsAfter}
 use Rattle.lmtp_talk.specs.declared.dialogue.Dialogue.{Dialogue}
 use Rattle.lmtp_talk.specs.declared.ending.EndCause.{EndCause}
 use Rattle.lmtp_talk.specs.declared.ending.EndCause.TheVariants as ends
@@ -21,7 +21,7 @@ use Rattle.lmtp_talk.specs.Steps.{Talk, standing_of}
 pub record Greets (old new : Dialogue) (before after : PeerState) : Type 0 where
   pub site : new.session.site ≡ old.session.site
   pub session : new.session.session ≡ fresh
-  pub wire : IsBehind new.wire []
+  pub wire : IsAfter new.wire []
   pub same : after.stops ≡ before.stops
   pub untold : after.told ≡ before.told
   pub said : HasSaid before after new.outbox [] (reply_text old.session.site Greeting)
@@ -65,10 +65,10 @@ abbrev pub quit_or : Bool → EndCause
 quit_or true = ends.WriteFault
 quit_or false = ends.Quit
 
-abbrev pub end_behind : State → Bool → Option EndCause
-end_behind Ended broken = Some (quit_or broken)
-end_behind Waiting broken = Some (quit_or broken)
-end_behind _ broken = None
+abbrev pub end_after : State → Bool → Option EndCause
+end_after Ended broken = Some (quit_or broken)
+end_after Waiting broken = Some (quit_or broken)
+end_after _ broken = None
 
 abbrev pub stopped_or : Bool → EndCause
 stopped_or true = ends.WriteFault

@@ -5,7 +5,7 @@ ghost use Rattle.mail_world.specs.Session.{Stop};
 ghost use Rattle.mail_world.specs.Lists.{is_content};
 ghost use Rattle.lmtp_session.specs.Steps.{MayStop};
 ghost use Rattle.lmtp_talk.specs.Steps.{talk, TakesInputs};
-ghost use Rattle.lmtp_talk.specs.Turns.{Greets, Leaves, TakesTurn, EndsTurn, HandlesPiece, end_behind, stopped_or};
+ghost use Rattle.lmtp_talk.specs.Turns.{Greets, Leaves, TakesTurn, EndsTurn, HandlesPiece, end_after, stopped_or};
 ghost use Rattle.lmtp_talk.specs.Peer.{WasRead};
 ghost use Rattle.lmtp_talk.specs.Served.{terms, HasRead, IsServed};
 
@@ -152,7 +152,7 @@ fn take_piece<P: Peer, D: Delivery>(
 
 // After QUIT the conversation has ended. A write that failed before it is noticed now, and else in the next turn.
 fn end_or_go_on(dialogue: &Dialogue) -> Option<EndCause>
-    ensures { result ≡ end_behind dialogue.now.session.session.state dialogue.now.outbox.broken }
+    ensures { result ≡ end_after dialogue.now.session.session.state dialogue.now.outbox.broken }
 {
     match dialogue.session.state() {
         State::Ended | State::Waiting => Some(if dialogue.outbox.is_broken() {

@@ -33,7 +33,7 @@ pub fn handle<P: Peer, D: Delivery>(
 {
     let mut at = 0;
     while at < piece.len() {
-        let Some(used) = take_front(dialogue, peer, delivery, &piece[at..]) else {
+        let Some(used) = take_prefix(dialogue, peer, delivery, &piece[at..]) else {
             return;
         };
         at += used;
@@ -41,7 +41,7 @@ pub fn handle<P: Peer, D: Delivery>(
 }
 
 // Handles a prefix of the bytes, and says how many; `None` after QUIT.
-fn take_front<P: Peer, D: Delivery>(
+fn take_prefix<P: Peer, D: Delivery>(
     dialogue: &mut Dialogue,
     peer: &mut P,
     delivery: &mut D,

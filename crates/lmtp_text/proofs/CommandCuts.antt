@@ -51,8 +51,8 @@ last_index text k = let e : k + 1 - 1 ≡ k = omega arith in rw e refl
 blanks_before : (text : List ℕ) (k : ℕ) → Passes (not_in (32 ∷ 9 ∷ [])) text k → has_byte (space ∷ tab ∷ []) (get_or text (k + 1 - 1) 0) ≡ false
 blanks_before text k here = rw last_index (sym (blanks _) ∙ not_true _ here)
 
-pub blanks_behind : (text : List ℕ) (k : ℕ) → NoneAfter (Passes (not_in (32 ∷ 9 ∷ [])) text) 0 (length text) k → Passes (not_in (32 ∷ 9 ∷ [])) text k → length text - suffix_len (has_byte (space ∷ tab ∷ [])) text ≡ k + 1
-blanks_behind text k none here =
+pub blanks_after : (text : List ℕ) (k : ℕ) → NoneAfter (Passes (not_in (32 ∷ 9 ∷ [])) text) 0 (length text) k → Passes (not_in (32 ∷ 9 ∷ [])) text k → length text - suffix_len (has_byte (space ∷ tab ∷ [])) text ≡ k + 1
+blanks_after text k none here =
     let e = suffix_len_is (has_byte (space ∷ tab ∷ [])) text (k + 1) 0 (omega arith)
     (λ j above below. sym (blanks _) ∙ not_not _ (none.after j above below))
     (λ _. blanks_before text k here) in

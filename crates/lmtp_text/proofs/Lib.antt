@@ -7,6 +7,6 @@ pub mod TextLists
 pub mod CommandCuts
 pub mod ParameterLists
 pub mod ParameterTallies
-pub mod PathFronts
+pub mod PathPrefixes
 pub mod CalendarDates
 pub mod CalendarMoments

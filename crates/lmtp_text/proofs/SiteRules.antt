@@ -26,17 +26,17 @@ boxes_named site sound =
     let count = no_fault ((length site.boxes == 0) || nat_lt BOX_LIMIT (length site.boxes)) BadCount named domains.1 in
     were_true (list_all is_box_name site.boxes) (no_fault (not (list_all is_box_name site.boxes)) BadBox twice count.1).0
 
-front_true : (a b : Bool) → (a && b) ≡ true → (a ≡ true) × (b ≡ true)
-front_true true b e = (refl, e)
-front_true false b e = cc
+prefix_true : (a b : Bool) → (a && b) ≡ true → (a ≡ true) × (b ≡ true)
+prefix_true true b e = (refl, e)
+prefix_true false b e = cc
 
 name_size : (text : List ℕ) → is_box_name text ≡ true → length text ≤ BOX_NAME_LIMIT
-name_size text e = grind (arith, nat_tests, front_true)
+name_size text e = grind (arith, nat_tests, prefix_true)
 
 name_in : (names : List (List ℕ)) (i : ℕ) → list_all is_box_name names ≡ true → length (unwrap_or (slice_get names i) []) ≤ BOX_NAME_LIMIT
 name_in [] i e = omega arith
-name_in (x ∷ xs) zero e = name_size x (front_true _ _ e).0
-name_in (x ∷ xs) (suc i) e = name_in xs i (front_true _ _ e).1
+name_in (x ∷ xs) zero e = name_size x (prefix_true _ _ e).0
+name_in (x ∷ xs) (suc i) e = name_in xs i (prefix_true _ _ e).1
 
 -- a mailbox's name has a bounded length, and so has that of no mailbox
 pub box_name-bounded : (site : Site) (i : ℕ) → IsSite site → length (box_name site i) ≤ BOX_NAME_LIMIT

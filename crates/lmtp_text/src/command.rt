@@ -8,7 +8,7 @@ ghost use Rattle.mail_world.specs.Text.{has_byte};
 ghost use Rattle.lmtp_text.specs.Seen.{seen_answer, seen_command, seen_target};
 
 use crate::alphabet::is_visible_byte;
-use crate::cut::{begins_with_byte, split_at_byte, without_blanks_behind, without_spaces_before};
+use crate::cut::{begins_with_byte, split_at_byte, without_blanks_after, without_spaces_before};
 use crate::names::is_word;
 use crate::parameters::{check_mail_parameters, has_parameters};
 use crate::path::{read_forward_path, read_reverse_path};
@@ -53,7 +53,7 @@ pub fn read_command<'a>(line: &'a [u8]) -> Result<Command<'a>, BadCommand>
 pub fn read_command_at<'a>(line: &'a [u8], limit: u32) -> Result<Command<'a>, BadCommand>
     ensures { seen_answer result ≡ m.command_at limit line.now }
 {
-    let (verb, rest) = split_at_byte(without_blanks_behind(line), b' ');
+    let (verb, rest) = split_at_byte(without_blanks_after(line), b' ');
     by_verb(verb, without_spaces_before(rest), limit)
 }
 
@@ -128,12 +128,12 @@ fn all_of_name(text: &[u8]) -> bool
 }
 
 /// What stands after the label and further spaces, where the text begins with the label in any case of letters.
-fn behind_label<'a>(label: &[u8], text: &'a [u8]) -> Option<&'a [u8]>
-    ensures { option_map (λ rest. rest.now) result ≡ m.behind_label label.now text.now }
+fn after_label<'a>(label: &[u8], text: &'a [u8]) -> Option<&'a [u8]>
+    ensures { option_map (λ rest. rest.now) result ≡ m.after_label label.now text.now }
 {
     let n = label.len().min(text.len());
-    let (front, rest) = text.split_at(n);
-    if is_word(front, label) {
+    let (prefix, rest) = text.split_at(n);
+    if is_word(prefix, label) {
         Some(without_spaces_before(rest))
     } else {
         None
@@ -149,9 +149,9 @@ fn ends_path(rest: &[u8]) -> bool
 
 /// MAIL with the sender's path and parameters.
 fn read_mail(rest: &[u8], limit: u32) -> Result<Command, BadCommand>
-    ensures { seen_answer result ≡ m.mail limit (m.behind_label (codes "FROM:") rest.now) }
+    ensures { seen_answer result ≡ m.mail limit (m.after_label (codes "FROM:") rest.now) }
 {
-    let text = behind_label(b"FROM:", rest).ok_or(BadCommand::Arguments)?;
+    let text = after_label(b"FROM:", rest).ok_or(BadCommand::Arguments)?;
     let path = read_reverse_path(text).ok_or(BadCommand::SenderSyntax)?;
     if !ends_path(path.rest) {
         return Err(BadCommand::SenderSyntax);
@@ -163,9 +163,9 @@ fn read_mail(rest: &[u8], limit: u32) -> Result<Command, BadCommand>
 /// RCPT with the recipient's path, which may have no parameters.
 #[tactic(auto, using(crate::proofs::ParameterLists::rcpt_refused))]
 fn read_rcpt(rest: &[u8]) -> Result<Command, BadCommand>
-    ensures { seen_answer result ≡ m.rcpt (m.behind_label (codes "TO:") rest.now) }
+    ensures { seen_answer result ≡ m.rcpt (m.after_label (codes "TO:") rest.now) }
 {
-    let text = behind_label(b"TO:", rest).ok_or(BadCommand::Arguments)?;
+    let text = after_label(b"TO:", rest).ok_or(BadCommand::Arguments)?;
     let path = read_forward_path(text).ok_or(BadCommand::RecipientSyntax)?;
     if !ends_path(path.rest) {
         return Err(BadCommand::RecipientSyntax);

@@ -3,7 +3,7 @@
 ghost use Rattle.std.specs.Prelude.{◌≡◌, ◌==◌, IfSome, IfNone, is_some, []};
 ghost use Rattle.std.specs.List.{before_first, after_first};
 ghost use Rattle.mail_world.specs.Text.{begins, has_byte};
-ghost use Rattle.mail_world.specs.Commands.{trimmed, behind_spaces};
+ghost use Rattle.mail_world.specs.Commands.{trimmed, after_spaces};
 
 use bstr::ByteSlice;
 
@@ -30,7 +30,7 @@ pub(crate) fn split_at_byte(text: &[u8], byte: u8) -> (&[u8], &[u8])
 }
 
 /// The text without the spaces and tabs at its end.
-pub(crate) fn without_blanks_behind(text: &[u8]) -> &[u8]
+pub(crate) fn without_blanks_after(text: &[u8]) -> &[u8]
     ensures { result.now ≡ trimmed text.now }
 {
     match text.rfind_not_byteset(b" \t") {
@@ -41,7 +41,7 @@ pub(crate) fn without_blanks_behind(text: &[u8]) -> &[u8]
 
 /// The text without the spaces at its beginning.
 pub(crate) fn without_spaces_before(text: &[u8]) -> &[u8]
-    ensures { result.now ≡ behind_spaces text.now }
+    ensures { result.now ≡ after_spaces text.now }
 {
     match text.find_not_byteset(b" ") {
         Some(first) => &text[first..],

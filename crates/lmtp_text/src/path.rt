@@ -108,9 +108,9 @@ fn quoted_len(text: &[u8]) -> Option<usize>
 }
 
 /// The first n bytes, if there are any.
-fn some_front(text: &[u8], n: usize) -> Option<Found<&[u8]>>
+fn some_prefix(text: &[u8], n: usize) -> Option<Found<&[u8]>>
     requires { n ≤ length text.now }
-    ensures value { option_map seen_text result ≡ m.some_front n text.now }
+    ensures value { option_map seen_text result ≡ m.some_prefix n text.now }
     ensures within { IfSome result (λ found. length found.rest.now ≤ length text.now) }
 {
     if n == 0 {
@@ -125,7 +125,7 @@ fn plain_local(text: &[u8]) -> Option<Found<&[u8]>>
     ensures value { option_map seen_text result ≡ m.plain_local text.now }
     ensures within { IfSome result (λ found. length found.rest.now ≤ length text.now) }
 {
-    some_front(text, plain_len(text))
+    some_prefix(text, plain_len(text))
 }
 
 /// The text after the quote that opens a local part: the part without its quotes.
@@ -149,7 +149,7 @@ fn domain_at(text: &[u8]) -> Option<Found<&[u8]>>
     if n > NAME_LIMIT {
         return None;
     }
-    some_front(text, n)
+    some_prefix(text, n)
 }
 
 /// An address in brackets, with them; the text begins with the one that opens it.
@@ -163,7 +163,7 @@ fn literal_at(text: &[u8]) -> Option<Found<&[u8]>>
     if n == 0 || !begins_with_byte(&inner[n..], b']') {
         return None;
     }
-    some_front(text, n + 2)
+    some_prefix(text, n + 2)
 }
 
 /// A domain or an address in brackets.
@@ -214,8 +214,8 @@ fn mailbox_at(text: &[u8]) -> Option<Found<Target>>
 }
 
 /// What stands after a source route (RFC 5321, Appendix C); the text itself where no at sign begins one.
-fn behind_route(text: &[u8]) -> Option<&[u8]>
-    ensures { option_map (λ rest. rest.now) result ≡ m.behind_route text.now }
+fn after_route(text: &[u8]) -> Option<&[u8]>
+    ensures { option_map (λ rest. rest.now) result ≡ m.after_route text.now }
 {
     if !begins_with_byte(text, b'@') {
         return Some(text);
@@ -253,7 +253,7 @@ pub(crate) fn read_forward_path(text: &[u8]) -> Option<Found<Path>>
 {
     match text {
         [b'<', inner @ ..] => {
-            let mailbox = behind_route(inner)?;
+            let mailbox = after_route(inner)?;
             closed_at(mailbox, mailbox_at(mailbox)?)
         }
         _ => None,

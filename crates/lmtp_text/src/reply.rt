@@ -33,7 +33,7 @@ fn refusal(why: BadCommand) -> &'static [u8]
     }
 }
 
-fn outcome_front(outcome: Outcome) -> &'static [u8]
+fn outcome_prefix(outcome: Outcome) -> &'static [u8]
     ensures value { (name : List ℕ) → result.now ++ name ++ crlf ≡ outcome_text outcome name }
     ensures size { length result.now ≤ 64 }
 {
@@ -50,7 +50,7 @@ fn outcome_front(outcome: Outcome) -> &'static [u8]
 #[tactic(auto, unfolding(mail_world::specs::Replies::reply_text))]
 fn pieces<'a>(reply: Reply, site: &'a Site) -> Option<Pieces<'a>>
     ensures text { IfSome result (λ p. p.0.now ++ p.1.now ++ p.2.now ≡ reply_text site.now reply) }
-    ensures front { IfSome result (λ p. length p.0.now ≤ 64) }
+    ensures prefix { IfSome result (λ p. length p.0.now ≤ 64) }
     ensures name { IfSome result (λ p. length p.1.now ≤ NAME_LIMIT) }
     ensures back { IfSome result (λ p. length p.2.now ≤ 128) }
     ensures offer { IfNone result (reply ≡ Reply.Offer) }
@@ -76,7 +76,7 @@ fn pieces<'a>(reply: Reply, site: &'a Site) -> Option<Pieces<'a>>
         Reply::OutOfOrder => Some((b"503 5.5.1 Out of order\r\n", b"", b"")),
         Reply::LineTooLong => Some((b"500 5.5.2 Line too long\r\n", b"", b"")),
         Reply::Refused(why) => Some((refusal(why), b"", b"")),
-        Reply::Result(outcome, i) => Some((outcome_front(outcome), site.box_name(i), b"\r\n")),
+        Reply::Result(outcome, i) => Some((outcome_prefix(outcome), site.box_name(i), b"\r\n")),
     }
 }
 
@@ -89,8 +89,8 @@ fn write_offer(site: &Site, out: &mut [u8]) -> usize
 {
     let mut buffer = Buffer::new();
     let limit = buffer.format(site.message_limit()).as_bytes();
-    let front = put(out, 0, b"250-");
-    let named = put(out, front, site.host());
+    let prefix = put(out, 0, b"250-");
+    let named = put(out, prefix, site.host());
     let offers = b"\r\n250-PIPELINING\r\n250-ENHANCEDSTATUSCODES\r\n250-8BITMIME\r\n250 SIZE ";
     let offered = put(out, named, offers);
     let sized = put(out, offered, limit);
@@ -105,10 +105,10 @@ pub fn write_reply(reply: Reply, site: &Site, out: &mut [u8]) -> usize
     ensures rest { drop result out.new ≡ drop result out.old }
     ensures size { result ≤ REPLY_LIMIT }
 {
-    let Some((front, name, back)) = pieces(reply, site) else {
+    let Some((prefix, name, back)) = pieces(reply, site) else {
         return write_offer(site, out);
     };
-    let named = put(out, 0, front);
-    let behind = put(out, named, name);
-    put(out, behind, back)
+    let named = put(out, 0, prefix);
+    let after = put(out, named, name);
+    put(out, after, back)
 }

@@ -6,7 +6,7 @@ ghost use Rattle.std.specs.Prelude.{◌≡◌, ◌+◌, ◌≤◌, ◌++◌, len
 pub(crate) fn put(out: &mut [u8], at: usize, text: &[u8]) -> usize
     requires { at + length text.now ≤ length out.old }
     ensures end { result ≡ at + length text.now }
-    ensures front { take result out.new ≡ take at out.old ++ text.now }
+    ensures prefix { take result out.new ≡ take at out.old ++ text.now }
     ensures rest { drop result out.new ≡ drop result out.old }
 {
     let end = at + text.len();

@@ -14,7 +14,7 @@ use Rattle.mail_runs.specs.Timed.{TimedDeed, whats}
 use Rattle.mail_runs.specs.Ordered.{AreExchanges}
 use Rattle.mail_post.specs.InTime.{AreInTime}
 use Rattle.mail_post.specs.Channel.{Channel, Sender, Inbox, taken}
-use Rattle.mail_post.proofs.Offered.{none_refused}
+use Rattle.mail_post.proofs.Offered.{none_gone}
 use Rattle.lmtp_lane.specs.LaneExchange.{for_box, lane_sorts}
 use Rattle.mail_world.specs.declared.limits.TheConstants.{READ_LIMIT, RECIPIENT_LIMIT}
 use Rattle.lmtp_talk.specs.Served.{terms}
@@ -193,7 +193,7 @@ module _ {V C R : Type 0} (May : C → ℕ → Type 0) (view : VisitsView V)
               let o = x.offered.each b before after e f in
               let sent : for_box b x.accepted ≡ due p.left.site p.left.lane b (conversations_of h.visits) =
               ap (for_box b) (sym notes_due) ∙ due_is p.left.site p.left.lane b (conversations_of h.visits) in
-              (o.channel, o.number, o.sent ∙ ap (λ l. before.sent ++ l) sent, none_refused (rs p.right) b after (x.whole no) f);
+              (o.channel, o.number, o.sent ∙ ap (λ l. before.sent ++ l) sent, none_gone (rs p.right) b after (x.whole no) f);
         } in
         let heard : Heard p.left (lane_done p.left p.right h) = record {
           channel = h.exchanged.channel;

@@ -17,7 +17,7 @@ use Rattle.box_worker.specs.Stored.{mailbox_of}
 use Rattle.box_worker.specs.TurnTimes.{worker_sorts}
 use Rattle.box_worker.specs.Worked.{idle, HasWorked}
 use Rattle.box_worker.proofs.Handling.{was_closed, none_came_back}
-use Rattle.mail_post.proofs.Offered.{none_refused}
+use Rattle.mail_post.proofs.Offered.{none_gone}
 use Rattle.lmtp_threads.specs.declared.tally.Tally.{Tally}
 use Rattle.lmtp_threads.specs.Works.{WorkerShare, share_of, setting_of, BoxWork, IsBoxWork}
 use Rattle.thread_crew.specs.Channels.{AreRows, none, lane_at, HasLane, HasGiven}
@@ -159,7 +159,7 @@ module _ {S R : Type 0} (state : S → SpoolState) (rr : R → Inbox Note) (rs :
           as_many = h.handled.told.as_many;
           each = λ j before after e f.
               let o = h.handled.told.each j before after e f in
-              let kept : after.refused ≡ false = none_refused (rs p.right) j after (none_came_back _ _ _ _ _ h no) f in
+              let kept : after.gone ≡ false = none_gone (rs p.right) j after (none_came_back _ _ _ _ _ h no) f in
               (o.sent.channel, o.sent.number, o.sent.sent ∙ ap (λ l. before.sent ++ l) (o.all kept), kept);
         } in
         let took : Took p.left.receiver (box_done p.left p.right h).work = record {

@@ -6,7 +6,7 @@ use Rattle.mail_world.proofs.Shortest.{same_window}
 use Rattle.lmtp_wire.specs.Runs.{CutsRun}
 use Rattle.mail_world.specs.Text.{cr, lf, crlf, place_of, begins_with}
 use Rattle.mail_world.specs.Data.{dot, with_dots, stuffed}
-use Rattle.mail_world.proofs.Places.{place_of_stands, begins_with-front}
+use Rattle.mail_world.proofs.Places.{place_of_stands, begins_with-prefix}
 use Rattle.memchr.specs.Find.{FindsNeedle}
 use Rattle.lmtp_wire.proofs.Finding.{finds_place}
 
@@ -69,7 +69,7 @@ some_by false a b c text (Some m) n e f ih =
 
 pub one_dot : (a b : ℕ) (text : List ℕ) (n : ℕ) → place_of dotted (a ∷ b ∷ text) ≡ Some n → with_dots a b text ≡ doubled_at n text
 one_dot a b [] n e = let at = place_of_stands dotted (a ∷ b ∷ []) n e in
-    absurd (omega (arith, ap length at.whole, length-append (at.front ++ dotted) at.rest, length-append at.front dotted))
+    absurd (omega (arith, ap length at.whole, length-append (at.prefix ++ dotted) at.rest, length-append at.prefix dotted))
 one_dot a b (c ∷ text) n e = some_by (begins_with dotted (a ∷ b ∷ c ∷ text)) a b c text (place_of dotted (b ∷ c ∷ text)) n refl e (λ m h. one_dot b c text m h)
 
 -- after a doubled dot, or anything else that no CRLF ends
@@ -77,18 +77,18 @@ later : (o : Option ℕ) → option_map (λ n. suc n) (option_map (λ n. suc n) 
 later None = refl
 later (Some n) = refl
 
-behind_dot : (text : List ℕ) → place_of dotted (lf ∷ dot ∷ text) ≡ option_map (λ n. suc (suc n)) (place_of dotted text)
-behind_dot text = later (place_of dotted text)
+after_dot : (text : List ℕ) → place_of dotted (lf ∷ dot ∷ text) ≡ option_map (λ n. suc (suc n)) (place_of dotted text)
+after_dot text = later (place_of dotted text)
 
 -- a turn of the loop: up to the next dot, and what is left after it
 pub next_run : (text : List ℕ) (n : ℕ) → place_of dotted text ≡ Some n
     → with_dots lf dot text ≡ take (n + 2) text ++ dot ∷ dot ∷ with_dots lf dot (drop (n + 3) text)
 next_run text n e =
-    one_dot lf dot text (n + 2) (behind_dot text ∙ ap (λ o. option_map (λ n. suc (suc n)) o) e ∙ ap (λ k. Some k) (let r : suc (suc n) ≡ n + 2 = omega arith in r))
+    one_dot lf dot text (n + 2) (after_dot text ∙ ap (λ o. option_map (λ n. suc (suc n)) o) e ∙ ap (λ k. Some k) (let r : suc (suc n) ≡ n + 2 = omega arith in r))
     ∙ ap (λ k. take (n + 2) text ++ dot ∷ dot ∷ with_dots lf dot (drop k text)) (let r : n + 2 + 1 ≡ n + 3 = omega arith in r)
 
 pub last_run : (text : List ℕ) → place_of dotted text ≡ None → with_dots lf dot text ≡ text
-last_run text e = no_dots lf dot text (behind_dot text ∙ ap (λ o. option_map (λ n. suc (suc n)) o) e)
+last_run text e = no_dots lf dot text (after_dot text ∙ ap (λ o. option_map (λ n. suc (suc n)) o) e)
 
 -- a search for the next dot
 rest_of : (k : ℕ) (text : List ℕ) → take (length text - k) (drop k text) ≡ drop k text
@@ -107,7 +107,7 @@ cuts_run text r n some fits h = record {
 -- a message that begins with a dot, or doesn't
 pub dot_first : (text : List ℕ) → begins_with (dot ∷ []) text ≡ true → with_dots cr lf text ≡ dot ∷ with_dots lf dot text
 dot_first text e =
-    let whole : text ≡ dot ∷ drop 1 text = begins_with-front (dot ∷ []) text e in
+    let whole : text ≡ dot ∷ drop 1 text = begins_with-prefix (dot ∷ []) text e in
     ap (λ l. with_dots cr lf l) whole ∙ ap (λ l. dot ∷ dot ∷ l) (same_window lf dot dot (drop 1 text) refl refl) ∙ ap (λ l. dot ∷ with_dots lf dot l) (sym whole)
 
 other_by : (x : Bool) (b : ℕ) (text : List ℕ) → (dot == b) ≡ x → x && true ≡ false → with_dots cr lf (b ∷ text) ≡ with_dots lf dot (b ∷ text)

@@ -8,13 +8,13 @@ use Rattle.mail_world.proofs.Places.{place_of_stands, place_of_least}
 
 stands_occurs : (part text : List ℕ) (n : ℕ) → StandsAt part text n → OccursAt text part n
 stands_occurs part text n at =
-    let whole : text ≡ at.front ++ (part ++ at.rest) = at.whole ∙ append_assoc at.front part at.rest in
-    let fits : n + length part ≤ length text = omega (arith, at.place, ap length whole, length-append at.front (part ++ at.rest), length-append part at.rest) in
+    let whole : text ≡ at.prefix ++ (part ++ at.rest) = at.whole ∙ append_assoc at.prefix part at.rest in
+    let fits : n + length part ≤ length text = omega (arith, at.place, ap length whole, length-append at.prefix (part ++ at.rest), length-append part at.rest) in
     record {
       fits = fits;
       reads = λ j h. ap (λ (l : List ℕ). get_or l (n + j) 0) whole
-          ∙ ap (λ k. get_or (at.front ++ (part ++ at.rest)) (k + j) 0) (sym at.place)
-          ∙ get_or-append-add at.front (part ++ at.rest) j 0
+          ∙ ap (λ k. get_or (at.prefix ++ (part ++ at.rest)) (k + j) 0) (sym at.place)
+          ∙ get_or-append-add at.prefix (part ++ at.rest) j 0
           ∙ get_or_append_left part at.rest 0 j h;
     }
 
@@ -22,7 +22,7 @@ occurs_stands : (part text : List ℕ) (n : ℕ) → OccursAt text part n → St
 occurs_stands part text n h =
     let fits = h.fits in
     record {
-      front = take n text;
+      prefix = take n text;
       rest = drop (length part) (drop n text);
       whole = sym (take-append-drop n text) ∙ ap (λ l. take n text ++ l) (sym (take-append-drop (length part) (drop n text)) ∙ ap (λ l. l ++ drop (length part) (drop n text)) (OccursAt-part text part n h)) ∙ sym (append_assoc (take n text) part _);
       place = length-take-le n text (omega arith);

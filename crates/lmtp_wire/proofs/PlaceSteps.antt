@@ -7,16 +7,16 @@ use Rattle.std.specs.Prelude.{nat_eq}
 use Rattle.std.specs.Cmp.Lexicographic.{pointwise}
 use Rattle.mail_world.specs.Text.{cr, lf, crlf, place_of, ends_in}
 use Rattle.mail_world.specs.Data.{dot, end_of_data, data_end, without_dots, unstuffed, message, shown}
-use Rattle.lmtp_wire.specs.declared.dot.Place.{Place}
-use Rattle.lmtp_wire.specs.declared.dot.Place.TheVariants.{InText, BehindCr, LineStart, BehindDot, BehindDotCr}
+use Rattle.lmtp_wire.specs.declared.dot.DataPlace.{DataPlace}
+use Rattle.lmtp_wire.specs.declared.dot.DataPlace.TheVariants.{InText, AfterCr, LineStart, AfterDot, AfterDotCr}
 use Rattle.lmtp_wire.specs.declared.dot.Effect.{Effect}
 use Rattle.lmtp_wire.specs.declared.dot.Effect.TheVariants.{Nothing, Byte, HeldCr, End}
-use Rattle.lmtp_wire.specs.Place.{came, in_doubt, held_back, is_cr, is_start, is_dot, place_next, place_after, is_content, effect_of, without_dots_at, moved, IsAtPlace, IsDataEnd}
+use Rattle.lmtp_wire.specs.DataPlace.{came, in_doubt, held_back, is_cr, is_start, is_dot, place_next, place_after, is_content, effect_of, without_dots_at, moved, IsAtPlace, IsDataEnd}
 use Rattle.lmtp_wire.proofs.EndSteps.{end_in, text_other, cr_again, cr_other, start_cr, start_other, dot_other, dot_cr_again, dot_cr_other, moved_more, moved_none, moved_some}
 use Rattle.lmtp_wire.proofs.LastBytes.{eqb_comm, ends_more, fades, fades_cr}
 
 -- with one more byte the data stands there, and more of the message is sure
-pub record Adds (place : Place) (taken : List ℕ) (byte : ℕ) (new : List ℕ) : Type 0 where
+pub record Adds (place : DataPlace) (taken : List ℕ) (byte : ℕ) (new : List ℕ) : Type 0 where
   pub stands : IsAtPlace place (taken ++ byte ∷ [])
   pub shows : shown (taken ++ byte ∷ []) ≡ shown taken ++ new
 
@@ -28,14 +28,14 @@ Brings taken byte (HeldCr place) = Adds place taken byte (cr ∷ byte ∷ [])
 Brings taken byte End = IsDataEnd (taken ++ byte ∷ []) (shown taken)
 
 -- data that stands somewhere hasn't ended
-came_none : (place : Place) → end_in (came place ++ []) ≡ None
+came_none : (place : DataPlace) → end_in (came place ++ []) ≡ None
 came_none InText = refl
-came_none BehindCr = refl
+came_none AfterCr = refl
 came_none LineStart = refl
-came_none BehindDot = refl
-came_none BehindDotCr = refl
+came_none AfterDot = refl
+came_none AfterDotCr = refl
 
-pub stands_none : (place : Place) (taken : List ℕ) → IsAtPlace place taken → data_end taken ≡ None
+pub stands_none : (place : DataPlace) (taken : List ℕ) → IsAtPlace place taken → data_end taken ≡ None
 unfolding data_end
 stands_none place taken s =
     ap (λ l. end_in (crlf ++ l)) (sym (append-nil taken)) ∙ s.finds [] ∙ ap (λ o. moved s.before o) (came_none place) ∙ moved_none s.before
@@ -50,7 +50,7 @@ stands_first = record {
   cr_last = refl;
   crlf_last = refl;
   dot_last = refl;
-  behind = λ rest. refl;
+  after = λ rest. refl;
   lead = [];
   whole = refl;
   content = refl;
@@ -62,14 +62,14 @@ unfolding shown
 shown_first = refl
 
 -- a step of a place: how the end's place moves, what the last bytes are, and what the byte is without dots
-record PlaceStep (p q : Place) (b : ℕ) (new : List ℕ) : Type 0 where
+record PlaceStep (p q : DataPlace) (b : ℕ) (new : List ℕ) : Type 0 where
   gone : ℕ
   count : gone + length (came q) ≡ length (came p) + 1
   finds : (t : List ℕ) → end_in (came p ++ b ∷ t) ≡ moved gone (end_in (came q ++ t))
   cr_last : (cr == b) ≡ is_cr q
   crlf_last : is_cr p && (lf == b) ≡ is_start q
   dot_last : is_start p && (dot == b) ≡ is_dot q
-  behind : (t : List ℕ) → without_dots_at p (b ∷ t) ≡ new ++ without_dots_at q t
+  after : (t : List ℕ) → without_dots_at p (b ∷ t) ≡ new ++ without_dots_at q t
 
 -- one more byte
 snoc : (taken : List ℕ) (b : ℕ) (rest : List ℕ) → (taken ++ b ∷ []) ++ rest ≡ taken ++ b ∷ rest
@@ -78,46 +78,46 @@ snoc taken b rest = append_assoc taken (b ∷ []) rest
 step_count : (m g x y n k : ℕ) → m + x ≡ n + 2 → g + y ≡ x + 1 → k ≡ n + 1 → (m + g) + y ≡ k + 2
 step_count m g x y n k e f h = omega arith
 
-step_finds : (p q : Place) (taken : List ℕ) (b : ℕ) (new : List ℕ) (s : IsAtPlace p taken) (e : PlaceStep p q b new) (rest : List ℕ)
+step_finds : (p q : DataPlace) (taken : List ℕ) (b : ℕ) (new : List ℕ) (s : IsAtPlace p taken) (e : PlaceStep p q b new) (rest : List ℕ)
     → end_in (crlf ++ ((taken ++ b ∷ []) ++ rest)) ≡ moved (s.before + e.gone) (end_in (came q ++ rest))
 step_finds p q taken b new s e rest =
     ap (λ l. end_in (crlf ++ l)) (snoc taken b rest) ∙ s.finds (b ∷ rest) ∙ ap (λ o. moved s.before o) (e.finds rest) ∙ moved_more s.before e.gone (end_in (came q ++ rest))
 
-nothing_at : (place : Place) → without_dots_at place [] ≡ []
+nothing_at : (place : DataPlace) → without_dots_at place [] ≡ []
 nothing_at InText = refl
-nothing_at BehindCr = refl
+nothing_at AfterCr = refl
 nothing_at LineStart = refl
-nothing_at BehindDot = refl
-nothing_at BehindDotCr = refl
+nothing_at AfterDot = refl
+nothing_at AfterDotCr = refl
 
-step_unstuffed : (p q : Place) (taken : List ℕ) (b : ℕ) (new : List ℕ) → IsAtPlace p taken → PlaceStep p q b new → unstuffed (taken ++ b ∷ []) ≡ unstuffed taken ++ new
-step_unstuffed p q taken b new s e = s.behind (b ∷ []) ∙ ap (λ l. unstuffed taken ++ l) (e.behind [] ∙ ap (λ l. new ++ l) (nothing_at q) ∙ append-nil new)
+step_unstuffed : (p q : DataPlace) (taken : List ℕ) (b : ℕ) (new : List ℕ) → IsAtPlace p taken → PlaceStep p q b new → unstuffed (taken ++ b ∷ []) ≡ unstuffed taken ++ new
+step_unstuffed p q taken b new s e = s.after (b ∷ []) ∙ ap (λ l. unstuffed taken ++ l) (e.after [] ∙ ap (λ l. new ++ l) (nothing_at q) ∙ append-nil new)
 
-step_behind : (p q : Place) (taken : List ℕ) (b : ℕ) (new : List ℕ) → IsAtPlace p taken → PlaceStep p q b new → (rest : List ℕ)
+step_after : (p q : DataPlace) (taken : List ℕ) (b : ℕ) (new : List ℕ) → IsAtPlace p taken → PlaceStep p q b new → (rest : List ℕ)
     → unstuffed ((taken ++ b ∷ []) ++ rest) ≡ unstuffed (taken ++ b ∷ []) ++ without_dots_at q rest
-step_behind p q taken b new s e rest =
-    ap unstuffed (snoc taken b rest) ∙ s.behind (b ∷ rest) ∙ ap (λ l. unstuffed taken ++ l) (e.behind rest)
+step_after p q taken b new s e rest =
+    ap unstuffed (snoc taken b rest) ∙ s.after (b ∷ rest) ∙ ap (λ l. unstuffed taken ++ l) (e.after rest)
     ∙ sym (append_assoc (unstuffed taken) new (without_dots_at q rest)) ∙ ap (λ l. l ++ without_dots_at q rest) (sym (step_unstuffed p q taken b new s e))
 
 -- what is sure with one more byte
-front_of : (taken : List ℕ) (b : ℕ) → take (length (taken ++ b ∷ []) - 1) (taken ++ b ∷ []) ≡ taken
-front_of taken b =
+prefix_of : (taken : List ℕ) (b : ℕ) → take (length (taken ++ b ∷ []) - 1) (taken ++ b ∷ []) ≡ taken
+prefix_of taken b =
     let n : length (taken ++ b ∷ []) - 1 ≡ length taken = omega (arith, length-append taken (b ∷ [])) in
     ap (λ k. take k (taken ++ b ∷ [])) n ∙ take-append_seam taken (b ∷ [])
 
-shown_next : (p : Place) (taken : List ℕ) (b : ℕ) → IsAtPlace p taken → shown (taken ++ b ∷ []) ≡ unstuffed (cond (is_dot p && (cr == b)) taken (taken ++ b ∷ []))
+shown_next : (p : DataPlace) (taken : List ℕ) (b : ℕ) → IsAtPlace p taken → shown (taken ++ b ∷ []) ≡ unstuffed (cond (is_dot p && (cr == b)) taken (taken ++ b ∷ []))
 unfolding shown
 shown_next p taken b s =
     ap (λ t. unstuffed (cond t (take (length (taken ++ b ∷ []) - 1) (taken ++ b ∷ [])) (taken ++ b ∷ [])))
     (ends_more (crlf ++ dot ∷ []) (crlf ++ taken) cr b ∙ ap (λ t. t && (cr == b)) s.dot_last)
-    ∙ ap (λ l. unstuffed (cond (is_dot p && (cr == b)) l (taken ++ b ∷ []))) (front_of taken b)
+    ∙ ap (λ l. unstuffed (cond (is_dot p && (cr == b)) l (taken ++ b ∷ []))) (prefix_of taken b)
 
 ends_in_none : (u : List ℕ) → ends_in [] u ≡ true
 ends_in_none u =
     let n : length u - 0 ≡ length u = omega arith in
     ap (λ k. pointwise nat_eq [] (drop k u)) n ∙ ap (λ l. pointwise nat_eq [] (drop (length u) l)) (sym (append-nil u)) ∙ ap (λ l. pointwise nat_eq [] l) (drop-append_seam u [])
 
-stands_next : (p q : Place) (taken : List ℕ) (b : ℕ) (new : List ℕ) → IsAtPlace p taken → PlaceStep p q b new → (lead : List ℕ) → taken ++ b ∷ [] ≡ lead ++ in_doubt q
+stands_next : (p q : DataPlace) (taken : List ℕ) (b : ℕ) (new : List ℕ) → IsAtPlace p taken → PlaceStep p q b new → (lead : List ℕ) → taken ++ b ∷ [] ≡ lead ++ in_doubt q
     → unstuffed lead ≡ shown (taken ++ b ∷ []) → unstuffed (taken ++ b ∷ []) ≡ shown (taken ++ b ∷ []) ++ held_back q → IsAtPlace q (taken ++ b ∷ [])
 stands_next p q taken b new s e lead whole content sure = record {
   before = s.before + e.gone;
@@ -126,7 +126,7 @@ stands_next p q taken b new s e lead whole content sure = record {
   cr_last = ends_more [] (crlf ++ taken) cr b ∙ ap (λ t. t && (cr == b)) (ends_in_none (crlf ++ taken)) ∙ e.cr_last;
   crlf_last = ends_more (cr ∷ []) (crlf ++ taken) lf b ∙ ap (λ t. t && (lf == b)) s.cr_last ∙ e.crlf_last;
   dot_last = ends_more crlf (crlf ++ taken) dot b ∙ ap (λ t. t && (dot == b)) s.crlf_last ∙ e.dot_last;
-  behind = step_behind p q taken b new s e;
+  after = step_after p q taken b new s e;
   lead = lead;
   whole = whole;
   content = content;
@@ -134,7 +134,7 @@ stands_next p q taken b new s e lead whole content sure = record {
 }
 
 -- the byte is content
-adds_byte : (p q : Place) (taken : List ℕ) (b : ℕ) → IsAtPlace p taken → PlaceStep p q b (b ∷ []) → in_doubt q ≡ [] → held_back q ≡ [] → is_dot p && (cr == b) ≡ false
+adds_byte : (p q : DataPlace) (taken : List ℕ) (b : ℕ) → IsAtPlace p taken → PlaceStep p q b (b ∷ []) → in_doubt q ≡ [] → held_back q ≡ [] → is_dot p && (cr == b) ≡ false
     → Adds q taken b (held_back p ++ b ∷ [])
 adds_byte p q taken b s e doubt holds other =
     let all : shown (taken ++ b ∷ []) ≡ unstuffed (taken ++ b ∷ []) = shown_next p taken b s ∙ ap (λ t. unstuffed (cond t taken (taken ++ b ∷ []))) other in
@@ -147,36 +147,36 @@ adds_byte p q taken b s e doubt holds other =
     }
 
 -- a dot at a line's start is dropped
-step_dot : PlaceStep LineStart BehindDot dot []
-step_dot = record { gone = 0; count = refl; finds = λ t. refl; cr_last = refl; crlf_last = refl; dot_last = refl; behind = λ t. fades lf dot t refl refl }
+step_dot : PlaceStep LineStart AfterDot dot []
+step_dot = record { gone = 0; count = refl; finds = λ t. refl; cr_last = refl; crlf_last = refl; dot_last = refl; after = λ t. fades lf dot t refl refl }
 
-adds_dot : (taken : List ℕ) → IsAtPlace LineStart taken → Adds BehindDot taken dot []
+adds_dot : (taken : List ℕ) → IsAtPlace LineStart taken → Adds AfterDot taken dot []
 adds_dot taken s =
     let all : shown (taken ++ dot ∷ []) ≡ unstuffed (taken ++ dot ∷ []) = shown_next LineStart taken dot s in
-    let same : unstuffed (taken ++ dot ∷ []) ≡ unstuffed taken = step_unstuffed LineStart BehindDot taken dot [] s step_dot ∙ append-nil (unstuffed taken) in
+    let same : unstuffed (taken ++ dot ∷ []) ≡ unstuffed taken = step_unstuffed LineStart AfterDot taken dot [] s step_dot ∙ append-nil (unstuffed taken) in
     record {
-      stands = stands_next LineStart BehindDot taken dot [] s step_dot taken refl (sym (all ∙ same)) (sym all ∙ sym (append-nil (shown (taken ++ dot ∷ []))));
+      stands = stands_next LineStart AfterDot taken dot [] s step_dot taken refl (sym (all ∙ same)) (sym all ∙ sym (append-nil (shown (taken ++ dot ∷ []))));
       shows = all ∙ same ∙ s.sure;
     }
 
 -- a CR after such a dot is held back
-step_held : PlaceStep BehindDot BehindDotCr cr (cr ∷ [])
-step_held = record { gone = 0; count = refl; finds = λ t. refl; cr_last = refl; crlf_last = refl; dot_last = refl; behind = λ t. refl }
+step_held : PlaceStep AfterDot AfterDotCr cr (cr ∷ [])
+step_held = record { gone = 0; count = refl; finds = λ t. refl; cr_last = refl; crlf_last = refl; dot_last = refl; after = λ t. refl }
 
-adds_held : (taken : List ℕ) → IsAtPlace BehindDot taken → Adds BehindDotCr taken cr []
+adds_held : (taken : List ℕ) → IsAtPlace AfterDot taken → Adds AfterDotCr taken cr []
 adds_held taken s =
-    let same : shown (taken ++ cr ∷ []) ≡ unstuffed taken = shown_next BehindDot taken cr s in
+    let same : shown (taken ++ cr ∷ []) ≡ unstuffed taken = shown_next AfterDot taken cr s in
     let all : unstuffed taken ≡ shown taken = s.sure ∙ append-nil (shown taken) in
     record {
-      stands = stands_next BehindDot BehindDotCr taken cr (cr ∷ []) s step_held s.lead
+      stands = stands_next AfterDot AfterDotCr taken cr (cr ∷ []) s step_held s.lead
           (ap (λ l. l ++ cr ∷ []) s.whole ∙ append_assoc s.lead (dot ∷ []) (cr ∷ []))
           (s.content ∙ sym all ∙ sym same)
-          (step_unstuffed BehindDot BehindDotCr taken cr (cr ∷ []) s step_held ∙ ap (λ l. l ++ cr ∷ []) (sym same));
+          (step_unstuffed AfterDot AfterDotCr taken cr (cr ∷ []) s step_held ∙ ap (λ l. l ++ cr ∷ []) (sym same));
       shows = same ∙ s.sure;
     }
 
 -- LF after that CR ends the data
-ends_data : (taken : List ℕ) → IsAtPlace BehindDotCr taken → IsDataEnd (taken ++ lf ∷ []) (shown taken)
+ends_data : (taken : List ℕ) → IsAtPlace AfterDotCr taken → IsDataEnd (taken ++ lf ∷ []) (shown taken)
 unfolding data_end message
 ends_data taken s =
     let at : length s.lead ≡ s.before = omega (arith, s.count, ap length s.whole, length-append s.lead (dot ∷ cr ∷ [])) in
@@ -199,13 +199,13 @@ step_text b e f = record {
   cr_last = f;
   crlf_last = refl;
   dot_last = refl;
-  behind = λ t. ap (λ l. b ∷ l) (fades 0 b t e refl);
+  after = λ t. ap (λ l. b ∷ l) (fades 0 b t e refl);
 }
 
-step_text_cr : PlaceStep InText BehindCr cr (cr ∷ [])
-step_text_cr = record { gone = 0; count = refl; finds = λ t. refl; cr_last = refl; crlf_last = refl; dot_last = refl; behind = λ t. refl }
+step_text_cr : PlaceStep InText AfterCr cr (cr ∷ [])
+step_text_cr = record { gone = 0; count = refl; finds = λ t. refl; cr_last = refl; crlf_last = refl; dot_last = refl; after = λ t. refl }
 
-step_cr_cr : PlaceStep BehindCr BehindCr cr (cr ∷ [])
+step_cr_cr : PlaceStep AfterCr AfterCr cr (cr ∷ [])
 step_cr_cr = record {
   gone = 1;
   count = refl;
@@ -213,13 +213,13 @@ step_cr_cr = record {
   cr_last = refl;
   crlf_last = refl;
   dot_last = refl;
-  behind = λ t. ap (λ l. cr ∷ l) (fades_cr cr t);
+  after = λ t. ap (λ l. cr ∷ l) (fades_cr cr t);
 }
 
-step_cr_lf : PlaceStep BehindCr LineStart lf (lf ∷ [])
-step_cr_lf = record { gone = 0; count = refl; finds = λ t. refl; cr_last = refl; crlf_last = refl; dot_last = refl; behind = λ t. refl }
+step_cr_lf : PlaceStep AfterCr LineStart lf (lf ∷ [])
+step_cr_lf = record { gone = 0; count = refl; finds = λ t. refl; cr_last = refl; crlf_last = refl; dot_last = refl; after = λ t. refl }
 
-step_cr : (b : ℕ) → (lf == b) ≡ false → (b == lf) ≡ false → (b == cr) ≡ false → (cr == b) ≡ false → PlaceStep BehindCr InText b (b ∷ [])
+step_cr : (b : ℕ) → (lf == b) ≡ false → (b == lf) ≡ false → (b == cr) ≡ false → (cr == b) ≡ false → PlaceStep AfterCr InText b (b ∷ [])
 step_cr b g h e f = record {
   gone = 2;
   count = refl;
@@ -227,10 +227,10 @@ step_cr b g h e f = record {
   cr_last = f;
   crlf_last = g;
   dot_last = refl;
-  behind = λ t. ap (λ l. b ∷ l) (fades cr b t e h);
+  after = λ t. ap (λ l. b ∷ l) (fades cr b t e h);
 }
 
-step_start_cr : PlaceStep LineStart BehindCr cr (cr ∷ [])
+step_start_cr : PlaceStep LineStart AfterCr cr (cr ∷ [])
 step_start_cr = record {
   gone = 2;
   count = refl;
@@ -238,7 +238,7 @@ step_start_cr = record {
   cr_last = refl;
   crlf_last = refl;
   dot_last = refl;
-  behind = λ t. ap (λ l. cr ∷ l) (fades_cr lf t);
+  after = λ t. ap (λ l. cr ∷ l) (fades_cr lf t);
 }
 
 step_start : (b : ℕ) → (dot == b) ≡ false → (b == dot) ≡ false → (b == cr) ≡ false → (cr == b) ≡ false → PlaceStep LineStart InText b (b ∷ [])
@@ -249,21 +249,21 @@ step_start b g h e f = record {
   cr_last = f;
   crlf_last = refl;
   dot_last = g;
-  behind = λ t. ap (λ x. cond x (without_dots lf b t) (b ∷ without_dots lf b t)) h ∙ ap (λ l. b ∷ l) (fades lf b t e refl);
+  after = λ t. ap (λ x. cond x (without_dots lf b t) (b ∷ without_dots lf b t)) h ∙ ap (λ l. b ∷ l) (fades lf b t e refl);
 }
 
-step_behind_dot : (b : ℕ) → (b == cr) ≡ false → (cr == b) ≡ false → PlaceStep BehindDot InText b (b ∷ [])
-step_behind_dot b e f = record {
+step_after_dot : (b : ℕ) → (b == cr) ≡ false → (cr == b) ≡ false → PlaceStep AfterDot InText b (b ∷ [])
+step_after_dot b e f = record {
   gone = 4;
   count = refl;
   finds = λ t. dot_other b t f;
   cr_last = f;
   crlf_last = refl;
   dot_last = refl;
-  behind = λ t. ap (λ l. b ∷ l) (fades 0 b t e refl);
+  after = λ t. ap (λ l. b ∷ l) (fades 0 b t e refl);
 }
 
-step_dot_cr_cr : PlaceStep BehindDotCr BehindCr cr (cr ∷ [])
+step_dot_cr_cr : PlaceStep AfterDotCr AfterCr cr (cr ∷ [])
 step_dot_cr_cr = record {
   gone = 4;
   count = refl;
@@ -271,10 +271,10 @@ step_dot_cr_cr = record {
   cr_last = refl;
   crlf_last = refl;
   dot_last = refl;
-  behind = λ t. ap (λ l. cr ∷ l) (fades_cr cr t);
+  after = λ t. ap (λ l. cr ∷ l) (fades_cr cr t);
 }
 
-step_dot_cr : (b : ℕ) → (lf == b) ≡ false → (b == lf) ≡ false → (b == cr) ≡ false → (cr == b) ≡ false → PlaceStep BehindDotCr InText b (b ∷ [])
+step_dot_cr : (b : ℕ) → (lf == b) ≡ false → (b == lf) ≡ false → (b == cr) ≡ false → (cr == b) ≡ false → PlaceStep AfterDotCr InText b (b ∷ [])
 step_dot_cr b g h e f = record {
   gone = 5;
   count = refl;
@@ -282,15 +282,15 @@ step_dot_cr b g h e f = record {
   cr_last = f;
   crlf_last = g;
   dot_last = refl;
-  behind = λ t. ap (λ l. b ∷ l) (fades cr b t e h);
+  after = λ t. ap (λ l. b ∷ l) (fades cr b t e h);
 }
 
 -- a byte that doesn't go on with an end begins it at best
-begun_by : (p : Place) (taken : List ℕ) (b : ℕ) (t : Bool) → (b == cr) ≡ t → IsAtPlace p taken → PlaceStep p BehindCr cr (cr ∷ [])
-    → ((b == cr) ≡ false → (cr == b) ≡ false → PlaceStep p InText b (b ∷ [])) → is_dot p ≡ false → Adds (cond t BehindCr InText) taken b (held_back p ++ b ∷ [])
+begun_by : (p : DataPlace) (taken : List ℕ) (b : ℕ) (t : Bool) → (b == cr) ≡ t → IsAtPlace p taken → PlaceStep p AfterCr cr (cr ∷ [])
+    → ((b == cr) ≡ false → (cr == b) ≡ false → PlaceStep p InText b (b ∷ [])) → is_dot p ≡ false → Adds (cond t AfterCr InText) taken b (held_back p ++ b ∷ [])
 begun_by p taken b true e s again other none =
-    let P : ℕ → Type 0 = λ x. Adds BehindCr taken x (held_back p ++ x ∷ []) in
-    subst P (sym (eqb-true b cr e)) (adds_byte p BehindCr taken cr s again refl refl (ap (λ x. x && true) none))
+    let P : ℕ → Type 0 = λ x. Adds AfterCr taken x (held_back p ++ x ∷ []) in
+    subst P (sym (eqb-true b cr e)) (adds_byte p AfterCr taken cr s again refl refl (ap (λ x. x && true) none))
 begun_by p taken b false e s again other none =
     let f : (cr == b) ≡ false = eqb_comm cr b ∙ e in
     adds_byte p InText taken b s (other e f) refl refl (ap (λ x. x && (cr == b)) none)
@@ -298,59 +298,59 @@ begun_by p taken b false e s again other none =
 adds_text : (taken : List ℕ) (b : ℕ) → IsAtPlace InText taken → Adds (place_next InText b) taken b (b ∷ [])
 adds_text taken b s = begun_by InText taken b (b == cr) refl s step_text_cr (step_text b) refl
 
-adds_lf : (taken : List ℕ) → IsAtPlace BehindCr taken → Adds LineStart taken lf (lf ∷ [])
-adds_lf taken s = adds_byte BehindCr LineStart taken lf s step_cr_lf refl refl refl
+adds_lf : (taken : List ℕ) → IsAtPlace AfterCr taken → Adds LineStart taken lf (lf ∷ [])
+adds_lf taken s = adds_byte AfterCr LineStart taken lf s step_cr_lf refl refl refl
 
-after_cr : (taken : List ℕ) (b : ℕ) (t : Bool) → (b == lf) ≡ t → IsAtPlace BehindCr taken
-    → Adds (cond (b == cr) BehindCr (cond t LineStart InText)) taken b (b ∷ [])
+after_cr : (taken : List ℕ) (b : ℕ) (t : Bool) → (b == lf) ≡ t → IsAtPlace AfterCr taken
+    → Adds (cond (b == cr) AfterCr (cond t LineStart InText)) taken b (b ∷ [])
 after_cr taken b true e s =
-    let P : ℕ → Type 0 = λ x. Adds (cond (x == cr) BehindCr LineStart) taken x (x ∷ []) in
+    let P : ℕ → Type 0 = λ x. Adds (cond (x == cr) AfterCr LineStart) taken x (x ∷ []) in
     subst P (sym (eqb-true b lf e)) (adds_lf taken s)
-after_cr taken b false e s = begun_by BehindCr taken b (b == cr) refl s step_cr_cr (step_cr b (eqb_comm lf b ∙ e) e) refl
+after_cr taken b false e s = begun_by AfterCr taken b (b == cr) refl s step_cr_cr (step_cr b (eqb_comm lf b ∙ e) e) refl
 
-adds_after_cr : (taken : List ℕ) (b : ℕ) → IsAtPlace BehindCr taken → Adds (place_next BehindCr b) taken b (b ∷ [])
+adds_after_cr : (taken : List ℕ) (b : ℕ) → IsAtPlace AfterCr taken → Adds (place_next AfterCr b) taken b (b ∷ [])
 adds_after_cr taken b s = after_cr taken b (b == lf) refl s
 
 adds_start : (taken : List ℕ) (b : ℕ) → (b == dot) ≡ false → IsAtPlace LineStart taken → Adds (place_next LineStart b) taken b (b ∷ [])
 adds_start taken b other s =
     begun_by LineStart taken b (b == cr) refl s step_start_cr (step_start b (eqb_comm dot b ∙ other) other) refl
 
-adds_behind_dot : (taken : List ℕ) (b : ℕ) → (b == cr) ≡ false → IsAtPlace BehindDot taken → Adds (place_next BehindDot b) taken b (b ∷ [])
-adds_behind_dot taken b other s =
+adds_after_dot : (taken : List ℕ) (b : ℕ) → (b == cr) ≡ false → IsAtPlace AfterDot taken → Adds (place_next AfterDot b) taken b (b ∷ [])
+adds_after_dot taken b other s =
     let f : (cr == b) ≡ false = eqb_comm cr b ∙ other in
-    let P : Bool → Type 0 = λ x. Adds (cond x BehindCr InText) taken b (b ∷ []) in
-    subst P (sym other) (adds_byte BehindDot InText taken b s (step_behind_dot b other f) refl refl f)
+    let P : Bool → Type 0 = λ x. Adds (cond x AfterCr InText) taken b (b ∷ []) in
+    subst P (sym other) (adds_byte AfterDot InText taken b s (step_after_dot b other f) refl refl f)
 
-adds_behind_dot_cr : (taken : List ℕ) (b : ℕ) → (b == lf) ≡ false → IsAtPlace BehindDotCr taken → Adds (place_next BehindDotCr b) taken b (cr ∷ b ∷ [])
-adds_behind_dot_cr taken b other s =
-    let P : Bool → Type 0 = λ x. Adds (cond (b == cr) BehindCr (cond x LineStart InText)) taken b (cr ∷ b ∷ []) in
-    subst P (sym other) (begun_by BehindDotCr taken b (b == cr) refl s step_dot_cr_cr (step_dot_cr b (eqb_comm lf b ∙ other) other) refl)
+adds_after_dot_cr : (taken : List ℕ) (b : ℕ) → (b == lf) ≡ false → IsAtPlace AfterDotCr taken → Adds (place_next AfterDotCr b) taken b (cr ∷ b ∷ [])
+adds_after_dot_cr taken b other s =
+    let P : Bool → Type 0 = λ x. Adds (cond (b == cr) AfterCr (cond x LineStart InText)) taken b (cr ∷ b ∷ []) in
+    subst P (sym other) (begun_by AfterDotCr taken b (b == cr) refl s step_dot_cr_cr (step_dot_cr b (eqb_comm lf b ∙ other) other) refl)
 
 -- the tests of a byte
-by_dot : (taken : List ℕ) (b : ℕ) (t : Bool) → (b == dot) ≡ t → IsAtPlace LineStart taken → Brings taken b (cond t (Nothing BehindDot) (Byte (place_next LineStart b)))
-by_dot taken b true e s = let P : ℕ → Type 0 = λ x. Adds BehindDot taken x [] in subst P (sym (eqb-true b dot e)) (adds_dot taken s)
+by_dot : (taken : List ℕ) (b : ℕ) (t : Bool) → (b == dot) ≡ t → IsAtPlace LineStart taken → Brings taken b (cond t (Nothing AfterDot) (Byte (place_next LineStart b)))
+by_dot taken b true e s = let P : ℕ → Type 0 = λ x. Adds AfterDot taken x [] in subst P (sym (eqb-true b dot e)) (adds_dot taken s)
 by_dot taken b false e s = adds_start taken b e s
 
-by_cr : (taken : List ℕ) (b : ℕ) (t : Bool) → (b == cr) ≡ t → IsAtPlace BehindDot taken → Brings taken b (cond t (Nothing BehindDotCr) (Byte (place_next BehindDot b)))
-by_cr taken b true e s = let P : ℕ → Type 0 = λ x. Adds BehindDotCr taken x [] in subst P (sym (eqb-true b cr e)) (adds_held taken s)
-by_cr taken b false e s = adds_behind_dot taken b e s
+by_cr : (taken : List ℕ) (b : ℕ) (t : Bool) → (b == cr) ≡ t → IsAtPlace AfterDot taken → Brings taken b (cond t (Nothing AfterDotCr) (Byte (place_next AfterDot b)))
+by_cr taken b true e s = let P : ℕ → Type 0 = λ x. Adds AfterDotCr taken x [] in subst P (sym (eqb-true b cr e)) (adds_held taken s)
+by_cr taken b false e s = adds_after_dot taken b e s
 
-by_last_lf : (taken : List ℕ) (b : ℕ) (t : Bool) → (b == lf) ≡ t → IsAtPlace BehindDotCr taken → Brings taken b (cond t End (HeldCr (place_next BehindDotCr b)))
+by_last_lf : (taken : List ℕ) (b : ℕ) (t : Bool) → (b == lf) ≡ t → IsAtPlace AfterDotCr taken → Brings taken b (cond t End (HeldCr (place_next AfterDotCr b)))
 by_last_lf taken b true e s = let P : ℕ → Type 0 = λ x. IsDataEnd (taken ++ x ∷ []) (shown taken) in subst P (sym (eqb-true b lf e)) (ends_data taken s)
-by_last_lf taken b false e s = adds_behind_dot_cr taken b e s
+by_last_lf taken b false e s = adds_after_dot_cr taken b e s
 
-brings : (place : Place) (taken : List ℕ) (b : ℕ) → IsAtPlace place taken → Brings taken b (effect_of place b)
+brings : (place : DataPlace) (taken : List ℕ) (b : ℕ) → IsAtPlace place taken → Brings taken b (effect_of place b)
 brings InText taken b s = adds_text taken b s
-brings BehindCr taken b s = adds_after_cr taken b s
+brings AfterCr taken b s = adds_after_cr taken b s
 brings LineStart taken b s = by_dot taken b (b == dot) refl s
-brings BehindDot taken b s = by_cr taken b (b == cr) refl s
-brings BehindDotCr taken b s = by_last_lf taken b (b == lf) refl s
+brings AfterDot taken b s = by_cr taken b (b == cr) refl s
+brings AfterDotCr taken b s = by_last_lf taken b (b == lf) refl s
 
-pub brings_as : (place : Place) (b : ℕ) (effect : Effect) → effect ≡ effect_of place b → (taken : List ℕ) → IsAtPlace place taken → Brings taken b effect
+pub brings_as : (place : DataPlace) (b : ℕ) (effect : Effect) → effect ≡ effect_of place b → (taken : List ℕ) → IsAtPlace place taken → Brings taken b effect
 brings_as place b effect e taken s = let P : Effect → Type 0 = λ x. Brings taken b x in subst P (sym e) (brings place taken b s)
 
 -- what stands nowhere in doubt stays so with content
-settled_by : (x y : Bool) → in_doubt (cond x BehindCr (cond y LineStart InText)) ≡ []
+settled_by : (x y : Bool) → in_doubt (cond x AfterCr (cond y LineStart InText)) ≡ []
 settled_by true y = refl
 settled_by false true = refl
 settled_by false false = refl
@@ -359,20 +359,20 @@ not_false : (x : Bool) → not x ≡ true → x ≡ false
 not_false true e = cc
 not_false false e = refl
 
-adds_content : (p : Place) (taken : List ℕ) (b : ℕ) → in_doubt p ≡ [] → not (is_start p && (b == dot)) ≡ true → IsAtPlace p taken
+adds_content : (p : DataPlace) (taken : List ℕ) (b : ℕ) → in_doubt p ≡ [] → not (is_start p && (b == dot)) ≡ true → IsAtPlace p taken
     → Adds (place_next p b) taken b (b ∷ [])
 adds_content InText taken b settled e s = adds_text taken b s
-adds_content BehindCr taken b settled e s = adds_after_cr taken b s
+adds_content AfterCr taken b settled e s = adds_after_cr taken b s
 adds_content LineStart taken b settled e s = adds_start taken b (not_false (b == dot) e) s
-adds_content BehindDot taken b settled e s = cc
-adds_content BehindDotCr taken b settled e s = cc
+adds_content AfterDot taken b settled e s = cc
+adds_content AfterDotCr taken b settled e s = cc
 
 -- with a run of content the data stands there, and the run is sure
-pub record AddsRun (place : Place) (taken run : List ℕ) : Type 0 where
+pub record AddsRun (place : DataPlace) (taken run : List ℕ) : Type 0 where
   pub stands : IsAtPlace place (taken ++ run)
   pub shows : shown (taken ++ run) ≡ shown taken ++ run
 
-pub adds_run : (p : Place) (taken run : List ℕ) → in_doubt p ≡ [] → is_content p run ≡ true → IsAtPlace p taken → AddsRun (place_after p run) taken run
+pub adds_run : (p : DataPlace) (taken run : List ℕ) → in_doubt p ≡ [] → is_content p run ≡ true → IsAtPlace p taken → AddsRun (place_after p run) taken run
 adds_run p taken [] settled e s =
     let P : List ℕ → Type 0 = λ l. IsAtPlace p l in
     record { stands = subst P (sym (append-nil taken)) s; shows = ap shown (append-nil taken) ∙ sym (append-nil (shown taken)) }

@@ -4,8 +4,8 @@ use Rattle.std.proofs.lemmas.List.{take_more, take_more_set, drop-drop}
 use Rattle.std.proofs.Math.Seq.{take-add}
 use Rattle.mail_world.specs.Data.{shown}
 use Rattle.lmtp_wire.specs.declared.dot.Dot.{Dot}
-use Rattle.lmtp_wire.specs.declared.dot.Place.{Place}
-use Rattle.lmtp_wire.specs.Place.{in_doubt, place_after, is_content, IsAtPlace, IsDataEnd}
+use Rattle.lmtp_wire.specs.declared.dot.DataPlace.{DataPlace}
+use Rattle.lmtp_wire.specs.DataPlace.{in_doubt, place_after, is_content, IsAtPlace, IsDataEnd}
 use Rattle.lmtp_wire.specs.Dot.{HasMade, HasFed, owed_bytes}
 use Rattle.lmtp_wire.proofs.PlaceSteps.{stands_none, Adds, adds_run}
 
@@ -22,7 +22,7 @@ pays (x ∷ out) byte owed h e = sym (ap owed_bytes e)
 pub paid : (old new : Dot) (out : List ℕ) (n : ℕ) → new.owed ≡ None → new.place ≡ old.place → take n out ≡ owed_bytes old.owed
     → (taken made : List ℕ) → HasMade old taken made → HasMade new taken (made ++ take n out)
 paid old new out n none same bytes taken made h =
-    let P : Place → Type 0 = λ p. IsAtPlace p taken in
+    let P : DataPlace → Type 0 = λ p. IsAtPlace p taken in
     record {
       goes_on = h.goes_on;
       shows = h.shows ∙ ap (λ l. made ++ l) (sym bytes) ∙ sym (append-nil (made ++ take n out)) ∙ ap (λ o. (made ++ take n out) ++ owed_bytes o) (sym none);
@@ -74,7 +74,7 @@ takes_run old new piece out out' used n m m' run none none' settled place is con
     let more : now ++ run ≡ taken ++ take (used + n) piece =
     append_assoc taken (take used piece) run ∙ ap (λ l. taken ++ (take used piece ++ l)) is ∙ ap (λ l. taken ++ l) (sym (take-add used n piece)) in
     let Q : List ℕ → Type 0 = λ l. IsAtPlace (place_after old.place run) l in
-    let R : Place → Type 0 = λ p. IsAtPlace p (taken ++ take (used + n) piece) in
+    let R : DataPlace → Type 0 = λ p. IsAtPlace p (taken ++ take (used + n) piece) in
     let stands : IsAtPlace new.place (taken ++ take (used + n) piece) = subst R (sym place) (subst Q more all.stands) in
     record {
       goes_on = stands_none new.place (taken ++ take (used + n) piece) stands;

@@ -5,28 +5,28 @@ use Rattle.std.proofs.Math.Seq.{drop-append-add}
 use Rattle.std.proofs.lemmas.List.{take-append-drop, take-append-le}
 use Rattle.mail_world.specs.declared.limits.TheConstants.{LINE_LIMIT}
 use Rattle.mail_world.specs.Text.{cr, lf, crlf, place_of, begins_with, ends_in}
-use Rattle.mail_world.proofs.Places.{begins_with-front}
-use Rattle.lmtp_wire.specs.Wire.{WireView, Keeps, IsBehind, EndsLine, EndsIn, IsLineEnd, Takes}
+use Rattle.mail_world.proofs.Places.{begins_with-prefix}
+use Rattle.lmtp_wire.specs.Wire.{WireView, Keeps, IsAfter, EndsLine, EndsIn, IsLineEnd, Takes}
 use Rattle.lmtp_wire.specs.declared.wire.Stage.{Stage}
 use Rattle.lmtp_wire.specs.declared.wire.Stage.TheVariants.{Beyond}
 use Rattle.lmtp_wire.specs.declared.wire.Got.{Got}
 use Rattle.lmtp_wire.specs.declared.wire.Got.TheVariants.{More, Line, TooLong}
 
 -- the last byte is that of the last part that isn't empty
-pub ends_in-append : (front : List ℕ) (b : ℕ) (rest : List ℕ) → ends_in (cr ∷ []) (front ++ b ∷ rest) ≡ ends_in (cr ∷ []) (b ∷ rest)
-ends_in-append front b rest =
-    let same : drop (length (front ++ b ∷ rest) - 1) (front ++ b ∷ rest) ≡ drop (length (b ∷ rest) - 1) (b ∷ rest) =
-    ap (λ n. drop n (front ++ b ∷ rest)) (omega (arith, length-append front (b ∷ rest))) ∙ drop-append-add front (b ∷ rest) (length (b ∷ rest) - 1) in
+pub ends_in-append : (prefix : List ℕ) (b : ℕ) (rest : List ℕ) → ends_in (cr ∷ []) (prefix ++ b ∷ rest) ≡ ends_in (cr ∷ []) (b ∷ rest)
+ends_in-append prefix b rest =
+    let same : drop (length (prefix ++ b ∷ rest) - 1) (prefix ++ b ∷ rest) ≡ drop (length (b ∷ rest) - 1) (b ∷ rest) =
+    ap (λ n. drop n (prefix ++ b ∷ rest)) (omega (arith, length-append prefix (b ∷ rest))) ∙ drop-append-add prefix (b ∷ rest) (length (b ∷ rest) - 1) in
     rw same refl
 
-pub ends_in-behind : (front bytes : List ℕ) → 1 ≤ length bytes → ends_in (cr ∷ []) (front ++ bytes) ≡ ends_in (cr ∷ []) bytes
-ends_in-behind front [] h = absurd (omega (arith, h))
-ends_in-behind front (b ∷ rest) h = ends_in-append front b rest
+pub ends_in-after : (prefix bytes : List ℕ) → 1 ≤ length bytes → ends_in (cr ∷ []) (prefix ++ bytes) ≡ ends_in (cr ∷ []) bytes
+ends_in-after prefix [] h = absurd (omega (arith, h))
+ends_in-after prefix (b ∷ rest) h = ends_in-append prefix b rest
 
 -- what is kept of a line that has become too long, or stays so
 pub keeps_none : (new : WireView) (taken bytes : List ℕ) → new ≡ record { line = []; stage = Beyond (ends_in (cr ∷ []) bytes) } → 1 ≤ length bytes → LINE_LIMIT < length (taken ++ bytes)
     → Keeps new.stage new.line (taken ++ bytes)
-keeps_none new taken bytes e some long = subst (λ (v : WireView). Keeps v.stage v.line (taken ++ bytes)) (sym e) (refl, long, sym (ends_in-behind taken bytes some))
+keeps_none new taken bytes e some long = subst (λ (v : WireView). Keeps v.stage v.line (taken ++ bytes)) (sym e) (refl, long, sym (ends_in-after taken bytes some))
 
 pub is_long : (stage : Stage) (ends_in_cr : Bool) (line taken bytes : List ℕ) → stage ≡ Beyond ends_in_cr → Keeps stage line taken → LINE_LIMIT < length (taken ++ bytes)
 is_long stage ends_in_cr line taken bytes e h =
@@ -61,7 +61,7 @@ at_lf [] rest e h = cc
 at_lf (b ∷ taken) rest e h = at_lf_by b taken rest e h (at_lf taken rest)
 
 pub ends_at_lf : (taken piece : List ℕ) → place_of crlf taken ≡ None → ends_in (cr ∷ []) taken ≡ true → begins_with (lf ∷ []) piece ≡ true → EndsIn taken piece (Some 1)
-ends_at_lf taken piece e h begins = rw (begins_with-front (lf ∷ []) piece begins) (at_lf taken (drop 1 piece) e h)
+ends_at_lf taken piece e h begins = rw (begins_with-prefix (lf ∷ []) piece begins) (at_lf taken (drop 1 piece) e h)
 
 -- else it is the first in what follows the bytes
 abbrev IsInPiece : List ℕ → List ℕ → Type 0
@@ -113,8 +113,8 @@ pub none_ends : (taken piece : List ℕ) → place_of crlf taken ≡ None → en
 none_ends taken piece e h at = further taken piece e h ∙ ap (λ o. option_map (λ n. length taken + n) o) at
 
 -- what is answered where the line ends
-same_front : (taken piece : List ℕ) (used end : ℕ) → length (taken ++ take used piece) ≡ end + 2 → take end (taken ++ take used piece) ≡ take end (taken ++ piece)
-same_front taken piece used end h =
+same_prefix : (taken piece : List ℕ) (used end : ℕ) → length (taken ++ take used piece) ≡ end + 2 → take end (taken ++ take used piece) ≡ take end (taken ++ piece)
+same_prefix taken piece used end h =
     let whole : taken ++ piece ≡ (taken ++ take used piece) ++ drop used piece =
     ap (λ l. taken ++ l) (sym (take-append-drop used piece)) ∙ sym (append_assoc taken (take used piece) (drop used piece)) in
     let short : end ≤ length (taken ++ take used piece) = omega arith in
@@ -126,13 +126,13 @@ takes_by : (got : Got) (new : WireView) (taken piece : List ℕ) (used end : ℕ
 takes_by More new taken piece used end size ends h = absurd h
 takes_by Line new taken piece used end size ends h =
     let fits = h.1 in
-    (end, ends, omega arith, h.2 ∙ ap (λ n. take n (taken ++ take used piece)) (omega arith) ∙ same_front taken piece used end size)
+    (end, ends, omega arith, h.2 ∙ ap (λ n. take n (taken ++ take used piece)) (omega arith) ∙ same_prefix taken piece used end size)
 takes_by TooLong new taken piece used end size ends h = let long = h.1 in (end, ends, omega arith, h.2)
 
-behind_none : (got : Got) (new : WireView) (bytes : List ℕ) → IsLineEnd got new bytes → IsBehind new []
-behind_none More new bytes h = absurd h
-behind_none Line new bytes h = h.0
-behind_none TooLong new bytes h = h.0
+after_none : (got : Got) (new : WireView) (bytes : List ℕ) → IsLineEnd got new bytes → IsAfter new []
+after_none More new bytes h = absurd h
+after_none Line new bytes h = h.0
+after_none TooLong new bytes h = h.0
 
 pub takes_line : (got : Got) (new : WireView) (taken piece : List ℕ) (used : ℕ) → used ≤ length piece → EndsIn taken piece (Some used)
     → (2 ≤ length (taken ++ take used piece) → IsLineEnd got new (taken ++ take used piece))
@@ -141,4 +141,4 @@ takes_line got new taken piece used within ends_in answered =
     let count = ends_in.2 in
     let size : length (taken ++ take used piece) ≡ ends_in.0 + 2 = omega (arith, length-append taken (take used piece), length-take-le used piece within) in
     let ends = answered (omega arith) in
-    takes_by got new taken piece used ends_in.0 size (record { ends = ends_in.1; taken = ends_in.2; behind = behind_none got new _ ends }) ends
+    takes_by got new taken piece used ends_in.0 size (record { ends = ends_in.1; taken = ends_in.2; after = after_none got new _ ends }) ends

@@ -9,9 +9,9 @@ use Rattle.mail_world.proofs.Places.{place_of_stands, place_of_least}
 -- the bytes of a CRLF that stands in a text, and the CRLF of these bytes
 byte_of : (text : List ℕ) (k j : ℕ) (at : StandsAt crlf text k) → get_or text (k + j) 0 ≡ get_or (crlf ++ at.rest) j 0
 byte_of text k j at =
-    ap (λ (l : List ℕ). get_or l (k + j) 0) (at.whole ∙ append_assoc at.front crlf at.rest)
-    ∙ ap (λ n. get_or (at.front ++ (crlf ++ at.rest)) (n + j) 0) (sym at.place)
-    ∙ get_or-append-add at.front (crlf ++ at.rest) j 0
+    ap (λ (l : List ℕ). get_or l (k + j) 0) (at.whole ∙ append_assoc at.prefix crlf at.rest)
+    ∙ ap (λ n. get_or (at.prefix ++ (crlf ++ at.rest)) (n + j) 0) (sym at.place)
+    ∙ get_or-append-add at.prefix (crlf ++ at.rest) j 0
 
 cr_of : (text : List ℕ) (k : ℕ) → StandsAt crlf text k → get_or text k 0 ≡ 13
 cr_of text k at = ap (λ i. get_or text i 0) (omega arith) ∙ byte_of text k 0 at
@@ -20,11 +20,11 @@ lf_of : (text : List ℕ) (k : ℕ) → StandsAt crlf text k → get_or text (k 
 lf_of text k at = byte_of text k 1 at
 
 within_of : (text : List ℕ) (k : ℕ) → StandsAt crlf text k → k + 1 < length text
-within_of text k at = omega (arith, at.place, ap length at.whole, length-append (at.front ++ crlf) at.rest, length-append at.front crlf)
+within_of text k at = omega (arith, at.place, ap length at.whole, length-append (at.prefix ++ crlf) at.rest, length-append at.prefix crlf)
 
 crlf_of : (text : List ℕ) (k : ℕ) → k + 1 < length text → get_or text k 0 ≡ 13 → get_or text (k + 1) 0 ≡ 10 → StandsAt crlf text k
 crlf_of text k within c l = record {
-  front = take k text;
+  prefix = take k text;
   rest = drop (k + 1 + 1) text;
   whole = sym (take-append-drop k text)
       ∙ ap (λ t. take k text ++ t) (drop_more text k 0 (omega arith) ∙ ap (λ t. get_or text k 0 ∷ t) (drop_more text (k + 1) 0 within) ∙ rw (c, l) refl)

@@ -3,7 +3,7 @@ use Rattle.std.specs.Prelude.{◌≡◌, ◌<◌, ◌⊎◌, ℕ, Bool, true, fa
 use Rattle.mail_world.specs.Data.{data_end, shown}
 use Rattle.lmtp_wire.specs.declared.dot.Dot.{Dot}
 use Rattle.lmtp_wire.specs.declared.dot.Fed.{Fed}
-use Rattle.lmtp_wire.specs.Place.{IsAtPlace, IsDataEnd}
+use Rattle.lmtp_wire.specs.DataPlace.{IsAtPlace, IsDataEnd}
 
 -- a byte, if there is one
 abbrev pub owed_bytes : Option ℕ → List ℕ
@@ -23,7 +23,7 @@ HasFed new taken made false = HasMade new taken made
 
 -- the data goes on: the piece is used up or `out` is full, and where it isn't, all that is sure of the message was made
 pub record DataGoesOn (new : Dot) (taken made : List ℕ) (piece out : ℕ) (fed : Fed) : Type 0 where
-  pub behind : HasMade new taken made
+  pub after : HasMade new taken made
   pub stops : (fed.used ≡ piece) ⊎ (fed.made ≡ out)
   pub whole : fed.made < out → new.owed ≡ None
 

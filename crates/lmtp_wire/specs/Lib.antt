@@ -1,4 +1,4 @@
 pub mod Wire
-pub mod Place
+pub mod DataPlace
 pub mod Dot
 pub mod Runs

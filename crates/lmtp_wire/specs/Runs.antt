@@ -4,11 +4,11 @@ use Rattle.mail_world.specs.Text.{lf}
 use Rattle.mail_world.specs.Data.{dot, with_dots}
 
 -- after a line's end or a doubled dot: no dot is doubled up to the end of the run, and the one after it is
-pub record CutsRun (text run behind : List ℕ) : Type 0 where
-  pub whole : with_dots lf dot text ≡ run ++ dot ∷ dot ∷ with_dots lf dot behind
-  pub shorter : length behind < length text
+pub record CutsRun (text run after : List ℕ) : Type 0 where
+  pub whole : with_dots lf dot text ≡ run ++ dot ∷ dot ∷ with_dots lf dot after
+  pub shorter : length after < length text
 
 -- a text that begins with the other
-pub record GoesOnFrom (front text : List ℕ) : Type 0 where
+pub record GoesOnFrom (prefix text : List ℕ) : Type 0 where
   pub more : List ℕ
-  pub whole : text ≡ front ++ more
+  pub whole : text ≡ prefix ++ more

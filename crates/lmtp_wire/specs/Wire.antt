@@ -23,20 +23,20 @@ Keeps (Beyond ends_in_cr) line taken = (line ≡ []) × (LINE_LIMIT < length tak
     × (ends_in_cr ≡ ends_in (cr ∷ []) taken)
 
 -- these bytes of a line were taken, and the line hasn't ended
-pub record IsBehind (wire : WireView) (taken : List ℕ) : Type 0 where
+pub record IsAfter (wire : WireView) (taken : List ℕ) : Type 0 where
   pub goes_on : place_of crlf taken ≡ None
   pub keeps : Keeps wire.stage wire.line taken
 
 -- no line ends in the bytes: all of the piece was taken
 pub record LineGoesOn (new : WireView) (bytes : List ℕ) (piece used : ℕ) : Type 0 where
   pub all : used ≡ piece
-  pub behind : IsBehind new bytes
+  pub after : IsAfter new bytes
 
 -- a line ends in the bytes, and what was taken ends with its CRLF
 pub record EndsLine (new : WireView) (bytes : List ℕ) (before used end : ℕ) : Type 0 where
   pub ends : place_of crlf bytes ≡ Some end
   pub taken : before + used ≡ end + 2
-  pub behind : IsBehind new []
+  pub after : IsAfter new []
 
 abbrev pub TakesBy : Got → WireView → List ℕ → ℕ → ℕ → ℕ → Type 0
 TakesBy More new bytes before piece used = LineGoesOn new bytes piece used
@@ -58,5 +58,5 @@ EndsIn taken piece (Some used) = (end : ℕ) × (place_of crlf (taken ++ piece) 
 -- what is answered to a line of these bytes, with its CRLF at their end
 abbrev pub IsLineEnd : Got → WireView → List ℕ → Type 0
 IsLineEnd More new bytes = ⊥
-IsLineEnd Line new bytes = IsBehind new [] × (length bytes ≤ LINE_LIMIT) × (new.line ≡ take (length bytes - 2) bytes)
-IsLineEnd TooLong new bytes = IsBehind new [] × (LINE_LIMIT < length bytes) × (new.line ≡ [])
+IsLineEnd Line new bytes = IsAfter new [] × (length bytes ≤ LINE_LIMIT) × (new.line ≡ take (length bytes - 2) bytes)
+IsLineEnd TooLong new bytes = IsAfter new [] × (LINE_LIMIT < length bytes) × (new.line ≡ [])

@@ -2,7 +2,7 @@
 
 ghost use Rattle.std.specs.Prelude.{◌≡◌, ℕ, ◌+◌, ◌<◌, ◌≤◌, Bool, true, List, [], ◌∷◌, ◌++◌, length, take, drop};
 ghost use Rattle.mail_world.specs.Text.{cr};
-ghost use Rattle.lmtp_wire.specs.Place.{in_doubt, is_start, place_next, place_after, is_content, effect_of};
+ghost use Rattle.lmtp_wire.specs.DataPlace.{in_doubt, is_start, place_next, place_after, is_content, effect_of};
 ghost use Rattle.lmtp_wire.specs.Dot.{HasMade, HasFed, Feeds, owed_bytes};
 
 use memchr::memchr;
@@ -26,27 +26,27 @@ pub struct Fed {
 
 /// How much of the end of data came last.
 #[derive(Clone, Copy, Debug, PartialEq, Eq)]
-enum Place {
+enum DataPlace {
     /// Nothing of it.
     InText,
     /// CR.
-    BehindCr,
+    AfterCr,
     /// CRLF, which also stands before the first byte.
     LineStart,
     /// CRLF and a dot, which was dropped.
-    BehindDot,
+    AfterDot,
     /// CRLF, a dot and a CR, which is held back.
-    BehindDotCr,
+    AfterDotCr,
 }
 
 /// What a byte adds to the message, and where it leaves the data.
 #[derive(Clone, Copy, Debug, PartialEq, Eq)]
 enum Effect {
-    Nothing(Place),
+    Nothing(DataPlace),
     /// The byte itself.
-    Byte(Place),
+    Byte(DataPlace),
     /// The CR that was held back, and the byte.
-    HeldCr(Place),
+    HeldCr(DataPlace),
     /// Nothing: the data has ended.
     End,
 }
@@ -54,7 +54,7 @@ enum Effect {
 /// Where the bytes of data stand: how much of the end of data came last, and a byte that had no room.
 #[derive(Drop)]
 pub struct Dot {
-    place: Place,
+    place: DataPlace,
     owed: Option<u8>,
 }
 
@@ -64,7 +64,7 @@ impl Dot {
         ensures { HasMade result [] [] }
     {
         Dot {
-            place: Place::LineStart,
+            place: DataPlace::LineStart,
             owed: None,
         }
     }
@@ -128,8 +128,10 @@ impl Dot {
             → HasFed self.new (taken ++ take result.used piece.now) (made ++ take result.made out.new) result.ended }
     {
         match self.place {
-            Place::InText | Place::BehindCr | Place::LineStart => self.take_run(piece, out, fed),
-            Place::BehindDot | Place::BehindDotCr => self.take_byte(piece, out, fed),
+            DataPlace::InText | DataPlace::AfterCr | DataPlace::LineStart => self.take_run(
+                piece, out, fed,
+            ),
+            DataPlace::AfterDot | DataPlace::AfterDotCr => self.take_byte(piece, out, fed),
         }
     }
 
@@ -239,7 +241,7 @@ impl Dot {
 }
 
 // How many bytes of a text are content as they stand: all before the first dot that a line starts with.
-fn content_len(place: Place, text: &[u8]) -> usize
+fn content_len(place: DataPlace, text: &[u8]) -> usize
     ensures within { result ≤ length text.now }
     ensures content { is_content place (take result text.now) ≡ true }
 {
@@ -255,38 +257,38 @@ fn content_len(place: Place, text: &[u8]) -> usize
 }
 
 // Where data stands after a run of content, which its last two bytes tell.
-fn place_after(place: Place, run: &[u8]) -> Place
+fn place_after(place: DataPlace, run: &[u8]) -> DataPlace
     ensures { result ≡ place_after place run.now }
 {
     match run {
         [] => place,
         [byte] => place_next(place, *byte),
-        [.., before, byte] => place_next(place_next(Place::InText, *before), *byte),
+        [.., before, byte] => place_next(place_next(DataPlace::InText, *before), *byte),
     }
 }
 
 // Whether a line starts there.
-fn is_start(place: Place) -> bool
+fn is_start(place: DataPlace) -> bool
     ensures { result ≡ is_start place }
 {
-    matches!(place, Place::LineStart)
+    matches!(place, DataPlace::LineStart)
 }
 
 // What a byte makes of the message, and where it leaves the data.
-fn step(place: Place, byte: u8) -> Effect
+fn step(place: DataPlace, byte: u8) -> Effect
     ensures { result ≡ effect_of place byte }
 {
     match place {
-        Place::InText | Place::BehindCr => Effect::Byte(place_next(place, byte)),
-        Place::LineStart => match byte {
-            DOT => Effect::Nothing(Place::BehindDot),
+        DataPlace::InText | DataPlace::AfterCr => Effect::Byte(place_next(place, byte)),
+        DataPlace::LineStart => match byte {
+            DOT => Effect::Nothing(DataPlace::AfterDot),
             _ => Effect::Byte(place_next(place, byte)),
         },
-        Place::BehindDot => match byte {
-            CR => Effect::Nothing(Place::BehindDotCr),
+        DataPlace::AfterDot => match byte {
+            CR => Effect::Nothing(DataPlace::AfterDotCr),
             _ => Effect::Byte(place_next(place, byte)),
         },
-        Place::BehindDotCr => match byte {
+        DataPlace::AfterDotCr => match byte {
             LF => Effect::End,
             _ => Effect::HeldCr(place_next(place, byte)),
         },
@@ -294,15 +296,15 @@ fn step(place: Place, byte: u8) -> Effect
 }
 
 // Where data stands after a byte of content.
-fn place_next(place: Place, byte: u8) -> Place
+fn place_next(place: DataPlace, byte: u8) -> DataPlace
     ensures { result ≡ place_next place byte }
 {
     match byte {
-        CR => Place::BehindCr,
+        CR => DataPlace::AfterCr,
         LF => match place {
-            Place::BehindCr | Place::BehindDotCr => Place::LineStart,
-            Place::InText | Place::LineStart | Place::BehindDot => Place::InText,
+            DataPlace::AfterCr | DataPlace::AfterDotCr => DataPlace::LineStart,
+            DataPlace::InText | DataPlace::LineStart | DataPlace::AfterDot => DataPlace::InText,
         },
-        _ => Place::InText,
+        _ => DataPlace::InText,
     }
 }

@@ -33,10 +33,10 @@ fn add_stuffed(message: &[u8], out: &mut Vec<u8>) -> Result<(), AllocError>
     out.reserve(message.len().saturating_add(3))?;
     add_first_dot(message, out)?;
     let mut rest = message;
-    while let Some((run, behind)) = cut_run(rest) {
+    while let Some((run, after)) = cut_run(rest) {
         out.extend_from_slice(run)?;
         out.extend_from_slice(b"..")?;
-        rest = behind;
+        rest = after;
     }
     out.extend_from_slice(rest)?;
     out.extend_from_slice(b".\r\n")?;

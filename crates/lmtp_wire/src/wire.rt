@@ -2,7 +2,7 @@
 
 ghost use Rattle.std.specs.Prelude.{◌≡◌, ◌+◌, ◌≤◌, ℕ, List, [], ◌∷◌, ◌++◌, length, IfOk, IfSome};
 ghost use Rattle.mail_world.specs.Text.{cr, crlf, place_of, ends_in};
-ghost use Rattle.lmtp_wire.specs.Wire.{Keeps, IsBehind, EndsIn, Takes, IsLineEnd};
+ghost use Rattle.lmtp_wire.specs.Wire.{Keeps, IsAfter, EndsIn, Takes, IsLineEnd};
 
 use mail_world::limits::LINE_LIMIT;
 use memchr::memchr;
@@ -61,7 +61,7 @@ impl Model for Wire {
 impl Wire {
     /// A wire before its first line, with the memory that it ever takes.
     pub fn new(alloc: Global) -> Result<Wire, AllocError>
-        ensures behind { IfOk result (λ wire. IsBehind wire []) }
+        ensures after { IfOk result (λ wire. IsAfter wire []) }
         ensures no_line { IfOk result (λ wire. wire.line ≡ []) }
     {
         Ok(Wire {
@@ -73,7 +73,7 @@ impl Wire {
     /// Forgets the line that goes on, and stands before a first line again. (A server uses one wire for all its
     /// conversations.)
     pub fn clear(&mut self)
-        ensures behind { IsBehind self.new [] }
+        ensures after { IsAfter self.new [] }
         ensures no_line { self.new.line ≡ [] }
     {
         self.kept.clear();
@@ -84,7 +84,7 @@ impl Wire {
     pub fn command(&mut self, piece: &[u8]) -> Took
         ensures within { result.used ≤ length piece.now }
         ensures moves { 1 ≤ length piece.now → 1 ≤ result.used }
-        ensures takes { (taken : List ℕ) → IsBehind self.old taken
+        ensures takes { (taken : List ℕ) → IsAfter self.old taken
             → Takes self.new (taken ++ piece.now) (length taken) (length piece.now) result }
     {
         let Some(used) = self.line_end(piece) else {
@@ -109,7 +109,7 @@ impl Wire {
     // How many bytes of the piece the line has, its CRLF among them, where it ends there.
     fn line_end(&self, piece: &[u8]) -> Option<usize>
         ensures within { IfSome result (λ used. (1 ≤ used) × (used ≤ length piece.now)) }
-        ensures place { (taken : List ℕ) → IsBehind self.now taken → EndsIn taken piece.now result }
+        ensures place { (taken : List ℕ) → IsAfter self.now taken → EndsIn taken piece.now result }
     {
         if self.ends_in_cr() && piece.starts_with(b"\n") {
             return Some(1);
@@ -120,7 +120,7 @@ impl Wire {
 
     // Whether the last byte of the line is CR.
     fn ends_in_cr(&self) -> bool
-        ensures { (taken : List ℕ) → IsBehind self.now taken → result ≡ ends_in (cr ∷ []) taken }
+        ensures { (taken : List ℕ) → IsAfter self.now taken → result ≡ ends_in (cr ∷ []) taken }
     {
         match self.stage {
             Stage::Between => false,

@@ -17,12 +17,12 @@ use Rattle.lmtpd.specs.declared.stop.Stop.TheVariants as stop
 use Rattle.lmtpd.specs.Faults.{first_fault, house_refusal}
 use Rattle.lmtpd_listen.specs.Listening.{Names}
 use Rattle.lmtpd_listen.specs.declared.fault.ListenFault.TheVariants as listen
-use Rattle.lmtpd_listen.specs.declared.place.Place.{Place}
+use Rattle.lmtpd_listen.specs.declared.listen_address.ListenAddress.{ListenAddress}
 use Rattle.lmtpd.specs.declared.fault.Fault.{Fault}
-use Rattle.lmtpd.specs.Program.{IsUnopenedAt, IsPlace, IsNotRun, IsNotServed, IsServedAsAsked, IsSizeAsked, sizes_asked}
+use Rattle.lmtpd.specs.Program.{IsUnopenedAt, IsListenAddress, IsNotRun, IsNotServed, IsServedAsAsked, IsSizeAsked, sizes_asked}
 use Rattle.lmtpd.proofs.Unrun.{causes, unrun}
 
-not_run : (words : ServeWords) (cause : HouseFault) → IsPlace words.listen.now → first_fault (named_site words.site) ≡ None
+not_run : (words : ServeWords) (cause : HouseFault) → IsListenAddress words.listen.now → first_fault (named_site words.site) ≡ None
     → (house_refusal cause ≡ fault.Memory) ⊎ IsNotRun (IsSizeAsked words) (house_refusal cause) → IsNotServed words (stop.Fault (house_refusal cause))
 not_run words cause address sound (inl memory) = inl (ap stop.Fault memory)
 not_run words cause address sound (inr why) = inr (inr (address, inr (sound, inr (inr why))))
@@ -46,13 +46,13 @@ size_of_sum x Good (inl e) = cc
 size_of_sum x Good (inr good) = good
 
 pub served_as_asked : (L C E : Type 0) {G S : Type 0} (told : G → Option (List Entry)) (state : S → SpoolState) (words : ServeWords) (served : Served) (site : Site) (sizes : Sizes) (spools : List S)
-    → IsPlace words.listen.now → (site ≡ named_site words.site) × (first_fault (named_site words.site) ≡ None) → sizes ≡ sizes_asked words
+    → IsListenAddress words.listen.now → (site ≡ named_site words.site) × (first_fault (named_site words.site) ≡ None) → sizes ≡ sizes_asked words
     → length spools ≡ length words.site.boxes.items
     → (◌≡◌ {A = Result Served HouseFault} (Ok served) (Err house.Size)) ⊎ IsSize site sizes words.lanes (length spools) (length spools)
     → IsServerRun L C E site state told (record { lanes = words.lanes; capacity = sizes.capacity; quota = sizes.quota }) spools served
     → IsServedAsAsked L C E told state words served
 served_as_asked L C E told state words served site sizes spools address made asked boxes good ran = record {
-  place = address;
+  listen_address = address;
   sound = made.1;
   sizes = size_asked words site sizes (length spools) made.0 asked boxes (size_of_sum served (IsSize site sizes words.lanes (length spools) (length spools)) good);
   spools = spools;
@@ -64,7 +64,7 @@ served_as_asked L C E told state words served site sizes spools address made ask
 }
 
 pub no_server : (words : ServeWords) (cause : HouseFault) (site : Site) (sizes : Sizes) (count : ℕ)
-    → IsPlace words.listen.now → (site ≡ named_site words.site) × (first_fault (named_site words.site) ≡ None) → sizes ≡ sizes_asked words
+    → IsListenAddress words.listen.now → (site ≡ named_site words.site) × (first_fault (named_site words.site) ≡ None) → sizes ≡ sizes_asked words
     → count ≡ length words.site.boxes.items
     → (◌≡◌ {A = Result Served HouseFault} (Err cause) (Err house.Size) → IsSize site sizes words.lanes count count → ⊥)
     → (◌≡◌ {A = Result Served HouseFault} (Err cause) (Err house.Size)) ⊎ IsSize site sizes words.lanes count count
@@ -79,10 +79,10 @@ no_server words cause site sizes count address made asked boxes only (inr good) 
     (λ bad. absurd (bad (size_asked words site sizes count made.0 asked boxes good))))
 
 -- what listens wasn't opened
-pub unopened : (words : ServeWords) (place : Place) (f : Fault) → Names words.listen.now place → first_fault (named_site words.site) ≡ None
-    → IsUnopenedAt place f → IsNotServed words (stop.Fault f)
-unopened words place f names sound (listen.Memory, is, why) = inl (ap stop.Fault is)
-unopened words place f names sound (listen.Listen reason, is, why) = inr (inr ((place, names), inr (sound, inl is)))
-unopened words place f names sound (listen.Port, is, why) =
-    inr (inr ((place, names), inr (sound, inr (inl (is, subst (λ p. Names words.listen.now p) why names)))))
-unopened words place f names sound (listen.Address, is, why) = absurd why
+pub unopened : (words : ServeWords) (listen_address : ListenAddress) (f : Fault) → Names words.listen.now listen_address → first_fault (named_site words.site) ≡ None
+    → IsUnopenedAt listen_address f → IsNotServed words (stop.Fault f)
+unopened words listen_address f names sound (listen.Memory, is, why) = inl (ap stop.Fault is)
+unopened words listen_address f names sound (listen.Listen reason, is, why) = inr (inr ((listen_address, names), inr (sound, inl is)))
+unopened words listen_address f names sound (listen.Port, is, why) =
+    inr (inr ((listen_address, names), inr (sound, inr (inl (is, subst (λ p. Names words.listen.now p) why names)))))
+unopened words listen_address f names sound (listen.Address, is, why) = absurd why

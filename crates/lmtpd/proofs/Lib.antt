@@ -1,5 +1,5 @@
 mod FaultRows
-pub mod Behind
+pub mod AfterLines
 pub mod AsAsked
 pub mod Orders
 pub mod Unrun

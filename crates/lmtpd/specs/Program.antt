@@ -24,7 +24,7 @@ use Rattle.lmtpd_words.specs.declared.words.Words.TheVariants.{Rehearse, Serve, 
 use Rattle.lmtpd_listen.specs.Listening.{AsksInherited, IsRefused, Names}
 use Rattle.lmtpd_listen.specs.Opened.{IsUnopened}
 use Rattle.lmtpd_listen.specs.declared.fault.ListenFault.{ListenFault}
-use Rattle.lmtpd_listen.specs.declared.place.Place.{Place}
+use Rattle.lmtpd_listen.specs.declared.listen_address.ListenAddress.{ListenAddress}
 use Rattle.lmtpd.specs.Boxes.{IsUnfilled}
 use Rattle.lmtpd.specs.Faults.{check_fault, check_status, fault_text, first_fault, listen_refusal, rehearsal_fault}
 use Rattle.lmtpd.specs.Faults.{server_fault, status_of, stop_for, stop_status}
@@ -101,13 +101,14 @@ IsNotRehearsedFilled Fills words s = IsUnfilled words.site s
     ⊎ ((site : SiteWords) × Fills words.site site
     × ((f : Fault) × (s ≡ stop.Fault f) × IsNotRehearsed (record words { site = site }) f))
 
--- a place that a server may listen at
-abbrev pub IsPlace : List ℕ → Type 0
-IsPlace text = (place : Place) × Names text place
+-- an address that a server may listen at
+abbrev pub IsListenAddress : List ℕ → Type 0
+IsListenAddress text = (listen_address : ListenAddress) × Names text listen_address
 
 -- why nothing was opened there
-abbrev pub IsUnopenedAt : Place → Fault → Type 0
-IsUnopenedAt place f = (refused : ListenFault) × (f ≡ listen_refusal refused) × IsUnopened place refused
+abbrev pub IsUnopenedAt : ListenAddress → Fault → Type 0
+IsUnopenedAt listen_address f = (refused : ListenFault) × (f ≡ listen_refusal refused)
+    × IsUnopened listen_address refused
 
 -- the sizes that the words of a server ask for: a slot for each lane
 abbrev pub sizes_asked : ServeWords → Sizes
@@ -139,7 +140,7 @@ IsSizeAsked words =
 -- each mailbox.
 pub record IsServedAsAsked (L C E : Type 0) {G S : Type 0} (told : G → Option (List Entry)) (state : S → SpoolState)
     (words : ServeWords) (served : ServedRun) : Type 0 where
-  pub place : IsPlace words.listen.now
+  pub listen_address : IsListenAddress words.listen.now
   pub sound : first_fault (named_site words.site) ≡ None
   pub sizes : IsSizeAsked words
   pub spools : List S
@@ -156,12 +157,13 @@ IsNotServedAt words (stop.Unopened name) = Contains words.site.boxes.items name
 IsNotServedAt words (stop.Fault f) = (f ≡ fault.Listen)
     ⊎ (((f ≡ fault.Port) × AsksInherited words.listen.now) ⊎ IsNotRun (IsSizeAsked words) f)
 
--- Why none ran: memory is lacking, and else the first of the place, the site, the files, what listens and the server
+-- Why none ran: memory is lacking, and else the first of the address, the site, the files, what listens and the server
 -- itself.
 abbrev pub IsNotServed : ServeWords → Stop → Type 0
 IsNotServed words s = (s ≡ stop.Fault fault.Memory)
     ⊎ (((f : ListenFault) × (s ≡ stop.Fault (listen_refusal f)) × IsRefused words.listen.now f)
-    ⊎ (IsPlace words.listen.now × (((f : Fault) × (s ≡ stop.Fault f) × (first_fault (named_site words.site) ≡ Some f))
+    ⊎ (IsListenAddress words.listen.now
+    × (((f : Fault) × (s ≡ stop.Fault f) × (first_fault (named_site words.site) ≡ Some f))
     ⊎ ((first_fault (named_site words.site) ≡ None) × IsNotServedAt words s))))
 
 -- The same of a server, once the file of its mailboxes was read: `IsRun` says which runs its words ask for then.

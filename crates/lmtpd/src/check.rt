@@ -54,7 +54,7 @@ pub fn report_checked<W, E: Write>(checked: &Checked<'_, W>, error: &mut E) -> E
 }
 
 // Says both; after a fault of the writer nothing.
-#[tactic(auto, using(crate::proofs::Behind::fails_behind))]
+#[tactic(auto, using(crate::proofs::AfterLines::fails_after))]
 fn write_lines<E: Write>(
     unlocked: &[&str],
     fault: Option<Fault>,

@@ -77,7 +77,7 @@ module _ {F : Type 0} (remaining : F → Option (List ℕ)) (names : List (Bor (
         whole = λ e. cc;
         broken = λ e. subst (λ (text : List ℕ). IsCutOff u w text) (sym (line_more names i findings finding d h.count within))
             (breaks_next u v w (before ++ line) line [] (record {
-              front = before;
+              prefix = before;
               whole = ap (λ (t : List ℕ). before ++ t) (sym (append-nil line));
               appended = h.written;
             }) broken);

@@ -13,7 +13,7 @@ whole_kept (Err e) u v w text written kept = tt
 pub whole_cut : {T E : Type 0} (r : Result T E) (u v w : Option (List ℕ)) (text : List ℕ) → Appends u v text → Keeps v w → OnErr r (IsCutOff u w text)
 whole_cut (Ok x) u v w text written kept = tt
 whole_cut (Err e) u v w text written kept = record {
-  front = text;
+  prefix = text;
   begins = record { rest = []; whole = sym (append-nil text) };
   appended = Appends-keeps u v w text written kept;
 }

@@ -1,13 +1,13 @@
--- Which place a text names, and why it is refused.
+-- Which address a text names, and why it is refused.
 use Rattle.std.specs.Prelude.{◌≡◌, ◌≢◌, ◌<◌, ◌⊎◌, ◌++◌, ℕ, List, codes, length, Contains}
 use Rattle.std.specs.Net.Socket.{socket_port}
 use Rattle.std.specs.Net.Grammar.{IsSocketText}
 use Rattle.std.specs.declared.net.SocketAddr.{SocketAddr}
 use Rattle.lmtpd_listen.specs.declared.fault.ListenFault.{ListenFault}
 use Rattle.lmtpd_listen.specs.declared.fault.ListenFault.TheVariants as fault
-use Rattle.lmtpd_listen.specs.declared.place.Place.{Place}
-use Rattle.lmtpd_listen.specs.declared.place.Place.TheVariants as place
-use Rattle.lmtpd_listen.specs.declared.place.TheConstants.{PATH_LIMIT, SMTP_PORT}
+use Rattle.lmtpd_listen.specs.declared.listen_address.ListenAddress.{ListenAddress}
+use Rattle.lmtpd_listen.specs.declared.listen_address.ListenAddress.TheVariants as listen_address
+use Rattle.lmtpd_listen.specs.declared.listen_address.TheConstants.{PATH_LIMIT, SMTP_PORT}
 
 -- the socket that the program was started with is asked for
 abbrev pub AsksInherited : List ℕ → Type 0
@@ -25,13 +25,13 @@ AsksTcp text = (¬ AsksInherited text) × ((path : List ℕ) → ¬ AsksUnix tex
 abbrev pub IsSocketPath : List ℕ → Type 0
 IsSocketPath path = (0 < length path) × (length path < PATH_LIMIT) × (¬ Contains path 0)
 
--- the text names this place
-abbrev pub Names : List ℕ → Place → Type 0
-Names text place.Inherited = AsksInherited text
-Names text (place.Unix path) = AsksUnix text path.now × IsSocketPath path.now
-Names text (place.Tcp address) = AsksTcp text × IsSocketText text address × (socket_port address ≢ SMTP_PORT)
+-- the text names this address
+abbrev pub Names : List ℕ → ListenAddress → Type 0
+Names text listen_address.Inherited = AsksInherited text
+Names text (listen_address.Unix path) = AsksUnix text path.now × IsSocketPath path.now
+Names text (listen_address.Tcp address) = AsksTcp text × IsSocketText text address × (socket_port address ≢ SMTP_PORT)
 
--- Why the text names no place where a server may listen: its path is none of a socket, it is no address with a port, or
+-- Why the text names no address to listen at: its path is none of a socket, it is no IP address with a port, or
 -- the port is SMTP's.
 abbrev pub IsRefused : List ℕ → ListenFault → Type 0
 IsRefused text fault.Address =

@@ -10,8 +10,8 @@ use Rattle.lmtpd_listen.specs.declared.fault.ListenFault.{ListenFault}
 use Rattle.lmtpd_listen.specs.declared.fault.ListenFault.TheVariants as fault
 use Rattle.lmtpd_listen.specs.declared.fault.Reason.{Reason}
 use Rattle.lmtpd_listen.specs.declared.opened.Opened.{Opened}
-use Rattle.lmtpd_listen.specs.declared.place.Place.{Place}
-use Rattle.lmtpd_listen.specs.declared.place.Place.TheVariants as place
+use Rattle.lmtpd_listen.specs.declared.listen_address.ListenAddress.{ListenAddress}
+use Rattle.lmtpd_listen.specs.declared.listen_address.ListenAddress.TheVariants as listen_address
 use Rattle.lmtpd_listen.specs.declared.server.Listening.{Listening}
 use Rattle.lmtpd_listen.specs.declared.server.Listening.TheVariants as listening
 use Rattle.lmtpd_listen.specs.declared.server.ServerSocket.{ServerSocket}
@@ -47,19 +47,19 @@ IsEndpoint path (endpoint.Unix name) = path ≡ Some name.now
 
 -- What was opened is of the kind that was asked for: a Unix socket that was made listens at its path, and its file is
 -- removed at the end; any other is left where it is.
-abbrev pub IsOpened : Place → Opened → Type 0
-IsOpened (place.Tcp address) opened = (socket_path opened.socket ≡ None) × (file_path opened.file ≡ None)
-IsOpened (place.Unix path) opened = (socket_path opened.socket ≡ Some path.now)
+abbrev pub IsOpened : ListenAddress → Opened → Type 0
+IsOpened (listen_address.Tcp address) opened = (socket_path opened.socket ≡ None) × (file_path opened.file ≡ None)
+IsOpened (listen_address.Unix path) opened = (socket_path opened.socket ≡ Some path.now)
     × (file_path opened.file ≡ Some path.now)
-IsOpened place.Inherited opened = file_path opened.file ≡ None
+IsOpened listen_address.Inherited opened = file_path opened.file ≡ None
 
--- nothing could be opened at a place, and the log says why
+-- nothing could be opened at an address, and the log says why
 abbrev pub IsListenFault : ListenFault → Type 0
 IsListenFault f = (reason : Reason) × (f ≡ fault.Listen reason)
 
 -- why nothing was opened: only a socket that the program was started with may have the port of SMTP
-abbrev pub IsUnopened : Place → ListenFault → Type 0
+abbrev pub IsUnopened : ListenAddress → ListenFault → Type 0
 IsUnopened p fault.Memory = Unit {0}
 IsUnopened p (fault.Listen reason) = Unit {0}
-IsUnopened p fault.Port = p ≡ place.Inherited
+IsUnopened p fault.Port = p ≡ listen_address.Inherited
 IsUnopened p fault.Address = ⊥

@@ -2,10 +2,10 @@
 
 ghost use Rattle.std.specs.Prelude.{◌≡◌, IfErr, None};
 ghost use Rattle.lmtpd_listen.specs.Opened.{IsListenFault, IsUnopened, socket_path};
-ghost use Rattle.lmtpd_listen.specs.declared.place.Place.TheVariants as place;
+ghost use Rattle.lmtpd_listen.specs.declared.listen_address.ListenAddress.TheVariants as listen_address;
 
 use crate::fault::{ListenFault, Reason, last_fault};
-use crate::place::SMTP_PORT;
+use crate::listen_address::SMTP_PORT;
 use crate::server::{ServerSocket, duplicate};
 use libc::net::{POLLOUT, poll};
 use libc::types::pollfd;
@@ -24,7 +24,7 @@ const NUMBER_SIZE: usize = 16;
 
 /// Takes the one socket that was passed to this process.
 pub(crate) fn take_inherited<R: Env>(rt: &R, alloc: Global) -> Result<ServerSocket, ListenFault>
-    ensures { IfErr result (IsUnopened place.Inherited) }
+    ensures { IfErr result (IsUnopened listen_address.Inherited) }
 {
     let is_for_us = number_in(rt, "LISTEN_PID") == u32::try_from(libc::getpid()).ok();
     if !is_for_us || number_in(rt, "LISTEN_FDS") != Some(1) {
@@ -63,7 +63,7 @@ fn is_listening(fd: RawFd) -> Result<bool, ListenFault>
 }
 
 fn server_over(alloc: Global, socket: OwnedFd) -> Result<ServerSocket, ListenFault>
-    ensures { IfErr result (IsUnopened place.Inherited) }
+    ensures { IfErr result (IsUnopened listen_address.Inherited) }
 {
     let listener = TcpListener::from(socket);
     // a descriptor that doesn't block would never wait
@@ -82,7 +82,7 @@ fn server_over(alloc: Global, socket: OwnedFd) -> Result<ServerSocket, ListenFau
 
 // The path, or a name of the kind that no file has, with `@` before it.
 fn name_of(alloc: Global, address: &SocketAddr) -> Result<String, ListenFault>
-    ensures { IfErr result (IsUnopened place.Inherited) }
+    ensures { IfErr result (IsUnopened listen_address.Inherited) }
 {
     if let Some(path) = address.as_pathname() {
         return Ok(format!(in alloc; "{}", path.as_str())?);

@@ -5,7 +5,7 @@ ghost use Rattle.lmtpd_listen.specs.Opened.{IsOpened, IsUnopened};
 
 use crate::fault::ListenFault;
 use crate::inherited::take_inherited;
-use crate::place::Place;
+use crate::listen_address::ListenAddress;
 use crate::server::ServerSocket;
 use crate::socket_file::SocketFile;
 use crate::unix::open_unix;
@@ -22,23 +22,23 @@ pub struct Opened<'a> {
     pub file: SocketFile<'a>,
 }
 
-/// Opens what listens at the place. The file of a Unix socket has these permission bits before anybody can connect, and
+/// Opens what listens at the address. The file of a Unix socket has these permission bits before anybody can connect, and
 /// never wider ones.
 pub fn open<'a, R>(
     rt: &R,
     alloc: Global,
-    place: Place<'a>,
+    listen_address: ListenAddress<'a>,
     mode: u32,
 ) -> Result<Opened<'a>, ListenFault>
 where
     R: Files + Net<Listener = TcpListener, Stream = TcpStream> + Env + Clock,
     R::File: FileLock,
-    ensures { MatchResult result (IsOpened place.entry) (IsUnopened place.entry) }
+    ensures { MatchResult result (IsOpened listen_address.entry) (IsUnopened listen_address.entry) }
 {
-    let socket = match place {
-        Place::Unix(path) => return open_unix(rt, alloc, path, mode),
-        Place::Tcp(address) => ServerSocket::of_tcp(TcpListener::bind(rt, address)?)?,
-        Place::Inherited => take_inherited(rt, alloc)?,
+    let socket = match listen_address {
+        ListenAddress::Unix(path) => return open_unix(rt, alloc, path, mode),
+        ListenAddress::Tcp(address) => ServerSocket::of_tcp(TcpListener::bind(rt, address)?)?,
+        ListenAddress::Inherited => take_inherited(rt, alloc)?,
     };
     Ok(Opened {
         socket,

@@ -2,7 +2,7 @@
 
 ghost use Rattle.std.specs.Prelude.{IfErr, MatchResult};
 ghost use Rattle.lmtpd_listen.specs.Opened.{IsListenFault, IsOpened, IsUnopened};
-ghost use Rattle.lmtpd_listen.specs.declared.place.Place.TheVariants as place;
+ghost use Rattle.lmtpd_listen.specs.declared.listen_address.ListenAddress.TheVariants as listen_address;
 
 use crate::fault::{ListenFault, Reason, last_fault};
 use crate::folder::lock_folder;
@@ -37,7 +37,8 @@ pub(crate) fn open_unix<'a, R: Files + Net + Clock>(
 ) -> Result<Opened<'a>, ListenFault>
 where
     R::File: FileLock,
-    ensures { MatchResult result (IsOpened (place.Unix path.entry)) (IsUnopened (place.Unix path.entry)) }
+    ensures { MatchResult result (IsOpened (listen_address.Unix path.entry))
+        (IsUnopened (listen_address.Unix path.entry)) }
 {
     let mode = mode & MODE_BITS;
     let name = format!(in alloc; "{path}")?;

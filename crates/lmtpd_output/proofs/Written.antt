@@ -28,31 +28,31 @@ Keeps-same (Some xs) = refl
 
 -- the writer took the text up to the rest
 pub record WritesUpTo (old new : Option (List ℕ)) (text rest : List ℕ) : Type 0 where
-  pub front : List ℕ
-  pub whole : text ≡ front ++ rest
-  pub appended : Appends old new front
+  pub prefix : List ℕ
+  pub whole : text ≡ prefix ++ rest
+  pub appended : Appends old new prefix
 
 pub writes_none : (u : Option (List ℕ)) (text : List ℕ) → WritesUpTo u u text text
-writes_none u text = record { front = []; whole = refl; appended = Appends-nil u }
+writes_none u text = record { prefix = []; whole = refl; appended = Appends-nil u }
 
 pub writes_all : (u v : Option (List ℕ)) (text : List ℕ) → WritesUpTo u v text [] → Appends u v text
-writes_all u v text x = let P : List ℕ → Type 0 = λ l. Appends u v l in subst P (sym (x.whole ∙ append-nil x.front)) x.appended
+writes_all u v text x = let P : List ℕ → Type 0 = λ l. Appends u v l in subst P (sym (x.whole ∙ append-nil x.prefix)) x.appended
 
 pub writes_next : (u v w : Option (List ℕ)) (text a b : List ℕ) → WritesUpTo u v text (a ++ b) → Appends v w a → WritesUpTo u w text b
 writes_next u v w text a b x y = record {
-  front = x.front ++ a;
-  whole = x.whole ∙ sym (append_assoc x.front a b);
-  appended = Appends-then u v w x.front a x.appended y;
+  prefix = x.prefix ++ a;
+  whole = x.whole ∙ sym (append_assoc x.prefix a b);
+  appended = Appends-then u v w x.prefix a x.appended y;
 }
 
 pub breaks_next : (u v w : Option (List ℕ)) (text a b : List ℕ) → WritesUpTo u v text (a ++ b) → IsCutOff v w a → IsCutOff u w text
 breaks_next u v w text a b x y = record {
-  front = x.front ++ y.front;
+  prefix = x.prefix ++ y.prefix;
   begins = record {
     rest = y.begins.rest ++ b;
-    whole = x.whole ∙ ap (λ l. x.front ++ (l ++ b)) y.begins.whole ∙ ap (λ l. x.front ++ l) (append_assoc y.front y.begins.rest b) ∙ sym (append_assoc x.front y.front (y.begins.rest ++ b));
+    whole = x.whole ∙ ap (λ l. x.prefix ++ (l ++ b)) y.begins.whole ∙ ap (λ l. x.prefix ++ l) (append_assoc y.prefix y.begins.rest b) ∙ sym (append_assoc x.prefix y.prefix (y.begins.rest ++ b));
   };
-  appended = Appends-then u v w x.front y.front x.appended y.appended;
+  appended = Appends-then u v w x.prefix y.prefix x.appended y.appended;
 }
 
 pub writes_more : (u v w : Option (List ℕ)) (text rest : List ℕ) (n : ℕ) → WritesUpTo u v text rest → Appends v w (take n rest) → WritesUpTo u w text (take (length rest - n) (drop n rest))
@@ -60,7 +60,7 @@ writes_more u v w text rest n x y = rw (take_rest rest n)
     (writes_next u v w text (take n rest) (drop n rest) (let P : List ℕ → Type 0 = λ l. WritesUpTo u v text l in subst P (sym (take-append-drop n rest)) x) y)
 
 pub breaks_now : (u v w : Option (List ℕ)) (text rest : List ℕ) → WritesUpTo u v text rest → Keeps v w → IsCutOff u w text
-breaks_now u v w text rest x y = record { front = x.front; begins = record { rest = rest; whole = x.whole }; appended = Appends-keeps u v w x.front x.appended y }
+breaks_now u v w text rest x y = record { prefix = x.prefix; begins = record { rest = rest; whole = x.whole }; appended = Appends-keeps u v w x.prefix x.appended y }
 
 pub nothing_taken : (v w : Option (List ℕ)) (rest : List ℕ) (n : ℕ) → n ≡ 0 → Appends v w (take n rest) → Keeps v w
 nothing_taken v w rest n e x = let P : ℕ → Type 0 = λ k. Appends v w (take k rest) in Keeps-appends v w (subst P e x)

@@ -1,13 +1,13 @@
 -- What a writer holds where a write failed, and texts that are written one after the other.
 use Rattle.std.specs.Prelude.{ℕ, List, [], ◌∷◌, ◌++◌, Option}
 use Rattle.std.specs.Io.KnownBytes.{Appends}
-use Rattle.mail_world.specs.Fronts.{IsFront}
+use Rattle.mail_world.specs.Prefixes.{IsPrefix}
 
 -- a prefix of the text was added
 pub record IsCutOff (old new : Option (List ℕ)) (text : List ℕ) : Type 0 where
-  pub front : List ℕ
-  pub begins : IsFront front text
-  pub appended : Appends old new front
+  pub prefix : List ℕ
+  pub begins : IsPrefix prefix text
+  pub appended : Appends old new prefix
 
 -- the text of each name with what belongs to it
 abbrev pub pair_texts : {X : Type 0} → (List ℕ → X → List ℕ) → List (List ℕ) → List X → List ℕ

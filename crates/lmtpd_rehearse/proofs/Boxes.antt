@@ -14,14 +14,14 @@ use Rattle.mail_world.specs.Deliveries.{IsTorn}
 use Rattle.lmtp_text.specs.Calendar.{civil_at}
 use Rattle.mbox_record.specs.MemorySpool.{MemorySpool}
 use Rattle.mbox_record.specs.Spool.{SpoolState, IsFull}
-use Rattle.box_worker.specs.Limits.{Setting, kept_behind}
+use Rattle.box_worker.specs.Limits.{Setting, kept_after}
 use Rattle.box_worker.specs.Stored.{mailbox_of, HasStored, HasSettled}
 use Rattle.lmtp_threads.specs.Works.{share_of, setting_of}
 use Rattle.lmtp_threads.specs.declared.tally.Tally.{Tally}
 use Rattle.mbox_record.specs.Sharing.{alone}
 use Rattle.lmtpd_rehearse.specs.Mailboxes.{MailboxContent, kept_all, kept_at, bytes_of_all, empty_spool, mailbox_room, IsCalm}
 use Rattle.lmtpd_rehearse.specs.Copies.{HoldsCopies, kept_later}
-use Rattle.lmtpd_rehearse.proofs.Keeping.{kept_front, kept_parts, length-marked, marked_next, marked_none, same_marks}
+use Rattle.lmtpd_rehearse.proofs.Keeping.{kept_prefix, kept_parts, length-marked, marked_next, marked_none, same_marks}
 
 -- a spool in memory as every spool is seen
 abbrev pub state_of : MemorySpool → SpoolState
@@ -59,12 +59,12 @@ bytes_are (s ∷ spools) [] e = absurd (omega (arith, e))
 bytes_are (s ∷ spools) (t ∷ tallies) e = ap (λ l. s.bytes ∷ l) (bytes_are spools tallies (omega arith))
 
 -- none failed
-calm_behind : (k : MailboxContent) (ks : List MailboxContent) → IsCalm (k ∷ ks) → IsCalm ks
-calm_behind k ks calm n h = calm (suc n) (omega arith)
+calm_after : (k : MailboxContent) (ks : List MailboxContent) → IsCalm (k ∷ ks) → IsCalm ks
+calm_after k ks calm n h = calm (suc n) (omega arith)
 
-calm_front : (k : MailboxContent) (ks : List MailboxContent) → k.failed ≡ false → IsCalm ks → IsCalm (k ∷ ks)
-calm_front k ks e calm zero h = e
-calm_front k ks e calm (suc n) h = calm n (omega arith)
+calm_prefix : (k : MailboxContent) (ks : List MailboxContent) → k.failed ≡ false → IsCalm ks → IsCalm (k ∷ ks)
+calm_prefix k ks e calm zero h = e
+calm_prefix k ks e calm (suc n) h = calm n (omega arith)
 
 or_none : (a b : Bool) → a || b ≡ false → (a ≡ false) × (b ≡ false)
 or_none true b e = cc
@@ -78,7 +78,7 @@ none_failed [] tallies size e = λ n h. absurd (omega arith)
 none_failed (s ∷ spools) [] size e = absurd (omega (arith, size))
 none_failed (s ∷ spools) (t ∷ tallies) size e =
     let both = or_none t.faulty (list_any (λ x. x.faulty) tallies) (sym (any_first t tallies) ∙ e) in
-    calm_front (record { bytes = s.bytes; failed = t.faulty }) (kept_all spools tallies) both.0 (none_failed spools tallies (omega arith) both.1)
+    calm_prefix (record { bytes = s.bytes; failed = t.faulty }) (kept_all spools tallies) both.0 (none_failed spools tallies (omega arith) both.1)
 
 pub all_calm : (spools : List MemorySpool) (tallies : List Tally) → length tallies ≡ length spools → IsCalm (kept_all spools tallies) → list_any (λ t. t.faulty) tallies ≡ false
 all_calm [] [] size calm = refl
@@ -86,12 +86,12 @@ all_calm [] (t ∷ tallies) size calm = absurd (omega (arith, size))
 all_calm (s ∷ spools) [] size calm = absurd (omega (arith, size))
 all_calm (s ∷ spools) (t ∷ tallies) size calm =
     any_first t tallies ∙ ap (λ b. b || list_any (λ x. x.faulty) tallies) (calm 0 (omega arith))
-    ∙ all_calm spools tallies (omega arith) (calm_behind (record { bytes = s.bytes; failed = t.faulty }) (kept_all spools tallies) calm)
+    ∙ all_calm spools tallies (omega arith) (calm_after (record { bytes = s.bytes; failed = t.faulty }) (kept_all spools tallies) calm)
 
 -- a prefix of nothing
-no_front : (front rest : List ℕ) → [] ≡ front ++ rest → front ≡ []
-no_front [] rest e = refl
-no_front (x ∷ front) rest e = cc
+no_prefix : (prefix rest : List ℕ) → [] ≡ prefix ++ rest → prefix ≡ []
+no_prefix [] rest e = refl
+no_prefix (x ∷ prefix) rest e = cc
 
 pub is_full : (site : Site) (calendar : Calendar) (host : List ℕ) (spool : MemorySpool) (notes : List Note) (stored over : ℕ) (faulty : Bool)
     → HasStored calendar host notes (state_of (empty_spool site)) (mailbox_of (state_of spool) stored over faulty) → faulty ≡ true → length spool.bytes ≡ mailbox_room site.message_limit
@@ -121,7 +121,7 @@ module _ (site : Site) (quota : Option ℕ) (b start : ℕ) (notes : List Note) 
   abbrev pub Holds : Bool → Type 0
   Holds faulty = HoldsCopies civil_at site.host quota notes (outcomes_settled (stored + over) (are_kept civil_at site.host quota [] notes)) spool.bytes faulty
 
-  kept_as : (faulty : Bool) → HoldsSettled faulty → (xs : List Note) → kept_behind at start xs ≡ kept civil_at site.host quota [] xs
+  kept_as : (faulty : Bool) → HoldsSettled faulty → (xs : List Note) → kept_after at start xs ≡ kept civil_at site.host quota [] xs
   kept_as faulty h xs = ap (λ marks. marked marks xs) (same_marks civil_at site.host quota (state_of (empty_spool site)) start xs refl h.starts)
 
   pub spool_has : (faulty : Bool) → HoldsSettled faulty → HasStored civil_at site.host all (state_of (empty_spool site)) (mailbox_of (state_of spool) stored over faulty)
@@ -138,7 +138,7 @@ module _ (site : Site) (quota : Option ℕ) (b start : ℕ) (notes : List Note) 
     | inl none ↦ (
         let broken = none.1.failed in
         let full = is_full site civil_at site.host spool all stored over true (spool_has true h) refl in
-        let nothing : broken.front ≡ [] = no_front broken.front broken.rest (sym none.1.is ∙ broken.whole) in
+        let nothing : broken.prefix ≡ [] = no_prefix broken.prefix broken.rest (sym none.1.is ∙ broken.whole) in
         let empty : length spool.bytes ≡ 0 = ap length (broken.appended ∙ nothing) in
         let some = le-max_left 2097152 (2 * site.message_limit) in absurd (omega (arith, full, empty, some))
         )
@@ -147,9 +147,9 @@ module _ (site : Site) (quota : Option ℕ) (b start : ℕ) (notes : List Note) 
         let n : ℕ = stored + over in
         let next : suc n ≡ n + 1 = omega arith in
         let now : length (marked (take (suc n) marks) (take (suc n) notes)) ≡ stored + 1 =
-        ap length (sym (kept_as true h (take (suc n) notes) ∙ kept_front civil_at site.host quota (suc n) notes))
-        ∙ ap (λ k. length (kept_behind at start (take k notes))) next ∙ one.1 in
-        let was : stored ≡ length (marked (take n marks) (take n notes)) = count_first true h ∙ ap length (kept_front civil_at site.host quota n notes) in
+        ap length (sym (kept_as true h (take (suc n) notes) ∙ kept_prefix civil_at site.host quota (suc n) notes))
+        ∙ ap (λ k. length (kept_after at start (take k notes))) next ∙ one.1 in
+        let was : stored ≡ length (marked (take n marks) (take n notes)) = count_first true h ∙ ap length (kept_prefix civil_at site.host quota n notes) in
         marked_next n marks notes (omega (arith, now, was))
         )
   ]
@@ -174,8 +174,8 @@ module _ (site : Site) (quota : Option ℕ) (b start : ℕ) (notes : List Note) 
         next = λ e. cc;
       }
 
-  holds_front : HoldsSettled true → Holds true
-  holds_front h = elim ((spool_has true h).torn refl) [
+  holds_prefix : HoldsSettled true → Holds true
+  holds_prefix h = elim ((spool_has true h).torn refl) [
     | inl some ↦ (
         let count : stored ≡ length first = count_first true h in
         let parts : all ≡ first ++ later = kept_parts civil_at site.host quota (stored + over) notes in
@@ -200,7 +200,7 @@ module _ (site : Site) (quota : Option ℕ) (b start : ℕ) (notes : List Note) 
         )
     | inr none ↦ (
         let full = is_full site civil_at site.host spool all stored over true (spool_has true h) refl in
-        let nothing : none.0 ≡ [] = no_front none.0 none.3.rest none.3.whole in
+        let nothing : none.0 ≡ [] = no_prefix none.0 none.3.rest none.3.whole in
         let empty : length spool.bytes ≡ 0 = ap length (none.2 ∙ nothing) in
         let some = le-max_left 2097152 (2 * site.message_limit) in absurd (omega (arith, full, empty, some))
         )
@@ -208,4 +208,4 @@ module _ (site : Site) (quota : Option ℕ) (b start : ℕ) (notes : List Note) 
 
   pub holds_settled : (faulty : Bool) → HoldsSettled faulty → Holds faulty
   holds_settled false h = holds_whole h
-  holds_settled true h = holds_front h
+  holds_settled true h = holds_prefix h

@@ -6,7 +6,7 @@ use Rattle.std.specs.List.{AllByRecursion}
 use Rattle.mail_world.specs.declared.Note.{Note}
 use Rattle.mail_world.specs.declared.Outcome.TheVariants.{Stored, OverQuota}
 use Rattle.mail_world.specs.Records.{Calendar, record_of, mended}
-use Rattle.mail_world.specs.Quotas.{fits, are_kept_behind, are_kept, kept, marked, outcomes_settled}
+use Rattle.mail_world.specs.Quotas.{fits, are_kept_after, are_kept, kept, marked, outcomes_settled}
 use Rattle.mbox_record.specs.Spool.{SpoolState}
 use Rattle.box_worker.specs.Limits.{StartsAt}
 use Rattle.lmtp_house.proofs.Courses.{unlimited}
@@ -52,31 +52,31 @@ marked_next (suc n) (false ∷ marks) (x ∷ xs) e = marked_next n marks xs e
 
 module _ (calendar : Calendar) (host : List ℕ) where
   -- the marks of the first copies are the first marks
-  marks_front : (quota : Option ℕ) (n len : ℕ) (notes : List Note) → are_kept_behind calendar host quota len (take n notes) ≡ take n (are_kept_behind calendar host quota len notes)
-  marks_front quota zero len notes = refl
-  marks_front quota (suc n) len [] = refl
-  marks_front quota (suc n) len (x ∷ notes) =
+  marks_prefix : (quota : Option ℕ) (n len : ℕ) (notes : List Note) → are_kept_after calendar host quota len (take n notes) ≡ take n (are_kept_after calendar host quota len notes)
+  marks_prefix quota zero len notes = refl
+  marks_prefix quota (suc n) len [] = refl
+  marks_prefix quota (suc n) len (x ∷ notes) =
       let size = length (record_of calendar host x) in
       let t = fits quota len size in
-      ap (λ l. t ∷ l) (marks_front quota n (if t then len + size else len) notes)
+      ap (λ l. t ∷ l) (marks_prefix quota n (if t then len + size else len) notes)
 
-  pub kept_front : (quota : Option ℕ) (n : ℕ) (notes : List Note) → kept calendar host quota [] (take n notes) ≡ marked (take n (are_kept calendar host quota [] notes)) (take n notes)
+  pub kept_prefix : (quota : Option ℕ) (n : ℕ) (notes : List Note) → kept calendar host quota [] (take n notes) ≡ marked (take n (are_kept calendar host quota [] notes)) (take n notes)
   unfolding are_kept
-  kept_front quota n notes = ap (λ marks. marked marks (take n notes)) (marks_front quota n 0 notes)
+  kept_prefix quota n notes = ap (λ marks. marked marks (take n notes)) (marks_prefix quota n 0 notes)
 
   -- what is kept of the first copies, and of the others
   pub kept_parts : (quota : Option ℕ) (n : ℕ) (notes : List Note) → kept calendar host quota [] notes ≡ kept calendar host quota [] (take n notes) ++ kept_later calendar host quota n notes
-  kept_parts quota n notes = marked_parts n (are_kept calendar host quota [] notes) notes ∙ ap (λ l. l ++ kept_later calendar host quota n notes) (sym (kept_front quota n notes))
+  kept_parts quota n notes = marked_parts n (are_kept calendar host quota [] notes) notes ∙ ap (λ l. l ++ kept_later calendar host quota n notes) (sym (kept_prefix quota n notes))
 
   -- a worker whose spool is empty marks them so
   pub same_marks : (quota : Option ℕ) (spool : SpoolState) (start : ℕ) (notes : List Note) → spool.bytes ≡ Some [] → IfSome quota (λ q. StartsAt spool start)
-      → are_kept_behind calendar host quota start notes ≡ are_kept calendar host quota [] notes
+      → are_kept_after calendar host quota start notes ≡ are_kept calendar host quota [] notes
   unfolding are_kept
   same_marks None spool start notes empty starts = unlimited calendar host start 0 notes
   same_marks (Some quota) spool start notes empty starts =
       let P : Option (List ℕ) → Type 0 = λ bytes. IfSome bytes (λ held. start ≡ length (held ++ mended held)) in
       let nothing : start ≡ 0 = subst P empty starts.known in
-      ap (λ n. are_kept_behind calendar host (Some quota) n notes) nothing
+      ap (λ n. are_kept_after calendar host (Some quota) n notes) nothing
 
   kept_or_over : (quota : ℕ) (t : Bool) → IsSettled (Some quota) (if t then Stored else OverQuota)
   kept_or_over quota true = inl refl
@@ -84,7 +84,7 @@ module _ (calendar : Calendar) (host : List ℕ) where
 
   -- where all copies are settled
   pub all_settled : (quota : Option ℕ) (len n : ℕ) (notes : List Note) → length notes ≤ n
-      → AllByRecursion (IsSettled quota) (outcomes_settled n (are_kept_behind calendar host quota len notes))
+      → AllByRecursion (IsSettled quota) (outcomes_settled n (are_kept_after calendar host quota len notes))
   all_settled quota len n [] h = tt
   all_settled quota len zero (x ∷ notes) h = absurd (omega (arith, h))
   all_settled None len (suc n) (x ∷ notes) h = (refl, all_settled None (len + length (record_of calendar host x)) n notes (omega (arith, h)))

@@ -12,13 +12,13 @@ use Rattle.mail_world.specs.Slips.{names, of_worker, slip_of, slips_from}
 use Rattle.mail_runs.proofs.Rising.{IsFrom, from_then, CopiesRise}
 
 -- lists of which all elements are such
-pub all_front : {A : Type 0} (P : A → Type 0) (xs ys : List A) → AllByRecursion P (xs ++ ys) → AllByRecursion P xs
-all_front P [] ys h = tt
-all_front P (x ∷ xs) ys h = (h.0, all_front P xs ys h.1)
+pub all_prefix : {A : Type 0} (P : A → Type 0) (xs ys : List A) → AllByRecursion P (xs ++ ys) → AllByRecursion P xs
+all_prefix P [] ys h = tt
+all_prefix P (x ∷ xs) ys h = (h.0, all_prefix P xs ys h.1)
 
-pub all_behind : {A : Type 0} (P : A → Type 0) (xs ys : List A) → AllByRecursion P (xs ++ ys) → AllByRecursion P ys
-all_behind P [] ys h = h
-all_behind P (x ∷ xs) ys h = all_behind P xs ys h.1
+pub all_after : {A : Type 0} (P : A → Type 0) (xs ys : List A) → AllByRecursion P (xs ++ ys) → AllByRecursion P ys
+all_after P [] ys h = h
+all_after P (x ∷ xs) ys h = all_after P xs ys h.1
 
 all_if : {A : Type 0} (P : A → Type 0) (b : Bool) (x : A) (xs : List A) → P x → AllByRecursion P xs → AllByRecursion P (cond b (x ∷ xs) xs)
 all_if P true x xs p h = (p, h)
@@ -81,50 +81,50 @@ abbrev pub next_of : List Outcome → Outcome
 next_of [] = Failed
 next_of (outcome ∷ outcomes) = outcome
 
-abbrev pub behind_next : List Outcome → List Outcome
-behind_next [] = []
-behind_next (outcome ∷ outcomes) = outcomes
+abbrev pub after_next : List Outcome → List Outcome
+after_next [] = []
+after_next (outcome ∷ outcomes) = outcomes
 
 -- what each worker has left to tell after a copy for that mailbox
-abbrev pub left_behind : (ℕ → List Outcome) → ℕ → ℕ → List Outcome
-left_behind left mailbox b = if mailbox == b then behind_next (left b) else left b
+abbrev pub left_after_one : (ℕ → List Outcome) → ℕ → ℕ → List Outcome
+left_after_one left mailbox b = if mailbox == b then after_next (left b) else left b
 
 -- and after copies
 abbrev pub left_after : (ℕ → List Outcome) → List Note → ℕ → List Outcome
 left_after left [] b = left b
-left_after left (x ∷ xs) b = left_after (λ k. left_behind left x.mailbox k) xs b
+left_after left (x ∷ xs) b = left_after (λ k. left_after_one left x.mailbox k) xs b
 
 -- the slips for all these copies, where each worker has these outcomes left to tell
 abbrev pub slips_all : (ℕ → List Outcome) → List Note → List Slip
 slips_all left [] = []
-slips_all left (x ∷ xs) = slip_of x.mailbox x (next_of (left x.mailbox)) ∷ slips_all (λ b. left_behind left x.mailbox b) xs
+slips_all left (x ∷ xs) = slip_of x.mailbox x (next_of (left x.mailbox)) ∷ slips_all (λ b. left_after_one left x.mailbox b) xs
 
 pub slips_all-append : (xs ys : List Note) (left : ℕ → List Outcome) → slips_all left (xs ++ ys) ≡ slips_all left xs ++ slips_all (λ b. left_after left xs b) ys
 slips_all-append [] ys left = refl
-slips_all-append (x ∷ xs) ys left = ap (λ l. slip_of x.mailbox x (next_of (left x.mailbox)) ∷ l) (slips_all-append xs ys (λ b. left_behind left x.mailbox b))
+slips_all-append (x ∷ xs) ys left = ap (λ l. slip_of x.mailbox x (next_of (left x.mailbox)) ∷ l) (slips_all-append xs ys (λ b. left_after_one left x.mailbox b))
 
 -- the slips of one mailbox among them
 slip_first : (b : ℕ) (x : Note) (xs : List Note) (outcomes : List Outcome) → length outcomes ≡ length (x ∷ xs)
-    → slip_of b x (next_of outcomes) ∷ slips_from b (behind_next outcomes) xs ≡ slips_from b outcomes (x ∷ xs)
+    → slip_of b x (next_of outcomes) ∷ slips_from b (after_next outcomes) xs ≡ slips_from b outcomes (x ∷ xs)
 slip_first b x xs [] e = cc
 slip_first b x xs (outcome ∷ outcomes) e = refl
 
-one_fewer : (n : ℕ) (outcomes : List Outcome) → length outcomes ≡ suc n → length (behind_next outcomes) ≡ n
+one_fewer : (n : ℕ) (outcomes : List Outcome) → length outcomes ≡ suc n → length (after_next outcomes) ≡ n
 one_fewer n [] e = absurd (omega (arith, e))
 one_fewer n (outcome ∷ outcomes) e = omega (arith, e)
 
 slip_for : (t : Bool) (b : ℕ) (x : Note) (xs : List Note) (left : ℕ → List Outcome) (rest : List Slip) → (x.mailbox == b) ≡ t → length (left b) ≡ length (cond t (x ∷ xs) xs)
-    → (length (left_behind left x.mailbox b) ≡ length xs → rest ≡ slips_from b (left_behind left x.mailbox b) xs)
+    → (length (left_after_one left x.mailbox b) ≡ length xs → rest ≡ slips_from b (left_after_one left x.mailbox b) xs)
     → cond t (slip_of x.mailbox x (next_of (left x.mailbox)) ∷ rest) rest ≡ slips_from b (left b) (cond t (x ∷ xs) xs)
 slip_for true b x xs left rest e size more =
     let is : x.mailbox ≡ b = same_number x.mailbox b e in
-    let next : left_behind left x.mailbox b ≡ behind_next (left b) = ap (λ t. cond t (behind_next (left b)) (left b)) e in
-    let few : length (left_behind left x.mailbox b) ≡ length xs = ap length next ∙ one_fewer (length xs) (left b) size in
+    let next : left_after_one left x.mailbox b ≡ after_next (left b) = ap (λ t. cond t (after_next (left b)) (left b)) e in
+    let few : length (left_after_one left x.mailbox b) ≡ length xs = ap length next ∙ one_fewer (length xs) (left b) size in
     ap (λ m. slip_of m x (next_of (left m)) ∷ rest) is
     ∙ ap (λ l. slip_of b x (next_of (left b)) ∷ l) (more few ∙ ap (λ os. slips_from b os xs) next)
     ∙ slip_first b x xs (left b) size
 slip_for false b x xs left rest e size more =
-    let same : left_behind left x.mailbox b ≡ left b = ap (λ t. cond t (behind_next (left b)) (left b)) e in
+    let same : left_after_one left x.mailbox b ≡ left b = ap (λ t. cond t (after_next (left b)) (left b)) e in
     more (ap length same ∙ size) ∙ ap (λ os. slips_from b os xs) same
 
 pub slips_of_box : (b : ℕ) (notes : List Note) (left : ℕ → List Outcome) → length (left b) ≡ length (filter (λ note. note.mailbox == b) notes)
@@ -135,8 +135,8 @@ slips_of_box b [] left size = none (left b)
     none [] = refl
     none (outcome ∷ outcomes) = refl
 slips_of_box b (x ∷ xs) left size =
-    slip_for (x.mailbox == b) b x (filter (λ note. note.mailbox == b) xs) left (of_worker b (slips_all (λ k. left_behind left x.mailbox k) xs)) refl size
-    (slips_of_box b xs (λ k. left_behind left x.mailbox k))
+    slip_for (x.mailbox == b) b x (filter (λ note. note.mailbox == b) xs) left (of_worker b (slips_all (λ k. left_after_one left x.mailbox k) xs)) refl size
+    (slips_of_box b xs (λ k. left_after_one left x.mailbox k))
 
 -- they rise with their copies
 abbrev IsSlipFrom : ℕ → ℕ → Slip → Type 0
@@ -147,7 +147,7 @@ slips_rise [] left n p m q rise from = tt
 slips_rise (x ∷ xs) left n p m q rise from =
     let here = from_then n p m q x.txn.number x.place from rise.0 in (
       here,
-      slips_rise xs (λ b. left_behind left x.mailbox b) n p x.txn.number (x.place + 1) rise.1
+      slips_rise xs (λ b. left_after_one left x.mailbox b) n p x.txn.number (x.place + 1) rise.1
           (from_then n p x.txn.number x.place x.txn.number (x.place + 1) here (inr (refl, omega arith))),
     )
 
@@ -157,10 +157,10 @@ pub all_agree : (notes : List Note) (left : ℕ → List Outcome) (n p : ℕ) �
 all_agree [] left n p rise = tt
 all_agree (x ∷ xs) left n p rise =
     let slip : Slip = slip_of x.mailbox x (next_of (left x.mailbox)) in
-    let rest : List Slip = slips_all (λ b. left_behind left x.mailbox b) xs in
-    let later : AllByRecursion (IsSlipFrom x.txn.number (x.place + 1)) rest = slips_rise xs (λ b. left_behind left x.mailbox b) x.txn.number (x.place + 1) x.txn.number (x.place + 1) rise.1 (inr (refl, omega arith)) in (
+    let rest : List Slip = slips_all (λ b. left_after_one left x.mailbox b) xs in
+    let later : AllByRecursion (IsSlipFrom x.txn.number (x.place + 1)) rest = slips_rise xs (λ b. left_after_one left x.mailbox b) x.txn.number (x.place + 1) x.txn.number (x.place + 1) rise.1 (inr (refl, omega arith)) in (
       ((λ e. refl), all_map (IsSlipFrom x.txn.number (x.place + 1)) (λ other. SayTheSame other slip) rest (λ other from. agrees_earlier slip other from) later),
       all_both (λ other. SayTheSame slip other) (λ other. AllByRecursion (λ third. SayTheSame third other) rest) rest
           (all_map (IsSlipFrom x.txn.number (x.place + 1)) (λ other. SayTheSame slip other) rest (λ other from. agrees_later slip other from) later)
-          (all_agree xs (λ b. left_behind left x.mailbox b) x.txn.number (x.place + 1) rise.1),
+          (all_agree xs (λ b. left_after_one left x.mailbox b) x.txn.number (x.place + 1) rise.1),
     )

@@ -8,7 +8,7 @@ use Rattle.std.proofs.lemmas.Bool.Decides.{nat_tests}
 use Rattle.mail_world.specs.declared.Note.{Note}
 use Rattle.mail_world.specs.declared.Outcome.{Outcome}
 use Rattle.mail_world.specs.declared.Slip.{Slip}
-use Rattle.mail_world.specs.Fronts.{IsFront}
+use Rattle.mail_world.specs.Prefixes.{IsPrefix}
 use Rattle.mail_world.specs.Slips.{of_worker}
 use Rattle.mail_world.specs.Failures.{Rises}
 use Rattle.mail_world.specs.Site.{Site}
@@ -16,10 +16,10 @@ use Rattle.mail_world.specs.Session.{fresh}
 use Rattle.mail_world.specs.Conversation.{Disposition, Conversation, IsAccount, conversation, inputs, parts, replies}
 use Rattle.mail_world.specs.Lists.{Transaction, VerdictFits, OutcomesIn, of_lane, copies_owed, due, transactions}
 use Rattle.mail_world.specs.Records.{mailbox}
-use Rattle.mail_world.specs.Quotas.{are_kept_behind, are_kept, kept, marked, outcomes_settled}
+use Rattle.mail_world.specs.Quotas.{are_kept_after, are_kept, kept, marked, outcomes_settled}
 use Rattle.mail_world.specs.Deliveries.{IsTorn, outcomes_told, told_all}
 use Rattle.mail_world.proofs.Accounts.{account_told}
-use Rattle.mail_world.proofs.Settled.{length-outcomes, length-kept_behind}
+use Rattle.mail_world.proofs.Settled.{length-outcomes, length-kept_after}
 use Rattle.box_worker.specs.Stored.{mailbox_of}
 use Rattle.box_worker.specs.Told.{owed_to}
 use Rattle.box_worker.specs.Worked.{IsAccounted}
@@ -51,7 +51,7 @@ use Rattle.mail_runs.specs.Ordered.{IsOrderlyRunOf}
 use Rattle.mail_runs.proofs.Rising.{NumbersRise, numbers_rise}
 use Rattle.mbox_record.proofs.Taken.{Appends-then}
 use Rattle.lmtpd_rehearse.proofs.Keeping.{all_settled, marked_none, same_marks}
-use Rattle.lmtpd_rehearse.proofs.Telling.{IsFrontOfOwed, AreSized, told_as_said, all_told_settled}
+use Rattle.lmtpd_rehearse.proofs.Telling.{IsPrefixOfOwed, AreSized, told_as_said, all_told_settled}
 
 -- all that is of lanes below 1 is of lane 0
 lane_zero : (n : ℕ) → n < 1 → (n == 0) ≡ true
@@ -175,7 +175,7 @@ all_work heard boxes count = record { heard = heard; boxes = boxes; count = coun
 record HaveWorked (site : Site) (quota : Option ℕ) (ts : List Transaction) (work : AllWork) (spools : List MemorySpool) (tallies : List Tally) : Type 0 where
   answered : AllByRecursion (λ t. OutcomesIn 0 work.heard t t.disposition.verdict) ts
   known : AllByRecursion (λ slip. slip.worker < work.count) work.heard
-  begun : (b : ℕ) → b < work.count → IsFrontOfOwed (λ k. (work.boxes k).outcomes) work.heard ts b
+  begun : (b : ℕ) → b < work.count → IsPrefixOfOwed (λ k. (work.boxes k).outcomes) work.heard ts b
   taken : (b : ℕ) → b < work.count → (work.boxes b).taken ≡ copies_owed 0 b ts
   each : (b : ℕ) → b < work.count → BoxAt site quota (work.boxes b) spools tallies b
   as_many : (length spools ≡ work.count) × (length tallies ≡ work.count)
@@ -188,7 +188,7 @@ module _ (site : Site) (quota : Option ℕ) (b : ℕ) (work : BoxWork) (spool : 
   acc = (did.alone refl).accounted
 
   abbrev marks : List Bool
-  marks = are_kept_behind civil_at site.host quota acc.start work.taken
+  marks = are_kept_after civil_at site.host quota acc.start work.taken
 
   tells : work.outcomes ≡ outcomes_settled (acc.stored + acc.over) (are_kept civil_at site.host quota [] work.taken)
   tells = acc.told ∙ ap (outcomes_settled (acc.stored + acc.over)) (same_marks civil_at site.host quota (state_of (empty_spool site)) acc.start work.taken refl acc.settled.starts)
@@ -327,7 +327,7 @@ module _ (site : Site) (quota : Option ℕ) (moment : ℕ) {P : Type 0} (state :
         answered = answered;
         known = subst K many (h.told_only 0 one);
         begun = λ b low.
-            let B : List Note → Type 0 = λ notes. IsFront (of_worker b heard) (owed_to b (h.boxes b).outcomes 0 notes) in
+            let B : List Note → Type 0 = λ notes. IsPrefix (of_worker b heard) (owed_to b (h.boxes b).outcomes 0 notes) in
             subst B (taken b low) (record { rest = []; whole = sym (h.told 0 b one (low_in b low)) ∙ sym (append-nil (of_worker b heard)) });
         taken = taken;
         each = λ b low.

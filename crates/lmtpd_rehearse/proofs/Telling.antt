@@ -12,14 +12,14 @@ use Rattle.mail_world.specs.declared.Txn.{Txn}
 use Rattle.mail_world.specs.declared.Verdict.{Verdict}
 use Rattle.mail_world.specs.declared.Verdict.TheVariants as verdicts
 use Rattle.mail_world.specs.Deliveries.{outcomes_for, told_if, told_all}
-use Rattle.mail_world.specs.Fronts.{IsFront}
+use Rattle.mail_world.specs.Prefixes.{IsPrefix}
 use Rattle.mail_world.specs.Lists.{Transaction, OutcomesIn, copies, copies_if, copies_from, copies_owed}
 use Rattle.mail_world.specs.Slips.{names, answer, of_worker, slip_of, slips_from}
 use Rattle.mail_world.proofs.Deliveries.{copy_at}
 use Rattle.box_worker.specs.Told.{owed_to}
 use Rattle.lmtpd_rehearse.specs.Account.{IsSettled, IsSettledIf, IsAllSettled}
 use Rattle.mail_runs.proofs.Rising.{NumbersRise, copies_rise}
-use Rattle.lmtpd_rehearse.proofs.Naming.{SayTheSame, all_agree, all_behind, all_filter, all_front, all_turned, left_after, next_of, slips_all, slips_all-append, slips_of_box}
+use Rattle.lmtpd_rehearse.proofs.Naming.{SayTheSame, all_agree, all_after, all_filter, all_prefix, all_turned, left_after, next_of, slips_all, slips_all-append, slips_of_box}
 
 -- the first of a list that may lack it
 first_of : (P : Slip → Type 0) (t : Bool) (slip : Slip) (rest : List Slip) → t ≡ true → AllByRecursion P (cond t (slip ∷ rest) rest) → P slip
@@ -92,8 +92,8 @@ outcomes_of w (o ∷ outcomes) [] e = cc
 outcomes_of w (o ∷ outcomes) (x ∷ notes) e = ap (λ l. o ∷ l) (outcomes_of w outcomes notes (omega (arith, e)))
 
 -- the slips that one worker gave begin those that it owes for these outcomes
-abbrev pub IsFrontOfOwed : (ℕ → List Outcome) → List Slip → List Transaction → ℕ → Type 0
-IsFrontOfOwed told heard ts b = IsFront (of_worker b heard) (owed_to b (told b) 0 (copies_owed 0 b ts))
+abbrev pub IsPrefixOfOwed : (ℕ → List Outcome) → List Slip → List Transaction → ℕ → Type 0
+IsPrefixOfOwed told heard ts b = IsPrefix (of_worker b heard) (owed_to b (told b) 0 (copies_owed 0 b ts))
 
 -- each worker told an outcome of each of its copies
 abbrev pub AreSized : (ℕ → List Outcome) → List Transaction → ℕ → Type 0
@@ -126,30 +126,30 @@ module _ (heard : List Slip) where
       → told_all b ts ≡ map (λ s. s.outcome) (of_worker b (slips_all left (flat_map (copies 0) ts)))
   told_each b [] left e h = refl
   told_each b (t ∷ ts) left e h =
-      let front : List Slip = slips_all left (copies 0 t) in
+      let prefix : List Slip = slips_all left (copies 0 t) in
       let next : ℕ → List Outcome = λ k. left_after left (copies 0 t) k in
       let rest : List Slip = slips_all next (flat_map (copies 0) ts) in
-      let split : slips_all left (copies 0 t ++ flat_map (copies 0) ts) ≡ front ++ rest = slips_all-append (copies 0 t) (flat_map (copies 0) ts) left in
-      let both : AllByRecursion (IsHeardAs heard) (front ++ rest) = let P : List Slip → Type 0 = λ l. AllByRecursion (IsHeardAs heard) l in subst P split h in
-      let now = told_verdict b t.disposition.verdict t left e.0 (all_front (IsHeardAs heard) front rest both) in
-      let more = told_each b ts next e.1 (all_behind (IsHeardAs heard) front rest both) in
-      ap (λ l. l ++ told_all b ts) now ∙ ap (λ l. map (λ (s : Slip). s.outcome) (of_worker b front) ++ l) more
-      ∙ sym (map-append (λ (s : Slip). s.outcome) (of_worker b front) (of_worker b rest))
-      ∙ ap (map (λ (s : Slip). s.outcome)) (sym (filter-append (λ (s : Slip). s.worker == b) front rest))
+      let split : slips_all left (copies 0 t ++ flat_map (copies 0) ts) ≡ prefix ++ rest = slips_all-append (copies 0 t) (flat_map (copies 0) ts) left in
+      let both : AllByRecursion (IsHeardAs heard) (prefix ++ rest) = let P : List Slip → Type 0 = λ l. AllByRecursion (IsHeardAs heard) l in subst P split h in
+      let now = told_verdict b t.disposition.verdict t left e.0 (all_prefix (IsHeardAs heard) prefix rest both) in
+      let more = told_each b ts next e.1 (all_after (IsHeardAs heard) prefix rest both) in
+      ap (λ l. l ++ told_all b ts) now ∙ ap (λ l. map (λ (s : Slip). s.outcome) (of_worker b prefix) ++ l) more
+      ∙ sym (map-append (λ (s : Slip). s.outcome) (of_worker b prefix) (of_worker b rest))
+      ∙ ap (map (λ (s : Slip). s.outcome)) (sym (filter-append (λ (s : Slip). s.worker == b) prefix rest))
       ∙ ap (λ l. map (λ (s : Slip). s.outcome) (of_worker b l)) (sym split)
 
   -- each slip that was heard is one that its worker owes
   heard_owed : (P : Slip → Type 0) (told : ℕ → List Outcome) (n : ℕ) (ts : List Transaction) → AllByRecursion (λ slip. slip.worker < n) heard
-      → ((b : ℕ) → b < n → IsFrontOfOwed told heard ts b) → ((b : ℕ) → b < n → AllByRecursion P (slips_from b (told b) (copies_owed 0 b ts))) → AllByRecursion P heard
+      → ((b : ℕ) → b < n → IsPrefixOfOwed told heard ts b) → ((b : ℕ) → b < n → AllByRecursion P (slips_from b (told b) (copies_owed 0 b ts))) → AllByRecursion P heard
   heard_owed P told n ts known begun each = all_heard P n heard known (λ b low.
       let begins = begun b low in
       let Q : List Slip → Type 0 = λ l. AllByRecursion P l in
       let slips : List Slip = slips_from b (told b) (copies_owed 0 b ts) in
-      all_front P (of_worker b heard) begins.rest (subst Q begins.whole (all_filter P (λ slip. slip.txn.lane == 0) slips (each b low))))
+      all_prefix P (of_worker b heard) begins.rest (subst Q begins.whole (all_filter P (λ slip. slip.txn.lane == 0) slips (each b low))))
 
   -- what was told of a mailbox's copies is what its worker said
   pub told_as_said : (told : ℕ → List Outcome) (n m : ℕ) (ts : List Transaction) → 0 < m → NumbersRise m ts → AllByRecursion (λ t. OutcomesIn 0 heard t t.disposition.verdict) ts
-      → AllByRecursion (λ slip. slip.worker < n) heard → ((b : ℕ) → b < n → IsFrontOfOwed told heard ts b) → AreSized told ts n
+      → AllByRecursion (λ slip. slip.worker < n) heard → ((b : ℕ) → b < n → IsPrefixOfOwed told heard ts b) → AreSized told ts n
       → (b : ℕ) → b < n → told_all b ts ≡ told b
   told_as_said told n m ts some rise answered known begun sized b low =
       let notes : List Note = flat_map (copies 0) ts in
@@ -176,7 +176,7 @@ module _ (heard : List Slip) where
 
   -- where all copies are settled, each outcome says so
   pub all_told_settled : (quota : Option ℕ) (told : ℕ → List Outcome) (n : ℕ) (ts : List Transaction) → AllByRecursion (λ t. OutcomesIn 0 heard t t.disposition.verdict) ts
-      → AllByRecursion (λ slip. slip.worker < n) heard → ((b : ℕ) → b < n → IsFrontOfOwed told heard ts b)
+      → AllByRecursion (λ slip. slip.worker < n) heard → ((b : ℕ) → b < n → IsPrefixOfOwed told heard ts b)
       → ((b : ℕ) → b < n → AllByRecursion (IsSettled quota) (told b)) → AllByRecursion (IsAllSettled quota) (map (λ t. t.disposition) ts)
   all_told_settled quota told n ts answered known begun settled =
       each_settled quota ts answered (heard_owed (Says (IsSettled quota)) told n ts known begun (λ b low. slips_say (IsSettled quota) b (told b) (copies_owed 0 b ts) (settled b low)))

@@ -5,13 +5,13 @@ use Rattle.std.specs.List.{before_first, filter, prefix_len, slice_split, suffix
 use Rattle.mail_world.specs.Text.{lf}
 
 -- a text without the white space that it begins with: spaces, tabs, CR, LF and form feeds
-abbrev pub without_front : List ℕ → List ℕ
-without_front text = drop (prefix_len is_ascii_whitespace text) text
+abbrev pub without_prefix : List ℕ → List ℕ
+without_prefix text = drop (prefix_len is_ascii_whitespace text) text
 
 -- and without that which it ends with
 abbrev pub trimmed : List ℕ → List ℕ
-trimmed text = take (length (without_front text) - suffix_len is_ascii_whitespace (without_front text))
-    (without_front text)
+trimmed text = take (length (without_prefix text) - suffix_len is_ascii_whitespace (without_prefix text))
+    (without_prefix text)
 
 -- the name in a line: what stands before the first #, without white space around it
 abbrev pub name_in : List ℕ → List ℕ

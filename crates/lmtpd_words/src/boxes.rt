@@ -43,7 +43,7 @@ fn before_comment(line: &str) -> &str
     ensures { result.now ≡ before_first (λ b. b == 35) line.now }
 {
     match line.split_once('#') {
-        Some((front, _)) => front,
+        Some((prefix, _)) => prefix,
         None => line,
     }
 }

@@ -8,7 +8,9 @@ ghost use Rattle.lmtpd_words.specs.Arguments.{argument_rule, with_rules};
 ghost use Rattle.lmtpd_words.specs.CommandLine.{check_app, program_app, rehearse_app, serve_app};
 
 use crate::arguments::{Argument, CHECK, REHEARSE, SERVE};
-use crate::texts::{BEHIND_CHECK, BEHIND_PROGRAM, BEHIND_REHEARSE, BEHIND_SERVE, VERSION};
+use crate::texts::{
+    AFTER_HELP_CHECK, AFTER_HELP_PROGRAM, AFTER_HELP_REHEARSE, AFTER_HELP_SERVE, VERSION,
+};
 use clap::Command;
 use std::alloc::{AllocError, Global};
 
@@ -22,7 +24,7 @@ pub fn program<'a>(alloc: Global) -> Result<Command<'a>, AllocError>
     Command::new(alloc, "lmtpd")
         .about("An LMTP server (RFC 2033) that delivers into mailboxes (RFC 4155)")
         .version(VERSION)
-        .after_help(BEHIND_PROGRAM)
+        .after_help(AFTER_HELP_PROGRAM)
         .subcommand_required(true)
         .subcommand(rehearse)?
         .subcommand(serve)?
@@ -35,7 +37,7 @@ fn rehearse<'a>(alloc: Global) -> Result<Command<'a>, AllocError>
 {
     let rehearse = Command::new(alloc, "rehearse")
         .about("Holds one conversation on standard input and output, and prints the mailboxes")
-        .after_help(BEHIND_REHEARSE);
+        .after_help(AFTER_HELP_REHEARSE);
     with_arguments(alloc, rehearse, &REHEARSE)
 }
 
@@ -45,7 +47,7 @@ fn serve<'a>(alloc: Global) -> Result<Command<'a>, AllocError>
 {
     let serve = Command::new(alloc, "serve")
         .about("Serves conversations over TCP or a Unix socket, and delivers into mailbox files")
-        .after_help(BEHIND_SERVE);
+        .after_help(AFTER_HELP_SERVE);
     with_arguments(alloc, serve, &SERVE)
 }
 
@@ -55,7 +57,7 @@ fn check<'a>(alloc: Global) -> Result<Command<'a>, AllocError>
 {
     let check = Command::new(alloc, "check")
         .about("Counts the letters in mailbox files, or says at which byte a file breaks the form")
-        .after_help(BEHIND_CHECK);
+        .after_help(AFTER_HELP_CHECK);
     with_arguments(alloc, check, &CHECK)
 }
 

@@ -31,7 +31,7 @@ pub const BAD_DELIMITER: &str =
 pub const BAD_TEXT: &str = "invalid UTF-8 was detected in one or more arguments";
 
 /// After the subcommands.
-pub const BEHIND_PROGRAM: &str = "\
+pub const AFTER_HELP_PROGRAM: &str = "\
 Examples:
   lmtpd serve --host mx.example --listen 127.0.0.1:2003 --dir mail anna ben
   lmtpd check mail/anna.mbox mail/ben.mbox
@@ -43,7 +43,7 @@ Exit status:
   2  A word can't be used, and nothing was done";
 
 /// After a rehearsal's words.
-pub const BEHIND_REHEARSE: &str = "\
+pub const AFTER_HELP_REHEARSE: &str = "\
 Example:
   printf 'LHLO relay.example\\r\\nQUIT\\r\\n' | lmtpd rehearse --host mx.example --time 0 anna ben
 
@@ -53,7 +53,7 @@ Exit status:
   2  A word can't be used, and nothing was done";
 
 /// After a server's words.
-pub const BEHIND_SERVE: &str = "\
+pub const AFTER_HELP_SERVE: &str = "\
 Examples:
   lmtpd serve --host mx.example --listen 127.0.0.1:2003 --dir mail anna ben
   lmtpd serve --host mx.example --listen [::1]:2003 --dir mail --connections 1 --log info anna
@@ -66,7 +66,7 @@ Exit status:
   2  A word can't be used, and nothing was done";
 
 /// After the words of a check.
-pub const BEHIND_CHECK: &str = "\
+pub const AFTER_HELP_CHECK: &str = "\
 Example:
   lmtpd check mail/anna.mbox mail/ben.mbox
 

@@ -6,7 +6,7 @@ use Rattle.mail_post.specs.declared.rule.Parcel.TheVariants.{Copy, Mark}
 use Rattle.mail_post.specs.Parcels.{lane_of, part, has_mark}
 use Rattle.mail_post.specs.Rule.{IsFair}
 use Rattle.mail_post.specs.Channel.{count_senders}
-use Rattle.mail_post.proofs.Parcels.{part-append, part-here, has_mark-append, has_mark-part, front-has_mark}
+use Rattle.mail_post.proofs.Parcels.{part-append, part-here, has_mark-append, has_mark-part, prefix-has_mark}
 
 or_false : (b : Bool) → (b || false) ≡ b
 or_false true = refl
@@ -86,7 +86,7 @@ module _ {M : Type 0} (lane : M → ℕ) where
   after_mark got j n fair =
       let both : part lane j (got ++ Mark j ∷ []) ≡ part lane j got ++ Mark j ∷ [] = part-append lane j got (Mark j ∷ []) ∙ ap (λ l. part lane j got ++ l) (part-here lane j (Mark j) refl) in
       let open_before : has_mark j got ≡ false = false_from_ne_true (has_mark j got)
-      (λ h. not_nil [] (Mark j) (front-has_mark lane j (part lane j got) (Mark j ∷ []) (fair j).0.0 (fair j).0.1 (sym both ∙ (fair j).0.2) (has_mark-part lane j got ∙ h))) in
+      (λ h. not_nil [] (Mark j) (prefix-has_mark lane j (part lane j got) (Mark j ∷ []) (fair j).0.0 (fair j).0.1 (sym both ∙ (fair j).0.2) (has_mark-part lane j got ∙ h))) in
       count_more (λ k. has_mark k got) (λ k. has_mark k (got ++ Mark j ∷ [])) j n (last_fits got (Mark j) n fair) open_before
       (has_mark-append lane j got (Mark j ∷ []) ∙ (λ i. has_mark j got || (eq-eqb j j refl i || false)) ∙ or_true (has_mark j got))
       (λ k other. has_mark-append lane k got (Mark j ∷ []) ∙ (λ i. has_mark k got || (ne_eqb j k (λ t. other (sym t)) i || false)) ∙ or_false (has_mark k got))

@@ -103,9 +103,9 @@ module _ {A B : Type 0} (sorts : Sorts) where
       }
 
   -- a sender's channel handed a message back
-  pub refused_more : (deeds : List TimedDeed) (old now : Ends A B) (at t : ℕ) (sender : Sender A) (message : A) → AreInTime sorts deeds old now → slice_get now.senders at ≡ Some sender
+  pub gone_keeps_time : (deeds : List TimedDeed) (old now : Ends A B) (at t : ℕ) (sender : Sender A) (message : A) → AreInTime sorts deeds old now → slice_get now.senders at ≡ Some sender
       → AreInTime sorts deeds old (record { senders = slice_set now.senders at (given sender message t false); inbox = now.inbox })
-  refused_more deeds old now at t sender message x is =
+  gone_keeps_time deeds old now at t sender message x is =
       let next : Sender A = given sender message t false in
       let last : Sender A → ℕ = λ s. last_of 0 s.sent_at in
       let sum = sum_set last now.senders at sender next is in

@@ -14,7 +14,7 @@ use Rattle.mail_post.specs.Times.{HaveMoments, Times, KeepsTime}
 use Rattle.mail_post.specs.Views.{sender, taker, knower, settled, IsPut, IsTook}
 use Rattle.mail_post.specs.Parcels.{of, lane_of, part, messages, all_of_lane}
 use Rattle.mail_post.specs.Rule.{Traffic, FitsKnown, Fits, Carries, IsFair, Agrees, HasPassed}
-use Rattle.mail_post.proofs.Parcels.{part-append, part-here, part-else, messages_at_most, of-copies, copies-append, copies-all_of_lane, all_of_lane-put, all_of_lane-end, front, all-there, has_mark-part}
+use Rattle.mail_post.proofs.Parcels.{part-append, part-here, part-else, messages_at_most, of-copies, copies-append, copies-all_of_lane, all_of_lane-put, all_of_lane-end, prefix, all-there, has_mark-part}
 use Rattle.mail_post.proofs.Timing.{begin_time, same_time, put_time, take_time, timed_of, any_room, roomier}
 
 module _ {M : Type 0} (lane : M → ℕ) where
@@ -46,15 +46,15 @@ module _ {M : Type 0} (lane : M → ℕ) where
       (λ (x : (j ≢ pass) × (get_elem? views j ≡ some u)). others j u x.0 x.1) (at_set views pass j w u e)
 
   -- what is put at the back of one lane
-  behind : (k : ℕ) (got items : List (Parcel M)) (x : Parcel M) → part lane k (got ++ (items ++ x ∷ [])) ≡ part lane k (got ++ items) ++ part lane k (x ∷ [])
-  behind k got items x = ap (part lane k) (sym (append_assoc got items (x ∷ []))) ∙ part-append lane k (got ++ items) (x ∷ [])
+  part_after : (k : ℕ) (got items : List (Parcel M)) (x : Parcel M) → part lane k (got ++ (items ++ x ∷ [])) ≡ part lane k (got ++ items) ++ part lane k (x ∷ [])
+  part_after k got items x = ap (part lane k) (sym (append_assoc got items (x ∷ []))) ∙ part-append lane k (got ++ items) (x ∷ [])
 
   -- the equation of each lane, after x at the back, where it is so of the lane of x
   grows : (got : List (Parcel M)) (items : List (Parcel M)) (x : Parcel M) (f g : ℕ → List (Parcel M)) (k : ℕ) → lane_of lane x ≡ k → ((j : ℕ) → part lane j (got ++ items) ≡ f j)
       → g k ≡ f k ++ x ∷ [] → ((j : ℕ) → j ≢ k → g j ≡ f j) → (j : ℕ) → part lane j (got ++ (items ++ x ∷ [])) ≡ g j
   grows got items x f g k is was here else j = ⊎_elim
-      (λ (e : j ≡ k). behind j got items x ∙ ap (λ l. l ++ part lane j (x ∷ [])) (was j) ∙ ap (λ l. f j ++ l) (part-here lane j (x) (is ∙ sym e)) ∙ subst (λ i. f i ++ x ∷ [] ≡ g i) (sym e) (sym here))
-      (λ (n : j ≢ k). behind j got items x ∙ ap (λ l. l ++ part lane j (x ∷ [])) (was j) ∙ ap (λ l. f j ++ l) (part-else lane j (x) (λ e. n (sym e ∙ is))) ∙ append-nil (f j) ∙ sym (else j n))
+      (λ (e : j ≡ k). part_after j got items x ∙ ap (λ l. l ++ part lane j (x ∷ [])) (was j) ∙ ap (λ l. f j ++ l) (part-here lane j (x) (is ∙ sym e)) ∙ subst (λ i. f i ++ x ∷ [] ≡ g i) (sym e) (sym here))
+      (λ (n : j ≢ k). part_after j got items x ∙ ap (λ l. l ++ part lane j (x ∷ [])) (was j) ∙ ap (λ l. f j ++ l) (part-else lane j (x) (λ e. n (sym e ∙ is))) ∙ append-nil (f j) ∙ sym (else j n))
       (same? j k)
 
   below? : (k n : ℕ) → (k < n) ⊎ (n ≤ k)
@@ -190,7 +190,7 @@ module _ {M : Type 0} (lane : M → ℕ) where
       let there : (k : ℕ) → part lane k (got ++ items) ≡ all_of_lane k (h.traffic.sent k) (h.traffic.closed k) = λ k. ap (part lane k) (append_assoc h.traffic.got (x ∷ []) items) ∙ h.order k in
       let split : (k : ℕ) → part lane k got ++ part lane k items ≡ all_of_lane k (h.traffic.sent k) (h.traffic.closed k) = λ k. sym (part-append lane k got items) ∙ there k in
       let fair : IsFair lane h.traffic.lanes got = λ k. (
-        front lane k (part lane k got) (part lane k items) (h.traffic.sent k) (h.traffic.closed k) (split k),
+        prefix lane k (part lane k got) (part lane k items) (h.traffic.sent k) (h.traffic.closed k) (split k),
         λ le. let q = h.others k le in nil_left (part lane k got) (part lane k items) (split k ∙ (λ i. all_of_lane k (q.1 i) (q.2 i))),
       ) in (
         record {

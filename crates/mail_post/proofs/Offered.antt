@@ -5,11 +5,11 @@ use Rattle.std.proofs.Common.{length-set}
 use Rattle.std.proofs.lemmas.Bool.{or_parts}
 use Rattle.mail_world.proofs.Accepted.{get_set}
 use Rattle.mail_post.specs.Channel.{Sender, IsAccepted}
-use Rattle.mail_post.specs.Offered.{IsPart, HaveNumber, any_refused, given, IsOffered, HasSent, HaveSent, HasAccepted, HaveAccepted}
+use Rattle.mail_post.specs.Offered.{IsPart, HaveNumber, any_gone, given, IsOffered, HasSent, HaveSent, HasAccepted, HaveAccepted}
 
-or_refused : (a b : Bool) → b ≡ true → (a || b) ≡ true
-or_refused true b is = refl
-or_refused false b is = is
+or_gone : (a b : Bool) → b ≡ true → (a || b) ≡ true
+or_gone true b is = refl
+or_gone false b is = is
 
 module _ {M : Type 0} where
   -- one more element of the whole, and of both
@@ -43,31 +43,31 @@ module _ {M : Type 0} where
       ]
 
   -- where none was refused, the one at that place wasn't
-  pub none_refused : (senders : List (Sender M)) (k : ℕ) (sender : Sender M) → any_refused senders ≡ false → slice_get senders k ≡ Some sender → sender.refused ≡ false
-  none_refused [] k sender none is = absurd (cc)
-  none_refused (x ∷ xs) zero sender none is =
+  pub none_gone : (senders : List (Sender M)) (k : ℕ) (sender : Sender M) → any_gone senders ≡ false → slice_get senders k ≡ Some sender → sender.gone ≡ false
+  none_gone [] k sender none is = absurd (cc)
+  none_gone (x ∷ xs) zero sender none is =
       let same : x ≡ sender = cc in
-      ap (λ (s : Sender M). s.refused) (sym same) ∙ (or_parts x.refused (any_refused xs) none).0
-  none_refused (x ∷ xs) (suc k) sender none is = none_refused xs k sender (or_parts x.refused (any_refused xs) none).1 is
+      ap (λ (s : Sender M). s.gone) (sym same) ∙ (or_parts x.gone (any_gone xs) none).0
+  none_gone (x ∷ xs) (suc k) sender none is = none_gone xs k sender (or_parts x.gone (any_gone xs) none).1 is
 
-  any_set_refused : (senders : List (Sender M)) (at : ℕ) (old new : Sender M) → slice_get senders at ≡ Some old → new.refused ≡ true → any_refused (slice_set senders at new) ≡ true
-  any_set_refused [] at old new is refused = absurd (cc)
-  any_set_refused (x ∷ xs) zero old new is refused = ap (λ b. b || any_refused xs) refused
-  any_set_refused (x ∷ xs) (suc at) old new is refused = or_refused x.refused (any_refused (slice_set xs at new)) (any_set_refused xs at old new is refused)
+  any_set_gone : (senders : List (Sender M)) (at : ℕ) (old new : Sender M) → slice_get senders at ≡ Some old → new.gone ≡ true → any_gone (slice_set senders at new) ≡ true
+  any_set_gone [] at old new is gone = absurd (cc)
+  any_set_gone (x ∷ xs) zero old new is gone = ap (λ b. b || any_gone xs) gone
+  any_set_gone (x ∷ xs) (suc at) old new is gone = or_gone x.gone (any_gone (slice_set xs at new)) (any_set_gone xs at old new is gone)
 
-  any_set_same : (senders : List (Sender M)) (at : ℕ) (old new : Sender M) → slice_get senders at ≡ Some old → new.refused ≡ old.refused → any_refused (slice_set senders at new) ≡ any_refused senders
+  any_set_same : (senders : List (Sender M)) (at : ℕ) (old new : Sender M) → slice_get senders at ≡ Some old → new.gone ≡ old.gone → any_gone (slice_set senders at new) ≡ any_gone senders
   any_set_same [] at old new is same = absurd (cc)
   any_set_same (x ∷ xs) zero old new is same =
       let e : x ≡ old = cc in
-      ap (λ b. b || any_refused xs) (same ∙ ap (λ (s : Sender M). s.refused) (sym e))
-  any_set_same (x ∷ xs) (suc at) old new is same = ap (λ b. x.refused || b) (any_set_same xs at old new is same)
+      ap (λ b. b || any_gone xs) (same ∙ ap (λ (s : Sender M). s.gone) (sym e))
+  any_set_same (x ∷ xs) (suc at) old new is same = ap (λ b. x.gone || b) (any_set_same xs at old new is same)
 
   -- a message was handed back, so one is refused; one that was accepted changes nothing of that
-  pub refused_now : (moment at : ℕ) (message : Sender M → M) (old new : List (Sender M)) → IsOffered moment at message false old new → any_refused new ≡ true
-  refused_now moment at message old new o = ap any_refused o.after ∙ any_set_refused old at o.sender (given o.sender (message o.sender) o.when false) o.is refl
+  pub gone_now : (moment at : ℕ) (message : Sender M → M) (old new : List (Sender M)) → IsOffered moment at message false old new → any_gone new ≡ true
+  gone_now moment at message old new o = ap any_gone o.after ∙ any_set_gone old at o.sender (given o.sender (message o.sender) o.when false) o.is refl
 
-  pub refused_as_before : (moment at : ℕ) (message : Sender M → M) (old new : List (Sender M)) → IsOffered moment at message true old new → any_refused new ≡ any_refused old
-  refused_as_before moment at message old new o = ap any_refused o.after ∙ any_set_same old at o.sender (given o.sender (message o.sender) o.when true) o.is refl
+  pub gone_as_before : (moment at : ℕ) (message : Sender M → M) (old new : List (Sender M)) → IsOffered moment at message true old new → any_gone new ≡ any_gone old
+  gone_as_before moment at message old new o = ap any_gone o.after ∙ any_set_same old at o.sender (given o.sender (message o.sender) o.when true) o.is refl
 
   sent_none : (sender : Sender M) → HasSent [] sender sender
   sent_none sender = record { channel = refl; number = refl; sent = sym (append-nil sender.sent); stays = λ e. e }
@@ -115,10 +115,10 @@ module _ {M : Type 0} (moment at : ℕ) (message : Sender M → M) (m : M) (old 
     after = ap (slice_set old at) (a.2 ∙ ap (λ (x : M). given sender x a.0 true) (sym same));
   }
 
-  pub offer_handed_back : new ≡ record sender { refused = true } → IsOffered moment at message false old (slice_set old at new)
+  pub offer_handed_back : new ≡ record sender { gone = true } → IsOffered moment at message false old (slice_set old at new)
   offer_handed_back back = record { sender = sender; is = is; when = moment + 1; later = omega arith; after = ap (slice_set old at) back }
 
-  pub offer_answered : {U : Type 0} (r : Result U M) → OnOk r (IsAccepted moment m sender new) → OnErr r (new ≡ record sender { refused = true })
+  pub offer_answered : {U : Type 0} (r : Result U M) → OnOk r (IsAccepted moment m sender new) → OnErr r (new ≡ record sender { gone = true })
       → (accepted : Bool) × IsOffered moment at message accepted old (slice_set old at new)
   offer_answered (Ok u) a back = (true, offer_accepted a)
   offer_answered (Err e) a back = (false, offer_handed_back back)

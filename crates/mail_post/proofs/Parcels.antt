@@ -68,29 +68,29 @@ module _ {M : Type 0} (lane : M → ℕ) where
   all_of_lane-end k (m ∷ s) = ap (λ l. Copy m ∷ l) (all_of_lane-end k s)
 
   -- a prefix of what a lane puts in all is copies, and after them at most its mark
-  pub front : (k : ℕ) (xs ys : List (Parcel M)) (s : List M) (b : Bool) → xs ++ ys ≡ all_of_lane k s b → (t : List M) × (c : Bool) × (xs ≡ all_of_lane k t c)
-  front k [] ys s b e = ([], false, refl)
-  front k (x ∷ xs) ys [] false e = absurd (cc)
-  front k (x ∷ []) ys [] true e = ([], true, cc)
-  front k (x ∷ y ∷ xs) ys [] true e = absurd (cc)
-  front k (x ∷ xs) ys (n ∷ ns) b e =
+  pub prefix : (k : ℕ) (xs ys : List (Parcel M)) (s : List M) (b : Bool) → xs ++ ys ≡ all_of_lane k s b → (t : List M) × (c : Bool) × (xs ≡ all_of_lane k t c)
+  prefix k [] ys s b e = ([], false, refl)
+  prefix k (x ∷ xs) ys [] false e = absurd (cc)
+  prefix k (x ∷ []) ys [] true e = ([], true, cc)
+  prefix k (x ∷ y ∷ xs) ys [] true e = absurd (cc)
+  prefix k (x ∷ xs) ys (n ∷ ns) b e =
       let h : x ≡ Copy n = cc in
-      let more = front k xs ys ns b (cc) in
+      let more = prefix k xs ys ns b (cc) in
       (n ∷ more.0, more.1, (λ i. h i ∷ more.2 i))
 
   -- nothing stands after a lane's mark
-  pub front-has_mark : (k : ℕ) (xs ys : List (Parcel M)) (s : List M) (b : Bool) → xs ++ ys ≡ all_of_lane k s b → has_mark k xs ≡ true → ys ≡ []
-  front-has_mark k [] ys s b e h = absurd (true≢false (sym h))
-  front-has_mark k (x ∷ xs) ys [] false e h = absurd (cc)
-  front-has_mark k (x ∷ []) ys [] true e h = cc
-  front-has_mark k (x ∷ y ∷ xs) ys [] true e h = absurd (cc)
-  front-has_mark k (x ∷ xs) ys (n ∷ ns) b e h =
+  pub prefix-has_mark : (k : ℕ) (xs ys : List (Parcel M)) (s : List M) (b : Bool) → xs ++ ys ≡ all_of_lane k s b → has_mark k xs ≡ true → ys ≡ []
+  prefix-has_mark k [] ys s b e h = absurd (true≢false (sym h))
+  prefix-has_mark k (x ∷ xs) ys [] false e h = absurd (cc)
+  prefix-has_mark k (x ∷ []) ys [] true e h = cc
+  prefix-has_mark k (x ∷ y ∷ xs) ys [] true e h = absurd (cc)
+  prefix-has_mark k (x ∷ xs) ys (n ∷ ns) b e h =
       let i : x ≡ Copy n = cc in
       let rest : xs ++ ys ≡ all_of_lane k ns b = cc in
-      front-has_mark k xs ys ns b rest (ap (λ y. has_mark k (y ∷ xs)) (sym i) ∙ h)
+      prefix-has_mark k xs ys ns b rest (ap (λ y. has_mark k (y ∷ xs)) (sym i) ∙ h)
 
   -- all of a lane whose mark is among its steps
   pub all-there : (k : ℕ) (xs ys : List (Parcel M)) (s : List M) (b : Bool) → xs ++ ys ≡ all_of_lane k s b → has_mark k xs ≡ true → messages xs ≡ s
   all-there k xs ys s b e h =
-      let none : ys ≡ [] = front-has_mark k xs ys s b e h in
+      let none : ys ≡ [] = prefix-has_mark k xs ys s b e h in
       ap messages (sym (append-nil xs) ∙ ap (λ l. xs ++ l) (sym none) ∙ e) ∙ copies-all_of_lane k s b

@@ -29,27 +29,27 @@ module _ {M : Type 0} where
 
   pub length-new_senders : (channel : Channel M) (n : ℕ) → length (new_senders channel n) ≡ n
   length-new_senders channel zero = refl
-  length-new_senders channel (suc n) = length-append (new_senders channel n) (record { channel = channel; number = n; sent = []; sent_at = []; refused = false } ∷ []) ∙ (let h = length-new_senders channel n in omega arith)
+  length-new_senders channel (suc n) = length-append (new_senders channel n) (record { channel = channel; number = n; sent = []; sent_at = []; gone = false } ∷ []) ∙ (let h = length-new_senders channel n in omega arith)
 
   -- the senders that a channel begins with
   pub lanes_fresh : (channel : Channel M) (n : ℕ) → AreSendersFrom 0 channel (new_senders channel n)
   lanes_fresh channel zero = tt
-  lanes_fresh channel (suc n) = lanes_snoc 0 channel (new_senders channel n) (record { channel = channel; number = n; sent = []; sent_at = []; refused = false }) (lanes_fresh channel n) refl (let h = length-new_senders channel n in omega arith)
+  lanes_fresh channel (suc n) = lanes_snoc 0 channel (new_senders channel n) (record { channel = channel; number = n; sent = []; sent_at = []; gone = false }) (lanes_fresh channel n) refl (let h = length-new_senders channel n in omega arith)
 
   -- one more lane
-  pub fresh_more : (channel next : Channel M) (n : ℕ) (xs ys : List (Sender M)) (x : Sender M) → xs ≡ new_senders channel n → ys ≡ xs ++ x ∷ [] → channel ≡ next → x.channel ≡ next → x.number ≡ n → x.sent ≡ [] → x.sent_at ≡ [] → x.refused ≡ false → ys ≡ new_senders next (n + 1)
+  pub fresh_more : (channel next : Channel M) (n : ℕ) (xs ys : List (Sender M)) (x : Sender M) → xs ≡ new_senders channel n → ys ≡ xs ++ x ∷ [] → channel ≡ next → x.channel ≡ next → x.number ≡ n → x.sent ≡ [] → x.sent_at ≡ [] → x.gone ≡ false → ys ≡ new_senders next (n + 1)
   fresh_more channel next n xs ys x was pushed same a b e f sound =
-      pushed ∙ (λ i. was i ++ x ∷ []) ∙ (λ i. new_senders (same i) n ++ record { channel = a i; number = b i; sent = e i; sent_at = f i; refused = sound i } ∷ []) ∙ ap (new_senders next) (sym (add-one n))
+      pushed ∙ (λ i. was i ++ x ∷ []) ∙ (λ i. new_senders (same i) n ++ record { channel = a i; number = b i; sent = e i; sent_at = f i; gone = sound i } ∷ []) ∙ ap (new_senders next) (sym (add-one n))
 
   -- lane k of those that a channel begins with
-  pub fresh_at : (channel : Channel M) (n k : ℕ) (d : Sender M) → k < n → slice_index_or (new_senders channel n) k d ≡ record { channel = channel; number = k; sent = []; sent_at = []; refused = false }
+  pub fresh_at : (channel : Channel M) (n k : ℕ) (d : Sender M) → k < n → slice_index_or (new_senders channel n) k d ≡ record { channel = channel; number = k; sent = []; sent_at = []; gone = false }
   fresh_at channel zero k d l = absurd (omega arith)
   fresh_at channel (suc n) k d l =
       let len : length (new_senders channel n) ≡ n = length-new_senders channel n in
-      let last : Sender M = record { channel = channel; number = n; sent = []; sent_at = []; refused = false } in
+      let last : Sender M = record { channel = channel; number = n; sent = []; sent_at = []; gone = false } in
       ⊎_elim
       (λ (low : k < n). get_or_append_left (new_senders channel n) (last ∷ []) d k (omega arith) ∙ fresh_at channel n k d low)
-      (λ (is : k ≡ n). ap (λ (j : ℕ). slice_index_or (new_senders channel n ++ last ∷ []) j d) (is ∙ sym len) ∙ at_last (new_senders channel n) last d ∙ (λ i. record { channel = channel; number = sym is i; sent = []; sent_at = []; refused = false }))
+      (λ (is : k ≡ n). ap (λ (j : ℕ). slice_index_or (new_senders channel n ++ last ∷ []) j d) (is ∙ sym len) ∙ at_last (new_senders channel n) last d ∙ (λ i. record { channel = channel; number = sym is i; sent = []; sent_at = []; gone = false }))
       (below_or_last k n l)
 
   -- two names of the one channel

@@ -5,7 +5,7 @@ use Rattle.atomic_table.specs.Seated.{TableId}
 use Rattle.atomic_table.specs.declared.badge.Badge.{Badge}
 use Rattle.crossbeam_channel.specs.declared.flavors.array.Key.{Key}
 use Rattle.crossbeam_channel.specs.Claims.{Pass}
-use Rattle.mail_world.specs.Fronts.{IsFront}
+use Rattle.mail_world.specs.Prefixes.{IsPrefix}
 use Rattle.mail_post.specs.declared.rule.Parcel.{Parcel}
 use Rattle.mail_post.specs.declared.rule.Parcel.TheVariants.{Copy, Mark}
 use Rattle.mail_post.specs.declared.rule.View.{View}
@@ -30,7 +30,7 @@ pub record Sender (M : Type 0) : Type 0 where
   pub number : ℕ
   pub sent : List M
   pub sent_at : List ℕ
-  pub refused : Bool
+  pub gone : Bool
 
 -- the receiver: how many parcels its channel has room for, the number of lanes, what was taken (messages and marks),
 -- when each of the messages was accepted and taken, and why no more is
@@ -75,7 +75,7 @@ module _ {M : Type 0} where
   abbrev pub new_senders : Channel M → ℕ → List (Sender M)
   new_senders channel zero = []
   new_senders channel (suc n) =
-      new_senders channel n ++ record { channel = channel; number = n; sent = []; sent_at = []; refused = false } ∷ []
+      new_senders channel n ++ record { channel = channel; number = n; sent = []; sent_at = []; gone = false } ∷ []
 
   -- the receiver that a channel of that capacity begins with
   abbrev pub new_inbox : Channel M → ℕ → ℕ → Inbox M
@@ -145,7 +145,7 @@ module _ {M : Type 0} where
 
     -- what was taken of each lane is the start of what it was told was accepted
     abbrev pub TookSome : List M → List (List M) → Type 0
-    TookSome ms sent = (k : ℕ) → IsFront (of lane k ms) (slice_index_or sent k [])
+    TookSome ms sent = (k : ℕ) → IsPrefix (of lane k ms) (slice_index_or sent k [])
 
     -- what was taken of each lane is all that it was told was accepted, and nothing was taken of another
     abbrev pub TookAll : List M → List (List M) → Type 0

@@ -16,14 +16,14 @@ module _ {M : Type 0} where
   HaveNumber number senders = (at : ℕ) (sender : Sender M) → slice_get senders at ≡ Some sender → sender.number ≡ number
 
   -- whether one of these senders had a message handed back
-  abbrev pub any_refused : List (Sender M) → Bool
-  any_refused senders = list_any (λ sender. sender.refused) senders
+  abbrev pub any_gone : List (Sender M) → Bool
+  any_gone senders = list_any (λ sender. sender.gone) senders
 
   -- a sender after a message that its channel accepted at that time, or handed back
   abbrev pub given : Sender M → M → ℕ → Bool → Sender M
   given sender message t true =
       record sender { sent = sender.sent ++ message ∷ []; sent_at = sender.sent_at ++ t ∷ [] }
-  given sender message t false = record sender { refused = true }
+  given sender message t false = record sender { gone = true }
 
 -- The sender at that place was offered the message, which its channel accepted at a time after that one, or handed
 -- back. A message may name its sender's number.
@@ -40,7 +40,7 @@ pub record HasSent {M : Type 0} (accepted : List M) (old new : Sender M) : Type 
   pub channel : new.channel ≡ old.channel
   pub number : new.number ≡ old.number
   pub sent : new.sent ≡ old.sent ++ accepted
-  pub stays : old.refused ≡ true → new.refused ≡ true
+  pub stays : old.gone ≡ true → new.gone ≡ true
 
 -- so it is for each of several senders, by the messages of the one at each place
 pub record HaveSent {M : Type 0} (accepted : ℕ → List M) (old new : List (Sender M)) : Type 0 where
@@ -52,7 +52,7 @@ pub record HaveSent {M : Type 0} (accepted : ℕ → List M) (old new : List (Se
 pub record HasAccepted {M : Type 0} (owed : List M) (old new : Sender M) : Type 0 where
   pub accepted : List M
   pub sent : HasSent accepted old new
-  pub all : new.refused ≡ false → accepted ≡ owed
+  pub all : new.gone ≡ false → accepted ≡ owed
   pub some : IsPart accepted owed
 
 -- so it is for each of several senders, by what is owed to the one at each place

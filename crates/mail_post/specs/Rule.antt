@@ -2,7 +2,7 @@
 use Rattle.std.specs.Prelude.{◌≡◌, ◌≤◌, ◌<◌, ℕ, Bool, true, false, List, [], ◌++◌, length, slice_index_or}
 use mathlib.Core.Option.{Option, some, none}
 use lib.ListN.{get_elem?}
-use Rattle.mail_world.specs.Fronts.{IsFront}
+use Rattle.mail_world.specs.Prefixes.{IsPrefix}
 use Rattle.mail_post.specs.declared.rule.Parcel.{Parcel}
 use Rattle.mail_post.specs.declared.rule.View.{View}
 use Rattle.mail_post.specs.Parcels.{of, part, messages, has_mark, all_of_lane}
@@ -54,7 +54,7 @@ module _ {M : Type 0} where
     -- of a known lane, what was taken is the start of what it sent, and all of it where its mark was taken
     abbrev pub Agrees : View M → Type 0
     Agrees v = (k : ℕ) → k < length v.known
-        → IsFront (of lane k (messages v.got)) (slice_index_or v.known k [])
+        → IsPrefix (of lane k (messages v.got)) (slice_index_or v.known k [])
         × (has_mark k v.got ≡ true → of lane k (messages v.got) ≡ slice_index_or v.known k [])
 
     -- What the channel accepted, beside what was taken of it: of each known lane, just what the lane was told, at the

@@ -50,7 +50,7 @@ pub fn open_channel<M: FromSender>(
             end,
             pass,
             number: lane,
-            refused: false,
+            gone: false,
         })?;
     }
     Ok((
@@ -87,7 +87,7 @@ pub struct ChannelSender<M: FromSender> {
     end: RuledSender<Parcel<M>, View<M>, LaneOrder<M>>,
     pass: Pass<Parcel<M>, View<M>>,
     number: u32,
-    refused: bool,
+    gone: bool,
 }
 
 impl<M: FromSender> Model for ChannelSender<M> {
@@ -104,7 +104,7 @@ impl<M: FromSender> Model for ChannelSender<M> {
       number = s.number;
       sent = (view_of s.pass).sent;
       sent_at = (view_of s.pass).sent_at;
-      refused = s.refused;
+      gone = s.gone;
     } };
 
     ghost invariant = { λ s. IsSeatAt (sends_on s.end) s.pass
@@ -121,17 +121,17 @@ impl<M: FromSender> ChannelSender<M> {
     }
 
     /// Whether a post of it was handed back. Then it stays so.
-    pub fn is_refused(&self) -> bool
-        ensures { result ≡ self.now.refused }
+    pub fn is_gone(&self) -> bool
+        ensures { result ≡ self.now.gone }
     {
-        self.refused
+        self.gone
     }
 
     /// Ok where the channel has accepted the post at its end, after the picked time.
     pub fn offer<K: Moment, R: Wait>(&mut self, rt: &R, post: M) -> Result<(), M>
         requires { M.sender post ≡ self.old.number }
         ensures accepted { OnOk result (IsAccepted K.after post self.old self.new) }
-        ensures refused { OnErr result (self.new ≡ record self.old { refused = true }) }
+        ensures gone { OnErr result (self.new ≡ record self.old { gone = true }) }
         ensures back { IfErr result (λ back. back ≡ post) }
     {
         match self
@@ -140,7 +140,7 @@ impl<M: FromSender> ChannelSender<M> {
         {
             Ok(()) => Ok(()),
             Err(back) => {
-                self.refused = true;
+                self.gone = true;
                 match back.into_inner() {
                     Parcel::Copy(post) => Err(post),
                     Parcel::Mark(_) => unreachable!(),
@@ -300,7 +300,7 @@ impl<M: FromSender> ChannelClosed<M> {
             end,
             pass: mut mine,
             number,
-            refused: _,
+            gone: _,
         } = from;
         let mut pass = end.another::<Opens>(&mut mine);
         let is_lost = put_mark(rt, &end, &mut mine, number, false);
@@ -319,7 +319,7 @@ impl<M: FromSender> ChannelClosed<M> {
             end,
             pass: mut mine,
             number,
-            refused: _,
+            gone: _,
         } = from;
         self.is_lost = put_mark(rt, &end, &mut mine, number, self.is_lost);
         self.end.absorb::<Ends>(&mut self.pass, mine);
@@ -354,7 +354,7 @@ pub fn close_channel<M: FromSender, R: Wait>(
 pub fn settle<M: FromSender>(receiver: ChannelReceiver<M>, closed: ChannelClosed<M>)
     requires channel { receiver.channel ≡ closed.channel }
     requires lanes { length closed.sent ≡ receiver.lanes }
-    ensures front { TookSome M.sender (taken receiver) closed.sent }
+    ensures prefix { TookSome M.sender (taken receiver) closed.sent }
     ensures all { receiver.gone ≡ Some Gone.Closed → TookAll M.sender (taken receiver) closed.sent }
     ensures passed { HasPassedThrough M.sender receiver closed.sent closed.sent_at }
 {

@@ -8,7 +8,7 @@ use Rattle.mail_world.specs.House.{Hold, Copy, Box, SealedMessage, Lane, House}
 use Rattle.mail_world.specs.Events.{LaneIs, BoxIs}
 use Rattle.mail_world.specs.Runs.{last_house, events_of}
 use Rattle.mail_world.proofs.Accepted.{every_run_accepts}
-use Rattle.mail_progress.specs.Orderly.{IsAnswered, on_way}
+use Rattle.mail_progress.specs.Orderly.{HasOutcome, on_way}
 use Rattle.mail_progress.specs.GoingOn.{MayGoOn}
 use Rattle.mail_progress.specs.NothingStuck.{Mover, IsMovedBy, TheLane, TheWorker, LaneOrWorker, NothingStuck}
 use Rattle.mail_progress.specs.Finished.{copies_sealed, IsFinished, EndsFinished}
@@ -41,20 +41,20 @@ no_holds : (holds : List Hold) → (holds ≢ [] → ⊥) → holds ≡ []
 no_holds [] f = refl
 no_holds (x ∷ holds) f = absurd (f (λ e. cc))
 
-all_answered : (places : List (Option Outcome)) → ((p : ℕ) → slice_get places p ≡ Some None → ⊥) → AllByRecursion IsAnswered places
+all_answered : (places : List (Option Outcome)) → ((p : ℕ) → slice_get places p ≡ Some None → ⊥) → AllByRecursion HasOutcome places
 all_answered [] f = tt
 all_answered (None ∷ places) f = absurd (f 0 refl)
 all_answered (Some o ∷ places) f = (tt, all_answered places (λ p e. f (suc p) e))
 
 -- each place of a transaction is answered, where a slip for it was heard
-found_named : (txn : Txn) (heard : List Slip) (p : ℕ) → 1 ≤ times_named txn p heard → IsAnswered (answer txn heard p)
+found_named : (txn : Txn) (heard : List Slip) (p : ℕ) → 1 ≤ times_named txn p heard → HasOutcome (answer txn heard p)
 found_named txn heard p some = by (answer txn heard p) refl
   where
-    by : (got : Option Outcome) → answer txn heard p ≡ got → IsAnswered got
+    by : (got : Option Outcome) → answer txn heard p ≡ got → HasOutcome got
     by None e = let none = none_found (names txn p) heard e in absurd (omega arith)
     by (Some o) e = tt
 
-all_named : (txn : Txn) (heard : List Slip) (a n : ℕ) → ((p : ℕ) → p < a + n → 1 ≤ times_named txn p heard) → AllByRecursion IsAnswered (map (answer txn heard) (range_with_len a n))
+all_named : (txn : Txn) (heard : List Slip) (a n : ℕ) → ((p : ℕ) → p < a + n → 1 ≤ times_named txn p heard) → AllByRecursion HasOutcome (map (answer txn heard) (range_with_len a n))
 all_named txn heard a zero f = tt
 all_named txn heard a (suc n) f = (found_named txn heard a (f a (omega arith)), all_named txn heard (a + 1) n (λ p low. f p (omega arith)))
 
@@ -64,7 +64,7 @@ record IsStill (Movers : ℕ → Mover → Type 0) (room blocks : ℕ) (next : �
   owned : AllOwned h
   tracked : AllTracked h
   given : AllSealedFor (λ k. copies_sealed k events) h
-  fronts : (b : ℕ) (box : Box) → BoxIs h b box → box.taken ≤ length box.accepted
+  prefixes : (b : ℕ) (box : Box) → BoxIs h b box → box.taken ≤ length box.accepted
   moved : NothingStuck Movers room next h
   still : MayGoOn room next h → ⊥
 
@@ -104,10 +104,10 @@ finished_by Movers room blocks next events h s = record {
   none_to_offer = λ k lane at. idle_lane Movers room blocks next events h s k lane at;
   drained = λ w box at. elim (low_or_full box.taken (length box.accepted)) [
     | inl low ↦ absurd (s.still (goes_on (TheWorker w) room next h (s.moved.accepted w box at low)))
-    | inr all ↦ let front = s.fronts w box at in omega arith
+    | inr all ↦ let prefix = s.prefixes w box at in omega arith
   ];
   free_hand = λ w box at. no_copy box.hand (λ copy e. s.still (goes_on (TheWorker w) room next h (s.moved.in_hand w box copy at e)));
-  collected = λ k lane at. let all = all_collected Movers room blocks next events h s k lane at in let front = (s.tracked k lane at).front in omega arith;
+  collected = λ k lane at. let all = all_collected Movers room blocks next events h s k lane at in let prefix = (s.tracked k lane at).prefix in omega arith;
   given_away = λ k lane at.
       let idle : to_give lane.holds ≡ 0 = ap to_give (idle_lane Movers room blocks next events h s k lane at) in
       all_given lane.messages (copies_sealed k events) (subst (λ w. AreSealedFor lane.messages w (copies_sealed k events)) idle (s.given k lane at));
@@ -136,7 +136,7 @@ ends_finished room blocks start run is r o some capable next all still = let h =
           owned = every_run_owns blocks start run is r;
           tracked = f.tracked;
           given = every_orderly_sealed_for room blocks start run is r o;
-          fronts = (every_run_accepts blocks start run is r).front;
+          prefixes = (every_run_accepts blocks start run is r).prefix;
           moved = moved;
           still = still;
         }

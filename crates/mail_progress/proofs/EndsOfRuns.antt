@@ -12,7 +12,7 @@ use Rattle.mail_world.proofs.Computed.{everything}
 use Rattle.mail_world.proofs.OneHouse.{each_once}
 use Rattle.mail_world.proofs.OneRun as delivered
 use Rattle.mail_world.proofs.OneFailure as failed
-use Rattle.mail_progress.specs.Orderly.{IsAnswered}
+use Rattle.mail_progress.specs.Orderly.{HasOutcome}
 use Rattle.mail_progress.specs.Finished.{copies_sealed, IsFinished}
 
 -- one lane and one mailbox that have finished
@@ -21,8 +21,8 @@ record HaveFinished (events : List Event) (lane : Lane) (box : Box) : Type 0 whe
   none_to_offer : lane.holds ≡ []
   collected : lane.collected ≡ length lane.slips
   given_away : map (λ (t : SealedMessage). t.offered) lane.messages ≡ copies_sealed 0 events
-  answered : AllByRecursion (λ (t : SealedMessage). AllByRecursion IsAnswered (answers (txn_of 0 t.number) t.offered lane.heard)) lane.messages
-  gathered : AllByRecursion IsAnswered lane.gather.places
+  answered : AllByRecursion (λ (t : SealedMessage). AllByRecursion HasOutcome (answers (txn_of 0 t.number) t.offered lane.heard)) lane.messages
+  gathered : AllByRecursion HasOutcome lane.gather.places
   drained : box.taken ≡ length box.accepted
   free_hand : box.hand ≡ None
 
@@ -41,9 +41,9 @@ all_finished blocks events h lane box lanes boxes slots free f = record {
   collected = of_only (λ k (x : Lane). x.collected ≡ length x.slips) h.lanes lane lanes f.collected;
   given_away = of_only (λ k (x : Lane). map (λ (t : SealedMessage). t.offered) x.messages ≡ copies_sealed k events) h.lanes lane lanes f.given_away;
   answered = λ k x i t at is.
-      each_at (λ (u : SealedMessage). AllByRecursion IsAnswered (answers (txn_of k u.number) u.offered x.heard)) x.messages i t
-      (of_only (λ v (y : Lane). AllByRecursion (λ (u : SealedMessage). AllByRecursion IsAnswered (answers (txn_of v u.number) u.offered y.heard)) y.messages) h.lanes lane lanes f.answered k x at) is;
-  gathered = of_only (λ k (x : Lane). AllByRecursion IsAnswered x.gather.places) h.lanes lane lanes f.gathered;
+      each_at (λ (u : SealedMessage). AllByRecursion HasOutcome (answers (txn_of k u.number) u.offered x.heard)) x.messages i t
+      (of_only (λ v (y : Lane). AllByRecursion (λ (u : SealedMessage). AllByRecursion HasOutcome (answers (txn_of v u.number) u.offered y.heard)) y.messages) h.lanes lane lanes f.answered k x at) is;
+  gathered = of_only (λ k (x : Lane). AllByRecursion HasOutcome x.gather.places) h.lanes lane lanes f.gathered;
   reclaimed = λ i slot bytes its weight at e. let bad : Free ≡ Sealed bytes its weight = sym (each_at (λ (s : Slot). s.held ≡ Free) h.depot.slots i slot slots at) ∙ e in cc;
   all_free = free;
 }

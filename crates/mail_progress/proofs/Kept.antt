@@ -65,7 +65,7 @@ HandIsRight h (Some copy) = HasLane h.lanes copy.post.note.txn.lane × (copy.wri
 pub record IsBoxRight (h : House) (box : Box) : Type 0 where
   pub posts : AllByRecursion (OfLanes h.lanes) box.accepted
   pub hand : HandIsRight h box.hand
-  pub front : box.taken ≤ length box.accepted
+  pub prefix : box.taken ≤ length box.accepted
 
 abbrev pub IsSome : Hold → Type 0
 IsSome hold = 1 ≤ hold.weight
@@ -87,7 +87,7 @@ box_right : (h new : House) → Follows h new → (box : Box) → IsBoxRight h b
 box_right h new f box r = record {
   posts = weaken (OfLanes h.lanes) (OfLanes new.lanes) (λ post there. f.stay post.note.txn.lane there) box.accepted r.posts;
   hand = hand_right h new f box.hand r.hand;
-  front = r.front;
+  prefix = r.prefix;
 }
 
 -- a lane changes, and perhaps a mailbox
@@ -149,26 +149,26 @@ kept_step h (Offer k note) new s st =
     (λ ok. record {
       posts = all_more (OfLanes _) st.box.accepted (record { note = note; key = st.key }) ok.posts (subst (HasLane _) (sym st.own) (_, set_at h.lanes k _ st.lane st.is));
       hand = ok.hand;
-      front = let l = length-append st.box.accepted (record { note = note; key = st.key } ∷ []) in let low = ok.front in omega arith;
+      prefix = let l = length-append st.box.accepted (record { note = note; key = st.key } ∷ []) in let low = ok.prefix in omega arith;
     })
     (λ ok. all_remove IsSome st.lane.holds st.at ok))
 kept_step h (HandBack k i b) new s st = subst IsKept (sym st.after) (kept_lane h _ k st.lane _ s (λ note. refl) st.is refl refl (λ ok. all_remove IsSome st.lane.holds i ok))
 kept_step h (Collect k) new s st = subst IsKept (sym st.after) (kept_lane h _ k st.lane _ s (λ note. refl) st.is refl refl (λ ok. ok))
 kept_step h (Take w) new s st =
     subst IsKept (sym st.after) (kept_box h _ w st.box _ s (λ note. refl) st.is refl refl
-    (λ ok. record { posts = ok.posts; hand = (each_at (OfLanes h.lanes) st.box.accepted st.box.taken st.post ok.posts st.front, omega arith); front = let below = slice_get_within st.box.accepted st.box.taken st.post st.front in omega arith }))
+    (λ ok. record { posts = ok.posts; hand = (each_at (OfLanes h.lanes) st.box.accepted st.box.taken st.post ok.posts st.oldest, omega arith); prefix = let below = slice_get_within st.box.accepted st.box.taken st.post st.oldest in omega arith }))
 kept_step h (Write w bytes) new s st =
     let len : size h st.copy.post.note - st.copy.written ≡ length bytes + length st.more = sym (length-drop st.copy.written _) ∙ ap length st.next ∙ length-append bytes st.more in
     subst IsKept (sym st.after) (kept_box h _ w st.box _ s (λ note. refl) st.is refl refl
-    (λ ok. let r = hand_of h st.box st.copy st.in_hand ok.hand in let low = r.1 in record { posts = ok.posts; hand = (r.0, omega (arith, len, low)); front = ok.front }))
+    (λ ok. let r = hand_of h st.box st.copy st.in_hand ok.hand in let low = r.1 in record { posts = ok.posts; hand = (r.0, omega (arith, len, low)); prefix = ok.prefix }))
 kept_step h (Sync w) new s st =
-    subst IsKept (sym st.after) (kept_box h _ w st.box _ s (λ note. refl) st.is refl refl (λ ok. record { posts = ok.posts; hand = hand_of h st.box st.copy st.in_hand ok.hand; front = ok.front }))
+    subst IsKept (sym st.after) (kept_box h _ w st.box _ s (λ note. refl) st.is refl refl (λ ok. record { posts = ok.posts; hand = hand_of h st.box st.copy st.in_hand ok.hand; prefix = ok.prefix }))
 kept_step h (Release w) new s st =
-    subst IsKept (sym st.after) (kept_box h _ w st.box _ s (λ note. refl) st.is refl refl (λ ok. record { posts = ok.posts; hand = hand_of h st.box st.copy st.in_hand ok.hand; front = ok.front }))
+    subst IsKept (sym st.after) (kept_box h _ w st.box _ s (λ note. refl) st.is refl refl (λ ok. record { posts = ok.posts; hand = hand_of h st.box st.copy st.in_hand ok.hand; prefix = ok.prefix }))
 kept_step h (GiveSlip w o) new s st =
-    subst IsKept (sym st.after) (kept_both h _ w st.box _ st.copy.post.note.txn.lane st.lane _ s (λ note. refl) st.is st.to refl refl (λ ok. record { posts = ok.posts; hand = tt; front = ok.front }) (λ ok. ok))
+    subst IsKept (sym st.after) (kept_both h _ w st.box _ st.copy.post.note.txn.lane st.lane _ s (λ note. refl) st.is st.to refl refl (λ ok. record { posts = ok.posts; hand = tt; prefix = ok.prefix }) (λ ok. ok))
 kept_step h (Reclaim slot generation) new s st = subst IsKept (sym st.2) (kept_none h _ s (λ note. refl) refl refl)
-kept_step h (Close b) new s st = subst IsKept (sym st.3) (kept_box h _ b st.0 _ s (λ note. refl) st.1 refl refl (λ ok. record { posts = ok.posts; hand = ok.hand; front = ok.front }))
+kept_step h (Close b) new s st = subst IsKept (sym st.3) (kept_box h _ b st.0 _ s (λ note. refl) st.1 refl refl (λ ok. record { posts = ok.posts; hand = ok.hand; prefix = ok.prefix }))
 
 kept_run : (h : House) (run : List Happened) → IsKept h → Run h run → IsKept (last_house h run)
 kept_run h [] s r = s
@@ -176,7 +176,7 @@ kept_run h (x ∷ xs) s r = kept_run x.house xs (kept_step h x.event x.house s r
 
 pub kept_start : (blocks : ℕ) (h : House) → IsStart blocks h → IsKept h
 kept_start blocks h start = record {
-  boxes = weaken IsFreshBox (IsBoxRight h) (λ box f. record { posts = subst (AllByRecursion (OfLanes h.lanes)) (sym f.accepted) tt; hand = subst (HandIsRight h) (sym f.hand) tt; front = let t = f.taken in omega arith }) h.boxes start.boxes;
+  boxes = weaken IsFreshBox (IsBoxRight h) (λ box f. record { posts = subst (AllByRecursion (OfLanes h.lanes)) (sym f.accepted) tt; hand = subst (HandIsRight h) (sym f.hand) tt; prefix = let t = f.taken in omega arith }) h.boxes start.boxes;
   lanes = weaken IsFreshLane (λ (lane : Lane). AllByRecursion IsSome lane.holds) (λ lane f. subst (AllByRecursion IsSome) (sym f.holds) tt) h.lanes start.lanes;
 }
 

@@ -159,7 +159,7 @@ has_slip lane = Dec.and (dec_lt lane.collected (length lane.slips)) (elim (some_
 no_slip : (h : House) (room : ℕ) → NoLane h (λ k lane. HasSlip lane) → (event : Event) → IsInOrder room h event → MayHappen h event → rank event ≡ 8 → ⊥
 no_slip h room none (Collect k) o happens e =
     let st = happens.1 in
-    none k st.lane st.is (slice_get_within st.lane.slips st.lane.collected st.slip st.front, subst (λ b. IfSome b (λ (lane : Lane). lane.holds ≡ [])) st.is o)
+    none k st.lane st.is (slice_get_within st.lane.slips st.lane.collected st.slip st.oldest, subst (λ b. IfSome b (λ (lane : Lane). lane.holds ≡ [])) st.is o)
 no_slip h room none event o happens e = absurd (omega arith)
 
 slip_ranks : (room : ℕ) (next : ℕ → ℕ) (h : House) (k : ℕ) (lane : Lane) → LaneIs h k lane → HasSlip lane → HasRank room next h 8

@@ -168,13 +168,13 @@ lowers blocks room bound h (HandBack k i m) new s st o b =
     let lanes = sum_set (steps_of_lane bound) h.lanes k st.lane (with_heard (without_copy st.lane i st.t st.sealed) (own_slip k st.sealed.number st.sealed.offered m)) st.is in
     subst (Left blocks room bound h) (sym st.after) (omega (arith, slots, less, lanes))
 lowers blocks room bound h (Collect k) new s st o b =
-    let below = slice_get_within st.lane.slips st.lane.collected st.slip st.front in
+    let below = slice_get_within st.lane.slips st.lane.collected st.slip st.oldest in
     let lanes = sum_set (steps_of_lane bound) h.lanes k st.lane (record (with_heard st.lane st.slip) { collected = st.lane.collected + 1 }) st.is in
     subst (Left blocks room bound h) (sym st.after) (omega (arith, below, lanes))
 lowers blocks room bound h (Take w) new s st o b =
     let over = is_over_quota h st.box st.post.note in
     let boxes = sum_set (steps_of_box h) h.boxes w st.box (with_taken st.box st.post over) st.is in
-    subst (Left blocks room bound h) (sym st.after) (omega (arith, boxes, free_hand_by h st.box st.free_hand, waiting_take h st.box st.post st.front, taken_less h st.post over))
+    subst (Left blocks room bound h) (sym st.after) (omega (arith, boxes, free_hand_by h st.box st.free_hand, waiting_take h st.box st.post st.oldest, taken_less h st.post over))
 lowers blocks room bound h (Write w bytes) new s st o b =
     let next : Copy = record st.copy { written = st.copy.written + length bytes } in
     let len : size h st.copy.post.note - st.copy.written ≡ length bytes + length st.more = sym (length-drop st.copy.written _) ∙ ap length st.next ∙ length-append bytes st.more in

@@ -138,8 +138,8 @@ hand_moves room blocks next h f w box copy at hand = hand_by room blocks next h 
 -- a copy that is accepted
 unfoldable pub take_moves : (room : ℕ) (next : ℕ → ℕ) (h : House) (w : ℕ) (box : Box) → BoxIs h w box → box.taken < length box.accepted → box.hand ≡ None → IsMovedBy (TheWorker w) room next h
 take_moves room next h w box at some e =
-    let front = there_is box.accepted box.taken some in
-    record { event = Take w; by = refl; goes_on = tt; in_order = tt; happens = (_, record { box = box; post = front.0; is = at; free_hand = e; front = front.1; after = refl }) }
+    let oldest = there_is box.accepted box.taken some in
+    record { event = Take w; by = refl; goes_on = tt; in_order = tt; happens = (_, record { box = box; post = oldest.0; is = at; free_hand = e; oldest = oldest.1; after = refl }) }
 
 accepted_by : (room blocks : ℕ) (next : ℕ → ℕ) (h : House) → IsReached room blocks h → (w : ℕ) (box : Box) → BoxIs h w box → box.taken < length box.accepted → (hand : Option Copy) → box.hand ≡ hand → IsMovedBy (TheWorker w) room next h
 accepted_by room blocks next h f w box at some None e = take_moves room next h w box at some e
@@ -217,13 +217,13 @@ offers_move room blocks next h f c all k lane at some = holds_by room blocks nex
 -- a slip to collect
 unfoldable pub collect_moves : (room : ℕ) (next : ℕ → ℕ) (h : House) (k : ℕ) (lane : Lane) → LaneIs h k lane → lane.collected < length lane.slips → lane.holds ≡ [] → IsMovedBy (TheLane k) room next h
 collect_moves room next h k lane at some e =
-    let front = there_is lane.slips lane.collected some in
+    let oldest = there_is lane.slips lane.collected some in
     record {
       event = Collect k;
       by = refl;
       goes_on = tt;
       in_order = subst (λ o. IfSome o (λ (l : Lane). l.holds ≡ [])) (sym at) e;
-      happens = (_, record { lane = lane; slip = front.0; is = at; front = front.1; after = refl });
+      happens = (_, record { lane = lane; slip = oldest.0; is = at; oldest = oldest.1; after = refl });
     }
 
 collect_by : (room blocks : ℕ) (next : ℕ → ℕ) (h : House) → IsReached room blocks h → 1 ≤ h.capacity → AreThere next h

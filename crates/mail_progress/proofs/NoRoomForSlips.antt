@@ -151,7 +151,7 @@ step₇ = record { lane = lane (one ∷ one ∷ one ∷ one ∷ []) 0 ([]); box 
 
 step₈ : Step house₇ (Take 0) house₈
 unfolding everything
-step₈ = record { box = channel (post 0 ∷ []) 0 0 []; post = post 0; is = refl; free_hand = refl; front = refl; after = refl }
+step₈ = record { box = channel (post 0 ∷ []) 0 0 []; post = post 0; is = refl; free_hand = refl; oldest = refl; after = refl }
 
 step₉ : Step house₈ (Write 0 text) house₉
 unfolding everything
@@ -175,7 +175,7 @@ step₁₃ = record { lane = lane (one ∷ one ∷ one ∷ []) 1 (slip ∷ []); 
 
 step₁₄ : Step house₁₃ (Take 0) house₁₄
 unfolding everything
-step₁₄ = record { box = channel (post 0 ∷ post 1 ∷ []) 1 1 text; post = post 1; is = refl; free_hand = refl; front = refl; after = refl }
+step₁₄ = record { box = channel (post 0 ∷ post 1 ∷ []) 1 1 text; post = post 1; is = refl; free_hand = refl; oldest = refl; after = refl }
 
 step₁₅ : Step house₁₄ (Write 0 text) house₁₅
 unfolding everything

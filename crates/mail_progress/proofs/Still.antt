@@ -66,7 +66,7 @@ no_take room h s w new st =
     let hand : s.box.hand ≡ None = ap (λ (x : Box). x.hand) same ∙ st.free_hand in
     elim s.neither [
       | inl free ↦
-          let below = slice_get_within st.box.accepted st.box.taken st.post st.front in
+          let below = slice_get_within st.box.accepted st.box.taken st.post st.oldest in
           let taken : st.box.taken ≡ s.box.taken = ap (λ (x : Box). x.taken) (sym same) in
           let all : length st.box.accepted ≡ length s.box.accepted = ap (λ (x : Box). length x.accepted) (sym same) in
           let e : s.box.taken ≡ length s.box.accepted = free.1 in

@@ -53,7 +53,7 @@ IsKeptIn d t = KeepsBytes d t.key t.message
 
 pub record IsTracked (k : ℕ) (d : Depot) (lane : Lane) (boxes : List Box) : Type 0 where
   pub sealed : AllByRecursion (IsKeptIn d) lane.messages
-  pub front : lane.collected ≤ length lane.slips
+  pub prefix : lane.collected ≤ length lane.slips
   pub last : AreLast lane.messages lane.holds (length lane.gather.places)
   pub none : length lane.messages ≡ 0 → length lane.gather.places ≡ 0
   pub given : (number p : ℕ) → count_by (is_given number p) lane.messages ≤ told_at k number p lane + way_at k number p boxes
@@ -75,7 +75,7 @@ kept_sealed d new f ts all = weaken (IsKeptIn d) (IsKeptIn new) (λ t s. f t.key
 tracked_same : (k : ℕ) (d new : Depot) (lane : Lane) (bs ms : List Box) → Keeps d new → NoFewer k bs ms → IsTracked k d lane bs → IsTracked k new lane ms
 tracked_same k d new lane bs ms f way s = record {
   sealed = kept_sealed d new f lane.messages s.sealed;
-  front = s.front;
+  prefix = s.prefix;
   last = s.last;
   none = s.none;
   given = λ number p. let a = s.given number p in let b = way number p in omega arith;
@@ -84,9 +84,9 @@ tracked_same k d new lane bs ms f way s = record {
 -- a lane with the same messages and holds, and as many places
 tracked_as : (k : ℕ) (d new : Depot) (lane next : Lane) (bs ms : List Box) → Keeps d new → next.messages ≡ lane.messages → next.holds ≡ lane.holds → length next.gather.places ≡ length lane.gather.places
     → next.collected ≤ length next.slips → ((number p : ℕ) → told_at k number p lane + way_at k number p bs ≤ told_at k number p next + way_at k number p ms) → IsTracked k d lane bs → IsTracked k new next ms
-tracked_as k d new lane next bs ms f messages holds places front told s = record {
+tracked_as k d new lane next bs ms f messages holds places prefix told s = record {
   sealed = subst (AllByRecursion (IsKeptIn new)) (sym messages) (kept_sealed d new f lane.messages s.sealed);
-  front = front;
+  prefix = prefix;
   last = rw (messages, holds, places) s.last;
   none = rw (messages, places) s.none;
   given = λ number p. let a = s.given number p in let b = told number p in
@@ -122,9 +122,9 @@ box_way bs ms w old new e was same v number p =
 -- an offer and a slip that is given
 way_offered : (v number p : ℕ) (bs : List Box) (b : ℕ) (old : Box) (post : Post) → slice_get bs b ≡ Some old → old.taken ≤ length old.accepted
     → way_at v number p (slice_set bs b (record old { accepted = old.accepted ++ post ∷ [] })) ≡ way_at v number p bs + copy_at v number p post
-way_offered v number p bs b old post was front =
+way_offered v number p bs b old post was prefix =
     let e : sum_by (copy_at v number p) (drop old.taken (old.accepted ++ post ∷ [])) ≡ sum_by (copy_at v number p) (drop old.taken old.accepted) + copy_at v number p post =
-    ap (sum_by (copy_at v number p)) (drop-append-le old.taken old.accepted (post ∷ []) front) ∙ sum_last (copy_at v number p) (drop old.taken old.accepted) post in
+    ap (sum_by (copy_at v number p)) (drop-append-le old.taken old.accepted (post ∷ []) prefix) ∙ sum_last (copy_at v number p) (drop old.taken old.accepted) post in
     omega (
       arith,
       way_set v number p bs b old (record old { accepted = old.accepted ++ post ∷ [] }) was,
@@ -210,7 +210,7 @@ seal_tracked k n d new lane next bs key message bytes blocks f draft there idle 
     let only : next.holds ≡ hold ∷ [] = holds ∙ ap (λ hs. hs ++ hold ∷ []) idle in
     record {
       sealed = subst (AllByRecursion (IsKeptIn new)) (sym messages) (all_more (IsKeptIn new) lane.messages t (kept_sealed d new f lane.messages s.sealed) there);
-      front = rw (slips, count) s.front;
+      prefix = rw (slips, count) s.prefix;
       last = λ i u at top.
           let len : length next.messages ≡ length lane.messages + 1 = ap length messages ∙ length-append lane.messages (t ∷ []) in
           elim (get_more lane.messages t u i (ap (λ ts. slice_get ts i) (sym messages) ∙ at)) [
@@ -243,7 +243,7 @@ split_tracked k i w d lane bs key at s =
     let one : Hold = record { key = key; weight = 1 } in
     record {
       sealed = s.sealed;
-      front = s.front;
+      prefix = s.prefix;
       last = λ j t is top.
           let l = s.last j t is top in
           let P : Hold → Type 0 = λ hold. hold.key ≡ t.key in
@@ -261,13 +261,13 @@ split_tracked k i w d lane bs key at s =
 away_tracked : (k i at : ℕ) (d new : Depot) (lane next : Lane) (bs ms : List Box) (t : SealedMessage) → Keeps d new → slice_get lane.holds at ≡ Some (record { key = t.key; weight = 1 }) → slice_get lane.messages i ≡ Some t
     → next.messages ≡ slice_set lane.messages i (record t { offered = t.offered + 1 }) → next.holds ≡ remove lane.holds at → length next.gather.places ≡ length lane.gather.places → next.collected ≤ length next.slips
     → ((number p : ℕ) → told_at k number p lane + way_at k number p bs + cond ((t.number == number) && (t.offered == p)) 1 0 ≤ told_at k number p next + way_at k number p ms) → IsTracked k d lane bs → IsTracked k new next ms
-away_tracked k i at d new lane next bs ms t f hold is messages holds places front told s =
+away_tracked k i at d new lane next bs ms t f hold is messages holds places prefix told s =
     let more : SealedMessage = record t { offered = t.offered + 1 } in
     let kept = kept_sealed d new f lane.messages s.sealed in
     let last : AreLast (slice_set lane.messages i more) (remove lane.holds at) (length next.gather.places) = away_last lane.messages lane.holds (length lane.gather.places) (length next.gather.places) i at t hold is places s.last in
     record {
       sealed = subst (AllByRecursion (IsKeptIn new)) (sym messages) (all_set (IsKeptIn new) lane.messages i more kept (each_at (IsKeptIn new) lane.messages i t kept is));
-      front = front;
+      prefix = prefix;
       last = rw (messages, holds) last;
       none = λ e. let len : length next.messages ≡ length lane.messages = ap length messages ∙ length_set lane.messages i more in let low = slice_get_within lane.messages i t is in absurd (omega arith);
       given = λ number p.
@@ -293,7 +293,7 @@ tracked_step room h (Begin k) new w kept s st =
     let f : Keeps h.depot new.depot = subst (λ (x : House). Keeps h.depot x.depot) (sym st.after) (begins_turn h.depot st.key st.depot st.begins).fits in
     let boxes = ap (λ (x : House). x.boxes) st.after in
     one_lane h new k st.lane _ (ap (λ (x : House). x.lanes) st.after) st.is f
-    (λ t. tracked_as k h.depot new.depot st.lane (record st.lane { number = st.number; draft = Some st.key }) h.boxes new.boxes f refl refl refl t.front (λ number p. let a = same_way h.boxes new.boxes boxes k number p in omega arith) t)
+    (λ t. tracked_as k h.depot new.depot st.lane (record st.lane { number = st.number; draft = Some st.key }) h.boxes new.boxes f refl refl refl t.prefix (λ number p. let a = same_way h.boxes new.boxes boxes k number p in omega arith) t)
     (λ v ne. same_way h.boxes new.boxes boxes v) s
 tracked_step room h (Put k bytes) new w kept s st =
     let f : Keeps h.depot new.depot = subst (λ (x : House). Keeps h.depot x.depot) (sym st.after) (puts_turn h.depot st.key bytes st.depot st.puts).fits in
@@ -302,7 +302,7 @@ tracked_step room h (Cancel k) new w kept s st =
     let f : Keeps h.depot new.depot = subst (λ (x : House). Keeps h.depot x.depot) (sym st.after) (drops_turn h.depot st.key Draft st.depot (λ b blocks. refl) (λ b blocks. refl) (λ b blocks e. cc) st.cancels).fits in
     let boxes = ap (λ (x : House). x.boxes) st.after in
     one_lane h new k st.lane _ (ap (λ (x : House). x.lanes) st.after) st.is f
-    (λ t. tracked_as k h.depot new.depot st.lane (record st.lane { draft = None }) h.boxes new.boxes f refl refl refl t.front (λ number p. let a = same_way h.boxes new.boxes boxes k number p in omega arith) t)
+    (λ t. tracked_as k h.depot new.depot st.lane (record st.lane { draft = None }) h.boxes new.boxes f refl refl refl t.prefix (λ number p. let a = same_way h.boxes new.boxes boxes k number p in omega arith) t)
     (λ v ne. same_way h.boxes new.boxes boxes v) s
 tracked_step room h (Seal k n) new w kept s st =
     let idle : st.lane.holds ≡ [] = no_hold st.lane.holds (each_at (λ (l : Lane). AllByRecursion IsSome l.holds) h.lanes k st.lane kept.lanes st.is) (let p = (w k st.lane st.is).drafting st.key st.draft in omega arith) in
@@ -317,12 +317,12 @@ tracked_step room h (Split k i) new w kept s st =
 tracked_step room h (Offer k note) new w kept s st =
     let post : Post = record { note = note; key = st.key } in
     let t : SealedMessage = record { number = note.txn.number; key = st.key; message = note.message; offered = note.place } in
-    let front = (each_at (IsBoxRight h) h.boxes note.mailbox st.box kept.boxes st.channel).front in
+    let prefix = (each_at (IsBoxRight h) h.boxes note.mailbox st.box kept.boxes st.channel).prefix in
     let ms = slice_set h.boxes note.mailbox (record st.box { accepted = st.box.accepted ++ post ∷ [] }) in
-    let more : (v number p : ℕ) → way_at v number p ms ≡ way_at v number p h.boxes + copy_at v number p post = λ v number p. way_offered v number p h.boxes note.mailbox st.box post st.channel front in
+    let more : (v number p : ℕ) → way_at v number p ms ≡ way_at v number p h.boxes + copy_at v number p post = λ v number p. way_offered v number p h.boxes note.mailbox st.box post st.channel prefix in
     subst AllTracked (sym st.after)
     (lane_after h h.depot ms k st.lane _ st.is (same_depot h.depot)
-    (λ x. away_tracked k st.t st.at h.depot h.depot st.lane _ h.boxes ms t (same_depot h.depot) st.copy.hold st.copy.is refl refl refl x.front
+    (λ x. away_tracked k st.t st.at h.depot h.depot st.lane _ h.boxes ms t (same_depot h.depot) st.copy.hold st.copy.is refl refl refl x.prefix
     (λ number p. let a = more k number p in let b = own_match note.txn.lane k note.txn.number number (note.place == p) st.own in omega arith) x)
     (λ v ne number p. let a = more v number p in omega arith) s)
 tracked_step room h (HandBack k i m) new w kept s st =
@@ -330,23 +330,23 @@ tracked_step room h (HandBack k i m) new w kept s st =
     let slip = own_slip k st.sealed.number st.sealed.offered m in
     subst AllTracked (sym st.after)
     (lane_after h st.depot h.boxes k st.lane _ st.is f
-    (λ x. away_tracked k st.t i h.depot st.depot st.lane _ h.boxes h.boxes st.sealed f st.copy.hold st.copy.is refl refl (length_gathered st.lane.gather slip) x.front
+    (λ x. away_tracked k st.t i h.depot st.depot st.lane _ h.boxes h.boxes st.sealed f st.copy.hold st.copy.is refl refl (length_gathered st.lane.gather slip) x.prefix
     (λ number p. let b = own_match k k st.sealed.number number (st.sealed.offered == p) refl in omega (arith, b, count-append (names (txn_of k number) p) st.lane.heard (slip ∷ []))) x)
     (λ v ne. same_way h.boxes h.boxes refl v) s)
 tracked_step room h (Collect k) new w kept s st =
-    let below = slice_get_within st.lane.slips st.lane.collected st.slip st.front in
+    let below = slice_get_within st.lane.slips st.lane.collected st.slip st.oldest in
     subst AllTracked (sym st.after)
     (lane_after h h.depot h.boxes k st.lane _ st.is (same_depot h.depot)
     (λ x. tracked_as k h.depot h.depot st.lane _ h.boxes h.boxes (same_depot h.depot) refl refl (length_gathered st.lane.gather st.slip) (omega arith)
     (λ number p.
     let was : times_named (txn_of k number) p (drop st.lane.collected st.lane.slips) ≡ cond (names (txn_of k number) p st.slip) 1 0 + times_named (txn_of k number) p (drop (st.lane.collected + 1) st.lane.slips) =
-    ap (times_named (txn_of k number) p) (drop_get st.lane.slips st.lane.collected st.slip st.front ∙ ap (λ n. st.slip ∷ drop n st.lane.slips) (sym (add-one st.lane.collected)))
+    ap (times_named (txn_of k number) p) (drop_get st.lane.slips st.lane.collected st.slip st.oldest ∙ ap (λ n. st.slip ∷ drop n st.lane.slips) (sym (add-one st.lane.collected)))
     ∙ count-cons (names (txn_of k number) p) st.slip (drop (st.lane.collected + 1) st.lane.slips) in
     omega (arith, was, count-append (names (txn_of k number) p) st.lane.heard (st.slip ∷ []))) x)
     (λ v ne. same_way h.boxes h.boxes refl v) s)
 tracked_step room h (Take x) new w kept s st =
     let posts : on_way st.box ≡ st.post ∷ drop (st.box.taken + 1) st.box.accepted =
-    ap (λ hand. post_of hand ++ drop st.box.taken st.box.accepted) st.free_hand ∙ drop_get st.box.accepted st.box.taken st.post st.front ∙ ap (λ j. st.post ∷ drop j st.box.accepted) (sym (add-one st.box.taken)) in
+    ap (λ hand. post_of hand ++ drop st.box.taken st.box.accepted) st.free_hand ∙ drop_get st.box.accepted st.box.taken st.post st.oldest ∙ ap (λ j. st.post ∷ drop j st.box.accepted) (sym (add-one st.box.taken)) in
     subst AllTracked (sym st.after) (none_after h h.depot _ (same_depot h.depot) (λ v. box_way h.boxes _ x st.box _ refl st.is (sym posts) v) s)
 tracked_step room h (Write x bytes) new w kept s st =
     subst AllTracked (sym st.after) (none_after h h.depot _ (same_depot h.depot) (λ v. box_way h.boxes _ x st.box _ refl st.is (ap (λ hand. post_of hand ++ drop st.box.taken st.box.accepted) (sym st.in_hand)) v) s)
@@ -362,12 +362,12 @@ tracked_step room h (GiveSlip x o) new w kept s st =
     let less : (v number p : ℕ) → way_at v number p ms + copy_at v number p st.copy.post ≡ way_at v number p h.boxes = λ v number p. way_gave v number p h.boxes x st.box st.copy st.is st.in_hand in
     subst AllTracked (sym st.after)
     (lane_after h h.depot ms k st.lane _ st.to (same_depot h.depot)
-    (λ t. let front = t.front in
+    (λ t. let prefix = t.prefix in
     tracked_as k h.depot h.depot st.lane _ h.boxes ms (same_depot h.depot) refl refl refl (let l = length-append st.lane.slips (slip ∷ []) in omega arith)
     (λ number p.
     let a = less k number p in
     let more : times_named (txn_of k number) p (drop st.lane.collected (st.lane.slips ++ slip ∷ [])) ≡ times_named (txn_of k number) p (drop st.lane.collected st.lane.slips) + cond (names (txn_of k number) p slip) 1 0 =
-    ap (times_named (txn_of k number) p) (drop-append-le st.lane.collected st.lane.slips (slip ∷ []) front) ∙ sum_last (λ (z : Slip). cond (names (txn_of k number) p z) 1 0) (drop st.lane.collected st.lane.slips) slip in
+    ap (times_named (txn_of k number) p) (drop-append-le st.lane.collected st.lane.slips (slip ∷ []) prefix) ∙ sum_last (λ (z : Slip). cond (names (txn_of k number) p z) 1 0) (drop st.lane.collected st.lane.slips) slip in
     omega (arith, a, more)) t)
     (λ v ne number p. let a = less v number p in let b = not_there v k number p st.copy.post refl ne in omega arith) s)
 tracked_step room h (Reclaim slot generation) new w kept s st =
@@ -386,7 +386,7 @@ tracked_start blocks h start k lane is =
     let f = each_at IsFreshLane h.lanes k lane start.lanes is in
     record {
       sealed = subst (AllByRecursion (IsKeptIn h.depot)) (sym f.messages) tt;
-      front = let c = f.collected in omega arith;
+      prefix = let c = f.collected in omega arith;
       last = λ i t at. let bad : slice_get {X = SealedMessage} [] i ≡ Some t = ap (λ ts. slice_get ts i) (sym f.messages) ∙ at in cc;
       none = λ e. ap length f.places;
       given = λ number p. let none : count_by (is_given number p) lane.messages ≡ 0 = ap (count_by (is_given number p)) f.messages in omega arith;

@@ -18,7 +18,7 @@ use Rattle.mail_world.proofs.OneLine.{other_byte}
 use Rattle.mail_world.proofs.Accepted.{get_set, each_at}
 use Rattle.mail_world.proofs.Depots.{total_set}
 use Rattle.mail_world.proofs.Holds.{drop_get}
-use Rattle.mail_progress.specs.Orderly.{IsAnswered, IsDone, uncollected, IsInOrder, IsOrderly, post_of, on_way}
+use Rattle.mail_progress.specs.Orderly.{HasOutcome, IsLaneDone, uncollected, IsInOrder, IsOrderly, post_of, on_way}
 use Rattle.mail_progress.specs.OrderlyRuns.{SlipsFindRoom}
 use Rattle.mail_world.proofs.Holds.{sum_set, sum_remove}
 use Rattle.mail_progress.proofs.Sums.{sum_last, sum_one_more, sum_replicate, sum_none}
@@ -114,7 +114,7 @@ gathered_by g slip false = (omega arith, omega arith)
 pub one_less : (g : Gather) (slip : Slip) → (unanswered g.places ≤ unanswered (gathered g slip).places + 1) × (unanswered (gathered g slip).places ≤ unanswered g.places)
 one_less g slip = gathered_by g slip (is_same_txn slip.txn g.txn)
 
-all_answered : (places : List (Option Outcome)) → AllByRecursion IsAnswered places → unanswered places ≡ 0
+all_answered : (places : List (Option Outcome)) → AllByRecursion HasOutcome places → unanswered places ≡ 0
 all_answered [] h = refl
 all_answered (None ∷ places) h = absurd h.0
 all_answered (Some o ∷ places) h = omega (arith, all_answered places h.1, sum_by-cons unanswered_one (Some o) places)
@@ -151,7 +151,7 @@ seal_within room k n lane next bs key its draft none holds slips count places le
     let all : open_places next ≡ n = ap unanswered places ∙ sum_replicate unanswered_one n None refl in
     record { below = omega arith; bound = omega arith; drafting = λ other e. let bad : None ≡ Some other = sym none ∙ e in absurd (let f : ⊥ = cc in f) }
 
-begin_within : (room k : ℕ) (lane next : Lane) (bs : List Box) → IsDone lane → next.holds ≡ lane.holds → next.slips ≡ lane.slips → next.collected ≡ lane.collected → next.gather ≡ lane.gather → IsWithin room k lane bs → IsWithin room k next bs
+begin_within : (room k : ℕ) (lane next : Lane) (bs : List Box) → IsLaneDone lane → next.holds ≡ lane.holds → next.slips ≡ lane.slips → next.collected ≡ lane.collected → next.gather ≡ lane.gather → IsWithin room k lane bs → IsWithin room k next bs
 begin_within room k lane next bs done holds slips count gather s =
     let same : pending k next bs ≡ pending k lane bs = rw (holds, slips, count) refl in
     let places : open_places next ≡ open_places lane = ap (λ (g : Gather). unanswered g.places) gather in
@@ -162,7 +162,7 @@ begin_within room k lane next bs done holds slips count gather s =
 
 pub within_step : (room : ℕ) (h : House) (e : Event) (new : House) → AllWithin room h → Step h e new → IsInOrder room h e → AllWithin room new
 within_step room h (Begin k) new s st o =
-    let done : IsDone st.lane = subst (λ p. IfSome p IsDone) st.is o in
+    let done : IsLaneDone st.lane = subst (λ p. IfSome p IsLaneDone) st.is o in
     lane_alone room h new k st.lane _ (ap (λ (x : House). x.boxes) st.after) (ap (λ (x : House). x.lanes) st.after) st.is (λ w. begin_within room k st.lane _ h.boxes done refl refl refl refl w) s
 within_step room h (Put k bytes) new s st o = no_lane room h new (ap (λ (x : House). x.lanes) st.after) (λ v. rw (st.after) (omega arith)) s
 within_step room h (Cancel k) new s st o =
@@ -194,13 +194,13 @@ within_step room h (HandBack k i b) new s st o =
     lane_alone room h new k st.lane _ (ap (λ (x : House). x.boxes) st.after) (ap (λ (x : House). x.lanes) st.after) st.is
     (λ w. within_kept room k st.lane _ h.boxes h.boxes (omega (arith, less.0)) (omega arith) (omega (arith, less.1)) (λ key e. e) w) s
 within_step room h (Collect k) new s st o =
-    let below = slice_get_within st.lane.slips st.lane.collected st.slip st.front in
+    let below = slice_get_within st.lane.slips st.lane.collected st.slip st.oldest in
     let less = one_less st.lane.gather st.slip in
     lane_alone room h new k st.lane _ (ap (λ (x : House). x.boxes) st.after) (ap (λ (x : House). x.lanes) st.after) st.is
     (λ w. within_kept room k st.lane _ h.boxes h.boxes (omega (arith, less.0)) (omega arith) (omega (arith, less.1)) (λ key e. e) w) s
 within_step room h (Take w) new s st o =
     let posts : on_way st.box ≡ st.post ∷ drop (st.box.taken + 1) st.box.accepted =
-    ap (λ hand. post_of hand ++ drop st.box.taken st.box.accepted) st.free_hand ∙ drop_get st.box.accepted st.box.taken st.post st.front ∙ ap (λ j. st.post ∷ drop j st.box.accepted) (sym (add-one st.box.taken)) in
+    ap (λ hand. post_of hand ++ drop st.box.taken st.box.accepted) st.free_hand ∙ drop_get st.box.accepted st.box.taken st.post st.oldest ∙ ap (λ j. st.post ∷ drop j st.box.accepted) (sym (add-one st.box.taken)) in
     box_alone room h new w st.box _ (ap (λ (x : House). x.boxes) st.after) (ap (λ (x : House). x.lanes) st.after) st.is (sym posts) s
 within_step room h (Write w bytes) new s st o =
     box_alone room h new w st.box _ (ap (λ (x : House). x.boxes) st.after) (ap (λ (x : House). x.lanes) st.after) st.is (ap (λ hand. post_of hand ++ drop st.box.taken st.box.accepted) (sym st.in_hand)) s

@@ -47,28 +47,28 @@ in_hand P each box = by box.hand refl
     ]
 
 -- a copy to take
-abbrev HasFront : Box → Type 0
-HasFront box = (box.taken < length box.accepted) × (box.hand ≡ None)
+abbrev HasPrefix : Box → Type 0
+HasPrefix box = (box.taken < length box.accepted) × (box.hand ≡ None)
 
-has_front : (box : Box) → Dec (HasFront box)
-has_front box = Dec.and (dec_lt box.taken (length box.accepted)) (free box.hand)
+has_prefix : (box : Box) → Dec (HasPrefix box)
+has_prefix box = Dec.and (dec_lt box.taken (length box.accepted)) (free box.hand)
   where
     free : (hand : Option Copy) → Dec (hand ≡ None)
     free None = yes refl
     free (Some copy) = no (λ e. cc)
 
-no_front : (h : House) → NoBox h HasFront → (event : Event) → MayHappen h event → rank event ≡ 3 → ⊥
-no_front h none (Take w) happens e =
+no_prefix : (h : House) → NoBox h HasPrefix → (event : Event) → MayHappen h event → rank event ≡ 3 → ⊥
+no_prefix h none (Take w) happens e =
     let st = happens.1 in
-    none w st.box st.is (slice_get_within st.box.accepted st.box.taken st.post st.front, st.free_hand)
-no_front h none event happens e = absurd (omega arith)
+    none w st.box st.is (slice_get_within st.box.accepted st.box.taken st.post st.oldest, st.free_hand)
+no_prefix h none event happens e = absurd (omega arith)
 
-front_ranks : (room : ℕ) (next : ℕ → ℕ) (h : House) (w : ℕ) (box : Box) → BoxIs h w box → HasFront box → HasRank room next h 3
+prefix_ranks : (room : ℕ) (next : ℕ → ℕ) (h : House) (w : ℕ) (box : Box) → BoxIs h w box → HasPrefix box → HasRank room next h 3
 unfolding take_moves
-front_ranks room next h w box at has = (goes_on (TheWorker w) room next h (take_moves room next h w box at has.0 has.1), refl)
+prefix_ranks room next h w box at has = (goes_on (TheWorker w) room next h (take_moves room next h w box at has.0 has.1), refl)
 
 pub takes_decided : (room : ℕ) (next : ℕ → ℕ) (h : House) → IsDecided room next h 3
-takes_decided room next h = by_boxes room next h 3 HasFront has_front (front_ranks room next h) (λ none m e. no_front h none m.event m.happens e)
+takes_decided room next h = by_boxes room next h 3 HasPrefix has_prefix (prefix_ranks room next h) (λ none m e. no_prefix h none m.event m.happens e)
 
 -- a copy of which more is to write, or none
 abbrev rest_of : House → Copy → List ℕ

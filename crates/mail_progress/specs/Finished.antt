@@ -9,7 +9,7 @@ use Rattle.mail_world.specs.House.{Box, SealedMessage, Lane, House, IsStart}
 use Rattle.mail_world.specs.Slips.{answers, txn_of}
 use Rattle.mail_world.specs.Events.{LaneIs, BoxIs}
 use Rattle.mail_world.specs.Runs.{Happened, Run, last_house, events_of}
-use Rattle.mail_progress.specs.Orderly.{IsAnswered, IsOrderly}
+use Rattle.mail_progress.specs.Orderly.{HasOutcome, IsOrderly}
 use Rattle.mail_progress.specs.GoingOn.{MayGoOn}
 use Rattle.mail_progress.specs.NothingStuck.{AreThere, AreClosed}
 
@@ -32,9 +32,9 @@ pub record IsFinished (blocks : ℕ) (events : List Event) (h : House) : Type 0 
   pub given_away : (k : ℕ) (lane : Lane) → LaneIs h k lane → map (λ t. t.offered) lane.messages ≡ copies_sealed k events
   pub answered : (k : ℕ) (lane : Lane) (i : ℕ) (t : SealedMessage) → LaneIs h k lane
       → slice_get lane.messages i ≡ Some t
-      → AllByRecursion IsAnswered (answers (txn_of k t.number) t.offered lane.heard)
+      → AllByRecursion HasOutcome (answers (txn_of k t.number) t.offered lane.heard)
   -- those of the last one are with the gatherer
-  pub gathered : (k : ℕ) (lane : Lane) → LaneIs h k lane → AllByRecursion IsAnswered lane.gather.places
+  pub gathered : (k : ℕ) (lane : Lane) → LaneIs h k lane → AllByRecursion HasOutcome lane.gather.places
   pub reclaimed : (i : ℕ) (slot : Slot) (bytes its : List ℕ) (weight : ℕ) → slice_get h.depot.slots i ≡ Some slot
       → slot.held ≡ Sealed bytes its weight → ⊥
   pub all_free : (x : ℕ) → occurrences x h.depot.free ≡ (if nat_lt x blocks then 1 else 0)

@@ -15,14 +15,14 @@ abbrev pub OfBox : House → ℕ → (Box → Type 0) → Type 0
 OfBox h b P = IfSome (slice_get h.boxes b) P
 
 -- the place has its outcome
-abbrev pub IsAnswered : Option Outcome → Type 0
-IsAnswered None = ⊥
-IsAnswered (Some outcome) = ⊤
+abbrev pub HasOutcome : Option Outcome → Type 0
+HasOutcome None = ⊥
+HasOutcome (Some outcome) = ⊤
 
 -- nothing is left of the lane's last message
-pub record IsDone (lane : Lane) : Type 0 where
+pub record IsLaneDone (lane : Lane) : Type 0 where
   pub given_away : lane.holds ≡ []
-  pub answered : AllByRecursion IsAnswered lane.gather.places
+  pub answered : AllByRecursion HasOutcome lane.gather.places
 
 -- how many slips the lane has to collect
 abbrev pub uncollected : Lane → ℕ
@@ -46,7 +46,7 @@ IsInOrder room h (Offer k note) = OfBox h note.mailbox (λ box. not_taken box < 
 IsInOrder room h (GiveSlip w outcome) =
     OfBox h w (λ box. IfSome box.hand (λ copy. OfLane h copy.post.note.txn.lane (λ lane. uncollected lane < room)))
 IsInOrder room h (Seal k n) = n ≤ room
-IsInOrder room h (Begin k) = OfLane h k IsDone
+IsInOrder room h (Begin k) = OfLane h k IsLaneDone
 IsInOrder room h (Collect k) = OfLane h k (λ lane. lane.holds ≡ [])
 IsInOrder room h _ = ⊤
 

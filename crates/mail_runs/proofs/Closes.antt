@@ -26,7 +26,7 @@ use Rattle.mail_runs.proofs.Stands.{Begins, BoxStands, LaneStands, IsIdle, IsGiv
 use Rattle.mail_runs.proofs.Next.{Next}
 
 -- a worker with nothing left to do has no copy in hand, and its spool is as it will be
-record IsDone (course : Course) (notes : List Note) (box : Box) : Type 0 where
+record IsWorkerDone (course : Course) (notes : List Note) (box : Box) : Type 0 where
   free_hand : box.hand ≡ None
   none : notes ≡ []
   ends : in_the_end course ≡ spooled box
@@ -38,13 +38,13 @@ no_turns s b (n ∷ ns) [] old new e takes = absurd takes
 no_turns s b (n ∷ ns) (o ∷ os) old new e takes = cc
 
 done_by : (s : Server) (b : ℕ) (course : Course) (notes : List Note) (outcomes : List Outcome) (box : Box) (hand : Option Copy) → box.hand ≡ hand → Begins b [] (turns_of b notes outcomes) hand
-    → TakesAll s notes outcomes (spooled box) (in_the_end course) → IsDone course notes box
+    → TakesAll s notes outcomes (spooled box) (in_the_end course) → IsWorkerDone course notes box
 done_by s b course notes outcomes box None is program takes =
     let d = no_turns s b notes outcomes (spooled box) (in_the_end course) program takes in
     record { free_hand = is; none = d.0; ends = d.1 }
 done_by s b course notes outcomes box (Some copy) is program takes = let wrong = program.1 in cc
 
-box_done : (s : Server) (capacity b : ℕ) (course : Course) (box : Box) (stands : BoxStands s capacity b course [] box) → IsDone course stands.work.notes box
+box_done : (s : Server) (capacity b : ℕ) (course : Course) (box : Box) (stands : BoxStands s capacity b course [] box) → IsWorkerDone course stands.work.notes box
 box_done s capacity b course box stands = done_by s b course stands.work.notes stands.work.outcomes box box.hand refl stands.work.program stands.work.takes
 
 none_left : {A : Type 0} (n : ℕ) (xs : List A) → n ≤ length xs → drop n xs ≡ [] → n ≡ length xs

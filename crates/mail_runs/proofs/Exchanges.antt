@@ -13,13 +13,13 @@ use Rattle.mail_world.specs.Lists.{Transaction, copies, copies_from}
 use Rattle.mail_world.proofs.Answered.{gathered-answers, answers-none}
 use Rattle.mail_world.proofs.Heard.{all_set}
 use Rattle.mail_world.proofs.LastSeal.{keeps_gathered}
-use Rattle.mail_progress.specs.Orderly.{IsAnswered}
+use Rattle.mail_progress.specs.Orderly.{HasOutcome}
 use Rattle.mail_runs.specs.Deeds.{Deed, Gave, Heard}
 use Rattle.mail_runs.specs.Ordered.{AreExchanges}
 use Rattle.mail_runs.proofs.Parts.{same_rest}
 
 abbrev pub AreAnswered : List (Option Outcome) → Type 0
-AreAnswered places = AllByRecursion IsAnswered places
+AreAnswered places = AllByRecursion HasOutcome places
 
 -- a gatherer that was given all of these slips
 abbrev pub all_gathered : Gather → List Slip → Gather
@@ -47,7 +47,7 @@ go_on room k (t ∷ ts) deeds h = inl h
 answered_at : (places : List (Option Outcome)) (place : ℕ) (o : Outcome) (at : Option (Option Outcome)) → AreAnswered places
     → AreAnswered (place_outcome places place o at)
 answered_at places place o None h = h
-answered_at places place o (Some None) h = all_set IsAnswered places place (Some o) h tt
+answered_at places place o (Some None) h = all_set HasOutcome places place (Some o) h tt
 answered_at places place o (Some (Some x)) h = h
 
 answered_by : (g : Gather) (slip : Slip) (t : Bool) → AreAnswered g.places

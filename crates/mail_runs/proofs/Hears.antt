@@ -45,15 +45,15 @@ hears {m} s t slip rest h stands story =
     let one : length (heard_by k (Heard slip ∷ [])) ≡ 1 = ap length (heard []) in
     let waits : length (heard_by k (Heard slip ∷ [])) ≤ (length lane.slips - lane.collected) + 0 = stood.fed (Heard slip ∷ []) rest refl in
     let low_one : lane.collected < length lane.slips = omega arith in
-    let front = there_is lane.slips lane.collected low_one in
-    let queue : front.0 ∷ (drop (suc lane.collected) lane.slips ++ told_to k rest) ≡ slip ∷ heard_by k rest =
-    ap (λ xs. xs ++ told_to k rest) (sym (drop_get lane.slips lane.collected front.0 front.1)) ∙ stood.queue ∙ heard rest in
-    let same : front.0 ≡ slip = same_first _ _ _ _ queue in
+    let oldest = there_is lane.slips lane.collected low_one in
+    let queue : oldest.0 ∷ (drop (suc lane.collected) lane.slips ++ told_to k rest) ≡ slip ∷ heard_by k rest =
+    ap (λ xs. xs ++ told_to k rest) (sym (drop_get lane.slips lane.collected oldest.0 oldest.1)) ∙ stood.queue ∙ heard rest in
+    let same : oldest.0 ≡ slip = same_first _ _ _ _ queue in
     let its : done_by k (Heard slip ∷ rest) ≡ Heard slip ∷ done_by k rest = passes (is_of_lane k) (Heard slip) rest (same_number k k refl) in
     let one_more : lane.collected + 1 ≡ suc lane.collected = omega arith in
     let now : Lane = record (with_heard lane slip) { collected = lane.collected + 1 } in
     let new : House = with_lane h k now in
-    let step : CollectStep h k new = record { lane = lane; slip = slip; is = l.1; front = front.1 ∙ ap (λ x. Some x) same; after = refl } in
+    let step : CollectStep h k new = record { lane = lane; slip = slip; is = l.1; oldest = oldest.1 ∙ ap (λ x. Some x) same; after = refl } in
     let stands_now : LaneStands m k (t.heard k) rest now = record {
       no_draft = stood.no_draft;
       within = omega arith;

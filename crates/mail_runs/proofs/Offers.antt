@@ -83,7 +83,7 @@ offer_last {m} s t note rest r last =
     let b = box_there h s.boxes note.mailbox r.as_many.0 low in
     let stood = r.boxes note.mailbox b.0 b.1 in
     let room : length b.0.accepted - b.0.taken + 0 < h.capacity + 0 = stood.flows.finds_room [] rest note refl refl in
-    let front : b.0.taken ≤ length b.0.accepted = stood.prefix in
+    let prefix : b.0.taken ≤ length b.0.accepted = stood.prefix in
     let hold : r.lane.holds ≡ one_hold g.key 1 ∷ [] = g.hold ∙ ap (λ bs. one_hold g.key (length bs + 1) ∷ []) last in
     let sealed : slice_get r.lane.messages g.at ≡ Some (sealed_up_to g.key note.txn.number note.message note.place) =
     rw (c.number, c.message, c.place) g.message in
@@ -125,7 +125,7 @@ offer_more {m} s t note rest r box boxes more =
     let b = box_there h s.boxes note.mailbox r.as_many.0 low in
     let stood = r.boxes note.mailbox b.0 b.1 in
     let room : length b.0.accepted - b.0.taken + 0 < h.capacity + 0 = stood.flows.finds_room [] rest note refl refl in
-    let front : b.0.taken ≤ length b.0.accepted = stood.prefix in
+    let prefix : b.0.taken ≤ length b.0.accepted = stood.prefix in
     let hold : r.lane.holds ≡ one_hold g.key (n + 1) ∷ [] = g.hold ∙ ap (λ bs. one_hold g.key (length bs + 1) ∷ []) more in
     let sealed : slice_get r.lane.messages g.at ≡ Some (sealed_up_to g.key note.txn.number note.message note.place) =
     rw (c.number, c.message, c.place) g.message in

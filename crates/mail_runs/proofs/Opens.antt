@@ -14,7 +14,7 @@ use Rattle.mail_world.specs.Events.{LaneIs, BoxIs, BeginStep, PutStep, SealStep,
 use Rattle.mail_world.proofs.Depots.{set_at, times-append}
 use Rattle.mail_world.proofs.Holds.{sum_set}
 use Rattle.mail_world.proofs.LastSeal.{length_set}
-use Rattle.mail_progress.specs.Orderly.{OfLane, IsDone}
+use Rattle.mail_progress.specs.Orderly.{OfLane, IsLaneDone}
 use Rattle.mail_runs.specs.Deeds.{Deed, Gave, given_in, given_by}
 use Rattle.mail_runs.specs.Courses.{Server}
 use Rattle.mail_runs.specs.Histories.{Threads, IsWithin}
@@ -181,8 +181,8 @@ lane_opened {m} k note rest lane key o own none = record {
 }
 
 -- in order nothing is left of the last message where the next one begins
-lane_done : (h : House) (k : ℕ) (lane : Lane) → LaneIs h k lane → lane.holds ≡ [] → AreAnswered lane.gather.places → OfLane h k IsDone
-lane_done h k lane is none answered = subst (λ (o : Option Lane). IfSome o IsDone) (sym is) (record { given_away = none; answered = answered })
+lane_done : (h : House) (k : ℕ) (lane : Lane) → LaneIs h k lane → lane.holds ≡ [] → AreAnswered lane.gather.places → OfLane h k IsLaneDone
+lane_done h k lane is none answered = subst (λ (o : Option Lane). IfSome o IsLaneDone) (sym is) (record { given_away = none; answered = answered })
 
 -- the other lanes stand, and so does the one that has sealed its message
 opened : {m : Manner} (s : Server) (t : Threads) (note : Note) (rest : List Deed) (h : House) → Stands m s t (Gave note ∷ rest) h → Story m h → (lane : Lane)

@@ -17,7 +17,7 @@ use Rattle.mail_world.specs.Targets.{local_name, is_here, box_or, box_named, use
 use Rattle.mail_world.specs.Session.{Session, fresh, Input, Line, LongLine, DataEnded, Outcomes, Stop, Transition, add_recipient, on_mail, on_rcpt, on_data, on_rset, on_command, on_verdict, step}
 use Rattle.mail_world.specs.Conversation.{Part, CommandLine, MailData, inputs_of, session_after, parts, Conversation}
 use Rattle.mail_world.specs.Lists.{Transaction, accepted_after, transactions_of, transactions, copies, copies_if, copies_from}
-use Rattle.mail_world.proofs.Owed.{accepted_behind}
+use Rattle.mail_world.proofs.Owed.{accepted_after_part}
 use Rattle.mail_runs.proofs.ByTime.{all_both}
 
 module _ (site : Site) (some : 0 < length site.boxes) where
@@ -143,7 +143,7 @@ module _ (site : Site) (some : 0 < length site.boxes) where
   conversation_known n s [] h = tt
   conversation_known n s (CommandLine text ∷ ps) h =
       let p : Part = CommandLine text in
-      conversation_known (accepted_behind site n s p) (session_after site s (inputs_of p)) ps (after_inputs s (inputs_of p) h)
+      conversation_known (accepted_after_part site n s p) (session_after site s (inputs_of p)) ps (after_inputs s (inputs_of p) h)
   conversation_known n s (MailData text d ∷ ps) h =
       let p : Part = MailData text d in
       (h, conversation_known n (session_after site s (inputs_of p)) ps (after_inputs s (inputs_of p) h))

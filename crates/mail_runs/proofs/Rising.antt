@@ -12,7 +12,7 @@ use Rattle.mail_world.specs.Site.{Site}
 use Rattle.mail_world.specs.Session.{Session, fresh}
 use Rattle.mail_world.specs.Conversation.{Disposition, Part, CommandLine, MailData, Cut, cut, cut_then, inputs_of, session_after, parts_within, parts, Conversation}
 use Rattle.mail_world.specs.Lists.{Transaction, is_content, accepted_after, transactions_of, transactions, copies, copies_if, copies_from}
-use Rattle.mail_world.proofs.Owed.{accepted_behind, same_behind_data}
+use Rattle.mail_world.proofs.Owed.{accepted_after_part, same_after_data}
 use Rattle.mail_runs.specs.Histories.{RiseAbove}
 
 -- the numbers of transactions rise from that one on
@@ -60,14 +60,14 @@ next_low n true = omega arith
 next_low n false = omega arith
 
 -- after a command line the next number is one more than those accepted before it
-behind_line : (n : ℕ) (b : Bool) (ts : List Transaction)
+after_one_line : (n : ℕ) (b : Bool) (ts : List Transaction)
     → NumbersRise (cond b (cond b (n + 1) n) (cond b (n + 1) n + 1)) ts → NumbersRise (n + 1) ts
-behind_line n true ts h = h
-behind_line n false ts h = h
+after_one_line n true ts h = h
+after_one_line n false ts h = h
 
-behind_mail : (n : ℕ) (b : Bool) (ts : List Transaction) → cond b (n + 1) n ≡ n → NumbersRise (cond b n (n + 1)) ts → NumbersRise (n + 1) ts
-behind_mail n true ts e h = let wrong : n + 1 ≡ n = e in absurd (omega arith)
-behind_mail n false ts e h = h
+after_one_mail : (n : ℕ) (b : Bool) (ts : List Transaction) → cond b (n + 1) n ≡ n → NumbersRise (cond b n (n + 1)) ts → NumbersRise (n + 1) ts
+after_one_mail n true ts e h = let wrong : n + 1 ≡ n = e in absurd (omega arith)
+after_one_mail n false ts e h = h
 
 part_rises : (site : Site) (n : ℕ) (session : Session) (p : Part) (ps : List Part) → FitsState session.state p
     → ((m : ℕ) → NumbersRise (next_number m (session_after site session (inputs_of p)).state)
@@ -77,11 +77,11 @@ part_rises site n session (CommandLine text) ps fits more =
     let next : Session = session_after site session (inputs_of (CommandLine text)) in
     let m : ℕ = cond (is_content next.state) (n + 1) n in
     numbers_rise_from (next_number n session.state) (n + 1) (transactions_of site m next ps) (next_low n (is_content session.state))
-    (behind_line n (is_content next.state) (transactions_of site m next ps) (more m))
+    (after_one_line n (is_content next.state) (transactions_of site m next ps) (more m))
 part_rises site n session (MailData text d) ps fits more =
     let next : Session = session_after site session (inputs_of (MailData text d)) in
     let low : next_number n session.state ≤ n = rw fits (omega arith) in
-    (low, behind_mail n (is_content next.state) (transactions_of site n next ps) (same_behind_data site n session text d) (more n))
+    (low, after_one_mail n (is_content next.state) (transactions_of site n next ps) (same_after_data site n session text d) (more n))
 
 rises_then : (site : Site) (n : ℕ) (session : Session) (o : Option Cut) (more : Cut → List Part)
     → ((c : Cut) → o ≡ Some c → FitsState session.state c.part)
@@ -109,7 +109,7 @@ accepted_grows site n session [] = omega arith
 accepted_grows site n session (p ∷ ps) =
     let next : Session = session_after site session (inputs_of p) in
     let last : ℕ = accepted_after site n session (p ∷ ps) in
-    grows_by (is_content next.state) n last (accepted_grows site (accepted_behind site n session p) next ps)
+    grows_by (is_content next.state) n last (accepted_grows site (accepted_after_part site n session p) next ps)
 
 -- and no number is above it
 numbers_most : (site : Site) (n : ℕ) (session : Session) (ps : List Part)
@@ -117,14 +117,14 @@ numbers_most : (site : Site) (n : ℕ) (session : Session) (ps : List Part)
 numbers_most site n session [] = tt
 numbers_most site n session (CommandLine text ∷ ps) =
     let p : Part = CommandLine text in
-    numbers_most site (accepted_behind site n session p) (session_after site session (inputs_of p)) ps
+    numbers_most site (accepted_after_part site n session p) (session_after site session (inputs_of p)) ps
 numbers_most site n session (MailData text d ∷ ps) =
     let p : Part = MailData text d in
     let next : Session = session_after site session (inputs_of p) in
     let last : ℕ = accepted_after site n session (p ∷ ps) in
     let T : ℕ → Type 0 = λ k. AllByRecursion (λ t. t.number ≤ last) (transactions_of site k next ps) in (
       accepted_grows site n session (p ∷ ps),
-      subst T (same_behind_data site n session text d) (numbers_most site (accepted_behind site n session p) next ps),
+      subst T (same_after_data site n session text d) (numbers_most site (accepted_after_part site n session p) next ps),
     )
 
 numbers_then : (n last : ℕ) (ts us : List Transaction) → n ≤ last + 1 → NumbersRise n ts

@@ -83,7 +83,7 @@ turn_next s capacity course note rest box stands =
     (subst (λ l. Begins b l (turns_of b w.notes w.outcomes) box.hand) its w.program) w.queue w.takes
 
 -- the copy that the worker takes, and those that wait after it
-record IsFront (note : Note) (given notes : List Note) (box : Box) : Type 0 where
+record IsOldest (note : Note) (given notes : List Note) (box : Box) : Type 0 where
   post : Post
   at : slice_get box.accepted box.taken ≡ Some post
   is : post.note ≡ note
@@ -96,9 +96,9 @@ one_waits note w rest fed =
     let one : length (taken_by b (Took note ∷ [])) ≡ 1 = ap length (passes (λ (n : Note). n.mailbox == b) note [] (same_number b b refl)) in
     omega arith
 
-front_of : (note : Note) (given notes : List Note) (box : Box) → box.taken < length box.accepted
-    → notes_of (drop box.taken box.accepted) ++ given ≡ note ∷ notes → IsFront note given notes box
-front_of note given notes box low queue =
+oldest_of : (note : Note) (given notes : List Note) (box : Box) → box.taken < length box.accepted
+    → notes_of (drop box.taken box.accepted) ++ given ≡ note ∷ notes → IsOldest note given notes box
+oldest_of note given notes box low queue =
     let there = there_is box.accepted box.taken low in
     let e : there.0.note ∷ (notes_of (drop (suc box.taken) box.accepted) ++ given) ≡ note ∷ notes =
     sym (ap (λ ps. notes_of ps ++ given) (drop_get box.accepted box.taken there.0 there.1)) ∙ queue in
@@ -121,10 +121,10 @@ handed box settled spool copy = record {
 box_after : (s : Server) (capacity : ℕ) (course : Course) (note : Note) (rest : List Deed) (box : Box)
     → BoxStands s capacity note.mailbox course (Took note ∷ rest) box
     → (turn : TurnOf s course note rest box)
-    → IsFront note (given_to note.mailbox rest) turn.notes box
+    → IsOldest note (given_to note.mailbox rest) turn.notes box
     → (settled : ℕ) (spool : Spooled) (copy : Copy) → copy.released ≡ true → copy.post.note ≡ note → outcome_of copy ≡ turn.outcome → spool ≡ turn.between
     → BoxStands s capacity note.mailbox course rest (handed box settled spool copy)
-box_after s capacity course note rest box stands turn front settled spool copy let_go is says after =
+box_after s capacity course note rest box stands turn oldest settled spool copy let_go is says after =
     let b : ℕ = note.mailbox in
     let some : 1 ≤ length box.accepted - box.taken = one_waits note (length box.accepted - box.taken) rest stands.flows.taken_later in
     let one : length (taken_by b (Took note ∷ [])) ≡ 1 = ap length (passes (λ (n : Note). n.mailbox == b) note [] (same_number b b refl)) in
@@ -142,7 +142,7 @@ box_after s capacity course note rest box stands turn front settled spool copy l
           turn.program ∙ ap (λ n. Told (slip_of b n turn.outcome) ∷ turns_of b turn.notes turn.outcomes) (sym is)
               ∙ ap (λ o. Told (slip_of b copy.post.note o) ∷ turns_of b turn.notes turn.outcomes) (sym says),
         );
-        queue = front.queue;
+        queue = oldest.queue;
         takes = subst (λ x. TakesAll s turn.notes turn.outcomes x (in_the_end course)) (sym after) turn.takes;
       };
     }
@@ -169,7 +169,7 @@ take_story : {m : Manner} (h : House) (b : ℕ) (box : Box) (post : Post) (over 
     → Story m (with_box h b (handed box (if over then box.settled + 1 else box.settled) (spooled box) (just_taken post over)))
 take_story h b box post over is free_hand at e story =
     let after = ap (λ o. with_box h b (with_taken box post o)) (sym e) in
-    goes_on h _ (Take b) story (record { box = box; post = post; is = is; free_hand = free_hand; front = at; after = after }) (λ o. tt)
+    goes_on h _ (Take b) story (record { box = box; post = post; is = is; free_hand = free_hand; oldest = at; after = after }) (λ o. tt)
 
 abbrev more_in : Spooled → List ℕ → Spooled
 more_in spool bytes = record { bytes = spool.bytes ++ bytes; faulty = spool.faulty }
@@ -367,15 +367,15 @@ after_stands s t note rest h changed depot key stands releases its = record {
 takes_turn : {m : Manner} (s : Server) (t : Threads) (note : Note) (rest : List Deed) (h : House) (box : Box)
     (here : BoxStands s h.capacity note.mailbox (t.courses note.mailbox) (Took note ∷ rest) box)
     → (turn : TurnOf s (t.courses note.mailbox) note rest box)
-    → IsFront note (given_to note.mailbox rest) turn.notes box → BoxIs h note.mailbox box → IsWritten m h note.mailbox box note turn.outcome turn.between
+    → IsOldest note (given_to note.mailbox rest) turn.notes box → BoxIs h note.mailbox box → IsWritten m h note.mailbox box note turn.outcome turn.between
     → Stands m s t (Took note ∷ rest) h → Next m s t rest
-takes_turn s t note rest h box here turn front is w stands =
+takes_turn s t note rest h box here turn oldest is w stands =
     let gone = release_story h note.mailbox box box w.settled w.spool w.copy is w.held w.story in
     let course : Course = t.courses note.mailbox in
     let spool : Spooled = spool_after w.spool w.copy in
     let copy : Copy = let_go_of w.copy in
     let changed : Box = handed box w.settled spool copy in
-    let its = box_after s h.capacity course note rest box here turn front w.settled spool copy refl w.is w.says w.after in
+    let its = box_after s h.capacity course note rest box here turn oldest w.settled spool copy refl w.is w.says w.after in
     record {
       house = with_box (with_depot h gone.depot) note.mailbox changed;
       story = gone.story;
@@ -389,7 +389,7 @@ takes s t note rest h stands story =
     let here = stands.boxes note.mailbox there.0 there.1 in
     let turn = turn_next s h.capacity (t.courses note.mailbox) note rest there.0 here in
     let some : 1 ≤ length there.0.accepted - there.0.taken = one_waits note (length there.0.accepted - there.0.taken) rest here.flows.taken_later in
-    let front = front_of note (given_to note.mailbox rest) turn.notes there.0 (omega arith) turn.queue in
+    let oldest = oldest_of note (given_to note.mailbox rest) turn.notes there.0 (omega arith) turn.queue in
     let b : ℕ = note.mailbox in
-    let w = written s h b there.0 note front.post turn.outcome turn.between stands.setting there.1 turn.free_hand front.at front.is turn.takes_one story in
-    takes_turn s t note rest h there.0 here turn front there.1 w stands
+    let w = written s h b there.0 note oldest.post turn.outcome turn.between stands.setting there.1 turn.free_hand oldest.at oldest.is turn.takes_one story in
+    takes_turn s t note rest h there.0 here turn oldest there.1 w stands

@@ -6,7 +6,7 @@ use Rattle.mail_world.specs.declared.Note.{Note}
 use Rattle.mail_world.specs.declared.Slip.{Slip}
 use Rattle.mail_world.specs.Slips.{answers, txn_of}
 use Rattle.mail_world.specs.Lists.{Transaction, copies}
-use Rattle.mail_progress.specs.Orderly.{IsAnswered, IsOrderly}
+use Rattle.mail_progress.specs.Orderly.{HasOutcome, IsOrderly}
 use Rattle.mail_runs.specs.Deeds.{Deed, Gave, Heard, given_to, taken_by}
 use Rattle.mail_runs.specs.Courses.{Server}
 use Rattle.mail_runs.specs.Histories.{Threads, IsHistory}
@@ -25,7 +25,7 @@ AreExchanges room k [] deeds = deeds ≡ []
 AreExchanges room k (t ∷ ts) deeds = (slips : List Slip) × (rest : List Deed)
     × (deeds ≡ map Gave (copies k t) ++ map Heard slips ++ rest)
     × (length (copies k t) ≤ room)
-    × AllByRecursion IsAnswered (answers (txn_of k t.number) (length (copies k t)) slips)
+    × AllByRecursion HasOutcome (answers (txn_of k t.number) (length (copies k t)) slips)
     × AreExchanges room k ts rest
 
 -- as a copy was given, fewer waited in the mailbox's channel than the capacity, where that many waited at first

@@ -12,9 +12,9 @@ use Rattle.mail_world.specs.Conversation.{Disposition, Part, CommandLine, MailDa
 use Rattle.mail_world.specs.Dispositions.{disposition_of, dispositions_of}
 use Rattle.mail_world.specs.Lists.{transactions_of}
 use Rattle.mail_world.proofs.Handled.{counted}
-use Rattle.mail_world.proofs.Owed.{accepted_behind}
+use Rattle.mail_world.proofs.Owed.{accepted_after_part}
 
-record TakesFront (taken ds : List Disposition) : Type 0 where
+record TakesPrefix (taken ds : List Disposition) : Type 0 where
   rest : List Disposition
   whole : ds ≡ taken ++ rest
 
@@ -41,28 +41,28 @@ takes_by Content s (d ∷ ds) c e = cut_one (d ∷ ds) ds (λ n. MailData (take 
 takes_by Waiting s ds c e = cc
 takes_by Ended s ds c e = cc
 
-front_then : (o : Option Cut) (more : Cut → List Part) (ds : List Disposition) → ((c : Cut) → o ≡ Some c → ds ≡ disposition_of c.part ++ c.dispositions)
-    → ((c : Cut) → TakesFront (dispositions_of (more c)) c.dispositions) → TakesFront (dispositions_of (cut_then o more)) ds
-front_then None more ds f g = record { rest = ds; whole = refl }
-front_then (Some c) more ds f g =
+prefix_then : (o : Option Cut) (more : Cut → List Part) (ds : List Disposition) → ((c : Cut) → o ≡ Some c → ds ≡ disposition_of c.part ++ c.dispositions)
+    → ((c : Cut) → TakesPrefix (dispositions_of (more c)) c.dispositions) → TakesPrefix (dispositions_of (cut_then o more)) ds
+prefix_then None more ds f g = record { rest = ds; whole = refl }
+prefix_then (Some c) more ds f g =
     let left = g c in
     record {
       rest = left.rest;
       whole = f c refl ∙ ap (λ l. disposition_of c.part ++ l) left.whole ∙ sym (append_assoc (disposition_of c.part) (dispositions_of (more c)) left.rest);
     }
 
-front_of : (k : ℕ) (site : Site) (session : Session) (s : List ℕ) (ds : List Disposition) → TakesFront (dispositions_of (parts_within k site session s ds)) ds
-front_of zero site session s ds = record { rest = ds; whole = refl }
-front_of (suc k) site session s ds =
-    front_then (cut session.state s ds) (λ c. parts_within k site (session_after site session (inputs_of c.part)) (drop c.size s) c.dispositions) ds
+prefix_of : (k : ℕ) (site : Site) (session : Session) (s : List ℕ) (ds : List Disposition) → TakesPrefix (dispositions_of (parts_within k site session s ds)) ds
+prefix_of zero site session s ds = record { rest = ds; whole = refl }
+prefix_of (suc k) site session s ds =
+    prefix_then (cut session.state s ds) (λ c. parts_within k site (session_after site session (inputs_of c.part)) (drop c.size s) c.dispositions) ds
     (takes_by session.state s ds)
-    (λ c. front_of k site (session_after site session (inputs_of c.part)) (drop c.size s) c.dispositions)
+    (λ c. prefix_of k site (session_after site session (inputs_of c.part)) (drop c.size s) c.dispositions)
 
 nothing : (rest : List Disposition) → length rest ≡ 0 → rest ≡ []
 nothing [] e = refl
 nothing (d ∷ rest) e = absurd (omega (arith, e))
 
-all_taken : (taken ds : List Disposition) → TakesFront taken ds → length taken ≡ length ds → taken ≡ ds
+all_taken : (taken ds : List Disposition) → TakesPrefix taken ds → length taken ≡ length ds → taken ≡ ds
 all_taken taken ds h e =
     let none : h.rest ≡ [] = nothing h.rest (omega (arith, e, ap length h.whole, length-append taken h.rest)) in
     sym (h.whole ∙ ap (λ l. taken ++ l) none ∙ append-nil taken)
@@ -71,12 +71,12 @@ all_taken taken ds h e =
 dispositions_are : (site : Site) (c : Conversation) → IsAccount site c → dispositions_of (parts site fresh c.bytes c.dispositions) ≡ c.dispositions
 unfolding parts
 dispositions_are site c h =
-    all_taken _ c.dispositions (front_of (length c.bytes) site fresh c.bytes c.dispositions) (sym (counted (parts_within (length c.bytes) site fresh c.bytes c.dispositions)) ∙ h.none_left)
+    all_taken _ c.dispositions (prefix_of (length c.bytes) site fresh c.bytes c.dispositions) (sym (counted (parts_within (length c.bytes) site fresh c.bytes c.dispositions)) ∙ h.none_left)
 
 told_of_parts : (site : Site) (n : ℕ) (session : Session) (ps : List Part) → map (λ t. t.disposition) (transactions_of site n session ps) ≡ dispositions_of ps
 told_of_parts site n session [] = refl
 told_of_parts site n session (CommandLine text ∷ ps) =
-    told_of_parts site (accepted_behind site n session (CommandLine text)) (session_after site session (inputs_of (CommandLine text))) ps
+    told_of_parts site (accepted_after_part site n session (CommandLine text)) (session_after site session (inputs_of (CommandLine text))) ps
 told_of_parts site n session (MailData text d ∷ ps) =
     ap (λ l. d ∷ l) (told_of_parts site n (session_after site session (inputs_of (MailData text d))) ps)
 

@@ -11,7 +11,7 @@ use Rattle.mail_world.specs.Text.{crlf, place_of}
 use Rattle.mail_world.specs.Data.{data_end, end_of_data}
 use Rattle.mail_world.specs.Site.{Site}
 use Rattle.mail_world.specs.Session.{Session, fresh, Input, step}
-use Rattle.mail_world.specs.Conversation.{Disposition, Part, CommandLine, MailData, cut_line, cut, cut_then, inputs_of, session_after, replies_to, parts, session_behind, size_of, is_data, OutcomesFit, AllFit, NoDataEnded, Conversation, stop_at, inputs, IsAccount}
+use Rattle.mail_world.specs.Conversation.{Disposition, Part, CommandLine, MailData, cut_line, cut, cut_then, inputs_of, session_after, replies_to, parts, session_after_parts, size_of, is_data, OutcomesFit, AllFit, NoDataEnded, Conversation, stop_at, inputs, IsAccount}
 use Rattle.mail_world.specs.Dispositions.{disposition_of, dispositions_of}
 use Rattle.mail_world.proofs.Places.{place_of_stands}
 use Rattle.mail_world.proofs.Cuts.{parts-cut}
@@ -40,14 +40,14 @@ replies_to-append site session (x ∷ xs) ys =
 pub inputs-snoc : (ps : List Part) (p : Part) → flat_map inputs_of (ps ++ p ∷ []) ≡ flat_map inputs_of ps ++ inputs_of p
 inputs-snoc ps p = flat_map-append inputs_of ps (p ∷ []) ∙ ap (λ xs. flat_map inputs_of ps ++ xs) (append-nil (inputs_of p))
 
-pub session_behind-snoc : (site : Site) (session : Session) (ps : List Part) (p : Part)
-    → session_behind site session (ps ++ p ∷ []) ≡ session_after site (session_behind site session ps) (inputs_of p)
-session_behind-snoc site session ps p =
+pub session_after_parts-snoc : (site : Site) (session : Session) (ps : List Part) (p : Part)
+    → session_after_parts site session (ps ++ p ∷ []) ≡ session_after site (session_after_parts site session ps) (inputs_of p)
+session_after_parts-snoc site session ps p =
     ap (λ xs. session_after site session xs) (inputs-snoc ps p) ∙ session_after-append site session (flat_map inputs_of ps) (inputs_of p)
 
-session_behind-cons : (site : Site) (session : Session) (p : Part) (ps : List Part)
-    → session_behind site session (p ∷ ps) ≡ session_behind site (session_after site session (inputs_of p)) ps
-session_behind-cons site session p ps = session_after-append site session (inputs_of p) (flat_map inputs_of ps)
+session_after_parts-cons : (site : Site) (session : Session) (p : Part) (ps : List Part)
+    → session_after_parts site session (p ∷ ps) ≡ session_after_parts site (session_after site session (inputs_of p)) ps
+session_after_parts-cons site session p ps = session_after-append site session (inputs_of p) (flat_map inputs_of ps)
 
 -- the outcomes that a part brings are as many as the recipients
 abbrev pub PartFits : Session → Part → Type 0
@@ -58,12 +58,12 @@ one_fits : (site : Site) (session : Session) (p : Part) → PartFits session p �
 one_fits site session (CommandLine text) h = tt
 one_fits site session (MailData text d) h = (h, tt)
 
-AllFit-append : (site : Site) (session : Session) (ps qs : List Part) → AllFit site session ps → AllFit site (session_behind site session ps) qs → AllFit site session (ps ++ qs)
+AllFit-append : (site : Site) (session : Session) (ps qs : List Part) → AllFit site session ps → AllFit site (session_after_parts site session ps) qs → AllFit site session (ps ++ qs)
 AllFit-append site session [] qs f g = g
 AllFit-append site session (CommandLine text ∷ ps) qs f g =
-    AllFit-append site (session_after site session (inputs_of (CommandLine text))) ps qs f (rw (session_behind-cons site session (CommandLine text) ps) at g)
+    AllFit-append site (session_after site session (inputs_of (CommandLine text))) ps qs f (rw (session_after_parts-cons site session (CommandLine text) ps) at g)
 AllFit-append site session (MailData text d ∷ ps) qs f g =
-    (f.0, AllFit-append site (session_after site session (inputs_of (MailData text d))) ps qs f.1 (rw (session_behind-cons site session (MailData text d) ps) at g))
+    (f.0, AllFit-append site (session_after site session (inputs_of (MailData text d))) ps qs f.1 (rw (session_after_parts-cons site session (MailData text d) ps) at g))
 
 dispositions-snoc : (ps : List Part) (p : Part) (ds : List Disposition) → dispositions_of (ps ++ p ∷ []) ++ ds ≡ dispositions_of ps ++ (disposition_of p ++ ds)
 dispositions-snoc ps p ds =
@@ -79,7 +79,7 @@ counted ps = sym (is_count_by (λ l. length (dispositions_of l)) is_data refl on
 
 -- the parts are those at the beginning of the text, they take that many bytes, and what goes on from them is read in the session after them
 pub record Handled (site : Site) (s : List ℕ) (at : ℕ) (ps : List Part) : Type 0 where
-  pub goes : (ds : List Disposition) → parts site fresh s (dispositions_of ps ++ ds) ≡ ps ++ parts site (session_behind site fresh ps) (drop at s) ds
+  pub goes : (ds : List Disposition) → parts site fresh s (dispositions_of ps ++ ds) ≡ ps ++ parts site (session_after_parts site fresh ps) (drop at s) ds
   pub size : sum_by size_of ps ≡ at
   pub within : at ≤ length s
   pub fit : AllFit site fresh ps
@@ -89,21 +89,21 @@ handled_none site s = record { goes = λ ds. refl; size = refl; within = omega a
 
 -- one more part
 handled_one : (site : Site) (s : List ℕ) (at : ℕ) (ps : List Part) (p : Part) (n : ℕ) → Handled site s at ps
-    → ((ds : List Disposition) → cut (session_behind site fresh ps).state (drop at s) (disposition_of p ++ ds) ≡ Some (record { part = p; size = n; dispositions = ds }))
-    → size_of p ≡ n → at + n ≤ length s → PartFits (session_behind site fresh ps) p
+    → ((ds : List Disposition) → cut (session_after_parts site fresh ps).state (drop at s) (disposition_of p ++ ds) ≡ Some (record { part = p; size = n; dispositions = ds }))
+    → size_of p ≡ n → at + n ≤ length s → PartFits (session_after_parts site fresh ps) p
     → Handled site s (at + n) (ps ++ p ∷ [])
 handled_one site s at ps p n h is size within fit = record {
   goes = λ ds.
-      let session = session_behind site fresh ps in
+      let session = session_after_parts site fresh ps in
       ap (λ l. parts site fresh s l) (dispositions-snoc ps p ds)
       ∙ h.goes (disposition_of p ++ ds)
       ∙ ap (λ l. ps ++ l) (parts-cut site session (drop at s) (disposition_of p ++ ds) ∙ ap (λ o. cut_then o (λ c. parts site (session_after site session (inputs_of c.part)) (drop c.size (drop at s)) c.dispositions)) (is ds))
       ∙ ap (λ l. ps ++ p ∷ parts site (session_after site session (inputs_of p)) l ds) (drop-drop n at s)
-      ∙ ap (λ x. ps ++ p ∷ parts site x (drop (at + n) s) ds) (sym (session_behind-snoc site fresh ps p))
+      ∙ ap (λ x. ps ++ p ∷ parts site x (drop (at + n) s) ds) (sym (session_after_parts-snoc site fresh ps p))
       ∙ sym (append_assoc ps (p ∷ []) _);
   size = omega (arith, sum_by-append size_of ps (p ∷ []), h.size, size);
   within = within;
-  fit = AllFit-append site fresh ps (p ∷ []) h.fit (one_fits site (session_behind site fresh ps) p fit);
+  fit = AllFit-append site fresh ps (p ∷ []) h.fit (one_fits site (session_after_parts site fresh ps) p fit);
 }
 
 -- the states in which a line is read
@@ -125,29 +125,29 @@ cut-line Ended s ds h = absurd h
 
 pub line_within : (s : List ℕ) (n : ℕ) → place_of crlf s ≡ Some n → n + 2 ≤ length s
 line_within s n e = let at = place_of_stands crlf s n e in
-    omega (arith, at.place, ap length at.whole, length-append (at.front ++ crlf) at.rest, length-append at.front crlf)
+    omega (arith, at.place, ap length at.whole, length-append (at.prefix ++ crlf) at.rest, length-append at.prefix crlf)
 
 pub data_within : (s : List ℕ) (n : ℕ) → data_end s ≡ Some n → n + 3 ≤ length s
 unfolding data_end
 data_within s n e = let at = place_of_stands end_of_data (crlf ++ s) n e in
-    omega (arith, at.place, ap length at.whole, length-append (at.front ++ end_of_data) at.rest, length-append at.front end_of_data, length-append crlf s)
+    omega (arith, at.place, ap length at.whole, length-append (at.prefix ++ end_of_data) at.rest, length-append at.prefix end_of_data, length-append crlf s)
 
 pub handled_line : (site : Site) (s : List ℕ) (at : ℕ) (ps : List Part) (n : ℕ) → Handled site s at ps
-    → ReadsLines (session_behind site fresh ps).state → place_of crlf (drop at s) ≡ Some n
+    → ReadsLines (session_after_parts site fresh ps).state → place_of crlf (drop at s) ≡ Some n
     → Handled site s (at + (n + 2)) (ps ++ CommandLine (take n (drop at s)) ∷ [])
 handled_line site s at ps n h takes e =
     let long : n + 2 ≤ length (drop at s) = line_within (drop at s) n e in
     let whole = h.within in
     handled_one site s at ps (CommandLine (take n (drop at s))) (n + 2) h
-    (λ ds. cut-line (session_behind site fresh ps).state (drop at s) ds takes
+    (λ ds. cut-line (session_after_parts site fresh ps).state (drop at s) ds takes
     ∙ ap (λ o. option_map (λ k. record { part = CommandLine (take k (drop at s)); size = k + 2; dispositions = ds }) o) e)
     (let size : length (take n (drop at s)) ≡ n = length-take-le n (drop at s) (omega arith) in omega arith)
     (omega (arith, length-drop at s))
     tt
 
 pub handled_data : (site : Site) (s : List ℕ) (at : ℕ) (ps : List Part) (n : ℕ) (d : Disposition) → Handled site s at ps
-    → (session_behind site fresh ps).state ≡ Content → data_end (drop at s) ≡ Some n
-    → OutcomesFit (session_behind site fresh ps).recipients d d.verdict
+    → (session_after_parts site fresh ps).state ≡ Content → data_end (drop at s) ≡ Some n
+    → OutcomesFit (session_after_parts site fresh ps).recipients d d.verdict
     → Handled site s (at + (n + 3)) (ps ++ MailData (take (n + 3) (drop at s)) d ∷ [])
 handled_data site s at ps n d h content e fit =
     let long : n + 3 ≤ length (drop at s) = data_within (drop at s) n e in
@@ -190,10 +190,10 @@ abbrev pub account_of : List ℕ → List Part → Conversation
 account_of s ps = record { bytes = s; dispositions = dispositions_of ps; stopped = false }
 
 -- all is handled
-pub all_parts : (site : Site) (s : List ℕ) (at : ℕ) (ps : List Part) → Handled site s at ps → HasNoPart (session_behind site fresh ps).state (drop at s)
+pub all_parts : (site : Site) (s : List ℕ) (at : ℕ) (ps : List Part) → Handled site s at ps → HasNoPart (session_after_parts site fresh ps).state (drop at s)
     → parts site fresh s (dispositions_of ps) ≡ ps
 all_parts site s at ps h none =
-    let session = session_behind site fresh ps in
+    let session = session_after_parts site fresh ps in
     ap (λ ds. parts site fresh s ds) (sym (append-nil (dispositions_of ps)))
     ∙ h.goes []
     ∙ ap (λ l. ps ++ l) (parts-cut site session (drop at s) [] ∙ ap (λ o. cut_then o (λ c. parts site (session_after site session (inputs_of c.part)) (drop c.size (drop at s)) c.dispositions)) (no_cut session.state (drop at s) none))
@@ -202,16 +202,16 @@ all_parts site s at ps h none =
 pub all_inputs : (site : Site) (s : List ℕ) (ps : List Part) → parts site fresh s (dispositions_of ps) ≡ ps → inputs site (account_of s ps) ≡ flat_map inputs_of ps
 unfolding inputs
 all_inputs site s ps e =
-    ap (λ (l : List Part). flat_map inputs_of l ++ stop_at (session_behind site fresh l).state false) e
-    ∙ ap (λ l. flat_map inputs_of ps ++ l) (not_stopped (session_behind site fresh ps).state)
+    ap (λ (l : List Part). flat_map inputs_of l ++ stop_at (session_after_parts site fresh l).state false) e
+    ∙ ap (λ l. flat_map inputs_of ps ++ l) (not_stopped (session_after_parts site fresh ps).state)
     ∙ append-nil (flat_map inputs_of ps)
 
-pub all_accounted : (site : Site) (s : List ℕ) (at : ℕ) (ps : List Part) → Handled site s at ps → HasNoPart (session_behind site fresh ps).state (drop at s)
+pub all_accounted : (site : Site) (s : List ℕ) (at : ℕ) (ps : List Part) → Handled site s at ps → HasNoPart (session_after_parts site fresh ps).state (drop at s)
     → IsAccount site (account_of s ps)
 all_accounted site s at ps h none =
     let e = all_parts site s at ps h none in
     record {
       outcomes = rw e h.fit;
       none_left = rw e (counted ps);
-      none_lacks = rw (e, h.size) (no_data_ended (session_behind site fresh ps).state (drop at s) none);
+      none_lacks = rw (e, h.size) (no_data_ended (session_after_parts site fresh ps).state (drop at s) none);
     }

@@ -75,9 +75,9 @@ box_alone h new w old changed boxes lanes was same = no_lane h new lanes (λ txn
 collected : (k : ℕ) (lane next : Lane) (slip : Slip) (bs : List Box) (txn : Txn) (p : ℕ) → slice_get lane.slips lane.collected ≡ Some slip
     → next.slips ≡ lane.slips → next.collected ≡ lane.collected + 1 → next.heard ≡ lane.heard ++ slip ∷ [] → next.messages ≡ lane.messages
     → IsBounded k lane bs txn p → IsBounded k next bs txn p
-collected k lane next slip bs txn p front slips count heard ts h =
+collected k lane next slip bs txn p oldest slips count heard ts h =
     let was : times_named txn p (drop lane.collected lane.slips) ≡ cond (names txn p slip) 1 0 + times_named txn p (drop (lane.collected + 1) lane.slips) =
-    ap (times_named txn p) (drop_get lane.slips lane.collected slip front ∙ ap (λ n. slip ∷ drop n lane.slips) (sym (add-one lane.collected)))
+    ap (times_named txn p) (drop_get lane.slips lane.collected slip oldest ∙ ap (λ n. slip ∷ drop n lane.slips) (sym (add-one lane.collected)))
     ∙ count-cons (names txn p) slip (drop (lane.collected + 1) lane.slips) in
     let same : times_told txn p next ≡ times_told txn p lane = rw (slips, count, heard) (omega (arith, was, count-append (names txn p) lane.heard (slip ∷ []))) in
     rw (same, ts) h
@@ -136,7 +136,7 @@ bounded_step h (HandBack k i m) new sound all st =
 bounded_step h (Collect k) new sound all st =
     let next : Lane = record (with_heard st.lane st.slip) { collected = st.lane.collected + 1 } in
     lane_alone h new k st.lane next (ap (λ (x : House). x.boxes) st.after) (ap (λ (x : House). x.lanes) st.after) st.is
-    (λ txn p b. collected k st.lane next st.slip h.boxes txn p st.front refl refl refl refl b) all
+    (λ txn p b. collected k st.lane next st.slip h.boxes txn p st.oldest refl refl refl refl b) all
 bounded_step h (Offer k note) new sound all st =
     let post : Post = record { note = note; key = st.key } in
     let next : Lane = without_copy st.lane st.at st.t (sealed_up_to st.key note.txn.number note.message note.place) in

@@ -29,18 +29,18 @@ pub same_or_not : (k at : ℕ) → (k ≡ at) ⊎ (k ≢ at)
 same_or_not k at = grind arith
 
 -- one more at the end of a merged list
-pub merged_front : (front own heard : List Slip) (x : Slip) → IsMerged front own heard → IsMerged (front ++ x ∷ []) own (heard ++ x ∷ [])
-merged_front front own [] x m = inl ([], ap (λ l. l ++ x ∷ []) m.0, (refl, m.1))
-merged_front front own (y ∷ heard) x m = elim m [
-  | inl first ↦ inl (first.0 ++ x ∷ [], ap (λ l. l ++ x ∷ []) first.1, merged_front first.0 own heard x first.2)
-  | inr mine ↦ inr (mine.0, mine.1, merged_front front mine.0 heard x mine.2)
+pub merged_prefix : (prefix own heard : List Slip) (x : Slip) → IsMerged prefix own heard → IsMerged (prefix ++ x ∷ []) own (heard ++ x ∷ [])
+merged_prefix prefix own [] x m = inl ([], ap (λ l. l ++ x ∷ []) m.0, (refl, m.1))
+merged_prefix prefix own (y ∷ heard) x m = elim m [
+  | inl first ↦ inl (first.0 ++ x ∷ [], ap (λ l. l ++ x ∷ []) first.1, merged_prefix first.0 own heard x first.2)
+  | inr mine ↦ inr (mine.0, mine.1, merged_prefix prefix mine.0 heard x mine.2)
 ]
 
-pub merged_own : (front own heard : List Slip) (x : Slip) → IsMerged front own heard → IsMerged front (own ++ x ∷ []) (heard ++ x ∷ [])
-merged_own front own [] x m = inr ([], ap (λ l. l ++ x ∷ []) m.1, (m.0, refl))
-merged_own front own (y ∷ heard) x m = elim m [
+pub merged_own : (prefix own heard : List Slip) (x : Slip) → IsMerged prefix own heard → IsMerged prefix (own ++ x ∷ []) (heard ++ x ∷ [])
+merged_own prefix own [] x m = inr ([], ap (λ l. l ++ x ∷ []) m.1, (m.0, refl))
+merged_own prefix own (y ∷ heard) x m = elim m [
   | inl first ↦ inl (first.0, first.1, merged_own first.0 own heard x first.2)
-  | inr mine ↦ inr (mine.0 ++ x ∷ [], ap (λ l. l ++ x ∷ []) mine.1, merged_own front mine.0 heard x mine.2)
+  | inr mine ↦ inr (mine.0 ++ x ∷ [], ap (λ l. l ++ x ∷ []) mine.1, merged_own prefix mine.0 heard x mine.2)
 ]
 
 -- what is kept of a lane
@@ -53,7 +53,7 @@ IsMade k slip = slip ≡ own_slip k slip.txn.number slip.place slip.worker
 record IsSoFar (events : List Event) (k : ℕ) (lane : Lane) (bs : List Box) : Type 0 where
   own : List Slip
   merged : IsMerged (take lane.collected lane.slips) own lane.heard
-  front : lane.collected ≤ length lane.slips
+  prefix : lane.collected ≤ length lane.slips
   collected : count_by (is_collect k) events ≡ lane.collected
   handed : handed_back k events ≡ map (λ slip. slip.worker) own
   made : AllByRecursion (IsMade k) own
@@ -112,14 +112,14 @@ quiet_lane : (events : List Event) (e : Event) (k : ℕ) (lane next : Lane) (bs 
     → ((txn : Txn) (p told : ℕ) → AreGiven k txn p told (copied txn p bs) lane.messages → AreGiven k txn p told (copied txn p ms) next.messages)
     → IsSoFar events k lane bs → IsSoFar (events ++ e ∷ []) k next ms
 quiet_lane events e k lane next bs ms more q heard count slips of given s =
-    let front : lane.collected ≤ length lane.slips = s.front in
-    let same : take next.collected next.slips ≡ take lane.collected lane.slips = rw (count, slips) (take-append-le lane.collected lane.slips more front) in
+    let prefix : lane.collected ≤ length lane.slips = s.prefix in
+    let same : take next.collected next.slips ≡ take lane.collected lane.slips = rw (count, slips) (take-append-le lane.collected lane.slips more prefix) in
     let P : List Slip → Type 0 = λ l. IsMerged l s.own next.heard in
     let Q : List Slip → Type 0 = λ l. IsMerged (take lane.collected lane.slips) s.own l in
     record {
       own = s.own;
       merged = subst P (sym same) (subst Q (sym heard) s.merged);
-      front = let len : length next.slips ≡ length lane.slips + length more = ap length slips ∙ length-append lane.slips more in omega arith;
+      prefix = let len : length next.slips ≡ length lane.slips + length more = ap length slips ∙ length-append lane.slips more in omega arith;
       collected = let was = s.collected in omega (arith, count_more k events e false q.1);
       handed = handed_more k events e [] q.0 ∙ append-nil (handed_back k events) ∙ s.handed;
       made = s.made;
@@ -149,7 +149,7 @@ own_lane events k i m lane next bs t key number place message at slips count hea
     record {
       own = s.own ++ slip ∷ [];
       merged = subst P (sym heard) (subst Q (sym same) (merged_own (take lane.collected lane.slips) s.own lane.heard slip s.merged));
-      front = rw (count, slips) s.front;
+      prefix = rw (count, slips) s.prefix;
       collected = let was = s.collected in omega (arith, count_more k events (HandBack k i m) false refl);
       handed = handed_more k events (HandBack k i m) (m ∷ []) (rw (eq-eqb k k refl) refl) ∙ ap (λ l. l ++ m ∷ []) s.handed ∙ sym (map-append (λ x. x.worker) s.own (slip ∷ []));
       made = all_more (IsMade k) s.own slip s.made refl;
@@ -171,8 +171,8 @@ collecting_lane events k lane next bs slip at slips count heard ts s =
     let Q : List Slip → Type 0 = λ l. IsMerged l s.own (lane.heard ++ slip ∷ []) in
     record {
       own = s.own;
-      merged = subst P (sym heard) (subst Q (sym more) (merged_front (take lane.collected lane.slips) s.own lane.heard slip s.merged));
-      front = rw (count, slips) (let below = slice_get_within lane.slips lane.collected slip at in omega arith);
+      merged = subst P (sym heard) (subst Q (sym more) (merged_prefix (take lane.collected lane.slips) s.own lane.heard slip s.merged));
+      prefix = rw (count, slips) (let below = slice_get_within lane.slips lane.collected slip at in omega arith);
       collected = let was = s.collected in omega (arith, count_more k events (Collect k) true (eq-eqb k k refl));
       handed = handed_more k events (Collect k) [] refl ∙ append-nil (handed_back k events) ∙ s.handed;
       made = s.made;
@@ -246,7 +246,7 @@ so_far_step events h (Collect k) new all st =
     let next : Lane = record (with_heard st.lane st.slip) { collected = st.lane.collected + 1 } in
     let P : List Box → Type 0 = λ bs. IsSoFar (events ++ Collect k ∷ []) k next bs in
     lane_alone events (Collect k) h new k st.lane next (ap (λ (x : House). x.lanes) st.after) st.is (no_box h new boxes) (λ v ne. (refl, other_byte k v (λ same. ne (sym same))))
-    (λ s. subst P (sym boxes) (collecting_lane events k st.lane next h.boxes st.slip st.front refl refl refl refl s)) all
+    (λ s. subst P (sym boxes) (collecting_lane events k st.lane next h.boxes st.slip st.oldest refl refl refl refl s)) all
 so_far_step events h (Offer k note) new all st =
     let post : Post = record { note = note; key = st.key } in
     let next : Lane = without_copy st.lane st.at st.t (sealed_up_to st.key note.txn.number note.message note.place) in
@@ -295,7 +295,7 @@ so_far_start blocks h start k lane is =
     record {
       own = [];
       merged = rw (f.heard, f.slips, f.collected) (refl, refl);
-      front = rw (f.collected) (omega arith);
+      prefix = rw (f.collected) (omega arith);
       collected = sym f.collected;
       handed = refl;
       made = tt;
@@ -329,7 +329,7 @@ every_run_hears_each blocks start run is r k lane at =
     record {
       own = s.own;
       merged = s.merged;
-      front = s.front;
+      prefix = s.prefix;
       collected = s.collected;
       handed = s.handed;
       each = all_of (IsHandedBack k (last_house start run) lane) s.own (is_own (last_house start run) k lane (events_of run) at (every_run_is_once blocks start run is r) s);

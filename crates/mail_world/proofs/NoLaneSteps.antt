@@ -139,5 +139,5 @@ hand_back_with_other_hold h new k i b lane is other st =
 
 pub collect_of_none : (h new : House) (k : ℕ) (lane : Lane) → LaneIs h k lane → length lane.slips ≤ lane.collected → CollectStep h k new → ⊥
 collect_of_none h new k lane is none st =
-    let there = ap (λ (x : Lane). slice_get x.slips x.collected) (same_lane h k lane st.lane is st.is) ∙ st.front in
+    let there = ap (λ (x : Lane). slice_get x.slips x.collected) (same_lane h k lane st.lane is st.is) ∙ st.oldest in
     absurd (omega (arith, slice_get_within lane.slips lane.collected st.slip there))

@@ -17,7 +17,7 @@ take_with_copy h new w box copy is hand st =
 
 pub take_of_none : (h new : House) (w : ℕ) (box : Box) → BoxIs h w box → length box.accepted ≤ box.taken → TakeStep h w new → ⊥
 take_of_none h new w box is none st =
-    let there = ap (λ (x : Box). slice_get x.accepted x.taken) (same_box h w box st.box is st.is) ∙ st.front in
+    let there = ap (λ (x : Box). slice_get x.accepted x.taken) (same_box h w box st.box is st.is) ∙ st.oldest in
     absurd (omega (arith, slice_get_within box.accepted box.taken st.post there))
 
 pub write_without_copy : (h new : House) (w : ℕ) (bytes : List ℕ) (box : Box) → BoxIs h w box → box.hand ≡ None → WriteStep h w bytes new → ⊥

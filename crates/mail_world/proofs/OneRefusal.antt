@@ -191,13 +191,13 @@ it_runs = (
       (
         record { lane = lane₃; box = box₀; at = 0; t = 0; key = key; is = refl; copy = record { hold = refl; is = refl }; own = refl; channel = refl; still_open = refl; room = lit< tt; after = refl },
         (
-          record { box = box₄; post = post₁; is = refl; free_hand = refl; front = refl; after = refl },
+          record { box = box₄; post = post₁; is = refl; free_hand = refl; oldest = refl; after = refl },
           (
             record { box = box₅; copy = copy₅; depot = house₆.depot; is = refl; in_hand = refl; held = refl; releases = record { bytes = bytes; blocks = 0 ∷ []; weight = 0; message = refl; after = refl }; after = refl },
             (
               record { box = box₆; copy = record copy₅ { released = true }; lane = lane₄; is = refl; in_hand = refl; let_go = refl; says = refl; to = refl; after = refl },
               (
-                record { lane = lane₇; slip = slip₁; is = refl; front = refl; after = refl },
+                record { lane = lane₇; slip = slip₁; is = refl; oldest = refl; after = refl },
                 (
                   (house₉.depot, record { bytes = bytes; blocks = 0 ∷ []; free = 0 ∷ 1 ∷ []; message = refl; given = split; after = refl }, refl),
                   (
@@ -207,7 +207,7 @@ it_runs = (
                       (
                         record { lane = lane₁₁; box = box₇; at = 0; t = 1; key = next; is = refl; copy = record { hold = refl; is = refl }; own = refl; channel = refl; still_open = refl; room = lit< tt; after = refl },
                         (
-                          record { box = box₁₂; post = post₂; is = refl; free_hand = refl; front = refl; after = refl },
+                          record { box = box₁₂; post = post₂; is = refl; free_hand = refl; oldest = refl; after = refl },
                           (
                             record { box = box₁₃; copy = copy₁₃; more = []; is = refl; in_hand = refl; sound = refl; held = refl; unsettled = refl; next = refl; after = refl },
                             (
@@ -217,7 +217,7 @@ it_runs = (
                                 (
                                   record { box = box₁₆; copy = record copy₁₅ { released = true }; lane = lane₁₂; is = refl; in_hand = refl; let_go = refl; says = refl; to = refl; after = refl },
                                   (
-                                    record { lane = lane₁₇; slip = slip₂; is = refl; front = refl; after = refl },
+                                    record { lane = lane₁₇; slip = slip₂; is = refl; oldest = refl; after = refl },
                                     tt,
                                   ),
                                 ),

@@ -36,13 +36,13 @@ offer h k i t key note lane box is copy own channel still_open room =
 
 pub collect : (h : House) (k : ℕ) (lane : Lane) → LaneIs h k lane → lane.collected < length lane.slips → MayHappen h (Collect k)
 collect h k lane is more =
-    let front = there_is lane.slips lane.collected more in
-    (_, record { lane = lane; slip = front.0; is = is; front = front.1; after = refl })
+    let oldest = there_is lane.slips lane.collected more in
+    (_, record { lane = lane; slip = oldest.0; is = is; oldest = oldest.1; after = refl })
 
 pub take : (h : House) (w : ℕ) (box : Box) → BoxIs h w box → box.hand ≡ None → box.taken < length box.accepted → MayHappen h (Take w)
 take h w box is none more =
-    let front = there_is box.accepted box.taken more in
-    (_, record { box = box; post = front.0; is = is; free_hand = none; front = front.1; after = refl })
+    let oldest = there_is box.accepted box.taken more in
+    (_, record { box = box; post = oldest.0; is = is; free_hand = none; oldest = oldest.1; after = refl })
 
 pub write : (h : House) (w : ℕ) (bytes more : List ℕ) (box : Box) (copy : Copy) → BoxIs h w box → box.hand ≡ Some copy → copy.released ≡ false → is_settled copy ≡ false → box.faulty ≡ false
     → drop copy.written (record_of h.calendar h.host copy.post.note) ≡ bytes ++ more → MayHappen h (Write w bytes)

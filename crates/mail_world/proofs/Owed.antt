@@ -7,39 +7,39 @@ use Rattle.mail_world.specs.Site.{Site}
 use Rattle.mail_world.specs.declared.Verdict.{Verdict}
 use Rattle.mail_world.specs.declared.Verdict.TheVariants as verdicts
 use Rattle.mail_world.specs.Session.{Session, fresh, DataEnded}
-use Rattle.mail_world.specs.Conversation.{Disposition, Part, CommandLine, MailData, inputs_of, outcomes_of, session_after, session_behind, parts}
+use Rattle.mail_world.specs.Conversation.{Disposition, Part, CommandLine, MailData, inputs_of, outcomes_of, session_after, session_after_parts, parts}
 use Rattle.mail_world.specs.Lists.{Transaction, is_content, accepted_after, transactions_of, transactions, copies_owed, due}
 use Rattle.mail_world.specs.Dispositions.{dispositions_of}
 use Rattle.mail_world.proofs.Handled.{session_after-append, account_of}
 
 -- how many DATA commands were accepted after one part
-abbrev pub accepted_behind : Site → ℕ → Session → Part → ℕ
-accepted_behind site n session p = if is_content (session_after site session (inputs_of p)).state then n + 1 else n
+abbrev pub accepted_after_part : Site → ℕ → Session → Part → ℕ
+accepted_after_part site n session p = if is_content (session_after site session (inputs_of p)).state then n + 1 else n
 
 pub accepted-append : (site : Site) (n : ℕ) (session : Session) (ps qs : List Part)
-    → accepted_after site n session (ps ++ qs) ≡ accepted_after site (accepted_after site n session ps) (session_behind site session ps) qs
+    → accepted_after site n session (ps ++ qs) ≡ accepted_after site (accepted_after site n session ps) (session_after_parts site session ps) qs
 accepted-append site n session [] qs = refl
 accepted-append site n session (p ∷ ps) qs =
-    accepted-append site (accepted_behind site n session p) (session_after site session (inputs_of p)) ps qs
-    ∙ ap (λ x. accepted_after site (accepted_after site (accepted_behind site n session p) (session_after site session (inputs_of p)) ps) x qs)
+    accepted-append site (accepted_after_part site n session p) (session_after site session (inputs_of p)) ps qs
+    ∙ ap (λ x. accepted_after site (accepted_after site (accepted_after_part site n session p) (session_after site session (inputs_of p)) ps) x qs)
     (sym (session_after-append site session (inputs_of p) (flat_map inputs_of ps)))
 
 -- no DATA is accepted by data
-behind_data : (site : Site) (session : Session) (d : Disposition) (v : Verdict) → is_content (session_after site session (DataEnded v ∷ outcomes_of d v)).state ≡ false
-behind_data site session d verdicts.Whole = refl
-behind_data site session d verdicts.TooLarge = refl
-behind_data site session d verdicts.NoRoom = refl
+after_the_data : (site : Site) (session : Session) (d : Disposition) (v : Verdict) → is_content (session_after site session (DataEnded v ∷ outcomes_of d v)).state ≡ false
+after_the_data site session d verdicts.Whole = refl
+after_the_data site session d verdicts.TooLarge = refl
+after_the_data site session d verdicts.NoRoom = refl
 
-pub same_behind_data : (site : Site) (n : ℕ) (session : Session) (text : List ℕ) (d : Disposition) → accepted_behind site n session (MailData text d) ≡ n
-same_behind_data site n session text d = ap (λ b. cond b (n + 1) n) (behind_data site session d d.verdict)
+pub same_after_data : (site : Site) (n : ℕ) (session : Session) (text : List ℕ) (d : Disposition) → accepted_after_part site n session (MailData text d) ≡ n
+same_after_data site n session text d = ap (λ b. cond b (n + 1) n) (after_the_data site session d d.verdict)
 
 pub transactions-append : (site : Site) (n : ℕ) (session : Session) (ps qs : List Part)
     → transactions_of site n session (ps ++ qs)
-    ≡ transactions_of site n session ps ++ transactions_of site (accepted_after site n session ps) (session_behind site session ps) qs
+    ≡ transactions_of site n session ps ++ transactions_of site (accepted_after site n session ps) (session_after_parts site session ps) qs
 transactions-append site n session [] qs = refl
 transactions-append site n session (CommandLine text ∷ ps) qs =
     let p : Part = CommandLine text in
-    transactions-append site (accepted_behind site n session p) (session_after site session (inputs_of p)) ps qs
+    transactions-append site (accepted_after_part site n session p) (session_after site session (inputs_of p)) ps qs
     ∙ ap (λ x. transactions_of site n session (p ∷ ps) ++ transactions_of site (accepted_after site n session (p ∷ ps)) x qs)
     (sym (session_after-append site session (inputs_of p) (flat_map inputs_of ps)))
 transactions-append site n session (MailData text d ∷ ps) qs =
@@ -48,12 +48,12 @@ transactions-append site n session (MailData text d ∷ ps) qs =
     (transactions-append site n (session_after site session (inputs_of p)) ps qs
     ∙ ap (λ x. transactions_of site n (session_after site session (inputs_of p)) ps ++ transactions_of site (accepted_after site n (session_after site session (inputs_of p)) ps) x qs)
     (sym (session_after-append site session (inputs_of p) (flat_map inputs_of ps)))
-    ∙ ap (λ k. transactions_of site n (session_after site session (inputs_of p)) ps ++ transactions_of site (accepted_after site k (session_after site session (inputs_of p)) ps) (session_behind site session (p ∷ ps)) qs)
-    (sym (same_behind_data site n session text d)))
+    ∙ ap (λ k. transactions_of site n (session_after site session (inputs_of p)) ps ++ transactions_of site (accepted_after site k (session_after site session (inputs_of p)) ps) (session_after_parts site session (p ∷ ps)) qs)
+    (sym (same_after_data site n session text d)))
 
 -- one more part
 pub accepted-snoc : (site : Site) (ps : List Part) (p : Part)
-    → accepted_after site 0 fresh (ps ++ p ∷ []) ≡ accepted_behind site (accepted_after site 0 fresh ps) (session_behind site fresh ps) p
+    → accepted_after site 0 fresh (ps ++ p ∷ []) ≡ accepted_after_part site (accepted_after site 0 fresh ps) (session_after_parts site fresh ps) p
 accepted-snoc site ps p = accepted-append site 0 fresh ps (p ∷ [])
 
 pub transactions-line : (site : Site) (ps : List Part) (text : List ℕ) → transactions_of site 0 fresh (ps ++ CommandLine text ∷ []) ≡ transactions_of site 0 fresh ps
@@ -61,7 +61,7 @@ transactions-line site ps text = transactions-append site 0 fresh ps (CommandLin
 
 -- the transaction that data ends
 abbrev pub transaction_at : Site → List Part → List ℕ → Disposition → Transaction
-transaction_at site ps text d = record { number = accepted_after site 0 fresh ps; session = session_behind site fresh ps; message = message text; disposition = d }
+transaction_at site ps text d = record { number = accepted_after site 0 fresh ps; session = session_after_parts site fresh ps; message = message text; disposition = d }
 
 pub transactions-data : (site : Site) (ps : List Part) (text : List ℕ) (d : Disposition)
     → transactions_of site 0 fresh (ps ++ MailData text d ∷ []) ≡ transactions_of site 0 fresh ps ++ transaction_at site ps text d ∷ []

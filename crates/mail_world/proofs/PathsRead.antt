@@ -12,7 +12,7 @@ use Rattle.std.proofs.lemmas.Bool.Decides.{nat_tests}
 use Rattle.mail_world.specs.Text.{has_byte, begins}
 use Rattle.mail_world.specs.Grammar.{is_between, is_plain, is_of_domain, is_of_literal, is_domain, Target, IsSomeOf, IsQuotedText, IsLocalPart, IsLiteral, IsHostPart, IsMailbox, local_text, host_text, mailbox_text, route_text}
 use Rattle.mail_world.specs.declared.limits.TheConstants.{PATH_LIMIT}
-use Rattle.mail_world.specs.Paths.{quoted_len, Found, some_front, plain_local, quoted_local, domain_at, literal_at, host_at, with_host, mailbox_at, is_hop, behind_route, Path, closed_at, forward_path, IsPathRead}
+use Rattle.mail_world.specs.Paths.{quoted_len, Found, some_prefix, plain_local, quoted_local, domain_at, literal_at, host_at, with_host, mailbox_at, is_hop, after_route, Path, closed_at, forward_path, IsPathRead}
 use Rattle.mail_world.proofs.PathsSpelled.{and_parts}
 
 -- what a test or a step that gave a value says
@@ -46,25 +46,25 @@ prefix_len-all p [] = refl
 prefix_len-all p (x ∷ xs) = run_by p x xs (p x) refl (prefix_len-all p xs)
 
 -- a prefix and what follows it
-record IsFront (n : ℕ) (text : List ℕ) (f : Found (List ℕ)) : Type 0 where
+record IsPrefix (n : ℕ) (text : List ℕ) (f : Found (List ℕ)) : Type 0 where
   positive : 0 < n
   value : f.value ≡ take n text
   whole : text ≡ f.value ++ f.rest
 
-front_by : (n : ℕ) (text : List ℕ) (f : Found (List ℕ)) (t : Bool) → (n == 0) ≡ t → cond t None (Some (record { value = take n text; rest = drop n text })) ≡ Some f → IsFront n text f
-front_by n text f true z e = cc
-front_by n text f false z e =
+prefix_by : (n : ℕ) (text : List ℕ) (f : Found (List ℕ)) (t : Bool) → (n == 0) ≡ t → cond t None (Some (record { value = take n text; rest = drop n text })) ≡ Some f → IsPrefix n text f
+prefix_by n text f true z e = cc
+prefix_by n text f false z e =
     let same : record { value = take n text; rest = drop n text } ≡ f = cc in
-    let P : Found (List ℕ) → Type 0 = λ g. IsFront n text g in
+    let P : Found (List ℕ) → Type 0 = λ g. IsPrefix n text g in
     subst P same (record { positive = grind (arith, nat_tests, z); value = refl; whole = sym (take-append-drop n text) })
 
-some_front-reads : (n : ℕ) (text : List ℕ) (f : Found (List ℕ)) → some_front n text ≡ Some f → IsFront n text f
-some_front-reads n text f e = front_by n text f (n == 0) refl e
+some_prefix-reads : (n : ℕ) (text : List ℕ) (f : Found (List ℕ)) → some_prefix n text ≡ Some f → IsPrefix n text f
+some_prefix-reads n text f e = prefix_by n text f (n == 0) refl e
 
 -- the prefix that passes, and what follows it
-run-reads : (p : ℕ → Bool) (text : List ℕ) (f : Found (List ℕ)) → some_front (prefix_len p text) text ≡ Some f → IsSomeOf p f.value × (text ≡ f.value ++ f.rest)
+run-reads : (p : ℕ → Bool) (text : List ℕ) (f : Found (List ℕ)) → some_prefix (prefix_len p text) text ≡ Some f → IsSomeOf p f.value × (text ≡ f.value ++ f.rest)
 run-reads p text f e =
-    let r = some_front-reads (prefix_len p text) text f e in (
+    let r = some_prefix-reads (prefix_len p text) text f e in (
       record {
         nonempty = let len : length f.value ≡ prefix_len p text = ap length r.value ∙ length-prefix_len p text in let h = r.positive in omega arith;
         each = rw (r.value) (prefix_len-all p text);
@@ -120,8 +120,8 @@ domain-reads : (text : List ℕ) (f : Found (List ℕ)) → domain_at text ≡ S
 domain-reads text f e =
     let short = none_else (nat_lt 255 (prefix_len is_of_domain text)) _ f e in
     let run = run-reads is_of_domain text f short.1 in
-    let front = some_front-reads (prefix_len is_of_domain text) text f short.1 in
-    let len : length f.value ≡ prefix_len is_of_domain text = ap length front.value ∙ length-prefix_len is_of_domain text in
+    let prefix = some_prefix-reads (prefix_len is_of_domain text) text f short.1 in
+    let len : length f.value ≡ prefix_len is_of_domain text = ap length prefix.value ∙ length-prefix_len is_of_domain text in
     let low : nat_le 1 (length f.value) ≡ true = let h = run.0.nonempty in grind (arith, nat_tests, h) in
     let high : nat_le (length f.value) 255 ≡ true = rw len (grind (arith, nat_tests, short.0)) in
     (rw (low, high, run.0.each) refl, run.1)
@@ -136,22 +136,22 @@ literal_from text f e =
     let inner : List ℕ = take n text in
     let more : List ℕ = drop 1 (drop n text) in
     let all : List ℕ = byte "[" ∷ (inner ++ byte "]" ∷ []) in
-    let tests = none_else ((n == 0) || not (begins (byte "]") (drop (n + 1) (byte "[" ∷ text)))) (some_front (n + 2) (byte "[" ∷ text)) f e in
+    let tests = none_else ((n == 0) || not (begins (byte "]") (drop (n + 1) (byte "[" ∷ text)))) (some_prefix (n + 2) (byte "[" ∷ text)) f e in
     let parts = or_parts (n == 0) (not (begins (byte "]") (drop (n + 1) (byte "[" ∷ text)))) tests.0 in
-    let behind : drop (n + 1) (byte "[" ∷ text) ≡ drop n text = rw add-one refl in
-    let mark : begins (byte "]") (drop n text) ≡ true = ap (begins (byte "]")) (sym behind) ∙ not_false _ parts.1 in
+    let after : drop (n + 1) (byte "[" ∷ text) ≡ drop n text = rw add-one refl in
+    let mark : begins (byte "]") (drop n text) ≡ true = ap (begins (byte "]")) (sym after) ∙ not_false _ parts.1 in
     let split : text ≡ inner ++ byte "]" ∷ more = sym (take-append-drop n text) ∙ ap (λ l. inner ++ l) (begins-is (byte "]") (drop n text) mark) in
     let whole : byte "[" ∷ text ≡ all ++ more = ap (λ l. byte "[" ∷ l) (split ∙ sym (append_assoc inner (byte "]" ∷ []) more)) in
-    let front = some_front-reads (n + 2) (byte "[" ∷ text) f tests.1 in
+    let prefix = some_prefix-reads (n + 2) (byte "[" ∷ text) f tests.1 in
     let inside : length inner ≡ n = length-prefix_len is_of_literal text in
     let len : n + 2 ≡ length all = omega (arith, length-append inner (byte "]" ∷ [])) in
-    let value : f.value ≡ all = front.value ∙ ap (λ l. take (n + 2) l) whole ∙ ap (λ k. take k (all ++ more)) len ∙ take-append_seam all more in (
+    let value : f.value ≡ all = prefix.value ∙ ap (λ l. take (n + 2) l) whole ∙ ap (λ k. take k (all ++ more)) len ∙ take-append_seam all more in (
       record {
         inner = inner;
         whole = value;
         bytes = record { nonempty = let positive : n ≢ 0 = eqb-false n 0 parts.0 in omega arith; each = prefix_len-all is_of_literal text };
       },
-      front.whole,
+      prefix.whole,
     )
 
 literal-reads : (text : List ℕ) (f : Found (List ℕ)) → begins (byte "[") text ≡ true → literal_at text ≡ Some f → IsLiteral f.value × (text ≡ f.value ++ f.rest)
@@ -276,10 +276,10 @@ route_by text inner true at e =
     let tests = some_else _ _ inner e in
     let both = and_parts (has_byte text (byte ":")) (list_all is_hop (slice_split (λ b. b == byte ",") route)) tests.0 in
     let parts = hops-reads (slice_split (λ b. b == byte ",") route) both.1 in
-    let behind : after_first (λ b. b == byte ":") text ≡ inner = cc (tests.1) in
-    route_of route text inner parts.0 parts.1 parts.2 (first-splits (byte ":") text both.0 ∙ ap (λ l. route ++ byte ":" ∷ l) behind)
+    let after : after_first (λ b. b == byte ":") text ≡ inner = cc (tests.1) in
+    route_of route text inner parts.0 parts.1 parts.2 (first-splits (byte ":") text both.0 ∙ ap (λ l. route ++ byte ":" ∷ l) after)
 
-route-reads : (text inner : List ℕ) → behind_route text ≡ Some inner → IsRoute text inner
+route-reads : (text inner : List ℕ) → after_route text ≡ Some inner → IsRoute text inner
 route-reads text inner e = route_by text inner (begins (byte "@") text) refl e
 
 closed-reads : (text : List ℕ) (found : Found Target) (path : Found Path) → IsRead text found → closed_at text found ≡ Some path
@@ -289,16 +289,16 @@ closed-reads text found path read e =
     let tests = some_else (begins (byte ">") found.rest && nat_le n PATH_LIMIT) _ path e in
     let both = and_parts (begins (byte ">") found.rest) (nat_le n PATH_LIMIT) tests.0 in
     let len : n ≡ length (mailbox_text found.value) = omega (arith, ap length read.whole, length-append (mailbox_text found.value) found.rest) in
-    let front : take n text ≡ mailbox_text found.value = rw (len) (ap (λ l. take (length (mailbox_text found.value)) l) read.whole ∙ take-append_seam (mailbox_text found.value) found.rest) in
+    let prefix : take n text ≡ mailbox_text found.value = rw (len) (ap (λ l. take (length (mailbox_text found.value)) l) read.whole ∙ take-append_seam (mailbox_text found.value) found.rest) in
     let same : record { value = record { mailbox = take n text; target = found.value }; rest = drop 1 found.rest } ≡ path = cc (tests.1) in
     let P : Found Path → Type 0 = λ g. (g.value.target ≡ found.value) × (g.value.mailbox ≡ mailbox_text found.value) × (length (mailbox_text found.value) ≤ PATH_LIMIT) × (found.rest ≡ byte ">" ∷ g.rest) in
-    subst P same (refl, front, (let fits : n ≤ PATH_LIMIT = grind (arith, nat_tests, both.1) in omega arith), begins-is (byte ">") found.rest both.0)
+    subst P same (refl, prefix, (let fits : n ≤ PATH_LIMIT = grind (arith, nat_tests, both.1) in omega arith), begins-is (byte ">") found.rest both.0)
 
 pub forward_path_reads : (text : List ℕ) (path : Found Path) → forward_path text ≡ Some path → IsPathRead text path
 unfolding forward_path
 forward_path_reads text path e =
     let open' = some_else (begins (byte "<") text) _ path e in
-    let step = then_some (λ inner. option_and_then (closed_at inner) (mailbox_at inner)) (behind_route (drop 1 text)) path open'.1 in
+    let step = then_some (λ inner. option_and_then (closed_at inner) (mailbox_at inner)) (after_route (drop 1 text)) path open'.1 in
     let inner = step.0 in
     let route = route-reads (drop 1 text) inner step.1 in
     let found = then_some (closed_at inner) (mailbox_at inner) path step.2 in

@@ -7,7 +7,7 @@ use Rattle.std.proofs.Math.Seq.{take-append_seam, drop-append_seam, drop-append-
 use Rattle.mail_world.specs.Text.{has_byte, begins}
 use Rattle.mail_world.specs.Grammar.{is_between, is_plain, is_of_domain, is_of_literal, is_domain, Target, IsSomeOf, IsQuotedText, IsLocalPart, IsHostPart, local_text, host_text, mailbox_text, route_text, IsPath, path_text}
 use Rattle.mail_world.specs.declared.limits.TheConstants.{PATH_LIMIT}
-use Rattle.mail_world.specs.Paths.{quoted_len, some_front, plain_local, quoted_local, domain_at, literal_at, host_at, with_host, mailbox_at, is_hop, behind_route, closed_at, forward_path}
+use Rattle.mail_world.specs.Paths.{quoted_len, some_prefix, plain_local, quoted_local, domain_at, literal_at, host_at, with_host, mailbox_at, is_hop, after_route, closed_at, forward_path}
 use Rattle.std.proofs.Math.Bool.{or-true}
 use Rattle.std.proofs.lemmas.Bool.{eq-eqb}
 use Rattle.std.proofs.lemmas.List.Folds.{list_all-append}
@@ -25,11 +25,11 @@ prefix_len-stop p (x ∷ xs) y ys all stop =
     let parts = and_parts (p x) (list_all p xs) all in
     rw (parts.0, prefix_len-stop p xs y ys parts.1 stop) (omega arith)
 
-some_front-seam : (xs ys : List ℕ) → 0 < length xs → some_front (length xs) (xs ++ ys) ≡ Some (record { value = xs; rest = ys })
-some_front-seam xs ys positive = rw (other_byte (length xs) 0 (omega arith), take-append_seam xs ys, drop-append_seam xs ys) refl
+some_prefix-seam : (xs ys : List ℕ) → 0 < length xs → some_prefix (length xs) (xs ++ ys) ≡ Some (record { value = xs; rest = ys })
+some_prefix-seam xs ys positive = rw (other_byte (length xs) 0 (omega arith), take-append_seam xs ys, drop-append_seam xs ys) refl
 
 plain_local-stop : (xs : List ℕ) (y : ℕ) (ys : List ℕ) → IsSomeOf is_plain xs → is_plain y ≡ false → plain_local (xs ++ y ∷ ys) ≡ Some (record { value = xs; rest = y ∷ ys })
-plain_local-stop xs y ys h stop = rw (prefix_len-stop is_plain xs y ys h.each stop) (some_front-seam xs (y ∷ ys) h.nonempty)
+plain_local-stop xs y ys h stop = rw (prefix_len-stop is_plain xs y ys h.each stop) (some_prefix-seam xs (y ∷ ys) h.nonempty)
 
 -- quoted text, and the quote that closes it
 quoted_len-stop : (escaped : Bool) (text rest : List ℕ) → IsQuotedText escaped text → quoted_len escaped (text ++ byte "\"" ∷ rest) ≡ Some (length text)
@@ -59,19 +59,19 @@ domain_bounds text h =
 domain_at-stop : (text : List ℕ) (y : ℕ) (ys : List ℕ) → is_domain text ≡ true → is_of_domain y ≡ false → domain_at (text ++ y ∷ ys) ≡ Some (record { value = text; rest = y ∷ ys })
 domain_at-stop text y ys h stop =
     let bounds = domain_bounds text h in
-    rw (prefix_len-stop is_of_domain text y ys bounds.2 stop, bounds.1) (some_front-seam text (y ∷ ys) bounds.0)
+    rw (prefix_len-stop is_of_domain text y ys bounds.2 stop, bounds.1) (some_prefix-seam text (y ∷ ys) bounds.0)
 
 literal_at-stop : (inner rest : List ℕ) → IsSomeOf is_of_literal inner
     → literal_at (byte "[" ∷ (inner ++ byte "]" ∷ rest)) ≡ Some (record { value = byte "[" ∷ (inner ++ byte "]" ∷ []); rest = rest })
 literal_at-stop inner rest h =
     let text : List ℕ = byte "[" ∷ (inner ++ byte "]" ∷ rest) in
     let all : List ℕ = byte "[" ∷ (inner ++ byte "]" ∷ []) in
-    let behind : drop (length inner + 1) text ≡ byte "]" ∷ rest = rw (add-one) (drop-append_seam (byte "[" ∷ inner) (byte "]" ∷ rest)) in
+    let after : drop (length inner + 1) text ≡ byte "]" ∷ rest = rw (add-one) (drop-append_seam (byte "[" ∷ inner) (byte "]" ∷ rest)) in
     let len : length inner + 2 ≡ length all = omega (arith, length-append inner (byte "]" ∷ [])) in
     let whole : text ≡ all ++ rest = ap (λ l. byte "[" ∷ l) (sym (append_assoc inner (byte "]" ∷ []) rest)) in
-    let bracket : literal_at text ≡ some_front (length inner + 2) text =
-    rw (prefix_len-stop is_of_literal inner (byte "]") rest h.each refl, other_byte (length inner) 0 (let positive = h.nonempty in omega arith), behind) refl in
-    bracket ∙ ap (λ k. some_front k text) len ∙ ap (λ l. some_front (length all) l) whole ∙ some_front-seam all rest (omega arith)
+    let bracket : literal_at text ≡ some_prefix (length inner + 2) text =
+    rw (prefix_len-stop is_of_literal inner (byte "]") rest h.each refl, other_byte (length inner) 0 (let positive = h.nonempty in omega arith), after) refl in
+    bracket ∙ ap (λ k. some_prefix k text) len ∙ ap (λ l. some_prefix (length all) l) whole ∙ some_prefix-seam all rest (omega arith)
 
 host_at-stop : (text rest : List ℕ) → IsHostPart (Some text) → host_at (text ++ byte ">" ∷ rest) ≡ Some (record { value = text; rest = byte ">" ∷ rest })
 host_at-stop text rest h = elim h [
@@ -173,19 +173,19 @@ has-seam [] c ys = rw (eq-eqb c c refl) refl
 has-seam (x ∷ xs) c ys = rw (has-seam xs c ys) (or-true (x == c))
 
 route_by : (whole route text : List ℕ) → begins (byte "@") whole ≡ true → has_byte whole (byte ":") ≡ true → before_first (λ b. b == byte ":") whole ≡ route
-    → list_all is_hop (slice_split (λ b. b == byte ",") route) ≡ true → after_first (λ b. b == byte ":") whole ≡ text → behind_route whole ≡ Some text
-route_by whole route text first has front each back = rw (first, has, front, each, back) refl
+    → list_all is_hop (slice_split (λ b. b == byte ",") route) ≡ true → after_first (λ b. b == byte ":") whole ≡ text → after_route whole ≡ Some text
+route_by whole route text first has prefix each back = rw (first, has, prefix, each, back) refl
 
-route-stop : (ds : List (List ℕ)) (text : List ℕ) → AreDomains ds → begins (byte "@") text ≡ false → behind_route (route_text ds ++ text) ≡ Some text
+route-stop : (ds : List (List ℕ)) (text : List ℕ) → AreDomains ds → begins (byte "@") text ≡ false → after_route (route_text ds ++ text) ≡ Some text
 route-stop [] text h first = rw first refl
 route-stop (d ∷ ds) text h first =
     let route = joined (d ∷ ds) in
     let whole : List ℕ = route ++ byte ":" ∷ text in
     let len : prefix_len (is_not (byte ":")) whole ≡ length route = prefix_len-stop (is_not (byte ":")) route (byte ":") text (joined-colon d ds h) refl in
-    let front : before_first (λ b. b == byte ":") whole ≡ route = rw len (take-append_seam route (byte ":" ∷ text)) in
+    let prefix : before_first (λ b. b == byte ":") whole ≡ route = rw len (take-append_seam route (byte ":" ∷ text)) in
     let back : after_first (λ b. b == byte ":") whole ≡ text = rw len (drop-append-add route (byte ":" ∷ text) 1) in
-    ap behind_route (append_assoc route (byte ":" ∷ []) text)
-    ∙ route_by whole route text (joined-first d ds (byte ":" ∷ text)) (has-seam route (byte ":") text) front (rw (split-joined d ds h) (all_hops (d ∷ ds) h)) back
+    ap after_route (append_assoc route (byte ":" ∷ []) text)
+    ∙ route_by whole route text (joined-first d ds (byte ":" ∷ text)) (has-seam route (byte ":") text) prefix (rw (split-joined d ds h) (all_hops (d ∷ ds) h)) back
 
 -- the bracket that closes a path
 closed-stop : (text : List ℕ) (target : Target) (rest : List ℕ) → length text ≤ PATH_LIMIT
@@ -205,6 +205,6 @@ forward_path_spelled ds t rest h =
     let first : begins (byte "@") inner ≡ false =
     ap (begins (byte "@")) (append_assoc (local_text t.quoted t.local) (host_text t.domain) (byte ">" ∷ rest))
     ∙ mailbox-first t.quoted t.local (host_text t.domain ++ byte ">" ∷ rest) h.mailbox.local in
-    ap (λ o. option_and_then (λ inner. option_and_then (closed_at inner) (mailbox_at inner)) o) (ap behind_route whole ∙ route-stop ds inner h.hops first)
+    ap (λ o. option_and_then (λ inner. option_and_then (closed_at inner) (mailbox_at inner)) o) (ap after_route whole ∙ route-stop ds inner h.hops first)
     ∙ ap (λ o. option_and_then (closed_at inner) o) (mailbox-stop t.quoted t.local t.domain rest h.mailbox.local h.mailbox.host)
     ∙ closed-stop (mailbox_text t) t rest h.fits

@@ -6,7 +6,7 @@ use Rattle.std.proofs.lemmas.Bool.{leb-true}
 use Rattle.std.proofs.lemmas.List.{length-append}
 use Rattle.mail_world.specs.declared.Note.{Note}
 use Rattle.mail_world.specs.Records.{Calendar, record_of, mended, mailbox}
-use Rattle.mail_world.specs.Quotas.{fits, are_kept_behind, are_kept, marked, kept}
+use Rattle.mail_world.specs.Quotas.{fits, are_kept_after, are_kept, marked, kept}
 
 -- what holds of all holds of those that are marked
 pub all_marked : {A : Type 0} (P : A → Type 0) (marks : List Bool) (xs : List A) → AllByRecursion P xs → AllByRecursion P (marked marks xs)
@@ -31,53 +31,53 @@ module _ (calendar : Calendar) (host : List ℕ) where
   grows_by false len note notes marks = refl
 
   -- the bytes that stand there after these notes
-  abbrev pub behind : Option ℕ → ℕ → List Note → ℕ
-  behind quota len notes = len + total (marked (are_kept_behind calendar host quota len notes) notes)
+  abbrev pub length_after : Option ℕ → ℕ → List Note → ℕ
+  length_after quota len notes = len + total (marked (are_kept_after calendar host quota len notes) notes)
 
-  pub next_behind : (quota : Option ℕ) (len : ℕ) (notes : List Note) (note : Note)
-      → are_kept_behind calendar host quota len (notes ++ note ∷ []) ≡ are_kept_behind calendar host quota len notes ++ fits quota (behind quota len notes) (size note) ∷ []
-  next_behind quota len [] note = let e : len ≡ len + 0 = omega arith in ap (λ n. fits quota n (size note) ∷ []) e
-  next_behind quota len (x ∷ notes) note =
+  pub next_after : (quota : Option ℕ) (len : ℕ) (notes : List Note) (note : Note)
+      → are_kept_after calendar host quota len (notes ++ note ∷ []) ≡ are_kept_after calendar host quota len notes ++ fits quota (length_after quota len notes) (size note) ∷ []
+  next_after quota len [] note = let e : len ≡ len + 0 = omega arith in ap (λ n. fits quota n (size note) ∷ []) e
+  next_after quota len (x ∷ notes) note =
       let t = fits quota len (size x) in
       let after = if t then len + size x else len in
       ap (λ l. t ∷ l) (
-      next_behind quota after notes note
-      ∙ ap (λ n. are_kept_behind calendar host quota after notes ++ fits quota n (size note) ∷ []) (grows_by t len x notes (are_kept_behind calendar host quota after notes))
+      next_after quota after notes note
+      ∙ ap (λ n. are_kept_after calendar host quota after notes ++ fits quota n (size note) ∷ []) (grows_by t len x notes (are_kept_after calendar host quota after notes))
       )
 
-  pub all_behind : (len : ℕ) (notes : List Note) → marked (are_kept_behind calendar host None len notes) notes ≡ notes
-  all_behind len [] = refl
-  all_behind len (note ∷ notes) = ap (λ l. note ∷ l) (all_behind (len + size note) notes)
+  pub all_after : (len : ℕ) (notes : List Note) → marked (are_kept_after calendar host None len notes) notes ≡ notes
+  all_after len [] = refl
+  all_after len (note ∷ notes) = ap (λ l. note ∷ l) (all_after (len + size note) notes)
 
   within_by : (t : Bool) (quota len size : ℕ) → nat_le (len + size) quota ≡ t → len ≤ quota → (if t then len + size else len) ≤ quota
   within_by true quota len size e h = leb-true (len + size) quota e
   within_by false quota len size e h = h
 
-  within_behind : (quota len : ℕ) (notes : List Note) → len ≤ quota → behind (Some quota) len notes ≤ quota
-  within_behind quota len [] h = omega (arith, h)
-  within_behind quota len (note ∷ notes) h =
+  within_after : (quota len : ℕ) (notes : List Note) → len ≤ quota → length_after (Some quota) len notes ≤ quota
+  within_after quota len [] h = omega (arith, h)
+  within_after quota len (note ∷ notes) h =
       let t = nat_le (len + size note) quota in
       let after = if t then len + size note else len in
-      let rest = within_behind quota after notes (within_by t quota len (size note) refl h) in
-      subst (λ n. n ≤ quota) (grows_by t len note notes (are_kept_behind calendar host (Some quota) after notes)) rest
+      let rest = within_after quota after notes (within_by t quota len (size note) refl h) in
+      subst (λ n. n ≤ quota) (grows_by t len note notes (are_kept_after calendar host (Some quota) after notes)) rest
 
   long : (old : List ℕ) (notes : List Note) → length (old ++ mended old) + total notes ≡ length (mailbox calendar host old notes)
   long old notes = sym (length-append (old ++ mended old) (flat_map (record_of calendar host) notes))
 
   pub all_kept : (old : List ℕ) (notes : List Note) → kept calendar host None old notes ≡ notes
   unfolding are_kept
-  all_kept old notes = all_behind (length (old ++ mended old)) notes
+  all_kept old notes = all_after (length (old ++ mended old)) notes
 
   pub kept_next : (quota : Option ℕ) (old : List ℕ) (notes : List Note) (note : Note)
       → are_kept calendar host quota old (notes ++ note ∷ [])
       ≡ are_kept calendar host quota old notes ++ fits quota (length (mailbox calendar host old (kept calendar host quota old notes))) (length (record_of calendar host note)) ∷ []
   unfolding are_kept
   kept_next quota old notes note =
-      next_behind quota (length (old ++ mended old)) notes note
+      next_after quota (length (old ++ mended old)) notes note
       ∙ ap (λ n. are_kept calendar host quota old notes ++ fits quota n (size note) ∷ []) (long old (kept calendar host quota old notes))
 
   pub kept_within : (quota : ℕ) (old : List ℕ) (notes : List Note) → length (old ++ mended old) ≤ quota
       → length (mailbox calendar host old (kept calendar host (Some quota) old notes)) ≤ quota
   unfolding are_kept
   kept_within quota old notes h =
-      subst (λ n. n ≤ quota) (long old (kept calendar host (Some quota) old notes)) (within_behind quota (length (old ++ mended old)) notes h)
+      subst (λ n. n ≤ quota) (long old (kept calendar host (Some quota) old notes)) (within_after quota (length (old ++ mended old)) notes h)

@@ -5,7 +5,7 @@ use Rattle.mail_world.specs.declared.Note.{Note}
 use Rattle.mail_world.specs.declared.Outcome.{Outcome}
 use Rattle.mail_world.specs.declared.Outcome.TheVariants.{Stored, Failed, OverQuota}
 use Rattle.mail_world.specs.Records.{Calendar, record_of, mended, mailbox}
-use Rattle.mail_world.specs.Quotas.{fits, are_kept_behind, are_kept, kept, marked, outcomes_settled}
+use Rattle.mail_world.specs.Quotas.{fits, are_kept_after, are_kept, kept, marked, outcomes_settled}
 use Rattle.mail_world.specs.Slips.{slip_of, slips_from}
 use Rattle.mail_world.proofs.Quotas.{kept_next}
 
@@ -50,15 +50,15 @@ marked-append (true ∷ marks) m (y ∷ ys) x e = ap (λ l. y ∷ l) (marked-app
 marked-append (false ∷ marks) m (y ∷ ys) x e = marked-append marks m ys x (omega (arith, e))
 
 module _ (calendar : Calendar) (host : List ℕ) (quota : Option ℕ) where
-  pub length-kept_behind : (notes : List Note) (len : ℕ) → length (are_kept_behind calendar host quota len notes) ≡ length notes
-  length-kept_behind [] len = refl
-  length-kept_behind (note ∷ notes) len =
+  pub length-kept_after : (notes : List Note) (len : ℕ) → length (are_kept_after calendar host quota len notes) ≡ length notes
+  length-kept_after [] len = refl
+  length-kept_after (note ∷ notes) len =
       let size = length (record_of calendar host note) in
-      ap (λ k. suc k) (length-kept_behind notes (if fits quota len size then len + size else len))
+      ap (λ k. suc k) (length-kept_after notes (if fits quota len size then len + size else len))
 
   pub length-are_kept : (old : List ℕ) (notes : List Note) → length (are_kept calendar host quota old notes) ≡ length notes
   unfolding are_kept
-  length-are_kept old notes = length-kept_behind notes (length (old ++ mended old))
+  length-are_kept old notes = length-kept_after notes (length (old ++ mended old))
 
   -- the record of the note may stand after those that the mailbox keeps of these
   abbrev pub fits_after : List ℕ → List Note → Note → Bool

@@ -17,12 +17,12 @@ same_window a a' b [] e f = refl
 same_window a a' b (c ∷ text) e f = rw (e, f) refl
 
 -- a dot is dropped, and the byte after it stands at the line's start
-behind_dot_by : (d : ℕ) (text : List ℕ) (t : Bool) → (d == dot) ≡ t → length (again dot d text) ≤ length text
+after_dot_by : (d : ℕ) (text : List ℕ) (t : Bool) → (d == dot) ≡ t → length (again dot d text) ≤ length text
     → length (cond t (dot ∷ d ∷ with_dots lf d (without_dots dot d text)) (d ∷ with_dots lf d (without_dots dot d text))) ≤ suc (suc (length text))
-behind_dot_by d text true e ih =
+after_dot_by d text true e ih =
     let same : length (with_dots lf d (without_dots dot d text)) ≡ length (again dot d text) = ap length (same_window lf dot d (without_dots dot d text) refl refl) in
     omega arith
-behind_dot_by d text false e ih =
+after_dot_by d text false e ih =
     let same : length (with_dots lf d (without_dots dot d text)) ≡ length (again dot d text) = ap length (same_window lf dot d (without_dots dot d text) refl refl) in
     omega arith
 
@@ -40,13 +40,13 @@ shorter : (a b : ℕ) (text : List ℕ) → length (again a b text) ≤ length t
 shorter a b [] = omega arith
 shorter a b (c ∷ []) = shorter_by a b c [] ((a == cr) && (b == lf) && (c == dot)) refl (shorter b c []) (omega arith)
 shorter a b (c ∷ d ∷ text) =
-    shorter_by a b c (d ∷ text) ((a == cr) && (b == lf) && (c == dot)) refl (shorter b c (d ∷ text)) (behind_dot_by d text (d == dot) refl (shorter dot d text))
+    shorter_by a b c (d ∷ text) ((a == cr) && (b == lf) && (c == dot)) refl (shorter b c (d ∷ text)) (after_dot_by d text (d == dot) refl (shorter dot d text))
 
 pub stuffed_shortest : (text t : List ℕ) → EmptyOrEndsIn crlf text → (e : ℕ) → data_end t ≡ Some e → length t ≡ e + 3 → message t ≡ text → length (stuffed text) ≤ length t
 unfolding message stuffed
 stuffed_shortest text t lines e found last same =
     let read : unstuffed (take e t) ≡ text = ap (λ o. unstuffed (take (unwrap_or o (length t)) t)) (sym found) ∙ same in
     let kept : length (with_dots cr lf (unstuffed (take e t))) ≤ length (take e t) = shorter cr lf (take e t) in
-    let front : length (take e t) ≡ e = length-take-le e t (omega arith) in
+    let prefix : length (take e t) ≡ e = length-take-le e t (omega arith) in
     let all : length (with_dots cr lf (unstuffed (take e t))) ≡ length (with_dots cr lf text) = ap (λ l. length (with_dots cr lf l)) read in
     omega (arith, length-append (with_dots cr lf text) (dot ∷ crlf))

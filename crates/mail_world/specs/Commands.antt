@@ -32,17 +32,17 @@ Answer = Result Command BadCommand
 abbrev pub trimmed : List ℕ → List ℕ
 trimmed text = take (length text - suffix_len (has_byte (space ∷ tab ∷ [])) text) text
 
-abbrev pub behind_spaces : List ℕ → List ℕ
-behind_spaces text = drop (prefix_len (λ b. b == space) text) text
+abbrev pub after_spaces : List ℕ → List ℕ
+after_spaces text = drop (prefix_len (λ b. b == space) text) text
 
 -- the same word, whatever the case of its letters
 abbrev pub is_word : List ℕ → List ℕ → Bool
 is_word word text = str_eq_ignore_ascii_case text word
 
 -- what stands after `FROM:` or `TO:` and spaces, if the text begins so
-abbrev pub behind_label : List ℕ → List ℕ → Option (List ℕ)
-behind_label label text =
-    if is_word label (take (length label) text) then Some (behind_spaces (drop (length label) text)) else None
+abbrev pub after_label : List ℕ → List ℕ → Option (List ℕ)
+after_label label text =
+    if is_word label (take (length label) text) then Some (after_spaces (drop (length label) text)) else None
 
 -- `LHLO` names the client
 abbrev pub is_client_name : List ℕ → Bool
@@ -146,15 +146,15 @@ by_verb limit verb rest =
     else if is_word (codes "RSET") verb then alone Rset rest
     else if is_word (codes "QUIT") verb then alone Quit rest
     else if is_word (codes "LHLO") verb then (if is_client_name rest then Ok (Lhlo rest) else Err bad.ClientName)
-    else if is_word (codes "MAIL") verb then mail limit (behind_label (codes "FROM:") rest)
-    else if is_word (codes "RCPT") verb then rcpt (behind_label (codes "TO:") rest)
+    else if is_word (codes "MAIL") verb then mail limit (after_label (codes "FROM:") rest)
+    else if is_word (codes "RCPT") verb then rcpt (after_label (codes "TO:") rest)
     else Err bad.Unknown
 
 -- The verb stands before the first space, the rest after it and after further spaces. The limit is that of a message.
 unfoldable pub command_at : ℕ → List ℕ → Answer
 command_at limit line =
     let w = trimmed line in
-    by_verb limit (before_first (λ b. b == space) w) (behind_spaces (after_first (λ b. b == space) w))
+    by_verb limit (before_first (λ b. b == space) w) (after_spaces (after_first (λ b. b == space) w))
 
 -- so it is where the site names no other limit
 abbrev pub command : List ℕ → Answer

@@ -83,8 +83,8 @@ unfoldable pub parts : Site → Session → List ℕ → List Disposition → Li
 parts site session s ds = parts_within (length s) site session s ds
 
 -- the session after parts, how many bytes they take, and how many of them are data
-abbrev pub session_behind : Site → Session → List Part → Session
-session_behind site session ps = session_after site session (flat_map inputs_of ps)
+abbrev pub session_after_parts : Site → Session → List Part → Session
+session_after_parts site session ps = session_after site session (flat_map inputs_of ps)
 
 abbrev pub size_of : Part → ℕ
 size_of (CommandLine text) = length text + 2
@@ -113,7 +113,7 @@ NoDataEnded _ s = ⊤
 pub record HasDispositions (site : Site) (session : Session) (s : List ℕ) (ds : List Disposition) : Type 0 where
   pub outcomes : AllFit site session (parts site session s ds)
   pub none_left : count_by is_data (parts site session s ds) ≡ length ds
-  pub none_lacks : NoDataEnded (session_behind site session (parts site session s ds)).state
+  pub none_lacks : NoDataEnded (session_after_parts site session (parts site session s ds)).state
       (drop (sum_by size_of (parts site session s ds)) s)
 
 -- what the peer sent until the conversation ended, what became of its data, and whether the peer said to stop
@@ -133,7 +133,7 @@ stop_at _ stopped = if stopped then Stop ∷ [] else []
 unfoldable pub inputs : Site → Conversation → List Input
 inputs site c =
     let ps = parts site fresh c.bytes c.dispositions in
-    flat_map inputs_of ps ++ stop_at (session_behind site fresh ps).state c.stopped
+    flat_map inputs_of ps ++ stop_at (session_after_parts site fresh ps).state c.stopped
 
 -- the account of a conversation is complete
 abbrev pub IsAccount : Site → Conversation → Type 0

@@ -4,7 +4,7 @@ use Rattle.mail_world.specs.declared.Outcome.{Outcome}
 use Rattle.mail_world.specs.declared.Verdict.{Verdict}
 use Rattle.mail_world.specs.declared.Verdict.TheVariants as verdicts
 use Rattle.mail_world.specs.declared.Note.{Note}
-use Rattle.mail_world.specs.Fronts.{IsFront}
+use Rattle.mail_world.specs.Prefixes.{IsPrefix}
 use Rattle.mail_world.specs.Site.{Site}
 use Rattle.mail_world.specs.Conversation.{Conversation}
 use Rattle.mail_world.specs.Lists.{Transaction, transactions}
@@ -34,4 +34,4 @@ outcomes_told site box cs = told_all box (transactions site 0 cs)
 -- after the whole records there is nothing, or a prefix of the record of the first copy that is lost
 abbrev pub IsTorn : Calendar → List ℕ → List Note → List ℕ → Type 0
 IsTorn calendar host [] torn = torn ≡ []
-IsTorn calendar host (note ∷ lost) torn = IsFront torn (record_of calendar host note)
+IsTorn calendar host (note ∷ lost) torn = IsPrefix torn (record_of calendar host note)

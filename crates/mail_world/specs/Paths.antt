@@ -25,22 +25,22 @@ pub record Found (A : Type 0) : Type 0 where
   pub rest : List ℕ
 
 -- the first n bytes, if there are any
-abbrev pub some_front : ℕ → List ℕ → Option (Found (List ℕ))
-some_front n text = if n == 0 then None else Some (record { value = take n text; rest = drop n text })
+abbrev pub some_prefix : ℕ → List ℕ → Option (Found (List ℕ))
+some_prefix n text = if n == 0 then None else Some (record { value = take n text; rest = drop n text })
 
 abbrev pub plain_local : List ℕ → Option (Found (List ℕ))
-plain_local text = some_front (prefix_len is_plain text) text
+plain_local text = some_prefix (prefix_len is_plain text) text
 
 abbrev pub quoted_local : List ℕ → Option (Found (List ℕ))
 quoted_local text = option_map (λ n. record { value = take n text; rest = drop (n + 1) text }) (quoted_len false text)
 
 abbrev pub domain_at : List ℕ → Option (Found (List ℕ))
-domain_at text = let n = prefix_len is_of_domain text in if nat_lt NAME_LIMIT n then None else some_front n text
+domain_at text = let n = prefix_len is_of_domain text in if nat_lt NAME_LIMIT n then None else some_prefix n text
 
 -- an address in brackets, with them
 abbrev pub literal_at : List ℕ → Option (Found (List ℕ))
 literal_at text = let n = prefix_len is_of_literal (drop 1 text) in
-    if (n == 0) || not (begins (byte "]") (drop (n + 1) text)) then None else some_front (n + 2) text
+    if (n == 0) || not (begins (byte "]") (drop (n + 1) text)) then None else some_prefix (n + 2) text
 
 abbrev pub host_at : List ℕ → Option (Found (List ℕ))
 host_at text = if begins (byte "[") text then literal_at text else domain_at text
@@ -66,8 +66,8 @@ abbrev pub is_hop : List ℕ → Bool
 is_hop text = begins (byte "@") text && is_domain (drop 1 text)
 
 -- the text after a source route, which is dropped (RFC 5321, Appendix C); the text itself where no at sign begins one
-abbrev pub behind_route : List ℕ → Option (List ℕ)
-behind_route text =
+abbrev pub after_route : List ℕ → Option (List ℕ)
+after_route text =
     if not (begins (byte "@") text) then Some text
     else if has_byte text (byte ":")
     && list_all is_hop (slice_split (λ b. b == byte ",") (before_first (λ b. b == byte ":") text))
@@ -90,7 +90,7 @@ closed_at text found =
 unfoldable pub forward_path : List ℕ → Option (Found Path)
 forward_path text =
     if begins (byte "<") text
-    then option_and_then (λ inner. option_and_then (closed_at inner) (mailbox_at inner)) (behind_route (drop 1 text))
+    then option_and_then (λ inner. option_and_then (closed_at inner) (mailbox_at inner)) (after_route (drop 1 text))
     else None
 
 -- of a reverse path the mailbox alone counts, which is empty for `<>`

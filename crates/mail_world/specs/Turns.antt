@@ -5,7 +5,7 @@ use Rattle.mail_world.specs.declared.Note.{Note}
 use Rattle.mail_world.specs.declared.Outcome.{Outcome}
 use Rattle.mail_world.specs.declared.Outcome.TheVariants.{Stored, Failed, OverQuota}
 use Rattle.mail_world.specs.Failures.{Rises}
-use Rattle.mail_world.specs.Fronts.{IsFront}
+use Rattle.mail_world.specs.Prefixes.{IsPrefix}
 use Rattle.mail_world.specs.Records.{Calendar, record_of, mended}
 use Rattle.mail_world.specs.Quotas.{fits}
 
@@ -51,7 +51,7 @@ pub record IsBrokenTurn (calendar : Calendar) (host : List ℕ) (quota : Option 
   pub room : has_room calendar host quota note lock.bytes ≡ true
   pub failed : Rises lock.failures unlock.failures
   pub prefix : List ℕ
-  pub part : IsFront prefix (addition calendar host note lock.bytes)
+  pub part : IsPrefix prefix (addition calendar host note lock.bytes)
   pub left : unlock.bytes ≡ lock.bytes ++ prefix
 
 -- the turn of a copy, by what its lane is told

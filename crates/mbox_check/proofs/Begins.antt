@@ -8,12 +8,12 @@ use Rattle.mbox_record.specs.Letters.{is_boundary}
 use Rattle.mbox_record.proofs.Bodies.{begins_from}
 use Rattle.mbox_check.specs.declared.place.Part.{Part}
 use Rattle.mbox_check.specs.declared.place.Part.TheVariants.{Nothing, F, Fr, Fro, From}
-use Rattle.mbox_check.specs.declared.place.Place.{Place}
-use Rattle.mbox_check.specs.declared.place.Place.TheVariants.{Front, Open, Line, Inside}
-use Rattle.mbox_check.specs.Form.{IsMailbox, BeginsMailbox}
-use Rattle.mbox_check.specs.Places.{part_text, next_byte, longer, is_nothing, is_whole}
-use Rattle.mbox_check.specs.SoFar.{EndsInLine, IsBody, IsOpen, IsLine, IsInside, IsAt}
-use Rattle.mbox_check.proofs.Bodies.{ends_behind, text_short, line_short, body_line, body_ended, body_first, body_begins, begins_shorter, body_begins_mailbox}
+use Rattle.mbox_check.specs.declared.place.FormPlace.{FormPlace}
+use Rattle.mbox_check.specs.declared.place.FormPlace.TheVariants.{Start, Open, Line, Inside}
+use Rattle.mbox_check.specs.Form.{IsMailboxOf, BeginsMailbox}
+use Rattle.mbox_check.specs.Places.{part_text, next_byte, longer_part, is_nothing, is_whole}
+use Rattle.mbox_check.specs.SoFar.{EndsInLine, IsBody, IsOpen, IsLine, IsInsideLine, IsAt}
+use Rattle.mbox_check.proofs.Bodies.{ends_after, text_short, line_short, body_line, body_ended, body_first, body_begins, begins_shorter, body_begins_mailbox}
 
 -- ---- parts of `From `
 
@@ -50,14 +50,14 @@ abbrev pub text_of : Option Part → List ℕ
 text_of (Some part) = part_text part
 text_of None = codes "From "
 
-part_longer : (part : Part) → part_text part ++ next_byte part ∷ [] ≡ text_of (longer part)
+part_longer : (part : Part) → part_text part ++ next_byte part ∷ [] ≡ text_of (longer_part part)
 part_longer Nothing = refl
 part_longer F = refl
 part_longer Fr = refl
 part_longer Fro = refl
 part_longer From = refl
 
-pub part_grown : (part : Part) (text start : List ℕ) (b : ℕ) (o : Option Part) → text ≡ start ++ part_text part → next_byte part ≡ b → longer part ≡ o
+pub part_grown : (part : Part) (text start : List ℕ) (b : ℕ) (o : Option Part) → text ≡ start ++ part_text part → next_byte part ≡ b → longer_part part ≡ o
     → text ++ b ∷ [] ≡ start ++ text_of o
 part_grown part text start b o e f g =
     ap (λ (l : List ℕ). l ++ b ∷ []) e ∙ append_assoc start (part_text part) (b ∷ []) ∙ ap (λ c. start ++ (part_text part ++ c ∷ [])) (sym f)
@@ -87,13 +87,13 @@ boundary_part From e = refl
 
 part_ends : (part : Part) → is_nothing part ≡ false → EndsInLine (part_text part)
 part_ends Nothing e = absurd (true≢false e)
-part_ends F e = record { front = []; last = 70; whole = refl; other = refl }
-part_ends Fr e = record { front = codes "F"; last = 114; whole = refl; other = refl }
-part_ends Fro e = record { front = codes "Fr"; last = 111; whole = refl; other = refl }
-part_ends From e = record { front = codes "Fro"; last = 109; whole = refl; other = refl }
+part_ends F e = record { prefix = []; last = 70; whole = refl; other = refl }
+part_ends Fr e = record { prefix = codes "F"; last = 114; whole = refl; other = refl }
+part_ends Fro e = record { prefix = codes "Fr"; last = 111; whole = refl; other = refl }
+part_ends From e = record { prefix = codes "Fro"; last = 109; whole = refl; other = refl }
 
 pub ends_in_part : (part : Part) (text start : List ℕ) → text ≡ start ++ part_text part → is_nothing part ≡ false → EndsInLine text
-ends_in_part part text start e some = subst EndsInLine (sym e) (ends_behind start (part_text part) (part_ends part some))
+ends_in_part part text start e some = subst EndsInLine (sym e) (ends_after start (part_text part) (part_ends part some))
 
 -- ---- a part of `From ` after the lines of a letter
 
@@ -126,8 +126,8 @@ part_begins text letters part are e =
     sym (append_assoc text (part_text part) rest ∙ ap (λ (l : List ℕ). text ++ l) (part_whole part)) in
     begins_shorter (text ++ part_text part) rest (subst BeginsMailbox whole (body_begins_mailbox _ _ (body_first text letters [] are e (literal [] refl))))
 
-pub at_begins : (place : Place) (text : List ℕ) (n : ℕ) → IsAt text n place → BeginsMailbox text
-at_begins (Front part) text n at = subst BeginsMailbox (sym at.1) (part_begins [] [] part tt refl)
+pub at_begins : (place : FormPlace) (text : List ℕ) (n : ℕ) → IsAt text n place → BeginsMailbox text
+at_begins (Start part) text n at = subst BeginsMailbox (sym at.1) (part_begins [] [] part tt refl)
 at_begins (Open part) text n at =
     let ended = body_ended at.before n at.body in
     subst BeginsMailbox (sym at.whole) (part_begins (at.before ++ lf ∷ []) ended.letters part ended.is.are (sym ended.is.whole))
@@ -136,16 +136,16 @@ at_begins Inside text n at = begins_shorter text (lf ∷ []) (body_begins_mailbo
 
 -- ---- where it may not end
 
-line_part_short : (part : Part) (text : List ℕ) (n : ℕ) → IsLine text n part → (letters : List Letter) → IsMailbox text letters → ⊥
+line_part_short : (part : Part) (text : List ℕ) (n : ℕ) → IsLine text n part → (letters : List Letter) → IsMailboxOf text letters → ⊥
 line_part_short Nothing text n l letters m =
-    line_short l.before l.ends letters (subst (λ (x : List ℕ). IsMailbox x letters) (l.whole ∙ append-nil (l.before ++ lf ∷ [])) m)
+    line_short l.before l.ends letters (subst (λ (x : List ℕ). IsMailboxOf x letters) (l.whole ∙ append-nil (l.before ++ lf ∷ [])) m)
 line_part_short F text n l letters m = text_short text (ends_in_part F text (l.before ++ lf ∷ []) l.whole refl) letters m
 line_part_short Fr text n l letters m = text_short text (ends_in_part Fr text (l.before ++ lf ∷ []) l.whole refl) letters m
 line_part_short Fro text n l letters m = text_short text (ends_in_part Fro text (l.before ++ lf ∷ []) l.whole refl) letters m
 line_part_short From text n l letters m = text_short text (ends_in_part From text (l.before ++ lf ∷ []) l.whole refl) letters m
 
-pub at_short : (place : Place) (text : List ℕ) (n : ℕ) → IsAt text n place → is_whole place ≡ false → (letters : List Letter) → IsMailbox text letters → ⊥
-at_short (Front part) text n at e = text_short text (ends_in_part part text [] at.1 e)
+pub at_short : (place : FormPlace) (text : List ℕ) (n : ℕ) → IsAt text n place → is_whole place ≡ false → (letters : List Letter) → IsMailboxOf text letters → ⊥
+at_short (Start part) text n at e = text_short text (ends_in_part part text [] at.1 e)
 at_short (Open part) text n at e = text_short text (ends_in_part part text (at.before ++ lf ∷ []) at.whole e)
 at_short (Line part) text n at e = line_part_short part text n at
 at_short Inside text n at e = text_short text at.ends
@@ -155,8 +155,8 @@ at_short Inside text n at e = text_short text at.ends
 all_of : (text : List ℕ) → is_boundary (text ++ []) ≡ true → is_boundary text ≡ true
 all_of text e = ap is_boundary (sym (append-nil text)) ∙ e
 
-pub front_bad : (part : Part) (text : List ℕ) → text ≡ part_text part → is_nothing part ≡ false → is_boundary text ≡ false
-front_bad part text e some = ap is_boundary e ∙ boundary_part part some
+pub start_bad : (part : Part) (text : List ℕ) → text ≡ part_text part → is_nothing part ≡ false → is_boundary text ≡ false
+start_bad part text e some = ap is_boundary e ∙ boundary_part part some
 
 pub open_good : (part : Part) (text : List ℕ) (n : ℕ) → IsOpen text n part → is_boundary text ≡ true
 open_good part text n o = all_of text (started_begins text n part [] (open_started text n part o))
@@ -164,5 +164,5 @@ open_good part text n o = all_of text (started_begins text n part [] (open_start
 pub line_good : (part : Part) (text : List ℕ) (n : ℕ) → IsLine text n part → is_boundary text ≡ true
 line_good part text n l = all_of text (started_begins text n part [] (line_started text n part l))
 
-pub inside_good : (text : List ℕ) (n : ℕ) → IsInside text n → is_boundary text ≡ true
+pub inside_good : (text : List ℕ) (n : ℕ) → IsInsideLine text n → is_boundary text ≡ true
 inside_good text n i = all_of text (i.begins [])

@@ -14,41 +14,41 @@ use Rattle.mail_world.proofs.OneReading.{all-append}
 use Rattle.mbox_record.specs.Letters.{is_boundary}
 use Rattle.mbox_record.proofs.Bodies.{begins_from, lines-whole}
 use Rattle.mbox_record.proofs.Mailboxes.{letter-lines, boundary-letters}
-use Rattle.mbox_check.specs.Form.{IsMailbox, BeginsMailbox}
+use Rattle.mbox_check.specs.Form.{IsMailboxOf, BeginsMailbox}
 use Rattle.mbox_check.specs.SoFar.{EndsInLine, IsBody}
 use Rattle.mbox_check.proofs.MailLines.{no_nil, written_end}
 
 -- ---- a text whose last byte isn't LF
 
-pub ends_not_lf : (text front : List ℕ) → EndsInLine text → text ≡ front ++ lf ∷ [] → ⊥
-ends_not_lf text front s e =
-    let same = same_from_push s.front front s.last lf (sym s.whole ∙ e) in
+pub ends_not_lf : (text prefix : List ℕ) → EndsInLine text → text ≡ prefix ++ lf ∷ [] → ⊥
+ends_not_lf text prefix s e =
+    let same = same_from_push s.prefix prefix s.last lf (sym s.whole ∙ e) in
     let is : (s.last == lf) ≡ (lf == lf) = ap (λ c. c == lf) same.1 in
     true≢false (sym is ∙ s.other)
 
 pub ends_not_empty : (text : List ℕ) → EndsInLine text → text ≡ [] → ⊥
-ends_not_empty text s e = no_nil s.front [] s.last (sym e ∙ s.whole)
+ends_not_empty text s e = no_nil s.prefix [] s.last (sym e ∙ s.whole)
 
-pub ends_behind : (front text : List ℕ) → EndsInLine text → EndsInLine (front ++ text)
-ends_behind front text s = record {
-  front = front ++ s.front;
+pub ends_after : (prefix text : List ℕ) → EndsInLine text → EndsInLine (prefix ++ text)
+ends_after prefix text s = record {
+  prefix = prefix ++ s.prefix;
   last = s.last;
-  whole = ap (λ l. front ++ l) s.whole ∙ sym (append_assoc front s.front (s.last ∷ []));
+  whole = ap (λ l. prefix ++ l) s.whole ∙ sym (append_assoc prefix s.prefix (s.last ∷ []));
   other = s.other;
 }
 
 pub line_ends : (b : ℕ) (line : List ℕ) → IsOneLine (b ∷ line) → EndsInLine (b ∷ line)
-line_ends b [] h = record { front = []; last = b; whole = refl; other = head_byte b [] h }
-line_ends b (c ∷ line) h = ends_behind (b ∷ []) (c ∷ line) (line_ends c line (one_line-tail b (c ∷ line) h))
+line_ends b [] h = record { prefix = []; last = b; whole = refl; other = head_byte b [] h }
+line_ends b (c ∷ line) h = ends_after (b ∷ []) (c ∷ line) (line_ends c line (one_line-tail b (c ∷ line) h))
 
 -- it isn't a mailbox, and neither is it with one LF
-pub text_short : (text : List ℕ) → EndsInLine text → (letters : List Letter) → IsMailbox text letters → ⊥
+pub text_short : (text : List ℕ) → EndsInLine text → (letters : List Letter) → IsMailboxOf text letters → ⊥
 text_short text s letters m = elim (written_end letters) [
   | inl e ↦ ends_not_empty text s (sym m.whole ∙ ap written e)
   | inr f ↦ ends_not_lf text (f.0 ++ lf ∷ []) s (sym m.whole ∙ f.1 ∙ sym (append_assoc f.0 (lf ∷ []) (lf ∷ [])))
 ]
 
-pub line_short : (text : List ℕ) → EndsInLine text → (letters : List Letter) → IsMailbox (text ++ lf ∷ []) letters → ⊥
+pub line_short : (text : List ℕ) → EndsInLine text → (letters : List Letter) → IsMailboxOf (text ++ lf ∷ []) letters → ⊥
 line_short text s letters m = elim (written_end letters) [
   | inl e ↦ no_nil text [] lf (sym (sym m.whole ∙ ap written e))
   | inr f ↦ ends_not_lf text f.0 s (same_from_push text (f.0 ++ lf ∷ []) lf lf (sym m.whole ∙ f.1 ∙ sym (append_assoc f.0 (lf ∷ []) (lf ∷ [])))).0
@@ -92,10 +92,10 @@ unquoted_one (b ∷ line) h = unquoted_by b line ((b == byte ">") && is_from_lin
 
 lines-push : (ls : List (List ℕ)) (line : List ℕ) → begins_from line ≡ false → with_lf (map quoted ls) ++ (line ++ lf ∷ []) ≡ with_lf (map quoted (ls ++ unquoted line ∷ []))
 lines-push ls line plain =
-    let front : List ℕ = with_lf (map quoted ls) in
+    let prefix : List ℕ = with_lf (map quoted ls) in
     let u : List ℕ = unquoted line in
-    ap (λ l. front ++ (l ++ lf ∷ [])) (sym (quoted_unquoted line plain))
-    ∙ ap (λ l. front ++ l) (sym (append-nil (quoted u ++ lf ∷ [])))
+    ap (λ l. prefix ++ (l ++ lf ∷ [])) (sym (quoted_unquoted line plain))
+    ∙ ap (λ l. prefix ++ l) (sym (append-nil (quoted u ++ lf ∷ [])))
     ∙ sym (flat_map-append (λ l. l ++ lf ∷ []) (map quoted ls) (quoted u ∷ []))
     ∙ ap with_lf (sym (map-append quoted ls (u ∷ [])))
 
@@ -122,7 +122,7 @@ body_line text n line b h plain = record {
 -- the letters of a mailbox that ends here
 pub record IsEnded (text : List ℕ) (n : ℕ) : Type 0 where
   pub letters : List Letter
-  pub is : IsMailbox text letters
+  pub is : IsMailboxOf text letters
   pub count : n ≡ length letters
 
 pub body_ended : (text : List ℕ) (n : ℕ) → IsBody text n → IsEnded (text ++ lf ∷ []) n
@@ -164,7 +164,7 @@ body_begins text n more b =
 
 pub begins_shorter : (text more : List ℕ) → BeginsMailbox (text ++ more) → BeginsMailbox text
 begins_shorter text more b =
-    record { more = more ++ b.more; letters = b.letters; is = subst (λ (l : List ℕ). IsMailbox l b.letters) (append_assoc text more b.more) b.is }
+    record { more = more ++ b.more; letters = b.letters; is = subst (λ (l : List ℕ). IsMailboxOf l b.letters) (append_assoc text more b.more) b.is }
 
 pub body_begins_mailbox : (text : List ℕ) (n : ℕ) → IsBody text n → BeginsMailbox text
 body_begins_mailbox text n b = let ended = body_ended text n b in record { more = lf ∷ []; letters = ended.letters; is = ended.is }

@@ -7,20 +7,20 @@ use Rattle.mail_world.specs.Text.{lf}
 use Rattle.mail_world.specs.Reading.{Letter, written}
 use Rattle.mbox_record.specs.Letters.{is_boundary}
 use Rattle.mbox_check.specs.declared.place.Part.{Part}
-use Rattle.mbox_check.specs.declared.place.Place.{Place}
-use Rattle.mbox_check.specs.declared.place.Place.TheVariants.{Front, Open, Line, Inside}
+use Rattle.mbox_check.specs.declared.place.FormPlace.{FormPlace}
+use Rattle.mbox_check.specs.declared.place.FormPlace.TheVariants.{Start, Open, Line, Inside}
 use Rattle.mbox_check.specs.declared.fault.BadForm.TheVariants.{NoFromLine, NoEmptyLine}
-use Rattle.mbox_check.specs.Form.{IsMailbox, BeginsMailbox, BreaksAt, IsBad}
-use Rattle.mbox_check.specs.Places.{part_text, next_byte, longer, is_whole, bad_at}
+use Rattle.mbox_check.specs.Form.{IsMailboxOf, BeginsMailbox, BreaksAt, IsBad}
+use Rattle.mbox_check.specs.Places.{part_text, next_byte, longer_part, is_whole, bad_at}
 use Rattle.mbox_check.specs.SoFar.{IsLine, IsAt}
-use Rattle.mbox_check.proofs.MailLines.{from_behind}
+use Rattle.mbox_check.proofs.MailLines.{from_after}
 use Rattle.mbox_record.proofs.Mailboxes.{boundary-letters}
 use Rattle.mbox_check.proofs.Bodies.{ends_not_lf, ends_not_empty}
-use Rattle.mbox_check.proofs.Begins.{part_grown, boundary_else, line_started, started_begins, at_begins, at_short, front_bad, open_good, line_good, inside_good}
+use Rattle.mbox_check.proofs.Begins.{part_grown, boundary_else, line_started, started_begins, at_begins, at_short, start_bad, open_good, line_good, inside_good}
 
-take_front : (text more : List ℕ) → take (length text) (text ++ more) ≡ text
-take_front [] more = refl
-take_front (b ∷ text) more = ap (λ l. b ∷ l) (take_front text more)
+take_prefix : (text more : List ℕ) → take (length text) (text ++ more) ≡ text
+take_prefix [] more = refl
+take_prefix (b ∷ text) more = ap (λ l. b ∷ l) (take_prefix text more)
 
 take_next : (text more : List ℕ) (b : ℕ) → take (suc (length text)) (text ++ b ∷ more) ≡ text ++ b ∷ []
 take_next [] more b = refl
@@ -31,12 +31,12 @@ breaks_next : (text more : List ℕ) (b : ℕ) → BeginsMailbox text → (Begin
 breaks_next text more b begins breaks =
     let long : length (text ++ b ∷ more) ≡ length text + suc (length more) = length-append text (b ∷ more) in record {
       within = omega arith;
-      before = subst BeginsMailbox (sym (take_front text (b ∷ more))) begins;
+      before = subst BeginsMailbox (sym (take_prefix text (b ∷ more))) begins;
       breaks = λ _ m. breaks (subst BeginsMailbox (take_next text more b) m);
       short = λ e. absurd (omega arith);
     }
 
-breaks_end : (text : List ℕ) → BeginsMailbox text → ((letters : List Letter) → IsMailbox text letters → ⊥) → BreaksAt text (length text)
+breaks_end : (text : List ℕ) → BeginsMailbox text → ((letters : List Letter) → IsMailboxOf text letters → ⊥) → BreaksAt text (length text)
 breaks_end text begins short = record {
   within = omega arith;
   before = subst BeginsMailbox (sym (take_all (length text) text (omega arith))) begins;
@@ -46,9 +46,9 @@ breaks_end text begins short = record {
 
 -- ---- at the end
 
-pub bad_end : (place : Place) (text : List ℕ) (n taken : ℕ) → taken ≡ counted (length text) → IsAt text n place → is_whole place ≡ false → IsBad text (bad_at place taken)
-bad_end (Front part) text n taken t at e =
-    (front_bad part text at.1 e, (length text, t, breaks_end text (at_begins (Front part) text n at) (at_short (Front part) text n at e)))
+pub bad_end : (place : FormPlace) (text : List ℕ) (n taken : ℕ) → taken ≡ counted (length text) → IsAt text n place → is_whole place ≡ false → IsBad text (bad_at place taken)
+bad_end (Start part) text n taken t at e =
+    (start_bad part text at.1 e, (length text, t, breaks_end text (at_begins (Start part) text n at) (at_short (Start part) text n at e)))
 bad_end (Open part) text n taken t at e =
     (open_good part text n at, (length text, t, breaks_end text (at_begins (Open part) text n at) (at_short (Open part) text n at e)))
 bad_end (Line part) text n taken t at e =
@@ -59,29 +59,29 @@ bad_end Inside text n taken t at e =
 -- ---- at a byte
 
 -- a mailbox doesn't begin with something else than a From line
-no_front : (part : Part) (text : List ℕ) (b : ℕ) → text ≡ part_text part → (next_byte part == b) ≡ false → BeginsMailbox (text ++ b ∷ []) → ⊥
-no_front part text b e f m =
+no_prefix : (part : Part) (text : List ℕ) (b : ℕ) → text ≡ part_text part → (next_byte part == b) ≡ false → BeginsMailbox (text ++ b ∷ []) → ⊥
+no_prefix part text b e f m =
     let good : is_boundary (written m.letters) ≡ true = ap is_boundary (sym (append-nil (written m.letters))) ∙ boundary-letters m.letters [] refl in
     let bad : is_boundary (text ++ b ∷ m.more) ≡ false = ap (λ (l : List ℕ). is_boundary (l ++ b ∷ m.more)) e ∙ boundary_else part b m.more f in
     true≢false (sym good ∙ ap is_boundary (m.is.whole ∙ append_assoc text (b ∷ []) m.more) ∙ bad)
 
-pub front_breaks : (part : Part) (text more : List ℕ) (n b taken : ℕ) → taken ≡ counted (length text) → IsAt text n (Front part) → (next_byte part == b) ≡ false
+pub start_breaks : (part : Part) (text more : List ℕ) (n b taken : ℕ) → taken ≡ counted (length text) → IsAt text n (Start part) → (next_byte part == b) ≡ false
     → IsBad (text ++ b ∷ more) (NoFromLine taken)
-front_breaks part text more n b taken t at e = (
+start_breaks part text more n b taken t at e = (
   ap (λ (l : List ℕ). is_boundary (l ++ b ∷ more)) at.1 ∙ boundary_else part b more e,
-  (length text, t, breaks_next text more b (at_begins (Front part) text n at) (no_front part text b at.1 e)),
+  (length text, t, breaks_next text more b (at_begins (Start part) text n at) (no_prefix part text b at.1 e)),
 )
 
 -- nor has it a From line after a line that isn't empty
-no_line : (part : Part) (text : List ℕ) (n b : ℕ) → IsLine text n part → next_byte part ≡ b → longer part ≡ None → BeginsMailbox (text ++ b ∷ []) → ⊥
+no_line : (part : Part) (text : List ℕ) (n b : ℕ) → IsLine text n part → next_byte part ≡ b → longer_part part ≡ None → BeginsMailbox (text ++ b ∷ []) → ⊥
 no_line part text n b l e f m =
-    let front : List ℕ = l.before ++ lf ∷ [] in
+    let prefix : List ℕ = l.before ++ lf ∷ [] in
     let whole : written m.letters ≡ l.before ++ lf ∷ (codes "From " ++ m.more) =
-    m.is.whole ∙ ap (λ (x : List ℕ). x ++ m.more) (part_grown part text front b None l.whole e f) ∙ append_assoc front (codes "From ") m.more
+    m.is.whole ∙ ap (λ (x : List ℕ). x ++ m.more) (part_grown part text prefix b None l.whole e f) ∙ append_assoc prefix (codes "From ") m.more
     ∙ append_assoc l.before (lf ∷ []) (codes "From " ++ m.more) in
-    elim (from_behind m.letters l.before m.more m.is.are whole) [ inl g ↦ ends_not_empty l.before l.ends g | inr g ↦ ends_not_lf l.before g.0 l.ends g.1 ]
+    elim (from_after m.letters l.before m.more m.is.are whole) [ inl g ↦ ends_not_empty l.before l.ends g | inr g ↦ ends_not_lf l.before g.0 l.ends g.1 ]
 
-pub line_breaks : (part : Part) (text more : List ℕ) (n b taken : ℕ) → taken ≡ counted (length text) → IsLine text n part → next_byte part ≡ b → longer part ≡ None
+pub line_breaks : (part : Part) (text more : List ℕ) (n b taken : ℕ) → taken ≡ counted (length text) → IsLine text n part → next_byte part ≡ b → longer_part part ≡ None
     → IsBad (text ++ b ∷ more) (NoEmptyLine taken)
 line_breaks part text more n b taken t l e f = (
   started_begins text n part (b ∷ more) (line_started text n part l),

@@ -9,20 +9,20 @@ use Rattle.mail_world.proofs.OneLine.{one_line-cons, one_line-append, literal}
 use Rattle.mbox_record.specs.Letters.{is_boundary}
 use Rattle.mbox_check.specs.declared.place.Part.{Part}
 use Rattle.mbox_check.specs.declared.place.Part.TheVariants.{Nothing, F, Fr, Fro, From}
-use Rattle.mbox_check.specs.declared.place.Place.{Place}
-use Rattle.mbox_check.specs.declared.place.Place.TheVariants.{Front, Open, Line, Inside}
+use Rattle.mbox_check.specs.declared.place.FormPlace.{FormPlace}
+use Rattle.mbox_check.specs.declared.place.FormPlace.TheVariants.{Start, Open, Line, Inside}
 use Rattle.mbox_check.specs.declared.place.Effect.{Effect}
 use Rattle.mbox_check.specs.declared.place.Effect.TheVariants.{To, Begin, Break}
 use Rattle.mbox_check.specs.Form.{IsBad}
-use Rattle.mbox_check.specs.Places.{part_text, next_byte, longer, is_nothing, line_place, front_with, open_with, line_with, effect_of, bad_at}
-use Rattle.mbox_check.specs.SoFar.{EndsInLine, IsBody, IsOpen, IsLine, IsInside, IsAt}
+use Rattle.mbox_check.specs.Places.{part_text, next_byte, longer_part, is_nothing, line_place, start_with, open_with, line_with, effect_at, bad_at}
+use Rattle.mbox_check.specs.SoFar.{EndsInLine, IsBody, IsOpen, IsLine, IsInsideLine, IsAt}
 use Rattle.mbox_record.proofs.Mailboxes.{boundary-letters}
-use Rattle.mbox_check.proofs.Bodies.{ends_behind, line_ends, body_line, body_ended, body_first}
+use Rattle.mbox_check.proofs.Bodies.{ends_after, line_ends, body_line, body_ended, body_first}
 use Rattle.mbox_check.proofs.Begins.{part_one, part_grown, part_else, ends_in_part, IsStarted, open_started, line_started, started_begins, started_line}
-use Rattle.mbox_check.proofs.Breaks.{front_breaks, line_breaks}
+use Rattle.mbox_check.proofs.Breaks.{start_breaks, line_breaks}
 
 -- the text with the byte
-abbrev pub LeadsTo : Place → List ℕ → ℕ → ℕ → Effect → Type 0
+abbrev pub LeadsTo : FormPlace → List ℕ → ℕ → ℕ → Effect → Type 0
 LeadsTo from text n b (To place) = IsAt (text ++ b ∷ []) n place
 LeadsTo from text n b Begin = IsAt (text ++ b ∷ []) (suc n) Inside
 LeadsTo from text n b Break = (more : List ℕ) (taken : ℕ) → taken ≡ counted (length text) → IsBad (text ++ b ∷ more) (bad_at from taken)
@@ -30,9 +30,9 @@ LeadsTo from text n b Break = (more : List ℕ) (taken : ℕ) → taken ≡ coun
 -- ---- a letter begins
 
 letter_begins : (text start : List ℕ) (n : ℕ) (letters : List Letter) → AreLetters letters → start ≡ written letters → n ≡ length letters → text ≡ start ++ codes "From "
-    → IsInside text (suc n)
+    → IsInsideLine text (suc n)
 letter_begins text start n letters are e count whole = record {
-  ends = subst EndsInLine (sym whole) (ends_behind start (codes "From ") (record { front = codes "From"; last = 32; whole = refl; other = refl }));
+  ends = subst EndsInLine (sym whole) (ends_after start (codes "From ") (record { prefix = codes "From"; last = 32; whole = refl; other = refl }));
   begins = λ more.
       ap is_boundary (ap (λ (l : List ℕ). l ++ more) (whole ∙ ap (λ (l : List ℕ). l ++ codes "From ") e) ∙ append_assoc (written letters) (codes "From ") more)
       ∙ boundary-letters letters (codes "From " ++ more) refl;
@@ -53,9 +53,9 @@ letter_begins text start n letters are e count whole = record {
 
 -- ---- inside a line
 
-pub inside_more : (text : List ℕ) (n b : ℕ) (piece : List ℕ) → IsInside text n → IsOneLine (b ∷ piece) → IsInside (text ++ b ∷ piece) n
+pub inside_more : (text : List ℕ) (n b : ℕ) (piece : List ℕ) → IsInsideLine text n → IsOneLine (b ∷ piece) → IsInsideLine (text ++ b ∷ piece) n
 inside_more text n b piece i one = record {
-  ends = ends_behind text (b ∷ piece) (line_ends b piece one);
+  ends = ends_after text (b ∷ piece) (line_ends b piece one);
   begins = λ more. ap is_boundary (append_assoc text (b ∷ piece) more) ∙ i.begins (b ∷ (piece ++ more));
   goes = λ more h.
       subst (λ (l : List ℕ). IsBody l n)
@@ -63,10 +63,10 @@ inside_more text n b piece i one = record {
       (i.goes (b ∷ (piece ++ more)) (one_line-append (b ∷ piece) more one h));
 }
 
-pub inside_lf : (text : List ℕ) (n : ℕ) → IsInside text n → IsLine (text ++ lf ∷ []) n Nothing
+pub inside_lf : (text : List ℕ) (n : ℕ) → IsInsideLine text n → IsLine (text ++ lf ∷ []) n Nothing
 inside_lf text n i = record { before = text; ends = i.ends; body = i.goes [] (literal [] refl); whole = sym (append-nil (text ++ lf ∷ [])) }
 
-inside_byte : (text : List ℕ) (n b : ℕ) → IsInside text n → (t : Bool) → (b == lf) ≡ t → LeadsTo Inside text n b (cond t (To (Line Nothing)) (To Inside))
+inside_byte : (text : List ℕ) (n b : ℕ) → IsInsideLine text n → (t : Bool) → (b == lf) ≡ t → LeadsTo Inside text n b (cond t (To (Line Nothing)) (To Inside))
 inside_byte text n b i true e = subst (λ c. IsLine (text ++ c ∷ []) n Nothing) (sym (eqb-true b lf e)) (inside_lf text n i)
 inside_byte text n b i false e = inside_more text n b [] i (one_line-cons b [] e (literal [] refl))
 
@@ -92,9 +92,9 @@ started_lf Fr text n s = started_line_lf Fr text n s refl
 started_lf Fro text n s = started_line_lf Fro text n s refl
 started_lf From text n s = started_line_lf From text n s refl
 
-started_else : (part : Part) (text : List ℕ) (n b : ℕ) → IsStarted text n part → (next_byte part == b) ≡ false → (b == lf) ≡ false → IsInside (text ++ b ∷ []) n
+started_else : (part : Part) (text : List ℕ) (n b : ℕ) → IsStarted text n part → (next_byte part == b) ≡ false → (b == lf) ≡ false → IsInsideLine (text ++ b ∷ []) n
 started_else part text n b s e f = record {
-  ends = record { front = text; last = b; whole = refl; other = f };
+  ends = record { prefix = text; last = b; whole = refl; other = f };
   begins = λ more. ap is_boundary (append_assoc text (b ∷ []) more) ∙ started_begins text n part (b ∷ more) s;
   goes = λ more one.
       let line : List ℕ = part_text part ++ b ∷ more in
@@ -116,17 +116,17 @@ started_byte part text n b s e false f = started_else part text n b s e f
 
 -- ---- at each place
 
-front_option : (part : Part) (text : List ℕ) (n b : ℕ) → IsAt text n (Front part) → next_byte part ≡ b → (o : Option Part) → longer part ≡ o
-    → LeadsTo (Front part) text n b (front_with o)
-front_option part text n b at e (Some more) f = (at.0, part_grown part text [] b (Some more) at.1 e f)
-front_option part text n b at e None f = letter_begins (text ++ b ∷ []) [] n [] tt refl at.0 (part_grown part text [] b None at.1 e f)
+start_option : (part : Part) (text : List ℕ) (n b : ℕ) → IsAt text n (Start part) → next_byte part ≡ b → (o : Option Part) → longer_part part ≡ o
+    → LeadsTo (Start part) text n b (start_with o)
+start_option part text n b at e (Some more) f = (at.0, part_grown part text [] b (Some more) at.1 e f)
+start_option part text n b at e None f = letter_begins (text ++ b ∷ []) [] n [] tt refl at.0 (part_grown part text [] b None at.1 e f)
 
-front_byte : (part : Part) (text : List ℕ) (n b : ℕ) → IsAt text n (Front part) → (t : Bool) → (next_byte part == b) ≡ t
-    → LeadsTo (Front part) text n b (cond t (front_with (longer part)) Break)
-front_byte part text n b at true e = front_option part text n b at (eqb-true (next_byte part) b e) (longer part) refl
-front_byte part text n b at false e = λ more taken t. front_breaks part text more n b taken t at e
+start_byte : (part : Part) (text : List ℕ) (n b : ℕ) → IsAt text n (Start part) → (t : Bool) → (next_byte part == b) ≡ t
+    → LeadsTo (Start part) text n b (cond t (start_with (longer_part part)) Break)
+start_byte part text n b at true e = start_option part text n b at (eqb-true (next_byte part) b e) (longer_part part) refl
+start_byte part text n b at false e = λ more taken t. start_breaks part text more n b taken t at e
 
-open_option : (part : Part) (text : List ℕ) (n b : ℕ) → IsOpen text n part → next_byte part ≡ b → (o : Option Part) → longer part ≡ o
+open_option : (part : Part) (text : List ℕ) (n b : ℕ) → IsOpen text n part → next_byte part ≡ b → (o : Option Part) → longer_part part ≡ o
     → LeadsTo (Open part) text n b (open_with o)
 open_option part text n b at e (Some more) f =
     record { before = at.before; body = at.body; whole = part_grown part text (at.before ++ lf ∷ []) b (Some more) at.whole e f }
@@ -136,23 +136,23 @@ open_option part text n b at e None f =
     (part_grown part text (at.before ++ lf ∷ []) b None at.whole e f)
 
 open_byte : (part : Part) (text : List ℕ) (n b : ℕ) → IsOpen text n part → (t : Bool) → (next_byte part == b) ≡ t
-    → LeadsTo (Open part) text n b (cond t (open_with (longer part)) (To (line_place part b)))
-open_byte part text n b at true e = open_option part text n b at (eqb-true (next_byte part) b e) (longer part) refl
+    → LeadsTo (Open part) text n b (cond t (open_with (longer_part part)) (To (line_place part b)))
+open_byte part text n b at true e = open_option part text n b at (eqb-true (next_byte part) b e) (longer_part part) refl
 open_byte part text n b at false e = started_byte part text n b (open_started text n part at) e (b == lf) refl
 
-line_option : (part : Part) (text : List ℕ) (n b : ℕ) → IsLine text n part → next_byte part ≡ b → (o : Option Part) → longer part ≡ o
+line_option : (part : Part) (text : List ℕ) (n b : ℕ) → IsLine text n part → next_byte part ≡ b → (o : Option Part) → longer_part part ≡ o
     → LeadsTo (Line part) text n b (line_with o)
 line_option part text n b at e (Some more) f =
     record { before = at.before; ends = at.ends; body = at.body; whole = part_grown part text (at.before ++ lf ∷ []) b (Some more) at.whole e f }
 line_option part text n b at e None f = λ more taken t. line_breaks part text more n b taken t at e f
 
 line_byte : (part : Part) (text : List ℕ) (n b : ℕ) → IsLine text n part → (t : Bool) → (next_byte part == b) ≡ t
-    → LeadsTo (Line part) text n b (cond t (line_with (longer part)) (To (line_place part b)))
-line_byte part text n b at true e = line_option part text n b at (eqb-true (next_byte part) b e) (longer part) refl
+    → LeadsTo (Line part) text n b (cond t (line_with (longer_part part)) (To (line_place part b)))
+line_byte part text n b at true e = line_option part text n b at (eqb-true (next_byte part) b e) (longer_part part) refl
 line_byte part text n b at false e = started_byte part text n b (line_started text n part at) e (b == lf) refl
 
-pub byte_leads : (place : Place) (text : List ℕ) (n b : ℕ) → IsAt text n place → LeadsTo place text n b (effect_of place b)
-byte_leads (Front part) text n b at = front_byte part text n b at (next_byte part == b) refl
+pub byte_leads : (place : FormPlace) (text : List ℕ) (n b : ℕ) → IsAt text n place → LeadsTo place text n b (effect_at place b)
+byte_leads (Start part) text n b at = start_byte part text n b at (next_byte part == b) refl
 byte_leads (Open part) text n b at = open_byte part text n b at (next_byte part == b) refl
 byte_leads (Line part) text n b at = line_byte part text n b at (next_byte part == b) refl
 byte_leads Inside text n b at = inside_byte text n b at (b == lf) refl

@@ -58,29 +58,29 @@ ends_later text line more e h = elim h [
   | inr f ↦ inr (line ++ lf ∷ f.0, e ∙ ap (λ (l : List ℕ). line ++ lf ∷ l) f.1 ∙ sym (append_assoc line (lf ∷ f.0) (lf ∷ [])))
 ]
 
-behind_by : (l : List ℕ) (ls : List (List ℕ)) (text more : List ℕ) → IsOneLine l → IsSpaced l ls → with_lf (l ∷ ls) ≡ text ++ lf ∷ (codes "From " ++ more)
+after_byte_by : (l : List ℕ) (ls : List (List ℕ)) (text more : List ℕ) → IsOneLine l → IsSpaced l ls → with_lf (l ∷ ls) ≡ text ++ lf ∷ (codes "From " ++ more)
     → ((rest : List ℕ) → with_lf ls ≡ rest ++ lf ∷ (codes "From " ++ more) → EmptyOrEndsIn (lf ∷ []) rest) → IsOneLine text ⊎ HasLine text → EmptyOrEndsIn (lf ∷ []) text
-behind_by l ls text more h s e ih (inl one) =
+after_byte_by l ls text more h s e ih (inl one) =
     let cut = same_cut l text (with_lf ls) (codes "From " ++ more) h one (sym (append_assoc l (lf ∷ []) (with_lf ls)) ∙ e) in
     inl (sym cut.0 ∙ first_is l ls more s cut.1)
-behind_by l ls text more h s e ih (inr c) =
+after_byte_by l ls text more h s e ih (inr c) =
     let after : List ℕ = codes "From " ++ more in
     let cut = same_cut l c.line (with_lf ls) (c.more ++ lf ∷ after) h c.one
     (sym (append_assoc l (lf ∷ []) (with_lf ls)) ∙ e ∙ ap (λ (t : List ℕ). t ++ lf ∷ after) c.whole ∙ append_assoc c.line (lf ∷ c.more) (lf ∷ after)) in
     ends_later text c.line c.more c.whole (ih c.more cut.1)
 
-behind_empty : (before : List ℕ) (ls : List (List ℕ)) (text more : List ℕ) → AllByRecursion IsOneLine ls → IsSpaced before ls
+after_empty : (before : List ℕ) (ls : List (List ℕ)) (text more : List ℕ) → AllByRecursion IsOneLine ls → IsSpaced before ls
     → with_lf ls ≡ text ++ lf ∷ (codes "From " ++ more) → EmptyOrEndsIn (lf ∷ []) text
-behind_empty before [] text more h s e = absurd (no_nil text (codes "From " ++ more) lf e)
-behind_empty before (l ∷ ls) text more h s e = behind_by l ls text more h.0 s.1 e (λ rest f. behind_empty l ls rest more h.1 s.1 f) (first_line text)
+after_empty before [] text more h s e = absurd (no_nil text (codes "From " ++ more) lf e)
+after_empty before (l ∷ ls) text more h s e = after_byte_by l ls text more h.0 s.1 e (λ rest f. after_empty l ls rest more h.1 s.1 f) (first_line text)
 
 -- a From line after other bytes stands after an empty line
-pub from_behind : (letters : List Letter) (text more : List ℕ) → AreLetters letters → written letters ≡ text ++ lf ∷ (codes "From " ++ more) → EmptyOrEndsIn (lf ∷ []) text
-from_behind letters text more h e = behind_empty [] (letters_lines letters) text more (letters_lines-each letters h) (spaced_mail letters) (sym (written-lines letters) ∙ e)
+pub from_after : (letters : List Letter) (text more : List ℕ) → AreLetters letters → written letters ≡ text ++ lf ∷ (codes "From " ++ more) → EmptyOrEndsIn (lf ∷ []) text
+from_after letters text more h e = after_empty [] (letters_lines letters) text more (letters_lines-each letters h) (spaced_mail letters) (sym (written-lines letters) ∙ e)
 
 -- the last line is empty
 abbrev pub EndsEmpty : List ℕ → Type 0
-EndsEmpty text = (front : List ℕ) × (text ≡ front ++ lf ∷ lf ∷ [])
+EndsEmpty text = (prefix : List ℕ) × (text ≡ prefix ++ lf ∷ lf ∷ [])
 
 letter_end_by : (first body : List ℕ) → EmptyOrEndsIn (lf ∷ []) body → EndsEmpty (first ++ (lf ∷ []) ++ body ++ (lf ∷ []))
 letter_end_by first body h =

@@ -11,13 +11,13 @@ use Rattle.mbox_check.specs.SoFar.{IsReadSoFar, HasTaken, BreaksIn}
 
 -- what the reader had is what came, and then what it has
 pub record IsReadUpTo (old new : Option (List ℕ)) (form : FormCheck) : Type 0 where
-  pub front : List ℕ
-  pub came : Consumes old new front
-  pub read : IsReadSoFar front form
+  pub prefix : List ℕ
+  pub came : Consumes old new prefix
+  pub read : IsReadSoFar prefix form
 
 pub read_more : (old mid new : Option (List ℕ)) (form next : FormCheck) (piece : List ℕ) → IsReadUpTo old mid form → Consumes mid new piece → HasTaken form next piece → IsReadUpTo old new next
 read_more old mid new form next piece r c h =
-    record { front = r.front ++ piece; came = Consumes-trans old mid new r.front piece r.came c; read = h.goes r.front r.read }
+    record { prefix = r.prefix ++ piece; came = Consumes-trans old mid new r.prefix piece r.came c; read = h.goes r.prefix r.read }
 
 -- the reader had no more than that, if it tells
 abbrev pub IsAllRead : Option (List ℕ) → FormCheck → Type 0
@@ -25,30 +25,30 @@ IsAllRead None form = ⊤
 IsAllRead (Some xs) form = IsReadSoFar xs form
 
 -- a read that gave nothing is the end
-all_read : (old mid new : Option (List ℕ)) (front : List ℕ) (form : FormCheck) → Consumes old mid front → Consumes mid new [] → IsAtEnd new → IsReadSoFar front form → IsAllRead old form
-all_read None mid new front form p q e s = tt
-all_read (Some xs) None new front form p q e s = absurd p
-all_read (Some xs) (Some ys) None front form p q e s = absurd q
-all_read (Some xs) (Some ys) (Some zs) front form p q e s =
-    subst (λ (l : List ℕ). IsReadSoFar l form) (sym (p ∙ ap (λ (l : List ℕ). front ++ l) (q ∙ e) ∙ append-nil front)) s
+all_read : (old mid new : Option (List ℕ)) (prefix : List ℕ) (form : FormCheck) → Consumes old mid prefix → Consumes mid new [] → IsAtEnd new → IsReadSoFar prefix form → IsAllRead old form
+all_read None mid new prefix form p q e s = tt
+all_read (Some xs) None new prefix form p q e s = absurd p
+all_read (Some xs) (Some ys) None prefix form p q e s = absurd q
+all_read (Some xs) (Some ys) (Some zs) prefix form p q e s =
+    subst (λ (l : List ℕ). IsReadSoFar l form) (sym (p ∙ ap (λ (l : List ℕ). prefix ++ l) (q ∙ e) ∙ append-nil prefix)) s
 
 pub read_end : (old mid new : Option (List ℕ)) (form : FormCheck) (n : ℕ) (buffer : List ℕ) → IsReadUpTo old mid form
     → Consumes mid new (take n buffer) × (n ≡ 0 → 0 < length buffer → IsAtEnd new) → n ≡ 0 → 0 < length buffer → IsAllRead old form
 read_end old mid new form n buffer r c e some =
-    all_read old mid new r.front form r.came (subst (λ k. Consumes mid new (take k buffer)) e c.0) (c.1 e some) r.read
+    all_read old mid new r.prefix form r.came (subst (λ k. Consumes mid new (take k buffer)) e c.0) (c.1 e some) r.read
 
 pub read_bad : (old : Option (List ℕ)) (form : FormCheck) (bad : BadForm) → IsAllRead old form → ((text : List ℕ) → IsReadSoFar text form → IsBad text bad) → IsFaultOf old (Form bad)
 read_bad None form bad s h = tt
 read_bad (Some xs) form bad s h = h xs s
 
 -- a piece breaks the form, whatever the reader has left
-broken_at : (xs : List ℕ) (new : Option (List ℕ)) (form : FormCheck) (front piece : List ℕ) (bad : BadForm) → Consumes (Some xs) new (front ++ piece) → IsReadSoFar front form
+broken_at : (xs : List ℕ) (new : Option (List ℕ)) (form : FormCheck) (prefix piece : List ℕ) (bad : BadForm) → Consumes (Some xs) new (prefix ++ piece) → IsReadSoFar prefix form
     → BreaksIn form piece bad → IsBad xs bad
-broken_at xs None form front piece bad p s h = absurd p
-broken_at xs (Some ys) form front piece bad p s h = subst (λ (l : List ℕ). IsBad l bad) (sym (p ∙ append_assoc front piece ys)) (h.goes front ys s)
+broken_at xs None form prefix piece bad p s h = absurd p
+broken_at xs (Some ys) form prefix piece bad p s h = subst (λ (l : List ℕ). IsBad l bad) (sym (p ∙ append_assoc prefix piece ys)) (h.goes prefix ys s)
 
 pub read_broken : (old mid new : Option (List ℕ)) (form : FormCheck) (piece : List ℕ) (bad : BadForm) → IsReadUpTo old mid form → Consumes mid new piece
     → BreaksIn form piece bad → IsFaultOf old (Form bad)
 read_broken None mid new form piece bad r c h = tt
 read_broken (Some xs) mid new form piece bad r c h =
-    broken_at xs new form r.front piece bad (Consumes-trans (Some xs) mid new r.front piece r.came c) r.read h
+    broken_at xs new form r.prefix piece bad (Consumes-trans (Some xs) mid new r.prefix piece r.came c) r.read h

@@ -11,12 +11,12 @@ use Rattle.mbox_check.specs.declared.fault.BadForm.{BadForm}
 use Rattle.mbox_check.specs.declared.form.FormCheck.{FormCheck}
 use Rattle.mbox_check.specs.declared.place.Part.{Part}
 use Rattle.mbox_check.specs.declared.place.Part.TheVariants.{Nothing, F, Fr, Fro, From}
-use Rattle.mbox_check.specs.declared.place.Place.{Place}
-use Rattle.mbox_check.specs.declared.place.Place.TheVariants.{Front, Open, Line, Inside}
+use Rattle.mbox_check.specs.declared.place.FormPlace.{FormPlace}
+use Rattle.mbox_check.specs.declared.place.FormPlace.TheVariants.{Start, Open, Line, Inside}
 use Rattle.mbox_check.specs.declared.place.Effect.TheVariants.{To, Begin, Break}
-use Rattle.mbox_check.specs.Form.{IsMailbox, IsBad, IsLetterCount}
-use Rattle.mbox_check.specs.Places.{part_text, is_nothing, is_whole, effect_of, bad_at}
-use Rattle.mbox_check.specs.SoFar.{IsInside, IsLine, IsAt, IsReadSoFar, HasTaken, BreaksIn}
+use Rattle.mbox_check.specs.Form.{IsMailboxOf, IsBad, IsLetterCount}
+use Rattle.mbox_check.specs.Places.{part_text, is_nothing, is_whole, effect_at, bad_at}
+use Rattle.mbox_check.specs.SoFar.{IsInsideLine, IsLine, IsAt, IsReadSoFar, HasTaken, BreaksIn}
 use Rattle.mbox_check.proofs.Bodies.{body_ended}
 use Rattle.mbox_check.proofs.Breaks.{bad_end}
 use Rattle.mbox_check.proofs.Bytes.{LeadsTo, byte_leads, inside_more, inside_lf}
@@ -31,41 +31,41 @@ one_more letters n e = omega arith
 
 -- ---- a byte
 
-pub byte_to : (form : FormCheck) (b : ℕ) (place : Place) → effect_of form.place b ≡ To place
+pub byte_to : (form : FormCheck) (b : ℕ) (place : FormPlace) → effect_at form.place b ≡ To place
     → HasTaken form (record form { place = place; taken = counted (form.taken + 1) }) (b ∷ [])
 byte_to form b place e = record {
-  goes = λ front s. record {
+  goes = λ prefix s. record {
     n = s.n;
     count = s.count;
-    taken = taken_on front (b ∷ []) form.taken 1 s.taken refl;
-    at = subst (λ x. LeadsTo form.place front s.n b x) e (byte_leads form.place front s.n b s.at);
+    taken = taken_on prefix (b ∷ []) form.taken 1 s.taken refl;
+    at = subst (λ x. LeadsTo form.place prefix s.n b x) e (byte_leads form.place prefix s.n b s.at);
   };
 }
 
-pub byte_begin : (form : FormCheck) (b : ℕ) → effect_of form.place b ≡ Begin
+pub byte_begin : (form : FormCheck) (b : ℕ) → effect_at form.place b ≡ Begin
     → HasTaken form (record form { letters = counted (form.letters + 1); place = Inside; taken = counted (form.taken + 1) }) (b ∷ [])
 byte_begin form b e = record {
-  goes = λ front s. record {
+  goes = λ prefix s. record {
     n = suc s.n;
     count = one_more form.letters s.n s.count;
-    taken = taken_on front (b ∷ []) form.taken 1 s.taken refl;
-    at = subst (λ x. LeadsTo form.place front s.n b x) e (byte_leads form.place front s.n b s.at);
+    taken = taken_on prefix (b ∷ []) form.taken 1 s.taken refl;
+    at = subst (λ x. LeadsTo form.place prefix s.n b x) e (byte_leads form.place prefix s.n b s.at);
   };
 }
 
-pub byte_break : (form : FormCheck) (b : ℕ) → effect_of form.place b ≡ Break → BreaksIn form (b ∷ []) (bad_at form.place form.taken)
+pub byte_break : (form : FormCheck) (b : ℕ) → effect_at form.place b ≡ Break → BreaksIn form (b ∷ []) (bad_at form.place form.taken)
 byte_break form b e = record {
-  goes = λ front more s. subst (λ x. LeadsTo form.place front s.n b x) e (byte_leads form.place front s.n b s.at) more form.taken s.taken;
+  goes = λ prefix more s. subst (λ x. LeadsTo form.place prefix s.n b x) e (byte_leads form.place prefix s.n b s.at) more form.taken s.taken;
 }
 
 -- ---- a line's rest
 
-inside_line : (text line : List ℕ) (n : ℕ) → IsInside text n → IsOneLine line → IsLine (text ++ (line ++ lf ∷ [])) n Nothing
+inside_line : (text line : List ℕ) (n : ℕ) → IsInsideLine text n → IsOneLine line → IsLine (text ++ (line ++ lf ∷ [])) n Nothing
 inside_line text [] n i one = inside_lf text n i
 inside_line text (b ∷ line) n i one =
     subst (λ (l : List ℕ). IsLine l n Nothing) (append_assoc text (b ∷ line) (lf ∷ [])) (inside_lf (text ++ b ∷ line) n (inside_more text n b line i one))
 
-inside_on : (text piece : List ℕ) (n : ℕ) → 0 < length piece → IsInside text n → IsOneLine piece → IsInside (text ++ piece) n
+inside_on : (text piece : List ℕ) (n : ℕ) → 0 < length piece → IsInsideLine text n → IsOneLine piece → IsInsideLine (text ++ piece) n
 inside_on text [] n some i one = absurd (omega arith)
 inside_on text (b ∷ piece) n some i one = inside_more text n b piece i one
 
@@ -76,12 +76,12 @@ line_taken form text k e none here =
     let high : k < length text = none.high in
     let whole : take (k + 1) text ≡ take k text ++ lf ∷ [] = take_more text k 0 high ∙ ap (λ b. take k text ++ b ∷ []) (eqb-true (slice_index text k) lf here) in
     record {
-      goes = λ front s. record {
+      goes = λ prefix s. record {
         n = s.n;
         count = s.count;
-        taken = taken_on front (take (k + 1) text) form.taken (k + 1) s.taken (length-take-le (k + 1) text (omega arith));
-        at = subst (λ (l : List ℕ). IsLine (front ++ l) s.n Nothing) (sym whole)
-            (inside_line front (take k text) s.n (subst (λ p. IsAt front s.n p) e s.at) cut.one);
+        taken = taken_on prefix (take (k + 1) text) form.taken (k + 1) s.taken (length-take-le (k + 1) text (omega arith));
+        at = subst (λ (l : List ℕ). IsLine (prefix ++ l) s.n Nothing) (sym whole)
+            (inside_line prefix (take k text) s.n (subst (λ p. IsAt prefix s.n p) e s.at) cut.one);
       };
     }
 
@@ -90,12 +90,12 @@ pub rest_taken : (form : FormCheck) (text : List ℕ) → form.place ≡ Inside 
 rest_taken form text e some none =
     let whole : take (length text) text ≡ text = take_all (length text) text (omega arith) in
     record {
-      goes = λ front s. record {
+      goes = λ prefix s. record {
         n = s.n;
         count = s.count;
-        taken = taken_on front (take (length text) text) form.taken (length text) s.taken (ap (λ (l : List ℕ). length l) whole);
-        at = subst (λ (l : List ℕ). IsInside (front ++ l) s.n) (sym whole)
-            (inside_on front text s.n some (subst (λ p. IsAt front s.n p) e s.at) (record { no_lf = has_no_lf text none }));
+        taken = taken_on prefix (take (length text) text) form.taken (length text) s.taken (ap (λ (l : List ℕ). length l) whole);
+        at = subst (λ (l : List ℕ). IsInsideLine (prefix ++ l) s.n) (sym whole)
+            (inside_on prefix text s.n some (subst (λ p. IsAt prefix s.n p) e s.at) (record { no_lf = has_no_lf text none }));
       };
     }
 
@@ -113,17 +113,17 @@ taken_more old mid new piece rest n t h = record {
   whole = t.whole ∙ ap (λ (l : List ℕ). t.used ++ l) (sym (take-append-drop n rest) ∙ ap (λ (l : List ℕ). take n rest ++ l) (sym (take_rest rest n)))
       ∙ sym (append_assoc t.used (take n rest) (take (length rest - n) (drop n rest)));
   taken = record {
-    goes = λ front s. subst (λ (l : List ℕ). IsReadSoFar l new) (append_assoc front t.used (take n rest)) (h.goes (front ++ t.used) (t.taken.goes front s));
+    goes = λ prefix s. subst (λ (l : List ℕ). IsReadSoFar l new) (append_assoc prefix t.used (take n rest)) (h.goes (prefix ++ t.used) (t.taken.goes prefix s));
   };
 }
 
 pub taken_breaks : (old mid : FormCheck) (piece rest : List ℕ) (bad : BadForm) → IsTakenUpTo old mid piece rest → BreaksIn mid rest bad → BreaksIn old piece bad
 taken_breaks old mid piece rest bad t h = record {
-  goes = λ front more s.
-      let whole : (front ++ t.used) ++ (rest ++ more) ≡ front ++ (piece ++ more) =
-      append_assoc front t.used (rest ++ more)
-      ∙ ap (λ (l : List ℕ). front ++ l) (sym (append_assoc t.used rest more) ∙ ap (λ (l : List ℕ). l ++ more) (sym t.whole)) in
-      subst (λ (l : List ℕ). IsBad l bad) whole (h.goes (front ++ t.used) more (t.taken.goes front s));
+  goes = λ prefix more s.
+      let whole : (prefix ++ t.used) ++ (rest ++ more) ≡ prefix ++ (piece ++ more) =
+      append_assoc prefix t.used (rest ++ more)
+      ∙ ap (λ (l : List ℕ). prefix ++ l) (sym (append_assoc t.used rest more) ∙ ap (λ (l : List ℕ). l ++ more) (sym t.whole)) in
+      subst (λ (l : List ℕ). IsBad l bad) whole (h.goes (prefix ++ t.used) more (t.taken.goes prefix s));
 }
 
 -- ---- the end
@@ -135,13 +135,13 @@ nothing_text Fr e = absurd (false≢true e)
 nothing_text Fro e = absurd (false≢true e)
 nothing_text From e = absurd (false≢true e)
 
-whole_at : (place : Place) (text : List ℕ) (n letters : ℕ) → letters ≡ counted n → IsAt text n place → is_whole place ≡ true → IsLetterCount text letters
-whole_at (Front part) text n letters e at f =
+whole_at : (place : FormPlace) (text : List ℕ) (n letters : ℕ) → letters ≡ counted n → IsAt text n place → is_whole place ≡ true → IsLetterCount text letters
+whole_at (Start part) text n letters e at f =
     ([], record { are = tt; whole = sym (at.1 ∙ nothing_text part f) }, e ∙ ap (λ k. counted k) at.0)
 whole_at (Open part) text n letters e at f =
     let ended = body_ended at.before n at.body in
     let whole : text ≡ at.before ++ lf ∷ [] = at.whole ∙ ap (λ (l : List ℕ). (at.before ++ lf ∷ []) ++ l) (nothing_text part f) ∙ append-nil (at.before ++ lf ∷ []) in
-    (ended.letters, subst (λ (l : List ℕ). IsMailbox l ended.letters) (sym whole) ended.is, e ∙ ap (λ k. counted k) ended.count)
+    (ended.letters, subst (λ (l : List ℕ). IsMailboxOf l ended.letters) (sym whole) ended.is, e ∙ ap (λ k. counted k) ended.count)
 whole_at (Line part) text n letters e at f = absurd (false≢true f)
 whole_at Inside text n letters e at f = absurd (false≢true f)
 

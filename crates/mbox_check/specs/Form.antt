@@ -9,7 +9,7 @@ use Rattle.mbox_check.specs.declared.fault.CheckFault.{CheckFault}
 use Rattle.mbox_check.specs.declared.fault.CheckFault.TheVariants as fault
 
 -- the text is a mailbox of these letters
-pub record IsMailbox (text : List ℕ) (letters : List Letter) : Type 0 where
+pub record IsMailboxOf (text : List ℕ) (letters : List Letter) : Type 0 where
   pub are : AreLetters letters
   pub whole : written letters ≡ text
 
@@ -17,7 +17,7 @@ pub record IsMailbox (text : List ℕ) (letters : List Letter) : Type 0 where
 pub record BeginsMailbox (text : List ℕ) : Type 0 where
   pub more : List ℕ
   pub letters : List Letter
-  pub is : IsMailbox (text ++ more) letters
+  pub is : IsMailboxOf (text ++ more) letters
 
 -- The least place that breaks the form: a mailbox begins with the bytes before it, and none with these and the byte at
 -- it. It is the end of the text where a mailbox begins with all of it and it isn't one.
@@ -25,7 +25,7 @@ pub record BreaksAt (text : List ℕ) (place : ℕ) : Type 0 where
   pub within : place ≤ length text
   pub before : BeginsMailbox (take place text)
   pub breaks : place < length text → BeginsMailbox (take (suc place) text) → ⊥
-  pub short : place ≡ length text → (letters : List Letter) → IsMailbox text letters → ⊥
+  pub short : place ≡ length text → (letters : List Letter) → IsMailboxOf text letters → ⊥
 
 -- what is wrong with the text: a From line is missing at its beginning, or else an empty line
 abbrev pub IsBad : List ℕ → BadForm → Type 0
@@ -34,7 +34,7 @@ IsBad text (NoEmptyLine place) = (is_boundary text ≡ true) × ((p : ℕ) × (p
 
 -- as many letters as the text has
 abbrev pub IsLetterCount : List ℕ → ℕ → Type 0
-IsLetterCount text count = (letters : List Letter) × IsMailbox text letters × (count ≡ counted (length letters))
+IsLetterCount text count = (letters : List Letter) × IsMailboxOf text letters × (count ≡ counted (length letters))
 
 -- the same of bytes of which only some readers tell
 abbrev pub IsCountOf : Option (List ℕ) → ℕ → Type 0

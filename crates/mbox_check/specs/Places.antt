@@ -6,8 +6,8 @@ use Rattle.mbox_check.specs.declared.fault.BadForm.{BadForm}
 use Rattle.mbox_check.specs.declared.fault.BadForm.TheVariants.{NoFromLine, NoEmptyLine}
 use Rattle.mbox_check.specs.declared.place.Part.{Part}
 use Rattle.mbox_check.specs.declared.place.Part.TheVariants.{Nothing, F, Fr, Fro, From}
-use Rattle.mbox_check.specs.declared.place.Place.{Place}
-use Rattle.mbox_check.specs.declared.place.Place.TheVariants.{Front, Open, Line, Inside}
+use Rattle.mbox_check.specs.declared.place.FormPlace.{FormPlace}
+use Rattle.mbox_check.specs.declared.place.FormPlace.TheVariants.{Start, Open, Line, Inside}
 use Rattle.mbox_check.specs.declared.place.Effect.{Effect}
 use Rattle.mbox_check.specs.declared.place.Effect.TheVariants.{To, Begin, Break}
 
@@ -27,12 +27,12 @@ next_byte Fro = byte "m"
 next_byte From = byte " "
 
 -- the part with that byte, unless `From ` is whole then
-abbrev pub longer : Part → Option Part
-longer Nothing = Some F
-longer F = Some Fr
-longer Fr = Some Fro
-longer Fro = Some From
-longer From = None
+abbrev pub longer_part : Part → Option Part
+longer_part Nothing = Some F
+longer_part F = Some Fr
+longer_part Fr = Some Fro
+longer_part Fro = Some From
+longer_part From = None
 
 abbrev pub is_nothing : Part → Bool
 is_nothing Nothing = true
@@ -42,12 +42,12 @@ is_nothing Fro = false
 is_nothing From = false
 
 -- where a byte leads that doesn't go on with `From `
-abbrev pub line_place : Part → ℕ → Place
+abbrev pub line_place : Part → ℕ → FormPlace
 line_place part b = if b == lf then (if is_nothing part then Open Nothing else Line Nothing) else Inside
 
-abbrev pub front_with : Option Part → Effect
-front_with (Some part) = To (Front part)
-front_with None = Begin
+abbrev pub start_with : Option Part → Effect
+start_with (Some part) = To (Start part)
+start_with None = Begin
 
 abbrev pub open_with : Option Part → Effect
 open_with (Some part) = To (Open part)
@@ -58,22 +58,22 @@ line_with (Some part) = To (Line part)
 line_with None = Break
 
 -- what comes of a byte
-abbrev pub effect_of : Place → ℕ → Effect
-effect_of (Front part) b = if next_byte part == b then front_with (longer part) else Break
-effect_of (Open part) b = if next_byte part == b then open_with (longer part) else To (line_place part b)
-effect_of (Line part) b = if next_byte part == b then line_with (longer part) else To (line_place part b)
-effect_of Inside b = if b == lf then To (Line Nothing) else To Inside
+abbrev pub effect_at : FormPlace → ℕ → Effect
+effect_at (Start part) b = if next_byte part == b then start_with (longer_part part) else Break
+effect_at (Open part) b = if next_byte part == b then open_with (longer_part part) else To (line_place part b)
+effect_at (Line part) b = if next_byte part == b then line_with (longer_part part) else To (line_place part b)
+effect_at Inside b = if b == lf then To (Line Nothing) else To Inside
 
 -- a mailbox may end here
-abbrev pub is_whole : Place → Bool
-is_whole (Front part) = is_nothing part
+abbrev pub is_whole : FormPlace → Bool
+is_whole (Start part) = is_nothing part
 is_whole (Open part) = is_nothing part
 is_whole (Line part) = false
 is_whole Inside = false
 
 -- what is wrong where the text ends or breaks here
-abbrev pub bad_at : Place → ℕ → BadForm
-bad_at (Front part) taken = NoFromLine taken
+abbrev pub bad_at : FormPlace → ℕ → BadForm
+bad_at (Start part) taken = NoFromLine taken
 bad_at (Open part) taken = NoEmptyLine taken
 bad_at (Line part) taken = NoEmptyLine taken
 bad_at Inside taken = NoEmptyLine taken

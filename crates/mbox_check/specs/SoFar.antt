@@ -9,16 +9,16 @@ use Rattle.mbox_record.specs.Letters.{is_boundary}
 use Rattle.mbox_check.specs.declared.fault.BadForm.{BadForm}
 use Rattle.mbox_check.specs.declared.form.FormCheck.{FormCheck}
 use Rattle.mbox_check.specs.declared.place.Part.{Part}
-use Rattle.mbox_check.specs.declared.place.Place.{Place}
-use Rattle.mbox_check.specs.declared.place.Place.TheVariants.{Front, Open, Line, Inside}
+use Rattle.mbox_check.specs.declared.place.FormPlace.{FormPlace}
+use Rattle.mbox_check.specs.declared.place.FormPlace.TheVariants.{Start, Open, Line, Inside}
 use Rattle.mbox_check.specs.Form.{IsBad}
 use Rattle.mbox_check.specs.Places.{part_text}
 
 -- the last byte isn't LF
 pub record EndsInLine (text : List ℕ) : Type 0 where
-  pub front : List ℕ
+  pub prefix : List ℕ
   pub last : ℕ
-  pub whole : text ≡ front ++ last ∷ []
+  pub whole : text ≡ prefix ++ last ∷ []
   pub other : (last == lf) ≡ false
 
 -- n letters have begun, and the text ends after a line of the last
@@ -46,17 +46,17 @@ pub record IsLine (text : List ℕ) (n : ℕ) (part : Part) : Type 0 where
   pub whole : text ≡ (before ++ lf ∷ []) ++ part_text part
 
 -- whatever ends the line makes it a line of the last letter
-pub record IsInside (text : List ℕ) (n : ℕ) : Type 0 where
+pub record IsInsideLine (text : List ℕ) (n : ℕ) : Type 0 where
   pub ends : EndsInLine text
   pub begins : (more : List ℕ) → is_boundary (text ++ more) ≡ true
   pub goes : (more : List ℕ) → IsOneLine more → IsBody (text ++ (more ++ lf ∷ [])) n
 
 -- the text, in which n letters have begun, ends at the place
-abbrev pub IsAt : List ℕ → ℕ → Place → Type 0
-IsAt text n (Front part) = (n ≡ 0) × (text ≡ part_text part)
+abbrev pub IsAt : List ℕ → ℕ → FormPlace → Type 0
+IsAt text n (Start part) = (n ≡ 0) × (text ≡ part_text part)
 IsAt text n (Open part) = IsOpen text n part
 IsAt text n (Line part) = IsLine text n part
-IsAt text n Inside = IsInside text n
+IsAt text n Inside = IsInsideLine text n
 
 pub record IsReadSoFar (text : List ℕ) (form : FormCheck) : Type 0 where
   pub n : ℕ
@@ -66,8 +66,8 @@ pub record IsReadSoFar (text : List ℕ) (form : FormCheck) : Type 0 where
 
 -- whatever came before, the bytes came after it
 pub record HasTaken (old new : FormCheck) (bytes : List ℕ) : Type 0 where
-  pub goes : (front : List ℕ) → IsReadSoFar front old → IsReadSoFar (front ++ bytes) new
+  pub goes : (prefix : List ℕ) → IsReadSoFar prefix old → IsReadSoFar (prefix ++ bytes) new
 
 -- whatever came before, and whatever comes after them, the bytes break the form
 pub record BreaksIn (old : FormCheck) (bytes : List ℕ) (bad : BadForm) : Type 0 where
-  pub goes : (front more : List ℕ) → IsReadSoFar front old → IsBad (front ++ (bytes ++ more)) bad
+  pub goes : (prefix more : List ℕ) → IsReadSoFar prefix old → IsBad (prefix ++ (bytes ++ more)) bad

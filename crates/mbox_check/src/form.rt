@@ -6,7 +6,7 @@ ghost use Rattle.mbox_check.specs.Places.{bad_at};
 ghost use Rattle.mbox_check.specs.SoFar.{IsReadSoFar, HasTaken, BreaksIn};
 
 use crate::fault::BadForm;
-use crate::place::{Effect, Part, Place, effect_of, is_whole};
+use crate::place::{Effect, FormPlace, Part, effect_at, is_whole};
 use memchr::memchr;
 
 /// How far the bytes that came have the form of a mailbox.
@@ -15,7 +15,7 @@ pub(crate) struct FormCheck {
     // How many letters have begun, and how many bytes were taken; both stay at 2^64 - 1.
     letters: u64,
     taken: u64,
-    place: Place,
+    place: FormPlace,
 }
 
 impl FormCheck {
@@ -25,7 +25,7 @@ impl FormCheck {
         FormCheck {
             letters: 0,
             taken: 0,
-            place: Place::Front(Part::Nothing),
+            place: FormPlace::Start(Part::Nothing),
         }
     }
 
@@ -62,7 +62,7 @@ impl FormCheck {
         ensures err { IfErr result (λ bad. BreaksIn self.old text.now bad) }
     {
         match self.place {
-            Place::Inside => Ok(self.rest_of_line(text)),
+            FormPlace::Inside => Ok(self.rest_of_line(text)),
             _ => {
                 self.byte(text[0])?;
                 Ok(1)
@@ -72,18 +72,18 @@ impl FormCheck {
 
     // Takes the line's rest up to its LF, or all of the text, and says how many bytes these are.
     fn rest_of_line(&mut self, text: &[u8]) -> usize
-        requires inside { self.old.place ≡ Place.Inside }
+        requires inside { self.old.place ≡ FormPlace.Inside }
         requires some { 0 < length text.now }
         ensures within { (1 ≤ result) × (result ≤ length text.now) }
         ensures ok { HasTaken self.old self.new (take result text.now) }
     {
         match memchr(b'\n', text) {
             Some(at) => {
-                self.go(Place::Line(Part::Nothing), at + 1);
+                self.go(FormPlace::Line(Part::Nothing), at + 1);
                 at + 1
             }
             None => {
-                self.go(Place::Inside, text.len());
+                self.go(FormPlace::Inside, text.len());
                 text.len()
             }
         }
@@ -93,7 +93,7 @@ impl FormCheck {
         ensures ok { OnOk result (HasTaken self.old self.new (byte ∷ [])) }
         ensures err { IfErr result (λ bad. BreaksIn self.old (byte ∷ []) bad) }
     {
-        match effect_of(self.place, byte) {
+        match effect_at(self.place, byte) {
             Effect::To(place) => {
                 self.go(place, 1);
                 Ok(())
@@ -107,7 +107,7 @@ impl FormCheck {
     }
 
     // That many bytes lead to the place.
-    fn go(&mut self, place: Place, size: usize)
+    fn go(&mut self, place: FormPlace, size: usize)
         ensures { self.new ≡ record self.old { place = place; taken = counted (self.old.taken + size) } }
     {
         self.place = place;
@@ -118,12 +118,12 @@ impl FormCheck {
     fn begin(&mut self)
         ensures { self.new ≡ record self.old {
           letters = counted (self.old.letters + 1);
-          place = Place.Inside;
+          place = FormPlace.Inside;
           taken = counted (self.old.taken + 1);
         } }
     {
         self.letters = self.letters.saturating_add(1);
-        self.go(Place::Inside, 1);
+        self.go(FormPlace::Inside, 1);
     }
 
     // What is wrong where the text ends or breaks here.
@@ -131,8 +131,8 @@ impl FormCheck {
         ensures { result ≡ bad_at self.now.place self.now.taken }
     {
         match self.place {
-            Place::Front(_) => BadForm::NoFromLine { place: self.taken },
-            Place::Open(_) | Place::Line(_) | Place::Inside => BadForm::NoEmptyLine {
+            FormPlace::Start(_) => BadForm::NoFromLine { place: self.taken },
+            FormPlace::Open(_) | FormPlace::Line(_) | FormPlace::Inside => BadForm::NoEmptyLine {
                 place: self.taken,
             },
         }

@@ -1,6 +1,6 @@
 //! Where a reader of a mailbox stands between two bytes, and where a byte leads it.
 ghost use Rattle.std.specs.Prelude.{◌≡◌};
-ghost use Rattle.mbox_check.specs.Places.{next_byte, longer, line_place, is_whole, effect_of};
+ghost use Rattle.mbox_check.specs.Places.{next_byte, longer_part, line_place, is_whole, effect_at};
 
 /// What a line has begun with of `From `, where it has begun with nothing else.
 #[derive(Clone, Copy, Debug)]
@@ -14,9 +14,9 @@ pub(crate) enum Part {
 
 /// Where a reader stands.
 #[derive(Clone, Copy, Debug)]
-pub(crate) enum Place {
+pub(crate) enum FormPlace {
     /// In the first line, which has to be a From line.
-    Front(Part),
+    Start(Part),
     /// In a line after an empty one, which may be a From line.
     Open(Part),
     /// In a line after one that isn't empty, which may not be a From line.
@@ -28,7 +28,7 @@ pub(crate) enum Place {
 /// What comes of a byte.
 #[derive(Clone, Copy, Debug)]
 pub(crate) enum Effect {
-    To(Place),
+    To(FormPlace),
     /// A letter begins: `From ` is whole.
     Begin,
     /// No mailbox goes on like this.
@@ -48,8 +48,8 @@ fn next_byte(part: Part) -> u8
 }
 
 // The part with its next byte, or `None` where that makes `From ` whole.
-fn longer(part: Part) -> Option<Part>
-    ensures { result ≡ longer part }
+fn longer_part(part: Part) -> Option<Part>
+    ensures { result ≡ longer_part part }
 {
     match part {
         Part::Nothing => Some(Part::F),
@@ -61,78 +61,78 @@ fn longer(part: Part) -> Option<Part>
 }
 
 // Where a byte leads that doesn't go on with `From `.
-fn line_place(part: Part, byte: u8) -> Place
+fn line_place(part: Part, byte: u8) -> FormPlace
     ensures { result ≡ line_place part byte }
 {
     if byte != b'\n' {
-        return Place::Inside;
+        return FormPlace::Inside;
     }
     match part {
-        Part::Nothing => Place::Open(Part::Nothing),
-        Part::F | Part::Fr | Part::Fro | Part::From => Place::Line(Part::Nothing),
+        Part::Nothing => FormPlace::Open(Part::Nothing),
+        Part::F | Part::Fr | Part::Fro | Part::From => FormPlace::Line(Part::Nothing),
     }
 }
 
 /// What comes of the byte at the place.
-pub(crate) fn effect_of(place: Place, byte: u8) -> Effect
-    ensures { result ≡ effect_of place byte }
+pub(crate) fn effect_at(place: FormPlace, byte: u8) -> Effect
+    ensures { result ≡ effect_at place byte }
 {
     match place {
-        Place::Front(part) => front_effect(part, byte),
-        Place::Open(part) => open_effect(part, byte),
-        Place::Line(part) => line_effect(part, byte),
-        Place::Inside => {
+        FormPlace::Start(part) => start_effect(part, byte),
+        FormPlace::Open(part) => open_effect(part, byte),
+        FormPlace::Line(part) => line_effect(part, byte),
+        FormPlace::Inside => {
             if byte == b'\n' {
-                Effect::To(Place::Line(Part::Nothing))
+                Effect::To(FormPlace::Line(Part::Nothing))
             } else {
-                Effect::To(Place::Inside)
+                Effect::To(FormPlace::Inside)
             }
         }
     }
 }
 
-fn front_effect(part: Part, byte: u8) -> Effect
-    ensures { result ≡ effect_of (Place.Front part) byte }
+fn start_effect(part: Part, byte: u8) -> Effect
+    ensures { result ≡ effect_at (FormPlace.Start part) byte }
 {
     if next_byte(part) != byte {
         return Effect::Break;
     }
-    match longer(part) {
-        Some(part) => Effect::To(Place::Front(part)),
+    match longer_part(part) {
+        Some(part) => Effect::To(FormPlace::Start(part)),
         None => Effect::Begin,
     }
 }
 
 fn open_effect(part: Part, byte: u8) -> Effect
-    ensures { result ≡ effect_of (Place.Open part) byte }
+    ensures { result ≡ effect_at (FormPlace.Open part) byte }
 {
     if next_byte(part) != byte {
         return Effect::To(line_place(part, byte));
     }
-    match longer(part) {
-        Some(part) => Effect::To(Place::Open(part)),
+    match longer_part(part) {
+        Some(part) => Effect::To(FormPlace::Open(part)),
         None => Effect::Begin,
     }
 }
 
 fn line_effect(part: Part, byte: u8) -> Effect
-    ensures { result ≡ effect_of (Place.Line part) byte }
+    ensures { result ≡ effect_at (FormPlace.Line part) byte }
 {
     if next_byte(part) != byte {
         return Effect::To(line_place(part, byte));
     }
-    match longer(part) {
-        Some(part) => Effect::To(Place::Line(part)),
+    match longer_part(part) {
+        Some(part) => Effect::To(FormPlace::Line(part)),
         None => Effect::Break,
     }
 }
 
 /// Whether a mailbox may end here.
-pub(crate) fn is_whole(place: Place) -> bool
+pub(crate) fn is_whole(place: FormPlace) -> bool
     ensures { result ≡ is_whole place }
 {
     matches!(
         place,
-        Place::Front(Part::Nothing) | Place::Open(Part::Nothing)
+        FormPlace::Start(Part::Nothing) | FormPlace::Open(Part::Nothing)
     )
 }

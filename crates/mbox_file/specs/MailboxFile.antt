@@ -2,7 +2,7 @@
 use Rattle.std.specs.Prelude.{◌≡◌, ◌⊎◌, ℕ, ◌≤◌, Bool, true, false, List, [], ◌++◌, length, take, min}
 use Rattle.mail_world.specs.Counts.{counted}
 use Rattle.mail_world.specs.Failures.{Rises}
-use Rattle.mail_world.specs.Fronts.{IsFront}
+use Rattle.mail_world.specs.Prefixes.{IsPrefix}
 use Rattle.mbox_file.specs.declared.file.FileEnd.{FileEnd}
 use Rattle.mbox_record.specs.Spool.{tail_of}
 
@@ -101,9 +101,9 @@ pub record HasWritten (old new : FileState) (text : List ℕ) : Type 0 where
 
 -- a write failed after some of the bytes
 pub record HasNotWritten (old new : FileState) (text : List ℕ) : Type 0 where
-  pub front : List ℕ
-  pub part : IsFront front text
-  pub same : new ≡ record old { bytes = old.bytes ++ front; changes = new.changes; faults = new.faults }
+  pub prefix : List ℕ
+  pub part : IsPrefix prefix text
+  pub same : new ≡ record old { bytes = old.bytes ++ prefix; changes = new.changes; faults = new.faults }
   pub changed : Rises old.changes new.changes
   pub failed : Rises old.faults new.faults
 

@@ -2,7 +2,7 @@
 use Rattle.std.specs.Prelude.{◌≡◌, ℕ, ◌+◌, ◌-◌, ◌^◌, min, Bool, true, false, List, [], Option, Some, None, ⊤}
 use Rattle.std.specs.Io.KnownBytes.{append_known}
 use Rattle.std.specs.Io.Buffered.{writer_inner, writer_buffer}
-use Rattle.mail_world.specs.Fronts.{IsFront}
+use Rattle.mail_world.specs.Prefixes.{IsPrefix}
 use Rattle.mbox_record.specs.declared.spool.Tail.{Tail}
 use Rattle.mbox_rd.specs.declared.file.Sink.{Sink}
 use Rattle.mbox_rd.specs.declared.file.Sink.TheVariants.{Sound, Broken}
@@ -26,10 +26,10 @@ abbrev pub contents_of : {F : Type 0} → (F → Option (List ℕ)) → FileSpoo
 contents_of contents spool = append_known (contents spool.file) spool.waiting
 
 -- of known bytes a prefix is left
-abbrev pub KeepsFront : Option (List ℕ) → Option (List ℕ) → Type 0
-KeepsFront None new = ⊤
-KeepsFront (Some held) None = ⊥
-KeepsFront (Some held) (Some left) = IsFront left held
+abbrev pub KeepsPrefix : Option (List ℕ) → Option (List ℕ) → Type 0
+KeepsPrefix None new = ⊤
+KeepsPrefix (Some held) None = ⊥
+KeepsPrefix (Some held) (Some left) = IsPrefix left held
 
 -- just opened: nothing waits, and nothing failed
 pub record IsOpened {F : Type 0} (spool : FileSpool F) : Type 0 where
@@ -46,7 +46,7 @@ pub record StaysSound {F : Type 0} (old new : FileSpool F) : Type 0 where
 
 -- it failed: the file has a prefix of what it had and what waited, and what isn't in it is thrown away
 pub record Breaks {F : Type 0} (contents : F → Option (List ℕ)) (old new : FileSpool F) : Type 0 where
-  pub front : KeepsFront (contents_of contents old) (contents new.file)
+  pub prefix : KeepsPrefix (contents_of contents old) (contents new.file)
   pub empty : new.waiting ≡ []
   pub broken : new.is_broken ≡ true
   pub tail : new.tail ≡ old.tail

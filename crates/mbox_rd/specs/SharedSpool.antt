@@ -2,7 +2,7 @@
 use Rattle.std.specs.Prelude.{◌≡◌, ℕ, ◌+◌, ◌-◌, ◌^◌, min, ◌||◌, Bool, true, false, List, [], ◌++◌, length}
 use Rattle.mail_world.specs.Counts.{counted}
 use Rattle.mail_world.specs.Failures.{Rises}
-use Rattle.mail_world.specs.Fronts.{IsFront}
+use Rattle.mail_world.specs.Prefixes.{IsPrefix}
 use Rattle.mbox_record.specs.declared.spool.Tail.{Tail}
 use Rattle.mbox_file.specs.MailboxFile.{FileState, LeavesNoLockFile}
 use Rattle.mbox_record.specs.Spool.{tail_of}
@@ -133,10 +133,10 @@ failed_again spool = record spool {
 
 -- the file failed: it has a part of what waited after what it had, and no lock changed
 pub record HasLost {F : Type 0} (state : F → FileState) (old new : SharedSpool F) : Type 0 where
-  pub front : List ℕ
-  pub part : IsFront front old.waiting
+  pub prefix : List ℕ
+  pub part : IsPrefix prefix old.waiting
   pub same : (state new.file) ≡ record (state old.file) {
-    bytes = (state old.file).bytes ++ front;
+    bytes = (state old.file).bytes ++ prefix;
     kept = (state new.file).kept;
     changes = (state new.file).changes;
     faults = (state new.file).faults;

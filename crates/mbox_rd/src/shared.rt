@@ -6,14 +6,14 @@ ghost use Rattle.std.specs.Prelude.{None, IsErr, IfOk, OnOk, OnErr};
 ghost use Rattle.std.specs.Option.{IfSome};
 ghost use Rattle.mail_world.specs.Counts.{counted};
 ghost use Rattle.mail_world.specs.Failures.{Rises};
-ghost use Rattle.mail_world.specs.Fronts.{IsFront};
+ghost use Rattle.mail_world.specs.Prefixes.{IsPrefix};
 ghost use Rattle.mbox_record.specs.Spool.{SpoolTook, SpoolFailed, HasSynced, HasNotSynced, AsksForTurn, EndsTurn};
 ghost use Rattle.mbox_record.specs.Spool.{tail_of};
 
 use crate::file::BUFFER_SIZE;
 use crate::turn::{cut_back, let_go, tries_in, wait_for_turn};
 use mbox_file::{FileEnd, MailboxFile};
-use mbox_record::{InUse, Spool, SpoolFault, Tail, tail_behind};
+use mbox_record::{InUse, Spool, SpoolFault, Tail, tail_after};
 use std::alloc::{AllocError, Global};
 use std::io;
 use std::marker::Model;
@@ -176,15 +176,15 @@ impl<F: MailboxFile + Drop, C: Clock + Drop> SharedSpool<F, C> {
           is_unsynced = true;
           tail = self.new.tail;
         } }
-        ensures tail { (front : List ℕ) → self.old.tail ≡ tail_of front
-            → self.new.tail ≡ tail_of (front ++ take result piece.now) }
+        ensures tail { (prefix : List ℕ) → self.old.tail ≡ tail_of prefix
+            → self.new.tail ≡ tail_of (prefix ++ take result piece.now) }
     {
         let n = piece.len().min(BUFFER_SIZE - self.waiting.len());
         let taken = &piece[..n];
         if self.waiting.extend_from_slice(taken).is_err() {
             unreachable!();
         }
-        self.tail = tail_behind(self.tail, taken);
+        self.tail = tail_after(self.tail, taken);
         self.held = self.held.saturating_add(n as u64);
         self.is_unsynced = true;
         n
@@ -292,7 +292,7 @@ impl<F: MailboxFile + Drop, C: Clock + Drop> Spool for SharedSpool<F, C> {
         ensures sound { OnOk result (StaysSound self.old self.new) }
         ensures taken { F.tells ≡ true → IfOk result (λ n. HasTaken F.state self.old self.new (take n piece.now)) }
         ensures grows { F.tells ≡ true
-            → OnOk result (IsFront (F.state self.old.file).bytes (F.state self.new.file).bytes) }
+            → OnOk result (IsPrefix (F.state self.old.file).bytes (F.state self.new.file).bytes) }
         ensures ends { F.tells ≡ true → OnOk result (self.old.tail ≡ tail_of (contents_of F.state self.old)
             → self.new.tail ≡ tail_of (contents_of F.state self.new)) }
         ensures held { IfOk result (λ n. self.new.held ≡ counted (self.old.held + n)) }

@@ -107,10 +107,10 @@ with_lf-push ls line = flat_map-append (λ l. l ++ lf ∷ []) ls (line ∷ []) �
 push_written : (ls : List (List ℕ)) (u line more : List ℕ) → quoted u ≡ line
     → with_lf (map quoted ls) ++ (line ++ lf ∷ more) ≡ with_lf (map quoted (ls ++ u ∷ [])) ++ more
 push_written ls u line more e =
-    let front : List ℕ = with_lf (map quoted ls) in
-    ap (λ l. front ++ (l ++ lf ∷ more)) (sym e)
-    ∙ ap (λ l. front ++ l) (sym (append_assoc (quoted u) (lf ∷ []) more))
-    ∙ sym (append_assoc front (quoted u ++ lf ∷ []) more)
+    let prefix : List ℕ = with_lf (map quoted ls) in
+    ap (λ l. prefix ++ (l ++ lf ∷ more)) (sym e)
+    ∙ ap (λ l. prefix ++ l) (sym (append_assoc (quoted u) (lf ∷ []) more))
+    ∙ sym (append_assoc prefix (quoted u ++ lf ∷ []) more)
     ∙ ap (λ l. l ++ more) (sym (with_lf-push (map quoted ls) (quoted u)))
     ∙ ap (λ l. with_lf l ++ more) (sym (map-append quoted ls (u ∷ [])))
 
@@ -150,20 +150,20 @@ marked (b ∷ line) e =
 marked_quoted : (text : List ℕ) → is_from_line text ≡ true → quoted text ≡ byte ">" ∷ text
 marked_quoted text e = rw e refl
 
-behind : (b : ℕ) (rest text : List ℕ) → rest ≡ b ∷ text → take (length rest - 1) (drop 1 rest) ≡ text
-behind b rest text e = rw e (grind (arith, common_steps))
+text_after : (b : ℕ) (rest text : List ℕ) → rest ≡ b ∷ text → take (length rest - 1) (drop 1 rest) ≡ text
+text_after b rest text e = rw e (grind (arith, common_steps))
 
-pub IsBodyUpTo-quoted : (text body run rest line more front copied : List ℕ) → IsBodyUpTo text body run rest → IsLineCut rest line more → begins_from rest ≡ false
-    → (line ≡ [] → is_boundary more ≡ false) → is_quoted line ≡ true → ((first : List ℕ) → run ≡ first ++ rest → front ≡ first) → copied ≡ body ++ front
+pub IsBodyUpTo-quoted : (text body run rest line more prefix copied : List ℕ) → IsBodyUpTo text body run rest → IsLineCut rest line more → begins_from rest ≡ false
+    → (line ≡ [] → is_boundary more ≡ false) → is_quoted line ≡ true → ((first : List ℕ) → run ≡ first ++ rest → prefix ≡ first) → copied ≡ body ++ prefix
     → IsBodyUpTo text copied (take (length rest - 1) (drop 1 rest)) more
-IsBodyUpTo-quoted text body run rest line more front copied b cut plain open' q f e =
+IsBodyUpTo-quoted text body run rest line more prefix copied b cut plain open' q f e =
     let m = marked line q in
     let done : copied ≡ with_lf b.ls = e ∙ ap (λ l. body ++ l) (f b.pending b.kept) ∙ b.read in record {
       ls = b.ls ++ m.text ∷ [];
       one = all-append b.ls (m.text ∷ []) b.one (one_line-tail (byte ">") m.text (subst IsOneLine m.whole cut.one), tt);
       whole = b.whole ∙ ap (λ l. with_lf (map quoted b.ls) ++ l) cut.whole ∙ push_written b.ls m.text line more (marked_quoted m.text m.from ∙ sym m.whole);
       pending = m.text ++ lf ∷ [];
-      kept = behind (byte ">") rest (m.text ++ lf ∷ more) (cut.whole ∙ ap (λ l. l ++ lf ∷ more) m.whole) ∙ sym (append_assoc m.text (lf ∷ []) more);
+      kept = text_after (byte ">") rest (m.text ++ lf ∷ more) (cut.whole ∙ ap (λ l. l ++ lf ∷ more) m.whole) ∙ sym (append_assoc m.text (lf ∷ []) more);
       read = ap (λ l. l ++ (m.text ++ lf ∷ [])) done ∙ sym (with_lf-push b.ls m.text);
       goes = λ after t. let t' = b.goes after t in goes_on more after line open' t'.ends (IsTail-next rest line more after cut t');
     }
@@ -172,9 +172,9 @@ IsBodyUpTo-quoted text body run rest line more front copied b cut plain open' q 
 pub lines-whole : (ls : List (List ℕ)) → AllByRecursion IsOneLine ls → lines (with_lf ls) ≡ ls
 lines-whole ls one = ap lines (sym (append-nil (with_lf ls))) ∙ lines-with_lf ls [] one ∙ append-nil ls
 
-pub IsBodyUpTo-end : (text body run rest line more front copied : List ℕ) → IsBodyUpTo text body run rest → IsLineCut rest line more → line ≡ [] → is_boundary more ≡ true
-    → ((first : List ℕ) → run ≡ first ++ rest → front ≡ first) → copied ≡ body ++ front → IsBodyRead text copied more
-IsBodyUpTo-end text body run rest line more front copied b cut empty at f e =
+pub IsBodyUpTo-end : (text body run rest line more prefix copied : List ℕ) → IsBodyUpTo text body run rest → IsLineCut rest line more → line ≡ [] → is_boundary more ≡ true
+    → ((first : List ℕ) → run ≡ first ++ rest → prefix ≡ first) → copied ≡ body ++ prefix → IsBodyRead text copied more
+IsBodyUpTo-end text body run rest line more prefix copied b cut empty at f e =
     let done : copied ≡ with_lf b.ls = e ∙ ap (λ l. body ++ l) (f b.pending b.kept) ∙ b.read in record {
       lines = subst (λ l. EmptyOrEndsIn (lf ∷ []) l) (sym done) (ends-with_lf b.ls);
       whole = b.whole ∙ ap (λ l. with_lf (map quoted b.ls) ++ l) (cut.whole ∙ ap (λ l. l ++ lf ∷ more) empty)

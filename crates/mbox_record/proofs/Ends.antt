@@ -29,23 +29,23 @@ no_lf s none = no_lf_within s (λ j q. none j (omega arith) q)
 pub record IsEnd (piece : List ℕ) (n : ℕ) : Type 0 where
   pub plain : has_byte (take n piece) lf ≡ false
   pub high : n < length piece
-  pub front : take (n + 1) piece ≡ take n piece ++ lf ∷ []
+  pub prefix : take (n + 1) piece ≡ take n piece ++ lf ∷ []
   pub back : drop n piece ≡ lf ∷ drop (n + 1) piece
 
 pub IsEnd-found : (s : List ℕ) (k : ℕ) → NoneBefore (Passes (is_byte 10) s) 0 (length s) k → Passes (is_byte 10) s k → IsEnd s k
 IsEnd-found s k none here = let is = eqb-true (slice_index s k) lf here in record {
   plain = no_lf_before s k (λ j q. none.before j (omega arith) q);
   high = none.high;
-  front = take_more s k 0 none.high ∙ ap (λ (b : ℕ). take k s ++ b ∷ []) is;
+  prefix = take_more s k 0 none.high ∙ ap (λ (b : ℕ). take k s ++ b ∷ []) is;
   back = drop_more s k 0 none.high ∙ ap (λ (b : ℕ). b ∷ drop (k + 1) s) is;
 }
 
 whole : (piece : List ℕ) (n : ℕ) → IsEnd piece n → piece ≡ take n piece ++ lf ∷ drop (n + 1) piece
 whole piece n end = sym (take-append-drop n piece) ∙ ap (λ (l : List ℕ). take n piece ++ l) end.back
 
-plain_front : (a b : List ℕ) → has_byte (a ++ b) lf ≡ false → has_byte a lf ≡ false
-plain_front [] b e = refl
-plain_front (c ∷ a) b e = let parts = or_parts (c == lf) (has_byte (a ++ b) lf) e in or_from (c == lf) (has_byte a lf) parts.0 (plain_front a b parts.1)
+plain_prefix : (a b : List ℕ) → has_byte (a ++ b) lf ≡ false → has_byte a lf ≡ false
+plain_prefix [] b e = refl
+plain_prefix (c ∷ a) b e = let parts = or_parts (c == lf) (has_byte (a ++ b) lf) e in or_from (c == lf) (has_byte a lf) parts.0 (plain_prefix a b parts.1)
 
 -- with LF alone
 pub ends_lf : (piece : List ℕ) (n : ℕ) (rest : List ℕ) → IsEnd piece n → EndsPlainly (take n piece)
@@ -53,7 +53,7 @@ pub ends_lf : (piece : List ℕ) (n : ℕ) (rest : List ℕ) → IsEnd piece n �
 ends_lf piece n rest end free =
     let line = take n piece in
     let back = drop (n + 1) piece in
-    ap (λ (l : List ℕ). l ++ quoted_text (unix (back ++ rest))) end.front
+    ap (λ (l : List ℕ). l ++ quoted_text (unix (back ++ rest))) end.prefix
     ∙ append_assoc line (lf ∷ []) (quoted_text (unix (back ++ rest)))
     ∙ sym (inside_line line (lf ∷ (back ++ rest)) end.plain (λ t. free))
     ∙ ap (λ (l : List ℕ). line_rest (unix l)) (sym (append_assoc line (lf ∷ back) rest))
@@ -89,7 +89,7 @@ ends_crlf piece text n rest end e =
     let split = crlf_whole piece text n end e in
     ap (λ (l : List ℕ). l ++ line_rest (unix (drop n piece ++ rest))) (append-nil (take (length text) piece) ∙ ap (take (length text)) split ∙ take-append_seam text (cr ∷ lf ∷ back))
     ∙ ap (λ (l : List ℕ). text ++ line_rest (unix (l ++ rest))) end.back
-    ∙ sym (inside_line text (cr ∷ lf ∷ (back ++ rest)) (plain_front text (cr ∷ []) (ap (λ (l : List ℕ). has_byte l lf) (sym e) ∙ end.plain)) (λ t. absurd (false≢true t)))
+    ∙ sym (inside_line text (cr ∷ lf ∷ (back ++ rest)) (plain_prefix text (cr ∷ []) (ap (λ (l : List ℕ). has_byte l lf) (sym e) ∙ end.plain)) (λ t. absurd (false≢true t)))
     ∙ ap (λ (l : List ℕ). line_rest (unix l)) (sym (append_assoc text (cr ∷ lf ∷ back) rest))
     ∙ ap (λ (l : List ℕ). line_rest (unix (l ++ rest))) (sym split)
 
@@ -99,7 +99,7 @@ pub ends_cr : (piece text rest : List ℕ) → has_byte piece lf ≡ false → p
 ends_cr piece text rest plain e =
     ap (λ (l : List ℕ). l ++ line_rest (unix (cr ∷ (drop (length piece) piece ++ rest)))) (append-nil (take (length text) piece) ∙ ap (take (length text)) e ∙ take-append_seam text (cr ∷ []))
     ∙ ap (λ (l : List ℕ). text ++ line_rest (unix (cr ∷ (l ++ rest)))) (drop-length piece)
-    ∙ sym (inside_line text (cr ∷ rest) (plain_front text (cr ∷ []) (ap (λ (l : List ℕ). has_byte l lf) (sym e) ∙ plain)) (λ t. absurd (false≢true t)))
+    ∙ sym (inside_line text (cr ∷ rest) (plain_prefix text (cr ∷ []) (ap (λ (l : List ℕ). has_byte l lf) (sym e) ∙ plain)) (λ t. absurd (false≢true t)))
     ∙ ap (λ (l : List ℕ). line_rest (unix l)) (sym (append_assoc text (cr ∷ []) rest))
     ∙ ap (λ (l : List ℕ). line_rest (unix (l ++ rest))) (sym e)
 

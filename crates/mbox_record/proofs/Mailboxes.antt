@@ -9,7 +9,7 @@ use Rattle.mail_world.specs.Records.{quoted, quoted_text}
 use Rattle.mail_world.specs.Reading.{Letter, IsLetter, AreLetters, letter_text, written}
 use Rattle.mail_world.proofs.OneReading.{lines-each, quoted-each}
 use Rattle.mail_world.proofs.OneLine.{literal}
-use Rattle.mail_world.proofs.Places.{begins_with-front, begins_with-append}
+use Rattle.mail_world.proofs.Places.{begins_with-prefix, begins_with-append}
 use Rattle.mbox_record.specs.Letters.{is_boundary, letter_headed, IsLineCut, IsBodyRead, IsLetterRead}
 use Rattle.mbox_record.proofs.Bodies.{begins_from, same_cut, has_lf, tail-cons, inside, IsTail, IsTail-inside, IsTail-next}
 
@@ -20,15 +20,15 @@ letter-lines letter rest =
     ∙ append_assoc (codes "From " ++ letter.head ++ (lf ∷ [])) (quoted_text letter.body) (lf ∷ rest)
     ∙ append_assoc (codes "From " ++ letter.head) (lf ∷ []) (quoted_text letter.body ++ lf ∷ rest)
 
-behind_from : (text : List ℕ) → begins_from text ≡ true → text ≡ codes "From " ++ take (length text - 5) (drop 5 text)
-behind_from text e = begins_with-front (codes "From ") text e ∙ ap (λ l. codes "From " ++ l) (grind (arith, common_steps))
+after_from : (text : List ℕ) → begins_from text ≡ true → text ≡ codes "From " ++ take (length text - 5) (drop 5 text)
+after_from text e = begins_with-prefix (codes "From ") text e ∙ ap (λ l. codes "From " ++ l) (grind (arith, common_steps))
 
 -- a letter that is read is its head's line and its body's
 pub IsLetterRead-lines : (text head lines body rest : List ℕ) → begins_from text ≡ true → IsLineCut (take (length text - 5) (drop 5 text)) head lines → IsBodyRead lines body rest
     → IsLetterRead text (letter_headed head body) rest
 IsLetterRead-lines text head lines body rest e cut read = record {
   is = record { head = cut.one; body = read.lines };
-  whole = behind_from text e ∙ ap (λ l. codes "From " ++ l) (cut.whole ∙ ap (λ l. head ++ lf ∷ l) read.whole) ∙ sym (letter-lines (letter_headed head body) rest);
+  whole = after_from text e ∙ ap (λ l. codes "From " ++ l) (cut.whole ∙ ap (λ l. head ++ lf ∷ l) read.whole) ∙ sym (letter-lines (letter_headed head body) rest);
   ends = read.ends;
 }
 
@@ -37,7 +37,7 @@ head_cut : (text : List ℕ) (letter : Letter) (rest : List ℕ) → begins_from
     → take (length text - 5) (drop 5 text) ≡ letter.head ++ lf ∷ (quoted_text letter.body ++ lf ∷ rest)
 head_cut text letter rest e read =
     append_cancel_left (codes "From ") (take (length text - 5) (drop 5 text)) (letter.head ++ lf ∷ (quoted_text letter.body ++ lf ∷ rest))
-    (sym (behind_from text e) ∙ read.whole ∙ letter-lines letter rest)
+    (sym (after_from text e) ∙ read.whole ∙ letter-lines letter rest)
 
 pub no_head : (text : List ℕ) → begins_from text ≡ true → has_byte (take (length text - 5) (drop 5 text)) lf ≡ false → (letter : Letter) (rest : List ℕ) → IsLetterRead text letter rest → ⊥
 no_head text e none letter rest read =
@@ -86,11 +86,11 @@ tail_of letter text rest h b e = record { ls = lines letter.body; one = lines-ea
 
 one_letter : (a b : Letter) (rest other : List ℕ) → IsLetter a → IsLetter b → is_boundary rest ≡ true → is_boundary other ≡ true → letter_text a ++ rest ≡ letter_text b ++ other → rest ≡ other
 one_letter a b rest other h k s t e =
-    let behind_a : List ℕ = quoted_text a.body ++ lf ∷ rest in
-    let behind_b : List ℕ = quoted_text b.body ++ lf ∷ other in
-    let both = append_cancel_left (codes "From ") (a.head ++ lf ∷ behind_a) (b.head ++ lf ∷ behind_b) (sym (letter-lines a rest) ∙ e ∙ letter-lines b other) in
-    let cut = same_cut a.head b.head behind_a behind_b h.head k.head both in
-    one_rest (lines a.body) behind_a rest other (lines-each a.body) s refl (tail_of b behind_a other k t cut.1)
+    let after_a : List ℕ = quoted_text a.body ++ lf ∷ rest in
+    let after_b : List ℕ = quoted_text b.body ++ lf ∷ other in
+    let both = append_cancel_left (codes "From ") (a.head ++ lf ∷ after_a) (b.head ++ lf ∷ after_b) (sym (letter-lines a rest) ∙ e ∙ letter-lines b other) in
+    let cut = same_cut a.head b.head after_a after_b h.head k.head both in
+    one_rest (lines a.body) after_a rest other (lines-each a.body) s refl (tail_of b after_a other k t cut.1)
 
 -- what is read of a mailbox: the letters before the rest
 pub record IsReadUpTo (mailbox : List ℕ) (found : List Letter) (rest : List ℕ) : Type 0 where

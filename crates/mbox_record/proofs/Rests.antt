@@ -6,29 +6,29 @@ use Rattle.std.proofs.lemmas.Bool.{or_parts, eqb-true, cases_Bool}
 use Rattle.mail_world.specs.Text.{cr, lf, has_byte, begins, unix, lines, with_lf}
 use Rattle.mail_world.specs.Records.{is_from_line, quoted, quoted_text}
 use Rattle.mail_world.proofs.Quoting.{quoted_more}
-use Rattle.mbox_record.specs.Writing.{line_rest, behind_mark}
+use Rattle.mbox_record.specs.Writing.{line_rest, after_quote_mark}
 
 -- the text up to its first LF, and after it
 abbrev pub first_line : List ℕ → List ℕ
 first_line [] = []
 first_line (b ∷ text) = if b == lf then [] else b ∷ first_line text
 
-abbrev pub behind_line : List ℕ → List ℕ
-behind_line [] = []
-behind_line (b ∷ text) = if b == lf then text else behind_line text
+abbrev pub after_one_line : List ℕ → List ℕ
+after_one_line [] = []
+after_one_line (b ∷ text) = if b == lf then text else after_one_line text
 
-rest_by : (t : Bool) (b : ℕ) (text : List ℕ) → line_rest text ≡ first_line text ++ lf ∷ quoted_text (behind_line text)
-    → (if t then lf ∷ quoted_text text else b ∷ line_rest text) ≡ (if t then [] else b ∷ first_line text) ++ lf ∷ quoted_text (if t then text else behind_line text)
+rest_by : (t : Bool) (b : ℕ) (text : List ℕ) → line_rest text ≡ first_line text ++ lf ∷ quoted_text (after_one_line text)
+    → (if t then lf ∷ quoted_text text else b ∷ line_rest text) ≡ (if t then [] else b ∷ first_line text) ++ lf ∷ quoted_text (if t then text else after_one_line text)
 rest_by true b text e = refl
 rest_by false b text e = ap (λ (l : List ℕ). b ∷ l) e
 
-line_rest-first : (text : List ℕ) → line_rest text ≡ first_line text ++ lf ∷ quoted_text (behind_line text)
+line_rest-first : (text : List ℕ) → line_rest text ≡ first_line text ++ lf ∷ quoted_text (after_one_line text)
 line_rest-first [] = refl
 line_rest-first (b ∷ text) = rest_by (b == lf) b text (line_rest-first text)
 
-lines_by : (t : Bool) (b c : ℕ) (text : List ℕ) → lines (c ∷ text) ≡ first_line (c ∷ text) ∷ lines (behind_line (c ∷ text))
+lines_by : (t : Bool) (b c : ℕ) (text : List ℕ) → lines (c ∷ text) ≡ first_line (c ∷ text) ∷ lines (after_one_line (c ∷ text))
     → (if t then [] ∷ lines (c ∷ text) else onto_first b (lines (c ∷ text)))
-    ≡ (if t then [] else b ∷ first_line (c ∷ text)) ∷ lines (if t then c ∷ text else behind_line (c ∷ text))
+    ≡ (if t then [] else b ∷ first_line (c ∷ text)) ∷ lines (if t then c ∷ text else after_one_line (c ∷ text))
 lines_by true b c text e = refl
 lines_by false b c text e = ap (onto_first b) e
 
@@ -36,25 +36,25 @@ one_by : (t : Bool) (b : ℕ) → (if t then [] ∷ [] else (b ∷ []) ∷ []) �
 one_by true b = refl
 one_by false b = refl
 
-lines-first : (b : ℕ) (text : List ℕ) → lines (b ∷ text) ≡ first_line (b ∷ text) ∷ lines (behind_line (b ∷ text))
+lines-first : (b : ℕ) (text : List ℕ) → lines (b ∷ text) ≡ first_line (b ∷ text) ∷ lines (after_one_line (b ∷ text))
 lines-first b [] = one_by (b == lf) b
 lines-first b (c ∷ text) = lines_by (b == lf) b c text (lines-first c text)
 
-quoted_text-first : (b : ℕ) (text : List ℕ) → quoted_text (b ∷ text) ≡ quoted (first_line (b ∷ text)) ++ lf ∷ quoted_text (behind_line (b ∷ text))
+quoted_text-first : (b : ℕ) (text : List ℕ) → quoted_text (b ∷ text) ≡ quoted (first_line (b ∷ text)) ++ lf ∷ quoted_text (after_one_line (b ∷ text))
 quoted_text-first b text =
     ap (λ (ls : List (List ℕ)). with_lf (map quoted ls)) (lines-first b text)
-    ∙ append_assoc (quoted (first_line (b ∷ text))) (lf ∷ []) (quoted_text (behind_line (b ∷ text)))
+    ∙ append_assoc (quoted (first_line (b ∷ text))) (lf ∷ []) (quoted_text (after_one_line (b ∷ text)))
 
 -- a line that is no From line is written as it is
 pub plain_line : (b : ℕ) (text : List ℕ) → is_from_line (first_line (b ∷ text)) ≡ false → quoted_text (b ∷ text) ≡ line_rest (b ∷ text)
-plain_line b text e = quoted_text-first b text ∙ ap (λ (t : Bool). (if t then 62 ∷ first_line (b ∷ text) else first_line (b ∷ text)) ++ lf ∷ quoted_text (behind_line (b ∷ text))) e
+plain_line b text e = quoted_text-first b text ∙ ap (λ (t : Bool). (if t then 62 ∷ first_line (b ∷ text) else first_line (b ∷ text)) ++ lf ∷ quoted_text (after_one_line (b ∷ text))) e
     ∙ sym (line_rest-first (b ∷ text))
 
 -- a `>` at its beginning, and the rest
-pub marked_line : (text : List ℕ) → quoted_text (62 ∷ text) ≡ 62 ∷ behind_mark text
+pub marked_line : (text : List ℕ) → quoted_text (62 ∷ text) ≡ 62 ∷ after_quote_mark text
 marked_line [] = refl
 marked_line (b ∷ text) =
-    quoted_text-first 62 (b ∷ text) ∙ ap (λ (l : List ℕ). l ++ lf ∷ quoted_text (behind_line (b ∷ text))) (quoted_more (first_line (b ∷ text)))
+    quoted_text-first 62 (b ∷ text) ∙ ap (λ (l : List ℕ). l ++ lf ∷ quoted_text (after_one_line (b ∷ text))) (quoted_more (first_line (b ∷ text)))
     ∙ ap (λ (l : List ℕ). 62 ∷ l) (sym (quoted_text-first b text))
 
 -- a From line

@@ -28,13 +28,13 @@ further x y z xs = ap₂ (λ (p q : Bool). if p then TwoLf else if q then OneLf 
     (ends_further (lf ∷ lf ∷ []) x (y ∷ z ∷ xs) (omega arith))
     (ends_further (lf ∷ []) x (y ∷ z ∷ xs) (omega arith))
 
-lf_behind : (xs : List ℕ) → tail_of (xs ++ lf ∷ []) ≡ one_lf_more (tail_of xs)
-lf_behind [] = refl
-lf_behind (x ∷ []) = elim (eqb_tells lf x) [
+lf_after : (xs : List ℕ) → tail_of (xs ++ lf ∷ []) ≡ one_lf_more (tail_of xs)
+lf_after [] = refl
+lf_after (x ∷ []) = elim (eqb_tells lf x) [
   | inl same ↦ rw same.0 refl
   | inr other ↦ rw other.0 refl
 ]
-lf_behind (x ∷ y ∷ []) = elim (eqb_tells lf x) [
+lf_after (x ∷ y ∷ []) = elim (eqb_tells lf x) [
   | inl same ↦ elim (eqb_tells lf y) [
     | inl also ↦ rw (same.0, also.0) refl
     | inr other ↦ rw (same.0, other.0) refl
@@ -44,45 +44,45 @@ lf_behind (x ∷ y ∷ []) = elim (eqb_tells lf x) [
     | inr also ↦ rw (other.0, also.0) refl
   ]
 ]
-lf_behind (x ∷ y ∷ z ∷ xs) = further x y z (xs ++ lf ∷ []) ∙ lf_behind (y ∷ z ∷ xs) ∙ ap one_lf_more (sym (further x y z xs))
+lf_after (x ∷ y ∷ z ∷ xs) = further x y z (xs ++ lf ∷ []) ∙ lf_after (y ∷ z ∷ xs) ∙ ap one_lf_more (sym (further x y z xs))
 
-byte_behind : (b : ℕ) (xs : List ℕ) → (lf == b) ≡ false → tail_of (xs ++ b ∷ []) ≡ NoLf
-byte_behind b [] e = rw e refl
-byte_behind b (x ∷ []) e = elim (eqb_tells lf x) [
+byte_after : (b : ℕ) (xs : List ℕ) → (lf == b) ≡ false → tail_of (xs ++ b ∷ []) ≡ NoLf
+byte_after b [] e = rw e refl
+byte_after b (x ∷ []) e = elim (eqb_tells lf x) [
   | inl same ↦ rw (same.0, e) refl
   | inr other ↦ rw (other.0, e) refl
 ]
-byte_behind b (x ∷ y ∷ []) e = byte_behind b (y ∷ []) e
-byte_behind b (x ∷ y ∷ z ∷ xs) e = further x y z (xs ++ b ∷ []) ∙ byte_behind b (y ∷ z ∷ xs) e
+byte_after b (x ∷ y ∷ []) e = byte_after b (y ∷ []) e
+byte_after b (x ∷ y ∷ z ∷ xs) e = further x y z (xs ++ b ∷ []) ∙ byte_after b (y ∷ z ∷ xs) e
 
-two_behind : (b c : ℕ) (more xs : List ℕ) → tail_of (xs ++ b ∷ c ∷ more) ≡ tail_of (b ∷ c ∷ more)
-two_behind b c more [] = refl
-two_behind b c more (x ∷ []) = further x b c more
-two_behind b c more (x ∷ y ∷ []) = further x y b (c ∷ more) ∙ further y b c more
-two_behind b c more (x ∷ y ∷ z ∷ xs) = further x y z (xs ++ b ∷ c ∷ more) ∙ two_behind b c more (y ∷ z ∷ xs)
+two_after : (b c : ℕ) (more xs : List ℕ) → tail_of (xs ++ b ∷ c ∷ more) ≡ tail_of (b ∷ c ∷ more)
+two_after b c more [] = refl
+two_after b c more (x ∷ []) = further x b c more
+two_after b c more (x ∷ y ∷ []) = further x y b (c ∷ more) ∙ further y b c more
+two_after b c more (x ∷ y ∷ z ∷ xs) = further x y z (xs ++ b ∷ c ∷ more) ∙ two_after b c more (y ∷ z ∷ xs)
 
 pub ends_a_line : (tail : Tail) → (tail ≡ OneLf) ⊎ (tail ≡ TwoLf) → TwoLf ≡ one_lf_more tail
 ends_a_line tail (inl is) = sym (ap one_lf_more is)
 ends_a_line tail (inr is) = sym (ap one_lf_more is)
 
 -- the piece is an LF, or something else
-pub tail_lf : (tail : Tail) (piece front : List ℕ) → piece ≡ lf ∷ [] → tail ≡ tail_of front → one_lf_more tail ≡ tail_of (front ++ piece)
-tail_lf tail piece front e is =
-    ap one_lf_more is ∙ sym (lf_behind front) ∙ ap (λ (l : List ℕ). tail_of (front ++ l)) (sym e)
+pub tail_lf : (tail : Tail) (piece prefix : List ℕ) → piece ≡ lf ∷ [] → tail ≡ tail_of prefix → one_lf_more tail ≡ tail_of (prefix ++ piece)
+tail_lf tail piece prefix e is =
+    ap one_lf_more is ∙ sym (lf_after prefix) ∙ ap (λ (l : List ℕ). tail_of (prefix ++ l)) (sym e)
 
-pub tail_else : (piece front : List ℕ) → 0 < length piece → piece ≢ lf ∷ [] → tail_of piece ≡ tail_of (front ++ piece)
-tail_else [] front h other = absurd (omega arith)
-tail_else (b ∷ []) front h other = elim (eqb_tells lf b) [
+pub tail_else : (piece prefix : List ℕ) → 0 < length piece → piece ≢ lf ∷ [] → tail_of piece ≡ tail_of (prefix ++ piece)
+tail_else [] prefix h other = absurd (omega arith)
+tail_else (b ∷ []) prefix h other = elim (eqb_tells lf b) [
   | inl same ↦ absurd (other (ap (λ (x : ℕ). x ∷ []) (sym (eqb-true lf b same.0))))
-  | inr apart ↦ byte_behind b [] apart.0 ∙ sym (byte_behind b front apart.0)
+  | inr apart ↦ byte_after b [] apart.0 ∙ sym (byte_after b prefix apart.0)
 ]
-tail_else (b ∷ c ∷ more) front h other = sym (two_behind b c more front)
+tail_else (b ∷ c ∷ more) prefix h other = sym (two_after b c more prefix)
 
 -- as a test of the piece tells
-pub tested_lf : (r : Bool) (tail : Tail) (piece front : List ℕ) → Decides r (piece ≡ lf ∷ []) → r ≡ true → tail ≡ tail_of front
-    → one_lf_more tail ≡ tail_of (front ++ piece)
-tested_lf r tail piece front says e is = tail_lf tail piece front (says.0 e) is
+pub tested_lf : (r : Bool) (tail : Tail) (piece prefix : List ℕ) → Decides r (piece ≡ lf ∷ []) → r ≡ true → tail ≡ tail_of prefix
+    → one_lf_more tail ≡ tail_of (prefix ++ piece)
+tested_lf r tail piece prefix says e is = tail_lf tail piece prefix (says.0 e) is
 
-pub tested_else : (r : Bool) (piece front : List ℕ) → Decides r (piece ≡ lf ∷ []) → r ≡ false → 0 < length piece
-    → tail_of piece ≡ tail_of (front ++ piece)
-tested_else r piece front says e h = tail_else piece front h (λ is. false≢true (sym e ∙ says.1 is))
+pub tested_else : (r : Bool) (piece prefix : List ℕ) → Decides r (piece ≡ lf ∷ []) → r ≡ false → 0 < length piece
+    → tail_of piece ≡ tail_of (prefix ++ piece)
+tested_else r piece prefix says e h = tail_else piece prefix h (λ is. false≢true (sym e ∙ says.1 is))

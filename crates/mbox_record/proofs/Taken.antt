@@ -63,9 +63,9 @@ SpoolTook-then s t u a b x y = record {
 -- a failure in the first text, in the second
 pub SpoolFailed-first : (s t : SpoolState) (a b : List ℕ) → SpoolFailed s t a → SpoolFailed s t (a ++ b)
 SpoolFailed-first s t a b x = record {
-  front = x.front;
+  prefix = x.prefix;
   rest = x.rest ++ b;
-  whole = ap (λ (w : List ℕ). w ++ b) x.whole ∙ append_assoc x.front x.rest b;
+  whole = ap (λ (w : List ℕ). w ++ b) x.whole ∙ append_assoc x.prefix x.rest b;
   appended = x.appended;
   failed = x.failed;
   limited = x.limited;
@@ -77,35 +77,35 @@ SpoolFailed-first s t a b x = record {
 
 pub SpoolFailed-later : (s t u : SpoolState) (a b : List ℕ) → SpoolTook s t a → SpoolFailed t u b → SpoolFailed s u (a ++ b)
 SpoolFailed-later s t u a b x y = record {
-  front = a ++ y.front;
+  prefix = a ++ y.prefix;
   rest = y.rest;
-  whole = ap (λ (w : List ℕ). a ++ w) y.whole ∙ sym (append_assoc a y.front y.rest);
-  appended = Appends-then s.bytes t.bytes u.bytes a y.front x.appended y.appended;
+  whole = ap (λ (w : List ℕ). a ++ w) y.whole ∙ sym (append_assoc a y.prefix y.rest);
+  appended = Appends-then s.bytes t.bytes u.bytes a y.prefix x.appended y.appended;
   failed = let P : ℕ → Type 0 = λ n. Rises n u.failures in subst P x.sound y.failed;
   limited = y.limited ∙ x.limited;
   covered = y.covered ∙ x.covered;
-  grown = Grows-then s.held t.held u.held a y.front x.grown y.grown;
+  grown = Grows-then s.held t.held u.held a y.prefix x.grown y.grown;
   full = y.full;
   turn = FailsTurn-then s.sharing t.sharing u.sharing x.turn y.turn;
 }
 
 -- the spool took the text up to the rest
 pub record TakesUpTo (old new : SpoolState) (text rest : List ℕ) : Type 0 where
-  pub front : List ℕ
-  pub whole : text ≡ front ++ rest
-  pub taken : SpoolTook old new front
+  pub prefix : List ℕ
+  pub whole : text ≡ prefix ++ rest
+  pub taken : SpoolTook old new prefix
 
 pub TakesUpTo-more : (s t u : SpoolState) (text rest : List ℕ) (n : ℕ) → TakesUpTo s t text rest → SpoolTook t u (take n rest)
     → TakesUpTo s u text (take (length rest - n) (drop n rest))
 TakesUpTo-more s t u text rest n x y = record {
-  front = x.front ++ take n rest;
-  whole = rw (take_rest rest n) (x.whole ∙ ap (λ (w : List ℕ). x.front ++ w) (sym (take-append-drop n rest)) ∙ sym (append_assoc x.front (take n rest) (drop n rest)));
-  taken = SpoolTook-then s t u x.front (take n rest) x.taken y;
+  prefix = x.prefix ++ take n rest;
+  whole = rw (take_rest rest n) (x.whole ∙ ap (λ (w : List ℕ). x.prefix ++ w) (sym (take-append-drop n rest)) ∙ sym (append_assoc x.prefix (take n rest) (drop n rest)));
+  taken = SpoolTook-then s t u x.prefix (take n rest) x.taken y;
 }
 
 -- a failure in the rest is one in the text
 pub SpoolFailed-rest : (s t u : SpoolState) (text rest : List ℕ) → TakesUpTo s t text rest → SpoolFailed t u rest → SpoolFailed s u text
-SpoolFailed-rest s t u text rest x y = rw x.whole (SpoolFailed-later s t u x.front rest x.taken y)
+SpoolFailed-rest s t u text rest x y = rw x.whole (SpoolFailed-later s t u x.prefix rest x.taken y)
 
 pub SpoolFailed-within : {X : Type 0} (f : X → List ℕ) (s t u : SpoolState) (xs : List X) (k : ℕ) (d : X) → k < length xs
     → SpoolTook s t (flat_map f (take k xs)) → SpoolFailed t u (f (get_or xs k d)) → SpoolFailed s u (flat_map f xs)
@@ -114,7 +114,7 @@ SpoolFailed-within f s t u xs k d h x y = rw (pieces-split f xs k d h) (
     )
 
 pub TakesUpTo-first : (s t : SpoolState) (text a b : List ℕ) → text ≡ a ++ b → SpoolTook s t a → TakesUpTo s t text b
-TakesUpTo-first s t text a b e x = record { front = a; whole = e; taken = x }
+TakesUpTo-first s t text a b e x = record { prefix = a; whole = e; taken = x }
 
 pub SpoolTook-as : (s t : SpoolState) (a b : List ℕ) → a ≡ b → SpoolTook s t b → SpoolTook s t a
 SpoolTook-as s t a b e h = let P : List ℕ → Type 0 = λ w. SpoolTook s t w in subst P (sym e) h
@@ -123,7 +123,7 @@ pub SpoolFailed-as : (s t : SpoolState) (a b : List ℕ) → a ≡ b → SpoolFa
 SpoolFailed-as s t a b e h = let P : List ℕ → Type 0 = λ w. SpoolFailed s t w in subst P (sym e) h
 
 pub SpoolTook-rest : (s t u : SpoolState) (text rest : List ℕ) → TakesUpTo s t text rest → SpoolTook t u rest → SpoolTook s u text
-SpoolTook-rest s t u text rest x y = rw x.whole (SpoolTook-then s t u x.front rest x.taken y)
+SpoolTook-rest s t u text rest x y = rw x.whole (SpoolTook-then s t u x.prefix rest x.taken y)
 
 -- a result that says so of one text says so of an equal one
 pub OnOk-as : {T E : Type 0} (r : Result T E) (s t : SpoolState) (a b : List ℕ) → a ≡ b → OnOk r (SpoolTook s t b) → OnOk r (SpoolTook s t a)

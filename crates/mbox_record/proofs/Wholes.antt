@@ -19,9 +19,9 @@ pub FailsPiece-then : (s t u : SpoolState) (a b : Pending) (p q : List ℕ) → 
 FailsPiece-then s t u a b p q x y = record {
   text = x.text ++ y.text;
   failed = SpoolFailed-later s t u x.text y.text x.taken y.failed;
-  sure = λ rest. let front = y.sure rest in record {
-    rest = front.rest;
-    whole = ap (bytes_owed a) (append_assoc p q rest) ∙ sym (x.goes (q ++ rest)) ∙ ap (λ (l : List ℕ). x.text ++ l) front.whole ∙ sym (append_assoc x.text y.text front.rest);
+  sure = λ rest. let prefix = y.sure rest in record {
+    rest = prefix.rest;
+    whole = ap (bytes_owed a) (append_assoc p q rest) ∙ sym (x.goes (q ++ rest)) ∙ ap (λ (l : List ℕ). x.text ++ l) prefix.whole ∙ sym (append_assoc x.text y.text prefix.rest);
   };
 }
 
@@ -73,10 +73,10 @@ module _ (calendar : Calendar) (host : List ℕ) (e : Envelope) (message : List 
 pub piece_failed : (calendar : Calendar) (host : List ℕ) (e : Envelope) (piece rest : List ℕ) (s t u : SpoolState) (first : Pending)
     → SpoolTook s t (head_text calendar host e) → BeginsRecord first → FailsPiece t u first piece → SpoolFailed s u (record_text calendar host e (piece ++ rest))
 piece_failed calendar host e piece rest s t u first h begins x =
-    let front = x.sure rest in
+    let prefix = x.sure rest in
     let head = head_text calendar host e in
-    let content : quoted_text (unix (piece ++ rest)) ++ lf ∷ [] ≡ x.text ++ (front.rest ++ lf ∷ []) =
-    ap (λ (l : List ℕ). l ++ lf ∷ []) (sym (begins (piece ++ rest)) ∙ front.whole) ∙ append_assoc x.text front.rest (lf ∷ []) in
+    let content : quoted_text (unix (piece ++ rest)) ++ lf ∷ [] ≡ x.text ++ (prefix.rest ++ lf ∷ []) =
+    ap (λ (l : List ℕ). l ++ lf ∷ []) (sym (begins (piece ++ rest)) ∙ prefix.whole) ∙ append_assoc x.text prefix.rest (lf ∷ []) in
     SpoolFailed-as s u _ _
     (record_split calendar host e (piece ++ rest) ∙ append_assoc head _ (lf ∷ []) ∙ ap (λ (l : List ℕ). head ++ l) content)
-    (SpoolFailed-later s t u head _ h (SpoolFailed-first t u x.text (front.rest ++ lf ∷ []) x.failed))
+    (SpoolFailed-later s t u head _ h (SpoolFailed-first t u x.text (prefix.rest ++ lf ∷ []) x.failed))

@@ -40,16 +40,16 @@ word_found n piece back rest e =
     sym (ap (λ (l : List ℕ). quoted_text (unix l)) whole ∙ from_line (unix (back ++ rest)))
 
 -- a prefix of it follows, and that's all of the piece
-pub shorter : (want piece back : List ℕ) → want ≡ piece ++ back → ((more : List ℕ) → piece ≢ want ++ more) → length piece < length want
-shorter want piece [] e other = absurd (other [] (sym (append-nil piece) ∙ sym e ∙ sym (append-nil want)))
-shorter want piece (b ∷ back) e other = rw (e, length-append piece (b ∷ back)) (omega arith)
+pub shorter : (needed piece back : List ℕ) → needed ≡ piece ++ back → ((more : List ℕ) → piece ≢ needed ++ more) → length piece < length needed
+shorter needed piece [] e other = absurd (other [] (sym (append-nil piece) ∙ sym e ∙ sym (append-nil needed)))
+shorter needed piece (b ∷ back) e other = rw (e, length-append piece (b ∷ back)) (omega arith)
 
 pub word_more : (n : ℕ) (piece back rest : List ℕ) → missing n ≡ piece ++ back
     → quoted_text (unix (take (n + length piece) word ++ (drop (length piece) piece ++ rest))) ≡ quoted_text (unix (take n word ++ (piece ++ rest)))
 word_more n piece back rest e =
-    let front : take (length piece) (drop n word) ≡ piece =
+    let prefix : take (length piece) (drop n word) ≡ piece =
     ap (take (length piece)) (sym (take_rest word n) ∙ e) ∙ take-append_seam piece back in
-    let whole : take (n + length piece) word ≡ take n word ++ piece = take-add n (length piece) word ∙ ap (λ (l : List ℕ). take n word ++ l) front in
+    let whole : take (n + length piece) word ≡ take n word ++ piece = take-add n (length piece) word ∙ ap (λ (l : List ℕ). take n word ++ l) prefix in
     ap (λ (l : List ℕ). quoted_text (unix l)) (
     ap (λ (l : List ℕ). take (n + length piece) word ++ (l ++ rest)) (drop-length piece)
     ∙ ap (λ (l : List ℕ). l ++ rest) whole ∙ append_assoc (take n word) piece rest
@@ -60,32 +60,32 @@ begins_lf : (text : List ℕ) → begins lf text ≡ true → first_line (unix t
 begins_lf [] e = absurd (false≢true e)
 begins_lf (b ∷ text) e = rw (eqb-true b lf e) refl
 
-differs_by : (t : Bool) (w b : ℕ) (want more : List ℕ) → (w == b) ≡ false → begins_with (w ∷ want) (if t then [] else b ∷ more) ≡ false
-differs_by true w b want more e = refl
-differs_by false w b want more e = rw e refl
+differs_by : (t : Bool) (w b : ℕ) (needed more : List ℕ) → (w == b) ≡ false → begins_with (w ∷ needed) (if t then [] else b ∷ more) ≡ false
+differs_by true w b needed more e = refl
+differs_by false w b needed more e = rw e refl
 
-differs : (t : Bool) (w b : ℕ) (want text : List ℕ) → ((b == cr) && begins lf text) ≡ t → (w == b) ≡ false
-    → begins_with (w ∷ want) (first_line (if t then unix text else b ∷ unix text)) ≡ false
-differs true w b want text e other =
-    ap (λ (l : List ℕ). begins_with (w ∷ want) l) (begins_lf text (and_parts (b == cr) (begins lf text) e).1)
-differs false w b want text e other = differs_by (b == lf) w b want (first_line (unix text)) other
+differs : (t : Bool) (w b : ℕ) (needed text : List ℕ) → ((b == cr) && begins lf text) ≡ t → (w == b) ≡ false
+    → begins_with (w ∷ needed) (first_line (if t then unix text else b ∷ unix text)) ≡ false
+differs true w b needed text e other =
+    ap (λ (l : List ℕ). begins_with (w ∷ needed) l) (begins_lf text (and_parts (b == cr) (begins lf text) e).1)
+differs false w b needed text e other = differs_by (b == lf) w b needed (first_line (unix text)) other
 
-same_byte : (w b : ℕ) (want text : List ℕ) → (w == b) ≡ true → (b == lf) ≡ false → (b == cr) ≡ false
-    → begins_with want (first_line (unix text)) ≡ false → begins_with (w ∷ want) (first_line (unix (b ∷ text))) ≡ false
-same_byte w b want text e f g h = rw (g, f, e, h) refl
+same_byte : (w b : ℕ) (needed text : List ℕ) → (w == b) ≡ true → (b == lf) ≡ false → (b == cr) ≡ false
+    → begins_with needed (first_line (unix text)) ≡ false → begins_with (w ∷ needed) (first_line (unix (b ∷ text))) ≡ false
+same_byte w b needed text e f g h = rw (g, f, e, h) refl
 
-pub mismatch : (want piece rest : List ℕ) → has_byte want lf ≡ false → has_byte want cr ≡ false
-    → ((more : List ℕ) → piece ≢ want ++ more) → ((more : List ℕ) → want ≢ piece ++ more)
-    → begins_with want (first_line (unix (piece ++ rest))) ≡ false
+pub mismatch : (needed piece rest : List ℕ) → has_byte needed lf ≡ false → has_byte needed cr ≡ false
+    → ((more : List ℕ) → piece ≢ needed ++ more) → ((more : List ℕ) → needed ≢ piece ++ more)
+    → begins_with needed (first_line (unix (piece ++ rest))) ≡ false
 mismatch [] piece rest p q h k = absurd (h piece refl)
-mismatch (w ∷ want) [] rest p q h k = absurd (k (w ∷ want) refl)
-mismatch (w ∷ want) (b ∷ piece) rest p q h k = elim (eqb_tells w b) [
+mismatch (w ∷ needed) [] rest p q h k = absurd (k (w ∷ needed) refl)
+mismatch (w ∷ needed) (b ∷ piece) rest p q h k = elim (eqb_tells w b) [
   | inl same ↦
-      let no_lf = or_parts (w == lf) (has_byte want lf) p in
-      let no_cr = or_parts (w == cr) (has_byte want cr) q in
-      same_byte w b want (piece ++ rest) same.0 (ap (λ (c : ℕ). c == lf) (sym same.1) ∙ no_lf.0) (ap (λ (c : ℕ). c == cr) (sym same.1) ∙ no_cr.0)
-      (mismatch want piece rest no_lf.1 no_cr.1 (λ more e. h more (ap₂ (λ c l. c ∷ l) (sym same.1) e)) (λ more e. k more (ap₂ (λ c l. c ∷ l) same.1 e)))
-  | inr other ↦ differs ((b == cr) && begins lf (piece ++ rest)) w b want (piece ++ rest) refl other.0
+      let no_lf = or_parts (w == lf) (has_byte needed lf) p in
+      let no_cr = or_parts (w == cr) (has_byte needed cr) q in
+      same_byte w b needed (piece ++ rest) same.0 (ap (λ (c : ℕ). c == lf) (sym same.1) ∙ no_lf.0) (ap (λ (c : ℕ). c == cr) (sym same.1) ∙ no_cr.0)
+      (mismatch needed piece rest no_lf.1 no_cr.1 (λ more e. h more (ap₂ (λ c l. c ∷ l) (sym same.1) e)) (λ more e. k more (ap₂ (λ c l. c ∷ l) same.1 e)))
+  | inr other ↦ differs ((b == cr) && begins lf (piece ++ rest)) w b needed (piece ++ rest) refl other.0
 ]
 
 -- the text as it is read has a first byte, which isn't `>` where the text's isn't

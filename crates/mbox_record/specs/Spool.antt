@@ -55,14 +55,14 @@ pub record SpoolTook (old new : SpoolState) (text : List ℕ) : Type 0 where
 
 -- the spool took a prefix of the text, and failed, which one with a limit does only once it is full
 pub record SpoolFailed (old new : SpoolState) (text : List ℕ) : Type 0 where
-  pub front : List ℕ
+  pub prefix : List ℕ
   pub rest : List ℕ
-  pub whole : text ≡ front ++ rest
-  pub appended : Appends old.bytes new.bytes front
+  pub whole : text ≡ prefix ++ rest
+  pub appended : Appends old.bytes new.bytes prefix
   pub failed : Rises old.failures new.failures
   pub limited : new.limit ≡ old.limit
   pub covered : new.synced ≡ old.synced
-  pub grown : Grows old.held new.held (length front)
+  pub grown : Grows old.held new.held (length prefix)
   pub full : IsFull new.limit new.bytes
   pub turn : FailsTurn old.sharing new.sharing
 

@@ -2,7 +2,7 @@
 use Rattle.std.specs.Prelude.{◌≡◌, ℕ, ◌≤◌, ◌==◌, List, [], ◌∷◌, ◌++◌, take, if◌then◌else◌, codes, ⊤}
 use Rattle.mail_world.specs.Text.{cr, lf, unix}
 use Rattle.mail_world.specs.Records.{quoted_text}
-use Rattle.mail_world.specs.Fronts.{IsFront}
+use Rattle.mail_world.specs.Prefixes.{IsPrefix}
 use Rattle.mbox_record.specs.Spool.{SpoolState, SpoolTook, SpoolFailed}
 use Rattle.mbox_record.specs.declared.pending.Pending.{Pending as Declared}
 use Rattle.mbox_record.specs.declared.pending.Pending.TheVariants.{Start, Marks, Word, Inside, Cr}
@@ -22,14 +22,14 @@ line_rest [] = lf ∷ []
 line_rest (b ∷ text) = if b == lf then lf ∷ quoted_text text else b ∷ line_rest text
 
 -- the rest of a line that began with `>`, and the lines after it
-abbrev pub behind_mark : List ℕ → List ℕ
-behind_mark [] = lf ∷ []
-behind_mark (b ∷ text) = quoted_text (b ∷ text)
+abbrev pub after_quote_mark : List ℕ → List ℕ
+after_quote_mark [] = lf ∷ []
+after_quote_mark (b ∷ text) = quoted_text (b ∷ text)
 
 -- what a writer still writes if this text is the rest of the message
 abbrev pub bytes_owed : Pending → List ℕ → List ℕ
 bytes_owed Start text = quoted_text (unix text)
-bytes_owed Marks text = behind_mark (unix text)
+bytes_owed Marks text = after_quote_mark (unix text)
 bytes_owed (Word n) text = quoted_text (unix (take n (codes "From ") ++ text))
 bytes_owed Inside text = line_rest (unix text)
 bytes_owed Cr text = line_rest (unix (cr ∷ text))
@@ -44,4 +44,4 @@ pub record WritesPiece (old new : SpoolState) (before after : Pending) (piece : 
 pub record FailsPiece (old new : SpoolState) (before : Pending) (piece : List ℕ) : Type 0 where
   pub text : List ℕ
   pub failed : SpoolFailed old new text
-  pub sure : (rest : List ℕ) → IsFront text (bytes_owed before (piece ++ rest))
+  pub sure : (rest : List ℕ) → IsPrefix text (bytes_owed before (piece ++ rest))

@@ -42,9 +42,9 @@ impl CountSpool {
 const LF: &[u8] = b"\n";
 
 /// How bytes that end so end with the piece after them.
-pub fn tail_behind(tail: Tail, piece: &[u8]) -> Tail
+pub fn tail_after(tail: Tail, piece: &[u8]) -> Tail
     requires { 0 < length piece.now }
-    ensures { (front : List ℕ) → tail ≡ tail_of front → result ≡ tail_of (front ++ piece.now) }
+    ensures { (prefix : List ℕ) → tail ≡ tail_of prefix → result ≡ tail_of (prefix ++ piece.now) }
 {
     if piece == LF {
         match tail {
@@ -81,7 +81,8 @@ impl Spool for CountSpool {
         requires { 0 < length piece.now }
         ensures whole { result ≡ Ok (length piece.now) }
         ensures held { self.new.held ≡ counted (self.old.held + length piece.now) }
-        ensures tail { (front : List ℕ) → self.old.tail ≡ tail_of front → self.new.tail ≡ tail_of (front ++ piece.now) }
+        ensures tail { (prefix : List ℕ) → self.old.tail ≡ tail_of prefix
+            → self.new.tail ≡ tail_of (prefix ++ piece.now) }
 
         // what every spool ensures
         ensures within { IfOk result (λ n. (1 ≤ n) × (n ≤ length piece.now)) }
@@ -95,7 +96,7 @@ impl Spool for CountSpool {
     {
         self.is_unsynced = true;
         self.held = self.held.saturating_add(piece.len() as u64);
-        self.tail = tail_behind(self.tail, piece);
+        self.tail = tail_after(self.tail, piece);
         Ok(piece.len())
     }
 

@@ -18,7 +18,7 @@ mod reading;
 mod record;
 mod spool;
 
-pub use count::{CountSpool, tail_behind};
+pub use count::{CountSpool, tail_after};
 pub use envelope::Envelope;
 pub use letter::Letter;
 pub use memory::MemorySpool;

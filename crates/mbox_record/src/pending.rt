@@ -150,7 +150,7 @@ fn short_step(pending: Pending, piece: &[u8]) -> Step
     ensures { IsWriterStep pending piece.now result }
 {
     match pending {
-        Pending::Start | Pending::Marks => front_step(piece),
+        Pending::Start | Pending::Marks => prefix_step(piece),
         Pending::Word(n) => word_step(n, piece),
         Pending::Inside => line_step(piece),
         Pending::Cr => cr_step(piece),
@@ -158,7 +158,7 @@ fn short_step(pending: Pending, piece: &[u8]) -> Step
 }
 
 // At a line's start or after its `>`s.
-fn front_step(piece: &[u8]) -> Step
+fn prefix_step(piece: &[u8]) -> Step
     requires some { 0 < length piece.now }
     ensures start { IsWriterStep Start piece.now result }
     ensures marks { IsWriterStep Marks piece.now result }

@@ -115,7 +115,7 @@ fn read_body(alloc: Global, text: &[u8]) -> Result<(Vec<u8>, &[u8]), BadMailbox>
 // What stands in the text before the rest, with which it ends.
 fn before<'a>(text: &'a [u8], rest: &[u8]) -> &'a [u8]
     requires { length rest.now ≤ length text.now }
-    ensures { (front : List ℕ) → text.now ≡ front ++ rest.now → result.now ≡ front }
+    ensures { (prefix : List ℕ) → text.now ≡ prefix ++ rest.now → result.now ≡ prefix }
 {
     &text[..text.len() - rest.len()]
 }

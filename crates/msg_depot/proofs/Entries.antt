@@ -101,15 +101,15 @@ seals_turned old key weight new more s = record {
   once = (seals_turn old key weight new s).blocks;
 }
 
-count_behind : (generation : ℕ) → HasCount (slot_given_back generation).held
-count_behind generation = by (nat_lt generation last_generation)
+count_after : (generation : ℕ) → HasCount (slot_given_back generation).held
+count_after generation = by (nat_lt generation last_generation)
   where
     by : (t : Bool) → HasCount (cond {A = Slot} t (record { generation = generation + 1; held = d.Free }) (record { generation = generation; held = d.Retired })).held
     by true = tt
     by false = tt
 
-behind_slots : (depot : Depot) (key : Key) (free : List ℕ) → (d.given_back depot key free).slots ≡ slice_set depot.slots key.slot (slot_given_back key.generation)
-behind_slots depot key free = by (nat_lt key.generation last_generation)
+after_slots : (depot : Depot) (key : Key) (free : List ℕ) → (d.given_back depot key free).slots ≡ slice_set depot.slots key.slot (slot_given_back key.generation)
+after_slots depot key free = by (nat_lt key.generation last_generation)
   where
     by : (t : Bool) → (cond {A = Depot} t (record { slots = slice_set depot.slots key.slot (record { generation = key.generation + 1; held = d.Free }); free = free }) (d.with_held depot key d.Retired free)).slots ≡ slice_set depot.slots key.slot (cond {A = Slot} t (record { generation = key.generation + 1; held = d.Free }) (record { generation = key.generation; held = d.Retired }))
     by true = refl
@@ -119,8 +119,8 @@ drops_turned : (old : Depot) (key : Key) (held : List ℕ → List ℕ → Held)
     → ((b blocks : List ℕ) → (held b blocks ≡ d.Free) → ⊥) → GivesBack old key held new → Turned old new key.slot (slot_given_back key.generation)
 drops_turned old key held new light has filled p = record {
   within = slice_get_within old.slots key.slot _ (used old key _ p.message (filled p.bytes p.blocks));
-  slots = ap (λ (x : Depot). x.slots) p.after ∙ behind_slots old key p.free;
-  count = count_behind key.generation;
+  slots = ap (λ (x : Depot). x.slots) p.after ∙ after_slots old key p.free;
+  count = count_after key.generation;
   once = (drops_turn old key held new light has filled p).blocks;
 }
 

@@ -75,14 +75,14 @@ abbrev pub Begun : Step (Unit {0}) → Me (Unit {0}) View → ℕ → Me (Unit {
 Begun st me n me' = (i : ℕ) → st.word ≡ word_of i → me' ≡ (begun me.0 i, me.1)
 
 -- the claim with more bytes
-abbrev pub longer : Claim → List ℕ → Claim
-longer c bs = claim c.slot c.generation (c.bytes ++ bs) c.weight
+abbrev pub longer_claim : Claim → List ℕ → Claim
+longer_claim c bs = claim c.slot c.generation (c.bytes ++ bs) c.weight
 
 -- the keeper's view with more bytes in the draft that it has joined
 abbrev pub put : View → List ℕ → View
 put v bs =
     keeping (entered v.book v.claim.slot (entry Drafted v.claim.generation (v.claim.bytes ++ bs))) Draft
-    (longer v.claim bs)
+    (longer_claim v.claim bs)
 
 -- a step that adds them
 abbrev pub Put : List ℕ → Step (Unit {0}) → Me (Unit {0}) View → ℕ → Me (Unit {0}) View → Type 0

@@ -6,7 +6,7 @@ ghost use Rattle.mail_world.specs.Depot.{weight_under, HasRoom, Begins, Puts, Se
 ghost use Rattle.mail_world.specs.Depot as depot;
 ghost use Rattle.block_arena.specs.Calls.{IsUsed, IsGivenBack};
 ghost use Rattle.msg_depot.specs.Rules.{weighing, resting, keeping, word_of};
-ghost use Rattle.msg_depot.specs.Moves.{longer, entered, IsOver};
+ghost use Rattle.msg_depot.specs.Moves.{longer_claim, entered, IsOver};
 ghost use Rattle.msg_depot.specs.Entries.{entry_of, key_of, slot_given_back, IsKeeper};
 
 use crate::steps;
@@ -89,7 +89,7 @@ impl<N: DepotName> Keeper<N> {
     pub fn put(&mut self, board: &Board, draft: &mut Draft<N>, piece: &[u8]) -> Result<(), NoRoom>
         requires board { board.now.shared.table_id ≡ N.table }
         ensures done { IfOk result (λ _. Puts self.old (key_of draft.old) piece.now self.new) }
-        ensures longer { IfOk result (λ _. draft.new ≡ longer draft.old piece.now) }
+        ensures longer_claim { IfOk result (λ _. draft.new ≡ longer_claim draft.old piece.now) }
         ensures full { IfErr result (λ _. ¬ HasRoom self.old (key_of draft.old) piece.now) }
         ensures same { IfErr result (λ _. (draft.new ≡ draft.old) × (self.new ≡ self.old)) }
     {

@@ -218,13 +218,13 @@ module _ {M : Type 0} where
       ap (λ l. slice_get l k) one.sent_at ∙ at_map (λ (x : Sender M). x.sent_at) col.value k sender cell
 
   grown_cell : (old new : Sender M) (channel : Channel M) (k : ℕ) (more : List M) (told : List ℕ) → old ≡ lane_at channel k [] told
-      → new.channel ≡ old.channel → new.number ≡ old.number → new.sent ≡ old.sent ++ more → new.refused ≡ false
+      → new.channel ≡ old.channel → new.number ≡ old.number → new.sent ≡ old.sent ++ more → new.gone ≡ false
       → new ≡ lane_at channel k more new.sent_at
   grown_cell old new channel k more told is a b c d =
       let l : new.channel ≡ channel = a ∙ ap (λ (o : Sender M). o.channel) is in
       let n : new.number ≡ k = b ∙ ap (λ (o : Sender M). o.number) is in
       let s : new.sent ≡ more = c ∙ ap (λ (o : Sender M). o.sent ++ more) is in
-      λ i. record { channel = l i; number = n i; sent = s i; sent_at = new.sent_at; refused = d i }
+      λ i. record { channel = l i; number = n i; sent = s i; sent_at = new.sent_at; gone = d i }
 
   -- the lanes have given
   pub rows_given : (n : ℕ) (channels : List (Channel M)) (sent : ℕ → ℕ → List M) (rows rows_after : List (List (Sender M))) → AreRows n channels none rows → length rows_after ≡ n

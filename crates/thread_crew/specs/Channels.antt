@@ -12,7 +12,7 @@ pub record Shape : Type 0 where
 module _ {M : Type 0} where
   -- a sender that was told that these were accepted, at these times, and had none handed back
   abbrev pub lane_at : Channel M → ℕ → List M → List ℕ → Sender M
-  lane_at channel k sent at = record { channel = channel; number = k; sent = sent; sent_at = at; refused = false }
+  lane_at channel k sent at = record { channel = channel; number = k; sent = sent; sent_at = at; gone = false }
 
   -- place b has lane k's sender of the channel, which was told that these were accepted, at some times
   abbrev pub HasLane : List (Sender M) → ℕ → Channel M → ℕ → List M → Type 0
@@ -83,7 +83,7 @@ module _ {M : Type 0} where
   -- what was taken is the start of what was sent, and all of it once the receiver is closed; and all that the channel
   -- accepted has one order, in which times rise and no more wait than the channel has room for
   pub record IsSettled (lane : M → ℕ) (inbox : Inbox M) (closed : Sent M) : Type 0 where
-    pub front : TookSome lane (taken inbox) closed.sent
+    pub prefix : TookSome lane (taken inbox) closed.sent
     pub all : inbox.gone ≡ Some Closed → TookAll lane (taken inbox) closed.sent
     pub passed : HasPassedThrough lane inbox closed.sent closed.sent_at
 
@@ -106,4 +106,4 @@ module _ {M : Type 0} where
     pub as_many : length new ≡ length old
     pub each : (b : ℕ) (before after : Sender M) → slice_get old b ≡ Some before → slice_get new b ≡ Some after
         → (after.channel ≡ before.channel) × (after.number ≡ before.number) × (after.sent ≡ before.sent ++ sent b)
-        × (after.refused ≡ false)
+        × (after.gone ≡ false)

@@ -3,7 +3,7 @@
 ghost use Rattle.std.specs.Prelude.{◌≡◌, ◌++◌, ◌∷◌, [], true, None, Some, IfOk, IfErr, OnOk, OnErr};
 ghost use Rattle.mail_post.specs.Channel.{taken, IsTimed, HasSameTimes};
 ghost use Rattle.mail_post.specs.Gathering.{IsDone};
-ghost use Rattle.lmtp_lane.specs.LaneExchange.{ends_of, sending_of, is_silent, KeepsRoom, Awaits, TakesOne};
+ghost use Rattle.lmtp_lane.specs.LaneExchange.{ends_of, sending_of, slips_gone, KeepsRoom, Awaits, TakesOne};
 
 use super::Exchange;
 use lmtp_session::Session;
@@ -65,7 +65,7 @@ impl<N: DepotName> Exchange<N> {
 
     // The copy at that place is answered Failed, unless it has its slip.
     fn answer_next(&mut self, session: &Session, number: u32, place: u32) -> u32
-        requires gone { (self.old.gone ≡ true) × (is_silent (ends_of self.old) ≡ true) }
+        requires gone { (self.old.gone ≡ true) × (slips_gone (ends_of self.old) ≡ true) }
         ensures room { KeepsRoom (sending_of self.old) (sending_of self.new) }
         ensures way { Awaits number session.now.session (sending_of self.old) (sending_of self.new) }
     {

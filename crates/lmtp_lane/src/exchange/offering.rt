@@ -40,7 +40,7 @@ impl<N: DepotName> Exchange<N> {
         ensures room { KeepsRoom (sending_of self.old) (sending_of self.new) }
         ensures way { Continues post.txn (post ∷ []) (sending_of self.old) (sending_of self.new) }
     {
-        if self.refused {
+        if self.box_gone {
             let_go(rt, depot, post);
             self.answer_failed(failed);
             return;
@@ -48,7 +48,7 @@ impl<N: DepotName> Exchange<N> {
         match offer_to::<N, Brand, R>(rt, &mut self.senders, &self.slips, failed.worker, post) {
             Ok(()) => {}
             Err(back) => {
-                self.refused = true;
+                self.box_gone = true;
                 self.gone = true;
                 let_go(rt, depot, back);
                 self.answer_failed(failed);

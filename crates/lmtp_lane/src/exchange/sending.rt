@@ -4,7 +4,7 @@ ghost use Rattle.std.specs.Prelude.{◌≡◌, ◌≤◌, ◌<◌, length};
 ghost use Rattle.mail_world.specs.declared.limits.TheConstants.{RECIPIENT_LIMIT};
 ghost use Rattle.mail_world.specs.Slips.{own_slip, txn_of};
 ghost use Rattle.mail_post.specs.Gathering.{IsDone};
-ghost use Rattle.mail_post.specs.Offered.{HaveNumber, any_refused};
+ghost use Rattle.mail_post.specs.Offered.{HaveNumber, any_gone};
 ghost use Rattle.lmtp_lane.specs.LaneExchange.{ends_of, sending_of, sent_as, Sends};
 
 use super::{Exchange, Postmark};
@@ -30,19 +30,19 @@ impl<N: DepotName> Exchange<N> {
           lane = lane;
           senders = senders.items;
           inbox = slips;
-          gone = any_refused senders.items;
+          gone = any_gone senders.items;
         } }
         ensures gather { result.gather ≡ gather }
     {
-        let refused = one_refused(&senders);
+        let box_gone = any_sender_gone(&senders);
         Exchange {
             alloc,
             lane,
             senders,
             slips,
             gather,
-            refused,
-            gone: refused,
+            box_gone,
+            gone: box_gone,
         }
     }
 
@@ -95,8 +95,8 @@ impl<N: DepotName> Exchange<N> {
 }
 
 // Whether one of the senders had a copy handed back.
-fn one_refused<N: DepotName>(senders: &[Sender<N>]) -> bool
-    ensures { result ≡ any_refused senders.now }
+fn any_sender_gone<N: DepotName>(senders: &[Sender<N>]) -> bool
+    ensures { result ≡ any_gone senders.now }
 {
-    senders.iter().any(|sender| sender.is_refused())
+    senders.iter().any(|sender| sender.is_gone())
 }

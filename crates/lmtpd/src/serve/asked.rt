@@ -8,12 +8,12 @@ ghost use Rattle.lmtpd.specs.Program.{IsNotServed, IsServedAsAsked};
 use super::logger::{ServerLog, line_setting, server_log};
 use super::mailboxes::{Access, ServedMailbox, open_mailboxes};
 use super::numbers::{bounds_asked, connections_asked, ends_asked, sizes_asked};
-use super::opening::open_place;
+use super::opening::open_address;
 use super::room::tell_of_room;
 use crate::fault::Fault;
 use crate::site::shared_site;
 use crate::stop::Stop;
-use lmtpd_listen::{Opened, place_of};
+use lmtpd_listen::{Opened, listen_address_of};
 use lmtpd_log::{LaneLog, LineLog};
 use lmtpd_serve::{Conversations, Served, ServerCurfew, serve_run};
 use lmtpd_words::ServeWords;
@@ -73,7 +73,7 @@ where
         (IsNotServed words.now) }
 {
     let alloc = rt.alloc();
-    let place = place_of(words.listen)?;
+    let listen_address = listen_address_of(words.listen)?;
     let site = shared_site(alloc, &words.site)?;
     let log = server_log(rt, threads, words.log);
     tell_of_room(words, &log);
@@ -85,7 +85,7 @@ where
     let curfew = shared_curfew(threads, alloc, words)?;
     let spools = open_mailboxes(threads, alloc, access, &words.site.boxes, &curfew, log)?;
     let logs = line_setting(threads, log, words, &site)?;
-    let Opened { socket, file } = open_place(rt, alloc, place, words.socket_mode, &log)?;
+    let Opened { socket, file } = open_address(rt, alloc, listen_address, words.socket_mode, &log)?;
     let conversations = Conversations {
         lanes: words.lanes,
         count: connections_asked(words),

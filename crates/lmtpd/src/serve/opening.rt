@@ -5,7 +5,7 @@ ghost use Rattle.lmtpd_listen.specs.Opened.{IsOpened};
 ghost use Rattle.lmtpd.specs.Program.{IsUnopenedAt};
 
 use crate::fault::Fault;
-use lmtpd_listen::{ListenFault, Opened, Place, open};
+use lmtpd_listen::{ListenAddress, ListenFault, Opened, open};
 use log::{Log, error};
 use mbox_rd::FileLock;
 use std::alloc::Global;
@@ -14,12 +14,12 @@ use std::fs::Files;
 use std::net::{Net, TcpListener, TcpStream};
 use std::time::Clock;
 
-/// Opens what listens at the place; the file of a Unix socket gets that mode. Where nothing can be opened the log says
+/// Opens what listens at the address; the file of a Unix socket gets that mode. Where nothing can be opened the log says
 /// why.
-pub fn open_place<'a, R, G>(
+pub fn open_address<'a, R, G>(
     rt: &R,
     alloc: Global,
-    place: Place<'a>,
+    listen_address: ListenAddress<'a>,
     mode: u32,
     log: &G,
 ) -> Result<Opened<'a>, Fault>
@@ -27,9 +27,9 @@ where
     R: Files + Net<Listener = TcpListener, Stream = TcpStream> + Env + Clock,
     R::File: FileLock,
     G: Log,
-    ensures { MatchResult result (IsOpened place.entry) (IsUnopenedAt place.entry) }
+    ensures { MatchResult result (IsOpened listen_address.entry) (IsUnopenedAt listen_address.entry) }
 {
-    match open(rt, alloc, place, mode) {
+    match open(rt, alloc, listen_address, mode) {
         Ok(opened) => Ok(opened),
         Err(fault) => {
             if let ListenFault::Listen(reason) = &fault {

@@ -29,7 +29,7 @@ pub fn report_served<E: Write>(served: &Served, error: &mut E) -> Exit
 }
 
 // Says both; after a fault of the writer nothing.
-#[tactic(auto, using(crate::proofs::Behind::fails_behind))]
+#[tactic(auto, using(crate::proofs::AfterLines::fails_after))]
 fn write_lines<E: Write>(
     served: &Served,
     fault: Option<Fault>,

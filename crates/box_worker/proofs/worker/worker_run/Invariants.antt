@@ -2,7 +2,7 @@ use Rattle.std.proofs.Common.{◌≡◌}
 use Rattle.lmtp_text.specs.Calendar.{civil_at}
 use Rattle.mail_post.specs.Channel.{taken}
 use Rattle.mail_post.specs.InTime.{clock_of}
-use Rattle.mail_post.specs.Offered.{any_refused}
+use Rattle.mail_post.specs.Offered.{any_gone}
 use Rattle.box_worker.specs.Told.{worker_of}
 use Rattle.box_worker.specs.Worked.{idle, IsWorking}
 use Rattle.box_worker.proofs.worker.worker_run.Given as goal
@@ -23,6 +23,6 @@ invariant-loop g l = record {
         mailbox = l.worker.mailbox.mailbox;
         in_use = l.worker.mailbox.in_use;
         taken = l.worker.taken;
-        lost = any_refused l.worker.slips;
+        lost = any_gone l.worker.slips;
       }) l.worker.mailbox.limit;
 }

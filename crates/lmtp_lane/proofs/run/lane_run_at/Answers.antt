@@ -1,6 +1,6 @@
 use Rattle.std.proofs.Common.{false, subst, ap, sym, ◌∙◌}
 use Rattle.mail_world.specs.Site.{Site}
-use Rattle.mail_post.specs.Offered.{any_refused}
+use Rattle.mail_post.specs.Offered.{any_gone}
 use Rattle.lmtp_lane.specs.LaneExchange.{LaneEnds, ends_of}
 use Rattle.lmtp_talk.specs.Served.{terms}
 use Rattle.lmtp_lane.specs.LaneRun.{HasServed}
@@ -8,7 +8,7 @@ use Rattle.lmtp_lane.proofs.run.lane_run_at.Goals as goal
 
 pub lane_at-requires-clause-start : goal.lane_at-requires-clause-start
 lane_at-requires-clause-start g c =
-    let begin : LaneEnds → LaneEnds = λ e. record { lane = e.lane; senders = e.senders; inbox = e.inbox; gone = any_refused e.senders } in
+    let begin : LaneEnds → LaneEnds = λ e. record { lane = e.lane; senders = e.senders; inbox = e.inbox; gone = any_gone e.senders } in
     c.new-exchange.ensures.ends ∙ ap begin (sym c.new-exchange.ensures.ends)
 
 pub returns : goal.returns

@@ -13,7 +13,7 @@ returns-clause-greets g c =
     record {
       site = c.greeting-greeting.ensures.site;
       session = c.greeting-greeting.ensures.session;
-      wire = c.clear.ensures.behind;
+      wire = c.clear.ensures.after;
       same = c.flush.ensures.goes ∙ c.say.ensures.goes;
       untold = c.flush.ensures.untold ∙ c.say.ensures.untold;
       said = subst said

@@ -5,7 +5,7 @@ use Rattle.lmtp_text.proofs.reply.write_offer.Goals as goal
 
 pub returns-clause-text : goal.returns-clause-text
 returns-clause-text c = offer-put c.args.site.now c.host.result.now c.as_bytes-limit.result.now _ _ _ _ _
-    c.put-front.ensures.front c.put-named.ensures.front c.put-offered.ensures.front c.put-sized.ensures.front c.put.ensures.front
+    c.put-prefix.ensures.prefix c.put-named.ensures.prefix c.put-offered.ensures.prefix c.put-sized.ensures.prefix c.put.ensures.prefix
     c.host.ensures.value (c.as_bytes-limit.ensures.value ∙ c.format.ensures.text ∙ ap decimal c.message_limit.ensures.value)
 
 pub returns-clause-rest : goal.returns-clause-rest
@@ -13,5 +13,5 @@ returns-clause-rest c =
     c.put.ensures.rest
     ∙ drop-later c.put-sized.result c.put.result c.put-sized.new.out c.put-offered.new.out (omega arith) c.put-sized.ensures.rest
     ∙ drop-later c.put-offered.result c.put.result c.put-offered.new.out c.put-named.new.out (omega arith) c.put-offered.ensures.rest
-    ∙ drop-later c.put-named.result c.put.result c.put-named.new.out c.put-front.new.out (omega arith) c.put-named.ensures.rest
-    ∙ drop-later c.put-front.result c.put.result c.put-front.new.out c.args.out.now (omega arith) c.put-front.ensures.rest
+    ∙ drop-later c.put-named.result c.put.result c.put-named.new.out c.put-prefix.new.out (omega arith) c.put-named.ensures.rest
+    ∙ drop-later c.put-prefix.result c.put.result c.put-prefix.new.out c.args.out.now (omega arith) c.put-prefix.ensures.rest

@@ -1,6 +1,6 @@
 use Rattle.std.proofs.Common.{◌∙◌, ◌+◌, ◌<◌, length, length-drop, sym, ap, arith}
 use Rattle.std.proofs.lemmas.List.{take_rest}
-use Rattle.lmtp_wire.specs.Place.{is_start}
+use Rattle.lmtp_wire.specs.DataPlace.{is_start}
 use Rattle.lmtp_wire.proofs.Content.{content_to, content_past, content_all}
 use Rattle.lmtp_wire.proofs.dot.content_len.Goals as goal
 

@@ -1,5 +1,5 @@
 use Rattle.std.proofs.Common.{◌≡◌, ◌≤◌, ◌-◌, length, take, true}
-use Rattle.lmtp_wire.specs.Place.{is_content}
+use Rattle.lmtp_wire.specs.DataPlace.{is_content}
 use Rattle.lmtp_wire.proofs.dot.content_len.Given as goal
 
 abbrev pub invariant-loop-n : goal.invariant-loop-n

@@ -1,5 +1,5 @@
 use Rattle.std.proofs.Common.{◌∙◌, ap, get_or, length, ◌-◌}
-use Rattle.lmtp_wire.specs.Place.{place_next}
+use Rattle.lmtp_wire.specs.DataPlace.{place_next}
 use Rattle.lmtp_wire.proofs.Content.{after_last}
 use Rattle.lmtp_wire.proofs.dot.place_after.Goals as goal
 

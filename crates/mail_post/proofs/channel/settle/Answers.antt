@@ -18,8 +18,8 @@ absorb-requires-clause-channel g c =
 pub learn_as-requires-clause-rule : goal.learn_as-requires-clause-rule
 learn_as-requires-clause-rule g c = learns g.M.FromSender.sender _ _ (ap (λ (v : View _). v.takes) c.absorb.ensures.rule)
 
-pub returns-clause-front : goal.returns-clause-front
-returns-clause-front g c =
+pub returns-clause-prefix : goal.returns-clause-prefix
+returns-clause-prefix g c =
     let is = c.receiver.view_is in
     subst (λ (r : Inbox _). TookSome g.M.FromSender.sender (taken r) c.args.closed.sent) is
     (some_taken g.M.FromSender.sender _ _ _ (view_of c.receiver.inside.pass) (view_of c.absorb.new.pass) c.args.closed.sent c.receiver.invariant.1

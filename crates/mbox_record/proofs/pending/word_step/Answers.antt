@@ -8,8 +8,8 @@ use Rattle.mbox_record.specs.Writing.{line_rest}
 use Rattle.mbox_record.proofs.Words.{word, word_found, word_more, word_lost, shorter, missing, missing_len, mismatch}
 use Rattle.mbox_record.proofs.pending.word_step.Goals as goal
 
-front_within : (piece want : List ℕ) → piece ≡ want ++ drop (length want) piece → length want ≤ length piece
-front_within piece want e = rw e (rw (length-append want (drop (length want) piece)) (omega arith))
+prefix_within : (piece needed : List ℕ) → piece ≡ needed ++ drop (length needed) piece → length needed ≤ length piece
+prefix_within piece needed e = rw e (rw (length-append needed (drop (length needed) piece)) (omega arith))
 
 plain_missing : (n : ℕ) → n ≤ 4 → (has_byte (missing n) lf ≡ false) × (has_byte (missing n) cr ≡ false)
 plain_missing zero h = (refl, refl)
@@ -30,7 +30,7 @@ lost n (b ∷ piece) rest h some k p q =
 pub returns-then-starts_with : goal.returns-then-starts_with
 returns-then-starts_with c =
     let whole = (starts_is Decides-eqb c.args.piece.now (missing c.args.n) c.starts_with.result c.starts_with.ensures.value).0 c.if-starts_with.true in
-    let within = front_within c.args.piece.now (missing c.args.n) whole in record {
+    let within = prefix_within c.args.piece.now (missing c.args.n) whole in record {
       len = omega arith;
       taken = within;
       next = tt;
@@ -40,15 +40,15 @@ returns-then-starts_with c =
 
 pub returns-then-starts_with-2 : goal.returns-then-starts_with-2
 returns-then-starts_with-2 c =
-    let front = (starts_is Decides-eqb (missing c.args.n) c.args.piece.now c.starts_with-else-starts_with.result c.starts_with-else-starts_with.ensures.value).0 c.if-starts_with-2.true in
+    let prefix = (starts_is Decides-eqb (missing c.args.n) c.args.piece.now c.starts_with-else-starts_with.result c.starts_with-else-starts_with.ensures.value).0 c.if-starts_with-2.true in
     let other = (starts_is Decides-eqb c.args.piece.now (missing c.args.n) c.starts_with.result c.starts_with.ensures.value).1 in
-    let within = shorter (missing c.args.n) c.args.piece.now _ front (λ more e. true≢false (sym (other more e) ∙ c.if-starts_with.false)) in
+    let within = shorter (missing c.args.n) c.args.piece.now _ prefix (λ more e. true≢false (sym (other more e) ∙ c.if-starts_with.false)) in
     let len = missing_len c.args.n c.requires.within in record {
       len = omega arith;
       taken = omega arith;
       next = (omega (arith, c.requires.some), omega (arith, within, len, c.requires.within));
       smaller = omega (arith, c.requires.some);
-      goes = λ rest. word_more c.args.n c.args.piece.now _ rest front;
+      goes = λ rest. word_more c.args.n c.args.piece.now _ rest prefix;
     }
 
 pub returns-else-starts_with-2 : goal.returns-else-starts_with-2

@@ -4,7 +4,7 @@ use Rattle.mail_world.specs.declared.Txn.{Txn}
 use Rattle.mail_world.specs.Records.{record_of}
 use Rattle.mail_post.specs.Copies.{envelope_of}
 use Rattle.mail_post.specs.InTime.{clock_of}
-use Rattle.mail_post.specs.Offered.{IsOffered, any_refused}
+use Rattle.mail_post.specs.Offered.{IsOffered, any_gone}
 use Rattle.mbox_record.specs.Envelope.{Envelope, record_text}
 use Rattle.box_worker.specs.Limits.{Setting}
 use Rattle.box_worker.specs.Stored.{TakesCopy}
@@ -22,7 +22,7 @@ returns g c quota worker copies old before was timed x =
     let took = c.take-outcome in
     let told = c.tell in
     let at : Setting = record { calendar = civil_at; host = host; quota = quota; worker = worker } in
-    let now : WorkerState = record { slips = self.slips; mailbox = self.mailbox.mailbox; in_use = self.mailbox.in_use; taken = self.taken; lost = any_refused self.slips } in
+    let now : WorkerState = record { slips = self.slips; mailbox = self.mailbox.mailbox; in_use = self.mailbox.in_use; taken = self.taken; lost = any_gone self.slips } in
     let parts = c.parts-place in
     let text : record_text civil_at host parts.result.envelope parts.result.hold.bytes ≡ record_of civil_at host c.args.post =
     ap (λ (e : Envelope). record_text civil_at host e parts.result.hold.bytes) parts.ensures.envelope
@@ -39,7 +39,7 @@ returns g c quota worker copies old before was timed x =
       mailbox = took.new.self.mailbox;
       in_use = took.new.self.in_use;
       taken = n;
-      lost = any_refused told.new.self;
+      lost = any_gone told.new.self;
     }) took.new.self.limit in
     subst H (sym c.saturating_add-self.ensures)
     (working_more at copies before was c.args.receiver.now old now self.mailbox.limit told.new.self c.args.post accepted x timed took.result took.new.self

@@ -1,8 +1,8 @@
 use Rattle.std.proofs.Common.{ap, sym, refl, true, false, ◌∙◌}
 use Rattle.mail_world.specs.declared.Slip.{Slip}
 use Rattle.lmtp_lane.specs.LaneExchange.{sending_of, ends_of, found_gone}
-use Rattle.lmtp_lane.proofs.Exchanging.{left_way, leaves_refused, leaves_unoffered, offered_way, with_senders}
-use Rattle.mail_post.proofs.Offered.{still_numbered, refused_now, refused_as_before}
+use Rattle.lmtp_lane.proofs.Exchanging.{left_way, leaves_gone, leaves_unoffered, offered_way, with_senders}
+use Rattle.mail_post.proofs.Offered.{still_numbered, gone_now, gone_as_before}
 use Rattle.lmtp_lane.proofs.exchange.Exchange.offer.Goals as goal
 
 pub returns-then-self-clause-way : goal.returns-then-self-clause-way
@@ -18,7 +18,7 @@ invariant_of-self g c =
     record {
       of_lane = still_numbered self.lane _ c.args.failed.worker (λ sender. c.args.post) true self.senders.items c.offer_to.new.senders.items self.of_lane c.in-Ok.ensures;
       room = self.room;
-      handed_back = self.handed_back ∙ sym (refused_as_before _ c.args.failed.worker (λ sender. c.args.post) self.senders.items c.offer_to.new.senders.items c.in-Ok.ensures);
+      handed_back = self.handed_back ∙ sym (gone_as_before _ c.args.failed.worker (λ sender. c.args.post) self.senders.items c.offer_to.new.senders.items c.in-Ok.ensures);
       tells = self.tells;
     }
 
@@ -28,8 +28,8 @@ invariant_of-self-in-Err g c =
     record {
       of_lane = still_numbered self.lane _ c.args.failed.worker (λ sender. c.args.post) false self.senders.items c.offer_to.new.senders.items self.of_lane c.in-Err.ensures;
       room = self.room;
-      handed_back = sym (refused_now _ c.args.failed.worker (λ sender. c.args.post) self.senders.items c.offer_to.new.senders.items c.in-Err.ensures);
-      tells = λ refused. refl;
+      handed_back = sym (gone_now _ c.args.failed.worker (λ sender. c.args.post) self.senders.items c.offer_to.new.senders.items c.in-Err.ensures);
+      tells = λ box_gone. refl;
     }
 
 pub returns-in-Ok-clause-way : goal.returns-in-Ok-clause-way
@@ -43,5 +43,5 @@ returns-in-Err-clause-way g c =
     let self = c.args.self.now in
     left_way c.args.failed c.args.post (sending_of self) (sending_of c.answer_failed-in-Err.new.self)
     (found_gone (with_senders (ends_of self) c.offer_to.new.senders.items)) c.answer_failed-in-Err.result c.requires.lane c.requires.copy
-    (leaves_refused c.args.failed.worker c.args.post (ends_of self) c.offer_to.new.senders.items (sym (ap (λ (s : Slip). s.worker) c.requires.copy)) c.in-Err.ensures) refl
+    (leaves_gone c.args.failed.worker c.args.post (ends_of self) c.offer_to.new.senders.items (sym (ap (λ (s : Slip). s.worker) c.requires.copy)) c.in-Err.ensures) refl
     c.answer_failed-in-Err.ensures.same c.answer_failed-in-Err.ensures.takes

@@ -1,6 +1,6 @@
 use Rattle.std.proofs.Common.{◌≡◌, ◌≤◌, ◌++◌, List, ℕ, length, take, sym, ap, ◌∙◌, arith, length-take-le}
 use Rattle.lmtp_talk.specs.Saying.{OutboxView}
-use Rattle.lmtp_talk.proofs.Written.{put_behind}
+use Rattle.lmtp_talk.proofs.Written.{put_after}
 use Rattle.lmtp_talk.proofs.outbox.Outbox.add.Goals as goal
 
 pub returns-clause-text : goal.returns-clause-text
@@ -13,7 +13,7 @@ returns-clause-text c =
     let waits : take k items ≡ before = ap (λ (o : OutboxView). o.pending) c.self.view_is in
     let within : k ≤ length items = omega (arith, c.self.invariant.0, c.self.invariant.1, c.deref_mut.ensures.len, ap length c.deref_mut.ensures.value) in
     let long : length before ≡ k = ap length (sym waits) ∙ length-take-le k items within in
-    put_behind k n c.self.inside.bytes.len c.deref_mut.result.now new _ _
+    put_after k n c.self.inside.bytes.len c.deref_mut.result.now new _ _
     (omega (arith, within, ap length c.deref_mut.ensures.value))
     (omega (arith, long, c.requires, c.write_reply-size.ensures.size, c.self.invariant.1))
     (omega (arith, long, c.requires, c.write_reply-size.ensures.size, c.self.invariant.1, c.write_reply-size.auto.out, c.deref_mut.ensures.len))

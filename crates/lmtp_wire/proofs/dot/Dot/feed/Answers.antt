@@ -9,5 +9,5 @@ loop-fed-preserved c = record {
   made = c.turn-fed.ensures.made;
   rest = c.turn-fed.ensures.rest ∙ drop-later c.loop-fed.fed.made c.turn-fed.result.made c.loop-fed.out c.args.out.now c.turn-fed.ensures.kept c.loop-fed.invariant.rest;
   owes = c.turn-fed.ensures.owes;
-  comes = λ taken front h. c.turn-fed.ensures.comes taken front (on_from _ _ _ _ c.loop-fed-test.true (c.loop-fed.invariant.comes taken front h));
+  comes = λ taken prefix h. c.turn-fed.ensures.comes taken prefix (on_from _ _ _ _ c.loop-fed-test.true (c.loop-fed.invariant.comes taken prefix h));
 }

@@ -2,14 +2,14 @@ use Rattle.std.proofs.Common.{◌≡◌, ℕ, ◌<◌, arith, List, [], ◌∷�
 use Rattle.mail_world.specs.Text.{unix}
 use Rattle.mail_world.specs.Records.{quoted_text}
 use Rattle.mbox_record.specs.declared.pending.Pending.TheVariants.{Start, Marks}
-use Rattle.mbox_record.specs.Writing.{behind_mark}
+use Rattle.mbox_record.specs.Writing.{after_quote_mark}
 use Rattle.mbox_record.proofs.Rests.{marked_line}
 use Rattle.mbox_record.proofs.Steps.{IsWriterStep-plain}
-use Rattle.mbox_record.proofs.pending.front_step.Goals as goal
+use Rattle.mbox_record.proofs.pending.prefix_step.Goals as goal
 
 mark : (piece rest : List ℕ) → 0 < length piece → slice_index_or piece 0 0 ≡ 62
-    → (take 1 piece ++ behind_mark (unix (drop 1 piece ++ rest)) ≡ quoted_text (unix (piece ++ rest)))
-    × (take 1 piece ++ behind_mark (unix (drop 1 piece ++ rest)) ≡ behind_mark (unix (piece ++ rest)))
+    → (take 1 piece ++ after_quote_mark (unix (drop 1 piece ++ rest)) ≡ quoted_text (unix (piece ++ rest)))
+    × (take 1 piece ++ after_quote_mark (unix (drop 1 piece ++ rest)) ≡ after_quote_mark (unix (piece ++ rest)))
 mark [] rest some e = absurd (omega arith)
 mark (b ∷ piece) rest some e = let more = sym (marked_line (unix (piece ++ rest))) in rw e (more, more)
 

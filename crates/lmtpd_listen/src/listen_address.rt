@@ -16,7 +16,7 @@ const PATH_LIMIT: usize = 108;
 
 /// Where a server is to listen.
 #[derive(Clone, Copy, Debug, PartialEq, Eq)]
-pub enum Place<'a> {
+pub enum ListenAddress<'a> {
     /// An address and a port of TCP.
     Tcp(SocketAddr),
     /// A Unix socket, whose file is made at this path.
@@ -25,22 +25,22 @@ pub enum Place<'a> {
     Inherited,
 }
 
-/// The place that the text names: `inherited`, `unix:PATH`, or an address and a port.
-pub fn place_of<'a>(text: &'a str) -> Result<Place<'a>, ListenFault>
+/// What the text names: `inherited`, `unix:PATH`, or a host and a port.
+pub fn listen_address_of<'a>(text: &'a str) -> Result<ListenAddress<'a>, ListenFault>
     ensures { MatchResult result (Names text.now) (IsRefused text.now) }
 {
     if text == "inherited" {
-        return Ok(Place::Inherited);
+        return Ok(ListenAddress::Inherited);
     }
     match text.strip_prefix("unix:") {
         Some(path) => {
             if is_socket_path(path) {
-                Ok(Place::Unix(path))
+                Ok(ListenAddress::Unix(path))
             } else {
                 Err(ListenFault::Address)
             }
         }
-        None => Ok(Place::Tcp(address_of(text)?)),
+        None => Ok(ListenAddress::Tcp(address_of(text)?)),
     }
 }
 

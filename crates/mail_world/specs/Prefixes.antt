@@ -2,6 +2,6 @@
 use Rattle.std.specs.Prelude.{◌≡◌, List, ◌++◌}
 
 -- the list begins so
-pub record IsFront {A : Type 0} (front all : List A) : Type 0 where
+pub record IsPrefix {A : Type 0} (prefix all : List A) : Type 0 where
   pub rest : List A
-  pub whole : all ≡ front ++ rest
+  pub whole : all ≡ prefix ++ rest

@@ -1,6 +1,6 @@
 use Rattle.std.proofs.Common.{rules, inl}
 use Rattle.lmtpd_listen.specs.Listening.{AsksUnix, IsSocketPath}
-use Rattle.lmtpd_listen.proofs.place.place_of.Goals as goal
+use Rattle.lmtpd_listen.proofs.listen_address.listen_address_of.Goals as goal
 
 pub returns-else-is_socket_path : goal.returns-else-is_socket_path
 returns-else-is_socket_path c =

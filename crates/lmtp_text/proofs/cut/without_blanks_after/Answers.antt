@@ -1,11 +1,11 @@
 use Rattle.std.proofs.Common.{arith}
 use Rattle.std.proofs.lemmas.Grind.{common_steps}
-use Rattle.lmtp_text.proofs.CommandCuts.{blanks_behind, all_blanks}
-use Rattle.lmtp_text.proofs.cut.without_blanks_behind.Goals as goal
+use Rattle.lmtp_text.proofs.CommandCuts.{blanks_after, all_blanks}
+use Rattle.lmtp_text.proofs.cut.without_blanks_after.Goals as goal
 
 pub returns-in-Some : goal.returns-in-Some
 returns-in-Some c =
-    let e = blanks_behind c.args.text.now c.in-Some.last c.in-Some.ensures.0 c.in-Some.ensures.1 in grind (arith, common_steps)
+    let e = blanks_after c.args.text.now c.in-Some.last c.in-Some.ensures.0 c.in-Some.ensures.1 in grind (arith, common_steps)
 
 pub returns-in-None : goal.returns-in-None
 returns-in-None c =
