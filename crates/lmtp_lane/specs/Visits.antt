@@ -91,6 +91,7 @@ pub record HasConversed (by : Terms) (peer : PeerState) (old new : VisitsTold)
   pub told : TellsFinished old.each new.each visit.after visit.cause
   pub counts : RisesBy 1 old.count new.count
   pub delivered : (n : ℕ) (ts : List Transaction) → Before n ts
-      → After (accepted_after_conversation by.site n visit.conversation) (ts ++ transactions_in by.site n visit.conversation)
+      → After (accepted_after_conversation by.site n visit.conversation)
+      (ts ++ transactions_in by.site n visit.conversation)
   pub logged : (n : ℕ) (ts : List Transaction) → Before n ts
       → new.log ≡ with_entries peer.told (visit_entries by.site n visit)

@@ -70,7 +70,7 @@ house_refusal house.Size = fault.Size
 house_refusal house.ChannelGone = fault.ChannelGone
 house_refusal house.NoThread = fault.NoThread
 
--- the fault for words that name no place to listen at, or one where nothing could be opened
+-- the fault for words that name no address to listen at, or one where nothing could be opened
 abbrev pub listen_refusal : ListenFault → Fault
 listen_refusal listen.Address = fault.Address
 listen_refusal listen.Port = fault.Port

@@ -101,13 +101,14 @@ IsNotRehearsedFilled Fills words s = IsUnfilled words.site s
     ⊎ ((site : SiteWords) × Fills words.site site
     × ((f : Fault) × (s ≡ stop.Fault f) × IsNotRehearsed (record words { site = site }) f))
 
--- a place that a server may listen at
+-- an address that a server may listen at
 abbrev pub IsListenAddress : List ℕ → Type 0
 IsListenAddress text = (listen_address : ListenAddress) × Names text listen_address
 
 -- why nothing was opened there
 abbrev pub IsUnopenedAt : ListenAddress → Fault → Type 0
-IsUnopenedAt listen_address f = (refused : ListenFault) × (f ≡ listen_refusal refused) × IsUnopened listen_address refused
+IsUnopenedAt listen_address f = (refused : ListenFault) × (f ≡ listen_refusal refused)
+    × IsUnopened listen_address refused
 
 -- the sizes that the words of a server ask for: a slot for each lane
 abbrev pub sizes_asked : ServeWords → Sizes
@@ -156,12 +157,13 @@ IsNotServedAt words (stop.Unopened name) = Contains words.site.boxes.items name
 IsNotServedAt words (stop.Fault f) = (f ≡ fault.Listen)
     ⊎ (((f ≡ fault.Port) × AsksInherited words.listen.now) ⊎ IsNotRun (IsSizeAsked words) f)
 
--- Why none ran: memory is lacking, and else the first of the place, the site, the files, what listens and the server
+-- Why none ran: memory is lacking, and else the first of the address, the site, the files, what listens and the server
 -- itself.
 abbrev pub IsNotServed : ServeWords → Stop → Type 0
 IsNotServed words s = (s ≡ stop.Fault fault.Memory)
     ⊎ (((f : ListenFault) × (s ≡ stop.Fault (listen_refusal f)) × IsRefused words.listen.now f)
-    ⊎ (IsListenAddress words.listen.now × (((f : Fault) × (s ≡ stop.Fault f) × (first_fault (named_site words.site) ≡ Some f))
+    ⊎ (IsListenAddress words.listen.now
+    × (((f : Fault) × (s ≡ stop.Fault f) × (first_fault (named_site words.site) ≡ Some f))
     ⊎ ((first_fault (named_site words.site) ≡ None) × IsNotServedAt words s))))
 
 -- The same of a server, once the file of its mailboxes was read: `IsRun` says which runs its words ask for then.

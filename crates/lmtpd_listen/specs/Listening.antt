@@ -1,4 +1,4 @@
--- Which place a text names, and why it is refused.
+-- Which address a text names, and why it is refused.
 use Rattle.std.specs.Prelude.{◌≡◌, ◌≢◌, ◌<◌, ◌⊎◌, ◌++◌, ℕ, List, codes, length, Contains}
 use Rattle.std.specs.Net.Socket.{socket_port}
 use Rattle.std.specs.Net.Grammar.{IsSocketText}
@@ -25,13 +25,13 @@ AsksTcp text = (¬ AsksInherited text) × ((path : List ℕ) → ¬ AsksUnix tex
 abbrev pub IsSocketPath : List ℕ → Type 0
 IsSocketPath path = (0 < length path) × (length path < PATH_LIMIT) × (¬ Contains path 0)
 
--- the text names this place
+-- the text names this address
 abbrev pub Names : List ℕ → ListenAddress → Type 0
 Names text listen_address.Inherited = AsksInherited text
 Names text (listen_address.Unix path) = AsksUnix text path.now × IsSocketPath path.now
 Names text (listen_address.Tcp address) = AsksTcp text × IsSocketText text address × (socket_port address ≢ SMTP_PORT)
 
--- Why the text names no place where a server may listen: its path is none of a socket, it is no address with a port, or
+-- Why the text names no address to listen at: its path is none of a socket, it is no IP address with a port, or
 -- the port is SMTP's.
 abbrev pub IsRefused : List ℕ → ListenFault → Type 0
 IsRefused text fault.Address =

@@ -53,7 +53,7 @@ IsOpened (listen_address.Unix path) opened = (socket_path opened.socket ≡ Some
     × (file_path opened.file ≡ Some path.now)
 IsOpened listen_address.Inherited opened = file_path opened.file ≡ None
 
--- nothing could be opened at a place, and the log says why
+-- nothing could be opened at an address, and the log says why
 abbrev pub IsListenFault : ListenFault → Type 0
 IsListenFault f = (reason : Reason) × (f ≡ fault.Listen reason)
 

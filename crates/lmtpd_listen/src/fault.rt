@@ -10,20 +10,20 @@ use thiserror::Error;
 /// Why a server can't listen.
 #[derive(Debug, Drop, Error)]
 pub enum ListenFault {
-    /// The words name no place.
+    /// The words name no address.
     #[error("bad address")]
     Address,
-    /// The place is the port of SMTP.
+    /// The port is that of SMTP.
     #[error("port 25")]
     Port,
     #[error("memory")]
     Memory,
-    /// The words name a place, and nothing could be opened there.
+    /// The words name an address, and nothing could be opened there.
     #[error("{0}")]
     Listen(Reason),
 }
 
-/// Why nothing could be opened at a place, as the log tells it.
+/// Why nothing could be opened at an address, as the log tells it.
 #[derive(Debug, Drop, Error)]
 pub enum Reason {
     /// What the system said.

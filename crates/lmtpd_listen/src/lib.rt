@@ -1,6 +1,6 @@
 //! What `serve --listen` opens: a TCP address, a Unix socket, or the socket that the program was started with.
 //!
-//! The program uses which place a text names, a listener of that kind, and the file that goes at the end. It never
+//! The program uses which address a text names, a listener of that kind, and the file that goes at the end. It never
 //! knows of lanes and conversations: of the server it has the traits of a listener and a stream alone.
 #![tactic(auto)]
 

@@ -25,7 +25,7 @@ pub enum ListenAddress<'a> {
     Inherited,
 }
 
-/// The place that the text names: `inherited`, `unix:PATH`, or an address and a port.
+/// What the text names: `inherited`, `unix:PATH`, or a host and a port.
 pub fn listen_address_of<'a>(text: &'a str) -> Result<ListenAddress<'a>, ListenFault>
     ensures { MatchResult result (Names text.now) (IsRefused text.now) }
 {

@@ -22,7 +22,7 @@ pub struct Opened<'a> {
     pub file: SocketFile<'a>,
 }
 
-/// Opens what listens at the place. The file of a Unix socket has these permission bits before anybody can connect, and
+/// Opens what listens at the address. The file of a Unix socket has these permission bits before anybody can connect, and
 /// never wider ones.
 pub fn open<'a, R>(
     rt: &R,

@@ -37,7 +37,8 @@ pub(crate) fn open_unix<'a, R: Files + Net + Clock>(
 ) -> Result<Opened<'a>, ListenFault>
 where
     R::File: FileLock,
-    ensures { MatchResult result (IsOpened (listen_address.Unix path.entry)) (IsUnopened (listen_address.Unix path.entry)) }
+    ensures { MatchResult result (IsOpened (listen_address.Unix path.entry))
+        (IsUnopened (listen_address.Unix path.entry)) }
 {
     let mode = mode & MODE_BITS;
     let name = format!(in alloc; "{path}")?;

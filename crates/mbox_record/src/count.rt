@@ -81,7 +81,8 @@ impl Spool for CountSpool {
         requires { 0 < length piece.now }
         ensures whole { result ≡ Ok (length piece.now) }
         ensures held { self.new.held ≡ counted (self.old.held + length piece.now) }
-        ensures tail { (prefix : List ℕ) → self.old.tail ≡ tail_of prefix → self.new.tail ≡ tail_of (prefix ++ piece.now) }
+        ensures tail { (prefix : List ℕ) → self.old.tail ≡ tail_of prefix
+            → self.new.tail ≡ tail_of (prefix ++ piece.now) }
 
         // what every spool ensures
         ensures within { IfOk result (λ n. (1 ≤ n) × (n ≤ length piece.now)) }
