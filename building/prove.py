@@ -3,7 +3,7 @@
 
 `rt all check` gives each crate one process, and our crates are one long chain: most of the time it goes on with one or
 two of them. Here the crate with the longest chain above it is proved by as many processes as there are cores, up to
-four, and the others fill what it leaves, by one process each and at a lower priority. As rt holds the folders of all
+four, and the others fill what it leaves, by up to two processes each and at a lower priority. As rt holds the folders of all
 crates below the one that it works in, each works in a room of its own, which has the crates below by hard links; what
 it kept is moved to the crate's own folder then, where `rt run` takes it. A crate that isn't proved
 ends this with status 1, and what it said is printed.
@@ -23,7 +23,8 @@ import time
 CRATES = pathlib.Path("crates")
 PARTS = ["src", "specs", "proofs"]
 ROOMS = ".proving-"
-MOST_JOBS = 4  # of one check: more have nothing to do
+MOST_JOBS = 4  # of the first check: more have nothing to do
+FILLING_JOBS = 2  # of one that fills what the first leaves: one process would leave cores idle where few are ready
 JOB_KIB = 2_500_000  # of memory that a process may take
 LOWER = 10  # the niceness of those that fill what the first leaves
 
@@ -76,7 +77,7 @@ class Check:
     """One crate's check, in a room of its own."""
 
     def __init__(self, crate, room, jobs, niceness):
-        self.crate, self.jobs, self.since = crate, jobs, time.monotonic()
+        self.crate, self.since = crate, time.monotonic()
         self.room = room / crate.name
         self.folder = self.room / "crates" / crate.name
         self.folder.parent.mkdir(parents=True)
@@ -147,10 +148,9 @@ def next_check(left, proved, running, room):
     crate = max(ready, key=lambda it: it.chain)
     fits = memory() // JOB_KIB
     leads = all(it.crate.chain < crate.chain for it in running)
-    fillers = sum(1 for it in running if it.jobs == 1)
-    if running and (fits < 1 or not leads and fillers >= cores):
+    if running and (fits < 1 or not leads and len(running) > cores):
         return None
-    jobs = max(1, min(MOST_JOBS, cores, fits)) if leads else 1
+    jobs = max(1, min(MOST_JOBS if leads else FILLING_JOBS, cores, fits))
     left.remove(crate)
     return Check(crate, room, jobs, 0 if leads else LOWER)
 
