@@ -1,6 +1,7 @@
 -- What a server is given and what it gives back.
 use Rattle.std.specs.Prelude.{ℕ, List, Option}
 use Rattle.lmtp_threads.specs.declared.tally.Tally.{Tally}
+use Rattle.lmtp_house.specs.declared.house.report.HouseReport.{HouseReport}
 
 -- what is handed in: clients by lane, spools by mailbox, how many copies may wait for a mailbox's worker, and the limit
 -- of bytes for each mailbox
@@ -16,3 +17,21 @@ pub record HandedBack (V S : Type 0) : Type 0 where
   pub spools : List S
   pub conversations : List ℕ
   pub tallies : List Tally
+
+-- what is handed in, part by part
+abbrev pub handed_in : {V S : Type 0} → List V → List S → ℕ → Option ℕ → HandedIn V S
+handed_in visits spools capacity quota = record {
+  visits = visits;
+  spools = spools;
+  capacity = capacity;
+  quota = quota;
+}
+
+-- what contracts see of a server's report
+abbrev pub handed_back : {V S G : Type 0} → HouseReport V S G → HandedBack V S
+handed_back report = record {
+  visits = report.visits.items;
+  spools = report.spools.items;
+  conversations = report.conversations.items;
+  tallies = report.tallies.items;
+}

@@ -195,6 +195,10 @@ IsStopped Fills texts s = ((error : Error) × (s ≡ stop_for error)
     × IsNotServedFilled Fills words s)
     ⊎ ((words : CheckWords) × IsAsked (subcommand_of program_app texts) (Check words) × (s ≡ stop.Fault fault.Memory))))
 
+-- what contracts see of a reader and a writer
+abbrev pub streams_of : {R W : Type 0} → (R → Option (List ℕ)) → (W → Option (List ℕ)) → R → W → Streams
+streams_of remaining contents reader writer = record { unread = remaining reader; written = contents writer }
+
 -- What the program did is what its words ask for: `streams` is what contracts see of a reader and a writer, `Fills`
 -- says what the words of a site are once the file of its mailboxes was read, `IsRun` which runs of a server its words
 -- ask for then, and `IsCheck` which checks of files.

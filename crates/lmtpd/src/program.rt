@@ -6,6 +6,7 @@ ghost use Rattle.lmtpd_serve.specs.declared.ends.ServerCurfew.{ServerCurfew};
 ghost use Rattle.lmtpd_words.specs.Words.{as_texts};
 ghost use Rattle.lmtpd.specs.Boxes.{IsFilled};
 ghost use Rattle.lmtpd.specs.Program.{IsCheckedAsAsked, IsDoneAsAsked, IsServedAsAsked, exit_lines, exit_status};
+ghost use Rattle.lmtpd.specs.Program.{streams_of};
 ghost use Rattle.lmtpd_rehearse.specs.Rehearsal.{IsListed};
 
 use crate::check::{check_asked, report_checked};
@@ -66,12 +67,11 @@ where
     R: Read + Drop + Send + 'static,
     W: Write + Drop + Send + 'static,
     E: Write,
-    ensures done { IsDoneAsAsked (λ reader writer. record { unread = R.remaining reader; written = W.contents writer })
-        (IsFilled P.File.remaining)
+    ensures done { IsDoneAsAsked (streams_of R.remaining W.contents) (IsFilled P.File.remaining)
         (IsServedAsAsked ServerSocket H (ServerCurfew H) (⟦<LineLog<ServerLog<H>, H> as LaneLog>⟧.told)
         (⟦<ServedMailbox<H, ServerLog<H>> as Spool>⟧.state))
         (IsCheckedAsAsked P.File.remaining W.contents (W.contents writer)) (as_texts words.entry.now)
-        (record { unread = R.remaining reader; written = W.contents writer }) result.done }
+        (streams_of R.remaining W.contents reader writer) result.done }
     ensures status { result.exit.status ≡ exit_status result.done }
     ensures lines { IsListed (exit_lines result.done) (E.contents error.old) (E.contents error.new) result.exit.cut }
 {
@@ -97,12 +97,11 @@ where
     H: Threads + Wait + Clock + Files + Eprint + Copy + Drop + Send + Sync + 'static,
     R: Read + Drop + Send + 'static,
     W: Write + Drop + Send + 'static,
-    ensures { IsDoneAsAsked (λ reader writer. record { unread = R.remaining reader; written = W.contents writer })
-        (IsFilled P.File.remaining)
+    ensures { IsDoneAsAsked (streams_of R.remaining W.contents) (IsFilled P.File.remaining)
         (IsServedAsAsked ServerSocket H (ServerCurfew H) (⟦<LineLog<ServerLog<H>, H> as LaneLog>⟧.told)
         (⟦<ServedMailbox<H, ServerLog<H>> as Spool>⟧.state))
         (IsCheckedAsAsked P.File.remaining W.contents (W.contents writer)) (as_texts words.entry.now)
-        (record { unread = R.remaining reader; written = W.contents writer }) result }
+        (streams_of R.remaining W.contents reader writer) result }
 {
     match read_words(rt.alloc(), words) {
         Ok(Words::Rehearse(asked)) => {

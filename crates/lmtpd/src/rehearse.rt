@@ -3,6 +3,7 @@
 ghost use Rattle.std.specs.Prelude.{MatchResult};
 ghost use Rattle.lmtpd.specs.Boxes.{IsFilled};
 ghost use Rattle.lmtpd.specs.Program.{IsNotRehearsed, IsNotRehearsedFilled, IsRehearsedAsAsked, IsRehearsedFilled};
+ghost use Rattle.lmtpd.specs.Program.{streams_of};
 
 use crate::boxes::fill;
 use crate::fault::Fault;
@@ -32,8 +33,8 @@ where
     W: Write + Drop + Send + 'static,
     H: Threads + Wait + Copy + Send + 'static,
     ensures { MatchResult result (λ rehearsed. IsRehearsedFilled (IsFilled P.File.remaining) words.entry
-        (record { unread = R.remaining reader; written = W.contents writer })
-        (record { unread = R.remaining rehearsed.reader; written = W.contents rehearsed.writer }) rehearsed.ending)
+        (streams_of R.remaining W.contents reader writer)
+        (streams_of R.remaining W.contents rehearsed.reader rehearsed.writer) rehearsed.ending)
         (IsNotRehearsedFilled (IsFilled P.File.remaining) words.entry) }
 {
     fill(rt, &mut words.site, room)?;
@@ -56,8 +57,8 @@ where
     W: Write + Drop + Send + 'static,
     H: Threads + Wait + Copy + Send + 'static,
     ensures { MatchResult result (λ rehearsed. IsRehearsedAsAsked words.now
-        (record { unread = R.remaining reader; written = W.contents writer })
-        (record { unread = R.remaining rehearsed.reader; written = W.contents rehearsed.writer }) rehearsed.ending)
+        (streams_of R.remaining W.contents reader writer)
+        (streams_of R.remaining W.contents rehearsed.reader rehearsed.writer) rehearsed.ending)
         (IsNotRehearsed words.now) }
 {
     let site = Arc::new(alloc, site_of(alloc, &words.site)?)?;

@@ -3,6 +3,7 @@
 ghost use Rattle.std.specs.Prelude.{◌≡◌, ◌≢◌, ◌<◌, ◌≤◌, length, IfOk, Err, false};
 ghost use Rattle.std.specs.Arc.{arc_value};
 ghost use Rattle.mail_world.specs.declared.limits.TheConstants.{LANE_LIMIT};
+ghost use Rattle.lmtp_house.specs.Handed.{handed_back, handed_in};
 ghost use Rattle.lmtp_house.specs.HousePlan.{IsPlanned, MayRun, HasRunAll};
 
 use crate::house::fault::HouseFault;
@@ -58,12 +59,7 @@ where
             × (length handed.spools.items ≡ length (arc_value shared.now.site).boxes) }
         requires gates { length handed.gates.items ≡ length handed.spools.items }
         ensures { IfOk result (λ plan. IsPlanned (arc_value shared.now.site) (arc_value shared.now.clock)
-            (record {
-              visits = handed.visits.items;
-              spools = handed.spools.items;
-              capacity = handed.capacity;
-              quota = handed.quota;
-            })
+            (handed_in handed.visits.items handed.spools.items handed.capacity handed.quota)
             (record { lanes = plan.lanes; workers = plan.workers; mail = plan.mail; slips = plan.slips })) }
     {
         let HandedIn {
@@ -100,12 +96,7 @@ where
         ensures ran { IfOk result (λ report. HasRunAll C.May
             (record { MayGive = V.MayGive; finished = V.finished; over = V.over }) S.state
             (record { lanes = self.lanes; workers = self.workers; mail = self.mail; slips = self.slips })
-            (record {
-              visits = report.visits.items;
-              spools = report.spools.items;
-              conversations = report.conversations.items;
-              tallies = report.tallies.items;
-            })) }
+            (handed_back report)) }
         ensures not_size { result ≢ Err HouseFault.Size }
     {
         let Plan {
