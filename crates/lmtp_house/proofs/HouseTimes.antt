@@ -1,5 +1,5 @@
 -- The deeds of lanes and workers, once all have ended and their channels are settled.
-use Rattle.std.proofs.Common.{◌≡◌, ℕ, ◌<◌, List, [], ◌++◌, length, map, get_or, refl, sym, ap, ◌∙◌, subst, arith, Some}
+use Rattle.std.proofs.Common.{◌≡◌, ℕ, ◌<◌, List, [], ◌++◌, length, map, get_or, sym, ap, ◌∙◌, arith}
 use Rattle.std.specs.Prelude.{slice_get}
 use Rattle.std.specs.List.{AllZip}
 use Rattle.std.proofs.lemmas.List.{length-map}
@@ -10,7 +10,7 @@ use Rattle.mail_world.specs.Site.{Site}
 use Rattle.mail_world.specs.Lists.{due}
 use Rattle.mail_runs.specs.Timed.{TimedDeed}
 use Rattle.mail_post.specs.Channel.{Sender, Inbox, Sent, taken}
-use Rattle.mail_post.specs.InTime.{Ends, Sorts}
+use Rattle.mail_post.specs.InTime.{Sorts}
 use Rattle.mbox_record.specs.Spool.{SpoolState}
 use Rattle.box_worker.specs.Told.{owed_to}
 use Rattle.box_worker.specs.TurnTimes.{worker_sorts}

@@ -20,6 +20,10 @@ pub record PlanState (V S C : Type 0) : Type 0 where
   pub mail : Shape
   pub slips : Shape
 
+-- the same, part by part
+abbrev pub plan_state : {V S C : Type 0} → List (LaneTask V C) → List (BoxTask S) → Shape → Shape → PlanState V S C
+plan_state lanes workers mail slips = record { lanes = lanes; workers = workers; mail = mail; slips = slips }
+
 -- Lanes for these visits and workers for these spools, over new channels that nobody has used, those of mail of the
 -- capacity that is handed in, and what closes the channels.
 pub record IsPlanned {V S C : Type 0} (site : Site) (clock : C) (handed : HandedIn V S) (plan : PlanState V S C)

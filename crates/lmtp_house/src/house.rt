@@ -1,5 +1,6 @@
 //! A server: its lanes and its workers, each in a thread.
 
+mod channels;
 pub mod fault;
 mod handed;
 mod plan;

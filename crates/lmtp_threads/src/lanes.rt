@@ -22,17 +22,39 @@ use std::sync::{Arc, Wait};
 use std::thread::Threads;
 use thread_crew::{Crew, Refused, Task};
 
+// What a lane holds of what all share, and a desk of its own.
+#[derive(Drop)]
+struct LaneBase<N: DepotName, C: Clock> {
+    site: Arc<Site>,
+    desk: Desk,
+    depot: Arc<Depot<N>>,
+    clock: Arc<C>,
+}
+
+impl<N: DepotName, C: Clock> LaneBase<N, C> {
+    // The memory for it.
+    fn new(shared: &Shared<N, C>) -> Result<LaneBase<N, C>, AllocError>
+        ensures site { IfOk result (λ base. arc_value base.site ≡ arc_value shared.now.site) }
+        ensures desk { IfOk result (λ base. base.desk.dialogue.session.site ≡ arc_value shared.now.site) }
+        ensures clock { IfOk result (λ base. arc_value base.clock ≡ arc_value shared.now.clock) }
+    {
+        Ok(LaneBase {
+            site: Arc::try_clone(&shared.site)?,
+            desk: Desk::new(shared.alloc, Arc::try_clone(&shared.site)?)?,
+            depot: Arc::try_clone(&shared.depot)?,
+            clock: Arc::try_clone(&shared.clock)?,
+        })
+    }
+}
+
 /// What a lane is given.
 #[derive(Drop)]
 pub struct LaneJob<N: DepotName, V: Visits, C: Clock> {
     lane: u32,
-    site: Arc<Site>,
-    desk: Desk,
-    depot: Arc<Depot<N>>,
+    base: LaneBase<N, C>,
     visits: V,
     senders: Vec<Sender<N>>,
     slips: SlipReceiver,
-    clock: Arc<C>,
 }
 
 impl<N: DepotName, V: Visits, C: Clock> Model for LaneJob<N, V, C> {
@@ -43,9 +65,9 @@ impl<N: DepotName, V: Visits, C: Clock> Model for LaneJob<N, V, C> {
 
     ghost view = { λ j. record {
       lane = j.lane;
-      site = arc_value j.site;
-      desk_site = j.desk.dialogue.session.site;
-      clock = arc_value j.clock;
+      site = arc_value j.base.site;
+      desk_site = j.base.desk.dialogue.session.site;
+      clock = arc_value j.base.clock;
       visits = j.visits;
       senders = j.senders.items;
       slips = j.slips;
@@ -75,44 +97,24 @@ where
     fn run<R: Wait>(self, rt: &R) -> LaneReport<N, V> {
         let LaneJob {
             lane,
-            site,
-            desk,
-            depot,
+            base,
             visits,
             senders,
             slips,
-            clock,
         } = self;
+        let LaneBase {
+            site,
+            desk,
+            depot,
+            clock,
+        } = base;
         let clock: &C = &clock;
         lane_run(rt, lane, &site, desk, visits, &depot, senders, slips, clock)
     }
 }
 
-// One lane's job, with a desk of its own.
-fn lane_job<N: DepotName, V: Visits, C: Clock>(
-    shared: &Shared<N, C>,
-    lane: u32,
-    visits: V,
-    senders: Vec<Sender<N>>,
-    slips: SlipReceiver,
-) -> Result<LaneJob<N, V, C>, AllocError>
-    ensures { IfOk result (λ job. job
-        ≡ lane_task (arc_value shared.now.site) (arc_value shared.now.clock) lane visits senders.items slips) }
-{
-    Ok(LaneJob {
-        lane,
-        site: Arc::try_clone(&shared.site)?,
-        desk: Desk::new(shared.alloc, Arc::try_clone(&shared.site)?)?,
-        depot: Arc::try_clone(&shared.depot)?,
-        visits,
-        senders,
-        slips,
-        clock: Arc::try_clone(&shared.clock)?,
-    })
-}
-
-/// The jobs of all lanes, in their order.
-pub fn lane_jobs<N: DepotName, V: Visits, C: Clock>(
+// The jobs of all lanes, in their order.
+fn lane_jobs<N: DepotName, V: Visits, C: Clock>(
     shared: &Shared<N, C>,
     visits: Vec<V>,
     rows: Vec<Vec<Sender<N>>>,
@@ -129,13 +131,20 @@ pub fn lane_jobs<N: DepotName, V: Visits, C: Clock>(
     let mut jobs = Vec::new(shared.alloc);
     let mut lane = 0;
     for visits in visits {
+        let base = LaneBase::new(shared)?;
         let Some(senders) = rows.next() else {
             unreachable!()
         };
         let Some(slips) = takers.next() else {
             unreachable!()
         };
-        jobs.push(lane_job(shared, lane, visits, senders, slips)?)?;
+        jobs.push(LaneJob {
+            lane,
+            base,
+            visits,
+            senders,
+            slips,
+        })?;
         lane += 1;
     }
     Ok(jobs)
@@ -255,13 +264,23 @@ where
     V::P: Send + 'static,
     C: Clock + Send + Sync + 'static,
 {
-    /// Lanes for these jobs.
-    pub fn new(alloc: Global, jobs: Vec<LaneJob<N, V, C>>) -> Result<Lanes<N, V, C>, AllocError>
-        ensures { IfOk result (λ lanes. lanes ≡ jobs.items) }
+    /// A lane for each of the visits, in their order, with its row of senders and its receiver of slips.
+    pub fn new(
+        shared: &Shared<N, C>,
+        visits: Vec<V>,
+        rows: Vec<Vec<Sender<N>>>,
+        takers: Vec<SlipReceiver>,
+    ) -> Result<Lanes<N, V, C>, AllocError>
+        requires few { vec_len visits ≤ LANE_LIMIT }
+        requires rows { vec_len rows ≡ vec_len visits }
+        requires takers { vec_len takers ≡ vec_len visits }
+        ensures { IfOk result (λ lanes. lanes ≡ lane_tasks (arc_value shared.now.site) (arc_value shared.now.clock) 0
+            visits.items (lists rows.items) takers.items) }
     {
+        let jobs = lane_jobs(shared, visits, rows, takers)?;
         Ok(Lanes {
-            crew: Crew::with_capacity(alloc, jobs.len())?,
-            ends: LaneReports::with_capacity(alloc, jobs.len())?,
+            crew: Crew::with_capacity(shared.alloc, jobs.len())?,
+            ends: LaneReports::with_capacity(shared.alloc, jobs.len())?,
             jobs,
         })
     }

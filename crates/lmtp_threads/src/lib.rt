@@ -9,7 +9,7 @@ mod shared;
 mod tally;
 mod workers;
 
-pub use lanes::{LaneJob, LaneReports, Lanes, lane_jobs};
+pub use lanes::{LaneJob, LaneReports, Lanes};
 pub use shared::Shared;
 pub use tally::Tally;
-pub use workers::{WorkerJob, WorkerReports, Workers, Working, worker_jobs};
+pub use workers::{WorkerJob, WorkerReports, Workers, Working};

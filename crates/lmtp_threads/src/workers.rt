@@ -24,11 +24,29 @@ use std::sync::{Arc, Wait};
 use std::thread::Threads;
 use thread_crew::{Crew, Task};
 
+// What a worker holds of what all share.
+#[derive(Drop)]
+struct WorkerBase<N: DepotName> {
+    site: Arc<Site>,
+    depot: Arc<Depot<N>>,
+}
+
+impl<N: DepotName> WorkerBase<N> {
+    // The memory for it.
+    fn new<C: Drop>(shared: &Shared<N, C>) -> Result<WorkerBase<N>, AllocError>
+        ensures { IfOk result (λ base. arc_value base.site ≡ arc_value shared.now.site) }
+    {
+        Ok(WorkerBase {
+            site: Arc::try_clone(&shared.site)?,
+            depot: Arc::try_clone(&shared.depot)?,
+        })
+    }
+}
+
 /// What a worker is given.
 #[derive(Drop)]
 pub struct WorkerJob<N: DepotName, S: Spool + Drop, G: Gate + Drop> {
-    site: Arc<Site>,
-    depot: Arc<Depot<N>>,
+    base: WorkerBase<N>,
     receiver: Receiver<N>,
     slips: Vec<SlipSender>,
     spool: S,
@@ -44,7 +62,7 @@ impl<N: DepotName, S: Spool + Drop, G: Gate + Drop> Model for WorkerJob<N, S, G>
     ghost Value = { BoxTask S };
 
     ghost view = { λ j. record {
-      share = share_of (arc_value j.site) j.quota;
+      share = share_of (arc_value j.base.site) j.quota;
       receiver = j.receiver;
       slips = j.slips.items;
       spool = j.spool;
@@ -73,20 +91,20 @@ where
 
     fn run<R: Wait>(self, rt: &R) -> WorkerReport<N, S, G> {
         let WorkerJob {
-            site,
-            depot,
+            base,
             receiver,
             slips,
             spool,
             gate,
             quota,
         } = self;
+        let WorkerBase { site, depot } = base;
         worker_run(rt, receiver, slips, spool, &depot, gate, site.host(), quota)
     }
 }
 
-/// The jobs of all workers, in the order of their mailboxes.
-pub fn worker_jobs<N: DepotName, S: Spool + Drop, G: Gate + Drop, C: Drop>(
+// The jobs of all workers, in the order of their mailboxes.
+fn worker_jobs<N: DepotName, S: Spool + Drop, G: Gate + Drop, C: Drop>(
     shared: &Shared<N, C>,
     receivers: Vec<Receiver<N>>,
     rows: Vec<Vec<SlipSender>>,
@@ -105,6 +123,7 @@ pub fn worker_jobs<N: DepotName, S: Spool + Drop, G: Gate + Drop, C: Drop>(
     let mut gates = gates.into_iter();
     let mut jobs = Vec::new(shared.alloc);
     for receiver in receivers {
+        let base = WorkerBase::new(shared)?;
         let Some(slips) = rows.next() else {
             unreachable!()
         };
@@ -115,8 +134,7 @@ pub fn worker_jobs<N: DepotName, S: Spool + Drop, G: Gate + Drop, C: Drop>(
             unreachable!()
         };
         jobs.push(WorkerJob {
-            site: Arc::try_clone(&shared.site)?,
-            depot: Arc::try_clone(&shared.depot)?,
+            base,
             receiver,
             slips,
             spool,
@@ -286,13 +304,26 @@ where
     S: Spool + Drop + Send + 'static,
     G: Gate + Drop + Send + 'static,
 {
-    /// Workers for these jobs.
-    pub fn new(alloc: Global, jobs: Vec<WorkerJob<N, S, G>>) -> Result<Workers<N, S, G>, AllocError>
-        ensures { IfOk result (λ workers. workers ≡ jobs.items) }
+    /// A worker for each of the receivers, in the order of their mailboxes, with its row of senders of slips, its spool
+    /// and its gate.
+    pub fn new<C: Drop>(
+        shared: &Shared<N, C>,
+        receivers: Vec<Receiver<N>>,
+        rows: Vec<Vec<SlipSender>>,
+        spools: Vec<S>,
+        gates: Vec<G>,
+        quota: Option<u64>,
+    ) -> Result<Workers<N, S, G>, AllocError>
+        requires rows { vec_len rows ≡ vec_len receivers }
+        requires spools { vec_len spools ≡ vec_len receivers }
+        requires gates { vec_len gates ≡ vec_len receivers }
+        ensures { IfOk result (λ workers. workers
+            ≡ box_tasks (share_of (arc_value shared.now.site) quota) receivers.items (lists rows.items) spools.items) }
     {
+        let jobs = worker_jobs(shared, receivers, rows, spools, gates, quota)?;
         Ok(Workers {
-            crew: Crew::with_capacity(alloc, jobs.len())?,
-            ends: WorkerReports::with_capacity(alloc, jobs.len())?,
+            crew: Crew::with_capacity(shared.alloc, jobs.len())?,
+            ends: WorkerReports::with_capacity(shared.alloc, jobs.len())?,
             jobs,
         })
     }

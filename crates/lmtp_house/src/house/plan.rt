@@ -4,23 +4,22 @@ ghost use Rattle.std.specs.Prelude.{◌≡◌, ◌≢◌, ◌<◌, ◌≤◌, le
 ghost use Rattle.std.specs.Arc.{arc_value};
 ghost use Rattle.mail_world.specs.declared.limits.TheConstants.{LANE_LIMIT};
 ghost use Rattle.lmtp_house.specs.Handed.{handed_back, handed_in};
-ghost use Rattle.lmtp_house.specs.HousePlan.{IsPlanned, MayRun, HasRunAll};
+ghost use Rattle.lmtp_house.specs.HousePlan.{IsPlanned, MayRun, HasRunAll, plan_state};
 
+use crate::house::channels::{Channels, Closings};
 use crate::house::fault::HouseFault;
 use crate::house::handed::HandedIn;
 use crate::house::report::HouseReport;
 use crate::house::serving::{Ended, serve_all};
 use box_worker::Gate;
 use lmtp_lane::{Clock, Visits};
-use lmtp_threads::{Lanes, Shared, Workers, lane_jobs, worker_jobs};
-use mail_post::{Post, SLIP_CAPACITY};
-use mail_world::Slip;
+use lmtp_threads::{Lanes, Shared, Workers};
 use mbox_record::Spool;
 use msg_depot::{Depot, DepotName};
 use std::alloc::AllocError;
 use std::sync::{Arc, Wait};
 use std::thread::Threads;
-use thread_crew::{Closing, open_channels, settle_all};
+use thread_crew::settle_all;
 
 /// The lanes and workers of a server, and what closes their channels.
 #[derive(Drop)]
@@ -35,8 +34,7 @@ where
 {
     lanes: Lanes<N, V, C>,
     workers: Workers<N, S, G>,
-    mail: Closing<Post<N>>,
-    slips: Closing<Slip>,
+    closings: Closings<N>,
 }
 
 impl<N, V, S, G, C> Plan<N, V, S, G, C>
@@ -60,28 +58,31 @@ where
         requires gates { length handed.gates.items ≡ length handed.spools.items }
         ensures { IfOk result (λ plan. IsPlanned (arc_value shared.now.site) (arc_value shared.now.clock)
             (handed_in handed.visits.items handed.spools.items handed.capacity handed.quota)
-            (record { lanes = plan.lanes; workers = plan.workers; mail = plan.mail; slips = plan.slips })) }
+            (plan_state plan.lanes plan.workers plan.closings.mail plan.closings.slips)) }
     {
+        let lanes = handed.visits.len() as u32;
+        let boxes = shared.site.box_count();
+        let closings = Closings::new(shared.alloc, lanes, boxes)?;
+        let channels = Channels::open(shared.alloc, handed.capacity, lanes, boxes)?;
+        let Channels {
+            rows,
+            receivers,
+            slip_rows,
+            takers,
+        } = channels;
         let HandedIn {
             visits,
             spools,
             gates,
-            capacity,
+            capacity: _,
             quota,
         } = handed;
-        let alloc = shared.alloc;
-        let lanes = visits.len();
-        let box_count = shared.site.box_count();
-        let boxes = box_count as usize;
-        let (rows, receivers) = open_channels::<Post<N>>(alloc, capacity, lanes as u32, boxes)?;
-        let (slip_rows, takers) = open_channels::<Slip>(alloc, SLIP_CAPACITY, box_count, lanes)?;
-        let lane_jobs = lane_jobs(shared, visits, rows, takers)?;
-        let worker_jobs = worker_jobs(shared, receivers, slip_rows, spools, gates, quota)?;
+        let lanes = Lanes::new(shared, visits, rows, takers)?;
+        let workers = Workers::new(shared, receivers, slip_rows, spools, gates, quota)?;
         Ok(Plan {
-            lanes: Lanes::new(alloc, lane_jobs)?,
-            workers: Workers::new(alloc, worker_jobs)?,
-            mail: Closing::new(alloc, lanes, boxes)?,
-            slips: Closing::new(alloc, boxes, lanes)?,
+            lanes,
+            workers,
+            closings,
         })
     }
 
@@ -91,24 +92,25 @@ where
         rt: R,
         depot: &Depot<N>,
     ) -> Result<HouseReport<V, S, G>, HouseFault>
-        requires { MayRun V.out
-            (record { lanes = self.lanes; workers = self.workers; mail = self.mail; slips = self.slips }) }
+        requires { MayRun V.out (plan_state self.lanes self.workers self.closings.mail self.closings.slips) }
         ensures ran { IfOk result (λ report. HasRunAll C.May
             (record { MayGive = V.MayGive; finished = V.finished; over = V.over }) S.state
-            (record { lanes = self.lanes; workers = self.workers; mail = self.mail; slips = self.slips })
-            (handed_back report)) }
+            (plan_state self.lanes self.workers self.closings.mail self.closings.slips) (handed_back report)) }
         ensures not_size { result ≢ Err HouseFault.Size }
     {
         let Plan {
             lanes,
             workers,
-            mail,
-            slips: slip_closing,
+            closings,
         } = self;
         let Ended {
             lanes: ends,
             workers: working,
         } = serve_all(rt, lanes, workers)?;
+        let Closings {
+            mail,
+            slips: slip_closing,
+        } = closings;
         let closed = mail.close(&rt, ends.senders);
         let done = working.finish(&rt);
         if done.lost {

@@ -9,7 +9,7 @@ use Rattle.lmtp_house.proofs.house.run.run_at.Goals as goal
 pub returns-clause-ran : goal.returns-clause-ran
 returns-clause-ran g c =
     let made = c.in_ok-plan.plan in
-    let plan : PlanState _ _ _ = record { lanes = made.lanes; workers = made.workers; mail = made.mail; slips = made.slips } in
+    let plan : PlanState _ _ _ = record { lanes = made.lanes; workers = made.workers; mail = made.closings.mail; slips = made.closings.slips } in
     let view : VisitsView _ = record { MayGive = g.V.Visits.MayGive; finished = g.V.Visits.finished; over = g.V.Visits.over } in
     let handed : HandedIn _ _ = record {
       visits = vec_items c.args.handed.visits;
