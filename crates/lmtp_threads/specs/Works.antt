@@ -24,6 +24,10 @@ pub record VisitsView (V : Type 0) : Type 1 where
   pub finished : V → VisitsTold
   pub over : V → Bool
 
+-- the same, part by part
+abbrev pub view_of : {V : Type 0} → (V → PeerState → Type 0) → (V → VisitsTold) → (V → Bool) → VisitsView V
+view_of MayGive finished over = record { MayGive = MayGive; finished = finished; over = over }
+
 -- what a lane did: the clients that it served, and the slips that it heard
 pub record LaneWork : Type 0 where
   pub visits : List Visit

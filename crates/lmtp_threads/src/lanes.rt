@@ -4,7 +4,9 @@ ghost use Rattle.std.specs.Prelude.{◌≡◌, ◌<◌, ◌≤◌, ◌||◌, ◌
 ghost use Rattle.std.specs.Prelude.{map};
 ghost use Rattle.std.specs.List.{AllZip, AllByRecursion};
 ghost use Rattle.std.specs.Arc.{arc_value};
-ghost use Rattle.thread_crew.specs.Grid.{lists, IsRoom};
+ghost use Rattle.thread_crew.specs.Grid.{lists};
+ghost use Rattle.lmtp_threads.specs.Reports.{HaveLaneRoom, lanes_back};
+ghost use Rattle.lmtp_threads.specs.Works.{view_of};
 ghost use Rattle.lmtp_threads.specs.Tasks.{lane_task, lane_tasks, lane_before, IsLaneReady, HaveServedAll};
 ghost use Rattle.mail_world.specs.declared.limits.TheConstants.{LANE_LIMIT};
 ghost use Rattle.mail_world.specs.declared.limits.TheConstants.{READ_LIMIT};
@@ -86,7 +88,7 @@ where
     ghost ready = { λ job. IsLaneReady V.out job };
 
     ghost done = { λ job r. HasServed (terms job.site READ_LIMIT) (C.May job.clock) (V.MayGive job.visits)
-        (lane_before (record { MayGive = V.MayGive; finished = V.finished; over = V.over }) job)
+        (lane_before (view_of V.MayGive V.finished V.over) job)
         (record {
           finished = V.finished r.visits;
           over = V.over r.visits;
@@ -164,10 +166,7 @@ pub struct LaneReports<N: DepotName, V: Visits> {
 impl<N: DepotName, V: Visits> LaneReports<N, V> {
     // The memory for the parts of that many lanes.
     fn with_capacity(alloc: Global, lanes: usize) -> Result<LaneReports<N, V>, AllocError>
-        ensures visits { IfOk result (λ ends. IsRoom lanes ends.visits) }
-        ensures senders { IfOk result (λ ends. IsRoom lanes ends.senders) }
-        ensures slips { IfOk result (λ ends. IsRoom lanes ends.slips) }
-        ensures conversations { IfOk result (λ ends. IsRoom lanes ends.conversations) }
+        ensures room { IfOk result (HaveLaneRoom lanes) }
         ensures gone { IfOk result (λ ends. ends.gone ≡ false) }
     {
         Ok(LaneReports {
@@ -179,36 +178,9 @@ impl<N: DepotName, V: Visits> LaneReports<N, V> {
         })
     }
 
-    // Takes one report apart. There is room.
-    fn take(&mut self, report: LaneReport<N, V>)
-        requires visits { vec_len self.old.visits < vec_capacity self.old.visits }
-        requires senders { vec_len self.old.senders < vec_capacity self.old.senders }
-        requires slips { vec_len self.old.slips < vec_capacity self.old.slips }
-        requires conversations { vec_len self.old.conversations < vec_capacity self.old.conversations }
-        ensures visits { self.new.visits.items ≡ self.old.visits.items ++ report.visits ∷ [] }
-        ensures senders { lists self.new.senders.items ≡ lists self.old.senders.items ++ report.senders.items ∷ [] }
-        ensures slips { self.new.slips.items ≡ self.old.slips.items ++ report.slips ∷ [] }
-        ensures conversations { self.new.conversations.items
-            ≡ self.old.conversations.items ++ report.conversations ∷ [] }
-        ensures gone { self.new.gone ≡ (self.old.gone || report.gone) }
-        ensures room { (vec_capacity self.old.visits ≤ vec_capacity self.new.visits)
-            × (vec_capacity self.old.senders ≤ vec_capacity self.new.senders)
-            × (vec_capacity self.old.slips ≤ vec_capacity self.new.slips)
-            × (vec_capacity self.old.conversations ≤ vec_capacity self.new.conversations) }
-    {
-        self.visits.push_reserved(report.visits);
-        self.senders.push_reserved(report.senders);
-        self.slips.push_reserved(report.slips);
-        self.conversations.push_reserved(report.conversations);
-        self.gone |= report.gone;
-    }
-
     // Takes the reports apart. There is room.
     fn take_all(self, reports: Vec<LaneReport<N, V>>) -> LaneReports<N, V>
-        requires visits { IsRoom (vec_len reports) self.visits }
-        requires senders { IsRoom (vec_len reports) self.senders }
-        requires slips { IsRoom (vec_len reports) self.slips }
-        requires conversations { IsRoom (vec_len reports) self.conversations }
+        requires { HaveLaneRoom (vec_len reports) self }
         ensures visits { result.visits.items ≡ map (λ r. r.visits) reports.items }
         ensures senders { lists result.senders.items ≡ map (λ r. r.senders.items) reports.items }
         ensures slips { result.slips.items ≡ map (λ r. r.slips) reports.items }
@@ -217,7 +189,11 @@ impl<N: DepotName, V: Visits> LaneReports<N, V> {
     {
         let mut ends = self;
         for report in reports {
-            ends.take(report);
+            ends.visits.push_reserved(report.visits);
+            ends.senders.push_reserved(report.senders);
+            ends.slips.push_reserved(report.slips);
+            ends.conversations.push_reserved(report.conversations);
+            ends.gone |= report.gone;
         }
         ends
     }
@@ -245,7 +221,7 @@ where
     C: Clock + Send + Sync + 'static,
 {
     ghost use Rattle.std.specs.Prelude.{◌≡◌, [], List, vec_len};
-    ghost use Rattle.thread_crew.specs.Grid.{IsRoom};
+    ghost use Rattle.lmtp_threads.specs.Reports.{HaveLaneRoom};
     ghost use Rattle.lmtp_threads.specs.Tasks.{LaneTask};
 
     ghost Value = { List (LaneTask V C) };
@@ -253,8 +229,7 @@ where
     ghost view = { λ l. l.jobs.items };
 
     ghost invariant = { λ l. (l.crew ≡ record { tasks = []; room = vec_len l.jobs })
-        × IsRoom (vec_len l.jobs) l.ends.visits × IsRoom (vec_len l.jobs) l.ends.senders
-        × IsRoom (vec_len l.jobs) l.ends.slips × IsRoom (vec_len l.jobs) l.ends.conversations };
+        × HaveLaneRoom (vec_len l.jobs) l.ends };
 }
 
 impl<N, V, C> Lanes<N, V, C>
@@ -292,13 +267,8 @@ where
     ) -> Result<LaneReports<N, V>, Refused>
         requires { AllByRecursion (IsLaneReady V.out) self }
         ensures { IfOk result (λ back. back.gone ≡ false → HaveServedAll C.May
-            (record { MayGive = V.MayGive; finished = V.finished; over = V.over }) self
-            (record {
-              visits = back.visits.items;
-              rows = lists back.senders.items;
-              inboxes = back.slips.items;
-              conversations = back.conversations.items;
-            })) }
+            (view_of V.MayGive V.finished V.over) self
+            (lanes_back back)) }
     {
         let Lanes {
             jobs,

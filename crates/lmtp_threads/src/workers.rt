@@ -8,7 +8,8 @@ ghost use Rattle.box_worker.specs.Told.{worker_of};
 ghost use Rattle.box_worker.specs.Stored.{mailbox_of};
 ghost use Rattle.box_worker.specs.Worked.{idle, HasWorked};
 ghost use Rattle.lmtp_threads.specs.Works.{share_of, setting_of};
-ghost use Rattle.thread_crew.specs.Grid.{lists, IsRoom};
+ghost use Rattle.thread_crew.specs.Grid.{lists};
+ghost use Rattle.lmtp_threads.specs.Reports.{HaveWorkerRoom, workers_back};
 ghost use Rattle.lmtp_threads.specs.Tasks.{box_task, box_tasks, tally_of, IsBoxReady, HaveWorkedAll};
 
 use crate::shared::Shared;
@@ -160,11 +161,7 @@ pub struct WorkerReports<N: DepotName, S: Spool + Drop, G: Gate + Drop> {
 impl<N: DepotName, S: Spool + Drop, G: Gate + Drop> WorkerReports<N, S, G> {
     // The memory for the parts of that many workers.
     fn with_capacity(alloc: Global, workers: usize) -> Result<WorkerReports<N, S, G>, AllocError>
-        ensures receivers { IfOk result (λ ends. IsRoom workers ends.receivers) }
-        ensures slips { IfOk result (λ ends. IsRoom workers ends.slips) }
-        ensures spools { IfOk result (λ ends. IsRoom workers ends.spools) }
-        ensures gates { IfOk result (λ ends. IsRoom workers ends.gates) }
-        ensures tallies { IfOk result (λ ends. IsRoom workers ends.tallies) }
+        ensures { IfOk result (HaveWorkerRoom workers) }
     {
         Ok(WorkerReports {
             receivers: Vec::with_capacity(alloc, workers)?,
@@ -176,48 +173,9 @@ impl<N: DepotName, S: Spool + Drop, G: Gate + Drop> WorkerReports<N, S, G> {
         })
     }
 
-    // Takes one report apart. There is room.
-    fn take(&mut self, report: WorkerReport<N, S, G>)
-        requires receivers { vec_len self.old.receivers < vec_capacity self.old.receivers }
-        requires slips { vec_len self.old.slips < vec_capacity self.old.slips }
-        requires spools { vec_len self.old.spools < vec_capacity self.old.spools }
-        requires gates { vec_len self.old.gates < vec_capacity self.old.gates }
-        requires tallies { vec_len self.old.tallies < vec_capacity self.old.tallies }
-        ensures receivers { self.new.receivers.items ≡ self.old.receivers.items ++ report.receiver ∷ [] }
-        ensures slips { lists self.new.slips.items ≡ lists self.old.slips.items ++ report.slips.items ∷ [] }
-        ensures spools { self.new.spools.items ≡ self.old.spools.items ++ report.spool ∷ [] }
-        ensures gates { self.new.gates.items ≡ self.old.gates.items ++ report.gate ∷ [] }
-        ensures tallies { self.new.tallies.items
-            ≡ self.old.tallies.items
-            ++ tally_of report.taken report.stored report.over report.in_use report.faulty ∷ [] }
-        ensures lost { self.new.lost ≡ (self.old.lost || report.lost) }
-        ensures room { (vec_capacity self.old.receivers ≤ vec_capacity self.new.receivers)
-            × (vec_capacity self.old.slips ≤ vec_capacity self.new.slips)
-            × (vec_capacity self.old.spools ≤ vec_capacity self.new.spools)
-            × (vec_capacity self.old.gates ≤ vec_capacity self.new.gates)
-            × (vec_capacity self.old.tallies ≤ vec_capacity self.new.tallies) }
-    {
-        self.receivers.push_reserved(report.receiver);
-        self.slips.push_reserved(report.slips);
-        self.spools.push_reserved(report.spool);
-        self.gates.push_reserved(report.gate);
-        self.tallies.push_reserved(Tally {
-            taken: report.taken,
-            stored: report.stored,
-            over: report.over,
-            in_use: report.in_use,
-            faulty: report.faulty,
-        });
-        self.lost |= report.lost;
-    }
-
     // Takes the reports apart. There is room.
     fn take_all(self, reports: Vec<WorkerReport<N, S, G>>) -> WorkerReports<N, S, G>
-        requires receivers { IsRoom (vec_len reports) self.receivers }
-        requires slips { IsRoom (vec_len reports) self.slips }
-        requires spools { IsRoom (vec_len reports) self.spools }
-        requires gates { IsRoom (vec_len reports) self.gates }
-        requires tallies { IsRoom (vec_len reports) self.tallies }
+        requires { HaveWorkerRoom (vec_len reports) self }
         ensures receivers { result.receivers.items ≡ map (λ r. r.receiver) reports.items }
         ensures slips { lists result.slips.items ≡ map (λ r. r.slips.items) reports.items }
         ensures spools { result.spools.items ≡ map (λ r. r.spool) reports.items }
@@ -228,7 +186,18 @@ impl<N: DepotName, S: Spool + Drop, G: Gate + Drop> WorkerReports<N, S, G> {
     {
         let mut ends = self;
         for report in reports {
-            ends.take(report);
+            ends.receivers.push_reserved(report.receiver);
+            ends.slips.push_reserved(report.slips);
+            ends.spools.push_reserved(report.spool);
+            ends.gates.push_reserved(report.gate);
+            ends.tallies.push_reserved(Tally {
+                taken: report.taken,
+                stored: report.stored,
+                over: report.over,
+                in_use: report.in_use,
+                faulty: report.faulty,
+            });
+            ends.lost |= report.lost;
         }
         ends
     }
@@ -266,7 +235,7 @@ where
     G: Gate + Drop + Send + 'static,
 {
     ghost use Rattle.std.specs.Prelude.{◌≡◌, [], List, vec_len};
-    ghost use Rattle.thread_crew.specs.Grid.{IsRoom};
+    ghost use Rattle.lmtp_threads.specs.Reports.{HaveWorkerRoom};
     ghost use Rattle.lmtp_threads.specs.Tasks.{BoxTask};
 
     ghost Value = { List (BoxTask S) };
@@ -274,9 +243,7 @@ where
     ghost view = { λ w. w.jobs.items };
 
     ghost invariant = { λ w. (w.crew ≡ record { tasks = []; room = vec_len w.jobs })
-        × IsRoom (vec_len w.jobs) w.ends.receivers × IsRoom (vec_len w.jobs) w.ends.slips
-        × IsRoom (vec_len w.jobs) w.ends.spools × IsRoom (vec_len w.jobs) w.ends.gates
-        × IsRoom (vec_len w.jobs) w.ends.tallies };
+        × HaveWorkerRoom (vec_len w.jobs) w.ends };
 }
 
 impl<N, S, G> Model for Working<N, S, G>
@@ -286,16 +253,14 @@ where
     G: Gate + Drop + Send + 'static,
 {
     ghost use Rattle.std.specs.Prelude.{List, length};
-    ghost use Rattle.thread_crew.specs.Grid.{IsRoom};
+    ghost use Rattle.lmtp_threads.specs.Reports.{HaveWorkerRoom};
     ghost use Rattle.lmtp_threads.specs.Tasks.{BoxTask};
 
     ghost Value = { List (BoxTask S) };
 
     ghost view = { λ w. w.crew.tasks };
 
-    ghost invariant = { λ w. IsRoom (length w.crew.tasks) w.ends.receivers × IsRoom (length w.crew.tasks) w.ends.slips
-        × IsRoom (length w.crew.tasks) w.ends.spools × IsRoom (length w.crew.tasks) w.ends.gates
-        × IsRoom (length w.crew.tasks) w.ends.tallies };
+    ghost invariant = { λ w. HaveWorkerRoom (length w.crew.tasks) w.ends };
 }
 
 impl<N, S, G> Workers<N, S, G>
@@ -356,12 +321,7 @@ where
 {
     /// Waits for each worker. Their channels are closed, or their senders are gone.
     pub fn finish<R: Threads>(self, rt: &R) -> WorkerReports<N, S, G>
-        ensures { result.lost ≡ false → HaveWorkedAll S.state self (record {
-          inboxes = result.receivers.items;
-          rows = lists result.slips.items;
-          spools = result.spools.items;
-          tallies = result.tallies.items;
-        }) }
+        ensures { result.lost ≡ false → HaveWorkedAll S.state self (workers_back result) }
     {
         let Working { crew, ends } = self;
         ends.take_all(crew.join(rt))

@@ -3,6 +3,7 @@
 ghost use Rattle.std.specs.Prelude.{◌≡◌, ◌≢◌, ◌<◌, ◌≤◌, length, IfOk, Err, false};
 ghost use Rattle.std.specs.Arc.{arc_value};
 ghost use Rattle.mail_world.specs.declared.limits.TheConstants.{LANE_LIMIT};
+ghost use Rattle.lmtp_threads.specs.Works.{view_of};
 ghost use Rattle.lmtp_house.specs.Handed.{handed_back, handed_in};
 ghost use Rattle.lmtp_house.specs.HousePlan.{IsPlanned, MayRun, HasRunAll, plan_state};
 
@@ -94,7 +95,7 @@ where
     ) -> Result<HouseReport<V, S, G>, HouseFault>
         requires { MayRun V.out (plan_state self.lanes self.workers self.closings.mail self.closings.slips) }
         ensures ran { IfOk result (λ report. HasRunAll C.May
-            (record { MayGive = V.MayGive; finished = V.finished; over = V.over }) S.state
+            (view_of V.MayGive V.finished V.over) S.state
             (plan_state self.lanes self.workers self.closings.mail self.closings.slips) (handed_back report)) }
         ensures not_size { result ≢ Err HouseFault.Size }
     {

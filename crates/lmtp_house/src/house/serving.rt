@@ -2,7 +2,8 @@
 
 ghost use Rattle.std.specs.Prelude.{◌≡◌, ◌≢◌, IfOk, Err, false};
 ghost use Rattle.std.specs.List.{AllByRecursion};
-ghost use Rattle.thread_crew.specs.Grid.{lists};
+ghost use Rattle.lmtp_threads.specs.Reports.{lanes_back};
+ghost use Rattle.lmtp_threads.specs.Works.{view_of};
 ghost use Rattle.lmtp_threads.specs.Tasks.{IsLaneReady, IsBoxReady, HaveServedAll};
 
 use crate::house::fault::HouseFault;
@@ -45,13 +46,8 @@ where
     requires lanes { AllByRecursion (IsLaneReady V.out) lanes }
     requires workers { AllByRecursion IsBoxReady workers }
     ensures served { IfOk result (λ ended. HaveServedAll C.May
-        (record { MayGive = V.MayGive; finished = V.finished; over = V.over }) lanes
-        (record {
-          visits = ended.lanes.visits.items;
-          rows = lists ended.lanes.senders.items;
-          inboxes = ended.lanes.slips.items;
-          conversations = ended.lanes.conversations.items;
-        })) }
+        (view_of V.MayGive V.finished V.over) lanes
+        (lanes_back ended.lanes)) }
     ensures working { IfOk result (λ ended. ended.workers ≡ workers) }
     ensures not_size { result ≢ Err HouseFault.Size }
 {

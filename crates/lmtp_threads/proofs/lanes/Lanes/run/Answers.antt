@@ -12,17 +12,15 @@ reports_len : (g : _) (c : After-join g) → vec_len c.join.result ≡ vec_len c
 reports_len g c =
     omega (arith, AllZip-length _ c.start_all.new.self.tasks (vec_items c.join.result) c.join.ensures, ap length c.in-Ok.ensures, c.join.result.ok.0, c.self.inside.jobs.ok.0)
 
-pub take_all-requires-clause-visits : goal.take_all-requires-clause-visits
-take_all-requires-clause-visits g c = let len = reports_len g c in record { empty = c.self.invariant.1.empty; room = omega (arith, len, c.self.invariant.1.room) }
-
-pub take_all-requires-clause-senders : goal.take_all-requires-clause-senders
-take_all-requires-clause-senders g c = let len = reports_len g c in record { empty = c.self.invariant.2.empty; room = omega (arith, len, c.self.invariant.2.room) }
-
-pub take_all-requires-clause-slips : goal.take_all-requires-clause-slips
-take_all-requires-clause-slips g c = let len = reports_len g c in record { empty = c.self.invariant.3.empty; room = omega (arith, len, c.self.invariant.3.room) }
-
-pub take_all-requires-clause-conversations : goal.take_all-requires-clause-conversations
-take_all-requires-clause-conversations g c = let len = reports_len g c in record { empty = c.self.invariant.4.empty; room = omega (arith, len, c.self.invariant.4.room) }
+pub take_all-requires : goal.take_all-requires
+take_all-requires g c =
+    let len = reports_len g c in
+    let was = c.self.invariant.1 in (
+      record { empty = was.0.empty; room = omega (arith, len, was.0.room) },
+      record { empty = was.1.empty; room = omega (arith, len, was.1.room) },
+      record { empty = was.2.empty; room = omega (arith, len, was.2.room) },
+      record { empty = was.3.empty; room = omega (arith, len, was.3.room) },
+    )
 
 pub returns-in-Ok : goal.returns-in-Ok
 returns-in-Ok g c not_gone site clock channels given is count are =

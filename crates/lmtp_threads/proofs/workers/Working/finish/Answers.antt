@@ -11,20 +11,16 @@ use Rattle.lmtp_threads.proofs.workers.Working.finish.Goals as goal
 reports_len : (g : _) (c : After-join g) → vec_len c.join.result ≡ length c.self.inside.crew.tasks
 reports_len g c = omega (arith, AllZip-length _ c.self.inside.crew.tasks (vec_items c.join.result) c.join.ensures, c.join.result.ok.0)
 
-pub take_all-requires-clause-receivers : goal.take_all-requires-clause-receivers
-take_all-requires-clause-receivers g c = let len = reports_len g c in record { empty = c.self.invariant.0.empty; room = omega (arith, len, c.self.invariant.0.room) }
-
-pub take_all-requires-clause-slips : goal.take_all-requires-clause-slips
-take_all-requires-clause-slips g c = let len = reports_len g c in record { empty = c.self.invariant.1.empty; room = omega (arith, len, c.self.invariant.1.room) }
-
-pub take_all-requires-clause-spools : goal.take_all-requires-clause-spools
-take_all-requires-clause-spools g c = let len = reports_len g c in record { empty = c.self.invariant.2.empty; room = omega (arith, len, c.self.invariant.2.room) }
-
-pub take_all-requires-clause-gates : goal.take_all-requires-clause-gates
-take_all-requires-clause-gates g c = let len = reports_len g c in record { empty = c.self.invariant.3.empty; room = omega (arith, len, c.self.invariant.3.room) }
-
-pub take_all-requires-clause-tallies : goal.take_all-requires-clause-tallies
-take_all-requires-clause-tallies g c = let len = reports_len g c in record { empty = c.self.invariant.4.empty; room = omega (arith, len, c.self.invariant.4.room) }
+pub take_all-requires : goal.take_all-requires
+take_all-requires g c =
+    let len = reports_len g c in
+    let was = c.self.invariant in (
+      record { empty = was.0.empty; room = omega (arith, len, was.0.room) },
+      record { empty = was.1.empty; room = omega (arith, len, was.1.room) },
+      record { empty = was.2.empty; room = omega (arith, len, was.2.room) },
+      record { empty = was.3.empty; room = omega (arith, len, was.3.room) },
+      record { empty = was.4.empty; room = omega (arith, len, was.4.room) },
+    )
 
 pub returns : goal.returns
 returns g c not_lost site channels given is count some are =
