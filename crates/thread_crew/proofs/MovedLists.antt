@@ -21,23 +21,9 @@ module _ {X : Type 0} (P : X → Type 0) (rest rest' : List X) (x : X) (is : res
   All-rest k d below = (rw is at all) (suc k) d (omega (arith, below))
 
 -- an element moves from what is left to what is done
-pub move_one : {X Y : Type 0} (f : X → Y) (done new total : List Y) (rest rest' : List X) (x : X) → done ++ map f rest ≡ total → rest ≡ x ∷ rest' → new ≡ done ++ f x ∷ [] → new ++ map f rest' ≡ total
-move_one f done new total rest rest' x whole is grown =
-    ap (λ (z : List _). z ++ map f rest') grown ∙ (append_assoc done (f x ∷ []) (map f rest') ∙ (ap (λ (z : List _). done ++ map f z) (sym is) ∙ whole))
-
 pub move_same : {X : Type 0} (done new total rest rest' : List X) (x : X) → done ++ rest ≡ total → rest ≡ x ∷ rest' → new ≡ done ++ x ∷ [] → new ++ rest' ≡ total
 move_same done new total rest rest' x whole is grown =
     ap (λ (z : List _). z ++ rest') grown ∙ (append_assoc done (x ∷ []) rest' ∙ (ap (λ (z : List _). done ++ z) (sym is) ∙ whole))
-
--- numbered elements, and one more with the next number
-pub numbered_more : {J : Type 0} (lane : J → ℕ) (tasks : List J) (job : J) → ((k : ℕ) (d : J) → k < length tasks → lane (get_or tasks k d) ≡ k) → lane job ≡ length tasks
-    → (k : ℕ) (d : J) → k < length (tasks ++ job ∷ []) → lane (get_or (tasks ++ job ∷ []) k d) ≡ k
-numbered_more lane tasks job below last k d under =
-    elim (cases_lt k (length tasks)) [
-      | inl low ↦ ap lane (get_or_append_left tasks (job ∷ []) d k low) ∙ below k d low
-      | inr high ↦
-          let at : length tasks ≡ k = omega (arith, length-append tasks (job ∷ []), under, high) in ap lane (get_or_push tasks job d k at) ∙ (last ∙ at)
-    ]
 
 -- nothing is left
 pub moved_all : {X Y : Type 0} (f : X → Y) (done total : List Y) (rest : List X) → done ++ map f rest ≡ total → rest ≡ [] → done ≡ total
@@ -46,9 +32,6 @@ moved_all f done total rest whole none = sym (append-nil done) ∙ (ap (λ (z : 
 -- one more
 pub count_one_more : {X : Type 0} (old new : List X) (x : X) → new ≡ old ++ x ∷ [] → length new ≡ length old + 1
 count_one_more old new x is = ap length is ∙ length-append old (x ∷ [])
-
-pub lists_count : {T A : Type 0} (rows : List (Vec T A)) → length (lists rows) ≡ length rows
-lists_count rows = length-map rows (λ (v : Vec _ _). v.items)
 
 -- where neither is true
 pub neither : (a b c : Bool) → c ≡ (a || b) → c ≡ false → (a ≡ false) × (b ≡ false)
