@@ -1,6 +1,6 @@
 //! A Unix socket at a path.
 
-ghost use Rattle.std.specs.Prelude.{IfErr, MatchResult};
+ghost use Rattle.std.specs.Prelude.{◌≡◌, IfErr, MatchResult, string_bytes};
 ghost use Rattle.lmtpd_listen.specs.Opened.{IsListenFault, IsOpened, IsUnopened};
 ghost use Rattle.lmtpd_listen.specs.declared.listen_address.ListenAddress.TheVariants as listen_address;
 
@@ -44,38 +44,72 @@ where
     let name = format!(in alloc; "{path}")?;
     let address = SocketAddr::from_pathname(path)?;
     let _folder = lock_folder(rt, path)?;
+    open_locked(rt, path, name, &address, mode)
+}
+
+// Makes the socket of that name, which is its path, while the folder of its file is locked.
+fn open_locked<'a, R: Files + Net>(
+    rt: &R,
+    path: &'a str,
+    name: String,
+    address: &SocketAddr,
+    mode: u32,
+) -> Result<Opened<'a>, ListenFault>
+    requires { string_bytes name ≡ path.now }
+    ensures { MatchResult result (IsOpened (listen_address.Unix path.entry))
+        (IsUnopened (listen_address.Unix path.entry)) }
+{
     make_room(rt, path)?;
     let socket = ServerSocket::of_unix(UnixListener::from(rt.unix_socket()?), name)?;
-    bind(rt, &socket, &address, mode)?;
-    let mark = mark_of(&fs::symlink_metadata(rt, path)?)?;
-    match expose(rt, &socket, path, mark, mode) {
-        Ok(()) => Ok(Opened {
-            socket,
-            file: SocketFile::at(path, mark),
-        }),
-        Err(fault) => {
-            let _ = remove_made(rt, path, mark);
-            Err(fault)
-        }
-    }
+    let mark = make_file(rt, &socket, path, address, mode)?;
+    Ok(Opened {
+        socket,
+        file: SocketFile::at(path, mark),
+    })
 }
 
 // Removes a socket's file to which nobody listens any more. It fails where there is anything else.
 fn make_room<R: Files + Net>(rt: &R, path: &str) -> Result<(), ListenFault>
     ensures { IfErr result IsListenFault }
 {
-    let found = match fs::symlink_metadata(rt, path) {
-        Ok(found) => found,
-        Err(error) if error.kind() == ErrorKind::NotFound => return Ok(()),
-        Err(error) => return Err(error.into()),
-    };
-    let mark = mark_of(&found)?;
+    match fs::symlink_metadata(rt, path) {
+        Ok(found) => remove_unused(rt, path, mark_of(&found)?),
+        Err(error) if error.kind() == ErrorKind::NotFound => Ok(()),
+        Err(error) => Err(error.into()),
+    }
+}
+
+// Removes that file of a socket, unless somebody listens to it.
+fn remove_unused<R: Files + Net>(rt: &R, path: &str, mark: Mark) -> Result<(), ListenFault>
+    ensures { IfErr result IsListenFault }
+{
     match UnixStream::connect(rt, path) {
         Ok(_) => Err(ListenFault::Listen(Reason::Answered)),
         Err(error) if error.kind() == ErrorKind::ConnectionRefused => {
             Ok(remove_made(rt, path, mark)?)
         }
         Err(error) => Err(error.into()),
+    }
+}
+
+// Gives the socket its file, and has it listen. Where that fails, the file is removed.
+fn make_file<R: Files>(
+    rt: &R,
+    socket: &ServerSocket,
+    path: &str,
+    address: &SocketAddr,
+    mode: u32,
+) -> Result<Mark, ListenFault>
+    ensures { IfErr result IsListenFault }
+{
+    bind(rt, socket, address, mode)?;
+    let mark = mark_of(&fs::symlink_metadata(rt, path)?)?;
+    match expose(rt, socket, path, mark, mode) {
+        Ok(()) => Ok(mark),
+        Err(fault) => {
+            let _ = remove_made(rt, path, mark);
+            Err(fault)
+        }
     }
 }
 

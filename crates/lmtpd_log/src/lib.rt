@@ -19,6 +19,7 @@ mod listener;
 mod logged_peer;
 mod mailbox;
 mod naming;
+mod pairs;
 mod stream;
 mod verb;
 mod visits;

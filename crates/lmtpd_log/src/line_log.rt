@@ -12,16 +12,16 @@ ghost use Rattle.lmtpd_log.specs.declared.addresses.TheConstants.{KEPT_LIMIT};
 use crate::addresses::Addresses;
 use crate::lane_log::{LaneLog, LaneLogs};
 use crate::naming::Shown;
+use crate::pairs::{CopyLine, Envelope, Id, RefusedLine, Seconds};
 use crate::stream::Traffic;
 use crate::verb::verb_of;
 use lmtp_talk::EndCause;
 use lmtp_text::{REPLY_LIMIT, Site, write_reply};
-use log::{Level, Log, info, log_enabled};
+use log::kv::Source;
+use log::{Level, Log, Metadata, Record, info, log_enabled};
 use mail_world::limits::NAME_LIMIT;
 use mail_world::{Outcome, Reply};
 use std::alloc::{AllocError, Global};
-use std::fmt;
-use std::fmt::{Display, Formatter};
 use std::sync::Arc;
 use std::time::{Clock, Duration};
 
@@ -197,46 +197,40 @@ impl<G: Log + Drop, C: Clock + Drop> LineLog<G, C> {
     }
 
     fn show_refused(&self, verb: &str, reply: Reply, address: Option<u32>) {
-        let lane = self.lane;
         let text = self.reply_text(reply);
-        let code = str::from_utf8(&text[..3]).unwrap_or("");
-        match self.kept(address) {
-            Some(recipient) if verb == "RCPT" => {
-                info!(self.log; target: "lmtpd", lane, verb, code, recipient:%; "command refused");
-            }
-            Some(sender) => {
-                info!(self.log; target: "lmtpd", lane, verb, code, sender:%; "command refused");
-            }
-            None => info!(self.log; target: "lmtpd", lane, verb, code; "command refused"),
-        }
+        let line = RefusedLine {
+            lane: self.lane,
+            verb,
+            code: text_of(&text[..3]),
+            address: self.kept(address),
+        };
+        self.tell("command refused", &line);
     }
 
     fn show_answered(&self, answered: Answered) {
-        let id = Id {
-            start: self.start,
-            lane: self.lane,
-            number: answered.number,
-        };
         let text = self.reply_text(Reply::Result(answered.outcome, answered.mailbox));
-        let code = str::from_utf8(&text[..3]).unwrap_or("");
-        let outcome = outcome_text(answered.outcome);
-        let mailbox = str::from_utf8(self.site.box_name(answered.mailbox)).unwrap_or("");
-        let bytes = answered.size;
-        let seconds = answered.seconds;
-        let client = str::from_utf8(self.client.as_slice()).unwrap_or("");
-        match self.kept_pair(answered.addresses) {
-            Some((sender, recipient)) => {
-                info!(
-                    self.log; target: "lmtpd", id:%, mailbox, outcome, code, bytes, seconds:%, client, sender:%,
-                    recipient:%; "copy answered"
-                );
-            }
-            None => {
-                info!(
-                    self.log; target: "lmtpd", id:%, mailbox, outcome, code, bytes, seconds:%, client;
-                    "copy answered"
-                );
-            }
+        let line = CopyLine {
+            id: Id {
+                start: self.start,
+                lane: self.lane,
+                number: answered.number,
+            },
+            mailbox: text_of(self.site.box_name(answered.mailbox)),
+            outcome: outcome_text(answered.outcome),
+            code: text_of(&text[..3]),
+            bytes: answered.size,
+            seconds: answered.seconds,
+            client: text_of(self.client.as_slice()),
+            envelope: self.kept_pair(answered.addresses),
+        };
+        self.tell("copy answered", &line);
+    }
+
+    // Logs a line with these pairs.
+    fn tell<K: Source>(&self, message: &str, pairs: &K) {
+        let metadata = Metadata::new(Level::Info, "lmtpd");
+        if self.log.enabled(&metadata) {
+            self.log.log(&Record::new(metadata, message, pairs, ()));
         }
     }
 
@@ -250,13 +244,17 @@ impl<G: Log + Drop, C: Clock + Drop> LineLog<G, C> {
     }
 
     // The sender that is kept there, and the recipient after it.
-    fn kept_pair(&self, at: Option<u32>) -> Option<(Shown<'_>, Shown<'_>)>
-        ensures { IfSome result (λ pair. IfSome self.now.addresses (λ a. IfSome at (λ at.
-            (pair.0.0.now ≡ get_or (kept_texts a) at []) × (pair.1.0.now ≡ get_or (kept_texts a) (at + 1) [])))) }
+    fn kept_pair(&self, at: Option<u32>) -> Option<Envelope<'_>>
+        ensures { IfSome result (λ envelope. IfSome self.now.addresses (λ a. IfSome at (λ at.
+            (envelope.sender.0.now ≡ get_or (kept_texts a) at [])
+            × (envelope.recipient.0.now ≡ get_or (kept_texts a) (at + 1) [])))) }
     {
         let addresses = self.addresses.as_ref()?;
         let at = at? as usize;
-        Some((Shown(addresses.at(at)), Shown(addresses.at(at + 1))))
+        Some(Envelope {
+            sender: Shown(addresses.at(at)),
+            recipient: Shown(addresses.at(at + 1)),
+        })
     }
 
     fn reply_text(&self, reply: Reply) -> [u8; REPLY_LIMIT] {
@@ -394,26 +392,7 @@ fn is_refusal(reply: Reply) -> bool
     )
 }
 
-/// A message by the server's start, the lane and its number there, as its `Received` line has the latter two.
-#[derive(Clone, Copy)]
-struct Id {
-    start: u64,
-    lane: u32,
-    number: u64,
-}
-
-impl Display for Id {
-    fn fmt<W: fmt::Write>(&self, f: &mut Formatter<W>) -> fmt::Result {
-        write!(f, "{}-{}-{}", self.start, self.lane, self.number)
-    }
-}
-
-/// A time in seconds, with three digits after the point.
-#[derive(Clone, Copy, Debug, Drop)]
-struct Seconds(Duration);
-
-impl Display for Seconds {
-    fn fmt<W: fmt::Write>(&self, f: &mut Formatter<W>) -> fmt::Result {
-        write!(f, "{}.{:03}", self.0.as_secs(), self.0.subsec_millis())
-    }
+// The text that these bytes are, empty where they are none.
+fn text_of(bytes: &[u8]) -> &str {
+    str::from_utf8(bytes).unwrap_or("")
 }

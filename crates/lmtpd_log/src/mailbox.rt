@@ -5,6 +5,7 @@ ghost use Rattle.lmtpd_log.specs.Logged.{spool_in};
 
 use log::{Log, error};
 use mbox_record::{InUse, Spool, SpoolFault, Tail};
+use std::fmt::Display;
 use std::io;
 
 /// A spool of which the first missed turn is logged, by the name of its mailbox, and the next that isn't.
@@ -41,16 +42,16 @@ impl<S, G: Log> LoggedMailbox<S, G> {
             return;
         }
         self.is_in_use = true;
-        let mailbox = self.name.as_str();
         match in_use {
-            InUse::System(code) => {
-                let reason = io::Error::from_raw_os_error(code);
-                error!(self.log; target: "lmtpd", mailbox, reason:%; "mailbox in use");
-            }
-            InUse::Locked | InUse::NotPlain => {
-                error!(self.log; target: "lmtpd", mailbox, reason:% = in_use; "mailbox in use");
-            }
+            InUse::System(code) => self.show_in_use(&io::Error::from_raw_os_error(code)),
+            InUse::Locked | InUse::NotPlain => self.show_in_use(&in_use),
         }
+    }
+
+    // Logs a missed turn, for that reason.
+    fn show_in_use<D: Display>(&self, reason: &D) {
+        let mailbox = self.name.as_str();
+        error!(self.log; target: "lmtpd", mailbox, reason:%; "mailbox in use");
     }
 
     // Logs that a turn wasn't missed, where the one before was.

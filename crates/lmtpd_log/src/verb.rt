@@ -1,5 +1,10 @@
 //! The verb of a command line, as the log shows it.
 
+/// The verbs of SMTP and LMTP.
+const KNOWN: [&str; 12] = [
+    "LHLO", "HELO", "EHLO", "MAIL", "RCPT", "DATA", "RSET", "NOOP", "QUIT", "VRFY", "EXPN", "HELP",
+];
+
 /// The verb where it is one of SMTP's or LMTP's (RFC 5321, 4.1; RFC 2033), `other` for another one, and `long` where
 /// the line was too long, and so is empty here. Nothing else of the line is shown.
 pub fn verb_of(line: &[u8]) -> &'static str {
@@ -16,20 +21,12 @@ pub fn verb_of(line: &[u8]) -> &'static str {
     name_of(verb)
 }
 
+// The verb among those that are known, in capitals.
 fn name_of(verb: [u8; 4]) -> &'static str {
-    match &verb {
-        b"LHLO" => "LHLO",
-        b"HELO" => "HELO",
-        b"EHLO" => "EHLO",
-        b"MAIL" => "MAIL",
-        b"RCPT" => "RCPT",
-        b"DATA" => "DATA",
-        b"RSET" => "RSET",
-        b"NOOP" => "NOOP",
-        b"QUIT" => "QUIT",
-        b"VRFY" => "VRFY",
-        b"EXPN" => "EXPN",
-        b"HELP" => "HELP",
-        _ => "other",
+    for name in KNOWN {
+        if name.as_bytes() == verb.as_slice() {
+            return name;
+        }
     }
+    "other"
 }

@@ -2,10 +2,10 @@
 
 ghost use Rattle.std.specs.Prelude.{◌≡◌, false, map, IfOk};
 ghost use Rattle.clap.specs.Simple.{new_app};
-ghost use Rattle.clap.specs.Words.{app_of};
+ghost use Rattle.clap.specs.Words.{app_of, with_subcommand};
 ghost use Rattle.clap.specs.declared.builder.command.Command.TheViews.{out-Command as fields_of};
 ghost use Rattle.lmtpd_words.specs.Arguments.{argument_rule, with_rules};
-ghost use Rattle.lmtpd_words.specs.CommandLine.{check_app, program_app, rehearse_app, serve_app};
+ghost use Rattle.lmtpd_words.specs.CommandLine.{bare_app, check_app, program_app, rehearse_app, serve_app};
 
 use crate::arguments::{Argument, CHECK, REHEARSE, SERVE};
 use crate::texts::{
@@ -18,17 +18,37 @@ use std::alloc::{AllocError, Global};
 pub fn program<'a>(alloc: Global) -> Result<Command<'a>, AllocError>
     ensures { IfOk result (λ c. app_of c ≡ program_app) }
 {
-    let rehearse = rehearse(alloc)?;
-    let serve = serve(alloc)?;
+    let command = with_serve(alloc)?;
     let check = check(alloc)?;
+    command.subcommand(check)
+}
+
+// The program with its first two subcommands.
+fn with_serve<'a>(alloc: Global) -> Result<Command<'a>, AllocError>
+    ensures { IfOk result (λ c. app_of c ≡ with_subcommand (with_subcommand bare_app rehearse_app.top) serve_app.top) }
+{
+    let command = with_rehearse(alloc)?;
+    let serve = serve(alloc)?;
+    command.subcommand(serve)
+}
+
+// The program with its first subcommand.
+fn with_rehearse<'a>(alloc: Global) -> Result<Command<'a>, AllocError>
+    ensures { IfOk result (λ c. app_of c ≡ with_subcommand bare_app rehearse_app.top) }
+{
+    let rehearse = rehearse(alloc)?;
+    bare(alloc).subcommand(rehearse)
+}
+
+// The program without subcommands.
+fn bare<'a>(alloc: Global) -> Command<'a>
+    ensures { app_of result ≡ bare_app }
+{
     Command::new(alloc, "lmtpd")
         .about("An LMTP server (RFC 2033) that delivers into mailboxes (RFC 4155)")
         .version(VERSION)
         .after_help(AFTER_HELP_PROGRAM)
         .subcommand_required(true)
-        .subcommand(rehearse)?
-        .subcommand(serve)?
-        .subcommand(check)
 }
 
 fn rehearse<'a>(alloc: Global) -> Result<Command<'a>, AllocError>
