@@ -1,7 +1,7 @@
 //! A server's run, from the line that says where it listens to the lines that say what was stored.
 
 ghost use Rattle.std.specs.Prelude.{◌≡◌, ◌↔◌, ◌⊎◌, IfOk, Err, length, false};
-ghost use Rattle.std.specs.List.{AllByRecursion};
+ghost use Rattle.std.specs.List.{AllByRecursion, list_any};
 ghost use Rattle.std.specs.Arc.{arc_value};
 ghost use Rattle.lmtp_lane.specs.TcpVisits.{conversations_ended, is_out};
 ghost use Rattle.lmtp_house.specs.House.{IsSize};
@@ -13,8 +13,8 @@ use super::conversations::Conversations;
 use super::lines::{endpoint_line, write_counts};
 use super::served::{Served, ServerEnding};
 use lmtp_house::{
-    ClientStream, Curfew, HouseFault, Listener, Sizes, SystemClock, Tally, has_failed, is_size,
-    run_house, tcp_visits,
+    ClientStream, Curfew, HouseFault, HouseReport, Listener, Sizes, SystemClock, Tally, has_failed,
+    is_size, run_house, tcp_visits,
 };
 use lmtp_text::Site;
 use lmtpd_log::{CountedListener, LaneLogs, LoggedVisits, lane_logs, logged_visits};
@@ -61,26 +61,145 @@ where
     if !is_size(&site, sizes, lanes, spools.len(), spools.len()) {
         return Err(HouseFault::Size);
     }
+    let house = ServedHouse {
+        site,
+        sizes,
+        spools,
+    };
+    let callers = Callers {
+        conversations,
+        listener,
+    };
+    run_sized(rt, alloc, house, callers, &logs, &mut writer)
+}
+
+/// The site that is served, its sizes, and the spool of each mailbox.
+#[derive(Drop)]
+struct ServedHouse<S: Drop> {
+    site: Arc<Site>,
+    sizes: Sizes,
+    spools: Vec<S>,
+}
+
+/// The conversations to be held, and where their clients come from.
+#[derive(Drop)]
+struct Callers<L: Drop, E: Drop> {
+    conversations: Conversations<E>,
+    listener: L,
+}
+
+/// A gate for each mailbox, what came of saying where the server listens, and the clients of each lane.
+#[derive(Drop)]
+struct Prepared<V: Drop, H: Drop> {
+    gates: Vec<RestGate<H>>,
+    announced: Announced,
+    visits: Vec<V>,
+}
+
+// The run of a server, once its sizes were looked at.
+fn run_sized<L, E, S, G, W, H>(
+    rt: H,
+    alloc: Global,
+    house: ServedHouse<S>,
+    callers: Callers<L, E>,
+    logs: &G,
+    writer: &mut W,
+) -> Result<Served, HouseFault>
+where
+    L: Listener + Drop + Send + Sync + 'static,
+    L::Stream: Read + Write + ClientStream + Drop + Send + 'static,
+    E: Curfew + Send + Sync + 'static,
+    S: Spool + Drop + Send + 'static,
+    G: LaneLogs,
+    G::Log: Send + 'static,
+    W: Write,
+    H: Threads + Wait + Clock + Copy + Drop + Send + Sync + 'static,
+    requires { let count = length house.spools.items in
+        IsSize (arc_value house.site) house.sizes callers.conversations.lanes count count }
+    ensures sized { result ≡ Err HouseFault.Size → ⊥ }
+    ensures ran { IfOk result (IsServerRun L H E (arc_value house.site) S.state G.Log.told
+        (record { lanes = callers.conversations.lanes; capacity = house.sizes.capacity; quota = house.sizes.quota })
+        house.spools.items) }
+{
+    let ServedHouse {
+        site,
+        sizes,
+        spools,
+    } = house;
     let served_site = Arc::try_clone(&site)?;
-    let gates = vec![in alloc; RestGate::new(rt); spools.len()]?;
-    let announced = announce(alloc, &listener, &mut writer)?;
-    let visits = visits_of(rt, alloc, conversations, listener, &logs)?;
+    let Prepared {
+        gates,
+        announced,
+        visits,
+    } = prepare(rt, alloc, spools.len(), callers, logs, writer)?;
     let clock = SystemClock::new(rt);
     let report = match run_house(rt, alloc, site, sizes, visits, spools, gates, clock) {
         Ok(report) => report,
         Err(fault) => return Err(fault),
     };
+    Ok(served_by(served_site, announced, report, writer))
+}
+
+// Says where the server listens, and makes the mailboxes' gates before that and the lanes' clients after it.
+fn prepare<L, E, G, W, H>(
+    rt: H,
+    alloc: Global,
+    boxes: usize,
+    callers: Callers<L, E>,
+    logs: &G,
+    writer: &mut W,
+) -> Result<Prepared<LoggedVisits<L, G::Log, H, E>, H>, AllocError>
+where
+    L: Listener + Drop,
+    E: Drop,
+    G: LaneLogs,
+    W: Write,
+    H: Clock + Copy + Drop,
+    ensures gates { IfOk result (λ prepared. length prepared.gates.items ≡ boxes) }
+    ensures each_lane { IfOk result (λ prepared. length prepared.visits.items ≡ callers.conversations.lanes) }
+    ensures none_ended { IfOk result
+        (λ prepared. AllByRecursion (λ v. conversations_ended (visits_in v) ≡ 0) prepared.visits.items) }
+    ensures none_out { IfOk result
+        (λ prepared. AllByRecursion (λ v. is_out (visits_in v) ≡ false) prepared.visits.items) }
+    ensures logs { IfOk result (λ prepared. HaveLogs prepared.visits.items) }
+{
+    let gates = vec![in alloc; RestGate::new(rt); boxes]?;
+    let announced = announce(alloc, &callers.listener, writer)?;
+    let Callers {
+        conversations,
+        listener,
+    } = callers;
+    let visits = visits_of(rt, alloc, conversations, listener, logs)?;
+    Ok(Prepared {
+        gates,
+        announced,
+        visits,
+    })
+}
+
+// What the run of the house comes to, once it is said what was stored.
+fn served_by<L: Drop, G: Drop, H: Drop, E: Drop, S: Drop, W: Write>(
+    site: Arc<Site>,
+    announced: Announced,
+    report: HouseReport<LoggedVisits<L, G, H, E>, S, RestGate<H>>,
+    writer: &mut W,
+) -> Served
+    requires { length report.tallies.items ≡ length (arc_value site).boxes }
+    ensures site { arc_value result.site ≡ arc_value site }
+    ensures tallies { result.tallies.items ≡ report.tallies.items }
+    ensures faulty { result.ending.faulty ≡ list_any (λ tally. tally.faulty) report.tallies.items }
+{
     let ending = ServerEnding {
         faulty: has_failed(&report.tallies),
         failed: announced.is_unknown || report.visits.iter().any(|visits| visits.failed()),
         stopped: report.visits.iter().any(|visits| visits.stopped()),
-        cut: is_cut(announced.is_cut, &served_site, &report.tallies, &mut writer),
+        cut: is_cut(announced.is_cut, &site, &report.tallies, writer),
     };
-    Ok(Served {
+    Served {
         ending,
-        site: served_site,
+        site,
         tallies: report.tallies,
-    })
+    }
 }
 
 // The clients of all lanes.
