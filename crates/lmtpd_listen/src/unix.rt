@@ -1,7 +1,7 @@
 //! A Unix socket at a path.
 
-ghost use Rattle.std.specs.Prelude.{◌≡◌, IfErr, MatchResult, string_bytes};
-ghost use Rattle.lmtpd_listen.specs.Opened.{IsListenFault, IsOpened, IsUnopened};
+ghost use Rattle.std.specs.Prelude.{◌≡◌, IfErr, MatchResult, Some, string_bytes};
+ghost use Rattle.lmtpd_listen.specs.Opened.{IsListenFault, IsOpened, IsUnopened, socket_path};
 ghost use Rattle.lmtpd_listen.specs.declared.listen_address.ListenAddress.TheVariants as listen_address;
 
 use crate::fault::{ListenFault, Reason, last_fault};
@@ -60,12 +60,19 @@ fn open_locked<'a, R: Files + Net>(
         (IsUnopened (listen_address.Unix path.entry)) }
 {
     make_room(rt, path)?;
-    let socket = ServerSocket::of_unix(UnixListener::from(rt.unix_socket()?), name)?;
+    let socket = unbound(rt, name)?;
     let mark = make_file(rt, &socket, path, address, mode)?;
     Ok(Opened {
         socket,
         file: SocketFile::at(path, mark),
     })
+}
+
+// A Unix socket that is to listen there.
+fn unbound<R: Net>(rt: &R, path: String) -> Result<ServerSocket, ListenFault>
+    ensures { MatchResult result (λ socket. socket_path socket ≡ Some (string_bytes path)) IsListenFault }
+{
+    Ok(ServerSocket::of_unix(UnixListener::from(rt.unix_socket()?), path)?)
 }
 
 // Removes a socket's file to which nobody listens any more. It fails where there is anything else.
@@ -83,13 +90,13 @@ fn make_room<R: Files + Net>(rt: &R, path: &str) -> Result<(), ListenFault>
 fn remove_unused<R: Files + Net>(rt: &R, path: &str, mark: Mark) -> Result<(), ListenFault>
     ensures { IfErr result IsListenFault }
 {
-    match UnixStream::connect(rt, path) {
-        Ok(_) => Err(ListenFault::Listen(Reason::Answered)),
-        Err(error) if error.kind() == ErrorKind::ConnectionRefused => {
-            Ok(remove_made(rt, path, mark)?)
-        }
-        Err(error) => Err(error.into()),
+    let Err(error) = UnixStream::connect(rt, path) else {
+        return Err(ListenFault::Listen(Reason::Answered));
+    };
+    if error.kind() != ErrorKind::ConnectionRefused {
+        return Err(error.into());
     }
+    Ok(remove_made(rt, path, mark)?)
 }
 
 // Gives the socket its file, and has it listen. Where that fails, the file is removed.
