@@ -1,9 +1,12 @@
 //! The server that the program's words ask for.
 
-ghost use Rattle.std.specs.Prelude.{◌≡◌, IfErr, MatchResult};
+ghost use Rattle.std.specs.Prelude.{◌≡◌, length, None, IfOk, IfErr, MatchResult};
+ghost use Rattle.std.specs.Arc.{arc_value};
+ghost use Rattle.lmtpd_words.specs.Words.{named_site};
 ghost use Rattle.lmtpd_listen.specs.declared.server.ServerSocket.{ServerSocket};
 ghost use Rattle.lmtpd_serve.specs.declared.ends.ServerCurfew.{ServerCurfew};
-ghost use Rattle.lmtpd.specs.Program.{IsNotServed, IsServedAsAsked};
+ghost use Rattle.lmtpd.specs.Faults.{first_fault};
+ghost use Rattle.lmtpd.specs.Program.{IsListenAddress, IsNotServed, IsServedAsAsked};
 
 use super::logger::{ServerLog, line_setting, server_log};
 use super::mailboxes::{Access, ServedMailbox, open_mailboxes};
@@ -13,8 +16,9 @@ use super::room::tell_of_room;
 use crate::fault::Fault;
 use crate::site::shared_site;
 use crate::stop::Stop;
+use lmtp_text::Site;
 use lmtpd_listen::{Opened, listen_address_of};
-use lmtpd_log::{LaneLog, LineLog};
+use lmtpd_log::{LaneLog, LineLog, LineSetting};
 use lmtpd_serve::{Conversations, Served, ServerCurfew, serve_run};
 use lmtpd_words::ServeWords;
 use mbox_rd::{FileLock, RangeLock, Spool};
@@ -74,6 +78,38 @@ where
 {
     let alloc = rt.alloc();
     let listen_address = listen_address_of(words.listen)?;
+    let parts = parts_of(rt, threads, words)?;
+    let opened = open_address(rt, alloc, listen_address, words.socket_mode, &parts.log)?;
+    serve_opened(rt, threads, words, parts, opened, writer)
+}
+
+/// What a server has before it listens.
+#[derive(Drop)]
+struct Parts<H>
+where
+    H: Files + Clock + Eprint + Copy + Drop,
+    H::File: RangeLock,
+{
+    site: Arc<Site>,
+    log: ServerLog<H>,
+    curfew: Arc<ServerCurfew<H>>,
+    spools: Vec<ServedMailbox<H, ServerLog<H>>>,
+    logs: LineSetting<ServerLog<H>, H>,
+}
+
+// Makes these, once it is known that the words have an address.
+fn parts_of<'a, P, H>(rt: &P, threads: H, words: &ServeWords<'a>) -> Result<Parts<H>, Stop<'a>>
+where
+    P: AllocGlobal + Files + Env,
+    H::File: RangeLock,
+    H: Clock + Files + Eprint + Copy + Drop,
+    requires address { IsListenAddress words.now.listen.now }
+    ensures site { IfOk result (λ parts. arc_value parts.site ≡ named_site words.now.site) }
+    ensures sound { IfOk result (λ parts. first_fault (named_site words.now.site) ≡ None) }
+    ensures count { IfOk result (λ parts. length parts.spools.items ≡ length words.now.site.boxes.items) }
+    ensures refused { IfErr result (IsNotServed words.now) }
+{
+    let alloc = rt.alloc();
     let site = shared_site(alloc, &words.site)?;
     let log = server_log(rt, threads, words.log);
     tell_of_room(words, &log);
@@ -85,7 +121,49 @@ where
     let curfew = shared_curfew(threads, alloc, words)?;
     let spools = open_mailboxes(threads, alloc, access, &words.site.boxes, &curfew, log)?;
     let logs = line_setting(threads, log, words, &site)?;
-    let Opened { socket, file } = open_address(rt, alloc, listen_address, words.socket_mode, &log)?;
+    Ok(Parts {
+        site,
+        log,
+        curfew,
+        spools,
+        logs,
+    })
+}
+
+// Runs the server that has these parts on what was opened, whose file is removed at the end.
+fn serve_opened<'a, P, H, W>(
+    rt: &P,
+    threads: H,
+    words: &ServeWords<'a>,
+    parts: Parts<H>,
+    opened: Opened<'a>,
+    writer: W,
+) -> Result<Served, Stop<'a>>
+where
+    P: AllocGlobal + Files + Clock,
+    P::File: FileLock,
+    H::File: RangeLock + Send + 'static,
+    H::Dir: Send + 'static,
+    H: Threads + Wait + Clock + Files + Eprint + Copy + Drop + Send + Sync + 'static,
+    W: Write + Drop,
+    requires address { IsListenAddress words.now.listen.now }
+    requires site { arc_value parts.site ≡ named_site words.now.site }
+    requires sound { first_fault (named_site words.now.site) ≡ None }
+    requires count { length parts.spools.items ≡ length words.now.site.boxes.items }
+    ensures { MatchResult result
+        (IsServedAsAsked ServerSocket H (ServerCurfew H) (⟦<LineLog<ServerLog<H>, H> as LaneLog>⟧.told)
+        (⟦<ServedMailbox<H, ServerLog<H>> as Spool>⟧.state) words.now)
+        (IsNotServed words.now) }
+{
+    let alloc = rt.alloc();
+    let Parts {
+        site,
+        curfew,
+        spools,
+        logs,
+        ..
+    } = parts;
+    let Opened { socket, file } = opened;
     let conversations = Conversations {
         lanes: words.lanes,
         count: connections_asked(words),
