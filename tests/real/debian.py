@@ -15,6 +15,7 @@ from cases import Absent, case, equal
 from machine import Machine
 from many_mailboxes import recipe
 from packages import program, need_root
+from replies import stored
 
 ROOT = pathlib.Path(__file__).parents[2]
 MIRROR = "http://deb.debian.org/debian"

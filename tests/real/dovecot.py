@@ -9,7 +9,7 @@ import subprocess
 
 from cases import Absent
 from packages import install, program, need_root
-from postfix import free_port
+from started import Started, free_port, wait_for_port
 
 CONFIGURATION = """
 base_dir = {folder}/run

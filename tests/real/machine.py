@@ -12,6 +12,7 @@ import time
 
 from cases import Absent
 from packages import program, need_root
+from started import Started
 
 SYSTEMD = "/lib/systemd/systemd"
 PATH = "/usr/local/sbin:/usr/local/bin:/usr/sbin:/usr/bin:/sbin:/bin"

@@ -12,7 +12,6 @@ from cases import Absent, case, equal
 from exim_delivers import user
 from mail import equal_mailbox, message
 from packages import install, unpacked, need_root
-from postfix import free_port
 from replies import NO_SUCH_BOX
 from server import Server
 from started import free_port

@@ -7,6 +7,7 @@ import subprocess
 import time
 
 from packages import program, need_root
+from started import Started, free_port, wait_for_port
 
 MAIN = """
 compatibility_level = 3.6

@@ -6,7 +6,7 @@ import subprocess
 from cases import Absent, case, equal
 from mail import equal_mailbox, message
 from packages import need_root
-from postfix import Postfix, free_port
+from postfix import Postfix
 from replies import NO_SUCH_BOX, not_stored, over_quota, stored
 from server import Server
 from started import free_port

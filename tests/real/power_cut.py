@@ -8,7 +8,7 @@ import subprocess
 import time
 
 from cases import Absent, case, equal
-from killed_under_load import BOXES, CLIENTS, deliver
+from killed_under_load import BOXES, under_load
 from packages import program, need_root
 from server import Server
 

@@ -7,7 +7,7 @@ import sys
 import threading
 import time
 
-from beside import MAIL, SECONDS, SUBJECT, Beside
+from beside import SECONDS, SUBJECT, Beside
 from cases import case, equal
 from dovecot import Dovecot
 from mutt import Mutt
