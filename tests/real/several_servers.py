@@ -14,7 +14,7 @@ ROUNDS = 10
 
 @case
 def recipients_are_shared_out(folder):
-    """One Postfix and three servers by transport_maps: one is killed and begins anew; nothing is lost or comes twice"""
+    """One Postfix and three servers by transport_maps: one is killed and restarted; nothing is lost or comes twice"""
     ports = {name: free_port() for name in NAMES}
     (folder / "transport").write_text(
         "".join(f"{name}@mx.example lmtp:inet:127.0.0.1:{port}\n" for name, port in ports.items())

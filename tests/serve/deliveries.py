@@ -147,7 +147,7 @@ def more_domains(folder):
 @case
 def a_quota_is_kept(folder):
     """--quota: the letter that fits to the byte is stored, the next one is refused, also once the server was
-    started anew"""
+    restarted"""
     told, over = stored("anna"), over_quota("anna")
     lines = ["Subject: hi", "", "hello"]
     with Server(folder, ["anna"], 1, "--lanes", 1) as server:

@@ -73,14 +73,14 @@ def equal_after_the_wait(client, name):
 @case
 def the_bytes_are_held(folder):
     """a reader has the range lock: 451 after --lock-wait, then at once, the other mailbox undisturbed; 250 once it
-    lets go, and then it is waited for anew"""
+    lets go, and then it is waited for again"""
     is_held(folder, bytes_held)
 
 
 @case
 def the_name_is_held(folder):
     """a reader has the lock file: 451 after --lock-wait, then at once, the other mailbox undisturbed; 250 once it
-    lets go, and then it is waited for anew"""
+    lets go, and then it is waited for again"""
     is_held(folder, name_held)
 
 
