@@ -1,5 +1,6 @@
 -- A piece is written into a draft's last block.
-use Rattle.std.proofs.Common.{◌≡◌, ℕ, zero, suc, ◌+◌, ◌-◌, ◌*◌, ◌%◌, ◌<◌, ◌≤◌, List, [], ◌∷◌, ◌++◌, get_or, length, take, drop, set, refl, ap, sym, ◌∙◌, arith, append_assoc, append-nil, length-append, length-take}
+use Rattle.std.proofs.Common.{◌≡◌, ℕ, zero, suc, ◌+◌, ◌-◌, ◌*◌, ◌%◌, ◌<◌, ◌≤◌, List, [], ◌∷◌, ◌++◌, get_or, length, take, drop, set, refl, ap, sym, ◌∙◌, arith,
+    append_assoc, append-nil, length-append, length-take}
 use Rattle.std.specs.Prelude.{flat_map}
 use Rattle.std.proofs.lemmas.List.{get_or-set_same, get_or-set_other}
 use Rattle.mail_world.specs.Depot as d
@@ -25,16 +26,20 @@ flat_keeps store b row (x ∷ bs) h =
 
 pub flat_append : (store : List (List ℕ)) (xs ys : List ℕ) → flat store (xs ++ ys) ≡ flat store xs ++ flat store ys
 flat_append store [] ys = refl
-flat_append store (x ∷ xs) ys = ap (λ t. get_or store x [] ++ t) (flat_append store xs ys) ∙ sym (append_assoc (get_or store x []) (flat store xs) (flat store ys))
+flat_append store (x ∷ xs) ys =
+    ap (λ t. get_or store x [] ++ t) (flat_append store xs ys) ∙ sym (append_assoc (get_or store x []) (flat store xs) (flat store ys))
 
 -- what a slot says of other blocks than the one that is written
-pub held_stays : (store : List (List ℕ)) (next : List ℕ) (b : ℕ) (row : List ℕ) (c : Content) → occurrences b (d.blocks_of (held store next c)) ≡ 0 → held (set store b row) next c ≡ held store next c
+pub held_stays : (store : List (List ℕ)) (next : List ℕ) (b : ℕ) (row : List ℕ) (c : Content) → occurrences b (d.blocks_of (held store next c)) ≡ 0
+    → held (set store b row) next c ≡ held store next c
 held_stays store next b row Free h = refl
 held_stays store next b row (Draft run) h = ap (λ bytes. d.Draft (take run.length bytes) (blocks_in next run)) (flat_keeps store b row (blocks_in next run) h)
-held_stays store next b row (Sealed run holds) h = ap (λ bytes. d.Sealed (take run.length bytes) (blocks_in next run) holds) (flat_keeps store b row (blocks_in next run) h)
+held_stays store next b row (Sealed run holds) h =
+    ap (λ bytes. d.Sealed (take run.length bytes) (blocks_in next run) holds) (flat_keeps store b row (blocks_in next run) h)
 held_stays store next b row Retired h = refl
 
-pub slot_stays : (store : List (List ℕ)) (next : List ℕ) (b : ℕ) (row : List ℕ) (slot : Slot) → Without store next b slot → slot_of (set store b row) next slot ≡ slot_of store next slot
+pub slot_stays : (store : List (List ℕ)) (next : List ℕ) (b : ℕ) (row : List ℕ) (slot : Slot) → Without store next b slot
+    → slot_of (set store b row) next slot ≡ slot_of store next slot
 slot_stays store next b row slot h = ap (λ (x : d.Held). record { generation = slot.generation; held = x }) (held_stays store next b row slot.content h)
 
 -- more bytes in the last block, while they fit there
@@ -63,22 +68,30 @@ take_exact (suc k) [] ys e = absurd (omega (arith, e))
 take_exact (suc k) (x ∷ xs) ys e = ap (λ t. x ∷ t) (take_exact k xs ys (omega (arith, e)))
 
 -- the bytes of a run whose last block gets a piece after those that it has
-pub written : (store : List (List ℕ)) (bs : List ℕ) (last m at n len : ℕ) (piece : List ℕ) → occurrences last bs ≡ 0 → last < length store → length (flat store bs) ≡ m → length (get_or store last []) ≡ BLOCK_SIZE
+pub written : (store : List (List ℕ)) (bs : List ℕ) (last m at n len : ℕ) (piece : List ℕ) → occurrences last bs ≡ 0 → last < length store
+    → length (flat store bs) ≡ m → length (get_or store last []) ≡ BLOCK_SIZE
     → len ≡ m + at → length piece ≡ n → at + n ≤ BLOCK_SIZE
     → take (len + n) (flat (set store last (take at (get_or store last []) ++ piece ++ drop (at + n) (get_or store last []))) (bs ++ last ∷ []))
     ≡ take len (flat store (bs ++ last ∷ [])) ++ piece
 written store bs last m at n len piece apart low size row e long fits =
     let new : List ℕ = take at (get_or store last []) ++ piece ++ drop (at + n) (get_or store last []) in
-    let prefix : length (take at (get_or store last []) ++ piece) ≡ at + n = omega (arith, length-append (take at (get_or store last [])) piece, length-take at (get_or store last []), row, long, fits) in
-    let one : flat (set store last (take at (get_or store last []) ++ piece ++ drop (at + n) (get_or store last []))) (bs ++ last ∷ []) ≡ flat store bs ++ (take at (get_or store last []) ++ piece ++ drop (at + n) (get_or store last [])) =
+    let prefix : length (take at (get_or store last []) ++ piece) ≡ at + n =
+        omega (arith, length-append (take at (get_or store last [])) piece, length-take at (get_or store last []), row, long, fits) in
+    let one : flat (set store last (take at (get_or store last []) ++ piece ++ drop (at + n) (get_or store last []))) (bs ++ last ∷ []) ≡ flat store bs
+        ++ (take at (get_or store last []) ++ piece ++ drop (at + n) (get_or store last [])) =
     flat_append (set store last (take at (get_or store last []) ++ piece ++ drop (at + n) (get_or store last []))) bs (last ∷ [])
-    ∙ ap (λ t. t ++ flat (set store last (take at (get_or store last []) ++ piece ++ drop (at + n) (get_or store last []))) (last ∷ [])) (flat_keeps store last (take at (get_or store last []) ++ piece ++ drop (at + n) (get_or store last [])) bs apart)
-    ∙ ap (λ t. flat store bs ++ t) (append-nil (get_or (set store last (take at (get_or store last []) ++ piece ++ drop (at + n) (get_or store last []))) last []) ∙ get_or-set_same store last (take at (get_or store last []) ++ piece ++ drop (at + n) (get_or store last [])) [] low) in
-    let old : flat store (bs ++ last ∷ []) ≡ flat store bs ++ get_or store last [] = flat_append store bs (last ∷ []) ∙ ap (λ t. flat store bs ++ t) (append-nil (get_or store last [])) in
+    ∙ ap (λ t. t ++ flat (set store last (take at (get_or store last []) ++ piece ++ drop (at + n) (get_or store last []))) (last ∷ []))
+        (flat_keeps store last (take at (get_or store last []) ++ piece ++ drop (at + n) (get_or store last [])) bs apart)
+    ∙ ap (λ t. flat store bs ++ t)
+        (append-nil (get_or (set store last (take at (get_or store last []) ++ piece ++ drop (at + n) (get_or store last []))) last [])
+        ∙ get_or-set_same store last (take at (get_or store last []) ++ piece ++ drop (at + n) (get_or store last [])) [] low) in
+    let old : flat store (bs ++ last ∷ []) ≡ flat store bs ++ get_or store last [] =
+        flat_append store bs (last ∷ []) ∙ ap (λ t. flat store bs ++ t) (append-nil (get_or store last [])) in
     let sum : len + n ≡ m + (at + n) = omega (arith, e) in
     ap (take (len + n)) one
     ∙ ap (λ j. take j (flat store bs ++ (take at (get_or store last []) ++ piece ++ drop (at + n) (get_or store last [])))) sum
     ∙ take_after m (at + n) (flat store bs) (take at (get_or store last []) ++ piece ++ drop (at + n) (get_or store last [])) size
     ∙ ap (λ t. flat store bs ++ t) (take_exact (at + n) (take at (get_or store last []) ++ piece) (drop (at + n) (get_or store last [])) prefix)
     ∙ sym (append_assoc (flat store bs) (take at (get_or store last [])) piece)
-    ∙ ap (λ t. t ++ piece) (sym (take_after m at (flat store bs) (get_or store last []) size) ∙ ap (λ j. take j (flat store bs ++ get_or store last [])) (sym e) ∙ ap (take len) (sym old))
+    ∙ ap (λ t. t ++ piece) (sym (take_after m at (flat store bs) (get_or store last []) size) ∙ ap (λ j. take j (flat store bs ++ get_or store last [])) (sym e)
+        ∙ ap (take len) (sym old))

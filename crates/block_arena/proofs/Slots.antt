@@ -1,5 +1,6 @@
 -- One slot of the arena changes, and the blocks that it gains or loses.
-use Rattle.std.proofs.Common.{◌≡◌, ℕ, zero, suc, ◌+◌, ◌<◌, ◌≤◌, List, [], ◌∷◌, ◌++◌, Bool, true, false, cond, ◌==◌, Option, Some, None, length, map, refl, ap, sym, ◌∙◌, subst, arith}
+use Rattle.std.proofs.Common.{◌≡◌, ℕ, zero, suc, ◌+◌, ◌<◌, ◌≤◌, List, [], ◌∷◌, ◌++◌, Bool, true, false, cond, ◌==◌, Option, Some, None, length, map, refl, ap,
+    sym, ◌∙◌, subst, arith}
 use Rattle.std.specs.Prelude.{slice_get, slice_set, flat_map, sum_by, nat_lt}
 use Rattle.std.specs.List.{All, AllByRecursion}
 use Rattle.std.proofs.lemmas.Bool.{eqb-true}
@@ -43,7 +44,8 @@ slot_at g c = record { generation = g; content = c }
 same_slot : (g k : ℕ) (c content : Content) → g ≡ k → c ≡ content → slot_at g c ≡ slot_at k content
 same_slot g k c content e h = ap (λ n. slot_at n c) e ∙ ap (slot_at k) h
 
-pub found : (o : Option Slot) (g : ℕ) (content : Content) → content_at o g ≡ content → ((content ≡ Free) → ⊥) → o ≡ Some (record { generation = g; content = content })
+pub found : (o : Option Slot) (g : ℕ) (content : Content) → content_at o g ≡ content → ((content ≡ Free) → ⊥)
+    → o ≡ Some (record { generation = g; content = content })
 found None g content e filled = absurd (filled (sym e))
 found (Some slot) g content e filled =
     let p : (slot.generation ≡ g) × (slot.content ≡ content) = found_if slot.generation g (slot.generation == g) slot.content content refl e filled in
@@ -63,7 +65,8 @@ pub record Turn (a : ArenaFields) (i : ℕ) (old s : Slot) (a' : ArenaFields) : 
   pub count : a'.free_count + block_count s.content ≡ a.free_count + block_count old.content
   pub others : map (slot_of a'.store a'.next) a'.slots ≡ slice_set (map (slot_of a.store a.next) a.slots) i (slot_of a'.store a'.next s)
   pub runs : AllByRecursion (λ (slot : Slot). IsContent a'.next slot.content) a'.slots
-  pub split : (x : ℕ) → occurrences x (chain a'.free_count a'.next a'.free) + occurrences x (d.blocks_of (held a'.store a'.next s.content)) ≡ occurrences x (chain a.free_count a.next a.free) + occurrences x (d.blocks_of (held a.store a.next old.content))
+  pub split : (x : ℕ) → occurrences x (chain a'.free_count a'.next a'.free) + occurrences x (d.blocks_of (held a'.store a'.next s.content))
+      ≡ occurrences x (chain a.free_count a.next a.free) + occurrences x (d.blocks_of (held a.store a.next old.content))
 
 pub turned : (a : ArenaFields) (i : ℕ) (old s : Slot) (a' : ArenaFields)
     → Turn a i old s a' → IsArena a'
@@ -73,7 +76,8 @@ turned a i old s a' t = record {
   limit = omega (arith, t.next_stay, t.arena.limit);
   slot_limit = omega (arith, size, t.arena.slot_limit);
   runs = t.runs;
-  generations = subst (λ ss. AllByRecursion (λ (slot : Slot). slot.generation ≤ d.last_generation) ss) (sym t.slots) (all_set (λ (slot : Slot). slot.generation ≤ d.last_generation) a.slots i s t.arena.generations t.generation);
+  generations = subst (λ ss. AllByRecursion (λ (slot : Slot). slot.generation ≤ d.last_generation) ss) (sym t.slots)
+      (all_set (λ (slot : Slot). slot.generation ≤ d.last_generation) a.slots i s t.arena.generations t.generation);
   total = omega (arith, t.count, t.arena.total, t.next_stay, sum, sum_set (λ (slot : Slot). block_count slot.content) a.slots i old s t.was);
   once = λ x. once_by x;
   stamp_count = t.stamps_stay ∙ t.arena.stamp_count ∙ sym t.next_stay;
@@ -88,14 +92,28 @@ turned a i old s a' t = record {
   in_use : List d.Slot → List ℕ
   in_use ss = flat_map (λ (slot : d.Slot). d.blocks_of slot.held) ss
 
-  once_by : (x : ℕ) → occurrences x (chain a'.free_count a'.next a'.free ++ flat_map (λ (slot : d.Slot). d.blocks_of slot.held) (map (slot_of a'.store a'.next) a'.slots)) ≡ cond (nat_lt x (length a'.next)) 1 0
+  once_by : (x : ℕ) → occurrences x
+      (chain a'.free_count a'.next a'.free ++ flat_map (λ (slot : d.Slot). d.blocks_of slot.held) (map (slot_of a'.store a'.next) a'.slots))
+      ≡ cond (nat_lt x (length a'.next)) 1 0
   once_by x =
-      let used : occurrences x (flat_map (λ (slot : d.Slot). d.blocks_of slot.held) (map (slot_of a'.store a'.next) a'.slots)) ≡ occurrences x (flat_map (λ (slot : d.Slot). d.blocks_of slot.held) (slice_set (map (slot_of a.store a.next) a.slots) i (slot_of a'.store a'.next s))) = ap (λ ss. occurrences x (flat_map (λ (slot : d.Slot). d.blocks_of slot.held) ss)) t.others in
-      let total : occurrences x (flat_map (λ (slot : d.Slot). d.blocks_of slot.held) (slice_set (map (slot_of a.store a.next) a.slots) i (slot_of a'.store a'.next s))) + occurrences x (d.blocks_of (held a.store a.next old.content)) ≡ occurrences x (flat_map (λ (slot : d.Slot). d.blocks_of slot.held) (map (slot_of a.store a.next) a.slots)) + occurrences x (d.blocks_of (held a'.store a'.next s.content)) =
-      total_set (λ y. cond (y == x) 1 0) (λ (slot : d.Slot). d.blocks_of slot.held) (map (slot_of a.store a.next) a.slots) i (slot_of a.store a.next old) (slot_of a'.store a'.next s) (get_map (slot_of a.store a.next) a.slots i old t.was) in
-      let split : occurrences x (chain a'.free_count a'.next a'.free) + occurrences x (d.blocks_of (held a'.store a'.next s.content)) ≡ occurrences x (chain a.free_count a.next a.free) + occurrences x (d.blocks_of (held a.store a.next old.content)) = t.split x in
-      let moved : occurrences x (chain a'.free_count a'.next a'.free ++ flat_map (λ (slot : d.Slot). d.blocks_of slot.held) (map (slot_of a'.store a'.next) a'.slots)) ≡ occurrences x (chain a.free_count a.next a.free ++ flat_map (λ (slot : d.Slot). d.blocks_of slot.held) (map (slot_of a.store a.next) a.slots)) =
-      omega (arith, split, total, used, times-append x (chain a'.free_count a'.next a'.free) (flat_map (λ (slot : d.Slot). d.blocks_of slot.held) (map (slot_of a'.store a'.next) a'.slots)), times-append x (chain a.free_count a.next a.free) (flat_map (λ (slot : d.Slot). d.blocks_of slot.held) (map (slot_of a.store a.next) a.slots))) in
+      let used : occurrences x (flat_map (λ (slot : d.Slot). d.blocks_of slot.held) (map (slot_of a'.store a'.next) a'.slots))
+          ≡ occurrences x (flat_map (λ (slot : d.Slot). d.blocks_of slot.held)
+          (slice_set (map (slot_of a.store a.next) a.slots) i (slot_of a'.store a'.next s))) = ap
+          (λ ss. occurrences x (flat_map (λ (slot : d.Slot). d.blocks_of slot.held) ss)) t.others in
+      let total : occurrences x (flat_map (λ (slot : d.Slot). d.blocks_of slot.held)
+          (slice_set (map (slot_of a.store a.next) a.slots) i (slot_of a'.store a'.next s))) + occurrences x (d.blocks_of (held a.store a.next old.content))
+          ≡ occurrences x (flat_map (λ (slot : d.Slot). d.blocks_of slot.held) (map (slot_of a.store a.next) a.slots))
+          + occurrences x (d.blocks_of (held a'.store a'.next s.content)) =
+      total_set (λ y. cond (y == x) 1 0) (λ (slot : d.Slot). d.blocks_of slot.held) (map (slot_of a.store a.next) a.slots) i (slot_of a.store a.next old)
+          (slot_of a'.store a'.next s) (get_map (slot_of a.store a.next) a.slots i old t.was) in
+      let split : occurrences x (chain a'.free_count a'.next a'.free) + occurrences x (d.blocks_of (held a'.store a'.next s.content))
+          ≡ occurrences x (chain a.free_count a.next a.free) + occurrences x (d.blocks_of (held a.store a.next old.content)) = t.split x in
+      let moved : occurrences x (chain a'.free_count a'.next a'.free
+          ++ flat_map (λ (slot : d.Slot). d.blocks_of slot.held) (map (slot_of a'.store a'.next) a'.slots))
+          ≡ occurrences x (chain a.free_count a.next a.free ++ flat_map (λ (slot : d.Slot). d.blocks_of slot.held) (map (slot_of a.store a.next) a.slots)) =
+      omega (arith, split, total, used,
+          times-append x (chain a'.free_count a'.next a'.free) (flat_map (λ (slot : d.Slot). d.blocks_of slot.held) (map (slot_of a'.store a'.next) a'.slots)),
+          times-append x (chain a.free_count a.next a.free) (flat_map (λ (slot : d.Slot). d.blocks_of slot.held) (map (slot_of a.store a.next) a.slots))) in
       moved ∙ t.arena.once x ∙ ap (λ n. cond (nat_lt x n) 1 0) (sym t.next_stay)
 
 -- the slot after the step
@@ -104,9 +122,11 @@ turned_at a i old s a' t = ap (λ ss. slice_get ss i) t.slots ∙ set_at a.slots
 
 -- a slot changes what it says of its blocks, and no block moves
 pub relabelled : (a : ArenaFields) (i g : ℕ) (old new : Content) → IsArena a → slice_get a.slots i ≡ Some (slot_at g old)
-    → IsContent a.next new → block_count new ≡ block_count old → d.blocks_of (held a.store a.next new) ≡ d.blocks_of (held a.store a.next old) → Stays a.next old a.next new
+    → IsContent a.next new → block_count new ≡ block_count old → d.blocks_of (held a.store a.next new) ≡ d.blocks_of (held a.store a.next old)
+    → Stays a.next old a.next new
     → IsArena (record a { slots = slice_set a.slots i (slot_at g new) })
-relabelled a i g old new arena was content count same stays = turned a i (slot_at g old) (slot_at g new) (record a { slots = slice_set a.slots i (slot_at g new) }) (record {
+relabelled a i g old new arena was content count same stays =
+    turned a i (slot_at g old) (slot_at g new) (record a { slots = slice_set a.slots i (slot_at g new) }) (record {
   arena = arena;
   was = was;
   slots = refl;
@@ -114,7 +134,8 @@ relabelled a i g old new arena was content count same stays = turned a i (slot_a
   blocks_stay = refl;
   next_stay = refl;
   stamps_stay = refl;
-  stamped = stamped_on a.next a.next a.slots a.stamps i (slot_at g old) (slot_at g new) arena.stamped was (λ j x apart at index block h. h) (goes_on a.next a.next g old new stays);
+  stamped = stamped_on a.next a.next a.slots a.stamps i (slot_at g old) (slot_at g new) arena.stamped was (λ j x apart at index block h. h)
+      (goes_on a.next a.next g old new stays);
   generation = each_at (λ (slot : Slot). slot.generation ≤ d.last_generation) a.slots i (slot_at g old) arena.generations was;
   count = ap (λ n. a.free_count + n) count;
   others = map_set (slot_of a.store a.next) a.slots i (slot_at g new);

@@ -1,5 +1,6 @@
 -- What a worker's count under a quota tells of the next record.
-use Rattle.std.proofs.Common.{◌≡◌, ℕ, ◌+◌, ◌≤◌, ◌<◌, ◌^◌, Bool, true, false, List, [], ◌∷◌, ◌++◌, length, Option, Some, None, refl, ap, sym, ◌∙◌, subst, arith, length-append}
+use Rattle.std.proofs.Common.{◌≡◌, ℕ, ◌+◌, ◌≤◌, ◌<◌, ◌^◌, Bool, true, false, List, [], ◌∷◌, ◌++◌, length, Option, Some, None, refl, ap, sym, ◌∙◌, subst, arith,
+    length-append}
 use Rattle.std.specs.Prelude.{if◌then◌else◌, nat_le}
 use Rattle.std.specs.Option.{IfSome}
 use Rattle.std.proofs.lemmas.Bool.Decides.{nat_tests}
@@ -38,7 +39,8 @@ pub kept_out : (quota : Option ℕ) (n size : ℕ) (old : Option Limit) → Coun
 kept_out None n size old counts h = let P : Option Limit → Type 0 = λ l. IsKeptOut l size in absurd (subst P counts h)
 kept_out (Some quota) n size old counts h = let P : Option Limit → Type 0 = λ l. IsKeptOut l size in unfitting quota n size (subst P counts.1 h)
 
-missing_by : (two one : Bool) → length (if two then [] else if one then lf ∷ [] else lf ∷ lf ∷ []) ≡ missing (if two then TwoLf else if one then OneLf else NoLf)
+missing_by : (two one : Bool) → length (if two then [] else if one then lf ∷ [] else lf ∷ lf ∷ [])
+    ≡ missing (if two then TwoLf else if one then OneLf else NoLf)
 missing_by true one = refl
 missing_by false true = refl
 missing_by false false = refl

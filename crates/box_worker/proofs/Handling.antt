@@ -1,5 +1,6 @@
 -- One copy more that a worker handled.
-use Rattle.std.proofs.Common.{◌≡◌, ℕ, ◌+◌, ◌-◌, ◌≤◌, ◌^◌, min, List, [], ◌∷◌, ◌++◌, length, Bool, true, false, Option, Some, None, IsSome, inl, inr, refl, ap, sym, ◌∙◌, subst, true≢false, arith, length-append}
+use Rattle.std.proofs.Common.{◌≡◌, ℕ, ◌+◌, ◌-◌, ◌≤◌, ◌^◌, min, List, [], ◌∷◌, ◌++◌, length, Bool, true, false, Option, Some, None, IsSome, inl, inr, refl, ap,
+    sym, ◌∙◌, subst, true≢false, arith, length-append}
 use Rattle.std.specs.Prelude.{if◌then◌else◌}
 use Rattle.std.specs.Option.{IfSome}
 use Rattle.std.specs.List.{count_by}
@@ -28,7 +29,8 @@ use Rattle.box_worker.specs.Limits.{Setting, StartsAt, CountsTo, marks_after}
 use Rattle.box_worker.specs.Stored.{MailboxState, mailbox_of, CountedMailbox, TakesCopy, Tallies, HasStored, HasSettled}
 use Rattle.box_worker.specs.Told.{slip_by, owed_to, is_stored, is_over}
 use Rattle.box_worker.specs.Turned.{shared_of, TurnsCopy}
-use Rattle.box_worker.specs.Worked.{WorkerState, counted_of, idle, is_lost, outcomes_after, bytes_after, IsAccounted, HasHandled, IsCounted, IsTended, IsCounting, HasWorked}
+use Rattle.box_worker.specs.Worked.{WorkerState, counted_of, idle, is_lost, outcomes_after, bytes_after, IsAccounted, HasHandled, IsCounted, IsTended,
+    IsCounting, HasWorked}
 use Rattle.box_worker.proofs.Turning.{turned_more, tells_told}
 use Rattle.box_worker.proofs.Counting.{let_in, kept_out}
 use Rattle.box_worker.proofs.Settling.{is_kept, marks_count, marks_next, bytes_one, bytes_none, settled_stored, settled_over, settled_not, settled_later}
@@ -65,15 +67,18 @@ module _ (at : Setting) (start : ℕ) (copies : List Note) (note : Note) where
       let count = marks_count at start copies note in
       let marks = marks_after at start copies in
       ap (outcomes_settled (n + 1)) (marks_next at start copies note) ∙ settled_more (n + 1) marks (is_kept at start copies note) (omega (arith, all, count))
-      ∙ ap (λ l. l ++ (if is_kept at start copies note then Stored else OverQuota) ∷ []) (all_settled (n + 1) n marks (omega (arith, all, count)) (omega (arith, all, count)))
+      ∙ ap (λ l. l ++ (if is_kept at start copies note then Stored else OverQuota) ∷ [])
+          (all_settled (n + 1) n marks (omega (arith, all, count)) (omega (arith, all, count)))
       ∙ ap (λ t. told n ++ (if t then Stored else OverQuota) ∷ []) is
 
   tells_failed : (n : ℕ) → n ≤ length copies → told_more n ≡ told n ++ Failed ∷ []
   tells_failed n within =
       let count = marks_count at start copies note in
-      ap (outcomes_settled n) (marks_next at start copies note) ∙ failed_more n (marks_after at start copies) (is_kept at start copies note) (omega (arith, within, count))
+      ap (outcomes_settled n) (marks_next at start copies note)
+          ∙ failed_more n (marks_after at start copies) (is_kept at start copies note) (omega (arith, within, count))
 
-module _ (at : Setting) (copies : List Note) (old : SpoolState) (now : MailboxState) (before : Option Limit) (used : ℕ) (note : Note) (outs : List Outcome) (x : IsCounted at copies outs old now before) where
+module _ (at : Setting) (copies : List Note) (old : SpoolState) (now : MailboxState) (before : Option Limit) (used : ℕ) (note : Note) (outs : List Outcome)
+    (x : IsCounted at copies outs old now before) where
   abbrev h : IsAccounted at copies outs old now
   h = x.accounted
 
@@ -151,21 +156,24 @@ module _ (at : Setting) (copies : List Note) (old : SpoolState) (now : MailboxSt
   copy_counted TooLarge after take = absurd take
 
 -- a count of one more outcome
-stored_more' : (outcome : Outcome) (n : ℕ) (old new : MailboxState) → Tallies outcome old new → old.stored ≡ counted n → new.stored ≡ counted (n + count_by is_stored (outcome ∷ []))
+stored_more' : (outcome : Outcome) (n : ℕ) (old new : MailboxState) → Tallies outcome old new → old.stored ≡ counted n
+    → new.stored ≡ counted (n + count_by is_stored (outcome ∷ []))
 stored_more' Stored n old new t e = t.0 ∙ ap (λ m. counted (m + 1)) e ∙ counted_more n
 stored_more' Failed n old new t e = let z : n ≡ n + 0 = omega arith in t.0 ∙ e ∙ ap counted z
 stored_more' NoRoom n old new t e = let z : n ≡ n + 0 = omega arith in t.0 ∙ e ∙ ap counted z
 stored_more' TooLarge n old new t e = let z : n ≡ n + 0 = omega arith in t.0 ∙ e ∙ ap counted z
 stored_more' OverQuota n old new t e = let z : n ≡ n + 0 = omega arith in t.0 ∙ e ∙ ap counted z
 
-over_more' : (outcome : Outcome) (n : ℕ) (old new : MailboxState) → Tallies outcome old new → old.over ≡ counted n → new.over ≡ counted (n + count_by is_over (outcome ∷ []))
+over_more' : (outcome : Outcome) (n : ℕ) (old new : MailboxState) → Tallies outcome old new → old.over ≡ counted n
+    → new.over ≡ counted (n + count_by is_over (outcome ∷ []))
 over_more' Stored n old new t e = let z : n ≡ n + 0 = omega arith in t.1 ∙ e ∙ ap counted z
 over_more' Failed n old new t e = let z : n ≡ n + 0 = omega arith in t.1 ∙ e ∙ ap counted z
 over_more' NoRoom n old new t e = let z : n ≡ n + 0 = omega arith in t.1 ∙ e ∙ ap counted z
 over_more' TooLarge n old new t e = let z : n ≡ n + 0 = omega arith in t.1 ∙ e ∙ ap counted z
 over_more' OverQuota n old new t e = t.1 ∙ ap (λ m. counted (m + 1)) e ∙ counted_more n
 
-module _ (at : Setting) (copies : List Note) (old now : WorkerState) (before : Option Limit) (next : List (Sender Slip)) (note : Note) (accepted : Bool) (x : IsCounting at copies old now before) where
+module _ (at : Setting) (copies : List Note) (old now : WorkerState) (before : Option Limit) (next : List (Sender Slip)) (note : Note) (accepted : Bool)
+    (x : IsCounting at copies old now before) where
   abbrev t : IsTended at copies x.outcomes old.mailbox.state (counted_of now before)
   t = x.tended
 
@@ -190,7 +198,8 @@ module _ (at : Setting) (copies : List Note) (old now : WorkerState) (before : O
       → (now.mailbox.state.sharing.is_shared ≡ false → after.in_use ≡ now.in_use)
       → (now.mailbox.state.sharing.is_shared ≡ true → TurnsCopy (record_of at.calendar at.host note) outcome (counted_of now before) after)
       → IsOffered moment note.txn.lane (slip_by note.txn note.place outcome) accepted now.slips next
-      → (y : IsCounting at (copies ++ note ∷ []) old (record { slips = next; mailbox = after.mailbox; in_use = after.in_use; taken = counted (now.taken + 1); lost = any_gone next }) after.limit)
+      → (y : IsCounting at (copies ++ note ∷ []) old
+      (record { slips = next; mailbox = after.mailbox; in_use = after.in_use; taken = counted (now.taken + 1); lost = any_gone next }) after.limit)
       × (y.outcomes ≡ x.outcomes ++ outcome ∷ [])
   handled_more moment outcome after tallied whose alone never shared offered =
       let mine : offered.sender.number ≡ at.worker = x.numbered note.txn.lane offered.sender offered.is in
@@ -208,15 +217,18 @@ module _ (at : Setting) (copies : List Note) (old now : WorkerState) (before : O
               x.told offered slip_is (owed_more at.worker x.outcomes all copies note outcome x.each refl);
           numbered = still_numbered at.worker moment note.txn.lane (slip_by note.txn note.place outcome) accepted now.slips next x.numbered offered;
           taken_count = ap (λ m. counted (m + 1)) x.taken_count ∙ counted_more (length copies) ∙ ap counted (sym more);
-          stored_count = stored_more' outcome (count_by is_stored x.outcomes) now.mailbox after.mailbox tallied x.stored_count ∙ ap counted (sym (count-append is_stored x.outcomes (outcome ∷ [])));
-          over_count = over_more' outcome (count_by is_over x.outcomes) now.mailbox after.mailbox tallied x.over_count ∙ ap counted (sym (count-append is_over x.outcomes (outcome ∷ [])));
+          stored_count = stored_more' outcome (count_by is_stored x.outcomes) now.mailbox after.mailbox tallied x.stored_count
+              ∙ ap counted (sym (count-append is_stored x.outcomes (outcome ∷ [])));
+          over_count = over_more' outcome (count_by is_over x.outcomes) now.mailbox after.mailbox tallied x.over_count
+              ∙ ap counted (sym (count-append is_over x.outcomes (outcome ∷ [])));
           tended = tended_more outcome after whose alone never shared;
         },
         refl,
       )
 
 -- what is handled between two copies
-abbrev pub handled_of : (at : Setting) (copies : List Note) (old now : WorkerState) (limit : Option Limit) → IsCounting at copies old now limit → HasHandled at copies old now
+abbrev pub handled_of : (at : Setting) (copies : List Note) (old now : WorkerState) (limit : Option Limit) → IsCounting at copies old now limit
+    → HasHandled at copies old now
 handled_of at copies old now limit x = record {
   outcomes = x.outcomes;
   each = x.each;
@@ -226,7 +238,8 @@ handled_of at copies old now limit x = record {
   stored_count = x.stored_count;
   over_count = x.over_count;
   alone = λ e. record { accounted = (x.tended.alone e).accounted; never_in_use = x.tended.never_in_use e };
-  shared = λ e. record { each = x.tended.shared e; told = tells_told at copies x.outcomes old.mailbox.state (shared_of now.mailbox.state now.mailbox.faulty now.in_use) (x.tended.shared e) };
+  shared = λ e. record { each = x.tended.shared e;
+      told = tells_told at copies x.outcomes old.mailbox.state (shared_of now.mailbox.state now.mailbox.faulty now.in_use) (x.tended.shared e) };
 }
 
 -- a worker that took nothing
@@ -237,7 +250,8 @@ pub counting_none : (at : Setting) (slips : List (Sender Slip)) (old : SpoolStat
     → (new.mailbox.stored ≡ 0) × (new.mailbox.over ≡ 0) × (new.in_use ≡ 0)
     → ((start : ℕ) × IfSome at.quota (λ quota. StartsAt old start) × CountsTo at.quota start new.limit)
     → new.mailbox.state.sharing.is_shared ≡ old.sharing.is_shared
-    → (y : IsCounting at [] (idle slips old) (record { slips = slips; mailbox = new.mailbox; in_use = new.in_use; taken = 0; lost = any_gone slips }) new.limit) × (y.outcomes ≡ [])
+    → (y : IsCounting at [] (idle slips old) (record { slips = slips; mailbox = new.mailbox; in_use = new.in_use; taken = 0; lost = any_gone slips }) new.limit)
+    × (y.outcomes ≡ [])
 counting_none at slips old new mine stored broken left none begins whose =
     let mailbox = new.mailbox in
     let limit = new.limit in
@@ -285,7 +299,8 @@ counting_none at slips old new mine stored broken left none begins whose =
     )
 
 -- nothing more was handled where nothing more was taken, though a channel may be found gone
-abbrev pub handled_lost : (at : Setting) (copies : List Note) (old now : WorkerState) (lost : Bool) → HasHandled at copies old now → HasHandled at copies old (record now { lost = lost })
+abbrev pub handled_lost : (at : Setting) (copies : List Note) (old now : WorkerState) (lost : Bool) → HasHandled at copies old now
+    → HasHandled at copies old (record now { lost = lost })
 handled_lost at copies old now lost x = record {
   outcomes = x.outcomes;
   each = x.each;

@@ -1,5 +1,6 @@
 -- What is settled of a worker's copies once it took one more.
-use Rattle.std.proofs.Common.{◌≡◌, ◌⊎◌, ℕ, ◌+◌, ◌≤◌, List, [], ◌∷◌, ◌++◌, length, take, Bool, true, false, inl, inr, refl, ap, sym, ◌∙◌, subst, true≢false, arith, length-append, append-nil}
+use Rattle.std.proofs.Common.{◌≡◌, ◌⊎◌, ℕ, ◌+◌, ◌≤◌, List, [], ◌∷◌, ◌++◌, length, take, Bool, true, false, inl, inr, refl, ap, sym, ◌∙◌, subst, true≢false,
+    arith, length-append, append-nil}
 use Rattle.std.specs.Prelude.{if◌then◌else◌, flat_map}
 use Rattle.std.proofs.lemmas.List.{take_all, take-append-le}
 use Rattle.std.proofs.lemmas.List.Concat.{flat_map-append}
@@ -70,8 +71,10 @@ module _ (at : Setting) (start : ℕ) (copies : List Note) (note : Note) where
   all_kept n e = ap (kept_after at start) (sym (take_all n (copies ++ note ∷ []) (omega (arith, e, more))))
 
   stored_as : (old : SpoolState) (s : SpoolState) (stored over : ℕ) (faulty : Bool) (notes : List Note) → kept_after at start (copies ++ note ∷ []) ≡ notes
-      → HasStored at.calendar at.host notes old (mailbox_of s stored over faulty) → HasStored at.calendar at.host (kept_after at start (copies ++ note ∷ [])) old (mailbox_of s stored over faulty)
-  stored_as old s stored over faulty notes e x = let P : List Note → Type 0 = λ l. HasStored at.calendar at.host l old (mailbox_of s stored over faulty) in subst P (sym e) x
+      → HasStored at.calendar at.host notes old (mailbox_of s stored over faulty)
+      → HasStored at.calendar at.host (kept_after at start (copies ++ note ∷ [])) old (mailbox_of s stored over faulty)
+  stored_as old s stored over faulty notes e x = let P : List Note → Type 0 = λ l. HasStored at.calendar at.host l old (mailbox_of s stored over faulty) in
+      subst P (sym e) x
 
   module _ (old s t : SpoolState) (stored over : ℕ) where
     abbrev prefix : List Note
@@ -91,11 +94,13 @@ module _ (at : Setting) (start : ℕ) (copies : List Note) (note : Note) where
           all = λ e. omega (arith, now, more);
           stored = count ∙ ap length (all_kept (stored + 1 + over) (omega (arith, now)));
           next = λ e. absurd (true≢false (sym e));
-          spool = stored_as old t (stored + 1) over false (prefix ++ note ∷ []) (kept_one keeps) (stored_more at.calendar at.host note old s t prefix stored over x.spool y);
+          spool = stored_as old t (stored + 1) over false (prefix ++ note ∷ []) (kept_one keeps)
+              (stored_more at.calendar at.host note old s t prefix stored over x.spool y);
         }
 
     -- it is over the quota
-    pub settled_over : HasSettled at start copies old (mailbox_of s stored over false) → is_kept ≡ false → HasSettled at start (copies ++ note ∷ []) old (mailbox_of s stored (over + 1) false)
+    pub settled_over : HasSettled at start copies old (mailbox_of s stored over false) → is_kept ≡ false
+        → HasSettled at start (copies ++ note ∷ []) old (mailbox_of s stored (over + 1) false)
     settled_over x keeps =
         let now : stored + over ≡ length copies = x.all refl in
         let was : stored ≡ length prefix = x.spool.all refl in
@@ -105,7 +110,8 @@ module _ (at : Setting) (start : ℕ) (copies : List Note) (note : Note) where
           all = λ e. omega (arith, now, more);
           stored = was ∙ ap length (sym (kept_none keeps)) ∙ ap length (all_kept (stored + (over + 1)) (omega (arith, now)));
           next = λ e. absurd (true≢false (sym e));
-          spool = stored_as old s stored (over + 1) false prefix (kept_none keeps) (stored_over at.calendar at.host note old s t prefix stored over (over + 1) x.spool);
+          spool = stored_as old s stored (over + 1) false prefix (kept_none keeps)
+              (stored_over at.calendar at.host note old s t prefix stored over (over + 1) x.spool);
         }
 
     -- the spool failed at its record
@@ -122,25 +128,29 @@ module _ (at : Setting) (start : ℕ) (copies : List Note) (note : Note) where
           all = λ e. absurd (true≢false e);
           stored = x.stored ∙ ap length (prefix_kept (stored + over) x.within);
           next = λ e. inr (omega (arith, now, more), sym (count ∙ ap length (all_kept (stored + over + 1) (omega (arith, now)))));
-          spool = stored_as old t stored over true (prefix ++ note ∷ []) (kept_one keeps) (stored_not at.calendar at.host note old s t prefix stored over x.spool y);
+          spool = stored_as old t stored over true (prefix ++ note ∷ []) (kept_one keeps)
+              (stored_not at.calendar at.host note old s t prefix stored over x.spool y);
         }
 
     next_later : t ≡ s → HasFailedFirst old s (stored + over) ⊎ IsKeptNext at start copies (stored + over) stored
         → HasFailedFirst old t (stored + over) ⊎ IsKeptNext at start (copies ++ note ∷ []) (stored + over) stored
     next_later same h = elim h [
       | inl none ↦ inl (let P : SpoolState → Type 0 = λ u. HasFailedFirst old u (stored + over) in subst P (sym same) none)
-      | inr some ↦ inr (let below = some.0 in omega (arith, below, more), ap length (sym (prefix_kept (stored + over + 1) (let below = some.0 in omega (arith, below)))) ∙ some.1)
+      | inr some ↦ inr (let below = some.0 in omega (arith, below, more),
+          ap length (sym (prefix_kept (stored + over + 1) (let below = some.0 in omega (arith, below)))) ∙ some.1)
     ]
 
     spool_later : (keeps : Bool) → is_kept ≡ keeps → t ≡ s → HasStored at.calendar at.host prefix old (mailbox_of s stored over true)
         → HasStored at.calendar at.host (kept_after at start (copies ++ note ∷ [])) old (mailbox_of t stored over true)
-    spool_later true keeps same x = stored_as old t stored over true (prefix ++ note ∷ []) (kept_one keeps) (stored_later at.calendar at.host note old s t prefix stored over x same)
+    spool_later true keeps same x =
+        stored_as old t stored over true (prefix ++ note ∷ []) (kept_one keeps) (stored_later at.calendar at.host note old s t prefix stored over x same)
     spool_later false keeps same x =
         let P : SpoolState → Type 0 = λ u. HasStored at.calendar at.host prefix old (mailbox_of u stored over true) in
         stored_as old t stored over true prefix (kept_none keeps) (subst P (sym same) x)
 
     -- the spool had failed before
-    pub settled_later : HasSettled at start copies old (mailbox_of s stored over true) → t ≡ s → HasSettled at start (copies ++ note ∷ []) old (mailbox_of t stored over true)
+    pub settled_later : HasSettled at start copies old (mailbox_of s stored over true) → t ≡ s
+        → HasSettled at start (copies ++ note ∷ []) old (mailbox_of t stored over true)
     settled_later x same = record {
       starts = x.starts;
       within = let within = x.within in omega (arith, within, more);

@@ -1,5 +1,6 @@
 -- What a spool holds once its worker took one more copy that is kept.
-use Rattle.std.proofs.Common.{◌≡◌, ℕ, ◌+◌, ◌≤◌, List, [], ◌∷◌, ◌++◌, length, take, drop, true, false, Option, Some, None, inl, inr, refl, ap, sym, ◌∙◌, subst, true≢false, arith, length-append}
+use Rattle.std.proofs.Common.{◌≡◌, ℕ, ◌+◌, ◌≤◌, List, [], ◌∷◌, ◌++◌, length, take, drop, true, false, Option, Some, None, inl, inr, refl, ap, sym, ◌∙◌, subst,
+    true≢false, arith, length-append}
 use Rattle.std.proofs.lemmas.List.{take_all, take-append-le, drop-append-le, drop_all}
 use Rattle.std.specs.Option.{IfSome}
 use Rattle.std.specs.Io.KnownBytes.{Appends}
@@ -37,7 +38,8 @@ module _ (calendar : Calendar) (host : List ℕ) (note : Note) where
       some.0,
       omega (arith, some.1, one_more copies note),
       some.2 ∙ ap (λ (prefix : List Note). mailbox calendar host held prefix ++ some.0) (sym (take-append-le n copies (note ∷ []) within)),
-      (let P : List Note → Type 0 = λ l. IsTorn calendar host l some.0 in subst P (sym (drop-append-le n copies (note ∷ []) within)) (torn_more (drop n copies) some.0 some.3)),
+      (let P : List Note → Type 0 = λ l. IsTorn calendar host l some.0 in subst P (sym (drop-append-le n copies (note ∷ []) within))
+          (torn_more (drop n copies) some.0 some.3)),
     )
     | inr none ↦ inr none
   ]
@@ -52,7 +54,8 @@ module _ (calendar : Calendar) (host : List ℕ) (note : Note) where
       let before : ys ≡ mailbox calendar host held copies = cc in
       ap (λ bytes. Some bytes) (a ∙ ap (λ (l : List ℕ). l ++ text) before ∙ sym (mailbox-one_more calendar host held copies note))
 
-  covered_all : (u w : Option (List ℕ)) (copies : List Note) (n synced : ℕ) → n ≡ length copies → IfSome u (λ held. w ≡ Some (mailbox calendar host held copies)) → CoversAll w synced
+  covered_all : (u w : Option (List ℕ)) (copies : List Note) (n synced : ℕ) → n ≡ length copies
+      → IfSome u (λ held. w ≡ Some (mailbox calendar host held copies)) → CoversAll w synced
       → IfSome u (λ held. synced ≡ length (mailbox calendar host held (take n copies)))
   covered_all None w copies n synced all e c = tt
   covered_all (Some held) None copies n synced all e c = cc
@@ -69,7 +72,8 @@ module _ (calendar : Calendar) (host : List ℕ) (note : Note) where
   torn_first (Some held) (Some ys) (Some zs) copies n settled prefix rest all is e a =
       let before : ys ≡ mailbox calendar host held copies = cc in
       let taken : take n (copies ++ note ∷ []) ≡ copies = take-append-le n copies (note ∷ []) (omega arith) ∙ take_all n copies (omega arith) in
-      let left : drop n (copies ++ note ∷ []) ≡ note ∷ [] = drop-append-le n copies (note ∷ []) (omega arith) ∙ ap (λ (l : List Note). l ++ note ∷ []) (drop_all n copies (omega arith)) in
+      let left : drop n (copies ++ note ∷ []) ≡ note ∷ [] =
+          drop-append-le n copies (note ∷ []) (omega arith) ∙ ap (λ (l : List Note). l ++ note ∷ []) (drop_all n copies (omega arith)) in
       let P : List Note → Type 0 = λ l. IsTorn calendar host l prefix in
       inl (
         prefix,
@@ -94,7 +98,8 @@ module _ (calendar : Calendar) (host : List ℕ) (note : Note) where
 
   module _ (old s t : SpoolState) (copies : List Note) (n over : ℕ) where
     -- the copy is stored
-    pub stored_more : HasStored calendar host copies old (mailbox_of s n over false) → HasKept s t text → HasStored calendar host (copies ++ note ∷ []) old (mailbox_of t (n + 1) over false)
+    pub stored_more : HasStored calendar host copies old (mailbox_of s n over false) → HasKept s t text
+        → HasStored calendar host (copies ++ note ∷ []) old (mailbox_of t (n + 1) over false)
     stored_more x y =
         let all : n ≡ length copies = x.all refl in
         let now : n + 1 ≡ length (copies ++ note ∷ []) = omega (arith, one_more copies note) in
@@ -114,7 +119,8 @@ module _ (calendar : Calendar) (host : List ℕ) (note : Note) where
         }
 
     -- the spool failed at the copy
-    pub stored_not : HasStored calendar host copies old (mailbox_of s n over false) → HasNotKept s t text → HasStored calendar host (copies ++ note ∷ []) old (mailbox_of t n over true)
+    pub stored_not : HasStored calendar host copies old (mailbox_of s n over false) → HasNotKept s t text
+        → HasStored calendar host (copies ++ note ∷ []) old (mailbox_of t n over true)
     stored_not x y =
         let all : n ≡ length copies = x.all refl in
         let more = one_more copies note in
@@ -133,7 +139,8 @@ module _ (calendar : Calendar) (host : List ℕ) (note : Note) where
         }
 
     -- the spool had failed before
-    pub stored_later : HasStored calendar host copies old (mailbox_of s n over true) → t ≡ s → HasStored calendar host (copies ++ note ∷ []) old (mailbox_of t n over true)
+    pub stored_later : HasStored calendar host copies old (mailbox_of s n over true) → t ≡ s
+        → HasStored calendar host (copies ++ note ∷ []) old (mailbox_of t n over true)
     stored_later x same =
         let more = one_more copies note in
         let within : n ≤ length copies = x.within in
@@ -153,7 +160,8 @@ module _ (calendar : Calendar) (host : List ℕ) (note : Note) where
         })
 
     -- a copy over the quota leaves the spool alone
-    pub stored_over : (more : ℕ) → HasStored calendar host copies old (mailbox_of s n over false) → HasStored calendar host copies old (mailbox_of s n more false)
+    pub stored_over : (more : ℕ) → HasStored calendar host copies old (mailbox_of s n over false)
+        → HasStored calendar host copies old (mailbox_of s n more false)
     stored_over more x = record {
       within = x.within;
       all = x.all;

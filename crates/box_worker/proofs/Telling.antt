@@ -13,7 +13,8 @@ use Rattle.mail_post.proofs.Offered.{OwesOneMore}
 use Rattle.box_worker.specs.Told.{owed_to}
 
 -- the slips that are owed to each lane for one more copy, whose outcome stands after those of the others
-pub owed_more : (worker : ℕ) (before after : List Outcome) (copies : List Note) (note : Note) (outcome : Outcome) → length before ≡ length copies → after ≡ before ++ outcome ∷ []
+pub owed_more : (worker : ℕ) (before after : List Outcome) (copies : List Note) (note : Note) (outcome : Outcome) → length before ≡ length copies
+    → after ≡ before ++ outcome ∷ []
     → OwesOneMore (λ k. owed_to worker before k copies) (λ k. owed_to worker after k (copies ++ note ∷ [])) note.txn.lane (slip_of worker note outcome)
 owed_more worker before after copies note outcome long last =
     let slip : Slip = slip_of worker note outcome in

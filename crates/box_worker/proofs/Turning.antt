@@ -1,5 +1,6 @@
 -- A worker's turns at a shared spool: one copy, one more copy, and what a spool that tells its bytes lists of them.
-use Rattle.std.proofs.Common.{◌≡◌, ◌⊎◌, ℕ, ◌+◌, ◌≤◌, List, [], ◌∷◌, ◌++◌, length, Bool, true, false, Option, Some, None, Result, Ok, Err, inl, inr, refl, ap, sym, ◌∙◌, subst, true≢false, arith, append_assoc, append-nil}
+use Rattle.std.proofs.Common.{◌≡◌, ◌⊎◌, ℕ, ◌+◌, ◌≤◌, List, [], ◌∷◌, ◌++◌, length, Bool, true, false, Option, Some, None, Result, Ok, Err, inl, inr, refl, ap,
+    sym, ◌∙◌, subst, true≢false, arith, append_assoc, append-nil}
 use Rattle.std.specs.Prelude.{is_some, count_by, MatchBool}
 use Rattle.std.specs.Option.{IfSome, option_map}
 use Rattle.std.specs.Result.{OnOk, OnErr}
@@ -18,7 +19,8 @@ use Rattle.mbox_record.specs.Spool.{SpoolState, tail_of, CoversAll, standing, Be
 use Rattle.box_worker.specs.declared.limit.Limit.{Limit}
 use Rattle.box_worker.specs.Limits.{Setting, StartsAt, CountsTo, missing, IsLetIn, IsKeptOut}
 use Rattle.box_worker.specs.Stored.{MailboxState, CountedMailbox, HasKept, HasNotKept}
-use Rattle.box_worker.specs.Turned.{MeasuresAnew, SharedMailbox, shared_of, HasKeptMended, HasNotKeptMended, Measures, StoresInTurn, KeepsOutOfTurn, BreaksTurn, FromLock, HadTurn, TakesTurn, DoesInTurn, EndsInTurn, HaveTurned, is_not_had, TellsTurns}
+use Rattle.box_worker.specs.Turned.{MeasuresAnew, SharedMailbox, shared_of, HasKeptMended, HasNotKeptMended, Measures, StoresInTurn, KeepsOutOfTurn, BreaksTurn,
+    FromLock, HadTurn, TakesTurn, DoesInTurn, EndsInTurn, HaveTurned, is_not_had, TellsTurns}
 use Rattle.mbox_record.specs.Mending.{HasMended, HasNotMended}
 use Rattle.mbox_record.specs.declared.spool.Tail.{Tail}
 use Rattle.mbox_record.proofs.Taken.{Appends-then, FailsTurn-then}
@@ -44,7 +46,8 @@ ends_of quota text NoRoom old done new d e f = absurd d
 ends_of quota text TooLarge old done new d e f = absurd d
 
 -- a copy's turn, by its end
-module _ (quota : Option ℕ) (text : List ℕ) (old locked new : MailboxState) (held before after : ℕ) (sound : old.faulty ≡ false) (begins : BeginsTurn old.state locked.state held) (same : after ≡ before) where
+module _ (quota : Option ℕ) (text : List ℕ) (old locked new : MailboxState) (held before after : ℕ) (sound : old.faulty ≡ false)
+    (begins : BeginsTurn old.state locked.state held) (same : after ≡ before) where
   abbrev turn : {Does : SpoolState → SpoolState → Type 0} → FromLock Does locked.state new.state → HadTurn Does old.state new.state
   turn rest = record { held = held; locked = locked.state; begins = begins; rest = rest }
 
@@ -131,7 +134,8 @@ record IsToldOnce (at : Setting) (note : Note) (outcome : Outcome) (old new : Sh
 no_failure : {A : Type 0} (s : Sharing) (t : Sharing) → t.has_failed ≡ false → s.has_failed ≡ t.has_failed → s.has_failed ≡ true → A
 no_failure s t none same some = absurd (true≢false (sym some ∙ same ∙ none))
 
-module _ (at : Setting) (note : Note) (old new : SharedMailbox) (held : List ℕ) (is_old : old.state.bytes ≡ Some held) (most : counted old.in_use ≡ old.in_use) where
+module _ (at : Setting) (note : Note) (old new : SharedMailbox) (held : List ℕ) (is_old : old.state.bytes ≡ Some held)
+    (most : counted old.in_use ≡ old.in_use) where
   abbrev text : List ℕ
   text = record_of at.calendar at.host note
 
@@ -201,14 +205,16 @@ module _ (at : Setting) (note : Note) (old new : SharedMailbox) (held : List ℕ
       let l = listed old.state h.locked h.rest.done new.state h.held lock.0 done.0 h.begins lock.1 done.1
       (ap (λ (s : Sharing). s.began) broken.turn) (ap (λ (s : Sharing). s.turns) broken.turn) h.rest.ends in
       let whole : mended lock.0 ++ text ≡ broken.prefix ++ broken.rest = ap (λ (m : List ℕ). m ++ text) (sym mends) ∙ broken.whole in
-      let lost : Rises h.locked.failures new.state.failures = let P : ℕ → Type 0 = λ n. Rises h.locked.failures n in subst P (sym h.rest.ends.sound) broken.failed in
+      let lost : Rises h.locked.failures new.state.failures = let P : ℕ → Type 0 = λ n. Rises h.locked.failures n in
+          subst P (sym h.rest.ends.sound) broken.failed in
       let room = room_of at.quota h.locked lock.0 (length text) true lock.1 h.rest.does.measured in
       record {
         turn = Had (stood lock.0 h.locked) (stood l.left new.state);
         added = l.added;
         is = elim l.stays [
           | inl s ↦ record { room = room; failed = lost; prefix = broken.prefix; part = record { rest = broken.rest; whole = whole }; left = s.0 ∙ done.2 }
-          | inr c ↦ record { room = room; failed = lost; prefix = []; part = record { rest = mended lock.0 ++ text; whole = refl }; left = c.1 ∙ sym (append-nil lock.0) }
+          | inr c ↦ record { room = room; failed = lost; prefix = []; part = record { rest = mended lock.0 ++ text; whole = refl }; left = c.1
+              ∙ sym (append-nil lock.0) }
         ];
         broke = sym (ap (λ (m : SharedMailbox). m.faulty) is);
         missed = stays_counted (ap (λ (m : SharedMailbox). m.in_use) is);
@@ -294,7 +300,8 @@ tells_next at note notes outcome outcomes old between new one h goes false e =
       missed = counts_then old.in_use between.in_use new.in_use one.turn rest.turns one.missed rest.missed;
     }
 
-tells : (at : Setting) (notes : List Note) (outcomes : List Outcome) (old new : SharedMailbox) (held : List ℕ) → old.state.bytes ≡ Some held → counted old.in_use ≡ old.in_use
+tells : (at : Setting) (notes : List Note) (outcomes : List Outcome) (old new : SharedMailbox) (held : List ℕ) → old.state.bytes ≡ Some held
+    → counted old.in_use ≡ old.in_use
     → old.faulty ≡ false → HaveTurned at notes outcomes old new → TellsTurns at notes outcomes old new
 tells at [] [] old new held e most sound h = record {
   turns = [];
@@ -328,7 +335,8 @@ measures locked limit new held tail ends says known is (Some quota) n counts =
     let first = starts_at locked tail held ends says known in
     let Made : ℕ → ℕ → Limit = λ q h. record { quota = q; held = h } in
     let same : limit ≡ Made quota (counted n) = let e = counts.1 in cc in
-    (first.start, first.is, (counts.0, ap (λ (l : Limit). Some l) (is ∙ ap (λ h. Made limit.quota h) first.count ∙ ap (λ (l : Limit). Made l.quota (counted first.start)) same)))
+    (first.start, first.is, (counts.0,
+        ap (λ (l : Limit). Some l) (is ∙ ap (λ h. Made limit.quota h) first.count ∙ ap (λ (l : Limit). Made l.quota (counted first.start)) same)))
 
 -- what is measured of a record, by the worker's count
 measured : (quota : Option ℕ) (start size : ℕ) (locked : SpoolState) (before after : Option Limit) → 1 ≤ size → CountsTo quota start before
@@ -338,7 +346,8 @@ measured quota start size locked before after some counts starts h =
     (record { start = start; starts = starts; is = fit.0 }, fit.1)
 
 -- a record that was let in and stored, one that the spool failed at, and one that was kept out
-module _ (quota : Option ℕ) (start : ℕ) (text : List ℕ) (old new : CountedMailbox) (some : 1 ≤ length text) (counts : CountsTo quota start old.limit) (starts : IfSome quota (λ _. StartsAt old.mailbox.state start)) where
+module _ (quota : Option ℕ) (start : ℕ) (text : List ℕ) (old new : CountedMailbox) (some : 1 ≤ length text) (counts : CountsTo quota start old.limit)
+    (starts : IfSome quota (λ _. StartsAt old.mailbox.state start)) where
   pub does_store : IsLetIn old.limit (length text) new.limit → HasKeptMended old.mailbox.state new.mailbox.state text → new.mailbox.faulty ≡ false
       → DoesInTurn quota text Stored old.mailbox new.mailbox × ((m : ℕ) × CountsTo quota m new.limit)
   does_store h kept sound =
@@ -369,7 +378,8 @@ abbrev one_over : CountedMailbox → CountedMailbox
 one_over m = record m { mailbox = record m.mailbox { over = counted (m.mailbox.over + 1) } }
 
 -- what was done in a turn to a record that was let in, by how the spool answered
-pub does_count : {T E : Type 0} (quota : Option ℕ) (start : ℕ) (text : List ℕ) (old done new : CountedMailbox) → 1 ≤ length text → CountsTo quota start old.limit
+pub does_count : {T E : Type 0} (quota : Option ℕ) (start : ℕ) (text : List ℕ) (old done new : CountedMailbox) → 1 ≤ length text
+    → CountsTo quota start old.limit
     → IfSome quota (λ _. StartsAt old.mailbox.state start) → IsLetIn old.limit (length text) done.limit → done.mailbox.faulty ≡ false
     → (r : Result T E) (outcome : Outcome) → OnOk r (HasKeptMended old.mailbox.state done.mailbox.state text)
     → OnErr r (HasNotKeptMended old.mailbox.state done.mailbox.state text)

@@ -28,7 +28,8 @@ use Rattle.box_worker.specs.Worked.{WorkerState, counted_of, idle, is_lost, HasH
 use Rattle.box_worker.proofs.Handling.{handled_more, counting_none, handled_of, handled_lost}
 
 turns_more : (worker : ℕ) (copies : List Note) (outcomes : List Outcome) (note : Note) (outcome : Outcome) → length outcomes ≡ length copies
-    → turns_of worker (copies ++ note ∷ []) (outcomes ++ outcome ∷ []) ≡ (turns_of worker copies outcomes ++ Took note ∷ []) ++ Told (slip_of worker note outcome) ∷ []
+    → turns_of worker (copies ++ note ∷ []) (outcomes ++ outcome ∷ []) ≡ (turns_of worker copies outcomes ++ Took note ∷ [])
+    ++ Told (slip_of worker note outcome) ∷ []
 turns_more worker [] [] note outcome e = refl
 turns_more worker [] (o ∷ os) note outcome e = absurd (omega arith)
 turns_more worker (n ∷ ns) [] note outcome e = absurd (omega arith)
@@ -41,45 +42,58 @@ whats_more deeds what t = map-append (λ (d : TimedDeed). d.what) deeds (deed wh
 turns_none : (worker : ℕ) (ends : Ends Slip Note) → TakeTurns worker [] [] ends ends
 turns_none worker ends = record { deeds = []; in_time = none_done worker_sorts ends; all = λ sound. refl; some = tt }
 
-module _ (worker : ℕ) (copies : List Note) (outcomes : List Outcome) (note : Note) (outcome : Outcome) (before : Ends Slip Note) (slips next : List (Sender Slip)) (was now : Inbox Note)
-    (long : length outcomes ≡ length copies) (x : TakeTurns worker copies outcomes before (record { senders = slips; inbox = was })) (took : IsTimed (clock_of slips was) was now) where
+module _ (worker : ℕ) (copies : List Note) (outcomes : List Outcome) (note : Note) (outcome : Outcome) (before : Ends Slip Note)
+    (slips next : List (Sender Slip)) (was now : Inbox Note)
+    (long : length outcomes ≡ length copies) (x : TakeTurns worker copies outcomes before (record { senders = slips; inbox = was }))
+        (took : IsTimed (clock_of slips was) was now) where
   abbrev copy : TimedDeed
   copy = deed (Took note) took.taken_at
 
   taken_first : AreInTime worker_sorts (x.deeds ++ copy ∷ []) before (record { senders = slips; inbox = now })
-  taken_first = took_more worker_sorts x.deeds before (record { senders = slips; inbox = was }) now took.taken_at (Took note) x.in_time took.took_more took.moment refl (λ at. refl)
+  taken_first = took_more worker_sorts x.deeds before (record { senders = slips; inbox = was }) now took.taken_at (Took note) x.in_time took.took_more
+      took.moment refl (λ at. refl)
 
   -- a copy was taken, and its lane told of it after that; a slip that was handed back has no time
-  pub turn_more : (accepted : Bool) (o : IsOffered (clock_of slips now) note.txn.lane (slip_by note.txn note.place outcome) accepted slips next) → o.sender.number ≡ worker
+  pub turn_more : (accepted : Bool) (o : IsOffered (clock_of slips now) note.txn.lane (slip_by note.txn note.place outcome) accepted slips next)
+      → o.sender.number ≡ worker
       → TakeTurns worker (copies ++ note ∷ []) (outcomes ++ outcome ∷ []) before (record { senders = next; inbox = now })
   turn_more true o mine =
       let slip : Slip = slip_by note.txn note.place outcome o.sender in
-      let slip_is : slip ≡ slip_of worker note outcome = ap (λ (w : ℕ). let s : Slip = record { txn = note.txn; place = note.place; worker = w; outcome = outcome } in s) mine in
+      let slip_is : slip ≡ slip_of worker note outcome =
+          ap (λ (w : ℕ). let s : Slip = record { txn = note.txn; place = note.place; worker = w; outcome = outcome } in s) mine in
       let deeds : List TimedDeed = (x.deeds ++ copy ∷ []) ++ deed (Told slip) o.when ∷ [] in
-      let told = gave_more worker_sorts (x.deeds ++ copy ∷ []) before (record { senders = slips; inbox = now }) note.txn.lane o.when o.sender slip (Told slip) taken_first o.is o.later
+      let told = gave_more worker_sorts (x.deeds ++ copy ∷ []) before (record { senders = slips; inbox = now }) note.txn.lane o.when o.sender slip (Told slip)
+          taken_first o.is o.later
       (eq-eqb note.txn.lane note.txn.lane refl) (λ c away. ne_eqb note.txn.lane c (λ e. away (sym e))) refl in
-      let whats_are : whats deeds ≡ (whats x.deeds ++ Took note ∷ []) ++ Told slip ∷ [] = whats_more (x.deeds ++ copy ∷ []) (Told slip) o.when ∙ ap (λ l. l ++ Told slip ∷ []) (whats_more x.deeds (Took note) took.taken_at) in
+      let whats_are : whats deeds ≡ (whats x.deeds ++ Took note ∷ []) ++ Told slip ∷ [] =
+          whats_more (x.deeds ++ copy ∷ []) (Told slip) o.when ∙ ap (λ l. l ++ Told slip ∷ []) (whats_more x.deeds (Took note) took.taken_at) in
       let turns_are : (turns_of worker copies outcomes ++ Took note ∷ []) ++ Told slip ∷ [] ≡ turns_of worker (copies ++ note ∷ []) (outcomes ++ outcome ∷ []) =
-      ap (λ (s : Slip). (turns_of worker copies outcomes ++ Took note ∷ []) ++ Told s ∷ []) slip_is ∙ sym (turns_more worker copies outcomes note outcome long) in
-      let parts = part_both (whats x.deeds ++ Took note ∷ []) (turns_of worker copies outcomes ++ Took note ∷ []) (Told slip) (part_both (whats x.deeds) (turns_of worker copies outcomes) (Took note) x.some) in
+      ap (λ (s : Slip). (turns_of worker copies outcomes ++ Took note ∷ []) ++ Told s ∷ []) slip_is
+          ∙ sym (turns_more worker copies outcomes note outcome long) in
+      let parts = part_both (whats x.deeds ++ Took note ∷ []) (turns_of worker copies outcomes ++ Took note ∷ []) (Told slip)
+          (part_both (whats x.deeds) (turns_of worker copies outcomes) (Took note) x.some) in
       record {
         deeds = deeds;
         in_time = subst (λ (l : List (Sender Slip)). AreInTime worker_sorts deeds before (record { senders = l; inbox = now })) (sym o.after) told;
         all = λ sound. whats_are
-            ∙ ap (λ l. (l ++ Took note ∷ []) ++ Told slip ∷ []) (x.all (sym (gone_as_before (clock_of slips now) note.txn.lane (slip_by note.txn note.place outcome) slips next o) ∙ sound))
+            ∙ ap (λ l. (l ++ Took note ∷ []) ++ Told slip ∷ [])
+                (x.all (sym (gone_as_before (clock_of slips now) note.txn.lane (slip_by note.txn note.place outcome) slips next o) ∙ sound))
             ∙ turns_are;
         some = subst (λ (y : List Deed × List Deed). IsPart y.0 y.1) (λ i. (sym whats_are i, turns_are i)) parts;
       }
   turn_more false o mine =
       let slip : Slip = slip_by note.txn note.place outcome o.sender in
-      let slip_is : slip ≡ slip_of worker note outcome = ap (λ (w : ℕ). let s : Slip = record { txn = note.txn; place = note.place; worker = w; outcome = outcome } in s) mine in
+      let slip_is : slip ≡ slip_of worker note outcome =
+          ap (λ (w : ℕ). let s : Slip = record { txn = note.txn; place = note.place; worker = w; outcome = outcome } in s) mine in
       let deeds : List TimedDeed = x.deeds ++ copy ∷ [] in
       let back = gone_keeps_time worker_sorts deeds before (record { senders = slips; inbox = now }) note.txn.lane o.when o.sender slip taken_first o.is in
       let slip_gone = gone_now (clock_of slips now) note.txn.lane (slip_by note.txn note.place outcome) slips next o in
       let whats_are : whats deeds ≡ whats x.deeds ++ Took note ∷ [] = whats_more x.deeds (Took note) took.taken_at in
       let turns_are : (turns_of worker copies outcomes ++ Took note ∷ []) ++ Told slip ∷ [] ≡ turns_of worker (copies ++ note ∷ []) (outcomes ++ outcome ∷ []) =
-      ap (λ (s : Slip). (turns_of worker copies outcomes ++ Took note ∷ []) ++ Told s ∷ []) slip_is ∙ sym (turns_more worker copies outcomes note outcome long) in
-      let parts = part_more (whats x.deeds ++ Took note ∷ []) (turns_of worker copies outcomes ++ Took note ∷ []) (Told slip) (part_both (whats x.deeds) (turns_of worker copies outcomes) (Took note) x.some) in
+      ap (λ (s : Slip). (turns_of worker copies outcomes ++ Took note ∷ []) ++ Told s ∷ []) slip_is
+          ∙ sym (turns_more worker copies outcomes note outcome long) in
+      let parts = part_more (whats x.deeds ++ Took note ∷ []) (turns_of worker copies outcomes ++ Took note ∷ []) (Told slip)
+          (part_both (whats x.deeds) (turns_of worker copies outcomes) (Took note) x.some) in
       record {
         deeds = deeds;
         in_time = subst (λ (l : List (Sender Slip)). AreInTime worker_sorts deeds before (record { senders = l; inbox = now })) (sym o.after) back;
@@ -89,7 +103,8 @@ module _ (worker : ℕ) (copies : List Note) (outcomes : List Outcome) (note : N
 
 -- the same where no more was taken, though the channel may have ended
 turns_end : (worker : ℕ) (copies : List Note) (outcomes : List Outcome) (before : Ends Slip Note) (slips : List (Sender Slip)) (was now : Inbox Note)
-    → HasSameTimes was now → TakeTurns worker copies outcomes before (record { senders = slips; inbox = was }) → TakeTurns worker copies outcomes before (record { senders = slips; inbox = now })
+    → HasSameTimes was now → TakeTurns worker copies outcomes before (record { senders = slips; inbox = was })
+    → TakeTurns worker copies outcomes before (record { senders = slips; inbox = now })
 turns_end worker copies outcomes before slips was now same x = record {
   deeds = x.deeds;
   in_time = took_none worker_sorts x.deeds before (record { senders = slips; inbox = was }) now x.in_time same.1;
@@ -98,20 +113,25 @@ turns_end worker copies outcomes before slips was now same x = record {
 }
 
 -- one more copy
-pub working_more : (at : Setting) (copies : List Note) (before was inbox : Inbox Note) (old now : WorkerState) (limit : Option Limit) (next : List (Sender Slip)) (note : Note) (accepted : Bool)
-    → IsWorking at copies before was old now limit → IsTimed (clock_of now.slips was) was inbox → (outcome : Outcome) (after : CountedMailbox) → Tallies outcome now.mailbox after.mailbox
+pub working_more : (at : Setting) (copies : List Note) (before was inbox : Inbox Note) (old now : WorkerState) (limit : Option Limit)
+    (next : List (Sender Slip)) (note : Note) (accepted : Bool)
+    → IsWorking at copies before was old now limit → IsTimed (clock_of now.slips was) was inbox → (outcome : Outcome) (after : CountedMailbox)
+    → Tallies outcome now.mailbox after.mailbox
     → after.mailbox.state.sharing.is_shared ≡ now.mailbox.state.sharing.is_shared
     → (now.mailbox.state.sharing.is_shared ≡ false → TakesCopy (record_of at.calendar at.host note) outcome (counted_of now limit) after)
     → (now.mailbox.state.sharing.is_shared ≡ false → after.in_use ≡ now.in_use)
     → (now.mailbox.state.sharing.is_shared ≡ true → TurnsCopy (record_of at.calendar at.host note) outcome (counted_of now limit) after)
     → IsOffered (clock_of now.slips inbox) note.txn.lane (slip_by note.txn note.place outcome) accepted now.slips next
-    → IsWorking at (copies ++ note ∷ []) before inbox old (record { slips = next; mailbox = after.mailbox; in_use = after.in_use; taken = counted (now.taken + 1); lost = any_gone next }) after.limit
+    → IsWorking at (copies ++ note ∷ []) before inbox old
+    (record { slips = next; mailbox = after.mailbox; in_use = after.in_use; taken = counted (now.taken + 1); lost = any_gone next }) after.limit
 working_more at copies before was inbox old now limit next note accepted x timed outcome after tallied whose alone never shared offered =
-    let y = handled_more at copies old now limit next note accepted x.counting (clock_of now.slips inbox) outcome after tallied whose alone never shared offered in
+    let y = handled_more at copies old now limit next note accepted x.counting (clock_of now.slips inbox) outcome after tallied whose alone never shared
+        offered in
     record {
       counting = y.0;
       turns = subst (λ os. TakeTurns at.worker (copies ++ note ∷ []) os (ends_of old before) (record { senders = next; inbox = inbox })) (sym y.1)
-          (turn_more at.worker copies x.counting.outcomes note outcome (ends_of old before) now.slips next was inbox x.counting.each x.turns timed accepted offered
+          (turn_more at.worker copies x.counting.outcomes note outcome (ends_of old before) now.slips next was inbox x.counting.each x.turns timed accepted
+              offered
           (x.counting.numbered note.txn.lane offered.sender offered.is));
     }
 
@@ -123,7 +143,8 @@ pub working_none : (at : Setting) (slips : List (Sender Slip)) (inbox : Inbox No
     → (new.mailbox.stored ≡ 0) × (new.mailbox.over ≡ 0) × (new.in_use ≡ 0)
     → ((start : ℕ) × IfSome at.quota (λ quota. StartsAt old start) × CountsTo at.quota start new.limit)
     → new.mailbox.state.sharing.is_shared ≡ old.sharing.is_shared
-    → IsWorking at [] inbox inbox (idle slips old) (record { slips = slips; mailbox = new.mailbox; in_use = new.in_use; taken = 0; lost = any_gone slips }) new.limit
+    → IsWorking at [] inbox inbox (idle slips old) (record { slips = slips; mailbox = new.mailbox; in_use = new.in_use; taken = 0; lost = any_gone slips })
+    new.limit
 working_none at slips inbox old new mine stored broken left none begins whose =
     let y = counting_none at slips old new mine stored broken left none begins whose in
     let ends : Ends Slip Note = record { senders = slips; inbox = inbox } in
@@ -136,7 +157,8 @@ pub worked : (at : Setting) (before was after : Inbox Note) (old now : WorkerSta
     → (lost : Bool) → lost ≡ (any_gone now.slips || is_lost after.gone) → HasWorked at before after old (record now { lost = lost })
 worked at before was after old now limit x channel lanes capacity took same over lost found =
     let new : WorkerState = record now { lost = lost } in
-    let P : List Note → Type 0 = λ copies. (h : HasHandled at copies old new) × TakeTurns at.worker copies h.outcomes (ends_of old before) (ends_of new after) in
+    let P : List Note → Type 0 = λ copies. (h : HasHandled at copies old new)
+        × TakeTurns at.worker copies h.outcomes (ends_of old before) (ends_of new after) in
     let h : HasHandled at (taken was) old new = handled_lost at (taken was) old now lost (handled_of at (taken was) old now limit x.counting) in
     let all = subst P (sym took) (h, turns_end at.worker (taken was) x.counting.outcomes (ends_of old before) now.slips was after same x.turns) in
     record { channel = channel; lanes = lanes; capacity = capacity; ended = over; lost = found; handled = all.0; turns = all.1 }

@@ -1,5 +1,6 @@
 -- The outcomes of a lane's transactions are those of all the slips that it heard.
-use Rattle.std.proofs.Common.{◌≡◌, ℕ, zero, suc, ◌+◌, ◌≤◌, List, [], ◌∷◌, ◌++◌, length, map, Bool, true, false, cond, Option, Some, None, sym, ◌∙◌, ap, subst, arith}
+use Rattle.std.proofs.Common.{◌≡◌, ℕ, zero, suc, ◌+◌, ◌≤◌, List, [], ◌∷◌, ◌++◌, length, map, Bool, true, false, cond, Option, Some, None, sym, ◌∙◌, ap, subst,
+    arith}
 use Rattle.std.specs.Prelude.{find, option_map, count_by}
 use Rattle.std.specs.List.{AllByRecursion, range_with_len}
 use Rattle.mail_world.specs.declared.Txn.{Txn}
@@ -29,12 +30,14 @@ found_counts p [] o e = let bad : ◌≡◌ {A = Option Outcome} None (Some o) =
 found_counts p (x ∷ xs) o e = omega (arith, counted_by p x xs o (p x) (found_counts p xs o) e, count-cons p x xs)
 
 -- where it is the only one, nothing stands before it
-alone_by : (p : Slip → Bool) (x : Slip) (xs more : List Slip) (o : Outcome) (t : Bool) → cond t 1 0 + count_by p (xs ++ more) ≤ 1 → outcome_found p (xs ++ more) ≡ Some o
+alone_by : (p : Slip → Bool) (x : Slip) (xs more : List Slip) (o : Outcome) (t : Bool) → cond t 1 0 + count_by p (xs ++ more) ≤ 1
+    → outcome_found p (xs ++ more) ≡ Some o
     → option_map (λ s. s.outcome) (cond t (Some x) (find p (xs ++ more))) ≡ Some o
 alone_by p x xs more o true once e = absurd (omega (arith, once, found_counts p (xs ++ more) o e))
 alone_by p x xs more o false once e = e
 
-found_after_part : (p : Slip → Bool) (xs more : List Slip) (o : Outcome) → count_by p (xs ++ more) ≤ 1 → outcome_found p more ≡ Some o → outcome_found p (xs ++ more) ≡ Some o
+found_after_part : (p : Slip → Bool) (xs more : List Slip) (o : Outcome) → count_by p (xs ++ more) ≤ 1 → outcome_found p more ≡ Some o
+    → outcome_found p (xs ++ more) ≡ Some o
 found_after_part p [] more o once e = e
 found_after_part p (x ∷ xs) more o once e =
     let all : cond (p x) 1 0 + count_by p (xs ++ more) ≤ 1 = omega (arith, once, count-cons p x (xs ++ more)) in
@@ -67,7 +70,8 @@ answered_all lane heard [] once h = tt
 answered_all lane heard (t ∷ ts) once h =
     let P : List Slip → Type 0 = λ l. (txn : Txn) (place : ℕ) → times_named txn place l ≤ 1 in
     let Q : List Slip → Type 0 = λ l. OutcomesIn lane l t t.disposition.verdict in
-    (subst Q (sym h.0.whole) (outcomes_by lane h.0.before h.0.since t t.disposition.verdict (subst P h.0.whole once) h.0.outcomes), answered_all lane heard ts once h.1)
+    (subst Q (sym h.0.whole) (outcomes_by lane h.0.before h.0.since t t.disposition.verdict (subst P h.0.whole once) h.0.outcomes),
+        answered_all lane heard ts once h.1)
 
 pub outcomes_are_answers : (site : Site) (lane : ℕ) (heard : List Slip) (cs : List Conversation) → ((txn : Txn) (place : ℕ) → times_named txn place heard ≤ 1)
     → AllByRecursion (IsAnswered lane heard) (transactions site 0 cs) → OutcomesAreAnswers site lane heard cs

@@ -1,5 +1,6 @@
 -- A lane heard every slip that a worker gave for its copies: nothing is left in its channel.
-use Rattle.std.proofs.Common.{◌≡◌, ℕ, ◌+◌, ◌<◌, ◌≤◌, Bool, true, false, cond, ◌&&◌, ◌==◌, List, [], ◌∷◌, ◌++◌, length, map, refl, sym, ap, ◌∙◌, subst, arith, Some, inl, inr, append_assoc, append-nil}
+use Rattle.std.proofs.Common.{◌≡◌, ℕ, ◌+◌, ◌<◌, ◌≤◌, Bool, true, false, cond, ◌&&◌, ◌==◌, List, [], ◌∷◌, ◌++◌, length, map, refl, sym, ap, ◌∙◌, subst, arith,
+    Some, inl, inr, append_assoc, append-nil}
 use Rattle.std.proofs.lemmas.Bool.{cases_lt}
 use Rattle.std.proofs.lemmas.Bool.Decides.{nat_tests}
 use Rattle.std.proofs.lemmas.List.Elements.{filter-append}
@@ -63,7 +64,8 @@ module _ (txn : Txn) (place k : ℕ) (heard : List Slip) where
   answered_from t p (box ∷ boxes) [] e some = absurd (cc)
   answered_from t p (box ∷ boxes) (o ∷ os) e some =
       let note : Note =
-      record { txn = txn_of k t.number; place = p; mailbox = box; sender = t.session.sender; client = t.session.client; moment = t.disposition.moment; message = t.message } in
+      record { txn = txn_of k t.number; place = p; mailbox = box; sender = t.session.sender; client = t.session.client; moment = t.disposition.moment;
+          message = t.message } in
       let found : answer (txn_of k t.number) heard p ≡ Some o = cc in
       let rest : map (λ o. Some o) os ≡ map (answer (txn_of k t.number) heard) (range_with_len (p + 1) (length boxes)) = cc in
       here_or_after (1 ≤ times_named txn place heard) (is_copy txn place note) (count_by (is_copy txn place) (copies_from k t (p + 1) boxes))
@@ -84,7 +86,8 @@ module _ (txn : Txn) (place k : ℕ) (heard : List Slip) where
       (omega (arith, some, count-append (is_copy txn place) (copies k t) (flat_map (copies k) ts)))
 
 -- what a worker owes is of that worker
-of_if : (b : ℕ) (t : Bool) (slip : Slip) (slips : List Slip) → slip.worker ≡ b → AllByRecursion (λ s. s.worker ≡ b) slips → AllByRecursion (λ s. s.worker ≡ b) (cond t (slip ∷ slips) slips)
+of_if : (b : ℕ) (t : Bool) (slip : Slip) (slips : List Slip) → slip.worker ≡ b → AllByRecursion (λ s. s.worker ≡ b) slips
+    → AllByRecursion (λ s. s.worker ≡ b) (cond t (slip ∷ slips) slips)
 of_if b true slip slips is h = (is, h)
 of_if b false slip slips is h = h
 
@@ -123,7 +126,8 @@ module _ (site : Site) (k boxes : ℕ) (cs : List Conversation) (heard : List Sl
     prefix_by : (c : ℕ) (t : Bool) → (slip.worker == c) ≡ t → c < boxes → IsPrefix (of_worker c heard ++ cond t (slip ∷ []) []) (owed_by c)
     prefix_by c true is below =
         let same : c ≡ b = sym (same_number slip.worker c is) ∙ is_of in
-        subst (λ d. IsPrefix (of_worker d heard ++ slip ∷ []) (owed_by d)) (sym same) (record { rest = rest; whole = whole ∙ sym (append_assoc (of_worker b heard) (slip ∷ []) rest) })
+        subst (λ d. IsPrefix (of_worker d heard ++ slip ∷ []) (owed_by d)) (sym same)
+            (record { rest = rest; whole = whole ∙ sym (append_assoc (of_worker b heard) (slip ∷ []) rest) })
     prefix_by c false is below =
         let f = each c below in record { rest = f.rest; whole = f.whole ∙ ap (λ l. l ++ f.rest) (sym (append-nil (of_worker c heard))) }
 
@@ -138,7 +142,8 @@ module _ (site : Site) (k boxes : ℕ) (cs : List Conversation) (heard : List Sl
         let notes = flat_map (copies k) (transactions site 0 cs) in
         let alone : count_by P (slip ∷ []) ≡ 1 = omega (arith, count-cons P slip [], counts_itself slip) in
         let more : times_named slip.txn slip.place (heard ++ slip ∷ []) ≤ 1 =
-        named_once site k boxes cs (heard ++ slip ∷ []) works (all_more (λ s. s.worker < boxes) heard slip only (omega (arith, is_of, low))) prefixes owed slip.txn slip.place in
+        named_once site k boxes cs (heard ++ slip ∷ []) works (all_more (λ s. s.worker < boxes) heard slip only (omega (arith, is_of, low))) prefixes owed
+            slip.txn slip.place in
         let some : 1 ≤ count_by P (owed_by b) =
         omega (
           arith,

@@ -26,12 +26,14 @@ if_ok P Q (Ok x) h f = f x h
 if_ok P Q (Err e) h f = h
 
 -- workers that run are those that were planned
-pub worked_as : {S : Type 0} (state : S → SpoolState) (working tasks : List (BoxTask S)) (boxes : WorkersBack S) → working ≡ tasks → HaveWorkedAll state working boxes → HaveWorkedAll state tasks boxes
+pub worked_as : {S : Type 0} (state : S → SpoolState) (working tasks : List (BoxTask S)) (boxes : WorkersBack S) → working ≡ tasks
+    → HaveWorkedAll state working boxes → HaveWorkedAll state tasks boxes
 worked_as state working tasks boxes same worked = subst (λ l. HaveWorkedAll state l boxes) same worked
 
 -- closing gives this
 abbrev pub Closes : {M : Type 0} → Shape → List (List (Sender M)) → List (Sent M) → Type 0
-Closes {M} shape rows closed = (channels : List (Channel M)) (sent : ℕ → ℕ → List M) → AreRows shape.lanes channels sent rows → AreClosed shape.lanes channels sent closed
+Closes {M} shape rows closed =
+    (channels : List (Channel M)) (sent : ℕ → ℕ → List M) → AreRows shape.lanes channels sent rows → AreClosed shape.lanes channels sent closed
 
 module _ {V S C : Type 0} (May : C → ℕ → Type 0) (view : VisitsView V) (state : S → SpoolState) (plan : PlanState V S C)
     (site : Site) (clock : C) (handed : HandedIn V S) (p : IsPlanned site clock handed plan)
@@ -50,7 +52,8 @@ module _ {V S C : Type 0} (May : C → ℕ → Type 0) (view : VisitsView V) (st
 
   pub mail_may_close : MayClose plan.mail lanes.rows
   mail_may_close =
-      may_close (length handed.visits) (length handed.spools) plan.mail p.mail_rows p.mail owed_by lanes.rows p.mail_new p.mail_closes p.some_lanes lanes_ran.rows_are
+      may_close (length handed.visits) (length handed.spools) plan.mail p.mail_rows p.mail owed_by lanes.rows p.mail_new p.mail_closes p.some_lanes
+          lanes_ran.rows_are
 
   module _ (boxes : WorkersBack S) (worked : HaveWorkedAll state plan.workers boxes) (mail_closed : List (Sent Note))
       (closes : Closes plan.mail lanes.rows mail_closed) where
@@ -75,21 +78,24 @@ module _ {V S C : Type 0} (May : C → ℕ → Type 0) (view : VisitsView V) (st
 
     pub slips_may_close : MayClose plan.slips boxes.rows
     slips_may_close =
-        may_close (length handed.spools) (length handed.visits) plan.slips p.slip_rows p.slips owed_slips boxes.rows p.slips_new p.slips_close p.some_boxes boxes_ran.rows_are
+        may_close (length handed.spools) (length handed.visits) plan.slips p.slip_rows p.slips owed_slips boxes.rows p.slips_new p.slips_close p.some_boxes
+            boxes_ran.rows_are
 
     module _ (slips_closed : List (Sent Slip)) (slips_close : Closes plan.slips boxes.rows slips_closed) where
       slips_shut : AreClosed (length handed.spools) (channels_of p.slips) owed_slips slips_closed
       slips_shut =
           let workers_are : plan.slips.lanes ≡ length handed.spools = ap (λ (s : Shape). s.lanes) p.slips_close in
           subst (λ n. AreClosed n (channels_of p.slips) owed_slips slips_closed) workers_are
-          (slips_close (channels_of p.slips) owed_slips (subst (λ n. AreRows n (channels_of p.slips) owed_slips boxes.rows) (sym workers_are) boxes_ran.rows_are))
+          (slips_close (channels_of p.slips) owed_slips
+              (subst (λ n. AreRows n (channels_of p.slips) owed_slips boxes.rows) (sym workers_are) boxes_ran.rows_are))
 
       pub slips_may_settle : AllZip CanSettle lanes.inboxes slips_closed
       slips_may_settle =
           can_settle (length handed.spools) (length handed.visits) owed_slips p.slip_rows p.slips lanes.inboxes slips_closed p.slips_new lanes_ran.as_many.2
           (λ k x y e f. let t = lanes_ran.heard k x y e f in (t.channel, t.lanes)) slips_shut
 
-      pub run_is : HaveTimes lanes.rows mail_closed → HaveTimes boxes.rows slips_closed → AllZip (IsSettled (λ (n : Note). n.txn.lane)) boxes.inboxes mail_closed
+      pub run_is : HaveTimes lanes.rows mail_closed → HaveTimes boxes.rows slips_closed
+          → AllZip (IsSettled (λ (n : Note). n.txn.lane)) boxes.inboxes mail_closed
           → AllZip (IsSettled (λ (s : Slip). s.worker)) lanes.inboxes slips_closed
           → HasRun site (May clock) view state handed
           (record { visits = lanes.visits; spools = boxes.spools; conversations = lanes.conversations; tallies = boxes.tallies })

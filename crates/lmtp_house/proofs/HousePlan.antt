@@ -44,25 +44,30 @@ module _ {V S C : Type 0} (out : V → Bool) (plan : PlanState V S C) (may : May
   pub lanes_ready : AllByRecursion (IsLaneReady out) plan.lanes
   lanes_ready =
       let p = may.planned in
-      subst (λ l. AllByRecursion (IsLaneReady out) l) (sym p.lanes_are) (each_at (IsLaneReady out) (lane_tasks may.site may.clock 0 may.handed.visits p.mail_rows p.slips) (λ k task e.
+      subst (λ l. AllByRecursion (IsLaneReady out) l) (sym p.lanes_are)
+          (each_at (IsLaneReady out) (lane_tasks may.site may.clock 0 may.handed.visits p.mail_rows p.slips) (λ k task e.
       let t = task_at may.site may.clock 0 may.handed.visits p.mail_rows p.slips k task e in
       subst (λ j. IsLaneReady out j) (sym t.is) (record {
         site = refl;
         count = row_width (length may.handed.visits) (length may.handed.spools) p.mail_rows p.mail p.mail_new k t.row t.row_is ∙ p.each_box;
-        lane = λ b sender f. row_lane (length may.handed.visits) (length may.handed.spools) p.mail_rows p.mail p.mail_new k t.row t.row_is b sender f ∙ omega arith;
+        lane = λ b sender f. row_lane (length may.handed.visits) (length may.handed.spools) p.mail_rows p.mail p.mail_new k t.row t.row_is b sender f
+            ∙ omega arith;
         none_out = at_each (λ v. out v ≡ false) may.handed.visits may.none_out k t.visit t.visit_is;
       })))
 
   pub boxes_ready : AllByRecursion IsBoxReady plan.workers
   boxes_ready =
       let p = may.planned in
-      subst (λ l. AllByRecursion IsBoxReady l) (sym p.workers_are) (each_at IsBoxReady (box_tasks (share_of may.site may.handed.quota) p.mail p.slip_rows may.handed.spools) (λ k task e.
+      subst (λ l. AllByRecursion IsBoxReady l) (sym p.workers_are)
+          (each_at IsBoxReady (box_tasks (share_of may.site may.handed.quota) p.mail p.slip_rows may.handed.spools) (λ k task e.
       let t = box_task_at (share_of may.site may.handed.quota) p.mail p.slip_rows may.handed.spools k task e in
       let fresh = p.mail_new.inboxes_are k t.inbox t.inbox_is in
       let first = at (channels_of p.slips) 0 (omega (arith, length-map p.slips (λ (i : Inbox _). i.channel), p.slips_new.counts, p.some_lanes)) in
       let number : worker_of t.row ≡ k = numbered k first.value t.row (p.slips_new.rows_are.cells k 0 t.row first.value t.row_is first.is) in
       subst (λ j. IsBoxReady j) (sym t.is) (record {
         fresh = ap (λ (i : Inbox _). taken i) fresh;
-        lanes = row_width (length may.handed.spools) (length may.handed.visits) p.slip_rows p.slips p.slips_new k t.row t.row_is ∙ sym (ap (λ (i : Inbox _). i.lanes) fresh);
-        worker = λ b lane f. row_lane (length may.handed.spools) (length may.handed.visits) p.slip_rows p.slips p.slips_new k t.row t.row_is b lane f ∙ sym number;
+        lanes = row_width (length may.handed.spools) (length may.handed.visits) p.slip_rows p.slips p.slips_new k t.row t.row_is
+            ∙ sym (ap (λ (i : Inbox _). i.lanes) fresh);
+        worker = λ b lane f. row_lane (length may.handed.spools) (length may.handed.visits) p.slip_rows p.slips p.slips_new k t.row t.row_is b lane f
+            ∙ sym number;
       })))

@@ -1,5 +1,6 @@
 -- What was settled of the channels, and the run that follows from it.
-use Rattle.std.proofs.Common.{◌≡◌, ℕ, ◌<◌, ◌≤◌, Bool, true, false, cond, List, [], ◌∷◌, ◌++◌, length, get_or, refl, sym, ap, ◌∙◌, subst, arith, eq-eqb, Some, inl, inr}
+use Rattle.std.proofs.Common.{◌≡◌, ℕ, ◌<◌, ◌≤◌, Bool, true, false, cond, List, [], ◌∷◌, ◌++◌, length, get_or, refl, sym, ap, ◌∙◌, subst, arith, eq-eqb, Some,
+    inl, inr}
 use Rattle.std.specs.Prelude.{slice_get, ◌==◌}
 use Rattle.std.specs.List.{AllZip, AllByRecursion}
 use Rattle.std.proofs.lemmas.Bool.{cases_lt}
@@ -78,7 +79,8 @@ module _ {M : Type 0} where
   -- receivers that are still those of before may be settled with their closed channels
   pub can_settle : {capacity : ℕ} (n count : ℕ) (sent : ℕ → ℕ → List M) (rows : List (List (Sender M))) (inboxes after : List (Inbox M))
       (closed : List (Sent M)) → AreNewChannels capacity n count rows inboxes → length after ≡ count
-      → ((b : ℕ) (x y : Inbox M) → slice_get inboxes b ≡ Some x → slice_get after b ≡ Some y → (y.channel ≡ x.channel) × (y.lanes ≡ x.lanes)) → AreClosed n (channels_of inboxes) sent closed → AllZip CanSettle after closed
+      → ((b : ℕ) (x y : Inbox M) → slice_get inboxes b ≡ Some x → slice_get after b ≡ Some y → (y.channel ≡ x.channel) × (y.lanes ≡ x.lanes))
+      → AreClosed n (channels_of inboxes) sent closed → AllZip CanSettle after closed
   can_settle n count sent rows inboxes after closed new after_count same are =
       at_zip CanSettle after closed (after_count ∙ (sym new.counts ∙ (sym (length-map inboxes (λ (i : Inbox M). i.channel)) ∙ sym are.count))) (λ b y c e f.
       let x = at inboxes b (omega (arith, new.counts, after_count, slice_get_within after b y e)) in
@@ -96,8 +98,10 @@ module _ {V S : Type 0} {capacity room : ℕ} (site : Site) (May : ℕ → Type 
     (slips_new : AreNewChannels room (length old_boxes.spools) (length old_lanes.visits) old_boxes.rows old_lanes.inboxes)
     (lanes : HaveServed site May view (channels_of old_boxes.inboxes) old_lanes new_lanes)
     (boxes : HaveWorked site state (channels_of old_lanes.inboxes) old_boxes new_boxes)
-    (mail_shut : AreClosed (length old_lanes.visits) (channels_of old_boxes.inboxes) (λ k b. due site k b (conversations_of (lanes.works k).visits)) mail_closed)
-    (slips_shut : AreClosed (length old_boxes.spools) (channels_of old_lanes.inboxes) (λ b k. owed_to b (boxes.works b).outcomes k (boxes.works b).taken) slips_closed)
+    (mail_shut : AreClosed (length old_lanes.visits) (channels_of old_boxes.inboxes) (λ k b. due site k b (conversations_of (lanes.works k).visits))
+        mail_closed)
+    (slips_shut : AreClosed (length old_boxes.spools) (channels_of old_lanes.inboxes) (λ b k. owed_to b (boxes.works b).outcomes k (boxes.works b).taken)
+        slips_closed)
     (mail_times : HaveTimes new_lanes.rows mail_closed) (slips_times : HaveTimes new_boxes.rows slips_closed)
     (mail_settled : AllZip (IsSettled (λ (n : Note). n.txn.lane)) new_boxes.inboxes mail_closed)
     (slips_settled : AllZip (IsSettled (λ (s : Slip). s.worker)) new_lanes.inboxes slips_closed)
@@ -121,7 +125,8 @@ module _ {V S : Type 0} {capacity room : ℕ} (site : Site) (May : ℕ → Type 
       let took = boxes.took b x.value y.value x.is y.is in
       let w = mail_shut.each b x.value.channel c.value (at_map (λ (i : Inbox Note). i.channel) old_boxes.inboxes b x.value x.is) c.is in
       let s = zip_at (IsSettled (λ (n : Note). n.txn.lane)) new_boxes.inboxes mail_closed mail_settled b y.value c.value y.is c.is in
-      let all : TookAll (λ (n : Note). n.txn.lane) (boxes.works b).taken c.value.sent = subst (λ l. TookAll (λ (n : Note). n.txn.lane) l c.value.sent) took.took (s.all took.closed) in record {
+      let all : TookAll (λ (n : Note). n.txn.lane) (boxes.works b).taken c.value.sent =
+          subst (λ l. TookAll (λ (n : Note). n.txn.lane) l c.value.sent) took.took (s.all took.closed) in record {
         each = took_each (λ (n : Note). n.txn.lane) (length old_lanes.visits) x.value.channel (λ k. owed_by k b) c.value w (boxes.works b).taken all;
         only = took_below (λ (n : Note). n.txn.lane) (length old_lanes.visits) x.value.channel (λ k. owed_by k b) c.value w (boxes.works b).taken all;
       }
@@ -141,7 +146,8 @@ module _ {V S : Type 0} {capacity room : ℕ} (site : Site) (May : ℕ → Type 
       let s = zip_at (IsSettled (λ (s : Slip). s.worker)) new_lanes.inboxes slips_closed slips_settled k y.value c.value y.is c.is in
       let fresh : taken x.value ≡ [] = ap (λ (i : Inbox Slip). taken i) (slips_new.inboxes_are k x.value x.is) in
       let took : taken y.value ≡ (lanes.works k).heard = heard.took ∙ ap (λ l. l ++ (lanes.works k).heard) fresh in
-      let prefix : TookSome (λ (s : Slip). s.worker) (lanes.works k).heard c.value.sent = subst (λ l. TookSome (λ (s : Slip). s.worker) l c.value.sent) took s.prefix in record {
+      let prefix : TookSome (λ (s : Slip). s.worker) (lanes.works k).heard c.value.sent =
+          subst (λ l. TookSome (λ (s : Slip). s.worker) l c.value.sent) took s.prefix in record {
         each = prefix_each (λ (s : Slip). s.worker) (length old_boxes.spools) x.value.channel (λ b. owed_slips b k) c.value w (lanes.works k).heard prefix;
         only = prefix_below (λ (s : Slip). s.worker) (length old_boxes.spools) x.value.channel (λ b. owed_slips b k) c.value w (lanes.works k).heard prefix;
       }

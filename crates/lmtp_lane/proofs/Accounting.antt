@@ -1,5 +1,6 @@
 -- What a lane's account says once another DATA command came, or another data ended.
-use Rattle.std.proofs.Common.{◌≡◌, ℕ, zero, suc, cond, ◌+◌, ◌<◌, ◌≤◌, ◌^◌, List, [], ◌∷◌, ◌++◌, length, map, Bool, true, false, Option, Some, None, refl, ap, sym, ◌∙◌, subst, append_assoc, append-nil, arith}
+use Rattle.std.proofs.Common.{◌≡◌, ℕ, zero, suc, cond, ◌+◌, ◌<◌, ◌≤◌, ◌^◌, List, [], ◌∷◌, ◌++◌, length, map, Bool, true, false, Option, Some, None, refl, ap,
+    sym, ◌∙◌, subst, append_assoc, append-nil, arith}
 use Rattle.std.specs.Prelude.{is_some, ◌||◌, nat_lt, if◌then◌else◌, flat_map, find, option_map}
 use Rattle.std.specs.List.{AllByRecursion, range_with_len}
 use Rattle.std.specs.Option.{IfSome}
@@ -36,7 +37,8 @@ prefix_by : (p : Slip → Bool) (x : Slip) (xs more : List Slip) (o : Outcome) (
 prefix_by p x xs more o true later e = e
 prefix_by p x xs more o false later e = later e
 
-find_prefix : (p : Slip → Bool) (xs more : List Slip) (o : Outcome) → option_map (λ s. s.outcome) (find p xs) ≡ Some o → option_map (λ s. s.outcome) (find p (xs ++ more)) ≡ Some o
+find_prefix : (p : Slip → Bool) (xs more : List Slip) (o : Outcome) → option_map (λ s. s.outcome) (find p xs) ≡ Some o
+    → option_map (λ s. s.outcome) (find p (xs ++ more)) ≡ Some o
 find_prefix p [] more o e = let bad : ◌≡◌ {A = Option Outcome} None (Some o) = e in cc
 find_prefix p (x ∷ xs) more o e = prefix_by p x xs more o (p x) (find_prefix p xs more o) e
 
@@ -70,7 +72,8 @@ answered_later lane heard more (t ∷ ts) h = (
 )
 
 -- the verdict fits the number and the length
-fits_by : (limit : ℕ) (a b : Bool) (d : Option Claim) (k size : ℕ) → nat_lt NUMBER_LIMIT k ≡ a → nat_lt limit size ≡ b → (t : Transaction) → t.number ≡ k → length t.message ≡ size
+fits_by : (limit : ℕ) (a b : Bool) (d : Option Claim) (k size : ℕ) → nat_lt NUMBER_LIMIT k ≡ a → nat_lt limit size ≡ b → (t : Transaction) → t.number ≡ k
+    → length t.message ≡ size
     → t.disposition.verdict ≡ (if a then NoRoom else if b then TooLarge else verdict_with d) → VerdictFits limit t
 fits_by limit true b d k size ea eb t number long v =
     let over : NUMBER_LIMIT < k = grind (arith, nat_tests, ea) in record {
@@ -102,7 +105,8 @@ over_number k n e = grind (arith, nat_tests, e)
 over_size : (limit k n : ℕ) → limit < 2 ^ 32 → k ≡ counted n → nat_lt limit k ≡ nat_lt limit n
 over_size limit k n low e = grind (arith, nat_tests, e, low)
 
-verdict_fits : (limit : ℕ) (t : Transaction) (accepted size : ℕ) (d : Option Claim) → limit < 2 ^ 32 → accepted ≡ counted t.number → size ≡ counted (length t.message)
+verdict_fits : (limit : ℕ) (t : Transaction) (accepted size : ℕ) (d : Option Claim) → limit < 2 ^ 32 → accepted ≡ counted t.number
+    → size ≡ counted (length t.message)
     → t.disposition.verdict ≡ verdict_on limit accepted size d → VerdictFits limit t
 verdict_fits limit t accepted size d low number long v =
     fits_by limit (nat_lt NUMBER_LIMIT t.number) (nat_lt limit (length t.message)) d t.number (length t.message) refl refl t refl refl
@@ -124,7 +128,8 @@ copies-snoc : (lane : ℕ) (ts : List Transaction) (t : Transaction) → flat_ma
 copies-snoc lane ts t = flat_map-append (copies lane) ts (t ∷ []) ∙ ap (λ l. flat_map (copies lane) ts ++ l) (append-nil (copies lane t))
 
 -- one more transaction, with its episode
-episodes_more : (lane : ℕ) (ts : List Transaction) (es : List Episode) (t : Transaction) (e : Episode) → AreEpisodes lane ts es → IsEpisode (txn_of lane t.number) e
+episodes_more : (lane : ℕ) (ts : List Transaction) (es : List Episode) (t : Transaction) (e : Episode) → AreEpisodes lane ts es
+    → IsEpisode (txn_of lane t.number) e
     → OutcomesIn lane e.heard t t.disposition.verdict → AreEpisodes lane (ts ++ t ∷ []) (es ++ e ∷ [])
 episodes_more lane [] [] t e h is told = (is, told, tt)
 episodes_more lane [] (f ∷ es) t e h is told = absurd h
@@ -193,7 +198,8 @@ ended_refused limit May old now accepted size draft session moment v small is ot
       in_order = y.in_order;
       exchanges = exchanges_none RECIPIENT_LIMIT lane ts t x.did (no_copy lane t v other) x.exchanges;
       turns = turns_none lane ts all t (no_outcome lane [] t v other) x.turns;
-      answered = all_more (IsAnswered lane x.heard) ts t x.answered (record { before = x.heard; since = []; whole = sym (append-nil x.heard); outcomes = no_outcome lane [] t v other });
+      answered = all_more (IsAnswered lane x.heard) ts t x.answered
+          (record { before = x.heard; since = []; whole = sym (append-nil x.heard); outcomes = no_outcome lane [] t v other });
       verdicts = all_more (VerdictFits limit) ts t x.verdicts (verdict_fits limit t accepted size draft small x.count h.1.long is);
       moments = all_more (λ (y : Transaction). May y.disposition.moment) ts t x.moments may;
     }
@@ -201,18 +207,22 @@ ended_refused limit May old now accepted size draft session moment v small is ot
 -- a copy doesn't tell the outcomes
 copies_told : (lane n : ℕ) (session : Session) (moment : ℕ) (message : List ℕ) (told : List Outcome) (place : ℕ) (rs : List ℕ)
     → copies_from lane (sent_as n session moment message) place rs
-    ≡ copies_from lane (record { number = n; session = session; message = message; disposition = record { verdict = Whole; moment = moment; outcomes = told } }) place rs
+    ≡ copies_from lane (record { number = n; session = session; message = message; disposition = record { verdict = Whole; moment = moment; outcomes = told } })
+        place rs
 copies_told lane n session moment message told place [] = refl
 copies_told lane n session moment message told place (r ∷ rs) =
-    ap (λ l. record { txn = record { lane = lane; number = n }; place = place; mailbox = r; sender = session.sender; client = session.client; moment = moment; message = message } ∷ l)
+    ap (λ l. record { txn = record { lane = lane; number = n }; place = place; mailbox = r; sender = session.sender; client = session.client; moment = moment;
+        message = message } ∷ l)
     (copies_told lane n session moment message told (place + 1) rs)
 
-bytes_are : (draft : Option Claim) (claim : Claim) (message : List ℕ) → draft ≡ Some claim → IfSome draft (λ (x : Claim). x.bytes ≡ message) → claim.bytes ≡ message
+bytes_are : (draft : Option Claim) (claim : Claim) (message : List ℕ) → draft ≡ Some claim → IfSome draft (λ (x : Claim). x.bytes ≡ message)
+    → claim.bytes ≡ message
 bytes_are draft claim message e h = let P : Option Claim → Type 0 = λ d. IfSome d (λ (x : Claim). x.bytes ≡ message) in subst P e h
 
 -- a message that went to its recipients
 whole_same : (limit : ℕ) (May : ℕ → Type 0) (old now next : LaneEnds) (accepted size : ℕ) (draft : Option Claim) (claim : Claim) (session : Session)
-    (moment : ℕ) (told : List Outcome) → limit < 2 ^ 32 → accepted ≤ NUMBER_LIMIT → draft ≡ Some claim → Whole ≡ verdict_on limit accepted size draft → May moment
+    (moment : ℕ) (told : List Outcome) → limit < 2 ^ 32 → accepted ≤ NUMBER_LIMIT → draft ≡ Some claim → Whole ≡ verdict_on limit accepted size draft
+        → May moment
     → Delivers (sent_as accepted session moment claim.bytes) told now next
     → (n : ℕ) (ts : List Transaction) (message : List ℕ) → HasOffered limit May accepted old now n ts × HoldsDraft draft size message
     → EndsDraft (λ n ts. HasOffered limit May accepted old next n ts) n ts session message (record { verdict = Whole; moment = moment; outcomes = told })
@@ -220,7 +230,8 @@ whole_same limit May old now next accepted size draft claim session moment told 
     let x = h.0 in
     let lane : ℕ = old.lane in
     let all : Episode = record { came = x.came; own = x.own; heard = x.heard } in
-    let t : Transaction = record { number = n; session = session; message = message; disposition = record { verdict = Whole; moment = moment; outcomes = told } } in
+    let t : Transaction = record { number = n; session = session; message = message;
+        disposition = record { verdict = Whole; moment = moment; outcomes = told } } in
     let number : accepted ≡ n = omega (arith, x.count, low) in
     let bytes : claim.bytes ≡ message = bytes_are draft claim message there h.1.bytes in
     let D : ℕ → List ℕ → Type 0 = λ k m. Delivers (sent_as k session moment m) told now next in
@@ -253,9 +264,12 @@ pub ended_whole : (limit : ℕ) (May : ℕ → Type 0) (old now next : LaneEnds)
     → (n : ℕ) (ts : List Transaction) (message : List ℕ) → HasOffered limit May accepted old now n ts × HoldsDraft draft size message
     → EndsDraft (λ n ts. HasOffered limit May accepted' old next n ts) n ts session message (record { verdict = Whole; moment = moment'; outcomes = told })
 ended_whole limit May old now next accepted accepted' size draft claim session moment moment' told same small low there is may delivers n ts message h =
-    let Q : ℕ → Type 0 = λ k. EndsDraft (λ n ts. HasOffered limit May k old next n ts) n ts session message (record { verdict = Whole; moment = moment'; outcomes = told }) in
-    let R : ℕ → Type 0 = λ m. EndsDraft (λ n ts. HasOffered limit May accepted old next n ts) n ts session message (record { verdict = Whole; moment = m; outcomes = told }) in
-    subst Q (sym same.0) (subst R (sym same.1) (whole_same limit May old now next accepted size draft claim session moment told small low there is may delivers n ts message h))
+    let Q : ℕ → Type 0 = λ k. EndsDraft (λ n ts. HasOffered limit May k old next n ts) n ts session message
+        (record { verdict = Whole; moment = moment'; outcomes = told }) in
+    let R : ℕ → Type 0 = λ m. EndsDraft (λ n ts. HasOffered limit May accepted old next n ts) n ts session message
+        (record { verdict = Whole; moment = m; outcomes = told }) in
+    subst Q (sym same.0) (subst R (sym same.1)
+        (whole_same limit May old now next accepted size draft claim session moment told small low there is may delivers n ts message h))
 
 or_false : (b : Bool) → (b || false) ≡ b
 or_false true = refl

@@ -1,5 +1,6 @@
 -- What is under way while copies are offered one by one, and while their slips come.
-use Rattle.std.proofs.Common.{◌≡◌, ℕ, zero, suc, ◌+◌, ◌<◌, List, [], ◌∷◌, ◌++◌, length, map, take, get_or, Bool, true, false, cond, Option, Some, None, inl, inr, refl, ap, sym, ◌∙◌, subst, append_assoc, append-nil, add-one, arith, length-take-le}
+use Rattle.std.proofs.Common.{◌≡◌, ℕ, zero, suc, ◌+◌, ◌<◌, List, [], ◌∷◌, ◌++◌, length, map, take, get_or, Bool, true, false, cond, Option, Some, None, inl,
+    inr, refl, ap, sym, ◌∙◌, subst, append_assoc, append-nil, add-one, arith, length-take-le}
 use Rattle.std.proofs.Math.Seq.{take-suc}
 use Rattle.std.proofs.lemmas.List.{take_all, map-append}
 use Rattle.mail_world.specs.declared.Txn.{Txn}
@@ -16,7 +17,8 @@ use Rattle.mail_runs.specs.Deeds.{Deed, Gave}
 use Rattle.mail_post.specs.Channel.{IsTimed, HasSameTimes, Inbox, taken}
 use Rattle.mail_post.specs.Gathering.{HasGathered, IsAwaited}
 use Rattle.mail_world.proofs.LastSeal.{length_placed}
-use Rattle.lmtp_lane.specs.LaneExchange.{LaneEnds, Sending, found_gone, slips_gone, KeepsRoom, IsAmong, own_slip_of, HasExchangedBy, IsUnderWay, IsOffering, Continues, Awaits, Sends, TakesOne, sent_as, copy_at}
+use Rattle.lmtp_lane.specs.LaneExchange.{LaneEnds, Sending, found_gone, slips_gone, KeepsRoom, IsAmong, own_slip_of, HasExchangedBy, IsUnderWay, IsOffering,
+    Continues, Awaits, Sends, TakesOne, sent_as, copy_at}
 use Rattle.lmtp_lane.proofs.Doing.{lane_clock}
 use Rattle.lmtp_lane.proofs.Exchanging.{HearsSlip, sending, with_inbox, no_episode, joined_none, way_failed, way_heard, way_gone}
 
@@ -53,9 +55,11 @@ answered_by number place mailbox session now gather true low is went lost takes 
     let C : ℕ → Type 0 = λ k. IsAmong (copy_at lane t k (get_or session.recipients place 0)) (copies_from lane t 0 session.recipients) in
     let P : ℕ → Type 0 = λ b. IsAmong (copy_at lane t place b) all in
     let among : IsAmong note all = subst P (sym is)
-    (among_right (copy_at lane t place (get_or session.recipients place 0)) notes (copies_from lane t 0 session.recipients) (subst C low_sum (among_copies lane t 0 session.recipients place low))) in
+    (among_right (copy_at lane t place (get_or session.recipients place 0)) notes (copies_from lane t 0 session.recipients)
+        (subst C low_sum (among_copies lane t 0 session.recipients place low))) in
     let same : lane ≡ old.lane = x.exchanged.exchanged.lane in
-    let N : ℕ → Type 0 = λ l. (times_named (own_slip_of l note).txn place x.now.heard ≡ 0) × HasGathered (txn_of lane number) n (x.now.heard ++ own_slip_of l note ∷ []) gather in
+    let N : ℕ → Type 0 = λ l. (times_named (own_slip_of l note).txn place x.now.heard ≡ 0)
+        × HasGathered (txn_of lane number) n (x.now.heard ++ own_slip_of l note ∷ []) gather in
     way_failed all gave (txn_of lane number) n past old now x note gather among lost went (ap (λ l. txn_of l number) (sym same))
     (subst N same (takes (txn_of lane number) n x.now.heard x.gathered))
 answered_by number place mailbox session now gather false low is went lost kept moment message notes gave n past old x =
@@ -63,10 +67,12 @@ answered_by number place mailbox session now gather false low is went lost kept 
     (sym kept) x
 
 pub answered_next : (number place mailbox : ℕ) (session : Session) (now next : Sending) (taken_so : Bool)
-    → place < length session.recipients → mailbox ≡ get_or session.recipients place 0 → (now.ends.gone ≡ true) × (slips_gone now.ends ≡ true) → next.ends ≡ now.ends
+    → place < length session.recipients → mailbox ≡ get_or session.recipients place 0 → (now.ends.gone ≡ true) × (slips_gone now.ends ≡ true)
+    → next.ends ≡ now.ends
     → TakesOne (own_slip now.ends.lane number place mailbox) now.gather next.gather taken_so → Awaits number session now next
 answered_next number place mailbox session now next taken_so low is went same takes =
-    subst (λ e. Awaits number session now (sending e next.gather)) (sym same) (answered_by number place mailbox session now next.gather taken_so low is went.0 went.1 takes)
+    subst (λ e. Awaits number session now (sending e next.gather)) (sym same)
+        (answered_by number place mailbox session now next.gather taken_so low is went.0 went.1 takes)
 
 -- a slip came
 pub heard_next : (number : ℕ) (session : Session) (now : Sending) (inbox : Inbox Slip) (gather : Gather) (slip : Slip)
@@ -80,14 +86,16 @@ heard_next number session now inbox gather slip same took still timed hears mome
 -- the channel of slips is gone, and then the lane answered itself
 pub nothing_then : (number : ℕ) (session : Session) (now next : Sending) (inbox : Inbox Slip)
     → (inbox.channel ≡ now.ends.inbox.channel) × (inbox.lanes ≡ now.ends.inbox.lanes) → taken inbox ≡ taken now.ends.inbox → is_some inbox.gone ≡ true
-    → HasSameTimes now.ends.inbox inbox → Awaits number session (sending (found_gone (with_inbox now.ends inbox)) now.gather) next → Awaits number session now next
+    → HasSameTimes now.ends.inbox inbox → Awaits number session (sending (found_gone (with_inbox now.ends inbox)) now.gather) next
+    → Awaits number session now next
 nothing_then number session now next inbox same took lost same_times after moment message notes gave n past old x =
     after moment message notes gave n past old
     (way_gone (with_copies notes now.ends.lane number session moment message) gave (txn_of now.ends.lane number) n past old now x
     inbox same.0 same.1 took lost same_times)
 
 -- one after the other
-pub awaits_then : (number : ℕ) (session : Session) (a b c : Sending) → b.ends.lane ≡ a.ends.lane → Awaits number session a b → Awaits number session b c → Awaits number session a c
+pub awaits_then : (number : ℕ) (session : Session) (a b c : Sending) → b.ends.lane ≡ a.ends.lane → Awaits number session a b → Awaits number session b c
+    → Awaits number session a c
 awaits_then number session a b c same first second moment message notes gave n past old x =
     let W : ℕ → Type 0 = λ l. IsUnderWay (with_copies notes l number session moment message) gave (txn_of l number) n past old b
     → IsUnderWay (with_copies notes l number session moment message) gave (txn_of l number) n past old c in
@@ -136,7 +144,8 @@ offered_next lane lane' t t' place a b c same is low first second =
     (copies_from lane t 0 (take (place + 1) t.session.recipients)) a b c
     (next_copy lane t place low) first (subst Q is (subst P same second))
 
-pub offered_last : (lane lane' : ℕ) (t t' : Transaction) (place place' : ℕ) (a b c : Sending) → lane' ≡ lane → t' ≡ t → place' ≡ place → place + 1 ≡ length t.session.recipients
+pub offered_last : (lane lane' : ℕ) (t t' : Transaction) (place place' : ℕ) (a b c : Sending) → lane' ≡ lane → t' ≡ t → place' ≡ place
+    → place + 1 ≡ length t.session.recipients
     → Continues (txn_of lane t.number) (copies_from lane t 0 (take place t.session.recipients)) a b
     → Continues (txn_of lane' t'.number) (copy_at lane' t' place' (get_or t'.session.recipients place' 0) ∷ []) b c
     → Continues (txn_of lane t.number) (copies_from lane t 0 t.session.recipients) a c
@@ -171,7 +180,9 @@ sent_way number session moment message places ends gather b c same count begun f
     subst W same (second moment message notes gave n past old) (first notes did n past old start).way
 
 -- a slip changes no number of places
-same_by : (g : Gather) (slip : Slip) (t : Bool) → length (cond t (record { txn = g.txn; places = place_outcome g.places slip.place slip.outcome (slice_get g.places slip.place) }) g).places ≡ length g.places
+same_by : (g : Gather) (slip : Slip) (t : Bool)
+    → length (cond t (record { txn = g.txn; places = place_outcome g.places slip.place slip.outcome (slice_get g.places slip.place) }) g).places
+    ≡ length g.places
 same_by g slip true = length_placed g.places slip.place slip.outcome (slice_get g.places slip.place)
 same_by g slip false = refl
 

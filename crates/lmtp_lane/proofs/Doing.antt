@@ -26,12 +26,14 @@ lane_clock ends = clock_of ends.senders ends.inbox
 whats_more : (deeds : List TimedDeed) (d : TimedDeed) → whats (deeds ++ d ∷ []) ≡ whats deeds ++ d.what ∷ []
 whats_more deeds d = map-append (λ (x : TimedDeed). x.what) deeds (d ∷ [])
 
-part_more : {A : Type 0} (f : Deed → List A) (deeds : List TimedDeed) (d : TimedDeed) → flat_map f (whats (deeds ++ d ∷ [])) ≡ flat_map f (whats deeds) ++ flat_map f (d.what ∷ [])
+part_more : {A : Type 0} (f : Deed → List A) (deeds : List TimedDeed) (d : TimedDeed)
+    → flat_map f (whats (deeds ++ d ∷ [])) ≡ flat_map f (whats deeds) ++ flat_map f (d.what ∷ [])
 part_more f deeds d = ap (flat_map f) (whats_more deeds d) ∙ flat_map-append f (whats deeds) (d.what ∷ [])
 
 only_more : (deeds : List TimedDeed) (d : TimedDeed) → AllByRecursion (λ what. is_of_lanes what ≡ true) (whats deeds) → is_of_lanes d.what ≡ true
     → AllByRecursion (λ what. is_of_lanes what ≡ true) (whats (deeds ++ d ∷ []))
-only_more deeds d all is = subst (AllByRecursion (λ what. is_of_lanes what ≡ true)) (sym (whats_more deeds d)) (all_more (λ what. is_of_lanes what ≡ true) (whats deeds) d.what all is)
+only_more deeds d all is = subst (AllByRecursion (λ what. is_of_lanes what ≡ true)) (sym (whats_more deeds d))
+    (all_more (λ what. is_of_lanes what ≡ true) (whats deeds) d.what all is)
 
 module _ (accepted : List Note) (came : List Slip) (old now : LaneEnds) where
   -- one more copy was accepted
@@ -54,7 +56,8 @@ module _ (accepted : List Note) (came : List Slip) (old now : LaneEnds) where
       )
 
   -- one was handed back
-  pub done_gone : (note : Note) (next : List (Sender Note)) → HasDone accepted came old now → IsOffered (lane_clock now) note.mailbox (λ sender. note) false now.senders next
+  pub done_gone : (note : Note) (next : List (Sender Note)) → HasDone accepted came old now
+      → IsOffered (lane_clock now) note.mailbox (λ sender. note) false now.senders next
       → HasDone accepted came old (record now { senders = next; gone = true })
   done_gone note next x o =
       let in_time = gone_keeps_time lane_sorts x.deeds (thread_of old) (thread_of now) note.mailbox o.when o.sender note x.in_time o.is in
@@ -83,7 +86,8 @@ module _ (accepted : List Note) (came : List Slip) (old now : LaneEnds) where
       )
 
   -- none was
-  pub done_none : (next : Inbox Slip) → HasDone accepted came old now → next.took_at ≡ now.inbox.took_at → HasDone accepted came old (record now { inbox = next; gone = true })
+  pub done_none : (next : Inbox Slip) → HasDone accepted came old now → next.took_at ≡ now.inbox.took_at
+      → HasDone accepted came old (record now { inbox = next; gone = true })
   done_none next x same = record {
     deeds = x.deeds;
     gave = x.gave;
@@ -107,8 +111,11 @@ done_nothing old now senders inbox =
     )
 
 -- what a sender's call answers, said of all senders
-pub offered_as : {M E : Type 0} (after at : ℕ) (post : M) (result : Result Unit E) (senders : List (Sender M)) (sender new : Sender M) → slice_get senders at ≡ Some sender
+pub offered_as : {M E : Type 0} (after at : ℕ) (post : M) (result : Result Unit E) (senders : List (Sender M)) (sender new : Sender M)
+    → slice_get senders at ≡ Some sender
     → OnOk result (IsAccepted after post sender new) → OnErr result (new ≡ record sender { gone = true })
     → IsOffered after at (λ s. post) (is_ok result) senders (slice_set senders at new)
-offered_as after at post (Ok x) senders sender new is ok err = record { sender = sender; is = is; when = ok.0; later = ok.1; after = ap (slice_set senders at) ok.2 }
-offered_as after at post (Err e) senders sender new is ok err = record { sender = sender; is = is; when = after + 1; later = omega arith; after = ap (slice_set senders at) err }
+offered_as after at post (Ok x) senders sender new is ok err =
+    record { sender = sender; is = is; when = ok.0; later = ok.1; after = ap (slice_set senders at) ok.2 }
+offered_as after at post (Err e) senders sender new is ok err =
+    record { sender = sender; is = is; when = after + 1; later = omega arith; after = ap (slice_set senders at) err }

@@ -18,7 +18,8 @@ use Rattle.mail_post.specs.Gathering.{HasGathered}
 use Rattle.mail_post.specs.Offered.{any_gone, IsOffered}
 use Rattle.mail_post.proofs.Offered.{OwesOneMore, sent_more, sent_no_more, gone_now, gone_as_before}
 use Rattle.lmtp_lane.proofs.Doing.{lane_clock, done_offered, done_gone, done_heard, done_none}
-use Rattle.lmtp_lane.specs.LaneExchange.{LaneEnds, Sending, found_gone, slips_gone, IsAmong, for_box, own_slip_of, IsOwnSlip, Episode, joined, HasExchanged, HasExchangedBy, IsTimely, IsEpisode, IsUnderWay, IsOffering, TakesOne, Continues}
+use Rattle.lmtp_lane.specs.LaneExchange.{LaneEnds, Sending, found_gone, slips_gone, IsAmong, for_box, own_slip_of, IsOwnSlip, Episode, joined, HasExchanged,
+    HasExchangedBy, IsTimely, IsEpisode, IsUnderWay, IsOffering, TakesOne, Continues}
 use Rattle.lmtp_lane.proofs.Turns.{gave_last, heard_last}
 
 -- one more at the end of a list that is merged in time
@@ -114,7 +115,8 @@ owed_more notes note =
     λ box. filter-append (λ (x : Note). x.mailbox == box) notes (note ∷ []) in
     record {
       here = owed note.mailbox ∙ ap (λ t. for_box note.mailbox notes ++ cond t (note ∷ []) []) (eq-eqb note.mailbox note.mailbox refl);
-      other = λ box away. owed box ∙ ap (λ t. for_box box notes ++ cond t (note ∷ []) []) (other_byte note.mailbox box (λ e. away (sym e))) ∙ append-nil (for_box box notes);
+      other = λ box away. owed box ∙ ap (λ t. for_box box notes ++ cond t (note ∷ []) []) (other_byte note.mailbox box (λ e. away (sym e)))
+          ∙ append-nil (for_box box notes);
     }
 
 -- these ends with other senders, or another channel of slips
@@ -129,7 +131,8 @@ for_boxes all box = for_box box all
 
 module _ (notes : List Note) (e : Episode) (old now : LaneEnds) (x : HasExchanged notes e old now) where
   -- one more copy that its channel accepted
-  pub offered_more : (note : Note) (next : List (Sender Note)) → any_gone now.senders ≡ false → IsOffered (lane_clock now) note.mailbox (λ sender. note) true now.senders next
+  pub offered_more : (note : Note) (next : List (Sender Note)) → any_gone now.senders ≡ false
+      → IsOffered (lane_clock now) note.mailbox (λ sender. note) true now.senders next
       → (y : HasExchanged (notes ++ note ∷ []) e old (with_senders now next)) × (whats y.done.deeds ≡ whats x.done.deeds ++ Gave note ∷ [])
   offered_more note next none o =
       let empty : x.left ≡ [] = x.all none in
@@ -234,13 +237,15 @@ module _ (notes : List Note) (e : Episode) (old now : LaneEnds) (x : HasExchange
     lanes = x.lanes;
     took = x.took;
     merged = merged_own e.came e.own e.heard (own_slip_of old.lane note) x.merged;
-    made = all_more (IsOwnSlip old.lane notes x.left (slips_gone now)) e.own (own_slip_of old.lane note) x.made (record { note = note; owed = owed; made = refl });
+    made = all_more (IsOwnSlip old.lane notes x.left (slips_gone now)) e.own (own_slip_of old.lane note) x.made
+        (record { note = note; owed = owed; made = refl });
     sound = λ none. let bad : true ≡ false = sym went ∙ none in cc;
     done = x.done;
   }
 
   -- a slip that came
-  pub heard_more : (slip : Slip) (next : Inbox Slip) → next.channel ≡ now.inbox.channel → next.lanes ≡ now.inbox.lanes → taken next ≡ taken now.inbox ++ slip ∷ []
+  pub heard_more : (slip : Slip) (next : Inbox Slip) → next.channel ≡ now.inbox.channel → next.lanes ≡ now.inbox.lanes
+      → taken next ≡ taken now.inbox ++ slip ∷ []
       → next.gone ≡ now.inbox.gone → IsTimed (lane_clock now) now.inbox next
       → (y : HasExchanged notes (with_came e slip) old (with_inbox now next)) × (whats y.done.deeds ≡ whats x.done.deeds ++ Heard slip ∷ [])
   heard_more slip next channel lanes took still timed =
@@ -327,7 +332,8 @@ module _ (notes : List Note) (gave : List Deed) (txn : Txn) (n : ℕ) (past : Ep
 
   pub way_left : (did : List Deed) (note : Note) (next : LaneEnds) (gather : Gather) → Leaves note now.ends next → next.gone ≡ true
       → (own_slip_of old.lane note).txn ≡ txn
-      → (times_named (own_slip_of old.lane note).txn (own_slip_of old.lane note).place x.now.heard ≡ 0) × HasGathered txn n (x.now.heard ++ own_slip_of old.lane note ∷ []) gather
+      → (times_named (own_slip_of old.lane note).txn (own_slip_of old.lane note).place x.now.heard ≡ 0)
+      × HasGathered txn n (x.now.heard ++ own_slip_of old.lane note ∷ []) gather
       → IsOffering (notes ++ note ∷ []) did txn n past old (sending next gather)
   way_left did note next gather leaves went same g =
       let slip : Slip = own_slip_of old.lane note in
@@ -357,8 +363,10 @@ module _ (notes : List Note) (gave : List Deed) (txn : Txn) (n : ℕ) (past : Ep
     none_heard = λ none. let bad : true ≡ false = sym went ∙ none in cc;
   }
 
-  pub way_failed : (note : Note) (next : Gather) → IsAmong note notes → slips_gone now.ends ≡ true → now.ends.gone ≡ true → (own_slip_of old.lane note).txn ≡ txn
-      → (times_named (own_slip_of old.lane note).txn (own_slip_of old.lane note).place x.now.heard ≡ 0) × HasGathered txn n (x.now.heard ++ own_slip_of old.lane note ∷ []) next
+  pub way_failed : (note : Note) (next : Gather) → IsAmong note notes → slips_gone now.ends ≡ true → now.ends.gone ≡ true
+      → (own_slip_of old.lane note).txn ≡ txn
+      → (times_named (own_slip_of old.lane note).txn (own_slip_of old.lane note).place x.now.heard ≡ 0)
+      × HasGathered txn n (x.now.heard ++ own_slip_of old.lane note ∷ []) next
       → IsUnderWay notes gave txn n past old (sending now.ends next)
   way_failed note next among lost went same g =
       let slip : Slip = own_slip_of old.lane note in
@@ -404,7 +412,8 @@ abbrev pub HearsSlip : Slip → Gather → Gather → Type 0
 HearsSlip slip old new = (txn : Txn) (n : ℕ) (heard : List Slip) → HasGathered txn n heard old → HasGathered txn n (heard ++ slip ∷ []) new
 
 -- a copy was left: the lane's own slip of it was given to the gatherer, or its place keeps the slip that it has
-left_by : (note : Note) (now : Sending) (next : LaneEnds) (gather : Gather) (taken_so : Bool) → note.txn.lane ≡ now.ends.lane → Leaves note now.ends next → next.gone ≡ true
+left_by : (note : Note) (now : Sending) (next : LaneEnds) (gather : Gather) (taken_so : Bool) → note.txn.lane ≡ now.ends.lane → Leaves note now.ends next
+    → next.gone ≡ true
     → TakesOne (own_slip_of now.ends.lane note) now.gather gather taken_so
     → Continues note.txn (note ∷ []) now (sending next gather)
 left_by note now next gather true here leaves went takes notes gave n past old x =
@@ -418,14 +427,16 @@ left_by note now next gather false here leaves went kept notes gave n past old x
     subst (λ g. IsOffering (notes ++ note ∷ []) (gave ++ map Gave (note ∷ [])) note.txn n past old (sending next g)) (sym kept)
     (way_kept notes gave note.txn n past old now x.way (gave ++ map Gave (note ∷ [])) note next leaves went)
 
-pub left_way : (slip : Slip) (note : Note) (now next : Sending) (ends : LaneEnds) (taken_so : Bool) → note.txn.lane ≡ now.ends.lane → slip ≡ own_slip_of now.ends.lane note
+pub left_way : (slip : Slip) (note : Note) (now next : Sending) (ends : LaneEnds) (taken_so : Bool) → note.txn.lane ≡ now.ends.lane
+    → slip ≡ own_slip_of now.ends.lane note
     → Leaves note now.ends ends → ends.gone ≡ true → next.ends ≡ ends → TakesOne slip now.gather next.gather taken_so → Continues note.txn (note ∷ []) now next
 left_way slip note now next ends taken_so here is leaves went same takes notes gave n past old x =
     let T : Slip → Type 0 = λ s. TakesOne s now.gather next.gather taken_so in
     subst (λ e. IsOffering (notes ++ note ∷ []) (gave ++ map Gave (note ∷ [])) note.txn n past old (sending e next.gather)) (sym same)
     (left_by note now ends next.gather taken_so here leaves went (subst T is takes) notes gave n past old x)
 
-pub leaves_gone : (mailbox : ℕ) (note : Note) (now : LaneEnds) (next : List (Sender Note)) → note.mailbox ≡ mailbox → IsOffered (lane_clock now) mailbox (λ sender. note) false now.senders next
+pub leaves_gone : (mailbox : ℕ) (note : Note) (now : LaneEnds) (next : List (Sender Note)) → note.mailbox ≡ mailbox
+    → IsOffered (lane_clock now) mailbox (λ sender. note) false now.senders next
     → Leaves note now (found_gone (with_senders now next))
 leaves_gone mailbox note now next is o notes e old x =
     let P : ℕ → Type 0 = λ b. IsOffered (lane_clock now) b (λ sender. note) false now.senders next in
@@ -435,7 +446,8 @@ pub leaves_unoffered : (note : Note) (now : LaneEnds) → any_gone now.senders �
 leaves_unoffered note now box_gone notes e old x = unoffered_more notes e old now x note box_gone
 
 pub offered_way : (mailbox : ℕ) (note : Note) (now : Sending) (next : List (Sender Note)) → note.mailbox ≡ mailbox → any_gone now.ends.senders ≡ false
-    → IsOffered (lane_clock now.ends) mailbox (λ sender. note) true now.ends.senders next → Continues note.txn (note ∷ []) now (sending (with_senders now.ends next) now.gather)
+    → IsOffered (lane_clock now.ends) mailbox (λ sender. note) true now.ends.senders next
+    → Continues note.txn (note ∷ []) now (sending (with_senders now.ends next) now.gather)
 offered_way mailbox note now next is none o notes gave n past old x =
     let P : ℕ → Type 0 = λ b. IsOffered (lane_clock now.ends) b (λ sender. note) true now.ends.senders next in
     way_offered notes gave note.txn n past old now x.way note next none x.none_heard (subst P (sym is) o)

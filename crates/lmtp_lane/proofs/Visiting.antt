@@ -1,5 +1,6 @@
 -- The clients of a lane, one after another.
-use Rattle.std.proofs.Common.{◌≡◌, ℕ, ◌+◌, List, [], ◌∷◌, ◌++◌, length, map, Option, Some, None, inl, refl, ap, sym, ◌∙◌, subst, append_assoc, append-nil, length-append, arith}
+use Rattle.std.proofs.Common.{◌≡◌, ℕ, ◌+◌, List, [], ◌∷◌, ◌++◌, length, map, Option, Some, None, inl, refl, ap, sym, ◌∙◌, subst, append_assoc, append-nil,
+    length-append, arith}
 use Rattle.std.specs.List.{AllByRecursion}
 use Rattle.mail_world.specs.Site.{Site}
 use Rattle.mail_world.specs.Conversation.{Conversation}
@@ -10,12 +11,14 @@ use Rattle.lmtp_talk.specs.Served.{Terms, terms, HasRead, IsServed, transactions
 use Rattle.lmtp_talk.proofs.Counting.{rises_then}
 use Rattle.lmtp_talk.specs.Entries.{Entry, OfEnd, entries_in, with_entries}
 use Rattle.lmtp_talk.proofs.Entered.{with_none, with_both}
-use Rattle.lmtp_lane.specs.Visits.{VisitsTold, Finished, TellsFinished, Visit, IsVisit, finished_of, conversations_of, HasFinished, HasVisited, HasConversed, LendsLog, visit_entries, lane_entries}
+use Rattle.lmtp_lane.specs.Visits.{VisitsTold, Finished, TellsFinished, Visit, IsVisit, finished_of, conversations_of, HasFinished, HasVisited, HasConversed,
+    LendsLog, visit_entries, lane_entries}
 use Rattle.mail_world.specs.Counts.{counted}
 
 -- a client that was served, and is handed back
 pub conversed : (by : Terms) (old new : VisitsTold) (before after : PeerState) (Before After : ℕ → List Transaction → Type 0) (cause : EndCause)
-    → IsServed by before after Before After cause → HasRead by.reads before after cause → TellsFinished old.each new.each after cause → RisesBy 1 old.count new.count
+    → IsServed by before after Before After cause → HasRead by.reads before after cause → TellsFinished old.each new.each after cause
+    → RisesBy 1 old.count new.count
     → new.log ≡ with_entries after.told (OfEnd cause ∷ []) → HasConversed by before old new Before After
 conversed by old new before after Before After cause x reads finishes counts logs = record {
   visit = record { before = before; after = after; conversation = x.conversation; cause = cause };
@@ -23,7 +26,8 @@ conversed by old new before after Before After cause x reads finishes counts log
   told = finishes;
   counts = counts;
   delivered = x.delivered;
-  logged = λ n ts first. logs ∙ ap (λ (o : Option (List Entry)). with_entries o (OfEnd cause ∷ [])) (x.logged n ts first) ∙ with_both before.told (entries_in by.site n x.conversation) (OfEnd cause ∷ []);
+  logged = λ n ts first. logs ∙ ap (λ (o : Option (List Entry)). with_entries o (OfEnd cause ∷ [])) (x.logged n ts first)
+      ∙ with_both before.told (entries_in by.site n x.conversation) (OfEnd cause ∷ []);
 }
 
 -- how many DATA commands were accepted after these conversations
@@ -31,7 +35,8 @@ abbrev pub accepted_all : Site → ℕ → List Conversation → ℕ
 accepted_all site n [] = n
 accepted_all site n (c ∷ cs) = accepted_all site (accepted_after_conversation site n c) cs
 
-accepted_last : (site : Site) (n : ℕ) (cs : List Conversation) (c : Conversation) → accepted_all site n (cs ++ c ∷ []) ≡ accepted_after_conversation site (accepted_all site n cs) c
+accepted_last : (site : Site) (n : ℕ) (cs : List Conversation) (c : Conversation)
+    → accepted_all site n (cs ++ c ∷ []) ≡ accepted_after_conversation site (accepted_all site n cs) c
 accepted_last site n [] c = refl
 accepted_last site n (x ∷ cs) c = accepted_last site (accepted_after_conversation site n x) cs c
 
@@ -41,7 +46,8 @@ unfolding transactions
 transactions_last site n [] c = append-nil (transactions_in site n c)
 transactions_last site n (x ∷ cs) c =
     ap (λ l. transactions_in site n x ++ l) (transactions_last site (accepted_after_conversation site n x) cs c)
-    ∙ sym (append_assoc (transactions_in site n x) (transactions site (accepted_after_conversation site n x) cs) (transactions_in site (accepted_all site (accepted_after_conversation site n x) cs) c))
+    ∙ sym (append_assoc (transactions_in site n x) (transactions site (accepted_after_conversation site n x) cs)
+        (transactions_in site (accepted_all site (accepted_after_conversation site n x) cs) c))
 
 transactions_first : (site : Site) (n : ℕ) → transactions site n [] ≡ []
 unfolding transactions
@@ -60,7 +66,8 @@ entries_last site n (x ∷ vs) v =
     ap (λ l. visit_entries site n x ++ l) (entries_last site k vs v)
     ∙ sym (append_assoc (visit_entries site n x) (lane_entries site k vs) (visit_entries site (accepted_all site k (conversations_of vs)) v))
 
-logged_last : (site : Site) (vs : List Visit) (v : Visit) (old now peer next : Option (List Entry)) → now ≡ with_entries old (lane_entries site 0 vs) → peer ≡ now
+logged_last : (site : Site) (vs : List Visit) (v : Visit) (old now peer next : Option (List Entry)) → now ≡ with_entries old (lane_entries site 0 vs)
+    → peer ≡ now
     → next ≡ with_entries peer (visit_entries site (accepted_all site 0 (conversations_of vs)) v) → next ≡ with_entries old (lane_entries site 0 (vs ++ v ∷ []))
 logged_last site vs v old now peer next before lent told =
     let own : List Entry = visit_entries site (accepted_all site 0 (conversations_of vs)) v in
@@ -79,7 +86,8 @@ told_none : (old : Option (List Finished)) → HasFinished old old []
 told_none None = refl
 told_none (Some told) = ap (λ l. Some l) (sym (append-nil told))
 
-pub called_none : (by : Terms) (MayCome : PeerState → Type 0) (old : VisitsTold) (Come : ℕ → List Transaction → Type 0) → Come 0 [] → HasCalled by MayCome old old Come 0
+pub called_none : (by : Terms) (MayCome : PeerState → Type 0) (old : VisitsTold) (Come : ℕ → List Transaction → Type 0) → Come 0 []
+    → HasCalled by MayCome old old Come 0
 called_none by MayCome old Come come = record {
   visits = [];
   visited = record { told = told_none old.each; counts = inl (omega arith); each = tt; logged = with_none old.log };
@@ -92,20 +100,24 @@ finished_last : (vs : List Visit) (v : Visit) → map finished_of (vs ++ v ∷ [
 finished_last [] v = refl
 finished_last (x ∷ vs) v = ap (λ l. finished_of x ∷ l) (finished_last vs v)
 
-told_more : (old now next : Option (List Finished)) (vs : List Visit) (v : Visit) → HasFinished old now vs → TellsFinished now next v.after v.cause → HasFinished old next (vs ++ v ∷ [])
+told_more : (old now next : Option (List Finished)) (vs : List Visit) (v : Visit) → HasFinished old now vs → TellsFinished now next v.after v.cause
+    → HasFinished old next (vs ++ v ∷ [])
 told_more None None next vs v h f = f
 told_more None (Some now) next vs v h f = let bad : ◌≡◌ {A = Option (List Finished)} (Some now) None = h in cc
 told_more (Some told) None next vs v h f = let bad : ◌≡◌ {A = Option (List Finished)} None (Some (told ++ map finished_of vs)) = h in cc
 told_more (Some told) (Some now) next vs v h f =
     let same : now ≡ told ++ map finished_of vs = cc in
-    f ∙ ap (λ l. Some l) (ap (λ l. l ++ finished_of v ∷ []) same ∙ append_assoc told (map finished_of vs) (finished_of v ∷ []) ∙ ap (λ l. told ++ l) (sym (finished_last vs v)))
+    f ∙ ap (λ l. Some l) (ap (λ l. l ++ finished_of v ∷ []) same ∙ append_assoc told (map finished_of vs) (finished_of v ∷ [])
+        ∙ ap (λ l. told ++ l) (sym (finished_last vs v)))
 
 each_more : (P : Visit → Type 0) (vs : List Visit) (v : Visit) → AllByRecursion P vs → P v → AllByRecursion P (vs ++ v ∷ [])
 each_more P [] v h p = (p, tt)
 each_more P (x ∷ vs) v h p = (h.0, each_more P vs v h.1 p)
 
-more_called : (by : Terms) (MayCome : PeerState → Type 0) (peer : PeerState) (old now next : VisitsTold) (Come Come' : ℕ → List Transaction → Type 0) (count count' : ℕ)
-    → count' ≡ counted (count + 1) → MayCome peer → peer.told ≡ now.log → HasCalled by MayCome old now Come count → HasConversed by peer now next Come Come' → HasCalled by MayCome old next Come' count'
+more_called : (by : Terms) (MayCome : PeerState → Type 0) (peer : PeerState) (old now next : VisitsTold) (Come Come' : ℕ → List Transaction → Type 0)
+    (count count' : ℕ)
+    → count' ≡ counted (count + 1) → MayCome peer → peer.told ≡ now.log → HasCalled by MayCome old now Come count → HasConversed by peer now next Come Come'
+    → HasCalled by MayCome old next Come' count'
 more_called by MayCome peer old now next Come Come' count count' e may lent x y =
     let v : Visit = y.visit in
     let site : Site = by.site in
@@ -121,21 +133,31 @@ more_called by MayCome peer old now next Come Come' count count' e may lent x y 
     } in
     let all : conversations_of (x.visits ++ v ∷ []) ≡ cs ++ v.conversation ∷ [] = conversations_last x.visits v in
     let size : length (x.visits ++ v ∷ []) ≡ length x.visits + 1 = length-append x.visits (v ∷ []) in
-    let with_last : Come' (accepted_after_conversation site (accepted_all site 0 cs) v.conversation) (transactions site 0 cs ++ transactions_in site (accepted_all site 0 cs) v.conversation)
+    let with_last : Come' (accepted_after_conversation site (accepted_all site 0 cs) v.conversation)
+        (transactions site 0 cs ++ transactions_in site (accepted_all site 0 cs) v.conversation)
     = y.delivered (accepted_all site 0 cs) (transactions site 0 cs) x.come in
-    let counted_so : Come' (accepted_all site 0 (cs ++ v.conversation ∷ [])) (transactions site 0 cs ++ transactions_in site (accepted_all site 0 cs) v.conversation)
-    = subst (λ n. Come' n (transactions site 0 cs ++ transactions_in site (accepted_all site 0 cs) v.conversation)) (sym (accepted_last site 0 cs v.conversation)) with_last in
+    let counted_so : Come' (accepted_all site 0 (cs ++ v.conversation ∷ []))
+        (transactions site 0 cs ++ transactions_in site (accepted_all site 0 cs) v.conversation)
+    = subst (λ n. Come' n (transactions site 0 cs ++ transactions_in site (accepted_all site 0 cs) v.conversation))
+        (sym (accepted_last site 0 cs v.conversation)) with_last in
     let come : Come' (accepted_all site 0 (cs ++ v.conversation ∷ [])) (transactions site 0 (cs ++ v.conversation ∷ []))
     = subst (λ ts. Come' (accepted_all site 0 (cs ++ v.conversation ∷ [])) ts) (sym (transactions_last site 0 cs v.conversation)) counted_so in
     record {
       visits = x.visits ++ v ∷ [];
-      visited = record { told = told_more old.each now.each next.each x.visits v x.visited.told y.told; counts = subst (λ n. RisesBy n old.count next.count) (sym size) (rises_then (length x.visits) 1 old.count now.count next.count x.visited.counts y.counts); each = each_more (IsVisit by MayCome) x.visits v x.visited.each is; logged = logged_last site x.visits v old.log now.log peer.told next.log x.visited.logged lent (y.logged (accepted_all site 0 cs) (transactions site 0 cs) x.come) };
+      visited = record { told = told_more old.each now.each next.each x.visits v x.visited.told y.told;
+          counts = subst (λ n. RisesBy n old.count next.count) (sym size)
+          (rises_then (length x.visits) 1 old.count now.count next.count x.visited.counts y.counts); each =
+          each_more (IsVisit by MayCome) x.visits v x.visited.each is; logged =
+          logged_last site x.visits v old.log now.log peer.told next.log x.visited.logged lent
+          (y.logged (accepted_all site 0 cs) (transactions site 0 cs) x.come) };
       counts = omega (arith, e, x.counts, size);
       come = subst (λ l. Come' (accepted_all site 0 l) (transactions site 0 l)) (sym all) come;
     }
 
-pub called_more : (reads : ℕ) (site site' : Site) (MayCome : PeerState → Type 0) (peer : PeerState) (old now now' next : VisitsTold) (Come Come' : ℕ → List Transaction → Type 0) (count count' : ℕ)
-    → site' ≡ site → LendsLog now now' peer → count' ≡ counted (count + 1) → MayCome peer → HasCalled (terms site reads) MayCome old now Come count → HasConversed (terms site' reads) peer now' next Come Come'
+pub called_more : (reads : ℕ) (site site' : Site) (MayCome : PeerState → Type 0) (peer : PeerState) (old now now' next : VisitsTold)
+    (Come Come' : ℕ → List Transaction → Type 0) (count count' : ℕ)
+    → site' ≡ site → LendsLog now now' peer → count' ≡ counted (count + 1) → MayCome peer → HasCalled (terms site reads) MayCome old now Come count
+    → HasConversed (terms site' reads) peer now' next Come Come'
     → HasCalled (terms site reads) MayCome old next Come' count'
 called_more reads site site' MayCome peer old now now' next Come Come' count count' here same e may x y =
     let P : Site → Type 0 = λ s. HasConversed (terms s reads) peer now' next Come Come' in

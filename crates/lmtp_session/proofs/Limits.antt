@@ -6,7 +6,8 @@ use Rattle.std.specs.List.{before_first, after_first}
 use Rattle.std.proofs.lemmas.List.{length-take}
 use Rattle.mail_world.specs.declared.BadCommand.TheVariants as bad
 use Rattle.mail_world.specs.declared.limits.TheConstants.{NAME_LIMIT, PATH_LIMIT}
-use Rattle.mail_world.specs.Commands.{Answer, Lhlo, mail_with, mail_path, mail, rcpt_with, rcpt_path, rcpt, by_verb, command_at, Parameter, is_client_name, parameters, trimmed, after_spaces}
+use Rattle.mail_world.specs.Commands.{Answer, Lhlo, mail_with, mail_path, mail, rcpt_with, rcpt_path, rcpt, by_verb, command_at, Parameter, is_client_name,
+    parameters, trimmed, after_spaces}
 use Rattle.mail_world.specs.Paths.{Found, Path, reverse_path, forward_path, closed_at, mailbox_at, after_route}
 use Rattle.mail_world.specs.Text.{begins, space}
 use Rattle.mail_world.specs.Grammar.{Target}
@@ -41,7 +42,8 @@ mail_path_within limit None h = tt
 mail_path_within limit (Some f) h = let m = mail_with_within limit f.value (parameters f.rest) h in search (rules, if_within, m)
 
 closed_within_if : (text : List ℕ) (found : Found Target) (n : ℕ) (a b : Bool) → (b ≡ true → n ≤ PATH_LIMIT)
-    → IfSome {T = Found Path} (if a && b then Some (record { value = record { mailbox = take n text; target = found.value }; rest = drop 1 found.rest }) else None) HasShortMailbox
+    → IfSome {T = Found Path} (if a && b then Some (record { value = record { mailbox = take n text; target = found.value }; rest = drop 1 found.rest }) else
+    None) HasShortMailbox
 closed_within_if text found n true true h = let e = h refl in omega (arith, length-take n text)
 closed_within_if text found n true false h = tt
 closed_within_if text found n false b h = tt
@@ -69,7 +71,8 @@ forward_within text =
     (then_within HasShortMailbox (λ inner. option_and_then (closed_at inner) (mailbox_at inner)) (after_route (drop 1 text)) inner_within)
 
 reverse_within_if : (b : Bool) (rest : List ℕ) (path : Option (Found Path)) → IfSome path HasShortMailbox
-    → IfSome {T = Found (List ℕ)} (if b then Some (record { value = []; rest = rest }) else option_map (λ found. record { value = found.value.mailbox; rest = found.rest }) path) HasShortSender
+    → IfSome {T = Found (List ℕ)} (if b then Some (record { value = []; rest = rest }) else option_map
+    (λ found. record { value = found.value.mailbox; rest = found.rest }) path) HasShortSender
 reverse_within_if true rest path h = omega arith
 reverse_within_if false rest None h = tt
 reverse_within_if false rest (Some f) h = h

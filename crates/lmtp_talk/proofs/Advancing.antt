@@ -1,5 +1,6 @@
 -- What carries a conversation on, one stretch of bytes after another.
-use Rattle.std.proofs.Common.{◌≡◌, ℕ, ◌+◌, ◌-◌, ◌≤◌, List, ◌++◌, length, take, drop, sym, ap, ◌∙◌, subst, arith, append_assoc, length-take-le, take-append-drop, length-drop}
+use Rattle.std.proofs.Common.{◌≡◌, ℕ, ◌+◌, ◌-◌, ◌≤◌, List, ◌++◌, length, take, drop, sym, ap, ◌∙◌, subst, arith, append_assoc, length-take-le, take-append-drop,
+    length-drop}
 use Rattle.std.proofs.Math.Seq.{take-append-add}
 use Rattle.std.proofs.lemmas.List.{take_all}
 use Rattle.mail_world.specs.Lists.{Transaction}
@@ -9,7 +10,8 @@ use Rattle.lmtp_talk.specs.Standing.{IsSoFar, standing, beginning}
 use Rattle.lmtp_talk.specs.Steps.{Advances, talk}
 
 module _ {D : Type 0} (HasCome : D → ℕ → List Transaction → Type 0) (IsDrafting : D → ℕ → List Transaction → List ℕ → Type 0) where
-  pub advances_then : (a b c : Dialogue) (p q r : PeerState) (d e f : D) (x y : List ℕ) → Advances HasCome IsDrafting (talk a p d) (talk b q e) x → Advances HasCome IsDrafting (talk b q e) (talk c r f) y
+  pub advances_then : (a b c : Dialogue) (p q r : PeerState) (d e f : D) (x y : List ℕ) → Advances HasCome IsDrafting (talk a p d) (talk b q e) x
+      → Advances HasCome IsDrafting (talk b q e) (talk c r f) y
       → Advances HasCome IsDrafting (talk a p d) (talk c r f) (x ++ y)
   advances_then a b c p q r d e f x y one two site start first handled came h =
       subst (λ l. IsSoFar (beginning site start (HasCome first)) (standing c r (HasCome f) (IsDrafting f)) l came) (append_assoc handled x y)

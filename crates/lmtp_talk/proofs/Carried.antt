@@ -1,5 +1,6 @@
 -- Where a conversation stands with more bytes handled.
-use Rattle.std.proofs.Common.{◌≡◌, ℕ, ◌+◌, ◌<◌, ◌≤◌, true, false, List, [], ◌∷◌, ◌++◌, length, take, Some, refl, sym, ap, ◌∙◌, subst, arith, append_assoc, append-nil, length-take-le}
+use Rattle.std.proofs.Common.{◌≡◌, ℕ, ◌+◌, ◌<◌, ◌≤◌, true, false, List, [], ◌∷◌, ◌++◌, length, take, Some, refl, sym, ap, ◌∙◌, subst, arith, append_assoc,
+    append-nil, length-take-le}
 use Rattle.std.specs.Prelude.{nat_lt, if◌then◌else◌, flat_map}
 use Rattle.std.proofs.Math.Seq.{take-append-add}
 use Rattle.std.proofs.lemmas.List.{take_all}
@@ -31,7 +32,8 @@ use Rattle.lmtp_talk.proofs.CutUp.{cut_line}
 use Rattle.lmtp_talk.proofs.Quits.{GoesOn, line_goes_on, long_goes_on, quits_line, quits_long}
 
 -- the state says what is inside
-in_line : (state : State) (dialogue : Dialogue) (rest : List ℕ) (come : Type 0) (drafts : List ℕ → Type 0) → TakesLines state → IsInside state dialogue rest come drafts → InLine dialogue rest come
+in_line : (state : State) (dialogue : Dialogue) (rest : List ℕ) (come : Type 0) (drafts : List ℕ → Type 0) → TakesLines state
+    → IsInside state dialogue rest come drafts → InLine dialogue rest come
 in_line Fresh dialogue rest come drafts h x = x
 in_line Greeted dialogue rest come drafts h x = x
 in_line Sender dialogue rest come drafts h x = x
@@ -40,7 +42,8 @@ in_line Content dialogue rest come drafts h x = cc
 in_line Waiting dialogue rest come drafts h x = cc
 in_line Ended dialogue rest come drafts h x = cc
 
-as_line : (state : State) (dialogue : Dialogue) (rest : List ℕ) (come : Type 0) (drafts : List ℕ → Type 0) → TakesLines state → InLine dialogue rest come → IsInside state dialogue rest come drafts
+as_line : (state : State) (dialogue : Dialogue) (rest : List ℕ) (come : Type 0) (drafts : List ℕ → Type 0) → TakesLines state → InLine dialogue rest come
+    → IsInside state dialogue rest come drafts
 as_line Fresh dialogue rest come drafts h x = x
 as_line Greeted dialogue rest come drafts h x = x
 as_line Sender dialogue rest come drafts h x = x
@@ -77,7 +80,8 @@ texts_more site ps p view s site_is session_is =
     ap (λ x. (greeted ++ told) ++ reply_texts x (replies_to x s (inputs_of p))) site_is
     ∙ ap (λ x. (greeted ++ told) ++ reply_texts site (replies_to site x (inputs_of p))) session_is
     ∙ append_assoc greeted told _
-    ∙ ap (λ l. greeted ++ l) (sym (flat_map-append (reply_text site) (replies_to site fresh (flat_map inputs_of ps)) (replies_to site (session_after_parts site fresh ps) (inputs_of p))))
+    ∙ ap (λ l. greeted ++ l) (sym (flat_map-append (reply_text site) (replies_to site fresh (flat_map inputs_of ps))
+        (replies_to site (session_after_parts site fresh ps) (inputs_of p))))
     ∙ ap (λ l. greeted ++ reply_texts site l) (sym (replies_to-append site fresh (flat_map inputs_of ps) (inputs_of p)))
     ∙ ap (λ l. greeted ++ reply_texts site (replies_to site fresh l)) (sym (inputs-snoc ps p))
 
@@ -89,19 +93,23 @@ says_part site ps p start before after old new came takes site_is session_is h =
     let said : List ℕ → Type 0 = λ l. HasSaid start after new.outbox came l in
     subst said (texts_more site ps p old.session.site old.session.session site_is session_is) (takes.says start came _ h)
 
-pub accepted-snoc : (site : Site) (n : ℕ) (ps : List Part) (p : Part) → accepted_after site n fresh (ps ++ p ∷ []) ≡ accepted_after_part site (accepted_after site n fresh ps) (session_after_parts site fresh ps) p
+pub accepted-snoc : (site : Site) (n : ℕ) (ps : List Part) (p : Part)
+    → accepted_after site n fresh (ps ++ p ∷ []) ≡ accepted_after_part site (accepted_after site n fresh ps) (session_after_parts site fresh ps) p
 accepted-snoc site n ps p = accepted-append site n fresh ps (p ∷ [])
 
-transactions-line : (site : Site) (n : ℕ) (ps : List Part) (text : List ℕ) → transactions_of site n fresh (ps ++ CommandLine text ∷ []) ≡ transactions_of site n fresh ps
+transactions-line : (site : Site) (n : ℕ) (ps : List Part) (text : List ℕ)
+    → transactions_of site n fresh (ps ++ CommandLine text ∷ []) ≡ transactions_of site n fresh ps
 transactions-line site n ps text = transactions-append site n fresh ps (CommandLine text ∷ []) ∙ append-nil (transactions_of site n fresh ps)
 
 pub transactions-data : (site : Site) (n : ℕ) (ps : List Part) (text : List ℕ) (d : Disposition)
     → transactions_of site n fresh (ps ++ MailData text d ∷ [])
-    ≡ transactions_of site n fresh ps ++ record { number = accepted_after site n fresh ps; session = session_after_parts site fresh ps; message = message text; disposition = d } ∷ []
+    ≡ transactions_of site n fresh ps
+        ++ record { number = accepted_after site n fresh ps; session = session_after_parts site fresh ps; message = message text; disposition = d } ∷ []
 transactions-data site n ps text d = transactions-append site n fresh ps (MailData text d ∷ [])
 
 -- no line ends in the bytes
-pub more_of_line : (site : Site) (start : PeerState) (Before Come : ℕ → List Transaction → Type 0) (Drafting : ℕ → List Transaction → List ℕ → Type 0) (old : Dialogue) (wire : WireView) (peer : PeerState)
+pub more_of_line : (site : Site) (start : PeerState) (Before Come : ℕ → List Transaction → Type 0) (Drafting : ℕ → List Transaction → List ℕ → Type 0)
+    (old : Dialogue) (wire : WireView) (peer : PeerState)
     (handled came piece : List ℕ) (used : ℕ) → TakesLines old.session.session.state
     → ((taken : List ℕ) → IsAfter old.wire taken → LineGoesOn wire (taken ++ piece) (length piece) used)
     → IsSoFar (beginning site start Before) (standing old peer Come Drafting) handled came
@@ -113,7 +121,8 @@ more_of_line site start Before Come Drafting old wire peer handled came piece us
       done = h.done;
       prefix = h.prefix;
       rest = h.rest ++ piece;
-      whole = ap (λ n. handled ++ take n piece) t.all ∙ ap (λ l. handled ++ l) (take_all (length piece) piece (omega arith)) ∙ ap (λ l. l ++ piece) h.whole ∙ append_assoc h.prefix h.rest piece;
+      whole = ap (λ n. handled ++ take n piece) t.all ∙ ap (λ l. handled ++ l) (take_all (length piece) piece (omega arith)) ∙ ap (λ l. l ++ piece) h.whole
+          ∙ append_assoc h.prefix h.rest piece;
       cut = h.cut;
       same_site = h.same_site;
       session = h.session;
@@ -129,7 +138,8 @@ taken_is : (rest piece : List ℕ) (used k : ℕ) → length rest + used ≡ k �
 taken_is rest piece used k e = ap (λ n. take n (rest ++ piece)) (sym e) ∙ take-append-add rest piece used
 
 -- a line that ends leads on by its input
-ended_line : (site : Site) (start : PeerState) (Before : ℕ → List Transaction → Type 0) {D : Type 0} (HasCome : D → ℕ → List Transaction → Type 0) (IsDrafting : D → ℕ → List Transaction → List ℕ → Type 0)
+ended_line : (site : Site) (start : PeerState) (Before : ℕ → List Transaction → Type 0) {D : Type 0} (HasCome : D → ℕ → List Transaction → Type 0)
+    (IsDrafting : D → ℕ → List Transaction → List ℕ → Type 0)
     (old new : Dialogue) (wire : WireView) (before after : PeerState) (delivery later : D) (handled came piece : List ℕ) (used end : ℕ) (input : Input)
     → TakesLines old.session.session.state
     → (h : IsSoFar (beginning site start Before) (standing old before (HasCome delivery) (IsDrafting delivery)) handled came)
@@ -140,14 +150,16 @@ ended_line : (site : Site) (start : PeerState) (Before : ℕ → List Transactio
     → GoesOn (step old.session.site old.session.session input).next.state
     → QuitsWith (session_after old.session.site old.session.session (input ∷ [])).state (flat_map inputs_of h.done ++ input ∷ [])
     → IsSoFar (beginning site start Before) (standing new after (HasCome later) (IsDrafting later)) (handled ++ take used piece) came
-ended_line site start Before {D} HasCome IsDrafting old new wire before after delivery later handled came piece used end input lines h ends input_is line_is t goes quits =
+ended_line site start Before {D} HasCome IsDrafting old new wire before after delivery later handled came piece used end input lines h ends input_is line_is t
+    goes quits =
     let bytes : List ℕ = h.rest ++ piece in
     let p : Part = CommandLine (take end bytes) in
     let mid : Dialogue = record old { wire = wire } in
     let line = in_line old.session.session.state old h.rest _ _ lines h.inside in
     let takes : TakesInputs (inputs_of p) mid new before after = subst (λ l. TakesInputs l mid new before after) (sym input_is) t.takes in
     let after_lines : TakesLines (session_after_parts site fresh h.done).state = subst (λ (s : Session). TakesLines s.state) h.session lines in
-    let session_is : new.session.session ≡ session_after_parts site fresh (h.done ++ p ∷ []) = session_more site h.done p mid new before after takes h.same_site h.session in
+    let session_is : new.session.session ≡ session_after_parts site fresh (h.done ++ p ∷ []) =
+        session_more site h.done p mid new before after takes h.same_site h.session in
     let goes' : GoesOn new.session.session.state = subst (λ (s : Session). GoesOn s.state) (sym t.takes.session) goes in
     let state_is : is_content new.session.session.state ≡ is_content (session_after site (session_after_parts site fresh h.done) (inputs_of p)).state =
     ap (λ (s : Session). is_content s.state) (session_is ∙ session_after_parts-snoc site fresh h.done p) in
@@ -155,26 +167,31 @@ ended_line site start Before {D} HasCome IsDrafting old new wire before after de
       done = h.done ++ p ∷ [];
       prefix = h.prefix ++ take (end + 2) bytes;
       rest = [];
-      whole = ap (λ l. l ++ take used piece) h.whole ∙ append_assoc h.prefix h.rest (take used piece) ∙ ap (λ l. h.prefix ++ l) (sym (taken_is h.rest piece used (end + 2) ends.taken)) ∙ sym (append-nil (h.prefix ++ take (end + 2) bytes));
+      whole = ap (λ l. l ++ take used piece) h.whole ∙ append_assoc h.prefix h.rest (take used piece)
+          ∙ ap (λ l. h.prefix ++ l) (sym (taken_is h.rest piece used (end + 2) ends.taken)) ∙ sym (append-nil (h.prefix ++ take (end + 2) bytes));
       cut = cut_line site h.prefix bytes h.done end h.cut after_lines ends.ends;
       same_site = takes.site ∙ h.same_site;
       session = session_is;
       quits = subst (λ (s : Session). QuitsWith s.state (flat_map inputs_of (h.done ++ p ∷ []))) (sym t.takes.session)
-          (subst (λ l. QuitsWith (session_after old.session.site old.session.session (input ∷ [])).state l) (sym (inputs-snoc h.done p ∙ ap (λ l. flat_map inputs_of h.done ++ l) input_is)) quits);
+          (subst (λ l. QuitsWith (session_after old.session.site old.session.session (input ∷ [])).state l)
+              (sym (inputs-snoc h.done p ∙ ap (λ l. flat_map inputs_of h.done ++ l) input_is)) quits);
       said = says_part site h.done p start before after mid new came takes h.same_site h.session h.said;
       goes = takes.same ∙ h.goes;
       logged = λ n ts first. logged_more site n h.done p start.told before.told after.told _ t.told (h.logged n ts first)
-          (entries_line site old.session.site (accepted_after site n fresh h.done) old.session.session (session_after_parts site fresh h.done) (take end bytes) (line_in input) input h.same_site h.session input_is line_is);
+          (entries_line site old.session.site (accepted_after site n fresh h.done) old.session.session (session_after_parts site fresh h.done) (take end bytes)
+              (line_in input) input h.same_site h.session input_is line_is);
       inside = after_one_line new.session.session.state new _ _ goes' (subst (λ w. IsAfter w []) (sym takes.wire) ends.after)
           (λ content.
-          let begins : BeginsIf HasCome IsDrafting true delivery (talk new after later) = subst (λ b. BeginsIf HasCome IsDrafting b delivery (talk new after later)) content t.begins in
+          let begins : BeginsIf HasCome IsDrafting true delivery (talk new after later) =
+              subst (λ b. BeginsIf HasCome IsDrafting b delivery (talk new after later)) content t.begins in
           record {
             made = [];
             next = subst (λ w. IsAfter w []) (sym takes.wire) ends.after;
             after = begins.0;
             drafting = λ n ts first.
                 let count : accepted_after site n fresh h.done + 1 ≡ accepted_after site n fresh (h.done ++ p ∷ []) =
-                ap (λ b. if b then accepted_after site n fresh h.done + 1 else accepted_after site n fresh h.done) (sym content ∙ state_is) ∙ sym (accepted-snoc site n h.done p) in
+                ap (λ b. if b then accepted_after site n fresh h.done + 1 else accepted_after site n fresh h.done) (sym content ∙ state_is)
+                    ∙ sym (accepted-snoc site n h.done p) in
                 subst (λ k. IsDrafting later k (ts ++ transactions_of site n fresh (h.done ++ p ∷ [])) []) count
                 (subst (λ l. IsDrafting later (accepted_after site n fresh h.done + 1) (ts ++ l) []) (sym (transactions-line site n h.done (take end bytes)))
                 (begins.1 _ _ (line.comes n ts first)));
@@ -183,7 +200,8 @@ ended_line site start Before {D} HasCome IsDrafting old new wire before after de
           let same : later ≡ delivery = subst (λ b. BeginsIf HasCome IsDrafting b delivery (talk new after later)) content t.begins in
           λ n ts first.
           let count : accepted_after site n fresh h.done ≡ accepted_after site n fresh (h.done ++ p ∷ []) =
-          ap (λ b. if b then accepted_after site n fresh h.done + 1 else accepted_after site n fresh h.done) (sym content ∙ state_is) ∙ sym (accepted-snoc site n h.done p) in
+          ap (λ b. if b then accepted_after site n fresh h.done + 1 else accepted_after site n fresh h.done) (sym content ∙ state_is)
+              ∙ sym (accepted-snoc site n h.done p) in
           subst (λ k. HasCome later k (ts ++ transactions_of site n fresh (h.done ++ p ∷ []))) count
           (subst (λ l. HasCome later (accepted_after site n fresh h.done) (ts ++ l)) (sym (transactions-line site n h.done (take end bytes)))
           (subst (λ x. HasCome x (accepted_after site n fresh h.done) (ts ++ transactions_of site n fresh h.done)) (sym same) (line.comes n ts first))));
@@ -192,10 +210,12 @@ ended_line site start Before {D} HasCome IsDrafting old new wire before after de
 size_is : (bytes : List ℕ) (end : ℕ) → place_of crlf bytes ≡ Some end → length (take end bytes) ≡ end
 size_is bytes end e = let within : end + 2 ≤ length bytes = line_within bytes end e in length-take-le end bytes (omega arith)
 
-pub line_of : (site : Site) (start : PeerState) (Before : ℕ → List Transaction → Type 0) {D : Type 0} (HasCome : D → ℕ → List Transaction → Type 0) (IsDrafting : D → ℕ → List Transaction → List ℕ → Type 0)
+pub line_of : (site : Site) (start : PeerState) (Before : ℕ → List Transaction → Type 0) {D : Type 0} (HasCome : D → ℕ → List Transaction → Type 0)
+    (IsDrafting : D → ℕ → List Transaction → List ℕ → Type 0)
     (old new : Dialogue) (wire : WireView) (before after : PeerState) (delivery later : D) (handled came piece : List ℕ) (used : ℕ)
     → TakesLines old.session.session.state
-    → ((taken : List ℕ) → IsAfter old.wire taken → (end : ℕ) × EndsLine wire (taken ++ piece) (length taken) used end × (end + 2 ≤ LINE_LIMIT) × (wire.line ≡ take end (taken ++ piece)))
+    → ((taken : List ℕ) → IsAfter old.wire taken
+    → (end : ℕ) × EndsLine wire (taken ++ piece) (length taken) used end × (end + 2 ≤ LINE_LIMIT) × (wire.line ≡ take end (taken ++ piece)))
     → TakesLine HasCome IsDrafting (Line wire.line) (talk (record old { wire = wire }) before delivery) (talk new after later)
     → IsSoFar (beginning site start Before) (standing old before (HasCome delivery) (IsDrafting delivery)) handled came
     → IsSoFar (beginning site start Before) (standing new after (HasCome later) (IsDrafting later)) (handled ++ take used piece) came
@@ -208,12 +228,15 @@ line_of site start Before {D} HasCome IsDrafting old new wire before after deliv
     ended_line site start Before HasCome IsDrafting old new wire before after delivery later handled came piece used e.0 (Line wire.line) lines h e.1
     (ap (λ b. (if b then LongLine else Line (take e.0 bytes)) ∷ []) short ∙ ap (λ l. Line l ∷ []) (sym e.3))
     (ap (λ b. if b then [] else take e.0 bytes) short ∙ sym e.3)
-    t (line_goes_on old.session.site old.session.session wire.line lines) (quits_line old.session.site old.session.session (flat_map inputs_of h.done) wire.line lines h.quits)
+    t (line_goes_on old.session.site old.session.session wire.line lines)
+        (quits_line old.session.site old.session.session (flat_map inputs_of h.done) wire.line lines h.quits)
 
-pub long_line_of : (site : Site) (start : PeerState) (Before : ℕ → List Transaction → Type 0) {D : Type 0} (HasCome : D → ℕ → List Transaction → Type 0) (IsDrafting : D → ℕ → List Transaction → List ℕ → Type 0)
+pub long_line_of : (site : Site) (start : PeerState) (Before : ℕ → List Transaction → Type 0) {D : Type 0} (HasCome : D → ℕ → List Transaction → Type 0)
+    (IsDrafting : D → ℕ → List Transaction → List ℕ → Type 0)
     (old new : Dialogue) (wire : WireView) (before after : PeerState) (delivery : D) (handled came piece : List ℕ) (used : ℕ)
     → TakesLines old.session.session.state
-    → ((taken : List ℕ) → IsAfter old.wire taken → (end : ℕ) × EndsLine wire (taken ++ piece) (length taken) used end × (LINE_LIMIT < end + 2) × (wire.line ≡ []))
+    → ((taken : List ℕ) → IsAfter old.wire taken
+    → (end : ℕ) × EndsLine wire (taken ++ piece) (length taken) used end × (LINE_LIMIT < end + 2) × (wire.line ≡ []))
     → TakesInputs (LongLine ∷ []) (record old { wire = wire }) new before after
     → TellsLine LongLine (record old { wire = wire }) before after
     → IsSoFar (beginning site start Before) (standing old before (HasCome delivery) (IsDrafting delivery)) handled came
@@ -228,10 +251,13 @@ long_line_of site start Before {D} HasCome IsDrafting old new wire before after 
     ended_line site start Before HasCome IsDrafting old new wire before after delivery delivery handled came piece used e.0 LongLine lines h e.1
     (ap (λ b. (if b then LongLine else Line (take e.0 bytes)) ∷ []) long)
     (ap (λ b. if b then [] else take e.0 bytes) long)
-    (record { takes = t; told = told; begins = subst (λ (s : State). BeginsIf HasCome IsDrafting (is_content s) delivery (talk new after delivery)) (sym same) (no_content old.session.session.state lines HasCome IsDrafting (talk new after delivery)) })
+    (record { takes = t; told = told;
+        begins = subst (λ (s : State). BeginsIf HasCome IsDrafting (is_content s) delivery (talk new after delivery)) (sym same)
+        (no_content old.session.session.state lines HasCome IsDrafting (talk new after delivery)) })
     (long_goes_on old.session.site old.session.session lines) (quits_long old.session.site old.session.session (flat_map inputs_of h.done) lines h.quits)
   where
-    no_content : (state : State) → TakesLines state → {D : Type 0} (HasCome : D → ℕ → List Transaction → Type 0) (IsDrafting : D → ℕ → List Transaction → List ℕ → Type 0) (new : Talk D)
+    no_content : (state : State) → TakesLines state
+        → {D : Type 0} (HasCome : D → ℕ → List Transaction → Type 0) (IsDrafting : D → ℕ → List Transaction → List ℕ → Type 0) (new : Talk D)
         → BeginsIf HasCome IsDrafting (is_content state) new.delivery new
     no_content Fresh h HasCome IsDrafting new = refl
     no_content Greeted h HasCome IsDrafting new = refl

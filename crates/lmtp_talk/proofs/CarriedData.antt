@@ -24,11 +24,13 @@ use Rattle.lmtp_talk.proofs.Quits.{quits_data, data_greets}
 use Rattle.lmtp_talk.proofs.Carried.{session_more, says_part, accepted-snoc, transactions-data}
 use Rattle.lmtp_talk.proofs.Entered.{logged_more, entries_data}
 
-in_data : (state : State) (dialogue : Dialogue) (rest : List ℕ) (come : Type 0) (drafts : List ℕ → Type 0) → state ≡ Content → IsInside state dialogue rest come drafts → InData dialogue rest drafts
+in_data : (state : State) (dialogue : Dialogue) (rest : List ℕ) (come : Type 0) (drafts : List ℕ → Type 0) → state ≡ Content
+    → IsInside state dialogue rest come drafts → InData dialogue rest drafts
 in_data state dialogue rest come drafts e x = subst (λ (s : State). IsInside s dialogue rest come drafts) e x
 
 -- the data goes on
-pub more_of_data : (site : Site) (start : PeerState) (Before : ℕ → List Transaction → Type 0) {D : Type 0} (HasCome : D → ℕ → List Transaction → Type 0) (IsDrafting : D → ℕ → List Transaction → List ℕ → Type 0)
+pub more_of_data : (site : Site) (start : PeerState) (Before : ℕ → List Transaction → Type 0) {D : Type 0} (HasCome : D → ℕ → List Transaction → Type 0)
+    (IsDrafting : D → ℕ → List Transaction → List ℕ → Type 0)
     (old : Dialogue) (dot : Dot) (peer : PeerState) (delivery later : D) (handled came piece bytes : List ℕ) (size room : ℕ) (fed : Fed)
     → old.session.session.state ≡ Content
     → ((taken made : List ℕ) → HasMade old.dot taken made → DataGoesOn dot (taken ++ take fed.used piece) (made ++ bytes) size room fed)
@@ -57,11 +59,13 @@ more_of_data site start Before {D} HasCome IsDrafting old dot peer delivery late
       said = h.said;
       goes = h.goes;
       logged = h.logged;
-      inside = subst (λ (s : State). IsInside s new text (Comes site h.done Before (HasCome later)) (λ made. Comes site h.done Before (λ n ts. IsDrafting later n ts made))) (sym content) now;
+      inside = subst (λ (s : State). IsInside s new text (Comes site h.done Before (HasCome later))
+          (λ made. Comes site h.done Before (λ n ts. IsDrafting later n ts made))) (sym content) now;
     }
 
 -- the data has ended
-pub end_of_data : (site : Site) (start : PeerState) (Before : ℕ → List Transaction → Type 0) {D : Type 0} (HasCome : D → ℕ → List Transaction → Type 0) (IsDrafting : D → ℕ → List Transaction → List ℕ → Type 0)
+pub end_of_data : (site : Site) (start : PeerState) (Before : ℕ → List Transaction → Type 0) {D : Type 0} (HasCome : D → ℕ → List Transaction → Type 0)
+    (IsDrafting : D → ℕ → List Transaction → List ℕ → Type 0)
     (old new : Dialogue) (dot : Dot) (before after : PeerState) (delivery mid later : D) (handled came piece bytes : List ℕ) (used : ℕ)
     → old.session.session.state ≡ Content
     → ((taken made : List ℕ) → HasMade old.dot taken made → IsDataEnd (taken ++ take used piece) (made ++ bytes))
@@ -76,20 +80,26 @@ end_of_data site start Before {D} HasCome IsDrafting old new dot before after de
     let ends = feeds h.rest inside.made inside.after in
     let d : Disposition = e.disposition in
     let p : Part = MailData text d in
-    let session_is : new.session.session ≡ session_after_parts site fresh (h.done ++ p ∷ []) = session_more site h.done p between new before after e.takes h.same_site h.session in
-    let greets : new.session.session.state ≡ Greeted = ap (λ (s : Session). s.state) e.takes.session ∙ data_greets d.verdict old.session.site old.session.session d in
+    let session_is : new.session.session ≡ session_after_parts site fresh (h.done ++ p ∷ []) =
+        session_more site h.done p between new before after e.takes h.same_site h.session in
+    let greets : new.session.session.state ≡ Greeted =
+        ap (λ (s : Session). s.state) e.takes.session ∙ data_greets d.verdict old.session.site old.session.session d in
     let now : InLine new [] (Comes site (h.done ++ p ∷ []) Before (HasCome later)) = record {
       after = subst (λ w. IsAfter w []) (sym e.takes.wire) inside.next;
       comes = λ n ts first.
-          let t : Transaction = record { number = accepted_after site n fresh h.done; session = old.session.session; message = inside.made ++ bytes; disposition = d } in
-          let t' : Transaction = record { number = accepted_after site n fresh h.done; session = session_after_parts site fresh h.done; message = message text; disposition = d } in
+          let t : Transaction = record { number = accepted_after site n fresh h.done; session = old.session.session; message = inside.made ++ bytes;
+              disposition = d } in
+          let t' : Transaction = record { number = accepted_after site n fresh h.done; session = session_after_parts site fresh h.done; message = message text;
+              disposition = d } in
           let same : t ≡ t' =
           ap (λ (s : Session). record { number = accepted_after site n fresh h.done; session = s; message = inside.made ++ bytes; disposition = d }) h.session
-          ∙ ap (λ (m : List ℕ). record { number = accepted_after site n fresh h.done; session = session_after_parts site fresh h.done; message = m; disposition = d }) ends.message in
+          ∙ ap (λ (m : List ℕ). record { number = accepted_after site n fresh h.done; session = session_after_parts site fresh h.done; message = m;
+              disposition = d }) ends.message in
           let count : accepted_after site n fresh h.done ≡ accepted_after site n fresh (h.done ++ p ∷ []) =
           sym (accepted-snoc site n h.done p ∙ same_after_data site (accepted_after site n fresh h.done) (session_after_parts site fresh h.done) text d) in
           let list : (ts ++ transactions_of site n fresh h.done) ++ t ∷ [] ≡ ts ++ transactions_of site n fresh (h.done ++ p ∷ []) =
-          append_assoc ts (transactions_of site n fresh h.done) (t ∷ []) ∙ ap (λ (x : Transaction). ts ++ (transactions_of site n fresh h.done ++ x ∷ [])) same ∙ ap (λ l. ts ++ l) (sym (transactions-data site n h.done text d)) in
+          append_assoc ts (transactions_of site n fresh h.done) (t ∷ []) ∙ ap (λ (x : Transaction). ts ++ (transactions_of site n fresh h.done ++ x ∷ [])) same
+              ∙ ap (λ l. ts ++ l) (sym (transactions-data site n h.done text d)) in
           subst (λ k. HasCome later k (ts ++ transactions_of site n fresh (h.done ++ p ∷ []))) count
           (subst (λ l. HasCome later (accepted_after site n fresh h.done) l) list
           (e.ended _ _ (inside.made ++ bytes) (grows _ _ inside.made (inside.drafting n ts first))));
@@ -104,13 +114,17 @@ end_of_data site start Before {D} HasCome IsDrafting old new dot before after de
       same_site = e.takes.site ∙ h.same_site;
       session = session_is;
       quits = subst (λ (s : Session). QuitsWith s.state (flat_map inputs_of (h.done ++ p ∷ []))) (sym e.takes.session)
-          (subst (λ l. QuitsWith (session_after old.session.site old.session.session (DataEnded d.verdict ∷ outcomes_of d d.verdict)).state l) (sym (inputs-snoc h.done p))
+          (subst (λ l. QuitsWith (session_after old.session.site old.session.session (DataEnded d.verdict ∷ outcomes_of d d.verdict)).state l)
+              (sym (inputs-snoc h.done p))
           (quits_data d.verdict old.session.site old.session.session (flat_map inputs_of h.done) d content h.quits));
       said = says_part site h.done p start before after between new came e.takes h.same_site h.session h.said;
       goes = e.takes.same ∙ h.goes;
       logged = λ n ts first.
           let k : ℕ = accepted_after site n fresh h.done in
-          logged_more site n h.done p start.told before.told after.told _ (e.told k _ (inside.made ++ bytes) (grows k _ inside.made (inside.drafting n ts first))) (h.logged n ts first)
-          (entries_data site old.session.site k old.session.session (session_after_parts site fresh h.done) text (inside.made ++ bytes) d h.same_site h.session ends.message);
-      inside = subst (λ (s : State). IsInside s new [] (Comes site (h.done ++ p ∷ []) Before (HasCome later)) (λ made. Comes site (h.done ++ p ∷ []) Before (λ n ts. IsDrafting later n ts made))) (sym greets) now;
+          logged_more site n h.done p start.told before.told after.told _
+              (e.told k _ (inside.made ++ bytes) (grows k _ inside.made (inside.drafting n ts first))) (h.logged n ts first)
+          (entries_data site old.session.site k old.session.session (session_after_parts site fresh h.done) text (inside.made ++ bytes) d h.same_site h.session
+              ends.message);
+      inside = subst (λ (s : State). IsInside s new [] (Comes site (h.done ++ p ∷ []) Before (HasCome later))
+          (λ made. Comes site (h.done ++ p ∷ []) Before (λ n ts. IsDrafting later n ts made))) (sym greets) now;
     }

@@ -17,7 +17,8 @@ rises_then a b s t u (inr e) (inr f) = inr (omega (arith, e.0), f.1)
 
 -- nothing was read before
 pub read_from : (reads : ℕ) (s t u : PeerState) (end : EndCause) → t.reads ≡ s.reads → HasRead reads t u end → HasRead reads s u end
-read_from reads s t u end e h = record { made = h.made; counts = subst (λ n. RisesBy h.made n u.reads) e h.counts; within = h.within; read_bound = h.read_bound }
+read_from reads s t u end e h =
+    record { made = h.made; counts = subst (λ n. RisesBy h.made n u.reads) e h.counts; within = h.within; read_bound = h.read_bound }
 
 -- a read that brought bytes is one, and no bound ends the conversation with it
 quit_read : (broken : Bool) (s t : PeerState) → WasRead 1 s t → (quit_or broken ≢ ends.ReadBound) × HasRead 1 s t (quit_or broken)
@@ -36,5 +37,6 @@ read_by Content broken s t w = w
 read_by Waiting broken s t w = quit_read broken s t w
 read_by Ended broken s t w = quit_read broken s t w
 
-pub read_one : (result : Option EndCause) (state : State) (broken : Bool) (s t u : PeerState) → result ≡ end_after state broken → WasRead 1 s t → u.reads ≡ t.reads → HasReadOne result s u
+pub read_one : (result : Option EndCause) (state : State) (broken : Bool) (s t u : PeerState) → result ≡ end_after state broken → WasRead 1 s t
+    → u.reads ≡ t.reads → HasReadOne result s u
 read_one result state broken s t u e w same = subst (λ o. HasReadOne o s u) (sym e) (read_by state broken s u (subst (λ n. RisesBy 1 s.reads n) (sym same) w))

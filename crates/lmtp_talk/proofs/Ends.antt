@@ -29,7 +29,8 @@ use Rattle.lmtp_talk.proofs.Written.{moved_writing, said_on}
 use Rattle.lmtp_talk.proofs.CutUp.{all_cut, all_accounted, all_inputs}
 
 -- nothing is left but what is inside
-nothing_ended : (state : State) (dialogue : Dialogue) (rest : List ℕ) (come : Type 0) (drafts : List ℕ → Type 0) → IsInside state dialogue rest come drafts → HasNoPart state rest
+nothing_ended : (state : State) (dialogue : Dialogue) (rest : List ℕ) (come : Type 0) (drafts : List ℕ → Type 0) → IsInside state dialogue rest come drafts
+    → HasNoPart state rest
 nothing_ended Fresh dialogue rest come drafts x = x.after.goes_on
 nothing_ended Greeted dialogue rest come drafts x = x.after.goes_on
 nothing_ended Sender dialogue rest come drafts x = x.after.goes_on
@@ -38,7 +39,8 @@ nothing_ended Content dialogue rest come drafts x = x.after.goes_on
 nothing_ended Waiting dialogue rest come drafts x = tt
 nothing_ended Ended dialogue rest come drafts x = tt
 
-pub leave_none : (state : State) (Come : ℕ → List Transaction → Type 0) (Drafting : ℕ → List Transaction → List ℕ → Type 0) → (state ≡ Content → ⊥) → Leaves (is_content state) Come Drafting Come
+pub leave_none : (state : State) (Come : ℕ → List Transaction → Type 0) (Drafting : ℕ → List Transaction → List ℕ → Type 0) → (state ≡ Content → ⊥)
+    → Leaves (is_content state) Come Drafting Come
 leave_none Fresh Come Drafting other = λ n ts h. h
 leave_none Greeted Come Drafting other = λ n ts h. h
 leave_none Sender Come Drafting other = λ n ts h. h
@@ -47,8 +49,10 @@ leave_none Content Come Drafting other = absurd (other refl)
 leave_none Waiting Come Drafting other = λ n ts h. h
 leave_none Ended Come Drafting other = λ n ts h. h
 
-leaves_by : (state : State) (site : Site) (ps : List Part) (Before Come Last : ℕ → List Transaction → Type 0) (Drafting : ℕ → List Transaction → List ℕ → Type 0) (dialogue : Dialogue) (rest : List ℕ)
-    → IsInside state dialogue rest (Comes site ps Before Come) (λ made. Comes site ps Before (λ n ts. Drafting n ts made)) → Leaves (is_content state) Come Drafting Last → Comes site ps Before Last
+leaves_by : (state : State) (site : Site) (ps : List Part) (Before Come Last : ℕ → List Transaction → Type 0)
+    (Drafting : ℕ → List Transaction → List ℕ → Type 0) (dialogue : Dialogue) (rest : List ℕ)
+    → IsInside state dialogue rest (Comes site ps Before Come) (λ made. Comes site ps Before (λ n ts. Drafting n ts made))
+    → Leaves (is_content state) Come Drafting Last → Comes site ps Before Last
 leaves_by Fresh site ps Before Come Last Drafting dialogue rest x l = λ n ts b. l _ _ (x.comes n ts b)
 leaves_by Greeted site ps Before Come Last Drafting dialogue rest x l = λ n ts b. l _ _ (x.comes n ts b)
 leaves_by Sender site ps Before Come Last Drafting dialogue rest x l = λ n ts b. l _ _ (x.comes n ts b)
@@ -58,7 +62,8 @@ leaves_by Waiting site ps Before Come Last Drafting dialogue rest x l = absurd x
 leaves_by Ended site ps Before Come Last Drafting dialogue rest x l = λ n ts b. l _ _ (x n ts b)
 
 -- the session may stop wherever bytes are read
-may_stop_by : (state : State) (dialogue : Dialogue) (rest : List ℕ) (come : Type 0) (drafts : List ℕ → Type 0) → IsInside state dialogue rest come drafts → (state ≡ Ended → ⊥) → MayStop state
+may_stop_by : (state : State) (dialogue : Dialogue) (rest : List ℕ) (come : Type 0) (drafts : List ℕ → Type 0) → IsInside state dialogue rest come drafts
+    → (state ≡ Ended → ⊥) → MayStop state
 may_stop_by Fresh dialogue rest come drafts x open' = refl
 may_stop_by Greeted dialogue rest come drafts x open' = refl
 may_stop_by Sender dialogue rest come drafts x open' = refl
@@ -115,7 +120,8 @@ unfolding replies
 replies_are site c xs e = ap (last_text site) e
 
 text_not_stopped : (site : Site) (ps : List Part) → last_text site (flat_map inputs_of ps) ≡ last_text site (last_inputs site ps false)
-text_not_stopped site ps = ap (last_text site) (sym (ap (λ l. flat_map inputs_of ps ++ l) (no_stop (session_after_parts site fresh ps).state) ∙ append-nil (flat_map inputs_of ps)))
+text_not_stopped site ps = ap (last_text site)
+    (sym (ap (λ l. flat_map inputs_of ps ++ l) (no_stop (session_after_parts site fresh ps).state) ∙ append-nil (flat_map inputs_of ps)))
 
 text_stopped : (site : Site) (ps : List Part) (view : Site) (s : Session) → view ≡ site → s ≡ session_after_parts site fresh ps → MayStop s.state
     → last_text site (flat_map inputs_of ps) ++ reply_texts view (replies_to view s (Stop ∷ [])) ≡ last_text site (last_inputs site ps true)
@@ -125,17 +131,20 @@ text_stopped site ps view s site_is session_is may =
     ap (λ x. last_text site xs ++ reply_texts x (replies_to x s (Stop ∷ []))) site_is
     ∙ ap (λ x. last_text site xs ++ reply_texts site (replies_to site x (Stop ∷ []))) session_is
     ∙ append_assoc greeted (reply_texts site (replies_to site fresh xs)) _
-    ∙ ap (λ l. greeted ++ l) (sym (flat_map-append (reply_text site) (replies_to site fresh xs) (replies_to site (session_after_parts site fresh ps) (Stop ∷ []))))
+    ∙ ap (λ l. greeted ++ l) (sym (flat_map-append (reply_text site) (replies_to site fresh xs)
+        (replies_to site (session_after_parts site fresh ps) (Stop ∷ []))))
     ∙ ap (λ l. greeted ++ reply_texts site l) (sym (replies_to-append site fresh xs (Stop ∷ [])))
     ∙ ap (λ l. last_text site (xs ++ l)) (sym (stop_is (session_after_parts site fresh ps).state (subst (λ (x : Session). MayStop x.state) session_is may)))
 
 -- what was said is written
-written_whole : (start now : PeerState) (pending came text : List ℕ) (fails : Type 0) (h : HasSaid start now (record { pending = pending; broken = false }) came text) → pending ≡ [] → IsWritten text fails h.written
+written_whole : (start now : PeerState) (pending came text : List ℕ) (fails : Type 0)
+    (h : HasSaid start now (record { pending = pending; broken = false }) came text) → pending ≡ [] → IsWritten text fails h.written
 written_whole start now pending came text fails h none =
     let all : text ≡ h.written = h.is.whole ∙ ap (λ l. h.written ++ l) none ∙ append-nil h.written in
     record { begins = record { rest = pending; whole = h.is.whole }; whole = λ f. sym all }
 
-written_broken : (start now : PeerState) (pending came text : List ℕ) (fails : Type 0) (h : HasSaid start now (record { pending = pending; broken = true }) came text) → fails → IsWritten text fails h.written
+written_broken : (start now : PeerState) (pending came text : List ℕ) (fails : Type 0)
+    (h : HasSaid start now (record { pending = pending; broken = true }) came text) → fails → IsWritten text fails h.written
 written_broken start now pending came text fails h f = record { begins = h.is.begins; whole = λ g. absurd (g f) }
 
 -- where a conversation stands that ends: how many reads it might make, its session's state, whether it was stopped, the bytes handled
@@ -169,10 +178,12 @@ record EndsConversation (site : Site) (at : Final) (ps : List Part) (start now :
   pub says : IsWritten (last_text site (last_inputs site ps at.stopped)) (end ≡ ends.WriteFault) written
   pub causes : EndsBy at start now end
 
-finished : (reads : ℕ) (site : Site) (start before now : PeerState) (Before Come Last : ℕ → List Transaction → Type 0) (Drafting : ℕ → List Transaction → List ℕ → Type 0)
+finished : (reads : ℕ) (site : Site) (start before now : PeerState) (Before Come Last : ℕ → List Transaction → Type 0)
+    (Drafting : ℕ → List Transaction → List ℕ → Type 0)
     (dialogue : Dialogue) (handled : List ℕ) (stopped : Bool) (end : EndCause)
     → (h : IsSoFar (beginning site start Before) (standing dialogue before Come Drafting) handled handled) → Comes site h.done Before Last
-    → now.told ≡ before.told → EndsConversation site (final reads dialogue.session.session.state stopped handled) h.done start now end → IsServed (terms site reads) start now Before Last end
+    → now.told ≡ before.told → EndsConversation site (final reads dialogue.session.session.state stopped handled) h.done start now end
+    → IsServed (terms site reads) start now Before Last end
 finished reads site start before now Before Come Last Drafting dialogue handled stopped end h comes untold f =
     let c : Conversation = record { bytes = handled; dispositions = dispositions_of h.done; stopped = stopped } in
     let at : List ℕ → Conversation = λ l. record { bytes = l; dispositions = dispositions_of h.done; stopped = stopped } in
@@ -208,12 +219,17 @@ finished reads site start before now Before Come Last Drafting dialogue handled 
     }
 
 -- a draft that is dropped, or none
-comes_in_the_end : (site : Site) (start before : PeerState) (Before Come Last : ℕ → List Transaction → Type 0) (Drafting : ℕ → List Transaction → List ℕ → Type 0) (dialogue : Dialogue) (handled came : List ℕ)
-    → (h : IsSoFar (beginning site start Before) (standing dialogue before Come Drafting) handled came) → Leaves (is_content dialogue.session.session.state) Come Drafting Last → Comes site h.done Before Last
-comes_in_the_end site start before Before Come Last Drafting dialogue handled came h l = leaves_by dialogue.session.session.state site h.done Before Come Last Drafting dialogue h.rest h.inside l
+comes_in_the_end : (site : Site) (start before : PeerState) (Before Come Last : ℕ → List Transaction → Type 0)
+    (Drafting : ℕ → List Transaction → List ℕ → Type 0) (dialogue : Dialogue) (handled came : List ℕ)
+    → (h : IsSoFar (beginning site start Before) (standing dialogue before Come Drafting) handled came)
+    → Leaves (is_content dialogue.session.session.state) Come Drafting Last → Comes site h.done Before Last
+comes_in_the_end site start before Before Come Last Drafting dialogue handled came h l =
+    leaves_by dialogue.session.session.state site h.done Before Come Last Drafting dialogue h.rest h.inside l
 
-pub may_stop : (site : Site) (start before : PeerState) (Before Come : ℕ → List Transaction → Type 0) (Drafting : ℕ → List Transaction → List ℕ → Type 0) (dialogue : Dialogue) (handled came : List ℕ)
-    → IsSoFar (beginning site start Before) (standing dialogue before Come Drafting) handled came → (dialogue.session.session.state ≡ Ended → ⊥) → MayStop dialogue.session.session.state
+pub may_stop : (site : Site) (start before : PeerState) (Before Come : ℕ → List Transaction → Type 0) (Drafting : ℕ → List Transaction → List ℕ → Type 0)
+    (dialogue : Dialogue) (handled came : List ℕ)
+    → IsSoFar (beginning site start Before) (standing dialogue before Come Drafting) handled came → (dialogue.session.session.state ≡ Ended → ⊥)
+    → MayStop dialogue.session.session.state
 may_stop site start before Before Come Drafting dialogue handled came h open' = may_stop_by dialogue.session.session.state dialogue h.rest _ _ h.inside open'
 
 -- no write failed, and nothing waits
@@ -231,10 +247,14 @@ EndsAs reads ends.ReadFault dialogue now handled = ⊥
 EndsAs reads ends.Stopped dialogue now handled = ⊥
 
 -- what the outbox tells
-said_whole : (start now : PeerState) (dialogue : Dialogue) (came text : List ℕ) → IsQuiet dialogue → HasSaid start now dialogue.outbox came text → HasSaid start now (record { pending = []; broken = false }) came text
-said_whole start now dialogue came text q h = subst (λ b. HasSaid start now (record { pending = []; broken = b }) came text) q.whole (subst (λ l. HasSaid start now (record { pending = l; broken = dialogue.outbox.broken }) came text) q.none h)
+said_whole : (start now : PeerState) (dialogue : Dialogue) (came text : List ℕ) → IsQuiet dialogue → HasSaid start now dialogue.outbox came text
+    → HasSaid start now (record { pending = []; broken = false }) came text
+said_whole start now dialogue came text q h =
+    subst (λ b. HasSaid start now (record { pending = []; broken = b }) came text) q.whole
+    (subst (λ l. HasSaid start now (record { pending = l; broken = dialogue.outbox.broken }) came text) q.none h)
 
-said_broken : (start now : PeerState) (broken : Bool) (pending came text : List ℕ) → broken ≡ true → HasSaid start now (record { pending = pending; broken = broken }) came text → HasSaid start now (record { pending = pending; broken = true }) came text
+said_broken : (start now : PeerState) (broken : Bool) (pending came text : List ℕ) → broken ≡ true
+    → HasSaid start now (record { pending = pending; broken = broken }) came text → HasSaid start now (record { pending = pending; broken = true }) came text
 said_broken start now broken pending came text e h = subst (λ b. HasSaid start now (record { pending = pending; broken = b }) came text) e h
 
 finishes_quiet : (reads : ℕ) (site : Site) (start now : PeerState) (dialogue : Dialogue) (ps : List Part) (handled : List ℕ) (end : EndCause) → IsQuiet dialogue
@@ -243,11 +263,15 @@ finishes_quiet : (reads : ℕ) (site : Site) (start now : PeerState) (dialogue :
     → EndsConversation site (final reads dialogue.session.session.state false handled) ps start now end
 finishes_quiet reads site start now dialogue ps handled end q h causes =
     let s : HasSaid start now (record { pending = []; broken = false }) handled (last_text site (last_inputs site ps false)) =
-    subst (λ l. HasSaid start now (record { pending = []; broken = false }) handled l) (text_not_stopped site ps) (said_whole start now dialogue handled (last_text site (flat_map inputs_of ps)) q h) in
-    record { written = s.written; moved = s.moved; says = written_whole start now [] handled (last_text site (last_inputs site ps false)) (end ≡ ends.WriteFault) s refl; causes = causes s.is.sound }
+    subst (λ l. HasSaid start now (record { pending = []; broken = false }) handled l) (text_not_stopped site ps)
+        (said_whole start now dialogue handled (last_text site (flat_map inputs_of ps)) q h) in
+    record { written = s.written; moved = s.moved;
+        says = written_whole start now [] handled (last_text site (last_inputs site ps false)) (end ≡ ends.WriteFault) s refl; causes = causes s.is.sound }
 
-finishes_broken : (reads : ℕ) (site : Site) (start now : PeerState) (broken : Bool) (pending : List ℕ) (state : State) (stopped : Bool) (ps : List Part) (handled text : List ℕ) → broken ≡ true
-    → text ≡ last_text site (last_inputs site ps stopped) → (stopped ≡ true → Rises start.stops now.stops) → (stopped ≡ false → now.stops ≡ start.stops) → HasSaid start now (record { pending = pending; broken = broken }) handled text
+finishes_broken : (reads : ℕ) (site : Site) (start now : PeerState) (broken : Bool) (pending : List ℕ) (state : State) (stopped : Bool) (ps : List Part)
+    (handled text : List ℕ) → broken ≡ true
+    → text ≡ last_text site (last_inputs site ps stopped) → (stopped ≡ true → Rises start.stops now.stops) → (stopped ≡ false → now.stops ≡ start.stops)
+    → HasSaid start now (record { pending = pending; broken = broken }) handled text
     → EndsConversation site (final reads state stopped handled) ps start now ends.WriteFault
 finishes_broken reads site start now broken pending state stopped ps handled text e is rose kept h =
     let s : HasSaid start now (record { pending = pending; broken = true }) handled (last_text site (last_inputs site ps stopped)) =
@@ -272,7 +296,8 @@ finishes_broken reads site start now broken pending state stopped ps handled tex
     }
 
 -- the causes of a conversation that was not stopped
-quit_ends : (reads : ℕ) (state : State) (handled : List ℕ) (start now : PeerState) → state ≡ Ended → now.failures ≡ start.failures → now.stops ≡ start.stops → EndsBy (final reads state false handled) start now ends.Quit
+quit_ends : (reads : ℕ) (state : State) (handled : List ℕ) (start now : PeerState) → state ≡ Ended → now.failures ≡ start.failures → now.stops ≡ start.stops
+    → EndsBy (final reads state false handled) start now ends.Quit
 quit_ends reads state handled start now ended sound same = record {
   quit = λ f. ended;
   quits = λ f. inl refl;
@@ -287,7 +312,8 @@ quit_ends reads state handled start now ended sound same = record {
   sound = λ f g. sound;
 }
 
-input_ends : (reads : ℕ) (state : State) (handled : List ℕ) (start now : PeerState) → (state ≡ Ended → ⊥) → IsAtEnd now.unread → now.failures ≡ start.failures → now.stops ≡ start.stops → EndsBy (final reads state false handled) start now ends.EndOfInput
+input_ends : (reads : ℕ) (state : State) (handled : List ℕ) (start now : PeerState) → (state ≡ Ended → ⊥) → IsAtEnd now.unread → now.failures ≡ start.failures
+    → now.stops ≡ start.stops → EndsBy (final reads state false handled) start now ends.EndOfInput
 input_ends reads state handled start now open' none sound same = record {
   quit = λ f. cc;
   quits = λ f. absurd (open' f);
@@ -302,7 +328,8 @@ input_ends reads state handled start now open' none sound same = record {
   sound = λ f g. sound;
 }
 
-bound_ends : (reads : ℕ) (state : State) (handled : List ℕ) (start now : PeerState) → (state ≡ Ended → ⊥) → reads ≤ length handled → now.failures ≡ start.failures → now.stops ≡ start.stops → EndsBy (final reads state false handled) start now ends.ReadBound
+bound_ends : (reads : ℕ) (state : State) (handled : List ℕ) (start now : PeerState) → (state ≡ Ended → ⊥) → reads ≤ length handled
+    → now.failures ≡ start.failures → now.stops ≡ start.stops → EndsBy (final reads state false handled) start now ends.ReadBound
 bound_ends reads state handled start now open' long sound same = record {
   quit = λ f. cc;
   quits = λ f. absurd (open' f);
@@ -317,7 +344,8 @@ bound_ends reads state handled start now open' long sound same = record {
   sound = λ f g. sound;
 }
 
-fault_ends : (reads : ℕ) (state : State) (handled : List ℕ) (start now : PeerState) → (state ≡ Ended → ⊥) → Rises start.failures now.failures → now.stops ≡ start.stops → EndsBy (final reads state false handled) start now ends.ReadFault
+fault_ends : (reads : ℕ) (state : State) (handled : List ℕ) (start now : PeerState) → (state ≡ Ended → ⊥) → Rises start.failures now.failures
+    → now.stops ≡ start.stops → EndsBy (final reads state false handled) start now ends.ReadFault
 fault_ends reads state handled start now open' failed same = record {
   quit = λ f. cc;
   quits = λ f. absurd (open' f);
@@ -332,7 +360,8 @@ fault_ends reads state handled start now open' failed same = record {
   sound = λ f g. absurd (f refl);
 }
 
-stop_ends : (reads : ℕ) (state : State) (handled : List ℕ) (start now : PeerState) → (state ≡ Ended → ⊥) → Rises start.stops now.stops → now.failures ≡ start.failures → EndsBy (final reads state true handled) start now ends.Stopped
+stop_ends : (reads : ℕ) (state : State) (handled : List ℕ) (start now : PeerState) → (state ≡ Ended → ⊥) → Rises start.stops now.stops
+    → now.failures ≡ start.failures → EndsBy (final reads state true handled) start now ends.Stopped
 stop_ends reads state handled start now open' may sound = record {
   quit = λ f. cc;
   quits = λ f. absurd (open' f);
@@ -348,34 +377,49 @@ stop_ends reads state handled start now open' may sound = record {
 }
 
 -- all that came is handled, and it ends so
-pub served : (reads : ℕ) (site : Site) (start now : PeerState) (Before Come Last : ℕ → List Transaction → Type 0) (Drafting : ℕ → List Transaction → List ℕ → Type 0) (dialogue : Dialogue) (handled : List ℕ) (end : EndCause)
-    → IsSoFar (beginning site start Before) (standing dialogue now Come Drafting) handled handled → Leaves (is_content dialogue.session.session.state) Come Drafting Last
+pub served : (reads : ℕ) (site : Site) (start now : PeerState) (Before Come Last : ℕ → List Transaction → Type 0)
+    (Drafting : ℕ → List Transaction → List ℕ → Type 0) (dialogue : Dialogue) (handled : List ℕ) (end : EndCause)
+    → IsSoFar (beginning site start Before) (standing dialogue now Come Drafting) handled handled
+    → Leaves (is_content dialogue.session.session.state) Come Drafting Last
     → EndsAs reads end dialogue now handled → IsServed (terms site reads) start now Before Last end
 served reads site start now Before Come Last Drafting dialogue handled ends.Quit h l e =
-    finished reads site start now now Before Come Last Drafting dialogue handled false ends.Quit h (comes_in_the_end site start now Before Come Last Drafting dialogue handled handled h l) refl
-    (finishes_quiet reads site start now dialogue h.done handled ends.Quit e.0 h.said (λ sound. quit_ends reads dialogue.session.session.state handled start now e.1 sound h.goes))
+    finished reads site start now now Before Come Last Drafting dialogue handled false ends.Quit h
+        (comes_in_the_end site start now Before Come Last Drafting dialogue handled handled h l) refl
+    (finishes_quiet reads site start now dialogue h.done handled ends.Quit e.0 h.said
+        (λ sound. quit_ends reads dialogue.session.session.state handled start now e.1 sound h.goes))
 served reads site start now Before Come Last Drafting dialogue handled ends.EndOfInput h l e =
-    finished reads site start now now Before Come Last Drafting dialogue handled false ends.EndOfInput h (comes_in_the_end site start now Before Come Last Drafting dialogue handled handled h l) refl
-    (finishes_quiet reads site start now dialogue h.done handled ends.EndOfInput e.0 h.said (λ sound. input_ends reads dialogue.session.session.state handled start now e.1 e.2 sound h.goes))
+    finished reads site start now now Before Come Last Drafting dialogue handled false ends.EndOfInput h
+        (comes_in_the_end site start now Before Come Last Drafting dialogue handled handled h l) refl
+    (finishes_quiet reads site start now dialogue h.done handled ends.EndOfInput e.0 h.said
+        (λ sound. input_ends reads dialogue.session.session.state handled start now e.1 e.2 sound h.goes))
 served reads site start now Before Come Last Drafting dialogue handled ends.ReadBound h l e =
-    finished reads site start now now Before Come Last Drafting dialogue handled false ends.ReadBound h (comes_in_the_end site start now Before Come Last Drafting dialogue handled handled h l) refl
-    (finishes_quiet reads site start now dialogue h.done handled ends.ReadBound e.0 h.said (λ sound. bound_ends reads dialogue.session.session.state handled start now e.1 e.2 sound h.goes))
+    finished reads site start now now Before Come Last Drafting dialogue handled false ends.ReadBound h
+        (comes_in_the_end site start now Before Come Last Drafting dialogue handled handled h l) refl
+    (finishes_quiet reads site start now dialogue h.done handled ends.ReadBound e.0 h.said
+        (λ sound. bound_ends reads dialogue.session.session.state handled start now e.1 e.2 sound h.goes))
 served reads site start now Before Come Last Drafting dialogue handled ends.WriteFault h l e =
-    finished reads site start now now Before Come Last Drafting dialogue handled false ends.WriteFault h (comes_in_the_end site start now Before Come Last Drafting dialogue handled handled h l) refl
-    (finishes_broken reads site start now dialogue.outbox.broken dialogue.outbox.pending dialogue.session.session.state false h.done handled _ e (text_not_stopped site h.done) (λ f. cc) (λ f. h.goes) h.said)
+    finished reads site start now now Before Come Last Drafting dialogue handled false ends.WriteFault h
+        (comes_in_the_end site start now Before Come Last Drafting dialogue handled handled h l) refl
+    (finishes_broken reads site start now dialogue.outbox.broken dialogue.outbox.pending dialogue.session.session.state false h.done handled _ e
+        (text_not_stopped site h.done) (λ f. cc) (λ f. h.goes) h.said)
 served reads site start now Before Come Last Drafting dialogue handled ends.ReadFault h l e = absurd e
 served reads site start now Before Come Last Drafting dialogue handled ends.Stopped h l e = absurd e
 
 -- the read after it failed
-pub served_read_fault : (reads : ℕ) (site : Site) (start before now : PeerState) (Before Come Last : ℕ → List Transaction → Type 0) (Drafting : ℕ → List Transaction → List ℕ → Type 0) (dialogue : Dialogue) (handled : List ℕ)
-    → IsSoFar (beginning site start Before) (standing dialogue before Come Drafting) handled handled → Leaves (is_content dialogue.session.session.state) Come Drafting Last
+pub served_read_fault : (reads : ℕ) (site : Site) (start before now : PeerState) (Before Come Last : ℕ → List Transaction → Type 0)
+    (Drafting : ℕ → List Transaction → List ℕ → Type 0) (dialogue : Dialogue) (handled : List ℕ)
+    → IsSoFar (beginning site start Before) (standing dialogue before Come Drafting) handled handled
+    → Leaves (is_content dialogue.session.session.state) Come Drafting Last
     → IsQuiet dialogue → (dialogue.session.session.state ≡ Ended → ⊥) → PeerFailed before now → IsServed (terms site reads) start now Before Last ends.ReadFault
 served_read_fault reads site start before now Before Come Last Drafting dialogue handled h l q open' f =
     let s : HasSaid start before (record { pending = []; broken = false }) handled (last_text site (last_inputs site h.done false)) =
-    subst (λ l. HasSaid start before (record { pending = []; broken = false }) handled l) (text_not_stopped site h.done) (said_whole start before dialogue handled (last_text site (flat_map inputs_of h.done)) q h.said) in
-    let moved : HasMoved start now handled s.written = subst (λ l. HasMoved start now handled l) (append-nil s.written) (moved_writing start before now handled s.written [] s.moved f.moved) in
+    subst (λ l. HasSaid start before (record { pending = []; broken = false }) handled l) (text_not_stopped site h.done)
+        (said_whole start before dialogue handled (last_text site (flat_map inputs_of h.done)) q h.said) in
+    let moved : HasMoved start now handled s.written =
+        subst (λ l. HasMoved start now handled l) (append-nil s.written) (moved_writing start before now handled s.written [] s.moved f.moved) in
     let failed : Rises start.failures now.failures = subst (λ k. Rises k now.failures) s.is.sound f.failed in
-    finished reads site start before now Before Come Last Drafting dialogue handled false ends.ReadFault h (comes_in_the_end site start before Before Come Last Drafting dialogue handled handled h l) f.untold
+    finished reads site start before now Before Come Last Drafting dialogue handled false ends.ReadFault h
+        (comes_in_the_end site start before Before Come Last Drafting dialogue handled handled h l) f.untold
     (record {
       written = s.written;
       moved = moved;
@@ -384,19 +428,25 @@ served_read_fault reads site start before now Before Come Last Drafting dialogue
     })
 
 -- the session was told to stop, and what it said to that was written as far as it could be
-text_in_the_end : (site : Site) (start before : PeerState) (Before Come : ℕ → List Transaction → Type 0) (Drafting : ℕ → List Transaction → List ℕ → Type 0) (dialogue : Dialogue) (handled came : List ℕ)
+text_in_the_end : (site : Site) (start before : PeerState) (Before Come : ℕ → List Transaction → Type 0) (Drafting : ℕ → List Transaction → List ℕ → Type 0)
+    (dialogue : Dialogue) (handled came : List ℕ)
     → (h : IsSoFar (beginning site start Before) (standing dialogue before Come Drafting) handled came) → MayStop dialogue.session.session.state
-    → last_text site (flat_map inputs_of h.done) ++ reply_texts dialogue.session.site (replies_to dialogue.session.site dialogue.session.session (Stop ∷ [])) ≡ last_text site (last_inputs site h.done true)
-text_in_the_end site start before Before Come Drafting dialogue handled came h may = text_stopped site h.done dialogue.session.site dialogue.session.session h.same_site h.session may
+    → last_text site (flat_map inputs_of h.done) ++ reply_texts dialogue.session.site (replies_to dialogue.session.site dialogue.session.session (Stop ∷ []))
+    ≡ last_text site (last_inputs site h.done true)
+text_in_the_end site start before Before Come Drafting dialogue handled came h may =
+    text_stopped site h.done dialogue.session.site dialogue.session.session h.same_site h.session may
 
 -- whether the outbox broke decides
 
-stopped_by : (reads : ℕ) (broken : Bool) (site : Site) (start now : PeerState) (pending : List ℕ) (state : State) (ps : List Part) (handled text : List ℕ) → (state ≡ Ended → ⊥) → Rises start.stops now.stops
+stopped_by : (reads : ℕ) (broken : Bool) (site : Site) (start now : PeerState) (pending : List ℕ) (state : State) (ps : List Part) (handled text : List ℕ)
+    → (state ≡ Ended → ⊥) → Rises start.stops now.stops
     → text ≡ last_text site (last_inputs site ps true) → pending ≡ [] → HasSaid start now (record { pending = pending; broken = broken }) handled text
     → EndsConversation site (final reads state true handled) ps start now (stopped_or broken)
-stopped_by reads true site start now pending state ps handled text open' may is none h = finishes_broken reads site start now true pending state true ps handled text refl is (λ f. may) (λ f. cc) h
+stopped_by reads true site start now pending state ps handled text open' may is none h =
+    finishes_broken reads site start now true pending state true ps handled text refl is (λ f. may) (λ f. cc) h
 stopped_by reads false site start now pending state ps handled text open' may is none h =
-    let s : HasSaid start now (record { pending = pending; broken = false }) handled (last_text site (last_inputs site ps true)) = subst (λ l. HasSaid start now (record { pending = pending; broken = false }) handled l) is h in
+    let s : HasSaid start now (record { pending = pending; broken = false }) handled (last_text site (last_inputs site ps true)) =
+        subst (λ l. HasSaid start now (record { pending = pending; broken = false }) handled l) is h in
     record {
       written = s.written;
       moved = s.moved;
@@ -404,16 +454,21 @@ stopped_by reads false site start now pending state ps handled text open' may is
       causes = stop_ends reads state handled start now open' may s.is.sound;
     }
 
-pub served_stopped : (reads : ℕ) (site : Site) (start earlier before now : PeerState) (Before Come Last : ℕ → List Transaction → Type 0) (Drafting : ℕ → List Transaction → List ℕ → Type 0) (dialogue new : Dialogue) (handled : List ℕ)
-    → IsSoFar (beginning site start Before) (standing dialogue earlier Come Drafting) handled handled → Leaves (is_content dialogue.session.session.state) Come Drafting Last
-    → (dialogue.session.session.state ≡ Ended → ⊥) → HasStopped earlier before → TakesInputs (Stop ∷ []) dialogue new before now → now.told ≡ before.told → new.outbox.pending ≡ []
+pub served_stopped : (reads : ℕ) (site : Site) (start earlier before now : PeerState) (Before Come Last : ℕ → List Transaction → Type 0)
+    (Drafting : ℕ → List Transaction → List ℕ → Type 0) (dialogue new : Dialogue) (handled : List ℕ)
+    → IsSoFar (beginning site start Before) (standing dialogue earlier Come Drafting) handled handled
+    → Leaves (is_content dialogue.session.session.state) Come Drafting Last
+    → (dialogue.session.session.state ≡ Ended → ⊥) → HasStopped earlier before → TakesInputs (Stop ∷ []) dialogue new before now → now.told ≡ before.told
+    → new.outbox.pending ≡ []
     → IsServed (terms site reads) start now Before Last (stopped_or new.outbox.broken)
 served_stopped reads site start earlier before now Before Come Last Drafting dialogue new handled h l open' stops t untold none =
     let may : MayStop dialogue.session.session.state = may_stop site start earlier Before Come Drafting dialogue handled handled h open' in
     let said : HasSaid start before dialogue.outbox handled (last_text site (flat_map inputs_of h.done)) =
     subst (λ l. HasSaid start before dialogue.outbox l (last_text site (flat_map inputs_of h.done))) (append-nil handled)
-    (said_on dialogue.outbox.broken start earlier before dialogue.outbox.pending handled [] (last_text site (flat_map inputs_of h.done)) h.said stops.moved stops.sound) in
+    (said_on dialogue.outbox.broken start earlier before dialogue.outbox.pending handled [] (last_text site (flat_map inputs_of h.done)) h.said stops.moved
+        stops.sound) in
     let rose : Rises start.stops now.stops = subst (λ k. Rises start.stops k) (sym t.same) (subst (λ k. Rises k before.stops) h.goes stops.stopped) in
-    finished reads site start earlier now Before Come Last Drafting dialogue handled true (stopped_or new.outbox.broken) h (comes_in_the_end site start earlier Before Come Last Drafting dialogue handled handled h l) (untold ∙ stops.untold)
+    finished reads site start earlier now Before Come Last Drafting dialogue handled true (stopped_or new.outbox.broken) h
+        (comes_in_the_end site start earlier Before Come Last Drafting dialogue handled handled h l) (untold ∙ stops.untold)
     (stopped_by reads new.outbox.broken site start now new.outbox.pending dialogue.session.session.state h.done handled _ open' rose
     (text_in_the_end site start earlier Before Come Drafting dialogue handled handled h may) none (t.says start handled _ said))

@@ -1,5 +1,6 @@
 -- The entries of parts, one part after another, and of replies.
-use Rattle.std.proofs.Common.{◌≡◌, ◌<◌, ℕ, ◌+◌, add-one, Bool, true, false, subst, List, [], ◌∷◌, ◌++◌, length, map, take, Option, Some, None, refl, sym, ap, ◌∙◌, append_assoc, append-nil}
+use Rattle.std.proofs.Common.{◌≡◌, ◌<◌, ℕ, ◌+◌, add-one, Bool, true, false, subst, List, [], ◌∷◌, ◌++◌, length, map, take, Option, Some, None, refl, sym, ap,
+    ◌∙◌, append_assoc, append-nil}
 use Rattle.std.specs.Prelude.{flat_map, slice_get}
 use Rattle.std.proofs.Math.Seq.{take-suc, take-length}
 use Rattle.std.proofs.lemmas.Option.{get_or_from_slice_get}
@@ -54,7 +55,8 @@ pub none_told : (s : PeerState) (ask : Asked) (client : List ℕ) → s ≡ with
 none_told s ask client = told_none s ∙ ap (λ l. with_told s l) (sym (for_none ask client))
 
 pub one_more_told : (s t u : PeerState) (ask : Asked) (client : List ℕ) (rs : List Reply) (i : ℕ) (r : Reply) → i < length rs → slice_get rs i ≡ Some r
-    → t ≡ with_told s (entries_for ask client (take i rs)) → u ≡ with_told t (entries_for ask client (r ∷ [])) → u ≡ with_told s (entries_for ask client (take (i + 1) rs))
+    → t ≡ with_told s (entries_for ask client (take i rs)) → u ≡ with_told t (entries_for ask client (r ∷ []))
+    → u ≡ with_told s (entries_for ask client (take (i + 1) rs))
 one_more_told s t u ask client rs i r within is one two =
     told_both s t u (entries_for ask client (take i rs)) (entries_for ask client (r ∷ [])) one two
     ∙ ap (λ l. with_told s l) (sym (for_both ask client (take i rs) (r ∷ [])))
@@ -65,7 +67,8 @@ pub all_told : (s t : PeerState) (ask : Asked) (client : List ℕ) (rs : List Re
     → t ≡ with_told s (entries_for ask client (take n rs)) → t ≡ with_told s (entries_for ask client rs)
 all_told s t ask client rs n e told = told ∙ ap (λ l. with_told s (entries_for ask client l)) (ap (λ k. take k rs) e ∙ take-length rs)
 
-pub said_none : (s : PeerState) (ask : Asked) (client : List ℕ) (act : Act) (n : ℕ) (kept : List Reply) → act ≡ Deliver n → s ≡ with_told s (entries_for ask client (said act kept))
+pub said_none : (s : PeerState) (ask : Asked) (client : List ℕ) (act : Act) (n : ℕ) (kept : List Reply) → act ≡ Deliver n
+    → s ≡ with_told s (entries_for ask client (said act kept))
 said_none s ask client act n kept e =
     let told : Act → Type 0 = λ a. s ≡ with_told s (entries_for ask client (said a kept)) in
     subst told (sym e) (none_told s ask client)
@@ -79,7 +82,8 @@ is_said : (broken : Bool) (start now : PeerState) (told : Option (List Entry)) (
 is_said false start now told written pending text h = record { whole = h.whole; sound = h.sound }
 is_said true start now told written pending text h = record { begins = h.begins; failed = h.failed }
 
-pub said_told : (start now after : PeerState) (outbox : OutboxView) (came text : List ℕ) (more : List Entry) → after ≡ with_told now more → HasSaid start now outbox came text → HasSaid start after outbox came text
+pub said_told : (start now after : PeerState) (outbox : OutboxView) (came text : List ℕ) (more : List Entry) → after ≡ with_told now more
+    → HasSaid start now outbox came text → HasSaid start after outbox came text
 said_told start now after outbox came text more e h =
     let said : PeerState → Type 0 = λ s. HasSaid start s outbox came text in
     subst said (sym e) (record {
@@ -99,13 +103,16 @@ entries-append site n session (p ∷ ps) qs =
     let own : List Entry = entries_of_part site n session p in
     ap (λ l. own ++ l)
     (entries-append site k next ps qs
-    ∙ ap (λ x. entries_of site k next ps ++ entries_of site (accepted_after site k next ps) x qs) (sym (session_after-append site session (inputs_of p) (flat_map inputs_of ps))))
+    ∙ ap (λ x. entries_of site k next ps ++ entries_of site (accepted_after site k next ps) x qs)
+        (sym (session_after-append site session (inputs_of p) (flat_map inputs_of ps))))
     ∙ sym (append_assoc own (entries_of site k next ps) (entries_of site (accepted_after site k next ps) (session_after_parts site session (p ∷ ps)) qs))
 
 pub entries-snoc : (site : Site) (n : ℕ) (ps : List Part) (p : Part)
-    → entries_of site n fresh (ps ++ p ∷ []) ≡ entries_of site n fresh ps ++ entries_of_part site (accepted_after site n fresh ps) (session_after_parts site fresh ps) p
+    → entries_of site n fresh (ps ++ p ∷ []) ≡ entries_of site n fresh ps
+    ++ entries_of_part site (accepted_after site n fresh ps) (session_after_parts site fresh ps) p
 entries-snoc site n ps p =
-    entries-append site n fresh ps (p ∷ []) ∙ ap (λ l. entries_of site n fresh ps ++ l) (append-nil (entries_of_part site (accepted_after site n fresh ps) (session_after_parts site fresh ps) p))
+    entries-append site n fresh ps (p ∷ [])
+        ∙ ap (λ l. entries_of site n fresh ps ++ l) (append-nil (entries_of_part site (accepted_after site n fresh ps) (session_after_parts site fresh ps) p))
 
 -- the log was told the entries of one more part
 pub logged_more : (site : Site) (n : ℕ) (ps : List Part) (p : Part) (start before after : Option (List Entry)) (entries : List Entry)
@@ -117,7 +124,8 @@ logged_more site n ps p start before after entries told was is =
     ∙ ap (λ l. with_entries start (entries_of site n fresh ps ++ l)) is ∙ ap (λ l. with_entries start l) (sym (entries-snoc site n ps p))
 
 -- the entries of a line, and of data, in the words of one site and session
-pub entries_line : (site view : Site) (n : ℕ) (s s' : Session) (text line : List ℕ) (input : Input) → view ≡ site → s ≡ s' → inputs_of (CommandLine text) ≡ input ∷ [] → line_kept text ≡ line
+pub entries_line : (site view : Site) (n : ℕ) (s s' : Session) (text line : List ℕ) (input : Input) → view ≡ site → s ≡ s'
+    → inputs_of (CommandLine text) ≡ input ∷ [] → line_kept text ≡ line
     → line_entries line (replies_to view s (input ∷ [])) ≡ entries_of_part site n s' (CommandLine text)
 entries_line site view n s s' text line input site_is session_is input_is line_is =
     ap (λ (x : Site). line_entries line (replies_to x s (input ∷ []))) site_is

@@ -30,11 +30,14 @@ said_is (Answer n) st kept h = sym h.says
 said_is (Quit reply) st kept h = sym h.says
 
 -- the texts that were said are those of the step, at the site
-texts_are : (site : Site) (act : Act) (st : Transition) (old : View) (new : View) → IsTransition old st act new → old.site ≡ site → reply_texts new.site (said act new.answers) ≡ reply_texts site st.replies
-texts_are site act st old new t e = ap (λ (x : Site). reply_texts x (said act new.answers)) (t.site ∙ e) ∙ ap (λ rs. reply_texts site rs) (said_is act st new.answers t.fits)
+texts_are : (site : Site) (act : Act) (st : Transition) (old : View) (new : View) → IsTransition old st act new → old.site ≡ site
+    → reply_texts new.site (said act new.answers) ≡ reply_texts site st.replies
+texts_are site act st old new t e =
+    ap (λ (x : Site). reply_texts x (said act new.answers)) (t.site ∙ e) ∙ ap (λ rs. reply_texts site rs) (said_is act st new.answers t.fits)
 
 -- the entries that were told are those of the step's replies, whatever the message's number and size are called
-copies_told : (number size n long : ℕ) (client name : List ℕ) (rs qs : List Reply) (before after : Option (List Entry)) → number ≡ n → size ≡ long → client ≡ name → rs ≡ qs
+copies_told : (number size n long : ℕ) (client name : List ℕ) (rs qs : List Reply) (before after : Option (List Entry)) → number ≡ n → size ≡ long
+    → client ≡ name → rs ≡ qs
     → after ≡ with_entries before (copy_entries number size client rs) → after ≡ with_entries before (copy_entries n long name qs)
 copies_told number size n long client name rs qs before after en es ec er told =
     told ∙ ap (λ (k : ℕ). with_entries before (copy_entries k size client rs)) en
@@ -44,7 +47,8 @@ copies_told number size n long client name rs qs before after en es ec er told =
 
 pub whole_message : {D : Type 0} (HasCome : D → ℕ → List Transaction → Type 0) (IsDrafting : D → ℕ → List Transaction → List ℕ → Type 0)
     (old new : Dialogue) (mid : View) (before after : PeerState) (delivery later : D) (moment : ℕ) (told : List Outcome) (first second : Act) (number size : ℕ)
-    → ((n : ℕ) (ts : List Transaction) (message : List ℕ) → IsDrafting delivery n ts message → EndsDraft (HasCome later) n ts old.session.session message (ended_so (Ok tt) moment told))
+    → ((n : ℕ) (ts : List Transaction) (message : List ℕ) → IsDrafting delivery n ts message
+    → EndsDraft (HasCome later) n ts old.session.session message (ended_so (Ok tt) moment told))
     → length told ≡ length old.session.session.recipients
     → IsStep old.session (DataEnded Whole) first mid → IsStep mid (Outcomes told) second new.session → new.wire ≡ old.wire → after.stops ≡ before.stops
     → Says before after old.outbox new.outbox (reply_texts new.session.site (said second new.session.answers))
@@ -52,7 +56,8 @@ pub whole_message : {D : Type 0} (HasCome : D → ℕ → List Transaction → T
     → ((n : ℕ) (ts : List Transaction) (message : List ℕ) → IsDrafting delivery n ts message → size ≡ counted (length message))
     → after.told ≡ with_entries before.told (copy_entries number size new.session.session.client (said second new.session.answers))
     → EndsData HasCome IsDrafting (talk old before delivery) (talk new after later)
-whole_message {D} HasCome IsDrafting old new mid before after delivery later moment told first second number size ended count one two wire same says numbered sized entered =
+whole_message {D} HasCome IsDrafting old new mid before after delivery later moment told first second number size ended count one two wire same says numbered
+    sized entered =
     let site : Site = old.session.site in
     let s : Session = old.session.session in
     let session : new.session.session ≡ session_after site s (DataEnded Whole ∷ Outcomes told ∷ []) =
@@ -79,51 +84,60 @@ whole_message {D} HasCome IsDrafting old new mid before after delivery later mom
       };
       fits = count;
       ended = ended;
-      told = λ n ts message h. copies_told number size (counted n) (counted (length message)) new.session.session.client s.client _ _ before.told after.told (numbered n ts message h) (sized n ts message h) client replies entered;
+      told = λ n ts message h. copies_told number size (counted n) (counted (length message)) new.session.session.client s.client _ _ before.told after.told
+          (numbered n ts message h) (sized n ts message h) client replies entered;
     }
 
 pub refused_message : {D : Type 0} (HasCome : D → ℕ → List Transaction → Type 0) (IsDrafting : D → ℕ → List Transaction → List ℕ → Type 0)
     (old new : Dialogue) (before after : PeerState) (delivery later : D) (verdict : Verdict) (moment : ℕ) (told : List Outcome) (act : Act) (number size : ℕ)
     → (verdict ≡ Whole → ⊥)
-    → ((n : ℕ) (ts : List Transaction) (message : List ℕ) → IsDrafting delivery n ts message → EndsDraft (HasCome later) n ts old.session.session message (ended_so (Err verdict) moment told))
+    → ((n : ℕ) (ts : List Transaction) (message : List ℕ) → IsDrafting delivery n ts message
+    → EndsDraft (HasCome later) n ts old.session.session message (ended_so (Err verdict) moment told))
     → IsStep old.session (DataEnded verdict) act new.session → new.wire ≡ old.wire → after.stops ≡ before.stops
     → Says before after old.outbox new.outbox (reply_texts new.session.site (said act new.session.answers))
     → ((n : ℕ) (ts : List Transaction) (message : List ℕ) → IsDrafting delivery n ts message → number ≡ counted n)
     → ((n : ℕ) (ts : List Transaction) (message : List ℕ) → IsDrafting delivery n ts message → size ≡ counted (length message))
     → after.told ≡ with_entries before.told (copy_entries number size new.session.session.client (said act new.session.answers))
     → EndsData HasCome IsDrafting (talk old before delivery) (talk new after later)
-refused_message {D} HasCome IsDrafting old new before after delivery later Whole moment told act number size other ended one wire same says numbered sized entered = absurd (other refl)
-refused_message {D} HasCome IsDrafting old new before after delivery later TooLarge moment told act number size other ended one wire same says numbered sized entered = record {
+refused_message {D} HasCome IsDrafting old new before after delivery later Whole moment told act number size other ended one wire same says numbered sized
+    entered = absurd (other refl)
+refused_message {D} HasCome IsDrafting old new before after delivery later TooLarge moment told act number size other ended one wire same says numbered sized
+    entered = record {
   disposition = ended_so (Err TooLarge) moment told;
   takes = record {
     site = one.site;
     session = one.next;
     says = λ start came text h. subst (λ l. HasSaid start after new.outbox came (text ++ l))
-        (texts_are old.session.site act (step old.session.site old.session.session (DataEnded TooLarge)) old.session new.session one refl ∙ ap (λ rs. reply_texts old.session.site rs) (sym (append-nil _)))
+        (texts_are old.session.site act (step old.session.site old.session.session (DataEnded TooLarge)) old.session new.session one refl
+            ∙ ap (λ rs. reply_texts old.session.site rs) (sym (append-nil _)))
         (says start came text h);
     wire = wire;
     same = same;
   };
   fits = tt;
   ended = ended;
-  told = λ n ts message h. copies_told number size (counted n) (counted (length message)) new.session.session.client old.session.session.client _ _ before.told after.told (numbered n ts message h) (sized n ts message h)
+  told = λ n ts message h. copies_told number size (counted n) (counted (length message)) new.session.session.client old.session.session.client _ _ before.told
+      after.told (numbered n ts message h) (sized n ts message h)
       (ap (λ (x : Session). x.client) one.next)
       (said_is act (step old.session.site old.session.session (DataEnded TooLarge)) new.session.answers one.fits ∙ sym (append-nil _)) entered;
 }
-refused_message {D} HasCome IsDrafting old new before after delivery later NoRoom moment told act number size other ended one wire same says numbered sized entered = record {
+refused_message {D} HasCome IsDrafting old new before after delivery later NoRoom moment told act number size other ended one wire same says numbered sized
+    entered = record {
   disposition = ended_so (Err NoRoom) moment told;
   takes = record {
     site = one.site;
     session = one.next;
     says = λ start came text h. subst (λ l. HasSaid start after new.outbox came (text ++ l))
-        (texts_are old.session.site act (step old.session.site old.session.session (DataEnded NoRoom)) old.session new.session one refl ∙ ap (λ rs. reply_texts old.session.site rs) (sym (append-nil _)))
+        (texts_are old.session.site act (step old.session.site old.session.session (DataEnded NoRoom)) old.session new.session one refl
+            ∙ ap (λ rs. reply_texts old.session.site rs) (sym (append-nil _)))
         (says start came text h);
     wire = wire;
     same = same;
   };
   fits = tt;
   ended = ended;
-  told = λ n ts message h. copies_told number size (counted n) (counted (length message)) new.session.session.client old.session.session.client _ _ before.told after.told (numbered n ts message h) (sized n ts message h)
+  told = λ n ts message h. copies_told number size (counted n) (counted (length message)) new.session.session.client old.session.session.client _ _ before.told
+      after.told (numbered n ts message h) (sized n ts message h)
       (ap (λ (x : Session). x.client) one.next)
       (said_is act (step old.session.site old.session.session (DataEnded NoRoom)) new.session.answers one.fits ∙ sym (append-nil _)) entered;
 }

@@ -25,11 +25,14 @@ use Rattle.lmtp_talk.specs.Steps.{talk}
 pub said_none : (s : PeerState) (outbox : OutboxView) → (outbox.pending ≡ []) × (outbox.broken ≡ false) → HasSaid s s outbox [] []
 said_none s outbox new =
     let at : Bool → List ℕ → Type 0 = λ b l. HasSaid s s (record { pending = l; broken = b }) [] [] in
-    subst (λ b. at b outbox.pending) (sym new.1) (subst (λ l. at false l) (sym new.0) (record { written = []; moved = moved_none s; is = record { whole = refl; sound = refl } }))
+    subst (λ b. at b outbox.pending) (sym new.1)
+        (subst (λ l. at false l) (sym new.0) (record { written = []; moved = moved_none s; is = record { whole = refl; sound = refl } }))
 
 -- a peer gave more bytes
-pub stands_reading : (site : Site) (start peer later : PeerState) (Before Come : ℕ → List Transaction → Type 0) (Drafting : ℕ → List Transaction → List ℕ → Type 0) (dialogue : Dialogue) (handled came more : List ℕ)
-    → IsSoFar (beginning site start Before) (standing dialogue peer Come Drafting) handled came → HasTransferred peer later more [] → IsSoFar (beginning site start Before) (standing dialogue later Come Drafting) handled (came ++ more)
+pub stands_reading : (site : Site) (start peer later : PeerState) (Before Come : ℕ → List Transaction → Type 0)
+    (Drafting : ℕ → List Transaction → List ℕ → Type 0) (dialogue : Dialogue) (handled came more : List ℕ)
+    → IsSoFar (beginning site start Before) (standing dialogue peer Come Drafting) handled came → HasTransferred peer later more []
+    → IsSoFar (beginning site start Before) (standing dialogue later Come Drafting) handled (came ++ more)
 stands_reading site start peer later Before Come Drafting dialogue handled came more h w = record {
   done = h.done;
   prefix = h.prefix;
@@ -46,12 +49,16 @@ stands_reading site start peer later Before Come Drafting dialogue handled came 
 }
 
 -- a peer gave nothing more
-pub stands_still : (site : Site) (start peer later : PeerState) (Before Come : ℕ → List Transaction → Type 0) (Drafting : ℕ → List Transaction → List ℕ → Type 0) (dialogue : Dialogue) (handled came : List ℕ)
-    → IsSoFar (beginning site start Before) (standing dialogue peer Come Drafting) handled came → HasTransferred peer later [] [] → IsSoFar (beginning site start Before) (standing dialogue later Come Drafting) handled came
+pub stands_still : (site : Site) (start peer later : PeerState) (Before Come : ℕ → List Transaction → Type 0)
+    (Drafting : ℕ → List Transaction → List ℕ → Type 0) (dialogue : Dialogue) (handled came : List ℕ)
+    → IsSoFar (beginning site start Before) (standing dialogue peer Come Drafting) handled came → HasTransferred peer later [] []
+    → IsSoFar (beginning site start Before) (standing dialogue later Come Drafting) handled came
 stands_still site start peer later Before Come Drafting dialogue handled came h w =
-    subst (λ l. IsSoFar (beginning site start Before) (standing dialogue later Come Drafting) handled l) (append-nil came) (stands_reading site start peer later Before Come Drafting dialogue handled came [] h w)
+    subst (λ l. IsSoFar (beginning site start Before) (standing dialogue later Come Drafting) handled l) (append-nil came)
+        (stands_reading site start peer later Before Come Drafting dialogue handled came [] h w)
 
-inside_same : (state : State) (dialogue : Dialogue) (outbox : OutboxView) (rest : List ℕ) (come : Type 0) (drafts : List ℕ → Type 0) → IsInside state dialogue rest come drafts → IsInside state (record dialogue { outbox = outbox }) rest come drafts
+inside_same : (state : State) (dialogue : Dialogue) (outbox : OutboxView) (rest : List ℕ) (come : Type 0) (drafts : List ℕ → Type 0)
+    → IsInside state dialogue rest come drafts → IsInside state (record dialogue { outbox = outbox }) rest come drafts
 inside_same Fresh dialogue outbox rest come drafts x = record { after = x.after; comes = x.comes }
 inside_same Greeted dialogue outbox rest come drafts x = record { after = x.after; comes = x.comes }
 inside_same Sender dialogue outbox rest come drafts x = record { after = x.after; comes = x.comes }
@@ -61,9 +68,11 @@ inside_same Waiting dialogue outbox rest come drafts x = absurd x
 inside_same Ended dialogue outbox rest come drafts x = x
 
 -- what waited was written
-pub stands_flushed : (site : Site) (start peer later : PeerState) (Before Come : ℕ → List Transaction → Type 0) (Drafting : ℕ → List Transaction → List ℕ → Type 0) (dialogue : Dialogue) (outbox : OutboxView) (handled came : List ℕ)
+pub stands_flushed : (site : Site) (start peer later : PeerState) (Before Come : ℕ → List Transaction → Type 0)
+    (Drafting : ℕ → List Transaction → List ℕ → Type 0) (dialogue : Dialogue) (outbox : OutboxView) (handled came : List ℕ)
     → ((text : List ℕ) → HasSaid start peer dialogue.outbox came text → HasSaid start later outbox came text)
-    → later.stops ≡ peer.stops → later.told ≡ peer.told → IsSoFar (beginning site start Before) (standing dialogue peer Come Drafting) handled came → IsSoFar (beginning site start Before) (standing (record dialogue { outbox = outbox }) later Come Drafting) handled came
+    → later.stops ≡ peer.stops → later.told ≡ peer.told → IsSoFar (beginning site start Before) (standing dialogue peer Come Drafting) handled came
+    → IsSoFar (beginning site start Before) (standing (record dialogue { outbox = outbox }) later Come Drafting) handled came
 stands_flushed site start peer later Before Come Drafting dialogue outbox handled came says same untold h = record {
   done = h.done;
   prefix = h.prefix;
@@ -89,7 +98,8 @@ may_not_ended Waiting h e = cc
 may_not_ended Ended h e = cc
 
 -- the beginning of a conversation
-pub begins : (site : Site) (before after : PeerState) (Come : ℕ → List Transaction → Type 0) (Drafting : ℕ → List Transaction → List ℕ → Type 0) (old new : Dialogue)
+pub begins : (site : Site) (before after : PeerState) (Come : ℕ → List Transaction → Type 0) (Drafting : ℕ → List Transaction → List ℕ → Type 0)
+    (old new : Dialogue)
     → old.session.site ≡ site → Greets old new before after → IsSoFar (beginning site before Come) (standing new after Come Drafting) [] []
 begins site before after Come Drafting old new here h = record {
   done = [];
@@ -103,39 +113,51 @@ begins site before after Come Drafting old new here h = record {
   goes = h.same;
   logged = λ n ts c. h.untold ∙ with_none before.told;
   said = subst (λ l. HasSaid before after new.outbox [] l) (ap (λ (x : Site). reply_text x Greeting) here ∙ sym (append-nil (reply_text site Greeting))) h.said;
-  inside = subst (λ (s : State). IsInside s new [] (Comes site [] Come Come) (λ made. Comes site [] Come (λ n ts. Drafting n ts made))) (sym (ap (λ (s : Session). s.state) h.session))
+  inside = subst (λ (s : State). IsInside s new [] (Comes site [] Come Come) (λ made. Comes site [] Come (λ n ts. Drafting n ts made)))
+      (sym (ap (λ (s : Session). s.state) h.session))
       (record { after = h.wire; comes = λ n ts c. subst (λ l. Come n l) (sym (append-nil ts)) c });
 }
 
 -- bytes came and are handled: the conversation has ended with them, or goes on
-module _ {D : Type 0} (HasCome : D → ℕ → List Transaction → Type 0) (IsDrafting : D → ℕ → List Transaction → List ℕ → Type 0) (old new : Dialogue) (before read after : PeerState) (delivery later : D) (piece : List ℕ) where
+module _ {D : Type 0} (HasCome : D → ℕ → List Transaction → Type 0) (IsDrafting : D → ℕ → List Transaction → List ℕ → Type 0) (old new : Dialogue)
+    (before read after : PeerState) (delivery later : D) (piece : List ℕ) where
   handled_all : HasTransferred before read piece [] → HandlesPiece HasCome IsDrafting (talk old read delivery) (talk new after later) piece
-      → (site : Site) (start : PeerState) (first : D) (handled : List ℕ) → IsSoFar (beginning site start (HasCome first)) (standing old before (HasCome delivery) (IsDrafting delivery)) handled handled
+      → (site : Site) (start : PeerState) (first : D) (handled : List ℕ)
+      → IsSoFar (beginning site start (HasCome first)) (standing old before (HasCome delivery) (IsDrafting delivery)) handled handled
       → IsSoFar (beginning site start (HasCome first)) (standing new after (HasCome later) (IsDrafting later)) (handled ++ piece) (handled ++ piece)
   handled_all w handles site start first handled h =
-      handles site start first handled (stands_reading site start before read (HasCome first) (HasCome delivery) (IsDrafting delivery) old handled handled piece h w)
+      handles site start first handled
+          (stands_reading site start before read (HasCome first) (HasCome delivery) (IsDrafting delivery) old handled handled piece h w)
 
-  goes_on : 0 < length piece → HasTransferred before read piece [] → HandlesPiece HasCome IsDrafting (talk old read delivery) (talk new after later) piece → TakesTurn HasCome IsDrafting (talk old before delivery) (talk new after later)
+  goes_on : 0 < length piece → HasTransferred before read piece [] → HandlesPiece HasCome IsDrafting (talk old read delivery) (talk new after later) piece
+      → TakesTurn HasCome IsDrafting (talk old before delivery) (talk new after later)
   goes_on some w handles site start first handled h = record { more = piece; some = some; stands = handled_all w handles site start first handled h }
 
-  ends_with : (reads : ℕ) (broken : Bool) → new.session.session.state ≡ Ended → new.outbox.broken ≡ broken → new.outbox.pending ≡ [] → HasTransferred before read piece [] → HandlesPiece HasCome IsDrafting (talk old read delivery) (talk new after later) piece
+  ends_with : (reads : ℕ) (broken : Bool) → new.session.session.state ≡ Ended → new.outbox.broken ≡ broken → new.outbox.pending ≡ []
+      → HasTransferred before read piece [] → HandlesPiece HasCome IsDrafting (talk old read delivery) (talk new after later) piece
       → EndsTurn HasCome IsDrafting reads (talk old before delivery) (talk new after later) (quit_or broken)
   ends_with reads true ended broken none w handles site start first handled h =
-      served reads site start after (HasCome first) (HasCome later) (HasCome later) (IsDrafting later) new (handled ++ piece) ends.WriteFault (handled_all w handles site start first handled h)
+      served reads site start after (HasCome first) (HasCome later) (HasCome later) (IsDrafting later) new (handled ++ piece) ends.WriteFault
+          (handled_all w handles site start first handled h)
       (leave_none new.session.session.state (HasCome later) (IsDrafting later) (λ e. let wrong : Content ≡ Ended = sym e ∙ ended in cc)) broken
   ends_with reads false ended broken none w handles site start first handled h =
-      served reads site start after (HasCome first) (HasCome later) (HasCome later) (IsDrafting later) new (handled ++ piece) ends.Quit (handled_all w handles site start first handled h)
+      served reads site start after (HasCome first) (HasCome later) (HasCome later) (IsDrafting later) new (handled ++ piece) ends.Quit
+          (handled_all w handles site start first handled h)
       (leave_none new.session.session.state (HasCome later) (IsDrafting later) (λ e. let wrong : Content ≡ Ended = sym e ∙ ended in cc))
       (record { whole = broken; none = none }, ended)
 
-  never_waits : (reads : ℕ) (broken : Bool) → new.session.session.state ≡ Waiting → HasTransferred before read piece [] → HandlesPiece HasCome IsDrafting (talk old read delivery) (talk new after later) piece
+  never_waits : (reads : ℕ) (broken : Bool) → new.session.session.state ≡ Waiting → HasTransferred before read piece []
+      → HandlesPiece HasCome IsDrafting (talk old read delivery) (talk new after later) piece
       → EndsTurn HasCome IsDrafting reads (talk old before delivery) (talk new after later) (quit_or broken)
   never_waits reads broken waits w handles site start first handled h =
       let s = handled_all w handles site start first handled h in
-      absurd (subst (λ (x : State). IsInside x new s.rest (Comes site s.done (HasCome first) (HasCome later)) (λ made. Comes site s.done (HasCome first) (λ n ts. IsDrafting later n ts made))) waits s.inside)
+      absurd (subst (λ (x : State). IsInside x new s.rest (Comes site s.done (HasCome first) (HasCome later))
+          (λ made. Comes site s.done (HasCome first) (λ n ts. IsDrafting later n ts made))) waits s.inside)
 
-  pub turns_by : (state : State) → new.session.session.state ≡ state → new.outbox.pending ≡ [] → 0 < length piece → HasTransferred before read piece [] → HandlesPiece HasCome IsDrafting (talk old read delivery) (talk new after later) piece
-      → MatchOption (end_after state new.outbox.broken) (TakesTurn HasCome IsDrafting (talk old before delivery) (talk new after later)) (λ end. (reads : ℕ) → EndsTurn HasCome IsDrafting reads (talk old before delivery) (talk new after later) end)
+  pub turns_by : (state : State) → new.session.session.state ≡ state → new.outbox.pending ≡ [] → 0 < length piece → HasTransferred before read piece []
+      → HandlesPiece HasCome IsDrafting (talk old read delivery) (talk new after later) piece
+      → MatchOption (end_after state new.outbox.broken) (TakesTurn HasCome IsDrafting (talk old before delivery) (talk new after later))
+      (λ end. (reads : ℕ) → EndsTurn HasCome IsDrafting reads (talk old before delivery) (talk new after later) end)
   turns_by Fresh e none some w handles = goes_on some w handles
   turns_by Greeted e none some w handles = goes_on some w handles
   turns_by Sender e none some w handles = goes_on some w handles

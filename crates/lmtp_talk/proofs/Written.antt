@@ -1,5 +1,6 @@
 -- What is written to a peer, piece by piece.
-use Rattle.std.proofs.Common.{◌≡◌, ℕ, ◌+◌, ◌-◌, ◌<◌, add-one, List, [], ◌∷◌, ◌++◌, length, take, drop, Some, Result, Ok, Err, refl, sym, ap, ◌∙◌, subst, ◌≤◌, arith, append_assoc, append-nil, length-append, length-take-le, take-take}
+use Rattle.std.proofs.Common.{◌≡◌, ℕ, ◌+◌, ◌-◌, ◌<◌, add-one, List, [], ◌∷◌, ◌++◌, length, take, drop, Some, Result, Ok, Err, refl, sym, ap, ◌∙◌, subst, ◌≤◌,
+    arith, append_assoc, append-nil, length-append, length-take-le, take-take}
 use Rattle.std.specs.Prelude.{OnErr, OnOk, Bool, true, false}
 use Rattle.std.specs.Prelude.{slice_get}
 use Rattle.std.specs.Result.{is_err}
@@ -48,7 +49,8 @@ pub given_next : (s t u : PeerState) (text a b : List ℕ) → GivenUpTo s t tex
 given_next s t u text a b x y = record {
   prefix = x.prefix ++ a;
   whole = x.whole ∙ sym (append_assoc x.prefix a b);
-  worked = record { moved = moved_writing s t u [] x.prefix a x.worked.moved y.moved; sound = y.sound ∙ x.worked.sound; same = y.same ∙ x.worked.same; untold = y.untold ∙ x.worked.untold };
+  worked = record { moved = moved_writing s t u [] x.prefix a x.worked.moved y.moved; sound = y.sound ∙ x.worked.sound; same = y.same
+      ∙ x.worked.same; untold = y.untold ∙ x.worked.untold };
 }
 
 pub given_more : (s t u : PeerState) (text rest : List ℕ) (n : ℕ) → GivenUpTo s t text rest → HasTransferred t u [] (take n rest)
@@ -60,7 +62,8 @@ rises_from : (a b c : ℕ) → b ≡ a → Rises b c → Rises a c
 rises_from a b c e r = subst (λ k. Rises k c) e r
 
 -- what waits is written, or a write failed
-pub flushed : {E : Type 0} (start s t : PeerState) (r : Result (Unit {0}) E) (pending came text : List ℕ) → HasSaid start s (record { pending = pending; broken = false }) came text
+pub flushed : {E : Type 0} (start s t : PeerState) (r : Result (Unit {0}) E) (pending came text : List ℕ)
+    → HasSaid start s (record { pending = pending; broken = false }) came text
     → OnOk r (HasTransferred s t [] pending) → OnErr r (BreaksOff s t pending) → HasSaid start t (record { pending = []; broken = (is_err r) }) came text
 flushed start s t (Ok x) pending came text h ok err = record {
   written = h.written ++ pending;
@@ -80,7 +83,8 @@ flushed start s t (Err e) pending came text h ok err = record {
 }
 
 -- the peer moved on without a failure
-pub said_on : (broken : Bool) (start s t : PeerState) (pending came more text : List ℕ) → HasSaid start s (record { pending = pending; broken = broken }) came text → HasMoved s t more [] → t.failures ≡ s.failures
+pub said_on : (broken : Bool) (start s t : PeerState) (pending came more text : List ℕ)
+    → HasSaid start s (record { pending = pending; broken = broken }) came text → HasMoved s t more [] → t.failures ≡ s.failures
     → HasSaid start t (record { pending = pending; broken = broken }) (came ++ more) text
 said_on false start s t pending came more text h moved sound = record {
   written = h.written;
@@ -94,7 +98,8 @@ said_on true start s t pending came more text h moved sound = record {
 }
 
 -- more has come
-pub said_reading : (broken : Bool) (start s t : PeerState) (pending came more text : List ℕ) → HasSaid start s (record { pending = pending; broken = broken }) came text → HasTransferred s t more []
+pub said_reading : (broken : Bool) (start s t : PeerState) (pending came more text : List ℕ)
+    → HasSaid start s (record { pending = pending; broken = broken }) came text → HasTransferred s t more []
     → HasSaid start t (record { pending = pending; broken = broken }) (came ++ more) text
 said_reading broken start s t pending came more text h w = said_on broken start s t pending came more text h w.moved w.sound
 
@@ -116,7 +121,8 @@ pub put_after : (k n size : ℕ) (buffer new post tail : List ℕ) → k ≤ len
     → take (k + n) (take size ((take k buffer ++ (new ++ post)) ++ tail)) ≡ take k buffer ++ take n new
 put_after k n size buffer new post tail within fits wrote =
     let prefix : length (take k buffer) ≡ k = length-take-le k buffer within in
-    let long : k + n ≤ length (take k buffer ++ (new ++ post)) = omega (arith, prefix, wrote, length-append (take k buffer) (new ++ post), length-append new post) in
+    let long : k + n ≤ length (take k buffer ++ (new ++ post)) =
+        omega (arith, prefix, wrote, length-append (take k buffer) (new ++ post), length-append new post) in
     take-take (k + n) size ((take k buffer ++ (new ++ post)) ++ tail) fits
     ∙ take-append-le (k + n) (take k buffer ++ (new ++ post)) tail long
     ∙ ap (λ j. take (j + n) (take k buffer ++ (new ++ post))) (sym prefix)

@@ -26,7 +26,8 @@ first = record {
   number = omega (arith, signed_arith, days_from_civil-day_count (pos 1970) 1 1, day_count-epoch);
 }
 
-in_month : (n : ℕ) (d : Date) → IsDay n d → d.day < days_in_month (pos d.year) d.month → IsDay (suc n) (record { year = d.year; month = d.month; day = d.day + 1 })
+in_month : (n : ℕ) (d : Date) → IsDay n d → d.day < days_in_month (pos d.year) d.month
+    → IsDay (suc n) (record { year = d.year; month = d.month; day = d.day + 1 })
 in_month n d h more = record {
   from = h.from;
   month_in = h.month_in;
@@ -34,7 +35,8 @@ in_month n d h more = record {
   number = let e = days_from_civil-day (pos d.year) d.month d.day (d.day + 1) (omega arith) (omega arith) in omega (arith, signed_arith);
 }
 
-in_year : (n : ℕ) (d : Date) → IsDay n d → days_in_month (pos d.year) d.month ≤ d.day → d.month < 12 → IsDay (suc n) (record { year = d.year; month = d.month + 1; day = 1 })
+in_year : (n : ℕ) (d : Date) → IsDay n d → days_in_month (pos d.year) d.month ≤ d.day → d.month < 12
+    → IsDay (suc n) (record { year = d.year; month = d.month + 1; day = 1 })
 in_year n d h last more = record {
   from = h.from;
   month_in = omega arith;
@@ -42,7 +44,8 @@ in_year n d h last more = record {
   number = let e = days_from_civil-next_month (pos d.year) d.month d.day (omega arith) (omega arith) in omega (arith, signed_arith);
 }
 
-new_year : (n : ℕ) (d : Date) → IsDay n d → days_in_month (pos d.year) d.month ≤ d.day → 12 ≤ d.month → IsDay (suc n) (record { year = d.year + 1; month = 1; day = 1 })
+new_year : (n : ℕ) (d : Date) → IsDay n d → days_in_month (pos d.year) d.month ≤ d.day → 12 ≤ d.month
+    → IsDay (suc n) (record { year = d.year + 1; month = 1; day = 1 })
 new_year n d h last end = record {
   from = omega arith;
   month_in = omega arith;
@@ -74,7 +77,8 @@ is_day (suc n) = next n (date_after n) (is_day n)
 no_later : (p : Plain) (n : ℕ) (d : Date) → IsDay n d → epoch_day p ≡ pos n → pos d.year ≤ℤ p.year
 no_later p n d h e =
     by_lt_z p.year (pos d.year)
-    (λ lt. absurd (omega (arith, signed_arith, days_from_civil-day_count p.year p.month p.day, days_from_civil-day_count (pos d.year) d.month d.day, day_count-lt_year p.year p.month p.day (pos d.year) d.month d.day (civil p) h.day_in.0 lt)))
+    (λ lt. absurd (omega (arith, signed_arith, days_from_civil-day_count p.year p.month p.day, days_from_civil-day_count (pos d.year) d.month d.day,
+        day_count-lt_year p.year p.month p.day (pos d.year) d.month d.day (civil p) h.day_in.0 lt)))
     (λ le. le)
 
 as_plain : (d : Date) (n : ℕ) → IsDay n d → pos d.year ≤ℤ pos 9999 → Plain

@@ -27,7 +27,8 @@ day_is : (p : DateTime) (t : ℕ) → civil_nanos p ≡ pos (t * 1_000_000_000) 
 day_is p t e = omega (arith, signed_arith, civil_nanos-parts p, time_nanos_bound p.time)
 
 -- and the time what they leave
-time_is : (p : DateTime) (t : ℕ) → civil_nanos p ≡ pos (t * 1_000_000_000) → (p.time.hour ≡ t % 86_400 / 3_600) × (p.time.minute ≡ t % 3_600 / 60) × (p.time.second ≡ t % 60)
+time_is : (p : DateTime) (t : ℕ) → civil_nanos p ≡ pos (t * 1_000_000_000)
+    → (p.time.hour ≡ t % 86_400 / 3_600) × (p.time.minute ≡ t % 3_600 / 60) × (p.time.second ≡ t % 60)
 time_is p t e = let day = day_is p t e in omega (arith, signed_arith, civil_nanos-parts p)
 
 weekday_is : (p : DateTime) (t : ℕ) → civil_nanos p ≡ pos (t * 1_000_000_000) → weekday_of p.date ≡ (t / 86_400 + 3) % 7

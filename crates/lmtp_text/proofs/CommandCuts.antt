@@ -1,5 +1,6 @@
 -- What the searches for a byte find, as the lengths of prefixes and ends.
-use Rattle.std.proofs.Common.{◌≡◌, ℕ, suc, ◌+◌, ◌-◌, Bool, cond, nat_lt, true, false, not, ◌==◌, ◌||◌, List, [], ◌∷◌, length, get_or, sym, ◌∙◌, refl, arith, rules}
+use Rattle.std.proofs.Common.{◌≡◌, ℕ, suc, ◌+◌, ◌-◌, Bool, cond, nat_lt, true, false, not, ◌==◌, ◌||◌, List, [], ◌∷◌, length, get_or, sym, ◌∙◌, refl, arith,
+    rules}
 use Rattle.std.specs.List.{position_or_len, prefix_len, suffix_len}
 use Rattle.std.proofs.lemmas.Bool.{false_from_ne_true}
 use Rattle.std.proofs.lemmas.Bool.Decides.{nat_tests}
@@ -14,7 +15,8 @@ pub first_at : (p : ℕ → Bool) (text : List ℕ) (k : ℕ) → NoneBefore (Pa
 first_at p text k none here = position_or_len_is p text k 0 (omega arith) (λ j below. false_from_ne_true _ (none.before j (omega arith) below)) (λ _. here)
 
 pub first_nowhere : (p : ℕ → Bool) (text : List ℕ) → Nowhere (Passes p text) 0 (length text) → position_or_len p text ≡ length text
-first_nowhere p text none = position_or_len_is p text (length text) 0 (omega arith) (λ j below. false_from_ne_true _ (none j (omega arith) below)) (λ h. absurd (omega arith))
+first_nowhere p text none = position_or_len_is p text (length text) 0 (omega arith) (λ j below. false_from_ne_true _ (none j (omega arith) below))
+    (λ h. absurd (omega arith))
 
 -- a search for a byte outside a set: the set's bytes stand before the first and after the last
 not_true : (b : Bool) → not b ≡ true → b ≡ false
@@ -33,7 +35,8 @@ blanks : (b : ℕ) → is_in (32 ∷ 9 ∷ []) b ≡ has_byte (space ∷ tab ∷
 unfolding is_in
 blanks b = grind (arith, nat_tests)
 
-pub spaces_before : (text : List ℕ) (k : ℕ) → NoneBefore (Passes (not_in (32 ∷ [])) text) 0 (length text) k → Passes (not_in (32 ∷ [])) text k → prefix_len (λ b. b == space) text ≡ k
+pub spaces_before : (text : List ℕ) (k : ℕ) → NoneBefore (Passes (not_in (32 ∷ [])) text) 0 (length text) k → Passes (not_in (32 ∷ [])) text k
+    → prefix_len (λ b. b == space) text ≡ k
 spaces_before text k none here =
     prefix_len_is (λ b. b == space) text k 0 (omega arith)
     (λ j below. sym (spaces _) ∙ not_not _ (none.before j (omega arith) below))
@@ -51,14 +54,16 @@ last_index text k = let e : k + 1 - 1 ≡ k = omega arith in rw e refl
 blanks_before : (text : List ℕ) (k : ℕ) → Passes (not_in (32 ∷ 9 ∷ [])) text k → has_byte (space ∷ tab ∷ []) (get_or text (k + 1 - 1) 0) ≡ false
 blanks_before text k here = rw last_index (sym (blanks _) ∙ not_true _ here)
 
-pub blanks_after : (text : List ℕ) (k : ℕ) → NoneAfter (Passes (not_in (32 ∷ 9 ∷ [])) text) 0 (length text) k → Passes (not_in (32 ∷ 9 ∷ [])) text k → length text - suffix_len (has_byte (space ∷ tab ∷ [])) text ≡ k + 1
+pub blanks_after : (text : List ℕ) (k : ℕ) → NoneAfter (Passes (not_in (32 ∷ 9 ∷ [])) text) 0 (length text) k → Passes (not_in (32 ∷ 9 ∷ [])) text k
+    → length text - suffix_len (has_byte (space ∷ tab ∷ [])) text ≡ k + 1
 blanks_after text k none here =
     let e = suffix_len_is (has_byte (space ∷ tab ∷ [])) text (k + 1) 0 (omega arith)
     (λ j above below. sym (blanks _) ∙ not_not _ (none.after j above below))
     (λ _. blanks_before text k here) in
     omega arith
 
-pub all_blanks : (text : List ℕ) → Nowhere (Passes (not_in (32 ∷ 9 ∷ [])) text) 0 (length text) → length text - suffix_len (has_byte (space ∷ tab ∷ [])) text ≡ 0
+pub all_blanks : (text : List ℕ) → Nowhere (Passes (not_in (32 ∷ 9 ∷ [])) text) 0 (length text)
+    → length text - suffix_len (has_byte (space ∷ tab ∷ [])) text ≡ 0
 all_blanks text none =
     let e = suffix_len_is (has_byte (space ∷ tab ∷ [])) text 0 0 (omega arith)
     (λ j above below. sym (blanks _) ∙ not_not _ (none j above below))

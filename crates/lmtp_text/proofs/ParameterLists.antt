@@ -1,5 +1,6 @@
 -- The parameters in a text, piece by piece.
-use Rattle.std.proofs.Common.{◌≡◌, ℕ, Bool, true, false, not, ◌==◌, ◌||◌, cond, nat_lt, List, [], ◌∷◌, ◌++◌, length, map, Option, Some, None, Err, if◌then◌else◌, ap, sym, ◌∙◌, refl, append-nil, arith}
+use Rattle.std.proofs.Common.{◌≡◌, ℕ, Bool, true, false, not, ◌==◌, ◌||◌, cond, nat_lt, List, [], ◌∷◌, ◌++◌, length, map, Option, Some, None, Err,
+    if◌then◌else◌, ap, sym, ◌∙◌, refl, append-nil, arith}
 use Rattle.std.specs.List.{list_any, slice_split, onto_first, filter_map, cons_option}
 use Rattle.std.specs.Borrow.{Bor}
 use Rattle.std.proofs.lemmas.List.{map-append}
@@ -15,12 +16,15 @@ parameters_of pieces = filter_map (λ piece. if is_empty piece then None else So
 
 -- a parameter stands in the text where a byte other than a space does
 
-begun : (b : ℕ) (pieces : List (List ℕ)) → nat_lt 0 (length (filter_map (λ piece. if is_empty piece then None else Some (parameter piece)) (onto_first b pieces))) ≡ true
+begun : (b : ℕ) (pieces : List (List ℕ))
+    → nat_lt 0 (length (filter_map (λ piece. if is_empty piece then None else Some (parameter piece)) (onto_first b pieces))) ≡ true
 begun b [] = refl
 begun b (piece ∷ pieces) = grind (arith, nat_tests)
 
 any_step : (b : ℕ) (text : List ℕ) (t : Bool) → list_any (λ c. not (c == 32)) text ≡ nat_lt 0 (length (parameters text))
-    → (not t || list_any (λ c. not (c == 32)) text) ≡ nat_lt 0 (length (filter_map (λ piece. if is_empty piece then None else Some (parameter piece)) (cond t ([] ∷ slice_split (λ c. c == space) text) (onto_first b (slice_split (λ c. c == space) text)))))
+    → (not t || list_any (λ c. not (c == 32)) text)
+    ≡ nat_lt 0 (length (filter_map (λ piece. if is_empty piece then None else Some (parameter piece))
+    (cond t ([] ∷ slice_split (λ c. c == space) text) (onto_first b (slice_split (λ c. c == space) text)))))
 any_step b text true e = e
 any_step b text false e = sym (begun b (slice_split (λ c. c == space) text))
 
@@ -33,7 +37,8 @@ option_more : (o : Option Parameter) (xs ys zs : List Parameter) → xs ≡ ys +
 option_more None xs ys zs e = e
 option_more (Some p) xs ys zs e = ap (λ l. p ∷ l) e
 
-pieces_more : (pieces : List (List ℕ)) (piece : List ℕ) → parameters_of (pieces ++ piece ∷ []) ≡ parameters_of pieces ++ cons_option (if is_empty piece then None else Some (parameter piece)) []
+pieces_more : (pieces : List (List ℕ)) (piece : List ℕ)
+    → parameters_of (pieces ++ piece ∷ []) ≡ parameters_of pieces ++ cons_option (if is_empty piece then None else Some (parameter piece)) []
 pieces_more [] piece = refl
 pieces_more (p ∷ pieces) piece = option_more (if is_empty p then None else Some (parameter p)) _ _ _ (pieces_more pieces piece)
 

@@ -62,7 +62,8 @@ and_true : (a b : Bool) → b ≡ true → (a && b) ≡ a
 and_true true b e = e
 and_true false b e = refl
 
-pub with_size_tallies : (limit : ℕ) (t u : Tally) (ps : List Parameter) (p : Parameter) → has_keyword (codes "SIZE") p ≡ true → IsWithSize limit t p.value u → Tallies limit t ps → Tallies limit u (ps ++ p ∷ [])
+pub with_size_tallies : (limit : ℕ) (t u : Tally) (ps : List Parameter) (p : Parameter) → has_keyword (codes "SIZE") p ≡ true → IsWithSize limit t p.value u
+    → Tallies limit t ps → Tallies limit u (ps ++ p ∷ [])
 with_size_tallies limit t u ps p is w h =
     let n = size_not_body p is in
     let known : is_known p ≡ true = rw is refl in
@@ -71,10 +72,14 @@ with_size_tallies limit t u ps p is w h =
     let one : cond (has_keyword (codes "SIZE") p) 1 0 ≡ 1 = rw is refl in
     let none : cond (has_keyword (codes "BODY") p) 1 0 ≡ 0 = rw n refl in
     let k : list_all is_known (ps ++ p ∷ []) ≡ list_all is_known ps = all_more is_known ps p ∙ and_true _ _ known in
-    let v : list_all is_well_valued (ps ++ p ∷ []) ≡ (list_all is_well_valued ps && is_size_value p.value) = all_more is_well_valued ps p ∙ ap (λ b. list_all is_well_valued ps && b) valued in
-    let l : list_any (is_too_large limit) (ps ++ p ∷ []) ≡ (list_any (is_too_large limit) ps || is_above_limit limit p.value) = any_more (is_too_large limit) ps p ∙ ap (λ b. list_any (is_too_large limit) ps || b) large in
-    let s : count_of (codes "SIZE") (ps ++ p ∷ []) ≡ count_of (codes "SIZE") ps + 1 = count_more (codes "SIZE") ps p ∙ ap (λ m. count_of (codes "SIZE") ps + m) one in
-    let b : count_of (codes "BODY") (ps ++ p ∷ []) ≡ count_of (codes "BODY") ps = count_more (codes "BODY") ps p ∙ ap (λ m. count_of (codes "BODY") ps + m) none ∙ add-zero _ in
+    let v : list_all is_well_valued (ps ++ p ∷ []) ≡ (list_all is_well_valued ps && is_size_value p.value) =
+        all_more is_well_valued ps p ∙ ap (λ b. list_all is_well_valued ps && b) valued in
+    let l : list_any (is_too_large limit) (ps ++ p ∷ []) ≡ (list_any (is_too_large limit) ps || is_above_limit limit p.value) =
+        any_more (is_too_large limit) ps p ∙ ap (λ b. list_any (is_too_large limit) ps || b) large in
+    let s : count_of (codes "SIZE") (ps ++ p ∷ []) ≡ count_of (codes "SIZE") ps + 1 =
+        count_more (codes "SIZE") ps p ∙ ap (λ m. count_of (codes "SIZE") ps + m) one in
+    let b : count_of (codes "BODY") (ps ++ p ∷ []) ≡ count_of (codes "BODY") ps =
+        count_more (codes "BODY") ps p ∙ ap (λ m. count_of (codes "BODY") ps + m) none ∙ add-zero _ in
     record {
       unknown = w.unknown ∙ h.unknown ∙ ap not (sym k);
       has_size = w.has_size ∙ rw s (sym (above_zero _));

@@ -16,6 +16,7 @@ first_fails p (b ∷ text) = fails_step (p b) _ _ (first_fails p text)
 place_or_all : (k n : ℕ) → k ≤ n → unwrap_or (cond (ltb k n) (Some k) None) n ≡ k
 place_or_all k n h = grind (arith, nat_tests)
 
-pub prefix_is : (p : ℕ → Bool) (text : List ℕ) (r : Option ℕ) (n : ℕ) → r ≡ cond (ltb (position_or_len (λ b. not (p b)) text) (length text)) (Some (position_or_len (λ b. not (p b)) text)) None
+pub prefix_is : (p : ℕ → Bool) (text : List ℕ) (r : Option ℕ) (n : ℕ)
+    → r ≡ cond (ltb (position_or_len (λ b. not (p b)) text) (length text)) (Some (position_or_len (λ b. not (p b)) text)) None
     → n ≡ unwrap_or r (length text) → n ≡ prefix_len p text
 prefix_is p text r n e f = f ∙ ap (λ o. unwrap_or o (length text)) e ∙ rw (first_fails p text) (place_or_all _ _ (prefix_len-le-length p text))

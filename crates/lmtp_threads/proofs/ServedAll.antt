@@ -1,5 +1,6 @@
 -- The lanes' reports, taken together.
-use Rattle.std.proofs.Common.{◌≡◌, ℕ, zero, suc, ◌+◌, ◌<◌, Bool, false, List, [], ◌∷◌, ◌++◌, length, map, append-nil, refl, sym, ap, ◌∙◌, subst, arith, Option, Some, None, inl, inr}
+use Rattle.std.proofs.Common.{◌≡◌, ℕ, zero, suc, ◌+◌, ◌<◌, Bool, false, List, [], ◌∷◌, ◌++◌, length, map, append-nil, refl, sym, ap, ◌∙◌, subst, arith, Option,
+    Some, None, inl, inr}
 use Rattle.std.specs.Prelude.{slice_get, flat_map}
 use Rattle.std.specs.List.{AllZip, AllByRecursion}
 use Rattle.std.proofs.lemmas.List.{length-map}
@@ -174,8 +175,10 @@ module _ {V C R : Type 0} (May : C → ℕ → Type 0) (view : VisitsView V)
         IsServedLane j.site (May j.clock) (view.MayGive j.visits) j.lane w (lane_told view j.visits (rv p.right) (rc p.right)) in
         let Given : LaneTask V C → LaneDone → Type 0 = λ j d. HasGiven (λ b. due j.site j.lane b (conversations_of d.work.visits)) j.senders (rs p.right) in
         let Heard : LaneTask V C → LaneDone → Type 0 = λ j d. TookSlips d.work.heard j.slips (rt p.right) in
-        let InTime : LaneTask V C → LaneDone → Type 0 = λ j d. AreInTime lane_sorts d.deeds (record { senders = j.senders; inbox = j.slips }) (record { senders = rs p.right; inbox = rt p.right }) in
-        let Did : LaneTask V C → LaneDone → Type 0 = λ j d. LaneDid (flat_map (copies j.lane) (transactions j.site 0 (conversations_of d.work.visits))) d.work.heard d.deeds in
+        let InTime : LaneTask V C → LaneDone → Type 0 =
+            λ j d. AreInTime lane_sorts d.deeds (record { senders = j.senders; inbox = j.slips }) (record { senders = rs p.right; inbox = rt p.right }) in
+        let Did : LaneTask V C → LaneDone → Type 0 =
+            λ j d. LaneDid (flat_map (copies j.lane) (transactions j.site 0 (conversations_of d.work.visits))) d.work.heard d.deeds in
         let InTurn : LaneTask V C → LaneDone → Type 0 = λ j d.
         AreExchanges RECIPIENT_LIMIT j.lane (transactions j.site 0 (conversations_of d.work.visits)) (whats d.deeds) in
         let came : h.came ≡ h.heard = merged_none h.came h.heard (subst (λ l. IsMerged h.came l h.heard) none_own h.exchanged.merged) in
@@ -235,7 +238,8 @@ module _ {V C R : Type 0} (May : C → ℕ → Type 0) (view : VisitsView V)
           let new_is : rv l.report ≡ new = sym (v.gives ∙ ap rv same_v) in
           let count_is : rc l.report ≡ count = sym (n.gives ∙ ap rc same_n) in
           let Served : V → V → ℕ → Type 0 = λ x y m. IsServedLane site (May clock) (view.MayGive x) k (works k) (lane_told view x y m) in
-          subst (λ m. Served old new m) count_is (subst (λ y. Served old y (rc l.report)) new_is (subst (λ x. Served x (rv l.report) (rc l.report)) old_is l.served));
+          subst (λ m. Served old new m) count_is
+              (subst (λ y. Served old y (rc l.report)) new_is (subst (λ x. Served x (rv l.report) (rc l.report)) old_is l.served));
       deeds = deeds_of;
       did = λ k below. (lane_is k below).did;
       in_turn = λ k below. (lane_is k below).in_turn;
@@ -250,7 +254,8 @@ module _ {V C R : Type 0} (May : C → ℕ → Type 0) (view : VisitsView V)
             inbox_is = at_map rt reports k l.report l.report_is;
             are = l.in_time;
           };
-      rows_are = rows_given (length given.visits) channels (λ k b. due site k b (conversations_of (works k).visits)) given.rows (map rs reports) are (length-map reports rs ∙ reports_count)
+      rows_are = rows_given (length given.visits) channels (λ k b. due site k b (conversations_of (works k).visits)) given.rows (map rs reports) are
+          (length-map reports rs ∙ reports_count)
           (λ k row row' a b.
           let r = source rs reports k row' b in
           let l = lane_is k (omega (arith, are.count, slice_get_within given.rows k row a)) in

@@ -27,7 +27,8 @@ use Rattle.thread_crew.proofs.ChannelRows.{at, at_map, same_at, at_each, source,
 
 module _ {S : Type 0} where
   -- the task of worker k, and what it was made of
-  pub record TaskAt (share : WorkerShare) (inboxes : List (Inbox Note)) (rows : List (List (Sender Slip))) (spools : List S) (k : ℕ) (task : BoxTask S) : Type 0 where
+  pub record TaskAt (share : WorkerShare) (inboxes : List (Inbox Note)) (rows : List (List (Sender Slip))) (spools : List S) (k : ℕ) (task : BoxTask S) : Type
+      0 where
     pub inbox : Inbox Note
     pub row : List (Sender Slip)
     pub spool : S
@@ -49,7 +50,8 @@ module _ {S : Type 0} where
       let p = task_at share inboxes rows spools k task e in
       record { inbox = p.inbox; row = p.row; spool = p.spool; inbox_is = p.inbox_is; row_is = p.row_is; spool_is = p.spool_is; is = p.is }
 
-  pub tasks_count : (share : WorkerShare) (inboxes : List (Inbox Note)) (rows : List (List (Sender Slip))) (spools : List S) → length inboxes ≡ length spools → length rows ≡ length spools
+  pub tasks_count : (share : WorkerShare) (inboxes : List (Inbox Note)) (rows : List (List (Sender Slip))) (spools : List S) → length inboxes ≡ length spools
+      → length rows ≡ length spools
       → length (box_tasks share inboxes rows spools) ≡ length spools
   tasks_count share [] rows spools a b = a
   tasks_count share (inbox ∷ inboxes) [] spools a b = b
@@ -74,7 +76,8 @@ pub record BoxDone : Type 0 where
 module _ {S R : Type 0} (state : S → SpoolState) (rr : R → Inbox Note) (rs : R → List (Sender Slip)) (rp : R → S) (rt : R → Tally) (rl : R → Bool) where
   abbrev pub BoxOk : BoxTask S → R → Type 0
   BoxOk j r = HasWorked (setting_of j.share (worker_of j.slips)) j.receiver (rr r) (idle j.slips (state j.spool))
-      (record { slips = rs r; mailbox = mailbox_of (state (rp r)) (rt r).stored (rt r).over (rt r).faulty; in_use = (rt r).in_use; taken = (rt r).taken; lost = rl r })
+      (record { slips = rs r; mailbox = mailbox_of (state (rp r)) (rt r).stored (rt r).over (rt r).faulty; in_use = (rt r).in_use; taken = (rt r).taken;
+          lost = rl r })
 
   abbrev box_done : (j : BoxTask S) (r : R) → BoxOk j r → BoxDone
   box_done j r h = record { work = record { taken = taken (rr r); outcomes = h.handled.outcomes }; deeds = h.turns.deeds }
@@ -93,7 +96,8 @@ module _ {S R : Type 0} (state : S → SpoolState) (rr : R → Inbox Note) (rs :
 
   module _ (site : Site) (channels : List (Channel Slip)) (given : WorkersGiven S) (reports : List R)
       (inboxes_count : length given.inboxes ≡ length given.spools) (some : 0 < length channels) (are : AreRows (length given.spools) channels none given.rows)
-      (all : AllZip BoxOk (box_tasks (share_of site given.quota) given.inboxes given.rows given.spools) reports) (sound : AllByRecursion (λ r. rl r ≡ false) reports) where
+      (all : AllZip BoxOk (box_tasks (share_of site given.quota) given.inboxes given.rows given.spools) reports)
+          (sound : AllByRecursion (λ r. rl r ≡ false) reports) where
     abbrev share : WorkerShare
     share = share_of site given.quota
 
@@ -143,7 +147,8 @@ module _ {S R : Type 0} (state : S → SpoolState) (rr : R → Inbox Note) (rs :
         let Given : ℕ → List (Sender Slip) → BoxWork → Type 0 = λ b row w. HasGiven (λ j. owed_to b w.outcomes j w.taken) row (rs p.right) in
         let Took : Inbox Note → BoxWork → Type 0 = λ inbox w. TookAllNotes w.taken inbox (rr p.right) in
         let Did : ℕ → BoxDone → Type 0 = λ b d. whats d.deeds ≡ turns_of b d.work.taken d.work.outcomes in
-        let InTime : BoxTask S → BoxDone → Type 0 = λ j d. AreInTime worker_sorts d.deeds (record { senders = j.slips; inbox = j.receiver }) (record { senders = rs p.right; inbox = rr p.right }) in
+        let InTime : BoxTask S → BoxDone → Type 0 =
+            λ j d. AreInTime worker_sorts d.deeds (record { senders = j.slips; inbox = j.receiver }) (record { senders = rs p.right; inbox = rr p.right }) in
         let handled = h.handled in
         let stored : Stored p.left.share (worker_of p.left.slips) p.left.spool (box_done p.left p.right h).work = record {
           each = handled.each;
@@ -154,7 +159,8 @@ module _ {S R : Type 0} (state : S → SpoolState) (rr : R → Inbox Note) (rs :
           shared = handled.shared;
         } in
         let stored_at : Stored share (worker_of t.row) t.spool (works k) =
-        subst (λ (j : BoxTask S). Stored j.share (worker_of j.slips) j.spool (works k)) t.is (subst (λ d. Stored p.left.share (worker_of p.left.slips) p.left.spool d.work) (sym p.picked) stored) in
+        subst (λ (j : BoxTask S). Stored j.share (worker_of j.slips) j.spool (works k)) t.is
+            (subst (λ d. Stored p.left.share (worker_of p.left.slips) p.left.spool d.work) (sym p.picked) stored) in
         let given_out : Given (worker_of p.left.slips) p.left.slips (box_done p.left p.right h).work = record {
           as_many = h.handled.told.as_many;
           each = λ j before after e f.
@@ -170,7 +176,8 @@ module _ {S R : Type 0} (state : S → SpoolState) (rr : R → Inbox Note) (rs :
           closed = was_closed _ _ _ _ _ h no;
         } in
         let given_at : Given (worker_of t.row) t.row (works k) =
-        subst (λ (j : BoxTask S). Given (worker_of j.slips) j.slips (works k)) t.is (subst (λ d. Given (worker_of p.left.slips) p.left.slips d.work) (sym p.picked) given_out) in
+        subst (λ (j : BoxTask S). Given (worker_of j.slips) j.slips (works k)) t.is
+            (subst (λ d. Given (worker_of p.left.slips) p.left.slips d.work) (sym p.picked) given_out) in
         let did_at : Did (worker_of t.row) (dones k) =
         subst (λ (j : BoxTask S). Did (worker_of j.slips) (dones k)) t.is
         (subst (λ d. Did (worker_of p.left.slips) d) (sym p.picked) (h.turns.all (none_came_back _ _ _ _ _ h no))) in record {
@@ -216,7 +223,8 @@ module _ {S R : Type 0} (state : S → SpoolState) (rr : R → Inbox Note) (rs :
             inbox_is = at_map rr reports k l.report l.report_is;
             are = l.in_time;
           };
-      rows_are = rows_given (length given.spools) channels (λ b k. owed_to b (works b).outcomes k (works b).taken) given.rows (map rs reports) are (length-map reports rs ∙ reports_count)
+      rows_are = rows_given (length given.spools) channels (λ b k. owed_to b (works b).outcomes k (works b).taken) given.rows (map rs reports) are
+          (length-map reports rs ∙ reports_count)
           (λ k row row' a b.
           let r = source rs reports k row' b in
           let l = box_is k (omega (arith, are.count, slice_get_within given.rows k row a)) in

@@ -1,5 +1,6 @@
 -- A message with its dots doubled, run by run.
-use Rattle.std.proofs.Common.{◌≡◌, ℕ, suc, ◌+◌, List, [], ◌∷◌, ◌++◌, take, drop, Bool, true, false, cond, ◌&&◌, ◌==◌, Option, Some, None, length, subst, length-append, append_assoc, take_all, length-drop, ◌-◌, ◌≤◌, refl, sym, ap, ◌∙◌, arith}
+use Rattle.std.proofs.Common.{◌≡◌, ℕ, suc, ◌+◌, List, [], ◌∷◌, ◌++◌, take, drop, Bool, true, false, cond, ◌&&◌, ◌==◌, Option, Some, None, length, subst,
+    length-append, append_assoc, take_all, length-drop, ◌-◌, ◌≤◌, refl, sym, ap, ◌∙◌, arith}
 use Rattle.std.specs.Prelude.{option_map}
 use Rattle.std.proofs.lemmas.Bool.Decides.{nat_tests}
 use Rattle.mail_world.proofs.Shortest.{same_window}
@@ -31,7 +32,8 @@ none_by : (x : Bool) (a b c : ℕ) (text : List ℕ) (o : Option ℕ) → begins
     → (o ≡ None → with_dots b c text ≡ text) → with_dots a b (c ∷ text) ≡ c ∷ text
 none_by true a b c text o e f ih = cc
 none_by false a b c text (Some n) e f ih = cc
-none_by false a b c text None e f ih = ap (λ x. cond x (dot ∷ c ∷ with_dots b c text) (c ∷ with_dots b c text)) (sym (same_test a b c text) ∙ e) ∙ ap (λ l. c ∷ l) (ih refl)
+none_by false a b c text None e f ih =
+    ap (λ x. cond x (dot ∷ c ∷ with_dots b c text) (c ∷ with_dots b c text)) (sym (same_test a b c text) ∙ e) ∙ ap (λ l. c ∷ l) (ih refl)
 
 pub no_dots : (a b : ℕ) (text : List ℕ) → place_of dotted (a ∷ b ∷ text) ≡ None → with_dots a b text ≡ text
 no_dots a b [] e = refl
@@ -52,9 +54,11 @@ dot_here a b c text e =
     let ends = both (a == cr) (b == lf) (c == dot) e in
     let b_is : b ≡ lf = grind (arith, nat_tests, ends.0) in
     let c_is : c ≡ dot = grind (arith, nat_tests, ends.1) in
-    ap (λ x. cond x (dot ∷ c ∷ with_dots b c text) (c ∷ with_dots b c text)) e ∙ ap (λ y. dot ∷ c ∷ with_dots y c text) b_is ∙ ap (λ y. dot ∷ y ∷ with_dots lf y text) c_is
+    ap (λ x. cond x (dot ∷ c ∷ with_dots b c text) (c ∷ with_dots b c text)) e ∙ ap (λ y. dot ∷ c ∷ with_dots y c text) b_is
+        ∙ ap (λ y. dot ∷ y ∷ with_dots lf y text) c_is
 
-some_by : (x : Bool) (a b c : ℕ) (text : List ℕ) (o : Option ℕ) (n : ℕ) → begins_with dotted (a ∷ b ∷ c ∷ text) ≡ x → cond x (Some 0) (option_map (λ n. suc n) o) ≡ Some n
+some_by : (x : Bool) (a b c : ℕ) (text : List ℕ) (o : Option ℕ) (n : ℕ) → begins_with dotted (a ∷ b ∷ c ∷ text) ≡ x
+    → cond x (Some 0) (option_map (λ n. suc n) o) ≡ Some n
     → ((m : ℕ) → o ≡ Some m → with_dots b c text ≡ doubled_at m text) → with_dots a b (c ∷ text) ≡ doubled_at n (c ∷ text)
 some_by true a b c text o n e f ih =
     let first : 0 ≡ n = cc in
@@ -84,7 +88,8 @@ after_dot text = later (place_of dotted text)
 pub next_run : (text : List ℕ) (n : ℕ) → place_of dotted text ≡ Some n
     → with_dots lf dot text ≡ take (n + 2) text ++ dot ∷ dot ∷ with_dots lf dot (drop (n + 3) text)
 next_run text n e =
-    one_dot lf dot text (n + 2) (after_dot text ∙ ap (λ o. option_map (λ n. suc (suc n)) o) e ∙ ap (λ k. Some k) (let r : suc (suc n) ≡ n + 2 = omega arith in r))
+    one_dot lf dot text (n + 2) (after_dot text ∙ ap (λ o. option_map (λ n. suc (suc n)) o) e
+        ∙ ap (λ k. Some k) (let r : suc (suc n) ≡ n + 2 = omega arith in r))
     ∙ ap (λ k. take (n + 2) text ++ dot ∷ dot ∷ with_dots lf dot (drop k text)) (let r : n + 2 + 1 ≡ n + 3 = omega arith in r)
 
 pub last_run : (text : List ℕ) → place_of dotted text ≡ None → with_dots lf dot text ≡ text
@@ -97,9 +102,11 @@ rest_of k text = take_all (length text - k) (drop k text) (omega (arith, length-
 pub run_ended : (text : List ℕ) (r : Option ℕ) → r ≡ None → FindsNeedle text dotted 0 r → with_dots lf dot text ≡ text
 run_ended text r none h = last_run text (sym (finds_place cr (lf ∷ dot ∷ []) text r h) ∙ none)
 
-pub cuts_run : (text : List ℕ) (r : Option ℕ) (n : ℕ) → r ≡ Some n → n + 3 ≤ length text → FindsNeedle text dotted 0 r → CutsRun text (take (n + 2) text) (take (length text - (n + 3)) (drop (n + 3) text))
+pub cuts_run : (text : List ℕ) (r : Option ℕ) (n : ℕ) → r ≡ Some n → n + 3 ≤ length text → FindsNeedle text dotted 0 r
+    → CutsRun text (take (n + 2) text) (take (length text - (n + 3)) (drop (n + 3) text))
 cuts_run text r n some fits h = record {
-  whole = next_run text n (sym (finds_place cr (lf ∷ dot ∷ []) text r h) ∙ some) ∙ ap (λ l. take (n + 2) text ++ dot ∷ dot ∷ with_dots lf dot l) (sym (rest_of (n + 3) text));
+  whole = next_run text n (sym (finds_place cr (lf ∷ dot ∷ []) text r h) ∙ some)
+      ∙ ap (λ l. take (n + 2) text ++ dot ∷ dot ∷ with_dots lf dot l) (sym (rest_of (n + 3) text));
   shorter = rw (rest_of (n + 3) text) (omega (arith, length-drop (n + 3) text));
 }
 
@@ -108,7 +115,8 @@ cuts_run text r n some fits h = record {
 pub dot_first : (text : List ℕ) → begins_with (dot ∷ []) text ≡ true → with_dots cr lf text ≡ dot ∷ with_dots lf dot text
 dot_first text e =
     let whole : text ≡ dot ∷ drop 1 text = begins_with-prefix (dot ∷ []) text e in
-    ap (λ l. with_dots cr lf l) whole ∙ ap (λ l. dot ∷ dot ∷ l) (same_window lf dot dot (drop 1 text) refl refl) ∙ ap (λ l. dot ∷ with_dots lf dot l) (sym whole)
+    ap (λ l. with_dots cr lf l) whole ∙ ap (λ l. dot ∷ dot ∷ l) (same_window lf dot dot (drop 1 text) refl refl)
+        ∙ ap (λ l. dot ∷ with_dots lf dot l) (sym whole)
 
 other_by : (x : Bool) (b : ℕ) (text : List ℕ) → (dot == b) ≡ x → x && true ≡ false → with_dots cr lf (b ∷ text) ≡ with_dots lf dot (b ∷ text)
 other_by true b text e f = cc

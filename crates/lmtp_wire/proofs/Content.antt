@@ -1,5 +1,6 @@
 -- How far a text is content, by its dots, and where data stands after it, by its last bytes.
-use Rattle.std.proofs.Common.{◌≡◌, ℕ, zero, suc, ◌+◌, ◌-◌, ◌<◌, ◌≤◌, List, [], ◌∷◌, ◌++◌, length, take, drop, get_or, Bool, true, false, cond, not, ◌&&◌, ◌==◌, refl, ap, sym, ◌∙◌, arith, length-drop}
+use Rattle.std.proofs.Common.{◌≡◌, ℕ, zero, suc, ◌+◌, ◌-◌, ◌<◌, ◌≤◌, List, [], ◌∷◌, ◌++◌, length, take, drop, get_or, Bool, true, false, cond, not, ◌&&◌, ◌==◌,
+    refl, ap, sym, ◌∙◌, arith, length-drop}
 use Rattle.std.proofs.lemmas.Bool.{and_parts, and_from, false_from_ne_true}
 use Rattle.std.proofs.lemmas.List.{take_more}
 use Rattle.std.proofs.Math.Seq.{take-add}
@@ -11,7 +12,8 @@ use Rattle.lmtp_wire.specs.declared.dot.DataPlace.TheVariants.{InText, AfterCr, 
 use Rattle.lmtp_wire.specs.DataPlace.{is_cr, is_start, place_next, place_after, is_content}
 
 -- content, and then more of it
-content_more : (p : DataPlace) (text more : List ℕ) → is_content p text ≡ true → is_content (place_after p text) more ≡ true → is_content p (text ++ more) ≡ true
+content_more : (p : DataPlace) (text more : List ℕ) → is_content p text ≡ true → is_content (place_after p text) more ≡ true
+    → is_content p (text ++ more) ≡ true
 content_more p [] more e f = f
 content_more p (b ∷ text) more e f =
     let parts = and_parts (not (is_start p && (b == dot))) (is_content (place_next p b) text) e in

@@ -1,5 +1,6 @@
 -- What one byte makes of the message after data that was taken, by where the data stands.
-use Rattle.std.proofs.Common.{◌≡◌, ℕ, ◌+◌, ◌-◌, List, [], ◌∷◌, ◌++◌, length, take, drop, Bool, true, false, cond, not, ◌&&◌, ◌==◌, Some, None, refl, ap, sym, ◌∙◌, arith, length-append, append_assoc, append-nil, subst}
+use Rattle.std.proofs.Common.{◌≡◌, ℕ, ◌+◌, ◌-◌, List, [], ◌∷◌, ◌++◌, length, take, drop, Bool, true, false, cond, not, ◌&&◌, ◌==◌, Some, None, refl, ap, sym,
+    ◌∙◌, arith, length-append, append_assoc, append-nil, subst}
 use Rattle.std.specs.Prelude.{unwrap_or}
 use Rattle.std.proofs.Math.Seq.{take-append_seam, drop-append_seam}
 use Rattle.std.proofs.lemmas.Bool.{eqb-true, and_parts}
@@ -11,8 +12,10 @@ use Rattle.lmtp_wire.specs.declared.dot.DataPlace.{DataPlace}
 use Rattle.lmtp_wire.specs.declared.dot.DataPlace.TheVariants.{InText, AfterCr, LineStart, AfterDot, AfterDotCr}
 use Rattle.lmtp_wire.specs.declared.dot.Effect.{Effect}
 use Rattle.lmtp_wire.specs.declared.dot.Effect.TheVariants.{Nothing, Byte, HeldCr, End}
-use Rattle.lmtp_wire.specs.DataPlace.{came, in_doubt, held_back, is_cr, is_start, is_dot, place_next, place_after, is_content, effect_of, without_dots_at, moved, IsAtPlace, IsDataEnd}
-use Rattle.lmtp_wire.proofs.EndSteps.{end_in, text_other, cr_again, cr_other, start_cr, start_other, dot_other, dot_cr_again, dot_cr_other, moved_more, moved_none, moved_some}
+use Rattle.lmtp_wire.specs.DataPlace.{came, in_doubt, held_back, is_cr, is_start, is_dot, place_next, place_after, is_content, effect_of, without_dots_at,
+    moved, IsAtPlace, IsDataEnd}
+use Rattle.lmtp_wire.proofs.EndSteps.{end_in, text_other, cr_again, cr_other, start_cr, start_other, dot_other, dot_cr_again, dot_cr_other, moved_more,
+    moved_none, moved_some}
 use Rattle.lmtp_wire.proofs.LastBytes.{eqb_comm, ends_more, fades, fades_cr}
 
 -- with one more byte the data stands there, and more of the message is sure
@@ -81,7 +84,8 @@ step_count m g x y n k e f h = omega arith
 step_finds : (p q : DataPlace) (taken : List ℕ) (b : ℕ) (new : List ℕ) (s : IsAtPlace p taken) (e : PlaceStep p q b new) (rest : List ℕ)
     → end_in (crlf ++ ((taken ++ b ∷ []) ++ rest)) ≡ moved (s.before + e.gone) (end_in (came q ++ rest))
 step_finds p q taken b new s e rest =
-    ap (λ l. end_in (crlf ++ l)) (snoc taken b rest) ∙ s.finds (b ∷ rest) ∙ ap (λ o. moved s.before o) (e.finds rest) ∙ moved_more s.before e.gone (end_in (came q ++ rest))
+    ap (λ l. end_in (crlf ++ l)) (snoc taken b rest) ∙ s.finds (b ∷ rest) ∙ ap (λ o. moved s.before o) (e.finds rest)
+        ∙ moved_more s.before e.gone (end_in (came q ++ rest))
 
 nothing_at : (place : DataPlace) → without_dots_at place [] ≡ []
 nothing_at InText = refl
@@ -90,7 +94,8 @@ nothing_at LineStart = refl
 nothing_at AfterDot = refl
 nothing_at AfterDotCr = refl
 
-step_unstuffed : (p q : DataPlace) (taken : List ℕ) (b : ℕ) (new : List ℕ) → IsAtPlace p taken → PlaceStep p q b new → unstuffed (taken ++ b ∷ []) ≡ unstuffed taken ++ new
+step_unstuffed : (p q : DataPlace) (taken : List ℕ) (b : ℕ) (new : List ℕ) → IsAtPlace p taken → PlaceStep p q b new
+    → unstuffed (taken ++ b ∷ []) ≡ unstuffed taken ++ new
 step_unstuffed p q taken b new s e = s.after (b ∷ []) ∙ ap (λ l. unstuffed taken ++ l) (e.after [] ∙ ap (λ l. new ++ l) (nothing_at q) ∙ append-nil new)
 
 step_after : (p q : DataPlace) (taken : List ℕ) (b : ℕ) (new : List ℕ) → IsAtPlace p taken → PlaceStep p q b new → (rest : List ℕ)
@@ -105,7 +110,8 @@ prefix_of taken b =
     let n : length (taken ++ b ∷ []) - 1 ≡ length taken = omega (arith, length-append taken (b ∷ [])) in
     ap (λ k. take k (taken ++ b ∷ [])) n ∙ take-append_seam taken (b ∷ [])
 
-shown_next : (p : DataPlace) (taken : List ℕ) (b : ℕ) → IsAtPlace p taken → shown (taken ++ b ∷ []) ≡ unstuffed (cond (is_dot p && (cr == b)) taken (taken ++ b ∷ []))
+shown_next : (p : DataPlace) (taken : List ℕ) (b : ℕ) → IsAtPlace p taken
+    → shown (taken ++ b ∷ []) ≡ unstuffed (cond (is_dot p && (cr == b)) taken (taken ++ b ∷ []))
 unfolding shown
 shown_next p taken b s =
     ap (λ t. unstuffed (cond t (take (length (taken ++ b ∷ []) - 1) (taken ++ b ∷ [])) (taken ++ b ∷ [])))
@@ -115,9 +121,11 @@ shown_next p taken b s =
 ends_in_none : (u : List ℕ) → ends_in [] u ≡ true
 ends_in_none u =
     let n : length u - 0 ≡ length u = omega arith in
-    ap (λ k. pointwise nat_eq [] (drop k u)) n ∙ ap (λ l. pointwise nat_eq [] (drop (length u) l)) (sym (append-nil u)) ∙ ap (λ l. pointwise nat_eq [] l) (drop-append_seam u [])
+    ap (λ k. pointwise nat_eq [] (drop k u)) n ∙ ap (λ l. pointwise nat_eq [] (drop (length u) l)) (sym (append-nil u))
+        ∙ ap (λ l. pointwise nat_eq [] l) (drop-append_seam u [])
 
-stands_next : (p q : DataPlace) (taken : List ℕ) (b : ℕ) (new : List ℕ) → IsAtPlace p taken → PlaceStep p q b new → (lead : List ℕ) → taken ++ b ∷ [] ≡ lead ++ in_doubt q
+stands_next : (p q : DataPlace) (taken : List ℕ) (b : ℕ) (new : List ℕ) → IsAtPlace p taken → PlaceStep p q b new → (lead : List ℕ)
+    → taken ++ b ∷ [] ≡ lead ++ in_doubt q
     → unstuffed lead ≡ shown (taken ++ b ∷ []) → unstuffed (taken ++ b ∷ []) ≡ shown (taken ++ b ∷ []) ++ held_back q → IsAtPlace q (taken ++ b ∷ [])
 stands_next p q taken b new s e lead whole content sure = record {
   before = s.before + e.gone;
@@ -134,7 +142,8 @@ stands_next p q taken b new s e lead whole content sure = record {
 }
 
 -- the byte is content
-adds_byte : (p q : DataPlace) (taken : List ℕ) (b : ℕ) → IsAtPlace p taken → PlaceStep p q b (b ∷ []) → in_doubt q ≡ [] → held_back q ≡ [] → is_dot p && (cr == b) ≡ false
+adds_byte : (p q : DataPlace) (taken : List ℕ) (b : ℕ) → IsAtPlace p taken → PlaceStep p q b (b ∷ []) → in_doubt q ≡ [] → held_back q ≡ []
+    → is_dot p && (cr == b) ≡ false
     → Adds q taken b (held_back p ++ b ∷ [])
 adds_byte p q taken b s e doubt holds other =
     let all : shown (taken ++ b ∷ []) ≡ unstuffed (taken ++ b ∷ []) = shown_next p taken b s ∙ ap (λ t. unstuffed (cond t taken (taken ++ b ∷ []))) other in
@@ -180,7 +189,8 @@ ends_data : (taken : List ℕ) → IsAtPlace AfterDotCr taken → IsDataEnd (tak
 unfolding data_end message
 ends_data taken s =
     let at : length s.lead ≡ s.before = omega (arith, s.count, ap length s.whole, length-append s.lead (dot ∷ cr ∷ [])) in
-    let found : place_of end_of_data (crlf ++ (taken ++ lf ∷ [])) ≡ Some (length s.lead) = s.finds (lf ∷ []) ∙ moved_some s.before ∙ ap (λ n. Some n) (sym at) in
+    let found : place_of end_of_data (crlf ++ (taken ++ lf ∷ [])) ≡ Some (length s.lead) =
+        s.finds (lf ∷ []) ∙ moved_some s.before ∙ ap (λ n. Some n) (sym at) in
     let parts : taken ++ lf ∷ [] ≡ s.lead ++ (dot ∷ crlf) = ap (λ l. l ++ lf ∷ []) s.whole ∙ append_assoc s.lead (dot ∷ cr ∷ []) (lf ∷ []) in
     record {
       end = length s.lead;
@@ -327,11 +337,13 @@ adds_after_dot_cr taken b other s =
     subst P (sym other) (begun_by AfterDotCr taken b (b == cr) refl s step_dot_cr_cr (step_dot_cr b (eqb_comm lf b ∙ other) other) refl)
 
 -- the tests of a byte
-by_dot : (taken : List ℕ) (b : ℕ) (t : Bool) → (b == dot) ≡ t → IsAtPlace LineStart taken → Brings taken b (cond t (Nothing AfterDot) (Byte (place_next LineStart b)))
+by_dot : (taken : List ℕ) (b : ℕ) (t : Bool) → (b == dot) ≡ t → IsAtPlace LineStart taken
+    → Brings taken b (cond t (Nothing AfterDot) (Byte (place_next LineStart b)))
 by_dot taken b true e s = let P : ℕ → Type 0 = λ x. Adds AfterDot taken x [] in subst P (sym (eqb-true b dot e)) (adds_dot taken s)
 by_dot taken b false e s = adds_start taken b e s
 
-by_cr : (taken : List ℕ) (b : ℕ) (t : Bool) → (b == cr) ≡ t → IsAtPlace AfterDot taken → Brings taken b (cond t (Nothing AfterDotCr) (Byte (place_next AfterDot b)))
+by_cr : (taken : List ℕ) (b : ℕ) (t : Bool) → (b == cr) ≡ t → IsAtPlace AfterDot taken
+    → Brings taken b (cond t (Nothing AfterDotCr) (Byte (place_next AfterDot b)))
 by_cr taken b true e s = let P : ℕ → Type 0 = λ x. Adds AfterDotCr taken x [] in subst P (sym (eqb-true b cr e)) (adds_held taken s)
 by_cr taken b false e s = adds_after_dot taken b e s
 

@@ -1,5 +1,6 @@
 -- What a call makes of what was made before: a byte, a run of text, a byte that was owed.
-use Rattle.std.proofs.Common.{◌≡◌, ℕ, ◌+◌, ◌-◌, ◌<◌, ◌≤◌, List, [], ◌∷◌, ◌++◌, length, take, drop, get_or, set, Bool, true, false, not, Option, Some, None, ap, sym, ◌∙◌, subst, arith, append_assoc, append-nil}
+use Rattle.std.proofs.Common.{◌≡◌, ℕ, ◌+◌, ◌-◌, ◌<◌, ◌≤◌, List, [], ◌∷◌, ◌++◌, length, take, drop, get_or, set, Bool, true, false, not, Option, Some, None, ap,
+    sym, ◌∙◌, subst, arith, append_assoc, append-nil}
 use Rattle.std.proofs.lemmas.List.{take_more, take_more_set, drop-drop}
 use Rattle.std.proofs.Math.Seq.{take-add}
 use Rattle.mail_world.specs.Data.{shown}
@@ -79,13 +80,15 @@ takes_run old new piece out out' used n m m' run none none' settled place is con
     record {
       goes_on = stands_none new.place (taken ++ take (used + n) piece) stands;
       shows = ap shown (sym more) ∙ all.shows ∙ ap (λ l. l ++ run) (all_made old now (made ++ take m out) none h)
-          ∙ append_assoc made (take m out) run ∙ ap (λ l. made ++ l) (sym bytes) ∙ sym (append-nil (made ++ take m' out')) ∙ ap (λ o. (made ++ take m' out') ++ owed_bytes o) (sym none');
+          ∙ append_assoc made (take m out) run ∙ ap (λ l. made ++ l) (sym bytes) ∙ sym (append-nil (made ++ take m' out'))
+              ∙ ap (λ o. (made ++ take m' out') ++ owed_bytes o) (sym none');
       stands = stands;
     }
 
 -- a byte is put where there is room
 pub puts_byte : (out : List ℕ) (m b : ℕ) (owed : Option ℕ) → owed ≡ None → m < length out → take (m + 1) (set out m b) ++ owed_bytes owed ≡ take m out ++ b ∷ []
-puts_byte out m b owed none room = ap (λ o. take (m + 1) (set out m b) ++ owed_bytes o) none ∙ append-nil (take (m + 1) (set out m b)) ∙ take_more_set out m b room
+puts_byte out m b owed none room =
+    ap (λ o. take (m + 1) (set out m b) ++ owed_bytes o) none ∙ append-nil (take (m + 1) (set out m b)) ∙ take_more_set out m b room
 
 -- what comes where the data goes on
 pub on_from : (dot : Dot) (taken made : List ℕ) (ended : Bool) → not ended ≡ true → HasFed dot taken made ended → HasMade dot taken made

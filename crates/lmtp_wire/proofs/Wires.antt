@@ -1,5 +1,6 @@
 -- Where the first CRLF is in bytes that were taken in parts, and how the parts end.
-use Rattle.std.proofs.Common.{◌≡◌, ℕ, suc, ◌+◌, ◌-◌, ◌<◌, ◌≤◌, List, [], ◌∷◌, ◌++◌, length, take, drop, Bool, true, false, cond, Option, Some, None, refl, sym, ap, ◌∙◌, subst, arith, append_assoc, length-append, length-take-le}
+use Rattle.std.proofs.Common.{◌≡◌, ℕ, suc, ◌+◌, ◌-◌, ◌<◌, ◌≤◌, List, [], ◌∷◌, ◌++◌, length, take, drop, Bool, true, false, cond, Option, Some, None, refl, sym,
+    ap, ◌∙◌, subst, arith, append_assoc, length-append, length-take-le}
 use Rattle.std.specs.Prelude.{option_map, ◌&&◌, nat_eq}
 use Rattle.std.proofs.Math.Seq.{drop-append-add}
 use Rattle.std.proofs.lemmas.List.{take-append-drop, take-append-le}
@@ -24,11 +25,14 @@ ends_in-after prefix [] h = absurd (omega (arith, h))
 ends_in-after prefix (b ∷ rest) h = ends_in-append prefix b rest
 
 -- what is kept of a line that has become too long, or stays so
-pub keeps_none : (new : WireView) (taken bytes : List ℕ) → new ≡ record { line = []; stage = Beyond (ends_in (cr ∷ []) bytes) } → 1 ≤ length bytes → LINE_LIMIT < length (taken ++ bytes)
+pub keeps_none : (new : WireView) (taken bytes : List ℕ) → new ≡ record { line = []; stage = Beyond (ends_in (cr ∷ []) bytes) } → 1 ≤ length bytes
+    → LINE_LIMIT < length (taken ++ bytes)
     → Keeps new.stage new.line (taken ++ bytes)
-keeps_none new taken bytes e some long = subst (λ (v : WireView). Keeps v.stage v.line (taken ++ bytes)) (sym e) (refl, long, sym (ends_in-after taken bytes some))
+keeps_none new taken bytes e some long =
+    subst (λ (v : WireView). Keeps v.stage v.line (taken ++ bytes)) (sym e) (refl, long, sym (ends_in-after taken bytes some))
 
-pub is_long : (stage : Stage) (ends_in_cr : Bool) (line taken bytes : List ℕ) → stage ≡ Beyond ends_in_cr → Keeps stage line taken → LINE_LIMIT < length (taken ++ bytes)
+pub is_long : (stage : Stage) (ends_in_cr : Bool) (line taken bytes : List ℕ) → stage ≡ Beyond ends_in_cr → Keeps stage line taken
+    → LINE_LIMIT < length (taken ++ bytes)
 is_long stage ends_in_cr line taken bytes e h =
     let parts = subst (λ (s : Stage). Keeps s line taken) e h in
     let long = parts.1 in omega (arith, length-append taken bytes)
@@ -60,7 +64,8 @@ at_lf : (taken rest : List ℕ) → place_of crlf taken ≡ None → ends_in (cr
 at_lf [] rest e h = cc
 at_lf (b ∷ taken) rest e h = at_lf_by b taken rest e h (at_lf taken rest)
 
-pub ends_at_lf : (taken piece : List ℕ) → place_of crlf taken ≡ None → ends_in (cr ∷ []) taken ≡ true → begins_with (lf ∷ []) piece ≡ true → EndsIn taken piece (Some 1)
+pub ends_at_lf : (taken piece : List ℕ) → place_of crlf taken ≡ None → ends_in (cr ∷ []) taken ≡ true → begins_with (lf ∷ []) piece ≡ true
+    → EndsIn taken piece (Some 1)
 ends_at_lf taken piece e h begins = rw (begins_with-prefix (lf ∷ []) piece begins) (at_lf taken (drop 1 piece) e h)
 
 -- else it is the first in what follows the bytes
@@ -94,7 +99,8 @@ one_further m (Some n) = ap (λ k. Some k) (omega arith)
 further_by : (b : ℕ) (taken piece : List ℕ) → place_of crlf (b ∷ taken) ≡ None → ends_in (cr ∷ []) (b ∷ taken) && begins_with (lf ∷ []) piece ≡ false
     → (place_of crlf taken ≡ None → ends_in (cr ∷ []) taken && begins_with (lf ∷ []) piece ≡ false → IsInPiece taken piece) → IsInPiece (b ∷ taken) piece
 further_by b [] piece e h ih =
-    ap (λ v. cond v (Some 0) (option_map (λ n. suc n) (place_of crlf piece))) (both (nat_eq cr b) (begins_with (lf ∷ []) piece) h) ∙ one_more (place_of crlf piece)
+    ap (λ v. cond v (Some 0) (option_map (λ n. suc n) (place_of crlf piece))) (both (nat_eq cr b) (begins_with (lf ∷ []) piece) h)
+        ∙ one_more (place_of crlf piece)
 further_by b (c ∷ t) piece e h ih =
     let p = apart (begins_with crlf (b ∷ c ∷ t)) (place_of crlf (c ∷ t)) e in
     let found = ih p.1 (rw (ends_in-append (b ∷ []) c t) at h) in
@@ -113,7 +119,8 @@ pub none_ends : (taken piece : List ℕ) → place_of crlf taken ≡ None → en
 none_ends taken piece e h at = further taken piece e h ∙ ap (λ o. option_map (λ n. length taken + n) o) at
 
 -- what is answered where the line ends
-same_prefix : (taken piece : List ℕ) (used end : ℕ) → length (taken ++ take used piece) ≡ end + 2 → take end (taken ++ take used piece) ≡ take end (taken ++ piece)
+same_prefix : (taken piece : List ℕ) (used end : ℕ) → length (taken ++ take used piece) ≡ end + 2
+    → take end (taken ++ take used piece) ≡ take end (taken ++ piece)
 same_prefix taken piece used end h =
     let whole : taken ++ piece ≡ (taken ++ take used piece) ++ drop used piece =
     ap (λ l. taken ++ l) (sym (take-append-drop used piece)) ∙ sym (append_assoc taken (take used piece) (drop used piece)) in

@@ -1,5 +1,6 @@
 -- The first CRLF of a text, found by the LFs in it.
-use Rattle.std.proofs.Common.{◌≡◌, ℕ, ◌+◌, ◌-◌, ◌<◌, ◌≤◌, List, [], ◌∷◌, ◌++◌, length, take, drop, get_or, Option, Some, None, refl, sym, ap, ◌∙◌, arith, append_assoc, length-append, length-drop, get_or-append-add, eq-eqb}
+use Rattle.std.proofs.Common.{◌≡◌, ℕ, ◌+◌, ◌-◌, ◌<◌, ◌≤◌, List, [], ◌∷◌, ◌++◌, length, take, drop, get_or, Option, Some, None, refl, sym, ap, ◌∙◌, arith,
+    append_assoc, length-append, length-drop, get_or-append-add, eq-eqb}
 use Rattle.std.proofs.lemmas.Bool.{eqb-true}
 use Rattle.std.proofs.lemmas.List.{length-take-le, get_or-drop, take-append-drop, drop_more}
 use Rattle.memchr.specs.Find.{NoneBefore, Nowhere, Passes, is_byte}
@@ -45,7 +46,8 @@ seen_before : (text : List ℕ) (seen n : ℕ) → IsSeen text seen → NoneBefo
     → (k : ℕ) → k + 1 < seen + n → StandsAt crlf text k → ⊥
 seen_before text seen n s h k lt at =
     let low : k + 1 < seen → ⊥ = λ before. s.none k before at in
-    h.before (k + 1 - seen) (omega arith) (omega (arith, low)) (is_lf text seen (k + 1 - seen) (ap (λ i. get_or text i 0) (omega (arith, low)) ∙ lf_of text k at))
+    h.before (k + 1 - seen) (omega arith) (omega (arith, low))
+        (is_lf text seen (k + 1 - seen) (ap (λ i. get_or text i 0) (omega (arith, low)) ∙ lf_of text k at))
 
 -- nor with it, unless a CR stands before it
 pub seen_to : (text : List ℕ) (seen n : ℕ) → IsSeen text seen → NoneBefore (Passes (is_byte 10) (drop seen text)) 0 (length (drop seen text)) n
@@ -57,7 +59,8 @@ seen_to text seen n s h apart = record {
       apart k (omega (arith, before)) (cr_of text k at);
 }
 
-pub found_at : (text : List ℕ) (seen n k : ℕ) → IsSeen text seen → NoneBefore (Passes (is_byte 10) (drop seen text)) 0 (length (drop seen text)) n → Passes (is_byte 10) (drop seen text) n
+pub found_at : (text : List ℕ) (seen n k : ℕ) → IsSeen text seen → NoneBefore (Passes (is_byte 10) (drop seen text)) 0 (length (drop seen text)) n
+    → Passes (is_byte 10) (drop seen text) n
     → k + 1 ≡ seen + n → get_or text k 0 ≡ 13 → Some k ≡ place_of crlf text
 found_at text seen n k s h found e is_cr =
     let high = h.high in
@@ -74,8 +77,10 @@ none_found : (text : List ℕ) (o : Option ℕ) → place_of crlf text ≡ o →
 none_found text None e h = refl
 none_found text (Some k) e h = absurd (h k (place_of_stands crlf text k e))
 
-pub found_nowhere : (text : List ℕ) (seen : ℕ) → IsSeen text seen → Nowhere (Passes (is_byte 10) (drop seen text)) 0 (length (drop seen text)) → None ≡ place_of crlf text
+pub found_nowhere : (text : List ℕ) (seen : ℕ) → IsSeen text seen → Nowhere (Passes (is_byte 10) (drop seen text)) 0 (length (drop seen text))
+    → None ≡ place_of crlf text
 found_nowhere text seen s h = none_found text (place_of crlf text) refl (λ k at.
     let within = within_of text k at in
     let below : k + 1 < seen → ⊥ = λ before. s.none k before at in
-    h (k + 1 - seen) (omega arith) (omega (arith, below, length-drop seen text)) (is_lf text seen (k + 1 - seen) (ap (λ i. get_or text i 0) (omega (arith, below)) ∙ lf_of text k at)))
+    h (k + 1 - seen) (omega arith) (omega (arith, below, length-drop seen text))
+        (is_lf text seen (k + 1 - seen) (ap (λ i. get_or text i 0) (omega (arith, below)) ∙ lf_of text k at)))

@@ -27,14 +27,16 @@ not_run : (words : ServeWords) (cause : HouseFault) → IsListenAddress words.li
 not_run words cause address sound (inl memory) = inl (ap stop.Fault memory)
 not_run words cause address sound (inr why) = inr (inr (address, inr (sound, inr (inr why))))
 
-size_asked : (words : ServeWords) (site : Site) (sizes : Sizes) (count : ℕ) → site ≡ named_site words.site → sizes ≡ sizes_asked words → count ≡ length words.site.boxes.items
+size_asked : (words : ServeWords) (site : Site) (sizes : Sizes) (count : ℕ) → site ≡ named_site words.site → sizes ≡ sizes_asked words
+    → count ≡ length words.site.boxes.items
     → IsSize site sizes words.lanes count count → IsSizeAsked words
 size_asked words site sizes count is asked boxes good =
     subst (λ (n : ℕ). IsSize (named_site words.site) (sizes_asked words) words.lanes n n) boxes
     (subst (λ (z : Sizes). IsSize (named_site words.site) z words.lanes count count) asked
     (subst (λ (s : Site). IsSize s sizes words.lanes count count) is good))
 
-size_given : (words : ServeWords) (site : Site) (sizes : Sizes) (count : ℕ) → site ≡ named_site words.site → sizes ≡ sizes_asked words → count ≡ length words.site.boxes.items
+size_given : (words : ServeWords) (site : Site) (sizes : Sizes) (count : ℕ) → site ≡ named_site words.site → sizes ≡ sizes_asked words
+    → count ≡ length words.site.boxes.items
     → IsSizeAsked words → IsSize site sizes words.lanes count count
 size_given words site sizes count is asked boxes good =
     subst (λ (s : Site). IsSize s sizes words.lanes count count) (sym is)
@@ -45,7 +47,8 @@ size_of_sum : {X : Type 0} (x : X) (Good : Type 0) → (◌≡◌ {A = Result X 
 size_of_sum x Good (inl e) = cc
 size_of_sum x Good (inr good) = good
 
-pub served_as_asked : (L C E : Type 0) {G S : Type 0} (told : G → Option (List Entry)) (state : S → SpoolState) (words : ServeWords) (served : Served) (site : Site) (sizes : Sizes) (spools : List S)
+pub served_as_asked : (L C E : Type 0) {G S : Type 0} (told : G → Option (List Entry)) (state : S → SpoolState) (words : ServeWords) (served : Served)
+    (site : Site) (sizes : Sizes) (spools : List S)
     → IsListenAddress words.listen.now → (site ≡ named_site words.site) × (first_fault (named_site words.site) ≡ None) → sizes ≡ sizes_asked words
     → length spools ≡ length words.site.boxes.items
     → (◌≡◌ {A = Result Served HouseFault} (Ok served) (Err house.Size)) ⊎ IsSize site sizes words.lanes (length spools) (length spools)
@@ -54,7 +57,8 @@ pub served_as_asked : (L C E : Type 0) {G S : Type 0} (told : G → Option (List
 served_as_asked L C E told state words served site sizes spools address made asked boxes good ran = record {
   listen_address = address;
   sound = made.1;
-  sizes = size_asked words site sizes (length spools) made.0 asked boxes (size_of_sum served (IsSize site sizes words.lanes (length spools) (length spools)) good);
+  sizes = size_asked words site sizes (length spools) made.0 asked boxes
+      (size_of_sum served (IsSize site sizes words.lanes (length spools) (length spools)) good);
   spools = spools;
   each_box = boxes;
   ran =
@@ -79,7 +83,8 @@ no_server words cause site sizes count address made asked boxes only (inr good) 
     (λ bad. absurd (bad (size_asked words site sizes count made.0 asked boxes good))))
 
 -- what listens wasn't opened
-pub unopened : (words : ServeWords) (listen_address : ListenAddress) (f : Fault) → Names words.listen.now listen_address → first_fault (named_site words.site) ≡ None
+pub unopened : (words : ServeWords) (listen_address : ListenAddress) (f : Fault) → Names words.listen.now listen_address
+    → first_fault (named_site words.site) ≡ None
     → IsUnopenedAt listen_address f → IsNotServed words (stop.Fault f)
 unopened words listen_address f names sound (listen.Memory, is, why) = inl (ap stop.Fault is)
 unopened words listen_address f names sound (listen.Listen reason, is, why) = inr (inr ((listen_address, names), inr (sound, inl is)))

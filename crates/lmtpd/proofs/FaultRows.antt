@@ -51,5 +51,6 @@ pub write_and_listener_failed : server_fault (served false true true) ≡ Some f
 write_and_listener_failed = refl
 
 -- no mailbox, which is looked for before a bad host
-pub no_box : first_fault (record { host = codes "mx_example"; domains = []; boxes = []; message_limit = 1048576; recipient_delimiter = None }) ≡ Some fault.NoBox
+pub no_box : first_fault (record { host = codes "mx_example"; domains = []; boxes = []; message_limit = 1048576; recipient_delimiter = None })
+    ≡ Some fault.NoBox
 no_box = refl

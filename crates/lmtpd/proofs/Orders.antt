@@ -21,8 +21,10 @@ abbrev has_too_many : Site → Bool
 has_too_many site = nat_lt BOX_LIMIT (length site.boxes)
 
 same_order : (n h d c b t : Bool) → n ≡ false → (b ≡ true) ⊎ (c ≡ false)
-    → option_map (λ r. refusal (cause r)) (cond (not h) (Some BadHost) (cond (not d) (Some BadDomain) (cond (n || c) (Some BadCount) (cond (not b) (Some BadBox) (cond t (Some NamedTwice) None)))))
-    ≡ cond n (Some fault.NoBox) (cond (not h) (Some fault.Host) (cond (not d) (Some fault.Domain) (cond (not b) (Some fault.Box) (cond c (Some fault.TooManyBoxes) (cond t (Some fault.BoxTwice) None)))))
+    → option_map (λ r. refusal (cause r))
+    (cond (not h) (Some BadHost) (cond (not d) (Some BadDomain) (cond (n || c) (Some BadCount) (cond (not b) (Some BadBox) (cond t (Some NamedTwice) None)))))
+    ≡ cond n (Some fault.NoBox) (cond (not h) (Some fault.Host)
+        (cond (not d) (Some fault.Domain) (cond (not b) (Some fault.Box) (cond c (Some fault.TooManyBoxes) (cond t (Some fault.BoxTwice) None)))))
 same_order true h d c b t e o = absurd (true≢false e)
 same_order false false d c b t e o = refl
 same_order false true false c b t e o = refl
@@ -36,7 +38,8 @@ same_order false true true false true false e o = refl
 -- the two orders agree where there is a mailbox, and no name is bad or the number is not
 agree : (site : Site) → has_none site ≡ false → (list_all is_box_name site.boxes ≡ true) ⊎ (has_too_many site ≡ false)
     → option_map (λ r. refusal (cause r)) (fault_of site) ≡ first_fault site
-agree site some o = same_order (has_none site) (is_host_name site.host) (list_all is_host_name site.domains) (has_too_many site) (list_all is_box_name site.boxes) (has_twice site.boxes) some o
+agree site some o = same_order (has_none site) (is_host_name site.host) (list_all is_host_name site.domains) (has_too_many site)
+    (list_all is_box_name site.boxes) (has_twice site.boxes) some o
 
 refused : (site : Site) (o : Option Rule) (said : Option Fault) (e : SiteFault) → fault_of site ≡ o → option_map (λ r. refusal (cause r)) (fault_of site) ≡ said
     → ((rule : Rule) → fault_of site ≡ Some rule → ◌≡◌ {A = Result Site SiteFault} (Err e) (Err (cause rule)))
@@ -56,10 +59,12 @@ pub site_refused : (site : Site) (e : SiteFault) → has_none site ≡ false →
 site_refused site e some o broken whole = refused site (fault_of site) (first_fault site) e refl (agree site some o) broken whole
 
 -- and one that was made
-pub site_made : (site : Site) → has_none site ≡ false → (list_all is_box_name site.boxes ≡ true) ⊎ (has_too_many site ≡ false) → fault_of site ≡ None → first_fault site ≡ None
+pub site_made : (site : Site) → has_none site ≡ false → (list_all is_box_name site.boxes ≡ true) ⊎ (has_too_many site ≡ false) → fault_of site ≡ None
+    → first_fault site ≡ None
 site_made site some o sound = sym (agree site some o) ∙ ap (option_map (λ r. refusal (cause r))) sound
 
-box_of : (h d b : Bool) (x y : Option Fault) → cond (not h) (Some fault.Host) (cond (not d) (Some fault.Domain) (cond (not (b && true)) (Some fault.Box) x)) ≡ None → b ≡ true
+box_of : (h d b : Bool) (x y : Option Fault)
+    → cond (not h) (Some fault.Host) (cond (not d) (Some fault.Domain) (cond (not (b && true)) (Some fault.Box) x)) ≡ None → b ≡ true
 box_of false d b x y e = cc
 box_of true false b x y e = cc
 box_of true true false x y e = cc
@@ -85,7 +90,8 @@ pub box_refused : (host : List ℕ) (domains boxes : List (Bor (List ℕ))) (nam
     → (is_box_name name ≡ false → list_all is_box_name (texts boxes) ≡ false)
     → first_fault (site_of host domains boxes) ≡ Some f
 box_refused host domains boxes name f e some bad =
-    lifted (has_none (site_of host domains boxes)) (is_host_name host) (list_all is_host_name (texts domains)) (is_box_name name) (list_all is_box_name (texts boxes))
+    lifted (has_none (site_of host domains boxes)) (is_host_name host) (list_all is_host_name (texts domains)) (is_box_name name)
+        (list_all is_box_name (texts boxes))
     (cond (has_too_many (site_of host domains boxes)) (Some fault.TooManyBoxes) (cond (has_twice (texts boxes)) (Some fault.BoxTwice) None)) f some bad e
 
 -- a site of names has none exactly where there are none

@@ -55,17 +55,20 @@ unrun Good house.ChannelGone good only size = inr (after Good good (λ bad. elim
   | inr e ↦ gone_is_no_memory e
 ]))
 
-pub causes : {X : Type 0} (a b c : HouseFault) → (◌≡◌ {A = Result X HouseFault} (Err a) (Err b)) ⊎ (◌≡◌ {A = Result X HouseFault} (Err a) (Err c)) → (a ≡ b) ⊎ (a ≡ c)
+pub causes : {X : Type 0} (a b c : HouseFault) → (◌≡◌ {A = Result X HouseFault} (Err a) (Err b)) ⊎ (◌≡◌ {A = Result X HouseFault} (Err a) (Err c))
+    → (a ≡ b) ⊎ (a ≡ c)
 causes a b c (inl e) = inl cc
 causes a b c (inr e) = inr cc
 
 -- the rehearsal that words ask for, where the server didn't run
 pub not_rehearsed : {X : Type 0} (words : RehearseWords) (cause : HouseFault) → first_fault (named_site words.site) ≡ None
     → (◌≡◌ {A = Result X HouseFault} (Err cause) (Err house.Size) → IsBlockCount words.blocks → ⊥)
-    → ((IsBlockCount words.blocks → ⊥) → (◌≡◌ {A = Result X HouseFault} (Err cause) (Err house.Size)) ⊎ (◌≡◌ {A = Result X HouseFault} (Err cause) (Err house.Memory)))
+    → ((IsBlockCount words.blocks → ⊥)
+    → (◌≡◌ {A = Result X HouseFault} (Err cause) (Err house.Size)) ⊎ (◌≡◌ {A = Result X HouseFault} (Err cause) (Err house.Memory)))
     → IsNotRehearsed words (house_refusal cause)
 not_rehearsed {X} words cause sound only size =
-    elim (unrun (IsBlockCount words.blocks) cause (block_count words.blocks) (λ e. only (ap Err e)) (λ bad. causes {X = X} cause house.Size house.Memory (size bad))) [
+    elim (unrun (IsBlockCount words.blocks) cause (block_count words.blocks) (λ e. only (ap Err e))
+        (λ bad. causes {X = X} cause house.Size house.Memory (size bad))) [
       | inl memory ↦ inl memory
       | inr not_run ↦ inr (inr (sound, not_run))
     ]

@@ -1,5 +1,6 @@
 -- Names that are picked from others, one after another.
-use Rattle.std.proofs.Common.{◌≡◌, ◌⊎◌, ◌<◌, ◌≤◌, ◌+◌, ◌++◌, ◌∷◌, [], ℕ, List, Bool, true, false, cond, length, length-append, take, get_or, inl, inr, sym, ap, ◌∙◌, refl, subst, arith}
+use Rattle.std.proofs.Common.{◌≡◌, ◌⊎◌, ◌<◌, ◌≤◌, ◌+◌, ◌++◌, ◌∷◌, [], ℕ, List, Bool, true, false, cond, length, length-append, take, get_or, inl, inr, sym, ap,
+    ◌∙◌, refl, subst, arith}
 use Rattle.std.specs.Borrow.{Bor}
 use Rattle.std.proofs.lemmas.List.{get_or-map, length-map, map-append, take_more}
 use Rattle.lmtp_text.specs.Sites.{texts}
@@ -47,7 +48,8 @@ module _ (names : List (Bor (List ℕ))) (i : ℕ) (d : Bor (List ℕ)) (within 
       let P : List (List ℕ) → Type 0 = λ l. AreAmong l (xs ++ (get_or names i d).now ∷ []) in
       subst P (sym one_more) (picked (take i (texts names)) xs (get_or names i d).now h)
 
-  among_kept : (b : Bool) (xs : List (Bor (List ℕ))) → AreAmong (take i (texts names)) (texts xs) → AreAmong (take (i + 1) (texts names)) (texts (cond b (xs ++ get_or names i d ∷ []) xs))
+  among_kept : (b : Bool) (xs : List (Bor (List ℕ))) → AreAmong (take i (texts names)) (texts xs)
+      → AreAmong (take (i + 1) (texts names)) (texts (cond b (xs ++ get_or names i d ∷ []) xs))
   among_kept true xs h =
       let P : List (List ℕ) → Type 0 = λ l. AreAmong (take (i + 1) (texts names)) l in
       subst P (sym (map-append (λ (name : Bor (List ℕ)). name.now) xs (get_or names i d ∷ []))) (among_picked (texts xs) h)
@@ -58,7 +60,8 @@ module _ (names : List (Bor (List ℕ))) (i : ℕ) (d : Bor (List ℕ)) (within 
   kept_long false xs h = omega (arith, h)
 
   -- the names that were kept, with the next one's file looked at
-  pub among_next : (b : Bool) (xs ys : List (Bor (List ℕ))) → ys ≡ cond b (xs ++ get_or names i d ∷ []) xs → AreAmong (take i (texts names)) (texts xs) → AreAmong (take (i + 1) (texts names)) (texts ys)
+  pub among_next : (b : Bool) (xs ys : List (Bor (List ℕ))) → ys ≡ cond b (xs ++ get_or names i d ∷ []) xs → AreAmong (take i (texts names)) (texts xs)
+      → AreAmong (take (i + 1) (texts names)) (texts ys)
   among_next b xs ys e h =
       let P : List (Bor (List ℕ)) → Type 0 = λ l. AreAmong (take (i + 1) (texts names)) (texts l) in
       subst P (sym e) (among_kept b xs h)

@@ -1,5 +1,6 @@
 -- Findings whose lines were written, one after another.
-use Rattle.std.proofs.Common.{◌≡◌, ◌∙◌, ◌<◌, ◌+◌, ℕ, List, [], ◌∷◌, ◌++◌, length, take, get_or, Option, true, All, sym, ap, subst, refl, arith, append_assoc, append-nil, length-append}
+use Rattle.std.proofs.Common.{◌≡◌, ◌∙◌, ◌<◌, ◌+◌, ℕ, List, [], ◌∷◌, ◌++◌, length, take, get_or, Option, true, All, sym, ap, subst, refl, arith, append_assoc,
+    append-nil, length-append}
 use Rattle.std.specs.Borrow.{Bor}
 use Rattle.std.specs.Io.KnownBytes.{Appends}
 use Rattle.std.proofs.lemmas.List.{get_or-map, length-map}
@@ -26,7 +27,8 @@ module _ {X : Type 0} (f : List ℕ → X → List ℕ) where
       ∙ sym (append_assoc (f name y) (pair_texts f names xs) (f (get_or names (length xs) d) x))
 
 -- that many files have their findings and their lines
-pub record HasWritten {F : Type 0} (remaining : F → Option (List ℕ)) (names : List (Bor (List ℕ))) (i : ℕ) (before after : Option (List ℕ)) (findings : List Finding) : Type 0 where
+pub record HasWritten {F : Type 0} (remaining : F → Option (List ℕ)) (names : List (Bor (List ℕ))) (i : ℕ) (before after : Option (List ℕ))
+    (findings : List Finding) : Type 0 where
   pub count : length findings ≡ i
   pub each : All (IsFindingOf remaining) findings
   pub written : Appends before after (finding_lines (texts names) findings)
@@ -49,9 +51,11 @@ line_more names i findings finding d count within =
     let below : length findings < length (texts names) = omega (arith, long, count, within) in
     pairs_more finding_line (texts names) findings finding d.now below
     ∙ ap (λ (k : ℕ). finding_lines (texts names) findings ++ finding_line (get_or (texts names) k d.now) finding) count
-    ∙ ap (λ (name : List ℕ). finding_lines (texts names) findings ++ finding_line name finding) (get_or-map (λ (name : Bor (List ℕ)). name.now) names i d d.now within)
+    ∙ ap (λ (name : List ℕ). finding_lines (texts names) findings ++ finding_line name finding)
+        (get_or-map (λ (name : Bor (List ℕ)). name.now) names i d d.now within)
 
-module _ {F : Type 0} (remaining : F → Option (List ℕ)) (names : List (Bor (List ℕ))) (i : ℕ) (u v w : Option (List ℕ)) (findings : List Finding) (finding : Finding) (d : Bor (List ℕ)) where
+module _ {F : Type 0} (remaining : F → Option (List ℕ)) (names : List (Bor (List ℕ))) (i : ℕ) (u v w : Option (List ℕ)) (findings : List Finding)
+    (finding : Finding) (d : Bor (List ℕ)) where
   -- one more file
   pub written_more : HasWritten remaining names i u v findings → i < length names → IsFindingOf remaining finding
       → Appends v w (finding_line (get_or names i d).now finding) → HasWritten remaining names (i + 1) u w (findings ++ finding ∷ [])

@@ -1,4 +1,1 @@
-mod Escapes
 mod Filled
-mod Printables
-mod Streams

@@ -1,5 +1,4 @@
-//! What is logged of a server: each conversation that ended, each mailbox that failed or is in use, and how a line of
-//! the log is written.
+//! What is logged of a server: each conversation that ended, each mailbox that failed or is in use.
 //!
 //! The server's run uses that clients, mailboxes and files are as those within say, which are wrapped from outside: the
 //! layers below know of a log only that a peer is told of each reply that is said. It never knows of workers, or of the
@@ -9,12 +8,9 @@
 mod address;
 mod addresses;
 mod all_visits;
-mod escaped;
 mod file;
-mod journal;
 mod lane_log;
 mod line_log;
-mod lines;
 mod listener;
 mod logged_peer;
 mod mailbox;
@@ -25,12 +21,9 @@ mod verb;
 mod visits;
 
 pub use all_visits::logged_visits;
-pub use escaped::printable;
 pub use file::LoggedFile;
-pub use journal::{is_journal, names_stream};
 pub use lane_log::{LaneLog, LaneLogs, lane_logs};
 pub use line_log::{LineLog, LineSetting};
-pub use lines::ErrorLines;
 pub use listener::CountedListener;
 pub use logged_peer::LoggedPeer;
 pub use mailbox::LoggedMailbox;

@@ -1,2 +1,5 @@
 pub mod Written
 pub mod Listed
+mod Escapes
+mod Printables
+mod Streams

@@ -15,7 +15,8 @@ pub record IsPairAt {X : Type 0} (site : Site) (xs : List X) (k : ℕ) (name : L
   pub other : X
   pub is : x ≡ get_or xs k other
 
-pub pair_at : {X : Type 0} → (site : Site) (xs : List X) (k : ℕ) (name : List ℕ) (d : X) → k < length site.boxes → length xs ≡ length site.boxes → name ≡ box_name site k
+pub pair_at : {X : Type 0} → (site : Site) (xs : List X) (k : ℕ) (name : List ℕ) (d : X) → k < length site.boxes → length xs ≡ length site.boxes
+    → name ≡ box_name site k
     → IsPairAt site xs k name (get_or xs k d)
 pair_at site xs k name d within count named = record { within = within; count = count; named = named; other = d; is = refl }
 

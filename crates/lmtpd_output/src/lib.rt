@@ -1,46 +1,16 @@
-//! Bytes to a writer: all of them, or a prefix and a failure.
+//! How the program writes: bytes to a writer, all of them, or a prefix and a failure; and lines of its log to standard
+//! error, in printable ASCII and with what the journal is to know.
 //!
-//! What the program does for its words writes its lines by `write_bytes` and `write_each`. It never knows what the
-//! bytes say.
+//! What the program does for its words writes its lines by `write_bytes` and `write_each`; the server's log is over
+//! `ErrorLines`. It never knows what the bytes or the lines say.
 #![tactic(auto)]
 
-ghost use Rattle.std.specs.Prelude.{◌≡◌, ◌++◌, length, flat_map, OnOk, OnErr};
-ghost use Rattle.std.specs.Io.KnownBytes.{Appends};
-ghost use Rattle.lmtpd_output.specs.Output.{IsCutOff};
+mod bytes;
+mod escaped;
+mod journal;
+mod lines;
 
-use std::io::Write;
-use thiserror::Error;
-
-/// A write failed, or took nothing.
-#[derive(Clone, Copy, Debug, PartialEq, Eq, Error)]
-#[error("a write failed")]
-pub struct WriteFault;
-
-/// Writes all of the bytes. After a fault the writer has gained a prefix of them.
-pub fn write_bytes<W: Write>(writer: &mut W, bytes: &[u8]) -> Result<(), WriteFault>
-    ensures ok { OnOk result (Appends (W.contents writer.old) (W.contents writer.new) bytes.now) }
-    ensures err { OnErr result (IsCutOff (W.contents writer.old) (W.contents writer.new) bytes.now) }
-{
-    let mut rest = bytes;
-    while !rest.is_empty() {
-        match writer.write(rest) {
-            Ok(0) => return Err(WriteFault),
-            Ok(size) => rest = &rest[size..],
-            Err(_) => return Err(WriteFault),
-        }
-    }
-    Ok(())
-}
-
-/// Writes the pieces one after the other. After a fault the writer has gained a prefix of them.
-pub fn write_each<W: Write>(writer: &mut W, pieces: &[&[u8]]) -> Result<(), WriteFault>
-    ensures ok { OnOk result (Appends (W.contents writer.old) (W.contents writer.new)
-        (flat_map (λ piece. piece.now) pieces.now)) }
-    ensures err { OnErr result (IsCutOff (W.contents writer.old) (W.contents writer.new)
-        (flat_map (λ piece. piece.now) pieces.now)) }
-{
-    for piece in pieces {
-        write_bytes(writer, piece)?;
-    }
-    Ok(())
-}
+pub use bytes::{WriteFault, write_bytes, write_each};
+pub use escaped::printable;
+pub use journal::{is_journal, names_stream};
+pub use lines::ErrorLines;

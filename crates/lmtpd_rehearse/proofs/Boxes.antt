@@ -1,5 +1,6 @@
 -- The mailboxes of a server that has run, by their spools and what their workers say of them.
-use Rattle.std.proofs.Common.{◌≡◌, ℕ, zero, suc, ◌+◌, ◌*◌, ◌<◌, ◌≤◌, List, [], ◌∷◌, ◌++◌, length, map, take, drop, replicate, Bool, true, false, Option, Some, inl, inr, refl, ap, sym, ◌∙◌, subst, arith}
+use Rattle.std.proofs.Common.{◌≡◌, ℕ, zero, suc, ◌+◌, ◌*◌, ◌<◌, ◌≤◌, List, [], ◌∷◌, ◌++◌, length, map, take, drop, replicate, Bool, true, false, Option, Some,
+    inl, inr, refl, ap, sym, ◌∙◌, subst, arith}
 use Rattle.std.specs.Prelude.{slice_get, ◌||◌}
 use Rattle.std.specs.List.{list_any}
 use Rattle.std.proofs.Math.Nat.{le-max_left}
@@ -25,7 +26,8 @@ use Rattle.lmtpd_rehearse.proofs.Keeping.{kept_prefix, kept_parts, length-marked
 
 -- a spool in memory as every spool is seen
 abbrev pub state_of : MemorySpool → SpoolState
-state_of spool = record { bytes = Some spool.bytes; failures = spool.failures; limit = Some (length spool.bytes + spool.room); synced = spool.synced; held = length spool.bytes; sharing = alone spool.is_unsynced }
+state_of spool = record { bytes = Some spool.bytes; failures = spool.failures; limit = Some (length spool.bytes + spool.room); synced = spool.synced;
+    held = length spool.bytes; sharing = alone spool.is_unsynced }
 
 -- lists of one length
 pub get_some : {A : Type 0} (xs : List A) (n : ℕ) → n < length xs → (x : A) × (slice_get xs n ≡ Some x)
@@ -38,7 +40,8 @@ get_same zero n x h = absurd (omega arith)
 get_same (suc k) zero x h = refl
 get_same (suc k) (suc n) x h = get_same k n x (omega arith)
 
-pub kept_is : (spools : List MemorySpool) (tallies : List Tally) (n : ℕ) (spool : MemorySpool) (tally : Tally) → slice_get spools n ≡ Some spool → slice_get tallies n ≡ Some tally
+pub kept_is : (spools : List MemorySpool) (tallies : List Tally) (n : ℕ) (spool : MemorySpool) (tally : Tally) → slice_get spools n ≡ Some spool
+    → slice_get tallies n ≡ Some tally
     → kept_at (kept_all spools tallies) n ≡ record { bytes = spool.bytes; failed = tally.faulty }
 kept_is [] tallies n spool tally e f = cc
 kept_is (s ∷ spools) [] n spool tally e f = cc
@@ -53,7 +56,8 @@ length-kept [] tallies e = refl
 length-kept (s ∷ spools) [] e = absurd (omega (arith, e))
 length-kept (s ∷ spools) (t ∷ tallies) e = ap suc (length-kept spools tallies (omega arith))
 
-pub bytes_are : (spools : List MemorySpool) (tallies : List Tally) → length tallies ≡ length spools → map (λ (k : MailboxContent). k.bytes) (kept_all spools tallies) ≡ bytes_of_all spools
+pub bytes_are : (spools : List MemorySpool) (tallies : List Tally) → length tallies ≡ length spools
+    → map (λ (k : MailboxContent). k.bytes) (kept_all spools tallies) ≡ bytes_of_all spools
 bytes_are [] tallies e = refl
 bytes_are (s ∷ spools) [] e = absurd (omega (arith, e))
 bytes_are (s ∷ spools) (t ∷ tallies) e = ap (λ l. s.bytes ∷ l) (bytes_are spools tallies (omega arith))
@@ -73,14 +77,16 @@ or_none false b e = (refl, e)
 any_first : (t : Tally) (ts : List Tally) → list_any (λ x. x.faulty) (t ∷ ts) ≡ t.faulty || list_any (λ x. x.faulty) ts
 any_first t ts = refl
 
-pub none_failed : (spools : List MemorySpool) (tallies : List Tally) → length tallies ≡ length spools → list_any (λ t. t.faulty) tallies ≡ false → IsCalm (kept_all spools tallies)
+pub none_failed : (spools : List MemorySpool) (tallies : List Tally) → length tallies ≡ length spools → list_any (λ t. t.faulty) tallies ≡ false
+    → IsCalm (kept_all spools tallies)
 none_failed [] tallies size e = λ n h. absurd (omega arith)
 none_failed (s ∷ spools) [] size e = absurd (omega (arith, size))
 none_failed (s ∷ spools) (t ∷ tallies) size e =
     let both = or_none t.faulty (list_any (λ x. x.faulty) tallies) (sym (any_first t tallies) ∙ e) in
     calm_prefix (record { bytes = s.bytes; failed = t.faulty }) (kept_all spools tallies) both.0 (none_failed spools tallies (omega arith) both.1)
 
-pub all_calm : (spools : List MemorySpool) (tallies : List Tally) → length tallies ≡ length spools → IsCalm (kept_all spools tallies) → list_any (λ t. t.faulty) tallies ≡ false
+pub all_calm : (spools : List MemorySpool) (tallies : List Tally) → length tallies ≡ length spools → IsCalm (kept_all spools tallies)
+    → list_any (λ t. t.faulty) tallies ≡ false
 all_calm [] [] size calm = refl
 all_calm [] (t ∷ tallies) size calm = absurd (omega (arith, size))
 all_calm (s ∷ spools) [] size calm = absurd (omega (arith, size))
@@ -94,7 +100,8 @@ no_prefix [] rest e = refl
 no_prefix (x ∷ prefix) rest e = cc
 
 pub is_full : (site : Site) (calendar : Calendar) (host : List ℕ) (spool : MemorySpool) (notes : List Note) (stored over : ℕ) (faulty : Bool)
-    → HasStored calendar host notes (state_of (empty_spool site)) (mailbox_of (state_of spool) stored over faulty) → faulty ≡ true → length spool.bytes ≡ mailbox_room site.message_limit
+    → HasStored calendar host notes (state_of (empty_spool site)) (mailbox_of (state_of spool) stored over faulty) → faulty ≡ true
+    → length spool.bytes ≡ mailbox_room site.message_limit
 is_full site calendar host spool notes stored over faulty h e =
     let P : Option ℕ → Type 0 = λ limit. IsFull limit (Some spool.bytes) in
     let full : length spool.bytes ≡ 0 + mailbox_room site.message_limit = subst P h.limited (h.full e) in
@@ -124,7 +131,8 @@ module _ (site : Site) (quota : Option ℕ) (b start : ℕ) (notes : List Note) 
   kept_as : (faulty : Bool) → HoldsSettled faulty → (xs : List Note) → kept_after at start xs ≡ kept civil_at site.host quota [] xs
   kept_as faulty h xs = ap (λ marks. marked marks xs) (same_marks civil_at site.host quota (state_of (empty_spool site)) start xs refl h.starts)
 
-  pub spool_has : (faulty : Bool) → HoldsSettled faulty → HasStored civil_at site.host all (state_of (empty_spool site)) (mailbox_of (state_of spool) stored over faulty)
+  pub spool_has : (faulty : Bool) → HoldsSettled faulty
+      → HasStored civil_at site.host all (state_of (empty_spool site)) (mailbox_of (state_of spool) stored over faulty)
   spool_has faulty h =
       let P : List Note → Type 0 = λ l. HasStored civil_at site.host l (state_of (empty_spool site)) (mailbox_of (state_of spool) stored over faulty) in
       subst P (kept_as faulty h notes) h.spool
@@ -168,7 +176,8 @@ module _ (site : Site) (quota : Option ℕ) (b start : ℕ) (notes : List Note) 
         torn = [];
         within = h.within;
         told = refl;
-        held = held ∙ ap (λ l. mailbox civil_at site.host [] (kept civil_at site.host quota [] l)) (sym taken) ∙ sym (append-nil (mailbox civil_at site.host [] first));
+        held = held ∙ ap (λ l. mailbox civil_at site.host [] (kept civil_at site.host quota [] l)) (sym taken)
+            ∙ sym (append-nil (mailbox civil_at site.host [] first));
         tears = subst T (sym (ap (marked marks) none ∙ marked_none marks)) refl;
         fails = sym (grind (arith, nat_tests, settled));
         next = λ e. cc;
@@ -182,7 +191,8 @@ module _ (site : Site) (quota : Option ℕ) (b start : ℕ) (notes : List Note) 
         let taken : take stored all ≡ first = ap (take stored) parts ∙ ap (λ n. take n (first ++ later)) count ∙ take-append_seam first later in
         let left : drop stored all ≡ later = ap (drop stored) parts ∙ ap (λ n. drop n (first ++ later)) count ∙ drop-append_seam first later in
         let long : length all ≡ length first + length later = ap length parts ∙ length-append first later in
-        let few : length later ≤ length (drop (stored + over) notes) = length-marked (drop (stored + over) (are_kept civil_at site.host quota [] notes)) (drop (stored + over) notes) in
+        let few : length later ≤ length (drop (stored + over) notes) =
+            length-marked (drop (stored + over) (are_kept civil_at site.host quota [] notes)) (drop (stored + over) notes) in
         let rest = length-drop (stored + over) notes in
         let more = some.1 in
         let low : stored + over < length notes = omega (arith, count, long, few, rest, more) in

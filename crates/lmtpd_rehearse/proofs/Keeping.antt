@@ -1,5 +1,6 @@
 -- What a mailbox that was empty keeps of its copies under a quota, prefix by prefix.
-use Rattle.std.proofs.Common.{◌≡◌, ℕ, zero, suc, ◌+◌, ◌≤◌, List, [], ◌∷◌, ◌++◌, length, take, drop, Bool, true, false, Option, Some, None, inl, inr, refl, sym, ap, ◌∙◌, subst, arith}
+use Rattle.std.proofs.Common.{◌≡◌, ℕ, zero, suc, ◌+◌, ◌≤◌, List, [], ◌∷◌, ◌++◌, length, take, drop, Bool, true, false, Option, Some, None, inl, inr, refl, sym,
+    ap, ◌∙◌, subst, arith}
 use Rattle.std.specs.Prelude.{slice_get, if◌then◌else◌}
 use Rattle.std.specs.Option.{IfSome}
 use Rattle.std.specs.List.{AllByRecursion}
@@ -52,7 +53,8 @@ marked_next (suc n) (false ∷ marks) (x ∷ xs) e = marked_next n marks xs e
 
 module _ (calendar : Calendar) (host : List ℕ) where
   -- the marks of the first copies are the first marks
-  marks_prefix : (quota : Option ℕ) (n len : ℕ) (notes : List Note) → are_kept_after calendar host quota len (take n notes) ≡ take n (are_kept_after calendar host quota len notes)
+  marks_prefix : (quota : Option ℕ) (n len : ℕ) (notes : List Note)
+      → are_kept_after calendar host quota len (take n notes) ≡ take n (are_kept_after calendar host quota len notes)
   marks_prefix quota zero len notes = refl
   marks_prefix quota (suc n) len [] = refl
   marks_prefix quota (suc n) len (x ∷ notes) =
@@ -60,13 +62,16 @@ module _ (calendar : Calendar) (host : List ℕ) where
       let t = fits quota len size in
       ap (λ l. t ∷ l) (marks_prefix quota n (if t then len + size else len) notes)
 
-  pub kept_prefix : (quota : Option ℕ) (n : ℕ) (notes : List Note) → kept calendar host quota [] (take n notes) ≡ marked (take n (are_kept calendar host quota [] notes)) (take n notes)
+  pub kept_prefix : (quota : Option ℕ) (n : ℕ) (notes : List Note)
+      → kept calendar host quota [] (take n notes) ≡ marked (take n (are_kept calendar host quota [] notes)) (take n notes)
   unfolding are_kept
   kept_prefix quota n notes = ap (λ marks. marked marks (take n notes)) (marks_prefix quota n 0 notes)
 
   -- what is kept of the first copies, and of the others
-  pub kept_parts : (quota : Option ℕ) (n : ℕ) (notes : List Note) → kept calendar host quota [] notes ≡ kept calendar host quota [] (take n notes) ++ kept_later calendar host quota n notes
-  kept_parts quota n notes = marked_parts n (are_kept calendar host quota [] notes) notes ∙ ap (λ l. l ++ kept_later calendar host quota n notes) (sym (kept_prefix quota n notes))
+  pub kept_parts : (quota : Option ℕ) (n : ℕ) (notes : List Note)
+      → kept calendar host quota [] notes ≡ kept calendar host quota [] (take n notes) ++ kept_later calendar host quota n notes
+  kept_parts quota n notes = marked_parts n (are_kept calendar host quota [] notes) notes
+      ∙ ap (λ l. l ++ kept_later calendar host quota n notes) (sym (kept_prefix quota n notes))
 
   -- a worker whose spool is empty marks them so
   pub same_marks : (quota : Option ℕ) (spool : SpoolState) (start : ℕ) (notes : List Note) → spool.bytes ≡ Some [] → IfSome quota (λ q. StartsAt spool start)

@@ -7,7 +7,8 @@ use Rattle.lmtpd_output.proofs.Listed.{IsPairAt}
 use Rattle.lmtpd_rehearse.specs.Mailboxes.{bytes_of_all}
 
 -- a mailbox with the bytes of its spool
-pub mailbox_at : (site : Site) (spools : List MemorySpool) (k : ℕ) (name bytes : List ℕ) (m d : MemorySpool) → k < length site.boxes → length spools ≡ length site.boxes
+pub mailbox_at : (site : Site) (spools : List MemorySpool) (k : ℕ) (name bytes : List ℕ) (m d : MemorySpool) → k < length site.boxes
+    → length spools ≡ length site.boxes
     → name ≡ box_name site k → m ≡ get_or spools k d → bytes ≡ m.bytes → IsPairAt site (bytes_of_all spools) k name bytes
 mailbox_at site spools k name bytes m d within count named is holds = record {
   within = within;

@@ -41,7 +41,8 @@ all_none P [] f = tt
 all_none P (x ∷ xs) f = (f x, all_none P xs f)
 
 -- what holds of each element of one list with each of another holds the other way round
-pub all_turned : {A : Type 0} (P : A → A → Type 0) (xs ys : List A) → AllByRecursion (λ x. AllByRecursion (λ y. P y x) ys) xs → AllByRecursion (λ y. AllByRecursion (λ x. P y x) xs) ys
+pub all_turned : {A : Type 0} (P : A → A → Type 0) (xs ys : List A) → AllByRecursion (λ x. AllByRecursion (λ y. P y x) ys) xs
+    → AllByRecursion (λ y. AllByRecursion (λ x. P y x) xs) ys
 all_turned P [] ys h = all_none (λ y. AllByRecursion (λ x. P y x) []) ys (λ y. tt)
 all_turned P (x ∷ xs) ys h = all_both (λ y. P y x) (λ y. AllByRecursion (λ x. P y x) xs) ys h.0 (all_turned P xs ys h.1)
 
@@ -113,7 +114,8 @@ one_fewer : (n : ℕ) (outcomes : List Outcome) → length outcomes ≡ suc n �
 one_fewer n [] e = absurd (omega (arith, e))
 one_fewer n (outcome ∷ outcomes) e = omega (arith, e)
 
-slip_for : (t : Bool) (b : ℕ) (x : Note) (xs : List Note) (left : ℕ → List Outcome) (rest : List Slip) → (x.mailbox == b) ≡ t → length (left b) ≡ length (cond t (x ∷ xs) xs)
+slip_for : (t : Bool) (b : ℕ) (x : Note) (xs : List Note) (left : ℕ → List Outcome) (rest : List Slip) → (x.mailbox == b) ≡ t
+    → length (left b) ≡ length (cond t (x ∷ xs) xs)
     → (length (left_after_one left x.mailbox b) ≡ length xs → rest ≡ slips_from b (left_after_one left x.mailbox b) xs)
     → cond t (slip_of x.mailbox x (next_of (left x.mailbox)) ∷ rest) rest ≡ slips_from b (left b) (cond t (x ∷ xs) xs)
 slip_for true b x xs left rest e size more =
@@ -142,7 +144,8 @@ slips_of_box b (x ∷ xs) left size =
 abbrev IsSlipFrom : ℕ → ℕ → Slip → Type 0
 IsSlipFrom n p slip = IsFrom n p slip.txn.number slip.place
 
-slips_rise : (notes : List Note) (left : ℕ → List Outcome) (n p m q : ℕ) → CopiesRise m q notes → IsFrom n p m q → AllByRecursion (IsSlipFrom n p) (slips_all left notes)
+slips_rise : (notes : List Note) (left : ℕ → List Outcome) (n p m q : ℕ) → CopiesRise m q notes → IsFrom n p m q
+    → AllByRecursion (IsSlipFrom n p) (slips_all left notes)
 slips_rise [] left n p m q rise from = tt
 slips_rise (x ∷ xs) left n p m q rise from =
     let here = from_then n p m q x.txn.number x.place from rise.0 in (
@@ -158,7 +161,8 @@ all_agree [] left n p rise = tt
 all_agree (x ∷ xs) left n p rise =
     let slip : Slip = slip_of x.mailbox x (next_of (left x.mailbox)) in
     let rest : List Slip = slips_all (λ b. left_after_one left x.mailbox b) xs in
-    let later : AllByRecursion (IsSlipFrom x.txn.number (x.place + 1)) rest = slips_rise xs (λ b. left_after_one left x.mailbox b) x.txn.number (x.place + 1) x.txn.number (x.place + 1) rise.1 (inr (refl, omega arith)) in (
+    let later : AllByRecursion (IsSlipFrom x.txn.number (x.place + 1)) rest =
+        slips_rise xs (λ b. left_after_one left x.mailbox b) x.txn.number (x.place + 1) x.txn.number (x.place + 1) rise.1 (inr (refl, omega arith)) in (
       ((λ e. refl), all_map (IsSlipFrom x.txn.number (x.place + 1)) (λ other. SayTheSame other slip) rest (λ other from. agrees_earlier slip other from) later),
       all_both (λ other. SayTheSame slip other) (λ other. AllByRecursion (λ third. SayTheSame third other) rest) rest
           (all_map (IsSlipFrom x.txn.number (x.place + 1)) (λ other. SayTheSame slip other) rest (λ other from. agrees_later slip other from) later)

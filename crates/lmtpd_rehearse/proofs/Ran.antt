@@ -1,5 +1,6 @@
 -- A rehearsal from its parts: the run of the server, and how the mailboxes were written.
-use Rattle.std.proofs.Common.{◌≡◌, ℕ, cond, ◌<◌, ◌≤◌, ◌+◌, ◌-◌, List, [], ◌∷◌, ◌++◌, length, map, take, drop, replicate, Bool, true, false, Option, Some, inl, inr, refl, ap, sym, ◌∙◌, subst, append-nil, arith}
+use Rattle.std.proofs.Common.{◌≡◌, ℕ, cond, ◌<◌, ◌≤◌, ◌+◌, ◌-◌, List, [], ◌∷◌, ◌++◌, length, map, take, drop, replicate, Bool, true, false, Option, Some, inl,
+    inr, refl, ap, sym, ◌∙◌, subst, append-nil, arith}
 use Rattle.std.specs.Prelude.{◌==◌, ◌^◌, nat_lt, slice_get}
 use Rattle.std.specs.List.{AllByRecursion, list_any}
 use Rattle.std.specs.Io.KnownBytes.{Appends, Consumes}
@@ -43,7 +44,8 @@ use Rattle.lmtpd_rehearse.specs.Account.{IsSettled, IsAllSettled}
 use Rattle.lmtpd_rehearse.specs.Copies.{HoldsCopies, kept_later}
 use Rattle.lmtpd_rehearse.specs.Client.{MayGive, told as told_by, is_over, IsOnlyOver}
 use Rattle.lmtpd_rehearse.specs.Mailboxes.{MailboxContent, kept_all, kept_at, bytes_of_all, empty_spool, mailbox_room, texts_of_mailboxes, IsCalm}
-use Rattle.lmtpd_rehearse.specs.Rehearsal.{AreMailboxes, copies_due, told_of_box, IsRunOfRehearsal, RehearsalEndsFor, HeldState, IsHeld, IsListed, IsRehearsed, Streams}
+use Rattle.lmtpd_rehearse.specs.Rehearsal.{AreMailboxes, copies_due, told_of_box, IsRunOfRehearsal, RehearsalEndsFor, HeldState, IsHeld, IsListed, IsRehearsed,
+    Streams}
 use Rattle.lmtpd_rehearse.proofs.Boxes.{state_of, get_some, get_same, kept_is, length-kept, bytes_are, none_failed, all_calm, is_full, spool_has, holds_settled}
 use Rattle.mail_world.specs.Runs.{events_of, offers_by}
 use Rattle.mail_runs.specs.Histories.{Threads}
@@ -105,7 +107,8 @@ record OneVisit (visits : List Visit) (finished : Finished) : Type 0 where
   after : visit.after ≡ finished.peer
   cause : visit.cause ≡ finished.cause
 
-one_visit : (visits : List Visit) (finished : Finished) → ◌≡◌ {A = Option (List Finished)} (Some (finished ∷ [])) (Some (map finished_of visits)) → OneVisit visits finished
+one_visit : (visits : List Visit) (finished : Finished) → ◌≡◌ {A = Option (List Finished)} (Some (finished ∷ [])) (Some (map finished_of visits))
+    → OneVisit visits finished
 one_visit [] finished e = cc
 one_visit (v ∷ []) finished e =
     let is : finished ≡ finished_of v = cc in
@@ -126,7 +129,8 @@ record IsHeldBy (site : Site) (moment : ℕ) (old new : PeerState) (end : EndCau
   ends : RehearsalEndsFor site c.bytes c.dispositions new.unread end
   unstopped : c ≡ conversation c.bytes c.dispositions
 
-held_by : (site : Site) (moment : ℕ) (old new : PeerState) (v : Visit) → old.stops ≡ 0 → new.stops ≡ 0 → v.after ≡ new → IsVisit (terms site READ_LIMIT) (λ peer. peer ≡ old) v → IsHeldBy site moment old new v.cause v.conversation
+held_by : (site : Site) (moment : ℕ) (old new : PeerState) (v : Visit) → old.stops ≡ 0 → new.stops ≡ 0 → v.after ≡ new
+    → IsVisit (terms site READ_LIMIT) (λ peer. peer ≡ old) v → IsHeldBy site moment old new v.cause v.conversation
 held_by site moment old new v never still at h =
     let c = v.conversation in
     let before : v.before ≡ old = h.client in
@@ -184,14 +188,16 @@ record HaveWorked (site : Site) (quota : Option ℕ) (ts : List Transaction) (wo
 module _ (site : Site) (quota : Option ℕ) (b : ℕ) (work : BoxWork) (spool : MemorySpool) (tally : Tally)
     (did : IsBoxWork (setting_of (share_of site quota) b) work (state_of (empty_spool site)) (state_of spool) tally) where
   -- the spool is nobody else's
-  abbrev acc : IsAccounted (setting_of (share_of site quota) b) work.taken work.outcomes (state_of (empty_spool site)) (mailbox_of (state_of spool) tally.stored tally.over tally.faulty)
+  abbrev acc : IsAccounted (setting_of (share_of site quota) b) work.taken work.outcomes (state_of (empty_spool site))
+      (mailbox_of (state_of spool) tally.stored tally.over tally.faulty)
   acc = (did.alone refl).accounted
 
   abbrev marks : List Bool
   marks = are_kept_after civil_at site.host quota acc.start work.taken
 
   tells : work.outcomes ≡ outcomes_settled (acc.stored + acc.over) (are_kept civil_at site.host quota [] work.taken)
-  tells = acc.told ∙ ap (outcomes_settled (acc.stored + acc.over)) (same_marks civil_at site.host quota (state_of (empty_spool site)) acc.start work.taken refl acc.settled.starts)
+  tells = acc.told ∙ ap (outcomes_settled (acc.stored + acc.over))
+      (same_marks civil_at site.host quota (state_of (empty_spool site)) acc.start work.taken refl acc.settled.starts)
 
   tells_settled : tally.faulty ≡ false → AllByRecursion (IsSettled quota) work.outcomes
   tells_settled sound =
@@ -205,7 +211,8 @@ module _ (site : Site) (quota : Option ℕ) (b : ℕ) (work : BoxWork) (spool : 
       subst P (sym tells) (holds_settled site quota b acc.start work.taken spool acc.stored acc.over tally.faulty acc.settled)
 
   fills : tally.faulty ≡ true → length spool.bytes ≡ mailbox_room site.message_limit
-  fills = is_full site civil_at site.host spool _ acc.stored acc.over tally.faulty (spool_has site quota b acc.start work.taken spool acc.stored acc.over tally.faulty acc.settled)
+  fills = is_full site civil_at site.host spool _ acc.stored acc.over tally.faulty
+      (spool_has site quota b acc.start work.taken spool acc.stored acc.over tally.faulty acc.settled)
 
 -- a mailbox that hasn't failed
 record HoldsAll (host : List ℕ) (quota : Option ℕ) (notes : List Note) (outcomes : List Outcome) (bytes : List ℕ) : Type 0 where
@@ -245,7 +252,8 @@ said_of_box site quota c work spools tallies h b low =
     told_as_said work.heard told work.count 1 ts some (rising site c) h.answered h.known h.begun sized b low
 
 delivered : (site : Site) (quota : Option ℕ) (c : Conversation) (work : AllWork) (spools : List MemorySpool) (tallies : List Tally) (faulty : Bool)
-    → c ≡ conversation c.bytes c.dispositions → IsAccount site c → HaveWorked site quota (transactions_in site 0 c) work spools tallies → work.count ≡ length site.boxes
+    → c ≡ conversation c.bytes c.dispositions → IsAccount site c → HaveWorked site quota (transactions_in site 0 c) work spools tallies
+    → work.count ≡ length site.boxes
     → faulty ≡ list_any (λ t. t.faulty) tallies
     → AreMailboxes site quota c.bytes c.dispositions (kept_all spools tallies) faulty
 delivered site quota c work spools tallies faulty is accounted h size faulty_is =
@@ -256,7 +264,8 @@ delivered site quota c work spools tallies faulty is accounted h size faulty_is 
     let told_it : map (λ t. t.disposition) ts ≡ c.dispositions = account_told site 0 c accounted in
     let calm : faulty ≡ false → IsCalm ks = λ f. none_failed spools tallies as_many (sym faulty_is ∙ f) in
     let many : length ks ≡ work.count = length-kept spools tallies as_many ∙ h.as_many.0 in
-    let H : Conversation → ℕ → List ℕ → Bool → Type 0 = λ x box bytes failed. HoldsCopies civil_at site.host quota (due site 0 box (x ∷ [])) (outcomes_told site box (x ∷ [])) bytes failed in
+    let H : Conversation → ℕ → List ℕ → Bool → Type 0 =
+        λ x box bytes failed. HoldsCopies civil_at site.host quota (due site 0 box (x ∷ [])) (outcomes_told site box (x ∷ [])) bytes failed in
     let each : (box : ℕ) → box < length site.boxes → H (conversation c.bytes c.dispositions) box (kept_at ks box).bytes (kept_at ks box).failed = λ box within.
     let low : box < work.count = omega (arith, size, within) in
     let at = h.each box low in
@@ -270,7 +279,8 @@ delivered site quota c work spools tallies faulty is accounted h size faulty_is 
     let told_so : Q (told_all box ts) = subst Q (sym (said_of_box site quota c work spools tallies h box low)) first in
     subst C is (subst K (sym at.is) (subst T (sym (told_is site box c)) (subst D (sym (due_is site box c)) told_so))) in
     let whole : faulty ≡ false → (box : ℕ) → box < length site.boxes
-    → HoldsAll site.host quota (copies_due site c.bytes c.dispositions box) (told_of_box site c.bytes c.dispositions box) (kept_at ks box).bytes = λ f box within.
+    → HoldsAll site.host quota (copies_due site c.bytes c.dispositions box) (told_of_box site c.bytes c.dispositions box) (kept_at ks box).bytes =
+    λ f box within.
     let failed : (kept_at ks box).failed ≡ false = calm f box (omega (arith, within, many, size)) in
     let B : Bool → Type 0 = λ b. H (conversation c.bytes c.dispositions) box (kept_at ks box).bytes b in
     holds_all site.host quota _ _ (kept_at ks box).bytes (subst B failed (each box within)) in
@@ -287,7 +297,8 @@ delivered site quota c work spools tallies faulty is accounted h size faulty_is 
           let S : List Disposition → Type 0 = λ ds. AllByRecursion (IsAllSettled quota) ds in
           subst S told_it (all_told_settled work.heard quota told work.count ts h.answered h.known h.begun (λ b low.
           let at = h.each b low in
-          tells_settled site quota b (work.boxes b) at.spool at.tally at.did (sym (ap (λ (k : MailboxContent). k.failed) at.is) ∙ calm f b (omega (arith, many, low)))));
+          tells_settled site quota b (work.boxes b) at.spool at.tally at.did
+              (sym (ap (λ (k : MailboxContent). k.failed) at.is) ∙ calm f b (omega (arith, many, low)))));
       told = λ f box within. (whole f box within).told;
       held = λ f box within. (whole f box within).held;
     }
@@ -299,7 +310,8 @@ HasRunAlone site quota moment state peer count back =
     HasRun site (λ m. m ≡ moment) (record { MayGive = λ c p. MayGive state c p; finished = λ c. told_by state c; over = λ c. is_over c }) state_of
     (record { visits = Waiting peer ∷ []; spools = replicate count (empty_spool site); capacity = DEFAULT_CAPACITY; quota = quota }) back
 
-module _ (site : Site) (quota : Option ℕ) (moment : ℕ) {P : Type 0} (state : P → PeerState) (peer : P) (count : ℕ) (back : HandedBack (OnlyClient P) MemorySpool) where
+module _ (site : Site) (quota : Option ℕ) (moment : ℕ) {P : Type 0} (state : P → PeerState) (peer : P) (count : ℕ)
+    (back : HandedBack (OnlyClient P) MemorySpool) where
   abbrev handed : HandedIn (OnlyClient P) MemorySpool
   handed = record { visits = Waiting peer ∷ []; spools = replicate count (empty_spool site); capacity = DEFAULT_CAPACITY; quota = quota }
 
@@ -385,7 +397,8 @@ module _ (site : Site) (quota : Option ℕ) (moment : ℕ) {P : Type 0} (state :
             };
       }
 
-  pub held : (last : P) (end : EndCause) (faulty : Bool) → HasRunAlone site quota moment state peer count back → back.visits ≡ Over last end ∷ [] → ((p : P) → (state p).stops ≡ 0)
+  pub held : (last : P) (end : EndCause) (faulty : Bool) → HasRunAlone site quota moment state peer count back → back.visits ≡ Over last end ∷ []
+      → ((p : P) → (state p).stops ≡ 0)
       → count ≡ length site.boxes → faulty ≡ list_any (λ t. t.faulty) back.tallies
       → IsHeld site quota moment (streams_of (state peer)) (streams_of (state last)) (record { spools = back.spools; faulty = faulty; end = end })
   held last end faulty h after never size faulty_is =
@@ -415,7 +428,8 @@ module _ (site : Site) (quota : Option ℕ) (moment : ℕ) {P : Type 0} (state :
         account = c.dispositions;
         accounted = record {
           complete = by.accounted;
-          moments = subst D (account_told site 0 c by.accounted) (all_mapped (λ d. d.moment ≡ moment) (λ (t : Transaction). t.disposition) (transactions_in site 0 c) (subst F ts_are work.moments));
+          moments = subst D (account_told site 0 c by.accounted)
+              (all_mapped (λ d. d.moment ≡ moment) (λ (t : Transaction). t.disposition) (transactions_in site 0 c) (subst F ts_are work.moments));
           verdicts = subst N by.unstopped (subst W (ap (λ l. transactions site 0 l) are) work.verdicts);
         };
         mailboxes = kept_all back.spools back.tallies;
@@ -451,6 +465,8 @@ rehearsed site quota moment old between left after cut h w =
     }
 
 -- there is a spool for each mailbox
-pub as_many_spools : (site : Site) (quota : Option ℕ) (moment : ℕ) (old new : Streams) (left : HeldState) → IsHeld site quota moment old new left → length left.spools ≡ length site.boxes
+pub as_many_spools : (site : Site) (quota : Option ℕ) (moment : ℕ) (old new : Streams) (left : HeldState) → IsHeld site quota moment old new left
+    → length left.spools ≡ length site.boxes
 as_many_spools site quota moment old new left h =
-    sym (length-map left.spools (λ (x : MemorySpool). x.bytes)) ∙ ap length (sym h.holds) ∙ length-map h.mailboxes (λ (k : MailboxContent). k.bytes) ∙ h.delivered.count
+    sym (length-map left.spools (λ (x : MemorySpool). x.bytes)) ∙ ap length (sym h.holds) ∙ length-map h.mailboxes (λ (k : MailboxContent). k.bytes)
+        ∙ h.delivered.count

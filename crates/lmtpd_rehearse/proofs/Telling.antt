@@ -1,5 +1,6 @@
 -- What recipients were told, where each outcome is that of a slip that was heard.
-use Rattle.std.proofs.Common.{◌≡◌, ℕ, zero, suc, ◌+◌, ◌<◌, List, [], ◌∷◌, ◌++◌, length, map, Bool, true, false, cond, Option, Some, refl, ap, sym, ◌∙◌, subst, arith}
+use Rattle.std.proofs.Common.{◌≡◌, ℕ, zero, suc, ◌+◌, ◌<◌, List, [], ◌∷◌, ◌++◌, length, map, Bool, true, false, cond, Option, Some, refl, ap, sym, ◌∙◌, subst,
+    arith}
 use Rattle.std.specs.Prelude.{find, flat_map, option_map, ◌==◌}
 use Rattle.std.specs.List.{AllByRecursion, range_with_len}
 use Rattle.std.proofs.lemmas.Bool.{eq-eqb}
@@ -19,7 +20,8 @@ use Rattle.mail_world.proofs.Deliveries.{copy_at}
 use Rattle.box_worker.specs.Told.{owed_to}
 use Rattle.lmtpd_rehearse.specs.Account.{IsSettled, IsSettledIf, IsAllSettled}
 use Rattle.mail_runs.proofs.Rising.{NumbersRise, copies_rise}
-use Rattle.lmtpd_rehearse.proofs.Naming.{SayTheSame, all_agree, all_after, all_filter, all_prefix, all_turned, left_after, next_of, slips_all, slips_all-append, slips_of_box}
+use Rattle.lmtpd_rehearse.proofs.Naming.{SayTheSame, all_agree, all_after, all_filter, all_prefix, all_turned, left_after, next_of, slips_all, slips_all-append,
+    slips_of_box}
 
 -- the first of a list that may lack it
 first_of : (P : Slip → Type 0) (t : Bool) (slip : Slip) (rest : List Slip) → t ≡ true → AllByRecursion P (cond t (slip ∷ rest) rest) → P slip
@@ -31,7 +33,8 @@ rest_of P true slip rest h = h.1
 rest_of P false slip rest h = h
 
 -- what holds of each worker's slips holds of all
-all_heard : (P : Slip → Type 0) (n : ℕ) (heard : List Slip) → AllByRecursion (λ slip. slip.worker < n) heard → ((b : ℕ) → b < n → AllByRecursion P (of_worker b heard)) → AllByRecursion P heard
+all_heard : (P : Slip → Type 0) (n : ℕ) (heard : List Slip) → AllByRecursion (λ slip. slip.worker < n) heard
+    → ((b : ℕ) → b < n → AllByRecursion P (of_worker b heard)) → AllByRecursion P heard
 all_heard P n [] known each = tt
 all_heard P n (slip ∷ heard) known each = (
   first_of P (slip.worker == slip.worker) slip (of_worker slip.worker heard) (eq-eqb slip.worker slip.worker refl) (each slip.worker known.0),
@@ -64,7 +67,8 @@ module _ (P : Outcome → Type 0) where
 
   answer_says : (heard : List Slip) (txn : Txn) (place : ℕ) (o : Outcome) → AllByRecursion (Says P) heard → answer txn heard place ≡ Some o → P o
   answer_says [] txn place o h e = cc
-  answer_says (slip ∷ heard) txn place o h e = says_by (names txn place slip) slip (find (names txn place) heard) o h.0 (λ is. answer_says heard txn place o h.1 is) e
+  answer_says (slip ∷ heard) txn place o h e =
+      says_by (names txn place slip) slip (find (names txn place) heard) o h.0 (λ is. answer_says heard txn place o h.1 is) e
 
   outcomes_say : (heard : List Slip) (txn : Txn) (outcomes : List Outcome) (place n : ℕ) → AllByRecursion (Says P) heard
       → map (λ o. Some o) outcomes ≡ map (answer txn heard) (range_with_len place n) → AllByRecursion P outcomes
@@ -86,7 +90,8 @@ one_outcome true o slip outcomes slips e f = ap (λ x. x ∷ outcomes) e ∙ ap 
 one_outcome false o slip outcomes slips e f = f
 
 -- the outcomes of slips are those that they were made of
-outcomes_of : (w : ℕ) (outcomes : List Outcome) (notes : List Note) → length outcomes ≡ length notes → map (λ s. s.outcome) (slips_from w outcomes notes) ≡ outcomes
+outcomes_of : (w : ℕ) (outcomes : List Outcome) (notes : List Note) → length outcomes ≡ length notes
+    → map (λ s. s.outcome) (slips_from w outcomes notes) ≡ outcomes
 outcomes_of w [] notes e = refl
 outcomes_of w (o ∷ outcomes) [] e = cc
 outcomes_of w (o ∷ outcomes) (x ∷ notes) e = ap (λ l. o ∷ l) (outcomes_of w outcomes notes (omega (arith, e)))
@@ -115,7 +120,8 @@ module _ (heard : List Slip) where
       one_outcome (r == b) o slip (outcomes_for b boxes outcomes) _ (answer_is heard slip o h.0 first)
       (told_copies b t boxes (place + 1) outcomes _ rest h.1)
 
-  told_verdict : (b : ℕ) (v : Verdict) (t : Transaction) (left : ℕ → List Outcome) → OutcomesIn 0 heard t v → AllByRecursion (IsHeardAs heard) (slips_all left (copies_if 0 t v))
+  told_verdict : (b : ℕ) (v : Verdict) (t : Transaction) (left : ℕ → List Outcome) → OutcomesIn 0 heard t v
+      → AllByRecursion (IsHeardAs heard) (slips_all left (copies_if 0 t v))
       → told_if b t v ≡ map (λ s. s.outcome) (of_worker b (slips_all left (copies_if 0 t v)))
   told_verdict b verdicts.Whole t left e h = told_copies b t t.session.recipients 0 t.disposition.outcomes left e h
   told_verdict b verdicts.TooLarge t left e h = refl
@@ -140,7 +146,8 @@ module _ (heard : List Slip) where
 
   -- each slip that was heard is one that its worker owes
   heard_owed : (P : Slip → Type 0) (told : ℕ → List Outcome) (n : ℕ) (ts : List Transaction) → AllByRecursion (λ slip. slip.worker < n) heard
-      → ((b : ℕ) → b < n → IsPrefixOfOwed told heard ts b) → ((b : ℕ) → b < n → AllByRecursion P (slips_from b (told b) (copies_owed 0 b ts))) → AllByRecursion P heard
+      → ((b : ℕ) → b < n → IsPrefixOfOwed told heard ts b) → ((b : ℕ) → b < n → AllByRecursion P (slips_from b (told b) (copies_owed 0 b ts)))
+      → AllByRecursion P heard
   heard_owed P told n ts known begun each = all_heard P n heard known (λ b low.
       let begins = begun b low in
       let Q : List Slip → Type 0 = λ l. AllByRecursion P l in
@@ -148,7 +155,8 @@ module _ (heard : List Slip) where
       all_prefix P (of_worker b heard) begins.rest (subst Q begins.whole (all_filter P (λ slip. slip.txn.lane == 0) slips (each b low))))
 
   -- what was told of a mailbox's copies is what its worker said
-  pub told_as_said : (told : ℕ → List Outcome) (n m : ℕ) (ts : List Transaction) → 0 < m → NumbersRise m ts → AllByRecursion (λ t. OutcomesIn 0 heard t t.disposition.verdict) ts
+  pub told_as_said : (told : ℕ → List Outcome) (n m : ℕ) (ts : List Transaction) → 0 < m → NumbersRise m ts
+      → AllByRecursion (λ t. OutcomesIn 0 heard t t.disposition.verdict) ts
       → AllByRecursion (λ slip. slip.worker < n) heard → ((b : ℕ) → b < n → IsPrefixOfOwed told heard ts b) → AreSized told ts n
       → (b : ℕ) → b < n → told_all b ts ≡ told b
   told_as_said told n m ts some rise answered known begun sized b low =
@@ -163,20 +171,24 @@ module _ (heard : List Slip) where
       ∙ ap (map (λ (s : Slip). s.outcome)) (slips_of_box b notes told (sized b low))
       ∙ outcomes_of b (told b) (copies_owed 0 b ts) (sized b low)
 
-  verdict_settled : (quota : Option ℕ) (v : Verdict) (t : Transaction) → OutcomesIn 0 heard t v → AllByRecursion (Says (IsSettled quota)) heard → IsSettledIf quota t.disposition v
+  verdict_settled : (quota : Option ℕ) (v : Verdict) (t : Transaction) → OutcomesIn 0 heard t v → AllByRecursion (Says (IsSettled quota)) heard
+      → IsSettledIf quota t.disposition v
   verdict_settled quota verdicts.Whole t e h =
       outcomes_say (IsSettled quota) heard (record { lane = 0; number = t.number }) t.disposition.outcomes 0 (length t.session.recipients) h e
   verdict_settled quota verdicts.TooLarge t e h = tt
   verdict_settled quota verdicts.NoRoom t e h = tt
 
-  each_settled : (quota : Option ℕ) (ts : List Transaction) → AllByRecursion (λ t. OutcomesIn 0 heard t t.disposition.verdict) ts → AllByRecursion (Says (IsSettled quota)) heard
+  each_settled : (quota : Option ℕ) (ts : List Transaction) → AllByRecursion (λ t. OutcomesIn 0 heard t t.disposition.verdict) ts
+      → AllByRecursion (Says (IsSettled quota)) heard
       → AllByRecursion (IsAllSettled quota) (map (λ t. t.disposition) ts)
   each_settled quota [] e h = tt
   each_settled quota (t ∷ ts) e h = (verdict_settled quota t.disposition.verdict t e.0 h, each_settled quota ts e.1 h)
 
   -- where all copies are settled, each outcome says so
-  pub all_told_settled : (quota : Option ℕ) (told : ℕ → List Outcome) (n : ℕ) (ts : List Transaction) → AllByRecursion (λ t. OutcomesIn 0 heard t t.disposition.verdict) ts
+  pub all_told_settled : (quota : Option ℕ) (told : ℕ → List Outcome) (n : ℕ) (ts : List Transaction)
+      → AllByRecursion (λ t. OutcomesIn 0 heard t t.disposition.verdict) ts
       → AllByRecursion (λ slip. slip.worker < n) heard → ((b : ℕ) → b < n → IsPrefixOfOwed told heard ts b)
       → ((b : ℕ) → b < n → AllByRecursion (IsSettled quota) (told b)) → AllByRecursion (IsAllSettled quota) (map (λ t. t.disposition) ts)
   all_told_settled quota told n ts answered known begun settled =
-      each_settled quota ts answered (heard_owed (Says (IsSettled quota)) told n ts known begun (λ b low. slips_say (IsSettled quota) b (told b) (copies_owed 0 b ts) (settled b low)))
+      each_settled quota ts answered
+          (heard_owed (Says (IsSettled quota)) told n ts known begun (λ b low. slips_say (IsSettled quota) b (told b) (copies_owed 0 b ts) (settled b low)))

@@ -66,11 +66,11 @@ where
         sizes,
         spools,
     };
-    let callers = Callers {
+    let clients = Clients {
         conversations,
         listener,
     };
-    run_sized(rt, alloc, house, callers, &logs, &mut writer)
+    run_sized(rt, alloc, house, clients, &logs, &mut writer)
 }
 
 /// The site that is served, its sizes, and the spool of each mailbox.
@@ -83,7 +83,7 @@ struct ServedHouse<S: Drop> {
 
 /// The conversations to be held, and where their clients come from.
 #[derive(Drop)]
-struct Callers<L: Drop, E: Drop> {
+struct Clients<L: Drop, E: Drop> {
     conversations: Conversations<E>,
     listener: L,
 }
@@ -101,7 +101,7 @@ fn run_sized<L, E, S, G, W, H>(
     rt: H,
     alloc: Global,
     house: ServedHouse<S>,
-    callers: Callers<L, E>,
+    clients: Clients<L, E>,
     logs: &G,
     writer: &mut W,
 ) -> Result<Served, HouseFault>
@@ -115,10 +115,10 @@ where
     W: Write,
     H: Threads + Wait + Clock + Copy + Drop + Send + Sync + 'static,
     requires { let count = length house.spools.items in
-        IsSize (arc_value house.site) house.sizes callers.conversations.lanes count count }
+        IsSize (arc_value house.site) house.sizes clients.conversations.lanes count count }
     ensures sized { result ≡ Err HouseFault.Size → ⊥ }
     ensures ran { IfOk result (IsServerRun L H E (arc_value house.site) S.state G.Log.told
-        (record { lanes = callers.conversations.lanes; capacity = house.sizes.capacity; quota = house.sizes.quota })
+        (record { lanes = clients.conversations.lanes; capacity = house.sizes.capacity; quota = house.sizes.quota })
         house.spools.items) }
 {
     let ServedHouse {
@@ -131,7 +131,7 @@ where
         gates,
         announced,
         visits,
-    } = prepare(rt, alloc, spools.len(), callers, logs, writer)?;
+    } = prepare(rt, alloc, spools.len(), clients, logs, writer)?;
     let clock = SystemClock::new(rt);
     let report = match run_house(rt, alloc, site, sizes, visits, spools, gates, clock) {
         Ok(report) => report,
@@ -145,7 +145,7 @@ fn prepare<L, E, G, W, H>(
     rt: H,
     alloc: Global,
     boxes: usize,
-    callers: Callers<L, E>,
+    clients: Clients<L, E>,
     logs: &G,
     writer: &mut W,
 ) -> Result<Prepared<LoggedVisits<L, G::Log, H, E>, H>, AllocError>
@@ -156,7 +156,7 @@ where
     W: Write,
     H: Clock + Copy + Drop,
     ensures gates { IfOk result (λ prepared. length prepared.gates.items ≡ boxes) }
-    ensures each_lane { IfOk result (λ prepared. length prepared.visits.items ≡ callers.conversations.lanes) }
+    ensures each_lane { IfOk result (λ prepared. length prepared.visits.items ≡ clients.conversations.lanes) }
     ensures none_ended { IfOk result
         (λ prepared. AllByRecursion (λ v. conversations_ended (visits_in v) ≡ 0) prepared.visits.items) }
     ensures none_out { IfOk result
@@ -164,11 +164,11 @@ where
     ensures logs { IfOk result (λ prepared. HaveLogs prepared.visits.items) }
 {
     let gates = vec![in alloc; RestGate::new(rt); boxes]?;
-    let announced = announce(alloc, &callers.listener, writer)?;
-    let Callers {
+    let announced = announce(alloc, &clients.listener, writer)?;
+    let Clients {
         conversations,
         listener,
-    } = callers;
+    } = clients;
     let visits = visits_of(rt, alloc, conversations, listener, logs)?;
     Ok(Prepared {
         gates,

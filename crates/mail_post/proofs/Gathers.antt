@@ -1,5 +1,6 @@
 -- The fields of a gatherer follow the definitions' gatherer.
-use Rattle.std.proofs.Common.{◌≡◌, ◌≢◌, ◌↔◌, inl, inr, ℕ, zero, suc, ◌+◌, ◌<◌, ◌≤◌, List, [], ◌∷◌, ◌++◌, length, take, set, get_or, map, replicate, Bool, true, false, not, cond, if◌then◌else◌, Option, Some, None, IsSome, refl, ap, ap₂, sym, subst, ◌∙◌, arith, All, length-set}
+use Rattle.std.proofs.Common.{◌≡◌, ◌≢◌, ◌↔◌, inl, inr, ℕ, zero, suc, ◌+◌, ◌<◌, ◌≤◌, List, [], ◌∷◌, ◌++◌, length, take, set, get_or, map, replicate, Bool, true,
+    false, not, cond, if◌then◌else◌, Option, Some, None, IsSome, refl, ap, ap₂, sym, subst, ◌∙◌, arith, All, length-set}
 use Rattle.std.specs.Prelude.{slice_get, count_by, IsSomeAnd, IsTrue, nat_le, ◌==◌}
 use Rattle.std.proofs.Math.Seq.{take-set-lt}
 use Rattle.std.proofs.lemmas.Bool.{eq-eqb, eqb-true, leb-true, leb-false, not-false, and_parts}
@@ -127,7 +128,8 @@ double_by g slip (Some (Some o)) e h = rw e (stays_heard g slip o (is_same_txn s
 pub gathered-double : (g : Gather) (slip : Slip) → IsDouble g slip → gathered g slip ≡ g
 gathered-double g slip h = double_by g slip (slice_get g.places slip.place) refl h.1
 
-gathered-awaited : (g : Gather) (slip : Slip) → IsAwaited g slip → gathered g slip ≡ record { txn = g.txn; places = set g.places slip.place (Some slip.outcome) }
+gathered-awaited : (g : Gather) (slip : Slip) → IsAwaited g slip
+    → gathered g slip ≡ record { txn = g.txn; places = set g.places slip.place (Some slip.outcome) }
 gathered-awaited g slip h = rw (is_same slip.txn g.txn h.0, h.1) refl
 
 -- a gatherer keeps its transaction and the number of its places
@@ -140,7 +142,8 @@ keeps_length g slip at true = length_placed g.places slip.place slip.outcome at
 keeps_length g slip at false = refl
 
 -- one more slip was heard
-pub heard_more : (g : Gather) (slip : Slip) (txn : Txn) (n : ℕ) (heard : List Slip) → HasGathered txn n heard g → HasGathered txn n (heard ++ slip ∷ []) (gathered g slip)
+pub heard_more : (g : Gather) (slip : Slip) (txn : Txn) (n : ℕ) (heard : List Slip) → HasGathered txn n heard g
+    → HasGathered txn n (heard ++ slip ∷ []) (gathered g slip)
 heard_more g slip txn n heard h =
     let at = slice_get g.places slip.place in
     let t = is_same_txn slip.txn g.txn in
@@ -181,7 +184,8 @@ is_done a h = (
   λ each. eq-eqb a.missing 0 (h.counted ∙ all_heard (take a.places a.heard.items) a.outcomes.items (heard-within a h) each),
 )
 
-pub answers-places : (a : Inside) → IsGather a → IsDone (gathering_of a).gather → map (λ o. Some o) (take a.places a.outcomes.items) ≡ (gathering_of a).gather.places
+pub answers-places : (a : Inside) → IsGather a → IsDone (gathering_of a).gather
+    → map (λ o. Some o) (take a.places a.outcomes.items) ≡ (gathering_of a).gather.places
 answers-places a h each =
     let hs = take a.places a.heard.items in
     ap (λ n. map (λ o. Some o) (take n a.outcomes.items)) (sym (length-heard a h))
@@ -190,7 +194,8 @@ answers-places a h each =
 pub strangers : (a : Inside) (slip : Slip) → IsGather a → IsTrue (nat_le a.places slip.place) → IsStranger (gathering_of a).gather slip
 strangers a slip h past = inr (omega (arith, leb-true a.places slip.place past, length-gathering a h))
 
-pub owns : (a : Inside) (slip : Slip) → IsGather a → false ≡ not (is_same_txn slip.txn a.txn) → nat_le a.places slip.place ≡ false → IsOwn (gathering_of a).gather slip
+pub owns : (a : Inside) (slip : Slip) → IsGather a → false ≡ not (is_same_txn slip.txn a.txn) → nat_le a.places slip.place ≡ false
+    → IsOwn (gathering_of a).gather slip
 owns a slip h same low = (
   same_txn slip.txn a.txn (not-false (is_same_txn slip.txn a.txn) (sym same)),
   omega (arith, leb-false a.places slip.place low, length-gathering a h),
@@ -210,7 +215,8 @@ slice_get-gathering a p d o h low =
     slice_get-places (take a.places a.heard.items) a.outcomes.items p d o (omega (arith, length-heard a h)) (heard-within a h)
     ∙ ap (λ (b : Bool). Some (if b then Some (get_or a.outcomes.items p o) else None)) (get_or-take a.places a.heard.items p d low)
 
-pub finds_double : (a : Inside) (v : Gathering) (slip : Slip) (d : Bool) → gathering_of a ≡ v → IsGather a → IsOwn v.gather slip → get_or a.heard.items slip.place d ≡ true → IsDouble v.gather slip
+pub finds_double : (a : Inside) (v : Gathering) (slip : Slip) (d : Bool) → gathering_of a ≡ v → IsGather a → IsOwn v.gather slip
+    → get_or a.heard.items slip.place d ≡ true → IsDouble v.gather slip
 finds_double a v slip d e h own heard =
     let o : Outcome = slip.outcome in
     let there : slice_get v.gather.places slip.place ≡ Some (Some (get_or a.outcomes.items slip.place o)) =
@@ -219,7 +225,8 @@ finds_double a v slip d e h own heard =
     ∙ ap (λ (b : Bool). Some (if b then Some (get_or a.outcomes.items slip.place o) else None)) heard in
     (own.0, rw there refl)
 
-pub finds_open : (a : Inside) (v : Gathering) (slip : Slip) (d : Bool) → gathering_of a ≡ v → IsGather a → IsOwn v.gather slip → get_or a.heard.items slip.place d ≡ false → IsAwaited v.gather slip
+pub finds_open : (a : Inside) (v : Gathering) (slip : Slip) (d : Bool) → gathering_of a ≡ v → IsGather a → IsOwn v.gather slip
+    → get_or a.heard.items slip.place d ≡ false → IsAwaited v.gather slip
 finds_open a v slip d e h own heard =
     let o : Outcome = slip.outcome in (
       own.0,
@@ -260,7 +267,8 @@ taken-view a v slip e h low awaited =
     (ap₂ (λ (t : Txn) (ps : List (Option Outcome)). let g : Gather = record { txn = t; places = ps } in g) txn (taken a v slip e h low awaited))
     limit
 
-pub counted_down : (a : Inside) (p : ℕ) (d : Bool) → IsGather a → p < a.places → get_or a.heard.items p d ≡ false → missing_of (take a.places (set a.heard.items p true)) + 1 ≡ a.missing
+pub counted_down : (a : Inside) (p : ℕ) (d : Bool) → IsGather a → p < a.places → get_or a.heard.items p d ≡ false
+    → missing_of (take a.places (set a.heard.items p true)) + 1 ≡ a.missing
 counted_down a p d h low open_there =
     ap (λ hs. missing_of hs + 1) (take-set-lt a.places a.heard.items p true low)
     ∙ missing-set (take a.places a.heard.items) p d (omega (arith, length-heard a h)) (get_or-take a.places a.heard.items p d low ∙ open_there)
@@ -274,4 +282,5 @@ pub begun-missing : (n m : ℕ) (hs : List Bool) → hs ≡ replicate m false �
 begun-missing n m hs e low = sym (ap (λ xs. missing_of (take n xs)) e ∙ ap (λ xs. missing_of xs) (take-replicate n m false low) ∙ missing-replicate n)
 
 pub begun-places : (n m : ℕ) (hs : List Bool) (os : List Outcome) → hs ≡ replicate m false → n ≤ m → m ≡ length os → places_of (take n hs) os ≡ replicate n None
-begun-places n m hs os e low room = ap (λ xs. places_of (take n xs) os) e ∙ ap (λ xs. places_of xs os) (take-replicate n m false low) ∙ places-none n os (omega arith)
+begun-places n m hs os e low room =
+    ap (λ xs. places_of (take n xs) os) e ∙ ap (λ xs. places_of xs os) (take-replicate n m false low) ∙ places-none n os (omega arith)

@@ -1,5 +1,6 @@
 -- One deed more of a thread, at a time after all that it knows.
-use Rattle.std.proofs.Common.{◌≡◌, ◌≢◌, ℕ, zero, suc, ◌<◌, ◌≤◌, List, [], ◌∷◌, ◌++◌, Bool, true, false, Some, inl, inr, refl, ap, sym, ◌∙◌, subst, append-nil, append_assoc, arith}
+use Rattle.std.proofs.Common.{◌≡◌, ◌≢◌, ℕ, zero, suc, ◌<◌, ◌≤◌, List, [], ◌∷◌, ◌++◌, Bool, true, false, Some, inl, inr, refl, ap, sym, ◌∙◌, subst, append-nil,
+    append_assoc, arith}
 use Rattle.std.specs.Prelude.{sum_by, slice_get, slice_set}
 use Rattle.std.proofs.lemmas.List.{map-append}
 use Rattle.std.proofs.lemmas.List.Elements.{filter-append}
@@ -28,7 +29,8 @@ last_more lo [] t = refl
 last_more lo (x ∷ ts) t = last_more x ts t
 
 -- the times of one more deed, where it is one of those, and where it isn't
-times_of_more : (f : Deed → Bool) (deeds : List TimedDeed) (d : TimedDeed) → times (those f (deeds ++ d ∷ [])) ≡ times (those f deeds) ++ times (those f (d ∷ []))
+times_of_more : (f : Deed → Bool) (deeds : List TimedDeed) (d : TimedDeed)
+    → times (those f (deeds ++ d ∷ [])) ≡ times (those f deeds) ++ times (those f (d ∷ []))
 times_of_more f deeds d =
     ap times (filter-append (λ (x : TimedDeed). f x.what) deeds (d ∷ [])) ∙ map-append (λ (x : TimedDeed). x.at) (those f deeds) (those f (d ∷ []))
 
@@ -51,7 +53,8 @@ part_more f deeds what t old new e is =
 part_same : (f : Deed → Bool) (deeds : List TimedDeed) (what : Deed) (t : ℕ) (old new : List ℕ) → new ≡ old ++ times (those f deeds) → f what ≡ false
     → new ≡ old ++ times (those f (deeds ++ deed what t ∷ []))
 part_same f deeds what t old new e none_such =
-    e ∙ ap (λ l. old ++ l) (sym (append-nil (times (those f deeds)))) ∙ ap (λ l. old ++ (times (those f deeds) ++ l)) (sym (none_of_those f (deed what t) none_such))
+    e ∙ ap (λ l. old ++ l) (sym (append-nil (times (those f deeds))))
+        ∙ ap (λ l. old ++ (times (those f deeds) ++ l)) (sym (none_of_those f (deed what t) none_such))
     ∙ ap (λ l. old ++ l) (sym (times_of_more f deeds (deed what t)))
 
 times_more : (deeds : List TimedDeed) (what : Deed) (t : ℕ) → times (deeds ++ deed what t ∷ []) ≡ times deeds ++ t ∷ []
@@ -78,7 +81,8 @@ module _ {A B : Type 0} (sorts : Sorts) where
 
   -- a sender's channel accepted a message
   pub gave_more : (deeds : List TimedDeed) (old now : Ends A B) (at t : ℕ) (sender : Sender A) (message : A) (what : Deed) → AreInTime sorts deeds old now
-      → slice_get now.senders at ≡ Some sender → clock_of now.senders now.inbox < t → sorts.gives at what ≡ true → ((c : ℕ) → c ≢ at → sorts.gives c what ≡ false) → sorts.takes what ≡ false
+      → slice_get now.senders at ≡ Some sender → clock_of now.senders now.inbox < t → sorts.gives at what ≡ true
+      → ((c : ℕ) → c ≢ at → sorts.gives c what ≡ false) → sorts.takes what ≡ false
       → AreInTime sorts (deeds ++ deed what t ∷ []) old (record { senders = slice_set now.senders at (given sender message t true); inbox = now.inbox })
   gave_more deeds old now at t sender message what x is later gives elsewhere none_taken =
       let next : Sender A = given sender message t true in
@@ -89,7 +93,8 @@ module _ {A B : Type 0} (sorts : Sorts) where
       let within : t ≤ clock_of (slice_set now.senders at next) now.inbox = omega arith in
       record {
         rises = subst (RisesTo (clock_of old.senders old.inbox) (clock_of (slice_set now.senders at next) now.inbox)) (sym (times_more deeds what t))
-            (rises_more (clock_of old.senders old.inbox) (clock_of now.senders now.inbox) (clock_of (slice_set now.senders at next) now.inbox) t (times deeds) x.rises later within);
+            (rises_more (clock_of old.senders old.inbox) (clock_of now.senders now.inbox) (clock_of (slice_set now.senders at next) now.inbox) t (times deeds)
+                x.rises later within);
         as_many = length_set now.senders at next ∙ x.as_many;
         gave = λ c before after was is'. elim (get_set now.senders at c next after is') [
           | inl here ↦
@@ -103,19 +108,22 @@ module _ {A B : Type 0} (sorts : Sorts) where
       }
 
   -- a sender's channel handed a message back
-  pub gone_keeps_time : (deeds : List TimedDeed) (old now : Ends A B) (at t : ℕ) (sender : Sender A) (message : A) → AreInTime sorts deeds old now → slice_get now.senders at ≡ Some sender
+  pub gone_keeps_time : (deeds : List TimedDeed) (old now : Ends A B) (at t : ℕ) (sender : Sender A) (message : A) → AreInTime sorts deeds old now
+      → slice_get now.senders at ≡ Some sender
       → AreInTime sorts deeds old (record { senders = slice_set now.senders at (given sender message t false); inbox = now.inbox })
   gone_keeps_time deeds old now at t sender message x is =
       let next : Sender A = given sender message t false in
       let last : Sender A → ℕ = λ s. last_of 0 s.sent_at in
       let sum = sum_set last now.senders at sender next is in
       record {
-        rises = rises_within (clock_of old.senders old.inbox) (clock_of now.senders now.inbox) (clock_of (slice_set now.senders at next) now.inbox) (times deeds) x.rises (omega arith);
+        rises = rises_within (clock_of old.senders old.inbox) (clock_of now.senders now.inbox) (clock_of (slice_set now.senders at next) now.inbox)
+            (times deeds) x.rises (omega arith);
         as_many = length_set now.senders at next ∙ x.as_many;
         gave = λ c before after was is'. elim (get_set now.senders at c next after is') [
           | inl here ↦
               let was_at : slice_get old.senders at ≡ Some before = subst (λ n. slice_get old.senders n ≡ Some before) here.0 was in
-              sym (ap (λ (s : Sender A). s.sent_at) here.1) ∙ x.gave at before sender was_at is ∙ ap (λ n. before.sent_at ++ times (those (sorts.gives n) deeds)) (sym here.0)
+              sym (ap (λ (s : Sender A). s.sent_at) here.1) ∙ x.gave at before sender was_at is
+                  ∙ ap (λ n. before.sent_at ++ times (those (sorts.gives n) deeds)) (sym here.0)
           | inr other ↦ x.gave c before after was other.1
         ];
         took = x.took;

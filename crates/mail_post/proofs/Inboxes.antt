@@ -47,7 +47,8 @@ module _ {M : Type 0} (lane : M → ℕ) where
     lanes_are : (x : Parcel M) → IsTook after v x w → w.lanes ≡ lanes
     lanes_are x is = ap (λ (t : View M). t.lanes) (taker_is x is)
 
-  pub inbox_copy : (after lanes marks : ℕ) (gone : Option Gone) (v w : View M) (p : M) → IsInbox lane lanes marks gone v → Takes after v (Copy p) w → IsInbox lane lanes marks gone w
+  pub inbox_copy : (after lanes marks : ℕ) (gone : Option Gone) (v w : View M) (p : M) → IsInbox lane lanes marks gone v → Takes after v (Copy p) w
+      → IsInbox lane lanes marks gone w
   inbox_copy after lanes marks why v w p h step = record {
     knows = taker_is after lanes v w h.knows (Copy p) step.0;
     fair = subst (λ (n : ℕ). IsFair lane n w.got) (lanes_are after lanes v w h.knows (Copy p) step.0) step.1;
@@ -60,7 +61,8 @@ module _ {M : Type 0} (lane : M → ℕ) where
   taken_copy after v w p step = ap messages (got_is after v w (Copy p) step.0) ∙ copies-append lane v.got (Copy (p) ∷ [])
 
   -- when it was accepted and taken
-  pub timed_copy : (after : ℕ) (v w : View M) (p : M) (old new : Inbox M) → Takes after v (Copy p) w → old.got_at ≡ v.got_at → old.took_at ≡ v.took_at → new.got_at ≡ w.got_at → new.took_at ≡ w.took_at → IsTimed after old new
+  pub timed_copy : (after : ℕ) (v w : View M) (p : M) (old new : Inbox M) → Takes after v (Copy p) w → old.got_at ≡ v.got_at → old.took_at ≡ v.took_at
+      → new.got_at ≡ w.got_at → new.took_at ≡ w.took_at → IsTimed after old new
   timed_copy after v w p old new step a b c d = record {
     accepted_at = step.0.0;
     taken_at = step.0.1;
@@ -78,14 +80,16 @@ module _ {M : Type 0} (lane : M → ℕ) where
       let is : w.got ≡ v.got ++ Copy p ∷ [] = got_is after v w (Copy p) step.0 in
       last_fits lane v.got (Copy p) lanes (subst (λ (y : ℕ × List (Parcel M)). IsFair lane y.0 y.1) (λ i. (n i, is i)) step.1)
 
-  pub inbox_mark : (after lanes marks : ℕ) (gone why' : Option Gone) (v w : View M) (k : ℕ) → IsInbox lane lanes marks gone v → Takes after v (Mark k) w → (why' ≡ Some Closed → marks + 1 ≡ lanes)
+  pub inbox_mark : (after lanes marks : ℕ) (gone why' : Option Gone) (v w : View M) (k : ℕ) → IsInbox lane lanes marks gone v → Takes after v (Mark k) w
+      → (why' ≡ Some Closed → marks + 1 ≡ lanes)
       → IsInbox lane lanes (marks + 1) why' w
   inbox_mark after lanes marks why why' v w k h step full =
       let fair : IsFair lane lanes w.got = subst (λ (n : ℕ). IsFair lane n w.got) (lanes_are after lanes v w h.knows (Mark k) step.0) step.1 in
       let is : w.got ≡ v.got ++ Mark k ∷ [] = got_is after v w (Mark k) step.0 in record {
         knows = taker_is after lanes v w h.knows (Mark k) step.0;
         fair = fair;
-        counted = (λ i. count_marks lane (is i) lanes) ∙ after_mark lane v.got k lanes (subst (λ (g : List (Parcel M)). IsFair lane lanes g) is fair) ∙ ap (λ n. n + 1) h.counted;
+        counted = (λ i. count_marks lane (is i) lanes) ∙ after_mark lane v.got k lanes (subst (λ (g : List (Parcel M)). IsFair lane lanes g) is fair)
+            ∙ ap (λ n. n + 1) h.counted;
         all = full;
         timed = step.2;
       }
@@ -101,11 +105,15 @@ module _ {M : Type 0} (lane : M → ℕ) where
   pub marks_fit : (lanes marks : ℕ) (gone : Option Gone) (v : View M) → IsInbox lane lanes marks gone v → marks ≤ lanes
   marks_fit lanes marks why v h = subst (λ n. n ≤ lanes) h.counted (count_le (λ k. has_mark k v.got) lanes)
 
-  pub more_marks_fit : (after lanes marks : ℕ) (gone : Option Gone) (v w : View M) (k : ℕ) → IsInbox lane lanes marks gone v → Takes after v (Mark k) w → marks + 1 ≤ lanes
+  pub more_marks_fit : (after lanes marks : ℕ) (gone : Option Gone) (v w : View M) (k : ℕ) → IsInbox lane lanes marks gone v → Takes after v (Mark k) w
+      → marks + 1 ≤ lanes
   more_marks_fit after lanes marks why v w k h step = marks_fit lanes (marks + 1) None w (inbox_mark after lanes marks why None v w k h step (λ e. absurd (cc)))
 
   pub inbox_lost : (lanes marks : ℕ) (gone : Option Gone) (v w : View M) → IsInbox lane lanes marks gone v → w ≡ v → IsInbox lane lanes marks (Some Lost) w
-  inbox_lost lanes marks why v w h is = subst (λ (t : View M). IsInbox lane lanes marks (Some Lost) t) (sym is) (record { knows = h.knows; fair = h.fair; counted = h.counted; all = λ e. absurd (cc); timed = h.timed })
+  inbox_lost lanes marks why v w h is =
+      subst (λ (t : View M). IsInbox lane lanes marks (Some Lost) t) (sym is)
+      (record { knows = h.knows; fair = h.fair; counted = h.counted; all = λ e. absurd (cc); timed = h.timed })
 
   pub inbox_new : (lanes : ℕ) (v : View M) → v ≡ taker v.room lanes [] [] [] → IsInbox lane lanes 0 None v
-  inbox_new lanes v is = subst (λ (t : View M). IsInbox lane lanes 0 None t) (sym is) (record { knows = refl; fair = λ k. (([], false, refl), (λ le. refl)); counted = no_marks lane lanes; all = λ e. absurd (cc); timed = timed_none })
+  inbox_new lanes v is = subst (λ (t : View M). IsInbox lane lanes 0 None t) (sym is)
+      (record { knows = refl; fair = λ k. (([], false, refl), (λ le. refl)); counted = no_marks lane lanes; all = λ e. absurd (cc); timed = timed_none })

@@ -1,5 +1,6 @@
 -- Each move keeps the rule of the channel.
-use Rattle.std.proofs.Common.{◌≡◌, ◌≢◌, ◌==◌, ◌+◌, ◌≤◌, ◌<◌, ◌⊎◌, ℕ, zero, suc, Bool, true, false, cond, List, [], ◌∷◌, ◌++◌, length, get_or, slice_index_or, set, refl, sym, ap, ◌∙◌, subst, ⊎_elim, inl, inr, arith, append_assoc, append-nil, length-append, true≢false}
+use Rattle.std.proofs.Common.{◌≡◌, ◌≢◌, ◌==◌, ◌+◌, ◌≤◌, ◌<◌, ◌⊎◌, ℕ, zero, suc, Bool, true, false, cond, List, [], ◌∷◌, ◌++◌, length, get_or, slice_index_or,
+    set, refl, sym, ap, ◌∙◌, subst, ⊎_elim, inl, inr, arith, append_assoc, append-nil, length-append, true≢false}
 use Rattle.std.proofs.lemmas.Bool.{eq-eqb, ne_eqb, cond-true, cond-false}
 use Rattle.std.proofs.lemmas.List.{get_or_append_left}
 use mathlib.Core.Option.{Option, some, none, some-ne-none, some-injective}
@@ -14,7 +15,8 @@ use Rattle.mail_post.specs.Times.{HaveMoments, Times, KeepsTime}
 use Rattle.mail_post.specs.Views.{sender, taker, knower, settled, IsPut, IsTook}
 use Rattle.mail_post.specs.Parcels.{of, lane_of, part, messages, all_of_lane}
 use Rattle.mail_post.specs.Rule.{Traffic, FitsKnown, Fits, Carries, IsFair, Agrees, HasPassed}
-use Rattle.mail_post.proofs.Parcels.{part-append, part-here, part-else, messages_at_most, of-copies, copies-append, copies-all_of_lane, all_of_lane-put, all_of_lane-end, prefix, all-there, has_mark-part}
+use Rattle.mail_post.proofs.Parcels.{part-append, part-here, part-else, messages_at_most, of-copies, copies-append, copies-all_of_lane, all_of_lane-put,
+    all_of_lane-end, prefix, all-there, has_mark-part}
 use Rattle.mail_post.proofs.Timing.{begin_time, same_time, put_time, take_time, timed_of, any_room, roomier}
 
 module _ {M : Type 0} (lane : M → ℕ) where
@@ -41,20 +43,25 @@ module _ {M : Type 0} (lane : M → ℕ) where
   abbrev All : (ℕ → View M → Type 0) → List (View M) → Type 0
   All F views = (pass : ℕ) (v : View M) → get_elem? views pass ≡ some v → F pass v
 
-  all_set : (F : ℕ → View M → Type 0) (views : List (View M)) (pass : ℕ) (w : View M) → F pass w → ((j : ℕ) (u : View M) → j ≢ pass → get_elem? views j ≡ some u → F j u) → All F (set views pass w)
+  all_set : (F : ℕ → View M → Type 0) (views : List (View M)) (pass : ℕ) (w : View M) → F pass w
+      → ((j : ℕ) (u : View M) → j ≢ pass → get_elem? views j ≡ some u → F j u) → All F (set views pass w)
   all_set F views pass w mine others j u e = ⊎_elim (λ (x : (j ≡ pass) × (w ≡ u)). subst (λ (y : ℕ × View M). F y.0 y.1) (λ i. (sym x.0 i, x.1 i)) mine)
       (λ (x : (j ≢ pass) × (get_elem? views j ≡ some u)). others j u x.0 x.1) (at_set views pass j w u e)
 
   -- what is put at the back of one lane
-  part_after : (k : ℕ) (got items : List (Parcel M)) (x : Parcel M) → part lane k (got ++ (items ++ x ∷ [])) ≡ part lane k (got ++ items) ++ part lane k (x ∷ [])
+  part_after : (k : ℕ) (got items : List (Parcel M)) (x : Parcel M)
+      → part lane k (got ++ (items ++ x ∷ [])) ≡ part lane k (got ++ items) ++ part lane k (x ∷ [])
   part_after k got items x = ap (part lane k) (sym (append_assoc got items (x ∷ []))) ∙ part-append lane k (got ++ items) (x ∷ [])
 
   -- the equation of each lane, after x at the back, where it is so of the lane of x
-  grows : (got : List (Parcel M)) (items : List (Parcel M)) (x : Parcel M) (f g : ℕ → List (Parcel M)) (k : ℕ) → lane_of lane x ≡ k → ((j : ℕ) → part lane j (got ++ items) ≡ f j)
+  grows : (got : List (Parcel M)) (items : List (Parcel M)) (x : Parcel M) (f g : ℕ → List (Parcel M)) (k : ℕ) → lane_of lane x ≡ k
+      → ((j : ℕ) → part lane j (got ++ items) ≡ f j)
       → g k ≡ f k ++ x ∷ [] → ((j : ℕ) → j ≢ k → g j ≡ f j) → (j : ℕ) → part lane j (got ++ (items ++ x ∷ [])) ≡ g j
   grows got items x f g k is was here else j = ⊎_elim
-      (λ (e : j ≡ k). part_after j got items x ∙ ap (λ l. l ++ part lane j (x ∷ [])) (was j) ∙ ap (λ l. f j ++ l) (part-here lane j (x) (is ∙ sym e)) ∙ subst (λ i. f i ++ x ∷ [] ≡ g i) (sym e) (sym here))
-      (λ (n : j ≢ k). part_after j got items x ∙ ap (λ l. l ++ part lane j (x ∷ [])) (was j) ∙ ap (λ l. f j ++ l) (part-else lane j (x) (λ e. n (sym e ∙ is))) ∙ append-nil (f j) ∙ sym (else j n))
+      (λ (e : j ≡ k). part_after j got items x ∙ ap (λ l. l ++ part lane j (x ∷ [])) (was j) ∙ ap (λ l. f j ++ l) (part-here lane j (x) (is ∙ sym e))
+          ∙ subst (λ i. f i ++ x ∷ [] ≡ g i) (sym e) (sym here))
+      (λ (n : j ≢ k). part_after j got items x ∙ ap (λ l. l ++ part lane j (x ∷ [])) (was j) ∙ ap (λ l. f j ++ l) (part-else lane j (x) (λ e. n (sym e ∙ is)))
+          ∙ append-nil (f j) ∙ sym (else j n))
       (same? j k)
 
   below? : (k n : ℕ) → (k < n) ⊎ (n ≤ k)
@@ -97,7 +104,8 @@ module _ {M : Type 0} (lane : M → ℕ) where
   }
 
   -- a lane's pass puts x, after which it was told that s was accepted, at these times
-  moved : (pass : ℕ) (v : View M) (x : Parcel M) (s : List M) (told : List ℕ) (b : Bool) (items : List (Parcel M)) (views : List (View M)) (h : Carries lane items views) (q : Times)
+  moved : (pass : ℕ) (v : View M) (x : Parcel M) (s : List M) (told : List ℕ) (b : Bool) (items : List (Parcel M)) (views : List (View M))
+      (h : Carries lane items views) (q : Times)
       → v.sends ≡ true → lane_of lane x ≡ v.lane → all_of_lane v.lane s b ≡ all_of_lane v.lane v.sent v.shut ++ x ∷ [] → get_elem? views pass ≡ some v
       → (q.got_at ≡ h.traffic.times.got_at) × (q.took_at ≡ h.traffic.times.took_at)
       → KeepsTime lane h.traffic.room (messages h.traffic.got) (messages (items ++ x ∷ [])) (changed h.traffic.sent_at v.lane told) q
@@ -110,15 +118,19 @@ module _ {M : Type 0} (lane : M → ℕ) where
       let sent_at : ℕ → List ℕ = changed h.traffic.sent_at v.lane told in
       let new : Traffic M = record h.traffic { sent = sent; closed = closed; sent_at = sent_at; times = q } in
       let here : all_of_lane v.lane (sent v.lane) (closed v.lane) ≡ all_of_lane v.lane (h.traffic.sent v.lane) (h.traffic.closed v.lane) ++ x ∷ [] =
-      (λ i. all_of_lane v.lane (changed_here h.traffic.sent v.lane s i) (changed_here h.traffic.closed v.lane b i)) ∙ grown ∙ (λ i. all_of_lane v.lane (sym mine.1 i) (sym mine.2 i) ++ x ∷ []) in
+      (λ i. all_of_lane v.lane (changed_here h.traffic.sent v.lane s i) (changed_here h.traffic.closed v.lane b i)) ∙ grown
+          ∙ (λ i. all_of_lane v.lane (sym mine.1 i) (sym mine.2 i) ++ x ∷ []) in
       let taken : (k : ℕ) → h.traffic.seat k ≡ none → k ≢ v.lane = λ k e q. some-ne-none pass (sym mine.0 ∙ ap h.traffic.seat (sym q) ∙ e) in record {
         traffic = new;
-        order = grows h.traffic.got items x (λ j. all_of_lane j (h.traffic.sent j) (h.traffic.closed j)) (λ j. all_of_lane j (sent j) (closed j)) v.lane is h.order here (λ j other i. all_of_lane j (changed_else h.traffic.sent v.lane s j other i) (changed_else h.traffic.closed v.lane b j other i));
+        order = grows h.traffic.got items x (λ j. all_of_lane j (h.traffic.sent j) (h.traffic.closed j)) (λ j. all_of_lane j (sent j) (closed j)) v.lane is
+            h.order here (λ j other i. all_of_lane j (changed_else h.traffic.sent v.lane s j other i) (changed_else h.traffic.closed v.lane b j other i));
         others = λ k le. let q = h.others k le in let other = taken k q.0 in
-            (q.0, changed_else h.traffic.sent v.lane s k other ∙ q.1, changed_else h.traffic.closed v.lane b k other ∙ q.2, changed_else h.traffic.sent_at v.lane told k other ∙ q.3);
+            (q.0, changed_else h.traffic.sent v.lane s k other ∙ q.1, changed_else h.traffic.closed v.lane b k other
+                ∙ q.2, changed_else h.traffic.sent_at v.lane told k other ∙ q.3);
         timed = timed;
         fits = all_set (Fits new) views pass w
-            ((λ _. (mine.0, changed_here h.traffic.sent v.lane s, changed_here h.traffic.closed v.lane b, changed_here h.traffic.sent_at v.lane told, mine.4)), (λ p. absurd (true≢false (sym p))), (λ k l. absurd (omega arith)))
+            ((λ _. (mine.0, changed_here h.traffic.sent v.lane s, changed_here h.traffic.closed v.lane b, changed_here h.traffic.sent_at v.lane told, mine.4)),
+                (λ p. absurd (true≢false (sym p))), (λ k l. absurd (omega arith)))
             (λ j u apart e. let f = h.fits j u e in (
               (λ p. let q = f.0 p in let other : u.lane ≢ v.lane = λ t. apart (some-injective j pass (sym q.0 ∙ ap h.traffic.seat t ∙ mine.0)) in (
                 q.0,
@@ -166,7 +178,8 @@ module _ {M : Type 0} (lane : M → ℕ) where
       (λ (n : j ≢ v.lane). changed_else old.sent_at v.lane v.sent_at j n) (same? j v.lane) in
       let grown : all_of_lane v.lane v.sent true ≡ all_of_lane v.lane v.sent v.shut ++ Mark v.lane ∷ [] =
       sym (all_of_lane-end lane v.lane v.sent) ∙ (λ i. all_of_lane v.lane v.sent (sym not_shut i) ++ Mark v.lane ∷ []) in
-      let none_more : messages items ≡ messages (items ++ Mark v.lane ∷ []) = sym (copies-append lane items (Mark v.lane ∷ []) ∙ append-nil (messages items)) in (
+      let none_more : messages items ≡ messages (items ++ Mark v.lane ∷ []) = sym (copies-append lane items (Mark v.lane ∷ []) ∙ append-nil (messages items)) in
+          (
         sender v.room v.lane v.sent v.sent_at true,
         moved pass v (Mark v.lane) v.sent v.sent_at true items views h old.times may refl grown at (refl, refl)
             (subst (λ (l : List M). KeepsTime lane old.room (messages old.got) l g old.times) none_more
@@ -178,7 +191,8 @@ module _ {M : Type 0} (lane : M → ℕ) where
   abbrev Leaves : ℕ → List (Parcel M) → List (View M) → View M → Type 0
   Leaves pass items views w = Carries lane items (set views pass w) × IsFair lane w.lanes w.got × HaveMoments w.got_at w.took_at
 
-  taken_as : (pass : ℕ) (v : View M) (x : Parcel M) (items : List (Parcel M)) (views : List (View M)) (h : Carries lane (x ∷ items) views) (accepted_at taken_at : List ℕ) (q : Times)
+  taken_as : (pass : ℕ) (v : View M) (x : Parcel M) (items : List (Parcel M)) (views : List (View M)) (h : Carries lane (x ∷ items) views)
+      (accepted_at taken_at : List ℕ) (q : Times)
       → v.takes ≡ true → get_elem? views pass ≡ some v → accepted_at ≡ q.got_at → taken_at ≡ q.took_at
       → KeepsTime lane h.traffic.room (messages (h.traffic.got ++ x ∷ [])) (messages items) h.traffic.sent_at q
       → Leaves pass items views (taker v.room v.lanes (v.got ++ x ∷ []) accepted_at taken_at)
@@ -187,8 +201,10 @@ module _ {M : Type 0} (lane : M → ℕ) where
       let mine = (h.fits pass v at).1 may in
       let got : List (Parcel M) = h.traffic.got ++ x ∷ [] in
       let new : Traffic M = record h.traffic { got = got; times = q } in
-      let there : (k : ℕ) → part lane k (got ++ items) ≡ all_of_lane k (h.traffic.sent k) (h.traffic.closed k) = λ k. ap (part lane k) (append_assoc h.traffic.got (x ∷ []) items) ∙ h.order k in
-      let split : (k : ℕ) → part lane k got ++ part lane k items ≡ all_of_lane k (h.traffic.sent k) (h.traffic.closed k) = λ k. sym (part-append lane k got items) ∙ there k in
+      let there : (k : ℕ) → part lane k (got ++ items) ≡ all_of_lane k (h.traffic.sent k) (h.traffic.closed k) =
+          λ k. ap (part lane k) (append_assoc h.traffic.got (x ∷ []) items) ∙ h.order k in
+      let split : (k : ℕ) → part lane k got ++ part lane k items ≡ all_of_lane k (h.traffic.sent k) (h.traffic.closed k) =
+          λ k. sym (part-append lane k got items) ∙ there k in
       let fair : IsFair lane h.traffic.lanes got = λ k. (
         prefix lane k (part lane k got) (part lane k items) (h.traffic.sent k) (h.traffic.closed k) (split k),
         λ le. let q = h.others k le in nil_left (part lane k got) (part lane k items) (split k ∙ (λ i. all_of_lane k (q.1 i) (q.2 i))),
@@ -211,7 +227,8 @@ module _ {M : Type 0} (lane : M → ℕ) where
       )
 
   -- the oldest parcel is taken, a message after any given time
-  pub takes : (after pass : ℕ) (v : View M) → v.takes ≡ true → Pops (Carries lane) pass v (λ x w. IsTook after v x w × IsFair lane w.lanes w.got × HaveMoments w.got_at w.took_at)
+  pub takes : (after pass : ℕ) (v : View M) → v.takes ≡ true
+      → Pops (Carries lane) pass v (λ x w. IsTook after v x w × IsFair lane w.lanes w.got × HaveMoments w.got_at w.took_at)
   takes after pass v may (Copy m) items views h at =
       let old = h.traffic in
       let mine = (h.fits pass v at).1 may in
@@ -219,7 +236,8 @@ module _ {M : Type 0} (lane : M → ℕ) where
       let step = take_time lane old.room after (messages old.got) (messages items) old.sent_at old.times m h.timed in
       let s : ℕ = step.accepted_at in
       let q : Times = record { got_at = old.times.got_at ++ s ∷ []; took_at = old.times.took_at ++ t ∷ []; queue_at = step.rest; latest = t } in
-      let all = taken_as pass v (Copy m) items views h (v.got_at ++ s ∷ []) (v.took_at ++ t ∷ []) q may at (ap (λ l. l ++ s ∷ []) mine.3) (ap (λ l. l ++ t ∷ []) mine.4)
+      let all = taken_as pass v (Copy m) items views h (v.got_at ++ s ∷ []) (v.took_at ++ t ∷ []) q may at (ap (λ l. l ++ s ∷ []) mine.3)
+          (ap (λ l. l ++ t ∷ []) mine.4)
       (subst (λ (l : List M). KeepsTime lane old.room l (messages items) old.sent_at q) (sym (copies-append lane old.got (Copy m ∷ []))) step.keeps) in
       let below : s ≤ old.times.latest = step.below in (
         taker v.room v.lanes (v.got ++ Copy m ∷ []) (v.got_at ++ s ∷ []) (v.took_at ++ t ∷ []),
@@ -277,7 +295,8 @@ module _ {M : Type 0} (lane : M → ℕ) where
       )) in record {
         traffic = new;
         order = h.order;
-        others = λ k le. let is : v.lanes ≡ h.traffic.lanes = mine.1 in let q = h.others k (omega arith) in (changed_else h.traffic.seat v.lanes (some (length vs)) k (λ t. omega arith) ∙ q.0, q.1, q.2, q.3);
+        others = λ k le. let is : v.lanes ≡ h.traffic.lanes = mine.1 in let q = h.others k (omega arith) in
+            (changed_else h.traffic.seat v.lanes (some (length vs)) k (λ t. omega arith) ∙ q.0, q.1, q.2, q.3);
         timed = roomier lane h.traffic.room room (messages h.traffic.got) (messages items) h.traffic.sent_at h.traffic.times h.timed makes_room;
         fits = (λ j u e. ⊎_elim (old j u)
             (λ (is : (j ≡ length vs) × (right ≡ u)). subst (λ (y : ℕ × View M). Fits new y.0 y.1) (λ i. (sym is.0 i, is.1 i)) (
@@ -299,7 +318,8 @@ module _ {M : Type 0} (lane : M → ℕ) where
         others = h.others;
         timed = h.timed;
         fits = (λ j u e. ⊎_elim (old j u)
-            (λ (is : (j ≡ length vs) × (knower [] [] ≡ u)). subst (F j) is.1 ((λ p. absurd (true≢false (sym p))), (λ p. absurd (true≢false (sym p))), (λ k l. absurd (omega arith))))
+            (λ (is : (j ≡ length vs) × (knower [] [] ≡ u)). subst (F j) is.1
+                ((λ p. absurd (true≢false (sym p))), (λ p. absurd (true≢false (sym p))), (λ k l. absurd (omega arith))))
             (at_end vs (knower [] []) u j e));
       }
 
@@ -314,12 +334,17 @@ module _ {M : Type 0} (lane : M → ℕ) where
       let theirs = (h.fits other w was).0 may in
       let mine = (h.fits pass v at).2 in
       let seat : ℕ → Option ℕ = changed h.traffic.seat w.lane none in
-      let gone : (k : ℕ) → h.traffic.seat k ≡ none → seat k ≡ none = λ k e. ⊎_elim (λ t. ap seat t ∙ changed_here h.traffic.seat w.lane none) (λ n. changed_else h.traffic.seat w.lane none k n ∙ e) (same? k w.lane) in
+      let gone : (k : ℕ) → h.traffic.seat k ≡ none → seat k ≡ none =
+          λ k e. ⊎_elim (λ t. ap seat t ∙ changed_here h.traffic.seat w.lane none) (λ n. changed_else h.traffic.seat w.lane none k n ∙ e) (same? k w.lane) in
       let F : ℕ → View M → Type 0 = Fits (record h.traffic { seat = seat }) in
       let known : FitsKnown (record h.traffic { seat = seat }) both = λ k l. ⊎_elim
-      (λ (low : k < length v.known). let q = mine k low in (q.0, gone k q.1, get_or_append_left v.known (w.sent ∷ []) [] k low ∙ q.2, get_or_append_left v.known_at (w.sent_at ∷ []) [] k (omega (arith, as_many)) ∙ q.3))
+      (λ (low : k < length v.known). let q = mine k
+          low in (q.0, gone k q.1, get_or_append_left v.known (w.sent ∷ []) [] k low
+          ∙ q.2, get_or_append_left v.known_at (w.sent_at ∷ []) [] k (omega (arith, as_many)) ∙ q.3))
       (λ (is : k ≡ length v.known). let at_k : k ≡ w.lane = is ∙ next in (
-        ⊎_elim (λ (x : k < h.traffic.lanes). x) (λ (le : h.traffic.lanes ≤ k). absurd (some-ne-none other (sym theirs.0 ∙ ap h.traffic.seat (sym at_k) ∙ (h.others k le).0))) (below? k h.traffic.lanes),
+        ⊎_elim (λ (x : k < h.traffic.lanes). x)
+            (λ (le : h.traffic.lanes ≤ k). absurd (some-ne-none other (sym theirs.0 ∙ ap h.traffic.seat (sym at_k) ∙ (h.others k le).0)))
+            (below? k h.traffic.lanes),
         ap seat at_k ∙ changed_here h.traffic.seat w.lane none,
         ap (λ (i : ℕ). get_or ls i []) is ∙ get_or_last v.known w.sent [] ∙ sym theirs.1 ∙ ap h.traffic.sent (sym at_k),
         ap (λ (i : ℕ). get_or ts i []) (is ∙ sym as_many) ∙ get_or_last v.known_at w.sent_at [] ∙ sym theirs.3 ∙ ap h.traffic.sent_at (sym at_k),
@@ -344,7 +369,8 @@ module _ {M : Type 0} (lane : M → ℕ) where
         order = h.order;
         others = λ k le. let q = h.others k le in (gone k q.0, q.1, q.2, q.3);
         timed = h.timed;
-        fits = all_set F (set views pass both) other (knower [] []) ((λ p. absurd (true≢false (sym p))), (λ p. absurd (true≢false (sym p))), (λ k l. absurd (omega arith))) now;
+        fits = all_set F (set views pass both) other (knower [] [])
+            ((λ p. absurd (true≢false (sym p))), (λ p. absurd (true≢false (sym p))), (λ k l. absurd (omega arith))) now;
       }
 
   -- what is known of the lanes joins what was taken
@@ -363,7 +389,8 @@ module _ {M : Type 0} (lane : M → ℕ) where
         order = h.order;
         others = h.others;
         timed = h.timed;
-        fits = all_set F (set views pass both) other (knower [] []) ((λ p. absurd (true≢false (sym p))), (λ p. absurd (true≢false (sym p))), (λ k l. absurd (omega arith))) now;
+        fits = all_set F (set views pass both) other (knower [] [])
+            ((λ p. absurd (true≢false (sym p))), (λ p. absurd (true≢false (sym p))), (λ k l. absurd (omega arith))) now;
       }
 
   -- what was taken of the known lanes
@@ -371,12 +398,17 @@ module _ {M : Type 0} (lane : M → ℕ) where
   agrees pass v may items views h at k l =
       let f = h.fits pass v at in
       let got : v.got ≡ h.traffic.got = (f.1 may).2 in
-      let split : part lane k v.got ++ part lane k items ≡ all_of_lane k (h.traffic.sent k) (h.traffic.closed k) = (λ i. part lane k (got i) ++ part lane k items) ∙ sym (part-append lane k h.traffic.got items) ∙ h.order k in
+      let split : part lane k v.got ++ part lane k items ≡ all_of_lane k (h.traffic.sent k) (h.traffic.closed k) =
+          (λ i. part lane k (got i) ++ part lane k items) ∙ sym (part-append lane k h.traffic.got items) ∙ h.order k in
       let sent : h.traffic.sent k ≡ slice_index_or v.known k [] = sym (f.2 k l).2 in
       let rest : List M = messages (part lane k items) in
-      let both : messages (part lane k v.got) ++ rest ≡ h.traffic.sent k = sym (copies-append lane (part lane k v.got) (part lane k items)) ∙ ap messages split ∙ copies-all_of_lane lane k (h.traffic.sent k) (h.traffic.closed k) in (
+      let both : messages (part lane k v.got) ++ rest ≡ h.traffic.sent k =
+          sym (copies-append lane (part lane k v.got) (part lane k items)) ∙ ap messages split
+          ∙ copies-all_of_lane lane k (h.traffic.sent k) (h.traffic.closed k) in (
         record { rest = rest; whole = sym ((λ i. of-copies lane k v.got i ++ rest) ∙ both ∙ sent) },
-        (λ mark. of-copies lane k v.got ∙ all-there lane k (part lane k v.got) (part lane k items) (h.traffic.sent k) (h.traffic.closed k) split (has_mark-part lane k v.got ∙ mark) ∙ sent),
+        (λ mark. of-copies lane k v.got
+            ∙ all-there lane k (part lane k v.got) (part lane k items) (h.traffic.sent k) (h.traffic.closed k) split (has_mark-part lane k v.got ∙ mark)
+            ∙ sent),
       )
 
   -- what the channel accepted, beside what was taken

@@ -1,5 +1,6 @@
 -- Once one more message is owed to one of several senders, and offered by it or not.
-use Rattle.std.proofs.Common.{◌≡◌, ◌≢◌, ℕ, zero, suc, ◌+◌, arith, List, [], ◌∷◌, ◌++◌, length, Bool, true, false, ◌||◌, Some, inl, inr, refl, ap, sym, ◌∙◌, subst, append_assoc, append-nil}
+use Rattle.std.proofs.Common.{◌≡◌, ◌≢◌, ℕ, zero, suc, ◌+◌, arith, List, [], ◌∷◌, ◌++◌, length, Bool, true, false, ◌||◌, Some, inl, inr, refl, ap, sym, ◌∙◌,
+    subst, append_assoc, append-nil}
 use Rattle.std.specs.Prelude.{slice_get, slice_set, Result, Ok, Err, OnOk, OnErr}
 use Rattle.std.proofs.Common.{length-set}
 use Rattle.std.proofs.lemmas.Bool.{or_parts}
@@ -35,7 +36,8 @@ module _ {M : Type 0} where
   given_number sender m t false = refl
 
   -- the senders stay those of that number
-  pub still_numbered : (number moment at : ℕ) (message : Sender M → M) (accepted : Bool) (old new : List (Sender M)) → HaveNumber number old → IsOffered moment at message accepted old new → HaveNumber number new
+  pub still_numbered : (number moment at : ℕ) (message : Sender M → M) (accepted : Bool) (old new : List (Sender M)) → HaveNumber number old
+      → IsOffered moment at message accepted old new → HaveNumber number new
   still_numbered number moment at message accepted old new h o = λ k sender is.
       elim (get_set old at k (given o.sender (message o.sender) o.when accepted) sender (ap (λ l. slice_get l k) (sym o.after) ∙ is)) [
         | inl here ↦ ap (λ (s : Sender M). s.number) (sym here.1) ∙ given_number o.sender (message o.sender) o.when accepted ∙ h at o.sender o.is
@@ -50,12 +52,14 @@ module _ {M : Type 0} where
       ap (λ (s : Sender M). s.gone) (sym same) ∙ (or_parts x.gone (any_gone xs) none).0
   none_gone (x ∷ xs) (suc k) sender none is = none_gone xs k sender (or_parts x.gone (any_gone xs) none).1 is
 
-  any_set_gone : (senders : List (Sender M)) (at : ℕ) (old new : Sender M) → slice_get senders at ≡ Some old → new.gone ≡ true → any_gone (slice_set senders at new) ≡ true
+  any_set_gone : (senders : List (Sender M)) (at : ℕ) (old new : Sender M) → slice_get senders at ≡ Some old → new.gone ≡ true
+      → any_gone (slice_set senders at new) ≡ true
   any_set_gone [] at old new is gone = absurd (cc)
   any_set_gone (x ∷ xs) zero old new is gone = ap (λ b. b || any_gone xs) gone
   any_set_gone (x ∷ xs) (suc at) old new is gone = or_gone x.gone (any_gone (slice_set xs at new)) (any_set_gone xs at old new is gone)
 
-  any_set_same : (senders : List (Sender M)) (at : ℕ) (old new : Sender M) → slice_get senders at ≡ Some old → new.gone ≡ old.gone → any_gone (slice_set senders at new) ≡ any_gone senders
+  any_set_same : (senders : List (Sender M)) (at : ℕ) (old new : Sender M) → slice_get senders at ≡ Some old → new.gone ≡ old.gone
+      → any_gone (slice_set senders at new) ≡ any_gone senders
   any_set_same [] at old new is same = absurd (cc)
   any_set_same (x ∷ xs) zero old new is same =
       let e : x ≡ old = cc in
@@ -66,7 +70,8 @@ module _ {M : Type 0} where
   pub gone_now : (moment at : ℕ) (message : Sender M → M) (old new : List (Sender M)) → IsOffered moment at message false old new → any_gone new ≡ true
   gone_now moment at message old new o = ap any_gone o.after ∙ any_set_gone old at o.sender (given o.sender (message o.sender) o.when false) o.is refl
 
-  pub gone_as_before : (moment at : ℕ) (message : Sender M → M) (old new : List (Sender M)) → IsOffered moment at message true old new → any_gone new ≡ any_gone old
+  pub gone_as_before : (moment at : ℕ) (message : Sender M → M) (old new : List (Sender M)) → IsOffered moment at message true old new
+      → any_gone new ≡ any_gone old
   gone_as_before moment at message old new o = ap any_gone o.after ∙ any_set_same old at o.sender (given o.sender (message o.sender) o.when true) o.is refl
 
   sent_none : (sender : Sender M) → HasSent [] sender sender
@@ -90,7 +95,8 @@ module _ {M : Type 0} where
   accepted_none sender = record { accepted = []; sent = sent_none sender; all = λ e. refl; some = tt }
 
   -- one more is owed, and was offered
-  accepted_by : (owed : List M) (m : M) (t : ℕ) (accepted : Bool) (old now : Sender M) → HasAccepted owed old now → HasAccepted (owed ++ m ∷ []) old (given now m t accepted)
+  accepted_by : (owed : List M) (m : M) (t : ℕ) (accepted : Bool) (old now : Sender M) → HasAccepted owed old now
+      → HasAccepted (owed ++ m ∷ []) old (given now m t accepted)
   accepted_by owed m t true old now x = record {
     accepted = x.accepted ++ m ∷ [];
     sent = sent_given x.accepted m t old now x.sent;
@@ -104,7 +110,8 @@ module _ {M : Type 0} where
     some = part_more x.accepted owed m x.some;
   }
 
-module _ {M : Type 0} (moment at : ℕ) (message : Sender M → M) (m : M) (old : List (Sender M)) (sender new : Sender M) (is : slice_get old at ≡ Some sender) (same : message sender ≡ m) where
+module _ {M : Type 0} (moment at : ℕ) (message : Sender M → M) (m : M) (old : List (Sender M)) (sender new : Sender M) (is : slice_get old at ≡ Some sender)
+    (same : message sender ≡ m) where
   -- the sender at that place was offered the message, as its call says
   pub offer_accepted : IsAccepted moment m sender new → IsOffered moment at message true old (slice_set old at new)
   offer_accepted a = record {
@@ -152,7 +159,8 @@ module _ {M : Type 0} where
 
   module _ (moment at : ℕ) (message : Sender M → M) (old now next : List (Sender M)) where
     -- one more message was accepted
-    pub sent_more : (accepted accepted' : ℕ → List M) (m : M) → HaveSent accepted old now → (o : IsOffered moment at message true now next) → message o.sender ≡ m
+    pub sent_more : (accepted accepted' : ℕ → List M) (m : M) → HaveSent accepted old now → (o : IsOffered moment at message true now next)
+        → message o.sender ≡ m
         → OwesOneMore accepted accepted' at m → HaveSent accepted' old next
     sent_more accepted accepted' m x o is more =
         let changed : Sender M = given o.sender m o.when true in
@@ -164,7 +172,8 @@ module _ {M : Type 0} where
                 let same : accepted' k ≡ accepted k ++ m ∷ [] = ap accepted' here.0 ∙ more.here ∙ ap (λ (j : ℕ). accepted j ++ m ∷ []) (sym here.0) in
                 let P : List M → Type 0 = λ l. HasSent l before changed in
                 let Q : Sender M → Type 0 = λ s. HasSent (accepted' k) before s in
-                subst Q here.1 (subst P (sym same) (sent_given (accepted k) m o.when before o.sender (x.each k before o.sender was (ap (slice_get now) here.0 ∙ o.is))))
+                subst Q here.1 (subst P (sym same)
+                    (sent_given (accepted k) m o.when before o.sender (x.each k before o.sender was (ap (slice_get now) here.0 ∙ o.is))))
             | inr other ↦
                 let P : List M → Type 0 = λ l. HasSent l before sender in
                 subst P (sym (more.other k other.0)) (x.each k before sender was other.1)
@@ -180,13 +189,15 @@ module _ {M : Type 0} where
           each = λ k before sender was there. elim (get_set now at k changed sender (ap (λ l. slice_get l k) (sym o.after) ∙ there)) [
             | inl here ↦
                 let Q : Sender M → Type 0 = λ s. HasSent (accepted k) before s in
-                subst Q here.1 (sent_back (accepted k) (message o.sender) o.when before o.sender (x.each k before o.sender was (ap (slice_get now) here.0 ∙ o.is)))
+                subst Q here.1 (sent_back (accepted k) (message o.sender) o.when before o.sender
+                    (x.each k before o.sender was (ap (slice_get now) here.0 ∙ o.is)))
             | inr other ↦ x.each k before sender was other.1
           ];
         }
 
     -- one more message that is owed was offered
-    pub offered_more : (owed owed' : ℕ → List M) (accepted : Bool) (m : M) → HaveAccepted owed old now → (o : IsOffered moment at message accepted now next) → message o.sender ≡ m
+    pub offered_more : (owed owed' : ℕ → List M) (accepted : Bool) (m : M) → HaveAccepted owed old now → (o : IsOffered moment at message accepted now next)
+        → message o.sender ≡ m
         → OwesOneMore owed owed' at m → HaveAccepted owed' old next
     offered_more owed owed' accepted m x o is owes =
         let changed : Sender M = given o.sender m o.when accepted in
@@ -198,7 +209,8 @@ module _ {M : Type 0} where
                 let same : owed' k ≡ owed k ++ m ∷ [] = ap owed' here.0 ∙ owes.here ∙ ap (λ (j : ℕ). owed j ++ m ∷ []) (sym here.0) in
                 let P : List M → Type 0 = λ l. HasAccepted l before changed in
                 let Q : Sender M → Type 0 = λ s. HasAccepted (owed' k) before s in
-                subst Q here.1 (subst P (sym same) (accepted_by (owed k) m o.when accepted before o.sender (x.each k before o.sender was (ap (slice_get now) here.0 ∙ o.is))))
+                subst Q here.1 (subst P (sym same)
+                    (accepted_by (owed k) m o.when accepted before o.sender (x.each k before o.sender was (ap (slice_get now) here.0 ∙ o.is))))
             | inr other ↦
                 let P : List M → Type 0 = λ l. HasAccepted l before sender in
                 subst P (sym (owes.other k other.0)) (x.each k before sender was other.1)

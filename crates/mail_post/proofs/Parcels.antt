@@ -1,5 +1,6 @@
 -- The steps of one lane among those of all.
-use Rattle.std.proofs.Common.{◌≡◌, ◌≢◌, ◌==◌, ℕ, Bool, true, false, ◌||◌, ◌≤◌, cond, List, [], ◌∷◌, ◌++◌, length, refl, sym, ap, ◌∙◌, true≢false, append-nil, arith}
+use Rattle.std.proofs.Common.{◌≡◌, ◌≢◌, ◌==◌, ℕ, Bool, true, false, ◌||◌, ◌≤◌, cond, List, [], ◌∷◌, ◌++◌, length, refl, sym, ap, ◌∙◌, true≢false, append-nil,
+    arith}
 use Rattle.std.proofs.lemmas.Bool.{eq-eqb, ne_eqb, cond-true, cond-false}
 use Rattle.std.proofs.lemmas.List.Elements.{filter-append}
 use Rattle.mail_post.specs.declared.rule.Parcel.{Parcel}
@@ -31,7 +32,8 @@ module _ {M : Type 0} (lane : M → ℕ) where
   of-copies k [] = refl
   of-copies k (Copy n ∷ xs) =
       let more : of lane k (messages xs) ≡ messages (part lane k xs) = of-copies k xs in
-      elim (lane n == k) as (λ b. cond b (n ∷ of lane k (messages xs)) (of lane k (messages xs)) ≡ messages (cond b (Copy n ∷ part lane k xs) (part lane k xs))) [ true ↦ ap (λ l. n ∷ l) more | false ↦ more ]
+      elim (lane n == k) as (λ b. cond b (n ∷ of lane k (messages xs)) (of lane k (messages xs)) ≡ messages (cond b (Copy n ∷ part lane k xs) (part lane k xs)))
+          [ true ↦ ap (λ l. n ∷ l) more | false ↦ more ]
   of-copies k (Mark j ∷ xs) =
       let more : of lane k (messages xs) ≡ messages (part lane k xs) = of-copies k xs in
       elim (j == k) as (λ b. of lane k (messages xs) ≡ messages (cond b (Mark j ∷ part lane k xs) (part lane k xs))) [ true ↦ more | false ↦ more ]
@@ -48,7 +50,8 @@ module _ {M : Type 0} (lane : M → ℕ) where
       let more : has_mark k (xs ++ ys) ≡ (has_mark k xs || has_mark k ys) = has_mark-append k xs ys in
       elim (j == k) as (λ b. (b || has_mark k (xs ++ ys)) ≡ ((b || has_mark k xs) || has_mark k ys)) [ true ↦ refl | false ↦ more ]
 
-  ended_cond : (k j : ℕ) (xs : List (Parcel M)) → has_mark k (part lane k xs) ≡ has_mark k xs → (b : Bool) → (j == k) ≡ b → has_mark k (cond b (Mark j ∷ part lane k xs) (part lane k xs)) ≡ (b || has_mark k xs)
+  ended_cond : (k j : ℕ) (xs : List (Parcel M)) → has_mark k (part lane k xs) ≡ has_mark k xs → (b : Bool) → (j == k) ≡ b
+      → has_mark k (cond b (Mark j ∷ part lane k xs) (part lane k xs)) ≡ (b || has_mark k xs)
   ended_cond k j xs more true e = ap (λ t. t || has_mark k (part lane k xs)) e
   ended_cond k j xs more false e = more
 

@@ -1,5 +1,6 @@
 -- Times that rise, and one more after them.
-use Rattle.std.proofs.Common.{◌≡◌, ◌≢◌, ◌==◌, ◌+◌, ◌≤◌, ◌<◌, ◌⊎◌, ℕ, true, false, cond, List, [], ◌∷◌, ◌++◌, length, refl, sym, ap, ◌∙◌, subst, ⊎_elim, arith, append_assoc, append-nil, length-append}
+use Rattle.std.proofs.Common.{◌≡◌, ◌≢◌, ◌==◌, ◌+◌, ◌≤◌, ◌<◌, ◌⊎◌, ℕ, true, false, cond, List, [], ◌∷◌, ◌++◌, length, refl, sym, ap, ◌∙◌, subst, ⊎_elim, arith,
+    append_assoc, append-nil, length-append}
 use Rattle.std.proofs.lemmas.Bool.{eq-eqb, ne_eqb, cond-true, cond-false}
 use Rattle.mail_runs.specs.Timed.{RisesTo}
 use Rattle.mail_post.specs.Times.{HaveMoments, Times, KeepsTime}
@@ -36,13 +37,15 @@ pub timed_none : HaveMoments [] []
 timed_none = record { until = 0; rises = omega arith; takes_rise = omega arith; later = tt }
 
 module _ {M : Type 0} (lane : M → ℕ) where
-  times_snoc : (k : ℕ) (ms : List M) (ts : List ℕ) (m : M) (t : ℕ) → length ts ≡ length ms → times_of lane k (ms ++ m ∷ []) (ts ++ t ∷ []) ≡ times_of lane k ms ts ++ times_of lane k (m ∷ []) (t ∷ [])
+  times_snoc : (k : ℕ) (ms : List M) (ts : List ℕ) (m : M) (t : ℕ) → length ts ≡ length ms
+      → times_of lane k (ms ++ m ∷ []) (ts ++ t ∷ []) ≡ times_of lane k ms ts ++ times_of lane k (m ∷ []) (t ∷ [])
   times_snoc k [] [] m t e = refl
   times_snoc k [] (x ∷ ts) m t e = absurd (omega arith)
   times_snoc k (y ∷ ms) [] m t e = absurd (omega arith)
   times_snoc k (y ∷ ms) (x ∷ ts) m t e =
       let more = times_snoc k ms ts m t (omega arith) in
-      elim (lane y == k) as (λ b. cond b (x ∷ times_of lane k (ms ++ m ∷ []) (ts ++ t ∷ [])) (times_of lane k (ms ++ m ∷ []) (ts ++ t ∷ [])) ≡ cond b (x ∷ times_of lane k ms ts) (times_of lane k ms ts) ++ times_of lane k (m ∷ []) (t ∷ [])) [
+      elim (lane y == k) as (λ b. cond b (x ∷ times_of lane k (ms ++ m ∷ []) (ts ++ t ∷ [])) (times_of lane k (ms ++ m ∷ []) (ts ++ t ∷ []))
+          ≡ cond b (x ∷ times_of lane k ms ts) (times_of lane k ms ts) ++ times_of lane k (m ∷ []) (t ∷ [])) [
         | true ↦ ap (λ l. x ∷ l) more
         | false ↦ more
       ]
@@ -120,15 +123,18 @@ module _ {M : Type 0} (lane : M → ℕ) where
       let len : length all_at ≡ length (got ++ queue) = all_timed room got queue f times h in
       let short : length all_at < room + length times.took_at =
       omega (arith, length-append times.got_at times.queue_at, h.queue_as_many, later_length times.got_at times.took_at h.later, fits) in
-      let snoc : (j : ℕ) → times_of lane j (got ++ (queue ++ m ∷ [])) (times.got_at ++ (times.queue_at ++ t ∷ [])) ≡ times_of lane j (got ++ queue) all_at ++ times_of lane j (m ∷ []) (t ∷ []) =
-      λ j. (λ i. times_of lane j (sym (append_assoc got queue (m ∷ [])) i) (sym (append_assoc times.got_at times.queue_at (t ∷ [])) i)) ∙ times_snoc j (got ++ queue) all_at m t len in record {
+      let snoc : (j : ℕ) → times_of lane j (got ++ (queue ++ m ∷ [])) (times.got_at ++ (times.queue_at ++ t ∷ [])) ≡ times_of lane j (got ++ queue) all_at
+          ++ times_of lane j (m ∷ []) (t ∷ []) =
+      λ j. (λ i. times_of lane j (sym (append_assoc got queue (m ∷ [])) i) (sym (append_assoc times.got_at times.queue_at (t ∷ [])) i))
+          ∙ times_snoc j (got ++ queue) all_at m t len in record {
         got_as_many = h.got_as_many;
         queue_as_many = omega (arith, length-append times.queue_at (t ∷ []), length-append queue (m ∷ []), h.queue_as_many);
         each = λ j. ⊎_elim
             (λ (e : j ≡ k). snoc j ∙ (λ i. h.each j i ++ times_here j m t (is ∙ sym e) i) ∙ subst (λ i. f i ++ t ∷ [] ≡ g i) (sym e) (sym here))
             (λ (n : j ≢ k). snoc j ∙ (λ i. h.each j i ++ times_else j m t (λ e. n (sym e ∙ is)) i) ∙ append-nil (f j) ∙ sym (else j n))
             (same? j k);
-        rises = subst (λ (l : List ℕ). RisesTo 0 t l) (append_assoc times.got_at times.queue_at (t ∷ [])) (rises_snoc 0 times.latest all_at t t h.rises (omega arith) (omega arith));
+        rises = subst (λ (l : List ℕ). RisesTo 0 t l) (append_assoc times.got_at times.queue_at (t ∷ []))
+            (rises_snoc 0 times.latest all_at t t h.rises (omega arith) (omega arith));
         takes_rise = rises_more 0 times.latest times.took_at t h.takes_rise (omega arith);
         later = h.later;
         makes_room = subst (λ (l : List ℕ). MakesRoom room l times.took_at) (append_assoc times.got_at times.queue_at (t ∷ []))
@@ -152,8 +158,10 @@ module _ {M : Type 0} (lane : M → ℕ) where
   take_of room after got queue f times m h [] is = let e = ap length is in absurd (omega (arith, e, h.queue_as_many))
   take_of room after got queue f times m h (s ∷ rest) is =
       let t : ℕ = (times.latest + after) + 1 in
-      let there : (times.got_at ++ s ∷ []) ++ rest ≡ times.got_at ++ times.queue_at = append_assoc times.got_at (s ∷ []) rest ∙ ap (λ l. times.got_at ++ l) (sym is) in
-      let below : s ≤ times.latest = rises_mid 0 times.latest times.got_at s rest (subst (λ (l : List ℕ). RisesTo 0 times.latest (times.got_at ++ l)) is h.rises) in
+      let there : (times.got_at ++ s ∷ []) ++ rest ≡ times.got_at ++ times.queue_at =
+          append_assoc times.got_at (s ∷ []) rest ∙ ap (λ l. times.got_at ++ l) (sym is) in
+      let below : s ≤ times.latest =
+          rises_mid 0 times.latest times.got_at s rest (subst (λ (l : List ℕ). RisesTo 0 times.latest (times.got_at ++ l)) is h.rises) in
       let all : RisesTo 0 times.latest ((times.got_at ++ s ∷ []) ++ rest) = subst (λ (l : List ℕ). RisesTo 0 times.latest l) (sym there) h.rises in record {
         accepted_at = s;
         rest = rest;

@@ -1,5 +1,6 @@
 -- Where nothing goes on, all is finished.
-use Rattle.std.proofs.Common.{◌≡◌, ◌≢◌, ℕ, zero, suc, ◌+◌, ◌<◌, ◌≤◌, List, [], ◌∷◌, ◌++◌, length, drop, map, Option, Some, None, inl, inr, refl, ap, sym, ◌∙◌, subst, arith, append-nil}
+use Rattle.std.proofs.Common.{◌≡◌, ◌≢◌, ℕ, zero, suc, ◌+◌, ◌<◌, ◌≤◌, List, [], ◌∷◌, ◌++◌, length, drop, map, Option, Some, None, inl, inr, refl, ap, sym, ◌∙◌,
+    subst, arith, append-nil}
 use Rattle.std.specs.Prelude.{slice_get, sum_by}
 use Rattle.std.specs.List.{AllByRecursion, range_with_len}
 use Rattle.mail_world.specs.declared.Outcome.{Outcome}
@@ -24,7 +25,8 @@ use Rattle.mail_progress.proofs.Sums.{sum_none}
 use Rattle.mail_progress.proofs.CopiesGiven.{AreSealedFor, AllSealedFor, every_orderly_sealed_for, all_given}
 use Rattle.mail_progress.proofs.Tracked.{copy_at, way_at, AllTracked}
 use Rattle.mail_progress.proofs.Owners.{AllOwned, every_run_owns, none_in_use}
-use Rattle.mail_progress.proofs.Movers.{reached, low_or_full, IsBusy, busy_way, none_found, given_there, nothing_is_stuck, nothing_is_stuck_when_closed}
+use Rattle.mail_progress.proofs.Reached.{reached}
+use Rattle.mail_progress.proofs.Movers.{low_or_full, IsBusy, busy_way, none_found, given_there, nothing_is_stuck, nothing_is_stuck_when_closed}
 
 abbrev pub goes_on : (P : Mover → Type 0) (room : ℕ) (next : ℕ → ℕ) (h : House) → IsMovedBy P room next h → MayGoOn room next h
 goes_on P room next h m = record { event = m.event; goes_on = m.goes_on; in_order = m.in_order; happens = m.happens }
@@ -54,7 +56,8 @@ found_named txn heard p some = by (answer txn heard p) refl
     by None e = let none = none_found (names txn p) heard e in absurd (omega arith)
     by (Some o) e = tt
 
-all_named : (txn : Txn) (heard : List Slip) (a n : ℕ) → ((p : ℕ) → p < a + n → 1 ≤ times_named txn p heard) → AllByRecursion HasOutcome (map (answer txn heard) (range_with_len a n))
+all_named : (txn : Txn) (heard : List Slip) (a n : ℕ) → ((p : ℕ) → p < a + n → 1 ≤ times_named txn p heard)
+    → AllByRecursion HasOutcome (map (answer txn heard) (range_with_len a n))
 all_named txn heard a zero f = tt
 all_named txn heard a (suc n) f = (found_named txn heard a (f a (omega arith)), all_named txn heard (a + 1) n (λ p low. f p (omega arith)))
 
@@ -68,17 +71,22 @@ record IsStill (Movers : ℕ → Mover → Type 0) (room blocks : ℕ) (next : �
   moved : NothingStuck Movers room next h
   still : MayGoOn room next h → ⊥
 
-idle_lane : (Movers : ℕ → Mover → Type 0) (room blocks : ℕ) (next : ℕ → ℕ) (events : List Event) (h : House) → IsStill Movers room blocks next events h → (k : ℕ) (lane : Lane) → LaneIs h k lane → lane.holds ≡ []
-idle_lane Movers room blocks next events h s k lane at = no_holds lane.holds (λ some. s.still (goes_on (Movers k) room next h (s.moved.to_offer k lane at some)))
+idle_lane : (Movers : ℕ → Mover → Type 0) (room blocks : ℕ) (next : ℕ → ℕ) (events : List Event) (h : House) → IsStill Movers room blocks next events h
+    → (k : ℕ) (lane : Lane) → LaneIs h k lane → lane.holds ≡ []
+idle_lane Movers room blocks next events h s k lane at =
+    no_holds lane.holds (λ some. s.still (goes_on (Movers k) room next h (s.moved.to_offer k lane at some)))
 
-all_collected : (Movers : ℕ → Mover → Type 0) (room blocks : ℕ) (next : ℕ → ℕ) (events : List Event) (h : House) → IsStill Movers room blocks next events h → (k : ℕ) (lane : Lane) → LaneIs h k lane → length lane.slips ≤ lane.collected
+all_collected : (Movers : ℕ → Mover → Type 0) (room blocks : ℕ) (next : ℕ → ℕ) (events : List Event) (h : House) → IsStill Movers room blocks next events h
+    → (k : ℕ) (lane : Lane) → LaneIs h k lane → length lane.slips ≤ lane.collected
 all_collected Movers room blocks next events h s k lane at = elim (low_or_full lane.collected (length lane.slips)) [
   | inl less ↦ absurd (s.still (goes_on (Movers k) room next h (s.moved.to_collect k lane at less)))
   | inr all ↦ all
 ]
 
-none_on_way : (Movers : ℕ → Mover → Type 0) (room blocks : ℕ) (next : ℕ → ℕ) (events : List Event) (h : House) → IsStill Movers room blocks next events h → (k number p : ℕ) → way_at k number p h.boxes ≡ 0
-none_on_way Movers room blocks next events h s k number p = elim (search_list (λ w box. IsBusy box) (λ w box. on_way box ≡ []) h.boxes (λ w box is. busy_way box)) [
+none_on_way : (Movers : ℕ → Mover → Type 0) (room blocks : ℕ) (next : ℕ → ℕ) (events : List Event) (h : House) → IsStill Movers room blocks next events h
+    → (k number p : ℕ) → way_at k number p h.boxes ≡ 0
+none_on_way Movers room blocks next events h s k number p =
+    elim (search_list (λ w box. IsBusy box) (λ w box. on_way box ≡ []) h.boxes (λ w box is. busy_way box)) [
   | inl there ↦ absurd (busy there.0 there.1 there.2 there.3)
   | inr none ↦ sum_none on_way (copy_at k number p) h.boxes (λ w box is. ap (sum_by (copy_at k number p)) (none w box is))
 ]
@@ -88,17 +96,20 @@ none_on_way Movers room blocks next events h s k number p = elim (search_list (�
     busy w box at (inr hand) = s.still (goes_on (TheWorker w) room next h (s.moved.in_hand w box hand.0 at hand.1))
 
 -- each copy that was given away was heard of
-heard_of : (Movers : ℕ → Mover → Type 0) (room blocks : ℕ) (next : ℕ → ℕ) (events : List Event) (h : House) → IsStill Movers room blocks next events h → (k : ℕ) (lane : Lane) (i place : ℕ) (t : SealedMessage) → LaneIs h k lane → slice_get lane.messages i ≡ Some t
+heard_of : (Movers : ℕ → Mover → Type 0) (room blocks : ℕ) (next : ℕ → ℕ) (events : List Event) (h : House) → IsStill Movers room blocks next events h
+    → (k : ℕ) (lane : Lane) (i place : ℕ) (t : SealedMessage) → LaneIs h k lane → slice_get lane.messages i ≡ Some t
     → place < t.offered → 1 ≤ times_named (txn_of k t.number) place lane.heard
 heard_of Movers room blocks next events h s k lane i place t at is low =
     let number = t.number in
     let given = (s.tracked k lane at).given number place in
     let some = count_some (is_given number place) lane.messages i t is (given_there t place low) in
-    let no_slips : times_named (txn_of k number) place (drop lane.collected lane.slips) ≡ 0 = ap (times_named (txn_of k number) place) (drop_all lane.collected lane.slips (all_collected Movers room blocks next events h s k lane at)) in
+    let no_slips : times_named (txn_of k number) place (drop lane.collected lane.slips) ≡ 0 =
+        ap (times_named (txn_of k number) place) (drop_all lane.collected lane.slips (all_collected Movers room blocks next events h s k lane at)) in
     let no_way = none_on_way Movers room blocks next events h s k number place in
     omega arith
 
-finished_by : (Movers : ℕ → Mover → Type 0) (room blocks : ℕ) (next : ℕ → ℕ) (events : List Event) (h : House) → IsStill Movers room blocks next events h → IsFinished blocks events h
+finished_by : (Movers : ℕ → Mover → Type 0) (room blocks : ℕ) (next : ℕ → ℕ) (events : List Event) (h : House) → IsStill Movers room blocks next events h
+    → IsFinished blocks events h
 finished_by Movers room blocks next events h s = record {
   no_draft = λ k lane at. no_key lane.draft (λ key e. s.still (goes_on (TheLane k) room next h (s.moved.draft k lane key at e)));
   none_to_offer = λ k lane at. idle_lane Movers room blocks next events h s k lane at;
@@ -111,7 +122,8 @@ finished_by Movers room blocks next events h s = record {
   given_away = λ k lane at.
       let idle : to_give lane.holds ≡ 0 = ap to_give (idle_lane Movers room blocks next events h s k lane at) in
       all_given lane.messages (copies_sealed k events) (subst (λ w. AreSealedFor lane.messages w (copies_sealed k events)) idle (s.given k lane at));
-  answered = λ k lane i t at is. all_named (txn_of k t.number) lane.heard 0 t.offered (λ p low. heard_of Movers room blocks next events h s k lane i p t at is (omega arith));
+  answered = λ k lane i t at is. all_named (txn_of k t.number) lane.heard 0 t.offered
+      (λ p low. heard_of Movers room blocks next events h s k lane i p t at is (omega arith));
   gathered = λ k lane at. all_answered lane.gather.places (λ p e. s.still (goes_on _ room next h (s.moved.unanswered k lane p at e)));
   reclaimed = λ i slot bytes its weight at e. s.still (goes_on _ room next h (s.moved.sealed i slot bytes its weight at e));
   all_free = λ x.
@@ -125,10 +137,12 @@ pub ends_finished : EndsFinished
 ends_finished room blocks start run is r o some capable next all still = let h = last_house start run in elim capable [
   | inl capacity ↦ finished_by (LaneOrWorker next h) room blocks next (events_of run) h
       (known (LaneOrWorker next h) (nothing_is_stuck room blocks start run is r o some capacity next all))
-  | inr shut ↦ finished_by TheLane room blocks next (events_of run) (last_house start run) (known TheLane (nothing_is_stuck_when_closed room blocks start run is r o some next all shut))
+  | inr shut ↦ finished_by TheLane room blocks next (events_of run) (last_house start run)
+      (known TheLane (nothing_is_stuck_when_closed room blocks start run is r o some next all shut))
 ]
   where
-    known : (Movers : ℕ → Mover → Type 0) → NothingStuck Movers room next (last_house start run) → IsStill Movers room blocks next (events_of run) (last_house start run)
+    known : (Movers : ℕ → Mover → Type 0) → NothingStuck Movers room next (last_house start run)
+        → IsStill Movers room blocks next (events_of run) (last_house start run)
     known Movers moved =
         let f = reached room blocks start run is r o some in
         record {

@@ -22,7 +22,8 @@ record IsRunTo (room : ℕ) (start : House) (run : List Happened) (events : List
   tells : events_of run ≡ events
   there : last_house start run ≡ h
 
-one_more : (room : ℕ) (start : House) (run : List Happened) (event : Event) (new : House) → Run start run → IsOrderly room start run → Step (last_house start run) event new → IsInOrder room (last_house start run) event
+one_more : (room : ℕ) (start : House) (run : List Happened) (event : Event) (new : House) → Run start run → IsOrderly room start run
+    → Step (last_house start run) event new → IsInOrder room (last_house start run) event
     → IsRunTo room start (run ++ record { event = event; house = new } ∷ []) (events_of run ++ event ∷ []) new
 one_more room start [] event new r o st order = record { runs = (st, tt); orderly = (order, tt); tells = refl; there = refl }
 one_more room start (x ∷ xs) event new r o st order =
@@ -39,12 +40,15 @@ still_can start h event new st (inr shut) = inr (closed_stays h (record { event 
 
 -- the houses of such runs in which P holds finish
 abbrev FinishWhere : ℕ → ℕ → House → (House → Type 0) → Type 0
-FinishWhere room blocks start P = (run : List Happened) → Run start run → IsOrderly room start run → let h = last_house start run in CanOffer start h → P h → Finishes room blocks (events_of run) h
+FinishWhere room blocks start P = (run : List Happened) → Run start run → IsOrderly room start run → let h =
+    last_house start run in CanOffer start h → P h → Finishes room blocks (events_of run) h
 
-finishes_at : (room blocks : ℕ) (start : House) (P : House → Type 0) → FinishWhere room blocks start P → (events : List Event) (h : House) (run : List Happened) → IsRunTo room start run events h → CanOffer start h → P h → Finishes room blocks events h
+finishes_at : (room blocks : ℕ) (start : House) (P : House → Type 0) → FinishWhere room blocks start P → (events : List Event) (h : House) (run : List Happened)
+    → IsRunTo room start run events h → CanOffer start h → P h → Finishes room blocks events h
 finishes_at room blocks start P finish events h run to can holds =
     subst (Finishes room blocks events) to.there
-    (subst (λ es. Finishes room blocks es (last_house start run)) to.tells (finish run to.runs to.orderly (subst (CanOffer start) (sym to.there) can) (subst P (sym to.there) holds)))
+    (subst (λ es. Finishes room blocks es (last_house start run)) to.tells
+        (finish run to.runs to.orderly (subst (CanOffer start) (sym to.there) can) (subst P (sym to.there) holds)))
 
 abbrev FewerCopies : ℕ → ℕ → House → Type 0
 FewerCopies room n h = copies_left room h < n
@@ -52,7 +56,8 @@ FewerCopies room n h = copies_left room h < n
 abbrev FewerSteps : ℕ → ℕ → ℕ → ℕ → House → Type 0
 FewerSteps room blocks n m h = (copies_left room h ≤ n) × (steps_left blocks room 0 h < m)
 
-by_steps : (room blocks : ℕ) (start : House) → IsStart blocks start → 1 ≤ room → (n : ℕ) → FinishWhere room blocks start (FewerCopies room n) → (m : ℕ) → FinishWhere room blocks start (FewerSteps room blocks n m)
+by_steps : (room blocks : ℕ) (start : House) → IsStart blocks start → 1 ≤ room → (n : ℕ) → FinishWhere room blocks start (FewerCopies room n) → (m : ℕ)
+    → FinishWhere room blocks start (FewerSteps room blocks n m)
 by_steps room blocks start is some n fewer zero run r o can less = let low = less.1 in absurd (omega arith)
 by_steps room blocks start is some n fewer (suc m) run r o can less =
     let h = last_house start run in
@@ -72,18 +77,22 @@ by_copies room blocks start is some (suc n) run r o can less =
     by_steps room blocks start is some n (by_copies room blocks start is some n) (suc (steps_left blocks room 0 h)) run r o can (omega arith, omega arith)
 
 pub always_finishes : AlwaysFinishes
-always_finishes room blocks start run is r o some can = by_copies room blocks start is some (suc (copies_left room (last_house start run))) run r o can (omega arith)
+always_finishes room blocks start run is r o some can =
+    by_copies room blocks start is some (suc (copies_left room (last_house start run))) run r o can (omega arith)
 
 -- the first steps, one after the other
 abbrev FirstsFrom : ℕ → ℕ → (House → ℕ → ℕ) → List Event → House → Type 0
-FirstsFrom room blocks next events h = (rest : List Happened) × Run h rest × IsOrderly room h rest × AreFirst room next h rest × IsFinished blocks (events ++ events_of rest) (last_house h rest)
+FirstsFrom room blocks next events h =
+    (rest : List Happened) × Run h rest × IsOrderly room h rest × AreFirst room next h rest × IsFinished blocks (events ++ events_of rest) (last_house h rest)
 
-one_first : (room blocks : ℕ) (next : House → ℕ → ℕ) (events : List Event) (h : House) (event : Event) (new : House) → IsFirst room (next h) h event → Step h event new → FirstsFrom room blocks next (events ++ event ∷ []) new → FirstsFrom room blocks next events h
+one_first : (room blocks : ℕ) (next : House → ℕ → ℕ) (events : List Event) (h : House) (event : Event) (new : House) → IsFirst room (next h) h event
+    → Step h event new → FirstsFrom room blocks next (events ++ event ∷ []) new → FirstsFrom room blocks next events h
 one_first room blocks next events h event new first st rest =
     let finished = subst (λ es. IsFinished blocks es (last_house new rest.0)) (append_assoc events (event ∷ []) (events_of rest.0)) rest.4 in
     (record { event = event; house = new } ∷ rest.0, (st, rest.1), (first.in_order, rest.2), (first, rest.3), finished)
 
-firsts : (room blocks : ℕ) (next : House → ℕ → ℕ) (events : List Event) (h : House) → Finishes room blocks events h → AreAlwaysThere next h → FirstsFrom room blocks next events h
+firsts : (room blocks : ℕ) (next : House → ℕ → ℕ) (events : List Event) (h : House) → Finishes room blocks events h → AreAlwaysThere next h
+    → FirstsFrom room blocks next events h
 firsts room blocks next _ _ (WhateverFollows events h tried onward) all = elim (tried (next h) (all [] tt)) [
   | inl finished ↦ ([], tt, tt, tt, subst (λ es. IsFinished blocks es h) (sym (append-nil events)) finished)
   | inr first ↦
@@ -91,7 +100,8 @@ firsts room blocks next _ _ (WhateverFollows events h tried onward) all = elim (
       let new = first.1.happens.0 in
       let st = first.1.happens.1 in
       one_first room blocks next events h event new first.1 st
-      (firsts room blocks next (events ++ event ∷ []) new (onward (next h) event new first.1.goes_on first.1.in_order st) (λ run r. all (record { event = event; house = new } ∷ run) (st, r)))
+      (firsts room blocks next (events ++ event ∷ []) new (onward (next h) event new first.1.goes_on first.1.in_order st)
+          (λ run r. all (record { event = event; house = new } ∷ run) (st, r)))
 ]
 
 pub finishes_in_turn : FinishesInTurn

@@ -28,10 +28,12 @@ record HaveFinished (events : List Event) (lane : Lane) (box : Box) : Type 0 whe
 
 -- what holds of the only element holds of each
 of_only : {A : Type 0} (P : ℕ → A → Type 0) (xs : List A) (x : A) → xs ≡ x ∷ [] → P 0 x → (k : ℕ) (y : A) → slice_get xs k ≡ Some y → P k y
-of_only P xs x one holds zero y at = let its : slice_get (x ∷ []) 0 ≡ Some y = ap (λ zs. slice_get zs 0) (sym one) ∙ at in let same : x ≡ y = cc in subst (P 0) same holds
+of_only P xs x one holds zero y at = let its : slice_get (x ∷ []) 0 ≡ Some y = ap (λ zs. slice_get zs 0) (sym one) ∙ at in let same : x ≡ y =
+    cc in subst (P 0) same holds
 of_only P xs x one holds (suc k) y at = let bad : slice_get (x ∷ []) (suc k) ≡ Some y = ap (λ zs. slice_get zs (suc k)) (sym one) ∙ at in cc
 
-all_finished : (blocks : ℕ) (events : List Event) (h : House) (lane : Lane) (box : Box) → h.lanes ≡ lane ∷ [] → h.boxes ≡ box ∷ [] → AllByRecursion (λ (slot : Slot). slot.held ≡ Free) h.depot.slots
+all_finished : (blocks : ℕ) (events : List Event) (h : House) (lane : Lane) (box : Box) → h.lanes ≡ lane ∷ [] → h.boxes ≡ box ∷ []
+    → AllByRecursion (λ (slot : Slot). slot.held ≡ Free) h.depot.slots
     → ((x : ℕ) → occurrences x h.depot.free ≡ (if nat_lt x blocks then 1 else 0)) → HaveFinished events lane box → IsFinished blocks events h
 all_finished blocks events h lane box lanes boxes slots free f = record {
   no_draft = of_only (λ k (x : Lane). x.draft ≡ None) h.lanes lane lanes f.no_draft;
@@ -42,18 +44,22 @@ all_finished blocks events h lane box lanes boxes slots free f = record {
   given_away = of_only (λ k (x : Lane). map (λ (t : SealedMessage). t.offered) x.messages ≡ copies_sealed k events) h.lanes lane lanes f.given_away;
   answered = λ k x i t at is.
       each_at (λ (u : SealedMessage). AllByRecursion HasOutcome (answers (txn_of k u.number) u.offered x.heard)) x.messages i t
-      (of_only (λ v (y : Lane). AllByRecursion (λ (u : SealedMessage). AllByRecursion HasOutcome (answers (txn_of v u.number) u.offered y.heard)) y.messages) h.lanes lane lanes f.answered k x at) is;
+      (of_only (λ v (y : Lane). AllByRecursion (λ (u : SealedMessage). AllByRecursion HasOutcome (answers (txn_of v u.number) u.offered y.heard)) y.messages)
+          h.lanes lane lanes f.answered k x at) is;
   gathered = of_only (λ k (x : Lane). AllByRecursion HasOutcome x.gather.places) h.lanes lane lanes f.gathered;
-  reclaimed = λ i slot bytes its weight at e. let bad : Free ≡ Sealed bytes its weight = sym (each_at (λ (s : Slot). s.held ≡ Free) h.depot.slots i slot slots at) ∙ e in cc;
+  reclaimed = λ i slot bytes its weight at e. let bad : Free ≡ Sealed bytes its weight =
+      sym (each_at (λ (s : Slot). s.held ≡ Free) h.depot.slots i slot slots at) ∙ e in cc;
   all_free = free;
 }
 
 pub delivers_all : IsFinished 2 (events_of delivered.one_run) delivered.house₁₂
 unfolding everything
 delivers_all = all_finished 2 (events_of delivered.one_run) delivered.house₁₂ _ _ refl refl (refl, tt) each_once
-    (record { no_draft = refl; none_to_offer = refl; collected = refl; given_away = refl; answered = ((tt, tt), tt); gathered = (tt, tt); drained = refl; free_hand = refl })
+    (record { no_draft = refl; none_to_offer = refl; collected = refl; given_away = refl; answered = ((tt, tt), tt); gathered = (tt, tt); drained = refl;
+        free_hand = refl })
 
 pub fails_all : IsFinished 2 (events_of failed.one_run) failed.house₁₅
 unfolding everything
 fails_all = all_finished 2 (events_of failed.one_run) failed.house₁₅ _ _ refl refl (refl, (refl, tt)) each_once
-    (record { no_draft = refl; none_to_offer = refl; collected = refl; given_away = refl; answered = ((tt, (tt, tt)), tt); gathered = (tt, (tt, tt)); drained = refl; free_hand = refl })
+    (record { no_draft = refl; none_to_offer = refl; collected = refl; given_away = refl; answered = ((tt, (tt, tt)), tt); gathered = (tt, (tt, tt));
+        drained = refl; free_hand = refl })

@@ -5,7 +5,7 @@ use Rattle.mail_world.specs.Runs.{last_house}
 use Rattle.mail_progress.specs.GoingOn.{MayGoOn}
 use Rattle.mail_progress.specs.NothingStuck.{AreThere}
 use Rattle.mail_progress.specs.InTurn.{TriedInTurn}
-use Rattle.mail_progress.proofs.Movers.{IsReached, reached}
+use Rattle.mail_progress.proofs.Reached.{IsReached, reached}
 use Rattle.mail_progress.proofs.AllFinished.{ends_finished}
 use Rattle.mail_progress.proofs.Ranks.{NoneBelow, HasFirst, next_rank, within_ten}
 use Rattle.mail_progress.proofs.LaneRanks.{drafts_decided, splits_decided, offers_decided, collects_decided, reclaims_decided}

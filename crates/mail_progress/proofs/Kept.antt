@@ -5,7 +5,8 @@ use Rattle.std.specs.List.{AllByRecursion}
 use Rattle.std.proofs.lemmas.List.{length-drop}
 use Rattle.std.proofs.lemmas.Option.{slice_get_within}
 use Rattle.mail_world.specs.declared.Event.{Event}
-use Rattle.mail_world.specs.declared.Event.TheVariants.{Begin, Put, Cancel, Seal, Split, Offer, HandBack, Collect, Take, Write, Sync, Release, GiveSlip, Reclaim, Close}
+use Rattle.mail_world.specs.declared.Event.TheVariants.{Begin, Put, Cancel, Seal, Split, Offer, HandBack, Collect, Take, Write, Sync, Release, GiveSlip,
+    Reclaim, Close}
 use Rattle.mail_world.specs.House.{Hold, Post, Copy, Box, Lane, House, IsFreshBox, IsFreshLane, IsStart}
 use Rattle.mail_world.specs.Events.{Step, LaneIs, BoxIs}
 use Rattle.mail_world.specs.Runs.{Happened, Run, last_house}
@@ -91,7 +92,8 @@ box_right h new f box r = record {
 }
 
 -- a lane changes, and perhaps a mailbox
-kept_lane : (h new : House) (k : ℕ) (old next : Lane) → IsKept h → ((note : _) → size new note ≡ size h note) → LaneIs h k old → new.boxes ≡ h.boxes → new.lanes ≡ slice_set h.lanes k next
+kept_lane : (h new : House) (k : ℕ) (old next : Lane) → IsKept h → ((note : _) → size new note ≡ size h note) → LaneIs h k old → new.boxes ≡ h.boxes
+    → new.lanes ≡ slice_set h.lanes k next
     → (AllByRecursion IsSome old.holds → AllByRecursion IsSome next.holds) → IsKept new
 kept_lane h new k old next s sizes was boxes lanes ok =
     let P : Lane → Type 0 = λ lane. AllByRecursion IsSome lane.holds in
@@ -110,28 +112,33 @@ kept_none h new s sizes boxes lanes =
       lanes = subst (AllByRecursion P) (sym lanes) s.lanes;
     }
 
-kept_box : (h new : House) (w : ℕ) (old next : Box) → IsKept h → ((note : _) → size new note ≡ size h note) → BoxIs h w old → new.lanes ≡ h.lanes → new.boxes ≡ slice_set h.boxes w next → (IsBoxRight new old → IsBoxRight new next) → IsKept new
+kept_box : (h new : House) (w : ℕ) (old next : Box) → IsKept h → ((note : _) → size new note ≡ size h note) → BoxIs h w old → new.lanes ≡ h.lanes
+    → new.boxes ≡ slice_set h.boxes w next → (IsBoxRight new old → IsBoxRight new next) → IsKept new
 kept_box h new w old next s sizes was lanes boxes ok =
     let P : Lane → Type 0 = λ lane. AllByRecursion IsSome lane.holds in
     let f : Follows h new = record { sizes = sizes; stay = stay_same h.lanes new.lanes lanes } in
     record {
       boxes = subst (AllByRecursion (IsBoxRight new)) (sym boxes)
-          (all_set (IsBoxRight new) h.boxes w next (weaken (IsBoxRight h) (IsBoxRight new) (box_right h new f) h.boxes s.boxes) (ok (box_right h new f old (each_at (IsBoxRight h) h.boxes w old s.boxes was))));
+          (all_set (IsBoxRight new) h.boxes w next (weaken (IsBoxRight h) (IsBoxRight new) (box_right h new f) h.boxes s.boxes)
+              (ok (box_right h new f old (each_at (IsBoxRight h) h.boxes w old s.boxes was))));
       lanes = subst (AllByRecursion P) (sym lanes) s.lanes;
     }
 
-kept_both : (h new : House) (w : ℕ) (old next : Box) (k : ℕ) (was after : Lane) → IsKept h → ((note : _) → size new note ≡ size h note) → BoxIs h w old → LaneIs h k was → new.boxes ≡ slice_set h.boxes w next → new.lanes ≡ slice_set h.lanes k after
+kept_both : (h new : House) (w : ℕ) (old next : Box) (k : ℕ) (was after : Lane) → IsKept h → ((note : _) → size new note ≡ size h note) → BoxIs h w old
+    → LaneIs h k was → new.boxes ≡ slice_set h.boxes w next → new.lanes ≡ slice_set h.lanes k after
     → (IsBoxRight new old → IsBoxRight new next) → (AllByRecursion IsSome was.holds → AllByRecursion IsSome after.holds) → IsKept new
 kept_both h new w old next k was after s sizes there here boxes lanes ok fine =
     let P : Lane → Type 0 = λ lane. AllByRecursion IsSome lane.holds in
     let f : Follows h new = record { sizes = sizes; stay = stay_set h.lanes new.lanes k was after here lanes } in
     record {
       boxes = subst (AllByRecursion (IsBoxRight new)) (sym boxes)
-          (all_set (IsBoxRight new) h.boxes w next (weaken (IsBoxRight h) (IsBoxRight new) (box_right h new f) h.boxes s.boxes) (ok (box_right h new f old (each_at (IsBoxRight h) h.boxes w old s.boxes there))));
+          (all_set (IsBoxRight new) h.boxes w next (weaken (IsBoxRight h) (IsBoxRight new) (box_right h new f) h.boxes s.boxes)
+              (ok (box_right h new f old (each_at (IsBoxRight h) h.boxes w old s.boxes there))));
       lanes = subst (AllByRecursion P) (sym lanes) (all_set P h.lanes k after s.lanes (fine (each_at P h.lanes k was s.lanes here)));
     }
 
-hand_of : (h : House) (box : Box) (copy : Copy) → box.hand ≡ Some copy → HandIsRight h box.hand → HasLane h.lanes copy.post.note.txn.lane × (copy.written ≤ size h copy.post.note)
+hand_of : (h : House) (box : Box) (copy : Copy) → box.hand ≡ Some copy → HandIsRight h box.hand
+    → HasLane h.lanes copy.post.note.txn.lane × (copy.written ≤ size h copy.post.note)
 hand_of h box copy e r = subst (HandIsRight h) e r
 
 pub kept_step : (h : House) (e : Event) (new : House) → IsKept h → Step h e new → IsKept new
@@ -139,36 +146,47 @@ kept_step h (Begin k) new s st = subst IsKept (sym st.after) (kept_lane h _ k st
 kept_step h (Put k bytes) new s st = subst IsKept (sym st.after) (kept_none h _ s (λ note. refl) refl refl)
 kept_step h (Cancel k) new s st = subst IsKept (sym st.after) (kept_lane h _ k st.lane _ s (λ note. refl) st.is refl refl (λ ok. ok))
 kept_step h (Seal k n) new s st =
-    subst IsKept (sym st.after) (kept_lane h _ k st.lane _ s (λ note. refl) st.is refl refl (λ ok. all_more IsSome st.lane.holds (record { key = st.key; weight = n }) ok st.some))
+    subst IsKept (sym st.after) (kept_lane h _ k st.lane _ s (λ note. refl) st.is refl refl
+        (λ ok. all_more IsSome st.lane.holds (record { key = st.key; weight = n }) ok st.some))
 kept_step h (Split k i) new s st =
     let rest : Hold = record { key = st.key; weight = st.weight } in
     let one : Hold = record { key = st.key; weight = 1 } in
-    subst IsKept (sym st.after) (kept_lane h _ k st.lane _ s (λ note. refl) st.is refl refl (λ ok. all_more IsSome (slice_set st.lane.holds i rest) one (all_set IsSome st.lane.holds i rest ok st.above) (omega arith)))
+    subst IsKept (sym st.after) (kept_lane h _ k st.lane _ s (λ note. refl) st.is refl refl
+        (λ ok. all_more IsSome (slice_set st.lane.holds i rest) one (all_set IsSome st.lane.holds i rest ok st.above) (omega arith)))
 kept_step h (Offer k note) new s st =
     subst IsKept (sym st.after) (kept_both h _ note.mailbox st.box _ k st.lane _ s (λ note. refl) st.channel st.is refl refl
     (λ ok. record {
-      posts = all_more (OfLanes _) st.box.accepted (record { note = note; key = st.key }) ok.posts (subst (HasLane _) (sym st.own) (_, set_at h.lanes k _ st.lane st.is));
+      posts = all_more (OfLanes _) st.box.accepted (record { note = note; key = st.key }) ok.posts
+          (subst (HasLane _) (sym st.own) (_, set_at h.lanes k _ st.lane st.is));
       hand = ok.hand;
       prefix = let l = length-append st.box.accepted (record { note = note; key = st.key } ∷ []) in let low = ok.prefix in omega arith;
     })
     (λ ok. all_remove IsSome st.lane.holds st.at ok))
-kept_step h (HandBack k i b) new s st = subst IsKept (sym st.after) (kept_lane h _ k st.lane _ s (λ note. refl) st.is refl refl (λ ok. all_remove IsSome st.lane.holds i ok))
+kept_step h (HandBack k i b) new s st =
+    subst IsKept (sym st.after) (kept_lane h _ k st.lane _ s (λ note. refl) st.is refl refl (λ ok. all_remove IsSome st.lane.holds i ok))
 kept_step h (Collect k) new s st = subst IsKept (sym st.after) (kept_lane h _ k st.lane _ s (λ note. refl) st.is refl refl (λ ok. ok))
 kept_step h (Take w) new s st =
     subst IsKept (sym st.after) (kept_box h _ w st.box _ s (λ note. refl) st.is refl refl
-    (λ ok. record { posts = ok.posts; hand = (each_at (OfLanes h.lanes) st.box.accepted st.box.taken st.post ok.posts st.oldest, omega arith); prefix = let below = slice_get_within st.box.accepted st.box.taken st.post st.oldest in omega arith }))
+    (λ ok. record { posts = ok.posts; hand = (each_at (OfLanes h.lanes) st.box.accepted st.box.taken st.post ok.posts st.oldest, omega arith);
+        prefix = let below = slice_get_within st.box.accepted st.box.taken st.post st.oldest in omega arith }))
 kept_step h (Write w bytes) new s st =
-    let len : size h st.copy.post.note - st.copy.written ≡ length bytes + length st.more = sym (length-drop st.copy.written _) ∙ ap length st.next ∙ length-append bytes st.more in
+    let len : size h st.copy.post.note - st.copy.written ≡ length bytes + length st.more =
+        sym (length-drop st.copy.written _) ∙ ap length st.next ∙ length-append bytes st.more in
     subst IsKept (sym st.after) (kept_box h _ w st.box _ s (λ note. refl) st.is refl refl
-    (λ ok. let r = hand_of h st.box st.copy st.in_hand ok.hand in let low = r.1 in record { posts = ok.posts; hand = (r.0, omega (arith, len, low)); prefix = ok.prefix }))
+    (λ ok. let r = hand_of h st.box st.copy st.in_hand
+        ok.hand in let low = r.1 in record { posts = ok.posts; hand = (r.0, omega (arith, len, low)); prefix = ok.prefix }))
 kept_step h (Sync w) new s st =
-    subst IsKept (sym st.after) (kept_box h _ w st.box _ s (λ note. refl) st.is refl refl (λ ok. record { posts = ok.posts; hand = hand_of h st.box st.copy st.in_hand ok.hand; prefix = ok.prefix }))
+    subst IsKept (sym st.after) (kept_box h _ w st.box _ s (λ note. refl) st.is refl refl
+        (λ ok. record { posts = ok.posts; hand = hand_of h st.box st.copy st.in_hand ok.hand; prefix = ok.prefix }))
 kept_step h (Release w) new s st =
-    subst IsKept (sym st.after) (kept_box h _ w st.box _ s (λ note. refl) st.is refl refl (λ ok. record { posts = ok.posts; hand = hand_of h st.box st.copy st.in_hand ok.hand; prefix = ok.prefix }))
+    subst IsKept (sym st.after) (kept_box h _ w st.box _ s (λ note. refl) st.is refl refl
+        (λ ok. record { posts = ok.posts; hand = hand_of h st.box st.copy st.in_hand ok.hand; prefix = ok.prefix }))
 kept_step h (GiveSlip w o) new s st =
-    subst IsKept (sym st.after) (kept_both h _ w st.box _ st.copy.post.note.txn.lane st.lane _ s (λ note. refl) st.is st.to refl refl (λ ok. record { posts = ok.posts; hand = tt; prefix = ok.prefix }) (λ ok. ok))
+    subst IsKept (sym st.after) (kept_both h _ w st.box _ st.copy.post.note.txn.lane st.lane _ s (λ note. refl) st.is st.to refl refl
+        (λ ok. record { posts = ok.posts; hand = tt; prefix = ok.prefix }) (λ ok. ok))
 kept_step h (Reclaim slot generation) new s st = subst IsKept (sym st.2) (kept_none h _ s (λ note. refl) refl refl)
-kept_step h (Close b) new s st = subst IsKept (sym st.3) (kept_box h _ b st.0 _ s (λ note. refl) st.1 refl refl (λ ok. record { posts = ok.posts; hand = ok.hand; prefix = ok.prefix }))
+kept_step h (Close b) new s st =
+    subst IsKept (sym st.3) (kept_box h _ b st.0 _ s (λ note. refl) st.1 refl refl (λ ok. record { posts = ok.posts; hand = ok.hand; prefix = ok.prefix }))
 
 kept_run : (h : House) (run : List Happened) → IsKept h → Run h run → IsKept (last_house h run)
 kept_run h [] s r = s
@@ -176,7 +194,9 @@ kept_run h (x ∷ xs) s r = kept_run x.house xs (kept_step h x.event x.house s r
 
 pub kept_start : (blocks : ℕ) (h : House) → IsStart blocks h → IsKept h
 kept_start blocks h start = record {
-  boxes = weaken IsFreshBox (IsBoxRight h) (λ box f. record { posts = subst (AllByRecursion (OfLanes h.lanes)) (sym f.accepted) tt; hand = subst (HandIsRight h) (sym f.hand) tt; prefix = let t = f.taken in omega arith }) h.boxes start.boxes;
+  boxes = weaken IsFreshBox (IsBoxRight h)
+      (λ box f. record { posts = subst (AllByRecursion (OfLanes h.lanes)) (sym f.accepted) tt; hand = subst (HandIsRight h) (sym f.hand) tt;
+      prefix = let t = f.taken in omega arith }) h.boxes start.boxes;
   lanes = weaken IsFreshLane (λ (lane : Lane). AllByRecursion IsSome lane.holds) (λ lane f. subst (AllByRecursion IsSome) (sym f.holds) tt) h.lanes start.lanes;
 }
 

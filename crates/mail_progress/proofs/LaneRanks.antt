@@ -1,5 +1,6 @@
 -- The steps of lanes, by rank: one of the rank goes on, or none does.
-use Rattle.std.proofs.Common.{◌≡◌, ◌≢◌, ◌⊎◌, ℕ, zero, suc, ◌+◌, ◌<◌, ◌≤◌, List, [], ◌∷◌, length, Bool, true, false, Option, Some, None, inl, inr, refl, ap, sym, ◌∙◌, subst, arith}
+use Rattle.std.proofs.Common.{◌≡◌, ◌≢◌, ◌⊎◌, ℕ, zero, suc, ◌+◌, ◌<◌, ◌≤◌, List, [], ◌∷◌, length, Bool, true, false, Option, Some, None, inl, inr, refl, ap, sym,
+    ◌∙◌, subst, arith}
 use Rattle.std.specs.Prelude.{slice_get, IfSome}
 use Rattle.std.proofs.lemmas.Option.{slice_get_within}
 use Rattle.std.proofs.Math.Bool.{Bool-discrete}
@@ -17,7 +18,8 @@ use Rattle.mail_progress.specs.GoingOn.{GoesOn}
 use Rattle.mail_progress.specs.NothingStuck.{AnyHolder, TheLane, AreThere}
 use Rattle.mail_progress.specs.InTurn.{rank}
 use Rattle.mail_progress.proofs.Search.{search_for}
-use Rattle.mail_progress.proofs.Movers.{IsReached, some_holds, draft_moves, split_moves, offer_moves, back_moves, collect_moves, reclaim_moves}
+use Rattle.mail_progress.proofs.Reached.{IsReached}
+use Rattle.mail_progress.proofs.Movers.{some_holds, draft_moves, split_moves, offer_moves, back_moves, collect_moves, reclaim_moves}
 use Rattle.mail_progress.proofs.AllFinished.{goes_on}
 use Rattle.mail_progress.proofs.Ranks.{HasRank, IsDecided, NoneBelow}
 
@@ -41,7 +43,8 @@ no_draft h none (Seal k n) happens e = none k happens.1.lane happens.1.is (happe
 no_draft h none (Cancel k) happens e = none k happens.1.lane happens.1.is (happens.1.key, happens.1.draft)
 no_draft h none event happens e = absurd (omega arith)
 
-draft_ranks : (room blocks : ℕ) (next : ℕ → ℕ) (h : House) → IsReached room blocks h → (k : ℕ) (lane : Lane) → LaneIs h k lane → HasDraft lane → HasRank room next h 0
+draft_ranks : (room blocks : ℕ) (next : ℕ → ℕ) (h : House) → IsReached room blocks h → (k : ℕ) (lane : Lane) → LaneIs h k lane → HasDraft lane
+    → HasRank room next h 0
 unfolding draft_moves
 draft_ranks room blocks next h f k lane at draft = (goes_on (TheLane k) room next h (draft_moves room blocks next h f k lane draft.0 at draft.1), refl)
 
@@ -111,25 +114,31 @@ has_copy next h all k lane at = elim (some_holds lane) [
 some_of : {A : Type 0} (xs : List A) (i : ℕ) (x : A) → slice_get xs i ≡ Some x → xs ≢ []
 some_of xs i x at e = let low = slice_get_within xs i x at in let none : length xs ≡ 0 = ap length e in absurd (omega arith)
 
-no_copy : (next : ℕ → ℕ) (h : House) (room : ℕ) → NoLane h (HasCopyToGive next h) → (event : Event) → GoesOn next h event → IsInOrder room h event → MayHappen h event → rank event ≡ 2 → ⊥
+no_copy : (next : ℕ → ℕ) (h : House) (room : ℕ) → NoLane h (HasCopyToGive next h) → (event : Event) → GoesOn next h event → IsInOrder room h event
+    → MayHappen h event → rank event ≡ 2 → ⊥
 no_copy next h room none (Offer k note) g o happens e =
     let st = happens.1 in
     let low : not_taken st.box < h.capacity = subst (λ b. IfSome b (λ (box : Box). not_taken box < h.capacity)) st.channel o in
-    none k st.lane st.is (record { some = some_of st.lane.holds st.at _ st.copy.hold; box = st.box; channel = ap (slice_get h.boxes) (sym g) ∙ st.channel; ready = inr low })
+    none k st.lane st.is (record { some = some_of st.lane.holds st.at _ st.copy.hold; box = st.box; channel = ap (slice_get h.boxes) (sym g)
+        ∙ st.channel; ready = inr low })
 no_copy next h room none (HandBack k i b) g o happens e =
     let st = happens.1 in
-    none k st.lane st.is (record { some = some_of st.lane.holds i _ st.copy.hold; box = g.1.0; channel = ap (slice_get h.boxes) (sym g.0) ∙ g.1.1; ready = inl g.1.2 })
+    none k st.lane st.is (record { some = some_of st.lane.holds i _ st.copy.hold; box = g.1.0; channel = ap (slice_get h.boxes) (sym g.0)
+        ∙ g.1.1; ready = inl g.1.2 })
 no_copy next h room none event g o happens e = absurd (omega arith)
 
-one_ranks : (room blocks : ℕ) (next : ℕ → ℕ) (h : House) → IsReached room blocks h → (k : ℕ) (lane : Lane) (hold : Hold) (box : Box) → LaneIs h k lane → slice_get lane.holds 0 ≡ Some hold → hold.weight ≡ 1
+one_ranks : (room blocks : ℕ) (next : ℕ → ℕ) (h : House) → IsReached room blocks h → (k : ℕ) (lane : Lane) (hold : Hold) (box : Box) → LaneIs h k lane
+    → slice_get lane.holds 0 ≡ Some hold → hold.weight ≡ 1
     → BoxIs h (next k) box → IsReady h box → (t : Bool) → box.closed ≡ t → HasRank room next h 2
 unfolding back_moves offer_moves
-one_ranks room blocks next h f k lane hold box at there one channel ready true e = (goes_on (TheLane k) room next h (back_moves room blocks next h f k lane hold box at there one channel e), refl)
+one_ranks room blocks next h f k lane hold box at there one channel ready true e =
+    (goes_on (TheLane k) room next h (back_moves room blocks next h f k lane hold box at there one channel e), refl)
 one_ranks room blocks next h f k lane hold box at there one channel (inl closed) false e = cc
 one_ranks room blocks next h f k lane hold box at there one channel (inr low) false e =
     (goes_on (TheLane k) room next h (offer_moves room blocks next h f (omega arith) k lane hold box at there one channel e (omega arith)), refl)
 
-copy_ranks : (room blocks : ℕ) (next : ℕ → ℕ) (h : House) → IsReached room blocks h → NoneBelow room next h 2 → (k : ℕ) (lane : Lane) → LaneIs h k lane → HasCopyToGive next h k lane → HasRank room next h 2
+copy_ranks : (room blocks : ℕ) (next : ℕ → ℕ) (h : House) → IsReached room blocks h → NoneBelow room next h 2 → (k : ℕ) (lane : Lane) → LaneIs h k lane
+    → HasCopyToGive next h k lane → HasRank room next h 2
 copy_ranks room blocks next h f below k lane at has = by lane.holds refl
   where
     weight_by : (hold : Hold) → slice_get lane.holds 0 ≡ Some hold → (n : ℕ) → hold.weight ≡ n → HasRank room next h 2
@@ -143,7 +152,8 @@ copy_ranks room blocks next h f below k lane at has = by lane.holds refl
     by [] e = absurd (has.some e)
     by (hold ∷ holds) e = weight_by hold (ap (λ hs. slice_get hs 0) e) hold.weight refl
 
-pub offers_decided : (room blocks : ℕ) (next : ℕ → ℕ) (h : House) → IsReached room blocks h → AreThere next h → NoneBelow room next h 2 → IsDecided room next h 2
+pub offers_decided : (room blocks : ℕ) (next : ℕ → ℕ) (h : House) → IsReached room blocks h → AreThere next h → NoneBelow room next h 2
+    → IsDecided room next h 2
 offers_decided room blocks next h f all below = elim (search_for (HasCopyToGive next h) h.lanes (has_copy next h all)) [
   | inl there ↦ inl (copy_ranks room blocks next h f below there.0 there.1 there.2 there.3)
   | inr none ↦ inr (λ m e. no_copy next h room none m.event m.goes_on m.in_order m.happens e)
@@ -186,7 +196,8 @@ is_spent i slot = by slot.held refl
     by (Draft bytes its) e = no (λ spent. cc)
     by Retired e = no (λ spent. cc)
 
-no_spent : (h : House) → ((i : ℕ) (slot : Slot) → slice_get h.depot.slots i ≡ Some slot → IsSpent i slot → ⊥) → (event : Event) → MayHappen h event → rank event ≡ 9 → ⊥
+no_spent : (h : House) → ((i : ℕ) (slot : Slot) → slice_get h.depot.slots i ≡ Some slot → IsSpent i slot → ⊥) → (event : Event) → MayHappen h event
+    → rank event ≡ 9 → ⊥
 no_spent h none (Reclaim i generation) happens e =
     let r = happens.1.1 in
     let key : Key = record { slot = i; generation = generation } in

@@ -14,6 +14,7 @@ pub mod CopiesLeft
 pub mod AlwaysFinishes
 pub mod ThereStays
 pub mod Kept
+pub mod Reached
 pub mod Movers
 pub mod Tracked
 pub mod CopiesGiven

@@ -1,5 +1,6 @@
 -- Each event but Begin, and a Put or Write of no bytes, lowers the number of the steps that are left.
-use Rattle.std.proofs.Common.{◌≡◌, ℕ, ◌+◌, ◌-◌, ◌*◌, ◌<◌, ◌≤◌, List, [], ◌∷◌, ◌++◌, length, drop, Bool, true, false, cond, not, ◌||◌, ◌==◌, Some, None, refl, ap, sym, ◌∙◌, subst, arith, add-one, length-append}
+use Rattle.std.proofs.Common.{◌≡◌, ℕ, ◌+◌, ◌-◌, ◌*◌, ◌<◌, ◌≤◌, List, [], ◌∷◌, ◌++◌, length, drop, Bool, true, false, cond, not, ◌||◌, ◌==◌, Some, None, refl,
+    ap, sym, ◌∙◌, subst, arith, add-one, length-append}
 use Rattle.std.specs.Prelude.{slice_get, slice_set, sum_by, remove, nat_lt, if◌then◌else◌}
 use Rattle.std.proofs.lemmas.List.Sums.{sum_by-cons}
 use Rattle.std.proofs.lemmas.List.{length-drop}
@@ -7,7 +8,8 @@ use Rattle.std.proofs.lemmas.Option.{slice_get_within}
 use Rattle.std.proofs.Math.Nat.{mul-le-mul_right}
 use Rattle.mail_world.specs.declared.limits.TheConstants.{BLOCK_SIZE}
 use Rattle.mail_world.specs.declared.Event.{Event}
-use Rattle.mail_world.specs.declared.Event.TheVariants.{Begin, Put, Cancel, Seal, Split, Offer, HandBack, Collect, Take, Write, Sync, Release, GiveSlip, Reclaim, Close}
+use Rattle.mail_world.specs.declared.Event.TheVariants.{Begin, Put, Cancel, Seal, Split, Offer, HandBack, Collect, Take, Write, Sync, Release, GiveSlip,
+    Reclaim, Close}
 use Rattle.mail_world.specs.Slips.{slip_of, own_slip, txn_of, gather_for}
 use Rattle.mail_world.specs.Depot.{Key, Slot, Draft, Sealed, Depot, blocks_for, occurrences, blocks_of, blocks_in_use, HasEachBlockOnce, Puts}
 use Rattle.mail_world.specs.House.{Hold, Post, Copy, Box, House, is_settled}
@@ -16,7 +18,8 @@ use Rattle.mail_world.specs.Runs.{Happened, Run, last_house}
 use Rattle.mail_world.proofs.Depots.{set_at, used, times-append, begins_turn, puts_turn, seals_turn, releases_turn, drops_turn}
 use Rattle.mail_world.proofs.Holds.{drop_get}
 use Rattle.mail_progress.specs.Orderly.{IsInOrder, IsOrderly}
-use Rattle.mail_progress.specs.StepsLeft.{size, steps_of_copy, steps_in_hand, steps_of_one, steps_of_hold, steps_of_lane, steps_of_box, steps_of_slot, steps_left, IsBounded, AreBounded, EachLowers, Ends}
+use Rattle.mail_progress.specs.StepsLeft.{size, steps_of_copy, steps_in_hand, steps_of_one, steps_of_hold, steps_of_lane, steps_of_box, steps_of_slot,
+    steps_left, IsBounded, AreBounded, EachLowers, Ends}
 use Rattle.mail_world.proofs.Holds.{sum_set, sum_remove, part_le}
 use Rattle.mail_progress.proofs.Sums.{sum_last, sum_one_more}
 use Rattle.mail_progress.proofs.Slots.{held_changes, held_goes}
@@ -25,15 +28,21 @@ use Rattle.mail_progress.proofs.Pigeons.{few}
 -- each block stays in one place
 pub each_step : (n : ℕ) (h : House) (e : Event) (new : House) → HasEachBlockOnce n h.depot → Step h e new → HasEachBlockOnce n new.depot
 each_step n h (Begin k) new s st = subst (λ (x : House). HasEachBlockOnce n x.depot) (sym st.after) ((begins_turn h.depot st.key st.depot st.begins).blocks n s)
-each_step n h (Put k bytes) new s st = subst (λ (x : House). HasEachBlockOnce n x.depot) (sym st.after) ((puts_turn h.depot st.key bytes st.depot st.puts).blocks n s)
+each_step n h (Put k bytes) new s st =
+    subst (λ (x : House). HasEachBlockOnce n x.depot) (sym st.after) ((puts_turn h.depot st.key bytes st.depot st.puts).blocks n s)
 each_step n h (Cancel k) new s st =
-    subst (λ (x : House). HasEachBlockOnce n x.depot) (sym st.after) ((drops_turn h.depot st.key Draft st.depot (λ b blocks. refl) (λ b blocks. refl) (λ b blocks e. cc) st.cancels).blocks n s)
-each_step n h (Seal k m) new s st = subst (λ (x : House). HasEachBlockOnce n x.depot) (sym st.after) ((seals_turn h.depot st.key m st.depot st.seals).blocks n s)
-each_step n h (HandBack k i m) new s st = subst (λ (x : House). HasEachBlockOnce n x.depot) (sym st.after) ((releases_turn h.depot st.sealed.key st.depot st.releases).blocks n s)
-each_step n h (Release w) new s st = subst (λ (x : House). HasEachBlockOnce n x.depot) (sym st.after) ((releases_turn h.depot st.copy.post.key st.depot st.releases).blocks n s)
+    subst (λ (x : House). HasEachBlockOnce n x.depot) (sym st.after)
+        ((drops_turn h.depot st.key Draft st.depot (λ b blocks. refl) (λ b blocks. refl) (λ b blocks e. cc) st.cancels).blocks n s)
+each_step n h (Seal k m) new s st =
+    subst (λ (x : House). HasEachBlockOnce n x.depot) (sym st.after) ((seals_turn h.depot st.key m st.depot st.seals).blocks n s)
+each_step n h (HandBack k i m) new s st =
+    subst (λ (x : House). HasEachBlockOnce n x.depot) (sym st.after) ((releases_turn h.depot st.sealed.key st.depot st.releases).blocks n s)
+each_step n h (Release w) new s st =
+    subst (λ (x : House). HasEachBlockOnce n x.depot) (sym st.after) ((releases_turn h.depot st.copy.post.key st.depot st.releases).blocks n s)
 each_step n h (Reclaim slot generation) new s st =
     subst (λ (x : House). HasEachBlockOnce n x.depot) (sym st.2)
-    ((drops_turn h.depot (record { slot = slot; generation = generation }) (λ b blocks. Sealed b blocks 0) st.0 (λ b blocks. refl) (λ b blocks. refl) (λ b blocks e. cc) st.1).blocks n s)
+    ((drops_turn h.depot (record { slot = slot; generation = generation }) (λ b blocks. Sealed b blocks 0) st.0 (λ b blocks. refl) (λ b blocks. refl)
+        (λ b blocks e. cc) st.1).blocks n s)
 each_step n h (Split k i) new s st = subst (λ (x : House). HasEachBlockOnce n x.depot) (sym st.after) s
 each_step n h (Offer k note) new s st = subst (λ (x : House). HasEachBlockOnce n x.depot) (sym st.after) s
 each_step n h (Collect k) new s st = subst (λ (x : House). HasEachBlockOnce n x.depot) (sym st.after) s
@@ -57,7 +66,8 @@ few_blocks n d i slot each at = few n (blocks_of slot.held) (λ x.
 fits_blocks : (n len blocks : ℕ) → blocks ≡ blocks_for len → blocks ≤ n → len ≤ n * BLOCK_SIZE
 fits_blocks n len blocks e le = omega (arith, e, le)
 
-put_fits : (n : ℕ) (d : Depot) (key : Key) (more : List ℕ) (new : Depot) (p : Puts d key more new) → HasEachBlockOnce n new → length (p.bytes ++ more) ≤ n * BLOCK_SIZE
+put_fits : (n : ℕ) (d : Depot) (key : Key) (more : List ℕ) (new : Depot) (p : Puts d key more new) → HasEachBlockOnce n new
+    → length (p.bytes ++ more) ≤ n * BLOCK_SIZE
 put_fits n d key more new p each =
     let slot : Slot = record { generation = key.generation; held = Draft (p.bytes ++ more) (p.blocks ++ p.picked) } in
     let there : slice_get new.slots key.slot ≡ Some slot =
@@ -72,39 +82,46 @@ one_more_weight : (w c : ℕ) → (w + 1) * c ≡ w * c + c
 one_more_weight w c = omega arith
 
 holds_split : (bound : ℕ) (holds : List Hold) (i w : ℕ) (key : Key) → slice_get holds i ≡ Some (record { key = key; weight = w + 1 }) → 1 ≤ w
-    → sum_by (steps_of_hold bound) (slice_set holds i (record { key = key; weight = w }) ++ record { key = key; weight = 1 } ∷ []) < sum_by (steps_of_hold bound) holds
+    → sum_by (steps_of_hold bound) (slice_set holds i (record { key = key; weight = w }) ++ record { key = key; weight = 1 } ∷ [])
+    < sum_by (steps_of_hold bound) holds
 holds_split bound holds i w key at some =
     let rest : Hold = record { key = key; weight = w } in
     let one : Hold = record { key = key; weight = 1 } in
     let c = steps_of_one bound in
     let e : steps_of_hold bound (record { key = key; weight = w + 1 }) ≡ w * c + c - 1 = ap (λ n. n - 1) (one_more_weight w c) in
     let high : c ≤ w * c = some_weight w c some in
-    omega (arith, sum_set (steps_of_hold bound) holds i (record { key = key; weight = w + 1 }) rest at, sum_last (steps_of_hold bound) (slice_set holds i rest) one, e, high)
+    omega (arith, sum_set (steps_of_hold bound) holds i (record { key = key; weight = w + 1 }) rest at,
+        sum_last (steps_of_hold bound) (slice_set holds i rest) one, e, high)
 
-holds_fewer : (bound : ℕ) (holds : List Hold) (i : ℕ) (key : Key) → slice_get holds i ≡ Some (record { key = key; weight = 1 }) → sum_by (steps_of_hold bound) (remove holds i) + (bound + 6) ≡ sum_by (steps_of_hold bound) holds
+holds_fewer : (bound : ℕ) (holds : List Hold) (i : ℕ) (key : Key) → slice_get holds i ≡ Some (record { key = key; weight = 1 })
+    → sum_by (steps_of_hold bound) (remove holds i) + (bound + 6) ≡ sum_by (steps_of_hold bound) holds
 holds_fewer bound holds i key at = omega (arith, sum_remove (steps_of_hold bound) holds i (record { key = key; weight = 1 }) at)
 
 -- the copies that a mailbox has in its channel
 abbrev waiting : House → Box → ℕ
 waiting h box = sum_by (λ (post : Post). steps_of_copy (size h post.note)) (drop box.taken box.accepted)
 
-waiting_offer : (h : House) (box : Box) (post : Post) → sum_by (λ (p : Post). steps_of_copy (size h p.note)) (drop box.taken (box.accepted ++ post ∷ [])) ≤ waiting h box + steps_of_copy (size h post.note)
+waiting_offer : (h : House) (box : Box) (post : Post)
+    → sum_by (λ (p : Post). steps_of_copy (size h p.note)) (drop box.taken (box.accepted ++ post ∷ [])) ≤ waiting h box + steps_of_copy (size h post.note)
 waiting_offer h box post = sum_one_more (λ (p : Post). steps_of_copy (size h p.note)) box.taken box.accepted post
 
 waiting_take : (h : House) (box : Box) (post : Post) → slice_get box.accepted box.taken ≡ Some post
     → waiting h box ≡ steps_of_copy (size h post.note) + sum_by (λ (p : Post). steps_of_copy (size h p.note)) (drop (box.taken + 1) box.accepted)
 waiting_take h box post at =
     let f : Post → ℕ = λ p. steps_of_copy (size h p.note) in
-    ap (sum_by f) (drop_get box.accepted box.taken post at ∙ ap (λ j. post ∷ drop j box.accepted) (sym (add-one box.taken))) ∙ sum_by-cons f post (drop (box.taken + 1) box.accepted)
+    ap (sum_by f) (drop_get box.accepted box.taken post at ∙ ap (λ j. post ∷ drop j box.accepted) (sym (add-one box.taken)))
+        ∙ sum_by-cons f post (drop (box.taken + 1) box.accepted)
 
 -- a copy in hand
-in_hand_by : (h : House) (box : Box) (copy : Copy) → box.hand ≡ Some copy → steps_of_box h box ≡ waiting h box + steps_in_hand h (Some copy) + (if box.closed then 0 else 1)
+in_hand_by : (h : House) (box : Box) (copy : Copy) → box.hand ≡ Some copy
+    → steps_of_box h box ≡ waiting h box + steps_in_hand h (Some copy) + (if box.closed then 0 else 1)
 in_hand_by h box copy e = ap (λ hand. waiting h box + steps_in_hand h hand + (if box.closed then 0 else 1)) e
 
 free_hand_by : (h : House) (box : Box) → box.hand ≡ None → steps_of_box h box ≡ waiting h box + (if box.closed then 0 else 1)
 free_hand_by h box e = ap (λ hand. waiting h box + steps_in_hand h hand + (if box.closed then 0 else 1)) e ∙ (omega arith)
 
-unsettled_steps : (h : House) (copy : Copy) → copy.released ≡ false → is_settled copy ≡ false → steps_in_hand h (Some copy) ≡ (size h copy.post.note - copy.written) + 4
+unsettled_steps : (h : House) (copy : Copy) → copy.released ≡ false → is_settled copy ≡ false
+    → steps_in_hand h (Some copy) ≡ (size h copy.post.note - copy.written) + 4
 unsettled_steps h copy held open' = rw (held, open') refl
 
 released_steps : (h : House) (copy : Copy) → copy.released ≡ true → steps_in_hand h (Some copy) ≡ 2
@@ -117,7 +134,8 @@ held_more h copy e = by (is_settled copy) refl
     by true settled = rw (e, settled) (omega arith)
     by false settled = rw (e, settled) (omega arith)
 
-taken_less : (h : House) (post : Post) (over : Bool) → steps_in_hand h (Some (record { post = post; written = 0; synced = false; over = over; released = false })) < steps_of_copy (size h post.note)
+taken_less : (h : House) (post : Post) (over : Bool)
+    → steps_in_hand h (Some (record { post = post; written = 0; synced = false; over = over; released = false })) < steps_of_copy (size h post.note)
 taken_less h post true = omega arith
 taken_less h post false = omega arith
 
@@ -125,14 +143,16 @@ taken_less h post false = omega arith
 abbrev Left : ℕ → ℕ → ℕ → House → House → Type 0
 Left blocks room bound h new = steps_left blocks room bound new < steps_left blocks room bound h
 
-pub lowers : (blocks room bound : ℕ) (h : House) (e : Event) (new : House) → HasEachBlockOnce blocks h.depot → Step h e new → IsInOrder room h e → IsBounded bound h e → Left blocks room bound h new
+pub lowers : (blocks room bound : ℕ) (h : House) (e : Event) (new : House) → HasEachBlockOnce blocks h.depot → Step h e new → IsInOrder room h e
+    → IsBounded bound h e → Left blocks room bound h new
 lowers blocks room bound h (Begin k) new s st o b = absurd b
 lowers blocks room bound h (Put k bytes) new s st o b =
     let each = (puts_turn h.depot st.key bytes st.depot st.puts).blocks blocks s in
     let p = st.puts in
     let fits = put_fits blocks h.depot st.key bytes st.depot p each in
     let len = length-append p.bytes bytes in
-    let slots = held_changes (steps_of_slot blocks room bound) h.depot st.depot st.key (Draft p.bytes p.blocks) (Draft (p.bytes ++ bytes) (p.blocks ++ p.picked)) p.rest p.draft (λ e. cc) p.after in
+    let slots = held_changes (steps_of_slot blocks room bound) h.depot st.depot st.key (Draft p.bytes p.blocks)
+        (Draft (p.bytes ++ bytes) (p.blocks ++ p.picked)) p.rest p.draft (λ e. cc) p.after in
     subst (Left blocks room bound h) (sym st.after) (omega (arith, slots, len, fits, b))
 lowers blocks room bound h (Cancel k) new s st o b =
     let slots = held_goes (steps_of_slot blocks room bound) refl refl h.depot st.key Draft st.depot st.cancels (λ x y e. cc) in
@@ -140,7 +160,8 @@ lowers blocks room bound h (Cancel k) new s st o b =
     subst (Left blocks room bound h) (sym st.after) (omega (arith, slots, lanes))
 lowers blocks room bound h (Seal k n) new s st o b =
     let p = st.seals in
-    let slots = held_changes (steps_of_slot blocks room bound) h.depot st.depot st.key (Draft p.bytes p.blocks) (Sealed p.bytes p.blocks n) h.depot.free p.draft (λ e. cc) p.after in
+    let slots = held_changes (steps_of_slot blocks room bound) h.depot st.depot st.key (Draft p.bytes p.blocks) (Sealed p.bytes p.blocks n) h.depot.free p.draft
+        (λ e. cc) p.after in
     let hold : Hold = record { key = st.key; weight = n } in
     let more = sum_last (steps_of_hold bound) st.lane.holds hold in
     let most : n * steps_of_one bound ≤ room * steps_of_one bound = mul-le-mul_right (steps_of_one bound) o in
@@ -153,19 +174,24 @@ lowers blocks room bound h (Seal k n) new s st o b =
     subst (Left blocks room bound h) (sym st.after) (omega (arith, slots, more, most, lanes))
 lowers blocks room bound h (Split k i) new s st o b =
     let less = holds_split bound st.lane.holds i st.weight st.key st.hold st.above in
-    let lanes = sum_set (steps_of_lane bound) h.lanes k st.lane (record st.lane { holds = slice_set st.lane.holds i (record { key = st.key; weight = st.weight }) ++ record { key = st.key; weight = 1 } ∷ [] }) st.is in
+    let lanes = sum_set (steps_of_lane bound) h.lanes k st.lane
+        (record st.lane { holds = slice_set st.lane.holds i (record { key = st.key; weight = st.weight }) ++ record { key = st.key; weight = 1 } ∷ [] })
+        st.is in
     subst (Left blocks room bound h) (sym st.after) (omega (arith, less, lanes))
 lowers blocks room bound h (Offer k note) new s st o b =
     let post : Post = record { note = note; key = st.key } in
     let less = holds_fewer bound st.lane.holds st.at st.key st.copy.hold in
-    let lanes = sum_set (steps_of_lane bound) h.lanes k st.lane (without_copy st.lane st.at st.t (sealed_up_to st.key note.txn.number note.message note.place)) st.is in
+    let lanes = sum_set (steps_of_lane bound) h.lanes k st.lane (without_copy st.lane st.at st.t (sealed_up_to st.key note.txn.number note.message note.place))
+        st.is in
     let boxes = sum_set (steps_of_box h) h.boxes note.mailbox st.box (record st.box { accepted = st.box.accepted ++ post ∷ [] }) st.channel in
     subst (Left blocks room bound h) (sym st.after) (omega (arith, less, lanes, boxes, waiting_offer h st.box post, b))
 lowers blocks room bound h (HandBack k i m) new s st o b =
     let r = st.releases in
-    let slots = held_changes (steps_of_slot blocks room bound) h.depot st.depot st.sealed.key (Sealed r.bytes r.blocks (r.weight + 1)) (Sealed r.bytes r.blocks r.weight) h.depot.free r.message (λ e. cc) r.after in
+    let slots = held_changes (steps_of_slot blocks room bound) h.depot st.depot st.sealed.key (Sealed r.bytes r.blocks (r.weight + 1))
+        (Sealed r.bytes r.blocks r.weight) h.depot.free r.message (λ e. cc) r.after in
     let less = holds_fewer bound st.lane.holds i st.sealed.key st.copy.hold in
-    let lanes = sum_set (steps_of_lane bound) h.lanes k st.lane (with_heard (without_copy st.lane i st.t st.sealed) (own_slip k st.sealed.number st.sealed.offered m)) st.is in
+    let lanes = sum_set (steps_of_lane bound) h.lanes k st.lane
+        (with_heard (without_copy st.lane i st.t st.sealed) (own_slip k st.sealed.number st.sealed.offered m)) st.is in
     subst (Left blocks room bound h) (sym st.after) (omega (arith, slots, less, lanes))
 lowers blocks room bound h (Collect k) new s st o b =
     let below = slice_get_within st.lane.slips st.lane.collected st.slip st.oldest in
@@ -174,29 +200,39 @@ lowers blocks room bound h (Collect k) new s st o b =
 lowers blocks room bound h (Take w) new s st o b =
     let over = is_over_quota h st.box st.post.note in
     let boxes = sum_set (steps_of_box h) h.boxes w st.box (with_taken st.box st.post over) st.is in
-    subst (Left blocks room bound h) (sym st.after) (omega (arith, boxes, free_hand_by h st.box st.free_hand, waiting_take h st.box st.post st.oldest, taken_less h st.post over))
+    subst (Left blocks room bound h) (sym st.after)
+        (omega (arith, boxes, free_hand_by h st.box st.free_hand, waiting_take h st.box st.post st.oldest, taken_less h st.post over))
 lowers blocks room bound h (Write w bytes) new s st o b =
     let next : Copy = record st.copy { written = st.copy.written + length bytes } in
-    let len : size h st.copy.post.note - st.copy.written ≡ length bytes + length st.more = sym (length-drop st.copy.written _) ∙ ap length st.next ∙ length-append bytes st.more in
+    let len : size h st.copy.post.note - st.copy.written ≡ length bytes + length st.more =
+        sym (length-drop st.copy.written _) ∙ ap length st.next ∙ length-append bytes st.more in
     let boxes = sum_set (steps_of_box h) h.boxes w st.box (record st.box { spool = st.box.spool ++ bytes; hand = Some next }) st.is in
     subst (Left blocks room bound h) (sym st.after)
-    (omega (arith, boxes, in_hand_by h st.box st.copy st.in_hand, unsettled_steps h st.copy st.held st.unsettled, unsettled_steps h next st.held st.unsettled, len, b))
+    (omega (arith, boxes, in_hand_by h st.box st.copy st.in_hand, unsettled_steps h st.copy st.held st.unsettled, unsettled_steps h next st.held st.unsettled,
+        len, b))
 lowers blocks room bound h (Sync w) new s st o b =
-    let boxes = sum_set (steps_of_box h) h.boxes w st.box (record st.box { settled = st.box.settled + 1; hand = Some (record st.copy { synced = true }) }) st.is in
+    let boxes = sum_set (steps_of_box h) h.boxes w st.box (record st.box { settled = st.box.settled + 1; hand = Some (record st.copy { synced = true }) })
+        st.is in
     let now : steps_in_hand h (Some (record st.copy { synced = true })) ≡ 3 = rw (st.held) refl in
-    subst (Left blocks room bound h) (sym st.after) (omega (arith, boxes, in_hand_by h st.box st.copy st.in_hand, unsettled_steps h st.copy st.held st.unsettled, now))
+    subst (Left blocks room bound h) (sym st.after)
+        (omega (arith, boxes, in_hand_by h st.box st.copy st.in_hand, unsettled_steps h st.copy st.held st.unsettled, now))
 lowers blocks room bound h (Release w) new s st o b =
     let r = st.releases in
-    let slots = held_changes (steps_of_slot blocks room bound) h.depot st.depot st.copy.post.key (Sealed r.bytes r.blocks (r.weight + 1)) (Sealed r.bytes r.blocks r.weight) h.depot.free r.message (λ e. cc) r.after in
-    let boxes = sum_set (steps_of_box h) h.boxes w st.box (record st.box { faulty = st.box.faulty || not (is_settled st.copy); hand = Some (record st.copy { released = true }) }) st.is in
+    let slots = held_changes (steps_of_slot blocks room bound) h.depot st.depot st.copy.post.key (Sealed r.bytes r.blocks (r.weight + 1))
+        (Sealed r.bytes r.blocks r.weight) h.depot.free r.message (λ e. cc) r.after in
+    let boxes = sum_set (steps_of_box h) h.boxes w st.box
+        (record st.box { faulty = st.box.faulty || not (is_settled st.copy); hand = Some (record st.copy { released = true }) }) st.is in
     subst (Left blocks room bound h) (sym st.after) (omega (arith, slots, boxes, in_hand_by h st.box st.copy st.in_hand, held_more h st.copy st.held))
 lowers blocks room bound h (GiveSlip w outcome) new s st o b =
     let len = length-append st.lane.slips (slip_of w st.copy.post.note (outcome_of st.copy) ∷ []) in
-    let lanes = sum_set (steps_of_lane bound) h.lanes st.copy.post.note.txn.lane st.lane (record st.lane { slips = st.lane.slips ++ slip_of w st.copy.post.note (outcome_of st.copy) ∷ [] }) st.to in
+    let lanes = sum_set (steps_of_lane bound) h.lanes st.copy.post.note.txn.lane st.lane
+        (record st.lane { slips = st.lane.slips ++ slip_of w st.copy.post.note (outcome_of st.copy) ∷ [] }) st.to in
     let boxes = sum_set (steps_of_box h) h.boxes w st.box (record st.box { hand = None }) st.is in
-    subst (Left blocks room bound h) (sym st.after) (omega (arith, len, lanes, boxes, in_hand_by h st.box st.copy st.in_hand, released_steps h st.copy st.let_go))
+    subst (Left blocks room bound h) (sym st.after)
+        (omega (arith, len, lanes, boxes, in_hand_by h st.box st.copy st.in_hand, released_steps h st.copy st.let_go))
 lowers blocks room bound h (Reclaim slot generation) new s st o b =
-    let slots = held_goes (steps_of_slot blocks room bound) refl refl h.depot (record { slot = slot; generation = generation }) (λ x y. Sealed x y 0) st.0 st.1 (λ x y e. cc) in
+    let slots = held_goes (steps_of_slot blocks room bound) refl refl h.depot (record { slot = slot; generation = generation }) (λ x y. Sealed x y 0) st.0 st.1
+        (λ x y e. cc) in
     subst (Left blocks room bound h) (sym st.2) (omega (arith, slots))
 lowers blocks room bound h (Close m) new s st o b =
     let open' : ◌≡◌ {A = ℕ} (if st.0.closed then 0 else 1) 1 = rw (st.2) refl in
@@ -208,7 +244,8 @@ pub run_parts : (room : ℕ) (h : House) (before after : List Happened) → Run 
 run_parts room h [] after r o = (tt, tt, r, o)
 run_parts room h (x ∷ xs) after r o = let p = run_parts room x.house xs after r.1 o.1 in ((r.0, p.0), (o.0, p.1), p.2, p.3)
 
-ends_from : (room blocks bound : ℕ) (h : House) (after : List Happened) → HasEachBlockOnce blocks h.depot → Run h after → IsOrderly room h after → AreBounded bound h after
+ends_from : (room blocks bound : ℕ) (h : House) (after : List Happened) → HasEachBlockOnce blocks h.depot → Run h after → IsOrderly room h after
+    → AreBounded bound h after
     → length after + steps_left blocks room bound (last_house h after) ≤ steps_left blocks room bound h
 ends_from room blocks bound h [] s r o b = omega arith
 ends_from room blocks bound h (x ∷ xs) s r o b =

@@ -1,5 +1,6 @@
 -- In an orderly run whatever is under way is moved.
-use Rattle.std.proofs.Common.{◌≡◌, ◌≢◌, ◌⊎◌, ℕ, zero, suc, ◌+◌, ◌-◌, ◌<◌, ◌≤◌, List, [], ◌∷◌, ◌++◌, length, drop, map, Bool, true, false, ◌||◌, Option, Some, None, inl, inr, refl, ap, sym, ◌∙◌, subst, arith, append-nil}
+use Rattle.std.proofs.Common.{◌≡◌, ◌≢◌, ◌⊎◌, ℕ, zero, suc, ◌+◌, ◌-◌, ◌<◌, ◌≤◌, List, [], ◌∷◌, ◌++◌, length, drop, map, Bool, true, false, ◌||◌, Option, Some,
+    None, inl, inr, refl, ap, sym, ◌∙◌, subst, arith, append-nil}
 use Rattle.std.specs.Prelude.{slice_get, flat_map, IfSome, sum_by, count_by, find, option_map, nat_lt, cond}
 use Rattle.std.specs.List.{list_any, range_with_len}
 use Rattle.std.proofs.lemmas.List.Sums.{sum_by-append}
@@ -10,67 +11,35 @@ use Rattle.mail_world.specs.declared.Slip.{Slip}
 use Rattle.mail_world.specs.declared.Txn.{Txn}
 use Rattle.mail_world.specs.Slips.{txn_of, names, times_named, answer, answers}
 use Rattle.mail_world.proofs.GivenAway.{is_given, count-cons, count_some}
-use Rattle.mail_world.proofs.Heard.{every_run_answers}
-use Rattle.mail_world.proofs.LastSeal.{every_run_for_last}
-use Rattle.mail_progress.proofs.Tracked.{way_at, IsTracked, AllTracked, last_there, every_orderly_tracked}
+use Rattle.mail_progress.proofs.Tracked.{way_at, IsTracked, last_there}
 use Rattle.std.proofs.lemmas.Bool.{eq-eqb}
 use Rattle.std.proofs.lemmas.List.{length-drop, drop_all}
 use Rattle.mail_world.specs.declared.Note.{Note}
 use Rattle.mail_world.specs.declared.Event.TheVariants.{Seal, Split, Offer, HandBack, Collect, Take, Write, Sync, Release, GiveSlip, Reclaim}
 use Rattle.mail_world.specs.Records.{record_of}
 use Rattle.mail_world.specs.Depot.{Key, Slot, Sealed, held_under, weight_held, weight_under, given_back, Depot}
-use Rattle.mail_world.specs.House.{Hold, Post, Copy, Box, SealedMessage, Lane, House, is_settled, IsStart}
-use Rattle.mail_world.specs.Events.{MayHappen, LaneIs, BoxIs, outcome_of}
-use Rattle.mail_world.specs.Runs.{Happened, Run, last_house, hold_of, posts_of, is_same_key, weight_of, holds_of, HasHolds, HasAnswers}
+use Rattle.mail_world.specs.House.{Hold, Post, Copy, Box, SealedMessage, Lane, House, is_settled}
+use Rattle.mail_world.specs.Events.{LaneIs, BoxIs, outcome_of}
+use Rattle.mail_world.specs.Runs.{last_house, hold_of, posts_of, is_same_key, weight_of, holds_of}
 use Rattle.mail_world.proofs.Accepted.{each_at}
 use Rattle.mail_world.proofs.Depots.{times-append}
-use Rattle.mail_world.proofs.Holds.{every_run_holds}
 use Rattle.mail_world.proofs.Once.{is_copy}
 use Rattle.mail_world.proofs.OtherSteps.{there_is}
-use Rattle.mail_world.proofs.MayHappen.{seal_happens, release_happens, hand_back_happens}
-use Rattle.mail_progress.specs.Orderly.{uncollected, not_taken, on_way, IsOrderly}
-use Rattle.mail_progress.specs.OrderlyRuns.{SlipsFindRoom}
-use Rattle.mail_progress.specs.NothingStuck.{Mover, AnyHolder, IsMovedBy, TheLane, TheWorker, LaneOrWorker, HasToOffer, IsOpenAndFull, IsAtWork, HasHold, IsHolder, HasCopyFor, AreThere, AreClosed, NothingIsStuck, NothingIsStuckWhenClosed}
-use Rattle.mail_progress.proofs.Within.{to_give, slips_find_room}
+use Rattle.mail_progress.specs.Orderly.{uncollected, not_taken, on_way}
+use Rattle.mail_progress.specs.NothingStuck.{Mover, AnyHolder, IsMovedBy, TheLane, TheWorker, LaneOrWorker, HasToOffer, IsOpenAndFull, IsAtWork, HasHold,
+    IsHolder, HasCopyFor, AreThere, AreClosed, NothingIsStuck, NothingIsStuckWhenClosed}
+use Rattle.mail_progress.proofs.Within.{to_give}
 use Rattle.mail_progress.proofs.Found.{found_in}
-use Rattle.mail_progress.proofs.Kept.{HasKept, every_run_keeps, capacity_run}
-
--- what is known of a house in an orderly run
-pub record IsReached (room blocks : ℕ) (h : House) : Type 0 where
-  pub slips : SlipsFindRoom room h
-  pub kept : HasKept h
-  pub holds : HasHolds blocks h
-  pub seals : (k : ℕ) (lane : Lane) (key : Key) → LaneIs h k lane → lane.draft ≡ Some key → MayHappen h (Seal k 1)
-  pub releases : (w : ℕ) (box : Box) (copy : Copy) → BoxIs h w box → box.hand ≡ Some copy → copy.released ≡ false → MayHappen h (Release w)
-  pub backs : (k m : ℕ) (lane : Lane) (hold : Hold) → LaneIs h k lane → slice_get lane.holds 0 ≡ Some hold → hold.weight ≡ 1 → MayHappen h (HandBack k 0 m)
-  pub some_room : 1 ≤ room
-  pub tracked : AllTracked h
-  pub answers : HasAnswers h
-  pub for_last : (k : ℕ) (lane : Lane) (i : ℕ) (t : SealedMessage) → LaneIs h k lane → slice_get lane.messages i ≡ Some t → length lane.messages ≡ i + 1 → lane.gather.txn ≡ txn_of k t.number
-
-pub reached : (room blocks : ℕ) (start : House) (run : List Happened) → IsStart blocks start → Run start run → IsOrderly room start run → 1 ≤ room → IsReached room blocks (last_house start run)
-reached room blocks start run is r o some = record {
-  slips = slips_find_room room blocks start run is r o;
-  kept = every_run_keeps blocks start run is r;
-  holds = every_run_holds blocks start run is r;
-  seals = λ k lane key at draft. seal_happens blocks start run is r k 1 lane key at draft (omega arith);
-  releases = λ w box copy at hand held. release_happens blocks start run is r w box copy at hand held;
-  backs = λ k m lane hold at there one. hand_back_happens blocks start run is r k 0 m lane hold at there one;
-  some_room = some;
-  tracked = every_orderly_tracked room blocks start run is r o;
-  answers = every_run_answers blocks start run is r;
-  for_last = (every_run_for_last blocks start run is r).txn;
-}
-
-pub widen : (P Q : Mover → Type 0) (room : ℕ) (next : ℕ → ℕ) (h : House) → ((who : Mover) → P who → Q who) → IsMovedBy P room next h → IsMovedBy Q room next h
-widen P Q room next h f m = record { event = m.event; by = f _ m.by; goes_on = m.goes_on; in_order = m.in_order; happens = m.happens }
+use Rattle.mail_progress.proofs.Kept.{capacity_run}
+use Rattle.mail_progress.proofs.Reached.{IsReached, reached, widen}
 
 -- a copy in hand
 or_false : (a b : Bool) → (a || b) ≡ false → (a ≡ false) × (b ≡ false)
 or_false true b e = cc
 or_false false b e = (refl, e)
 
-unfoldable pub give_moves : (room blocks : ℕ) (next : ℕ → ℕ) (h : House) → IsReached room blocks h → (w : ℕ) (box : Box) (copy : Copy) → BoxIs h w box → box.hand ≡ Some copy → copy.released ≡ true → IsMovedBy (TheWorker w) room next h
+unfoldable pub give_moves : (room blocks : ℕ) (next : ℕ → ℕ) (h : House) → IsReached room blocks h → (w : ℕ) (box : Box) (copy : Copy) → BoxIs h w box
+    → box.hand ≡ Some copy → copy.released ≡ true → IsMovedBy (TheWorker w) room next h
 give_moves room blocks next h f w box copy at hand released =
     let there = f.kept.lane_there w box copy at hand in
     let below : uncollected there.0 < room = f.slips w box copy there.0 at hand released there.1 in
@@ -85,7 +54,8 @@ give_moves room blocks next h f w box copy at hand released =
       happens = (_, record { box = box; copy = copy; lane = there.0; is = at; in_hand = hand; let_go = released; says = refl; to = there.1; after = refl });
     }
 
-unfoldable pub release_moves : (room blocks : ℕ) (next : ℕ → ℕ) (h : House) → IsReached room blocks h → (w : ℕ) (box : Box) (copy : Copy) → BoxIs h w box → box.hand ≡ Some copy → copy.released ≡ false → (is_settled copy || box.faulty) ≡ true
+unfoldable pub release_moves : (room blocks : ℕ) (next : ℕ → ℕ) (h : House) → IsReached room blocks h → (w : ℕ) (box : Box) (copy : Copy) → BoxIs h w box
+    → box.hand ≡ Some copy → copy.released ≡ false → (is_settled copy || box.faulty) ≡ true
     → IsMovedBy (TheWorker w) room next h
 release_moves room blocks next h f w box copy at hand held may =
     let P : Box → Copy → Type 0 = λ b c. (is_settled c || b.faulty) ≡ true in
@@ -98,7 +68,8 @@ release_moves room blocks next h f w box copy at hand held may =
       happens = f.releases w box copy at hand held;
     }
 
-unfoldable pub write_moves : (room blocks : ℕ) (next : ℕ → ℕ) (h : House) → IsReached room blocks h → (w : ℕ) (box : Box) (copy : Copy) → BoxIs h w box → box.hand ≡ Some copy → copy.released ≡ false → is_settled copy ≡ false → box.faulty ≡ false
+unfoldable pub write_moves : (room blocks : ℕ) (next : ℕ → ℕ) (h : House) → IsReached room blocks h → (w : ℕ) (box : Box) (copy : Copy) → BoxIs h w box
+    → box.hand ≡ Some copy → copy.released ≡ false → is_settled copy ≡ false → box.faulty ≡ false
     → (rest : List ℕ) → drop copy.written (record_of h.calendar h.host copy.post.note) ≡ rest → IsMovedBy (TheWorker w) room next h
 write_moves room blocks next h f w box copy at hand held unsettled sound [] e =
     let low = f.kept.written w box copy at hand in
@@ -108,7 +79,8 @@ write_moves room blocks next h f w box copy at hand held unsettled sound [] e =
       by = refl;
       goes_on = tt;
       in_order = tt;
-      happens = (_, record { box = box; copy = copy; is = at; in_hand = hand; sound = sound; held = held; unsettled = unsettled; whole = omega arith; after = refl });
+      happens = (_, record { box = box; copy = copy; is = at; in_hand = hand; sound = sound; held = held; unsettled = unsettled; whole = omega arith;
+          after = refl });
     }
 write_moves room blocks next h f w box copy at hand held unsettled sound (x ∷ xs) e =
     let P : Copy → Type 0 = λ c. drop c.written (record_of h.calendar h.host c.post.note) ≡ x ∷ xs in
@@ -118,49 +90,63 @@ write_moves room blocks next h f w box copy at hand held unsettled sound (x ∷ 
       by = refl;
       goes_on = (omega arith, subst (λ o. IfSome o (λ (b : Box). IfSome b.hand P)) (sym at) in_hand);
       in_order = tt;
-      happens = (_, record { box = box; copy = copy; more = []; is = at; in_hand = hand; sound = sound; held = held; unsettled = unsettled; next = e ∙ sym (append-nil (x ∷ xs)); after = refl });
+      happens = (_, record { box = box; copy = copy; more = []; is = at; in_hand = hand; sound = sound; held = held; unsettled = unsettled; next = e
+          ∙ sym (append-nil (x ∷ xs)); after = refl });
     }
 
-held_moves : (room blocks : ℕ) (next : ℕ → ℕ) (h : House) → IsReached room blocks h → (w : ℕ) (box : Box) (copy : Copy) → BoxIs h w box → box.hand ≡ Some copy → copy.released ≡ false
+held_moves : (room blocks : ℕ) (next : ℕ → ℕ) (h : House) → IsReached room blocks h → (w : ℕ) (box : Box) (copy : Copy) → BoxIs h w box → box.hand ≡ Some copy
+    → copy.released ≡ false
     → (t : Bool) → (is_settled copy || box.faulty) ≡ t → IsMovedBy (TheWorker w) room next h
 held_moves room blocks next h f w box copy at hand held true e = release_moves room blocks next h f w box copy at hand held e
 held_moves room blocks next h f w box copy at hand held false e =
     let both = or_false (is_settled copy) box.faulty e in
     write_moves room blocks next h f w box copy at hand held both.0 both.1 (drop copy.written (record_of h.calendar h.host copy.post.note)) refl
 
-hand_by : (room blocks : ℕ) (next : ℕ → ℕ) (h : House) → IsReached room blocks h → (w : ℕ) (box : Box) (copy : Copy) → BoxIs h w box → box.hand ≡ Some copy → (t : Bool) → copy.released ≡ t → IsMovedBy (TheWorker w) room next h
+hand_by : (room blocks : ℕ) (next : ℕ → ℕ) (h : House) → IsReached room blocks h → (w : ℕ) (box : Box) (copy : Copy) → BoxIs h w box → box.hand ≡ Some copy
+    → (t : Bool) → copy.released ≡ t → IsMovedBy (TheWorker w) room next h
 hand_by room blocks next h f w box copy at hand true e = give_moves room blocks next h f w box copy at hand e
 hand_by room blocks next h f w box copy at hand false e = held_moves room blocks next h f w box copy at hand e (is_settled copy || box.faulty) refl
 
-pub hand_moves : (room blocks : ℕ) (next : ℕ → ℕ) (h : House) → IsReached room blocks h → (w : ℕ) (box : Box) (copy : Copy) → BoxIs h w box → box.hand ≡ Some copy → IsMovedBy (TheWorker w) room next h
+pub hand_moves : (room blocks : ℕ) (next : ℕ → ℕ) (h : House) → IsReached room blocks h → (w : ℕ) (box : Box) (copy : Copy) → BoxIs h w box
+    → box.hand ≡ Some copy → IsMovedBy (TheWorker w) room next h
 hand_moves room blocks next h f w box copy at hand = hand_by room blocks next h f w box copy at hand copy.released refl
 
 -- a copy that is accepted
-unfoldable pub take_moves : (room : ℕ) (next : ℕ → ℕ) (h : House) (w : ℕ) (box : Box) → BoxIs h w box → box.taken < length box.accepted → box.hand ≡ None → IsMovedBy (TheWorker w) room next h
+unfoldable pub take_moves : (room : ℕ) (next : ℕ → ℕ) (h : House) (w : ℕ) (box : Box) → BoxIs h w box → box.taken < length box.accepted → box.hand ≡ None
+    → IsMovedBy (TheWorker w) room next h
 take_moves room next h w box at some e =
     let oldest = there_is box.accepted box.taken some in
-    record { event = Take w; by = refl; goes_on = tt; in_order = tt; happens = (_, record { box = box; post = oldest.0; is = at; free_hand = e; oldest = oldest.1; after = refl }) }
+    record { event = Take w; by = refl; goes_on = tt; in_order = tt;
+        happens = (_, record { box = box; post = oldest.0; is = at; free_hand = e; oldest = oldest.1; after = refl }) }
 
-accepted_by : (room blocks : ℕ) (next : ℕ → ℕ) (h : House) → IsReached room blocks h → (w : ℕ) (box : Box) → BoxIs h w box → box.taken < length box.accepted → (hand : Option Copy) → box.hand ≡ hand → IsMovedBy (TheWorker w) room next h
+accepted_by : (room blocks : ℕ) (next : ℕ → ℕ) (h : House) → IsReached room blocks h → (w : ℕ) (box : Box) → BoxIs h w box → box.taken < length box.accepted
+    → (hand : Option Copy) → box.hand ≡ hand → IsMovedBy (TheWorker w) room next h
 accepted_by room blocks next h f w box at some None e = take_moves room next h w box at some e
 accepted_by room blocks next h f w box at some (Some copy) e = hand_moves room blocks next h f w box copy at e
 
-pub accepted_moves : (room blocks : ℕ) (next : ℕ → ℕ) (h : House) → IsReached room blocks h → (w : ℕ) (box : Box) → BoxIs h w box → box.taken < length box.accepted → IsMovedBy (TheWorker w) room next h
+pub accepted_moves : (room blocks : ℕ) (next : ℕ → ℕ) (h : House) → IsReached room blocks h → (w : ℕ) (box : Box) → BoxIs h w box
+    → box.taken < length box.accepted → IsMovedBy (TheWorker w) room next h
 accepted_moves room blocks next h f w box at some = accepted_by room blocks next h f w box at some box.hand refl
 
 -- a copy to offer
-unfoldable pub split_moves : (room : ℕ) (next : ℕ → ℕ) (h : House) (k i : ℕ) (lane : Lane) (hold : Hold) → LaneIs h k lane → slice_get lane.holds i ≡ Some hold → 2 ≤ hold.weight → IsMovedBy (TheLane k) room next h
+unfoldable pub split_moves : (room : ℕ) (next : ℕ → ℕ) (h : House) (k i : ℕ) (lane : Lane) (hold : Hold) → LaneIs h k lane → slice_get lane.holds i ≡ Some hold
+    → 2 ≤ hold.weight → IsMovedBy (TheLane k) room next h
 split_moves room next h k i lane hold at there heavy =
-    let its : slice_get lane.holds i ≡ Some (record { key = hold.key; weight = hold.weight - 1 + 1 }) = there ∙ ap (λ m. let x : Hold = record { key = hold.key; weight = m } in Some x) (let s : hold.weight ≡ hold.weight - 1 + 1 = omega arith in s) in
-    record { event = Split k i; by = refl; goes_on = tt; in_order = tt; happens = (_, record { lane = lane; key = hold.key; weight = hold.weight - 1; is = at; hold = its; above = omega arith; after = refl }) }
+    let its : slice_get lane.holds i ≡ Some (record { key = hold.key; weight = hold.weight - 1 + 1 }) =
+        there ∙ ap (λ m. let x : Hold = record { key = hold.key; weight = m } in Some x) (let s : hold.weight ≡ hold.weight - 1 + 1 = omega arith in s) in
+    record { event = Split k i; by = refl; goes_on = tt; in_order = tt;
+        happens = (_, record { lane = lane; key = hold.key; weight = hold.weight - 1; is = at; hold = its; above = omega arith; after = refl }) }
 
-unfoldable pub offer_moves : (room blocks : ℕ) (next : ℕ → ℕ) (h : House) → IsReached room blocks h → 1 ≤ h.capacity → (k : ℕ) (lane : Lane) (hold : Hold) (box : Box) → LaneIs h k lane → slice_get lane.holds 0 ≡ Some hold → hold.weight ≡ 1
+unfoldable pub offer_moves : (room blocks : ℕ) (next : ℕ → ℕ) (h : House) → IsReached room blocks h → 1 ≤ h.capacity
+    → (k : ℕ) (lane : Lane) (hold : Hold) (box : Box) → LaneIs h k lane → slice_get lane.holds 0 ≡ Some hold → hold.weight ≡ 1
     → BoxIs h (next k) box → box.closed ≡ false → length box.accepted < box.taken + h.capacity → IsMovedBy (TheLane k) room next h
 offer_moves room blocks next h f c k lane hold box at there one channel opened low =
     let of = each_at _ lane.holds 0 hold (f.holds.of_lanes k lane at) there in
     let m : SealedMessage = of.message in
-    let note : Note = record { txn = record { lane = k; number = m.number }; place = m.offered; mailbox = next k; sender = []; client = []; moment = 0; message = m.message } in
-    let its : slice_get lane.holds 0 ≡ Some (record { key = hold.key; weight = 1 }) = there ∙ ap (λ n. let x : Hold = record { key = hold.key; weight = n } in Some x) one in
+    let note : Note = record { txn = record { lane = k; number = m.number }; place = m.offered; mailbox = next k; sender = []; client = []; moment = 0;
+        message = m.message } in
+    let its : slice_get lane.holds 0 ≡ Some (record { key = hold.key; weight = 1 }) =
+        there ∙ ap (λ n. let x : Hold = record { key = hold.key; weight = n } in Some x) one in
     let message : slice_get lane.messages of.place ≡ Some (record { number = m.number; key = hold.key; message = m.message; offered = m.offered }) =
     of.is ∙ ap (λ key. let x : SealedMessage = record { number = m.number; key = key; message = m.message; offered = m.offered } in Some x) (sym of.key) in
     let below : not_taken box < h.capacity = omega arith in
@@ -169,13 +155,16 @@ offer_moves room blocks next h f c k lane hold box at there one channel opened l
       by = refl;
       goes_on = refl;
       in_order = subst (λ o. IfSome o (λ (b : Box). not_taken b < h.capacity)) (sym channel) below;
-      happens = (_, record { lane = lane; box = box; at = 0; t = of.place; key = hold.key; is = at; copy = record { hold = its; is = message }; own = refl; channel = channel; still_open = opened; room = low; after = refl });
+      happens = (_, record { lane = lane; box = box; at = 0; t = of.place; key = hold.key; is = at; copy = record { hold = its; is = message }; own = refl;
+          channel = channel; still_open = opened; room = low; after = refl });
     }
 
-unfoldable pub back_moves : (room blocks : ℕ) (next : ℕ → ℕ) (h : House) → IsReached room blocks h → (k : ℕ) (lane : Lane) (hold : Hold) (box : Box) → LaneIs h k lane → slice_get lane.holds 0 ≡ Some hold → hold.weight ≡ 1
+unfoldable pub back_moves : (room blocks : ℕ) (next : ℕ → ℕ) (h : House) → IsReached room blocks h → (k : ℕ) (lane : Lane) (hold : Hold) (box : Box)
+    → LaneIs h k lane → slice_get lane.holds 0 ≡ Some hold → hold.weight ≡ 1
     → BoxIs h (next k) box → box.closed ≡ true → IsMovedBy (TheLane k) room next h
 back_moves room blocks next h f k lane hold box at there one channel closed =
-    record { event = HandBack k 0 (next k); by = refl; goes_on = (refl, (box, channel, closed)); in_order = tt; happens = f.backs k (next k) lane hold at there one }
+    record { event = HandBack k 0 (next k); by = refl; goes_on = (refl, (box, channel, closed)); in_order = tt;
+        happens = f.backs k (next k) lane hold at there one }
 
 pub low_or_full : (a b : ℕ) → (a < b) ⊎ (b ≤ a)
 low_or_full a b = grind arith
@@ -183,7 +172,8 @@ low_or_full a b = grind arith
 has_one : (lane : Lane) (hold : Hold) → slice_get lane.holds 0 ≡ Some hold → lane.holds ≢ []
 has_one lane hold there e = let bad : None ≡ Some hold = sym (ap (λ hs. slice_get hs 0) e) ∙ there in cc
 
-one_moves : (room blocks : ℕ) (next : ℕ → ℕ) (h : House) → IsReached room blocks h → 1 ≤ h.capacity → (k : ℕ) (lane : Lane) (hold : Hold) (box : Box) → LaneIs h k lane → slice_get lane.holds 0 ≡ Some hold → hold.weight ≡ 1
+one_moves : (room blocks : ℕ) (next : ℕ → ℕ) (h : House) → IsReached room blocks h → 1 ≤ h.capacity → (k : ℕ) (lane : Lane) (hold : Hold) (box : Box)
+    → LaneIs h k lane → slice_get lane.holds 0 ≡ Some hold → hold.weight ≡ 1
     → BoxIs h (next k) box → (t : Bool) → box.closed ≡ t → IsMovedBy (LaneOrWorker next h k) room next h
 one_moves room blocks next h f c k lane hold box at there one channel true e =
     widen (TheLane k) (LaneOrWorker next h k) room next h (λ who by. inl by) (back_moves room blocks next h f k lane hold box at there one channel e)
@@ -201,21 +191,24 @@ weight_moves : (room blocks : ℕ) (next : ℕ → ℕ) (h : House) → IsReache
     → (k : ℕ) (lane : Lane) (hold : Hold) → LaneIs h k lane → slice_get lane.holds 0 ≡ Some hold → (n : ℕ) → hold.weight ≡ n
     → IsMovedBy (LaneOrWorker next h k) room next h
 weight_moves room blocks next h f c all k lane hold at there zero e = let some = f.kept.some k lane 0 hold at there in absurd (omega arith)
-weight_moves room blocks next h f c all k lane hold at there (suc zero) e = let b = all k lane at in one_moves room blocks next h f c k lane hold b.0 at there e b.1 b.0.closed refl
+weight_moves room blocks next h f c all k lane hold at there (suc zero) e = let b =
+    all k lane at in one_moves room blocks next h f c k lane hold b.0 at there e b.1 b.0.closed refl
 weight_moves room blocks next h f c all k lane hold at there (suc (suc n)) e =
     widen (TheLane k) (LaneOrWorker next h k) room next h (λ who by. inl by) (split_moves room next h k 0 lane hold at there (omega arith))
 
 holds_by : (room blocks : ℕ) (next : ℕ → ℕ) (h : House) → IsReached room blocks h → 1 ≤ h.capacity → AreThere next h
     → (k : ℕ) (lane : Lane) → LaneIs h k lane → (holds : List Hold) → lane.holds ≡ holds → holds ≢ [] → IsMovedBy (LaneOrWorker next h k) room next h
 holds_by room blocks next h f c all k lane at [] e some = absurd (some refl)
-holds_by room blocks next h f c all k lane at (hold ∷ holds) e some = weight_moves room blocks next h f c all k lane hold at (ap (λ hs. slice_get hs 0) e) hold.weight refl
+holds_by room blocks next h f c all k lane at (hold ∷ holds) e some =
+    weight_moves room blocks next h f c all k lane hold at (ap (λ hs. slice_get hs 0) e) hold.weight refl
 
 pub offers_move : (room blocks : ℕ) (next : ℕ → ℕ) (h : House) → IsReached room blocks h → 1 ≤ h.capacity → AreThere next h
     → (k : ℕ) (lane : Lane) → LaneIs h k lane → lane.holds ≢ [] → IsMovedBy (LaneOrWorker next h k) room next h
 offers_move room blocks next h f c all k lane at some = holds_by room blocks next h f c all k lane at lane.holds refl some
 
 -- a slip to collect
-unfoldable pub collect_moves : (room : ℕ) (next : ℕ → ℕ) (h : House) (k : ℕ) (lane : Lane) → LaneIs h k lane → lane.collected < length lane.slips → lane.holds ≡ [] → IsMovedBy (TheLane k) room next h
+unfoldable pub collect_moves : (room : ℕ) (next : ℕ → ℕ) (h : House) (k : ℕ) (lane : Lane) → LaneIs h k lane → lane.collected < length lane.slips
+    → lane.holds ≡ [] → IsMovedBy (TheLane k) room next h
 collect_moves room next h k lane at some e =
     let oldest = there_is lane.slips lane.collected some in
     record {
@@ -238,8 +231,10 @@ pub collects_move : (room blocks : ℕ) (next : ℕ → ℕ) (h : House) → IsR
 collects_move room blocks next h f c all k lane at some = collect_by room blocks next h f c all k lane at some lane.holds refl
 
 -- a draft
-unfoldable pub draft_moves : (room blocks : ℕ) (next : ℕ → ℕ) (h : House) → IsReached room blocks h → (k : ℕ) (lane : Lane) (key : Key) → LaneIs h k lane → lane.draft ≡ Some key → IsMovedBy (TheLane k) room next h
-draft_moves room blocks next h f k lane key at draft = record { event = Seal k 1; by = refl; goes_on = tt; in_order = f.some_room; happens = f.seals k lane key at draft }
+unfoldable pub draft_moves : (room blocks : ℕ) (next : ℕ → ℕ) (h : House) → IsReached room blocks h → (k : ℕ) (lane : Lane) (key : Key) → LaneIs h k lane
+    → lane.draft ≡ Some key → IsMovedBy (TheLane k) room next h
+draft_moves room blocks next h f k lane key at draft =
+    record { event = Seal k 1; by = refl; goes_on = tt; in_order = f.some_room; happens = f.seals k lane key at draft }
 
 pub some_holds : (lane : Lane) → (lane.holds ≢ []) ⊎ (lane.holds ≡ [])
 some_holds lane = by lane.holds
@@ -268,12 +263,14 @@ busy_posts box = elim (busy_or_free box) [
   | inr free ↦ inr (rw (free.0, free.1) refl)
 ]
 
-pub busy_moves : (room blocks : ℕ) (next : ℕ → ℕ) (h : House) → IsReached room blocks h → (w : ℕ) (box : Box) → BoxIs h w box → IsBusy box → IsMovedBy (TheWorker w) room next h
+pub busy_moves : (room blocks : ℕ) (next : ℕ → ℕ) (h : House) → IsReached room blocks h → (w : ℕ) (box : Box) → BoxIs h w box → IsBusy box
+    → IsMovedBy (TheWorker w) room next h
 busy_moves room blocks next h f w box at (inl low) = accepted_moves room blocks next h f w box at low
 busy_moves room blocks next h f w box at (inr hand) = hand_moves room blocks next h f w box hand.0 at hand.1
 
 -- a message that is sealed
-pub under : (h : House) (i : ℕ) (slot : Slot) → slice_get h.depot.slots i ≡ Some slot → held_under h.depot (record { slot = i; generation = slot.generation }) ≡ slot.held
+pub under : (h : House) (i : ℕ) (slot : Slot) → slice_get h.depot.slots i ≡ Some slot
+    → held_under h.depot (record { slot = i; generation = slot.generation }) ≡ slot.held
 under h i slot at = rw (at, eq-eqb slot.generation slot.generation refl) refl
 
 -- a copy to offer is moved
@@ -306,10 +303,13 @@ reclaim_moves room next h i slot bytes its at e =
       by = refl;
       goes_on = tt;
       in_order = tt;
-      happens = (_, (given_back h.depot key (its ++ h.depot.free), record { bytes = bytes; blocks = its; free = its ++ h.depot.free; message = under h i slot at ∙ e; given = λ x. times-append x its h.depot.free; after = refl }, refl));
+      happens = (_, (given_back h.depot key (its ++ h.depot.free),
+          record { bytes = bytes; blocks = its; free = its ++ h.depot.free; message = under h i slot at
+          ∙ e; given = λ x. times-append x its h.depot.free; after = refl }, refl));
     }
 
-sealed_by : (Movers : ℕ → Mover → Type 0) (room blocks : ℕ) (next : ℕ → ℕ) (h : House) → IsReached room blocks h → OffersMove Movers room next h → (i : ℕ) (slot : Slot) (bytes its : List ℕ) (weight : ℕ) → slice_get h.depot.slots i ≡ Some slot → slot.held ≡ Sealed bytes its weight
+sealed_by : (Movers : ℕ → Mover → Type 0) (room blocks : ℕ) (next : ℕ → ℕ) (h : House) → IsReached room blocks h → OffersMove Movers room next h
+    → (i : ℕ) (slot : Slot) (bytes its : List ℕ) (weight : ℕ) → slice_get h.depot.slots i ≡ Some slot → slot.held ≡ Sealed bytes its weight
     → IsMovedBy (SealedMovers Movers h (record { slot = i; generation = slot.generation }) weight) room next h
 sealed_by Movers room blocks next h f offers i slot bytes its zero at e =
     let key : Key = record { slot = i; generation = slot.generation } in
@@ -332,7 +332,8 @@ sealed_by Movers room blocks next h f offers i slot bytes its (suc weight) at e 
             (busy_moves room blocks next h f there.0 there.1 there.2 (has_busy key there.1 there.3))
         | inr no_box ↦
             let sum : weight_of key (holds_of h) ≡ weight_under h.depot key = f.holds.sum key in
-            let parts : weight_of key (holds_of h) ≡ sum_by g (flat_map lanes h.lanes) + sum_by g (flat_map boxes h.boxes) = sum_by-append g (flat_map lanes h.lanes) (flat_map boxes h.boxes) in
+            let parts : weight_of key (holds_of h) ≡ sum_by g (flat_map lanes h.lanes) + sum_by g (flat_map boxes h.boxes) =
+                sum_by-append g (flat_map lanes h.lanes) (flat_map boxes h.boxes) in
             absurd (omega arith)
       ]
     ]
@@ -347,7 +348,8 @@ pub none_found : (f : Slip → Bool) (slips : List Slip) → option_map (λ (sli
 none_found f [] e = refl
 none_found f (x ∷ slips) e = by (f x) refl e (none_found f slips)
   where
-    by : (t : Bool) → f x ≡ t → option_map (λ (slip : Slip). slip.outcome) (cond t (Some x) (find f slips)) ≡ None → (option_map (λ (slip : Slip). slip.outcome) (find f slips) ≡ None → count_by f slips ≡ 0) → count_by f (x ∷ slips) ≡ 0
+    by : (t : Bool) → f x ≡ t → option_map (λ (slip : Slip). slip.outcome) (cond t (Some x) (find f slips)) ≡ None
+        → (option_map (λ (slip : Slip). slip.outcome) (find f slips) ≡ None → count_by f slips ≡ 0) → count_by f (x ∷ slips) ≡ 0
     by true is none rest = cc
     by false is none rest =
         let zero' : ◌≡◌ {A = ℕ} (cond (f x) 1 0) 0 = ap (λ b. cond b 1 0) is in
@@ -356,9 +358,12 @@ none_found f (x ∷ slips) e = by (f x) refl e (none_found f slips)
 pub given_there : (t : SealedMessage) (p : ℕ) → p < t.offered → is_given t.number p t ≡ true
 given_there t p low = let under' : nat_lt p t.offered ≡ true = grind (arith, nat_tests) in rw (eq-eqb t.number t.number refl, under') refl
 
-no_answer : (k : ℕ) (d : Depot) (lane : Lane) (boxes : List Box) (p : ℕ) → IsTracked k d lane boxes → lane.gather.places ≡ answers lane.gather.txn (length lane.gather.places) lane.heard
+no_answer : (k : ℕ) (d : Depot) (lane : Lane) (boxes : List Box) (p : ℕ) → IsTracked k d lane boxes
+    → lane.gather.places ≡ answers lane.gather.txn (length lane.gather.places) lane.heard
     → ((i : ℕ) (t : SealedMessage) → slice_get lane.messages i ≡ Some t → length lane.messages ≡ i + 1 → lane.gather.txn ≡ txn_of k t.number)
-    → lane.holds ≡ [] → length lane.slips ≤ lane.collected → sum_by (λ (post : Post). cond (is_copy lane.gather.txn p post.note) 1 0) (flat_map on_way boxes) ≡ 0 → slice_get lane.gather.places p ≡ Some None → (ts : List SealedMessage) → lane.messages ≡ ts → ⊥
+    → lane.holds ≡ [] → length lane.slips ≤ lane.collected
+    → sum_by (λ (post : Post). cond (is_copy lane.gather.txn p post.note) 1 0) (flat_map on_way boxes) ≡ 0 → slice_get lane.gather.places p ≡ Some None
+    → (ts : List SealedMessage) → lane.messages ≡ ts → ⊥
 no_answer k d lane boxes p s answered for_last idle all none at [] e =
     let low = slice_get_within lane.gather.places p None at in
     let few = s.none (ap length e) in absurd (omega arith)
@@ -371,9 +376,13 @@ no_answer k d lane boxes p s answered for_last idle all none at (t ∷ ts) e =
     let give : to_give lane.holds ≡ 0 = ap to_give idle in
     let given = s.given z.1.number p in
     let some = count_some (is_given z.1.number p) lane.messages z.0 z.1 is (given_there z.1 p (omega arith)) in
-    let no_slips : times_named (txn_of k z.1.number) p (drop lane.collected lane.slips) ≡ 0 = ap (times_named (txn_of k z.1.number) p) (drop_all lane.collected lane.slips all) in
-    let no_way : way_at k z.1.number p boxes ≡ 0 = subst (λ txn. sum_by (λ (post : Post). cond (is_copy txn p post.note) 1 0) (flat_map on_way boxes) ≡ 0) (for_last z.0 z.1 is top) none in
-    let empty : answer lane.gather.txn lane.heard p ≡ None = ap (answer lane.gather.txn lane.heard) (let z : p ≡ 0 + p = omega arith in z) ∙ nth_of (answer lane.gather.txn lane.heard) 0 (length lane.gather.places) p None (ap (λ xs. slice_get xs p) (sym answered) ∙ at) in
+    let no_slips : times_named (txn_of k z.1.number) p (drop lane.collected lane.slips) ≡ 0 =
+        ap (times_named (txn_of k z.1.number) p) (drop_all lane.collected lane.slips all) in
+    let no_way : way_at k z.1.number p boxes ≡ 0 =
+        subst (λ txn. sum_by (λ (post : Post). cond (is_copy txn p post.note) 1 0) (flat_map on_way boxes) ≡ 0) (for_last z.0 z.1 is top) none in
+    let empty : answer lane.gather.txn lane.heard p ≡ None =
+        ap (answer lane.gather.txn lane.heard) (let z : p ≡ 0 + p = omega arith in z)
+        ∙ nth_of (answer lane.gather.txn lane.heard) 0 (length lane.gather.places) p None (ap (λ xs. slice_get xs p) (sym answered) ∙ at) in
     let its : answer (txn_of k z.1.number) lane.heard p ≡ None = subst (λ txn. answer txn lane.heard p ≡ None) (for_last z.0 z.1 is top) empty in
     let unheard = none_found (names (txn_of k z.1.number) p) lane.heard its in
     absurd (omega arith)
@@ -415,7 +424,8 @@ unanswered_by Movers room blocks next h f offers collects k lane p at open' =
         | inr all ↦ elim (found_in on_way test g (no_one lane.gather.txn p) h.boxes) [
           | inl there ↦ widen (TheWorker there.0) Q room next h (λ who by. inr (none_at_work lane idle all, (there.0, there.1, there.2, there.3, by)))
               (busy_moves room blocks next h f there.0 there.1 there.2 (way_busy test there.1 there.3))
-          | inr none ↦ absurd (no_answer k h.depot lane h.boxes p (f.tracked k lane at) (f.answers k lane at) (λ i t is top. f.for_last k lane i t at is top) idle all none open' lane.messages refl)
+          | inr none ↦ absurd (no_answer k h.depot lane h.boxes p (f.tracked k lane at) (f.answers k lane at) (λ i t is top. f.for_last k lane i t at is top)
+              idle all none open' lane.messages refl)
         ]
       ]
     ]
@@ -436,19 +446,24 @@ nothing_is_stuck room blocks start run is r o some capacity next all =
     }
 
 -- where all channels are closed
-closed_weight : (room blocks : ℕ) (next : ℕ → ℕ) (h : House) → IsReached room blocks h → AreThere next h → AreClosed h → (k : ℕ) (lane : Lane) (hold : Hold) → LaneIs h k lane → slice_get lane.holds 0 ≡ Some hold → (n : ℕ) → hold.weight ≡ n → IsMovedBy (TheLane k) room next h
+closed_weight : (room blocks : ℕ) (next : ℕ → ℕ) (h : House) → IsReached room blocks h → AreThere next h → AreClosed h → (k : ℕ) (lane : Lane) (hold : Hold)
+    → LaneIs h k lane → slice_get lane.holds 0 ≡ Some hold → (n : ℕ) → hold.weight ≡ n → IsMovedBy (TheLane k) room next h
 closed_weight room blocks next h f all shut k lane hold at there zero e = let some = f.kept.some k lane 0 hold at there in absurd (omega arith)
 closed_weight room blocks next h f all shut k lane hold at there (suc zero) e =
     let b = all k lane at in back_moves room blocks next h f k lane hold b.0 at there e b.1 (shut (next k) b.0 b.1)
 closed_weight room blocks next h f all shut k lane hold at there (suc (suc n)) e = split_moves room next h k 0 lane hold at there (omega arith)
 
-closed_offers : (room blocks : ℕ) (next : ℕ → ℕ) (h : House) → IsReached room blocks h → AreThere next h → AreClosed h → (k : ℕ) (lane : Lane) → LaneIs h k lane → (holds : List Hold) → lane.holds ≡ holds → holds ≢ [] → IsMovedBy (TheLane k) room next h
+closed_offers : (room blocks : ℕ) (next : ℕ → ℕ) (h : House) → IsReached room blocks h → AreThere next h → AreClosed h → (k : ℕ) (lane : Lane) → LaneIs h k lane
+    → (holds : List Hold) → lane.holds ≡ holds → holds ≢ [] → IsMovedBy (TheLane k) room next h
 closed_offers room blocks next h f all shut k lane at [] e some = absurd (some refl)
-closed_offers room blocks next h f all shut k lane at (hold ∷ holds) e some = closed_weight room blocks next h f all shut k lane hold at (ap (λ hs. slice_get hs 0) e) hold.weight refl
+closed_offers room blocks next h f all shut k lane at (hold ∷ holds) e some =
+    closed_weight room blocks next h f all shut k lane hold at (ap (λ hs. slice_get hs 0) e) hold.weight refl
 
-closed_collects : (room blocks : ℕ) (next : ℕ → ℕ) (h : House) → IsReached room blocks h → AreThere next h → AreClosed h → (k : ℕ) (lane : Lane) → LaneIs h k lane → lane.collected < length lane.slips → (holds : List Hold) → lane.holds ≡ holds → IsMovedBy (TheLane k) room next h
+closed_collects : (room blocks : ℕ) (next : ℕ → ℕ) (h : House) → IsReached room blocks h → AreThere next h → AreClosed h → (k : ℕ) (lane : Lane)
+    → LaneIs h k lane → lane.collected < length lane.slips → (holds : List Hold) → lane.holds ≡ holds → IsMovedBy (TheLane k) room next h
 closed_collects room blocks next h f all shut k lane at some [] e = collect_moves room next h k lane at some e
-closed_collects room blocks next h f all shut k lane at some (hold ∷ holds) e = closed_offers room blocks next h f all shut k lane at (hold ∷ holds) e (λ bad. cc)
+closed_collects room blocks next h f all shut k lane at some (hold ∷ holds) e =
+    closed_offers room blocks next h f all shut k lane at (hold ∷ holds) e (λ bad. cc)
 
 pub nothing_is_stuck_when_closed : NothingIsStuckWhenClosed
 nothing_is_stuck_when_closed room blocks start run is r o some next all shut =

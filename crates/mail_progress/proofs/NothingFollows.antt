@@ -3,7 +3,8 @@ use Rattle.std.proofs.Common.{◌≡◌, ℕ, List, [], Option, Some, None, refl
 use Rattle.std.specs.Prelude.{slice_get}
 use Rattle.std.proofs.lemmas.Option.{slice_get_within}
 use Rattle.mail_world.specs.declared.Event.{Event}
-use Rattle.mail_world.specs.declared.Event.TheVariants.{Begin, Put, Cancel, Seal, Split, Offer, HandBack, Collect, Take, Write, Sync, Release, GiveSlip, Reclaim, Close}
+use Rattle.mail_world.specs.declared.Event.TheVariants.{Begin, Put, Cancel, Seal, Split, Offer, HandBack, Collect, Take, Write, Sync, Release, GiveSlip,
+    Reclaim, Close}
 use Rattle.mail_world.specs.Depot.{Key, Sealed}
 use Rattle.mail_world.specs.House.{Hold, Copy, Box, Lane, House}
 use Rattle.mail_world.specs.Events.{Step, LaneIs, BoxIs}
@@ -11,16 +12,21 @@ use Rattle.mail_world.proofs.Depots.{used}
 use Rattle.mail_progress.specs.GoingOn.{GoesOn}
 use Rattle.mail_progress.specs.Finished.{IsFinished, FinishedIsStill}
 
-no_draft_there : (blocks : ℕ) (events : List Event) (h : House) → IsFinished blocks events h → (k : ℕ) (lane : Lane) (key : Key) → LaneIs h k lane → lane.draft ≡ Some key → ⊥
+no_draft_there : (blocks : ℕ) (events : List Event) (h : House) → IsFinished blocks events h → (k : ℕ) (lane : Lane) (key : Key) → LaneIs h k lane
+    → lane.draft ≡ Some key → ⊥
 no_draft_there blocks events h f k lane key at draft = let bad : ◌≡◌ {A = Option Key} None (Some key) = sym (f.no_draft k lane at) ∙ draft in cc
 
-no_hold_there : (blocks : ℕ) (events : List Event) (h : House) → IsFinished blocks events h → (k i : ℕ) (lane : Lane) (hold : Hold) → LaneIs h k lane → slice_get lane.holds i ≡ Some hold → ⊥
-no_hold_there blocks events h f k i lane hold at there = let bad : slice_get {X = Hold} [] i ≡ Some hold = ap (λ hs. slice_get hs i) (sym (f.none_to_offer k lane at)) ∙ there in cc
+no_hold_there : (blocks : ℕ) (events : List Event) (h : House) → IsFinished blocks events h → (k i : ℕ) (lane : Lane) (hold : Hold) → LaneIs h k lane
+    → slice_get lane.holds i ≡ Some hold → ⊥
+no_hold_there blocks events h f k i lane hold at there = let bad : slice_get {X = Hold} [] i ≡ Some hold =
+    ap (λ hs. slice_get hs i) (sym (f.none_to_offer k lane at)) ∙ there in cc
 
-no_copy_there : (blocks : ℕ) (events : List Event) (h : House) → IsFinished blocks events h → (w : ℕ) (box : Box) (copy : Copy) → BoxIs h w box → box.hand ≡ Some copy → ⊥
+no_copy_there : (blocks : ℕ) (events : List Event) (h : House) → IsFinished blocks events h → (w : ℕ) (box : Box) (copy : Copy) → BoxIs h w box
+    → box.hand ≡ Some copy → ⊥
 no_copy_there blocks events h f w box copy at hand = let bad : ◌≡◌ {A = Option Copy} None (Some copy) = sym (f.free_hand w box at) ∙ hand in cc
 
-none_goes_on : (blocks : ℕ) (next : ℕ → ℕ) (events : List Event) (h : House) → IsFinished blocks events h → (e : Event) (new : House) → GoesOn next h e → Step h e new → ⊥
+none_goes_on : (blocks : ℕ) (next : ℕ → ℕ) (events : List Event) (h : House) → IsFinished blocks events h → (e : Event) (new : House) → GoesOn next h e
+    → Step h e new → ⊥
 none_goes_on blocks next events h f (Begin k) new goes st = goes
 none_goes_on blocks next events h f (Put k bytes) new goes st = goes
 none_goes_on blocks next events h f (Close b) new goes st = goes

@@ -44,7 +44,8 @@ all_counted n (y ∷ xs) all =
         absurd (omega (arith, count-cons (λ z. z == y) y xs))
 
 past_zero : (n x c : ℕ) → c ≤ (if nat_lt x n then 1 else 0) → n ≤ x → c ≡ 0
-past_zero n x c le high = let e : nat_lt x n ≡ false = grind (arith, nat_tests) in let none : ◌≡◌ {A = ℕ} (if nat_lt x n then 1 else 0) 0 = rw e refl in omega arith
+past_zero n x c le high = let e : nat_lt x n ≡ false = grind (arith, nat_tests) in let none : ◌≡◌ {A = ℕ} (if nat_lt x n then 1 else 0) 0 =
+    rw e refl in omega arith
 
 once_most : (t : Bool) (c : ℕ) → c ≤ (if t then 1 else 0) → c ≤ 1
 once_most true c le = le

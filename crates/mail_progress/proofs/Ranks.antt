@@ -36,7 +36,8 @@ none_of_rank room next h r below none m = elim (low_or_full (r + 1) (rank m.even
   | inr full ↦ let low = below m in absurd (none m (omega arith))
 ]
 
-pub next_rank : (room : ℕ) (next : ℕ → ℕ) (h : House) (r : ℕ) → HasFirst room next h ⊎ NoneBelow room next h r → (NoneBelow room next h r → IsDecided room next h r) → HasFirst room next h ⊎ NoneBelow room next h (r + 1)
+pub next_rank : (room : ℕ) (next : ℕ → ℕ) (h : House) (r : ℕ) → HasFirst room next h ⊎ NoneBelow room next h r
+    → (NoneBelow room next h r → IsDecided room next h r) → HasFirst room next h ⊎ NoneBelow room next h (r + 1)
 next_rank room next h r (inl first) decide = inl first
 next_rank room next h r (inr below) decide = elim (decide below) [
   | inl has ↦ inl (is_first room next h r below has)

@@ -3,7 +3,8 @@ use Rattle.std.proofs.Common.{◌≡◌, ◌⊎◌, ℕ, zero, suc, ◌+◌, ◌
 use Rattle.std.specs.Prelude.{slice_get, IfSome}
 use Rattle.std.proofs.lemmas.Option.{slice_get_within}
 use Rattle.mail_world.specs.declared.Event.{Event}
-use Rattle.mail_world.specs.declared.Event.TheVariants.{Begin, Put, Cancel, Seal, Split, Offer, HandBack, Collect, Take, Write, Sync, Release, GiveSlip, Reclaim, Close}
+use Rattle.mail_world.specs.declared.Event.TheVariants.{Begin, Put, Cancel, Seal, Split, Offer, HandBack, Collect, Take, Write, Sync, Release, GiveSlip,
+    Reclaim, Close}
 use Rattle.mail_world.specs.Depot.{Key, Slot, Sealed}
 use Rattle.mail_world.specs.House.{Hold, Copy, Box, Lane, House}
 use Rattle.mail_world.specs.Events.{Step}
@@ -18,7 +19,8 @@ only x y (suc i) e = cc
 
 -- nothing is in hand and nothing to take, or the slip of the copy in hand finds no room
 abbrev pub CanNeither : ℕ → Lane → Box → Type 0
-CanNeither room lane box = ((box.hand ≡ None) × (box.taken ≡ length box.accepted)) ⊎ ((copy : Copy) × (box.hand ≡ Some copy) × (copy.released ≡ true) × (copy.post.note.txn.lane ≡ 0) × (room ≤ uncollected lane))
+CanNeither room lane box = ((box.hand ≡ None) × (box.taken ≡ length box.accepted))
+    ⊎ ((copy : Copy) × (box.hand ≡ Some copy) × (copy.released ≡ true) × (copy.post.note.txn.lane ≡ 0) × (room ≤ uncollected lane))
 
 -- the only lane has a copy to offer, and the only channel is open and full
 pub record IsStill (room : ℕ) (h : House) : Type 0 where
@@ -50,7 +52,8 @@ no_draft_there room h s k lane key is e =
     let bad : None ≡ Some key = sym s.no_draft ∙ ap (λ (x : Lane). x.draft) (same_lane room h s k lane is) ∙ e in cc
 
 -- a copy in hand that isn't released
-none_held : (room : ℕ) (h : House) (s : IsStill room h) (w : ℕ) (box : Box) (copy : Copy) → slice_get h.boxes w ≡ Some box → box.hand ≡ Some copy → copy.released ≡ false → ⊥
+none_held : (room : ℕ) (h : House) (s : IsStill room h) (w : ℕ) (box : Box) (copy : Copy) → slice_get h.boxes w ≡ Some box → box.hand ≡ Some copy
+    → copy.released ≡ false → ⊥
 none_held room h s w box copy is e f =
     let hand : s.box.hand ≡ Some copy = ap (λ (x : Box). x.hand) (same_box room h s w box is) ∙ e in
     elim s.neither [
@@ -107,7 +110,8 @@ no_event room h s next (Cancel k) g o new st = no_draft_there room h s k st.lane
 no_event room h s next (Seal k n) g o new st = no_draft_there room h s k st.lane st.key st.is st.draft
 no_event room h s next (Split k i) g o new st =
     let holds : st.lane.holds ≡ record { key = s.key; weight = 1 } ∷ [] = ap (λ (x : Lane). x.holds) (sym (same_lane room h s k st.lane st.is)) ∙ s.one_hold in
-    let same = only (record { key = s.key; weight = 1 }) (record { key = st.key; weight = st.weight + 1 }) i (ap (λ hs. slice_get hs i) (sym holds) ∙ st.hold) in
+    let same = only (record { key = s.key; weight = 1 }) (record { key = st.key; weight = st.weight + 1 }) i
+        (ap (λ hs. slice_get hs i) (sym holds) ∙ st.hold) in
     let one : 1 ≡ st.weight + 1 = ap (λ (x : Hold). x.weight) same in
     let some : 1 ≤ st.weight = st.above in absurd (omega arith)
 no_event room h s next (Offer k note) g o new st =

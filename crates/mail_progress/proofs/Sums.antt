@@ -27,7 +27,8 @@ sum_replicate f zero x e = refl
 sum_replicate f (suc n) x e = omega (arith, sum_replicate f n x e, sum_by-cons f x (replicate n x), e)
 
 -- a sum over the parts, where each part's is nothing
-pub sum_none : {A B : Type 0} (f : A → List B) (g : B → ℕ) (xs : List A) → ((i : ℕ) (x : A) → slice_get xs i ≡ Some x → sum_by g (f x) ≡ 0) → sum_by g (flat_map f xs) ≡ 0
+pub sum_none : {A B : Type 0} (f : A → List B) (g : B → ℕ) (xs : List A) → ((i : ℕ) (x : A) → slice_get xs i ≡ Some x → sum_by g (f x) ≡ 0)
+    → sum_by g (flat_map f xs) ≡ 0
 sum_none f g [] each = refl
 sum_none f g (x ∷ xs) each =
     let first = each 0 x refl in

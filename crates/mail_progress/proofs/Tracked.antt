@@ -1,5 +1,6 @@
 -- In an orderly run each place of a lane's last message has a copy to offer, a copy on its way, a slip to collect, or its answer.
-use Rattle.std.proofs.Common.{◌≡◌, ◌≢◌, ℕ, suc, ◌+◌, ◌≤◌, List, [], ◌∷◌, ◌++◌, length, drop, Bool, cond, ◌&&◌, ◌==◌, Option, Some, None, inl, inr, refl, ap, sym, ◌∙◌, subst, arith, add-one, length-append}
+use Rattle.std.proofs.Common.{◌≡◌, ◌≢◌, ℕ, suc, ◌+◌, ◌≤◌, List, [], ◌∷◌, ◌++◌, length, drop, Bool, cond, ◌&&◌, ◌==◌, Option, Some, None, inl, inr, refl, ap,
+    sym, ◌∙◌, subst, arith, add-one, length-append}
 use Rattle.std.specs.Prelude.{slice_get, slice_set, flat_map, sum_by, count_by, remove}
 use Rattle.std.specs.List.{AllByRecursion}
 use Rattle.std.proofs.lemmas.Bool.{eq-eqb}
@@ -9,7 +10,8 @@ use Rattle.std.proofs.lemmas.Option.{slice_get_within}
 use Rattle.mail_world.specs.declared.Outcome.{Outcome}
 use Rattle.mail_world.specs.declared.Slip.{Slip}
 use Rattle.mail_world.specs.declared.Event.{Event}
-use Rattle.mail_world.specs.declared.Event.TheVariants.{Begin, Put, Cancel, Seal, Split, Offer, HandBack, Collect, Take, Write, Sync, Release, GiveSlip, Reclaim, Close}
+use Rattle.mail_world.specs.declared.Event.TheVariants.{Begin, Put, Cancel, Seal, Split, Offer, HandBack, Collect, Take, Write, Sync, Release, GiveSlip,
+    Reclaim, Close}
 use Rattle.mail_world.specs.Slips.{Gather, names, times_named, txn_of, gathered, own_slip, slip_of}
 use Rattle.mail_world.specs.Depot.{Key, Depot, Slot, Draft, Sealed, held_under}
 use Rattle.mail_world.specs.House.{Hold, Post, Copy, Box, SealedMessage, Lane, House, IsFreshLane, IsStart}
@@ -82,19 +84,23 @@ tracked_same k d new lane bs ms f way s = record {
 }
 
 -- a lane with the same messages and holds, and as many places
-tracked_as : (k : ℕ) (d new : Depot) (lane next : Lane) (bs ms : List Box) → Keeps d new → next.messages ≡ lane.messages → next.holds ≡ lane.holds → length next.gather.places ≡ length lane.gather.places
-    → next.collected ≤ length next.slips → ((number p : ℕ) → told_at k number p lane + way_at k number p bs ≤ told_at k number p next + way_at k number p ms) → IsTracked k d lane bs → IsTracked k new next ms
+tracked_as : (k : ℕ) (d new : Depot) (lane next : Lane) (bs ms : List Box) → Keeps d new → next.messages ≡ lane.messages → next.holds ≡ lane.holds
+    → length next.gather.places ≡ length lane.gather.places
+    → next.collected ≤ length next.slips → ((number p : ℕ) → told_at k number p lane + way_at k number p bs ≤ told_at k number p next + way_at k number p ms)
+    → IsTracked k d lane bs → IsTracked k new next ms
 tracked_as k d new lane next bs ms f messages holds places prefix told s = record {
   sealed = subst (AllByRecursion (IsKeptIn new)) (sym messages) (kept_sealed d new f lane.messages s.sealed);
   prefix = prefix;
   last = rw (messages, holds, places) s.last;
   none = rw (messages, places) s.none;
   given = λ number p. let a = s.given number p in let b = told number p in
-      let e : count_by (is_given number p) next.messages ≡ count_by (is_given number p) lane.messages = ap (count_by (is_given number p)) messages in omega arith;
+      let e : count_by (is_given number p) next.messages ≡ count_by (is_given number p) lane.messages = ap (count_by (is_given number p)) messages in
+          omega arith;
 }
 
 -- the lanes of a house
-one_lane : (h new : House) (k : ℕ) (old changed : Lane) → new.lanes ≡ slice_set h.lanes k changed → LaneIs h k old → Keeps h.depot new.depot → (IsTracked k h.depot old h.boxes → IsTracked k new.depot changed new.boxes)
+one_lane : (h new : House) (k : ℕ) (old changed : Lane) → new.lanes ≡ slice_set h.lanes k changed → LaneIs h k old → Keeps h.depot new.depot
+    → (IsTracked k h.depot old h.boxes → IsTracked k new.depot changed new.boxes)
     → ((v : ℕ) → v ≢ k → NoFewer v h.boxes new.boxes) → AllTracked h → AllTracked new
 one_lane h new k old changed lanes was f here way all v lane is = elim (get_set h.lanes k v changed lane (ap (λ ls. slice_get ls v) (sym lanes) ∙ is)) [
   | inl at ↦ let P : Lane → Type 0 = λ x. IsTracked v new.depot x new.boxes in
@@ -104,7 +110,8 @@ one_lane h new k old changed lanes was f here way all v lane is = elim (get_set 
 ]
 
 no_lane : (h new : House) → new.lanes ≡ h.lanes → Keeps h.depot new.depot → ((v : ℕ) → NoFewer v h.boxes new.boxes) → AllTracked h → AllTracked new
-no_lane h new lanes f way all k lane is = tracked_same k h.depot new.depot lane h.boxes new.boxes f (way k) (all k lane (ap (λ ls. slice_get ls k) (sym lanes) ∙ is))
+no_lane h new lanes f way all k lane is =
+    tracked_same k h.depot new.depot lane h.boxes new.boxes f (way k) (all k lane (ap (λ ls. slice_get ls k) (sym lanes) ∙ is))
 
 same_way : (bs ms : List Box) → ms ≡ bs → (v : ℕ) → NoFewer v bs ms
 same_way bs ms e v number p = let same : way_at v number p ms ≡ way_at v number p bs = ap (way_at v number p) e in omega arith
@@ -123,8 +130,10 @@ box_way bs ms w old new e was same v number p =
 way_offered : (v number p : ℕ) (bs : List Box) (b : ℕ) (old : Box) (post : Post) → slice_get bs b ≡ Some old → old.taken ≤ length old.accepted
     → way_at v number p (slice_set bs b (record old { accepted = old.accepted ++ post ∷ [] })) ≡ way_at v number p bs + copy_at v number p post
 way_offered v number p bs b old post was prefix =
-    let e : sum_by (copy_at v number p) (drop old.taken (old.accepted ++ post ∷ [])) ≡ sum_by (copy_at v number p) (drop old.taken old.accepted) + copy_at v number p post =
-    ap (sum_by (copy_at v number p)) (drop-append-le old.taken old.accepted (post ∷ []) prefix) ∙ sum_last (copy_at v number p) (drop old.taken old.accepted) post in
+    let e : sum_by (copy_at v number p) (drop old.taken (old.accepted ++ post ∷ [])) ≡ sum_by (copy_at v number p) (drop old.taken old.accepted)
+        + copy_at v number p post =
+    ap (sum_by (copy_at v number p)) (drop-append-le old.taken old.accepted (post ∷ []) prefix)
+        ∙ sum_last (copy_at v number p) (drop old.taken old.accepted) post in
     omega (
       arith,
       way_set v number p bs b old (record old { accepted = old.accepted ++ post ∷ [] }) was,
@@ -133,10 +142,12 @@ way_offered v number p bs b old post was prefix =
       sum_by-append (copy_at v number p) (post_of old.hand) (drop old.taken old.accepted),
     )
 
-way_gave : (v number p : ℕ) (bs : List Box) (w : ℕ) (box : Box) (copy : Copy) → slice_get bs w ≡ Some box → box.hand ≡ Some copy → way_at v number p (slice_set bs w (record box { hand = None })) + copy_at v number p copy.post ≡ way_at v number p bs
+way_gave : (v number p : ℕ) (bs : List Box) (w : ℕ) (box : Box) (copy : Copy) → slice_get bs w ≡ Some box → box.hand ≡ Some copy
+    → way_at v number p (slice_set bs w (record box { hand = None })) + copy_at v number p copy.post ≡ way_at v number p bs
 way_gave v number p bs w box copy was hand =
     let e : sum_by (copy_at v number p) (on_way box) ≡ copy_at v number p copy.post + sum_by (copy_at v number p) (drop box.taken box.accepted) =
-    ap (λ x. sum_by (copy_at v number p) (post_of x ++ drop box.taken box.accepted)) hand ∙ sum_by-cons (copy_at v number p) copy.post (drop box.taken box.accepted) in
+    ap (λ x. sum_by (copy_at v number p) (post_of x ++ drop box.taken box.accepted)) hand
+        ∙ sum_by-cons (copy_at v number p) copy.post (drop box.taken box.accepted) in
     omega (arith, way_set v number p bs w box (record box { hand = None }) was)
 
 not_there : (v k number p : ℕ) (post : Post) → post.note.txn.lane ≡ k → v ≢ k → copy_at v number p post ≡ 0
@@ -149,10 +160,12 @@ own_match a k x y t e = rw (eq-eqb a k e) refl
 pub last_there : {A : Type 0} (xs : List A) (i : ℕ) (x : A) → slice_get xs i ≡ Some x → (j : ℕ) × (y : A) × (slice_get xs j ≡ Some y) × (length xs ≡ j + 1)
 last_there [] i x e = cc
 last_there (y ∷ []) i x e = (0, y, refl, refl)
-last_there (y ∷ z ∷ xs) i x e = let rest = last_there (z ∷ xs) 0 z refl in (suc rest.0, rest.1, rest.2, (let f : length (z ∷ xs) ≡ rest.0 + 1 = rest.3 in omega arith))
+last_there (y ∷ z ∷ xs) i x e = let rest =
+    last_there (z ∷ xs) 0 z refl in (suc rest.0, rest.1, rest.2, (let f : length (z ∷ xs) ≡ rest.0 + 1 = rest.3 in omega arith))
 
 -- a hold of a message's key: the message is the last one
-pub last_of_its_key : (ts : List SealedMessage) (holds : List Hold) (n i at : ℕ) (t : SealedMessage) → slice_get holds at ≡ Some (record { key = t.key; weight = 1 }) → slice_get ts i ≡ Some t → AreLast ts holds n → length ts ≡ i + 1
+pub last_of_its_key : (ts : List SealedMessage) (holds : List Hold) (n i at : ℕ) (t : SealedMessage)
+    → slice_get holds at ≡ Some (record { key = t.key; weight = 1 }) → slice_get ts i ≡ Some t → AreLast ts holds n → length ts ≡ i + 1
 last_of_its_key ts holds n i at t hold is s =
     let z = last_there ts i t is in
     let l = s z.0 z.1 z.2 z.3 in
@@ -160,7 +173,8 @@ last_of_its_key ts holds n i at t hold is s =
     z.3 ∙ ap (λ j. j + 1) (sym (l.alone i t is key))
 
 -- a copy of a message goes
-away_last : (ts : List SealedMessage) (holds : List Hold) (n m i at : ℕ) (t : SealedMessage) → slice_get holds at ≡ Some (record { key = t.key; weight = 1 }) → slice_get ts i ≡ Some t → m ≡ n → AreLast ts holds n
+away_last : (ts : List SealedMessage) (holds : List Hold) (n m i at : ℕ) (t : SealedMessage) → slice_get holds at ≡ Some (record { key = t.key; weight = 1 })
+    → slice_get ts i ≡ Some t → m ≡ n → AreLast ts holds n
     → AreLast (slice_set ts i (record t { offered = t.offered + 1 })) (remove holds at) m
 away_last ts holds n m i at t hold is same s j u there top =
     let len : length ts ≡ j + 1 = sym (length_set ts i (record t { offered = t.offered + 1 })) ∙ top in
@@ -174,7 +188,8 @@ away_last ts holds n m i at t hold is same s j u there top =
           let give = sum_remove (λ (x : Hold). x.weight) holds at (record { key = t.key; weight = 1 }) hold in
           let all : n ≤ t.offered + to_give holds = l.all in
           record {
-            own = all_remove (λ (x : Hold). x.key ≡ u.key) holds at (weaken (λ (x : Hold). x.key ≡ t.key) (λ (x : Hold). x.key ≡ u.key) (λ x e. e ∙ its) holds l.own);
+            own = all_remove (λ (x : Hold). x.key ≡ u.key) holds at
+                (weaken (λ (x : Hold). x.key ≡ t.key) (λ (x : Hold). x.key ≡ u.key) (λ x e. e ∙ its) holds l.own);
             alone = λ a v there' e. elim (get_set ts i a (record t { offered = t.offered + 1 }) v there') [
               | inl self ↦ self.0 ∙ same_place
               | inr past ↦ l.alone a v past.1 (e ∙ sym its) ∙ same_place
@@ -201,15 +216,18 @@ no_message d key bytes blocks sealed draft s =
     elim fits [ inl low ↦ absurd (omega (arith, low)) | inr held ↦ held.1 ]
 
 -- the events of a lane
-seal_tracked : (k n : ℕ) (d new : Depot) (lane next : Lane) (bs : List Box) (key : Key) (message bytes blocks : List ℕ) → Keeps d new → held_under d key ≡ Draft bytes blocks → KeepsBytes new key message
-    → lane.holds ≡ [] → next.messages ≡ lane.messages ++ record { number = lane.number; key = key; message = message; offered = 0 } ∷ [] → next.holds ≡ lane.holds ++ record { key = key; weight = n } ∷ [] → length next.gather.places ≡ n
+seal_tracked : (k n : ℕ) (d new : Depot) (lane next : Lane) (bs : List Box) (key : Key) (message bytes blocks : List ℕ) → Keeps d new
+    → held_under d key ≡ Draft bytes blocks → KeepsBytes new key message
+    → lane.holds ≡ [] → next.messages ≡ lane.messages ++ record { number = lane.number; key = key; message = message; offered = 0 } ∷ []
+    → next.holds ≡ lane.holds ++ record { key = key; weight = n } ∷ [] → length next.gather.places ≡ n
     → next.slips ≡ lane.slips → next.collected ≡ lane.collected → next.heard ≡ lane.heard → IsTracked k d lane bs → IsTracked k new next bs
 seal_tracked k n d new lane next bs key message bytes blocks f draft there idle messages holds places slips count heard s =
     let t : SealedMessage = record { number = lane.number; key = key; message = message; offered = 0 } in
     let hold : Hold = record { key = key; weight = n } in
     let only : next.holds ≡ hold ∷ [] = holds ∙ ap (λ hs. hs ++ hold ∷ []) idle in
     record {
-      sealed = subst (AllByRecursion (IsKeptIn new)) (sym messages) (all_more (IsKeptIn new) lane.messages t (kept_sealed d new f lane.messages s.sealed) there);
+      sealed = subst (AllByRecursion (IsKeptIn new)) (sym messages)
+          (all_more (IsKeptIn new) lane.messages t (kept_sealed d new f lane.messages s.sealed) there);
       prefix = rw (slips, count) s.prefix;
       last = λ i u at top.
           let len : length next.messages ≡ length lane.messages + 1 = ap length messages ∙ length-append lane.messages (t ∷ []) in
@@ -232,11 +250,13 @@ seal_tracked k n d new lane next bs key message bytes blocks f draft there idle 
       none = λ e. let len : length next.messages ≡ length lane.messages + 1 = ap length messages ∙ length-append lane.messages (t ∷ []) in absurd (omega arith);
       given = λ number p.
           let a = s.given number p in
-          let e : count_by (is_given number p) next.messages ≡ count_by (is_given number p) lane.messages = ap (count_by (is_given number p)) messages ∙ count_sealed lane.messages key lane.number number p message in
+          let e : count_by (is_given number p) next.messages ≡ count_by (is_given number p) lane.messages =
+              ap (count_by (is_given number p)) messages ∙ count_sealed lane.messages key lane.number number p message in
           let told : told_at k number p next ≡ told_at k number p lane = rw (slips, count, heard) refl in omega arith;
     }
 
-split_tracked : (k i w : ℕ) (d : Depot) (lane : Lane) (bs : List Box) (key : Key) → slice_get lane.holds i ≡ Some (record { key = key; weight = w + 1 }) → IsTracked k d lane bs
+split_tracked : (k i w : ℕ) (d : Depot) (lane : Lane) (bs : List Box) (key : Key) → slice_get lane.holds i ≡ Some (record { key = key; weight = w + 1 })
+    → IsTracked k d lane bs
     → IsTracked k d (record lane { holds = slice_set lane.holds i (record { key = key; weight = w }) ++ record { key = key; weight = 1 } ∷ [] }) bs
 split_tracked k i w d lane bs key at s =
     let rest : Hold = record { key = key; weight = w } in
@@ -252,28 +272,36 @@ split_tracked k i w d lane bs key at s =
           record {
             own = all_more P (slice_set lane.holds i rest) one (all_set P lane.holds i rest l.own its) its;
             alone = l.alone;
-            all = omega (arith, sum_set (λ (hold : Hold). hold.weight) lane.holds i (record { key = key; weight = w + 1 }) rest at, sum_last (λ (hold : Hold). hold.weight) (slice_set lane.holds i rest) one);
+            all = omega (arith, sum_set (λ (hold : Hold). hold.weight) lane.holds i (record { key = key; weight = w + 1 }) rest at,
+                sum_last (λ (hold : Hold). hold.weight) (slice_set lane.holds i rest) one);
           };
       none = s.none;
       given = s.given;
     }
 
-away_tracked : (k i at : ℕ) (d new : Depot) (lane next : Lane) (bs ms : List Box) (t : SealedMessage) → Keeps d new → slice_get lane.holds at ≡ Some (record { key = t.key; weight = 1 }) → slice_get lane.messages i ≡ Some t
-    → next.messages ≡ slice_set lane.messages i (record t { offered = t.offered + 1 }) → next.holds ≡ remove lane.holds at → length next.gather.places ≡ length lane.gather.places → next.collected ≤ length next.slips
-    → ((number p : ℕ) → told_at k number p lane + way_at k number p bs + cond ((t.number == number) && (t.offered == p)) 1 0 ≤ told_at k number p next + way_at k number p ms) → IsTracked k d lane bs → IsTracked k new next ms
+away_tracked : (k i at : ℕ) (d new : Depot) (lane next : Lane) (bs ms : List Box) (t : SealedMessage) → Keeps d new
+    → slice_get lane.holds at ≡ Some (record { key = t.key; weight = 1 }) → slice_get lane.messages i ≡ Some t
+    → next.messages ≡ slice_set lane.messages i (record t { offered = t.offered + 1 }) → next.holds ≡ remove lane.holds at
+    → length next.gather.places ≡ length lane.gather.places → next.collected ≤ length next.slips
+    → ((number p : ℕ) → told_at k number p lane + way_at k number p bs + cond ((t.number == number) && (t.offered == p)) 1 0 ≤ told_at k number p next
+    + way_at k number p ms) → IsTracked k d lane bs → IsTracked k new next ms
 away_tracked k i at d new lane next bs ms t f hold is messages holds places prefix told s =
     let more : SealedMessage = record t { offered = t.offered + 1 } in
     let kept = kept_sealed d new f lane.messages s.sealed in
-    let last : AreLast (slice_set lane.messages i more) (remove lane.holds at) (length next.gather.places) = away_last lane.messages lane.holds (length lane.gather.places) (length next.gather.places) i at t hold is places s.last in
+    let last : AreLast (slice_set lane.messages i more) (remove lane.holds at) (length next.gather.places) =
+        away_last lane.messages lane.holds (length lane.gather.places) (length next.gather.places) i at t hold is places s.last in
     record {
-      sealed = subst (AllByRecursion (IsKeptIn new)) (sym messages) (all_set (IsKeptIn new) lane.messages i more kept (each_at (IsKeptIn new) lane.messages i t kept is));
+      sealed = subst (AllByRecursion (IsKeptIn new)) (sym messages)
+          (all_set (IsKeptIn new) lane.messages i more kept (each_at (IsKeptIn new) lane.messages i t kept is));
       prefix = prefix;
       last = rw (messages, holds) last;
-      none = λ e. let len : length next.messages ≡ length lane.messages = ap length messages ∙ length_set lane.messages i more in let low = slice_get_within lane.messages i t is in absurd (omega arith);
+      none = λ e. let len : length next.messages ≡ length lane.messages = ap length messages ∙ length_set lane.messages i more in let low =
+          slice_get_within lane.messages i t is in absurd (omega arith);
       given = λ number p.
           let a = s.given number p in
           let b = told number p in
-          let e : count_by (is_given number p) next.messages ≡ count_by (is_given number p) (slice_set lane.messages i more) = ap (count_by (is_given number p)) messages in
+          let e : count_by (is_given number p) next.messages ≡ count_by (is_given number p) (slice_set lane.messages i more) =
+              ap (count_by (is_given number p)) messages in
           omega (arith, e, count_given lane.messages i t.key t.number number p t.offered t.message is);
     }
 
@@ -281,11 +309,14 @@ same_depot : (d : Depot) → Keeps d d
 same_depot d key bytes f = f
 
 -- the house after it, written out
-lane_after : (h : House) (d : Depot) (bs : List Box) (k : ℕ) (old changed : Lane) → LaneIs h k old → Keeps h.depot d → (IsTracked k h.depot old h.boxes → IsTracked k d changed bs) → ((v : ℕ) → v ≢ k → NoFewer v h.boxes bs) → AllTracked h
+lane_after : (h : House) (d : Depot) (bs : List Box) (k : ℕ) (old changed : Lane) → LaneIs h k old → Keeps h.depot d
+    → (IsTracked k h.depot old h.boxes → IsTracked k d changed bs) → ((v : ℕ) → v ≢ k → NoFewer v h.boxes bs) → AllTracked h
     → AllTracked (record h { depot = d; boxes = bs; lanes = slice_set h.lanes k changed })
-lane_after h d bs k old changed was f here way all = one_lane h (record h { depot = d; boxes = bs; lanes = slice_set h.lanes k changed }) k old changed refl was f here way all
+lane_after h d bs k old changed was f here way all =
+    one_lane h (record h { depot = d; boxes = bs; lanes = slice_set h.lanes k changed }) k old changed refl was f here way all
 
-none_after : (h : House) (d : Depot) (bs : List Box) → Keeps h.depot d → ((v : ℕ) → NoFewer v h.boxes bs) → AllTracked h → AllTracked (record h { depot = d; boxes = bs })
+none_after : (h : House) (d : Depot) (bs : List Box) → Keeps h.depot d → ((v : ℕ) → NoFewer v h.boxes bs) → AllTracked h
+    → AllTracked (record h { depot = d; boxes = bs })
 none_after h d bs f way all = no_lane h (record h { depot = d; boxes = bs }) refl f way all
 
 pub tracked_step : (room : ℕ) (h : House) (e : Event) (new : House) → AllWithin room h → IsKept h → AllTracked h → Step h e new → AllTracked new
@@ -293,33 +324,42 @@ tracked_step room h (Begin k) new w kept s st =
     let f : Keeps h.depot new.depot = subst (λ (x : House). Keeps h.depot x.depot) (sym st.after) (begins_turn h.depot st.key st.depot st.begins).fits in
     let boxes = ap (λ (x : House). x.boxes) st.after in
     one_lane h new k st.lane _ (ap (λ (x : House). x.lanes) st.after) st.is f
-    (λ t. tracked_as k h.depot new.depot st.lane (record st.lane { number = st.number; draft = Some st.key }) h.boxes new.boxes f refl refl refl t.prefix (λ number p. let a = same_way h.boxes new.boxes boxes k number p in omega arith) t)
+    (λ t. tracked_as k h.depot new.depot st.lane (record st.lane { number = st.number; draft = Some st.key }) h.boxes new.boxes f refl refl refl t.prefix
+        (λ number p. let a = same_way h.boxes new.boxes boxes k number p in omega arith) t)
     (λ v ne. same_way h.boxes new.boxes boxes v) s
 tracked_step room h (Put k bytes) new w kept s st =
     let f : Keeps h.depot new.depot = subst (λ (x : House). Keeps h.depot x.depot) (sym st.after) (puts_turn h.depot st.key bytes st.depot st.puts).fits in
     no_lane h new (ap (λ (x : House). x.lanes) st.after) f (λ v. same_way h.boxes new.boxes (ap (λ (x : House). x.boxes) st.after) v) s
 tracked_step room h (Cancel k) new w kept s st =
-    let f : Keeps h.depot new.depot = subst (λ (x : House). Keeps h.depot x.depot) (sym st.after) (drops_turn h.depot st.key Draft st.depot (λ b blocks. refl) (λ b blocks. refl) (λ b blocks e. cc) st.cancels).fits in
+    let f : Keeps h.depot new.depot =
+        subst (λ (x : House). Keeps h.depot x.depot) (sym st.after)
+        (drops_turn h.depot st.key Draft st.depot (λ b blocks. refl) (λ b blocks. refl) (λ b blocks e. cc) st.cancels).fits in
     let boxes = ap (λ (x : House). x.boxes) st.after in
     one_lane h new k st.lane _ (ap (λ (x : House). x.lanes) st.after) st.is f
-    (λ t. tracked_as k h.depot new.depot st.lane (record st.lane { draft = None }) h.boxes new.boxes f refl refl refl t.prefix (λ number p. let a = same_way h.boxes new.boxes boxes k number p in omega arith) t)
+    (λ t. tracked_as k h.depot new.depot st.lane (record st.lane { draft = None }) h.boxes new.boxes f refl refl refl t.prefix
+        (λ number p. let a = same_way h.boxes new.boxes boxes k number p in omega arith) t)
     (λ v ne. same_way h.boxes new.boxes boxes v) s
 tracked_step room h (Seal k n) new w kept s st =
-    let idle : st.lane.holds ≡ [] = no_hold st.lane.holds (each_at (λ (l : Lane). AllByRecursion IsSome l.holds) h.lanes k st.lane kept.lanes st.is) (let p = (w k st.lane st.is).drafting st.key st.draft in omega arith) in
+    let idle : st.lane.holds ≡ [] =
+        no_hold st.lane.holds (each_at (λ (l : Lane). AllByRecursion IsSome l.holds) h.lanes k st.lane kept.lanes st.is)
+        (let p = (w k st.lane st.is).drafting st.key st.draft in omega arith) in
     let f = (seals_turn h.depot st.key n st.depot st.seals).fits in
     subst AllTracked (sym st.after)
     (lane_after h st.depot h.boxes k st.lane _ st.is f
-    (λ t. seal_tracked k n h.depot st.depot st.lane _ h.boxes st.key st.seals.bytes st.seals.bytes st.seals.blocks f st.seals.draft (seals_fits h.depot st.key n st.depot st.seals) idle refl refl (length-replicate {A = Option Outcome} n None) refl refl refl t)
+    (λ t. seal_tracked k n h.depot st.depot st.lane _ h.boxes st.key st.seals.bytes st.seals.bytes st.seals.blocks f st.seals.draft
+        (seals_fits h.depot st.key n st.depot st.seals) idle refl refl (length-replicate {A = Option Outcome} n None) refl refl refl t)
     (λ v ne. same_way h.boxes h.boxes refl v) s)
 tracked_step room h (Split k i) new w kept s st =
     subst AllTracked (sym st.after)
-    (lane_after h h.depot h.boxes k st.lane _ st.is (same_depot h.depot) (λ t. split_tracked k i st.weight h.depot st.lane h.boxes st.key st.hold t) (λ v ne. same_way h.boxes h.boxes refl v) s)
+    (lane_after h h.depot h.boxes k st.lane _ st.is (same_depot h.depot) (λ t. split_tracked k i st.weight h.depot st.lane h.boxes st.key st.hold t)
+        (λ v ne. same_way h.boxes h.boxes refl v) s)
 tracked_step room h (Offer k note) new w kept s st =
     let post : Post = record { note = note; key = st.key } in
     let t : SealedMessage = record { number = note.txn.number; key = st.key; message = note.message; offered = note.place } in
     let prefix = (each_at (IsBoxRight h) h.boxes note.mailbox st.box kept.boxes st.channel).prefix in
     let ms = slice_set h.boxes note.mailbox (record st.box { accepted = st.box.accepted ++ post ∷ [] }) in
-    let more : (v number p : ℕ) → way_at v number p ms ≡ way_at v number p h.boxes + copy_at v number p post = λ v number p. way_offered v number p h.boxes note.mailbox st.box post st.channel prefix in
+    let more : (v number p : ℕ) → way_at v number p ms ≡ way_at v number p h.boxes + copy_at v number p post =
+        λ v number p. way_offered v number p h.boxes note.mailbox st.box post st.channel prefix in
     subst AllTracked (sym st.after)
     (lane_after h h.depot ms k st.lane _ st.is (same_depot h.depot)
     (λ x. away_tracked k st.t st.at h.depot h.depot st.lane _ h.boxes ms t (same_depot h.depot) st.copy.hold st.copy.is refl refl refl x.prefix
@@ -330,8 +370,10 @@ tracked_step room h (HandBack k i m) new w kept s st =
     let slip = own_slip k st.sealed.number st.sealed.offered m in
     subst AllTracked (sym st.after)
     (lane_after h st.depot h.boxes k st.lane _ st.is f
-    (λ x. away_tracked k st.t i h.depot st.depot st.lane _ h.boxes h.boxes st.sealed f st.copy.hold st.copy.is refl refl (length_gathered st.lane.gather slip) x.prefix
-    (λ number p. let b = own_match k k st.sealed.number number (st.sealed.offered == p) refl in omega (arith, b, count-append (names (txn_of k number) p) st.lane.heard (slip ∷ []))) x)
+    (λ x. away_tracked k st.t i h.depot st.depot st.lane _ h.boxes h.boxes st.sealed f st.copy.hold st.copy.is refl refl (length_gathered st.lane.gather slip)
+        x.prefix
+    (λ number p. let b = own_match k k st.sealed.number number (st.sealed.offered == p) refl in omega
+        (arith, b, count-append (names (txn_of k number) p) st.lane.heard (slip ∷ []))) x)
     (λ v ne. same_way h.boxes h.boxes refl v) s)
 tracked_step room h (Collect k) new w kept s st =
     let below = slice_get_within st.lane.slips st.lane.collected st.slip st.oldest in
@@ -339,47 +381,61 @@ tracked_step room h (Collect k) new w kept s st =
     (lane_after h h.depot h.boxes k st.lane _ st.is (same_depot h.depot)
     (λ x. tracked_as k h.depot h.depot st.lane _ h.boxes h.boxes (same_depot h.depot) refl refl (length_gathered st.lane.gather st.slip) (omega arith)
     (λ number p.
-    let was : times_named (txn_of k number) p (drop st.lane.collected st.lane.slips) ≡ cond (names (txn_of k number) p st.slip) 1 0 + times_named (txn_of k number) p (drop (st.lane.collected + 1) st.lane.slips) =
-    ap (times_named (txn_of k number) p) (drop_get st.lane.slips st.lane.collected st.slip st.oldest ∙ ap (λ n. st.slip ∷ drop n st.lane.slips) (sym (add-one st.lane.collected)))
+    let was : times_named (txn_of k number) p (drop st.lane.collected st.lane.slips) ≡ cond (names (txn_of k number) p st.slip) 1 0
+        + times_named (txn_of k number) p (drop (st.lane.collected + 1) st.lane.slips) =
+    ap (times_named (txn_of k number) p)
+        (drop_get st.lane.slips st.lane.collected st.slip st.oldest ∙ ap (λ n. st.slip ∷ drop n st.lane.slips) (sym (add-one st.lane.collected)))
     ∙ count-cons (names (txn_of k number) p) st.slip (drop (st.lane.collected + 1) st.lane.slips) in
     omega (arith, was, count-append (names (txn_of k number) p) st.lane.heard (st.slip ∷ []))) x)
     (λ v ne. same_way h.boxes h.boxes refl v) s)
 tracked_step room h (Take x) new w kept s st =
     let posts : on_way st.box ≡ st.post ∷ drop (st.box.taken + 1) st.box.accepted =
-    ap (λ hand. post_of hand ++ drop st.box.taken st.box.accepted) st.free_hand ∙ drop_get st.box.accepted st.box.taken st.post st.oldest ∙ ap (λ j. st.post ∷ drop j st.box.accepted) (sym (add-one st.box.taken)) in
+    ap (λ hand. post_of hand ++ drop st.box.taken st.box.accepted) st.free_hand ∙ drop_get st.box.accepted st.box.taken st.post st.oldest
+        ∙ ap (λ j. st.post ∷ drop j st.box.accepted) (sym (add-one st.box.taken)) in
     subst AllTracked (sym st.after) (none_after h h.depot _ (same_depot h.depot) (λ v. box_way h.boxes _ x st.box _ refl st.is (sym posts) v) s)
 tracked_step room h (Write x bytes) new w kept s st =
-    subst AllTracked (sym st.after) (none_after h h.depot _ (same_depot h.depot) (λ v. box_way h.boxes _ x st.box _ refl st.is (ap (λ hand. post_of hand ++ drop st.box.taken st.box.accepted) (sym st.in_hand)) v) s)
+    subst AllTracked (sym st.after)
+        (none_after h h.depot _ (same_depot h.depot)
+        (λ v. box_way h.boxes _ x st.box _ refl st.is (ap (λ hand. post_of hand ++ drop st.box.taken st.box.accepted) (sym st.in_hand)) v) s)
 tracked_step room h (Sync x) new w kept s st =
-    subst AllTracked (sym st.after) (none_after h h.depot _ (same_depot h.depot) (λ v. box_way h.boxes _ x st.box _ refl st.is (ap (λ hand. post_of hand ++ drop st.box.taken st.box.accepted) (sym st.in_hand)) v) s)
+    subst AllTracked (sym st.after)
+        (none_after h h.depot _ (same_depot h.depot)
+        (λ v. box_way h.boxes _ x st.box _ refl st.is (ap (λ hand. post_of hand ++ drop st.box.taken st.box.accepted) (sym st.in_hand)) v) s)
 tracked_step room h (Release x) new w kept s st =
     subst AllTracked (sym st.after)
-    (none_after h st.depot _ (releases_turn h.depot st.copy.post.key st.depot st.releases).fits (λ v. box_way h.boxes _ x st.box _ refl st.is (ap (λ hand. post_of hand ++ drop st.box.taken st.box.accepted) (sym st.in_hand)) v) s)
+    (none_after h st.depot _ (releases_turn h.depot st.copy.post.key st.depot st.releases).fits
+        (λ v. box_way h.boxes _ x st.box _ refl st.is (ap (λ hand. post_of hand ++ drop st.box.taken st.box.accepted) (sym st.in_hand)) v) s)
 tracked_step room h (GiveSlip x o) new w kept s st =
     let k = st.copy.post.note.txn.lane in
     let slip = slip_of x st.copy.post.note (outcome_of st.copy) in
     let ms = slice_set h.boxes x (record st.box { hand = None }) in
-    let less : (v number p : ℕ) → way_at v number p ms + copy_at v number p st.copy.post ≡ way_at v number p h.boxes = λ v number p. way_gave v number p h.boxes x st.box st.copy st.is st.in_hand in
+    let less : (v number p : ℕ) → way_at v number p ms + copy_at v number p st.copy.post ≡ way_at v number p h.boxes =
+        λ v number p. way_gave v number p h.boxes x st.box st.copy st.is st.in_hand in
     subst AllTracked (sym st.after)
     (lane_after h h.depot ms k st.lane _ st.to (same_depot h.depot)
     (λ t. let prefix = t.prefix in
     tracked_as k h.depot h.depot st.lane _ h.boxes ms (same_depot h.depot) refl refl refl (let l = length-append st.lane.slips (slip ∷ []) in omega arith)
     (λ number p.
     let a = less k number p in
-    let more : times_named (txn_of k number) p (drop st.lane.collected (st.lane.slips ++ slip ∷ [])) ≡ times_named (txn_of k number) p (drop st.lane.collected st.lane.slips) + cond (names (txn_of k number) p slip) 1 0 =
-    ap (times_named (txn_of k number) p) (drop-append-le st.lane.collected st.lane.slips (slip ∷ []) prefix) ∙ sum_last (λ (z : Slip). cond (names (txn_of k number) p z) 1 0) (drop st.lane.collected st.lane.slips) slip in
+    let more : times_named (txn_of k number) p (drop st.lane.collected (st.lane.slips ++ slip ∷ []))
+        ≡ times_named (txn_of k number) p (drop st.lane.collected st.lane.slips) + cond (names (txn_of k number) p slip) 1 0 =
+    ap (times_named (txn_of k number) p) (drop-append-le st.lane.collected st.lane.slips (slip ∷ []) prefix)
+        ∙ sum_last (λ (z : Slip). cond (names (txn_of k number) p z) 1 0) (drop st.lane.collected st.lane.slips) slip in
     omega (arith, a, more)) t)
     (λ v ne number p. let a = less v number p in let b = not_there v k number p st.copy.post refl ne in omega arith) s)
 tracked_step room h (Reclaim slot generation) new w kept s st =
     subst AllTracked (sym st.2)
-    (none_after h st.0 h.boxes (drops_turn h.depot (record { slot = slot; generation = generation }) (λ b blocks. Sealed b blocks 0) st.0 (λ b blocks. refl) (λ b blocks. refl) (λ b blocks e. cc) st.1).fits (λ v. same_way h.boxes h.boxes refl v) s)
+    (none_after h st.0 h.boxes (drops_turn h.depot (record { slot = slot; generation = generation }) (λ b blocks. Sealed b blocks 0) st.0 (λ b blocks. refl)
+        (λ b blocks. refl) (λ b blocks e. cc) st.1).fits (λ v. same_way h.boxes h.boxes refl v) s)
 tracked_step room h (Close b) new w kept s st =
     subst AllTracked (sym st.3) (none_after h h.depot _ (same_depot h.depot) (λ v. box_way h.boxes _ b st.0 _ refl st.1 refl v) s)
 
-tracked_run : (room : ℕ) (h : House) (run : List Happened) → AllWithin room h → IsKept h → AllTracked h → Run h run → IsOrderly room h run → AllTracked (last_house h run)
+tracked_run : (room : ℕ) (h : House) (run : List Happened) → AllWithin room h → IsKept h → AllTracked h → Run h run → IsOrderly room h run
+    → AllTracked (last_house h run)
 tracked_run room h [] w kept s r o = s
 tracked_run room h (x ∷ xs) w kept s r o =
-    tracked_run room x.house xs (within_step room h x.event x.house w r.0 o.0) (kept_step h x.event x.house kept r.0) (tracked_step room h x.event x.house w kept s r.0) r.1 o.1
+    tracked_run room x.house xs (within_step room h x.event x.house w r.0 o.0) (kept_step h x.event x.house kept r.0)
+        (tracked_step room h x.event x.house w kept s r.0) r.1 o.1
 
 pub tracked_start : (blocks : ℕ) (h : House) → IsStart blocks h → AllTracked h
 tracked_start blocks h start k lane is =
@@ -392,5 +448,7 @@ tracked_start blocks h start k lane is =
       given = λ number p. let none : count_by (is_given number p) lane.messages ≡ 0 = ap (count_by (is_given number p)) f.messages in omega arith;
     }
 
-pub every_orderly_tracked : (room blocks : ℕ) (start : House) (run : List Happened) → IsStart blocks start → Run start run → IsOrderly room start run → AllTracked (last_house start run)
-every_orderly_tracked room blocks start run is r o = tracked_run room start run (within_start room blocks start is) (kept_start blocks start is) (tracked_start blocks start is) r o
+pub every_orderly_tracked : (room blocks : ℕ) (start : House) (run : List Happened) → IsStart blocks start → Run start run → IsOrderly room start run
+    → AllTracked (last_house start run)
+every_orderly_tracked room blocks start run is r o =
+    tracked_run room start run (within_start room blocks start is) (kept_start blocks start is) (tracked_start blocks start is) r o

@@ -1,5 +1,6 @@
 -- In an orderly run no lane has more copies and slips under way than unanswered places, so that a released copy's slip finds room.
-use Rattle.std.proofs.Common.{◌≡◌, ◌≢◌, ℕ, ◌+◌, ◌≤◌, List, [], ◌∷◌, ◌++◌, drop, Bool, true, false, cond, ◌==◌, Option, Some, None, inl, inr, refl, ap, sym, ◌∙◌, subst, arith, add-one, length-append}
+use Rattle.std.proofs.Common.{◌≡◌, ◌≢◌, ℕ, ◌+◌, ◌≤◌, List, [], ◌∷◌, ◌++◌, drop, Bool, true, false, cond, ◌==◌, Option, Some, None, inl, inr, refl, ap, sym, ◌∙◌,
+    subst, arith, add-one, length-append}
 use Rattle.std.specs.Prelude.{slice_get, slice_set, flat_map, sum_by, replicate, IfSome}
 use Rattle.std.specs.List.{AllByRecursion}
 use Rattle.std.proofs.lemmas.Bool.{eq-eqb}
@@ -8,7 +9,8 @@ use Rattle.std.proofs.lemmas.Option.{slice_get_within}
 use Rattle.mail_world.specs.declared.Outcome.{Outcome}
 use Rattle.mail_world.specs.declared.Slip.{Slip}
 use Rattle.mail_world.specs.declared.Event.{Event}
-use Rattle.mail_world.specs.declared.Event.TheVariants.{Begin, Put, Cancel, Seal, Split, Offer, HandBack, Collect, Take, Write, Sync, Release, GiveSlip, Reclaim, Close}
+use Rattle.mail_world.specs.declared.Event.TheVariants.{Begin, Put, Cancel, Seal, Split, Offer, HandBack, Collect, Take, Write, Sync, Release, GiveSlip,
+    Reclaim, Close}
 use Rattle.mail_world.specs.Slips.{Gather, place_outcome, is_same_txn, gathered, own_slip, slip_of}
 use Rattle.mail_world.specs.Depot.{Key}
 use Rattle.mail_world.specs.House.{Hold, Post, Copy, Box, Lane, House, IsFreshBox, IsFreshLane, IsStart}
@@ -60,7 +62,8 @@ abbrev pub AllWithin : ℕ → House → Type 0
 AllWithin room h = (k : ℕ) (lane : Lane) → LaneIs h k lane → IsWithin room k lane h.boxes
 
 -- what is under way goes down at least as much as the open places
-within_kept : (room k : ℕ) (lane next : Lane) (bs ms : List Box) → pending k next ms + open_places lane ≤ pending k lane bs + open_places next → pending k next ms ≤ pending k lane bs → open_places next ≤ open_places lane
+within_kept : (room k : ℕ) (lane next : Lane) (bs ms : List Box) → pending k next ms + open_places lane ≤ pending k lane bs + open_places next
+    → pending k next ms ≤ pending k lane bs → open_places next ≤ open_places lane
     → ((key : Key) → next.draft ≡ Some key → lane.draft ≡ Some key) → IsWithin room k lane bs → IsWithin room k next ms
 within_kept room k lane next bs ms both less fewer draft s = record {
   below = let a = s.below in omega arith;
@@ -85,7 +88,8 @@ one_lane room h new k old changed lanes was here less all v lane is = elim (get_
 lane_alone : (room : ℕ) (h new : House) (k : ℕ) (old changed : Lane) → new.boxes ≡ h.boxes → new.lanes ≡ slice_set h.lanes k changed → LaneIs h k old
     → (IsWithin room k old h.boxes → IsWithin room k changed h.boxes) → AllWithin room h → AllWithin room new
 lane_alone room h new k old changed boxes lanes was here all =
-    one_lane room h new k old changed lanes was (λ s. let P : List Box → Type 0 = λ bs. IsWithin room k changed bs in subst P (sym boxes) (here s)) (λ v ne. rw boxes (omega arith)) all
+    one_lane room h new k old changed lanes was (λ s. let P : List Box → Type 0 = λ bs. IsWithin room k changed bs in subst P (sym boxes) (here s))
+        (λ v ne. rw boxes (omega arith)) all
 
 no_lane : (room : ℕ) (h new : House) → new.lanes ≡ h.lanes → ((v : ℕ) → way v new.boxes ≤ way v h.boxes) → AllWithin room h → AllWithin room new
 no_lane room h new lanes less all k lane is = within_same room k lane h.boxes new.boxes (less k) (all k lane (ap (λ ls. slice_get ls k) (sym lanes) ∙ is))
@@ -93,7 +97,8 @@ no_lane room h new lanes less all k lane is = within_same room k lane h.boxes ne
 way_set : (k : ℕ) (bs : List Box) (w : ℕ) (old new : Box) → slice_get bs w ≡ Some old → way k (slice_set bs w new) + way_in k old ≡ way k bs + way_in k new
 way_set k bs w old new was = total_set (one_of k) on_way bs w old new was
 
-box_alone : (room : ℕ) (h new : House) (w : ℕ) (old changed : Box) → new.boxes ≡ slice_set h.boxes w changed → new.lanes ≡ h.lanes → BoxIs h w old → on_way changed ≡ on_way old → AllWithin room h → AllWithin room new
+box_alone : (room : ℕ) (h new : House) (w : ℕ) (old changed : Box) → new.boxes ≡ slice_set h.boxes w changed → new.lanes ≡ h.lanes → BoxIs h w old
+    → on_way changed ≡ on_way old → AllWithin room h → AllWithin room new
 box_alone room h new w old changed boxes lanes was same = no_lane room h new lanes (λ v.
     let e : way_in v changed ≡ way_in v old = ap (sum_by (one_of v)) same in
     let n : way v new.boxes ≡ way v (slice_set h.boxes w changed) = ap (way v) boxes in
@@ -106,12 +111,14 @@ placed_by places p o None e = (omega arith, omega arith)
 placed_by places p o (Some None) e = let s = sum_set unanswered_one places p None (Some o) e in (omega arith, omega arith)
 placed_by places p o (Some (Some x)) e = (omega arith, omega arith)
 
-gathered_by : (g : Gather) (slip : Slip) (t : Bool) → let next : Gather = cond t (record { txn = g.txn; places = place_outcome g.places slip.place slip.outcome (slice_get g.places slip.place) }) g in
+gathered_by : (g : Gather) (slip : Slip) (t : Bool) → let next : Gather =
+    cond t (record { txn = g.txn; places = place_outcome g.places slip.place slip.outcome (slice_get g.places slip.place) }) g in
     (unanswered g.places ≤ unanswered next.places + 1) × (unanswered next.places ≤ unanswered g.places)
 gathered_by g slip true = placed_by g.places slip.place slip.outcome (slice_get g.places slip.place) refl
 gathered_by g slip false = (omega arith, omega arith)
 
-pub one_less : (g : Gather) (slip : Slip) → (unanswered g.places ≤ unanswered (gathered g slip).places + 1) × (unanswered (gathered g slip).places ≤ unanswered g.places)
+pub one_less : (g : Gather) (slip : Slip)
+    → (unanswered g.places ≤ unanswered (gathered g slip).places + 1) × (unanswered (gathered g slip).places ≤ unanswered g.places)
 one_less g slip = gathered_by g slip (is_same_txn slip.txn g.txn)
 
 all_answered : (places : List (Option Outcome)) → AllByRecursion HasOutcome places → unanswered places ≡ 0
@@ -126,7 +133,8 @@ own_copy k post e = ap (λ b. cond b 1 0) (eq-eqb post.note.txn.lane k e)
 other_copy : (v k : ℕ) (post : Post) → post.note.txn.lane ≡ k → v ≢ k → one_of v post ≡ 0
 other_copy v k post e ne = ap (λ b. cond b 1 0) (other_byte post.note.txn.lane v (λ same. ne (sym same ∙ e)))
 
-way_offered : (v : ℕ) (bs : List Box) (b : ℕ) (old : Box) (post : Post) → slice_get bs b ≡ Some old → way v (slice_set bs b (record old { accepted = old.accepted ++ post ∷ [] })) ≤ way v bs + one_of v post
+way_offered : (v : ℕ) (bs : List Box) (b : ℕ) (old : Box) (post : Post) → slice_get bs b ≡ Some old
+    → way v (slice_set bs b (record old { accepted = old.accepted ++ post ∷ [] })) ≤ way v bs + one_of v post
 way_offered v bs b old post was =
     omega (
       arith,
@@ -136,22 +144,26 @@ way_offered v bs b old post was =
       sum_by-append (one_of v) (post_of old.hand) (drop old.taken old.accepted),
     )
 
-way_given : (v : ℕ) (bs : List Box) (w : ℕ) (box : Box) (copy : Copy) → slice_get bs w ≡ Some box → box.hand ≡ Some copy → way v (slice_set bs w (record box { hand = None })) + one_of v copy.post ≡ way v bs
+way_given : (v : ℕ) (bs : List Box) (w : ℕ) (box : Box) (copy : Copy) → slice_get bs w ≡ Some box → box.hand ≡ Some copy
+    → way v (slice_set bs w (record box { hand = None })) + one_of v copy.post ≡ way v bs
 way_given v bs w box copy was hand =
     let e : way_in v box ≡ one_of v copy.post + sum_by (one_of v) (drop box.taken box.accepted) =
     ap (λ x. sum_by (one_of v) (post_of x ++ drop box.taken box.accepted)) hand ∙ sum_by-cons (one_of v) copy.post (drop box.taken box.accepted) in
     omega (arith, way_set v bs w box (record box { hand = None }) was)
 
-seal_within : (room k n : ℕ) (lane next : Lane) (bs : List Box) (key its : Key) → lane.draft ≡ Some key → next.draft ≡ None → next.holds ≡ lane.holds ++ record { key = its; weight = n } ∷ [] → next.slips ≡ lane.slips → next.collected ≡ lane.collected
+seal_within : (room k n : ℕ) (lane next : Lane) (bs : List Box) (key its : Key) → lane.draft ≡ Some key → next.draft ≡ None
+    → next.holds ≡ lane.holds ++ record { key = its; weight = n } ∷ [] → next.slips ≡ lane.slips → next.collected ≡ lane.collected
     → next.gather.places ≡ replicate n None → n ≤ room → IsWithin room k lane bs → IsWithin room k next bs
 seal_within room k n lane next bs key its draft none holds slips count places le s =
     let idle = s.drafting key draft in
     let same : uncollected next ≡ uncollected lane = rw (slips, count) refl in
-    let give : to_give next.holds ≡ to_give lane.holds + n = ap to_give holds ∙ sum_last (λ (hold : Hold). hold.weight) lane.holds (record { key = its; weight = n }) in
+    let give : to_give next.holds ≡ to_give lane.holds + n =
+        ap to_give holds ∙ sum_last (λ (hold : Hold). hold.weight) lane.holds (record { key = its; weight = n }) in
     let all : open_places next ≡ n = ap unanswered places ∙ sum_replicate unanswered_one n None refl in
     record { below = omega arith; bound = omega arith; drafting = λ other e. let bad : None ≡ Some other = sym none ∙ e in absurd (let f : ⊥ = cc in f) }
 
-begin_within : (room k : ℕ) (lane next : Lane) (bs : List Box) → IsLaneDone lane → next.holds ≡ lane.holds → next.slips ≡ lane.slips → next.collected ≡ lane.collected → next.gather ≡ lane.gather → IsWithin room k lane bs → IsWithin room k next bs
+begin_within : (room k : ℕ) (lane next : Lane) (bs : List Box) → IsLaneDone lane → next.holds ≡ lane.holds → next.slips ≡ lane.slips
+    → next.collected ≡ lane.collected → next.gather ≡ lane.gather → IsWithin room k lane bs → IsWithin room k next bs
 begin_within room k lane next bs done holds slips count gather s =
     let same : pending k next bs ≡ pending k lane bs = rw (holds, slips, count) refl in
     let places : open_places next ≡ open_places lane = ap (λ (g : Gather). unanswered g.places) gather in
@@ -163,7 +175,8 @@ begin_within room k lane next bs done holds slips count gather s =
 pub within_step : (room : ℕ) (h : House) (e : Event) (new : House) → AllWithin room h → Step h e new → IsInOrder room h e → AllWithin room new
 within_step room h (Begin k) new s st o =
     let done : IsLaneDone st.lane = subst (λ p. IfSome p IsLaneDone) st.is o in
-    lane_alone room h new k st.lane _ (ap (λ (x : House). x.boxes) st.after) (ap (λ (x : House). x.lanes) st.after) st.is (λ w. begin_within room k st.lane _ h.boxes done refl refl refl refl w) s
+    lane_alone room h new k st.lane _ (ap (λ (x : House). x.boxes) st.after) (ap (λ (x : House). x.lanes) st.after) st.is
+        (λ w. begin_within room k st.lane _ h.boxes done refl refl refl refl w) s
 within_step room h (Put k bytes) new s st o = no_lane room h new (ap (λ (x : House). x.lanes) st.after) (λ v. rw (st.after) (omega arith)) s
 within_step room h (Cancel k) new s st o =
     lane_alone room h new k st.lane _ (ap (λ (x : House). x.boxes) st.after) (ap (λ (x : House). x.lanes) st.after) st.is
@@ -176,7 +189,8 @@ within_step room h (Split k i) new s st o =
     let one : Hold = record { key = st.key; weight = 1 } in
     let next : Lane = record st.lane { holds = slice_set st.lane.holds i rest ++ one ∷ [] } in
     let give : to_give next.holds ≡ to_give st.lane.holds =
-    omega (arith, sum_set (λ (hold : Hold). hold.weight) st.lane.holds i (record { key = st.key; weight = st.weight + 1 }) rest st.hold, sum_last (λ (hold : Hold). hold.weight) (slice_set st.lane.holds i rest) one) in
+    omega (arith, sum_set (λ (hold : Hold). hold.weight) st.lane.holds i (record { key = st.key; weight = st.weight + 1 }) rest st.hold,
+        sum_last (λ (hold : Hold). hold.weight) (slice_set st.lane.holds i rest) one) in
     lane_alone room h new k st.lane next (ap (λ (x : House). x.boxes) st.after) (ap (λ (x : House). x.lanes) st.after) st.is
     (λ w. within_kept room k st.lane next h.boxes h.boxes (omega arith) (omega arith) (omega arith) (λ key e. e) w) s
 within_step room h (Offer k note) new s st o =
@@ -200,14 +214,18 @@ within_step room h (Collect k) new s st o =
     (λ w. within_kept room k st.lane _ h.boxes h.boxes (omega (arith, less.0)) (omega arith) (omega (arith, less.1)) (λ key e. e) w) s
 within_step room h (Take w) new s st o =
     let posts : on_way st.box ≡ st.post ∷ drop (st.box.taken + 1) st.box.accepted =
-    ap (λ hand. post_of hand ++ drop st.box.taken st.box.accepted) st.free_hand ∙ drop_get st.box.accepted st.box.taken st.post st.oldest ∙ ap (λ j. st.post ∷ drop j st.box.accepted) (sym (add-one st.box.taken)) in
+    ap (λ hand. post_of hand ++ drop st.box.taken st.box.accepted) st.free_hand ∙ drop_get st.box.accepted st.box.taken st.post st.oldest
+        ∙ ap (λ j. st.post ∷ drop j st.box.accepted) (sym (add-one st.box.taken)) in
     box_alone room h new w st.box _ (ap (λ (x : House). x.boxes) st.after) (ap (λ (x : House). x.lanes) st.after) st.is (sym posts) s
 within_step room h (Write w bytes) new s st o =
-    box_alone room h new w st.box _ (ap (λ (x : House). x.boxes) st.after) (ap (λ (x : House). x.lanes) st.after) st.is (ap (λ hand. post_of hand ++ drop st.box.taken st.box.accepted) (sym st.in_hand)) s
+    box_alone room h new w st.box _ (ap (λ (x : House). x.boxes) st.after) (ap (λ (x : House). x.lanes) st.after) st.is
+        (ap (λ hand. post_of hand ++ drop st.box.taken st.box.accepted) (sym st.in_hand)) s
 within_step room h (Sync w) new s st o =
-    box_alone room h new w st.box _ (ap (λ (x : House). x.boxes) st.after) (ap (λ (x : House). x.lanes) st.after) st.is (ap (λ hand. post_of hand ++ drop st.box.taken st.box.accepted) (sym st.in_hand)) s
+    box_alone room h new w st.box _ (ap (λ (x : House). x.boxes) st.after) (ap (λ (x : House). x.lanes) st.after) st.is
+        (ap (λ hand. post_of hand ++ drop st.box.taken st.box.accepted) (sym st.in_hand)) s
 within_step room h (Release w) new s st o =
-    box_alone room h new w st.box _ (ap (λ (x : House). x.boxes) st.after) (ap (λ (x : House). x.lanes) st.after) st.is (ap (λ hand. post_of hand ++ drop st.box.taken st.box.accepted) (sym st.in_hand)) s
+    box_alone room h new w st.box _ (ap (λ (x : House). x.boxes) st.after) (ap (λ (x : House). x.lanes) st.after) st.is
+        (ap (λ hand. post_of hand ++ drop st.box.taken st.box.accepted) (sym st.in_hand)) s
 within_step room h (GiveSlip w outcome) new s st o =
     let boxes : new.boxes ≡ slice_set h.boxes w (record st.box { hand = None }) = ap (λ (x : House). x.boxes) st.after in
     let k = st.copy.post.note.txn.lane in
@@ -228,22 +246,26 @@ within_run room h (x ∷ xs) s r o = within_run room x.house xs (within_step roo
 pub within_start : (room blocks : ℕ) (h : House) → IsStart blocks h → AllWithin room h
 within_start room blocks h start k lane is =
     let f = each_at IsFreshLane h.lanes k lane start.lanes is in
-    let none : way k h.boxes ≡ 0 = sum_none on_way (one_of k) h.boxes (λ b box at. let g = each_at IsFreshBox h.boxes b box start.boxes at in rw (g.hand, g.taken, g.accepted) refl) in
+    let none : way k h.boxes ≡ 0 =
+        sum_none on_way (one_of k) h.boxes (λ b box at. let g = each_at IsFreshBox h.boxes b box start.boxes at in rw (g.hand, g.taken, g.accepted) refl) in
     let give : to_give lane.holds ≡ 0 = ap to_give f.holds in
     let slips : uncollected lane ≡ 0 = rw (f.slips, f.collected) refl in
     let places : open_places lane ≡ 0 = ap unanswered f.places in
     record { below = omega arith; bound = omega arith; drafting = λ key e. omega arith }
 
-pub every_orderly_within : (room blocks : ℕ) (start : House) (run : List Happened) → IsStart blocks start → Run start run → IsOrderly room start run → AllWithin room (last_house start run)
+pub every_orderly_within : (room blocks : ℕ) (start : House) (run : List Happened) → IsStart blocks start → Run start run → IsOrderly room start run
+    → AllWithin room (last_house start run)
 every_orderly_within room blocks start run is r o = within_run room start run (within_start room blocks start is) r o
 
 -- a copy on its way is one of those that count
-way_of_hand : (k : ℕ) (bs : List Box) (w : ℕ) (box : Box) (copy : Copy) → slice_get bs w ≡ Some box → box.hand ≡ Some copy → copy.post.note.txn.lane ≡ k → 1 ≤ way k bs
+way_of_hand : (k : ℕ) (bs : List Box) (w : ℕ) (box : Box) (copy : Copy) → slice_get bs w ≡ Some box → box.hand ≡ Some copy → copy.post.note.txn.lane ≡ k
+    → 1 ≤ way k bs
 way_of_hand k bs w box copy was hand own =
     let given = way_given k bs w box copy was hand in
     let one : one_of k copy.post ≡ 1 = own_copy k copy.post own in omega arith
 
-pub slips_find_room : (room blocks : ℕ) (start : House) (run : List Happened) → IsStart blocks start → Run start run → IsOrderly room start run → SlipsFindRoom room (last_house start run)
+pub slips_find_room : (room blocks : ℕ) (start : House) (run : List Happened) → IsStart blocks start → Run start run → IsOrderly room start run
+    → SlipsFindRoom room (last_house start run)
 slips_find_room room blocks start run is r o w box copy lane at hand released to =
     let h = last_house start run in
     let s = every_orderly_within room blocks start run is r o copy.post.note.txn.lane lane to in

@@ -1,5 +1,6 @@
 -- The steps of workers, by rank: one of the rank goes on, or none does.
-use Rattle.std.proofs.Common.{◌≡◌, ℕ, ◌<◌, ◌≤◌, List, [], ◌∷◌, length, drop, true, false, ◌||◌, Option, Some, None, inl, inr, refl, ap, subst, arith, ◌++◌, length-append}
+use Rattle.std.proofs.Common.{◌≡◌, ℕ, ◌<◌, ◌≤◌, List, [], ◌∷◌, length, drop, true, false, ◌||◌, Option, Some, None, inl, inr, refl, ap, subst, arith, ◌++◌,
+    length-append}
 use Rattle.std.specs.Prelude.{IfSome}
 use Rattle.std.proofs.lemmas.List.{length-drop}
 use Rattle.std.proofs.lemmas.Option.{slice_get_within}
@@ -16,7 +17,8 @@ use Rattle.mail_progress.specs.GoingOn.{GoesOn}
 use Rattle.mail_progress.specs.NothingStuck.{TheWorker}
 use Rattle.mail_progress.specs.InTurn.{rank}
 use Rattle.mail_progress.proofs.Search.{search_for}
-use Rattle.mail_progress.proofs.Movers.{IsReached, take_moves, write_moves, release_moves, give_moves}
+use Rattle.mail_progress.proofs.Reached.{IsReached}
+use Rattle.mail_progress.proofs.Movers.{take_moves, write_moves, release_moves, give_moves}
 use Rattle.mail_progress.proofs.AllFinished.{goes_on}
 use Rattle.mail_progress.proofs.Ranks.{HasRank, NoRank, IsDecided}
 
@@ -25,7 +27,8 @@ abbrev NoBox : House → (Box → Type 0) → Type 0
 NoBox h P = (w : ℕ) (box : Box) → BoxIs h w box → P box → ⊥
 
 -- mailboxes are searched
-by_boxes : (room : ℕ) (next : ℕ → ℕ) (h : House) (r : ℕ) (P : Box → Type 0) → ((box : Box) → Dec (P box)) → ((w : ℕ) (box : Box) → BoxIs h w box → P box → HasRank room next h r)
+by_boxes : (room : ℕ) (next : ℕ → ℕ) (h : House) (r : ℕ) (P : Box → Type 0) → ((box : Box) → Dec (P box))
+    → ((w : ℕ) (box : Box) → BoxIs h w box → P box → HasRank room next h r)
     → (NoBox h P → NoRank room next h r) → IsDecided room next h r
 by_boxes room next h r P each has none = elim (search_for (λ w box. P box) h.boxes (λ w box at. each box)) [
   | inl there ↦ inl (has there.0 there.1 there.2 there.3)
@@ -102,15 +105,20 @@ not_whole h none (Sync w) happens e =
     none w st.box st.is (st.copy, st.in_hand, ((st.held, (st.unsettled, st.sound)), rest))
 not_whole h none event happens e = absurd (omega arith)
 
-more_ranks : (room blocks : ℕ) (next : ℕ → ℕ) (h : House) → IsReached room blocks h → (w : ℕ) (box : Box) → BoxIs h w box → (has : HasMore h box) → (rest : List ℕ) → rest_of h has.0 ≡ rest → HasRank room next h 4
+more_ranks : (room blocks : ℕ) (next : ℕ → ℕ) (h : House) → IsReached room blocks h → (w : ℕ) (box : Box) → BoxIs h w box → (has : HasMore h box)
+    → (rest : List ℕ) → rest_of h has.0 ≡ rest → HasRank room next h 4
 unfolding write_moves
 more_ranks room blocks next h f w box at has [] e = let some = has.2.1 in let none : length (rest_of h has.0) ≡ 0 = ap length e in absurd (omega arith)
-more_ranks room blocks next h f w box at has (x ∷ xs) e = let p = has.2.0 in (goes_on (TheWorker w) room next h (write_moves room blocks next h f w box has.0 at has.1 p.0 p.1.0 p.1.1 (x ∷ xs) e), refl)
+more_ranks room blocks next h f w box at has (x ∷ xs) e = let p =
+    has.2.0 in (goes_on (TheWorker w) room next h (write_moves room blocks next h f w box has.0 at has.1 p.0 p.1.0 p.1.1 (x ∷ xs) e), refl)
 
-whole_ranks : (room blocks : ℕ) (next : ℕ → ℕ) (h : House) → IsReached room blocks h → (w : ℕ) (box : Box) → BoxIs h w box → (has : IsWhole h box) → (rest : List ℕ) → rest_of h has.0 ≡ rest → HasRank room next h 5
+whole_ranks : (room blocks : ℕ) (next : ℕ → ℕ) (h : House) → IsReached room blocks h → (w : ℕ) (box : Box) → BoxIs h w box → (has : IsWhole h box)
+    → (rest : List ℕ) → rest_of h has.0 ≡ rest → HasRank room next h 5
 unfolding write_moves
-whole_ranks room blocks next h f w box at has [] e = let p = has.2.0 in (goes_on (TheWorker w) room next h (write_moves room blocks next h f w box has.0 at has.1 p.0 p.1.0 p.1.1 [] e), refl)
-whole_ranks room blocks next h f w box at has (x ∷ xs) e = let none = has.2.1 in let some : length (rest_of h has.0) ≡ length (x ∷ xs) = ap length e in absurd (omega arith)
+whole_ranks room blocks next h f w box at has [] e = let p =
+    has.2.0 in (goes_on (TheWorker w) room next h (write_moves room blocks next h f w box has.0 at has.1 p.0 p.1.0 p.1.1 [] e), refl)
+whole_ranks room blocks next h f w box at has (x ∷ xs) e = let none = has.2.1 in let some : length (rest_of h has.0) ≡ length (x ∷ xs) =
+    ap length e in absurd (omega arith)
 
 pub writes_decided : (room blocks : ℕ) (next : ℕ → ℕ) (h : House) → IsReached room blocks h → IsDecided room next h 4
 writes_decided room blocks next h f =
@@ -134,13 +142,16 @@ no_release next h none (Release w) g happens e =
     none w st.box st.is (st.copy, st.in_hand, (st.held, subst (λ c. IfSome c (P st.box)) st.in_hand hand))
 no_release next h none event g happens e = absurd (omega arith)
 
-release_ranks : (room blocks : ℕ) (next : ℕ → ℕ) (h : House) → IsReached room blocks h → (w : ℕ) (box : Box) → BoxIs h w box → IsToLetGo box → HasRank room next h 6
+release_ranks : (room blocks : ℕ) (next : ℕ → ℕ) (h : House) → IsReached room blocks h → (w : ℕ) (box : Box) → BoxIs h w box → IsToLetGo box
+    → HasRank room next h 6
 unfolding release_moves
-release_ranks room blocks next h f w box at has = (goes_on (TheWorker w) room next h (release_moves room blocks next h f w box has.0 at has.1 has.2.0 has.2.1), refl)
+release_ranks room blocks next h f w box at has =
+    (goes_on (TheWorker w) room next h (release_moves room blocks next h f w box has.0 at has.1 has.2.0 has.2.1), refl)
 
 pub releases_decided : (room blocks : ℕ) (next : ℕ → ℕ) (h : House) → IsReached room blocks h → IsDecided room next h 6
 releases_decided room blocks next h f =
-    by_boxes room next h 6 IsToLetGo (λ box. in_hand _ (λ copy. Dec.and (Bool-discrete copy.released false) (Bool-discrete (is_settled copy || box.faulty) true)) box)
+    by_boxes room next h 6 IsToLetGo
+        (λ box. in_hand _ (λ copy. Dec.and (Bool-discrete copy.released false) (Bool-discrete (is_settled copy || box.faulty) true)) box)
     (release_ranks room blocks next h f) (λ none m e. no_release next h none m.event m.goes_on m.happens e)
 
 -- a copy whose slip is to give
@@ -157,4 +168,5 @@ give_ranks room blocks next h f w box at has = (goes_on (TheWorker w) room next 
 
 pub gives_decided : (room blocks : ℕ) (next : ℕ → ℕ) (h : House) → IsReached room blocks h → IsDecided room next h 7
 gives_decided room blocks next h f =
-    by_boxes room next h 7 HasLetGo (λ box. in_hand _ (λ copy. Bool-discrete copy.released true) box) (give_ranks room blocks next h f) (λ none m e. no_give h none m.event m.happens e)
+    by_boxes room next h 7 HasLetGo (λ box. in_hand _ (λ copy. Bool-discrete copy.released true) box) (give_ranks room blocks next h f)
+        (λ none m e. no_give h none m.event m.happens e)

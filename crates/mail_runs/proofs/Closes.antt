@@ -1,5 +1,6 @@
 -- The house in which a history ends, once all channels are closed.
-use Rattle.std.proofs.Common.{◌≡◌, ◌≢◌, ℕ, zero, suc, ◌+◌, ◌<◌, ◌≤◌, List, [], ◌∷◌, length, drop, true, Option, Some, None, inl, inr, refl, ap, sym, ◌∙◌, subst, append-nil, arith, length-drop}
+use Rattle.std.proofs.Common.{◌≡◌, ◌≢◌, ℕ, zero, suc, ◌+◌, ◌<◌, ◌≤◌, List, [], ◌∷◌, length, drop, true, Option, Some, None, inl, inr, refl, ap, sym, ◌∙◌, subst,
+    append-nil, arith, length-drop}
 use Rattle.std.specs.Prelude.{◌⊎◌, slice_get}
 use Rattle.std.proofs.lemmas.Option.{slice_get_within}
 use Rattle.mail_world.specs.declared.Note.{Note}
@@ -31,20 +32,23 @@ record IsWorkerDone (course : Course) (notes : List Note) (box : Box) : Type 0 w
   none : notes ≡ []
   ends : in_the_end course ≡ spooled box
 
-no_turns : (s : Server) (b : ℕ) (notes : List Note) (outcomes : List Outcome) (old new : Spooled) → [] ≡ turns_of b notes outcomes → TakesAll s notes outcomes old new → (notes ≡ []) × (new ≡ old)
+no_turns : (s : Server) (b : ℕ) (notes : List Note) (outcomes : List Outcome) (old new : Spooled) → [] ≡ turns_of b notes outcomes
+    → TakesAll s notes outcomes old new → (notes ≡ []) × (new ≡ old)
 no_turns s b [] [] old new e takes = (refl, takes)
 no_turns s b [] (o ∷ os) old new e takes = absurd takes
 no_turns s b (n ∷ ns) [] old new e takes = absurd takes
 no_turns s b (n ∷ ns) (o ∷ os) old new e takes = cc
 
-done_by : (s : Server) (b : ℕ) (course : Course) (notes : List Note) (outcomes : List Outcome) (box : Box) (hand : Option Copy) → box.hand ≡ hand → Begins b [] (turns_of b notes outcomes) hand
+done_by : (s : Server) (b : ℕ) (course : Course) (notes : List Note) (outcomes : List Outcome) (box : Box) (hand : Option Copy) → box.hand ≡ hand
+    → Begins b [] (turns_of b notes outcomes) hand
     → TakesAll s notes outcomes (spooled box) (in_the_end course) → IsWorkerDone course notes box
 done_by s b course notes outcomes box None is program takes =
     let d = no_turns s b notes outcomes (spooled box) (in_the_end course) program takes in
     record { free_hand = is; none = d.0; ends = d.1 }
 done_by s b course notes outcomes box (Some copy) is program takes = let wrong = program.1 in cc
 
-box_done : (s : Server) (capacity b : ℕ) (course : Course) (box : Box) (stands : BoxStands s capacity b course [] box) → IsWorkerDone course stands.work.notes box
+box_done : (s : Server) (capacity b : ℕ) (course : Course) (box : Box) (stands : BoxStands s capacity b course [] box)
+    → IsWorkerDone course stands.work.notes box
 box_done s capacity b course box stands = done_by s b course stands.work.notes stands.work.outcomes box box.hand refl stands.work.program stands.work.takes
 
 none_left : {A : Type 0} (n : ℕ) (xs : List A) → n ≤ length xs → drop n xs ≡ [] → n ≡ length xs
@@ -59,7 +63,8 @@ closed s capacity b course box stands =
     let d = box_done s capacity b course box stands in
     record {
       accepted = sym (append-nil (notes_of box.accepted)) ∙ stands.all;
-      taken = none_left box.taken box.accepted stands.prefix (no_posts (drop box.taken box.accepted) (sym (append-nil (notes_of (drop box.taken box.accepted))) ∙ stands.work.queue ∙ d.none));
+      taken = none_left box.taken box.accepted stands.prefix
+          (no_posts (drop box.taken box.accepted) (sym (append-nil (notes_of (drop box.taken box.accepted))) ∙ stands.work.queue ∙ d.none));
       closed = refl;
       free_hand = d.free_hand;
       faulty = sym (ap (λ (x : Spooled). x.faulty) d.ends);
@@ -145,8 +150,10 @@ ends {m} s t next =
     let frame : frame_of c.house ≡ frame_of story.start = sym (ap frame_of last) ∙ frame_run story.start story.run story.runs in
     let host = sym (ap (λ (f : Frame). f.host) frame) ∙ c.setting.1 in
     let accepts = every_run_in_order story.blocks story.start story.run story.starts story.runs in
-    let box_is : (b : ℕ) (box : Box) → BoxIs c.house b box → BoxIs (last_house story.start story.run) b box = λ b box is. ap (λ (x : House). slice_get x.boxes b) last ∙ is in
-    let below : (b : ℕ) (box : Box) → BoxIs c.house b box → b < s.boxes = λ b box is. subst (λ n. b < n) c.as_many.0 (slice_get_within c.house.boxes b box is) in
+    let box_is : (b : ℕ) (box : Box) → BoxIs c.house b box → BoxIs (last_house story.start story.run) b box =
+        λ b box is. ap (λ (x : House). slice_get x.boxes b) last ∙ is in
+    let below : (b : ℕ) (box : Box) → BoxIs c.house b box → b < s.boxes =
+        λ b box is. subst (λ n. b < n) c.as_many.0 (slice_get_within c.house.boxes b box is) in
     record {
       is = record {
         blocks = story.blocks;

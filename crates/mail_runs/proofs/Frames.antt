@@ -1,5 +1,6 @@
 -- What a deed leaves alone: the mailboxes and the lanes that it isn't of.
-use Rattle.std.proofs.Common.{◌≡◌, ◌≢◌, ℕ, ◌+◌, ◌-◌, ◌<◌, ◌≤◌, ◌==◌, List, [], ◌∷◌, ◌++◌, length, drop, inl, inr, refl, ap, sym, ◌∙◌, subst, arith, length-append}
+use Rattle.std.proofs.Common.{◌≡◌, ◌≢◌, ℕ, ◌+◌, ◌-◌, ◌<◌, ◌≤◌, ◌==◌, List, [], ◌∷◌, ◌++◌, length, drop, inl, inr, refl, ap, sym, ◌∙◌, subst, arith,
+    length-append}
 use Rattle.std.specs.Prelude.{⊤, ◌⊎◌, flat_map, slice_get}
 use Rattle.std.proofs.lemmas.List.Elements.{filter-append}
 use Rattle.std.proofs.lemmas.Grind.{flat_map-append}
@@ -9,7 +10,8 @@ use Rattle.mail_world.specs.declared.Slip.{Slip}
 use Rattle.mail_world.specs.Lists.{Transaction, copies_from}
 use Rattle.mail_world.specs.House.{Lane, Box, notes_of}
 use Rattle.mail_world.specs.Depot.{Depot}
-use Rattle.mail_runs.specs.Deeds.{Deed, Gave, Took, Told, Heard, turns_of, given_in, taken_in, told_in, heard_in, given_by, given_to, taken_by, told_to, heard_by, is_of_worker, worked_by, of_mailbox, slips_to}
+use Rattle.mail_runs.specs.Deeds.{Deed, Gave, Took, Told, Heard, turns_of, given_in, taken_in, told_in, heard_in, given_by, given_to, taken_by, told_to,
+    heard_by, is_of_worker, worked_by, of_mailbox, slips_to}
 use Rattle.mail_runs.specs.Courses.{Server, Course}
 use Rattle.mail_runs.specs.Histories.{HearsTold}
 use Rattle.mail_runs.specs.Timed.{is_of_lane}
@@ -35,16 +37,20 @@ IsPastLane k (Heard slip) = slip.txn.lane ≢ k
 
 -- parts of two lists, one after the other
 pub given_to-append : (b : ℕ) (xs ys : List Deed) → given_to b (xs ++ ys) ≡ given_to b xs ++ given_to b ys
-given_to-append b xs ys = ap (of_mailbox b) (flat_map-append given_in xs ys) ∙ filter-append (λ note. note.mailbox == b) (flat_map given_in xs) (flat_map given_in ys)
+given_to-append b xs ys = ap (of_mailbox b) (flat_map-append given_in xs ys)
+    ∙ filter-append (λ note. note.mailbox == b) (flat_map given_in xs) (flat_map given_in ys)
 
 pub taken_by-append : (b : ℕ) (xs ys : List Deed) → taken_by b (xs ++ ys) ≡ taken_by b xs ++ taken_by b ys
-taken_by-append b xs ys = ap (of_mailbox b) (flat_map-append taken_in xs ys) ∙ filter-append (λ note. note.mailbox == b) (flat_map taken_in xs) (flat_map taken_in ys)
+taken_by-append b xs ys = ap (of_mailbox b) (flat_map-append taken_in xs ys)
+    ∙ filter-append (λ note. note.mailbox == b) (flat_map taken_in xs) (flat_map taken_in ys)
 
 pub told_to-append : (k : ℕ) (xs ys : List Deed) → told_to k (xs ++ ys) ≡ told_to k xs ++ told_to k ys
-told_to-append k xs ys = ap (slips_to k) (flat_map-append told_in xs ys) ∙ filter-append (λ slip. slip.txn.lane == k) (flat_map told_in xs) (flat_map told_in ys)
+told_to-append k xs ys = ap (slips_to k) (flat_map-append told_in xs ys)
+    ∙ filter-append (λ slip. slip.txn.lane == k) (flat_map told_in xs) (flat_map told_in ys)
 
 pub heard_by-append : (k : ℕ) (xs ys : List Deed) → heard_by k (xs ++ ys) ≡ heard_by k xs ++ heard_by k ys
-heard_by-append k xs ys = ap (slips_to k) (flat_map-append heard_in xs ys) ∙ filter-append (λ slip. slip.txn.lane == k) (flat_map heard_in xs) (flat_map heard_in ys)
+heard_by-append k xs ys = ap (slips_to k) (flat_map-append heard_in xs ys)
+    ∙ filter-append (λ slip. slip.txn.lane == k) (flat_map heard_in xs) (flat_map heard_in ys)
 
 -- as many more wait after a deed that gives, and as many fewer after one that takes
 pub flows_on : (capacity b w n : ℕ) (d : Deed) (rest : List Deed) → n + length (taken_by b (d ∷ [])) ≡ w + length (given_to b (d ∷ []))
@@ -68,11 +74,14 @@ flows_on capacity b w n d rest e flows =
           omega arith;
     }
 
-pub tells_on : (k w n : ℕ) (d : Deed) (rest : List Deed) → n + length (heard_by k (d ∷ [])) ≡ w + length (told_to k (d ∷ [])) → HearsTold k w (d ∷ rest) → HearsTold k n rest
+pub tells_on : (k w n : ℕ) (d : Deed) (rest : List Deed) → n + length (heard_by k (d ∷ [])) ≡ w + length (told_to k (d ∷ [])) → HearsTold k w (d ∷ rest)
+    → HearsTold k n rest
 tells_on k w n d rest e fed before after whole =
     let f : length (heard_by k (d ∷ before)) ≤ w + length (told_to k (d ∷ before)) = fed (d ∷ before) after (ap (λ ds. d ∷ ds) whole) in
-    let t : length (heard_by k (d ∷ before)) ≡ length (heard_by k (d ∷ [])) + length (heard_by k before) = ap length (heard_by-append k (d ∷ []) before) ∙ length-append (heard_by k (d ∷ [])) (heard_by k before) in
-    let g : length (told_to k (d ∷ before)) ≡ length (told_to k (d ∷ [])) + length (told_to k before) = ap length (told_to-append k (d ∷ []) before) ∙ length-append (told_to k (d ∷ [])) (told_to k before) in
+    let t : length (heard_by k (d ∷ before)) ≡ length (heard_by k (d ∷ [])) + length (heard_by k before) =
+        ap length (heard_by-append k (d ∷ []) before) ∙ length-append (heard_by k (d ∷ [])) (heard_by k before) in
+    let g : length (told_to k (d ∷ before)) ≡ length (told_to k (d ∷ [])) + length (told_to k before) =
+        ap length (told_to-append k (d ∷ []) before) ∙ length-append (told_to k (d ∷ [])) (told_to k before) in
     omega arith
 
 -- what a deed that isn't of the mailbox leaves alone
@@ -99,7 +108,8 @@ past_box b (Told slip) past = record {
 }
 past_box b (Heard slip) past = record { given = λ rest. refl; taken = λ rest. refl; worked = λ rest. refl }
 
-pub box_past : (s : Server) (capacity b : ℕ) (course : Course) (d : Deed) (rest : List Deed) (box : Box) → IsPastBox b d → BoxStands s capacity b course (d ∷ rest) box → BoxStands s capacity b course rest box
+pub box_past : (s : Server) (capacity b : ℕ) (course : Course) (d : Deed) (rest : List Deed) (box : Box) → IsPastBox b d
+    → BoxStands s capacity b course (d ∷ rest) box → BoxStands s capacity b course rest box
 box_past s capacity b course d rest box past stands =
     let p = past_box b d past in
     let none_taken : length (taken_by b (d ∷ [])) ≡ 0 = ap length (p.taken []) in

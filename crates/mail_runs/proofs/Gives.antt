@@ -71,9 +71,11 @@ pub message_is : {m : Manner} {k lo : ℕ} {note : Note} {more : List Note} {lef
 message_is o = ap (λ (n : Note). n.message) (same_first _ _ _ _ o.gives)
 
 -- what is held under a key that was just written
-pub held_now : (d : Depot) (key : Key) (slot : Slot) (held : Held) (free : List ℕ) → slice_get d.slots key.slot ≡ Some slot → held_under (with_held d key held free) key ≡ held
+pub held_now : (d : Depot) (key : Key) (slot : Slot) (held : Held) (free : List ℕ) → slice_get d.slots key.slot ≡ Some slot
+    → held_under (with_held d key held free) key ≡ held
 held_now d key slot held free is =
-    let now : slice_get (slice_set d.slots key.slot (record { generation = key.generation; held = held })) key.slot ≡ Some (record { generation = key.generation; held = held }) =
+    let now : slice_get (slice_set d.slots key.slot (record { generation = key.generation; held = held })) key.slot
+        ≡ Some (record { generation = key.generation; held = held }) =
     set_at d.slots key.slot (record { generation = key.generation; held = held }) slot is in
     ap (held_at key) now ∙ rw (same_number key.generation key.generation refl) refl
 
@@ -95,7 +97,8 @@ pub record IsPlaced (d : Depot) (message : List ℕ) : Type 0 where
 pub placed : (d : Depot) (note : Note) (rest : List Deed) → DepotStands (Gave note ∷ rest) d → IsPlaced d note.message
 placed d note rest stands =
     let slots : 1 + sum_by slots_for rest ≤ sum_by free_slot d.slots = let h = stands.slots in omega (arith, sum_by-cons slots_for (Gave note) rest) in
-    let blocks : blocks_for (length note.message) + sum_by blocks_to_give rest ≤ length d.free = let h = stands.blocks in omega (arith, sum_by-cons blocks_to_give (Gave note) rest) in
+    let blocks : blocks_for (length note.message) + sum_by blocks_to_give rest ≤ length d.free = let h = stands.blocks in
+        omega (arith, sum_by-cons blocks_to_give (Gave note) rest) in
     let found = one_counts free_slot d.slots (omega arith) in
     let slot : Slot = found.1 in
     let some : 1 ≤ free_slot slot = found.3 in
@@ -107,23 +110,27 @@ placed d note rest stands =
     }
 
 -- the mailbox's channel accepts the copy
-pub given_here : (s : Server) (capacity : ℕ) (t : Threads) (note : Note) (key : Key) (rest : List Deed) (box : Box) → BoxStands s capacity note.mailbox (t.courses note.mailbox) (Gave note ∷ rest) box
+pub given_here : (s : Server) (capacity : ℕ) (t : Threads) (note : Note) (key : Key) (rest : List Deed) (box : Box)
+    → BoxStands s capacity note.mailbox (t.courses note.mailbox) (Gave note ∷ rest) box
     → BoxStands s capacity note.mailbox (t.courses note.mailbox) rest (record box { accepted = box.accepted ++ record { note = note; key = key } ∷ [] })
 given_here s capacity t note key rest box stands =
     let b : ℕ = note.mailbox in
     let post : Post = record { note = note; key = key } in
-    let given : (ds : List Deed) → given_to b (Gave note ∷ ds) ≡ note ∷ given_to b ds = λ ds. passes (λ (n : Note). n.mailbox == b) note (flat_map given_in ds) (same_number b b refl) in
+    let given : (ds : List Deed) → given_to b (Gave note ∷ ds) ≡ note ∷ given_to b ds =
+        λ ds. passes (λ (n : Note). n.mailbox == b) note (flat_map given_in ds) (same_number b b refl) in
     let longer : length (box.accepted ++ post ∷ []) ≡ length box.accepted + 1 = length-append box.accepted (post ∷ []) in
     let one : length (given_to b (Gave note ∷ [])) ≡ 1 = ap length (given []) in
     let notes : notes_of (box.accepted ++ post ∷ []) ≡ notes_of box.accepted ++ note ∷ [] = map-append (λ (p : Post). p.note) box.accepted (post ∷ []) in
     let waiting : notes_of (drop box.taken (box.accepted ++ post ∷ [])) ≡ notes_of (drop box.taken box.accepted) ++ note ∷ [] =
-    ap notes_of (drop-append-le box.taken box.accepted (post ∷ []) stands.prefix) ∙ map-append (λ (p : Post). p.note) (drop box.taken box.accepted) (post ∷ []) in
+    ap notes_of (drop-append-le box.taken box.accepted (post ∷ []) stands.prefix)
+        ∙ map-append (λ (p : Post). p.note) (drop box.taken box.accepted) (post ∷ []) in
     let low = stands.prefix in
     record {
       old = stands.old;
       still_open = stands.still_open;
       prefix = omega arith;
-      all = ap (λ l. l ++ given_to b rest) notes ∙ append_assoc (notes_of box.accepted) (note ∷ []) (given_to b rest) ∙ ap (λ l. notes_of box.accepted ++ l) (sym (given rest)) ∙ stands.all;
+      all = ap (λ l. l ++ given_to b rest) notes ∙ append_assoc (notes_of box.accepted) (note ∷ []) (given_to b rest)
+          ∙ ap (λ l. notes_of box.accepted ++ l) (sym (given rest)) ∙ stands.all;
       flows = flows_on capacity b (length box.accepted - box.taken) (length (box.accepted ++ post ∷ []) - box.taken) (Gave note) rest (omega arith)
           stands.flows;
       work = record {

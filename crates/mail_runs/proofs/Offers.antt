@@ -87,7 +87,8 @@ offer_last {m} s t note rest r last =
     let hold : r.lane.holds ≡ one_hold g.key 1 ∷ [] = g.hold ∙ ap (λ bs. one_hold g.key (length bs + 1) ∷ []) last in
     let sealed : slice_get r.lane.messages g.at ≡ Some (sealed_up_to g.key note.txn.number note.message note.place) =
     rw (c.number, c.message, c.place) g.message in
-    let new : House = with_box (with_lane h k (lane_after r.lane (remove r.lane.holds 0) g.at g.key note)) note.mailbox (record b.0 { accepted = b.0.accepted ++ record { note = note; key = g.key } ∷ [] }) in
+    let new : House = with_box (with_lane h k (lane_after r.lane (remove r.lane.holds 0) g.at g.key note)) note.mailbox
+        (record b.0 { accepted = b.0.accepted ++ record { note = note; key = g.key } ∷ [] }) in
     let step : OfferStep h k note new = record {
       lane = r.lane;
       box = b.0;
@@ -133,8 +134,10 @@ offer_more {m} s t note rest r box boxes more =
     let two : holds ≡ one_hold g.key n ∷ one_hold g.key 1 ∷ [] = ap (λ hs. slice_set hs 0 (one_hold g.key n) ++ one_hold g.key 1 ∷ []) hold in
     let split : Lane = record r.lane { holds = holds } in
     let between : House = with_lane h k split in
-    let first : SplitStep h k 0 between = record { lane = r.lane; key = g.key; weight = n; is = r.is; hold = ap (λ hs. slice_get hs 0) hold; above = omega arith; after = refl } in
-    let new : House = with_box (with_lane between k (lane_after split (remove holds 1) g.at g.key note)) note.mailbox (record b.0 { accepted = b.0.accepted ++ record { note = note; key = g.key } ∷ [] }) in
+    let first : SplitStep h k 0 between =
+        record { lane = r.lane; key = g.key; weight = n; is = r.is; hold = ap (λ hs. slice_get hs 0) hold; above = omega arith; after = refl } in
+    let new : House = with_box (with_lane between k (lane_after split (remove holds 1) g.at g.key note)) note.mailbox
+        (record b.0 { accepted = b.0.accepted ++ record { note = note; key = g.key } ∷ [] }) in
     let step : OfferStep between k note new = record {
       lane = split;
       box = b.0;
@@ -152,7 +155,8 @@ offer_more {m} s t note rest r box boxes more =
     let one : remove holds 1 ≡ one_hold g.key n ∷ [] = ap (λ hs. remove hs 1) two in
     let there : Story m new = goes_on between new (Offer k note) (goes_on h between (Split k 0) r.story first (λ o. tt)) step
     (λ o. offer_in_order m.room between k note b.0 b.1 room) in
-    let lanes : slice_set (slice_set h.lanes k split) k (lane_after split (remove holds 1) g.at g.key note) ≡ slice_set h.lanes k (lane_after r.lane (one_hold g.key n ∷ []) g.at g.key note) =
+    let lanes : slice_set (slice_set h.lanes k split) k (lane_after split (remove holds 1) g.at g.key note)
+        ≡ slice_set h.lanes k (lane_after r.lane (one_hold g.key n ∷ []) g.at g.key note) =
     set_twice h.lanes k split (lane_after split (remove holds 1) g.at g.key note) ∙ ap (λ hs. slice_set h.lanes k (lane_after r.lane hs g.at g.key note)) one in
     record {
       box = b.0;
@@ -192,7 +196,8 @@ offered {m} s t note rest r holds o gives =
         setting = r.setting;
         as_many = (length_set h.boxes b box ∙ r.as_many.0, length_set h.lanes k now ∙ r.as_many.1);
         within = r.within.1;
-        boxes = one_box s t h.capacity (Gave note) rest h.boxes b box (λ i differ e. differ (sym e)) (given_here s h.capacity t note r.giving.key rest o.box (r.boxes b o.box o.box_is)) r.boxes;
+        boxes = one_box s t h.capacity (Gave note) rest h.boxes b box (λ i differ e. differ (sym e))
+            (given_here s h.capacity t note r.giving.key rest o.box (r.boxes b o.box o.box_is)) r.boxes;
         lanes = one_lane t (Gave note) rest h.lanes k now (λ i differ e. differ (sym e)) stands r.lanes;
         depot = r.depot;
       };
@@ -219,7 +224,8 @@ given_by_boxes {m} s t note rest r (box ∷ boxes) more =
     let n : ℕ = length (box ∷ boxes) in
     let one_more : n ≡ length boxes + 1 = omega arith in
     let next : SealedMessage = record (sealed_up_to g.key note.txn.number note.message note.place) { offered = note.place + 1 } in
-    let there : slice_get (slice_set r.lane.messages g.at next) g.at ≡ Some next = set_at r.lane.messages g.at next (sealed_up_to g.key g.t.number g.t.message g.place) g.message in
+    let there : slice_get (slice_set r.lane.messages g.at next) g.at ≡ Some next =
+        set_at r.lane.messages g.at next (sealed_up_to g.key g.t.number g.t.message g.place) g.message in
     offered s t note rest r (one_hold g.key n ∷ []) (offer_more s t note rest r box boxes more)
     (inr (record {
       key = g.key;

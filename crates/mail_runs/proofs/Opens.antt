@@ -1,5 +1,6 @@
 -- A lane seals its next message: it begins a draft, puts the bytes and seals it for all its copies.
-use Rattle.std.proofs.Common.{◌≡◌, ℕ, ◌+◌, ◌-◌, ◌<◌, ◌≤◌, ◌==◌, List, [], ◌∷◌, ◌++◌, length, take, drop, Option, Some, None, inl, inr, refl, ap, sym, ◌∙◌, subst, arith, length-drop}
+use Rattle.std.proofs.Common.{◌≡◌, ℕ, ◌+◌, ◌-◌, ◌<◌, ◌≤◌, ◌==◌, List, [], ◌∷◌, ◌++◌, length, take, drop, Option, Some, None, inl, inr, refl, ap, sym, ◌∙◌,
+    subst, arith, length-drop}
 use Rattle.std.specs.Prelude.{◌⊎◌, IfSome, flat_map, slice_get, slice_set, sum_by}
 use Rattle.std.specs.List.{AllByRecursion}
 use Rattle.std.proofs.lemmas.List.{take-append-drop, length-take-le}
@@ -47,13 +48,16 @@ pub record IsReady (m : Manner) (s : Server) (t : Threads) (note : Note) (rest :
 abbrev sealed_slot : Key → List ℕ → List ℕ → ℕ → Slot
 sealed_slot key message blocks n = record { generation = key.generation; held = Sealed message blocks n }
 
-depot_sealed : (d : Depot) (note : Note) (rest : List Deed) (key : Key) (message blocks : List ℕ) (n : ℕ) (slots : List Slot) (free : List ℕ) → DepotStands (Gave note ∷ rest) d
+depot_sealed : (d : Depot) (note : Note) (rest : List Deed) (key : Key) (message blocks : List ℕ) (n : ℕ) (slots : List Slot) (free : List ℕ)
+    → DepotStands (Gave note ∷ rest) d
     → slice_get d.slots key.slot ≡ Some (record { generation = key.generation; held = Free }) → note.message ≡ message
-    → slots ≡ slice_set d.slots key.slot (sealed_slot key message blocks n) → free ≡ drop (blocks_for (length message)) d.free → blocks_for (length message) ≤ length d.free
+    → slots ≡ slice_set d.slots key.slot (sealed_slot key message blocks n) → free ≡ drop (blocks_for (length message)) d.free
+    → blocks_for (length message) ≤ length d.free
     → DepotStands rest (record { slots = slots; free = free })
 depot_sealed d note rest key message blocks n slots free stands is same after left enough =
     let sum = sum_set free_slot d.slots key.slot (record { generation = key.generation; held = Free }) (sealed_slot key message blocks n) is in
-    let now : sum_by free_slot slots ≡ sum_by free_slot (slice_set d.slots key.slot (sealed_slot key message blocks n)) = ap (λ xs. sum_by free_slot xs) after in
+    let now : sum_by free_slot slots ≡ sum_by free_slot (slice_set d.slots key.slot (sealed_slot key message blocks n)) =
+        ap (λ xs. sum_by free_slot xs) after in
     let fewer : length free ≡ length d.free - blocks_for (length message) = ap length left ∙ length-drop (blocks_for (length message)) d.free in
     let size : blocks_for (length note.message) ≡ blocks_for (length message) = ap (λ m. blocks_for (length m)) same in
     let s = stands.slots in
@@ -97,10 +101,13 @@ module _ (h : House) (k : ℕ) (lane : Lane) (x : Transaction) (key : Key) (n : 
   abbrev house₃ : House
   house₃ = with_lane (with_depot house₂ depot₃) k lane₃
 
-  begins : LaneIs h k lane → lane.draft ≡ None → lane.number < x.number → slice_get h.depot.slots key.slot ≡ Some (record { generation = key.generation; held = Free }) → BeginStep h k house₁
-  begins is none later free = record { lane = lane; key = key; number = x.number; depot = depot₁; is = is; no_draft = none; later = later; begins = (free, refl); after = refl }
+  begins : LaneIs h k lane → lane.draft ≡ None → lane.number < x.number
+      → slice_get h.depot.slots key.slot ≡ Some (record { generation = key.generation; held = Free }) → BeginStep h k house₁
+  begins is none later free = record { lane = lane; key = key; number = x.number; depot = depot₁; is = is; no_draft = none; later = later;
+      begins = (free, refl); after = refl }
 
-  puts : LaneIs h k lane → slice_get h.depot.slots key.slot ≡ Some (record { generation = key.generation; held = Free }) → need ≤ length h.depot.free → PutStep house₁ k x.message house₂
+  puts : LaneIs h k lane → slice_get h.depot.slots key.slot ≡ Some (record { generation = key.generation; held = Free }) → need ≤ length h.depot.free
+      → PutStep house₁ k x.message house₂
   puts is free enough = record {
     lane = lane₁;
     key = key;
@@ -120,8 +127,10 @@ module _ (h : House) (k : ℕ) (lane : Lane) (x : Transaction) (key : Key) (n : 
     after = refl;
   }
 
-  there₁ : slice_get h.depot.slots key.slot ≡ Some (record { generation = key.generation; held = Free }) → slice_get depot₁.slots key.slot ≡ Some (record { generation = key.generation; held = Draft [] [] })
-  there₁ free = set_at h.depot.slots key.slot (record { generation = key.generation; held = Draft [] [] }) (record { generation = key.generation; held = Free }) free
+  there₁ : slice_get h.depot.slots key.slot ≡ Some (record { generation = key.generation; held = Free })
+      → slice_get depot₁.slots key.slot ≡ Some (record { generation = key.generation; held = Draft [] [] })
+  there₁ free = set_at h.depot.slots key.slot (record { generation = key.generation; held = Draft [] [] }) (record { generation = key.generation; held = Free })
+      free
 
   seals : LaneIs h k lane → 1 ≤ n → slice_get h.depot.slots key.slot ≡ Some (record { generation = key.generation; held = Free }) → SealStep house₂ k n house₃
   seals is some free = record {
@@ -134,7 +143,8 @@ module _ (h : House) (k : ℕ) (lane : Lane) (x : Transaction) (key : Key) (n : 
     seals = record {
       bytes = x.message;
       blocks = take need h.depot.free;
-      draft = held_now depot₁ key (record { generation = key.generation; held = Draft [] [] }) (Draft x.message (take need h.depot.free)) (drop need h.depot.free) (there₁ free);
+      draft = held_now depot₁ key (record { generation = key.generation; held = Draft [] [] }) (Draft x.message (take need h.depot.free))
+          (drop need h.depot.free) (there₁ free);
       after = refl;
     };
     after = refl;
@@ -145,7 +155,8 @@ module _ (h : House) (k : ℕ) (lane : Lane) (x : Transaction) (key : Key) (n : 
 
   slots_are : depot₃.slots ≡ slice_set h.depot.slots key.slot (sealed_slot key x.message (take need h.depot.free) n)
   slots_are =
-      set_twice (slice_set h.depot.slots key.slot (record { generation = key.generation; held = Draft [] [] })) key.slot (record { generation = key.generation; held = Draft x.message (take need h.depot.free) })
+      set_twice (slice_set h.depot.slots key.slot (record { generation = key.generation; held = Draft [] [] })) key.slot
+          (record { generation = key.generation; held = Draft x.message (take need h.depot.free) })
       (sealed_slot key x.message (take need h.depot.free) n)
       ∙ set_twice h.depot.slots key.slot (record { generation = key.generation; held = Draft [] [] }) (sealed_slot key x.message (take need h.depot.free) n)
 
@@ -222,7 +233,8 @@ opened {m} s t note rest h stands story lane is none answered o =
       boxes = stands.boxes;
       lanes = λ j l at. each_set (λ i x. LaneStands m i (t.heard i) (Gave note ∷ rest) x) h.lanes k now (λ i x differ was. stands.lanes i x was) stands_now
           j l (ap (λ ls. slice_get ls j) (sym (lanes_are h k lane o.t p.key n)) ∙ at);
-      depot = depot_sealed h.depot note rest p.key o.t.message (take (blocks_for (length o.t.message)) h.depot.free) n new.depot.slots new.depot.free stands.depot p.is bytes (slots_are h k lane o.t p.key n) refl enough;
+      depot = depot_sealed h.depot note rest p.key o.t.message (take (blocks_for (length o.t.message)) h.depot.free) n new.depot.slots new.depot.free
+          stands.depot p.is bytes (slots_are h k lane o.t p.key n) refl enough;
       lane = now;
       is = ap (λ ls. slice_get ls k) (lanes_are h k lane o.t p.key n) ∙ set_at h.lanes k now lane is;
       giving = giving;

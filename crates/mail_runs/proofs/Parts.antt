@@ -26,7 +26,8 @@ pub other_number : (n m : ℕ) → n ≢ m → (n == m) ≡ false
 other_number n m differ = other_if n m (n == m) refl differ ∙ refl
 
 -- what holds of each element of a list after one of them was set
-pub each_set : {A : Type 0} (P : ℕ → A → Type 0) (xs : List A) (k : ℕ) (x : A) → ((j : ℕ) (y : A) → j ≢ k → slice_get xs j ≡ Some y → P j y) → P k x → (j : ℕ) (y : A) → slice_get (slice_set xs k x) j ≡ Some y → P j y
+pub each_set : {A : Type 0} (P : ℕ → A → Type 0) (xs : List A) (k : ℕ) (x : A) → ((j : ℕ) (y : A) → j ≢ k → slice_get xs j ≡ Some y → P j y) → P k x
+    → (j : ℕ) (y : A) → slice_get (slice_set xs k x) j ≡ Some y → P j y
 each_set P xs k x others here j y is = elim (get_set xs k j x y is) [
   | inl at ↦ let there : P k y = subst (P k) at.1 here in subst (λ i. P i y) (sym at.0) there
   | inr other ↦ others j y other.0 other.1

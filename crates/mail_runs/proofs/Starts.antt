@@ -1,5 +1,6 @@
 -- The house in which a history begins.
-use Rattle.std.proofs.Common.{◌≡◌, ℕ, zero, suc, ◌+◌, ◌<◌, ◌==◌, List, [], ◌∷◌, ◌++◌, length, Bool, true, false, cond, Some, None, inl, refl, ap, sym, ◌∙◌, subst, append-nil, arith}
+use Rattle.std.proofs.Common.{◌≡◌, ℕ, zero, suc, ◌+◌, ◌<◌, ◌==◌, List, [], ◌∷◌, ◌++◌, length, Bool, true, false, cond, Some, None, inl, refl, ap, sym, ◌∙◌,
+    subst, append-nil, arith}
 use Rattle.std.specs.Prelude.{flat_map, sum_by, slice_get, replicate, nat_lt, if◌then◌else◌}
 use Rattle.std.specs.List.{AllByRecursion}
 use Rattle.std.proofs.lemmas.Bool.Decides.{nat_tests}
@@ -37,7 +38,8 @@ listed P (suc n) make =
     let rest = listed (λ i x. P (suc i) x) n (λ i low. make (suc i) (omega arith)) in
     record { all = first.0 ∷ rest.all; long = ap (λ m. suc m) rest.long; each = listed_each P first.0 rest.all first.1 rest.each }
   where
-    listed_each : {A : Type 0} (P : ℕ → A → Type 0) (x : A) (xs : List A) → P 0 x → ((i : ℕ) (y : A) → slice_get xs i ≡ Some y → P (suc i) y) → (i : ℕ) (y : A) → slice_get (x ∷ xs) i ≡ Some y → P i y
+    listed_each : {A : Type 0} (P : ℕ → A → Type 0) (x : A) (xs : List A) → P 0 x → ((i : ℕ) (y : A) → slice_get xs i ≡ Some y → P (suc i) y) → (i : ℕ) (y : A)
+        → slice_get (x ∷ xs) i ≡ Some y → P i y
     listed_each P x xs here later zero y is = let same : x ≡ y = cc in subst (P 0) same here
     listed_each P x xs here later (suc i) y is = later i y is
 
@@ -68,7 +70,8 @@ each_once : (n x : ℕ) → occurrences x (numbers_below n) ≡ (if nat_lt x n t
 unfolding numbers_below
 each_once zero x = none_below x 0 (nat_lt x 0) refl refl
 each_once (suc n) x =
-    count-cons (λ y. y == x) n (numbers_below n) ∙ ap (λ m. cond (n == x) 1 0 + m) (each_once n x) ∙ one_more_below x n (n == x) (nat_lt x n) (nat_lt x (suc n)) refl refl refl
+    count-cons (λ y. y == x) n (numbers_below n) ∙ ap (λ m. cond (n == x) 1 0 + m) (each_once n x)
+        ∙ one_more_below x n (n == x) (nat_lt x n) (nat_lt x (suc n)) refl refl refl
 
 abbrev unused : Slot
 unused = record { generation = 0; held = Free }
@@ -89,13 +92,15 @@ abbrev large : ℕ → ℕ → Depot
 large slots blocks = record { slots = replicate slots unused; free = numbers_below blocks }
 
 large_once : (slots blocks : ℕ) → HasEachBlockOnce blocks (large slots blocks)
-large_once slots blocks x = ap (λ bs. occurrences x (numbers_below blocks ++ bs)) (no_blocks slots) ∙ ap (occurrences x) (append-nil (numbers_below blocks)) ∙ each_once blocks x
+large_once slots blocks x = ap (λ bs. occurrences x (numbers_below blocks ++ bs)) (no_blocks slots) ∙ ap (occurrences x) (append-nil (numbers_below blocks))
+    ∙ each_once blocks x
 
 abbrev first_box : Course → List ℕ → Bool → Box
 first_box course spool faulty = record { old = course.old; accepted = []; taken = 0; settled = 0; closed = false; spool = spool; hand = None; faulty = faulty }
 
 abbrev first_lane : Lane
-first_lane = record { number = 0; draft = None; messages = []; holds = []; gather = record { txn = txn_of 0 0; places = [] }; slips = []; collected = 0; heard = [] }
+first_lane = record { number = 0; draft = None; messages = []; holds = []; gather = record { txn = txn_of 0 0; places = [] }; slips = []; collected = 0;
+    heard = [] }
 
 record IsFirst (s : Server) (capacity b : ℕ) (course : Course) (deeds : List Deed) (box : Box) : Type 0 where
   fresh : IsFreshBox box

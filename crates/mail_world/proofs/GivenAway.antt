@@ -1,5 +1,6 @@
 -- How many copies a lane gave away of a transaction and a place: one at most, and as many as were heard of or are on their way.
-use Rattle.std.proofs.Common.{◌≡◌, ◌≢◌, ℕ, zero, suc, ◌+◌, ◌≤◌, List, [], ◌∷◌, ◌++◌, drop, Bool, true, false, cond, ◌&&◌, ◌==◌, Some, refl, ap, sym, ◌∙◌, subst, arith}
+use Rattle.std.proofs.Common.{◌≡◌, ◌≢◌, ℕ, zero, suc, ◌+◌, ◌≤◌, List, [], ◌∷◌, ◌++◌, drop, Bool, true, false, cond, ◌&&◌, ◌==◌, Some, refl, ap, sym, ◌∙◌, subst,
+    arith}
 use Rattle.std.specs.Prelude.{slice_get, slice_set, count_by, nat_lt}
 use Rattle.std.proofs.lemmas.Bool.{eqb-true}
 use Rattle.std.proofs.lemmas.Bool.Decides.{nat_tests}
@@ -27,7 +28,8 @@ count_one_more f (suc zero) [] x = omega arith
 count_one_more f (suc (suc n)) [] x = omega arith
 count_one_more f (suc n) (y ∷ xs) x = count_one_more f n xs x
 
-count_set : {A : Type 0} (f : A → Bool) (xs : List A) (i : ℕ) (old new : A) → slice_get xs i ≡ Some old → count_by f (slice_set xs i new) + cond (f old) 1 0 ≡ count_by f xs + cond (f new) 1 0
+count_set : {A : Type 0} (f : A → Bool) (xs : List A) (i : ℕ) (old new : A) → slice_get xs i ≡ Some old
+    → count_by f (slice_set xs i new) + cond (f old) 1 0 ≡ count_by f xs + cond (f new) 1 0
 count_set f [] i old new e = cc
 count_set f (x ∷ xs) zero old new e =
     let same : x ≡ old = cc in
@@ -72,7 +74,8 @@ is_given number p t = (t.number == number) && nat_lt p t.offered
 lt_more : (p n : ℕ) → ◌≡◌ {A = ℕ} (cond (nat_lt p (n + 1)) 1 0) (cond (nat_lt p n) 1 0 + cond (n == p) 1 0)
 lt_more p n = grind (arith, nat_tests)
 
-one_given : (key : Key) (number n p place : ℕ) (message : List ℕ) → cond (is_given n p (record { number = number; key = key; message = message; offered = place + 1 })) 1 0
+one_given : (key : Key) (number n p place : ℕ) (message : List ℕ)
+    → cond (is_given n p (record { number = number; key = key; message = message; offered = place + 1 })) 1 0
     ≡ cond (is_given n p (record { number = number; key = key; message = message; offered = place })) 1 0 + cond ((number == n) && (place == p)) 1 0
 one_given key number n p place message = by (number == n)
   where
@@ -80,20 +83,24 @@ one_given key number n p place message = by (number == n)
     by true = lt_more p place
     by false = refl
 
-pub count_given : (ts : List SealedMessage) (t : ℕ) (key : Key) (number n p place : ℕ) (message : List ℕ) → slice_get ts t ≡ Some (record { number = number; key = key; message = message; offered = place })
-    → count_by (is_given n p) (slice_set ts t (record { number = number; key = key; message = message; offered = place + 1 })) ≡ count_by (is_given n p) ts + cond ((number == n) && (place == p)) 1 0
+pub count_given : (ts : List SealedMessage) (t : ℕ) (key : Key) (number n p place : ℕ) (message : List ℕ)
+    → slice_get ts t ≡ Some (record { number = number; key = key; message = message; offered = place })
+    → count_by (is_given n p) (slice_set ts t (record { number = number; key = key; message = message; offered = place + 1 })) ≡ count_by (is_given n p) ts
+    + cond ((number == n) && (place == p)) 1 0
 count_given ts t key number n p place message at =
     omega (
       arith,
       one_given key number n p place message,
-      count_set (is_given n p) ts t (record { number = number; key = key; message = message; offered = place }) (record { number = number; key = key; message = message; offered = place + 1 }) at,
+      count_set (is_given n p) ts t (record { number = number; key = key; message = message; offered = place })
+          (record { number = number; key = key; message = message; offered = place + 1 }) at,
     )
 
 -- a message that is sealed has no copy given away
 none_before_zero : (p : ℕ) → nat_lt p 0 ≡ false
 none_before_zero p = grind (arith, nat_tests)
 
-pub count_sealed : (ts : List SealedMessage) (key : Key) (number n p : ℕ) (message : List ℕ) → count_by (is_given n p) (ts ++ record { number = number; key = key; message = message; offered = 0 } ∷ []) ≡ count_by (is_given n p) ts
+pub count_sealed : (ts : List SealedMessage) (key : Key) (number n p : ℕ) (message : List ℕ)
+    → count_by (is_given n p) (ts ++ record { number = number; key = key; message = message; offered = 0 } ∷ []) ≡ count_by (is_given n p) ts
 count_sealed ts key number n p message =
     let none : ◌≡◌ {A = ℕ} (cond (is_given n p (record { number = number; key = key; message = message; offered = 0 })) 1 0) 0 = by (number == n) in
     omega (arith, count-append (is_given n p) ts (record { number = number; key = key; message = message; offered = 0 } ∷ []))
@@ -106,10 +113,12 @@ count_sealed ts key number n p message =
 abbrev pub AreGiven : ℕ → Txn → ℕ → ℕ → ℕ → List SealedMessage → Type 0
 AreGiven k txn p told way ts = told + cond (k == txn.lane) way 0 ≤ cond (k == txn.lane) (count_by (is_given txn.number p) ts) 0
 
-pub given_fewer : (k : ℕ) (txn : Txn) (p told way way' : ℕ) (ts : List SealedMessage) → way' ≤ way → AreGiven k txn p told way ts → AreGiven k txn p told way' ts
+pub given_fewer : (k : ℕ) (txn : Txn) (p told way way' : ℕ) (ts : List SealedMessage) → way' ≤ way → AreGiven k txn p told way ts
+    → AreGiven k txn p told way' ts
 given_fewer k txn p told way way' ts le h = by (k == txn.lane) h
   where
-    by : (t : Bool) → told + cond t way 0 ≤ cond t (count_by (is_given txn.number p) ts) 0 → told + cond t way' 0 ≤ cond t (count_by (is_given txn.number p) ts) 0
+    by : (t : Bool) → told + cond t way 0 ≤ cond t (count_by (is_given txn.number p) ts) 0
+        → told + cond t way' 0 ≤ cond t (count_by (is_given txn.number p) ts) 0
     by true b = omega arith
     by false b = omega arith
 
@@ -126,7 +135,8 @@ pub given_seal : (k : ℕ) (txn : Txn) (p told way : ℕ) (ts : List SealedMessa
 given_seal k txn p told way ts key number message h = rw (count_sealed ts key number txn.number p message) h
 
 -- a copy is handed back, and the lane's own slip tells of it
-back_by : (t u v : Bool) (told told' way old new : ℕ) → told' ≡ told + cond (t && u && v) 1 0 → new ≡ old + cond (u && v) 1 0 → told + cond t way 0 ≤ cond t old 0 → told' + cond t way 0 ≤ cond t new 0
+back_by : (t u v : Bool) (told told' way old new : ℕ) → told' ≡ told + cond (t && u && v) 1 0 → new ≡ old + cond (u && v) 1 0
+    → told + cond t way 0 ≤ cond t old 0 → told' + cond t way 0 ≤ cond t new 0
 back_by true u v told told' way old new a b h = omega arith
 back_by false u v told told' way old new a b h = omega arith
 
@@ -138,19 +148,23 @@ given_back k txn p told told' way ts t key number place m message at more h =
     back_by (k == txn.lane) (number == txn.number) (place == p) told told' way _ _ more (count_given ts t key number txn.number p place message at) h
 
 -- a copy is offered
-offer_by : (t u v : Bool) (told way way' old new : ℕ) → way' ≤ way + cond (t && u && v) 1 0 → new ≡ old + cond (u && v) 1 0 → told + cond t way 0 ≤ cond t old 0 → told + cond t way' 0 ≤ cond t new 0
+offer_by : (t u v : Bool) (told way way' old new : ℕ) → way' ≤ way + cond (t && u && v) 1 0 → new ≡ old + cond (u && v) 1 0 → told + cond t way 0 ≤ cond t old 0
+    → told + cond t way' 0 ≤ cond t new 0
 offer_by true u v told way way' old new a b h = omega arith
 offer_by false u v told way way' old new a b h = omega arith
 
 pub given_offer : (k : ℕ) (txn : Txn) (p told way way' : ℕ) (ts : List SealedMessage) (t : ℕ) (key : Key) (note : Note) → note.txn.lane ≡ k
     → slice_get ts t ≡ Some (record { number = note.txn.number; key = key; message = note.message; offered = note.place })
     → way' ≤ way + cond (is_copy txn p note) 1 0
-    → AreGiven k txn p told way ts → AreGiven k txn p told way' (slice_set ts t (record { number = note.txn.number; key = key; message = note.message; offered = note.place + 1 }))
+    → AreGiven k txn p told way ts
+    → AreGiven k txn p told way' (slice_set ts t (record { number = note.txn.number; key = key; message = note.message; offered = note.place + 1 }))
 given_offer k txn p told way way' ts t key note own at more h =
     let P : ℕ → Type 0 = λ n. way' ≤ way + cond ((n == txn.lane) && (note.txn.number == txn.number) && (note.place == p)) 1 0 in
-    offer_by (k == txn.lane) (note.txn.number == txn.number) (note.place == p) told way way' _ _ (subst P own more) (count_given ts t key note.txn.number txn.number p note.place note.message at) h
+    offer_by (k == txn.lane) (note.txn.number == txn.number) (note.place == p) told way way' _ _ (subst P own more)
+        (count_given ts t key note.txn.number txn.number p note.place note.message at) h
 
-elsewhere_by : (t w : Bool) (told way way' old : ℕ) → (t ≡ true → w ≡ false) → way' ≤ way + cond w 1 0 → told + cond t way 0 ≤ cond t old 0 → told + cond t way' 0 ≤ cond t old 0
+elsewhere_by : (t w : Bool) (told way way' old : ℕ) → (t ≡ true → w ≡ false) → way' ≤ way + cond w 1 0 → told + cond t way 0 ≤ cond t old 0
+    → told + cond t way' 0 ≤ cond t old 0
 elsewhere_by true true told way way' old f a h = let bad : true ≡ false = f refl in cc
 elsewhere_by true false told way way' old f a h = omega arith
 elsewhere_by false w told way way' old f a h = omega arith
@@ -165,4 +179,5 @@ given_elsewhere k v txn p told way way' ts note own ne more h =
 pub given_once : (k : ℕ) (h : House) (lane : Lane) → LaneIs h k lane → IsOnce h → (number p : ℕ) → count_by (is_given number p) lane.messages ≤ 1
 given_once k h lane is o number p = count_at_most_one (is_given number p) lane.messages
     (λ i j t u at here e e'. o.distinct k lane i j t u is at here
-    (eqb-true t.number number (and_parts (t.number == number) (nat_lt p t.offered) e).0 ∙ sym (eqb-true u.number number (and_parts (u.number == number) (nat_lt p u.offered) e').0)))
+    (eqb-true t.number number (and_parts (t.number == number) (nat_lt p t.offered) e).0
+        ∙ sym (eqb-true u.number number (and_parts (u.number == number) (nat_lt p u.offered) e').0)))

@@ -1,5 +1,6 @@
 -- What an engine has handled of the bytes of a conversation: parts at their beginning, and what goes on from there.
-use Rattle.std.proofs.Common.{◌≡◌, ℕ, cond, ◌+◌, ◌≤◌, List, [], ◌∷◌, ◌++◌, length, take, drop, Some, None, refl, sym, ap, ◌∙◌, arith, append_assoc, length-drop, length-append, drop-drop, length-take-le}
+use Rattle.std.proofs.Common.{◌≡◌, ℕ, cond, ◌+◌, ◌≤◌, List, [], ◌∷◌, ◌++◌, length, take, drop, Some, None, refl, sym, ap, ◌∙◌, arith, append_assoc, length-drop,
+    length-append, drop-drop, length-take-le}
 use Rattle.std.specs.Prelude.{option_map, flat_map, sum_by, count_by, false, ⊤}
 use Rattle.std.proofs.lemmas.List.{append-nil}
 use Rattle.std.proofs.lemmas.Grind.{flat_map-append}
@@ -11,7 +12,8 @@ use Rattle.mail_world.specs.Text.{crlf, place_of}
 use Rattle.mail_world.specs.Data.{data_end, end_of_data}
 use Rattle.mail_world.specs.Site.{Site}
 use Rattle.mail_world.specs.Session.{Session, fresh, Input, step}
-use Rattle.mail_world.specs.Conversation.{Disposition, Part, CommandLine, MailData, cut_line, cut, cut_then, inputs_of, session_after, replies_to, parts, session_after_parts, size_of, is_data, OutcomesFit, AllFit, NoDataEnded, Conversation, stop_at, inputs, IsAccount}
+use Rattle.mail_world.specs.Conversation.{Disposition, Part, CommandLine, MailData, cut_line, cut, cut_then, inputs_of, session_after, replies_to, parts,
+    session_after_parts, size_of, is_data, OutcomesFit, AllFit, NoDataEnded, Conversation, stop_at, inputs, IsAccount}
 use Rattle.mail_world.specs.Dispositions.{disposition_of, dispositions_of}
 use Rattle.mail_world.proofs.Places.{place_of_stands}
 use Rattle.mail_world.proofs.Cuts.{parts-cut}
@@ -58,12 +60,15 @@ one_fits : (site : Site) (session : Session) (p : Part) → PartFits session p �
 one_fits site session (CommandLine text) h = tt
 one_fits site session (MailData text d) h = (h, tt)
 
-AllFit-append : (site : Site) (session : Session) (ps qs : List Part) → AllFit site session ps → AllFit site (session_after_parts site session ps) qs → AllFit site session (ps ++ qs)
+AllFit-append : (site : Site) (session : Session) (ps qs : List Part) → AllFit site session ps → AllFit site (session_after_parts site session ps) qs
+    → AllFit site session (ps ++ qs)
 AllFit-append site session [] qs f g = g
 AllFit-append site session (CommandLine text ∷ ps) qs f g =
-    AllFit-append site (session_after site session (inputs_of (CommandLine text))) ps qs f (rw (session_after_parts-cons site session (CommandLine text) ps) at g)
+    AllFit-append site (session_after site session (inputs_of (CommandLine text))) ps qs f
+        (rw (session_after_parts-cons site session (CommandLine text) ps) at g)
 AllFit-append site session (MailData text d ∷ ps) qs f g =
-    (f.0, AllFit-append site (session_after site session (inputs_of (MailData text d))) ps qs f.1 (rw (session_after_parts-cons site session (MailData text d) ps) at g))
+    (f.0, AllFit-append site (session_after site session (inputs_of (MailData text d))) ps qs f.1
+        (rw (session_after_parts-cons site session (MailData text d) ps) at g))
 
 dispositions-snoc : (ps : List Part) (p : Part) (ds : List Disposition) → dispositions_of (ps ++ p ∷ []) ++ ds ≡ dispositions_of ps ++ (disposition_of p ++ ds)
 dispositions-snoc ps p ds =
@@ -89,7 +94,8 @@ handled_none site s = record { goes = λ ds. refl; size = refl; within = omega a
 
 -- one more part
 handled_one : (site : Site) (s : List ℕ) (at : ℕ) (ps : List Part) (p : Part) (n : ℕ) → Handled site s at ps
-    → ((ds : List Disposition) → cut (session_after_parts site fresh ps).state (drop at s) (disposition_of p ++ ds) ≡ Some (record { part = p; size = n; dispositions = ds }))
+    → ((ds : List Disposition) → cut (session_after_parts site fresh ps).state (drop at s) (disposition_of p ++ ds)
+    ≡ Some (record { part = p; size = n; dispositions = ds }))
     → size_of p ≡ n → at + n ≤ length s → PartFits (session_after_parts site fresh ps) p
     → Handled site s (at + n) (ps ++ p ∷ [])
 handled_one site s at ps p n h is size within fit = record {
@@ -97,7 +103,8 @@ handled_one site s at ps p n h is size within fit = record {
       let session = session_after_parts site fresh ps in
       ap (λ l. parts site fresh s l) (dispositions-snoc ps p ds)
       ∙ h.goes (disposition_of p ++ ds)
-      ∙ ap (λ l. ps ++ l) (parts-cut site session (drop at s) (disposition_of p ++ ds) ∙ ap (λ o. cut_then o (λ c. parts site (session_after site session (inputs_of c.part)) (drop c.size (drop at s)) c.dispositions)) (is ds))
+      ∙ ap (λ l. ps ++ l) (parts-cut site session (drop at s) (disposition_of p ++ ds)
+          ∙ ap (λ o. cut_then o (λ c. parts site (session_after site session (inputs_of c.part)) (drop c.size (drop at s)) c.dispositions)) (is ds))
       ∙ ap (λ l. ps ++ p ∷ parts site (session_after site session (inputs_of p)) l ds) (drop-drop n at s)
       ∙ ap (λ x. ps ++ p ∷ parts site x (drop (at + n) s) ds) (sym (session_after_parts-snoc site fresh ps p))
       ∙ sym (append_assoc ps (p ∷ []) _);
@@ -196,17 +203,21 @@ all_parts site s at ps h none =
     let session = session_after_parts site fresh ps in
     ap (λ ds. parts site fresh s ds) (sym (append-nil (dispositions_of ps)))
     ∙ h.goes []
-    ∙ ap (λ l. ps ++ l) (parts-cut site session (drop at s) [] ∙ ap (λ o. cut_then o (λ c. parts site (session_after site session (inputs_of c.part)) (drop c.size (drop at s)) c.dispositions)) (no_cut session.state (drop at s) none))
+    ∙ ap (λ l. ps ++ l) (parts-cut site session (drop at s) []
+        ∙ ap (λ o. cut_then o (λ c. parts site (session_after site session (inputs_of c.part)) (drop c.size (drop at s)) c.dispositions))
+        (no_cut session.state (drop at s) none))
     ∙ append-nil ps
 
-pub all_inputs : (site : Site) (s : List ℕ) (ps : List Part) → parts site fresh s (dispositions_of ps) ≡ ps → inputs site (account_of s ps) ≡ flat_map inputs_of ps
+pub all_inputs : (site : Site) (s : List ℕ) (ps : List Part) → parts site fresh s (dispositions_of ps) ≡ ps
+    → inputs site (account_of s ps) ≡ flat_map inputs_of ps
 unfolding inputs
 all_inputs site s ps e =
     ap (λ (l : List Part). flat_map inputs_of l ++ stop_at (session_after_parts site fresh l).state false) e
     ∙ ap (λ l. flat_map inputs_of ps ++ l) (not_stopped (session_after_parts site fresh ps).state)
     ∙ append-nil (flat_map inputs_of ps)
 
-pub all_accounted : (site : Site) (s : List ℕ) (at : ℕ) (ps : List Part) → Handled site s at ps → HasNoPart (session_after_parts site fresh ps).state (drop at s)
+pub all_accounted : (site : Site) (s : List ℕ) (at : ℕ) (ps : List Part) → Handled site s at ps
+    → HasNoPart (session_after_parts site fresh ps).state (drop at s)
     → IsAccount site (account_of s ps)
 all_accounted site s at ps h none =
     let e = all_parts site s at ps h none in

@@ -1,5 +1,6 @@
 -- Steps of a lane that have no result.
-use Rattle.std.proofs.Common.{◌≡◌, ◌≢◌, ℕ, suc, ◌+◌, ◌<◌, ◌≤◌, List, [], ◌∷◌, ◌++◌, length, Bool, true, false, cond, ◌==◌, Some, None, refl, ap, sym, ◌∙◌, subst, arith, length-append}
+use Rattle.std.proofs.Common.{◌≡◌, ◌≢◌, ℕ, suc, ◌+◌, ◌<◌, ◌≤◌, List, [], ◌∷◌, ◌++◌, length, Bool, true, false, cond, ◌==◌, Some, None, refl, ap, sym, ◌∙◌,
+    subst, arith, length-append}
 use Rattle.std.specs.Prelude.{slice_get}
 use Rattle.std.proofs.lemmas.Bool.{eqb-true, eq-eqb}
 use Rattle.std.proofs.lemmas.Option.{slice_get_within}
@@ -32,7 +33,8 @@ length_without : (x : ℕ) (ys : List ℕ) → 1 ≤ occurrences x ys → length
 length_without x [] some = absurd (omega arith)
 length_without x (y ∷ ys) some = by (y == x) (omega (arith, count-cons (λ (z : ℕ). z == x) y ys)) (length_without x ys)
   where
-    by : (t : Bool) → 1 ≤ cond t 1 0 + occurrences x ys → (1 ≤ occurrences x ys → length (without x ys) + 1 ≡ length ys) → length (cond t ys (y ∷ without x ys)) + 1 ≡ suc (length ys)
+    by : (t : Bool) → 1 ≤ cond t 1 0 + occurrences x ys → (1 ≤ occurrences x ys → length (without x ys) + 1 ≡ length ys)
+        → length (cond t ys (y ∷ without x ys)) + 1 ≡ suc (length ys)
     by true one rest = omega arith
     by false one rest = let e = rest (omega arith) in omega arith
 
@@ -40,7 +42,8 @@ times_without : (x z : ℕ) (ys : List ℕ) → occurrences z ys ≤ occurrences
 times_without x z [] = omega arith
 times_without x z (y ∷ ys) = by (y == x) refl (times_without x z ys)
   where
-    by : (t : Bool) → (y == x) ≡ t → occurrences z ys ≤ occurrences z (without x ys) + cond (x == z) 1 0 → occurrences z (y ∷ ys) ≤ occurrences z (cond t ys (y ∷ without x ys)) + cond (x == z) 1 0
+    by : (t : Bool) → (y == x) ≡ t → occurrences z ys ≤ occurrences z (without x ys) + cond (x == z) 1 0
+        → occurrences z (y ∷ ys) ≤ occurrences z (cond t ys (y ∷ without x ys)) + cond (x == z) 1 0
     by true e rest =
         let same : ◌≡◌ {A = ℕ} (cond (y == z) 1 0) (cond (x == z) 1 0) = ap (λ (v : ℕ). cond (v == z) 1 0) (eqb-true y x e) in
         omega (arith, count-cons (λ (v : ℕ). v == z) y ys)
@@ -67,7 +70,8 @@ puts_room d key more new p =
     let P : Held → Type 0 = λ held. blocks_for (length (bytes_of held ++ more)) ≤ length (blocks_of held) + length d.free in
     subst P (sym p.draft) all
 
-pub put_without_room : (h new : House) (k : ℕ) (bytes : List ℕ) (lane : Lane) (key : Key) → LaneIs h k lane → lane.draft ≡ Some key → (HasRoom h.depot key bytes → ⊥) → PutStep h k bytes new → ⊥
+pub put_without_room : (h new : House) (k : ℕ) (bytes : List ℕ) (lane : Lane) (key : Key) → LaneIs h k lane → lane.draft ≡ Some key
+    → (HasRoom h.depot key bytes → ⊥) → PutStep h k bytes new → ⊥
 put_without_room h new k bytes lane key is draft full st =
     let same : key ≡ st.key = same_some lane.draft key st.key draft (draft_is h k lane st.lane st.key is st.is st.draft) in
     full (subst (λ (x : Key). HasRoom h.depot x bytes) (sym same) (puts_room h.depot st.key bytes st.depot st.puts))
@@ -81,18 +85,22 @@ seal_without_draft h new k n lane is none st = none_some lane.draft st.key none 
 pub seal_for_none : (h new : House) (k : ℕ) → SealStep h k 0 new → ⊥
 seal_for_none h new k st = let bad : 1 ≤ 0 = st.some in absurd (omega arith)
 
-pub split_of_one : (h new : House) (k i : ℕ) (lane : Lane) (hold : Hold) → LaneIs h k lane → slice_get lane.holds i ≡ Some hold → hold.weight ≤ 1 → SplitStep h k i new → ⊥
+pub split_of_one : (h new : House) (k i : ℕ) (lane : Lane) (hold : Hold) → LaneIs h k lane → slice_get lane.holds i ≡ Some hold → hold.weight ≤ 1
+    → SplitStep h k i new → ⊥
 split_of_one h new k i lane hold is at one st =
-    let there : slice_get lane.holds i ≡ Some (record { key = st.key; weight = st.weight + 1 }) = ap (λ (x : Lane). slice_get x.holds i) (same_lane h k lane st.lane is st.is) ∙ st.hold in
+    let there : slice_get lane.holds i ≡ Some (record { key = st.key; weight = st.weight + 1 }) =
+        ap (λ (x : Lane). slice_get x.holds i) (same_lane h k lane st.lane is st.is) ∙ st.hold in
     let same = same_some (slice_get lane.holds i) hold (record { key = st.key; weight = st.weight + 1 }) at there in
     let weight : hold.weight ≡ st.weight + 1 = ap (λ (x : Hold). x.weight) same in
     absurd (omega (arith, st.above))
 
 pub split_of_nothing : (h new : House) (k i : ℕ) (lane : Lane) → LaneIs h k lane → slice_get lane.holds i ≡ None → SplitStep h k i new → ⊥
 split_of_nothing h new k i lane is nothing st =
-    none_some (slice_get lane.holds i) (record { key = st.key; weight = st.weight + 1 }) nothing (ap (λ (x : Lane). slice_get x.holds i) (same_lane h k lane st.lane is st.is) ∙ st.hold)
+    none_some (slice_get lane.holds i) (record { key = st.key; weight = st.weight + 1 }) nothing
+        (ap (λ (x : Lane). slice_get x.holds i) (same_lane h k lane st.lane is st.is) ∙ st.hold)
 
-pub offer_without_hold : (h new : House) (k : ℕ) (note : Note) (lane : Lane) → LaneIs h k lane → ((i : ℕ) (hold : Hold) → slice_get lane.holds i ≡ Some hold → hold.weight ≢ 1) → OfferStep h k note new → ⊥
+pub offer_without_hold : (h new : House) (k : ℕ) (note : Note) (lane : Lane) → LaneIs h k lane
+    → ((i : ℕ) (hold : Hold) → slice_get lane.holds i ≡ Some hold → hold.weight ≢ 1) → OfferStep h k note new → ⊥
 offer_without_hold h new k note lane is none st =
     none st.at (record { key = st.key; weight = 1 }) (ap (λ (x : Lane). slice_get x.holds st.at) (same_lane h k lane st.lane is st.is) ∙ st.copy.hold) refl
 
@@ -102,9 +110,11 @@ offered_of : (h new : House) (k : ℕ) (note : Note) (lane : Lane) → LaneIs h 
 offered_of h new k note lane is st = ap (λ (x : Lane). slice_get x.messages st.t) (same_lane h k lane st.lane is st.is) ∙ st.copy.is
 
 pub offer_with_other_hold : (h new : House) (k : ℕ) (note : Note) (lane : Lane) → LaneIs h k lane
-    → ((i t : ℕ) (hold : Hold) (x : SealedMessage) → slice_get lane.holds i ≡ Some hold → slice_get lane.messages t ≡ Some x → x.number ≡ note.txn.number → hold.key ≢ x.key) → OfferStep h k note new → ⊥
+    → ((i t : ℕ) (hold : Hold) (x : SealedMessage) → slice_get lane.holds i ≡ Some hold → slice_get lane.messages t ≡ Some x → x.number ≡ note.txn.number
+    → hold.key ≢ x.key) → OfferStep h k note new → ⊥
 offer_with_other_hold h new k note lane is other st =
-    other st.at st.t (record { key = st.key; weight = 1 }) _ (ap (λ (x : Lane). slice_get x.holds st.at) (same_lane h k lane st.lane is st.is) ∙ st.copy.hold) (offered_of h new k note lane is st) refl refl
+    other st.at st.t (record { key = st.key; weight = 1 }) _ (ap (λ (x : Lane). slice_get x.holds st.at) (same_lane h k lane st.lane is st.is) ∙ st.copy.hold)
+        (offered_of h new k note lane is st) refl refl
 
 pub offer_of_other_bytes : (h new : House) (k : ℕ) (note : Note) (lane : Lane) → LaneIs h k lane
     → ((t : ℕ) (x : SealedMessage) → slice_get lane.messages t ≡ Some x → x.number ≡ note.txn.number → x.message ≢ note.message) → OfferStep h k note new → ⊥
@@ -121,21 +131,25 @@ pub offer_when_closed : (h new : House) (k : ℕ) (note : Note) (box : Box) → 
 offer_when_closed h new k note box is closed st =
     not_both st.box.closed (ap (λ (x : Box). x.closed) (same_box h note.mailbox st.box box st.channel is) ∙ closed) st.still_open
 
-pub offer_when_full : (h new : House) (k : ℕ) (note : Note) (box : Box) → BoxIs h note.mailbox box → box.taken + h.capacity ≤ length box.accepted → OfferStep h k note new → ⊥
+pub offer_when_full : (h new : House) (k : ℕ) (note : Note) (box : Box) → BoxIs h note.mailbox box → box.taken + h.capacity ≤ length box.accepted
+    → OfferStep h k note new → ⊥
 offer_when_full h new k note box is full st =
     let same = same_box h note.mailbox st.box box st.channel is in
     let room : length box.accepted < box.taken + h.capacity = subst (λ (x : Box). length x.accepted < x.taken + h.capacity) same st.room in
     absurd (omega arith)
 
-pub hand_back_without_hold : (h new : House) (k i b : ℕ) (lane : Lane) → LaneIs h k lane → ((hold : Hold) → slice_get lane.holds i ≡ Some hold → hold.weight ≢ 1) → HandBackStep h k i b new → ⊥
+pub hand_back_without_hold : (h new : House) (k i b : ℕ) (lane : Lane) → LaneIs h k lane
+    → ((hold : Hold) → slice_get lane.holds i ≡ Some hold → hold.weight ≢ 1) → HandBackStep h k i b new → ⊥
 hand_back_without_hold h new k i b lane is none st =
     none (record { key = st.sealed.key; weight = 1 }) (ap (λ (x : Lane). slice_get x.holds i) (same_lane h k lane st.lane is st.is) ∙ st.copy.hold) refl
 
 pub hand_back_with_other_hold : (h new : House) (k i b : ℕ) (lane : Lane) → LaneIs h k lane
-    → ((t : ℕ) (hold : Hold) (x : SealedMessage) → slice_get lane.holds i ≡ Some hold → slice_get lane.messages t ≡ Some x → hold.key ≢ x.key) → HandBackStep h k i b new → ⊥
+    → ((t : ℕ) (hold : Hold) (x : SealedMessage) → slice_get lane.holds i ≡ Some hold → slice_get lane.messages t ≡ Some x → hold.key ≢ x.key)
+    → HandBackStep h k i b new → ⊥
 hand_back_with_other_hold h new k i b lane is other st =
     let same = same_lane h k lane st.lane is st.is in
-    other st.t (record { key = st.sealed.key; weight = 1 }) st.sealed (ap (λ (x : Lane). slice_get x.holds i) same ∙ st.copy.hold) (ap (λ (x : Lane). slice_get x.messages st.t) same ∙ st.copy.is) refl
+    other st.t (record { key = st.sealed.key; weight = 1 }) st.sealed (ap (λ (x : Lane). slice_get x.holds i) same ∙ st.copy.hold)
+        (ap (λ (x : Lane). slice_get x.messages st.t) same ∙ st.copy.is) refl
 
 pub collect_of_none : (h new : House) (k : ℕ) (lane : Lane) → LaneIs h k lane → length lane.slips ≤ lane.collected → CollectStep h k new → ⊥
 collect_of_none h new k lane is none st =

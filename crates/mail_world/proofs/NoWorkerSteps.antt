@@ -33,7 +33,8 @@ pub write_when_faulty : (h new : House) (w : ℕ) (bytes : List ℕ) (box : Box)
 write_when_faulty h new w bytes box is faulty st =
     not_both st.box.faulty (ap (λ (x : Box). x.faulty) (same_box h w st.box box st.is is) ∙ faulty) st.sound
 
-pub write_after_release : (h new : House) (w : ℕ) (bytes : List ℕ) (box : Box) (copy : Copy) → BoxIs h w box → box.hand ≡ Some copy → copy.released ≡ true → WriteStep h w bytes new → ⊥
+pub write_after_release : (h new : House) (w : ℕ) (bytes : List ℕ) (box : Box) (copy : Copy) → BoxIs h w box → box.hand ≡ Some copy → copy.released ≡ true
+    → WriteStep h w bytes new → ⊥
 write_after_release h new w bytes box copy is hand gone st =
     let same = same_copy h w box st.box copy st.copy is st.is hand st.in_hand in
     not_both st.copy.released (ap (λ (x : Copy). x.released) (sym same) ∙ gone) st.held
@@ -63,11 +64,15 @@ not_settled h w box other copy in_step is at hand in_hand unsettled =
     let same = same_copy h w box other copy in_step is at hand in_hand in
     or_parts copy.synced copy.over (ap is_settled same ∙ unsettled)
 
-pub write_after_sync : (h new : House) (w : ℕ) (bytes : List ℕ) (box : Box) (copy : Copy) → BoxIs h w box → box.hand ≡ Some copy → copy.synced ≡ true → WriteStep h w bytes new → ⊥
-write_after_sync h new w bytes box copy is hand synced st = not_both copy.synced synced (not_settled h w box st.box copy st.copy is st.is hand st.in_hand st.unsettled).0
+pub write_after_sync : (h new : House) (w : ℕ) (bytes : List ℕ) (box : Box) (copy : Copy) → BoxIs h w box → box.hand ≡ Some copy → copy.synced ≡ true
+    → WriteStep h w bytes new → ⊥
+write_after_sync h new w bytes box copy is hand synced st =
+    not_both copy.synced synced (not_settled h w box st.box copy st.copy is st.is hand st.in_hand st.unsettled).0
 
-pub write_over_quota : (h new : House) (w : ℕ) (bytes : List ℕ) (box : Box) (copy : Copy) → BoxIs h w box → box.hand ≡ Some copy → copy.over ≡ true → WriteStep h w bytes new → ⊥
-write_over_quota h new w bytes box copy is hand over st = not_both copy.over over (not_settled h w box st.box copy st.copy is st.is hand st.in_hand st.unsettled).1
+pub write_over_quota : (h new : House) (w : ℕ) (bytes : List ℕ) (box : Box) (copy : Copy) → BoxIs h w box → box.hand ≡ Some copy → copy.over ≡ true
+    → WriteStep h w bytes new → ⊥
+write_over_quota h new w bytes box copy is hand over st =
+    not_both copy.over over (not_settled h w box st.box copy st.copy is st.is hand st.in_hand st.unsettled).1
 
 pub sync_twice : (h new : House) (w : ℕ) (box : Box) (copy : Copy) → BoxIs h w box → box.hand ≡ Some copy → copy.synced ≡ true → SyncStep h w new → ⊥
 sync_twice h new w box copy is hand synced st = not_both copy.synced synced (not_settled h w box st.box copy st.copy is st.is hand st.in_hand st.unsettled).0
@@ -86,7 +91,8 @@ release_twice h new w box copy is hand gone st =
 pub slip_without_copy : (h new : House) (w : ℕ) (outcome : Outcome) (box : Box) → BoxIs h w box → box.hand ≡ None → GiveSlipStep h w outcome new → ⊥
 slip_without_copy h new w outcome box is none st = no_copy h w box st.box st.copy is st.is none st.in_hand
 
-pub slip_before_release : (h new : House) (w : ℕ) (outcome : Outcome) (box : Box) (copy : Copy) → BoxIs h w box → box.hand ≡ Some copy → copy.released ≡ false → GiveSlipStep h w outcome new → ⊥
+pub slip_before_release : (h new : House) (w : ℕ) (outcome : Outcome) (box : Box) (copy : Copy) → BoxIs h w box → box.hand ≡ Some copy → copy.released ≡ false
+    → GiveSlipStep h w outcome new → ⊥
 slip_before_release h new w outcome box copy is hand there st =
     let same = same_copy h w box st.box copy st.copy is st.is hand st.in_hand in
     not_both st.copy.released st.let_go (ap (λ (x : Copy). x.released) (sym same) ∙ there)
@@ -122,22 +128,28 @@ over_only synced true e says = cc
 over_only true false e says = let bad : OverQuota ≡ Stored = says in cc
 over_only false false e says = let bad : OverQuota ≡ Failed = says in cc
 
-pub stored_without_sync : (h new : House) (w : ℕ) (box : Box) (copy : Copy) → BoxIs h w box → box.hand ≡ Some copy → copy.synced ≡ false → GiveSlipStep h w Stored new → ⊥
+pub stored_without_sync : (h new : House) (w : ℕ) (box : Box) (copy : Copy) → BoxIs h w box → box.hand ≡ Some copy → copy.synced ≡ false
+    → GiveSlipStep h w Stored new → ⊥
 stored_without_sync h new w box copy is hand unsynced st = slip_that_lies h new w Stored box copy is hand (not_stored copy.synced copy.over unsynced) st
 
-pub failed_after_sync : (h new : House) (w : ℕ) (box : Box) (copy : Copy) → BoxIs h w box → box.hand ≡ Some copy → copy.synced ≡ true → GiveSlipStep h w Failed new → ⊥
+pub failed_after_sync : (h new : House) (w : ℕ) (box : Box) (copy : Copy) → BoxIs h w box → box.hand ≡ Some copy → copy.synced ≡ true
+    → GiveSlipStep h w Failed new → ⊥
 failed_after_sync h new w box copy is hand synced st = slip_that_lies h new w Failed box copy is hand (not_failed copy.synced copy.over (inl synced)) st
 
-pub stored_over_quota : (h new : House) (w : ℕ) (box : Box) (copy : Copy) → BoxIs h w box → box.hand ≡ Some copy → copy.over ≡ true → GiveSlipStep h w Stored new → ⊥
+pub stored_over_quota : (h new : House) (w : ℕ) (box : Box) (copy : Copy) → BoxIs h w box → box.hand ≡ Some copy → copy.over ≡ true
+    → GiveSlipStep h w Stored new → ⊥
 stored_over_quota h new w box copy is hand over st = slip_that_lies h new w Stored box copy is hand (stored_not_over copy.synced copy.over over) st
 
-pub failed_over_quota : (h new : House) (w : ℕ) (box : Box) (copy : Copy) → BoxIs h w box → box.hand ≡ Some copy → copy.over ≡ true → GiveSlipStep h w Failed new → ⊥
+pub failed_over_quota : (h new : House) (w : ℕ) (box : Box) (copy : Copy) → BoxIs h w box → box.hand ≡ Some copy → copy.over ≡ true
+    → GiveSlipStep h w Failed new → ⊥
 failed_over_quota h new w box copy is hand over st = slip_that_lies h new w Failed box copy is hand (not_failed copy.synced copy.over (inr over)) st
 
-pub over_quota_within : (h new : House) (w : ℕ) (box : Box) (copy : Copy) → BoxIs h w box → box.hand ≡ Some copy → copy.over ≡ false → GiveSlipStep h w OverQuota new → ⊥
+pub over_quota_within : (h new : House) (w : ℕ) (box : Box) (copy : Copy) → BoxIs h w box → box.hand ≡ Some copy → copy.over ≡ false
+    → GiveSlipStep h w OverQuota new → ⊥
 over_quota_within h new w box copy is hand within st = slip_that_lies h new w OverQuota box copy is hand (over_only copy.synced copy.over within) st
 
-pub reclaim_of_held : (h new : House) (key : Key) (bytes blocks : List ℕ) (weight : ℕ) → held_under h.depot key ≡ Sealed bytes blocks weight → 0 < weight → ReclaimStep h key new → ⊥
+pub reclaim_of_held : (h new : House) (key : Key) (bytes blocks : List ℕ) (weight : ℕ) → held_under h.depot key ≡ Sealed bytes blocks weight → 0 < weight
+    → ReclaimStep h key new → ⊥
 reclaim_of_held h new key bytes blocks weight held some st =
     let none : weight ≡ 0 = ap weight_held (sym held ∙ st.1.message) in
     absurd (omega arith)

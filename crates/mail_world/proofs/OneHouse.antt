@@ -23,14 +23,16 @@ key = record { slot = 0; generation = 0 }
 
 -- the only copy of the lane's transaction of that number
 abbrev pub only_copy : ℕ → List ℕ → Note
-only_copy number message = record { txn = record { lane = 0; number = number }; place = 0; mailbox = 0; sender = []; client = codes "c"; moment = 0; message = message }
+only_copy number message = record { txn = record { lane = 0; number = number }; place = 0; mailbox = 0; sender = []; client = codes "c"; moment = 0;
+    message = message }
 
 -- a copy of which nothing is written
 abbrev pub just_taken : Post → Copy
 just_taken post = record { post = post; written = 0; synced = false; over = false; released = false }
 
 abbrev pub lane₀ : Lane
-lane₀ = record { number = 0; draft = None; messages = []; holds = []; gather = record { txn = record { lane = 0; number = 0 }; places = [] }; slips = []; collected = 0; heard = [] }
+lane₀ = record { number = 0; draft = None; messages = []; holds = []; gather = record { txn = record { lane = 0; number = 0 }; places = [] }; slips = [];
+    collected = 0; heard = [] }
 
 abbrev pub box₀ : Box
 box₀ = record { old = []; accepted = []; taken = 0; settled = 0; closed = false; spool = []; hand = None; faulty = false }
@@ -88,7 +90,8 @@ each_once zero = refl
 each_once (suc zero) = refl
 each_once (suc (suc x)) = each_past (suc (suc x)) (omega arith)
 
-pub starts : (capacity : ℕ) (quota : Option ℕ) (slots : List Slot) → AllByRecursion IsFreshSlot slots → HasEachBlockOnce 2 (house₀ capacity quota slots).depot → IsStart 2 (house₀ capacity quota slots)
+pub starts : (capacity : ℕ) (quota : Option ℕ) (slots : List Slot) → AllByRecursion IsFreshSlot slots → HasEachBlockOnce 2 (house₀ capacity quota slots).depot
+    → IsStart 2 (house₀ capacity quota slots)
 starts capacity quota slots fresh once = record {
   boxes = (record { accepted = refl; taken = refl; settled = refl; closed = refl; hand = refl; spool = inl (refl, refl) }, tt);
   lanes = (record { number = refl; draft = refl; messages = refl; holds = refl; places = refl; slips = refl; collected = refl; heard = refl }, tt);
@@ -126,7 +129,8 @@ puts capacity quota more = record {
   after = refl;
 }
 
-pub seals : (capacity : ℕ) (quota : Option ℕ) (more : List Slot) (n : ℕ) → 1 ≤ n → let h = with_bytes (with_draft (fresh capacity quota more)) in Step h (Seal 0 n) (with_message n h)
+pub seals : (capacity : ℕ) (quota : Option ℕ) (more : List Slot) (n : ℕ) → 1 ≤ n → let h =
+    with_bytes (with_draft (fresh capacity quota more)) in Step h (Seal 0 n) (with_message n h)
 unfolding everything
 seals capacity quota more n some = record {
   lane = lane₁;

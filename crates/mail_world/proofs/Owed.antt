@@ -25,7 +25,8 @@ accepted-append site n session (p ∷ ps) qs =
     (sym (session_after-append site session (inputs_of p) (flat_map inputs_of ps)))
 
 -- no DATA is accepted by data
-after_the_data : (site : Site) (session : Session) (d : Disposition) (v : Verdict) → is_content (session_after site session (DataEnded v ∷ outcomes_of d v)).state ≡ false
+after_the_data : (site : Site) (session : Session) (d : Disposition) (v : Verdict)
+    → is_content (session_after site session (DataEnded v ∷ outcomes_of d v)).state ≡ false
 after_the_data site session d verdicts.Whole = refl
 after_the_data site session d verdicts.TooLarge = refl
 after_the_data site session d verdicts.NoRoom = refl
@@ -46,9 +47,11 @@ transactions-append site n session (MailData text d ∷ ps) qs =
     let p : Part = MailData text d in
     ap (λ l. record { number = n; session = session; message = message text; disposition = d } ∷ l)
     (transactions-append site n (session_after site session (inputs_of p)) ps qs
-    ∙ ap (λ x. transactions_of site n (session_after site session (inputs_of p)) ps ++ transactions_of site (accepted_after site n (session_after site session (inputs_of p)) ps) x qs)
+    ∙ ap (λ x. transactions_of site n (session_after site session (inputs_of p)) ps
+        ++ transactions_of site (accepted_after site n (session_after site session (inputs_of p)) ps) x qs)
     (sym (session_after-append site session (inputs_of p) (flat_map inputs_of ps)))
-    ∙ ap (λ k. transactions_of site n (session_after site session (inputs_of p)) ps ++ transactions_of site (accepted_after site k (session_after site session (inputs_of p)) ps) (session_after_parts site session (p ∷ ps)) qs)
+    ∙ ap (λ k. transactions_of site n (session_after site session (inputs_of p)) ps
+        ++ transactions_of site (accepted_after site k (session_after site session (inputs_of p)) ps) (session_after_parts site session (p ∷ ps)) qs)
     (sym (same_after_data site n session text d)))
 
 -- one more part
@@ -56,12 +59,14 @@ pub accepted-snoc : (site : Site) (ps : List Part) (p : Part)
     → accepted_after site 0 fresh (ps ++ p ∷ []) ≡ accepted_after_part site (accepted_after site 0 fresh ps) (session_after_parts site fresh ps) p
 accepted-snoc site ps p = accepted-append site 0 fresh ps (p ∷ [])
 
-pub transactions-line : (site : Site) (ps : List Part) (text : List ℕ) → transactions_of site 0 fresh (ps ++ CommandLine text ∷ []) ≡ transactions_of site 0 fresh ps
+pub transactions-line : (site : Site) (ps : List Part) (text : List ℕ)
+    → transactions_of site 0 fresh (ps ++ CommandLine text ∷ []) ≡ transactions_of site 0 fresh ps
 transactions-line site ps text = transactions-append site 0 fresh ps (CommandLine text ∷ []) ∙ append-nil (transactions_of site 0 fresh ps)
 
 -- the transaction that data ends
 abbrev pub transaction_at : Site → List Part → List ℕ → Disposition → Transaction
-transaction_at site ps text d = record { number = accepted_after site 0 fresh ps; session = session_after_parts site fresh ps; message = message text; disposition = d }
+transaction_at site ps text d =
+    record { number = accepted_after site 0 fresh ps; session = session_after_parts site fresh ps; message = message text; disposition = d }
 
 pub transactions-data : (site : Site) (ps : List Part) (text : List ℕ) (d : Disposition)
     → transactions_of site 0 fresh (ps ++ MailData text d ∷ []) ≡ transactions_of site 0 fresh ps ++ transaction_at site ps text d ∷ []
@@ -72,7 +77,8 @@ pub all_transactions : (site : Site) (s : List ℕ) (ps : List Part) → parts s
     → transactions site 0 (account_of s ps ∷ []) ≡ transactions_of site 0 fresh ps
 unfolding transactions
 all_transactions site s ps e =
-    ap (λ (l : List Part). transactions_of site 0 fresh l ++ transactions site (accepted_after site 0 fresh l) []) e ∙ append-nil (transactions_of site 0 fresh ps)
+    ap (λ (l : List Part). transactions_of site 0 fresh l ++ transactions site (accepted_after site 0 fresh l) []) e
+        ∙ append-nil (transactions_of site 0 fresh ps)
 
 pub all_due : (site : Site) (box : ℕ) (s : List ℕ) (ps : List Part) → parts site fresh s (dispositions_of ps) ≡ ps
     → due site 0 box (account_of s ps ∷ []) ≡ copies_owed 0 box (transactions_of site 0 fresh ps)

@@ -1,5 +1,6 @@
 -- What is read as a path is spelled so.
-use Rattle.std.proofs.Common.{◌≡◌, ◌≢◌, ℕ, suc, ◌+◌, ◌-◌, ◌<◌, ◌≤◌, List, [], ◌∷◌, ◌++◌, length, take, drop, map, Bool, true, false, cond, not, ◌&&◌, ◌||◌, ◌==◌, Option, Some, None, inl, inr, refl, ap, sym, ◌∙◌, subst, append_assoc, arith, length-append, add-one}
+use Rattle.std.proofs.Common.{◌≡◌, ◌≢◌, ℕ, suc, ◌+◌, ◌-◌, ◌<◌, ◌≤◌, List, [], ◌∷◌, ◌++◌, length, take, drop, map, Bool, true, false, cond, not, ◌&&◌, ◌||◌,
+    ◌==◌, Option, Some, None, inl, inr, refl, ap, sym, ◌∙◌, subst, append_assoc, arith, length-append, add-one}
 use Rattle.std.specs.Prelude.{option_map, option_and_then, nat_le, nat_lt}
 use Rattle.std.specs.List.{list_all, prefix_len, join_with_byte, slice_split, onto_first, before_first, after_first, AllByRecursion}
 use Rattle.std.specs.Str.{byte}
@@ -10,9 +11,11 @@ use Rattle.std.proofs.lemmas.List.Splits.{join_with_byte-slice_split}
 use Rattle.std.proofs.lemmas.Bool.{eqb-true, eqb-false, or_parts}
 use Rattle.std.proofs.lemmas.Bool.Decides.{nat_tests}
 use Rattle.mail_world.specs.Text.{has_byte, begins}
-use Rattle.mail_world.specs.Grammar.{is_between, is_plain, is_of_domain, is_of_literal, is_domain, Target, IsSomeOf, IsQuotedText, IsLocalPart, IsLiteral, IsHostPart, IsMailbox, local_text, host_text, mailbox_text, route_text}
+use Rattle.mail_world.specs.Grammar.{is_between, is_plain, is_of_domain, is_of_literal, is_domain, Target, IsSomeOf, IsQuotedText, IsLocalPart, IsLiteral,
+    IsHostPart, IsMailbox, local_text, host_text, mailbox_text, route_text}
 use Rattle.mail_world.specs.declared.limits.TheConstants.{PATH_LIMIT}
-use Rattle.mail_world.specs.Paths.{quoted_len, Found, some_prefix, plain_local, quoted_local, domain_at, literal_at, host_at, with_host, mailbox_at, is_hop, after_route, Path, closed_at, forward_path, IsPathRead}
+use Rattle.mail_world.specs.Paths.{quoted_len, Found, some_prefix, plain_local, quoted_local, domain_at, literal_at, host_at, with_host, mailbox_at, is_hop,
+    after_route, Path, closed_at, forward_path, IsPathRead}
 use Rattle.mail_world.proofs.PathsSpelled.{and_parts}
 
 -- what a test or a step that gave a value says
@@ -37,7 +40,8 @@ begins-is c [] e = cc
 begins-is c (b ∷ text) e = ap (λ x. x ∷ text) (eqb-true b c e)
 
 -- the prefix that passes
-run_by : (p : ℕ → Bool) (x : ℕ) (xs : List ℕ) (t : Bool) → p x ≡ t → list_all p (take (prefix_len p xs) xs) ≡ true → list_all p (take (cond t (1 + prefix_len p xs) 0) (x ∷ xs)) ≡ true
+run_by : (p : ℕ → Bool) (x : ℕ) (xs : List ℕ) (t : Bool) → p x ≡ t → list_all p (take (prefix_len p xs) xs) ≡ true
+    → list_all p (take (cond t (1 + prefix_len p xs) 0) (x ∷ xs)) ≡ true
 run_by p x xs true e ih = let one : 1 + prefix_len p xs ≡ suc (prefix_len p xs) = omega arith in rw (one, e) ih
 run_by p x xs false e ih = refl
 
@@ -51,7 +55,8 @@ record IsPrefix (n : ℕ) (text : List ℕ) (f : Found (List ℕ)) : Type 0 wher
   value : f.value ≡ take n text
   whole : text ≡ f.value ++ f.rest
 
-prefix_by : (n : ℕ) (text : List ℕ) (f : Found (List ℕ)) (t : Bool) → (n == 0) ≡ t → cond t None (Some (record { value = take n text; rest = drop n text })) ≡ Some f → IsPrefix n text f
+prefix_by : (n : ℕ) (text : List ℕ) (f : Found (List ℕ)) (t : Bool) → (n == 0) ≡ t
+    → cond t None (Some (record { value = take n text; rest = drop n text })) ≡ Some f → IsPrefix n text f
 prefix_by n text f true z e = cc
 prefix_by n text f false z e =
     let same : record { value = take n text; rest = drop n text } ≡ f = cc in
@@ -62,7 +67,8 @@ some_prefix-reads : (n : ℕ) (text : List ℕ) (f : Found (List ℕ)) → some_
 some_prefix-reads n text f e = prefix_by n text f (n == 0) refl e
 
 -- the prefix that passes, and what follows it
-run-reads : (p : ℕ → Bool) (text : List ℕ) (f : Found (List ℕ)) → some_prefix (prefix_len p text) text ≡ Some f → IsSomeOf p f.value × (text ≡ f.value ++ f.rest)
+run-reads : (p : ℕ → Bool) (text : List ℕ) (f : Found (List ℕ)) → some_prefix (prefix_len p text) text ≡ Some f
+    → IsSomeOf p f.value × (text ≡ f.value ++ f.rest)
 run-reads p text f e =
     let r = some_prefix-reads (prefix_len p text) text f e in (
       record {
@@ -78,15 +84,20 @@ record IsClosed (escaped : Bool) (text : List ℕ) (n : ℕ) : Type 0 where
   whole : text ≡ take n text ++ byte "\"" ∷ drop (n + 1) text
   within : n < length text
 
-closed_more : (escaped : Bool) (b : ℕ) (text : List ℕ) (m n : ℕ) → IsClosed escaped text m → suc m ≡ n → (IsQuotedText escaped (take m text) → IsQuotedText false (b ∷ take m text)) → IsClosed false (b ∷ text) n
+closed_more : (escaped : Bool) (b : ℕ) (text : List ℕ) (m n : ℕ) → IsClosed escaped text m → suc m ≡ n
+    → (IsQuotedText escaped (take m text) → IsQuotedText false (b ∷ take m text)) → IsClosed false (b ∷ text) n
 closed_more escaped b text m n c e onto =
     let P : ℕ → Type 0 = λ k. IsClosed false (b ∷ text) k in
-    subst P e (record { inside = onto c.inside; whole = rw (add-one) (let w : text ≡ take m text ++ byte "\"" ∷ drop (suc m) text = rw (add-one) at c.whole in ap (λ l. b ∷ l) w); within = let h = c.within in omega arith })
+    subst P e (record { inside = onto c.inside;
+        whole = rw (add-one) (let w : text ≡ take m text
+        ++ byte "\"" ∷ drop (suc m) text = rw (add-one) at c.whole in ap (λ l. b ∷ l) w); within = let h = c.within in omega arith })
 
 pair_more : (b : ℕ) (text : List ℕ) (m n : ℕ) → IsClosed false text m → suc m ≡ n → is_between 32 126 b ≡ true → IsClosed true (b ∷ text) n
 pair_more b text m n c e range =
     let P : ℕ → Type 0 = λ k. IsClosed true (b ∷ text) k in
-    subst P e (record { inside = (range, c.inside); whole = rw (add-one) (let w : text ≡ take m text ++ byte "\"" ∷ drop (suc m) text = rw (add-one) at c.whole in ap (λ l. b ∷ l) w); within = let h = c.within in omega arith })
+    subst P e (record { inside = (range, c.inside);
+        whole = rw (add-one) (let w : text ≡ take m text
+        ++ byte "\"" ∷ drop (suc m) text = rw (add-one) at c.whole in ap (λ l. b ∷ l) w); within = let h = c.within in omega arith })
 
 quote_by : (b : ℕ) (text : List ℕ) (n : ℕ) (t : Bool) → (b == byte "\"") ≡ t
     → ((m : ℕ) → quoted_len (b == byte "\\") text ≡ Some m → IsClosed (b == byte "\\") text m)
@@ -163,7 +174,8 @@ literal-reads text f bracket e =
 host-reads : (text : List ℕ) (f : Found (List ℕ)) → host_at text ≡ Some f → IsHostPart (Some f.value) × (text ≡ f.value ++ f.rest)
 host-reads text f e = host_by (begins (byte "[") text) refl e
   where
-    host_by : (t : Bool) → begins (byte "[") text ≡ t → cond t (literal_at text) (domain_at text) ≡ Some f → IsHostPart (Some f.value) × (text ≡ f.value ++ f.rest)
+    host_by : (t : Bool) → begins (byte "[") text ≡ t → cond t (literal_at text) (domain_at text) ≡ Some f
+        → IsHostPart (Some f.value) × (text ≡ f.value ++ f.rest)
     host_by true bracket e' = let r = literal-reads text f bracket e' in (inr r.0, r.1)
     host_by false bracket e' = let r = domain-reads text f e' in (inl r.0, r.1)
 
@@ -176,11 +188,13 @@ record IsHosted (quoted : Bool) (local : Found (List ℕ)) (found : Found Target
 
 hosted_by : (quoted : Bool) (local : Found (List ℕ)) (found : Found Target) (t : Bool) → begins (byte "@") local.rest ≡ t
     → cond t
-    (option_map (λ host. record { value = record { local = local.value; quoted = quoted; domain = Some host.value }; rest = host.rest }) (host_at (drop 1 local.rest)))
+    (option_map (λ host. record { value = record { local = local.value; quoted = quoted; domain = Some host.value }; rest = host.rest })
+        (host_at (drop 1 local.rest)))
     (Some (record { value = record { local = local.value; quoted = quoted; domain = None }; rest = local.rest })) ≡ Some found
     → IsHosted quoted local found
 hosted_by quoted local found true at e =
-    let step = map_some (λ (host : Found (List ℕ)). record { value = record { local = local.value; quoted = quoted; domain = Some host.value }; rest = host.rest }) (host_at (drop 1 local.rest)) found e in
+    let step = map_some (λ (host : Found (List ℕ)).
+        record { value = record { local = local.value; quoted = quoted; domain = Some host.value }; rest = host.rest }) (host_at (drop 1 local.rest)) found e in
     let read = host-reads (drop 1 local.rest) step.0 step.1 in
     let P : Found Target → Type 0 = λ g. IsHosted quoted local g in
     subst P step.2 (record { name = refl; quotes = refl; host = read.0; whole = begins-is (byte "@") local.rest at ∙ ap (λ l. byte "@" ∷ l) read.1 })
@@ -197,16 +211,19 @@ record IsRead (text : List ℕ) (found : Found Target) : Type 0 where
   mailbox : IsMailbox found.value
   whole : text ≡ mailbox_text found.value ++ found.rest
 
-local_joins : (quoted : Bool) (local : Found (List ℕ)) (found : Found Target) (text : List ℕ) → IsLocalPart quoted local.value → text ≡ local_text quoted local.value ++ local.rest
+local_joins : (quoted : Bool) (local : Found (List ℕ)) (found : Found Target) (text : List ℕ) → IsLocalPart quoted local.value
+    → text ≡ local_text quoted local.value ++ local.rest
     → IsHosted quoted local found → IsRead text found
 local_joins quoted local found text part split h = record {
   mailbox = record { local = rw (h.quotes, h.name) part; host = h.host };
-  whole = split ∙ ap (λ l. local_text quoted local.value ++ l) h.whole ∙ sym (append_assoc (local_text quoted local.value) (host_text found.value.domain) found.rest)
+  whole = split ∙ ap (λ l. local_text quoted local.value ++ l) h.whole
+      ∙ sym (append_assoc (local_text quoted local.value) (host_text found.value.domain) found.rest)
       ∙ rw (h.quotes, h.name) refl;
 }
 
 mailbox_by : (text : List ℕ) (found : Found Target) (t : Bool) → begins (byte "\"") text ≡ t
-    → cond t (option_and_then (with_host true) (quoted_local (drop 1 text))) (option_and_then (with_host false) (plain_local text)) ≡ Some found → IsRead text found
+    → cond t (option_and_then (with_host true) (quoted_local (drop 1 text))) (option_and_then (with_host false) (plain_local text)) ≡ Some found
+    → IsRead text found
 mailbox_by text found true quote e =
     let step = then_some (with_host true) (quoted_local (drop 1 text)) found e in
     let local = quoted-reads (drop 1 text) step.0 step.1 in
@@ -222,7 +239,8 @@ mailbox-reads : (text : List ℕ) (found : Found Target) → mailbox_at text ≡
 mailbox-reads text found e = mailbox_by text found (begins (byte "\"") text) refl e
 
 -- what stands before the first such byte, the byte, and what stands after it
-first_by : (c b : ℕ) (text : List ℕ) (n : ℕ) (t : Bool) → (b == c) ≡ t → (t || has_byte text c) ≡ true → (has_byte text c ≡ true → text ≡ take n text ++ c ∷ drop (n + 1) text)
+first_by : (c b : ℕ) (text : List ℕ) (n : ℕ) (t : Bool) → (b == c) ≡ t → (t || has_byte text c) ≡ true
+    → (has_byte text c ≡ true → text ≡ take n text ++ c ∷ drop (n + 1) text)
     → b ∷ text ≡ take (cond (not t) (1 + n) 0) (b ∷ text) ++ c ∷ drop (cond (not t) (1 + n) 0 + 1) (b ∷ text)
 first_by c b text n true same has ih = ap (λ x. x ∷ text) (eqb-true b c same)
 first_by c b text n false same has ih =
@@ -268,7 +286,8 @@ route_of route text inner (d ∷ ds) all same whole =
     (d ∷ ds, all, whole ∙ sym (append_assoc route (byte ":" ∷ []) inner) ∙ ap (λ l. (l ++ byte ":" ∷ []) ++ inner) (sym joined))
 
 route_by : (text inner : List ℕ) (t : Bool) → begins (byte "@") text ≡ t
-    → cond (not t) (Some text) (cond (has_byte text (byte ":") && list_all is_hop (slice_split (λ b. b == byte ",") (before_first (λ b. b == byte ":") text))) (Some (after_first (λ b. b == byte ":") text)) None) ≡ Some inner
+    → cond (not t) (Some text) (cond (has_byte text (byte ":") && list_all is_hop (slice_split (λ b. b == byte ",") (before_first (λ b. b == byte ":") text)))
+    (Some (after_first (λ b. b == byte ":") text)) None) ≡ Some inner
     → IsRoute text inner
 route_by text inner false at e = let same : text ≡ inner = cc in ([], tt, same)
 route_by text inner true at e =
@@ -283,15 +302,18 @@ route-reads : (text inner : List ℕ) → after_route text ≡ Some inner → Is
 route-reads text inner e = route_by text inner (begins (byte "@") text) refl e
 
 closed-reads : (text : List ℕ) (found : Found Target) (path : Found Path) → IsRead text found → closed_at text found ≡ Some path
-    → (path.value.target ≡ found.value) × (path.value.mailbox ≡ mailbox_text found.value) × (length (mailbox_text found.value) ≤ PATH_LIMIT) × (found.rest ≡ byte ">" ∷ path.rest)
+    → (path.value.target ≡ found.value) × (path.value.mailbox ≡ mailbox_text found.value) × (length (mailbox_text found.value) ≤ PATH_LIMIT)
+    × (found.rest ≡ byte ">" ∷ path.rest)
 closed-reads text found path read e =
     let n : ℕ = length text - length found.rest in
     let tests = some_else (begins (byte ">") found.rest && nat_le n PATH_LIMIT) _ path e in
     let both = and_parts (begins (byte ">") found.rest) (nat_le n PATH_LIMIT) tests.0 in
     let len : n ≡ length (mailbox_text found.value) = omega (arith, ap length read.whole, length-append (mailbox_text found.value) found.rest) in
-    let prefix : take n text ≡ mailbox_text found.value = rw (len) (ap (λ l. take (length (mailbox_text found.value)) l) read.whole ∙ take-append_seam (mailbox_text found.value) found.rest) in
+    let prefix : take n text ≡ mailbox_text found.value =
+        rw (len) (ap (λ l. take (length (mailbox_text found.value)) l) read.whole ∙ take-append_seam (mailbox_text found.value) found.rest) in
     let same : record { value = record { mailbox = take n text; target = found.value }; rest = drop 1 found.rest } ≡ path = cc (tests.1) in
-    let P : Found Path → Type 0 = λ g. (g.value.target ≡ found.value) × (g.value.mailbox ≡ mailbox_text found.value) × (length (mailbox_text found.value) ≤ PATH_LIMIT) × (found.rest ≡ byte ">" ∷ g.rest) in
+    let P : Found Path → Type 0 = λ g. (g.value.target ≡ found.value) × (g.value.mailbox ≡ mailbox_text found.value)
+        × (length (mailbox_text found.value) ≤ PATH_LIMIT) × (found.rest ≡ byte ">" ∷ g.rest) in
     subst P same (refl, prefix, (let fits : n ≤ PATH_LIMIT = grind (arith, nat_tests, both.1) in omega arith), begins-is (byte ">") found.rest both.0)
 
 pub forward_path_reads : (text : List ℕ) (path : Found Path) → forward_path text ≡ Some path → IsPathRead text path

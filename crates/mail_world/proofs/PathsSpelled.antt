@@ -1,13 +1,16 @@
 -- What is spelled as a path is read as that path, whatever follows it.
-use Rattle.std.proofs.Common.{◌≡◌, ℕ, ◌+◌, ◌-◌, ◌<◌, ◌≤◌, List, [], ◌∷◌, ◌++◌, length, drop, map, Bool, true, false, not, ◌&&◌, ◌==◌, Option, Some, None, inl, inr, refl, ap, sym, ◌∙◌, append_assoc, arith, length-append, add-one}
+use Rattle.std.proofs.Common.{◌≡◌, ℕ, ◌+◌, ◌-◌, ◌<◌, ◌≤◌, List, [], ◌∷◌, ◌++◌, length, drop, map, Bool, true, false, not, ◌&&◌, ◌==◌, Option, Some, None, inl,
+    inr, refl, ap, sym, ◌∙◌, append_assoc, arith, length-append, add-one}
 use Rattle.std.specs.Prelude.{option_and_then, nat_le, nat_lt}
 use Rattle.std.specs.List.{list_all, prefix_len, join_with_byte, slice_split, before_first, after_first, AllByRecursion}
 use Rattle.std.specs.Str.{byte}
 use Rattle.std.proofs.Math.Seq.{take-append_seam, drop-append_seam, drop-append-add}
 use Rattle.mail_world.specs.Text.{has_byte, begins}
-use Rattle.mail_world.specs.Grammar.{is_between, is_plain, is_of_domain, is_of_literal, is_domain, Target, IsSomeOf, IsQuotedText, IsLocalPart, IsHostPart, local_text, host_text, mailbox_text, route_text, IsPath, path_text}
+use Rattle.mail_world.specs.Grammar.{is_between, is_plain, is_of_domain, is_of_literal, is_domain, Target, IsSomeOf, IsQuotedText, IsLocalPart, IsHostPart,
+    local_text, host_text, mailbox_text, route_text, IsPath, path_text}
 use Rattle.mail_world.specs.declared.limits.TheConstants.{PATH_LIMIT}
-use Rattle.mail_world.specs.Paths.{quoted_len, some_prefix, plain_local, quoted_local, domain_at, literal_at, host_at, with_host, mailbox_at, is_hop, after_route, closed_at, forward_path}
+use Rattle.mail_world.specs.Paths.{quoted_len, some_prefix, plain_local, quoted_local, domain_at, literal_at, host_at, with_host, mailbox_at, is_hop,
+    after_route, closed_at, forward_path}
 use Rattle.std.proofs.Math.Bool.{or-true}
 use Rattle.std.proofs.lemmas.Bool.{eq-eqb}
 use Rattle.std.proofs.lemmas.List.Folds.{list_all-append}
@@ -28,7 +31,8 @@ prefix_len-stop p (x ∷ xs) y ys all stop =
 some_prefix-seam : (xs ys : List ℕ) → 0 < length xs → some_prefix (length xs) (xs ++ ys) ≡ Some (record { value = xs; rest = ys })
 some_prefix-seam xs ys positive = rw (other_byte (length xs) 0 (omega arith), take-append_seam xs ys, drop-append_seam xs ys) refl
 
-plain_local-stop : (xs : List ℕ) (y : ℕ) (ys : List ℕ) → IsSomeOf is_plain xs → is_plain y ≡ false → plain_local (xs ++ y ∷ ys) ≡ Some (record { value = xs; rest = y ∷ ys })
+plain_local-stop : (xs : List ℕ) (y : ℕ) (ys : List ℕ) → IsSomeOf is_plain xs → is_plain y ≡ false
+    → plain_local (xs ++ y ∷ ys) ≡ Some (record { value = xs; rest = y ∷ ys })
 plain_local-stop xs y ys h stop = rw (prefix_len-stop is_plain xs y ys h.each stop) (some_prefix-seam xs (y ∷ ys) h.nonempty)
 
 -- quoted text, and the quote that closes it
@@ -56,7 +60,8 @@ domain_bounds text h =
     let bounds = and_parts (nat_le 1 (length text)) (nat_le (length text) 255) both.0 in
     (grind (arith, nat_tests, bounds.0), grind (arith, nat_tests, bounds.1), both.1)
 
-domain_at-stop : (text : List ℕ) (y : ℕ) (ys : List ℕ) → is_domain text ≡ true → is_of_domain y ≡ false → domain_at (text ++ y ∷ ys) ≡ Some (record { value = text; rest = y ∷ ys })
+domain_at-stop : (text : List ℕ) (y : ℕ) (ys : List ℕ) → is_domain text ≡ true → is_of_domain y ≡ false
+    → domain_at (text ++ y ∷ ys) ≡ Some (record { value = text; rest = y ∷ ys })
 domain_at-stop text y ys h stop =
     let bounds = domain_bounds text h in
     rw (prefix_len-stop is_of_domain text y ys bounds.2 stop, bounds.1) (some_prefix-seam text (y ∷ ys) bounds.0)
@@ -99,9 +104,11 @@ mailbox-stop : (quoted : Bool) (local : List ℕ) (domain : Option (List ℕ)) (
     → mailbox_at ((local_text quoted local ++ host_text domain) ++ byte ">" ∷ rest)
     ≡ Some (record { value = record { local = local; quoted = quoted; domain = domain }; rest = byte ">" ∷ rest })
 mailbox-stop quoted local None rest l h =
-    ap mailbox_at (append_assoc (local_text quoted local) [] (byte ">" ∷ rest)) ∙ local-stop quoted local (byte ">") rest l refl ∙ with_host-stop quoted local None rest h
+    ap mailbox_at (append_assoc (local_text quoted local) [] (byte ">" ∷ rest)) ∙ local-stop quoted local (byte ">") rest l refl
+        ∙ with_host-stop quoted local None rest h
 mailbox-stop quoted local (Some text) rest l h =
-    ap mailbox_at (append_assoc (local_text quoted local) (byte "@" ∷ text) (byte ">" ∷ rest)) ∙ local-stop quoted local (byte "@") (text ++ byte ">" ∷ rest) l refl
+    ap mailbox_at (append_assoc (local_text quoted local) (byte "@" ∷ text) (byte ">" ∷ rest))
+        ∙ local-stop quoted local (byte "@") (text ++ byte ">" ∷ rest) l refl
     ∙ with_host-stop quoted local (Some text) rest h
 
 -- a mailbox begins with no at sign
@@ -150,7 +157,8 @@ not_true true e = cc
 not_true false e = refl
 
 -- it falls into its parts again
-split-stop : (x rest : List ℕ) → list_all (is_not (byte ",")) x ≡ true → slice_split (λ b. b == byte ",") (x ++ byte "," ∷ rest) ≡ x ∷ slice_split (λ b. b == byte ",") rest
+split-stop : (x rest : List ℕ) → list_all (is_not (byte ",")) x ≡ true
+    → slice_split (λ b. b == byte ",") (x ++ byte "," ∷ rest) ≡ x ∷ slice_split (λ b. b == byte ",") rest
 split-stop [] rest h = refl
 split-stop (b ∷ x) rest h = let parts = and_parts (is_not (byte ",") b) (list_all (is_not (byte ",")) x) h in
     rw (not_true (b == byte ",") parts.0, split-stop x rest parts.1) refl
@@ -162,7 +170,8 @@ split-none (b ∷ x) h = let parts = and_parts (is_not (byte ",") b) (list_all (
 
 split-joined : (d : List ℕ) (ds : List (List ℕ)) → AreDomains (d ∷ ds) → slice_split (λ b. b == byte ",") (joined (d ∷ ds)) ≡ hops (d ∷ ds)
 split-joined d [] h = split-none (byte "@" ∷ d) (domain-without (byte ",") refl d h.0)
-split-joined d (e ∷ ds) h = split-stop (byte "@" ∷ d) (joined (e ∷ ds)) (domain-without (byte ",") refl d h.0) ∙ ap (λ l. (byte "@" ∷ d) ∷ l) (split-joined e ds h.1)
+split-joined d (e ∷ ds) h = split-stop (byte "@" ∷ d) (joined (e ∷ ds)) (domain-without (byte ",") refl d h.0)
+    ∙ ap (λ l. (byte "@" ∷ d) ∷ l) (split-joined e ds h.1)
 
 all_hops : (ds : List (List ℕ)) → AreDomains ds → list_all is_hop (hops ds) ≡ true
 all_hops [] h = refl
@@ -185,11 +194,13 @@ route-stop (d ∷ ds) text h first =
     let prefix : before_first (λ b. b == byte ":") whole ≡ route = rw len (take-append_seam route (byte ":" ∷ text)) in
     let back : after_first (λ b. b == byte ":") whole ≡ text = rw len (drop-append-add route (byte ":" ∷ text) 1) in
     ap after_route (append_assoc route (byte ":" ∷ []) text)
-    ∙ route_by whole route text (joined-first d ds (byte ":" ∷ text)) (has-seam route (byte ":") text) prefix (rw (split-joined d ds h) (all_hops (d ∷ ds) h)) back
+    ∙ route_by whole route text (joined-first d ds (byte ":" ∷ text)) (has-seam route (byte ":") text) prefix (rw (split-joined d ds h) (all_hops (d ∷ ds) h))
+        back
 
 -- the bracket that closes a path
 closed-stop : (text : List ℕ) (target : Target) (rest : List ℕ) → length text ≤ PATH_LIMIT
-    → closed_at (text ++ byte ">" ∷ rest) (record { value = target; rest = byte ">" ∷ rest }) ≡ Some (record { value = record { mailbox = text; target = target }; rest = rest })
+    → closed_at (text ++ byte ">" ∷ rest) (record { value = target; rest = byte ">" ∷ rest })
+    ≡ Some (record { value = record { mailbox = text; target = target }; rest = rest })
 closed-stop text target rest fits =
     let len : length (text ++ byte ">" ∷ rest) - length (byte ">" ∷ rest) ≡ length text = omega (arith, length-append text (byte ">" ∷ rest)) in
     let fit : nat_le (length text) PATH_LIMIT ≡ true = grind (arith, nat_tests, fits) in

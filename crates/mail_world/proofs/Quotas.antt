@@ -35,14 +35,16 @@ module _ (calendar : Calendar) (host : List ℕ) where
   length_after quota len notes = len + total (marked (are_kept_after calendar host quota len notes) notes)
 
   pub next_after : (quota : Option ℕ) (len : ℕ) (notes : List Note) (note : Note)
-      → are_kept_after calendar host quota len (notes ++ note ∷ []) ≡ are_kept_after calendar host quota len notes ++ fits quota (length_after quota len notes) (size note) ∷ []
+      → are_kept_after calendar host quota len (notes ++ note ∷ []) ≡ are_kept_after calendar host quota len notes
+      ++ fits quota (length_after quota len notes) (size note) ∷ []
   next_after quota len [] note = let e : len ≡ len + 0 = omega arith in ap (λ n. fits quota n (size note) ∷ []) e
   next_after quota len (x ∷ notes) note =
       let t = fits quota len (size x) in
       let after = if t then len + size x else len in
       ap (λ l. t ∷ l) (
       next_after quota after notes note
-      ∙ ap (λ n. are_kept_after calendar host quota after notes ++ fits quota n (size note) ∷ []) (grows_by t len x notes (are_kept_after calendar host quota after notes))
+      ∙ ap (λ n. are_kept_after calendar host quota after notes ++ fits quota n (size note) ∷ [])
+          (grows_by t len x notes (are_kept_after calendar host quota after notes))
       )
 
   pub all_after : (len : ℕ) (notes : List Note) → marked (are_kept_after calendar host None len notes) notes ≡ notes
@@ -70,7 +72,8 @@ module _ (calendar : Calendar) (host : List ℕ) where
 
   pub kept_next : (quota : Option ℕ) (old : List ℕ) (notes : List Note) (note : Note)
       → are_kept calendar host quota old (notes ++ note ∷ [])
-      ≡ are_kept calendar host quota old notes ++ fits quota (length (mailbox calendar host old (kept calendar host quota old notes))) (length (record_of calendar host note)) ∷ []
+      ≡ are_kept calendar host quota old notes
+          ++ fits quota (length (mailbox calendar host old (kept calendar host quota old notes))) (length (record_of calendar host note)) ∷ []
   unfolding are_kept
   kept_next quota old notes note =
       next_after quota (length (old ++ mended old)) notes note

@@ -22,7 +22,8 @@ length-outcomes zero (m ∷ marks) = ap (λ k. suc k) (length-outcomes zero mark
 length-outcomes (suc n) (m ∷ marks) = ap (λ k. suc k) (length-outcomes n marks)
 
 -- one more copy that was settled, and one that wasn't
-pub settled_more : (n : ℕ) (marks : List Bool) (m : Bool) → length marks < n → outcomes_settled n (marks ++ m ∷ []) ≡ outcomes_settled n marks ++ (if m then Stored else OverQuota) ∷ []
+pub settled_more : (n : ℕ) (marks : List Bool) (m : Bool) → length marks < n
+    → outcomes_settled n (marks ++ m ∷ []) ≡ outcomes_settled n marks ++ (if m then Stored else OverQuota) ∷ []
 settled_more zero marks m h = absurd (omega (arith, h))
 settled_more (suc n) [] m h = refl
 settled_more (suc n) (x ∷ marks) m h = ap (λ l. (if x then Stored else OverQuota) ∷ l) (settled_more n marks m (omega (arith, h)))

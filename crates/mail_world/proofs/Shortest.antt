@@ -1,5 +1,6 @@
 -- No data that is read as a message is shorter than what a client sends for it.
-use Rattle.std.proofs.Common.{◌≡◌, ℕ, suc, ◌+◌, ◌≤◌, List, [], ◌∷◌, length, take, Bool, true, false, cond, ◌&&◌, ◌==◌, Some, refl, ap, sym, ◌∙◌, arith, length-append}
+use Rattle.std.proofs.Common.{◌≡◌, ℕ, suc, ◌+◌, ◌≤◌, List, [], ◌∷◌, length, take, Bool, true, false, cond, ◌&&◌, ◌==◌, Some, refl, ap, sym, ◌∙◌, arith,
+    length-append}
 use Rattle.std.specs.Prelude.{unwrap_or}
 use Rattle.std.proofs.lemmas.Bool.{eqb-true}
 use Rattle.std.proofs.lemmas.List.{length-take-le}
@@ -20,10 +21,12 @@ same_window a a' b (c ∷ text) e f = rw (e, f) refl
 after_dot_by : (d : ℕ) (text : List ℕ) (t : Bool) → (d == dot) ≡ t → length (again dot d text) ≤ length text
     → length (cond t (dot ∷ d ∷ with_dots lf d (without_dots dot d text)) (d ∷ with_dots lf d (without_dots dot d text))) ≤ suc (suc (length text))
 after_dot_by d text true e ih =
-    let same : length (with_dots lf d (without_dots dot d text)) ≡ length (again dot d text) = ap length (same_window lf dot d (without_dots dot d text) refl refl) in
+    let same : length (with_dots lf d (without_dots dot d text)) ≡ length (again dot d text) =
+        ap length (same_window lf dot d (without_dots dot d text) refl refl) in
     omega arith
 after_dot_by d text false e ih =
-    let same : length (with_dots lf d (without_dots dot d text)) ≡ length (again dot d text) = ap length (same_window lf dot d (without_dots dot d text) refl refl) in
+    let same : length (with_dots lf d (without_dots dot d text)) ≡ length (again dot d text) =
+        ap length (same_window lf dot d (without_dots dot d text) refl refl) in
     omega arith
 
 shorter_by : (a b c : ℕ) (text : List ℕ) (t : Bool) → ((a == cr) && (b == lf) && (c == dot)) ≡ t → length (again b c text) ≤ length text
@@ -42,7 +45,8 @@ shorter a b (c ∷ []) = shorter_by a b c [] ((a == cr) && (b == lf) && (c == do
 shorter a b (c ∷ d ∷ text) =
     shorter_by a b c (d ∷ text) ((a == cr) && (b == lf) && (c == dot)) refl (shorter b c (d ∷ text)) (after_dot_by d text (d == dot) refl (shorter dot d text))
 
-pub stuffed_shortest : (text t : List ℕ) → EmptyOrEndsIn crlf text → (e : ℕ) → data_end t ≡ Some e → length t ≡ e + 3 → message t ≡ text → length (stuffed text) ≤ length t
+pub stuffed_shortest : (text t : List ℕ) → EmptyOrEndsIn crlf text → (e : ℕ) → data_end t ≡ Some e → length t ≡ e + 3 → message t ≡ text
+    → length (stuffed text) ≤ length t
 unfolding message stuffed
 stuffed_shortest text t lines e found last same =
     let read : unstuffed (take e t) ≡ text = ap (λ o. unstuffed (take (unwrap_or o (length t)) t)) (sym found) ∙ same in

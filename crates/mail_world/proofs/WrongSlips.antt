@@ -16,7 +16,8 @@ abbrev HandOf : House → Box → Copy → Type 0
 HandOf h box copy = IsInHand h.calendar h.host h.quota box.old box.faulty box.accepted box.taken copy
 
 -- whether the copy in hand fits
-fits_in_hand : (h : House) (box : Box) (copy : Copy) → box.hand ≡ Some copy → HandOf h box copy → box.faulty ≡ false → copy.over ≡ not (fits_next h box copy.post.note)
+fits_in_hand : (h : House) (box : Box) (copy : Copy) → box.hand ≡ Some copy → HandOf h box copy → box.faulty ≡ false
+    → copy.over ≡ not (fits_next h box copy.post.note)
 fits_in_hand h box copy hand k works =
     let one : k.before ≡ box.taken - 1 = let last = k.last in omega arith in
     k.measured works
@@ -42,7 +43,8 @@ module _ (h : House) (all : AllSound h) (new : House) (w : ℕ) (box : Box) (at 
   says_of : (t : Bool) (copy : Copy) → is_settled copy ≡ t → outcome_of copy ≡ (if t then (if copy.over then OverQuota else Stored) else Failed)
   says_of t copy e = ap (λ s. if s then (if copy.over then OverQuota else Stored) else Failed) e
 
-  faulty_by : (t : Bool) (outcome : Outcome) (copy : Copy) → is_settled copy ≡ t → HandOf h box copy → box.faulty ≡ true → outcome ≢ Failed → outcome ≡ outcome_of copy → ⊥
+  faulty_by : (t : Bool) (outcome : Outcome) (copy : Copy) → is_settled copy ≡ t → HandOf h box copy → box.faulty ≡ true → outcome ≢ Failed
+      → outcome ≡ outcome_of copy → ⊥
   faulty_by true outcome copy settled k broken other says = not_both box.faulty broken (k.works settled)
   faulty_by false outcome copy settled k broken other says = other (says ∙ failed_by copy settled)
 
@@ -59,7 +61,8 @@ module _ (h : House) (all : AllSound h) (new : House) (w : ℕ) (box : Box) (at 
       let settled = (in_hand st.copy (hand_of st.box st.copy st.is st.in_hand)).sound st.let_go works in
       sound_by st.copy.over (st.says ∙ says_of true st.copy settled)
 
-  over_by : (t : Bool) (copy : Copy) → is_settled copy ≡ t → HandOf h box copy → box.hand ≡ Some copy → fits_next h box copy.post.note ≡ true → OverQuota ≡ outcome_of copy → ⊥
+  over_by : (t : Bool) (copy : Copy) → is_settled copy ≡ t → HandOf h box copy → box.hand ≡ Some copy → fits_next h box copy.post.note ≡ true
+      → OverQuota ≡ outcome_of copy → ⊥
   over_by true copy settled k hand fit says =
       let within : copy.over ≡ false = fits_in_hand h box copy hand k (k.works settled) ∙ ap not fit in
       let bad : OverQuota ≡ Stored = says ∙ says_of true copy settled ∙ ap (λ o. if o then OverQuota else Stored) within in
@@ -71,7 +74,8 @@ module _ (h : House) (all : AllSound h) (new : House) (w : ℕ) (box : Box) (at 
       let same = same_copy h w box st.box copy st.copy at st.is hand st.in_hand in
       over_by (is_settled copy) copy refl (in_hand copy hand) hand fit (st.says ∙ ap outcome_of (sym same))
 
-  stored_by : (t : Bool) (copy : Copy) → is_settled copy ≡ t → HandOf h box copy → box.hand ≡ Some copy → fits_next h box copy.post.note ≡ false → Stored ≡ outcome_of copy → ⊥
+  stored_by : (t : Bool) (copy : Copy) → is_settled copy ≡ t → HandOf h box copy → box.hand ≡ Some copy → fits_next h box copy.post.note ≡ false
+      → Stored ≡ outcome_of copy → ⊥
   stored_by true copy settled k hand past says =
       let over : copy.over ≡ true = fits_in_hand h box copy hand k (k.works settled) ∙ ap not past in
       let bad : Stored ≡ OverQuota = says ∙ says_of true copy settled ∙ ap (λ o. if o then OverQuota else Stored) over in

@@ -20,7 +20,8 @@ same_lane h k lane there is is' = same_some (slice_get h.lanes k) lane there is 
 pub same_box : (h : House) (b : ℕ) (box there : Box) → BoxIs h b box → BoxIs h b there → box ≡ there
 same_box h b box there is is' = same_some (slice_get h.boxes b) box there is is'
 
-pub same_copy : (h : House) (w : ℕ) (box there : Box) (copy its : Copy) → BoxIs h w box → BoxIs h w there → box.hand ≡ Some copy → there.hand ≡ Some its → copy ≡ its
+pub same_copy : (h : House) (w : ℕ) (box there : Box) (copy its : Copy) → BoxIs h w box → BoxIs h w there → box.hand ≡ Some copy → there.hand ≡ Some its
+    → copy ≡ its
 same_copy h w box there copy its is is' hand hand' =
     same_some box.hand copy its hand (ap (λ (x : Box). x.hand) (same_box h w box there is is') ∙ hand')
 

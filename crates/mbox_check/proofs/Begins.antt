@@ -1,5 +1,6 @@
 -- What holds at each place: a mailbox begins with the text, and where it isn't one.
-use Rattle.std.proofs.Common.{◌≡◌, ℕ, true, false, ◌==◌, List, [], ◌∷◌, ◌++◌, Option, Some, None, sym, ap, subst, ◌∙◌, refl, append_assoc, append-nil, true≢false}
+use Rattle.std.proofs.Common.{◌≡◌, ℕ, true, false, ◌==◌, List, [], ◌∷◌, ◌++◌, Option, Some, None, sym, ap, subst, ◌∙◌, refl, append_assoc, append-nil,
+    true≢false}
 use Rattle.std.specs.Prelude.{codes}
 use Rattle.mail_world.specs.Text.{lf, IsOneLine}
 use Rattle.mail_world.specs.Reading.{Letter, AreLetters, written}
@@ -131,7 +132,8 @@ at_begins (Start part) text n at = subst BeginsMailbox (sym at.1) (part_begins [
 at_begins (Open part) text n at =
     let ended = body_ended at.before n at.body in
     subst BeginsMailbox (sym at.whole) (part_begins (at.before ++ lf ∷ []) ended.letters part ended.is.are (sym ended.is.whole))
-at_begins (Line part) text n at = begins_shorter text (lf ∷ []) (body_begins_mailbox (text ++ lf ∷ []) n (started_line text n part (line_started text n part at)))
+at_begins (Line part) text n at =
+    begins_shorter text (lf ∷ []) (body_begins_mailbox (text ++ lf ∷ []) n (started_line text n part (line_started text n part at)))
 at_begins Inside text n at = begins_shorter text (lf ∷ []) (body_begins_mailbox (text ++ lf ∷ []) n (at.goes [] (literal [] refl)))
 
 -- ---- where it may not end

@@ -1,5 +1,6 @@
 -- A letter that has begun: more lines, its end, the next letter.
-use Rattle.std.proofs.Common.{◌≡◌, inl, inr, ℕ, suc, Bool, true, false, cond, ◌&&◌, ◌==◌, List, [], ◌∷◌, ◌++◌, map, length, sym, ap, subst, ◌∙◌, refl, append_assoc, append-nil, true≢false}
+use Rattle.std.proofs.Common.{◌≡◌, inl, inr, ℕ, suc, Bool, true, false, cond, ◌&&◌, ◌==◌, List, [], ◌∷◌, ◌++◌, map, length, sym, ap, subst, ◌∙◌, refl,
+    append_assoc, append-nil, true≢false}
 use Rattle.std.specs.Prelude.{codes}
 use Rattle.std.specs.Str.{byte}
 use Rattle.std.proofs.lemmas.Bool.{and_parts, or_from, eqb-true}
@@ -69,7 +70,8 @@ written-push ls l = flat_map-append letter_text ls (l ∷ []) ∙ ap (λ t. writ
 
 -- ---- one more line
 
-quoted_by : (b : ℕ) (line : List ℕ) (t : Bool) → ((b == byte ">") && is_from_line line) ≡ t → begins_from (b ∷ line) ≡ false → quoted (cond t line (b ∷ line)) ≡ b ∷ line
+quoted_by : (b : ℕ) (line : List ℕ) (t : Bool) → ((b == byte ">") && is_from_line line) ≡ t → begins_from (b ∷ line) ≡ false
+    → quoted (cond t line (b ∷ line)) ≡ b ∷ line
 quoted_by b line true e plain =
     let parts = and_parts (b == byte ">") (is_from_line line) e in
     let mark : quoted line ≡ byte ">" ∷ line = rw (parts.1) refl in
@@ -90,7 +92,8 @@ unquoted_one : (line : List ℕ) → IsOneLine line → IsOneLine (unquoted line
 unquoted_one [] h = h
 unquoted_one (b ∷ line) h = unquoted_by b line ((b == byte ">") && is_from_line line) h
 
-lines-push : (ls : List (List ℕ)) (line : List ℕ) → begins_from line ≡ false → with_lf (map quoted ls) ++ (line ++ lf ∷ []) ≡ with_lf (map quoted (ls ++ unquoted line ∷ []))
+lines-push : (ls : List (List ℕ)) (line : List ℕ) → begins_from line ≡ false
+    → with_lf (map quoted ls) ++ (line ++ lf ∷ []) ≡ with_lf (map quoted (ls ++ unquoted line ∷ []))
 lines-push ls line plain =
     let prefix : List ℕ = with_lf (map quoted ls) in
     let u : List ℕ = unquoted line in

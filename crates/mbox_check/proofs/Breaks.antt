@@ -1,5 +1,6 @@
 -- The place that breaks the form.
-use Rattle.std.proofs.Common.{◌≡◌, inl, inr, ℕ, suc, ◌+◌, arith, true, false, ◌==◌, List, [], ◌∷◌, ◌++◌, length, take, None, sym, ap, subst, ◌∙◌, refl, append_assoc, append-nil, true≢false}
+use Rattle.std.proofs.Common.{◌≡◌, inl, inr, ℕ, suc, ◌+◌, arith, true, false, ◌==◌, List, [], ◌∷◌, ◌++◌, length, take, None, sym, ap, subst, ◌∙◌, refl,
+    append_assoc, append-nil, true≢false}
 use Rattle.std.specs.Prelude.{codes}
 use Rattle.std.proofs.lemmas.List.{length-append, take_all}
 use Rattle.mail_world.specs.Counts.{counted}
@@ -46,7 +47,8 @@ breaks_end text begins short = record {
 
 -- ---- at the end
 
-pub bad_end : (place : FormPlace) (text : List ℕ) (n taken : ℕ) → taken ≡ counted (length text) → IsAt text n place → is_whole place ≡ false → IsBad text (bad_at place taken)
+pub bad_end : (place : FormPlace) (text : List ℕ) (n taken : ℕ) → taken ≡ counted (length text) → IsAt text n place → is_whole place ≡ false
+    → IsBad text (bad_at place taken)
 bad_end (Start part) text n taken t at e =
     (start_bad part text at.1 e, (length text, t, breaks_end text (at_begins (Start part) text n at) (at_short (Start part) text n at e)))
 bad_end (Open part) text n taken t at e =
@@ -81,7 +83,8 @@ no_line part text n b l e f m =
     ∙ append_assoc l.before (lf ∷ []) (codes "From " ++ m.more) in
     elim (from_after m.letters l.before m.more m.is.are whole) [ inl g ↦ ends_not_empty l.before l.ends g | inr g ↦ ends_not_lf l.before g.0 l.ends g.1 ]
 
-pub line_breaks : (part : Part) (text more : List ℕ) (n b taken : ℕ) → taken ≡ counted (length text) → IsLine text n part → next_byte part ≡ b → longer_part part ≡ None
+pub line_breaks : (part : Part) (text more : List ℕ) (n b taken : ℕ) → taken ≡ counted (length text) → IsLine text n part → next_byte part ≡ b
+    → longer_part part ≡ None
     → IsBad (text ++ b ∷ more) (NoEmptyLine taken)
 line_breaks part text more n b taken t l e f = (
   started_begins text n part (b ∷ more) (line_started text n part l),

@@ -1,5 +1,6 @@
 -- What comes of a byte.
-use Rattle.std.proofs.Common.{◌≡◌, ℕ, suc, Bool, true, false, cond, ◌==◌, List, [], ◌∷◌, ◌++◌, length, Option, Some, None, sym, ap, subst, ◌∙◌, refl, append_assoc, append-nil}
+use Rattle.std.proofs.Common.{◌≡◌, ℕ, suc, Bool, true, false, cond, ◌==◌, List, [], ◌∷◌, ◌++◌, length, Option, Some, None, sym, ap, subst, ◌∙◌, refl,
+    append_assoc, append-nil}
 use Rattle.std.specs.Prelude.{codes}
 use Rattle.std.proofs.lemmas.Bool.{eqb-true}
 use Rattle.mail_world.specs.Counts.{counted}
@@ -29,7 +30,8 @@ LeadsTo from text n b Break = (more : List ℕ) (taken : ℕ) → taken ≡ coun
 
 -- ---- a letter begins
 
-letter_begins : (text start : List ℕ) (n : ℕ) (letters : List Letter) → AreLetters letters → start ≡ written letters → n ≡ length letters → text ≡ start ++ codes "From "
+letter_begins : (text start : List ℕ) (n : ℕ) (letters : List Letter) → AreLetters letters → start ≡ written letters → n ≡ length letters
+    → text ≡ start ++ codes "From "
     → IsInsideLine text (suc n)
 letter_begins text start n letters are e count whole = record {
   ends = subst EndsInLine (sym whole) (ends_after start (codes "From ") (record { prefix = codes "From"; last = 32; whole = refl; other = refl }));
@@ -92,7 +94,8 @@ started_lf Fr text n s = started_line_lf Fr text n s refl
 started_lf Fro text n s = started_line_lf Fro text n s refl
 started_lf From text n s = started_line_lf From text n s refl
 
-started_else : (part : Part) (text : List ℕ) (n b : ℕ) → IsStarted text n part → (next_byte part == b) ≡ false → (b == lf) ≡ false → IsInsideLine (text ++ b ∷ []) n
+started_else : (part : Part) (text : List ℕ) (n b : ℕ) → IsStarted text n part → (next_byte part == b) ≡ false → (b == lf) ≡ false
+    → IsInsideLine (text ++ b ∷ []) n
 started_else part text n b s e f = record {
   ends = record { prefix = text; last = b; whole = refl; other = f };
   begins = λ more. ap is_boundary (append_assoc text (b ∷ []) more) ∙ started_begins text n part (b ∷ more) s;

@@ -1,5 +1,6 @@
 -- The lines of a mailbox: each From line but the first stands after an empty line, and the last line is empty.
-use Rattle.std.proofs.Common.{◌≡◌, ◌⊎◌, inl, inr, ℕ, Bool, true, false, ◌==◌, List, [], ◌∷◌, ◌++◌, map, sym, ap, ◌∙◌, refl, append_assoc, append-nil, true≢false}
+use Rattle.std.proofs.Common.{◌≡◌, ◌⊎◌, inl, inr, ℕ, Bool, true, false, ◌==◌, List, [], ◌∷◌, ◌++◌, map, sym, ap, ◌∙◌, refl, append_assoc, append-nil,
+    true≢false}
 use Rattle.std.specs.Prelude.{codes}
 use Rattle.std.specs.List.{AllByRecursion}
 use Rattle.std.proofs.lemmas.Bool.{eqb-true, false≢true}
@@ -59,7 +60,8 @@ ends_later text line more e h = elim h [
 ]
 
 after_byte_by : (l : List ℕ) (ls : List (List ℕ)) (text more : List ℕ) → IsOneLine l → IsSpaced l ls → with_lf (l ∷ ls) ≡ text ++ lf ∷ (codes "From " ++ more)
-    → ((rest : List ℕ) → with_lf ls ≡ rest ++ lf ∷ (codes "From " ++ more) → EmptyOrEndsIn (lf ∷ []) rest) → IsOneLine text ⊎ HasLine text → EmptyOrEndsIn (lf ∷ []) text
+    → ((rest : List ℕ) → with_lf ls ≡ rest ++ lf ∷ (codes "From " ++ more) → EmptyOrEndsIn (lf ∷ []) rest) → IsOneLine text ⊎ HasLine text
+    → EmptyOrEndsIn (lf ∷ []) text
 after_byte_by l ls text more h s e ih (inl one) =
     let cut = same_cut l text (with_lf ls) (codes "From " ++ more) h one (sym (append_assoc l (lf ∷ []) (with_lf ls)) ∙ e) in
     inl (sym cut.0 ∙ first_is l ls more s cut.1)
@@ -75,8 +77,10 @@ after_empty before [] text more h s e = absurd (no_nil text (codes "From " ++ mo
 after_empty before (l ∷ ls) text more h s e = after_byte_by l ls text more h.0 s.1 e (λ rest f. after_empty l ls rest more h.1 s.1 f) (first_line text)
 
 -- a From line after other bytes stands after an empty line
-pub from_after : (letters : List Letter) (text more : List ℕ) → AreLetters letters → written letters ≡ text ++ lf ∷ (codes "From " ++ more) → EmptyOrEndsIn (lf ∷ []) text
-from_after letters text more h e = after_empty [] (letters_lines letters) text more (letters_lines-each letters h) (spaced_mail letters) (sym (written-lines letters) ∙ e)
+pub from_after : (letters : List Letter) (text more : List ℕ) → AreLetters letters → written letters ≡ text ++ lf ∷ (codes "From " ++ more)
+    → EmptyOrEndsIn (lf ∷ []) text
+from_after letters text more h e =
+    after_empty [] (letters_lines letters) text more (letters_lines-each letters h) (spaced_mail letters) (sym (written-lines letters) ∙ e)
 
 -- the last line is empty
 abbrev pub EndsEmpty : List ℕ → Type 0
@@ -87,7 +91,8 @@ letter_end_by first body h =
     let line : List ℕ = first ++ (lf ∷ []) in
     elim h [
       | inl e ↦
-          (first, ap (λ (l : List ℕ). line ++ l ++ (lf ∷ [])) e ∙ ap (λ (l : List ℕ). l ++ (lf ∷ [])) (append-nil line) ∙ append_assoc first (lf ∷ []) (lf ∷ []))
+          (first, ap (λ (l : List ℕ). line ++ l ++ (lf ∷ [])) e ∙ ap (λ (l : List ℕ). l ++ (lf ∷ [])) (append-nil line)
+              ∙ append_assoc first (lf ∷ []) (lf ∷ []))
       | inr f ↦ (
         line ++ f.0,
         ap (λ (l : List ℕ). line ++ l ++ (lf ∷ [])) f.1 ∙ ap (λ (l : List ℕ). l ++ (lf ∷ [])) (sym (append_assoc line f.0 (lf ∷ [])))

@@ -15,7 +15,8 @@ pub record IsReadUpTo (old new : Option (List ℕ)) (form : FormCheck) : Type 0 
   pub came : Consumes old new prefix
   pub read : IsReadSoFar prefix form
 
-pub read_more : (old mid new : Option (List ℕ)) (form next : FormCheck) (piece : List ℕ) → IsReadUpTo old mid form → Consumes mid new piece → HasTaken form next piece → IsReadUpTo old new next
+pub read_more : (old mid new : Option (List ℕ)) (form next : FormCheck) (piece : List ℕ) → IsReadUpTo old mid form → Consumes mid new piece
+    → HasTaken form next piece → IsReadUpTo old new next
 read_more old mid new form next piece r c h =
     record { prefix = r.prefix ++ piece; came = Consumes-trans old mid new r.prefix piece r.came c; read = h.goes r.prefix r.read }
 
@@ -25,7 +26,8 @@ IsAllRead None form = ⊤
 IsAllRead (Some xs) form = IsReadSoFar xs form
 
 -- a read that gave nothing is the end
-all_read : (old mid new : Option (List ℕ)) (prefix : List ℕ) (form : FormCheck) → Consumes old mid prefix → Consumes mid new [] → IsAtEnd new → IsReadSoFar prefix form → IsAllRead old form
+all_read : (old mid new : Option (List ℕ)) (prefix : List ℕ) (form : FormCheck) → Consumes old mid prefix → Consumes mid new [] → IsAtEnd new
+    → IsReadSoFar prefix form → IsAllRead old form
 all_read None mid new prefix form p q e s = tt
 all_read (Some xs) None new prefix form p q e s = absurd p
 all_read (Some xs) (Some ys) None prefix form p q e s = absurd q
@@ -37,12 +39,14 @@ pub read_end : (old mid new : Option (List ℕ)) (form : FormCheck) (n : ℕ) (b
 read_end old mid new form n buffer r c e some =
     all_read old mid new r.prefix form r.came (subst (λ k. Consumes mid new (take k buffer)) e c.0) (c.1 e some) r.read
 
-pub read_bad : (old : Option (List ℕ)) (form : FormCheck) (bad : BadForm) → IsAllRead old form → ((text : List ℕ) → IsReadSoFar text form → IsBad text bad) → IsFaultOf old (Form bad)
+pub read_bad : (old : Option (List ℕ)) (form : FormCheck) (bad : BadForm) → IsAllRead old form → ((text : List ℕ) → IsReadSoFar text form → IsBad text bad)
+    → IsFaultOf old (Form bad)
 read_bad None form bad s h = tt
 read_bad (Some xs) form bad s h = h xs s
 
 -- a piece breaks the form, whatever the reader has left
-broken_at : (xs : List ℕ) (new : Option (List ℕ)) (form : FormCheck) (prefix piece : List ℕ) (bad : BadForm) → Consumes (Some xs) new (prefix ++ piece) → IsReadSoFar prefix form
+broken_at : (xs : List ℕ) (new : Option (List ℕ)) (form : FormCheck) (prefix piece : List ℕ) (bad : BadForm) → Consumes (Some xs) new (prefix ++ piece)
+    → IsReadSoFar prefix form
     → BreaksIn form piece bad → IsBad xs bad
 broken_at xs None form prefix piece bad p s h = absurd p
 broken_at xs (Some ys) form prefix piece bad p s h = subst (λ (l : List ℕ). IsBad l bad) (sym (p ∙ append_assoc prefix piece ys)) (h.goes prefix ys s)

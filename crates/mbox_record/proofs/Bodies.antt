@@ -1,5 +1,6 @@
 -- The lines after a From line, read one by one.
-use Rattle.std.proofs.Common.{◌≡◌, ◌⊎◌, inl, inr, ℕ, ◌-◌, length, take, drop, arith, Bool, true, false, ◌&&◌, ◌||◌, ◌==◌, List, [], ◌∷◌, ◌++◌, map, sym, ap, subst, ◌∙◌, refl, append_assoc, append-nil}
+use Rattle.std.proofs.Common.{◌≡◌, ◌⊎◌, inl, inr, ℕ, ◌-◌, length, take, drop, arith, Bool, true, false, ◌&&◌, ◌||◌, ◌==◌, List, [], ◌∷◌, ◌++◌, map, sym, ap,
+    subst, ◌∙◌, refl, append_assoc, append-nil}
 use Rattle.std.specs.Prelude.{codes}
 use Rattle.std.specs.List.{AllByRecursion}
 use Rattle.std.specs.Str.{byte}
@@ -19,8 +20,10 @@ begins_from text = begins_with (codes "From ") text
 -- a text has one first LF
 pub same_cut : (x y v w : List ℕ) → IsOneLine x → IsOneLine y → x ++ lf ∷ v ≡ y ++ lf ∷ w → (x ≡ y) × (v ≡ w)
 same_cut [] [] v w h k e = (refl, ap (λ (l : List ℕ). drop 1 l) e)
-same_cut [] (b ∷ y) v w h k e = let same : lf ≡ b = cc in let is : (lf == lf) ≡ (b == lf) = ap (λ c. c == lf) same in let no' : (b == lf) ≡ false = head_byte b y k in cc
-same_cut (a ∷ x) [] v w h k e = let same : a ≡ lf = cc in let is : (a == lf) ≡ (lf == lf) = ap (λ c. c == lf) same in let no' : (a == lf) ≡ false = head_byte a x h in cc
+same_cut [] (b ∷ y) v w h k e = let same : lf ≡ b = cc in let is : (lf == lf) ≡ (b == lf) = ap (λ c. c == lf) same in let no' : (b == lf) ≡ false =
+    head_byte b y k in cc
+same_cut (a ∷ x) [] v w h k e = let same : a ≡ lf = cc in let is : (a == lf) ≡ (lf == lf) = ap (λ c. c == lf) same in let no' : (a == lf) ≡ false =
+    head_byte a x h in cc
 same_cut (a ∷ x) (b ∷ y) v w h k e =
     let same : a ≡ b = cc in
     let rest : x ++ lf ∷ v ≡ y ++ lf ∷ w = cc in
@@ -50,7 +53,8 @@ pub record IsTail (text rest : List ℕ) : Type 0 where
   pub whole : text ≡ with_lf (map quoted ls) ++ lf ∷ rest
   pub ends : is_boundary rest ≡ true
 
-pub tail-cons : (l : List ℕ) (ls : List (List ℕ)) (rest : List ℕ) → with_lf (map quoted (l ∷ ls)) ++ lf ∷ rest ≡ quoted l ++ lf ∷ (with_lf (map quoted ls) ++ lf ∷ rest)
+pub tail-cons : (l : List ℕ) (ls : List (List ℕ)) (rest : List ℕ)
+    → with_lf (map quoted (l ∷ ls)) ++ lf ∷ rest ≡ quoted l ++ lf ∷ (with_lf (map quoted ls) ++ lf ∷ rest)
 tail-cons l ls rest =
     append_assoc (quoted l ++ lf ∷ []) (with_lf (map quoted ls)) (lf ∷ rest) ∙ append_assoc (quoted l) (lf ∷ []) (with_lf (map quoted ls) ++ lf ∷ rest)
 
@@ -75,7 +79,8 @@ next_by (l ∷ ls) line more rest h k b e =
 pub IsTail-next : (text line more rest : List ℕ) → IsLineCut text line more → IsTail text rest → ((line ≡ []) × (more ≡ rest)) ⊎ IsTail more rest
 IsTail-next text line more rest cut t = next_by t.ls line more rest t.one cut.one t.ends (sym cut.whole ∙ t.whole)
 
-goes_on : (more rest : List ℕ) (line : List ℕ) → (line ≡ [] → is_boundary more ≡ false) → is_boundary rest ≡ true → ((line ≡ []) × (more ≡ rest)) ⊎ IsTail more rest → IsTail more rest
+goes_on : (more rest : List ℕ) (line : List ℕ) → (line ≡ [] → is_boundary more ≡ false) → is_boundary rest ≡ true
+    → ((line ≡ []) × (more ≡ rest)) ⊎ IsTail more rest → IsTail more rest
 goes_on more rest line open' b (inl e) = let other : is_boundary more ≡ true = ap is_boundary e.1 ∙ b in let no' : is_boundary more ≡ false = open' e.0 in cc
 goes_on more rest line open' b (inr t) = t
 
@@ -153,7 +158,8 @@ marked_quoted text e = rw e refl
 text_after : (b : ℕ) (rest text : List ℕ) → rest ≡ b ∷ text → take (length rest - 1) (drop 1 rest) ≡ text
 text_after b rest text e = rw e (grind (arith, common_steps))
 
-pub IsBodyUpTo-quoted : (text body run rest line more prefix copied : List ℕ) → IsBodyUpTo text body run rest → IsLineCut rest line more → begins_from rest ≡ false
+pub IsBodyUpTo-quoted : (text body run rest line more prefix copied : List ℕ) → IsBodyUpTo text body run rest → IsLineCut rest line more
+    → begins_from rest ≡ false
     → (line ≡ [] → is_boundary more ≡ false) → is_quoted line ≡ true → ((first : List ℕ) → run ≡ first ++ rest → prefix ≡ first) → copied ≡ body ++ prefix
     → IsBodyUpTo text copied (take (length rest - 1) (drop 1 rest)) more
 IsBodyUpTo-quoted text body run rest line more prefix copied b cut plain open' q f e =
@@ -172,7 +178,8 @@ IsBodyUpTo-quoted text body run rest line more prefix copied b cut plain open' q
 pub lines-whole : (ls : List (List ℕ)) → AllByRecursion IsOneLine ls → lines (with_lf ls) ≡ ls
 lines-whole ls one = ap lines (sym (append-nil (with_lf ls))) ∙ lines-with_lf ls [] one ∙ append-nil ls
 
-pub IsBodyUpTo-end : (text body run rest line more prefix copied : List ℕ) → IsBodyUpTo text body run rest → IsLineCut rest line more → line ≡ [] → is_boundary more ≡ true
+pub IsBodyUpTo-end : (text body run rest line more prefix copied : List ℕ) → IsBodyUpTo text body run rest → IsLineCut rest line more → line ≡ []
+    → is_boundary more ≡ true
     → ((first : List ℕ) → run ≡ first ++ rest → prefix ≡ first) → copied ≡ body ++ prefix → IsBodyRead text copied more
 IsBodyUpTo-end text body run rest line more prefix copied b cut empty at f e =
     let done : copied ≡ with_lf b.ls = e ∙ ap (λ l. body ++ l) (f b.pending b.kept) ∙ b.read in record {

@@ -1,5 +1,6 @@
 -- The letters of a mailbox, read one by one.
-use Rattle.std.proofs.Common.{◌≡◌, ◌≢◌, ◌⊎◌, inl, inr, ℕ, ◌-◌, length, take, drop, arith, true, false, Result, Err, List, [], ◌∷◌, ◌++◌, map, sym, ap, ◌∙◌, refl, append_assoc}
+use Rattle.std.proofs.Common.{◌≡◌, ◌≢◌, ◌⊎◌, inl, inr, ℕ, ◌-◌, length, take, drop, arith, true, false, Result, Err, List, [], ◌∷◌, ◌++◌, map, sym, ap, ◌∙◌,
+    refl, append_assoc}
 use Rattle.std.specs.Prelude.{codes}
 use Rattle.std.specs.List.{AllByRecursion}
 use Rattle.std.proofs.lemmas.List.{append_cancel_left}
@@ -14,7 +15,8 @@ use Rattle.mbox_record.specs.Letters.{is_boundary, letter_headed, IsLineCut, IsB
 use Rattle.mbox_record.proofs.Bodies.{begins_from, same_cut, has_lf, tail-cons, inside, IsTail, IsTail-inside, IsTail-next}
 
 -- the text of a letter, its head first
-pub letter-lines : (letter : Letter) (rest : List ℕ) → letter_text letter ++ rest ≡ codes "From " ++ (letter.head ++ lf ∷ (quoted_text letter.body ++ lf ∷ rest))
+pub letter-lines : (letter : Letter) (rest : List ℕ)
+    → letter_text letter ++ rest ≡ codes "From " ++ (letter.head ++ lf ∷ (quoted_text letter.body ++ lf ∷ rest))
 letter-lines letter rest =
     append_assoc (codes "From " ++ letter.head ++ (lf ∷ []) ++ quoted_text letter.body) (lf ∷ []) rest
     ∙ append_assoc (codes "From " ++ letter.head ++ (lf ∷ [])) (quoted_text letter.body) (lf ∷ rest)
@@ -24,11 +26,13 @@ after_from : (text : List ℕ) → begins_from text ≡ true → text ≡ codes 
 after_from text e = begins_with-prefix (codes "From ") text e ∙ ap (λ l. codes "From " ++ l) (grind (arith, common_steps))
 
 -- a letter that is read is its head's line and its body's
-pub IsLetterRead-lines : (text head lines body rest : List ℕ) → begins_from text ≡ true → IsLineCut (take (length text - 5) (drop 5 text)) head lines → IsBodyRead lines body rest
+pub IsLetterRead-lines : (text head lines body rest : List ℕ) → begins_from text ≡ true → IsLineCut (take (length text - 5) (drop 5 text)) head lines
+    → IsBodyRead lines body rest
     → IsLetterRead text (letter_headed head body) rest
 IsLetterRead-lines text head lines body rest e cut read = record {
   is = record { head = cut.one; body = read.lines };
-  whole = after_from text e ∙ ap (λ l. codes "From " ++ l) (cut.whole ∙ ap (λ l. head ++ lf ∷ l) read.whole) ∙ sym (letter-lines (letter_headed head body) rest);
+  whole = after_from text e ∙ ap (λ l. codes "From " ++ l) (cut.whole ∙ ap (λ l. head ++ lf ∷ l) read.whole)
+      ∙ sym (letter-lines (letter_headed head body) rest);
   ends = read.ends;
 }
 
@@ -39,9 +43,11 @@ head_cut text letter rest e read =
     append_cancel_left (codes "From ") (take (length text - 5) (drop 5 text)) (letter.head ++ lf ∷ (quoted_text letter.body ++ lf ∷ rest))
     (sym (after_from text e) ∙ read.whole ∙ letter-lines letter rest)
 
-pub no_head : (text : List ℕ) → begins_from text ≡ true → has_byte (take (length text - 5) (drop 5 text)) lf ≡ false → (letter : Letter) (rest : List ℕ) → IsLetterRead text letter rest → ⊥
+pub no_head : (text : List ℕ) → begins_from text ≡ true → has_byte (take (length text - 5) (drop 5 text)) lf ≡ false → (letter : Letter) (rest : List ℕ)
+    → IsLetterRead text letter rest → ⊥
 no_head text e none letter rest read =
-    let yes' : has_byte (take (length text - 5) (drop 5 text)) lf ≡ true = ap (λ l. has_byte l lf) (head_cut text letter rest e read) ∙ has_lf letter.head (quoted_text letter.body ++ lf ∷ rest) in cc
+    let yes' : has_byte (take (length text - 5) (drop 5 text)) lf ≡ true =
+        ap (λ l. has_byte l lf) (head_cut text letter rest e read) ∙ has_lf letter.head (quoted_text letter.body ++ lf ∷ rest) in cc
 
 pub no_body : (text head lines : List ℕ) → begins_from text ≡ true → IsLineCut (take (length text - 5) (drop 5 text)) head lines
     → ((body rest : List ℕ) → IsBodyRead lines body rest → ⊥) → (letter : Letter) (rest : List ℕ) → IsLetterRead text letter rest → ⊥
@@ -67,12 +73,14 @@ same_rest : (rest other line : List ℕ) → ((line ≡ []) × (rest ≡ other))
 same_rest rest other line (inl e) b = e.1
 same_rest rest other line (inr t) b = let no' : is_boundary rest ≡ false = IsTail-inside rest other t in cc
 
-not_done : (ls : List (List ℕ)) (more rest other line : List ℕ) → more ≡ with_lf (map quoted ls) ++ lf ∷ rest → is_boundary other ≡ true → ((line ≡ []) × (more ≡ other)) ⊎ IsTail more other → IsTail more other
+not_done : (ls : List (List ℕ)) (more rest other line : List ℕ) → more ≡ with_lf (map quoted ls) ++ lf ∷ rest → is_boundary other ≡ true
+    → ((line ≡ []) × (more ≡ other)) ⊎ IsTail more other → IsTail more other
 not_done ls more rest other line e b (inl f) =
     let no' : is_boundary other ≡ false = ap is_boundary (sym f.1 ∙ e) ∙ inside ls rest in cc
 not_done ls more rest other line e b (inr t) = t
 
-one_rest : (ls : List (List ℕ)) (text rest other : List ℕ) → AllByRecursion IsOneLine ls → is_boundary rest ≡ true → text ≡ with_lf (map quoted ls) ++ lf ∷ rest → IsTail text other → rest ≡ other
+one_rest : (ls : List (List ℕ)) (text rest other : List ℕ) → AllByRecursion IsOneLine ls → is_boundary rest ≡ true → text ≡ with_lf (map quoted ls) ++ lf ∷ rest
+    → IsTail text other → rest ≡ other
 one_rest [] text rest other h b e t =
     same_rest rest other [] (IsTail-next text [] rest other (record { one = literal [] refl; whole = e }) t) b
 one_rest (l ∷ ls) text rest other h b e t =
@@ -84,7 +92,8 @@ one_rest (l ∷ ls) text rest other h b e t =
 tail_of : (letter : Letter) (text rest : List ℕ) → IsLetter letter → is_boundary rest ≡ true → text ≡ quoted_text letter.body ++ lf ∷ rest → IsTail text rest
 tail_of letter text rest h b e = record { ls = lines letter.body; one = lines-each letter.body; whole = e; ends = b }
 
-one_letter : (a b : Letter) (rest other : List ℕ) → IsLetter a → IsLetter b → is_boundary rest ≡ true → is_boundary other ≡ true → letter_text a ++ rest ≡ letter_text b ++ other → rest ≡ other
+one_letter : (a b : Letter) (rest other : List ℕ) → IsLetter a → IsLetter b → is_boundary rest ≡ true → is_boundary other ≡ true
+    → letter_text a ++ rest ≡ letter_text b ++ other → rest ≡ other
 one_letter a b rest other h k s t e =
     let after_a : List ℕ = quoted_text a.body ++ lf ∷ rest in
     let after_b : List ℕ = quoted_text b.body ++ lf ∷ other in
@@ -104,14 +113,17 @@ pub record IsRest (rest : List ℕ) : Type 0 where
   pub are : AreLetters letters
   pub whole : rest ≡ written letters
 
-same_start : (found letters : List Letter) (rest : List ℕ) → AreLetters found → AreLetters letters → is_boundary rest ≡ true → written letters ≡ written found ++ rest → IsRest rest
+same_start : (found letters : List Letter) (rest : List ℕ) → AreLetters found → AreLetters letters → is_boundary rest ≡ true
+    → written letters ≡ written found ++ rest → IsRest rest
 same_start [] letters rest h k b e = record { letters = letters; are = k; whole = sym e }
 same_start (l ∷ found) [] rest h k b e = cc
 same_start (l ∷ found) (x ∷ letters) rest h k b e =
     same_start found letters rest h.1 k.1 b
-    (one_letter x l (written letters) (written found ++ rest) k.0 h.0 (boundary-written letters) (boundary-letters found rest b) (e ∙ append_assoc (letter_text l) (written found) rest))
+    (one_letter x l (written letters) (written found ++ rest) k.0 h.0 (boundary-written letters) (boundary-letters found rest b)
+        (e ∙ append_assoc (letter_text l) (written found) rest))
 
-no_rest : (rest : List ℕ) → rest ≢ [] → ((letter : Letter) (more : List ℕ) → IsLetterRead rest letter more → ⊥) → (ls : List Letter) → AreLetters ls → rest ≡ written ls → ⊥
+no_rest : (rest : List ℕ) → rest ≢ [] → ((letter : Letter) (more : List ℕ) → IsLetterRead rest letter more → ⊥) → (ls : List Letter) → AreLetters ls
+    → rest ≡ written ls → ⊥
 no_rest rest some none [] h e = some e
 no_rest rest some none (l ∷ ls) h e = none l (written ls) (record { is = h.0; whole = e; ends = boundary-written ls })
 

@@ -18,7 +18,8 @@ after_one_line [] = []
 after_one_line (b ∷ text) = if b == lf then text else after_one_line text
 
 rest_by : (t : Bool) (b : ℕ) (text : List ℕ) → line_rest text ≡ first_line text ++ lf ∷ quoted_text (after_one_line text)
-    → (if t then lf ∷ quoted_text text else b ∷ line_rest text) ≡ (if t then [] else b ∷ first_line text) ++ lf ∷ quoted_text (if t then text else after_one_line text)
+    → (if t then lf ∷ quoted_text text else b ∷ line_rest text) ≡ (if t then [] else b ∷ first_line text) ++ lf
+    ∷ quoted_text (if t then text else after_one_line text)
 rest_by true b text e = refl
 rest_by false b text e = ap (λ (l : List ℕ). b ∷ l) e
 
@@ -47,7 +48,8 @@ quoted_text-first b text =
 
 -- a line that is no From line is written as it is
 pub plain_line : (b : ℕ) (text : List ℕ) → is_from_line (first_line (b ∷ text)) ≡ false → quoted_text (b ∷ text) ≡ line_rest (b ∷ text)
-plain_line b text e = quoted_text-first b text ∙ ap (λ (t : Bool). (if t then 62 ∷ first_line (b ∷ text) else first_line (b ∷ text)) ++ lf ∷ quoted_text (after_one_line (b ∷ text))) e
+plain_line b text e = quoted_text-first b text
+    ∙ ap (λ (t : Bool). (if t then 62 ∷ first_line (b ∷ text) else first_line (b ∷ text)) ++ lf ∷ quoted_text (after_one_line (b ∷ text))) e
     ∙ sym (line_rest-first (b ∷ text))
 
 -- a `>` at its beginning, and the rest

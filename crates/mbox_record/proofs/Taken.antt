@@ -1,5 +1,6 @@
 -- Texts that a spool takes one after another.
-use Rattle.std.proofs.Common.{◌≡◌, ◌||◌, ℕ, ◌+◌, ◌-◌, ◌<◌, arith, List, ◌++◌, length, Option, Some, None, Result, Ok, Err, take, drop, get_or, sym, ap, ◌∙◌, subst, append_assoc}
+use Rattle.std.proofs.Common.{◌≡◌, ◌||◌, ℕ, ◌+◌, ◌-◌, ◌<◌, arith, List, ◌++◌, length, Option, Some, None, Result, Ok, Err, take, drop, get_or, sym, ap, ◌∙◌,
+    subst, append_assoc}
 use Rattle.std.proofs.lemmas.List.{take-append-drop, take_rest, drop_more, length-append}
 use Rattle.std.proofs.lemmas.List.Concat.{flat_map-append}
 use Rattle.std.specs.List.{flat_map}
@@ -99,7 +100,8 @@ pub TakesUpTo-more : (s t u : SpoolState) (text rest : List ℕ) (n : ℕ) → T
     → TakesUpTo s u text (take (length rest - n) (drop n rest))
 TakesUpTo-more s t u text rest n x y = record {
   prefix = x.prefix ++ take n rest;
-  whole = rw (take_rest rest n) (x.whole ∙ ap (λ (w : List ℕ). x.prefix ++ w) (sym (take-append-drop n rest)) ∙ sym (append_assoc x.prefix (take n rest) (drop n rest)));
+  whole = rw (take_rest rest n) (x.whole ∙ ap (λ (w : List ℕ). x.prefix ++ w) (sym (take-append-drop n rest))
+      ∙ sym (append_assoc x.prefix (take n rest) (drop n rest)));
   taken = SpoolTook-then s t u x.prefix (take n rest) x.taken y;
 }
 
@@ -133,10 +135,12 @@ pub OnErr-as : {T E : Type 0} (r : Result T E) (s t : SpoolState) (a b : List �
 OnErr-as r s t a b e h = let P : List ℕ → Type 0 = λ w. OnErr r (SpoolFailed s t w) in subst P (sym e) h
 
 -- the last of the texts
-pub OnOk-rest : {T E : Type 0} (r : Result T E) (s t u : SpoolState) (text rest : List ℕ) → TakesUpTo s t text rest → OnOk r (SpoolTook t u rest) → OnOk r (SpoolTook s u text)
+pub OnOk-rest : {T E : Type 0} (r : Result T E) (s t u : SpoolState) (text rest : List ℕ) → TakesUpTo s t text rest → OnOk r (SpoolTook t u rest)
+    → OnOk r (SpoolTook s u text)
 OnOk-rest (Ok v) s t u text rest x y = SpoolTook-rest s t u text rest x y
 OnOk-rest (Err d) s t u text rest x y = tt
 
-pub OnErr-rest : {T E : Type 0} (r : Result T E) (s t u : SpoolState) (text rest : List ℕ) → TakesUpTo s t text rest → OnErr r (SpoolFailed t u rest) → OnErr r (SpoolFailed s u text)
+pub OnErr-rest : {T E : Type 0} (r : Result T E) (s t u : SpoolState) (text rest : List ℕ) → TakesUpTo s t text rest → OnErr r (SpoolFailed t u rest)
+    → OnErr r (SpoolFailed s u text)
 OnErr-rest (Ok v) s t u text rest x y = tt
 OnErr-rest (Err d) s t u text rest x y = SpoolFailed-rest s t u text rest x y

@@ -12,7 +12,8 @@ pub WritesPiece-then : (s t u : SpoolState) (a b c : Pending) (p q : List ℕ) �
 WritesPiece-then s t u a b c p q x y = record {
   text = x.text ++ y.text;
   taken = SpoolTook-then s t u x.text y.text x.taken y.taken;
-  goes = λ rest. append_assoc x.text y.text (bytes_owed c rest) ∙ ap (λ (l : List ℕ). x.text ++ l) (y.goes rest) ∙ x.goes (q ++ rest) ∙ ap (bytes_owed a) (sym (append_assoc p q rest));
+  goes = λ rest. append_assoc x.text y.text (bytes_owed c rest) ∙ ap (λ (l : List ℕ). x.text ++ l) (y.goes rest) ∙ x.goes (q ++ rest)
+      ∙ ap (bytes_owed a) (sym (append_assoc p q rest));
 }
 
 pub FailsPiece-then : (s t u : SpoolState) (a b : Pending) (p q : List ℕ) → WritesPiece s t a b p → FailsPiece t u b q → FailsPiece s u a (p ++ q)
@@ -21,7 +22,8 @@ FailsPiece-then s t u a b p q x y = record {
   failed = SpoolFailed-later s t u x.text y.text x.taken y.failed;
   sure = λ rest. let prefix = y.sure rest in record {
     rest = prefix.rest;
-    whole = ap (bytes_owed a) (append_assoc p q rest) ∙ sym (x.goes (q ++ rest)) ∙ ap (λ (l : List ℕ). x.text ++ l) prefix.whole ∙ sym (append_assoc x.text y.text prefix.rest);
+    whole = ap (bytes_owed a) (append_assoc p q rest) ∙ sym (x.goes (q ++ rest)) ∙ ap (λ (l : List ℕ). x.text ++ l) prefix.whole
+        ∙ sym (append_assoc x.text y.text prefix.rest);
   };
 }
 
@@ -71,7 +73,8 @@ module _ (calendar : Calendar) (host : List ℕ) (e : Envelope) (message : List 
 
 -- whatever message the piece was a prefix of
 pub piece_failed : (calendar : Calendar) (host : List ℕ) (e : Envelope) (piece rest : List ℕ) (s t u : SpoolState) (first : Pending)
-    → SpoolTook s t (head_text calendar host e) → BeginsRecord first → FailsPiece t u first piece → SpoolFailed s u (record_text calendar host e (piece ++ rest))
+    → SpoolTook s t (head_text calendar host e) → BeginsRecord first → FailsPiece t u first piece
+    → SpoolFailed s u (record_text calendar host e (piece ++ rest))
 piece_failed calendar host e piece rest s t u first h begins x =
     let prefix = x.sure rest in
     let head = head_text calendar host e in

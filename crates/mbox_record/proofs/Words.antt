@@ -1,5 +1,6 @@
 -- What follows a part of `From ` at the beginning of a line.
-use Rattle.std.proofs.Common.{◌≡◌, ◌≢◌, ℕ, zero, suc, ◌+◌, ◌-◌, ◌<◌, ◌≤◌, arith, Bool, true, false, ◌&&◌, ◌==◌, List, [], ◌∷◌, ◌++◌, length, take, drop, sym, ap, ◌∙◌, ap₂, subst, inl, inr, refl, append_assoc, append-nil}
+use Rattle.std.proofs.Common.{◌≡◌, ◌≢◌, ℕ, zero, suc, ◌+◌, ◌-◌, ◌<◌, ◌≤◌, arith, Bool, true, false, ◌&&◌, ◌==◌, List, [], ◌∷◌, ◌++◌, length, take, drop, sym,
+    ap, ◌∙◌, ap₂, subst, inl, inr, refl, append_assoc, append-nil}
 use Rattle.std.specs.Prelude.{codes, if◌then◌else◌}
 use Rattle.std.proofs.lemmas.Bool.{or_parts, and_parts, eqb-true, false≢true}
 use Rattle.std.proofs.lemmas.Bool.Decides.{eqb_tells}
@@ -106,7 +107,8 @@ first_by false b text e h = record { first = b; more = unix text; whole = refl; 
 first_of_text : (b : ℕ) (text : List ℕ) → (b == 62) ≡ false → HasFirst (unix (b ∷ text))
 first_of_text b text h = first_by ((b == cr) && begins lf text) b text refl h
 
-no_from : (t : Bool) (b : ℕ) (text : List ℕ) → (b == 62) ≡ false → begins_with word (if t then [] else b ∷ text) ≡ false → is_from_line (if t then [] else b ∷ text) ≡ false
+no_from : (t : Bool) (b : ℕ) (text : List ℕ) → (b == 62) ≡ false → begins_with word (if t then [] else b ∷ text) ≡ false
+    → is_from_line (if t then [] else b ∷ text) ≡ false
 no_from true b text h e = refl
 no_from false b text h e = rw (e, h) refl
 

@@ -1,5 +1,6 @@
 -- What an event on the arena does to the entries that the keeper's seat knows.
-use Rattle.std.proofs.Common.{◌≡◌, ℕ, zero, suc, ◌+◌, ◌<◌, ◌≤◌, List, [], ◌∷◌, ◌++◌, Bool, true, false, cond, ◌==◌, Some, length, map, get_or, sym, ap, ◌∙◌, subst, refl, arith, length-set}
+use Rattle.std.proofs.Common.{◌≡◌, ℕ, zero, suc, ◌+◌, ◌<◌, ◌≤◌, List, [], ◌∷◌, ◌++◌, Bool, true, false, cond, ◌==◌, Some, length, map, get_or, sym, ap, ◌∙◌,
+    subst, refl, arith, length-set}
 use Rattle.std.specs.Prelude.{slice_get, slice_set, nat_lt, replicate}
 use Rattle.std.proofs.lemmas.List.{map-set, get_or-map, set-set, length-map}
 use Rattle.std.proofs.lemmas.Option.{slice_get_within, slice_get-get_or, get_or_from_slice_get, same_Some}
@@ -7,7 +8,8 @@ use Rattle.std.proofs.lemmas.Bool.{eq-eqb}
 use Rattle.atomic_table.specs.Table.{Me}
 use Rattle.atomic_table.specs.Seated.{TableId}
 use Rattle.mail_world.specs.Depot as d
-use Rattle.mail_world.specs.Depot.{Depot, Slot, Key, Held, held_under, last_generation, HasEachBlockOnce, Begins, Puts, Seals, GivesBack, Reclaims, Releases, weight_held, weight_under, blocks_of}
+use Rattle.mail_world.specs.Depot.{Depot, Slot, Key, Held, held_under, last_generation, HasEachBlockOnce, Begins, Puts, Seals, GivesBack, Reclaims, Releases,
+    weight_held, weight_under, blocks_of}
 use Rattle.mail_world.proofs.Depots.{used, begins_turn, puts_turn, seals_turn, drops_turn, releases_turn}
 use Rattle.mail_world.proofs.Holds.{part_own}
 use Rattle.block_arena.specs.Calls.{ReleasesAll, IsGivenBack}
@@ -20,10 +22,12 @@ use Rattle.msg_depot.specs.Entries.{entry_of, entries_of, phase_held, slot_given
 
 -- the entry of a slot that is there
 pub entry_there : (depot : Depot) (i : ℕ) (slot : Slot) → slice_get depot.slots i ≡ Some slot → entry_at (entries_of depot) i ≡ entry_of slot
-entry_there depot i slot is = get_or-map entry_of depot.slots i slot empty_entry (slice_get_within depot.slots i slot is) ∙ ap entry_of (get_or_from_slice_get depot.slots i slot slot is)
+entry_there depot i slot is = get_or-map entry_of depot.slots i slot empty_entry (slice_get_within depot.slots i slot is)
+    ∙ ap entry_of (get_or_from_slice_get depot.slots i slot slot is)
 
 -- a joined token's entry is the slot's
-pub agreed : (depot : Depot) (book : List Entry) (i j : ℕ) (e : Entry) (slot : Slot) → book ≡ entries_of depot → j ≡ i → entry_at book j ≡ e → slice_get depot.slots i ≡ Some slot → e ≡ entry_of slot
+pub agreed : (depot : Depot) (book : List Entry) (i j : ℕ) (e : Entry) (slot : Slot) → book ≡ entries_of depot → j ≡ i → entry_at book j ≡ e
+    → slice_get depot.slots i ≡ Some slot → e ≡ entry_of slot
 agreed depot book i j e slot same place found is = sym found ∙ (λ k. entry_at (same k) (place k)) ∙ entry_there depot i slot is
 
 -- a message lies under the key, and has a weight
@@ -33,14 +37,17 @@ pub record IsSealed (depot : Depot) (key : Key) (bytes : List ℕ) : Type 0 wher
   pub is : held_under depot key ≡ d.Sealed bytes blocks weight
   pub some : 1 ≤ weight
 
-sealed_if : (depot : Depot) (key : Key) (bytes : List ℕ) (held : Held) → held_under depot key ≡ held → phase_held held ≡ Sealed → d.bytes_of held ≡ bytes → HasCount held → IsSealed depot key bytes
+sealed_if : (depot : Depot) (key : Key) (bytes : List ℕ) (held : Held) → held_under depot key ≡ held → phase_held held ≡ Sealed → d.bytes_of held ≡ bytes
+    → HasCount held → IsSealed depot key bytes
 sealed_if depot key bytes d.Free is p b count = absurd (cc)
 sealed_if depot key bytes (d.Draft x blocks) is p b count = absurd (cc)
-sealed_if depot key bytes (d.Sealed x blocks weight) is p b count = record { blocks = blocks; weight = weight; is = is ∙ ap (λ (l : List ℕ). d.Sealed l blocks weight) b; some = count }
+sealed_if depot key bytes (d.Sealed x blocks weight) is p b count =
+    record { blocks = blocks; weight = weight; is = is ∙ ap (λ (l : List ℕ). d.Sealed l blocks weight) b; some = count }
 sealed_if depot key bytes d.Retired is p b count = absurd (cc)
 
 -- the message that the keeper's entry of a slot tells of
-pub sealed_under : (depot : Depot) (key : Key) (bytes : List ℕ) (book : List Entry) → book ≡ entries_of depot → {i : ℕ} → key.slot ≡ i → i < length book → entry_at book key.slot ≡ entry Sealed key.generation bytes
+pub sealed_under : (depot : Depot) (key : Key) (bytes : List ℕ) (book : List Entry) → book ≡ entries_of depot → {i : ℕ} → key.slot ≡ i → i < length book
+    → entry_at book key.slot ≡ entry Sealed key.generation bytes
     → ((i : ℕ) (slot : Slot) → slice_get depot.slots i ≡ Some slot → HasCount slot.held) → IsSealed depot key bytes
 sealed_under depot key bytes book same {i} place within found counts =
     let slot : Slot = get_or depot.slots key.slot (record { generation = 0; held = d.Free }) in
@@ -48,7 +55,8 @@ sealed_under depot key bytes book same {i} place within found counts =
     let there : slice_get depot.slots key.slot ≡ Some slot = slice_get-get_or depot.slots key.slot _ (omega arith) in
     let is : entry_of slot ≡ entry Sealed key.generation bytes = sym (entry_there depot key.slot slot there) ∙ (λ n. entry_at (sym same n) key.slot) ∙ found in
     let now : (slot.generation == key.generation) ≡ true = eq-eqb slot.generation key.generation (ap (λ (x : Entry). x.generation) is) in
-    sealed_if depot key bytes slot.held (ap (d.held_at key) there ∙ ap (λ (t : Bool). cond t slot.held d.Free) now) (ap (λ (x : Entry). x.phase) is) (ap (λ (x : Entry). x.bytes) is) (counts key.slot slot there)
+    sealed_if depot key bytes slot.held (ap (d.held_at key) there ∙ ap (λ (t : Bool). cond t slot.held d.Free) now) (ap (λ (x : Entry). x.phase) is)
+        (ap (λ (x : Entry). x.bytes) is) (counts key.slot slot there)
 
 -- one slot changes, and no block is lost or stands twice
 pub record Turned (old new : Depot) (i : ℕ) (next : Slot) : Type 0 where
@@ -67,17 +75,21 @@ counts_on (x ∷ xs) (suc i) next count all (suc j) slot is = counts_on xs i nex
 
 -- the keeper knows the arena's messages after such a change, if its entry of that slot changes alike
 pub kept_on : (named t0 table : TableId) (m0 me : Me (Unit {0}) View) (old new : Depot) (i : ℕ) (next : Slot) (book : List Entry) (j : ℕ) (e : Entry)
-    → IsKeeper named t0 m0 old → Turned old new i next → table ≡ t0 → me ≡ (resting (entered book j e), []) → book ≡ m0.0.book → j ≡ i → e ≡ entry_of next → IsKeeper named table me new
+    → IsKeeper named t0 m0 old → Turned old new i next → table ≡ t0 → me ≡ (resting (entered book j e), []) → book ≡ m0.0.book → j ≡ i → e ≡ entry_of next
+    → IsKeeper named table me new
 kept_on named t0 table m0 me old new i next book j e k t same is has place this = record {
   same_table = same ∙ k.same_table;
-  knows = is ∙ ap (λ (l : List Entry). (resting l, [])) ((λ n. entered ((has ∙ ap (λ (m : Me (Unit {0}) View). m.0.book) k.knows) n) (place n) (this n)) ∙ sym (map-set entry_of old.slots i next) ∙ ap (λ (l : List Slot). map entry_of l) (sym t.slots));
+  knows = is ∙ ap (λ (l : List Entry). (resting l, []))
+      ((λ n. entered ((has ∙ ap (λ (m : Me (Unit {0}) View). m.0.book) k.knows) n) (place n) (this n)) ∙ sym (map-set entry_of old.slots i next)
+      ∙ ap (λ (l : List Slot). map entry_of l) (sym t.slots));
   long = k.long ∙ ap word_of (sym (ap (λ (l : List Slot). length l) t.slots ∙ length-set old.slots i next));
   blocks = k.blocks;
   once = t.once k.blocks k.once;
   counts = λ n slot at. counts_on old.slots i next t.count k.counts n slot (subst (λ (l : List Slot). slice_get l n ≡ Some slot) t.slots at);
 }
 
-pub begins_turned : (old : Depot) (key : Key) (new : Depot) → Begins old key new → Turned old new key.slot (record { generation = key.generation; held = d.Draft [] [] })
+pub begins_turned : (old : Depot) (key : Key) (new : Depot) → Begins old key new
+    → Turned old new key.slot (record { generation = key.generation; held = d.Draft [] [] })
 begins_turned old key new b = record {
   within = slice_get_within old.slots key.slot _ b.0;
   slots = ap (λ (x : Depot). x.slots) b.1;
@@ -85,7 +97,8 @@ begins_turned old key new b = record {
   once = (begins_turn old key new b).blocks;
 }
 
-pub puts_turned : (old : Depot) (key : Key) (more : List ℕ) (new : Depot) → (p : Puts old key more new) → Turned old new key.slot (record { generation = key.generation; held = d.Draft (p.bytes ++ more) (p.blocks ++ p.picked) })
+pub puts_turned : (old : Depot) (key : Key) (more : List ℕ) (new : Depot) → (p : Puts old key more new)
+    → Turned old new key.slot (record { generation = key.generation; held = d.Draft (p.bytes ++ more) (p.blocks ++ p.picked) })
 puts_turned old key more new p = record {
   within = slice_get_within old.slots key.slot _ (used old key _ p.draft (λ e. cc));
   slots = ap (λ (x : Depot). x.slots) p.after;
@@ -93,7 +106,8 @@ puts_turned old key more new p = record {
   once = (puts_turn old key more new p).blocks;
 }
 
-pub seals_turned : (old : Depot) (key : Key) (weight : ℕ) (new : Depot) → 1 ≤ weight → (s : Seals old key weight new) → Turned old new key.slot (record { generation = key.generation; held = d.Sealed s.bytes s.blocks weight })
+pub seals_turned : (old : Depot) (key : Key) (weight : ℕ) (new : Depot) → 1 ≤ weight → (s : Seals old key weight new)
+    → Turned old new key.slot (record { generation = key.generation; held = d.Sealed s.bytes s.blocks weight })
 seals_turned old key weight new more s = record {
   within = slice_get_within old.slots key.slot _ (used old key _ s.draft (λ e. cc));
   slots = ap (λ (x : Depot). x.slots) s.after;
@@ -104,18 +118,25 @@ seals_turned old key weight new more s = record {
 count_after : (generation : ℕ) → HasCount (slot_given_back generation).held
 count_after generation = by (nat_lt generation last_generation)
   where
-    by : (t : Bool) → HasCount (cond {A = Slot} t (record { generation = generation + 1; held = d.Free }) (record { generation = generation; held = d.Retired })).held
+    by : (t : Bool) → HasCount (cond {A = Slot} t (record { generation = generation + 1; held = d.Free })
+        (record { generation = generation; held = d.Retired })).held
     by true = tt
     by false = tt
 
-after_slots : (depot : Depot) (key : Key) (free : List ℕ) → (d.given_back depot key free).slots ≡ slice_set depot.slots key.slot (slot_given_back key.generation)
+after_slots : (depot : Depot) (key : Key) (free : List ℕ)
+    → (d.given_back depot key free).slots ≡ slice_set depot.slots key.slot (slot_given_back key.generation)
 after_slots depot key free = by (nat_lt key.generation last_generation)
   where
-    by : (t : Bool) → (cond {A = Depot} t (record { slots = slice_set depot.slots key.slot (record { generation = key.generation + 1; held = d.Free }); free = free }) (d.with_held depot key d.Retired free)).slots ≡ slice_set depot.slots key.slot (cond {A = Slot} t (record { generation = key.generation + 1; held = d.Free }) (record { generation = key.generation; held = d.Retired }))
+    by : (t : Bool) → (cond {A = Depot} t
+        (record { slots = slice_set depot.slots key.slot (record { generation = key.generation + 1; held = d.Free }); free = free })
+        (d.with_held depot key d.Retired free)).slots
+        ≡ slice_set depot.slots key.slot
+        (cond {A = Slot} t (record { generation = key.generation + 1; held = d.Free }) (record { generation = key.generation; held = d.Retired }))
     by true = refl
     by false = refl
 
-drops_turned : (old : Depot) (key : Key) (held : List ℕ → List ℕ → Held) (new : Depot) → ((b blocks : List ℕ) → weight_held (held b blocks) ≡ 0) → ((b blocks : List ℕ) → blocks_of (held b blocks) ≡ blocks)
+drops_turned : (old : Depot) (key : Key) (held : List ℕ → List ℕ → Held) (new : Depot) → ((b blocks : List ℕ) → weight_held (held b blocks) ≡ 0)
+    → ((b blocks : List ℕ) → blocks_of (held b blocks) ≡ blocks)
     → ((b blocks : List ℕ) → (held b blocks ≡ d.Free) → ⊥) → GivesBack old key held new → Turned old new key.slot (slot_given_back key.generation)
 drops_turned old key held new light has filled p = record {
   within = slice_get_within old.slots key.slot _ (used old key _ p.message (filled p.bytes p.blocks));
@@ -143,9 +164,11 @@ lighter (suc k) old key new r =
     let between : Depot = r.0 in
     let one = r.1 in
     let rest = lighter k between key new r.2 in
-    let changed : between.slots ≡ slice_set old.slots key.slot (record { generation = key.generation; held = d.Sealed one.bytes one.blocks one.weight }) = ap (λ (x : Depot). x.slots) one.after in
+    let changed : between.slots ≡ slice_set old.slots key.slot (record { generation = key.generation; held = d.Sealed one.bytes one.blocks one.weight }) =
+        ap (λ (x : Depot). x.slots) one.after in
     record {
-      slots = λ next. rest.slots next ∙ ap (λ (l : List Slot). slice_set l key.slot next) changed ∙ set-set old.slots key.slot (record { generation = key.generation; held = d.Sealed one.bytes one.blocks one.weight }) next;
+      slots = λ next. rest.slots next ∙ ap (λ (l : List Slot). slice_set l key.slot next) changed
+          ∙ set-set old.slots key.slot (record { generation = key.generation; held = d.Sealed one.bytes one.blocks one.weight }) next;
       long = rest.long ∙ ap (λ (l : List Slot). length l) changed ∙ length-set old.slots key.slot _;
       once = λ n e. rest.once n ((releases_turn old key between one).blocks n e);
     }
@@ -186,5 +209,6 @@ unused_counts zero g i slot is = cc
 unused_counts (suc n) g zero slot is = subst (λ (s : Slot). HasCount s.held) (same_Some (record { generation = g; held = d.Free }) slot is) tt
 unused_counts (suc n) g (suc i) slot is = unused_counts n g i slot is
 
-pub new_counts : (n g : ℕ) (slots : List Slot) → slots ≡ replicate n (record { generation = g; held = d.Free }) → (i : ℕ) (slot : Slot) → slice_get slots i ≡ Some slot → HasCount slot.held
+pub new_counts : (n g : ℕ) (slots : List Slot) → slots ≡ replicate n (record { generation = g; held = d.Free }) → (i : ℕ) (slot : Slot)
+    → slice_get slots i ≡ Some slot → HasCount slot.held
 new_counts n g slots is i slot at = unused_counts n g i slot (subst (λ (l : List Slot). slice_get l i ≡ Some slot) is at)

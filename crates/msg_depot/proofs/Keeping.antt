@@ -9,7 +9,8 @@ use Rattle.msg_depot.specs.declared.view.Kind.{Kind}
 use Rattle.msg_depot.specs.declared.view.Kind.TheVariants.{Nothing, Draft, Hold, Spent}
 use Rattle.msg_depot.specs.declared.view.Phase.{Phase}
 use Rattle.msg_depot.specs.declared.view.Phase.TheVariants.{Free, Drafted, Sealed}
-use Rattle.msg_depot.specs.Rules.{ObeysHoldRule, MatchesEntry, IsWordOf, Weighs, Used, weight, drafts, spents, draft_of, spent_of, at, total, entry, phase_of, word_of}
+use Rattle.msg_depot.specs.Rules.{ObeysHoldRule, MatchesEntry, IsWordOf, Weighs, Used, weight, drafts, spents, draft_of, spent_of, at, total, entry, phase_of,
+    word_of}
 use Rattle.msg_depot.proofs.Totals.{total_has, total_two, total_alone, at_here, at_else, at_none, within, positive_one}
 use Rattle.msg_depot.proofs.Keeps.{turns}
 
@@ -40,7 +41,8 @@ record Zeros (k : ℕ) (u : View) : Type 0 where
 
 zeros : (k : ℕ) (u : View) → Weighs u.kind u.claim.weight → (u.kind ≢ Nothing → u.claim.slot ≢ k) → Zeros k u
 zeros k u h away = ⊎_elim
-    (λ (e : u.kind ≡ Nothing). let c = nothing_counts u e h in record { weights = at_none k weight u c.weights; drafted = at_none k drafts u c.drafted; spent = at_none k spents u c.spent })
+    (λ (e : u.kind ≡ Nothing). let c = nothing_counts u e
+        h in record { weights = at_none k weight u c.weights; drafted = at_none k drafts u c.drafted; spent = at_none k spents u c.spent })
     (λ (e : u.kind ≢ Nothing). record { weights = at_else k weight u (away e); drafted = at_else k drafts u (away e); spent = at_else k spents u (away e) })
     (is_nothing u.kind)
 
@@ -52,7 +54,9 @@ record Alls (i : ℕ) (u : View) : Type 0 where
 
 alls : (i : ℕ) (u : View) → Weighs u.kind u.claim.weight → (u.kind ≢ Nothing → u.claim.slot ≡ i) → Alls i u
 alls i u h here = ⊎_elim
-    (λ (e : u.kind ≡ Nothing). let c = nothing_counts u e h in record { weights = at_none i weight u c.weights ∙ sym c.weights; drafted = at_none i drafts u c.drafted ∙ sym c.drafted; spent = at_none i spents u c.spent ∙ sym c.spent })
+    (λ (e : u.kind ≡ Nothing). let c = nothing_counts u e
+        h in record { weights = at_none i weight u c.weights ∙ sym c.weights; drafted = at_none i drafts u c.drafted
+        ∙ sym c.drafted; spent = at_none i spents u c.spent ∙ sym c.spent })
     (λ (e : u.kind ≢ Nothing). record { weights = at_here i weight u (here e); drafted = at_here i drafts u (here e); spent = at_here i spents u (here e) })
     (is_nothing u.kind)
 
@@ -69,9 +73,12 @@ keeper_turns words views r id v w here keeps i n e e' there book mine mine' alon
     let none_else : (j : ℕ) (u : View) → j ≢ id → get_elem? (set views id w) j ≡ some u → Zeros i u =
     λ j u apart at_j. let was : get_elem? views j ≡ some u = sym (set_else views id j w apart) ∙ at_j in zeros i u (r.fits j u was).1 (alone j u apart was) in
     let at_id : get_elem? (set views id w) id ≡ some w = set_here views id w (within views id v here) in
-    let weights : weight w ≡ total (at i weight) (set views id w) = sym (total_alone (at i weight) (set views id w) id w (λ j u apart at_j. (none_else j u apart at_j).weights) at_id ∙ a.weights) in
-    let drafted : drafts w ≡ total (at i drafts) (set views id w) = sym (total_alone (at i drafts) (set views id w) id w (λ j u apart at_j. (none_else j u apart at_j).drafted) at_id ∙ a.drafted) in
-    let spent : spents w ≡ total (at i spents) (set views id w) = sym (total_alone (at i spents) (set views id w) id w (λ j u apart at_j. (none_else j u apart at_j).spent) at_id ∙ a.spent) in
+    let weights : weight w ≡ total (at i weight) (set views id w) =
+        sym (total_alone (at i weight) (set views id w) id w (λ j u apart at_j. (none_else j u apart at_j).weights) at_id ∙ a.weights) in
+    let drafted : drafts w ≡ total (at i drafts) (set views id w) =
+        sym (total_alone (at i drafts) (set views id w) id w (λ j u apart at_j. (none_else j u apart at_j).drafted) at_id ∙ a.drafted) in
+    let spent : spents w ≡ total (at i spents) (set views id w) =
+        sym (total_alone (at i spents) (set views id w) id w (λ j u apart at_j. (none_else j u apart at_j).spent) at_id ∙ a.spent) in
     turns words views r id v w here i n e e' there
     (λ k. (m.0, book ∙ ap (λ (l : List Entry). set l i e') m.1))
     (λ j u apart at_j k. absurd (apart ((r.keeper j u at_j k).0 ∙ sym m.0)))
@@ -82,12 +89,16 @@ keeper_turns words views r id v w here keeps i n e e' there book mine mine' alon
     (subst (λ (z : ℕ × ℕ × ℕ). IsWordOf e' n z.0 z.1 z.2) (λ k. (weights k, drafted k, spent k)) stands)
 
 -- the phase of a slot that a seat claims
-claimed_phase : (words : List ℕ) (views : List View) (r : ObeysHoldRule words views) (j : ℕ) (u : View) (i : ℕ) (e : Entry) → get_elem? views j ≡ some u → get_elem? r.book i ≡ some e → u.kind ≢ Nothing → u.claim.slot ≡ i → phase_of u.kind ≡ e.phase
+claimed_phase : (words : List ℕ) (views : List View) (r : ObeysHoldRule words views) (j : ℕ) (u : View) (i : ℕ) (e : Entry) → get_elem? views j ≡ some u
+    → get_elem? r.book i ≡ some e → u.kind ≢ Nothing → u.claim.slot ≡ i → phase_of u.kind ≡ e.phase
 claimed_phase words views r j u i e at_j there some_kind slot =
-    ap (λ (x : Entry). x.phase) (some-injective (entry (phase_of u.kind) u.claim.generation u.claim.bytes) e (sym ((r.fits j u at_j).0 some_kind) ∙ ap (λ (k : ℕ). get_elem? r.book k) slot ∙ there))
+    ap (λ (x : Entry). x.phase) (some-injective (entry (phase_of u.kind) u.claim.generation u.claim.bytes) e
+        (sym ((r.fits j u at_j).0 some_kind) ∙ ap (λ (k : ℕ). get_elem? r.book k) slot ∙ there))
 
-pub alone_free : (words : List ℕ) (views : List View) (r : ObeysHoldRule words views) (id i : ℕ) (e : Entry) → get_elem? r.book i ≡ some e → e.phase ≡ Free → Alone views id i
-alone_free words views r id i e there free j u apart at_j some_kind slot = no u.kind some_kind (claimed_phase words views r j u i e at_j there some_kind slot ∙ free)
+pub alone_free : (words : List ℕ) (views : List View) (r : ObeysHoldRule words views) (id i : ℕ) (e : Entry) → get_elem? r.book i ≡ some e → e.phase ≡ Free
+    → Alone views id i
+alone_free words views r id i e there free j u apart at_j some_kind slot =
+    no u.kind some_kind (claimed_phase words views r j u i e at_j there some_kind slot ∙ free)
   where
     no : (k : Kind) → k ≢ Nothing → phase_of k ≡ Free → ⊥
     no Nothing a b = a refl
@@ -95,7 +106,8 @@ alone_free words views r id i e there free j u apart at_j some_kind slot = no u.
     no Hold a b = absurd (cc)
     no Spent a b = absurd (cc)
 
-pub alone_draft : (words : List ℕ) (views : List View) (r : ObeysHoldRule words views) (id : ℕ) (v : View) (i : ℕ) (e : Entry) → get_elem? views id ≡ some v → v.kind ≡ Draft → v.claim.slot ≡ i
+pub alone_draft : (words : List ℕ) (views : List View) (r : ObeysHoldRule words views) (id : ℕ) (v : View) (i : ℕ) (e : Entry) → get_elem? views id ≡ some v
+    → v.kind ≡ Draft → v.claim.slot ≡ i
     → get_elem? r.book i ≡ some e → e.phase ≡ Drafted → Alone views id i
 alone_draft words views r id v i e here draft mine there phase j u apart at_j some_kind slot = no u.kind refl
   where
@@ -103,15 +115,18 @@ alone_draft words views r id v i e here draft mine there phase j u apart at_j so
     phases = claimed_phase words views r j u i e at_j there some_kind slot ∙ phase
 
     one_draft : total (at i drafts) views ≡ 1
-    one_draft = (subst (λ (p : Phase). Used p (total (at i weight) views) (total (at i drafts) views) (total (at i spents) views)) phase (r.stands i e there).3).1
+    one_draft = (subst (λ (p : Phase). Used p (total (at i weight) views) (total (at i drafts) views) (total (at i spents) views)) phase
+        (r.stands i e there).3).1
 
     no : (k : Kind) → u.kind ≡ k → ⊥
     no Nothing is = absurd (some_kind is)
-    no Draft is = let t = total_two (at i drafts) views id j v u apart here at_j in let a = at_here i drafts v mine ∙ ap draft_of draft in let b = at_here i drafts u slot ∙ ap draft_of is in let c = one_draft in absurd (omega arith)
+    no Draft is = let t = total_two (at i drafts) views id j v u apart here at_j in let a = at_here i drafts v mine ∙ ap draft_of draft in let b =
+        at_here i drafts u slot ∙ ap draft_of is in let c = one_draft in absurd (omega arith)
     no Hold is = let p : Sealed ≡ Drafted = sym (ap phase_of is) ∙ phases in absurd (cc)
     no Spent is = let p : Sealed ≡ Drafted = sym (ap phase_of is) ∙ phases in absurd (cc)
 
-pub alone_spent : (words : List ℕ) (views : List View) (r : ObeysHoldRule words views) (id : ℕ) (v : View) (i : ℕ) (e : Entry) → get_elem? views id ≡ some v → v.kind ≡ Spent → v.claim.slot ≡ i
+pub alone_spent : (words : List ℕ) (views : List View) (r : ObeysHoldRule words views) (id : ℕ) (v : View) (i : ℕ) (e : Entry) → get_elem? views id ≡ some v
+    → v.kind ≡ Spent → v.claim.slot ≡ i
     → get_elem? r.book i ≡ some e → e.phase ≡ Sealed → Alone views id i
 alone_spent words views r id v i e here spent mine there phase j u apart at_j some_kind slot = no u.kind refl
   where

@@ -1,5 +1,6 @@
 -- What a change of views, of one word and of one entry has to show to keep the rule.
-use Rattle.std.proofs.Common.{◌≡◌, ◌≢◌, ℕ, ◌+◌, ◌<◌, List, [], ◌∷◌, ◌++◌, length, set, get_or, true, false, sym, ap, ◌∙◌, subst, ⊎_elim, arith, length-set, get_or-set_same, get_or-set_other}
+use Rattle.std.proofs.Common.{◌≡◌, ◌≢◌, ℕ, ◌+◌, ◌<◌, List, [], ◌∷◌, ◌++◌, length, set, get_or, true, false, sym, ap, ◌∙◌, subst, ⊎_elim, arith, length-set,
+    get_or-set_same, get_or-set_other}
 use mathlib.Core.Option.{some}
 use lib.ListN.{get_elem?}
 use Rattle.atomic_table.proofs.Lists.{at_set, at_snoc}
@@ -24,7 +25,8 @@ stands_as e n w d s w' d' s' t h = subst (λ (z : ℕ × ℕ × ℕ). IsWordOf e
 pub viewed : (words : List ℕ) (views views' : List View) (r : ObeysHoldRule words views)
     → ((j : ℕ) (v : View) → get_elem? views' j ≡ some v → v.keeps ≡ true → (j ≡ r.seat) × (v.book ≡ r.book))
     → ((j : ℕ) (v : View) → get_elem? views' j ≡ some v → MatchesEntry r.book v)
-    → ((i : ℕ) → Same (total (at i weight) views) (total (at i drafts) views) (total (at i spents) views) (total (at i weight) views') (total (at i drafts) views') (total (at i spents) views'))
+    → ((i : ℕ) → Same (total (at i weight) views) (total (at i drafts) views) (total (at i spents) views) (total (at i weight) views')
+    (total (at i drafts) views') (total (at i spents) views'))
     → ObeysHoldRule words views'
 viewed words views views' r k f t = record {
   seat = r.seat;
@@ -41,7 +43,8 @@ pub record Parts (i : ℕ) (v left right : View) : Type 0 where
   pub drafted : at i drafts v ≡ at i drafts left + at i drafts right
   pub spent : at i spents v ≡ at i spents left + at i spents right
 
-cut_total : (f : View → ℕ) (views : List View) (id : ℕ) (v left right : View) → get_elem? views id ≡ some v → f v ≡ f left + f right → total f views ≡ total f (set views id left ++ right ∷ [])
+cut_total : (f : View → ℕ) (views : List View) (id : ℕ) (v left right : View) → get_elem? views id ≡ some v → f v ≡ f left + f right
+    → total f views ≡ total f (set views id left ++ right ∷ [])
 cut_total f views id v left right here e = let a = total_set f views id v left here in let b = total_snoc f (set views id left) right in omega arith
 
 -- a view is cut in two
@@ -57,9 +60,11 @@ splits words views id v left right r here same_keeps same_book outside fit parts
       spent = cut_total (at i spents) views id v left right here (parts i).spent;
     })
   where
-    cases : (j : ℕ) (u : View) → get_elem? (set views id left ++ right ∷ []) j ≡ some u → (P : ℕ → View → Type 0) → P id left → ((k : ℕ) → P k right) → ((k : ℕ) (x : View) → get_elem? views k ≡ some x → P k x) → P j u
+    cases : (j : ℕ) (u : View) → get_elem? (set views id left ++ right ∷ []) j ≡ some u → (P : ℕ → View → Type 0) → P id left → ((k : ℕ) → P k right)
+        → ((k : ℕ) (x : View) → get_elem? views k ≡ some x → P k x) → P j u
     cases j u e P a b c = ⊎_elim
-        (λ was. ⊎_elim (λ (t : (j ≡ id) × (left ≡ u)). subst (λ (z : ℕ × View). P z.0 z.1) (λ k. (sym t.0 k, t.1 k)) a) (λ (t : (j ≢ id) × (get_elem? views j ≡ some u)). c j u t.1) (at_set views id j left u was))
+        (λ was. ⊎_elim (λ (t : (j ≡ id) × (left ≡ u)). subst (λ (z : ℕ × View). P z.0 z.1) (λ k. (sym t.0 k, t.1 k)) a)
+            (λ (t : (j ≢ id) × (get_elem? views j ≡ some u)). c j u t.1) (at_set views id j left u was))
         (λ (t : right ≡ u). subst (P j) t (b j))
         (at_snoc (set views id left) right u j e)
 
@@ -93,18 +98,25 @@ turns words views r id v w here i n e e' there mine others fit fits elsewhere no
       (λ k x apart was keeps. let m = r.keeper k x was keeps in (m.0, m.1 ∙ sym (others k x apart was keeps)));
   fits = λ j u at_j. cases j u at_j (λ _ x. MatchesEntry (set r.book i e') x) fit fits;
   stands = λ k d at_k. ⊎_elim
-      (λ (t : (k ≡ i) × (e' ≡ d)). subst (λ (z : ℕ × Entry). IsWordOf z.1 (get_or (set words (word_of i) n) (word_of z.0) 0) (total (at z.0 weight) (set views id w)) (total (at z.0 drafts) (set views id w)) (total (at z.0 spents) (set views id w))) (λ q. (sym t.0 q, t.1 q))
-      (subst (λ (z : ℕ). IsWordOf e' z (total (at i weight) (set views id w)) (total (at i drafts) (set views id w)) (total (at i spents) (set views id w))) (sym (get_or-set_same words (word_of i) n 0 inside)) now))
+      (λ (t : (k ≡ i) × (e' ≡ d)). subst
+          (λ (z : ℕ × Entry). IsWordOf z.1 (get_or (set words (word_of i) n) (word_of z.0) 0) (total (at z.0 weight) (set views id w))
+          (total (at z.0 drafts) (set views id w)) (total (at z.0 spents) (set views id w))) (λ q. (sym t.0 q, t.1 q))
+      (subst (λ (z : ℕ). IsWordOf e' z (total (at i weight) (set views id w)) (total (at i drafts) (set views id w)) (total (at i spents) (set views id w)))
+          (sym (get_or-set_same words (word_of i) n 0 inside)) now))
       (λ (t : (k ≢ i) × (get_elem? r.book k ≡ some d)).
-      subst (λ (z : ℕ). IsWordOf d z (total (at k weight) (set views id w)) (total (at k drafts) (set views id w)) (total (at k spents) (set views id w))) (sym (get_or-set_other words (word_of i) (word_of k) n 0 (words_apart i k t.0)))
+      subst (λ (z : ℕ). IsWordOf d z (total (at k weight) (set views id w)) (total (at k drafts) (set views id w)) (total (at k spents) (set views id w)))
+          (sym (get_or-set_other words (word_of i) (word_of k) n 0 (words_apart i k t.0)))
       (stands_as d (get_or words (word_of k) 0) _ _ _ _ _ _
-      (record { weights = still (at k weight) (elsewhere k t.0).weights; drafted = still (at k drafts) (elsewhere k t.0).drafted; spent = still (at k spents) (elsewhere k t.0).spent })
+      (record { weights = still (at k weight) (elsewhere k t.0).weights; drafted = still (at k drafts) (elsewhere k t.0).drafted;
+          spent = still (at k spents) (elsewhere k t.0).spent })
       (r.stands k d t.1)))
       (at_set r.book i k e' d at_k);
 }
   where
-    cases : (j : ℕ) (u : View) → get_elem? (set views id w) j ≡ some u → (P : ℕ → View → Type 0) → P id w → ((k : ℕ) (x : View) → k ≢ id → get_elem? views k ≡ some x → P k x) → P j u
-    cases j u q P a c = ⊎_elim (λ (t : (j ≡ id) × (w ≡ u)). subst (λ (z : ℕ × View). P z.0 z.1) (λ k. (sym t.0 k, t.1 k)) a) (λ (t : (j ≢ id) × (get_elem? views j ≡ some u)). c j u t.0 t.1) (at_set views id j w u q)
+    cases : (j : ℕ) (u : View) → get_elem? (set views id w) j ≡ some u → (P : ℕ → View → Type 0) → P id w
+        → ((k : ℕ) (x : View) → k ≢ id → get_elem? views k ≡ some x → P k x) → P j u
+    cases j u q P a c = ⊎_elim (λ (t : (j ≡ id) × (w ≡ u)). subst (λ (z : ℕ × View). P z.0 z.1) (λ k. (sym t.0 k, t.1 k)) a)
+        (λ (t : (j ≢ id) × (get_elem? views j ≡ some u)). c j u t.0 t.1) (at_set views id j w u q)
 
     still : (f : View → ℕ) → f v ≡ f w → total f views ≡ total f (set views id w)
     still f q = let s = total_set f views id v w here in omega arith

@@ -1,5 +1,6 @@
 -- The steps of a hold's own seat keep the rule.
-use Rattle.std.proofs.Common.{◌≡◌, ◌≢◌, ℕ, ◌+◌, ◌-◌, ◌*◌, ◌%◌, ◌^◌, ◌<◌, ◌≤◌, eqb, List, [], set, get_or, Bool, true, false, refl, sym, ap, ◌∙◌, subst, arith, eq-eqb, ne_eqb}
+use Rattle.std.proofs.Common.{◌≡◌, ◌≢◌, ℕ, ◌+◌, ◌-◌, ◌*◌, ◌%◌, ◌^◌, ◌<◌, ◌≤◌, eqb, List, [], set, get_or, Bool, true, false, refl, sym, ap, ◌∙◌, subst, arith,
+    eq-eqb, ne_eqb}
 use mathlib.Core.Logic.{dite}
 use native.Mathlib.Decide.{ℕ_discrete}
 use mathlib.Core.Option.{none, some}
@@ -31,7 +32,8 @@ when_sum true k n m e = e
 when_sum false k n m e = refl
 
 -- a hold is cut in two
-pub cuts_one : (id : ℕ) (q : Bool) (es : List Entry) (c : Claim) → 1 < c.weight → Splits Rule id (hold_view q es c) (one_less (hold_view q es c)) (one (hold_view q es c))
+pub cuts_one : (id : ℕ) (q : Bool) (es : List Entry) (c : Claim) → 1 < c.weight
+    → Splits Rule id (hold_view q es c) (one_less (hold_view q es c)) (one (hold_view q es c))
 cuts_one id q es c more s r here = splits s.words s.views id (hold_view q es c) (one_less (hold_view q es c)) (one (hold_view q es c)) r here refl refl refl
     (λ book f. ((f.0, omega arith), (f.0, omega arith)))
     (λ i. record {
@@ -41,18 +43,21 @@ cuts_one id q es c more s r here = splits s.words s.views id (hold_view q es c) 
     })
 
 -- of a slot's own count
-kept_here : (g : View → ℕ) (views : List View) (id : ℕ) (v w : View) (i : ℕ) → get_elem? views id ≡ some v → v.claim.slot ≡ i → (m : ℕ) → at i g w ≡ m → total (at i g) (set views id w) + g v ≡ total (at i g) views + m
+kept_here : (g : View → ℕ) (views : List View) (id : ℕ) (v w : View) (i : ℕ) → get_elem? views id ≡ some v → v.claim.slot ≡ i → (m : ℕ) → at i g w ≡ m
+    → total (at i g) (set views id w) + g v ≡ total (at i g) views + m
 kept_here g views id v w i here is m e = let s = total_set (at i g) views id v w here in let a = at_here i g v is in omega arith
 
 -- the word after one less
-sub_word : (g w n : ℕ) → g ≤ last_generation → w ≤ RECIPIENT_LIMIT → 0 < w → n ≡ g * GENERATION_UNIT + w → (n + (2 ^ 64 - 1)) % 2 ^ 64 ≡ g * GENERATION_UNIT + (w - 1)
+sub_word : (g w n : ℕ) → g ≤ last_generation → w ≤ RECIPIENT_LIMIT → 0 < w → n ≡ g * GENERATION_UNIT + w
+    → (n + (2 ^ 64 - 1)) % 2 ^ 64 ≡ g * GENERATION_UNIT + (w - 1)
 sub_word g w n a b h e = let d : ℕ = w - 1 in let q : w ≡ d + 1 = omega arith in omega arith
 
 low_bits : (g w n : ℕ) → w ≤ RECIPIENT_LIMIT → n ≡ g * GENERATION_UNIT + w → n % GENERATION_UNIT ≡ w
 low_bits g w n b e = omega arith
 
 -- a hold of weight 1 is given up, and it was the last
-release_last : (words : List ℕ) (views : List View) (r : ObeysHoldRule words views) (id : ℕ) (q : Bool) (es : List Entry) (c : Claim) → get_elem? views id ≡ some (hold_view q es c) → c.weight ≡ 1
+release_last : (words : List ℕ) (views : List View) (r : ObeysHoldRule words views) (id : ℕ) (q : Bool) (es : List Entry) (c : Claim)
+    → get_elem? views id ≡ some (hold_view q es c) → c.weight ≡ 1
     → get_or words (word_of c.slot) 0 % GENERATION_UNIT ≡ 1
     → ObeysHoldRule (set words (word_of c.slot) ((get_or words (word_of c.slot) 0 + (2 ^ 64 - 1)) % 2 ^ 64)) (set views id (released true (hold_view q es c)))
 release_last words views r id q es c here is_one low =
@@ -86,7 +91,8 @@ release_last words views r id q es c here is_one low =
     (omega arith, omega arith, st.2, (omega arith, omega arith))
 
 -- the same, where it was not the last
-release_more : (words : List ℕ) (views : List View) (r : ObeysHoldRule words views) (id : ℕ) (q : Bool) (es : List Entry) (c : Claim) → get_elem? views id ≡ some (hold_view q es c) → c.weight ≡ 1
+release_more : (words : List ℕ) (views : List View) (r : ObeysHoldRule words views) (id : ℕ) (q : Bool) (es : List Entry) (c : Claim)
+    → get_elem? views id ≡ some (hold_view q es c) → c.weight ≡ 1
     → get_or words (word_of c.slot) 0 % GENERATION_UNIT ≢ 1
     → ObeysHoldRule (set words (word_of c.slot) ((get_or words (word_of c.slot) 0 + (2 ^ 64 - 1)) % 2 ^ 64)) (set views id (released false (hold_view q es c)))
 release_more words views r id q es c here is_one low =
@@ -122,9 +128,12 @@ release_more words views r id q es c here is_one low =
     (omega arith, omega arith, st.2, (omega arith, omega arith))
 
 pub releases : (slots id : ℕ) (q : Bool) (es : List Entry) (c : Claim) → c.weight ≡ 1
-    → Allows Rule slots id (hold_view q es c, []) (word_of c.slot) (λ n. (n + (2 ^ 64 - 1)) % 2 ^ 64) (Released (step slots (word_of c.slot) 1 0 none) (hold_view q es c, []))
+    → Allows Rule slots id (hold_view q es c, []) (word_of c.slot) (λ n. (n + (2 ^ 64 - 1)) % 2 ^ 64)
+    (Released (step slots (word_of c.slot) 1 0 none) (hold_view q es c, []))
 releases slots id q es c is_one s r _ here small =
     let n : ℕ = get_or s.words (word_of c.slot) 0 in
     dite (ℕ_discrete (n % GENERATION_UNIT) 1)
-    (λ last. (released true (hold_view q es c), keeps, tt, release_last s.words s.views r id q es c here is_one last, ap (λ (b : Bool). (released b (hold_view q es c), [])) (sym (eq-eqb (n % GENERATION_UNIT) 1 last))))
-    (λ more. (released false (hold_view q es c), keeps, tt, release_more s.words s.views r id q es c here is_one more, ap (λ (b : Bool). (released b (hold_view q es c), [])) (sym (ne_eqb (n % GENERATION_UNIT) 1 more))))
+    (λ last. (released true (hold_view q es c), keeps, tt, release_last s.words s.views r id q es c here is_one last,
+        ap (λ (b : Bool). (released b (hold_view q es c), [])) (sym (eq-eqb (n % GENERATION_UNIT) 1 last))))
+    (λ more. (released false (hold_view q es c), keeps, tt, release_more s.words s.views r id q es c here is_one more,
+        ap (λ (b : Bool). (released b (hold_view q es c), [])) (sym (ne_eqb (n % GENERATION_UNIT) 1 more))))

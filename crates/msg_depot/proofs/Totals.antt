@@ -1,5 +1,6 @@
 -- What the views of a slot add up to.
-use Rattle.std.proofs.Common.{◌≡◌, ◌≢◌, ℕ, zero, suc, ◌+◌, ◌<◌, ◌≤◌, eqb, List, [], ◌∷◌, ◌++◌, length, get_or, set, Bool, true, false, refl, sym, ap, ◌∙◌, arith, eq-eqb, ne_eqb}
+use Rattle.std.proofs.Common.{◌≡◌, ◌≢◌, ℕ, zero, suc, ◌+◌, ◌<◌, ◌≤◌, eqb, List, [], ◌∷◌, ◌++◌, length, get_or, set, Bool, true, false, refl, sym, ap, ◌∙◌,
+    arith, eq-eqb, ne_eqb}
 use mathlib.Core.Option.{some, some-injective, some-ne-none}
 use lib.ListN.{get_elem?}
 use Rattle.msg_depot.specs.declared.view.View.{View}
@@ -49,10 +50,13 @@ total_none f [] h = refl
 total_none f (x ∷ xs) h = let a = h 0 x refl in let b = total_none f xs (λ j u e. h (suc j) u e) in omega arith
 
 -- where no other seat has any, one has all
-pub total_alone : (f : View → ℕ) (vs : List View) (i : ℕ) (v : View) → ((j : ℕ) (u : View) → j ≢ i → get_elem? vs j ≡ some u → f u ≡ 0) → get_elem? vs i ≡ some v → total f vs ≡ f v
+pub total_alone : (f : View → ℕ) (vs : List View) (i : ℕ) (v : View) → ((j : ℕ) (u : View) → j ≢ i → get_elem? vs j ≡ some u → f u ≡ 0)
+    → get_elem? vs i ≡ some v → total f vs ≡ f v
 total_alone f [] i v h e = absurd (some-ne-none v (sym e))
-total_alone f (x ∷ xs) zero v h e = let is : f x ≡ f v = ap f (some-injective x v e) in let b = total_none f xs (λ j u d. h (suc j) u (λ q. absurd (omega arith)) d) in omega arith
-total_alone f (x ∷ xs) (suc i) v h e = let a = h 0 x (λ q. absurd (omega arith)) refl in let b = total_alone f xs i v (λ j u ne d. h (suc j) u (λ q. ne (omega arith)) d) e in omega arith
+total_alone f (x ∷ xs) zero v h e = let is : f x ≡ f v = ap f (some-injective x v e) in let b =
+    total_none f xs (λ j u d. h (suc j) u (λ q. absurd (omega arith)) d) in omega arith
+total_alone f (x ∷ xs) (suc i) v h e = let a = h 0 x (λ q. absurd (omega arith)) refl in let b =
+    total_alone f xs i v (λ j u ne d. h (suc j) u (λ q. ne (omega arith)) d) e in omega arith
 
 pub within : {A : Type 0} (l : List A) (k : ℕ) (x : A) → get_elem? l k ≡ some x → k < length l
 within [] k x q = absurd (some-ne-none x (sym q))

@@ -1,4 +1,5 @@
-use Rattle.std.proofs.Common.{◌≡◌, ℕ, zero, suc, ◌+◌, ◌<◌, ◌≤◌, List, [], ◌∷◌, ◌++◌, length, get_or, take, drop, map, ap, sym, refl, ◌∙◌, arith, add-zero, zero-add, length-append, vec_len, vec_capacity}
+use Rattle.std.proofs.Common.{◌≡◌, ℕ, zero, suc, ◌+◌, ◌<◌, ◌≤◌, List, [], ◌∷◌, ◌++◌, length, get_or, take, drop, map, ap, sym, refl, ◌∙◌, arith, add-zero,
+    zero-add, length-append, vec_len, vec_capacity}
 use Rattle.std.proofs.Math.ListN.{set}
 use Rattle.std.specs.List.{All}
 use Rattle.std.proofs.lemmas.List.{append-nil, append_assoc, get_or-map, length-map, get_or_default}
@@ -17,7 +18,8 @@ module _ {T : Type 0} where
   set-zip_push (q ∷ qs) [] rest zero x r at below is = absurd (cc)
   set-zip_push (q ∷ qs) [] rest (suc k) x r at below is = absurd (cc)
   set-zip_push (q ∷ qs) (y ∷ ys) rest zero x r at below is =
-      let e : y ≡ x = cc in ap (λ (z : List T). (z ++ x ∷ []) ∷ qs) is ∙ (ap (λ (z : T). (q ++ z ∷ []) ∷ qs) (sym e) ∙ ap (λ (z : List (List T)). (q ++ y ∷ []) ∷ z) (sym (zip_push-nil qs)))
+      let e : y ≡ x = cc in ap (λ (z : List T). (z ++ x ∷ []) ∷ qs) is
+          ∙ (ap (λ (z : T). (q ++ z ∷ []) ∷ qs) (sym e) ∙ ap (λ (z : List (List T)). (q ++ y ∷ []) ∷ z) (sym (zip_push-nil qs)))
   set-zip_push (q ∷ qs) (y ∷ ys) rest (suc k) x r at below is =
       ap (λ (z : List (List T)). (q ++ y ∷ []) ∷ z) (set-zip_push qs ys rest k x r at (omega arith) is)
 
@@ -33,7 +35,8 @@ module _ {T : Type 0} where
   length-zip_push (r ∷ rs) [] = refl
   length-zip_push (r ∷ rs) (x ∷ xs) = ap suc (length-zip_push rs xs)
 
-  pub get_or-zip_push : (g : List (List T)) (c : List T) (k : ℕ) (d : List T) (x : T) → length c ≡ length g → k < length g → get_or (zip_push g c) k d ≡ get_or g k d ++ get_or c k x ∷ []
+  pub get_or-zip_push : (g : List (List T)) (c : List T) (k : ℕ) (d : List T) (x : T) → length c ≡ length g → k < length g
+      → get_or (zip_push g c) k d ≡ get_or g k d ++ get_or c k x ∷ []
   get_or-zip_push [] c k d x same below = absurd (omega arith)
   get_or-zip_push (r ∷ rs) [] k d x same below = absurd (omega arith)
   get_or-zip_push (r ∷ rs) (y ∷ ys) zero d x same below = refl
@@ -55,13 +58,15 @@ module _ {T : Type 0} where
       ∙ (ap (λ (r : List T). r ++ map (λ (e : List T). get_or e j x) cs) (get_or-zip_push g c j [] x (widths 0 [] (omega arith)) below)
       ∙ append_assoc (get_or g j []) (get_or c j x ∷ []) (map (λ (e : List T). get_or e j x) cs))
 
-  pub width-zip_push : (g : List (List T)) (c : List T) (k : ℕ) → length c ≡ length g → k < length g → length (get_or (zip_push g c) k []) ≡ length (get_or g k []) + 1
+  pub width-zip_push : (g : List (List T)) (c : List T) (k : ℕ) → length c ≡ length g → k < length g
+      → length (get_or (zip_push g c) k []) ≡ length (get_or g k []) + 1
   width-zip_push [] c k same below = absurd (omega arith)
   width-zip_push (r ∷ rs) [] k same below = absurd (omega arith)
   width-zip_push (r ∷ rs) (y ∷ ys) zero same below = length-append r (y ∷ [])
   width-zip_push (r ∷ rs) (y ∷ ys) (suc k) same below = width-zip_push rs ys k (omega arith) (omega arith)
 
-  pub width-push_all : (g cs : List (List T)) (j : ℕ) → All (λ (c : List T). length c ≡ length g) cs → j < length g → length (get_or (push_all g cs) j []) ≡ length (get_or g j []) + length cs
+  pub width-push_all : (g cs : List (List T)) (j : ℕ) → All (λ (c : List T). length c ≡ length g) cs → j < length g
+      → length (get_or (push_all g cs) j []) ≡ length (get_or g j []) + length cs
   width-push_all g [] j widths below = sym (add-zero (length (get_or g j [])))
   width-push_all g (c ∷ cs) j widths below =
       let h = zip_push g c in
@@ -83,7 +88,8 @@ module _ {T : Type 0} where
       }
 
   -- each row has grown by one
-  pub filled_more : (g h : List (List T)) (c : List T) (rest n : ℕ) → h ≡ zip_push g c → length c ≡ length g → All (λ (r : List T). length r + (rest + 1) ≡ n) g → All (λ (r : List T). length r + rest ≡ n) h
+  pub filled_more : (g h : List (List T)) (c : List T) (rest n : ℕ) → h ≡ zip_push g c → length c ≡ length g → All (λ (r : List T). length r + (rest + 1) ≡ n) g
+      → All (λ (r : List T). length r + rest ≡ n) h
   filled_more g h c rest n is same filled k d below =
       let under : k < length g = omega (arith, ap length is, length-zip_push g c, below) in
       let wide : length (get_or h k d) ≡ length (get_or g k []) + 1 =
@@ -92,7 +98,8 @@ module _ {T : Type 0} where
 
 module _ {T A : Type 0} where
   -- a row that has fewer elements than there are columns has room
-  pub room_for_push : (rows first : List (Vec T A)) (rest n : ℕ) → All (λ (r : List T). length r + (rest + 1) ≡ n) (lists rows) → map vec_capacity rows ≡ map vec_capacity first → All (λ (m : ℕ). n ≤ m) (map vec_capacity first)
+  pub room_for_push : (rows first : List (Vec T A)) (rest n : ℕ) → All (λ (r : List T). length r + (rest + 1) ≡ n) (lists rows)
+      → map vec_capacity rows ≡ map vec_capacity first → All (λ (m : ℕ). n ≤ m) (map vec_capacity first)
       → All (λ (v : Vec T A). vec_len v < vec_capacity v) rows
   room_for_push rows first rest n filled same room k d below =
       let w = get_or rows k d in

@@ -1,4 +1,5 @@
-use Rattle.std.proofs.Common.{◌≡◌, ◌+◌, refl, Bool, true, false, true≢false, ◌||◌, suc, zero, List, [], ◌∷◌, ◌++◌, length, map, ap, sym, ◌∙◌, length-append, arith}
+use Rattle.std.proofs.Common.{◌≡◌, ◌+◌, refl, Bool, true, false, true≢false, ◌||◌, suc, zero, List, [], ◌∷◌, ◌++◌, length, map, ap, sym, ◌∙◌, length-append,
+    arith}
 use Rattle.std.specs.List.{All, AllByRecursion}
 use Rattle.std.proofs.lemmas.List.{append_assoc, append-nil}
 
@@ -18,7 +19,8 @@ module _ {X : Type 0} (P : X → Type 0) (rest rest' : List X) (x : X) (is : res
   All-rest k d below = (rw is at all) (suc k) d (omega (arith, below))
 
 -- an element moves from what is left to what is done
-pub move_same : {X : Type 0} (done new total rest rest' : List X) (x : X) → done ++ rest ≡ total → rest ≡ x ∷ rest' → new ≡ done ++ x ∷ [] → new ++ rest' ≡ total
+pub move_same : {X : Type 0} (done new total rest rest' : List X) (x : X) → done ++ rest ≡ total → rest ≡ x ∷ rest' → new ≡ done ++ x ∷ []
+    → new ++ rest' ≡ total
 move_same done new total rest rest' x whole is grown =
     ap (λ (z : List _). z ++ rest') grown ∙ (append_assoc done (x ∷ []) rest' ∙ (ap (λ (z : List _). done ++ z) (sym is) ∙ whole))
 

@@ -78,14 +78,14 @@ where
 {
     let alloc = rt.alloc();
     let listen_address = listen_address_of(words.listen)?;
-    let parts = parts_of(rt, threads, words)?;
-    let opened = open_address(rt, alloc, listen_address, words.socket_mode, &parts.log)?;
-    serve_opened(rt, threads, words, parts, opened, writer)
+    let setup = set_up(rt, threads, words)?;
+    let opened = open_address(rt, alloc, listen_address, words.socket_mode, &setup.log)?;
+    serve_opened(rt, threads, words, setup, opened, writer)
 }
 
 /// What a server has before it listens.
 #[derive(Drop)]
-struct Parts<H>
+struct ServerSetup<H>
 where
     H: Files + Clock + Eprint + Copy + Drop,
     H::File: RangeLock,
@@ -97,16 +97,16 @@ where
     logs: LineSetting<ServerLog<H>, H>,
 }
 
-// Makes these, once it is known that the words have an address.
-fn parts_of<'a, P, H>(rt: &P, threads: H, words: &ServeWords<'a>) -> Result<Parts<H>, Stop<'a>>
+// Sets it up, once it is known that the words have an address.
+fn set_up<'a, P, H>(rt: &P, threads: H, words: &ServeWords<'a>) -> Result<ServerSetup<H>, Stop<'a>>
 where
     P: AllocGlobal + Files + Env,
     H::File: RangeLock,
     H: Clock + Files + Eprint + Copy + Drop,
     requires address { IsListenAddress words.now.listen.now }
-    ensures site { IfOk result (λ parts. arc_value parts.site ≡ named_site words.now.site) }
-    ensures sound { IfOk result (λ parts. first_fault (named_site words.now.site) ≡ None) }
-    ensures count { IfOk result (λ parts. length parts.spools.items ≡ length words.now.site.boxes.items) }
+    ensures site { IfOk result (λ setup. arc_value setup.site ≡ named_site words.now.site) }
+    ensures sound { IfOk result (λ setup. first_fault (named_site words.now.site) ≡ None) }
+    ensures count { IfOk result (λ setup. length setup.spools.items ≡ length words.now.site.boxes.items) }
     ensures refused { IfErr result (IsNotServed words.now) }
 {
     let alloc = rt.alloc();
@@ -121,7 +121,7 @@ where
     let curfew = shared_curfew(threads, alloc, words)?;
     let spools = open_mailboxes(threads, alloc, access, &words.site.boxes, &curfew, log)?;
     let logs = line_setting(threads, log, words, &site)?;
-    Ok(Parts {
+    Ok(ServerSetup {
         site,
         log,
         curfew,
@@ -130,12 +130,12 @@ where
     })
 }
 
-// Runs the server that has these parts on what was opened, whose file is removed at the end.
+// Runs the server that was set up on what was opened, whose file is removed at the end.
 fn serve_opened<'a, P, H, W>(
     rt: &P,
     threads: H,
     words: &ServeWords<'a>,
-    parts: Parts<H>,
+    setup: ServerSetup<H>,
     opened: Opened<'a>,
     writer: W,
 ) -> Result<Served, Stop<'a>>
@@ -147,22 +147,22 @@ where
     H: Threads + Wait + Clock + Files + Eprint + Copy + Drop + Send + Sync + 'static,
     W: Write + Drop,
     requires address { IsListenAddress words.now.listen.now }
-    requires site { arc_value parts.site ≡ named_site words.now.site }
+    requires site { arc_value setup.site ≡ named_site words.now.site }
     requires sound { first_fault (named_site words.now.site) ≡ None }
-    requires count { length parts.spools.items ≡ length words.now.site.boxes.items }
+    requires count { length setup.spools.items ≡ length words.now.site.boxes.items }
     ensures { MatchResult result
         (IsServedAsAsked ServerSocket H (ServerCurfew H) (⟦<LineLog<ServerLog<H>, H> as LaneLog>⟧.told)
         (⟦<ServedMailbox<H, ServerLog<H>> as Spool>⟧.state) words.now)
         (IsNotServed words.now) }
 {
     let alloc = rt.alloc();
-    let Parts {
+    let ServerSetup {
         site,
         curfew,
         spools,
         logs,
         ..
-    } = parts;
+    } = setup;
     let Opened { socket, file } = opened;
     let conversations = Conversations {
         lanes: words.lanes,

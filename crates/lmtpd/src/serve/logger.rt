@@ -4,7 +4,8 @@ ghost use Rattle.std.specs.Prelude.{◌≡◌, IfErr, IfOk};
 
 use crate::fault::Fault;
 use lmtp_text::Site;
-use lmtpd_log::{ErrorLines, LineSetting, is_journal};
+use lmtpd_log::LineSetting;
+use lmtpd_output::{ErrorLines, is_journal};
 use lmtpd_words::ServeWords;
 use log::{LevelFilter, Logged};
 use std::env::Env;

@@ -17,7 +17,8 @@ invariant-loop g l = record {
   channel : l.receiver.channel ≡ l.fn.receiver.channel;
   lanes : l.receiver.lanes ≡ l.fn.receiver.lanes;
   capacity : l.receiver.capacity ≡ l.fn.receiver.capacity;
-  working : IsWorking (record { calendar = civil_at; host = l.host; quota = l.fn.quota; worker = worker_of l.fn.slips.items }) (taken l.receiver) l.fn.receiver l.receiver
+  working : IsWorking (record { calendar = civil_at; host = l.host; quota = l.fn.quota; worker = worker_of l.fn.slips.items }) (taken l.receiver) l.fn.receiver
+      l.receiver
       (idle l.fn.slips.items (g.S.Spool.state l.fn.spool)) (record {
         slips = l.worker.slips;
         mailbox = l.worker.mailbox.mailbox;

@@ -17,6 +17,7 @@ returns-clause-greets g c =
       same = c.flush.ensures.goes ∙ c.say.ensures.goes;
       untold = c.flush.ensures.untold ∙ c.say.ensures.untold;
       said = subst said
-          (ap (λ (x : Site). reply_text x c.greeting-greeting.result) (c.site.ensures ∙ c.greeting-greeting.ensures.site) ∙ ap (λ (r : Reply). reply_text c.args.dialogue.now.session.site r) c.greeting-greeting.ensures.reply)
+          (ap (λ (x : Site). reply_text x c.greeting-greeting.result) (c.site.ensures ∙ c.greeting-greeting.ensures.site)
+              ∙ ap (λ (r : Reply). reply_text c.args.dialogue.now.session.site r) c.greeting-greeting.ensures.reply)
           (c.flush.ensures.said start [] _ (c.say.ensures.says start [] [] (said_none start c.clear-2.new.self c.clear-2.ensures)));
     }

@@ -15,6 +15,10 @@ invariant-loop-made g l = record {
   same : g.D.Delivery.site l.delivery ≡ g.D.Delivery.site l.initial.delivery;
   reads : WasRead l._made (g.P.Peer.state l.initial.peer) (g.P.Peer.state l.peer);
   stands : (site : Site) (start : PeerState) (first : g.row.D.Denot) (handled : List ℕ)
-      → IsSoFar (beginning site start (g.D.Delivery.HasCome first)) (standing l.initial.dialogue (g.P.Peer.state l.initial.peer) (g.D.Delivery.HasCome l.initial.delivery) (g.D.Delivery.IsDrafting l.initial.delivery)) handled handled
-      → (all : List ℕ) × (l._made ≤ length all) × IsSoFar (beginning site start (g.D.Delivery.HasCome first)) (standing l.dialogue (g.P.Peer.state l.peer) (g.D.Delivery.HasCome l.delivery) (g.D.Delivery.IsDrafting l.delivery)) all all;
+      → IsSoFar (beginning site start (g.D.Delivery.HasCome first))
+      (standing l.initial.dialogue (g.P.Peer.state l.initial.peer) (g.D.Delivery.HasCome l.initial.delivery) (g.D.Delivery.IsDrafting l.initial.delivery))
+      handled handled
+      → (all : List ℕ) × (l._made ≤ length all)
+      × IsSoFar (beginning site start (g.D.Delivery.HasCome first))
+      (standing l.dialogue (g.P.Peer.state l.peer) (g.D.Delivery.HasCome l.delivery) (g.D.Delivery.IsDrafting l.delivery)) all all;
 }

@@ -19,9 +19,13 @@ loop-at-preserved g c =
       site = step.site ∙ c.loop-at.invariant.site;
       same = step.same ∙ c.loop-at.invariant.same;
       reads = step.reads ∙ c.loop-at.invariant.reads;
-      stands = subst (λ l. Advances HasCome IsDrafting (talk c.args.dialogue.now (g.P.Peer.state c.args.peer.now) c.args.delivery.now) (talk c.take_prefix.new.dialogue (g.P.Peer.state c.take_prefix.new.peer) c.take_prefix.new.delivery) l)
+      stands = subst (λ l. Advances HasCome IsDrafting (talk c.args.dialogue.now (g.P.Peer.state c.args.peer.now) c.args.delivery.now)
+          (talk c.take_prefix.new.dialogue (g.P.Peer.state c.take_prefix.new.peer) c.take_prefix.new.delivery) l)
           (take_more at used piece c.loop-at.invariant.within)
-          (subst (λ l. Advances HasCome IsDrafting (talk c.args.dialogue.now (g.P.Peer.state c.args.peer.now) c.args.delivery.now) (talk c.take_prefix.new.dialogue (g.P.Peer.state c.take_prefix.new.peer) c.take_prefix.new.delivery) (take at piece ++ take used l)) rest
-          (advances_then HasCome IsDrafting c.args.dialogue.now c.loop-at.dialogue c.take_prefix.new.dialogue (g.P.Peer.state c.args.peer.now) (g.P.Peer.state c.loop-at.peer) (g.P.Peer.state c.take_prefix.new.peer)
-          c.args.delivery.now c.loop-at.delivery c.take_prefix.new.delivery (take at piece) (take used (take (length piece - at) (drop at piece))) c.loop-at.invariant.stands step.stands));
+          (subst (λ l. Advances HasCome IsDrafting (talk c.args.dialogue.now (g.P.Peer.state c.args.peer.now) c.args.delivery.now)
+              (talk c.take_prefix.new.dialogue (g.P.Peer.state c.take_prefix.new.peer) c.take_prefix.new.delivery) (take at piece ++ take used l)) rest
+          (advances_then HasCome IsDrafting c.args.dialogue.now c.loop-at.dialogue c.take_prefix.new.dialogue (g.P.Peer.state c.args.peer.now)
+              (g.P.Peer.state c.loop-at.peer) (g.P.Peer.state c.take_prefix.new.peer)
+          c.args.delivery.now c.loop-at.delivery c.take_prefix.new.delivery (take at piece) (take used (take (length piece - at) (drop at piece)))
+              c.loop-at.invariant.stands step.stands));
     }

@@ -9,7 +9,8 @@ invariant-loop-at g l = record {
   site : l.dialogue.session.site ≡ l.initial.dialogue.session.site;
   same : g.D.Delivery.site l.delivery ≡ g.D.Delivery.site l.initial.delivery;
   reads : (g.P.Peer.state l.peer).reads ≡ (g.P.Peer.state l.initial.peer).reads;
-  stands : Advances g.D.Delivery.HasCome g.D.Delivery.IsDrafting (talk l.initial.dialogue (g.P.Peer.state l.initial.peer) l.initial.delivery) (talk l.dialogue (g.P.Peer.state l.peer) l.delivery) (take l.at l.piece);
+  stands : Advances g.D.Delivery.HasCome g.D.Delivery.IsDrafting (talk l.initial.dialogue (g.P.Peer.state l.initial.peer) l.initial.delivery)
+      (talk l.dialogue (g.P.Peer.state l.peer) l.delivery) (take l.at l.piece);
 }
 
 abbrev pub decreases-loop-at : goal.decreases-loop-at

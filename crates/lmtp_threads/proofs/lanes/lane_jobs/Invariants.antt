@@ -11,6 +11,7 @@ invariant-loop-visits g l = record {
   count : l.lane + into_iter_len l.visits-iterator ≡ vec_len l.fn.visits;
   with_rows : into_iter_len l.rows ≡ into_iter_len l.visits-iterator;
   with_takers : into_iter_len l.takers ≡ into_iter_len l.visits-iterator;
-  whole : vec_items l.jobs ++ lane_tasks (arc_value l.fn.shared.site) (arc_value l.fn.shared.clock) l.lane (into_iter_items l.visits-iterator) (lists (into_iter_items l.rows)) (into_iter_items l.takers)
+  whole : vec_items l.jobs ++ lane_tasks (arc_value l.fn.shared.site) (arc_value l.fn.shared.clock) l.lane (into_iter_items l.visits-iterator)
+      (lists (into_iter_items l.rows)) (into_iter_items l.takers)
       ≡ lane_tasks (arc_value l.fn.shared.site) (arc_value l.fn.shared.clock) 0 (vec_items l.fn.visits) (lists (vec_items l.fn.rows)) (vec_items l.fn.takers);
 }

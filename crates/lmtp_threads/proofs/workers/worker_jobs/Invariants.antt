@@ -12,6 +12,7 @@ invariant-loop-receiver g l = record {
   with_rows : into_iter_len l.rows ≡ into_iter_len l.receiver-iterator;
   with_spools : into_iter_len l.spools ≡ into_iter_len l.receiver-iterator;
   with_gates : into_iter_len l.gates ≡ into_iter_len l.receiver-iterator;
-  whole : vec_items l.jobs ++ box_tasks (share_of (arc_value l.fn.shared.site) l.fn.quota) (into_iter_items l.receiver-iterator) (lists (into_iter_items l.rows)) (into_iter_items l.spools)
+  whole : vec_items l.jobs ++ box_tasks (share_of (arc_value l.fn.shared.site) l.fn.quota) (into_iter_items l.receiver-iterator)
+      (lists (into_iter_items l.rows)) (into_iter_items l.spools)
       ≡ box_tasks (share_of (arc_value l.fn.shared.site) l.fn.quota) (vec_items l.fn.receivers) (lists (vec_items l.fn.rows)) (vec_items l.fn.spools);
 }

@@ -17,7 +17,8 @@ returns-in_err-try_box c =
     let lt : c.loop-name.name-index < length boxes = omega arith in
     rw (p.1, p.2) (elim c.in_err-try_box.ensures [
       | inl memory ↦ inl memory
-      | inr found ↦ inr (box_refused c.args.host.now c.args.domains.now boxes name _ found (some_of_place c.args.host.now c.args.domains.now boxes c.loop-name.name-index lt)
+      | inr found ↦ inr (box_refused c.args.host.now c.args.domains.now boxes name _ found
+          (some_of_place c.args.host.now c.args.domains.now boxes c.loop-name.name-index lt)
           (λ bad. list_all-map is_box_name (λ n. n.now) boxes ∙ list_all_at (λ n. is_box_name n.now) boxes c.loop-name.name-index none lt bad))
     ])
 

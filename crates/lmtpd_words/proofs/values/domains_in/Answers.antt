@@ -4,4 +4,5 @@ use Rattle.lmtpd_words.proofs.values.domains_in.Goals as goal
 use Rattle.std.proofs.Common.{arith}
 
 pub returns : goal.returns
-returns c = map_from_collect _ c.collect.ensures.ran (YieldsList-from_str_split 44 c.args.list.now (omega arith) c.split.ensures.text c.split.ensures.has_more c.split.ensures.pattern)
+returns c = map_from_collect _ c.collect.ensures.ran
+    (YieldsList-from_str_split 44 c.args.list.now (omega arith) c.split.ensures.text c.split.ensures.has_more c.split.ensures.pattern)

@@ -32,5 +32,6 @@ loop-lane-preserved g c = record {
   seated = search rules;
   knows = search rules;
   room = λ some. ap (λ (v : View _). v.room) c.lane_pass-pass.ensures.receiver;
-  made = fresh_more (channel_of c.loop-lane.first) (channel_of c.lane_pass-pass.new.first) c.loop-lane.lane _ _ _ c.loop-lane.invariant.made c.in_ok-push.ensures.items (search rules) (search rules) (search rules) (search rules) (search rules) (search rules);
+  made = fresh_more (channel_of c.loop-lane.first) (channel_of c.lane_pass-pass.new.first) c.loop-lane.lane _ _ _ c.loop-lane.invariant.made
+      c.in_ok-push.ensures.items (search rules) (search rules) (search rules) (search rules) (search rules) (search rules);
 }

@@ -15,6 +15,7 @@ fetch_add-requires c =
     let id = c.args.seat.now.id in (
       c.requires.seat.0,
       subst (λ (w : ℕ). w < c.args.board.now.shared.table_id.words) (sym c.word_at.ensures) c.requires.slot.0,
-      subst (λ (x : Me (Unit {0}) View × ℕ). Allows Rule slots id x.0 x.1 (λ n. (n + GENERATION_UNIT) % 2 ^ 64) (Freed (step slots x.1 GENERATION_UNIT 0 none) x.0)) (λ k. (sym c.requires.seat.1 k, sym (c.word_at.ensures ∙ ap word_of c.requires.slot.1) k))
+      subst (λ (x : Me (Unit {0}) View × ℕ). Allows Rule slots id x.0 x.1 (λ n. (n + GENERATION_UNIT) % 2 ^ 64)
+          (Freed (step slots x.1 GENERATION_UNIT 0 none) x.0)) (λ k. (sym c.requires.seat.1 k, sym (c.word_at.ensures ∙ ap word_of c.requires.slot.1) k))
           (frees slots id c.args.seat.now.me.0.book c.args.seat.now.me.0.kind c.args.seat.now.me.0.claim c.requires.over c.requires.generation),
     )

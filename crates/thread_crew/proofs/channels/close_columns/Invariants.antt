@@ -11,5 +11,6 @@ abbrev pub invariant-loop-senders : goal.invariant-loop-senders
 invariant-loop-senders g l = record {
   room : vec_len l.closed + into_iter_len l.senders-iterator ≤ vec_capacity l.closed;
   all : All AreSenders (lists (into_iter_items l.senders-iterator));
-  done : (before : List (List (Sender _))) × (before ++ lists (into_iter_items l.senders-iterator) ≡ lists (vec_items l.fn.columns)) × AllZip IsShut before (vec_items l.closed);
+  done : (before : List (List (Sender _))) × (before ++ lists (into_iter_items l.senders-iterator) ≡ lists (vec_items l.fn.columns))
+      × AllZip IsShut before (vec_items l.closed);
 }

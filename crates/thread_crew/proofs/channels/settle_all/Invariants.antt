@@ -8,5 +8,6 @@ use Rattle.thread_crew.proofs.channels.settle_all.Given as goal
 abbrev pub invariant-loop-receiver : goal.invariant-loop-receiver
 invariant-loop-receiver g l = record {
   can : AllZip CanSettle (into_iter_items l.receiver-iterator) (into_iter_items l.closed);
-  settled : AllZip (IsSettled g.M.FromSender.sender) (into_iter_items l.receiver-iterator) (into_iter_items l.closed) → AllZip (IsSettled g.M.FromSender.sender) (vec_items l.fn.receivers) (vec_items l.fn.closed);
+  settled : AllZip (IsSettled g.M.FromSender.sender) (into_iter_items l.receiver-iterator) (into_iter_items l.closed)
+      → AllZip (IsSettled g.M.FromSender.sender) (vec_items l.fn.receivers) (vec_items l.fn.closed);
 }

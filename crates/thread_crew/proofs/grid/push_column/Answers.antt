@@ -17,7 +17,8 @@ loop-x-preserved g c =
     let at : drop k column ≡ c.in-Some.x ∷ _ = sym was.rest ∙ step.0 in
     let same = c.index_mut-row.ensures.value in
     let below : k < length old = omega (arith, was.count, step.1, c.requires.len, c.args.rows.now.ok.0) in
-    let row_is : row.items ≡ get_or (lists old) k [] = ap (λ (v : _). v.items) (same ∙ was.above k row (omega arith)) ∙ sym (get_or-map (λ (v : _). v.items) old k row [] below) in record {
+    let row_is : row.items ≡ get_or (lists old) k [] =
+        ap (λ (v : _). v.items) (same ∙ was.above k row (omega arith)) ∙ sym (get_or-map (λ (v : _). v.items) old k row [] below) in record {
       rest = rw add-one (drop-next column _ k c.in-Some.x at);
       count = omega (arith, step.1, was.count);
       rows = was.rows;
@@ -26,7 +27,8 @@ loop-x-preserved g c =
           ∙ (ap (λ (z : List _). set (lists (vec_items c.loop-x.rows)) k z) c.push_reserved.ensures.items
           ∙ (ap (λ (z : List (List _)). set z k (row.items ++ c.in-Some.x ∷ [])) was.pushed
           ∙ rw add-one (set-zip_push (lists old) column _ k c.in-Some.x row.items at (rw length-map below) row_is)));
-      capacity = map-set_same vec_capacity (vec_items c.loop-x.rows) k c.push_reserved.new.self row (c.push_reserved.ensures.capacity ∙ ap vec_capacity same) ∙ was.capacity;
+      capacity = map-set_same vec_capacity (vec_items c.loop-x.rows) k c.push_reserved.new.self row (c.push_reserved.ensures.capacity ∙ ap vec_capacity same)
+          ∙ was.capacity;
       above = λ j d after. get_or-set_other (vec_items c.loop-x.rows) k j c.push_reserved.new.self d (search rules) ∙ was.above j d (omega arith);
     }
 
@@ -34,7 +36,8 @@ pub returns-clause-items : goal.returns-clause-items
 returns-clause-items g c =
     let was = c.loop-x.invariant in
     let column = vec_items c.args.column in
-    was.pushed ∙ ap (λ (z : List _). zip_push (lists (vec_items c.args.rows.now)) z) (take_all c.loop-x.k column (omega (arith, was.count, c.in-None.ensures.steps.0, c.args.column.ok.0)))
+    was.pushed ∙ ap (λ (z : List _). zip_push (lists (vec_items c.args.rows.now)) z)
+        (take_all c.loop-x.k column (omega (arith, was.count, c.in-None.ensures.steps.0, c.args.column.ok.0)))
 
 pub returns-clause-capacity : goal.returns-clause-capacity
 returns-clause-capacity g c = c.loop-x.invariant.capacity

@@ -8,13 +8,25 @@ use Rattle.block_arena.specs.ArenaParts.{fields_of}
 use Rattle.block_arena.proofs.arena.Arena.drop_draft.Goals as goal
 
 pub returns-in-Free-clause-fault : goal.returns-in-Free-clause-fault
-returns-in-Free-clause-fault c = (stale ⊥ c.args.key c.args.self.now (fields_of c.self.inside) c.deref.result.now c.content_under.result c.self.invariant c.self.view_is c.deref.ensures.value c.content_under.ensures c.in-Free.is).0
+returns-in-Free-clause-fault c =
+    (stale ⊥ c.args.key c.args.self.now (fields_of c.self.inside) c.deref.result.now c.content_under.result c.self.invariant c.self.view_is
+    c.deref.ensures.value c.content_under.ensures c.in-Free.is).0
 
 pub returns-in-Sealed-clause-fault : goal.returns-in-Sealed-clause-fault
-returns-in-Sealed-clause-fault c = subst (λ (h : d.Held). RefusesDraft ⊥ h fault.Sealed) (sym (under c.args.key c.args.self.now (fields_of c.self.inside) _ (sees c.args.key c.args.self.now (fields_of c.self.inside) c.deref.result.now c.content_under.result _ c.self.invariant c.self.view_is c.deref.ensures.value c.content_under.ensures c.in-Sealed.is))) refl
+returns-in-Sealed-clause-fault c =
+    subst (λ (h : d.Held). RefusesDraft ⊥ h fault.Sealed)
+    (sym (under c.args.key c.args.self.now (fields_of c.self.inside) _
+    (sees c.args.key c.args.self.now (fields_of c.self.inside) c.deref.result.now c.content_under.result _ c.self.invariant c.self.view_is c.deref.ensures.value
+    c.content_under.ensures c.in-Sealed.is))) refl
 
 pub release-requires : goal.release-requires
-release-requires c = subst (λ (h : d.Held). IsInUse h) (sym (under c.args.key c.args.self.now (fields_of c.self.inside) _ (sees c.args.key c.args.self.now (fields_of c.self.inside) c.deref.result.now c.content_under.result _ c.self.invariant c.self.view_is c.deref.ensures.value c.content_under.ensures c.in-Draft.is))) tt
+release-requires c = subst (λ (h : d.Held). IsInUse h)
+    (sym (under c.args.key c.args.self.now (fields_of c.self.inside) _
+    (sees c.args.key c.args.self.now (fields_of c.self.inside) c.deref.result.now c.content_under.result _ c.self.invariant c.self.view_is c.deref.ensures.value
+    c.content_under.ensures c.in-Draft.is))) tt
 
 pub returns-in-Draft-clause-done : goal.returns-in-Draft-clause-done
-returns-in-Draft-clause-done c = cancels _ _ _ _ _ (under c.args.key c.args.self.now (fields_of c.self.inside) _ (sees c.args.key c.args.self.now (fields_of c.self.inside) c.deref.result.now c.content_under.result _ c.self.invariant c.self.view_is c.deref.ensures.value c.content_under.ensures c.in-Draft.is)) c.release.ensures
+returns-in-Draft-clause-done c =
+    cancels _ _ _ _ _ (under c.args.key c.args.self.now (fields_of c.self.inside) _
+    (sees c.args.key c.args.self.now (fields_of c.self.inside) c.deref.result.now c.content_under.result _ c.self.invariant c.self.view_is c.deref.ensures.value
+    c.content_under.ensures c.in-Draft.is)) c.release.ensures

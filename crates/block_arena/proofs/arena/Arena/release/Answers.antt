@@ -7,28 +7,84 @@ use Rattle.block_arena.specs.ArenaParts.{fields_of}
 use Rattle.block_arena.proofs.arena.Arena.release.Goals as goal
 
 pub released_slot-slot-requires : goal.released_slot-slot-requires
-released_slot-slot-requires c = generation_within c.args.key c.args.self.now (fields_of c.self.inside) c.content_under.result _ (sees c.args.key c.args.self.now (fields_of c.self.inside) c.deref.result.now c.content_under.result c.content_under.result c.self.invariant c.self.view_is c.deref.ensures.value c.content_under.ensures refl) (in_use c.args.key c.args.self.now (fields_of c.self.inside) c.content_under.result (sees c.args.key c.args.self.now (fields_of c.self.inside) c.deref.result.now c.content_under.result c.content_under.result c.self.invariant c.self.view_is c.deref.ensures.value c.content_under.ensures refl) c.requires)
+released_slot-slot-requires c =
+    generation_within c.args.key c.args.self.now (fields_of c.self.inside) c.content_under.result _
+    (sees c.args.key c.args.self.now (fields_of c.self.inside) c.deref.result.now c.content_under.result c.content_under.result c.self.invariant c.self.view_is
+    c.deref.ensures.value c.content_under.ensures refl)
+    (in_use c.args.key c.args.self.now (fields_of c.self.inside) c.content_under.result
+    (sees c.args.key c.args.self.now (fields_of c.self.inside) c.deref.result.now c.content_under.result c.content_under.result c.self.invariant c.self.view_is
+    c.deref.ensures.value c.content_under.ensures refl) c.requires)
 
 pub index_mut-requires : goal.index_mut-requires
-index_mut-requires c = let h : c.args.key.slot < _ = slot_within c.args.key c.args.self.now (fields_of c.self.inside) c.content_under.result _ (sees c.args.key c.args.self.now (fields_of c.self.inside) c.deref.result.now c.content_under.result c.content_under.result c.self.invariant c.self.view_is c.deref.ensures.value c.content_under.ensures refl) (in_use c.args.key c.args.self.now (fields_of c.self.inside) c.content_under.result (sees c.args.key c.args.self.now (fields_of c.self.inside) c.deref.result.now c.content_under.result c.content_under.result c.self.invariant c.self.view_is c.deref.ensures.value c.content_under.ensures refl) c.requires) in search (rules, h)
+index_mut-requires c = let h : c.args.key.slot < _ =
+    slot_within c.args.key c.args.self.now (fields_of c.self.inside) c.content_under.result _
+    (sees c.args.key c.args.self.now (fields_of c.self.inside) c.deref.result.now c.content_under.result c.content_under.result c.self.invariant c.self.view_is
+    c.deref.ensures.value c.content_under.ensures refl)
+    (in_use c.args.key c.args.self.now (fields_of c.self.inside) c.content_under.result
+    (sees c.args.key c.args.self.now (fields_of c.self.inside) c.deref.result.now c.content_under.result c.content_under.result c.self.invariant c.self.view_is
+    c.deref.ensures.value c.content_under.ensures refl) c.requires) in search (rules, h)
 
 pub invariant_of-self : goal.invariant_of-self
-invariant_of-self c = empty_arena c.args.key c.args.self.now (fields_of c.self.inside) c.content_under.result _ c.released_slot-slot.result (sees c.args.key c.args.self.now (fields_of c.self.inside) c.deref.result.now c.content_under.result c.content_under.result c.self.invariant c.self.view_is c.deref.ensures.value c.content_under.ensures refl) (subst (λ (r : Run). Owns c.self.inside.data c.self.inside.next.items c.content_under.result r) (sym c.run_in-run.ensures) (in_use c.args.key c.args.self.now (fields_of c.self.inside) c.content_under.result (sees c.args.key c.args.self.now (fields_of c.self.inside) c.deref.result.now c.content_under.result c.content_under.result c.self.invariant c.self.view_is c.deref.ensures.value c.content_under.ensures refl) c.requires)) c.if-run-eq0.true c.released_slot-slot.ensures
+invariant_of-self c = empty_arena c.args.key c.args.self.now (fields_of c.self.inside) c.content_under.result _ c.released_slot-slot.result
+    (sees c.args.key c.args.self.now (fields_of c.self.inside) c.deref.result.now c.content_under.result c.content_under.result c.self.invariant c.self.view_is
+    c.deref.ensures.value c.content_under.ensures refl)
+    (subst (λ (r : Run). Owns c.self.inside.data c.self.inside.next.items c.content_under.result r) (sym c.run_in-run.ensures)
+    (in_use c.args.key c.args.self.now (fields_of c.self.inside) c.content_under.result
+    (sees c.args.key c.args.self.now (fields_of c.self.inside) c.deref.result.now c.content_under.result c.content_under.result c.self.invariant c.self.view_is
+    c.deref.ensures.value c.content_under.ensures refl) c.requires)) c.if-run-eq0.true c.released_slot-slot.ensures
 
 pub returns-then-run-eq0 : goal.returns-then-run-eq0
-returns-then-run-eq0 c = empty_frees c.args.key c.args.self.now (fields_of c.self.inside) c.content_under.result _ c.released_slot-slot.result (sees c.args.key c.args.self.now (fields_of c.self.inside) c.deref.result.now c.content_under.result c.content_under.result c.self.invariant c.self.view_is c.deref.ensures.value c.content_under.ensures refl) (subst (λ (r : Run). Owns c.self.inside.data c.self.inside.next.items c.content_under.result r) (sym c.run_in-run.ensures) (in_use c.args.key c.args.self.now (fields_of c.self.inside) c.content_under.result (sees c.args.key c.args.self.now (fields_of c.self.inside) c.deref.result.now c.content_under.result c.content_under.result c.self.invariant c.self.view_is c.deref.ensures.value c.content_under.ensures refl) c.requires)) c.if-run-eq0.true c.released_slot-slot.ensures
+returns-then-run-eq0 c = empty_frees c.args.key c.args.self.now (fields_of c.self.inside) c.content_under.result _ c.released_slot-slot.result
+    (sees c.args.key c.args.self.now (fields_of c.self.inside) c.deref.result.now c.content_under.result c.content_under.result c.self.invariant c.self.view_is
+    c.deref.ensures.value c.content_under.ensures refl)
+    (subst (λ (r : Run). Owns c.self.inside.data c.self.inside.next.items c.content_under.result r) (sym c.run_in-run.ensures)
+    (in_use c.args.key c.args.self.now (fields_of c.self.inside) c.content_under.result
+    (sees c.args.key c.args.self.now (fields_of c.self.inside) c.deref.result.now c.content_under.result c.content_under.result c.self.invariant c.self.view_is
+    c.deref.ensures.value c.content_under.ensures refl) c.requires)) c.if-run-eq0.true c.released_slot-slot.ensures
 
 pub index_mut-requires-2 : goal.index_mut-requires-2
-index_mut-requires-2 c = let l = last_in c.args.key c.args.self.now (fields_of c.self.inside) c.content_under.result _ (sees c.args.key c.args.self.now (fields_of c.self.inside) c.deref.result.now c.content_under.result c.content_under.result c.self.invariant c.self.view_is c.deref.ensures.value c.content_under.ensures refl) (subst (λ (r : Run). Owns c.self.inside.data c.self.inside.next.items c.content_under.result r) (sym c.run_in-run.ensures) (in_use c.args.key c.args.self.now (fields_of c.self.inside) c.content_under.result (sees c.args.key c.args.self.now (fields_of c.self.inside) c.deref.result.now c.content_under.result c.content_under.result c.self.invariant c.self.view_is c.deref.ensures.value c.content_under.ensures refl) c.requires)) (omega (arith, c.if-run-eq0.false)) in search (rules, l.low)
+index_mut-requires-2 c = let l =
+    last_in c.args.key c.args.self.now (fields_of c.self.inside) c.content_under.result _
+    (sees c.args.key c.args.self.now (fields_of c.self.inside) c.deref.result.now c.content_under.result c.content_under.result c.self.invariant c.self.view_is
+    c.deref.ensures.value c.content_under.ensures refl)
+    (subst (λ (r : Run). Owns c.self.inside.data c.self.inside.next.items c.content_under.result r) (sym c.run_in-run.ensures)
+    (in_use c.args.key c.args.self.now (fields_of c.self.inside) c.content_under.result
+    (sees c.args.key c.args.self.now (fields_of c.self.inside) c.deref.result.now c.content_under.result c.content_under.result c.self.invariant c.self.view_is
+    c.deref.ensures.value c.content_under.ensures refl) c.requires)) (omega (arith, c.if-run-eq0.false)) in search (rules, l.low)
 
 pub overflow_add-self : goal.overflow_add-self
-overflow_add-self c = let h : c.self.inside.free_count + c.run_in-run.result.blocks ≤ BLOCK_LIMIT = sum_within c.args.key c.args.self.now (fields_of c.self.inside) c.content_under.result _ (sees c.args.key c.args.self.now (fields_of c.self.inside) c.deref.result.now c.content_under.result c.content_under.result c.self.invariant c.self.view_is c.deref.ensures.value c.content_under.ensures refl) (subst (λ (r : Run). Owns c.self.inside.data c.self.inside.next.items c.content_under.result r) (sym c.run_in-run.ensures) (in_use c.args.key c.args.self.now (fields_of c.self.inside) c.content_under.result (sees c.args.key c.args.self.now (fields_of c.self.inside) c.deref.result.now c.content_under.result c.content_under.result c.self.invariant c.self.view_is c.deref.ensures.value c.content_under.ensures refl) c.requires)) in omega (arith, h)
+overflow_add-self c = let h : c.self.inside.free_count + c.run_in-run.result.blocks ≤ BLOCK_LIMIT =
+    sum_within c.args.key c.args.self.now (fields_of c.self.inside) c.content_under.result _
+    (sees c.args.key c.args.self.now (fields_of c.self.inside) c.deref.result.now c.content_under.result c.content_under.result c.self.invariant c.self.view_is
+    c.deref.ensures.value c.content_under.ensures refl)
+    (subst (λ (r : Run). Owns c.self.inside.data c.self.inside.next.items c.content_under.result r) (sym c.run_in-run.ensures)
+    (in_use c.args.key c.args.self.now (fields_of c.self.inside) c.content_under.result
+    (sees c.args.key c.args.self.now (fields_of c.self.inside) c.deref.result.now c.content_under.result c.content_under.result c.self.invariant c.self.view_is
+    c.deref.ensures.value c.content_under.ensures refl) c.requires)) in omega (arith, h)
 
 pub index_mut-requires-3 : goal.index_mut-requires-3
-index_mut-requires-3 c = let h : c.args.key.slot < _ = slot_within c.args.key c.args.self.now (fields_of c.self.inside) c.content_under.result _ (sees c.args.key c.args.self.now (fields_of c.self.inside) c.deref.result.now c.content_under.result c.content_under.result c.self.invariant c.self.view_is c.deref.ensures.value c.content_under.ensures refl) (in_use c.args.key c.args.self.now (fields_of c.self.inside) c.content_under.result (sees c.args.key c.args.self.now (fields_of c.self.inside) c.deref.result.now c.content_under.result c.content_under.result c.self.invariant c.self.view_is c.deref.ensures.value c.content_under.ensures refl) c.requires) in search (rules, h)
+index_mut-requires-3 c = let h : c.args.key.slot < _ =
+    slot_within c.args.key c.args.self.now (fields_of c.self.inside) c.content_under.result _
+    (sees c.args.key c.args.self.now (fields_of c.self.inside) c.deref.result.now c.content_under.result c.content_under.result c.self.invariant c.self.view_is
+    c.deref.ensures.value c.content_under.ensures refl)
+    (in_use c.args.key c.args.self.now (fields_of c.self.inside) c.content_under.result
+    (sees c.args.key c.args.self.now (fields_of c.self.inside) c.deref.result.now c.content_under.result c.content_under.result c.self.invariant c.self.view_is
+    c.deref.ensures.value c.content_under.ensures refl) c.requires) in search (rules, h)
 
 pub invariant_of-self-2 : goal.invariant_of-self-2
-invariant_of-self-2 c = freed_arena c.args.key c.args.self.now (fields_of c.self.inside) c.content_under.result _ c.released_slot-slot.result (sees c.args.key c.args.self.now (fields_of c.self.inside) c.deref.result.now c.content_under.result c.content_under.result c.self.invariant c.self.view_is c.deref.ensures.value c.content_under.ensures refl) (subst (λ (r : Run). Owns c.self.inside.data c.self.inside.next.items c.content_under.result r) (sym c.run_in-run.ensures) (in_use c.args.key c.args.self.now (fields_of c.self.inside) c.content_under.result (sees c.args.key c.args.self.now (fields_of c.self.inside) c.deref.result.now c.content_under.result c.content_under.result c.self.invariant c.self.view_is c.deref.ensures.value c.content_under.ensures refl) c.requires)) (omega (arith, c.if-run-eq0.false)) c.released_slot-slot.ensures
+invariant_of-self-2 c = freed_arena c.args.key c.args.self.now (fields_of c.self.inside) c.content_under.result _ c.released_slot-slot.result
+    (sees c.args.key c.args.self.now (fields_of c.self.inside) c.deref.result.now c.content_under.result c.content_under.result c.self.invariant c.self.view_is
+    c.deref.ensures.value c.content_under.ensures refl)
+    (subst (λ (r : Run). Owns c.self.inside.data c.self.inside.next.items c.content_under.result r) (sym c.run_in-run.ensures)
+    (in_use c.args.key c.args.self.now (fields_of c.self.inside) c.content_under.result
+    (sees c.args.key c.args.self.now (fields_of c.self.inside) c.deref.result.now c.content_under.result c.content_under.result c.self.invariant c.self.view_is
+    c.deref.ensures.value c.content_under.ensures refl) c.requires)) (omega (arith, c.if-run-eq0.false)) c.released_slot-slot.ensures
 
 pub returns : goal.returns
-returns c = freed_frees c.args.key c.args.self.now (fields_of c.self.inside) c.content_under.result _ c.released_slot-slot.result (sees c.args.key c.args.self.now (fields_of c.self.inside) c.deref.result.now c.content_under.result c.content_under.result c.self.invariant c.self.view_is c.deref.ensures.value c.content_under.ensures refl) (subst (λ (r : Run). Owns c.self.inside.data c.self.inside.next.items c.content_under.result r) (sym c.run_in-run.ensures) (in_use c.args.key c.args.self.now (fields_of c.self.inside) c.content_under.result (sees c.args.key c.args.self.now (fields_of c.self.inside) c.deref.result.now c.content_under.result c.content_under.result c.self.invariant c.self.view_is c.deref.ensures.value c.content_under.ensures refl) c.requires)) (omega (arith, c.if-run-eq0.false)) c.released_slot-slot.ensures
+returns c = freed_frees c.args.key c.args.self.now (fields_of c.self.inside) c.content_under.result _ c.released_slot-slot.result
+    (sees c.args.key c.args.self.now (fields_of c.self.inside) c.deref.result.now c.content_under.result c.content_under.result c.self.invariant c.self.view_is
+    c.deref.ensures.value c.content_under.ensures refl)
+    (subst (λ (r : Run). Owns c.self.inside.data c.self.inside.next.items c.content_under.result r) (sym c.run_in-run.ensures)
+    (in_use c.args.key c.args.self.now (fields_of c.self.inside) c.content_under.result
+    (sees c.args.key c.args.self.now (fields_of c.self.inside) c.deref.result.now c.content_under.result c.content_under.result c.self.invariant c.self.view_is
+    c.deref.ensures.value c.content_under.ensures refl) c.requires)) (omega (arith, c.if-run-eq0.false)) c.released_slot-slot.ensures

@@ -6,7 +6,9 @@ pub block_at-block-requires : goal.block_at-block-requires
 block_at-block-requires c = prefix_low c.args.next.now c.args.run c.args.n c.requires.low (omega (arith, c.if-run-n.false))
 
 pub block_at-block-requires-2 : goal.block_at-block-requires-2
-block_at-block-requires-2 c = part_low c.args.next.now c.args.run c.args.from c.args.n c.requires.low c.requires.from c.if-index-from.false (omega (arith, c.if-run-n.false))
+block_at-block-requires-2 c = part_low c.args.next.now c.args.run c.args.from c.args.n c.requires.low c.requires.from c.if-index-from.false
+    (omega (arith, c.if-run-n.false))
 
 pub returns-clause-place : goal.returns-clause-place
-returns-clause-place c = from_place c.args.next.now c.args.run c.args.from c.args.n c.block_at-block-2.result c.requires.from c.if-index-from.false (omega (arith, c.if-run-n.false)) c.block_at-block-2.ensures
+returns-clause-place c = from_place c.args.next.now c.args.run c.args.from c.args.n c.block_at-block-2.result c.requires.from c.if-index-from.false
+    (omega (arith, c.if-run-n.false)) c.block_at-block-2.ensures

@@ -19,4 +19,5 @@ returns g c =
     let is : slice_get senders lane ≡ Some sender = slice_get-get_or senders lane _ below ∙ ap Some (sym c.index_mut-sender.ensures.value) in
     let P : List (Sender Slip) → Type 0 = λ l. (x : Bool) × IsOffered g.K.Moment.after lane message x l (slice_set senders lane c.offer.new.self) in
     subst P c.self.view_is
-    (offer_answered g.K.Moment.after lane message (slip c.number.result) senders sender c.offer.new.self is (ap slip (sym c.number.ensures)) c.offer.result c.offer.ensures.accepted c.offer.ensures.gone)
+    (offer_answered g.K.Moment.after lane message (slip c.number.result) senders sender c.offer.new.self is (ap slip (sym c.number.ensures)) c.offer.result
+        c.offer.ensures.accepted c.offer.ensures.gone)

@@ -16,4 +16,6 @@ returns-in-Err-clause-way g c =
     c.take_slip.ensures.same c.in-Err.ensures.nothing (ap is_some c.in-Err.ensures.gone) c.in-Err.ensures.no_time c.answer_next.ensures.way
 
 pub returns-in-Ok-clause-room : goal.returns-in-Ok-clause-room
-returns-in-Ok-clause-room g c = same_room (sending_of c.args.self.now) c.take_slip.new.slips c.args.self.now.gone c.put.new.self.gather c.in-Ok.slip (ap (λ (x : Gathering). x.gather) c.put.ensures.gathered)
+returns-in-Ok-clause-room g c =
+    same_room (sending_of c.args.self.now) c.take_slip.new.slips c.args.self.now.gone c.put.new.self.gather c.in-Ok.slip
+    (ap (λ (x : Gathering). x.gather) c.put.ensures.gathered)

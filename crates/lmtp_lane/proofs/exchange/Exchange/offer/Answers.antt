@@ -16,9 +16,11 @@ pub invariant_of-self : goal.invariant_of-self
 invariant_of-self g c =
     let self = c.args.self.now in
     record {
-      of_lane = still_numbered self.lane _ c.args.failed.worker (λ sender. c.args.post) true self.senders.items c.offer_to.new.senders.items self.of_lane c.in-Ok.ensures;
+      of_lane = still_numbered self.lane _ c.args.failed.worker (λ sender. c.args.post) true self.senders.items c.offer_to.new.senders.items self.of_lane
+          c.in-Ok.ensures;
       room = self.room;
-      handed_back = self.handed_back ∙ sym (gone_as_before _ c.args.failed.worker (λ sender. c.args.post) self.senders.items c.offer_to.new.senders.items c.in-Ok.ensures);
+      handed_back = self.handed_back
+          ∙ sym (gone_as_before _ c.args.failed.worker (λ sender. c.args.post) self.senders.items c.offer_to.new.senders.items c.in-Ok.ensures);
       tells = self.tells;
     }
 
@@ -26,7 +28,8 @@ pub invariant_of-self-in-Err : goal.invariant_of-self-in-Err
 invariant_of-self-in-Err g c =
     let self = c.args.self.now in
     record {
-      of_lane = still_numbered self.lane _ c.args.failed.worker (λ sender. c.args.post) false self.senders.items c.offer_to.new.senders.items self.of_lane c.in-Err.ensures;
+      of_lane = still_numbered self.lane _ c.args.failed.worker (λ sender. c.args.post) false self.senders.items c.offer_to.new.senders.items self.of_lane
+          c.in-Err.ensures;
       room = self.room;
       handed_back = sym (gone_now _ c.args.failed.worker (λ sender. c.args.post) self.senders.items c.offer_to.new.senders.items c.in-Err.ensures);
       tells = λ box_gone. refl;
@@ -43,5 +46,6 @@ returns-in-Err-clause-way g c =
     let self = c.args.self.now in
     left_way c.args.failed c.args.post (sending_of self) (sending_of c.answer_failed-in-Err.new.self)
     (found_gone (with_senders (ends_of self) c.offer_to.new.senders.items)) c.answer_failed-in-Err.result c.requires.lane c.requires.copy
-    (leaves_gone c.args.failed.worker c.args.post (ends_of self) c.offer_to.new.senders.items (sym (ap (λ (s : Slip). s.worker) c.requires.copy)) c.in-Err.ensures) refl
+    (leaves_gone c.args.failed.worker c.args.post (ends_of self) c.offer_to.new.senders.items (sym (ap (λ (s : Slip). s.worker) c.requires.copy))
+        c.in-Err.ensures) refl
     c.answer_failed-in-Err.ensures.same c.answer_failed-in-Err.ensures.takes

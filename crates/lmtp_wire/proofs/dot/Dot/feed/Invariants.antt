@@ -9,7 +9,8 @@ invariant-loop-fed l = record {
   made : l.fed.made ≤ length l.out;
   rest : drop l.fed.made l.out ≡ drop l.fed.made l.fn.out;
   owes : l.fed.made < length l.out → l.self.owed ≡ None;
-  comes : (taken prefix : List ℕ) → HasMade l.fn.self taken prefix → HasFed l.self (taken ++ take l.fed.used l.piece) (prefix ++ take l.fed.made l.out) l.fed.ended;
+  comes : (taken prefix : List ℕ) → HasMade l.fn.self taken prefix
+      → HasFed l.self (taken ++ take l.fed.used l.piece) (prefix ++ take l.fed.made l.out) l.fed.ended;
 }
 
 abbrev pub decreases-loop-fed : goal.decreases-loop-fed

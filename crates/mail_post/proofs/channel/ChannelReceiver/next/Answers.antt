@@ -2,13 +2,15 @@ use Rattle.std.proofs.Common.{◌≡◌, ◌≤◌, ◌<◌, ℕ, ◌+◌, ◌++
 use Rattle.mail_post.specs.Channel.{Inbox, view_of, taken}
 use Rattle.mail_post.specs.declared.rule.View.{View}
 use Rattle.mail_post.proofs.Keeps.{takes}
-use Rattle.mail_post.proofs.Inboxes.{room_copy, room_mark, inbox_copy, taken_copy, timed_copy, copy_fits, inbox_mark, taken_mark, timeless_mark, more_marks_fit, inbox_lost}
+use Rattle.mail_post.proofs.Inboxes.{room_copy, room_mark, inbox_copy, taken_copy, timed_copy, copy_fits, inbox_mark, taken_mark, timeless_mark, more_marks_fit,
+    inbox_lost}
 use Rattle.mail_post.specs.declared.channel.Gone.TheVariants.{Closed}
 use Rattle.mail_post.proofs.Names.{drained}
 use Rattle.mail_post.proofs.channel.ChannelReceiver.next.Goals as goal
 
 pub recv_as-requires-clause-rule : goal.recv_as-requires-clause-rule
-recv_as-requires-clause-rule g c = (takes g.M.FromSender.sender g.K.Moment.after _ _ (ap (λ (v : View _). v.takes) c.self.invariant.1.knows), (λ items views h at. tt))
+recv_as-requires-clause-rule g c =
+    (takes g.M.FromSender.sender g.K.Moment.after _ _ (ap (λ (v : View _). v.takes) c.self.invariant.1.knows), (λ items views h at. tt))
 
 pub invariant_of-self : goal.invariant_of-self
 invariant_of-self g c =
@@ -20,7 +22,9 @@ invariant_of-self g c =
 
 pub overflow_add-self : goal.overflow_add-self
 overflow_add-self g c =
-    let h : c.self.inside.marks + 1 ≤ c.self.inside.lanes = more_marks_fit g.M.FromSender.sender g.K.Moment.after _ _ _ _ _ _ c.self.invariant.1 (rw c.in-Ok-Mark.field-0-is at c.in-Ok-Mark.ensures.rule) in search rules
+    let h : c.self.inside.marks + 1 ≤ c.self.inside.lanes =
+        more_marks_fit g.M.FromSender.sender g.K.Moment.after _ _ _ _ _ _ c.self.invariant.1 (rw c.in-Ok-Mark.field-0-is at c.in-Ok-Mark.ensures.rule) in
+        search rules
 
 pub invariant_of-self-then-self-lanes : goal.invariant_of-self-then-self-lanes
 invariant_of-self-then-self-lanes g c =
@@ -65,8 +69,10 @@ returns-in-Ok-Copy-clause-next g c =
     let step = rw c.in-Ok-Copy.field-0-is at c.in-Ok-Copy.ensures.rule in
     let is = c.self.view_is in (
       ap (λ (r : Inbox _). r.gone) is ∙ c.requires,
-      taken_copy g.M.FromSender.sender g.K.Moment.after (view_of c.self.inside.pass) (view_of c.recv_as.new.pass) c.in-Ok-Copy.post step ∙ ap (λ (r : Inbox _). taken r ++ c.in-Ok-Copy.post ∷ []) is,
-      subst (λ (n : ℕ). g.M.FromSender.sender c.in-Ok-Copy.post < n) (ap (λ (r : Inbox _). r.lanes) is) (copy_fits g.M.FromSender.sender g.K.Moment.after _ _ _ c.in-Ok-Copy.post c.self.invariant.1.knows step),
+      taken_copy g.M.FromSender.sender g.K.Moment.after (view_of c.self.inside.pass) (view_of c.recv_as.new.pass) c.in-Ok-Copy.post step
+          ∙ ap (λ (r : Inbox _). taken r ++ c.in-Ok-Copy.post ∷ []) is,
+      subst (λ (n : ℕ). g.M.FromSender.sender c.in-Ok-Copy.post < n) (ap (λ (r : Inbox _). r.lanes) is)
+          (copy_fits g.M.FromSender.sender g.K.Moment.after _ _ _ c.in-Ok-Copy.post c.self.invariant.1.knows step),
       timed_copy g.M.FromSender.sender g.K.Moment.after (view_of c.self.inside.pass) (view_of c.recv_as.new.pass) c.in-Ok-Copy.post c.args.self.now _ step
           (ap (λ (r : Inbox _). r.got_at) (sym is)) (ap (λ (r : Inbox _). r.took_at) (sym is)) refl refl,
     )
@@ -80,6 +86,7 @@ returns-else-self-lanes-clause-next g c =
     let full : c.self.inside.marks + 1 ≡ c.self.inside.lanes = omega (arith, c.if-self-lanes.false) in (
       refl,
       same ∙ ap (λ (r : Inbox _). taken r) c.self.view_is,
-      λ _. drained g.M.FromSender.sender _ _ (Some Closed) _ (inbox_mark g.M.FromSender.sender g.K.Moment.after _ _ _ (Some Closed) _ _ _ c.self.invariant.1 step (λ e. full)) refl,
+      λ _. drained g.M.FromSender.sender _ _ (Some Closed) _
+          (inbox_mark g.M.FromSender.sender g.K.Moment.after _ _ _ (Some Closed) _ _ _ c.self.invariant.1 step (λ e. full)) refl,
       (times.0 ∙ ap (λ (r : Inbox _). r.got_at) c.self.view_is, times.1 ∙ ap (λ (r : Inbox _). r.took_at) c.self.view_is),
     )

@@ -21,9 +21,12 @@ returns-clause-begun c =
     let filled = all_open _ (length c.self.inside.heard.items) c.fill.new.self.items (c.fill.ensures.items (λ y e. e)) room in
     let limit : length c.self.inside.heard.items ≡ c.args.self.now.limit = ap (λ (v : Gathering). v.limit) c.self.view_is in
     let low : c.args.places ≤ length c.self.inside.heard.items = omega (arith, limit, c.requires) in
-    let places = begun-places c.args.places (length c.self.inside.heard.items) c.fill.new.self.items c.self.inside.outcomes.items filled low (sym c.self.invariant.room) in
-    ap₂ (λ (ps : List (Option Outcome)) (n : ℕ). let v : Gathering = record { gather = record { txn = c.args.txn; places = ps }; limit = n } in v) places (room ∙ limit)
+    let places = begun-places c.args.places (length c.self.inside.heard.items) c.fill.new.self.items c.self.inside.outcomes.items filled low
+        (sym c.self.invariant.room) in
+    ap₂ (λ (ps : List (Option Outcome)) (n : ℕ). let v : Gathering = record { gather = record { txn = c.args.txn; places = ps }; limit = n } in v) places
+        (room ∙ limit)
 
 pub returns-clause-heard : goal.returns-clause-heard
 returns-clause-heard c = λ heard none.
-    subst (λ (v : Gathering). HasGathered c.args.txn c.args.places heard v.gather) (sym (returns-clause-begun c)) (heard_none c.args.txn c.args.places heard none)
+    subst (λ (v : Gathering). HasGathered c.args.txn c.args.places heard v.gather) (sym (returns-clause-begun c))
+        (heard_none c.args.txn c.args.places heard none)

@@ -15,11 +15,14 @@ pub invariant_of-result : goal.invariant_of-result
 invariant_of-result c =
     let b = c.in_ok-board.ensures in
     let a = c.in_ok-arena.ensures in
-    let words : length c.as_slice.result.now ≡ word_of c.args.slots = ap length (let e : c.as_slice.result.now ≡ replicate (word_of c.args.slots) (c.args.generation * GENERATION_UNIT) = search rules in e) ∙ length-replicate (word_of c.args.slots) (c.args.generation * GENERATION_UNIT) in
+    let words : length c.as_slice.result.now ≡ word_of c.args.slots =
+        ap length (let e : c.as_slice.result.now ≡ replicate (word_of c.args.slots) (c.args.generation * GENERATION_UNIT) = search rules in e)
+        ∙ length-replicate (word_of c.args.slots) (c.args.generation * GENERATION_UNIT) in
     record {
       same_table = b.2;
       knows = b.4 ∙ ap (λ (l : List Entry). (resting l, [])) (sym (new_entries c.args.slots c.args.generation _ a.slots));
-      long = b.0 ∙ words ∙ ap word_of (sym (ap (λ (l : List d.Slot). length l) a.slots ∙ length-replicate c.args.slots (record { generation = c.args.generation; held = d.Free })));
+      long = b.0 ∙ words ∙ ap word_of
+          (sym (ap (λ (l : List d.Slot). length l) a.slots ∙ length-replicate c.args.slots (record { generation = c.args.generation; held = d.Free })));
       blocks = c.args.blocks;
       once = a.once;
       counts = new_counts c.args.slots c.args.generation _ a.slots;

@@ -15,11 +15,13 @@ invariant_of-self-2 g c =
 pub returns-clause-begun : goal.returns-clause-begun
 returns-clause-begun g c =
     let key : Key = depot_key c.in-Some.key in
-    let generation : generation_at c.self.inside.seat.me.0.book key.slot ≡ key.generation = generation_there _ _ _ c.self.inside.arena c.self.invariant key c.begin.new.self c.in-Some.ensures.some in
+    let generation : generation_at c.self.inside.seat.me.0.book key.slot ≡ key.generation =
+        generation_there _ _ _ c.self.inside.arena c.self.invariant key c.begin.new.self c.in-Some.ensures.some in
     search rules
 
 pub begin-requires-2-clause-free : goal.begin-requires-2-clause-free
-begin-requires-2-clause-free g c = let there = slot_there _ _ _ c.self.inside.arena c.self.invariant (depot_key c.in-Some.key) c.begin.new.self c.in-Some.ensures.some in (there.1, there.2)
+begin-requires-2-clause-free g c = let there =
+    slot_there _ _ _ c.self.inside.arena c.self.invariant (depot_key c.in-Some.key) c.begin.new.self c.in-Some.ensures.some in (there.1, there.2)
 
 pub hand_out-requires-clause-slot : goal.hand_out-requires-clause-slot
 hand_out-requires-clause-slot g c =
@@ -30,5 +32,6 @@ pub invariant_of-result : goal.invariant_of-result
 invariant_of-result g c =
     let there = (slot_there _ _ _ c.self.inside.arena c.self.invariant (depot_key c.in-Some.key) c.begin.new.self c.in-Some.ensures.some).0 in
     let key : Key = depot_key c.in-Some.key in
-    let generation : generation_at c.self.inside.seat.me.0.book key.slot ≡ key.generation = generation_there _ _ _ c.self.inside.arena c.self.invariant key c.begin.new.self c.in-Some.ensures.some in
+    let generation : generation_at c.self.inside.seat.me.0.book key.slot ≡ key.generation =
+        generation_there _ _ _ c.self.inside.arena c.self.invariant key c.begin.new.self c.in-Some.ensures.some in
     search rules

@@ -1,7 +1,7 @@
 //! Whether standard error is the journal's.
 
 ghost use Rattle.std.specs.Prelude.{◌≡◌, ◌≢◌, ◌↔◌, ◌++◌, ℕ, List, MatchOption, IsTrue};
-ghost use Rattle.lmtpd_log.specs.Journal.{stream_name};
+ghost use Rattle.lmtpd_output.specs.Journal.{stream_name};
 
 use itoa::Buffer;
 use std::env::Env;

@@ -7,8 +7,8 @@ use Rattle.std.specs.declared.fmt.Error.{Error}
 use Rattle.std.specs.declared.fmt.Formatter.{Formatter}
 use Rattle.percent_encoding.specs.declared.ascii_set.TheConstants.{CONTROLS}
 use Rattle.percent_encoding.proofs.PercentLemmas.{percent_encode-append, percent_encode-nil}
-use Rattle.lmtpd_log.specs.declared.escaped.Escaping.{Escaping}
-use Rattle.lmtpd_log.specs.Printable.{Escapes, printable_text}
+use Rattle.lmtpd_output.specs.declared.escaped.Escaping.{Escaping}
+use Rattle.lmtpd_output.specs.Printable.{Escapes, printable_text}
 
 module _ {W : Type 0} (took : W → List ℕ → W → Type 0) where
   keeps_reference : (p : Escaping W) (texts : List (List ℕ)) (q : Escaping W) → FoldsTo (Escapes took) p texts q

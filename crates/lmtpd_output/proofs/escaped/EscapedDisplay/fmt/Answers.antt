@@ -1,6 +1,6 @@
 use Rattle.std.proofs.Common.{rules}
-use Rattle.lmtpd_log.proofs.Escapes.{shows_printable}
-use Rattle.lmtpd_log.proofs.escaped.EscapedDisplay.fmt.Goals as goal
+use Rattle.lmtpd_output.proofs.Escapes.{shows_printable}
+use Rattle.lmtpd_output.proofs.escaped.EscapedDisplay.fmt.Goals as goal
 
 pub returns-clause-writes : goal.returns-clause-writes
 returns-clause-writes g c =

@@ -2,7 +2,7 @@
 
 ghost use Rattle.std.specs.Prelude.{◌≡◌, Some};
 ghost use Rattle.std.specs.Fmt.{◌++?◌};
-ghost use Rattle.lmtpd_log.specs.Lines.{priority_text};
+ghost use Rattle.lmtpd_output.specs.Journal.{priority_text};
 
 use crate::escaped::Escaped;
 use log::kv::Source;

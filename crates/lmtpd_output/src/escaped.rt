@@ -2,7 +2,7 @@
 
 ghost use Rattle.std.specs.Prelude.{◌≡◌, All};
 ghost use Rattle.percent_encoding.specs.Iter.{encoded_text};
-ghost use Rattle.lmtpd_log.specs.Printable.{IsPrintable, printable_text, Escapes};
+ghost use Rattle.lmtpd_output.specs.Printable.{IsPrintable, printable_text, Escapes};
 
 use percent_encoding::{CONTROLS, PercentEncode, utf8_percent_encode};
 use std::fmt;

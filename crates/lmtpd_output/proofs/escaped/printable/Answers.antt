@@ -1,6 +1,6 @@
 use Rattle.std.proofs.Common.{◌∙◌}
-use Rattle.lmtpd_log.proofs.Printables.{all_printable, stays}
-use Rattle.lmtpd_log.proofs.escaped.printable.Goals as goal
+use Rattle.lmtpd_output.proofs.Printables.{all_printable, stays}
+use Rattle.lmtpd_output.proofs.escaped.printable.Goals as goal
 
 pub returns-clause-clean : goal.returns-clause-clean
 returns-clause-clean c = rw c.utf8_percent_encode.ensures.text (all_printable _)

@@ -9,7 +9,7 @@ use Rattle.percent_encoding.specs.Percent.{IsKept}
 use Rattle.percent_encoding.proofs.AsciiSetLemmas.{ascii_from_kept, kept_from_outside, outside_from_kept}
 use Rattle.percent_encoding.proofs.PercentLemmas.{All-percent_encode, IsEscapeByte, percent_encode_unchanged}
 use Rattle.percent_encoding.proofs.StandardFacts.{controls}
-use Rattle.lmtpd_log.specs.Printable.{IsPrintable, printable_text}
+use Rattle.lmtpd_output.specs.Printable.{IsPrintable, printable_text}
 
 -- the set has the bytes before the space, and DEL
 in_set : (b : ℕ) → b < 128 → contains CONTROLS b ≡ (nat_lt b 32 || (b == 127))

@@ -3,7 +3,7 @@ use Rattle.std.specs.Prelude.{◌≡◌, ℕ, ◌≤◌, List}
 use Rattle.std.specs.Fmt.{IsPlainFormatter, HasWritten}
 use Rattle.percent_encoding.specs.Percent.{percent_encode}
 use Rattle.percent_encoding.specs.declared.ascii_set.TheConstants.{CONTROLS}
-use Rattle.lmtpd_log.specs.declared.escaped.Escaping.{Escaping}
+use Rattle.lmtpd_output.specs.declared.escaped.Escaping.{Escaping}
 
 -- printable ASCII: the space, the tilde and what stands between them
 abbrev pub IsPrintable : ℕ → Type 0
