@@ -22,8 +22,8 @@ pub struct Opened<'a> {
     pub file: SocketFile<'a>,
 }
 
-/// Opens what listens at the address. The file of a Unix socket has these permission bits before anybody can connect, and
-/// never wider ones.
+/// Opens what listens at the address. The file of a Unix socket has these permission bits before anybody can connect,
+/// and never wider ones.
 pub fn open<'a, R>(
     rt: &R,
     alloc: Global,

@@ -1,4 +1,4 @@
--- An old mailbox whose last line is ended, and the empty line after it.
+-- An old mailbox whose torn tail is mended: its last line is ended, and the empty line after it.
 use Rattle.std.specs.Prelude.{◌≡◌, ℕ, List}
 use Rattle.std.specs.Option.{IfSome}
 use Rattle.mail_world.specs.Records.{mended}

@@ -5,8 +5,8 @@ ghost use Rattle.mbox_record.specs.Mending.{HasMended, HasNotMended};
 use crate::append::append_all;
 use crate::spool::{Spool, SpoolFault, Tail};
 
-/// Ends an old mailbox's last line, and the empty line after it, so that a record may follow (RFC 4155, Appendix A).
-/// To an empty spool it appends nothing.
+/// Mends an old mailbox whose tail is torn, as a crash within a record leaves it: ends its last line, and the empty
+/// line after it, so that a record may follow (RFC 4155, Appendix A). To an empty spool it appends nothing.
 pub fn mend<S: Spool>(spool: &mut S) -> Result<(), SpoolFault>
     ensures ok { OnOk result (HasMended (S.state spool.old) (S.state spool.new)) }
     ensures err { OnErr result (HasNotMended (S.state spool.old) (S.state spool.new)) }

@@ -27,7 +27,7 @@ pub enum InUse {
     System(i32),
 }
 
-/// How the bytes of a mailbox end.
+/// How the bytes of a mailbox end. `NoLf` and `OneLf` are torn tails, which `mend` mends.
 #[derive(Clone, Copy, Debug, PartialEq, Eq)]
 pub enum Tail {
     /// There are none.

@@ -14,8 +14,8 @@ use std::fs::Files;
 use std::net::{Net, TcpListener, TcpStream};
 use std::time::Clock;
 
-/// Opens what listens at the address; the file of a Unix socket gets that mode. Where nothing can be opened the log says
-/// why.
+/// Opens what listens at the address; the file of a Unix socket gets that mode. Where nothing can be opened the log
+/// says why.
 pub fn open_address<'a, R, G>(
     rt: &R,
     alloc: Global,
