@@ -33,7 +33,7 @@ def texts_of(edit, crate, others=()):
 
 
 def main(root):
-    edits = [(it, it.parent.parent) for it in sorted(root.glob("crates/*/must-fail/*.edit"))]
+    edits = [(it, it.parent.parent) for it in sorted(root.glob("crates/*/must-fail*/*.edit"))]
     edits += [(it, root / "crates" / it.parent.name) for it in sorted(root.glob("tests/wrong_bodies/*/*.edit"))]
     faults = 0
     for edit, crate in edits:

@@ -2,8 +2,10 @@
 body doesn't change is told apart from one by a goal of its own."""
 import pathlib
 import re
+import typing
 
 NOT_TRIED = "not tried"
+NO_SUCH_PATH = 2  # the status of a check that was to look at what isn't there
 KINDS = ["refused by a goal of its function", "refused elsewhere", "doesn't compile", "still proved", NOT_TRIED]
 BAD = KINDS[2:]
 # a text that can't be read says nothing of a contract
@@ -12,19 +14,49 @@ UNREAD = r"is not in scope|has no field|is no name|operand is missing|expected t
 NAMES = r"(\./)?proofs/.*(has no field|is not in scope|has no `|was not admitted)"
 
 
+class Place(typing.NamedTuple):
+    """The function that a wrong body changes."""
+
+    path: str  # of its file, in the crate's folder
+    owner: str  # the type whose method it is, with the trait's name after it where it is of a trait; or nothing
+    name: str  # or nothing, where no function is changed
+
+    def module(self):
+        return self.path.removeprefix("src/").removesuffix(".rt").removesuffix("lib").removesuffix("main")
+
+    def checked_as(self):
+        """Its path in the crate, as `rt check --only` takes it."""
+        return "::".join(filter(None, [*self.module().split("/"), self.owner, self.name]))
+
+    def is_refused(self, said):
+        """Whether the check found goals of this function that aren't proved."""
+        module = self.module().replace("/", "::")
+        refused = rf"fn \w+::{module}(::)?(\S+::)?{self.name}: (no proof|not proved)(?!: it calls)"
+        return bool(self.name) and any(re.match(refused, it) for it in said.splitlines())
+
+
 def function_at(source, line):
-    """The name of the function that has this line, counted from 1, or None."""
+    """The owner and the name of the function that has this line, counted from 1; nothing where none has it."""
     lines = source.read_text(encoding="utf-8").splitlines() if source.is_file() else []
     for start in range(min(line, len(lines)) - 1, -1, -1):
         head = re.match(r"( *)(?:pub(?:\([a-z]+\))? )?(?:const )?fn (\w+)", lines[start])
         if head:
             ends = (at for at in range(start, len(lines)) if lines[at] == head[1] + "}")
-            return head[2] if line - 1 <= next(ends, len(lines)) else None
-    return None
+            has_line = line - 1 <= next(ends, len(lines))
+            return (owner_at(lines, start) if head[1] else "", head[2]) if has_line else ("", "")
+    return "", ""
+
+
+def owner_at(lines, start):
+    """The type whose impl has this line, with the trait's name after it."""
+    head = next((it for it in reversed(lines[:start]) if it.startswith("impl")), "")
+    head = re.sub(r"^impl(<.*?>)? (?=[A-Z])", "", head)
+    names = re.match(r"(?:(\w+)(?:<.*>)? for )?(\w+)", head)
+    return (names[2] + (names[1] or "")) if names else ""
 
 
 def places_of(edit, crate):
-    """The functions that the wrong body changes: of each its file and its name, or None where it changes none."""
+    """The places that the wrong body changes."""
     path, found = None, set()
     for line in edit.read_text(encoding="utf-8").splitlines():
         word, _, rest = line.partition(": ")
@@ -32,27 +64,20 @@ def places_of(edit, crate):
             path = rest.strip()
         elif word == "old":
             before = (crate / path).read_text(encoding="utf-8").partition(rest)[0]
-            found.add((path, function_at(crate / path, before.count("\n") + 1)))
+            found.add(Place(path, *function_at(crate / path, before.count("\n") + 1)))
     return found
 
 
 def changed_by(edit, crate):
-    """The names of these functions."""
-    return {name for _, name in places_of(edit, crate)} - {None}
-
-
-def refused_in(path, name, said):
-    """Whether the check found goals of that function of that file that aren't proved."""
-    module = path.removeprefix("src/").removesuffix(".rt").replace("/", "::").removesuffix("lib").removesuffix("main")
-    refused = rf"fn \w+::{module}(::)?(\S+::)?{name}: (no proof|not proved)(?!: it calls)"
-    return any(re.match(refused, it) for it in said.splitlines())
+    """The names of the functions that it changes."""
+    return {it.name for it in places_of(edit, crate)} - {""}
 
 
 def refused_at(why, crate):
     """The function whose goal refused it, and where that isn't to be seen the place alone."""
     place = re.match(r"(?:note: )?(?:\./)?((src|proofs)/\S+?):(\d+):\d+:", why)
     if place and place[2] == "src":
-        return function_at(crate / place[1], int(place[3])) or place[1]
+        return function_at(crate / place[1], int(place[3]))[1] or place[1]
     if place:
         path = pathlib.PurePath(place[1])
         return path.parent.name if path.stem in ("Answers", "Invariants") else place[1]
@@ -76,7 +101,7 @@ def met(edit, crate, texts, status, said):
     compiler = next((it for it in lines if re.search(r"\S+:\d+:\d+: error\[", it) or is_unread(it, texts)), None)
     if compiler:
         return "doesn't compile", compiler
-    if not any(it.startswith("logic=not-proved") for it in lines):
+    if not any(it.startswith(("logic=not-proved", "only=")) for it in lines):
         return NOT_TRIED, " ".join(lines[-3:])
     found = [it for it in lines if re.match(r"(note: )?\S+:\d+:\d+:", it)]
     found = [it for it in found if ": error" in it or it.startswith("note: ")] or found

@@ -1,9 +1,10 @@
-"""Has the prover try wrong bodies: try.py ROOT JOBS [--own] [CRATE..], over what stands proved in ROOT: those of this
-folder, or with the word those that stand with the crates themselves, which `rt ci` tries one by one. Each crate has a
-room of its own, with its sources and what its checks kept, and the crates below it by hard links. There wrong bodies of
-different functions are put into their places at once, and checked; each that no goal of its own function refuses then
-is tried again alone, since a function isn't tried that calls a refused one. What is said of each, and the last line,
-are those of told.py."""
+"""Has the prover try wrong bodies: try.py ROOT JOBS [--own | --gate] [CRATE..], over what stands proved in ROOT: those of
+this folder, or with a word those that stand with the crates themselves: in must-fail, which `rt ci` tries one by one,
+or in must-fail-at-once, which the gate tries by this script. Each crate has a room of its own, with its sources and
+what its checks kept, and the crates below it by hard links. There wrong bodies of different functions are put into
+their places at once, and these functions checked; each that no goal of its own function refuses then is tried again
+alone, since a function isn't tried that calls a refused one. What is said of each, and the last line, are those of
+told.py."""
 import concurrent.futures
 import contextlib
 import dataclasses
@@ -15,9 +16,11 @@ import sys
 import tempfile
 
 import apply
+import stamps
 import told
 
 MOST = 8  # of wrong bodies that are tried at once
+FOLDERS = {"--own": "must-fail", "--gate": "must-fail-at-once"}  # of a crate, by the word that asks for them
 
 
 def crates_of(root):
@@ -42,41 +45,42 @@ class Room:
         self.crate.parent.mkdir(parents=True)
         shutil.copy(root / "HANDLES", self.top)
         (self.top / "crates.txt").write_text("".join(f"{it}\n" for it in [row, *(crates[one][0] for one in below)]))
-        shutil.copytree(root / "crates" / name, self.crate, ignore=shutil.ignore_patterns("must-fail"))
+        shutil.copytree(root / "crates" / name, self.crate, ignore=shutil.ignore_patterns("must-fail*"))
         for it in below:
-            left = shutil.ignore_patterns("incremental", "must-fail")
+            left = shutil.ignore_patterns("incremental", "must-fail*")
             shutil.copytree(root / "crates" / it, self.top / "crates" / it, copy_function=os.link, ignore=left)
+        stamps.write(self.top, below)
 
-    def check(self):
+    def check(self, *words):
         """How a check of the crate as it stands now ended, and what it said."""
-        words = ["rt", "check", "--jobs", "1"]
         how = {"cwd": self.crate, "stdin": subprocess.DEVNULL, "stderr": subprocess.STDOUT, "errors": "replace"}
-        ran = subprocess.run(words, stdout=subprocess.PIPE, check=False, **how)
+        ran = subprocess.run(["rt", "check", "--jobs", "1", *words], stdout=subprocess.PIPE, check=False, **how)
         return ran.returncode, ran.stdout
 
-    def said_with(self, texts):
-        """How a check ended, and what it said, with these texts in place of the crate's own."""
+    def said_with(self, texts, places):
+        """How a check of the functions at these places ended, and what it said, with these texts in place of the
+        crate's own; of the whole crate, where a place is in no function."""
         before = {path: (self.crate / path).read_text(encoding="utf-8") for path in texts}
         for path, text in texts.items():
             (self.crate / path).write_text(text, encoding="utf-8")
-        status, said = self.check()
+        only = [f"--only={it.checked_as()}" for it in sorted(places)] if all(it.name for it in places) else []
+        status, said = self.check(*only)
+        if only and status == told.NO_SUCH_PATH:
+            status, said = self.check()
         for path, text in before.items():
             (self.crate / path).write_text(text, encoding="utf-8")
         return status, said
 
     def try_one(self, edit):
         """What is to be said of the wrong body: how it was met, and what more."""
-        texts = apply.texts_of(edit, self.crate)
-        return told.met(edit, self.crate, texts, *self.said_with(texts))
+        texts, places = apply.texts_of(edit, self.crate), told.places_of(edit, self.crate)
+        return told.met(edit, self.crate, texts, *self.said_with(texts, places))
 
-    def refused_at_once(self, edits, texts):
-        """Those of the wrong bodies, which make these texts together, that a goal of each of their functions
-        refuses."""
-        status, said = self.said_with(texts)
-        if status == 0:
-            return []
-        places = {edit: told.places_of(edit, self.crate) for edit in edits}
-        return [it for it in edits if all(name and told.refused_in(path, name, said) for path, name in places[it])]
+    def refused_at_once(self, batch):
+        """Those of the batch that a goal of each of their functions refuses."""
+        places = {it: told.places_of(it, self.crate) for it in batch.edits}
+        status, said = self.said_with(batch.texts, batch.places)
+        return [it for it in batch.edits if status and all(place.is_refused(said) for place in places[it])]
 
     def batches(self, edits):
         """The wrong bodies in lists of different functions, each with the texts that they make together."""
@@ -112,7 +116,7 @@ def try_crate(root, name, edits, crates, folder):
         kinds.append(kind)
 
     for batch in room.batches(edits):
-        refused = room.refused_at_once(batch.edits, batch.texts) if len(batch.edits) > 1 else []
+        refused = room.refused_at_once(batch) if len(batch.edits) > 1 else []
         for edit in refused:
             tell(edit, told.KINDS[0], ", ".join(sorted(told.changed_by(edit, room.crate))))
         for edit in batch.edits:
@@ -128,8 +132,8 @@ def try_crate(root, name, edits, crates, folder):
 
 def main(root, jobs, words):
     crates = crates_of(root)
-    is_own, names = "--own" in words, [it for it in words if it != "--own"]
-    folders = {it: root / "crates" / it / "must-fail" if is_own else root / "tests/wrong_bodies" / it for it in crates}
+    kind, names = next((it for it in words if it in FOLDERS), None), [it for it in words if it not in FOLDERS]
+    folders = {it: root / "crates" / it / FOLDERS[kind] if kind else root / "tests/wrong_bodies" / it for it in crates}
     edits = {it: sorted(folders[it].glob("*.edit")) for it in names or crates}
     # those with the most to prove first
     order = sorted((it for it in edits if edits[it]), key=lambda it: -len(edits[it]))
