@@ -2,7 +2,7 @@
 # The gate. First the program's version gets the name of the toolchain that proves it (`make toolchain`), which is said
 # where it had another. Then `rt ci`: proves every crate, tries the must-fail edits and runs the program; and beside it,
 # on the cores that it leaves idle, the scripts of tests/ that need the sources alone. Then, over what was built, the
-# other scripts, side by side. A script that lacks something of the machine says so and ends with status 77: that is
+# other scripts, side by side, and on what they leave idle the wrong bodies that are tried at once. A script that lacks something of the machine says so and ends with status 77: that is
 # counted apart, as absent. The last line counts all: 'N passed, M failed'. The benchmarks' programs are only compiled
 # (tests/benchmarks.sh), and proved by `make benchmarks`.
 # usage: tests/gate.sh [--scripts]: with the word only the scripts, on what stands built
@@ -36,9 +36,12 @@ play_on_sources() {
     for script in tests/{calls,units,memory,benchmarks,wrong_bodies}.sh; do play "$script" 3600; done
 }
 
-# play_others: plays each script of tests/ that wasn't, as many at a time as there are cores but one.
+# play_others: plays each script of tests/ that wasn't, as many at a time as there are cores but one; beside them the
+# wrong bodies that are tried at once, at a lower priority.
 play_others() {
     local script room=$(($(nproc) > 2 ? $(nproc) - 1 : 1))
+    touch "$said/refused_at_once.sh.status"
+    (renice -n 15 "$BASHPID" > "$said/renice" && play tests/refused_at_once.sh 3600) &
     for script in tests/*.sh; do
         [ "$script" != tests/gate.sh ] && [ ! -e "$said/$(basename "$script").status" ] || continue
         while [ "$(jobs -rp | wc -l)" -ge "$room" ]; do wait -n; done
