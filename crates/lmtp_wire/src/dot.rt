@@ -3,7 +3,7 @@
 ghost use Rattle.std.specs.Prelude.{◌≡◌, ℕ, ◌+◌, ◌<◌, ◌≤◌, Bool, true, List, [], ◌∷◌, ◌++◌, length, take, drop};
 ghost use Rattle.mail_world.specs.Text.{cr};
 ghost use Rattle.lmtp_wire.specs.DataPlace.{in_doubt, is_start, place_next, place_after, is_content, effect_of};
-ghost use Rattle.lmtp_wire.specs.Dot.{HasMade, HasFed, Feeds, owed_bytes};
+ghost use Rattle.lmtp_wire.specs.Dot.{HasMade, Feeds, PutsAfter, MayTake, TakesOn, owed_bytes};
 
 use memchr::memchr;
 
@@ -95,12 +95,9 @@ impl Dot {
     // Puts the byte that had no room, if there is one, and counts it.
     fn pay(&mut self, out: &mut [u8]) -> usize
         requires { 0 < length out.old }
-        ensures made { result ≤ length out.new }
-        ensures rest { drop result out.new ≡ drop result out.old }
         ensures few { result ≤ 1 }
         ensures paid { self.new.owed ≡ None }
-        ensures same { self.new.place ≡ self.old.place }
-        ensures bytes { take result out.new ≡ owed_bytes self.old.owed }
+        ensures puts { PutsAfter self.old self.new out.old out.new 0 result (owed_bytes self.old.owed) }
     {
         match self.owed {
             None => 0,
@@ -114,18 +111,8 @@ impl Dot {
 
     // Takes a run of content, or one byte.
     fn turn(&mut self, piece: &[u8], out: &mut [u8], fed: Fed) -> Fed
-        requires piece { fed.used < length piece.now }
-        requires out { fed.made < length out.old }
-        requires paid { self.old.owed ≡ None }
-        ensures used { result.used ≤ length piece.now }
-        ensures more { fed.used < result.used }
-        ensures made { result.made ≤ length out.new }
-        ensures kept { fed.made ≤ result.made }
-        ensures rest { drop result.made out.new ≡ drop result.made out.old }
-        ensures owes { result.made < length out.new → self.new.owed ≡ None }
-        ensures comes { (taken made : List ℕ)
-            → HasMade self.old (taken ++ take fed.used piece.now) (made ++ take fed.made out.old)
-            → HasFed self.new (taken ++ take result.used piece.now) (made ++ take result.made out.new) result.ended }
+        requires { MayTake self.old piece.now out.old fed }
+        ensures { TakesOn self.old self.new piece.now out.old out.new fed result }
     {
         match self.place {
             DataPlace::InText | DataPlace::AfterCr | DataPlace::LineStart => self.take_run(
@@ -138,19 +125,9 @@ impl Dot {
     // Takes all up to the next dot that a line starts with, as far as there is room, or that dot. No more is searched
     // than there is room for, so that nothing is searched twice.
     fn take_run(&mut self, piece: &[u8], out: &mut [u8], fed: Fed) -> Fed
-        requires piece { fed.used < length piece.now }
-        requires out { fed.made < length out.old }
-        requires paid { self.old.owed ≡ None }
+        requires may { MayTake self.old piece.now out.old fed }
         requires place { in_doubt self.old.place ≡ [] }
-        ensures used { result.used ≤ length piece.now }
-        ensures more { fed.used < result.used }
-        ensures made { result.made ≤ length out.new }
-        ensures kept { fed.made ≤ result.made }
-        ensures rest { drop result.made out.new ≡ drop result.made out.old }
-        ensures owes { result.made < length out.new → self.new.owed ≡ None }
-        ensures comes { (taken made : List ℕ)
-            → HasMade self.old (taken ++ take fed.used piece.now) (made ++ take fed.made out.old)
-            → HasFed self.new (taken ++ take result.used piece.now) (made ++ take result.made out.new) result.ended }
+        ensures { TakesOn self.old self.new piece.now out.old out.new fed result }
     {
         let room = (piece.len() - fed.used).min(out.len() - fed.made);
         let ahead = &piece[fed.used..fed.used + room];
@@ -169,18 +146,8 @@ impl Dot {
     }
 
     fn take_byte(&mut self, piece: &[u8], out: &mut [u8], fed: Fed) -> Fed
-        requires piece { fed.used < length piece.now }
-        requires out { fed.made < length out.old }
-        requires paid { self.old.owed ≡ None }
-        ensures used { result.used ≤ length piece.now }
-        ensures more { fed.used < result.used }
-        ensures made { result.made ≤ length out.new }
-        ensures kept { fed.made ≤ result.made }
-        ensures rest { drop result.made out.new ≡ drop result.made out.old }
-        ensures owes { result.made < length out.new → self.new.owed ≡ None }
-        ensures comes { (taken made : List ℕ)
-            → HasMade self.old (taken ++ take fed.used piece.now) (made ++ take fed.made out.old)
-            → HasFed self.new (taken ++ take result.used piece.now) (made ++ take result.made out.new) result.ended }
+        requires { MayTake self.old piece.now out.old fed }
+        ensures { TakesOn self.old self.new piece.now out.old out.new fed result }
     {
         let byte = piece[fed.used];
         let used = fed.used + 1;
@@ -223,12 +190,7 @@ impl Dot {
     fn release(&mut self, byte: u8, out: &mut [u8], made: usize) -> usize
         requires out { made < length out.old }
         requires paid { self.old.owed ≡ None }
-        ensures made { result ≤ length out.new }
-        ensures kept { made ≤ result }
-        ensures rest { drop result out.new ≡ drop result out.old }
-        ensures owes { result < length out.new → self.new.owed ≡ None }
-        ensures same { self.new.place ≡ self.old.place }
-        ensures bytes { take result out.new ++ owed_bytes self.new.owed ≡ take made out.old ++ cr ∷ byte ∷ [] }
+        ensures { PutsAfter self.old self.new out.old out.new made result (cr ∷ byte ∷ []) }
     {
         out[made] = CR;
         if made + 1 < out.len() {

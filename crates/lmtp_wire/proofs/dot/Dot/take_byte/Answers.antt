@@ -1,30 +1,61 @@
-use Rattle.std.proofs.Common.{[], ◌++◌, ◌+◌, take, ap}
+use Rattle.std.proofs.Common.{[], ◌++◌, ◌+◌, take, ap, refl, arith, rules}
+use Rattle.std.proofs.lemmas.List.{drop-set-lt}
 use Rattle.lmtp_wire.specs.Dot.{owed_bytes}
 use Rattle.lmtp_wire.specs.declared.dot.Effect.TheVariants.{Nothing, Byte, HeldCr, End}
 use Rattle.lmtp_wire.proofs.PlaceSteps.{brings_as}
 use Rattle.lmtp_wire.proofs.Takes.{takes_byte, takes_last, puts_byte}
 use Rattle.lmtp_wire.proofs.dot.Dot.take_byte.Goals as goal
 
-pub returns-in-Nothing-clause-comes : goal.returns-in-Nothing-clause-comes
-returns-in-Nothing-clause-comes c =
-    takes_byte c.args.self.now _ c.args.piece.now c.args.out.now c.args.out.now c.args.fed.used c.args.fed.made c.args.fed.made [] c.requires.paid
-        c.requires.piece (brings_as c.args.self.now.place _ (Nothing c.in-Nothing.place) c.in-Nothing.ensures)
-    (ap (λ o. take c.args.fed.made c.args.out.now ++ owed_bytes o) c.requires.paid)
+pub returns-in-Nothing : goal.returns-in-Nothing
+returns-in-Nothing c = record {
+  used = omega arith;
+  more = omega arith;
+  made = omega arith;
+  kept = omega arith;
+  rest = refl;
+  owes = λ _. c.requires.paid;
+  comes = takes_byte c.args.self.now _ c.args.piece.now c.args.out.now c.args.out.now c.args.fed.used c.args.fed.made c.args.fed.made []
+      c.requires.paid c.requires.left (brings_as c.args.self.now.place _ (Nothing c.in-Nothing.place) c.in-Nothing.ensures)
+      (ap (λ o. take c.args.fed.made c.args.out.now ++ owed_bytes o) c.requires.paid);
+}
 
-pub returns-in-Byte-clause-comes : goal.returns-in-Byte-clause-comes
-returns-in-Byte-clause-comes c =
-    takes_byte c.args.self.now _ c.args.piece.now c.args.out.now _ c.args.fed.used c.args.fed.made (c.args.fed.made + 1) _ c.requires.paid c.requires.piece
-        (brings_as c.args.self.now.place _ (Byte c.in-Byte.place) c.in-Byte.ensures)
-    (puts_byte c.args.out.now c.args.fed.made _ c.args.self.now.owed c.requires.paid c.requires.out)
+pub returns-in-Byte : goal.returns-in-Byte
+returns-in-Byte c = record {
+  used = omega arith;
+  more = omega arith;
+  made = search rules;
+  kept = omega arith;
+  rest = drop-set-lt _ c.args.out.now c.args.fed.made _ (omega arith);
+  owes = λ _. c.requires.paid;
+  comes = takes_byte c.args.self.now _ c.args.piece.now c.args.out.now _ c.args.fed.used c.args.fed.made (c.args.fed.made + 1) _
+      c.requires.paid c.requires.left (brings_as c.args.self.now.place _ (Byte c.in-Byte.place) c.in-Byte.ensures)
+      (puts_byte c.args.out.now c.args.fed.made _ c.args.self.now.owed c.requires.paid c.requires.room);
+}
 
-pub returns-in-HeldCr-clause-comes : goal.returns-in-HeldCr-clause-comes
-returns-in-HeldCr-clause-comes c =
-    takes_byte c.args.self.now c.release-made.new.self c.args.piece.now c.args.out.now c.release-made.new.out c.args.fed.used c.args.fed.made
-        c.release-made.result _ c.requires.paid c.requires.piece
-    (λ taken s. rw c.release-made.ensures.same (brings_as c.args.self.now.place _ (HeldCr c.in-HeldCr.place) c.in-HeldCr.ensures taken s))
-    c.release-made.ensures.bytes
+pub returns-in-HeldCr : goal.returns-in-HeldCr
+returns-in-HeldCr c =
+    let put = c.release-made in
+    record {
+      used = omega arith;
+      more = omega arith;
+      made = put.ensures.within;
+      kept = put.ensures.kept;
+      rest = put.ensures.rest;
+      owes = put.ensures.owes;
+      comes = takes_byte c.args.self.now put.new.self c.args.piece.now c.args.out.now put.new.out c.args.fed.used c.args.fed.made put.result _
+          c.requires.paid c.requires.left
+          (λ taken s. rw put.ensures.same (brings_as c.args.self.now.place _ (HeldCr c.in-HeldCr.place) c.in-HeldCr.ensures taken s))
+          put.ensures.put;
+    }
 
-pub returns-in-End-clause-comes : goal.returns-in-End-clause-comes
-returns-in-End-clause-comes c =
-    takes_last c.args.self.now c.args.piece.now c.args.out.now c.args.fed.used c.args.fed.made c.requires.paid c.requires.piece
-        (brings_as c.args.self.now.place _ End c.in-End.ensures)
+pub returns-in-End : goal.returns-in-End
+returns-in-End c = record {
+  used = omega arith;
+  more = omega arith;
+  made = omega arith;
+  kept = omega arith;
+  rest = refl;
+  owes = λ _. c.requires.paid;
+  comes = takes_last c.args.self.now c.args.piece.now c.args.out.now c.args.fed.used c.args.fed.made c.requires.paid c.requires.left
+      (brings_as c.args.self.now.place _ End c.in-End.ensures);
+}
