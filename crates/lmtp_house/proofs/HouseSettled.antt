@@ -18,7 +18,7 @@ use Rattle.mbox_record.specs.Spool.{SpoolState}
 use Rattle.box_worker.specs.Told.{owed_to}
 use Rattle.lmtp_lane.specs.Visits.{conversations_of}
 use Rattle.lmtp_threads.specs.Works.{VisitsView}
-use Rattle.lmtp_house.specs.Handed.{HandedIn, HandedBack}
+use Rattle.lmtp_house.specs.Handed.{HandedIn, HandedBack, handed_in}
 use Rattle.lmtp_house.specs.House.{HasRun}
 use Rattle.thread_crew.specs.Channels.{channels_of, AreNewChannels, IsClosedWith, AreClosed, HaveTimes, CanSettle, IsSettled}
 use Rattle.lmtp_threads.specs.Tasks.{LanesGiven, LanesBack, WorkersGiven, WorkersBack, HaveServed, HaveWorked}
@@ -164,18 +164,18 @@ module _ {V S : Type 0} {capacity room : ℕ} (site : Site) (May : ℕ → Type 
       (named_once site k (length old_boxes.spools) cs (lanes.works k).heard boxes.works l.only l.each (λ b box. (box_known b box).each k below))
       (lanes.served k c.value x.value y.value x.is y.is c.is).answered
 
-  abbrev handed_in : HandedIn V S
-  handed_in = record { visits = old_lanes.visits; spools = old_boxes.spools; capacity = capacity; quota = old_boxes.quota }
+  abbrev handed : HandedIn V S
+  handed = handed_in old_lanes.visits old_boxes.spools capacity old_boxes.quota
 
-  abbrev handed_back : HandedBack V S
-  handed_back = record {
+  abbrev back : HandedBack V S
+  back = record {
     visits = new_lanes.visits;
     spools = new_boxes.spools;
     conversations = new_lanes.conversations;
     tallies = new_boxes.tallies;
   }
 
-  exchanged : HaveExchanged site state lanes.works boxes.works handed_in handed_back
+  exchanged : HaveExchanged site state lanes.works boxes.works handed back
   exchanged = record {
     as_many = (boxes.as_many.0, boxes.as_many.1);
     stored = boxes.stored;
@@ -193,7 +193,7 @@ module _ {V S : Type 0} {capacity room : ℕ} (site : Site) (May : ℕ → Type 
       have_deeds site May view state old_lanes new_lanes old_boxes new_boxes mail_closed slips_closed mail_new slips_new lanes boxes
       mail_shut slips_shut mail_times slips_times mail_settled slips_settled
 
-  pub has_run : HasRun site May view state handed_in handed_back
+  pub has_run : HasRun site May view state handed back
   has_run = record {
     lanes = lanes.works;
     boxes = boxes.works;
@@ -214,5 +214,5 @@ module _ {V S : Type 0} {capacity room : ℕ} (site : Site) (May : ℕ → Type 
     owed_only = exchanged.owed_only;
     told = exchanged.told;
     told_only = exchanged.told_only;
-    is_run = λ modelled. all_lanes_run site state lanes.works boxes.works handed_in handed_back exchanged modelled each_box some_boxes deeds_told;
+    is_run = λ modelled. all_lanes_run site state lanes.works boxes.works handed back exchanged modelled each_box some_boxes deeds_told;
   }

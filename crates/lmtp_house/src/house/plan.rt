@@ -5,7 +5,7 @@ ghost use Rattle.std.specs.Arc.{arc_value};
 ghost use Rattle.mail_world.specs.declared.limits.TheConstants.{LANE_LIMIT};
 ghost use Rattle.lmtp_threads.specs.Works.{view_of};
 ghost use Rattle.lmtp_house.specs.Handed.{handed_back, handed_in};
-ghost use Rattle.lmtp_house.specs.HousePlan.{IsPlanned, MayRun, HasRunAll, plan_state};
+ghost use Rattle.lmtp_house.specs.HousePlan.{IsPlanned, MayRun, HasRunAll};
 
 use crate::house::channels::{Channels, Closings};
 use crate::house::fault::HouseFault;
@@ -18,6 +18,7 @@ use lmtp_threads::{Lanes, Shared, Workers};
 use mbox_record::Spool;
 use msg_depot::{Depot, DepotName};
 use std::alloc::AllocError;
+use std::marker::Model;
 use std::sync::{Arc, Wait};
 use std::thread::Threads;
 use thread_crew::settle_all;
@@ -36,6 +37,22 @@ where
     lanes: Lanes<N, V, C>,
     workers: Workers<N, S, G>,
     closings: Closings<N>,
+}
+
+impl<N, V, S, G, C> Model for Plan<N, V, S, G, C>
+where
+    N: DepotName + Send + Sync + 'static,
+    V: Visits + Send + 'static,
+    V::P: Send + 'static,
+    S: Spool + Drop + Send + 'static,
+    G: Gate + Drop + Send + 'static,
+    C: Clock + Send + Sync + 'static,
+{
+    ghost use Rattle.lmtp_house.specs.HousePlan.{PlanState, plan_state};
+
+    ghost Value = { PlanState V S C };
+
+    ghost view = { λ plan. plan_state plan.lanes plan.workers plan.closings.mail plan.closings.slips };
 }
 
 impl<N, V, S, G, C> Plan<N, V, S, G, C>
@@ -58,8 +75,7 @@ where
             × (length handed.spools.items ≡ length (arc_value shared.now.site).boxes) }
         requires gates { length handed.gates.items ≡ length handed.spools.items }
         ensures { IfOk result (λ plan. IsPlanned (arc_value shared.now.site) (arc_value shared.now.clock)
-            (handed_in handed.visits.items handed.spools.items handed.capacity handed.quota)
-            (plan_state plan.lanes plan.workers plan.closings.mail plan.closings.slips)) }
+            (handed_in handed.visits.items handed.spools.items handed.capacity handed.quota) plan) }
     {
         let lanes = handed.visits.len() as u32;
         let boxes = shared.site.box_count();
@@ -93,10 +109,9 @@ where
         rt: R,
         depot: &Depot<N>,
     ) -> Result<HouseReport<V, S, G>, HouseFault>
-        requires { MayRun V.out (plan_state self.lanes self.workers self.closings.mail self.closings.slips) }
-        ensures ran { IfOk result (λ report. HasRunAll C.May
-            (view_of V.MayGive V.finished V.over) S.state
-            (plan_state self.lanes self.workers self.closings.mail self.closings.slips) (handed_back report)) }
+        requires { MayRun V.out self }
+        ensures ran { IfOk result (λ report. HasRunAll C.May (view_of V.MayGive V.finished V.over) S.state self
+            (handed_back report)) }
         ensures not_size { result ≢ Err HouseFault.Size }
     {
         let Plan {
