@@ -2,9 +2,10 @@
 # The gate. First the program's version gets the name of the toolchain that proves it (`make toolchain`), which is said
 # where it had another. Then `rt ci`: proves every crate, tries the must-fail edits and runs the program; and beside it,
 # on the cores that it leaves idle, the scripts of tests/ that need the sources alone. Then, over what was built, the
-# other scripts, side by side, and on what they leave idle the wrong bodies that are tried at once. A script that lacks something of the machine says so and ends with status 77: that is
-# counted apart, as absent. The last line counts all: 'N passed, M failed'. The benchmarks' programs are only compiled
-# (tests/benchmarks.sh), and proved by `make benchmarks`.
+# other scripts, side by side, and on what they leave idle the wrong bodies that are tried at once. A script that lacks
+# something of the machine says so and ends with status 77: that is counted apart, as absent. The last line counts all:
+# 'N passed, M failed'. The benchmarks' programs are only compiled (tests/benchmarks.sh), and proved by `make
+# benchmarks`.
 # usage: tests/gate.sh [--scripts]: with the word only the scripts, on what stands built
 set -uo pipefail
 cd "$(dirname "$0")/.."

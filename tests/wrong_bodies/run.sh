@@ -2,8 +2,8 @@
 # Has the prover try the further wrong bodies of this folder, each in a copy of its crate, over what stands proved (make
 # check), as many crates side by side as there are cores (JOBS: how many). Of each it says whether a goal of its
 # function refused it, it doesn't compile, or it is still proved; the last line counts them, and it fails where one
-# wasn't refused. With --gate it tries those of the crates' folders must-fail-at-once, as the gate does; with --own those
-# of their folders must-fail, which `rt ci` tries one by one.
+# wasn't refused. With --gate it tries those of the crates' folders must-fail-at-once, as the gate does; with --own
+# those of their folders must-fail, which `rt ci` tries one by one.
 # usage: tests/wrong_bodies/run.sh [--gate | --own] [CRATE..]
 set -euo pipefail
 cd "$(dirname "$0")/../.."

@@ -1,5 +1,5 @@
-"""What `rt ci` proved serves `rt check`: each library that it made lacks the stamp by which `rt check` sees that it is made
-of the sources that are there. These are written here, in a room of the wrong bodies' own."""
+"""What `rt ci` proved serves `rt check`: each library that it made lacks the stamp by which `rt check` sees that it is
+made of the sources that are there. These are written here, in a room of the wrong bodies' own."""
 import os
 import pathlib
 import shutil

@@ -22,22 +22,27 @@ class Place(typing.NamedTuple):
     name: str  # or nothing, where no function is changed
 
     def module(self):
-        return self.path.removeprefix("src/").removesuffix(".rt").removesuffix("lib").removesuffix("main")
+        """Its file's module; nothing for the crate's root."""
+        inside = self.path.removeprefix("src/").removesuffix(".rt").removesuffix("lib").removesuffix("main")
+        return inside.replace("/", "::")
 
     def checked_as(self):
-        """Its path in the crate, as `rt check --only` takes it."""
-        return "::".join(filter(None, [*self.module().split("/"), self.owner, self.name]))
+        """Its name for `rt check --only`: a method's has its type's module, and the end of a name is enough. Nothing
+        where no function is changed."""
+        return self.name and "::".join(filter(None, [self.owner or self.module(), self.name]))
 
     def is_refused(self, said):
         """Whether the check found goals of this function that aren't proved."""
-        module = self.module().replace("/", "::")
-        refused = rf"fn \w+::{module}(::)?(\S+::)?{self.name}: (no proof|not proved)(?!: it calls)"
+        # the name of a trait or a type with parameters goes on
+        within = rf"(\S+::)?{self.owner}\S*" if self.owner else self.module()
+        refused = rf"fn \w+::{within}(::)?{self.name}: (no proof|not proved)(?!: it calls)"
         return bool(self.name) and any(re.match(refused, it) for it in said.splitlines())
 
 
-def function_at(source, line):
-    """The owner and the name of the function that has this line, counted from 1; nothing where none has it."""
-    lines = source.read_text(encoding="utf-8").splitlines() if source.is_file() else []
+def function_at(text, line):
+    """The owner and the name of the function that has this line of the text, counted from 1; nothing where none has
+    it."""
+    lines = text.splitlines()
     for start in range(min(line, len(lines)) - 1, -1, -1):
         head = re.match(r"( *)(?:pub(?:\([a-z]+\))? )?(?:const )?fn (\w+)", lines[start])
         if head:
@@ -56,15 +61,20 @@ def owner_at(lines, start):
 
 
 def places_of(edit, crate):
-    """The places that the wrong body changes."""
-    path, found = None, set()
+    """The places that the wrong body changes, one change after the other."""
+    path, old, texts, found = None, None, {}, set()
     for line in edit.read_text(encoding="utf-8").splitlines():
-        word, _, rest = line.partition(": ")
+        word, _, rest = line.partition(":")
+        rest = rest.removeprefix(" ")
         if word == "file":
             path = rest.strip()
+            texts.setdefault(path, (crate / path).read_text(encoding="utf-8"))
         elif word == "old":
-            before = (crate / path).read_text(encoding="utf-8").partition(rest)[0]
-            found.add(Place(path, *function_at(crate / path, before.count("\n") + 1)))
+            old = rest
+        elif word == "new" and path:
+            before, _, after = texts[path].partition(old)
+            found.add(Place(path, *function_at(texts[path], before.count("\n") + 1)))
+            texts[path] = before + rest + after
     return found
 
 
@@ -77,7 +87,9 @@ def refused_at(why, crate):
     """The function whose goal refused it, and where that isn't to be seen the place alone."""
     place = re.match(r"(?:note: )?(?:\./)?((src|proofs)/\S+?):(\d+):\d+:", why)
     if place and place[2] == "src":
-        return function_at(crate / place[1], int(place[3]))[1] or place[1]
+        source = crate / place[1]
+        text = source.read_text(encoding="utf-8") if source.is_file() else ""
+        return function_at(text, int(place[3]))[1] or place[1]
     if place:
         path = pathlib.PurePath(place[1])
         return path.parent.name if path.stem in ("Answers", "Invariants") else place[1]

@@ -1,7 +1,7 @@
-"""Has the prover try wrong bodies: try.py ROOT JOBS [--own | --gate] [CRATE..], over what stands proved in ROOT: those of
-this folder, or with a word those that stand with the crates themselves: in must-fail, which `rt ci` tries one by one,
-or in must-fail-at-once, which the gate tries by this script. Each crate has a room of its own, with its sources and
-what its checks kept, and the crates below it by hard links. There wrong bodies of different functions are put into
+"""Has the prover try wrong bodies: try.py ROOT JOBS [--own | --gate] [CRATE..], over what stands proved in ROOT: those
+of this folder, or with a word those that stand with the crates themselves: in must-fail, which `rt ci` tries one by
+one, or in must-fail-at-once, which the gate tries by this script. Each crate has a room of its own, with its sources
+and what its checks kept, and the crates below it by hard links. There wrong bodies of different functions are put into
 their places at once, and these functions checked; each that no goal of its own function refuses then is tried again
 alone, since a function isn't tried that calls a refused one. What is said of each, and the last line, are those of
 told.py."""
@@ -19,7 +19,7 @@ import apply
 import stamps
 import told
 
-MOST = 8  # of wrong bodies that are tried at once
+MOST = 20  # of wrong bodies that are tried at once
 FOLDERS = {"--own": "must-fail", "--gate": "must-fail-at-once"}  # of a crate, by the word that asks for them
 
 
@@ -63,10 +63,14 @@ class Room:
         before = {path: (self.crate / path).read_text(encoding="utf-8") for path in texts}
         for path, text in texts.items():
             (self.crate / path).write_text(text, encoding="utf-8")
-        only = [f"--only={it.checked_as()}" for it in sorted(places)] if all(it.name for it in places) else []
-        status, said = self.check(*only)
-        if only and status == told.NO_SUCH_PATH:
-            status, said = self.check()
+        # where a function's name fits none or several, all functions of its module
+        for name_of in (told.Place.checked_as, told.Place.module, None):
+            names = set(map(name_of, places)) if name_of else ()
+            if not all(names):
+                continue
+            status, said = self.check(*(f"--only={it}" for it in sorted(names)))
+            if status != told.NO_SUCH_PATH:
+                break
         for path, text in before.items():
             (self.crate / path).write_text(text, encoding="utf-8")
         return status, said
@@ -108,8 +112,8 @@ class Batch:
 
 
 def try_crate(root, name, edits, crates, folder, is_proved):
-    """Tries these wrong bodies of the crate, and gives how each was met. Where it isn't known to be proved as it stands,
-    that is checked too."""
+    """Tries these wrong bodies of the crate, and gives how each was met. Where it isn't known to be proved as it
+    stands, that is checked too."""
     room, kinds = Room(root, name, crates, folder), []
 
     def tell(edit, kind, more):

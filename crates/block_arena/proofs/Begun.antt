@@ -36,8 +36,8 @@ pub none_free : (depot : d.Depot) (a : ArenaFields) (items : List Slot) (result 
     → AllByRecursion (λ (slot : d.Slot). IsUsed slot.held) depot.slots
 none_free depot a items result view same is none =
     let at : free_from 0 a.slots ≡ None =
-        sym (position_from-zero (λ (slot : Slot). is_free slot.content) a.slots)
-        ∙ ap (λ (xs : List Slot). position (λ (slot : Slot). is_free slot.content) xs) (sym same) ∙ sym is ∙ none in
+    sym (position_from-zero (λ (slot : Slot). is_free slot.content) a.slots)
+    ∙ ap (λ (xs : List Slot). position (λ (slot : Slot). is_free slot.content) xs) (sym same) ∙ sym is ∙ none in
     subst (λ (e : d.Depot). AllByRecursion (λ (slot : d.Slot). IsUsed slot.held) e.slots) view (none_from a.store a.next a.slots 0 at)
 
 record Found (slots : List Slot) (i k : ℕ) : Type 0 where
@@ -69,8 +69,8 @@ pub free_there : (slots items : List Slot) (result : Option ℕ) (k : ℕ) (at d
     → slice_get slots k ≡ Some (slot_at at.generation Free)
 free_there slots items result k at d' same is some here =
     let place : free_from 0 slots ≡ Some k =
-        sym (position_from-zero (λ (slot : Slot). is_free slot.content) slots)
-        ∙ ap (λ (xs : List Slot). position (λ (slot : Slot). is_free slot.content) xs) (sym same) ∙ sym is ∙ some in
+    sym (position_from-zero (λ (slot : Slot). is_free slot.content) slots)
+    ∙ ap (λ (xs : List Slot). position (λ (slot : Slot). is_free slot.content) xs) (sym same) ∙ sym is ∙ some in
     let f : Found slots 0 k = some_from slots 0 k place in
     let e : f.j ≡ k = omega (arith, f.is) in
     let get : slice_get slots k ≡ Some f.slot = ap (slice_get slots) (sym e) ∙ f.get in
@@ -90,7 +90,7 @@ pub begins : (depot : d.Depot) (a : ArenaFields) (k g : ℕ) → depot_of a ≡ 
     (depot_of (record a { slots = slice_set a.slots k (slot_at g (Draft (record { first = 0; last = 0; blocks = 0; length = 0 }))) }))
 begins depot a k g view was =
     subst (λ (e : d.Depot). d.Begins e (depot_key (record { slot = k; generation = g }))
-        (depot_of (record a { slots = slice_set a.slots k (slot_at g (Draft (record { first = 0; last = 0; blocks = 0; length = 0 }))) }))) view (
+    (depot_of (record a { slots = slice_set a.slots k (slot_at g (Draft (record { first = 0; last = 0; blocks = 0; length = 0 }))) }))) view (
       get_map (slot_of a.store a.next) a.slots k (slot_at g Free) was,
       ap (λ (ss : List d.Slot). record { slots = ss; free = chain a.free_count a.next a.free })
           (map_set (slot_of a.store a.next) a.slots k (slot_at g (Draft empty))),

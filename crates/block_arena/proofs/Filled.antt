@@ -1,6 +1,37 @@
 -- A piece goes into a draft's last block: no block moves.
-use Rattle.std.proofs.Common.{◌≡◌, ℕ, zero, suc, ◌+◌, ◌-◌, ◌*◌, ◌%◌, ◌<◌, ◌≤◌, List, [], ◌∷◌, ◌++◌, Some, get_or, take, drop, length, set, refl, ap, sym, ◌∙◌,
-    subst, arith, length-set, length-append, length-take, length-drop, append-nil}
+use Rattle.std.proofs.Common.{
+  ◌≡◌,
+  ℕ,
+  zero,
+  suc,
+  ◌+◌,
+  ◌-◌,
+  ◌*◌,
+  ◌%◌,
+  ◌<◌,
+  ◌≤◌,
+  List,
+  [],
+  ◌∷◌,
+  ◌++◌,
+  Some,
+  get_or,
+  take,
+  drop,
+  length,
+  set,
+  refl,
+  ap,
+  sym,
+  ◌∙◌,
+  subst,
+  arith,
+  length-set,
+  length-append,
+  length-take,
+  length-drop,
+  append-nil,
+}
 use Rattle.std.specs.Prelude.{slice_get, slice_set}
 use Rattle.std.specs.List.{AllByRecursion}
 use Rattle.std.proofs.lemmas.List.Elements.{All-set}
@@ -42,7 +73,7 @@ pub draft_last : (key : Key) (depot : d.Depot) (a : ArenaFields) (run : Run)
 draft_last key depot a run s some =
     let was : slice_get a.slots key.slot ≡ Some (slot_at key.generation (Draft run)) = stands key depot a (Draft run) s (λ e. cc) in
     let is : IsRun a.next run = each_at (λ (slot : Slot). IsContent a.next slot.content) a.slots key.slot (slot_at key.generation (Draft run)) s.arena.runs
-        was in
+    was in
     let there : 0 < run.blocks = some_block run.length run.blocks is.enough some in
     (there, last_in key depot a (Draft run) run s (draft_owns a.store a.next run) there)
 
@@ -53,14 +84,14 @@ pub fill_turn : (key : Key) (depot : d.Depot) (a : ArenaFields) (run : Run) (n :
 fill_turn key depot a run n row s some fits size =
     let was : slice_get a.slots key.slot ≡ Some (slot_at key.generation (Draft run)) = stands key depot a (Draft run) s (λ e. cc) in
     let is : IsRun a.next run = each_at (λ (slot : Slot). IsContent a.next slot.content) a.slots key.slot (slot_at key.generation (Draft run)) s.arena.runs
-        was in
+    was in
     let l : (0 < run.blocks) × IsLast a.next a.free a.free_count (run.blocks - 1) run.first run.last = draft_last key depot a run s some in
     let has : 0 < run.blocks = l.0 in
     let one : suc (run.blocks - 1) ≡ run.blocks = omega (arith, has) in
     let there : occurrences run.last (chain run.blocks a.next run.first) ≡ 1 =
-        ap (λ k. occurrences run.last (chain k a.next run.first)) (sym one) ∙ l.1.there in
+    ap (λ k. occurrences run.last (chain k a.next run.first)) (sym one) ∙ l.1.there in
     let else' : AllByRecursion (Without a.store a.next run.last) (slice_set a.slots key.slot (slot_at 0 Free)) =
-        none_else a key.slot (slot_at key.generation (Draft run)) run.last s.arena was (omega (arith, there)) in
+    none_else a key.slot (slot_at key.generation (Draft run)) run.last s.arena was (omega (arith, there)) in
     record {
       arena = s.arena;
       was = was;
@@ -96,25 +127,25 @@ pub filled_bytes : (key : Key) (depot : d.Depot) (a : ArenaFields) (run : Run) (
 filled_bytes key depot a run n piece s some fits size =
     let was : slice_get a.slots key.slot ≡ Some (slot_at key.generation (Draft run)) = stands key depot a (Draft run) s (λ e. cc) in
     let is : IsRun a.next run = each_at (λ (slot : Slot). IsContent a.next slot.content) a.slots key.slot (slot_at key.generation (Draft run)) s.arena.runs
-        was in
+    was in
     let l : (0 < run.blocks) × IsLast a.next a.free a.free_count (run.blocks - 1) run.first run.last = draft_last key depot a run s some in
     let has : 0 < run.blocks = l.0 in
     let one : run.blocks ≡ suc (run.blocks - 1) = omega (arith, has) in
     let parts : chain run.blocks a.next run.first ≡ chain (run.blocks - 1) a.next run.first ++ run.last ∷ [] =
     ap (λ k. chain k a.next run.first) one ∙ chain_last (run.blocks - 1) a.next run.first
-        ∙ ap (λ b. chain (run.blocks - 1) a.next run.first ++ b ∷ []) l.1.is in
+    ∙ ap (λ b. chain (run.blocks - 1) a.next run.first ++ b ∷ []) l.1.is in
     let low : AllByRecursion (λ b. b < length a.next) (chain (run.blocks - 1) a.next run.first ++ run.last ∷ []) =
     subst (λ bs. AllByRecursion (λ b. b < length a.next) bs) parts (run_low a key.slot (slot_at key.generation (Draft run)) s.arena was) in
     let prefix : length (flat a.store (chain (run.blocks - 1) a.next run.first)) ≡ BLOCK_SIZE * (run.blocks - 1) =
     full_length a.store (length a.next) (chain (run.blocks - 1) a.next run.first) s.arena.count s.arena.sizes
-        (all_prefix (λ b. b < length a.next) (chain (run.blocks - 1) a.next run.first) (run.last ∷ []) low)
-        ∙ ap (λ k. BLOCK_SIZE * k) (chain_length (run.blocks - 1) a.next run.first) in
+    (all_prefix (λ b. b < length a.next) (chain (run.blocks - 1) a.next run.first) (run.last ∷ []) low)
+    ∙ ap (λ k. BLOCK_SIZE * k) (chain_length (run.blocks - 1) a.next run.first) in
     let there : run.last < length a.store = omega (arith, l.1.low, s.arena.count) in
     ap (λ bs. take (run.length + n)
-        (flat (set a.store run.last (take (run.length % BLOCK_SIZE) (get_or a.store run.last []) ++ piece
-        ++ drop (run.length % BLOCK_SIZE + n) (get_or a.store run.last []))) bs)) parts
+    (flat (set a.store run.last (take (run.length % BLOCK_SIZE) (get_or a.store run.last []) ++ piece
+    ++ drop (run.length % BLOCK_SIZE + n) (get_or a.store run.last []))) bs)) parts
     ∙ written a.store (chain (run.blocks - 1) a.next run.first) run.last (BLOCK_SIZE * (run.blocks - 1)) (run.length % BLOCK_SIZE) n run.length piece l.1.once
-        there prefix (s.arena.sizes run.last [] there)
+    there prefix (s.arena.sizes run.last [] there)
     (len_parts run.length run.blocks is.enough some) size (omega (arith, fits))
     ∙ ap (λ bs. take run.length (flat a.store bs) ++ piece) (sym parts)
 
@@ -140,8 +171,16 @@ row_is store run n piece old row f =
 row_size : (row old piece : List ℕ) (at n : ℕ) → row ≡ take at old ++ piece ++ drop (at + n) old → length old ≡ BLOCK_SIZE → length piece ≡ n
     → at + n ≤ BLOCK_SIZE → length row ≡ BLOCK_SIZE
 row_size row old piece at n e size long fits =
-    ap length e ∙ omega (arith, size, long, fits, length-append (take at old ++ piece) (drop (at + n) old), length-append (take at old) piece,
-        length-take at old, length-drop (at + n) old)
+    ap length e ∙ omega (
+      arith,
+      size,
+      long,
+      fits,
+      length-append (take at old ++ piece) (drop (at + n) old),
+      length-append (take at old) piece,
+      length-take at old,
+      length-drop (at + n) old,
+    )
 
 pub filled_turn : (key : Key) (depot : d.Depot) (a : ArenaFields) (run : Run) (n : ℕ) (piece old row : List ℕ)
     → Sees key depot a (Draft run) → IsFilled a.store run n piece old row
@@ -152,7 +191,7 @@ filled_turn key depot a run n piece old row s f =
     let there : run.last < length a.store = omega (arith, l.1.low, s.arena.count) in
     fill_turn key depot a run n row s f.some f.fits
     (row_size row (get_or a.store run.last []) piece (run.length % BLOCK_SIZE) n (row_is a.store run n piece old row f) (s.arena.sizes run.last [] there) f.size
-        (omega (arith, f.fits, f.some)))
+    (omega (arith, f.fits, f.some)))
 
 pub filled_gains : (key : Key) (depot : d.Depot) (a : ArenaFields) (run : Run) (n : ℕ) (piece old row : List ℕ)
     → Sees key depot a (Draft run) → IsFilled a.store run n piece old row

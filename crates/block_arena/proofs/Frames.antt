@@ -1,6 +1,35 @@
 -- A link or a block changes that the other slots don't hold.
-use Rattle.std.proofs.Common.{◌≡◌, ℕ, zero, suc, ◌+◌, ◌-◌, ◌<◌, ◌≤◌, ◌≢◌, List, [], ◌∷◌, ◌++◌, Bool, true, false, cond, ◌==◌, Some, get_or, length, take, set,
-    map, refl, ap, sym, ◌∙◌, arith}
+use Rattle.std.proofs.Common.{
+  ◌≡◌,
+  ℕ,
+  zero,
+  suc,
+  ◌+◌,
+  ◌-◌,
+  ◌<◌,
+  ◌≤◌,
+  ◌≢◌,
+  List,
+  [],
+  ◌∷◌,
+  ◌++◌,
+  Bool,
+  true,
+  false,
+  cond,
+  ◌==◌,
+  Some,
+  get_or,
+  length,
+  take,
+  set,
+  map,
+  refl,
+  ap,
+  sym,
+  ◌∙◌,
+  arith,
+}
 use Rattle.std.specs.Prelude.{slice_get, slice_set, flat_map, nat_lt}
 use Rattle.std.specs.List.{AllByRecursion}
 use Rattle.mail_world.specs.Depot as d
@@ -24,8 +53,8 @@ pub none_by : (store : List (List ℕ)) (next : List ℕ) (b : ℕ) (xs : List S
 none_by store next b [] h = tt
 none_by store next b (x ∷ xs) h =
     let sum : occurrences b (d.blocks_of (held store next x.content) ++ flat_map (λ (slot : d.Slot). d.blocks_of slot.held) (map (slot_of store next) xs))
-        ≡ occurrences b (d.blocks_of (held store next x.content))
-        + occurrences b (flat_map (λ (slot : d.Slot). d.blocks_of slot.held) (map (slot_of store next) xs)) =
+    ≡ occurrences b (d.blocks_of (held store next x.content))
+    + occurrences b (flat_map (λ (slot : d.Slot). d.blocks_of slot.held) (map (slot_of store next) xs)) =
     times-append b (d.blocks_of (held store next x.content)) (flat_map (λ (slot : d.Slot). d.blocks_of slot.held) (map (slot_of store next) xs)) in
     (omega (arith, sum, h), none_by store next b xs (omega (arith, sum, h)))
 
@@ -38,20 +67,26 @@ pub none_else : (a : ArenaFields) (i : ℕ) (old : Slot) (b : ℕ) → IsArena a
     → AllByRecursion (Without a.store a.next b) (slice_set a.slots i (slot_at 0 Free))
 none_else a i old b arena was here =
     let total : occurrences b (flat_map (λ (slot : d.Slot). d.blocks_of slot.held)
-        (slice_set (map (slot_of a.store a.next) a.slots) i (record { generation = 0; held = d.Free })))
-        + occurrences b (d.blocks_of (held a.store a.next old.content))
-        ≡ occurrences b (flat_map (λ (slot : d.Slot). d.blocks_of slot.held) (map (slot_of a.store a.next) a.slots)) + 0 =
+    (slice_set (map (slot_of a.store a.next) a.slots) i (record { generation = 0; held = d.Free })))
+    + occurrences b (d.blocks_of (held a.store a.next old.content))
+    ≡ occurrences b (flat_map (λ (slot : d.Slot). d.blocks_of slot.held) (map (slot_of a.store a.next) a.slots)) + 0 =
     total_set (λ y. cond (y == b) 1 0) (λ (slot : d.Slot). d.blocks_of slot.held) (map (slot_of a.store a.next) a.slots) i (slot_of a.store a.next old)
-        (record { generation = 0; held = d.Free }) (get_map (slot_of a.store a.next) a.slots i old was) in
+    (record { generation = 0; held = d.Free }) (get_map (slot_of a.store a.next) a.slots i old was) in
     let once : occurrences b (chain a.free_count a.next a.free ++ flat_map (λ (slot : d.Slot). d.blocks_of slot.held) (map (slot_of a.store a.next) a.slots))
-        ≡ cond (nat_lt b (length a.next)) 1 0 = arena.once b in
+    ≡ cond (nat_lt b (length a.next)) 1 0 = arena.once b in
     let none : occurrences b (flat_map (λ (slot : d.Slot). d.blocks_of slot.held)
-        (slice_set (map (slot_of a.store a.next) a.slots) i (record { generation = 0; held = d.Free }))) ≡ 0 =
-    omega (arith, total, once, at_most (nat_lt b (length a.next)), here,
-        times-append b (chain a.free_count a.next a.free) (flat_map (λ (slot : d.Slot). d.blocks_of slot.held) (map (slot_of a.store a.next) a.slots))) in
+    (slice_set (map (slot_of a.store a.next) a.slots) i (record { generation = 0; held = d.Free }))) ≡ 0 =
+    omega (
+      arith,
+      total,
+      once,
+      at_most (nat_lt b (length a.next)),
+      here,
+      times-append b (chain a.free_count a.next a.free) (flat_map (λ (slot : d.Slot). d.blocks_of slot.held) (map (slot_of a.store a.next) a.slots)),
+    ) in
     none_by a.store a.next b (slice_set a.slots i (slot_at 0 Free))
-        (ap (λ (ss : List d.Slot). occurrences b (flat_map (λ (slot : d.Slot). d.blocks_of slot.held) ss))
-        (map_set (slot_of a.store a.next) a.slots i (slot_at 0 Free)) ∙ none)
+    (ap (λ (ss : List d.Slot). occurrences b (flat_map (λ (slot : d.Slot). d.blocks_of slot.held) ss))
+    (map_set (slot_of a.store a.next) a.slots i (slot_at 0 Free)) ∙ none)
 
 pub map_same : {A B : Type 0} (f f' : A → B) (P : A → Type 0) (xs : List A) → AllByRecursion P xs → ((x : A) → P x → f' x ≡ f x) → map f' xs ≡ map f xs
 map_same f f' P [] h e = refl
@@ -97,8 +132,12 @@ pub times_part : (i n : ℕ) (next : List ℕ) (b f : ℕ) → i ≤ n → occur
 times_part zero n next b f h = omega arith
 times_part (suc i) zero next b f h = absurd (omega (arith, h))
 times_part (suc i) (suc n) next b f h =
-    omega (arith, times_part i n next b (get_or next f 0) (omega (arith, h)), times_cons b f (chain i next (get_or next f 0)),
-        times_cons b f (chain n next (get_or next f 0)))
+    omega (
+      arith,
+      times_part i n next b (get_or next f 0) (omega (arith, h)),
+      times_cons b f (chain i next (get_or next f 0)),
+      times_cons b f (chain n next (get_or next f 0)),
+    )
 
 run_keeps : (next : List ℕ) (b v : ℕ) (run : Run) → occurrences b (chain run.blocks next run.first) ≡ 0 → IsRun next run → IsRun (set next b v) run
 run_keeps next b v run h is = record {
@@ -132,4 +171,4 @@ pub others_stay : (store : List (List ℕ)) (next : List ℕ) (slots : List Slot
     → (j : ℕ) (x : Slot) → (j ≢ i) → slice_get slots j ≡ Some x → Stays next x.content (set next b v) x.content
 others_stay store next slots i b v dummy none j x apart was =
     content_stays store next b v x.content
-        (each_at (Without store next b) (slice_set slots i dummy) j x none (set_past slots i j dummy (λ same. apart (sym same)) ∙ was))
+    (each_at (Without store next b) (slice_set slots i dummy) j x none (set_past slots i j dummy (λ same. apart (sym same)) ∙ was))

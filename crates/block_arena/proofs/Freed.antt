@@ -1,6 +1,33 @@
 -- A slot's blocks go to the free ones, by one link.
-use Rattle.std.proofs.Common.{◌≡◌, ℕ, suc, length-set, ◌+◌, ◌-◌, ◌<◌, ◌≤◌, List, [], ◌∷◌, ◌++◌, Bool, true, false, cond, ◌==◌, Some, length, set, map, refl, ap,
-    sym, ◌∙◌, subst, arith}
+use Rattle.std.proofs.Common.{
+  ◌≡◌,
+  ℕ,
+  suc,
+  length-set,
+  ◌+◌,
+  ◌-◌,
+  ◌<◌,
+  ◌≤◌,
+  List,
+  [],
+  ◌∷◌,
+  ◌++◌,
+  Bool,
+  true,
+  false,
+  cond,
+  ◌==◌,
+  Some,
+  length,
+  set,
+  map,
+  refl,
+  ap,
+  sym,
+  ◌∙◌,
+  subst,
+  arith,
+}
 use Rattle.std.specs.Prelude.{slice_get, slice_set, nat_lt}
 use Rattle.std.specs.List.{AllByRecursion}
 use Rattle.std.proofs.lemmas.Bool.{eq-eqb, ltb-true}
@@ -66,7 +93,7 @@ depot_with slots free = record { slots = slots; free = free }
 after_as : (t : Bool) (store : List (List ℕ)) (next : List ℕ) (slots : List d.Slot) (i g : ℕ) (free : List ℕ)
     → depot_with (slice_set slots i (slot_of store next (cond t (slot_at (g + 1) Free) (slot_at g Retired)))) free
     ≡ cond t (depot_with (slice_set slots i (record { generation = g + 1; held = d.Free })) free)
-        (depot_with (slice_set slots i (record { generation = g; held = d.Retired })) free)
+    (depot_with (slice_set slots i (record { generation = g; held = d.Retired })) free)
 after_as true store next slots i g free = refl
 after_as false store next slots i g free = refl
 
@@ -94,7 +121,7 @@ empty_turn key depot a content run s o none =
           (after_content (nat_lt key.generation d.last_generation) a.next (key.generation + 1) key.generation);
       split = λ x. ap (λ bs. occurrences x (chain a.free_count a.next a.free) + occurrences x bs)
           (after_blocks (nat_lt key.generation d.last_generation) a.store a.next (key.generation + 1) key.generation
-              ∙ sym (ap (λ k. chain k a.next run.first) none) ∙ sym o.blocks);
+          ∙ sym (ap (λ k. chain k a.next run.first) none) ∙ sym o.blocks);
     }
 
 -- what holds of the last block of a run
@@ -117,7 +144,7 @@ last_times : (n : ℕ) (next : List ℕ) (first last : ℕ) → node n next firs
     → occurrences last (chain (suc n) next first) ≡ occurrences last (chain n next first) + 1
 last_times n next first last e =
     ap (occurrences last) (chain_last n next first) ∙ times-append last (chain n next first) (node n next first ∷ [])
-        ∙ ap (λ b. occurrences last (chain n next first) + occurrences last (b ∷ [])) e
+    ∙ ap (λ b. occurrences last (chain n next first) + occurrences last (b ∷ [])) e
     ∙ ap (λ k. occurrences last (chain n next first) + k) (one_self last (last == last) refl)
 
 pub last_of : (next : List ℕ) (free free_count n first last : ℕ) → node n next first ≡ last
@@ -126,8 +153,8 @@ pub last_of : (next : List ℕ) (free free_count n first last : ℕ) → node n 
 last_of next free free_count n first last is within =
     let count : occurrences last (chain (suc n) next first) ≡ occurrences last (chain n next first) + 1 = last_times n next first last is in
     let p : (occurrences last (chain n next first) ≡ 0) × (occurrences last (chain free_count next free) ≡ 0) × (nat_lt last (length next) ≡ true) =
-        one_of (nat_lt last (length next)) (occurrences last (chain n next first)) (occurrences last (chain free_count next free))
-        (omega (arith, within, count)) in
+    one_of (nat_lt last (length next)) (occurrences last (chain n next first)) (occurrences last (chain free_count next free))
+    (omega (arith, within, count)) in
     record {
       is = is;
       once = p.0;
@@ -143,33 +170,37 @@ splice_free next free free_count run l some =
     let one : suc (run.blocks - 1) ≡ run.blocks = omega (arith, some) in
     let all : suc (run.blocks - 1) + free_count ≡ free_count + run.blocks = omega (arith, some) in
     ap (λ k. chain k (set next run.last free) run.first) (sym all) ∙ splice (run.blocks - 1) free_count next run.first free run.last l.is l.once l.low l.apart
-        ∙ ap (λ k. chain k next run.first ++ chain free_count next free) one
+    ∙ ap (λ k. chain k next run.first ++ chain free_count next free) one
 
 pub last_in : (key : Key) (depot : d.Depot) (a : ArenaFields) (content : Content) (run : Run)
     → Sees key depot a content → Owns a.store a.next content run → 0 < run.blocks → IsLast a.next a.free a.free_count (run.blocks - 1) run.first run.last
 last_in key depot a content run s o some =
     let was : slice_get a.slots key.slot ≡ Some (slot_at key.generation content) = stands key depot a content s o.filled in
     let is : IsRun a.next run = o.is
-        (each_at (λ (slot : Slot). IsContent a.next slot.content) a.slots key.slot (slot_at key.generation content) s.arena.runs was) in
+    (each_at (λ (slot : Slot). IsContent a.next slot.content) a.slots key.slot (slot_at key.generation content) s.arena.runs was) in
     let one : suc (run.blocks - 1) ≡ run.blocks = omega (arith, some) in
     let same : occurrences run.last (d.blocks_of (held a.store a.next content)) ≡ occurrences run.last (chain (suc (run.blocks - 1)) a.next run.first) =
-        ap (occurrences run.last) o.blocks ∙ ap (λ k. occurrences run.last (chain k a.next run.first)) (sym one) in
+    ap (occurrences run.last) o.blocks ∙ ap (λ k. occurrences run.last (chain k a.next run.first)) (sym one) in
     last_of a.next a.free a.free_count (run.blocks - 1) run.first run.last (is.last some)
-        (omega (arith, same, run_times a key.slot (slot_at key.generation content) s.arena was run.last))
+    (omega (arith, same, run_times a key.slot (slot_at key.generation content) s.arena was run.last))
 
 pub freed_turn : (key : Key) (depot : d.Depot) (a : ArenaFields) (content : Content) (run : Run)
     → Sees key depot a content → Owns a.store a.next content run → 0 < run.blocks
     → Turn a key.slot (slot_at key.generation content) (slot_after key.generation)
-    (record a { next = set a.next run.last a.free; slots = slice_set a.slots key.slot (slot_after key.generation); free = run.first;
-        free_count = a.free_count + run.blocks })
+    (record a {
+      next = set a.next run.last a.free;
+      slots = slice_set a.slots key.slot (slot_after key.generation);
+      free = run.first;
+      free_count = a.free_count + run.blocks;
+    })
 freed_turn key depot a content run s o some =
     let was : slice_get a.slots key.slot ≡ Some (slot_at key.generation content) = stands key depot a content s o.filled in
     let l : IsLast a.next a.free a.free_count (run.blocks - 1) run.first run.last = last_in key depot a content run s o some in
     let one : suc (run.blocks - 1) ≡ run.blocks = omega (arith, some) in
     let there : occurrences run.last (d.blocks_of (held a.store a.next content)) ≡ 1 =
-        ap (occurrences run.last) o.blocks ∙ ap (λ k. occurrences run.last (chain k a.next run.first)) (sym one) ∙ l.there in
+    ap (occurrences run.last) o.blocks ∙ ap (λ k. occurrences run.last (chain k a.next run.first)) (sym one) ∙ l.there in
     let else' : AllByRecursion (Without a.store a.next run.last) (slice_set a.slots key.slot (slot_at 0 Free)) =
-        none_else a key.slot (slot_at key.generation content) run.last s.arena was (omega (arith, there)) in
+    none_else a key.slot (slot_at key.generation content) run.last s.arena was (omega (arith, there)) in
     record {
       arena = s.arena;
       was = was;
@@ -190,12 +221,12 @@ freed_turn key depot a content run s o some =
           (λ (slot : Slot). IsContent (set a.next run.last a.free) slot.content) a.slots key.slot (slot_after key.generation) (slot_at 0 Free) else'
           s.arena.runs
           (λ (x : Slot) without is. content_keeps a.store a.next run.last a.free x.content without is)
-              (after_content (nat_lt key.generation d.last_generation) (set a.next run.last a.free) (key.generation + 1) key.generation);
+          (after_content (nat_lt key.generation d.last_generation) (set a.next run.last a.free) (key.generation + 1) key.generation);
       split = λ x.
           ap (λ bs. occurrences x (chain (a.free_count + run.blocks) (set a.next run.last a.free) run.first) + occurrences x bs)
-              (after_blocks (nat_lt key.generation d.last_generation) a.store (set a.next run.last a.free) (key.generation + 1) key.generation)
+          (after_blocks (nat_lt key.generation d.last_generation) a.store (set a.next run.last a.free) (key.generation + 1) key.generation)
           ∙ split_by x (chain (a.free_count + run.blocks) (set a.next run.last a.free) run.first) (chain run.blocks a.next run.first)
-              (chain a.free_count a.next a.free) (d.blocks_of (held a.store a.next content)) (splice_free a.next a.free a.free_count run l some) o.blocks;
+          (chain a.free_count a.next a.free) (d.blocks_of (held a.store a.next content)) (splice_free a.next a.free a.free_count run l some) o.blocks;
     } where
       split_by : (x : ℕ) (new these those held : List ℕ) → new ≡ these ++ those → held ≡ these
           → occurrences x new + 0 ≡ occurrences x those + occurrences x held
@@ -213,18 +244,18 @@ frees key depot a content a' s t = record {
   free = chain a'.free_count a'.next a'.free;
   given = λ x.
       let split : occurrences x (chain a'.free_count a'.next a'.free)
-          + occurrences x (d.blocks_of (held a'.store a'.next ((slot_after key.generation).content))) ≡ occurrences x (chain a.free_count a.next a.free)
-          + occurrences x (d.blocks_of (held a.store a.next content)) = t.split x in
+      + occurrences x (d.blocks_of (held a'.store a'.next ((slot_after key.generation).content))) ≡ occurrences x (chain a.free_count a.next a.free)
+      + occurrences x (d.blocks_of (held a.store a.next content)) = t.split x in
       let none : occurrences x (d.blocks_of (held a'.store a'.next ((slot_after key.generation).content))) ≡ 0 =
-          ap (occurrences x) (after_blocks (nat_lt key.generation d.last_generation) a'.store a'.next (key.generation + 1) key.generation) in
+      ap (occurrences x) (after_blocks (nat_lt key.generation d.last_generation) a'.store a'.next (key.generation + 1) key.generation) in
       let here : occurrences x (d.blocks_of (d.held_under depot (depot_key key))) ≡ occurrences x (d.blocks_of (held a.store a.next content)) =
-          ap (λ h. occurrences x (d.blocks_of h)) (under key depot a content s) in
+      ap (λ h. occurrences x (d.blocks_of h)) (under key depot a content s) in
       let spare : occurrences x depot.free ≡ occurrences x (chain a.free_count a.next a.free) = ap (λ (e : d.Depot). occurrences x e.free) (sym s.view) in
       omega (arith, split, none, here, spare);
   after =
       ap (λ (ss : List d.Slot). depot_with ss (chain a'.free_count a'.next a'.free)) t.others
       ∙ after_as (nat_lt key.generation d.last_generation) a'.store a'.next (map (slot_of a.store a.next) a.slots) key.slot key.generation
-          (chain a'.free_count a'.next a'.free)
+      (chain a'.free_count a'.next a'.free)
       ∙ ap (λ (e : d.Depot). d.given_back e (depot_key key) (chain a'.free_count a'.next a'.free)) s.view;
 }
 
@@ -248,8 +279,12 @@ empty_frees key depot a content run slot s o none e =
 
 pub freed_arena : (key : Key) (depot : d.Depot) (a : ArenaFields) (content : Content) (run : Run) (slot : Slot) → Sees key depot a content
     → Owns a.store a.next content run → 0 < run.blocks → slot ≡ slot_after key.generation
-    → IsArena (record a { next = set a.next run.last a.free; slots = slice_set a.slots key.slot slot; free = run.first;
-    free_count = a.free_count + run.blocks })
+    → IsArena (record a {
+      next = set a.next run.last a.free;
+      slots = slice_set a.slots key.slot slot;
+      free = run.first;
+      free_count = a.free_count + run.blocks;
+    })
 freed_arena key depot a content run slot s o some e =
     subst (λ (x : Slot). IsArena (record
     a { next = set a.next run.last a.free; slots = slice_set a.slots key.slot x; free = run.first; free_count = a.free_count + run.blocks })) (sym e)

@@ -30,7 +30,7 @@ made slots free = record { slots = slots; free = free }
 again_by : (t : Bool) (slots : List d.Slot) (i g : ℕ) (h : d.Held) (free : List ℕ)
     → cond t (made (slice_set slots i (depot_slot (g + 1) d.Free)) free) (made (slice_set slots i (depot_slot g d.Retired)) free)
     ≡ cond t (made (slice_set (slice_set slots i (depot_slot g h)) i (depot_slot (g + 1) d.Free)) free)
-        (made (slice_set (slice_set slots i (depot_slot g h)) i (depot_slot g d.Retired)) free)
+    (made (slice_set (slice_set slots i (depot_slot g h)) i (depot_slot g d.Retired)) free)
 again_by true slots i g h free = ap (λ ss. made ss free) (sym (set_twice slots i (depot_slot g h) (depot_slot (g + 1) d.Free)))
 again_by false slots i g h free = ap (λ ss. made ss free) (sym (set_twice slots i (depot_slot g h) (depot_slot g d.Retired)))
 
@@ -40,7 +40,7 @@ pub given_last : (k : ℕ) (old : d.Depot) (key : d.Key) (new : d.Depot) (bytes 
 given_last k old key new bytes blocks was f =
     let all : zero + k ≡ k = omega arith in
     let there : slice_get old.slots key.slot ≡ Some (depot_slot key.generation (d.Sealed bytes blocks (zero + k))) =
-        was ∙ ap (λ (x : d.Slot). Some x) (ap (λ n. depot_slot key.generation (d.Sealed bytes blocks n)) (sym all)) in
+    was ∙ ap (λ (x : d.Slot). Some x) (ap (λ n. depot_slot key.generation (d.Sealed bytes blocks n)) (sym all)) in
     let here : d.held_under old key ≡ d.Sealed bytes blocks k = held_there old key (d.Sealed bytes blocks k) was in (
       d.with_held old key (d.Sealed bytes blocks zero) old.free,
       releases k zero old key bytes blocks there,
@@ -60,7 +60,7 @@ pub given_some : (k w : ℕ) (old : d.Depot) (key : d.Key) (new : d.Depot) (byte
     → new ≡ d.with_held old key (d.Sealed bytes blocks w) old.free → IsGivenBack k old key new false
 given_some k w old key new bytes blocks was some e =
     let here : d.held_under (d.with_held old key (d.Sealed bytes blocks w) old.free) key ≡ d.Sealed bytes blocks w =
-        held_there (d.with_held old key (d.Sealed bytes blocks w) old.free) key (d.Sealed bytes blocks w)
+    held_there (d.with_held old key (d.Sealed bytes blocks w) old.free) key (d.Sealed bytes blocks w)
     (set_at old.slots key.slot (depot_slot key.generation (d.Sealed bytes blocks w)) (depot_slot key.generation (d.Sealed bytes blocks (w + k))) was) in
     let weight : d.weight_under (d.with_held old key (d.Sealed bytes blocks w) old.free) key ≡ w = ap d.weight_held here in
     subst (λ (x : d.Depot). IsGivenBack k old key x false) (sym e) (releases k w old key bytes blocks was, omega (arith, weight, some))
@@ -69,7 +69,7 @@ pub depot_there : (key : Key) (depot : d.Depot) (a : ArenaFields) (content : Con
     → Sees key depot a content → ((content ≡ Free) → ⊥) → slice_get depot.slots key.slot ≡ Some (depot_slot key.generation (held a.store a.next content))
 depot_there key depot a content s filled =
     ap (λ (e : d.Depot). slice_get e.slots key.slot) (sym s.view)
-        ∙ get_map (slot_of a.store a.next) a.slots key.slot (slot_at key.generation content) (stands key depot a content s filled)
+    ∙ get_map (slot_of a.store a.next) a.slots key.slot (slot_at key.generation content) (stands key depot a content s filled)
 
 pub gives_some : (key : Key) (depot : d.Depot) (a : ArenaFields) (run : Run) (holds k : ℕ)
     → Sees key depot a (Sealed run holds) → k < holds
@@ -77,10 +77,10 @@ pub gives_some : (key : Key) (depot : d.Depot) (a : ArenaFields) (run : Run) (ho
 gives_some key depot a run holds k s few =
     let sum : holds ≡ (holds - k) + k = omega (arith, few) in
     given_some k (holds - k) depot (depot_key key)
-        (depot_of (record a { slots = slice_set a.slots key.slot (slot_at key.generation (Sealed run (holds - k))) })) (bytes_in a.store a.next run)
-        (blocks_in a.next run)
+    (depot_of (record a { slots = slice_set a.slots key.slot (slot_at key.generation (Sealed run (holds - k))) })) (bytes_in a.store a.next run)
+    (blocks_in a.next run)
     (depot_there key depot a (Sealed run holds) s (λ e. cc)
-        ∙ ap (λ (x : d.Slot). Some x) (ap (λ n. depot_slot key.generation (d.Sealed (bytes_in a.store a.next run) (blocks_in a.next run) n)) sum))
+    ∙ ap (λ (x : d.Slot). Some x) (ap (λ n. depot_slot key.generation (d.Sealed (bytes_in a.store a.next run) (blocks_in a.next run) n)) sum))
     (omega (arith, few))
     (held_after key depot a (Sealed run holds) (Sealed run (holds - k)) s)
 
@@ -92,5 +92,5 @@ gives_last key depot a run holds k new s most may f =
     let same : holds ≡ k = omega (arith, most, within) in
     given_last k depot (depot_key key) new (bytes_in a.store a.next run) (blocks_in a.next run)
     (depot_there key depot a (Sealed run holds) s (λ e. cc)
-        ∙ ap (λ (x : d.Slot). Some x) (ap (λ n. depot_slot key.generation (d.Sealed (bytes_in a.store a.next run) (blocks_in a.next run) n)) same))
+    ∙ ap (λ (x : d.Slot). Some x) (ap (λ n. depot_slot key.generation (d.Sealed (bytes_in a.store a.next run) (blocks_in a.next run) n)) same))
     f

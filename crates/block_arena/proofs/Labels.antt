@@ -21,7 +21,7 @@ pub held_after : (key : Key) (depot : d.Depot) (a : ArenaFields) (old content : 
     ≡ d.with_held depot (depot_key key) (held a.store a.next content) depot.free
 held_after key depot a old content s =
     ap (λ (ss : List d.Slot). record { slots = ss; free = (depot_of a).free })
-        (map_set (slot_of a.store a.next) a.slots key.slot (slot_at key.generation content))
+    (map_set (slot_of a.store a.next) a.slots key.slot (slot_at key.generation content))
     ∙ ap (λ (e : d.Depot). d.with_held e (depot_key key) (held a.store a.next content) e.free) s.view
 
 pub sealed_arena : (key : Key) (depot : d.Depot) (a : ArenaFields) (run : Run) (n : ℕ) → Sees key depot a (Draft run)
@@ -30,7 +30,7 @@ sealed_arena key depot a run n s =
     let was : slice_get a.slots key.slot ≡ Some (slot_at key.generation (Draft run)) = stands key depot a (Draft run) s (λ e. cc) in
     relabelled a key.slot key.generation (Draft run) (Sealed run n) s.arena was
     (each_at (λ (slot : Slot). IsContent a.next slot.content) a.slots key.slot (slot_at key.generation (Draft run)) s.arena.runs was) refl refl
-        (λ index block h. h)
+    (λ index block h. h)
 
 pub seals : (key : Key) (depot : d.Depot) (a : ArenaFields) (run : Run) (n : ℕ) → Sees key depot a (Draft run)
     → d.Seals depot (depot_key key) n (depot_of (record a { slots = slice_set a.slots key.slot (slot_at key.generation (Sealed run n)) }))
@@ -47,7 +47,7 @@ lighter_arena key depot a run holds n s =
     let was : slice_get a.slots key.slot ≡ Some (slot_at key.generation (Sealed run holds)) = stands key depot a (Sealed run holds) s (λ e. cc) in
     relabelled a key.slot key.generation (Sealed run holds) (Sealed run n) s.arena was
     (each_at (λ (slot : Slot). IsContent a.next slot.content) a.slots key.slot (slot_at key.generation (Sealed run holds)) s.arena.runs was) refl refl
-        (λ index block h. h)
+    (λ index block h. h)
 
 abbrev pub depot_slot : ℕ → d.Held → d.Slot
 depot_slot generation held = record { generation = generation; held = held }
@@ -77,19 +77,19 @@ pub releases : (k w : ℕ) (depot : d.Depot) (key : d.Key) (bytes blocks : List 
 releases zero w depot key bytes blocks was =
     let same : w + zero ≡ w = omega arith in
     let there : slice_get depot.slots key.slot ≡ Some (record { generation = key.generation; held = d.Sealed bytes blocks w }) =
-        was ∙ ap (λ (x : d.Slot). Some x) (ap (λ n. depot_slot key.generation (d.Sealed bytes blocks n)) same) in
+    was ∙ ap (λ (x : d.Slot). Some x) (ap (λ n. depot_slot key.generation (d.Sealed bytes blocks n)) same) in
     ap (λ (ss : List d.Slot). record { slots = ss; free = depot.free })
-        (set_same depot.slots key.slot (record { generation = key.generation; held = d.Sealed bytes blocks w }) there)
+    (set_same depot.slots key.slot (record { generation = key.generation; held = d.Sealed bytes blocks w }) there)
 releases (suc k) w depot key bytes blocks was =
     let one : w + suc k ≡ (w + k) + 1 = omega arith in
     let between : d.Depot = d.with_held depot key (d.Sealed bytes blocks (w + k)) depot.free in
     let there : slice_get (slice_set depot.slots key.slot (record { generation = key.generation; held = d.Sealed bytes blocks (w + k) })) key.slot
-        ≡ Some (record { generation = key.generation; held = d.Sealed bytes blocks (w + k) }) =
+    ≡ Some (record { generation = key.generation; held = d.Sealed bytes blocks (w + k) }) =
     set_at depot.slots key.slot (record { generation = key.generation; held = d.Sealed bytes blocks (w + k) })
-        (record { generation = key.generation; held = d.Sealed bytes blocks (w + suc k) }) was in
+    (record { generation = key.generation; held = d.Sealed bytes blocks (w + suc k) }) was in
     let rest : ReleasesAll k (d.with_held depot key (d.Sealed bytes blocks (w + k)) depot.free) key
-        (d.with_held (d.with_held depot key (d.Sealed bytes blocks (w + k)) depot.free) key (d.Sealed bytes blocks w) depot.free) =
-        releases k w (d.with_held depot key (d.Sealed bytes blocks (w + k)) depot.free) key bytes blocks there in (
+    (d.with_held (d.with_held depot key (d.Sealed bytes blocks (w + k)) depot.free) key (d.Sealed bytes blocks w) depot.free) =
+    releases k w (d.with_held depot key (d.Sealed bytes blocks (w + k)) depot.free) key bytes blocks there in (
       d.with_held depot key (d.Sealed bytes blocks (w + k)) depot.free,
       record {
         bytes = bytes;
@@ -101,5 +101,5 @@ releases (suc k) w depot key bytes blocks was =
       subst (λ (ss : List d.Slot). ReleasesAll k (d.with_held depot key (d.Sealed bytes blocks (w + k)) depot.free) key
           (record { slots = ss; free = depot.free }))
           (set_twice depot.slots key.slot (record { generation = key.generation; held = d.Sealed bytes blocks (w + k) })
-              (record { generation = key.generation; held = d.Sealed bytes blocks w })) rest,
+          (record { generation = key.generation; held = d.Sealed bytes blocks w })) rest,
     )

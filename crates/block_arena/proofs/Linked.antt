@@ -1,6 +1,44 @@
 -- A draft gets a free block, which is written first and linked after its last.
-use Rattle.std.proofs.Common.{◌≡◌, ℕ, suc, ◌+◌, ◌-◌, ◌*◌, ◌%◌, ◌<◌, ◌≤◌, ◌≢◌, List, [], ◌∷◌, ◌++◌, Bool, true, false, cond, ◌==◌, Some, get_or, min, take, drop,
-    length, set, map, refl, ap, sym, ◌∙◌, subst, arith, length-set, length-append, length-take, length-drop, append-nil}
+use Rattle.std.proofs.Common.{
+  ◌≡◌,
+  ℕ,
+  suc,
+  ◌+◌,
+  ◌-◌,
+  ◌*◌,
+  ◌%◌,
+  ◌<◌,
+  ◌≤◌,
+  ◌≢◌,
+  List,
+  [],
+  ◌∷◌,
+  ◌++◌,
+  Bool,
+  true,
+  false,
+  cond,
+  ◌==◌,
+  Some,
+  get_or,
+  min,
+  take,
+  drop,
+  length,
+  set,
+  map,
+  refl,
+  ap,
+  sym,
+  ◌∙◌,
+  subst,
+  arith,
+  length-set,
+  length-append,
+  length-take,
+  length-drop,
+  append-nil,
+}
 use Rattle.std.specs.Prelude.{slice_get, slice_set, flat_map, nat_lt}
 use Rattle.std.specs.List.{AllByRecursion}
 use Rattle.std.proofs.lemmas.Bool.{eqb-true, eqb-false}
@@ -14,8 +52,23 @@ use Rattle.block_arena.specs.declared.slot.Run.{Run}
 use Rattle.block_arena.specs.declared.slot.Content.{Content}
 use Rattle.block_arena.specs.declared.slot.Content.TheVariants.{Free, Draft}
 use Rattle.block_arena.specs.declared.slot.Slot.{Slot}
-use Rattle.block_arena.specs.Fields.{ArenaFields, chain, node, bytes_in, slot_of, depot_of, longer, linked_run, linked_next, stamp_for, IsContent, IsRun,
-    IsStamped, AreStamped, IsArena}
+use Rattle.block_arena.specs.Fields.{
+  ArenaFields,
+  chain,
+  node,
+  bytes_in,
+  slot_of,
+  depot_of,
+  longer,
+  linked_run,
+  linked_next,
+  stamp_for,
+  IsContent,
+  IsRun,
+  IsStamped,
+  AreStamped,
+  IsArena,
+}
 use Rattle.block_arena.specs.Calls.{depot_key}
 use Rattle.block_arena.proofs.Chains.{times_cons, apart, chain_keeps, node_keeps, chain_length, splice, node_splice}
 use Rattle.mail_world.proofs.Heard.{all_set}
@@ -42,9 +95,13 @@ self_in b xs false e = absurd (eqb-false b b e refl)
 free_once : (next : List ℕ) (free free_count : ℕ) → 1 ≤ free_count → 1 ≤ occurrences free (chain free_count next free)
 free_once next free free_count some =
     let count : occurrences free (chain free_count next free) ≡ occurrences free (free ∷ chain (free_count - 1) next (get_or next free 0)) =
-        ap (occurrences free) (free_first next free free_count some) in
-    omega (arith, count, times_cons free free (chain (free_count - 1) next (get_or next free 0)),
-        self_in free (chain (free_count - 1) next (get_or next free 0)) (free == free) refl)
+    ap (occurrences free) (free_first next free free_count some) in
+    omega (
+      arith,
+      count,
+      times_cons free free (chain (free_count - 1) next (get_or next free 0)),
+      self_in free (chain (free_count - 1) next (get_or next free 0)) (free == free) refl,
+    )
 
 free_within : (next : List ℕ) (free free_count : ℕ) → AllByRecursion (λ b. b < length next) (chain free_count next free) → 1 ≤ free_count → free < length next
 free_within next free free_count low some = (subst (λ bs. AllByRecursion (λ b. b < length next) bs) (free_first next free free_count some) low).0
@@ -54,13 +111,18 @@ spare_others : (a : ArenaFields) (row : List ℕ) → IsArena a → 1 ≤ a.free
     → map (slot_of (set a.store a.free row) a.next) a.slots ≡ map (slot_of a.store a.next) a.slots
 spare_others a row arena some =
     let once : occurrences a.free (chain a.free_count a.next a.free
-        ++ flat_map (λ (slot : d.Slot). d.blocks_of slot.held) (map (slot_of a.store a.next) a.slots))
-        ≡ cond (nat_lt a.free (length a.next)) 1 0 = arena.once a.free in
+    ++ flat_map (λ (slot : d.Slot). d.blocks_of slot.held) (map (slot_of a.store a.next) a.slots))
+    ≡ cond (nat_lt a.free (length a.next)) 1 0 = arena.once a.free in
     let none : occurrences a.free (flat_map (λ (slot : d.Slot). d.blocks_of slot.held) (map (slot_of a.store a.next) a.slots)) ≡ 0 =
-    omega (arith, once, at_most (nat_lt a.free (length a.next)), free_once a.next a.free a.free_count some,
-        times-append a.free (chain a.free_count a.next a.free) (flat_map (λ (slot : d.Slot). d.blocks_of slot.held) (map (slot_of a.store a.next) a.slots))) in
+    omega (
+      arith,
+      once,
+      at_most (nat_lt a.free (length a.next)),
+      free_once a.next a.free a.free_count some,
+      times-append a.free (chain a.free_count a.next a.free) (flat_map (λ (slot : d.Slot). d.blocks_of slot.held) (map (slot_of a.store a.next) a.slots)),
+    ) in
     map_same (slot_of a.store a.next) (slot_of (set a.store a.free row) a.next) (Without a.store a.next a.free) a.slots
-        (none_by a.store a.next a.free a.slots none) (slot_stays a.store a.next a.free row)
+    (none_by a.store a.next a.free a.slots none) (slot_stays a.store a.next a.free row)
 
 spare_view : (a : ArenaFields) (row : List ℕ) → IsArena a → 1 ≤ a.free_count
     → depot_of (record a { store = set a.store a.free row }) ≡ depot_of a
@@ -119,10 +181,10 @@ links_some key depot a run s has some =
     let more : suc (run.blocks - 1) + 1 ≡ run.blocks + 1 = omega (arith, has) in
     let there : occurrences run.last (chain run.blocks a.next run.first) ≡ 1 = ap (λ k. occurrences run.last (chain k a.next run.first)) (sym one) ∙ l.there in
     let else' : AllByRecursion (Without a.store a.next run.last) (slice_set a.slots key.slot (slot_at 0 Free)) =
-        none_else a key.slot (slot_at key.generation (Draft run)) run.last s.arena was (omega (arith, there)) in
+    none_else a key.slot (slot_at key.generation (Draft run)) run.last s.arena was (omega (arith, there)) in
     let p : ((a.free ≡ run.last) → ⊥) × (occurrences run.last (chain (a.free_count - 1) a.next (get_or a.next a.free 0)) ≡ 0) =
-        apart run.last a.free (chain (a.free_count - 1) a.next (get_or a.next a.free 0))
-        (ap (occurrences run.last) (sym (free_first a.next a.free a.free_count some)) ∙ l.apart) in
+    apart run.last a.free (chain (a.free_count - 1) a.next (get_or a.next a.free 0))
+    (ap (occurrences run.last) (sym (free_first a.next a.free a.free_count some)) ∙ l.apart) in
     record {
       stay = length-set a.next run.last a.free;
       others = λ new. map_kept (slot_of a.store a.next) (slot_of a.store (set a.next run.last a.free)) (Without a.store a.next run.last) a.slots key.slot new
@@ -140,7 +202,7 @@ links_some key depot a run s has some =
       own = λ index low.
           let once : occurrences run.last (chain (run.blocks - 1) a.next run.first) ≡ 0 = l.once in
           node_keeps index a.next run.last a.free run.first
-              (omega (arith, once, times_part index (run.blocks - 1) a.next run.last run.first (omega (arith, low))));
+          (omega (arith, once, times_part index (run.blocks - 1) a.next run.last run.first (omega (arith, low))));
     } where
       alone_by : (b f : ℕ) (t : Bool) → (f == b) ≡ t → ((f ≡ b) → ⊥) → cond t 1 0 + 0 ≡ 0
       alone_by b f true e h = absurd (h (eqb-true f b e))
@@ -176,7 +238,7 @@ linked_is : (key : Key) (depot : d.Depot) (a : ArenaFields) (run : Run) (n : ℕ
 linked_is key depot a run n piece row s f =
     let was : slice_get a.slots key.slot ≡ Some (slot_at key.generation (Draft run)) = stands key depot a (Draft run) s (λ e. cc) in
     let is : IsRun a.next run = each_at (λ (slot : Slot). IsContent a.next slot.content) a.slots key.slot (slot_at key.generation (Draft run)) s.arena.runs
-        was in
+    was in
     let l : Links a key.slot run (linked_next a.next run a.free) ((linked_run run a.free).first) = links key depot a run s f.free in
     let back : run.blocks + 1 - 1 ≡ run.blocks = omega arith in
     record {
@@ -193,26 +255,31 @@ linked_stamps key depot a run n s l =
     let was : slice_get a.slots key.slot ≡ Some (slot_at key.generation (Draft run)) = stands key depot a (Draft run) s (λ e. cc) in
     let new : Slot = slot_at key.generation (Draft (longer (linked_run run a.free) n)) in
     let there : slice_get (slice_set a.slots key.slot (slot_at key.generation (Draft (longer (linked_run run a.free) n)))) key.slot
-        ≡ Some (slot_at key.generation (Draft (longer (linked_run run a.free) n))) =
-        set_at a.slots key.slot (slot_at key.generation (Draft (longer (linked_run run a.free) n))) (slot_at key.generation (Draft run)) was in
+    ≡ Some (slot_at key.generation (Draft (longer (linked_run run a.free) n))) =
+    set_at a.slots key.slot (slot_at key.generation (Draft (longer (linked_run run a.free) n))) (slot_at key.generation (Draft run)) was in
     stamped_new (linked_next a.next run a.free) (slice_set a.slots key.slot (slot_at key.generation (Draft (longer (linked_run run a.free) n)))) a.stamps a.free
-        (stamp_for key run.blocks)
+    (stamp_for key run.blocks)
     (stamped_on a.next (linked_next a.next run a.free) a.slots a.stamps key.slot (slot_at key.generation (Draft run))
-        (slot_at key.generation (Draft (longer (linked_run run a.free) n))) s.arena.stamped was l.apart
+    (slot_at key.generation (Draft (longer (linked_run run a.free) n))) s.arena.stamped was l.apart
     (goes_on a.next (linked_next a.next run a.free) key.generation (Draft run) (Draft (longer (linked_run run a.free) n))
-        (λ index block h. (let low : index < run.blocks = h.0 in omega (arith, low), l.own index h.0 ∙ h.1))))
+    (λ index block h. (let low : index < run.blocks = h.0 in omega (arith, low), l.own index h.0 ∙ h.1))))
     (λ slot named.
     let same : slot_at key.generation (Draft (longer (linked_run run a.free) n)) ≡ slot =
-        let one : Some (slot_at key.generation (Draft (longer (linked_run run a.free) n))) ≡ Some slot = sym there ∙ named in cc in
+    let one : Some (slot_at key.generation (Draft (longer (linked_run run a.free) n))) ≡ Some slot = sym there ∙ named in cc in
     let P : Slot → Type 0 = λ x. IsStamped (linked_next a.next run a.free) x a.free (stamp_for key run.blocks) in
     subst P same (record { past = omega arith; here = λ e. (omega arith, l.last) }))
 
 pub linked_turn : (key : Key) (depot : d.Depot) (a : ArenaFields) (run : Run) (n : ℕ) (piece row : List ℕ) → Sees key depot a (Draft run)
     → IsNextRun a.free_count run n piece row
     → Turn a key.slot (slot_at key.generation (Draft run)) (slot_at key.generation (Draft (longer (linked_run run a.free) n)))
-    (record a { next = linked_next a.next run a.free; stamps = set a.stamps a.free (stamp_for key run.blocks);
-        slots = slice_set a.slots key.slot (slot_at key.generation (Draft (longer (linked_run run a.free) n))); free = get_or a.next a.free 0; free_count =
-        a.free_count - 1 })
+    (record a {
+      next = linked_next a.next run a.free;
+      stamps = set a.stamps a.free (stamp_for key run.blocks);
+      slots = slice_set a.slots key.slot (slot_at key.generation (Draft (longer (linked_run run a.free) n)));
+      free = get_or a.next a.free 0;
+      free_count =
+          a.free_count - 1;
+    })
 linked_turn key depot a run n piece row s f =
     let was : slice_get a.slots key.slot ≡ Some (slot_at key.generation (Draft run)) = stands key depot a (Draft run) s (λ e. cc) in
     let l : Links a key.slot run (linked_next a.next run a.free) ((linked_run run a.free).first) = links key depot a run s f.free in
@@ -231,13 +298,20 @@ linked_turn key depot a run n piece row s f =
       runs = l.runs (slot_at key.generation (Draft (longer (linked_run run a.free) n))) (linked_is key depot a run n piece row s f);
       split = λ x.
           let old : occurrences x (chain a.free_count a.next a.free) ≡ occurrences x (a.free ∷ chain (a.free_count - 1) a.next (get_or a.next a.free 0)) =
-              ap (occurrences x) (free_first a.next a.free a.free_count f.free) in
+          ap (occurrences x) (free_first a.next a.free a.free_count f.free) in
           let rest : occurrences x (chain (a.free_count - 1) (linked_next a.next run a.free) (get_or a.next a.free 0))
-              ≡ occurrences x (chain (a.free_count - 1) a.next (get_or a.next a.free 0)) = ap (occurrences x) l.rest in
+          ≡ occurrences x (chain (a.free_count - 1) a.next (get_or a.next a.free 0)) = ap (occurrences x) l.rest in
           let new : occurrences x (chain (run.blocks + 1) (linked_next a.next run a.free) ((linked_run run a.free).first))
-              ≡ occurrences x (chain run.blocks a.next run.first ++ a.free ∷ []) = ap (occurrences x) l.blocks in
-          omega (arith, old, rest, new, times_cons x a.free (chain (a.free_count - 1) a.next (get_or a.next a.free 0)), times_cons x a.free [],
-              times-append x (chain run.blocks a.next run.first) (a.free ∷ []));
+          ≡ occurrences x (chain run.blocks a.next run.first ++ a.free ∷ []) = ap (occurrences x) l.blocks in
+          omega (
+            arith,
+            old,
+            rest,
+            new,
+            times_cons x a.free (chain (a.free_count - 1) a.next (get_or a.next a.free 0)),
+            times_cons x a.free [],
+            times-append x (chain run.blocks a.next run.first) (a.free ∷ []),
+          );
     }
 
 take_all_of : (k : ℕ) (xs : List ℕ) → length xs ≡ k → take k xs ≡ xs
@@ -251,15 +325,15 @@ pub linked_bytes : (key : Key) (depot : d.Depot) (a : ArenaFields) (run : Run) (
 linked_bytes key depot a run n piece row s f there =
     let was : slice_get a.slots key.slot ≡ Some (slot_at key.generation (Draft run)) = stands key depot a (Draft run) s (λ e. cc) in
     let is : IsRun a.next run = each_at (λ (slot : Slot). IsContent a.next slot.content) a.slots key.slot (slot_at key.generation (Draft run)) s.arena.runs
-        was in
+    was in
     let l : Links a key.slot run (linked_next a.next run a.free) ((linked_run run a.free).first) = links key depot a run s f.free in
     let size : length (flat a.store (chain run.blocks a.next run.first)) ≡ run.length =
     full_length a.store (length a.next) (chain run.blocks a.next run.first) s.arena.count s.arena.sizes
-        (run_low a key.slot (slot_at key.generation (Draft run)) s.arena was)
+    (run_low a key.slot (slot_at key.generation (Draft run)) s.arena was)
     ∙ ap (λ k. BLOCK_SIZE * k) (chain_length run.blocks a.next run.first) ∙ sym (full_run run.blocks run.length is.enough f.full) in
     ap (λ bs. take (run.length + n) (flat a.store bs)) l.blocks
     ∙ ap (take (run.length + n)) (flat_append a.store (chain run.blocks a.next run.first) (a.free ∷ [])
-        ∙ ap (λ t. flat a.store (chain run.blocks a.next run.first) ++ t) (append-nil (get_or a.store a.free []) ∙ there))
+    ∙ ap (λ t. flat a.store (chain run.blocks a.next run.first) ++ t) (append-nil (get_or a.store a.free []) ∙ there))
     ∙ take_after run.length n (flat a.store (chain run.blocks a.next run.first)) row size
     ∙ ap (λ t. flat a.store (chain run.blocks a.next run.first) ++ t) f.prefix
     ∙ ap (λ t. t ++ piece) (sym (take_all_of run.length (flat a.store (chain run.blocks a.next run.first)) size))
@@ -268,9 +342,14 @@ pub linked_gains : (key : Key) (depot : d.Depot) (a : ArenaFields) (run : Run) (
     → IsNextRun a.free_count run n piece row
     → get_or a.store a.free [] ≡ row
     → Gains key a run (longer (linked_run run a.free) n) piece
-    (record a { next = linked_next a.next run a.free; stamps = set a.stamps a.free (stamp_for key run.blocks);
-        slots = slice_set a.slots key.slot (slot_at key.generation (Draft (longer (linked_run run a.free) n))); free = get_or a.next a.free 0; free_count =
-        a.free_count - 1 })
+    (record a {
+      next = linked_next a.next run a.free;
+      stamps = set a.stamps a.free (stamp_for key run.blocks);
+      slots = slice_set a.slots key.slot (slot_at key.generation (Draft (longer (linked_run run a.free) n)));
+      free = get_or a.next a.free 0;
+      free_count =
+          a.free_count - 1;
+    })
 linked_gains key depot a run n piece row s f there = record {
   picked = a.free ∷ [];
   turn = linked_turn key depot a run n piece row s f;
@@ -279,9 +358,9 @@ linked_gains key depot a run n piece row s f there = record {
   blocks = (links key depot a run s f.free).blocks;
   taken = λ x.
       let old : occurrences x (chain a.free_count a.next a.free) ≡ occurrences x (a.free ∷ chain (a.free_count - 1) a.next (get_or a.next a.free 0)) =
-          ap (occurrences x) (free_first a.next a.free a.free_count f.free) in
+      ap (occurrences x) (free_first a.next a.free a.free_count f.free) in
       let rest : occurrences x (chain (a.free_count - 1) (linked_next a.next run a.free) (get_or a.next a.free 0))
-          ≡ occurrences x (chain (a.free_count - 1) a.next (get_or a.next a.free 0)) = ap (occurrences x) ((links key depot a run s f.free).rest) in
+      ≡ occurrences x (chain (a.free_count - 1) a.next (get_or a.next a.free 0)) = ap (occurrences x) ((links key depot a run s f.free).rest) in
       omega (arith, old, rest, times_cons x a.free (chain (a.free_count - 1) a.next (get_or a.next a.free 0)), times_cons x a.free []);
 }
 
@@ -294,7 +373,7 @@ pub some_free : (key : Key) (depot : d.Depot) (a : ArenaFields) (run : Run) (byt
 some_free key depot a run bytes s room some full =
     let was : slice_get a.slots key.slot ≡ Some (slot_at key.generation (Draft run)) = stands key depot a (Draft run) s (λ e. cc) in
     let is : IsRun a.next run = each_at (λ (slot : Slot). IsContent a.next slot.content) a.slots key.slot (slot_at key.generation (Draft run)) s.arena.runs
-        was in
+    was in
     room_left run.blocks run.length (length bytes) a.free_count is.enough full some (room_to key depot a run bytes s room)
 
 pub free_there : (key : Key) (depot : d.Depot) (a : ArenaFields) (content : Content) → Sees key depot a content → 1 ≤ a.free_count → a.free < length a.next
@@ -318,7 +397,15 @@ next_by key depot a run n bytes old row other s room some full least was is =
       some = omega (arith, least, full, some);
       fits = omega (arith, least);
       size = piece;
-      row_size = omega (arith, all, piece, least, same, size, length-append (take n bytes) (drop (0 + length (take n bytes)) old),
-          length-drop (0 + length (take n bytes)) old);
+      row_size = omega (
+        arith,
+        all,
+        piece,
+        least,
+        same,
+        size,
+        length-append (take n bytes) (drop (0 + length (take n bytes)) old),
+        length-drop (0 + length (take n bytes)) old,
+      );
       prefix = ap (take n) is ∙ take_exact n (take n bytes) (drop (0 + length (take n bytes)) old) piece;
     }

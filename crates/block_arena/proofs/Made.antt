@@ -1,6 +1,32 @@
 -- An arena of free blocks and free slots.
-use Rattle.std.proofs.Common.{◌≡◌, ℕ, zero, suc, ◌+◌, ◌<◌, ◌≤◌, List, [], ◌∷◌, ◌++◌, Bool, true, false, cond, ◌==◌, Some, get_or, length, map, replicate, refl,
-    ap, sym, ◌∙◌, arith}
+use Rattle.std.proofs.Common.{
+  ◌≡◌,
+  ℕ,
+  zero,
+  suc,
+  ◌+◌,
+  ◌<◌,
+  ◌≤◌,
+  List,
+  [],
+  ◌∷◌,
+  ◌++◌,
+  Bool,
+  true,
+  false,
+  cond,
+  ◌==◌,
+  Some,
+  get_or,
+  length,
+  map,
+  replicate,
+  refl,
+  ap,
+  sym,
+  ◌∙◌,
+  arith,
+}
 use Rattle.std.specs.Prelude.{slice_get, flat_map, sum_by, nat_lt}
 use Rattle.std.specs.List.{AllByRecursion}
 use Rattle.std.proofs.lemmas.Bool.{eqb-true, eq-eqb, lt-ltb, le-ltb}
@@ -42,7 +68,7 @@ pub chain_links : (n m k : ℕ) → k + n ≤ m → chain n (links 1 m) k ≡ li
 chain_links zero m k h = refl
 chain_links (suc n) m k h =
     ap (λ g. k ∷ chain n (links 1 m) g) (get_links m 1 k (k + 1) (omega (arith, h)) (omega arith))
-        ∙ ap (λ t. k ∷ t) (chain_links n m (k + 1) (omega (arith, h)))
+    ∙ ap (λ t. k ∷ t) (chain_links n m (k + 1) (omega (arith, h)))
 
 below_by : (x k n : ℕ) (xs : List ℕ) (t : Bool) → x < k → occurrences x xs ≡ 0 → (k == x) ≡ t → occurrences x (k ∷ xs) ≡ 0
 below_by x k n xs true h rest e = let same : k ≡ x = eqb-true k x e in absurd (omega (arith, same, h))
@@ -60,12 +86,12 @@ from_by x k n end true h e rest e' =
     let on : nat_lt x end ≡ true = lt-ltb x end (omega (arith, same, e)) in
     let none : occurrences x (links (k + 1) n) ≡ 0 = times_below x (k + 1) n (omega (arith, same)) in
     times_cons x k (links (k + 1) n) ∙ ap (λ b. cond b 1 0 + occurrences x (links (k + 1) n)) e'
-        ∙ (let one : 1 + occurrences x (links (k + 1) n) ≡ 1 = omega (arith, none) in one) ∙ sym (ap (λ b. cond b 1 0) on)
+    ∙ (let one : 1 + occurrences x (links (k + 1) n) ≡ 1 = omega (arith, none) in one) ∙ sym (ap (λ b. cond b 1 0) on)
 from_by x k n end false h e rest e' =
     let other : (k ≡ x) → ⊥ = λ same. (let yes' : (k == x) ≡ true = eq-eqb k x same in cc) in
     let later : occurrences x (links (k + 1) n) ≡ cond (nat_lt x end) 1 0 = rest (omega (arith, h, other)) in
     times_cons x k (links (k + 1) n) ∙ ap (λ b. cond b 1 0 + occurrences x (links (k + 1) n)) e'
-        ∙ (let drop0 : 0 + occurrences x (links (k + 1) n) ≡ occurrences x (links (k + 1) n) = omega arith in drop0) ∙ later
+    ∙ (let drop0 : 0 + occurrences x (links (k + 1) n) ≡ occurrences x (links (k + 1) n) = omega arith in drop0) ∙ later
 
 times_from : (x k n end : ℕ) → k ≤ x → k + n ≡ end → occurrences x (links k n) ≡ cond (nat_lt x end) 1 0
 times_from x k zero end h e =
@@ -101,10 +127,10 @@ pub once_made : (store : List (List ℕ)) (stamps : List Stamp) (blocks n g : �
     (record { store = store; next = links 1 blocks; stamps = stamps; slots = replicate n (slot_at g Free); free = 0; free_count = blocks }))
 once_made store stamps blocks n g x =
     let none : flat_map (λ (slot : d.Slot). d.blocks_of slot.held) (map (slot_of store (links 1 blocks)) (replicate n (slot_at g Free))) ≡ [] =
-        none_used store (links 1 blocks) n g in
+    none_used store (links 1 blocks) n g in
     let free : chain blocks (links 1 blocks) 0 ≡ links 0 blocks = chain_links blocks blocks 0 (omega arith) in
     times-append x (chain blocks (links 1 blocks) 0)
-        (flat_map (λ (slot : d.Slot). d.blocks_of slot.held) (map (slot_of store (links 1 blocks)) (replicate n (slot_at g Free))))
+    (flat_map (λ (slot : d.Slot). d.blocks_of slot.held) (map (slot_of store (links 1 blocks)) (replicate n (slot_at g Free))))
     ∙ ap (λ t. occurrences x (chain blocks (links 1 blocks) 0) + occurrences x t) none
     ∙ (let plain : occurrences x (chain blocks (links 1 blocks) 0) + 0 ≡ occurrences x (chain blocks (links 1 blocks) 0) = omega arith in plain)
     ∙ ap (occurrences x) free
@@ -121,8 +147,14 @@ get_replicate (suc n) x zero y e = cc
 get_replicate (suc n) x (suc k) y e = get_replicate n x k y e
 
 pub made : (blocks n g : ℕ) (row : List ℕ) → length row ≡ BLOCK_SIZE → blocks ≤ BLOCK_LIMIT → n ≤ SLOT_LIMIT → g ≤ d.last_generation
-    → IsArena (record { store = replicate blocks row; next = links 1 blocks; stamps = replicate blocks UNUSED; slots = replicate n (slot_at g Free); free = 0;
-    free_count = blocks })
+    → IsArena (record {
+      store = replicate blocks row;
+      next = links 1 blocks;
+      stamps = replicate blocks UNUSED;
+      slots = replicate n (slot_at g Free);
+      free = 0;
+      free_count = blocks;
+    })
 made blocks n g row size few few_slots generation = record {
   sizes = λ k e h. ap length (get_same blocks row k e h) ∙ size;
   count = length_same blocks row ∙ sym (length_links blocks 1);

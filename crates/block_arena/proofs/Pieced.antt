@@ -1,6 +1,31 @@
 -- What a put of one piece owes, from what its code knows.
-use Rattle.std.proofs.Common.{◌≡◌, ℕ, ◌+◌, ◌-◌, ◌*◌, ◌%◌, ◌<◌, ◌≤◌, List, [], ◌++◌, Some, get_or, min, take, drop, length, set, refl, ap, sym, ◌∙◌, subst,
-    arith, length-take}
+use Rattle.std.proofs.Common.{
+  ◌≡◌,
+  ℕ,
+  ◌+◌,
+  ◌-◌,
+  ◌*◌,
+  ◌%◌,
+  ◌<◌,
+  ◌≤◌,
+  List,
+  [],
+  ◌++◌,
+  Some,
+  get_or,
+  min,
+  take,
+  drop,
+  length,
+  set,
+  refl,
+  ap,
+  sym,
+  ◌∙◌,
+  subst,
+  arith,
+  length-take,
+}
 use Rattle.std.specs.Prelude.{slice_get, slice_set}
 use Rattle.std.proofs.lemmas.List.{get_or-set_same}
 use Rattle.mail_world.specs.Depot as d
@@ -72,13 +97,13 @@ pub put_last : (key : Key) (depot : d.Depot) (a : ArenaFields) (run : Run) (n : 
 put_last key depot a run n bytes store' slot k some is e =
     let f : IsFilled a.store run n (take n bytes) (get_or a.store run.last []) (written (get_or a.store run.last []) (run.length % BLOCK_SIZE) (take n bytes)) =
     filled_by key depot a run n bytes (get_or a.store run.last []) (written (get_or a.store run.last []) (run.length % BLOCK_SIZE) (take n bytes)) [] k.sees
-        some (omega (arith, k.least)) (omega (arith, k.least)) refl refl in
+    some (omega (arith, k.least)) (omega (arith, k.least)) refl refl in
     subst (λ (x : Slot). IsPut key depot n bytes (record a { store = store'; slots = slice_set a.slots key.slot x })) (sym e)
     (subst (λ (x : List (List ℕ)). IsPut key depot n bytes
-        (record a { store = x; slots = slice_set a.slots key.slot (slot_at key.generation (Draft (longer run n))) })) (sym is)
+    (record a { store = x; slots = slice_set a.slots key.slot (slot_at key.generation (Draft (longer run n))) })) (sym is)
     (gained key depot a run (longer run n) n bytes _ k.sees
     (filled_gains key depot a run n (take n bytes) (get_or a.store run.last []) (written (get_or a.store run.last []) (run.length % BLOCK_SIZE) (take n bytes))
-        k.sees f) (omega (arith, k.least)) k.room))
+    k.sees f) (omega (arith, k.least)) k.room))
 
 put_free : (key : Key) (depot : d.Depot) (a : ArenaFields) (run : Run) (n : ℕ) (bytes old row other : List ℕ) (rest spare' : ℕ) (run' : Run) (next' : List ℕ)
     (slot : Slot)
@@ -87,26 +112,50 @@ put_free : (key : Key) (depot : d.Depot) (a : ArenaFields) (run : Run) (n : ℕ)
     → rest ≡ get_or a.next a.free spare' → run' ≡ linked_run run a.free → next' ≡ linked_next a.next run a.free
     → slot ≡ slot_at key.generation (Draft (longer run' n))
     → IsPut key depot n bytes (record
-    a { store = set a.store a.free row; next = next'; stamps = set a.stamps a.free (stamp_for key run.blocks); slots = slice_set a.slots key.slot slot;
-    free = rest; free_count = a.free_count - 1 })
+    a {
+      store = set a.store a.free row;
+      next = next';
+      stamps = set a.stamps a.free (stamp_for key run.blocks);
+      slots = slice_set a.slots key.slot slot;
+      free = rest;
+      free_count = a.free_count - 1;
+    })
 put_free key depot a run n bytes old row other rest spare' run' next' slot k full was is after runs links e =
     let f : IsNextRun a.free_count run n (take n bytes) row = next_by key depot a run n bytes old row other k.sees k.room k.some full k.least was is in
     let low : a.free < length a.next = free_there key depot a (Draft run) k.sees f.free in
     let s : Sees key depot (record a { store = set a.store a.free row }) (Draft run) = spare key depot a (Draft run) row k.sees f.free f.row_size in
     let there : get_or (set a.store a.free row) a.free [] ≡ row = get_or-set_same a.store a.free row [] (omega (arith, low, k.sees.arena.count)) in
     let same : slot ≡ slot_at key.generation (Draft (longer (linked_run run a.free) n)) =
-        e ∙ ap (λ (r : Run). slot_at key.generation (Draft (longer r n))) runs in
+    e ∙ ap (λ (r : Run). slot_at key.generation (Draft (longer r n))) runs in
     subst (λ (x : Slot). IsPut key depot n bytes
-        (record a { store = set a.store a.free row; next = next'; stamps = set a.stamps a.free (stamp_for key run.blocks); slots = slice_set a.slots key.slot x;
-        free = rest; free_count = a.free_count - 1 })) (sym same)
+    (record a {
+      store = set a.store a.free row;
+      next = next';
+      stamps = set a.stamps a.free (stamp_for key run.blocks);
+      slots = slice_set a.slots key.slot x;
+      free = rest;
+      free_count = a.free_count - 1;
+    })) (sym same)
     (subst (λ ns. IsPut key depot n bytes
-        (record a { store = set a.store a.free row; next = ns; stamps = set a.stamps a.free (stamp_for key run.blocks);
-        slots = slice_set a.slots key.slot (slot_at key.generation (Draft (longer (linked_run run a.free) n))); free = rest; free_count = a.free_count - 1 }))
-        (sym links)
+    (record a {
+      store = set a.store a.free row;
+      next = ns;
+      stamps = set a.stamps a.free (stamp_for key run.blocks);
+      slots = slice_set a.slots key.slot (slot_at key.generation (Draft (longer (linked_run run a.free) n)));
+      free = rest;
+      free_count = a.free_count - 1;
+    }))
+    (sym links)
     (subst (λ b. IsPut key depot n bytes
-        (record a { store = set a.store a.free row; next = linked_next a.next run a.free; stamps = set a.stamps a.free (stamp_for key run.blocks);
-        slots = slice_set a.slots key.slot (slot_at key.generation (Draft (longer (linked_run run a.free) n))); free = b; free_count = a.free_count - 1 }))
-        (sym (after ∙ get_any a.next a.free spare' 0 low))
+    (record a {
+      store = set a.store a.free row;
+      next = linked_next a.next run a.free;
+      stamps = set a.stamps a.free (stamp_for key run.blocks);
+      slots = slice_set a.slots key.slot (slot_at key.generation (Draft (longer (linked_run run a.free) n)));
+      free = b;
+      free_count = a.free_count - 1;
+    }))
+    (sym (after ∙ get_any a.next a.free spare' 0 low))
     (gained key depot (record a { store = set a.store a.free row }) run (longer (linked_run run a.free) n) n bytes _ s
     (linked_gains key depot (record a { store = set a.store a.free row }) run n (take n bytes) row s f there) (omega (arith, k.least)) k.room)))
 
@@ -116,14 +165,26 @@ pub put_next : (key : Key) (depot : d.Depot) (a : ArenaFields) (run : Run) (n : 
     → rest ≡ get_or a.next a.free spare' → run' ≡ linked_run run a.free → next' ≡ linked_next a.next run a.free
     → slot ≡ slot_at key.generation (Draft (longer run' n))
     → IsPut key depot n bytes (record
-    a { store = store'; next = next'; stamps = set a.stamps a.free (stamp_for key run.blocks); slots = slice_set a.slots key.slot slot; free = rest;
-    free_count = a.free_count - 1 })
+    a {
+      store = store';
+      next = next';
+      stamps = set a.stamps a.free (stamp_for key run.blocks);
+      slots = slice_set a.slots key.slot slot;
+      free = rest;
+      free_count = a.free_count - 1;
+    })
 put_next key depot a run n bytes store' rest spare' run' next' slot k full is after runs links e =
     subst (λ (x : List (List ℕ)). IsPut key depot n bytes
-        (record a { store = x; next = next'; stamps = set a.stamps a.free (stamp_for key run.blocks); slots = slice_set a.slots key.slot slot; free = rest;
-        free_count = a.free_count - 1 })) (sym is)
+    (record a {
+      store = x;
+      next = next';
+      stamps = set a.stamps a.free (stamp_for key run.blocks);
+      slots = slice_set a.slots key.slot slot;
+      free = rest;
+      free_count = a.free_count - 1;
+    })) (sym is)
     (put_free key depot a run n bytes (get_or a.store a.free []) (written (get_or a.store a.free []) 0 (take n bytes)) [] rest spare' run' next' slot k full
-        refl refl after runs links e)
+    refl refl after runs links e)
 
 -- bounds that the code needs
 pub last_low : (key : Key) (depot : d.Depot) (a : ArenaFields) (run : Run) (n : ℕ) (bytes : List ℕ) → Knows key depot a run n bytes
@@ -168,7 +229,7 @@ pub run_few : (key : Key) (depot : d.Depot) (a : ArenaFields) (run : Run) → Se
 run_few key depot a run s =
     let was : slice_get a.slots key.slot ≡ Some (slot_at key.generation (Draft run)) = stands key depot a (Draft run) s (λ e. cc) in
     let is : IsRun a.next run = each_at (λ (slot : Slot). IsContent a.next slot.content) a.slots key.slot (slot_at key.generation (Draft run)) s.arena.runs
-        was in
+    was in
     (sum_within key depot a (Draft run) run s (draft_owns a.store a.next run), enough_room run.length run.blocks is.enough)
 
 pub few : (key : Key) (depot : d.Depot) (a : ArenaFields) (run : Run) (n : ℕ) (bytes : List ℕ) → Knows key depot a run n bytes

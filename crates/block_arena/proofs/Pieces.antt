@@ -1,6 +1,34 @@
 -- A piece is written into a draft's last block.
-use Rattle.std.proofs.Common.{◌≡◌, ℕ, zero, suc, ◌+◌, ◌-◌, ◌*◌, ◌%◌, ◌<◌, ◌≤◌, List, [], ◌∷◌, ◌++◌, get_or, length, take, drop, set, refl, ap, sym, ◌∙◌, arith,
-    append_assoc, append-nil, length-append, length-take}
+use Rattle.std.proofs.Common.{
+  ◌≡◌,
+  ℕ,
+  zero,
+  suc,
+  ◌+◌,
+  ◌-◌,
+  ◌*◌,
+  ◌%◌,
+  ◌<◌,
+  ◌≤◌,
+  List,
+  [],
+  ◌∷◌,
+  ◌++◌,
+  get_or,
+  length,
+  take,
+  drop,
+  set,
+  refl,
+  ap,
+  sym,
+  ◌∙◌,
+  arith,
+  append_assoc,
+  append-nil,
+  length-append,
+  length-take,
+}
 use Rattle.std.specs.Prelude.{flat_map}
 use Rattle.std.proofs.lemmas.List.{get_or-set_same, get_or-set_other}
 use Rattle.mail_world.specs.Depot as d
@@ -76,17 +104,17 @@ pub written : (store : List (List ℕ)) (bs : List ℕ) (last m at n len : ℕ) 
 written store bs last m at n len piece apart low size row e long fits =
     let new : List ℕ = take at (get_or store last []) ++ piece ++ drop (at + n) (get_or store last []) in
     let prefix : length (take at (get_or store last []) ++ piece) ≡ at + n =
-        omega (arith, length-append (take at (get_or store last [])) piece, length-take at (get_or store last []), row, long, fits) in
+    omega (arith, length-append (take at (get_or store last [])) piece, length-take at (get_or store last []), row, long, fits) in
     let one : flat (set store last (take at (get_or store last []) ++ piece ++ drop (at + n) (get_or store last []))) (bs ++ last ∷ []) ≡ flat store bs
-        ++ (take at (get_or store last []) ++ piece ++ drop (at + n) (get_or store last [])) =
+    ++ (take at (get_or store last []) ++ piece ++ drop (at + n) (get_or store last [])) =
     flat_append (set store last (take at (get_or store last []) ++ piece ++ drop (at + n) (get_or store last []))) bs (last ∷ [])
     ∙ ap (λ t. t ++ flat (set store last (take at (get_or store last []) ++ piece ++ drop (at + n) (get_or store last []))) (last ∷ []))
-        (flat_keeps store last (take at (get_or store last []) ++ piece ++ drop (at + n) (get_or store last [])) bs apart)
+    (flat_keeps store last (take at (get_or store last []) ++ piece ++ drop (at + n) (get_or store last [])) bs apart)
     ∙ ap (λ t. flat store bs ++ t)
-        (append-nil (get_or (set store last (take at (get_or store last []) ++ piece ++ drop (at + n) (get_or store last []))) last [])
-        ∙ get_or-set_same store last (take at (get_or store last []) ++ piece ++ drop (at + n) (get_or store last [])) [] low) in
+    (append-nil (get_or (set store last (take at (get_or store last []) ++ piece ++ drop (at + n) (get_or store last []))) last [])
+    ∙ get_or-set_same store last (take at (get_or store last []) ++ piece ++ drop (at + n) (get_or store last [])) [] low) in
     let old : flat store (bs ++ last ∷ []) ≡ flat store bs ++ get_or store last [] =
-        flat_append store bs (last ∷ []) ∙ ap (λ t. flat store bs ++ t) (append-nil (get_or store last [])) in
+    flat_append store bs (last ∷ []) ∙ ap (λ t. flat store bs ++ t) (append-nil (get_or store last [])) in
     let sum : len + n ≡ m + (at + n) = omega (arith, e) in
     ap (take (len + n)) one
     ∙ ap (λ j. take j (flat store bs ++ (take at (get_or store last []) ++ piece ++ drop (at + n) (get_or store last [])))) sum
@@ -94,4 +122,4 @@ written store bs last m at n len piece apart low size row e long fits =
     ∙ ap (λ t. flat store bs ++ t) (take_exact (at + n) (take at (get_or store last []) ++ piece) (drop (at + n) (get_or store last [])) prefix)
     ∙ sym (append_assoc (flat store bs) (take at (get_or store last [])) piece)
     ∙ ap (λ t. t ++ piece) (sym (take_after m at (flat store bs) (get_or store last []) size) ∙ ap (λ j. take j (flat store bs ++ get_or store last [])) (sym e)
-        ∙ ap (take len) (sym old))
+    ∙ ap (take len) (sym old))

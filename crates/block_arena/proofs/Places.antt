@@ -1,6 +1,32 @@
 -- A place of a run is found from another place of it.
-use Rattle.std.proofs.Common.{◌≡◌, ℕ, zero, suc, ◌+◌, ◌-◌, ◌*◌, ◌/◌, ◌<◌, ◌≤◌, List, Bool, true, false, cond, Option, Some, None, get_or, length, refl, ap, sym,
-    ◌∙◌, subst, arith}
+use Rattle.std.proofs.Common.{
+  ◌≡◌,
+  ℕ,
+  zero,
+  suc,
+  ◌+◌,
+  ◌-◌,
+  ◌*◌,
+  ◌/◌,
+  ◌<◌,
+  ◌≤◌,
+  List,
+  Bool,
+  true,
+  false,
+  cond,
+  Option,
+  Some,
+  None,
+  get_or,
+  length,
+  refl,
+  ap,
+  sym,
+  ◌∙◌,
+  subst,
+  arith,
+}
 use Rattle.std.specs.Prelude.{slice_get, ◌==◌, ◌&&◌}
 use Rattle.std.specs.List.{AllByRecursion}
 use Rattle.mail_world.specs.Depot as d
@@ -70,14 +96,14 @@ borne_out : (key : Key) (depot : d.Depot) (a : ArenaFields) (run : Run) (holds :
     → IsPlace a.next run mark
 borne_out key depot a run holds mark stamp s at e =
     let p : ((stamp.slot == key.slot && stamp.generation == key.generation) ≡ true) × ((stamp.index == mark.index) ≡ true) =
-        both (stamp.slot == key.slot && stamp.generation == key.generation) (stamp.index == mark.index) e in
+    both (stamp.slot == key.slot && stamp.generation == key.generation) (stamp.index == mark.index) e in
     let q : ((stamp.slot == key.slot) ≡ true) × ((stamp.generation == key.generation) ≡ true) =
-        both (stamp.slot == key.slot) (stamp.generation == key.generation) p.0 in
+    both (stamp.slot == key.slot) (stamp.generation == key.generation) p.0 in
     let index : stamp.index ≡ mark.index = eqb-true stamp.index mark.index p.1 in
     let named : slice_get a.slots stamp.slot ≡ Some (slot_at key.generation (Sealed run holds)) =
-        ap (slice_get a.slots) (eqb-true stamp.slot key.slot q.0) ∙ stands key depot a (Sealed run holds) s (λ e. cc) in
+    ap (slice_get a.slots) (eqb-true stamp.slot key.slot q.0) ∙ stands key depot a (Sealed run holds) s (λ e. cc) in
     let there : (stamp.index < run.blocks) × (node stamp.index a.next run.first ≡ mark.block) =
-        (s.arena.stamped mark.block stamp (slot_at key.generation (Sealed run holds)) at named).here (eqb-true stamp.generation key.generation q.1) in
+    (s.arena.stamped mark.block stamp (slot_at key.generation (Sealed run holds)) at named).here (eqb-true stamp.generation key.generation q.1) in
     let low : stamp.index < run.blocks = there.0 in
     record {
       is = ap (λ i. node i a.next run.first) (sym index) ∙ there.1;
@@ -101,7 +127,7 @@ pub start_is : (key : Key) (depot : d.Depot) (a : ArenaFields) (run : Run) (hold
 start_is key depot a run holds stamps mark result s same e =
     let P : Bookmark → Type 0 = λ place. IsPlace a.next run place in
     subst P (sym (e ∙ ap (λ (xs : List Stamp). start_of (slice_get xs mark.block) key run mark) same))
-        (start_by (slice_get a.stamps mark.block) key depot a run holds mark s refl)
+    (start_by (slice_get a.stamps mark.block) key depot a run holds mark s refl)
 
 pub block_at_byte : (run : Run) (at : ℕ) → run.length ≤ BLOCK_SIZE * run.blocks → at < run.length → at / BLOCK_SIZE < run.blocks
 block_at_byte run at e h = omega (arith, e, h)

@@ -1,6 +1,34 @@
 -- A draft gains a piece, and a run of pieces is one.
-use Rattle.std.proofs.Common.{◌≡◌, ℕ, ◌+◌, ◌≤◌, List, [], ◌++◌, Bool, true, false, cond, ◌==◌, Some, length, take, drop, refl, ap, sym, ◌∙◌, subst, arith,
-    length-append, length-drop, append-nil, append_assoc, take-add, drop-drop}
+use Rattle.std.proofs.Common.{
+  ◌≡◌,
+  ℕ,
+  ◌+◌,
+  ◌≤◌,
+  List,
+  [],
+  ◌++◌,
+  Bool,
+  true,
+  false,
+  cond,
+  ◌==◌,
+  Some,
+  length,
+  take,
+  drop,
+  refl,
+  ap,
+  sym,
+  ◌∙◌,
+  subst,
+  arith,
+  length-append,
+  length-drop,
+  append-nil,
+  append_assoc,
+  take-add,
+  drop-drop,
+}
 use Rattle.std.specs.Prelude.{slice_get, slice_set}
 use Rattle.std.proofs.lemmas.Bool.{eq-eqb}
 use Rattle.mail_world.specs.Depot as d
@@ -39,9 +67,9 @@ pub room_to : (key : Key) (depot : d.Depot) (a : ArenaFields) (run : Run) (bytes
     → Sees key depot a (Draft run) → d.HasRoom depot (depot_key key) bytes → d.blocks_for (run.length + length bytes) ≤ run.blocks + a.free_count
 room_to key depot a run bytes s h =
     let all : length (d.bytes_of (d.held_under depot (depot_key key)) ++ bytes) ≡ run.length + length bytes =
-        omega (arith, draft_length key depot a run s, length-append (d.bytes_of (d.held_under depot (depot_key key))) bytes) in
+    omega (arith, draft_length key depot a run s, length-append (d.bytes_of (d.held_under depot (depot_key key))) bytes) in
     let blocks : length (d.blocks_of (d.held_under depot (depot_key key))) ≡ run.blocks =
-        ap (λ h. length (d.blocks_of h)) (under key depot a (Draft run) s) ∙ chain_length run.blocks a.next run.first in
+    ap (λ h. length (d.blocks_of h)) (under key depot a (Draft run) s) ∙ chain_length run.blocks a.next run.first in
     let spare : length depot.free ≡ a.free_count = ap (λ (e : d.Depot). length e.free) (sym s.view) ∙ chain_length a.free_count a.next a.free in
     omega (arith, all, blocks, spare, h)
 
@@ -49,9 +77,9 @@ pub room_from : (key : Key) (depot : d.Depot) (a : ArenaFields) (run : Run) (byt
     → Sees key depot a (Draft run) → d.blocks_for (run.length + length bytes) ≤ run.blocks + a.free_count → d.HasRoom depot (depot_key key) bytes
 room_from key depot a run bytes s h =
     let all : length (d.bytes_of (d.held_under depot (depot_key key)) ++ bytes) ≡ run.length + length bytes =
-        omega (arith, draft_length key depot a run s, length-append (d.bytes_of (d.held_under depot (depot_key key))) bytes) in
+    omega (arith, draft_length key depot a run s, length-append (d.bytes_of (d.held_under depot (depot_key key))) bytes) in
     let blocks : length (d.blocks_of (d.held_under depot (depot_key key))) ≡ run.blocks =
-        ap (λ h. length (d.blocks_of h)) (under key depot a (Draft run) s) ∙ chain_length run.blocks a.next run.first in
+    ap (λ h. length (d.blocks_of h)) (under key depot a (Draft run) s) ∙ chain_length run.blocks a.next run.first in
     let spare : length depot.free ≡ a.free_count = ap (λ (e : d.Depot). length e.free) (sym s.view) ∙ chain_length a.free_count a.next a.free in
     omega (arith, all, blocks, spare, h)
 
@@ -69,12 +97,12 @@ pub gained_puts : (key : Key) (depot : d.Depot) (a : ArenaFields) (run run' : Ru
     → d.Puts depot (depot_key key) piece (depot_of a')
 gained_puts key depot a run run' piece a' s g =
     let there : slice_get a'.slots key.slot ≡ Some (slot_at key.generation (Draft run')) =
-        turned_at a key.slot (slot_at key.generation (Draft run)) (slot_at key.generation (Draft run')) a' g.turn in
+    turned_at a key.slot (slot_at key.generation (Draft run)) (slot_at key.generation (Draft run')) a' g.turn in
     let new : Sees key (depot_of a') a' (Draft run') = sees_new key depot a run run' a' g.turn in
     let is : IsRun a'.next run' = each_at (λ (slot : Slot). IsContent a'.next slot.content) a'.slots key.slot (slot_at key.generation (Draft run')) g.turn.runs
-        there in
+    there in
     let long : run'.length ≡ length (bytes_in a'.store a'.next run') =
-        run_length a'.store a'.next run' new.arena.count new.arena.sizes is (run_low a' key.slot (slot_at key.generation (Draft run')) new.arena there) in
+    run_length a'.store a'.next run' new.arena.count new.arena.sizes is (run_low a' key.slot (slot_at key.generation (Draft run')) new.arena there) in
     record {
       bytes = bytes_in a.store a.next run;
       blocks = blocks_in a.next run;
@@ -87,9 +115,9 @@ gained_puts key depot a run run' piece a' s g =
           ap (λ (ss : List d.Slot). record { slots = ss; free = chain a'.free_count a'.next a'.free }) g.turn.others
           ∙ ap (λ bs. d.with_held (depot_of a) (depot_key key) (d.Draft bs (blocks_in a'.next run')) (chain a'.free_count a'.next a'.free)) g.bytes
           ∙ ap (λ bs. d.with_held (depot_of a) (depot_key key) (d.Draft (bytes_in a.store a.next run ++ piece) bs) (chain a'.free_count a'.next a'.free))
-              g.blocks
+          g.blocks
           ∙ ap (λ (e : d.Depot). d.with_held e (depot_key key) (d.Draft (bytes_in a.store a.next run ++ piece) (blocks_in a.next run ++ g.picked))
-              (chain a'.free_count a'.next a'.free)) s.view;
+          (chain a'.free_count a'.next a'.free)) s.view;
     }
 
 pub gained_room : (key : Key) (depot : d.Depot) (a : ArenaFields) (run run' : Run) (n : ℕ) (bytes : List ℕ) (a' : ArenaFields)
@@ -108,10 +136,10 @@ pub puts_none : (key : Key) (depot : d.Depot) (a : ArenaFields) (run : Run) → 
 puts_none key depot a run s =
     let was : slice_get a.slots key.slot ≡ Some (slot_at key.generation (Draft run)) = stands key depot a (Draft run) s (λ e. cc) in
     let is : IsRun a.next run = each_at (λ (slot : Slot). IsContent a.next slot.content) a.slots key.slot (slot_at key.generation (Draft run)) s.arena.runs
-        was in
+    was in
     let here : d.held_under depot (depot_key key) ≡ d.Draft (bytes_in a.store a.next run) (blocks_in a.next run) = under key depot a (Draft run) s in
     let long : run.length ≡ length (bytes_in a.store a.next run) =
-        run_length a.store a.next run s.arena.count s.arena.sizes is (run_low a key.slot (slot_at key.generation (Draft run)) s.arena was) in
+    run_length a.store a.next run s.arena.count s.arena.sizes is (run_low a key.slot (slot_at key.generation (Draft run)) s.arena was) in
     record {
       bytes = bytes_in a.store a.next run;
       blocks = blocks_in a.next run;
@@ -125,8 +153,8 @@ puts_none key depot a run s =
           ap (λ bs. d.with_held depot (depot_key key) (d.Draft bs (blocks_in a.next run ++ [])) depot.free) (append-nil (bytes_in a.store a.next run))
           ∙ ap (λ bs. d.with_held depot (depot_key key) (d.Draft (bytes_in a.store a.next run) bs) depot.free) (append-nil (blocks_in a.next run))
           ∙ ap (λ (ss : List d.Slot). record { slots = ss; free = depot.free })
-              (set_same depot.slots key.slot (record { generation = key.generation; held = d.Draft (bytes_in a.store a.next run) (blocks_in a.next run) })
-              (used depot (depot_key key) (d.Draft (bytes_in a.store a.next run) (blocks_in a.next run)) here (λ e. cc)))
+          (set_same depot.slots key.slot (record { generation = key.generation; held = d.Draft (bytes_in a.store a.next run) (blocks_in a.next run) })
+          (used depot (depot_key key) (d.Draft (bytes_in a.store a.next run) (blocks_in a.next run)) here (λ e. cc)))
           );
     }
 
@@ -134,14 +162,14 @@ puts_none key depot a run s =
 pub puts_then : (a b c : d.Depot) (key : d.Key) (xs ys : List ℕ) → d.Puts a key xs b → d.Puts b key ys c → d.Puts a key (xs ++ ys) c
 puts_then a b c key xs ys p q =
     let was : slice_get a.slots key.slot ≡ Some (record { generation = key.generation; held = d.Draft p.bytes p.blocks }) =
-        used a key (d.Draft p.bytes p.blocks) p.draft (λ e. cc) in
+    used a key (d.Draft p.bytes p.blocks) p.draft (λ e. cc) in
     let there : slice_get (slice_set a.slots key.slot (record { generation = key.generation; held = d.Draft (p.bytes ++ xs) (p.blocks ++ p.picked) })) key.slot
-        ≡ Some (record { generation = key.generation; held = d.Draft (p.bytes ++ xs) (p.blocks ++ p.picked) }) =
+    ≡ Some (record { generation = key.generation; held = d.Draft (p.bytes ++ xs) (p.blocks ++ p.picked) }) =
     set_at a.slots key.slot (record { generation = key.generation; held = d.Draft (p.bytes ++ xs) (p.blocks ++ p.picked) })
-        (record { generation = key.generation; held = d.Draft p.bytes p.blocks }) was in
+    (record { generation = key.generation; held = d.Draft p.bytes p.blocks }) was in
     let between : d.held_under b key ≡ d.Draft (p.bytes ++ xs) (p.blocks ++ p.picked) =
-        ap (λ (e : d.Depot). d.held_under e key) p.after
-        ∙ held_there (d.with_held a key (d.Draft (p.bytes ++ xs) (p.blocks ++ p.picked)) p.rest) key (d.Draft (p.bytes ++ xs) (p.blocks ++ p.picked)) there in
+    ap (λ (e : d.Depot). d.held_under e key) p.after
+    ∙ held_there (d.with_held a key (d.Draft (p.bytes ++ xs) (p.blocks ++ p.picked)) p.rest) key (d.Draft (p.bytes ++ xs) (p.blocks ++ p.picked)) there in
     let same : d.Draft q.bytes q.blocks ≡ d.Draft (p.bytes ++ xs) (p.blocks ++ p.picked) = sym q.draft ∙ between in
     let bytes : q.bytes ≡ p.bytes ++ xs = ap d.bytes_of same in
     let blocks : q.blocks ≡ p.blocks ++ p.picked = ap d.blocks_of same in
@@ -165,8 +193,8 @@ puts_then a b c key xs ys p q =
           ∙ ap (λ t. d.with_held b key (d.Draft (p.bytes ++ (xs ++ ys)) t) q.rest) every
           ∙ ap (λ (e : d.Depot). d.with_held e key (d.Draft (p.bytes ++ (xs ++ ys)) (p.blocks ++ (p.picked ++ q.picked))) q.rest) p.after
           ∙ ap (λ (ss : List d.Slot). record { slots = ss; free = q.rest })
-              (set_twice a.slots key.slot (record { generation = key.generation; held = d.Draft (p.bytes ++ xs) (p.blocks ++ p.picked) })
-              (record { generation = key.generation; held = d.Draft (p.bytes ++ (xs ++ ys)) (p.blocks ++ (p.picked ++ q.picked)) }));
+          (set_twice a.slots key.slot (record { generation = key.generation; held = d.Draft (p.bytes ++ xs) (p.blocks ++ p.picked) })
+          (record { generation = key.generation; held = d.Draft (p.bytes ++ (xs ++ ys)) (p.blocks ++ (p.picked ++ q.picked)) }));
     }
 
 -- the bytes up to a place are put, and there is room for the others

@@ -1,6 +1,37 @@
 -- A run's bytes, read block by block.
-use Rattle.std.proofs.Common.{◌≡◌, ℕ, zero, suc, ◌+◌, ◌-◌, ◌*◌, ◌<◌, ◌≤◌, List, [], ◌∷◌, ◌++◌, get_or, length, take, drop, min, refl, ap, sym, ◌∙◌, subst,
-    arith, ◌/◌, ◌%◌, length-drop, length-take, drop-drop, take-add, take_all}
+use Rattle.std.proofs.Common.{
+  ◌≡◌,
+  ℕ,
+  zero,
+  suc,
+  ◌+◌,
+  ◌-◌,
+  ◌*◌,
+  ◌<◌,
+  ◌≤◌,
+  List,
+  [],
+  ◌∷◌,
+  ◌++◌,
+  get_or,
+  length,
+  take,
+  drop,
+  min,
+  refl,
+  ap,
+  sym,
+  ◌∙◌,
+  subst,
+  arith,
+  ◌/◌,
+  ◌%◌,
+  length-drop,
+  length-take,
+  drop-drop,
+  take-add,
+  take_all,
+}
 use Rattle.std.specs.Prelude.{flat_map}
 use Rattle.std.specs.List.{All, AllByRecursion}
 use Rattle.mail_world.specs.declared.limits.TheConstants.{BLOCK_SIZE}
@@ -53,14 +84,16 @@ walk : (store : List (List ℕ)) (next : List ℕ) (q m n first : ℕ) → n ≡
     → (drop (BLOCK_SIZE * q) (whole store next n first) ≡ whole store next m (node q next first))
     × AllByRecursion (λ b. b < length next) (chain m next (node q next first))
 walk store next zero m n first e sizes count low =
-    let same : n ≡ m = omega (arith, e) in
-    (ap (λ k. drop k (whole store next n first)) (let z : BLOCK_SIZE * zero ≡ 0 = omega arith in z)
-        ∙ ap (λ k. whole store next k first) same, subst (λ k. AllByRecursion (λ b. b < length next) (chain k next first)) same low)
+    let same : n ≡ m = omega (arith, e) in (
+      ap (λ k. drop k (whole store next n first)) (let z : BLOCK_SIZE * zero ≡ 0 = omega arith in z)
+          ∙ ap (λ k. whole store next k first) same,
+      subst (λ k. AllByRecursion (λ b. b < length next) (chain k next first)) same low,
+    )
 walk store next (suc q) m zero first e sizes count low = absurd (omega (arith, e))
 walk store next (suc q) m (suc n) first e sizes count low =
     let here : length (get_or store first []) ≡ BLOCK_SIZE = sizes first [] (omega (arith, low.0, count)) in
     let rest : (drop (BLOCK_SIZE * q) (whole store next n (get_or next first 0)) ≡ whole store next m (node q next (get_or next first 0)))
-        × AllByRecursion (λ b. b < length next) (chain m next (node q next (get_or next first 0))) =
+    × AllByRecursion (λ b. b < length next) (chain m next (node q next (get_or next first 0))) =
     walk store next q m n (get_or next first 0) (omega (arith, e)) sizes count low.1 in (
       ap (λ k. drop k (get_or store first [] ++ whole store next n (get_or next first 0)))
           (let z : BLOCK_SIZE * suc q ≡ BLOCK_SIZE + BLOCK_SIZE * q = omega arith in z)
@@ -103,11 +136,11 @@ pub reads_in : (store : List (List ℕ)) (next : List ℕ) (run : Run) (total at
 reads_in store next run total at out block r inside room short e =
     let q : at / BLOCK_SIZE ≤ run.blocks = omega (arith, inside, r.enough) in
     let w : (drop (BLOCK_SIZE * (at / BLOCK_SIZE)) (whole store next run.blocks run.first)
-        ≡ whole store next (run.blocks - at / BLOCK_SIZE) (node (at / BLOCK_SIZE) next run.first))
-        × AllByRecursion (λ b. b < length next) (chain (run.blocks - at / BLOCK_SIZE) next (node (at / BLOCK_SIZE) next run.first)) =
+    ≡ whole store next (run.blocks - at / BLOCK_SIZE) (node (at / BLOCK_SIZE) next run.first))
+    × AllByRecursion (λ b. b < length next) (chain (run.blocks - at / BLOCK_SIZE) next (node (at / BLOCK_SIZE) next run.first)) =
     walk store next (at / BLOCK_SIZE) (run.blocks - at / BLOCK_SIZE) run.blocks run.first (omega (arith, q)) r.sizes r.count r.low in
     let size : length (whole store next run.blocks run.first) ≡ BLOCK_SIZE * run.blocks =
-        full_length store (length next) (blocks_in next run) r.count r.sizes r.low ∙ ap (λ k. BLOCK_SIZE * k) (chain_length run.blocks next run.first) in
+    full_length store (length next) (blocks_in next run) r.count r.sizes r.low ∙ ap (λ k. BLOCK_SIZE * k) (chain_length run.blocks next run.first) in
     record {
       m = run.blocks - at / BLOCK_SIZE;
       low = subst (λ b. AllByRecursion (λ x. x < length next) (chain (run.blocks - at / BLOCK_SIZE) next b)) (sym e) w.1;
@@ -127,9 +160,9 @@ joined : (out P S start piece whole_piece : List ℕ) (done n : ℕ) → out ≡
     → take done out ++ piece ++ drop (done + n) out ≡ P ++ piece ++ drop (done + n) start
 joined out P S start piece w done n e size s =
     let prefix : take done out ≡ P =
-        ap (take done) e ∙ (let k : done ≤ length P = omega (arith, size) in take_prefix done P S k) ∙ take_all done P (omega (arith, size)) in
+    ap (take done) e ∙ (let k : done ≤ length P = omega (arith, size) in take_prefix done P S k) ∙ take_all done P (omega (arith, size)) in
     let back : drop (done + n) out ≡ drop (done + n) start =
-        ap (drop (done + n)) e ∙ sym (drop-drop n done (P ++ S)) ∙ ap (drop n) (drop_prefix done P S size ∙ s) ∙ drop-drop n done start in
+    ap (drop (done + n)) e ∙ sym (drop-drop n done (P ++ S)) ∙ ap (drop n) (drop_prefix done P S size ∙ s) ∙ drop-drop n done start in
     ap (λ p. p ++ piece ++ drop (done + n) out) prefix ∙ ap (λ b. P ++ piece ++ b) back
 
 step_by : (store : List (List ℕ)) (next : List ℕ) (c : Copying) (p : Progress) (n : ℕ) (row out' : List ℕ) (m : ℕ)
@@ -147,7 +180,7 @@ step_by store next c p n row out' (suc m) sizes count low left enough some from_
     let size : length row ≡ BLOCK_SIZE = ap length er ∙ here in
     let rest : List ℕ = whole store next m (get_or next p.block 0) in
     let same : drop (c.at + p.done) c.all ≡ drop p.from (row ++ whole store next m (get_or next p.block 0)) =
-        left ∙ ap (λ r. drop p.from (r ++ whole store next m (get_or next p.block 0))) (sym er) in
+    left ∙ ap (λ r. drop p.from (r ++ whole store next m (get_or next p.block 0))) (sym er) in
     let fits : p.from + n ≤ BLOCK_SIZE = omega (arith, en, from_in) in
     let piece : take n (drop p.done (drop c.at c.all)) ≡ take n (drop p.from row) =
     ap (take n) (drop-drop p.done c.at c.all ∙ same ∙ drop_in p.from row (whole store next m (get_or next p.block 0)) (omega (arith, size, from_in)))
@@ -202,4 +235,4 @@ pub reads_all : (store : List (List ℕ)) (next : List ℕ) (run : Run) (total a
 reads_all store next run total at start p r over short =
     let same : p.done ≡ total = omega (arith, r.within, over) in
     r.is ∙ ap (λ k. take k (drop at (whole store next run.blocks run.first)) ++ drop k start) same
-        ∙ ap (λ p. p ++ drop total start) (sym (take_short total run.length at (whole store next run.blocks run.first) short))
+    ∙ ap (λ p. p ++ drop total start) (sym (take_short total run.length at (whole store next run.blocks run.first) short))

@@ -1,6 +1,40 @@
 -- What the depot says under a key, from what lies in the slot.
-use Rattle.std.proofs.Common.{◌≡◌, ℕ, zero, suc, ◌+◌, ◌*◌, ◌<◌, ◌≤◌, List, [], ◌∷◌, ◌++◌, Bool, true, false, cond, ◌==◌, ◌⊎◌, inl, inr, Option, Some, None,
-    get_or, length, map, refl, ap, sym, ◌∙◌, subst, arith, length-append, length-take}
+use Rattle.std.proofs.Common.{
+  ◌≡◌,
+  ℕ,
+  zero,
+  suc,
+  ◌+◌,
+  ◌*◌,
+  ◌<◌,
+  ◌≤◌,
+  List,
+  [],
+  ◌∷◌,
+  ◌++◌,
+  Bool,
+  true,
+  false,
+  cond,
+  ◌==◌,
+  ◌⊎◌,
+  inl,
+  inr,
+  Option,
+  Some,
+  None,
+  get_or,
+  length,
+  map,
+  refl,
+  ap,
+  sym,
+  ◌∙◌,
+  subst,
+  arith,
+  length-append,
+  length-take,
+}
 use Rattle.std.specs.Prelude.{slice_get, slice_set, flat_map, nat_lt, option_map}
 use Rattle.std.specs.List.{All, AllByRecursion}
 use Rattle.std.proofs.lemmas.Bool.{eq-eqb, ltb-true}
@@ -81,15 +115,20 @@ pub run_times : (a : ArenaFields) (i : ℕ) (s : Slot) → IsArena a → slice_g
     ≤ cond (nat_lt x (length a.next)) 1 0
 run_times a i s arena was x =
     let total : occurrences x (flat_map (λ (slot : d.Slot). d.blocks_of slot.held)
-        (slice_set (map (slot_of a.store a.next) a.slots) i (record { generation = 0; held = d.Free })))
-        + occurrences x (d.blocks_of (held a.store a.next s.content))
-        ≡ occurrences x (flat_map (λ (slot : d.Slot). d.blocks_of slot.held) (map (slot_of a.store a.next) a.slots)) + 0 =
+    (slice_set (map (slot_of a.store a.next) a.slots) i (record { generation = 0; held = d.Free })))
+    + occurrences x (d.blocks_of (held a.store a.next s.content))
+    ≡ occurrences x (flat_map (λ (slot : d.Slot). d.blocks_of slot.held) (map (slot_of a.store a.next) a.slots)) + 0 =
     total_set (λ y. cond (y == x) 1 0) (λ (slot : d.Slot). d.blocks_of slot.held) (map (slot_of a.store a.next) a.slots) i (slot_of a.store a.next s)
-        (record { generation = 0; held = d.Free }) (get_map (slot_of a.store a.next) a.slots i s was) in
+    (record { generation = 0; held = d.Free }) (get_map (slot_of a.store a.next) a.slots i s was) in
     let once : occurrences x (chain a.free_count a.next a.free ++ flat_map (λ (slot : d.Slot). d.blocks_of slot.held) (map (slot_of a.store a.next) a.slots))
-        ≡ cond (nat_lt x (length a.next)) 1 0 = arena.once x in
-    omega (arith, total, once, times-append x (chain a.free_count a.next a.free)
-        (flat_map (λ (slot : d.Slot). d.blocks_of slot.held) (map (slot_of a.store a.next) a.slots)))
+    ≡ cond (nat_lt x (length a.next)) 1 0 = arena.once x in
+    omega (
+      arith,
+      total,
+      once,
+      times-append x (chain a.free_count a.next a.free)
+          (flat_map (λ (slot : d.Slot). d.blocks_of slot.held) (map (slot_of a.store a.next) a.slots)),
+    )
 
 pub run_low : (a : ArenaFields) (i : ℕ) (s : Slot) → IsArena a → slice_get a.slots i ≡ Some s
     → AllByRecursion (λ b. b < length a.next) (d.blocks_of (held a.store a.next s.content))
@@ -98,9 +137,13 @@ run_low a i s arena was = low_by (length a.next) (d.blocks_of (held a.store a.ne
 pub free_low : (a : ArenaFields) → IsArena a → AllByRecursion (λ b. b < length a.next) (chain a.free_count a.next a.free)
 free_low a arena = low_by (length a.next) (chain a.free_count a.next a.free) (λ x.
     let once : occurrences x (chain a.free_count a.next a.free ++ flat_map (λ (slot : d.Slot). d.blocks_of slot.held) (map (slot_of a.store a.next) a.slots))
-        ≡ cond (nat_lt x (length a.next)) 1 0 = arena.once x in
-    omega (arith, once, times-append x (chain a.free_count a.next a.free)
-        (flat_map (λ (slot : d.Slot). d.blocks_of slot.held) (map (slot_of a.store a.next) a.slots))))
+    ≡ cond (nat_lt x (length a.next)) 1 0 = arena.once x in
+    omega (
+      arith,
+      once,
+      times-append x (chain a.free_count a.next a.free)
+          (flat_map (λ (slot : d.Slot). d.blocks_of slot.held) (map (slot_of a.store a.next) a.slots)),
+    ))
 
 pub full_length : (store : List (List ℕ)) (k : ℕ) (bs : List ℕ) → length store ≡ k → All (λ (bytes : List ℕ). length bytes ≡ BLOCK_SIZE) store
     → AllByRecursion (λ b. b < k) bs
@@ -117,26 +160,31 @@ pub run_length : (store : List (List ℕ)) (next : List ℕ) (run : Run) → len
     → IsRun next run
     → AllByRecursion (λ b. b < length next) (blocks_in next run) → run.length ≡ length (bytes_in store next run)
 run_length store next run same sizes is low =
-    omega (arith, enough_room run.length run.blocks is.enough, chain_length run.blocks next run.first,
-        full_length store (length next) (blocks_in next run) same sizes low, length-take run.length (flat_map (λ b. get_or store b []) (blocks_in next run)))
+    omega (
+      arith,
+      enough_room run.length run.blocks is.enough,
+      chain_length run.blocks next run.first,
+      full_length store (length next) (blocks_in next run) same sizes low,
+      length-take run.length (flat_map (λ b. get_or store b []) (blocks_in next run)),
+    )
 
 pub draft_length : (key : Key) (depot : d.Depot) (a : ArenaFields) (run : Run)
     → Sees key depot a (Draft run) → run.length ≡ length (d.bytes_of (d.held_under depot (depot_key key)))
 draft_length key depot a run s =
     let was : slice_get a.slots key.slot ≡ Some (record { generation = key.generation; content = Draft run }) = stands key depot a (Draft run) s (λ e. cc) in
     run_length a.store a.next run s.arena.count s.arena.sizes
-        (each_at (λ (slot : Slot). IsContent a.next slot.content) a.slots key.slot (record { generation = key.generation; content = Draft run }) s.arena.runs
-        was) (run_low a key.slot (record { generation = key.generation; content = Draft run }) s.arena was)
+    (each_at (λ (slot : Slot). IsContent a.next slot.content) a.slots key.slot (record { generation = key.generation; content = Draft run }) s.arena.runs
+    was) (run_low a key.slot (record { generation = key.generation; content = Draft run }) s.arena was)
     ∙ ap (λ h. length (d.bytes_of h)) (sym (under key depot a (Draft run) s))
 
 pub sealed_length : (key : Key) (depot : d.Depot) (a : ArenaFields) (run : Run) (holds : ℕ)
     → Sees key depot a (Sealed run holds) → run.length ≡ length (d.bytes_of (d.held_under depot (depot_key key)))
 sealed_length key depot a run holds s =
     let was : slice_get a.slots key.slot ≡ Some (record { generation = key.generation; content = Sealed run holds }) =
-        stands key depot a (Sealed run holds) s (λ e. cc) in
+    stands key depot a (Sealed run holds) s (λ e. cc) in
     run_length a.store a.next run s.arena.count s.arena.sizes
-        (each_at (λ (slot : Slot). IsContent a.next slot.content) a.slots key.slot (record { generation = key.generation; content = Sealed run holds })
-        s.arena.runs was) (run_low a key.slot (record { generation = key.generation; content = Sealed run holds }) s.arena was)
+    (each_at (λ (slot : Slot). IsContent a.next slot.content) a.slots key.slot (record { generation = key.generation; content = Sealed run holds })
+    s.arena.runs was) (run_low a key.slot (record { generation = key.generation; content = Sealed run holds }) s.arena was)
     ∙ ap (λ h. length (d.bytes_of h)) (sym (under key depot a (Sealed run holds) s))
 
 pub stale : (IsFull : Type 0) (key : Key) (depot : d.Depot) (a : ArenaFields) (items : List Slot) (result : Content)
@@ -153,9 +201,9 @@ pub readable : (key : Key) (depot : d.Depot) (a : ArenaFields) (run : Run) (hold
     → Sees key depot a (Sealed run holds) → IsReadable a.store a.next run
 readable key depot a run holds s =
     let was : slice_get a.slots key.slot ≡ Some (record { generation = key.generation; content = Sealed run holds }) =
-        stands key depot a (Sealed run holds) s (λ e. cc) in
+    stands key depot a (Sealed run holds) s (λ e. cc) in
     let is : IsRun a.next run = each_at (λ (slot : Slot). IsContent a.next slot.content) a.slots key.slot
-        (record { generation = key.generation; content = Sealed run holds }) s.arena.runs was in
+    (record { generation = key.generation; content = Sealed run holds }) s.arena.runs was in
     record {
       sizes = s.arena.sizes;
       count = s.arena.count;

@@ -1,6 +1,33 @@
 -- One slot of the arena changes, and the blocks that it gains or loses.
-use Rattle.std.proofs.Common.{◌≡◌, ℕ, zero, suc, ◌+◌, ◌<◌, ◌≤◌, List, [], ◌∷◌, ◌++◌, Bool, true, false, cond, ◌==◌, Option, Some, None, length, map, refl, ap,
-    sym, ◌∙◌, subst, arith}
+use Rattle.std.proofs.Common.{
+  ◌≡◌,
+  ℕ,
+  zero,
+  suc,
+  ◌+◌,
+  ◌<◌,
+  ◌≤◌,
+  List,
+  [],
+  ◌∷◌,
+  ◌++◌,
+  Bool,
+  true,
+  false,
+  cond,
+  ◌==◌,
+  Option,
+  Some,
+  None,
+  length,
+  map,
+  refl,
+  ap,
+  sym,
+  ◌∙◌,
+  subst,
+  arith,
+}
 use Rattle.std.specs.Prelude.{slice_get, slice_set, flat_map, sum_by, nat_lt}
 use Rattle.std.specs.List.{All, AllByRecursion}
 use Rattle.std.proofs.lemmas.Bool.{eqb-true}
@@ -97,23 +124,28 @@ turned a i old s a' t = record {
       ≡ cond (nat_lt x (length a'.next)) 1 0
   once_by x =
       let used : occurrences x (flat_map (λ (slot : d.Slot). d.blocks_of slot.held) (map (slot_of a'.store a'.next) a'.slots))
-          ≡ occurrences x (flat_map (λ (slot : d.Slot). d.blocks_of slot.held)
-          (slice_set (map (slot_of a.store a.next) a.slots) i (slot_of a'.store a'.next s))) = ap
-          (λ ss. occurrences x (flat_map (λ (slot : d.Slot). d.blocks_of slot.held) ss)) t.others in
+      ≡ occurrences x (flat_map (λ (slot : d.Slot). d.blocks_of slot.held)
+      (slice_set (map (slot_of a.store a.next) a.slots) i (slot_of a'.store a'.next s))) = ap
+      (λ ss. occurrences x (flat_map (λ (slot : d.Slot). d.blocks_of slot.held) ss)) t.others in
       let total : occurrences x (flat_map (λ (slot : d.Slot). d.blocks_of slot.held)
-          (slice_set (map (slot_of a.store a.next) a.slots) i (slot_of a'.store a'.next s))) + occurrences x (d.blocks_of (held a.store a.next old.content))
-          ≡ occurrences x (flat_map (λ (slot : d.Slot). d.blocks_of slot.held) (map (slot_of a.store a.next) a.slots))
-          + occurrences x (d.blocks_of (held a'.store a'.next s.content)) =
+      (slice_set (map (slot_of a.store a.next) a.slots) i (slot_of a'.store a'.next s))) + occurrences x (d.blocks_of (held a.store a.next old.content))
+      ≡ occurrences x (flat_map (λ (slot : d.Slot). d.blocks_of slot.held) (map (slot_of a.store a.next) a.slots))
+      + occurrences x (d.blocks_of (held a'.store a'.next s.content)) =
       total_set (λ y. cond (y == x) 1 0) (λ (slot : d.Slot). d.blocks_of slot.held) (map (slot_of a.store a.next) a.slots) i (slot_of a.store a.next old)
-          (slot_of a'.store a'.next s) (get_map (slot_of a.store a.next) a.slots i old t.was) in
+      (slot_of a'.store a'.next s) (get_map (slot_of a.store a.next) a.slots i old t.was) in
       let split : occurrences x (chain a'.free_count a'.next a'.free) + occurrences x (d.blocks_of (held a'.store a'.next s.content))
-          ≡ occurrences x (chain a.free_count a.next a.free) + occurrences x (d.blocks_of (held a.store a.next old.content)) = t.split x in
+      ≡ occurrences x (chain a.free_count a.next a.free) + occurrences x (d.blocks_of (held a.store a.next old.content)) = t.split x in
       let moved : occurrences x (chain a'.free_count a'.next a'.free
-          ++ flat_map (λ (slot : d.Slot). d.blocks_of slot.held) (map (slot_of a'.store a'.next) a'.slots))
-          ≡ occurrences x (chain a.free_count a.next a.free ++ flat_map (λ (slot : d.Slot). d.blocks_of slot.held) (map (slot_of a.store a.next) a.slots)) =
-      omega (arith, split, total, used,
-          times-append x (chain a'.free_count a'.next a'.free) (flat_map (λ (slot : d.Slot). d.blocks_of slot.held) (map (slot_of a'.store a'.next) a'.slots)),
-          times-append x (chain a.free_count a.next a.free) (flat_map (λ (slot : d.Slot). d.blocks_of slot.held) (map (slot_of a.store a.next) a.slots))) in
+      ++ flat_map (λ (slot : d.Slot). d.blocks_of slot.held) (map (slot_of a'.store a'.next) a'.slots))
+      ≡ occurrences x (chain a.free_count a.next a.free ++ flat_map (λ (slot : d.Slot). d.blocks_of slot.held) (map (slot_of a.store a.next) a.slots)) =
+      omega (
+        arith,
+        split,
+        total,
+        used,
+        times-append x (chain a'.free_count a'.next a'.free) (flat_map (λ (slot : d.Slot). d.blocks_of slot.held) (map (slot_of a'.store a'.next) a'.slots)),
+        times-append x (chain a.free_count a.next a.free) (flat_map (λ (slot : d.Slot). d.blocks_of slot.held) (map (slot_of a.store a.next) a.slots)),
+      ) in
       moved ∙ t.arena.once x ∙ ap (λ n. cond (nat_lt x n) 1 0) (sym t.next_stay)
 
 -- the slot after the step
@@ -127,18 +159,18 @@ pub relabelled : (a : ArenaFields) (i g : ℕ) (old new : Content) → IsArena a
     → IsArena (record a { slots = slice_set a.slots i (slot_at g new) })
 relabelled a i g old new arena was content count same stays =
     turned a i (slot_at g old) (slot_at g new) (record a { slots = slice_set a.slots i (slot_at g new) }) (record {
-  arena = arena;
-  was = was;
-  slots = refl;
-  sizes = arena.sizes;
-  blocks_stay = refl;
-  next_stay = refl;
-  stamps_stay = refl;
-  stamped = stamped_on a.next a.next a.slots a.stamps i (slot_at g old) (slot_at g new) arena.stamped was (λ j x apart at index block h. h)
-      (goes_on a.next a.next g old new stays);
-  generation = each_at (λ (slot : Slot). slot.generation ≤ d.last_generation) a.slots i (slot_at g old) arena.generations was;
-  count = ap (λ n. a.free_count + n) count;
-  others = map_set (slot_of a.store a.next) a.slots i (slot_at g new);
-  runs = all_set (λ (slot : Slot). IsContent a.next slot.content) a.slots i (slot_at g new) arena.runs content;
-  split = λ x. ap (λ b. occurrences x (chain a.free_count a.next a.free) + occurrences x b) same;
-})
+      arena = arena;
+      was = was;
+      slots = refl;
+      sizes = arena.sizes;
+      blocks_stay = refl;
+      next_stay = refl;
+      stamps_stay = refl;
+      stamped = stamped_on a.next a.next a.slots a.stamps i (slot_at g old) (slot_at g new) arena.stamped was (λ j x apart at index block h. h)
+          (goes_on a.next a.next g old new stays);
+      generation = each_at (λ (slot : Slot). slot.generation ≤ d.last_generation) a.slots i (slot_at g old) arena.generations was;
+      count = ap (λ n. a.free_count + n) count;
+      others = map_set (slot_of a.store a.next) a.slots i (slot_at g new);
+      runs = all_set (λ (slot : Slot). IsContent a.next slot.content) a.slots i (slot_at g new) arena.runs content;
+      split = λ x. ap (λ b. occurrences x (chain a.free_count a.next a.free) + occurrences x b) same;
+    })

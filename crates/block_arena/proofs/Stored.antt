@@ -1,6 +1,30 @@
 -- Blocks that are made, and zeros in the place of the others.
-use Rattle.std.proofs.Common.{◌≡◌, ℕ, zero, suc, ◌+◌, ◌-◌, ◌<◌, ◌≤◌, List, [], ◌∷◌, ◌++◌, get_or, length, replicate, set, refl, ap, sym, ◌∙◌, arith,
-    length-append, length-set, append_assoc}
+use Rattle.std.proofs.Common.{
+  ◌≡◌,
+  ℕ,
+  zero,
+  suc,
+  ◌+◌,
+  ◌-◌,
+  ◌<◌,
+  ◌≤◌,
+  List,
+  [],
+  ◌∷◌,
+  ◌++◌,
+  get_or,
+  length,
+  replicate,
+  set,
+  refl,
+  ap,
+  sym,
+  ◌∙◌,
+  arith,
+  length-append,
+  length-set,
+  append_assoc,
+}
 use Rattle.block_arena.specs.Rows.{zeros, padded, written}
 
 length_same : {A : Type 0} (n : ℕ) (x : A) → length (replicate n x) ≡ n
@@ -19,7 +43,7 @@ pub padded_made : (made : List (List ℕ)) (count n : ℕ) → n ≤ count → l
     → padded (made ++ replicate (n - length made) zeros) count ≡ padded made count
 padded_made made count n fits low =
     let size : length (made ++ replicate (n - length made) zeros) ≡ length made + (n - length made) =
-        omega (arith, length-append made (replicate (n - length made) zeros), length_same (n - length made) zeros) in
+    omega (arith, length-append made (replicate (n - length made) zeros), length_same (n - length made) zeros) in
     let rest : count - length (made ++ replicate (n - length made) zeros) ≡ count - (length made + (n - length made)) = ap (λ k. count - k) size in
     let all : (n - length made) + (count - (length made + (n - length made))) ≡ count - length made = omega (arith, fits, low) in
     ap (λ k. (made ++ replicate (n - length made) zeros) ++ replicate k zeros) rest
@@ -72,11 +96,11 @@ filled made made' all count block at piece old row other view e low inside was i
     let size : length all ≡ count = ap length (sym view) ∙ length_padded made count low in
     let long : length made' ≡ length (made ++ replicate ((block + 1) - length made) zeros) = ap length e in
     let there : block < length made' =
-        omega (arith, long, length-append made (replicate ((block + 1) - length made) zeros), length_same ((block + 1) - length made) zeros) in
+    omega (arith, long, length-append made (replicate ((block + 1) - length made) zeros), length_same ((block + 1) - length made) zeros) in
     let same : padded made' count ≡ all = ap (λ m. padded m count) e ∙ padded_made made count (block + 1) (omega (arith, inside, size)) low ∙ view in
     let here : old ≡ get_or all block [] =
-        was ∙ get_any made' block other [] there ∙ sym (get_prefix made' (replicate (count - length made') zeros) block [] there)
-        ∙ ap (λ xs. get_or xs block []) same in
+    was ∙ get_any made' block other [] there ∙ sym (get_prefix made' (replicate (count - length made') zeros) block [] there)
+    ∙ ap (λ xs. get_or xs block []) same in
     ap (λ k. set made' block row ++ replicate (count - k) zeros) (length-set made' block row)
     ∙ sym (set_prefix made' (replicate (count - length made') zeros) block row there)
     ∙ ap (λ xs. set xs block row) same

@@ -1,6 +1,35 @@
 -- One copy more that a worker handled.
-use Rattle.std.proofs.Common.{◌≡◌, ℕ, ◌+◌, ◌-◌, ◌≤◌, ◌^◌, min, List, [], ◌∷◌, ◌++◌, length, Bool, true, false, Option, Some, None, IsSome, inl, inr, refl, ap,
-    sym, ◌∙◌, subst, true≢false, arith, length-append}
+use Rattle.std.proofs.Common.{
+  ◌≡◌,
+  ℕ,
+  ◌+◌,
+  ◌-◌,
+  ◌≤◌,
+  ◌^◌,
+  min,
+  List,
+  [],
+  ◌∷◌,
+  ◌++◌,
+  length,
+  Bool,
+  true,
+  false,
+  Option,
+  Some,
+  None,
+  IsSome,
+  inl,
+  inr,
+  refl,
+  ap,
+  sym,
+  ◌∙◌,
+  subst,
+  true≢false,
+  arith,
+  length-append,
+}
 use Rattle.std.specs.Prelude.{if◌then◌else◌}
 use Rattle.std.specs.Option.{IfSome}
 use Rattle.std.specs.List.{count_by}
@@ -29,8 +58,20 @@ use Rattle.box_worker.specs.Limits.{Setting, StartsAt, CountsTo, marks_after}
 use Rattle.box_worker.specs.Stored.{MailboxState, mailbox_of, CountedMailbox, TakesCopy, Tallies, HasStored, HasSettled}
 use Rattle.box_worker.specs.Told.{slip_by, owed_to, is_stored, is_over}
 use Rattle.box_worker.specs.Turned.{shared_of, TurnsCopy}
-use Rattle.box_worker.specs.Worked.{WorkerState, counted_of, idle, is_lost, outcomes_after, bytes_after, IsAccounted, HasHandled, IsCounted, IsTended,
-    IsCounting, HasWorked}
+use Rattle.box_worker.specs.Worked.{
+  WorkerState,
+  counted_of,
+  idle,
+  is_lost,
+  outcomes_after,
+  bytes_after,
+  IsAccounted,
+  HasHandled,
+  IsCounted,
+  IsTended,
+  IsCounting,
+  HasWorked,
+}
 use Rattle.box_worker.proofs.Turning.{turned_more, tells_told}
 use Rattle.box_worker.proofs.Counting.{let_in, kept_out}
 use Rattle.box_worker.proofs.Settling.{is_kept, marks_count, marks_next, bytes_one, bytes_none, settled_stored, settled_over, settled_not, settled_later}
@@ -68,14 +109,14 @@ module _ (at : Setting) (start : ℕ) (copies : List Note) (note : Note) where
       let marks = marks_after at start copies in
       ap (outcomes_settled (n + 1)) (marks_next at start copies note) ∙ settled_more (n + 1) marks (is_kept at start copies note) (omega (arith, all, count))
       ∙ ap (λ l. l ++ (if is_kept at start copies note then Stored else OverQuota) ∷ [])
-          (all_settled (n + 1) n marks (omega (arith, all, count)) (omega (arith, all, count)))
+      (all_settled (n + 1) n marks (omega (arith, all, count)) (omega (arith, all, count)))
       ∙ ap (λ t. told n ++ (if t then Stored else OverQuota) ∷ []) is
 
   tells_failed : (n : ℕ) → n ≤ length copies → told_more n ≡ told n ++ Failed ∷ []
   tells_failed n within =
       let count = marks_count at start copies note in
       ap (outcomes_settled n) (marks_next at start copies note)
-          ∙ failed_more n (marks_after at start copies) (is_kept at start copies note) (omega (arith, within, count))
+      ∙ failed_more n (marks_after at start copies) (is_kept at start copies note) (omega (arith, within, count))
 
 module _ (at : Setting) (copies : List Note) (old : SpoolState) (now : MailboxState) (before : Option Limit) (used : ℕ) (note : Note) (outs : List Outcome)
     (x : IsCounted at copies outs old now before) where
@@ -238,8 +279,10 @@ handled_of at copies old now limit x = record {
   stored_count = x.stored_count;
   over_count = x.over_count;
   alone = λ e. record { accounted = (x.tended.alone e).accounted; never_in_use = x.tended.never_in_use e };
-  shared = λ e. record { each = x.tended.shared e;
-      told = tells_told at copies x.outcomes old.mailbox.state (shared_of now.mailbox.state now.mailbox.faulty now.in_use) (x.tended.shared e) };
+  shared = λ e. record {
+    each = x.tended.shared e;
+    told = tells_told at copies x.outcomes old.mailbox.state (shared_of now.mailbox.state now.mailbox.faulty now.in_use) (x.tended.shared e);
+  };
 }
 
 -- a worker that took nothing

@@ -1,6 +1,31 @@
 -- What is settled of a worker's copies once it took one more.
-use Rattle.std.proofs.Common.{◌≡◌, ◌⊎◌, ℕ, ◌+◌, ◌≤◌, List, [], ◌∷◌, ◌++◌, length, take, Bool, true, false, inl, inr, refl, ap, sym, ◌∙◌, subst, true≢false,
-    arith, length-append, append-nil}
+use Rattle.std.proofs.Common.{
+  ◌≡◌,
+  ◌⊎◌,
+  ℕ,
+  ◌+◌,
+  ◌≤◌,
+  List,
+  [],
+  ◌∷◌,
+  ◌++◌,
+  length,
+  take,
+  Bool,
+  true,
+  false,
+  inl,
+  inr,
+  refl,
+  ap,
+  sym,
+  ◌∙◌,
+  subst,
+  true≢false,
+  arith,
+  length-append,
+  append-nil,
+}
 use Rattle.std.specs.Prelude.{if◌then◌else◌, flat_map}
 use Rattle.std.proofs.lemmas.List.{take_all, take-append-le}
 use Rattle.std.proofs.lemmas.List.Concat.{flat_map-append}
@@ -136,8 +161,10 @@ module _ (at : Setting) (start : ℕ) (copies : List Note) (note : Note) where
         → HasFailedFirst old t (stored + over) ⊎ IsKeptNext at start (copies ++ note ∷ []) (stored + over) stored
     next_later same h = elim h [
       | inl none ↦ inl (let P : SpoolState → Type 0 = λ u. HasFailedFirst old u (stored + over) in subst P (sym same) none)
-      | inr some ↦ inr (let below = some.0 in omega (arith, below, more),
-          ap length (sym (prefix_kept (stored + over + 1) (let below = some.0 in omega (arith, below)))) ∙ some.1)
+      | inr some ↦ inr (
+        let below = some.0 in omega (arith, below, more),
+        ap length (sym (prefix_kept (stored + over + 1) (let below = some.0 in omega (arith, below)))) ∙ some.1,
+      )
     ]
 
     spool_later : (keeps : Bool) → is_kept ≡ keeps → t ≡ s → HasStored at.calendar at.host prefix old (mailbox_of s stored over true)

@@ -1,6 +1,32 @@
 -- What a spool holds once its worker took one more copy that is kept.
-use Rattle.std.proofs.Common.{◌≡◌, ℕ, ◌+◌, ◌≤◌, List, [], ◌∷◌, ◌++◌, length, take, drop, true, false, Option, Some, None, inl, inr, refl, ap, sym, ◌∙◌, subst,
-    true≢false, arith, length-append}
+use Rattle.std.proofs.Common.{
+  ◌≡◌,
+  ℕ,
+  ◌+◌,
+  ◌≤◌,
+  List,
+  [],
+  ◌∷◌,
+  ◌++◌,
+  length,
+  take,
+  drop,
+  true,
+  false,
+  Option,
+  Some,
+  None,
+  inl,
+  inr,
+  refl,
+  ap,
+  sym,
+  ◌∙◌,
+  subst,
+  true≢false,
+  arith,
+  length-append,
+}
 use Rattle.std.proofs.lemmas.List.{take_all, take-append-le, drop-append-le, drop_all}
 use Rattle.std.specs.Option.{IfSome}
 use Rattle.std.specs.Io.KnownBytes.{Appends}
@@ -73,7 +99,7 @@ module _ (calendar : Calendar) (host : List ℕ) (note : Note) where
       let before : ys ≡ mailbox calendar host held copies = cc in
       let taken : take n (copies ++ note ∷ []) ≡ copies = take-append-le n copies (note ∷ []) (omega arith) ∙ take_all n copies (omega arith) in
       let left : drop n (copies ++ note ∷ []) ≡ note ∷ [] =
-          drop-append-le n copies (note ∷ []) (omega arith) ∙ ap (λ (l : List Note). l ++ note ∷ []) (drop_all n copies (omega arith)) in
+      drop-append-le n copies (note ∷ []) (omega arith) ∙ ap (λ (l : List Note). l ++ note ∷ []) (drop_all n copies (omega arith)) in
       let P : List Note → Type 0 = λ l. IsTorn calendar host l prefix in
       inl (
         prefix,

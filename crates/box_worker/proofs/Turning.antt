@@ -1,6 +1,36 @@
 -- A worker's turns at a shared spool: one copy, one more copy, and what a spool that tells its bytes lists of them.
-use Rattle.std.proofs.Common.{◌≡◌, ◌⊎◌, ℕ, ◌+◌, ◌≤◌, List, [], ◌∷◌, ◌++◌, length, Bool, true, false, Option, Some, None, Result, Ok, Err, inl, inr, refl, ap,
-    sym, ◌∙◌, subst, true≢false, arith, append_assoc, append-nil}
+use Rattle.std.proofs.Common.{
+  ◌≡◌,
+  ◌⊎◌,
+  ℕ,
+  ◌+◌,
+  ◌≤◌,
+  List,
+  [],
+  ◌∷◌,
+  ◌++◌,
+  length,
+  Bool,
+  true,
+  false,
+  Option,
+  Some,
+  None,
+  Result,
+  Ok,
+  Err,
+  inl,
+  inr,
+  refl,
+  ap,
+  sym,
+  ◌∙◌,
+  subst,
+  true≢false,
+  arith,
+  append_assoc,
+  append-nil,
+}
 use Rattle.std.specs.Prelude.{is_some, count_by, MatchBool}
 use Rattle.std.specs.Option.{IfSome, option_map}
 use Rattle.std.specs.Result.{OnOk, OnErr}
@@ -19,8 +49,25 @@ use Rattle.mbox_record.specs.Spool.{SpoolState, tail_of, CoversAll, standing, Be
 use Rattle.box_worker.specs.declared.limit.Limit.{Limit}
 use Rattle.box_worker.specs.Limits.{Setting, StartsAt, CountsTo, missing, IsLetIn, IsKeptOut}
 use Rattle.box_worker.specs.Stored.{MailboxState, CountedMailbox, HasKept, HasNotKept}
-use Rattle.box_worker.specs.Turned.{MeasuresAnew, SharedMailbox, shared_of, HasKeptMended, HasNotKeptMended, Measures, StoresInTurn, KeepsOutOfTurn, BreaksTurn,
-    FromLock, HadTurn, TakesTurn, DoesInTurn, EndsInTurn, HaveTurned, is_not_had, TellsTurns}
+use Rattle.box_worker.specs.Turned.{
+  MeasuresAnew,
+  SharedMailbox,
+  shared_of,
+  HasKeptMended,
+  HasNotKeptMended,
+  Measures,
+  StoresInTurn,
+  KeepsOutOfTurn,
+  BreaksTurn,
+  FromLock,
+  HadTurn,
+  TakesTurn,
+  DoesInTurn,
+  EndsInTurn,
+  HaveTurned,
+  is_not_had,
+  TellsTurns,
+}
 use Rattle.mbox_record.specs.Mending.{HasMended, HasNotMended}
 use Rattle.mbox_record.specs.declared.spool.Tail.{Tail}
 use Rattle.mbox_record.proofs.Taken.{Appends-then, FailsTurn-then}
@@ -206,15 +253,21 @@ module _ (at : Setting) (note : Note) (old new : SharedMailbox) (held : List ℕ
       (ap (λ (s : Sharing). s.began) broken.turn) (ap (λ (s : Sharing). s.turns) broken.turn) h.rest.ends in
       let whole : mended lock.0 ++ text ≡ broken.prefix ++ broken.rest = ap (λ (m : List ℕ). m ++ text) (sym mends) ∙ broken.whole in
       let lost : Rises h.locked.failures new.state.failures = let P : ℕ → Type 0 = λ n. Rises h.locked.failures n in
-          subst P (sym h.rest.ends.sound) broken.failed in
+      subst P (sym h.rest.ends.sound) broken.failed in
       let room = room_of at.quota h.locked lock.0 (length text) true lock.1 h.rest.does.measured in
       record {
         turn = Had (stood lock.0 h.locked) (stood l.left new.state);
         added = l.added;
         is = elim l.stays [
           | inl s ↦ record { room = room; failed = lost; prefix = broken.prefix; part = record { rest = broken.rest; whole = whole }; left = s.0 ∙ done.2 }
-          | inr c ↦ record { room = room; failed = lost; prefix = []; part = record { rest = mended lock.0 ++ text; whole = refl }; left = c.1
-              ∙ sym (append-nil lock.0) }
+          | inr c ↦ record {
+            room = room;
+            failed = lost;
+            prefix = [];
+            part = record { rest = mended lock.0 ++ text; whole = refl };
+            left = c.1
+                ∙ sym (append-nil lock.0);
+          }
         ];
         broke = sym (ap (λ (m : SharedMailbox). m.faulty) is);
         missed = stays_counted (ap (λ (m : SharedMailbox). m.in_use) is);
@@ -334,9 +387,14 @@ measures locked limit new held tail ends says known is None n counts = absurd (c
 measures locked limit new held tail ends says known is (Some quota) n counts =
     let first = starts_at locked tail held ends says known in
     let Made : ℕ → ℕ → Limit = λ q h. record { quota = q; held = h } in
-    let same : limit ≡ Made quota (counted n) = let e = counts.1 in cc in
-    (first.start, first.is, (counts.0,
-        ap (λ (l : Limit). Some l) (is ∙ ap (λ h. Made limit.quota h) first.count ∙ ap (λ (l : Limit). Made l.quota (counted first.start)) same)))
+    let same : limit ≡ Made quota (counted n) = let e = counts.1 in cc in (
+      first.start,
+      first.is,
+      (
+        counts.0,
+        ap (λ (l : Limit). Some l) (is ∙ ap (λ h. Made limit.quota h) first.count ∙ ap (λ (l : Limit). Made l.quota (counted first.start)) same),
+      ),
+    )
 
 -- what is measured of a record, by the worker's count
 measured : (quota : Option ℕ) (start size : ℕ) (locked : SpoolState) (before after : Option Limit) → 1 ≤ size → CountsTo quota start before

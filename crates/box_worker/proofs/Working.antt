@@ -45,7 +45,7 @@ turns_none worker ends = record { deeds = []; in_time = none_done worker_sorts e
 module _ (worker : ℕ) (copies : List Note) (outcomes : List Outcome) (note : Note) (outcome : Outcome) (before : Ends Slip Note)
     (slips next : List (Sender Slip)) (was now : Inbox Note)
     (long : length outcomes ≡ length copies) (x : TakeTurns worker copies outcomes before (record { senders = slips; inbox = was }))
-        (took : IsTimed (clock_of slips was) was now) where
+    (took : IsTimed (clock_of slips was) was now) where
   abbrev copy : TimedDeed
   copy = deed (Took note) took.taken_at
 
@@ -60,40 +60,40 @@ module _ (worker : ℕ) (copies : List Note) (outcomes : List Outcome) (note : N
   turn_more true o mine =
       let slip : Slip = slip_by note.txn note.place outcome o.sender in
       let slip_is : slip ≡ slip_of worker note outcome =
-          ap (λ (w : ℕ). let s : Slip = record { txn = note.txn; place = note.place; worker = w; outcome = outcome } in s) mine in
+      ap (λ (w : ℕ). let s : Slip = record { txn = note.txn; place = note.place; worker = w; outcome = outcome } in s) mine in
       let deeds : List TimedDeed = (x.deeds ++ copy ∷ []) ++ deed (Told slip) o.when ∷ [] in
       let told = gave_more worker_sorts (x.deeds ++ copy ∷ []) before (record { senders = slips; inbox = now }) note.txn.lane o.when o.sender slip (Told slip)
-          taken_first o.is o.later
+      taken_first o.is o.later
       (eq-eqb note.txn.lane note.txn.lane refl) (λ c away. ne_eqb note.txn.lane c (λ e. away (sym e))) refl in
       let whats_are : whats deeds ≡ (whats x.deeds ++ Took note ∷ []) ++ Told slip ∷ [] =
-          whats_more (x.deeds ++ copy ∷ []) (Told slip) o.when ∙ ap (λ l. l ++ Told slip ∷ []) (whats_more x.deeds (Took note) took.taken_at) in
+      whats_more (x.deeds ++ copy ∷ []) (Told slip) o.when ∙ ap (λ l. l ++ Told slip ∷ []) (whats_more x.deeds (Took note) took.taken_at) in
       let turns_are : (turns_of worker copies outcomes ++ Took note ∷ []) ++ Told slip ∷ [] ≡ turns_of worker (copies ++ note ∷ []) (outcomes ++ outcome ∷ []) =
       ap (λ (s : Slip). (turns_of worker copies outcomes ++ Took note ∷ []) ++ Told s ∷ []) slip_is
-          ∙ sym (turns_more worker copies outcomes note outcome long) in
+      ∙ sym (turns_more worker copies outcomes note outcome long) in
       let parts = part_both (whats x.deeds ++ Took note ∷ []) (turns_of worker copies outcomes ++ Took note ∷ []) (Told slip)
-          (part_both (whats x.deeds) (turns_of worker copies outcomes) (Took note) x.some) in
+      (part_both (whats x.deeds) (turns_of worker copies outcomes) (Took note) x.some) in
       record {
         deeds = deeds;
         in_time = subst (λ (l : List (Sender Slip)). AreInTime worker_sorts deeds before (record { senders = l; inbox = now })) (sym o.after) told;
         all = λ sound. whats_are
             ∙ ap (λ l. (l ++ Took note ∷ []) ++ Told slip ∷ [])
-                (x.all (sym (gone_as_before (clock_of slips now) note.txn.lane (slip_by note.txn note.place outcome) slips next o) ∙ sound))
+            (x.all (sym (gone_as_before (clock_of slips now) note.txn.lane (slip_by note.txn note.place outcome) slips next o) ∙ sound))
             ∙ turns_are;
         some = subst (λ (y : List Deed × List Deed). IsPart y.0 y.1) (λ i. (sym whats_are i, turns_are i)) parts;
       }
   turn_more false o mine =
       let slip : Slip = slip_by note.txn note.place outcome o.sender in
       let slip_is : slip ≡ slip_of worker note outcome =
-          ap (λ (w : ℕ). let s : Slip = record { txn = note.txn; place = note.place; worker = w; outcome = outcome } in s) mine in
+      ap (λ (w : ℕ). let s : Slip = record { txn = note.txn; place = note.place; worker = w; outcome = outcome } in s) mine in
       let deeds : List TimedDeed = x.deeds ++ copy ∷ [] in
       let back = gone_keeps_time worker_sorts deeds before (record { senders = slips; inbox = now }) note.txn.lane o.when o.sender slip taken_first o.is in
       let slip_gone = gone_now (clock_of slips now) note.txn.lane (slip_by note.txn note.place outcome) slips next o in
       let whats_are : whats deeds ≡ whats x.deeds ++ Took note ∷ [] = whats_more x.deeds (Took note) took.taken_at in
       let turns_are : (turns_of worker copies outcomes ++ Took note ∷ []) ++ Told slip ∷ [] ≡ turns_of worker (copies ++ note ∷ []) (outcomes ++ outcome ∷ []) =
       ap (λ (s : Slip). (turns_of worker copies outcomes ++ Took note ∷ []) ++ Told s ∷ []) slip_is
-          ∙ sym (turns_more worker copies outcomes note outcome long) in
+      ∙ sym (turns_more worker copies outcomes note outcome long) in
       let parts = part_more (whats x.deeds ++ Took note ∷ []) (turns_of worker copies outcomes ++ Took note ∷ []) (Told slip)
-          (part_both (whats x.deeds) (turns_of worker copies outcomes) (Took note) x.some) in
+      (part_both (whats x.deeds) (turns_of worker copies outcomes) (Took note) x.some) in
       record {
         deeds = deeds;
         in_time = subst (λ (l : List (Sender Slip)). AreInTime worker_sorts deeds before (record { senders = l; inbox = now })) (sym o.after) back;
@@ -126,12 +126,12 @@ pub working_more : (at : Setting) (copies : List Note) (before was inbox : Inbox
     (record { slips = next; mailbox = after.mailbox; in_use = after.in_use; taken = counted (now.taken + 1); lost = any_gone next }) after.limit
 working_more at copies before was inbox old now limit next note accepted x timed outcome after tallied whose alone never shared offered =
     let y = handled_more at copies old now limit next note accepted x.counting (clock_of now.slips inbox) outcome after tallied whose alone never shared
-        offered in
+    offered in
     record {
       counting = y.0;
       turns = subst (λ os. TakeTurns at.worker (copies ++ note ∷ []) os (ends_of old before) (record { senders = next; inbox = inbox })) (sym y.1)
           (turn_more at.worker copies x.counting.outcomes note outcome (ends_of old before) now.slips next was inbox x.counting.each x.turns timed accepted
-              offered
+          offered
           (x.counting.numbered note.txn.lane offered.sender offered.is));
     }
 
@@ -158,7 +158,7 @@ pub worked : (at : Setting) (before was after : Inbox Note) (old now : WorkerSta
 worked at before was after old now limit x channel lanes capacity took same over lost found =
     let new : WorkerState = record now { lost = lost } in
     let P : List Note → Type 0 = λ copies. (h : HasHandled at copies old new)
-        × TakeTurns at.worker copies h.outcomes (ends_of old before) (ends_of new after) in
+    × TakeTurns at.worker copies h.outcomes (ends_of old before) (ends_of new after) in
     let h : HasHandled at (taken was) old new = handled_lost at (taken was) old now lost (handled_of at (taken was) old now limit x.counting) in
     let all = subst P (sym took) (h, turns_end at.worker (taken was) x.counting.outcomes (ends_of old before) now.slips was after same x.turns) in
     record { channel = channel; lanes = lanes; capacity = capacity; ended = over; lost = found; handled = all.0; turns = all.1 }

@@ -1,6 +1,30 @@
 -- The outcomes of a lane's transactions are those of all the slips that it heard.
-use Rattle.std.proofs.Common.{◌≡◌, ℕ, zero, suc, ◌+◌, ◌≤◌, List, [], ◌∷◌, ◌++◌, length, map, Bool, true, false, cond, Option, Some, None, sym, ◌∙◌, ap, subst,
-    arith}
+use Rattle.std.proofs.Common.{
+  ◌≡◌,
+  ℕ,
+  zero,
+  suc,
+  ◌+◌,
+  ◌≤◌,
+  List,
+  [],
+  ◌∷◌,
+  ◌++◌,
+  length,
+  map,
+  Bool,
+  true,
+  false,
+  cond,
+  Option,
+  Some,
+  None,
+  sym,
+  ◌∙◌,
+  ap,
+  subst,
+  arith,
+}
 use Rattle.std.specs.Prelude.{find, option_map, count_by}
 use Rattle.std.specs.List.{AllByRecursion, range_with_len}
 use Rattle.mail_world.specs.declared.Txn.{Txn}
@@ -69,9 +93,10 @@ pub answered_all : (lane : ℕ) (heard : List Slip) (ts : List Transaction) → 
 answered_all lane heard [] once h = tt
 answered_all lane heard (t ∷ ts) once h =
     let P : List Slip → Type 0 = λ l. (txn : Txn) (place : ℕ) → times_named txn place l ≤ 1 in
-    let Q : List Slip → Type 0 = λ l. OutcomesIn lane l t t.disposition.verdict in
-    (subst Q (sym h.0.whole) (outcomes_by lane h.0.before h.0.since t t.disposition.verdict (subst P h.0.whole once) h.0.outcomes),
-        answered_all lane heard ts once h.1)
+    let Q : List Slip → Type 0 = λ l. OutcomesIn lane l t t.disposition.verdict in (
+      subst Q (sym h.0.whole) (outcomes_by lane h.0.before h.0.since t t.disposition.verdict (subst P h.0.whole once) h.0.outcomes),
+      answered_all lane heard ts once h.1,
+    )
 
 pub outcomes_are_answers : (site : Site) (lane : ℕ) (heard : List Slip) (cs : List Conversation) → ((txn : Txn) (place : ℕ) → times_named txn place heard ≤ 1)
     → AllByRecursion (IsAnswered lane heard) (transactions site 0 cs) → OutcomesAreAnswers site lane heard cs

@@ -1,6 +1,34 @@
 -- A lane heard every slip that a worker gave for its copies: nothing is left in its channel.
-use Rattle.std.proofs.Common.{◌≡◌, ℕ, ◌+◌, ◌<◌, ◌≤◌, Bool, true, false, cond, ◌&&◌, ◌==◌, List, [], ◌∷◌, ◌++◌, length, map, refl, sym, ap, ◌∙◌, subst, arith,
-    Some, inl, inr, append_assoc, append-nil}
+use Rattle.std.proofs.Common.{
+  ◌≡◌,
+  ℕ,
+  ◌+◌,
+  ◌<◌,
+  ◌≤◌,
+  Bool,
+  true,
+  false,
+  cond,
+  ◌&&◌,
+  ◌==◌,
+  List,
+  [],
+  ◌∷◌,
+  ◌++◌,
+  length,
+  map,
+  refl,
+  sym,
+  ap,
+  ◌∙◌,
+  subst,
+  arith,
+  Some,
+  inl,
+  inr,
+  append_assoc,
+  append-nil,
+}
 use Rattle.std.proofs.lemmas.Bool.{cases_lt}
 use Rattle.std.proofs.lemmas.Bool.Decides.{nat_tests}
 use Rattle.std.proofs.lemmas.List.Elements.{filter-append}
@@ -64,8 +92,15 @@ module _ (txn : Txn) (place k : ℕ) (heard : List Slip) where
   answered_from t p (box ∷ boxes) [] e some = absurd (cc)
   answered_from t p (box ∷ boxes) (o ∷ os) e some =
       let note : Note =
-      record { txn = txn_of k t.number; place = p; mailbox = box; sender = t.session.sender; client = t.session.client; moment = t.disposition.moment;
-          message = t.message } in
+      record {
+        txn = txn_of k t.number;
+        place = p;
+        mailbox = box;
+        sender = t.session.sender;
+        client = t.session.client;
+        moment = t.disposition.moment;
+        message = t.message;
+      } in
       let found : answer (txn_of k t.number) heard p ≡ Some o = cc in
       let rest : map (λ o. Some o) os ≡ map (answer (txn_of k t.number) heard) (range_with_len (p + 1) (length boxes)) = cc in
       here_or_after (1 ≤ times_named txn place heard) (is_copy txn place note) (count_by (is_copy txn place) (copies_from k t (p + 1) boxes))
@@ -127,7 +162,7 @@ module _ (site : Site) (k boxes : ℕ) (cs : List Conversation) (heard : List Sl
     prefix_by c true is below =
         let same : c ≡ b = sym (same_number slip.worker c is) ∙ is_of in
         subst (λ d. IsPrefix (of_worker d heard ++ slip ∷ []) (owed_by d)) (sym same)
-            (record { rest = rest; whole = whole ∙ sym (append_assoc (of_worker b heard) (slip ∷ []) rest) })
+        (record { rest = rest; whole = whole ∙ sym (append_assoc (of_worker b heard) (slip ∷ []) rest) })
     prefix_by c false is below =
         let f = each c below in record { rest = f.rest; whole = f.whole ∙ ap (λ l. l ++ f.rest) (sym (append-nil (of_worker c heard))) }
 
@@ -143,7 +178,7 @@ module _ (site : Site) (k boxes : ℕ) (cs : List Conversation) (heard : List Sl
         let alone : count_by P (slip ∷ []) ≡ 1 = omega (arith, count-cons P slip [], counts_itself slip) in
         let more : times_named slip.txn slip.place (heard ++ slip ∷ []) ≤ 1 =
         named_once site k boxes cs (heard ++ slip ∷ []) works (all_more (λ s. s.worker < boxes) heard slip only (omega (arith, is_of, low))) prefixes owed
-            slip.txn slip.place in
+        slip.txn slip.place in
         let some : 1 ≤ count_by P (owed_by b) =
         omega (
           arith,

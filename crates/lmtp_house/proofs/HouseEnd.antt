@@ -53,7 +53,7 @@ module _ {V S C : Type 0} (May : C → ℕ → Type 0) (view : VisitsView V) (st
   pub mail_may_close : MayClose plan.mail lanes.rows
   mail_may_close =
       may_close (length handed.visits) (length handed.spools) plan.mail p.mail_rows p.mail owed_by lanes.rows p.mail_new p.mail_closes p.some_lanes
-          lanes_ran.rows_are
+      lanes_ran.rows_are
 
   module _ (boxes : WorkersBack S) (worked : HaveWorkedAll state plan.workers boxes) (mail_closed : List (Sent Note))
       (closes : Closes plan.mail lanes.rows mail_closed) where
@@ -79,7 +79,7 @@ module _ {V S C : Type 0} (May : C → ℕ → Type 0) (view : VisitsView V) (st
     pub slips_may_close : MayClose plan.slips boxes.rows
     slips_may_close =
         may_close (length handed.spools) (length handed.visits) plan.slips p.slip_rows p.slips owed_slips boxes.rows p.slips_new p.slips_close p.some_boxes
-            boxes_ran.rows_are
+        boxes_ran.rows_are
 
     module _ (slips_closed : List (Sent Slip)) (slips_close : Closes plan.slips boxes.rows slips_closed) where
       slips_shut : AreClosed (length handed.spools) (channels_of p.slips) owed_slips slips_closed
@@ -87,7 +87,7 @@ module _ {V S C : Type 0} (May : C → ℕ → Type 0) (view : VisitsView V) (st
           let workers_are : plan.slips.lanes ≡ length handed.spools = ap (λ (s : Shape). s.lanes) p.slips_close in
           subst (λ n. AreClosed n (channels_of p.slips) owed_slips slips_closed) workers_are
           (slips_close (channels_of p.slips) owed_slips
-              (subst (λ n. AreRows n (channels_of p.slips) owed_slips boxes.rows) (sym workers_are) boxes_ran.rows_are))
+          (subst (λ n. AreRows n (channels_of p.slips) owed_slips boxes.rows) (sym workers_are) boxes_ran.rows_are))
 
       pub slips_may_settle : AllZip CanSettle lanes.inboxes slips_closed
       slips_may_settle =

@@ -45,7 +45,7 @@ module _ {V S C : Type 0} (out : V → Bool) (plan : PlanState V S C) (may : May
   lanes_ready =
       let p = may.planned in
       subst (λ l. AllByRecursion (IsLaneReady out) l) (sym p.lanes_are)
-          (each_at (IsLaneReady out) (lane_tasks may.site may.clock 0 may.handed.visits p.mail_rows p.slips) (λ k task e.
+      (each_at (IsLaneReady out) (lane_tasks may.site may.clock 0 may.handed.visits p.mail_rows p.slips) (λ k task e.
       let t = task_at may.site may.clock 0 may.handed.visits p.mail_rows p.slips k task e in
       subst (λ j. IsLaneReady out j) (sym t.is) (record {
         site = refl;
@@ -59,7 +59,7 @@ module _ {V S C : Type 0} (out : V → Bool) (plan : PlanState V S C) (may : May
   boxes_ready =
       let p = may.planned in
       subst (λ l. AllByRecursion IsBoxReady l) (sym p.workers_are)
-          (each_at IsBoxReady (box_tasks (share_of may.site may.handed.quota) p.mail p.slip_rows may.handed.spools) (λ k task e.
+      (each_at IsBoxReady (box_tasks (share_of may.site may.handed.quota) p.mail p.slip_rows may.handed.spools) (λ k task e.
       let t = box_task_at (share_of may.site may.handed.quota) p.mail p.slip_rows may.handed.spools k task e in
       let fresh = p.mail_new.inboxes_are k t.inbox t.inbox_is in
       let first = at (channels_of p.slips) 0 (omega (arith, length-map p.slips (λ (i : Inbox _). i.channel), p.slips_new.counts, p.some_lanes)) in

@@ -1,6 +1,30 @@
 -- What was settled of the channels, and the run that follows from it.
-use Rattle.std.proofs.Common.{◌≡◌, ℕ, ◌<◌, ◌≤◌, Bool, true, false, cond, List, [], ◌∷◌, ◌++◌, length, get_or, refl, sym, ap, ◌∙◌, subst, arith, eq-eqb, Some,
-    inl, inr}
+use Rattle.std.proofs.Common.{
+  ◌≡◌,
+  ℕ,
+  ◌<◌,
+  ◌≤◌,
+  Bool,
+  true,
+  false,
+  cond,
+  List,
+  [],
+  ◌∷◌,
+  ◌++◌,
+  length,
+  get_or,
+  refl,
+  sym,
+  ap,
+  ◌∙◌,
+  subst,
+  arith,
+  eq-eqb,
+  Some,
+  inl,
+  inr,
+}
 use Rattle.std.specs.Prelude.{slice_get, ◌==◌}
 use Rattle.std.specs.List.{AllZip, AllByRecursion}
 use Rattle.std.proofs.lemmas.Bool.{cases_lt}
@@ -99,9 +123,9 @@ module _ {V S : Type 0} {capacity room : ℕ} (site : Site) (May : ℕ → Type 
     (lanes : HaveServed site May view (channels_of old_boxes.inboxes) old_lanes new_lanes)
     (boxes : HaveWorked site state (channels_of old_lanes.inboxes) old_boxes new_boxes)
     (mail_shut : AreClosed (length old_lanes.visits) (channels_of old_boxes.inboxes) (λ k b. due site k b (conversations_of (lanes.works k).visits))
-        mail_closed)
+    mail_closed)
     (slips_shut : AreClosed (length old_boxes.spools) (channels_of old_lanes.inboxes) (λ b k. owed_to b (boxes.works b).outcomes k (boxes.works b).taken)
-        slips_closed)
+    slips_closed)
     (mail_times : HaveTimes new_lanes.rows mail_closed) (slips_times : HaveTimes new_boxes.rows slips_closed)
     (mail_settled : AllZip (IsSettled (λ (n : Note). n.txn.lane)) new_boxes.inboxes mail_closed)
     (slips_settled : AllZip (IsSettled (λ (s : Slip). s.worker)) new_lanes.inboxes slips_closed)
@@ -126,7 +150,7 @@ module _ {V S : Type 0} {capacity room : ℕ} (site : Site) (May : ℕ → Type 
       let w = mail_shut.each b x.value.channel c.value (at_map (λ (i : Inbox Note). i.channel) old_boxes.inboxes b x.value x.is) c.is in
       let s = zip_at (IsSettled (λ (n : Note). n.txn.lane)) new_boxes.inboxes mail_closed mail_settled b y.value c.value y.is c.is in
       let all : TookAll (λ (n : Note). n.txn.lane) (boxes.works b).taken c.value.sent =
-          subst (λ l. TookAll (λ (n : Note). n.txn.lane) l c.value.sent) took.took (s.all took.closed) in record {
+      subst (λ l. TookAll (λ (n : Note). n.txn.lane) l c.value.sent) took.took (s.all took.closed) in record {
         each = took_each (λ (n : Note). n.txn.lane) (length old_lanes.visits) x.value.channel (λ k. owed_by k b) c.value w (boxes.works b).taken all;
         only = took_below (λ (n : Note). n.txn.lane) (length old_lanes.visits) x.value.channel (λ k. owed_by k b) c.value w (boxes.works b).taken all;
       }
@@ -147,7 +171,7 @@ module _ {V S : Type 0} {capacity room : ℕ} (site : Site) (May : ℕ → Type 
       let fresh : taken x.value ≡ [] = ap (λ (i : Inbox Slip). taken i) (slips_new.inboxes_are k x.value x.is) in
       let took : taken y.value ≡ (lanes.works k).heard = heard.took ∙ ap (λ l. l ++ (lanes.works k).heard) fresh in
       let prefix : TookSome (λ (s : Slip). s.worker) (lanes.works k).heard c.value.sent =
-          subst (λ l. TookSome (λ (s : Slip). s.worker) l c.value.sent) took s.prefix in record {
+      subst (λ l. TookSome (λ (s : Slip). s.worker) l c.value.sent) took s.prefix in record {
         each = prefix_each (λ (s : Slip). s.worker) (length old_boxes.spools) x.value.channel (λ b. owed_slips b k) c.value w (lanes.works k).heard prefix;
         only = prefix_below (λ (s : Slip). s.worker) (length old_boxes.spools) x.value.channel (λ b. owed_slips b k) c.value w (lanes.works k).heard prefix;
       }

@@ -44,22 +44,22 @@ module _ {V S : Type 0} {capacity room : ℕ} (site : Site) (May : ℕ → Type 
     (lanes : HaveServed site May view (channels_of old_boxes.inboxes) old_lanes new_lanes)
     (boxes : HaveWorked site state (channels_of old_lanes.inboxes) old_boxes new_boxes)
     (mail_shut : AreClosed (length old_lanes.visits) (channels_of old_boxes.inboxes) (λ k b. due site k b (conversations_of (lanes.works k).visits))
-        mail_closed)
+    mail_closed)
     (slips_shut : AreClosed (length old_boxes.spools) (channels_of old_lanes.inboxes) (λ b k. owed_to b (boxes.works b).outcomes k (boxes.works b).taken)
-        slips_closed)
+    slips_closed)
     (mail_times : HaveTimes new_lanes.rows mail_closed) (slips_times : HaveTimes new_boxes.rows slips_closed)
     (mail_settled : AllZip (IsSettled (λ (n : Note). n.txn.lane)) new_boxes.inboxes mail_closed)
     (slips_settled : AllZip (IsSettled (λ (s : Slip). s.worker)) new_lanes.inboxes slips_closed) where
   lane_ended : (k : ℕ) (below : k < length old_lanes.visits) → HasEnded lane_sorts (lanes.deeds k) (lanes.in_time k below).new
   lane_ended k below =
       ended (length old_lanes.visits) (length old_boxes.spools) (length old_boxes.spools) old_lanes.rows new_lanes.rows old_boxes.rows old_boxes.inboxes
-          old_lanes.inboxes new_lanes.inboxes
+      old_lanes.inboxes new_lanes.inboxes
       mail_new slips_new lane_sorts k (lanes.deeds k) (lanes.in_time k below)
 
   worker_ended : (b : ℕ) (below : b < length old_boxes.spools) → HasEnded worker_sorts (boxes.deeds b) (boxes.in_time b below).new
   worker_ended b below =
       ended (length old_boxes.spools) (length old_lanes.visits) (length old_lanes.visits) old_boxes.rows new_boxes.rows old_lanes.rows old_lanes.inboxes
-          old_boxes.inboxes new_boxes.inboxes
+      old_boxes.inboxes new_boxes.inboxes
       slips_new mail_new worker_sorts b (boxes.deeds b) (boxes.in_time b below)
 
   pub have_deeds : HaveDeeds site (length old_lanes.visits) (length old_boxes.spools) capacity lanes.works boxes.works

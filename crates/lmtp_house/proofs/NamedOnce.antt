@@ -1,6 +1,35 @@
 -- What a lane heard names each transaction and place once at most.
-use Rattle.std.proofs.Common.{◌≡◌, ℕ, zero, suc, ◌+◌, ◌<◌, ◌≤◌, Bool, true, false, cond, ◌&&◌, ◌==◌, nat_lt, List, [], ◌∷◌, length, drop, refl, ap, ◌∙◌, subst,
-    arith, Option, Some, None, add-one, take}
+use Rattle.std.proofs.Common.{
+  ◌≡◌,
+  ℕ,
+  zero,
+  suc,
+  ◌+◌,
+  ◌<◌,
+  ◌≤◌,
+  Bool,
+  true,
+  false,
+  cond,
+  ◌&&◌,
+  ◌==◌,
+  nat_lt,
+  List,
+  [],
+  ◌∷◌,
+  length,
+  drop,
+  refl,
+  ap,
+  ◌∙◌,
+  subst,
+  arith,
+  Option,
+  Some,
+  None,
+  add-one,
+  take,
+}
 use Rattle.std.proofs.lemmas.Bool.Decides.{nat_tests}
 use Rattle.std.specs.Prelude.{filter, flat_map, count_by, option_map, if◌then◌else◌}
 use Rattle.std.specs.List.{AllByRecursion}
@@ -18,8 +47,21 @@ use Rattle.mail_world.specs.Data.{message, data_end}
 use Rattle.mail_world.specs.Prefixes.{IsPrefix}
 use Rattle.mail_world.specs.Site.{Site}
 use Rattle.mail_world.specs.Session.{Session, fresh}
-use Rattle.mail_world.specs.Conversation.{Disposition, Part, CommandLine, MailData, Cut, cut, cut_then, is_data, inputs_of, session_after, parts_within, parts,
-    Conversation}
+use Rattle.mail_world.specs.Conversation.{
+  Disposition,
+  Part,
+  CommandLine,
+  MailData,
+  Cut,
+  cut,
+  cut_then,
+  is_data,
+  inputs_of,
+  session_after,
+  parts_within,
+  parts,
+  Conversation,
+}
 use Rattle.mail_world.specs.Slips.{of_worker, names, times_named, slip_of, slips_from}
 use Rattle.mail_world.specs.Lists.{Transaction, is_content, accepted_after, transactions_of, transactions, copies_from, copies_if, copies, of_lane, due}
 use Rattle.mail_world.proofs.GivenAway.{count-append, count-cons}
@@ -36,7 +78,7 @@ module _ {X : Type 0} (f : X → Bool) where
   pub filter_cons : (p : X → Bool) (x : X) (xs : List X) → count_by f (filter p (x ∷ xs)) ≡ cond (p x) (cond (f x) 1 0) 0 + count_by f (filter p xs)
   filter_cons p x xs =
       ap (count_by f) (filter-append p (x ∷ []) xs)
-          ∙ (count-append f (filter p (x ∷ [])) (filter p xs) ∙ ap (λ n. n + count_by f (filter p xs)) (one_by x (p x)))
+      ∙ (count-append f (filter p (x ∷ [])) (filter p xs) ∙ ap (λ n. n + count_by f (filter p xs)) (one_by x (p x)))
 
   fewer_by : (t : Bool) (w a b : ℕ) → a ≤ b → cond t w 0 + a ≤ w + b
   fewer_by true w a b le = omega (arith, le)
@@ -44,8 +86,12 @@ module _ {X : Type 0} (f : X → Bool) where
 
   pub fewer : (p : X → Bool) (xs : List X) → count_by f (filter p xs) ≤ count_by f xs
   fewer p [] = omega arith
-  fewer p (x ∷ xs) = omega (arith, filter_cons p x xs, count-cons f x xs,
-      fewer_by (p x) (cond (f x) 1 0) (count_by f (filter p xs)) (count_by f xs) (fewer p xs))
+  fewer p (x ∷ xs) = omega (
+    arith,
+    filter_cons p x xs,
+    count-cons f x xs,
+    fewer_by (p x) (cond (f x) 1 0) (count_by f (filter p xs)) (count_by f xs) (fewer p xs),
+  )
 
   module _ (key : X → ℕ) where
     abbrev below : ℕ → List X → List X
@@ -57,8 +103,14 @@ module _ {X : Type 0} (f : X → Bool) where
     split : (n : ℕ) (xs : List X) → count_by f (below (n + 1) xs) ≡ count_by f (below n xs) + count_by f (filter (λ x. key x == n) xs)
     split n [] = refl
     split n (x ∷ xs) =
-        omega (arith, filter_cons (λ x. nat_lt (key x) (n + 1)) x xs, filter_cons (λ x. nat_lt (key x) n) x xs, filter_cons (λ x. key x == n) x xs,
-            split_by (key x) n (cond (f x) 1 0), split n xs)
+        omega (
+          arith,
+          filter_cons (λ x. nat_lt (key x) (n + 1)) x xs,
+          filter_cons (λ x. nat_lt (key x) n) x xs,
+          filter_cons (λ x. key x == n) x xs,
+          split_by (key x) n (cond (f x) 1 0),
+          split n xs,
+        )
 
     none_by : (k w : ℕ) → cond (nat_lt k 0) w 0 ≡ 0
     none_by k w = grind (arith, nat_tests)
@@ -122,10 +174,21 @@ places : (txn : Txn) (place k : ℕ) (t : Transaction) (p : ℕ) (boxes : List �
 places txn place k t p [] = omega arith
 places txn place k t p (box ∷ boxes) =
     let note : Note =
-    record { txn = record { lane = k; number = t.number }; place = p; mailbox = box; sender = t.session.sender; client = t.session.client;
-        moment = t.disposition.moment; message = t.message } in
-    omega (arith, count-cons (is_copy txn place) note (copies_from k t (p + 1) boxes), places txn place k t (p + 1) boxes,
-        place_by (k == txn.lane) (t.number == txn.number) p place)
+    record {
+      txn = record { lane = k; number = t.number };
+      place = p;
+      mailbox = box;
+      sender = t.session.sender;
+      client = t.session.client;
+      moment = t.disposition.moment;
+      message = t.message;
+    } in
+    omega (
+      arith,
+      count-cons (is_copy txn place) note (copies_from k t (p + 1) boxes),
+      places txn place k t (p + 1) boxes,
+      place_by (k == txn.lane) (t.number == txn.number) p place,
+    )
 
 one_copy_by : (t : Bool) (place : ℕ) (n : ℕ) → n ≤ cond t (cond (nat_lt place 0) 0 1) 0 → n ≤ cond t 1 0
 one_copy_by true place n le = grind (arith, nat_tests, le)
@@ -142,8 +205,13 @@ copies_once : (txn : Txn) (place k : ℕ) (ts : List Transaction)
     → count_by (is_copy txn place) (flat_map (copies k) ts) ≤ count_by (λ t. t.number == txn.number) ts
 copies_once txn place k [] = omega arith
 copies_once txn place k (t ∷ ts) =
-    omega (arith, count-append (is_copy txn place) (copies k t) (flat_map (copies k) ts), one_copy txn place k t t.disposition.verdict,
-        copies_once txn place k ts, count-cons (λ (t : Transaction). t.number == txn.number) t ts)
+    omega (
+      arith,
+      count-append (is_copy txn place) (copies k t) (flat_map (copies k) ts),
+      one_copy txn place k t t.disposition.verdict,
+      copies_once txn place k ts,
+      count-cons (λ (t : Transaction). t.number == txn.number) t ts,
+    )
 
 -- one for each number from the first to the last
 abbrev inside : ℕ → ℕ → ℕ → ℕ
@@ -205,7 +273,7 @@ one_more site n session (CommandLine text) ps e h =
       grows = grows_by (is_content next.state) n last h.grows;
       once = λ m.
           let w = times_numbered m (transactions_of site n session (CommandLine text ∷ ps)) in
-              line_by (is_content session.state) n m last w (later_first (is_content next.state) n m last w (h.once m));
+          line_by (is_content session.state) n m last w (later_first (is_content next.state) n m last w (h.once m));
     }
 one_more site n session (MailData text d) ps e h =
     let p : Part = MailData text d in
@@ -219,9 +287,9 @@ one_more site n session (MailData text d) ps e h =
           let after : times_numbered m (transactions_of site (accepted_after_part site n session p) next ps) ≤ inside (n + 1) last m =
           later_first (is_content next.state) n m last (times_numbered m (transactions_of site (accepted_after_part site n session p) next ps)) (h.once m) in
           let same : times_numbered m rest ≤ inside (n + 1) last m =
-              subst (λ j. times_numbered m (transactions_of site j next ps) ≤ inside (n + 1) last m) (same_after_data site n session text d) after in
+          subst (λ j. times_numbered m (transactions_of site j next ps) ≤ inside (n + 1) last m) (same_after_data site n session text d) after in
           let all : times_numbered m (t ∷ rest) ≤ inside n last m =
-              omega (arith, count-cons (λ (x : Transaction). x.number == m) t rest, data_by n m last (times_numbered m rest) grows same) in
+          omega (arith, count-cons (λ (x : Transaction). x.number == m) t rest, data_by n m last (times_numbered m rest) grows same) in
           subst (λ b. times_numbered m (t ∷ rest) ≤ inside (if b then n else n + 1) last m) e all;
     }
 
@@ -239,7 +307,7 @@ numbered_within : (k : ℕ) (site : Site) (n : ℕ) (session : Session) (s : Lis
 numbered_within zero site n session s ds = none_yet site n session
 numbered_within (suc k) site n session s ds =
     numbered_then site n session (cut session.state s ds)
-        (λ c. parts_within k site (session_after site session (inputs_of c.part)) (drop c.size s) c.dispositions)
+    (λ c. parts_within k site (session_after site session (inputs_of c.part)) (drop c.size s) c.dispositions)
     (data_cut session.state s ds)
     (λ c m. numbered_within k site m (session_after site session (inputs_of c.part)) (drop c.size s) c.dispositions)
 
@@ -282,7 +350,7 @@ pub named_once : (site : Site) (k boxes : ℕ) (cs : List Conversation) (heard :
 named_once site k boxes cs heard works only each owed txn place =
     let notes = flat_map (copies k) (transactions site 0 cs) in
     let by_box : (b : ℕ) → b < boxes
-        → count_by (names txn place) (filter (λ slip. slip.worker == b) heard) ≤ count_by (is_copy txn place) (filter (λ note. note.mailbox == b) notes) =
+    → count_by (names txn place) (filter (λ slip. slip.worker == b) heard) ≤ count_by (is_copy txn place) (filter (λ note. note.mailbox == b) notes) =
     λ b low.
     let prefix = each b low in
     omega (

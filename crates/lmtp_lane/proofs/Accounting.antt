@@ -1,6 +1,35 @@
 -- What a lane's account says once another DATA command came, or another data ended.
-use Rattle.std.proofs.Common.{◌≡◌, ℕ, zero, suc, cond, ◌+◌, ◌<◌, ◌≤◌, ◌^◌, List, [], ◌∷◌, ◌++◌, length, map, Bool, true, false, Option, Some, None, refl, ap,
-    sym, ◌∙◌, subst, append_assoc, append-nil, arith}
+use Rattle.std.proofs.Common.{
+  ◌≡◌,
+  ℕ,
+  zero,
+  suc,
+  cond,
+  ◌+◌,
+  ◌<◌,
+  ◌≤◌,
+  ◌^◌,
+  List,
+  [],
+  ◌∷◌,
+  ◌++◌,
+  length,
+  map,
+  Bool,
+  true,
+  false,
+  Option,
+  Some,
+  None,
+  refl,
+  ap,
+  sym,
+  ◌∙◌,
+  subst,
+  append_assoc,
+  append-nil,
+  arith,
+}
 use Rattle.std.specs.Prelude.{is_some, ◌||◌, nat_lt, if◌then◌else◌, flat_map, find, option_map}
 use Rattle.std.specs.List.{AllByRecursion, range_with_len}
 use Rattle.std.specs.Option.{IfSome}
@@ -208,11 +237,18 @@ ended_refused limit May old now accepted size draft session moment v small is ot
 copies_told : (lane n : ℕ) (session : Session) (moment : ℕ) (message : List ℕ) (told : List Outcome) (place : ℕ) (rs : List ℕ)
     → copies_from lane (sent_as n session moment message) place rs
     ≡ copies_from lane (record { number = n; session = session; message = message; disposition = record { verdict = Whole; moment = moment; outcomes = told } })
-        place rs
+    place rs
 copies_told lane n session moment message told place [] = refl
 copies_told lane n session moment message told place (r ∷ rs) =
-    ap (λ l. record { txn = record { lane = lane; number = n }; place = place; mailbox = r; sender = session.sender; client = session.client; moment = moment;
-        message = message } ∷ l)
+    ap (λ l. record {
+      txn = record { lane = lane; number = n };
+      place = place;
+      mailbox = r;
+      sender = session.sender;
+      client = session.client;
+      moment = moment;
+      message = message;
+    } ∷ l)
     (copies_told lane n session moment message told (place + 1) rs)
 
 bytes_are : (draft : Option Claim) (claim : Claim) (message : List ℕ) → draft ≡ Some claim → IfSome draft (λ (x : Claim). x.bytes ≡ message)
@@ -222,7 +258,7 @@ bytes_are draft claim message e h = let P : Option Claim → Type 0 = λ d. IfSo
 -- a message that went to its recipients
 whole_same : (limit : ℕ) (May : ℕ → Type 0) (old now next : LaneEnds) (accepted size : ℕ) (draft : Option Claim) (claim : Claim) (session : Session)
     (moment : ℕ) (told : List Outcome) → limit < 2 ^ 32 → accepted ≤ NUMBER_LIMIT → draft ≡ Some claim → Whole ≡ verdict_on limit accepted size draft
-        → May moment
+    → May moment
     → Delivers (sent_as accepted session moment claim.bytes) told now next
     → (n : ℕ) (ts : List Transaction) (message : List ℕ) → HasOffered limit May accepted old now n ts × HoldsDraft draft size message
     → EndsDraft (λ n ts. HasOffered limit May accepted old next n ts) n ts session message (record { verdict = Whole; moment = moment; outcomes = told })
@@ -230,8 +266,12 @@ whole_same limit May old now next accepted size draft claim session moment told 
     let x = h.0 in
     let lane : ℕ = old.lane in
     let all : Episode = record { came = x.came; own = x.own; heard = x.heard } in
-    let t : Transaction = record { number = n; session = session; message = message;
-        disposition = record { verdict = Whole; moment = moment; outcomes = told } } in
+    let t : Transaction = record {
+      number = n;
+      session = session;
+      message = message;
+      disposition = record { verdict = Whole; moment = moment; outcomes = told };
+    } in
     let number : accepted ≡ n = omega (arith, x.count, low) in
     let bytes : claim.bytes ≡ message = bytes_are draft claim message there h.1.bytes in
     let D : ℕ → List ℕ → Type 0 = λ k m. Delivers (sent_as k session moment m) told now next in
@@ -265,11 +305,11 @@ pub ended_whole : (limit : ℕ) (May : ℕ → Type 0) (old now next : LaneEnds)
     → EndsDraft (λ n ts. HasOffered limit May accepted' old next n ts) n ts session message (record { verdict = Whole; moment = moment'; outcomes = told })
 ended_whole limit May old now next accepted accepted' size draft claim session moment moment' told same small low there is may delivers n ts message h =
     let Q : ℕ → Type 0 = λ k. EndsDraft (λ n ts. HasOffered limit May k old next n ts) n ts session message
-        (record { verdict = Whole; moment = moment'; outcomes = told }) in
+    (record { verdict = Whole; moment = moment'; outcomes = told }) in
     let R : ℕ → Type 0 = λ m. EndsDraft (λ n ts. HasOffered limit May accepted old next n ts) n ts session message
-        (record { verdict = Whole; moment = m; outcomes = told }) in
+    (record { verdict = Whole; moment = m; outcomes = told }) in
     subst Q (sym same.0) (subst R (sym same.1)
-        (whole_same limit May old now next accepted size draft claim session moment told small low there is may delivers n ts message h))
+    (whole_same limit May old now next accepted size draft claim session moment told small low there is may delivers n ts message h))
 
 or_false : (b : Bool) → (b || false) ≡ b
 or_false true = refl

@@ -1,6 +1,39 @@
 -- What is under way while copies are offered one by one, and while their slips come.
-use Rattle.std.proofs.Common.{◌≡◌, ℕ, zero, suc, ◌+◌, ◌<◌, List, [], ◌∷◌, ◌++◌, length, map, take, get_or, Bool, true, false, cond, Option, Some, None, inl,
-    inr, refl, ap, sym, ◌∙◌, subst, append_assoc, append-nil, add-one, arith, length-take-le}
+use Rattle.std.proofs.Common.{
+  ◌≡◌,
+  ℕ,
+  zero,
+  suc,
+  ◌+◌,
+  ◌<◌,
+  List,
+  [],
+  ◌∷◌,
+  ◌++◌,
+  length,
+  map,
+  take,
+  get_or,
+  Bool,
+  true,
+  false,
+  cond,
+  Option,
+  Some,
+  None,
+  inl,
+  inr,
+  refl,
+  ap,
+  sym,
+  ◌∙◌,
+  subst,
+  append_assoc,
+  append-nil,
+  add-one,
+  arith,
+  length-take-le,
+}
 use Rattle.std.proofs.Math.Seq.{take-suc}
 use Rattle.std.proofs.lemmas.List.{take_all, map-append}
 use Rattle.mail_world.specs.declared.Txn.{Txn}
@@ -17,8 +50,24 @@ use Rattle.mail_runs.specs.Deeds.{Deed, Gave}
 use Rattle.mail_post.specs.Channel.{IsTimed, HasSameTimes, Inbox, taken}
 use Rattle.mail_post.specs.Gathering.{HasGathered, IsAwaited}
 use Rattle.mail_world.proofs.LastSeal.{length_placed}
-use Rattle.lmtp_lane.specs.LaneExchange.{LaneEnds, Sending, found_gone, slips_gone, KeepsRoom, IsAmong, own_slip_of, HasExchangedBy, IsUnderWay, IsOffering,
-    Continues, Awaits, Sends, TakesOne, sent_as, copy_at}
+use Rattle.lmtp_lane.specs.LaneExchange.{
+  LaneEnds,
+  Sending,
+  found_gone,
+  slips_gone,
+  KeepsRoom,
+  IsAmong,
+  own_slip_of,
+  HasExchangedBy,
+  IsUnderWay,
+  IsOffering,
+  Continues,
+  Awaits,
+  Sends,
+  TakesOne,
+  sent_as,
+  copy_at,
+}
 use Rattle.lmtp_lane.proofs.Doing.{lane_clock}
 use Rattle.lmtp_lane.proofs.Exchanging.{HearsSlip, sending, with_inbox, no_episode, joined_none, way_failed, way_heard, way_gone}
 
@@ -56,10 +105,10 @@ answered_by number place mailbox session now gather true low is went lost takes 
     let P : ℕ → Type 0 = λ b. IsAmong (copy_at lane t place b) all in
     let among : IsAmong note all = subst P (sym is)
     (among_right (copy_at lane t place (get_or session.recipients place 0)) notes (copies_from lane t 0 session.recipients)
-        (subst C low_sum (among_copies lane t 0 session.recipients place low))) in
+    (subst C low_sum (among_copies lane t 0 session.recipients place low))) in
     let same : lane ≡ old.lane = x.exchanged.exchanged.lane in
     let N : ℕ → Type 0 = λ l. (times_named (own_slip_of l note).txn place x.now.heard ≡ 0)
-        × HasGathered (txn_of lane number) n (x.now.heard ++ own_slip_of l note ∷ []) gather in
+    × HasGathered (txn_of lane number) n (x.now.heard ++ own_slip_of l note ∷ []) gather in
     way_failed all gave (txn_of lane number) n past old now x note gather among lost went (ap (λ l. txn_of l number) (sym same))
     (subst N same (takes (txn_of lane number) n x.now.heard x.gathered))
 answered_by number place mailbox session now gather false low is went lost kept moment message notes gave n past old x =
@@ -72,7 +121,7 @@ pub answered_next : (number place mailbox : ℕ) (session : Session) (now next :
     → TakesOne (own_slip now.ends.lane number place mailbox) now.gather next.gather taken_so → Awaits number session now next
 answered_next number place mailbox session now next taken_so low is went same takes =
     subst (λ e. Awaits number session now (sending e next.gather)) (sym same)
-        (answered_by number place mailbox session now next.gather taken_so low is went.0 went.1 takes)
+    (answered_by number place mailbox session now next.gather taken_so low is went.0 went.1 takes)
 
 -- a slip came
 pub heard_next : (number : ℕ) (session : Session) (now : Sending) (inbox : Inbox Slip) (gather : Gather) (slip : Slip)

@@ -1,6 +1,28 @@
 -- The clients of a lane, one after another.
-use Rattle.std.proofs.Common.{◌≡◌, ℕ, ◌+◌, List, [], ◌∷◌, ◌++◌, length, map, Option, Some, None, inl, refl, ap, sym, ◌∙◌, subst, append_assoc, append-nil,
-    length-append, arith}
+use Rattle.std.proofs.Common.{
+  ◌≡◌,
+  ℕ,
+  ◌+◌,
+  List,
+  [],
+  ◌∷◌,
+  ◌++◌,
+  length,
+  map,
+  Option,
+  Some,
+  None,
+  inl,
+  refl,
+  ap,
+  sym,
+  ◌∙◌,
+  subst,
+  append_assoc,
+  append-nil,
+  length-append,
+  arith,
+}
 use Rattle.std.specs.List.{AllByRecursion}
 use Rattle.mail_world.specs.Site.{Site}
 use Rattle.mail_world.specs.Conversation.{Conversation}
@@ -11,8 +33,21 @@ use Rattle.lmtp_talk.specs.Served.{Terms, terms, HasRead, IsServed, transactions
 use Rattle.lmtp_talk.proofs.Counting.{rises_then}
 use Rattle.lmtp_talk.specs.Entries.{Entry, OfEnd, entries_in, with_entries}
 use Rattle.lmtp_talk.proofs.Entered.{with_none, with_both}
-use Rattle.lmtp_lane.specs.Visits.{VisitsTold, Finished, TellsFinished, Visit, IsVisit, finished_of, conversations_of, HasFinished, HasVisited, HasConversed,
-    LendsLog, visit_entries, lane_entries}
+use Rattle.lmtp_lane.specs.Visits.{
+  VisitsTold,
+  Finished,
+  TellsFinished,
+  Visit,
+  IsVisit,
+  finished_of,
+  conversations_of,
+  HasFinished,
+  HasVisited,
+  HasConversed,
+  LendsLog,
+  visit_entries,
+  lane_entries,
+}
 use Rattle.mail_world.specs.Counts.{counted}
 
 -- a client that was served, and is handed back
@@ -47,7 +82,7 @@ transactions_last site n [] c = append-nil (transactions_in site n c)
 transactions_last site n (x ∷ cs) c =
     ap (λ l. transactions_in site n x ++ l) (transactions_last site (accepted_after_conversation site n x) cs c)
     ∙ sym (append_assoc (transactions_in site n x) (transactions site (accepted_after_conversation site n x) cs)
-        (transactions_in site (accepted_all site (accepted_after_conversation site n x) cs) c))
+    (transactions_in site (accepted_all site (accepted_after_conversation site n x) cs) c))
 
 transactions_first : (site : Site) (n : ℕ) → transactions site n [] ≡ []
 unfolding transactions
@@ -108,7 +143,7 @@ told_more (Some told) None next vs v h f = let bad : ◌≡◌ {A = Option (List
 told_more (Some told) (Some now) next vs v h f =
     let same : now ≡ told ++ map finished_of vs = cc in
     f ∙ ap (λ l. Some l) (ap (λ l. l ++ finished_of v ∷ []) same ∙ append_assoc told (map finished_of vs) (finished_of v ∷ [])
-        ∙ ap (λ l. told ++ l) (sym (finished_last vs v)))
+    ∙ ap (λ l. told ++ l) (sym (finished_last vs v)))
 
 each_more : (P : Visit → Type 0) (vs : List Visit) (v : Visit) → AllByRecursion P vs → P v → AllByRecursion P (vs ++ v ∷ [])
 each_more P [] v h p = (p, tt)
@@ -134,22 +169,26 @@ more_called by MayCome peer old now next Come Come' count count' e may lent x y 
     let all : conversations_of (x.visits ++ v ∷ []) ≡ cs ++ v.conversation ∷ [] = conversations_last x.visits v in
     let size : length (x.visits ++ v ∷ []) ≡ length x.visits + 1 = length-append x.visits (v ∷ []) in
     let with_last : Come' (accepted_after_conversation site (accepted_all site 0 cs) v.conversation)
-        (transactions site 0 cs ++ transactions_in site (accepted_all site 0 cs) v.conversation)
+    (transactions site 0 cs ++ transactions_in site (accepted_all site 0 cs) v.conversation)
     = y.delivered (accepted_all site 0 cs) (transactions site 0 cs) x.come in
     let counted_so : Come' (accepted_all site 0 (cs ++ v.conversation ∷ []))
-        (transactions site 0 cs ++ transactions_in site (accepted_all site 0 cs) v.conversation)
+    (transactions site 0 cs ++ transactions_in site (accepted_all site 0 cs) v.conversation)
     = subst (λ n. Come' n (transactions site 0 cs ++ transactions_in site (accepted_all site 0 cs) v.conversation))
-        (sym (accepted_last site 0 cs v.conversation)) with_last in
+    (sym (accepted_last site 0 cs v.conversation)) with_last in
     let come : Come' (accepted_all site 0 (cs ++ v.conversation ∷ [])) (transactions site 0 (cs ++ v.conversation ∷ []))
     = subst (λ ts. Come' (accepted_all site 0 (cs ++ v.conversation ∷ [])) ts) (sym (transactions_last site 0 cs v.conversation)) counted_so in
     record {
       visits = x.visits ++ v ∷ [];
-      visited = record { told = told_more old.each now.each next.each x.visits v x.visited.told y.told;
-          counts = subst (λ n. RisesBy n old.count next.count) (sym size)
-          (rises_then (length x.visits) 1 old.count now.count next.count x.visited.counts y.counts); each =
-          each_more (IsVisit by MayCome) x.visits v x.visited.each is; logged =
-          logged_last site x.visits v old.log now.log peer.told next.log x.visited.logged lent
-          (y.logged (accepted_all site 0 cs) (transactions site 0 cs) x.come) };
+      visited = record {
+        told = told_more old.each now.each next.each x.visits v x.visited.told y.told;
+        counts = subst (λ n. RisesBy n old.count next.count) (sym size)
+            (rises_then (length x.visits) 1 old.count now.count next.count x.visited.counts y.counts);
+        each =
+            each_more (IsVisit by MayCome) x.visits v x.visited.each is;
+        logged =
+            logged_last site x.visits v old.log now.log peer.told next.log x.visited.logged lent
+            (y.logged (accepted_all site 0 cs) (transactions site 0 cs) x.come);
+      };
       counts = omega (arith, e, x.counts, size);
       come = subst (λ l. Come' (accepted_all site 0 l) (transactions site 0 l)) (sym all) come;
     }

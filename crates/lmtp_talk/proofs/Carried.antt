@@ -1,6 +1,29 @@
 -- Where a conversation stands with more bytes handled.
-use Rattle.std.proofs.Common.{◌≡◌, ℕ, ◌+◌, ◌<◌, ◌≤◌, true, false, List, [], ◌∷◌, ◌++◌, length, take, Some, refl, sym, ap, ◌∙◌, subst, arith, append_assoc,
-    append-nil, length-take-le}
+use Rattle.std.proofs.Common.{
+  ◌≡◌,
+  ℕ,
+  ◌+◌,
+  ◌<◌,
+  ◌≤◌,
+  true,
+  false,
+  List,
+  [],
+  ◌∷◌,
+  ◌++◌,
+  length,
+  take,
+  Some,
+  refl,
+  sym,
+  ap,
+  ◌∙◌,
+  subst,
+  arith,
+  append_assoc,
+  append-nil,
+  length-take-le,
+}
 use Rattle.std.specs.Prelude.{nat_lt, if◌then◌else◌, flat_map}
 use Rattle.std.proofs.Math.Seq.{take-append-add}
 use Rattle.std.proofs.lemmas.List.{take_all}
@@ -81,7 +104,7 @@ texts_more site ps p view s site_is session_is =
     ∙ ap (λ x. (greeted ++ told) ++ reply_texts site (replies_to site x (inputs_of p))) session_is
     ∙ append_assoc greeted told _
     ∙ ap (λ l. greeted ++ l) (sym (flat_map-append (reply_text site) (replies_to site fresh (flat_map inputs_of ps))
-        (replies_to site (session_after_parts site fresh ps) (inputs_of p))))
+    (replies_to site (session_after_parts site fresh ps) (inputs_of p))))
     ∙ ap (λ l. greeted ++ reply_texts site l) (sym (replies_to-append site fresh (flat_map inputs_of ps) (inputs_of p)))
     ∙ ap (λ l. greeted ++ reply_texts site (replies_to site fresh l)) (sym (inputs-snoc ps p))
 
@@ -104,7 +127,7 @@ transactions-line site n ps text = transactions-append site n fresh ps (CommandL
 pub transactions-data : (site : Site) (n : ℕ) (ps : List Part) (text : List ℕ) (d : Disposition)
     → transactions_of site n fresh (ps ++ MailData text d ∷ [])
     ≡ transactions_of site n fresh ps
-        ++ record { number = accepted_after site n fresh ps; session = session_after_parts site fresh ps; message = message text; disposition = d } ∷ []
+    ++ record { number = accepted_after site n fresh ps; session = session_after_parts site fresh ps; message = message text; disposition = d } ∷ []
 transactions-data site n ps text d = transactions-append site n fresh ps (MailData text d ∷ [])
 
 -- no line ends in the bytes
@@ -159,7 +182,7 @@ ended_line site start Before {D} HasCome IsDrafting old new wire before after de
     let takes : TakesInputs (inputs_of p) mid new before after = subst (λ l. TakesInputs l mid new before after) (sym input_is) t.takes in
     let after_lines : TakesLines (session_after_parts site fresh h.done).state = subst (λ (s : Session). TakesLines s.state) h.session lines in
     let session_is : new.session.session ≡ session_after_parts site fresh (h.done ++ p ∷ []) =
-        session_more site h.done p mid new before after takes h.same_site h.session in
+    session_more site h.done p mid new before after takes h.same_site h.session in
     let goes' : GoesOn new.session.session.state = subst (λ (s : Session). GoesOn s.state) (sym t.takes.session) goes in
     let state_is : is_content new.session.session.state ≡ is_content (session_after site (session_after_parts site fresh h.done) (inputs_of p)).state =
     ap (λ (s : Session). is_content s.state) (session_is ∙ session_after_parts-snoc site fresh h.done p) in
@@ -174,16 +197,16 @@ ended_line site start Before {D} HasCome IsDrafting old new wire before after de
       session = session_is;
       quits = subst (λ (s : Session). QuitsWith s.state (flat_map inputs_of (h.done ++ p ∷ []))) (sym t.takes.session)
           (subst (λ l. QuitsWith (session_after old.session.site old.session.session (input ∷ [])).state l)
-              (sym (inputs-snoc h.done p ∙ ap (λ l. flat_map inputs_of h.done ++ l) input_is)) quits);
+          (sym (inputs-snoc h.done p ∙ ap (λ l. flat_map inputs_of h.done ++ l) input_is)) quits);
       said = says_part site h.done p start before after mid new came takes h.same_site h.session h.said;
       goes = takes.same ∙ h.goes;
       logged = λ n ts first. logged_more site n h.done p start.told before.told after.told _ t.told (h.logged n ts first)
           (entries_line site old.session.site (accepted_after site n fresh h.done) old.session.session (session_after_parts site fresh h.done) (take end bytes)
-              (line_in input) input h.same_site h.session input_is line_is);
+          (line_in input) input h.same_site h.session input_is line_is);
       inside = after_one_line new.session.session.state new _ _ goes' (subst (λ w. IsAfter w []) (sym takes.wire) ends.after)
           (λ content.
           let begins : BeginsIf HasCome IsDrafting true delivery (talk new after later) =
-              subst (λ b. BeginsIf HasCome IsDrafting b delivery (talk new after later)) content t.begins in
+          subst (λ b. BeginsIf HasCome IsDrafting b delivery (talk new after later)) content t.begins in
           record {
             made = [];
             next = subst (λ w. IsAfter w []) (sym takes.wire) ends.after;
@@ -191,7 +214,7 @@ ended_line site start Before {D} HasCome IsDrafting old new wire before after de
             drafting = λ n ts first.
                 let count : accepted_after site n fresh h.done + 1 ≡ accepted_after site n fresh (h.done ++ p ∷ []) =
                 ap (λ b. if b then accepted_after site n fresh h.done + 1 else accepted_after site n fresh h.done) (sym content ∙ state_is)
-                    ∙ sym (accepted-snoc site n h.done p) in
+                ∙ sym (accepted-snoc site n h.done p) in
                 subst (λ k. IsDrafting later k (ts ++ transactions_of site n fresh (h.done ++ p ∷ [])) []) count
                 (subst (λ l. IsDrafting later (accepted_after site n fresh h.done + 1) (ts ++ l) []) (sym (transactions-line site n h.done (take end bytes)))
                 (begins.1 _ _ (line.comes n ts first)));
@@ -201,7 +224,7 @@ ended_line site start Before {D} HasCome IsDrafting old new wire before after de
           λ n ts first.
           let count : accepted_after site n fresh h.done ≡ accepted_after site n fresh (h.done ++ p ∷ []) =
           ap (λ b. if b then accepted_after site n fresh h.done + 1 else accepted_after site n fresh h.done) (sym content ∙ state_is)
-              ∙ sym (accepted-snoc site n h.done p) in
+          ∙ sym (accepted-snoc site n h.done p) in
           subst (λ k. HasCome later k (ts ++ transactions_of site n fresh (h.done ++ p ∷ []))) count
           (subst (λ l. HasCome later (accepted_after site n fresh h.done) (ts ++ l)) (sym (transactions-line site n h.done (take end bytes)))
           (subst (λ x. HasCome x (accepted_after site n fresh h.done) (ts ++ transactions_of site n fresh h.done)) (sym same) (line.comes n ts first))));
@@ -229,7 +252,7 @@ line_of site start Before {D} HasCome IsDrafting old new wire before after deliv
     (ap (λ b. (if b then LongLine else Line (take e.0 bytes)) ∷ []) short ∙ ap (λ l. Line l ∷ []) (sym e.3))
     (ap (λ b. if b then [] else take e.0 bytes) short ∙ sym e.3)
     t (line_goes_on old.session.site old.session.session wire.line lines)
-        (quits_line old.session.site old.session.session (flat_map inputs_of h.done) wire.line lines h.quits)
+    (quits_line old.session.site old.session.session (flat_map inputs_of h.done) wire.line lines h.quits)
 
 pub long_line_of : (site : Site) (start : PeerState) (Before : ℕ → List Transaction → Type 0) {D : Type 0} (HasCome : D → ℕ → List Transaction → Type 0)
     (IsDrafting : D → ℕ → List Transaction → List ℕ → Type 0)
@@ -251,9 +274,12 @@ long_line_of site start Before {D} HasCome IsDrafting old new wire before after 
     ended_line site start Before HasCome IsDrafting old new wire before after delivery delivery handled came piece used e.0 LongLine lines h e.1
     (ap (λ b. (if b then LongLine else Line (take e.0 bytes)) ∷ []) long)
     (ap (λ b. if b then [] else take e.0 bytes) long)
-    (record { takes = t; told = told;
-        begins = subst (λ (s : State). BeginsIf HasCome IsDrafting (is_content s) delivery (talk new after delivery)) (sym same)
-        (no_content old.session.session.state lines HasCome IsDrafting (talk new after delivery)) })
+    (record {
+      takes = t;
+      told = told;
+      begins = subst (λ (s : State). BeginsIf HasCome IsDrafting (is_content s) delivery (talk new after delivery)) (sym same)
+          (no_content old.session.session.state lines HasCome IsDrafting (talk new after delivery));
+    })
     (long_goes_on old.session.site old.session.session lines) (quits_long old.session.site old.session.session (flat_map inputs_of h.done) lines h.quits)
   where
     no_content : (state : State) → TakesLines state

@@ -81,25 +81,37 @@ end_of_data site start Before {D} HasCome IsDrafting old new dot before after de
     let d : Disposition = e.disposition in
     let p : Part = MailData text d in
     let session_is : new.session.session ≡ session_after_parts site fresh (h.done ++ p ∷ []) =
-        session_more site h.done p between new before after e.takes h.same_site h.session in
+    session_more site h.done p between new before after e.takes h.same_site h.session in
     let greets : new.session.session.state ≡ Greeted =
-        ap (λ (s : Session). s.state) e.takes.session ∙ data_greets d.verdict old.session.site old.session.session d in
+    ap (λ (s : Session). s.state) e.takes.session ∙ data_greets d.verdict old.session.site old.session.session d in
     let now : InLine new [] (Comes site (h.done ++ p ∷ []) Before (HasCome later)) = record {
       after = subst (λ w. IsAfter w []) (sym e.takes.wire) inside.next;
       comes = λ n ts first.
-          let t : Transaction = record { number = accepted_after site n fresh h.done; session = old.session.session; message = inside.made ++ bytes;
-              disposition = d } in
-          let t' : Transaction = record { number = accepted_after site n fresh h.done; session = session_after_parts site fresh h.done; message = message text;
-              disposition = d } in
+          let t : Transaction = record {
+            number = accepted_after site n fresh h.done;
+            session = old.session.session;
+            message = inside.made ++ bytes;
+            disposition = d;
+          } in
+          let t' : Transaction = record {
+            number = accepted_after site n fresh h.done;
+            session = session_after_parts site fresh h.done;
+            message = message text;
+            disposition = d;
+          } in
           let same : t ≡ t' =
           ap (λ (s : Session). record { number = accepted_after site n fresh h.done; session = s; message = inside.made ++ bytes; disposition = d }) h.session
-          ∙ ap (λ (m : List ℕ). record { number = accepted_after site n fresh h.done; session = session_after_parts site fresh h.done; message = m;
-              disposition = d }) ends.message in
+          ∙ ap (λ (m : List ℕ). record {
+            number = accepted_after site n fresh h.done;
+            session = session_after_parts site fresh h.done;
+            message = m;
+            disposition = d;
+          }) ends.message in
           let count : accepted_after site n fresh h.done ≡ accepted_after site n fresh (h.done ++ p ∷ []) =
           sym (accepted-snoc site n h.done p ∙ same_after_data site (accepted_after site n fresh h.done) (session_after_parts site fresh h.done) text d) in
           let list : (ts ++ transactions_of site n fresh h.done) ++ t ∷ [] ≡ ts ++ transactions_of site n fresh (h.done ++ p ∷ []) =
           append_assoc ts (transactions_of site n fresh h.done) (t ∷ []) ∙ ap (λ (x : Transaction). ts ++ (transactions_of site n fresh h.done ++ x ∷ [])) same
-              ∙ ap (λ l. ts ++ l) (sym (transactions-data site n h.done text d)) in
+          ∙ ap (λ l. ts ++ l) (sym (transactions-data site n h.done text d)) in
           subst (λ k. HasCome later k (ts ++ transactions_of site n fresh (h.done ++ p ∷ []))) count
           (subst (λ l. HasCome later (accepted_after site n fresh h.done) l) list
           (e.ended _ _ (inside.made ++ bytes) (grows _ _ inside.made (inside.drafting n ts first))));
@@ -115,16 +127,16 @@ end_of_data site start Before {D} HasCome IsDrafting old new dot before after de
       session = session_is;
       quits = subst (λ (s : Session). QuitsWith s.state (flat_map inputs_of (h.done ++ p ∷ []))) (sym e.takes.session)
           (subst (λ l. QuitsWith (session_after old.session.site old.session.session (DataEnded d.verdict ∷ outcomes_of d d.verdict)).state l)
-              (sym (inputs-snoc h.done p))
+          (sym (inputs-snoc h.done p))
           (quits_data d.verdict old.session.site old.session.session (flat_map inputs_of h.done) d content h.quits));
       said = says_part site h.done p start before after between new came e.takes h.same_site h.session h.said;
       goes = e.takes.same ∙ h.goes;
       logged = λ n ts first.
           let k : ℕ = accepted_after site n fresh h.done in
           logged_more site n h.done p start.told before.told after.told _
-              (e.told k _ (inside.made ++ bytes) (grows k _ inside.made (inside.drafting n ts first))) (h.logged n ts first)
+          (e.told k _ (inside.made ++ bytes) (grows k _ inside.made (inside.drafting n ts first))) (h.logged n ts first)
           (entries_data site old.session.site k old.session.session (session_after_parts site fresh h.done) text (inside.made ++ bytes) d h.same_site h.session
-              ends.message);
+          ends.message);
       inside = subst (λ (s : State). IsInside s new [] (Comes site (h.done ++ p ∷ []) Before (HasCome later))
           (λ made. Comes site (h.done ++ p ∷ []) Before (λ n ts. IsDrafting later n ts made))) (sym greets) now;
     }

@@ -1,6 +1,30 @@
 -- Parts at the beginning of a text stay its parts, whatever follows them.
-use Rattle.std.proofs.Common.{◌≡◌, ℕ, ◌+◌, ◌-◌, ◌≤◌, List, [], ◌∷◌, ◌++◌, length, take, drop, Option, Some, sym, ap, ◌∙◌, subst, arith, append_assoc,
-    length-append, length-take-le, take-append-drop, take-take}
+use Rattle.std.proofs.Common.{
+  ◌≡◌,
+  ℕ,
+  ◌+◌,
+  ◌-◌,
+  ◌≤◌,
+  List,
+  [],
+  ◌∷◌,
+  ◌++◌,
+  length,
+  take,
+  drop,
+  Option,
+  Some,
+  sym,
+  ap,
+  ◌∙◌,
+  subst,
+  arith,
+  append_assoc,
+  length-append,
+  length-take-le,
+  take-append-drop,
+  take-take,
+}
 use Rattle.std.specs.Prelude.{Bool, flat_map}
 use Rattle.std.proofs.lemmas.List.{take-append-le}
 use Rattle.std.proofs.Math.Seq.{drop-append_seam, take-append_seam, take-append-add}
@@ -10,12 +34,32 @@ use Rattle.mail_world.specs.Text.{cr, lf, crlf, place_of, StandsAt, IsFoundBy}
 use Rattle.mail_world.specs.Data.{dot, data_end}
 use Rattle.mail_world.specs.Site.{Site}
 use Rattle.mail_world.specs.Session.{fresh}
-use Rattle.mail_world.specs.Conversation.{Disposition, Part, CommandLine, MailData, inputs_of, session_after_parts, parts, OutcomesFit, stop_at, inputs,
-    IsAccount}
+use Rattle.mail_world.specs.Conversation.{
+  Disposition,
+  Part,
+  CommandLine,
+  MailData,
+  inputs_of,
+  session_after_parts,
+  parts,
+  OutcomesFit,
+  stop_at,
+  inputs,
+  IsAccount,
+}
 use Rattle.mail_world.specs.Dispositions.{dispositions_of}
 use Rattle.mail_world.proofs.Places.{place_of_stands, place_of_least, StandsAt-more}
-use Rattle.mail_world.proofs.Handled.{HasNoPart, Handled, ReadsLines, handled_none, handled_line, handled_data, line_within, all_parts,
-    all_accounted as accounted_at}
+use Rattle.mail_world.proofs.Handled.{
+  HasNoPart,
+  Handled,
+  ReadsLines,
+  handled_none,
+  handled_line,
+  handled_data,
+  line_within,
+  all_parts,
+  all_accounted as accounted_at,
+}
 use Rattle.lmtp_session.specs.Steps.{TakesLines}
 use Rattle.lmtp_talk.specs.Standing.{IsCutUp}
 
@@ -69,7 +113,7 @@ place_in_prefix first part text n m e fits =
     let found = place_of_least first part (take m text) n (stands_in_prefix (first ∷ part) text n m (place_of_stands (first ∷ part) text n e) fits) in
     least_is (first ∷ part) (take m text) n found
     (none_before first part text n found.place e
-        (stands_in_whole (first ∷ part) text found.place m (place_of_stands (first ∷ part) (take m text) found.place found.found)))
+    (stands_in_whole (first ∷ part) text found.place m (place_of_stands (first ∷ part) (take m text) found.place found.found)))
 
 stands_before : (part text more : List ℕ) (n : ℕ) → StandsAt part (text ++ more) n → n + length part ≤ length text → StandsAt part text n
 stands_before part text more n at fits =
@@ -83,7 +127,7 @@ place_before first part text more n e =
     omega (arith, found.least, at.place, ap length at.whole, length-append (at.prefix ++ first ∷ part) at.rest, length-append at.prefix (first ∷ part)) in
     least_is (first ∷ part) (text ++ more) n found
     (none_before first part text n found.place e
-        (stands_before (first ∷ part) text more found.place (place_of_stands (first ∷ part) (text ++ more) found.place found.found) fits))
+    (stands_before (first ∷ part) text more found.place (place_of_stands (first ∷ part) (text ++ more) found.place found.found) fits))
 
 line_before : (bytes more : List ℕ) (end : ℕ) → place_of crlf bytes ≡ Some end → place_of crlf (take (end + 2) bytes ++ more) ≡ Some end
 line_before bytes more end e =
@@ -119,10 +163,10 @@ cut_line site prefix bytes ps end c lines e = cut_up site (prefix ++ take (end +
     let long : end + 2 ≤ length bytes = line_within bytes end e in
     let size : length line ≡ end + 2 = length-take-le (end + 2) bytes long in
     let old : Handled site s (length prefix) ps =
-        subst (λ l. Handled site l (length prefix) ps) (sym (append_assoc prefix line more)) (handled site prefix (line ++ more) ps c) in
+    subst (λ l. Handled site l (length prefix) ps) (sym (append_assoc prefix line more)) (handled site prefix (line ++ more) ps c) in
     let new : Handled site s (length prefix + (end + 2)) (ps ++ CommandLine (take end (drop (length prefix) s)) ∷ []) =
     handled_line site s (length prefix) ps end old (reads (session_after_parts site fresh ps).state lines)
-        (ap (λ l. place_of crlf l) left ∙ line_before bytes more end e) in
+    (ap (λ l. place_of crlf l) left ∙ line_before bytes more end e) in
     let text : take end (drop (length prefix) s) ≡ take end bytes =
     ap (λ l. take end l) left ∙ take-append-le end line more (omega (arith, size)) ∙ take-take end (end + 2) bytes (omega arith) in
     subst (λ n. Handled site s n (ps ++ CommandLine (take end bytes) ∷ [])) (omega (arith, length-append prefix line, size))
@@ -136,11 +180,11 @@ cut_data site prefix text ps end d c content e last fit = cut_up site (prefix ++
     let s : List ℕ = (prefix ++ text) ++ more in
     let left : drop (length prefix) s ≡ text ++ more = text_after prefix text more in
     let old : Handled site s (length prefix) ps =
-        subst (λ l. Handled site l (length prefix) ps) (sym (append_assoc prefix text more)) (handled site prefix (text ++ more) ps c) in
+    subst (λ l. Handled site l (length prefix) ps) (sym (append_assoc prefix text more)) (handled site prefix (text ++ more) ps c) in
     let new : Handled site s (length prefix + (end + 3)) (ps ++ MailData (take (end + 3) (drop (length prefix) s)) d ∷ []) =
     handled_data site s (length prefix) ps end d old content (ap (λ l. data_end l) left ∙ data_before text more end e) fit in
     let own : take (end + 3) (drop (length prefix) s) ≡ text =
-        ap (λ l. take (end + 3) l) left ∙ ap (λ n. take n (text ++ more)) (sym last) ∙ take-append_seam text more in
+    ap (λ l. take (end + 3) l) left ∙ ap (λ n. take n (text ++ more)) (sym last) ∙ take-append_seam text more in
     subst (λ n. Handled site s n (ps ++ MailData text d ∷ [])) (omega (arith, length-append prefix text, last))
     (subst (λ l. Handled site s (length prefix + (end + 3)) (ps ++ MailData l d ∷ [])) own new))
 

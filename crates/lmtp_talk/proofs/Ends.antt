@@ -132,7 +132,7 @@ text_stopped site ps view s site_is session_is may =
     ∙ ap (λ x. last_text site xs ++ reply_texts site (replies_to site x (Stop ∷ []))) session_is
     ∙ append_assoc greeted (reply_texts site (replies_to site fresh xs)) _
     ∙ ap (λ l. greeted ++ l) (sym (flat_map-append (reply_text site) (replies_to site fresh xs)
-        (replies_to site (session_after_parts site fresh ps) (Stop ∷ []))))
+    (replies_to site (session_after_parts site fresh ps) (Stop ∷ []))))
     ∙ ap (λ l. greeted ++ reply_texts site l) (sym (replies_to-append site fresh xs (Stop ∷ [])))
     ∙ ap (λ l. last_text site (xs ++ l)) (sym (stop_is (session_after_parts site fresh ps).state (subst (λ (x : Session). MayStop x.state) session_is may)))
 
@@ -264,9 +264,13 @@ finishes_quiet : (reads : ℕ) (site : Site) (start now : PeerState) (dialogue :
 finishes_quiet reads site start now dialogue ps handled end q h causes =
     let s : HasSaid start now (record { pending = []; broken = false }) handled (last_text site (last_inputs site ps false)) =
     subst (λ l. HasSaid start now (record { pending = []; broken = false }) handled l) (text_not_stopped site ps)
-        (said_whole start now dialogue handled (last_text site (flat_map inputs_of ps)) q h) in
-    record { written = s.written; moved = s.moved;
-        says = written_whole start now [] handled (last_text site (last_inputs site ps false)) (end ≡ ends.WriteFault) s refl; causes = causes s.is.sound }
+    (said_whole start now dialogue handled (last_text site (flat_map inputs_of ps)) q h) in
+    record {
+      written = s.written;
+      moved = s.moved;
+      says = written_whole start now [] handled (last_text site (last_inputs site ps false)) (end ≡ ends.WriteFault) s refl;
+      causes = causes s.is.sound;
+    }
 
 finishes_broken : (reads : ℕ) (site : Site) (start now : PeerState) (broken : Bool) (pending : List ℕ) (state : State) (stopped : Bool) (ps : List Part)
     (handled text : List ℕ) → broken ≡ true
@@ -384,24 +388,24 @@ pub served : (reads : ℕ) (site : Site) (start now : PeerState) (Before Come La
     → EndsAs reads end dialogue now handled → IsServed (terms site reads) start now Before Last end
 served reads site start now Before Come Last Drafting dialogue handled ends.Quit h l e =
     finished reads site start now now Before Come Last Drafting dialogue handled false ends.Quit h
-        (comes_in_the_end site start now Before Come Last Drafting dialogue handled handled h l) refl
+    (comes_in_the_end site start now Before Come Last Drafting dialogue handled handled h l) refl
     (finishes_quiet reads site start now dialogue h.done handled ends.Quit e.0 h.said
-        (λ sound. quit_ends reads dialogue.session.session.state handled start now e.1 sound h.goes))
+    (λ sound. quit_ends reads dialogue.session.session.state handled start now e.1 sound h.goes))
 served reads site start now Before Come Last Drafting dialogue handled ends.EndOfInput h l e =
     finished reads site start now now Before Come Last Drafting dialogue handled false ends.EndOfInput h
-        (comes_in_the_end site start now Before Come Last Drafting dialogue handled handled h l) refl
+    (comes_in_the_end site start now Before Come Last Drafting dialogue handled handled h l) refl
     (finishes_quiet reads site start now dialogue h.done handled ends.EndOfInput e.0 h.said
-        (λ sound. input_ends reads dialogue.session.session.state handled start now e.1 e.2 sound h.goes))
+    (λ sound. input_ends reads dialogue.session.session.state handled start now e.1 e.2 sound h.goes))
 served reads site start now Before Come Last Drafting dialogue handled ends.ReadBound h l e =
     finished reads site start now now Before Come Last Drafting dialogue handled false ends.ReadBound h
-        (comes_in_the_end site start now Before Come Last Drafting dialogue handled handled h l) refl
+    (comes_in_the_end site start now Before Come Last Drafting dialogue handled handled h l) refl
     (finishes_quiet reads site start now dialogue h.done handled ends.ReadBound e.0 h.said
-        (λ sound. bound_ends reads dialogue.session.session.state handled start now e.1 e.2 sound h.goes))
+    (λ sound. bound_ends reads dialogue.session.session.state handled start now e.1 e.2 sound h.goes))
 served reads site start now Before Come Last Drafting dialogue handled ends.WriteFault h l e =
     finished reads site start now now Before Come Last Drafting dialogue handled false ends.WriteFault h
-        (comes_in_the_end site start now Before Come Last Drafting dialogue handled handled h l) refl
+    (comes_in_the_end site start now Before Come Last Drafting dialogue handled handled h l) refl
     (finishes_broken reads site start now dialogue.outbox.broken dialogue.outbox.pending dialogue.session.session.state false h.done handled _ e
-        (text_not_stopped site h.done) (λ f. cc) (λ f. h.goes) h.said)
+    (text_not_stopped site h.done) (λ f. cc) (λ f. h.goes) h.said)
 served reads site start now Before Come Last Drafting dialogue handled ends.ReadFault h l e = absurd e
 served reads site start now Before Come Last Drafting dialogue handled ends.Stopped h l e = absurd e
 
@@ -414,12 +418,12 @@ pub served_read_fault : (reads : ℕ) (site : Site) (start before now : PeerStat
 served_read_fault reads site start before now Before Come Last Drafting dialogue handled h l q open' f =
     let s : HasSaid start before (record { pending = []; broken = false }) handled (last_text site (last_inputs site h.done false)) =
     subst (λ l. HasSaid start before (record { pending = []; broken = false }) handled l) (text_not_stopped site h.done)
-        (said_whole start before dialogue handled (last_text site (flat_map inputs_of h.done)) q h.said) in
+    (said_whole start before dialogue handled (last_text site (flat_map inputs_of h.done)) q h.said) in
     let moved : HasMoved start now handled s.written =
-        subst (λ l. HasMoved start now handled l) (append-nil s.written) (moved_writing start before now handled s.written [] s.moved f.moved) in
+    subst (λ l. HasMoved start now handled l) (append-nil s.written) (moved_writing start before now handled s.written [] s.moved f.moved) in
     let failed : Rises start.failures now.failures = subst (λ k. Rises k now.failures) s.is.sound f.failed in
     finished reads site start before now Before Come Last Drafting dialogue handled false ends.ReadFault h
-        (comes_in_the_end site start before Before Come Last Drafting dialogue handled handled h l) f.untold
+    (comes_in_the_end site start before Before Come Last Drafting dialogue handled handled h l) f.untold
     (record {
       written = s.written;
       moved = moved;
@@ -446,7 +450,7 @@ stopped_by reads true site start now pending state ps handled text open' may is 
     finishes_broken reads site start now true pending state true ps handled text refl is (λ f. may) (λ f. cc) h
 stopped_by reads false site start now pending state ps handled text open' may is none h =
     let s : HasSaid start now (record { pending = pending; broken = false }) handled (last_text site (last_inputs site ps true)) =
-        subst (λ l. HasSaid start now (record { pending = pending; broken = false }) handled l) is h in
+    subst (λ l. HasSaid start now (record { pending = pending; broken = false }) handled l) is h in
     record {
       written = s.written;
       moved = s.moved;
@@ -466,9 +470,9 @@ served_stopped reads site start earlier before now Before Come Last Drafting dia
     let said : HasSaid start before dialogue.outbox handled (last_text site (flat_map inputs_of h.done)) =
     subst (λ l. HasSaid start before dialogue.outbox l (last_text site (flat_map inputs_of h.done))) (append-nil handled)
     (said_on dialogue.outbox.broken start earlier before dialogue.outbox.pending handled [] (last_text site (flat_map inputs_of h.done)) h.said stops.moved
-        stops.sound) in
+    stops.sound) in
     let rose : Rises start.stops now.stops = subst (λ k. Rises start.stops k) (sym t.same) (subst (λ k. Rises k before.stops) h.goes stops.stopped) in
     finished reads site start earlier now Before Come Last Drafting dialogue handled true (stopped_or new.outbox.broken) h
-        (comes_in_the_end site start earlier Before Come Last Drafting dialogue handled handled h l) (untold ∙ stops.untold)
+    (comes_in_the_end site start earlier Before Come Last Drafting dialogue handled handled h l) (untold ∙ stops.untold)
     (stopped_by reads new.outbox.broken site start now new.outbox.pending dialogue.session.session.state h.done handled _ open' rose
     (text_in_the_end site start earlier Before Come Drafting dialogue handled handled h may) none (t.says start handled _ said))

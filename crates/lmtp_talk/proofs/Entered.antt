@@ -1,6 +1,31 @@
 -- The entries of parts, one part after another, and of replies.
-use Rattle.std.proofs.Common.{◌≡◌, ◌<◌, ℕ, ◌+◌, add-one, Bool, true, false, subst, List, [], ◌∷◌, ◌++◌, length, map, take, Option, Some, None, refl, sym, ap,
-    ◌∙◌, append_assoc, append-nil}
+use Rattle.std.proofs.Common.{
+  ◌≡◌,
+  ◌<◌,
+  ℕ,
+  ◌+◌,
+  add-one,
+  Bool,
+  true,
+  false,
+  subst,
+  List,
+  [],
+  ◌∷◌,
+  ◌++◌,
+  length,
+  map,
+  take,
+  Option,
+  Some,
+  None,
+  refl,
+  sym,
+  ap,
+  ◌∙◌,
+  append_assoc,
+  append-nil,
+}
 use Rattle.std.specs.Prelude.{flat_map, slice_get}
 use Rattle.std.proofs.Math.Seq.{take-suc, take-length}
 use Rattle.std.proofs.lemmas.Option.{get_or_from_slice_get}
@@ -104,7 +129,7 @@ entries-append site n session (p ∷ ps) qs =
     ap (λ l. own ++ l)
     (entries-append site k next ps qs
     ∙ ap (λ x. entries_of site k next ps ++ entries_of site (accepted_after site k next ps) x qs)
-        (sym (session_after-append site session (inputs_of p) (flat_map inputs_of ps))))
+    (sym (session_after-append site session (inputs_of p) (flat_map inputs_of ps))))
     ∙ sym (append_assoc own (entries_of site k next ps) (entries_of site (accepted_after site k next ps) (session_after_parts site session (p ∷ ps)) qs))
 
 pub entries-snoc : (site : Site) (n : ℕ) (ps : List Part) (p : Part)
@@ -112,7 +137,7 @@ pub entries-snoc : (site : Site) (n : ℕ) (ps : List Part) (p : Part)
     ++ entries_of_part site (accepted_after site n fresh ps) (session_after_parts site fresh ps) p
 entries-snoc site n ps p =
     entries-append site n fresh ps (p ∷ [])
-        ∙ ap (λ l. entries_of site n fresh ps ++ l) (append-nil (entries_of_part site (accepted_after site n fresh ps) (session_after_parts site fresh ps) p))
+    ∙ ap (λ l. entries_of site n fresh ps ++ l) (append-nil (entries_of_part site (accepted_after site n fresh ps) (session_after_parts site fresh ps) p))
 
 -- the log was told the entries of one more part
 pub logged_more : (site : Site) (n : ℕ) (ps : List Part) (p : Part) (start before after : Option (List Entry)) (entries : List Entry)

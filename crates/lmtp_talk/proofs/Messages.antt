@@ -103,41 +103,41 @@ refused_message {D} HasCome IsDrafting old new before after delivery later Whole
     entered = absurd (other refl)
 refused_message {D} HasCome IsDrafting old new before after delivery later TooLarge moment told act number size other ended one wire same says numbered sized
     entered = record {
-  disposition = ended_so (Err TooLarge) moment told;
-  takes = record {
-    site = one.site;
-    session = one.next;
-    says = λ start came text h. subst (λ l. HasSaid start after new.outbox came (text ++ l))
-        (texts_are old.session.site act (step old.session.site old.session.session (DataEnded TooLarge)) old.session new.session one refl
+      disposition = ended_so (Err TooLarge) moment told;
+      takes = record {
+        site = one.site;
+        session = one.next;
+        says = λ start came text h. subst (λ l. HasSaid start after new.outbox came (text ++ l))
+            (texts_are old.session.site act (step old.session.site old.session.session (DataEnded TooLarge)) old.session new.session one refl
             ∙ ap (λ rs. reply_texts old.session.site rs) (sym (append-nil _)))
-        (says start came text h);
-    wire = wire;
-    same = same;
-  };
-  fits = tt;
-  ended = ended;
-  told = λ n ts message h. copies_told number size (counted n) (counted (length message)) new.session.session.client old.session.session.client _ _ before.told
-      after.told (numbered n ts message h) (sized n ts message h)
-      (ap (λ (x : Session). x.client) one.next)
-      (said_is act (step old.session.site old.session.session (DataEnded TooLarge)) new.session.answers one.fits ∙ sym (append-nil _)) entered;
-}
+            (says start came text h);
+        wire = wire;
+        same = same;
+      };
+      fits = tt;
+      ended = ended;
+      told = λ n ts message h. copies_told number size (counted n) (counted (length message)) new.session.session.client old.session.session.client _ _ before.told
+          after.told (numbered n ts message h) (sized n ts message h)
+          (ap (λ (x : Session). x.client) one.next)
+          (said_is act (step old.session.site old.session.session (DataEnded TooLarge)) new.session.answers one.fits ∙ sym (append-nil _)) entered;
+    }
 refused_message {D} HasCome IsDrafting old new before after delivery later NoRoom moment told act number size other ended one wire same says numbered sized
     entered = record {
-  disposition = ended_so (Err NoRoom) moment told;
-  takes = record {
-    site = one.site;
-    session = one.next;
-    says = λ start came text h. subst (λ l. HasSaid start after new.outbox came (text ++ l))
-        (texts_are old.session.site act (step old.session.site old.session.session (DataEnded NoRoom)) old.session new.session one refl
+      disposition = ended_so (Err NoRoom) moment told;
+      takes = record {
+        site = one.site;
+        session = one.next;
+        says = λ start came text h. subst (λ l. HasSaid start after new.outbox came (text ++ l))
+            (texts_are old.session.site act (step old.session.site old.session.session (DataEnded NoRoom)) old.session new.session one refl
             ∙ ap (λ rs. reply_texts old.session.site rs) (sym (append-nil _)))
-        (says start came text h);
-    wire = wire;
-    same = same;
-  };
-  fits = tt;
-  ended = ended;
-  told = λ n ts message h. copies_told number size (counted n) (counted (length message)) new.session.session.client old.session.session.client _ _ before.told
-      after.told (numbered n ts message h) (sized n ts message h)
-      (ap (λ (x : Session). x.client) one.next)
-      (said_is act (step old.session.site old.session.session (DataEnded NoRoom)) new.session.answers one.fits ∙ sym (append-nil _)) entered;
-}
+            (says start came text h);
+        wire = wire;
+        same = same;
+      };
+      fits = tt;
+      ended = ended;
+      told = λ n ts message h. copies_told number size (counted n) (counted (length message)) new.session.session.client old.session.session.client _ _ before.told
+          after.told (numbered n ts message h) (sized n ts message h)
+          (ap (λ (x : Session). x.client) one.next)
+          (said_is act (step old.session.site old.session.session (DataEnded NoRoom)) new.session.answers one.fits ∙ sym (append-nil _)) entered;
+    }

@@ -9,8 +9,28 @@ use Rattle.mail_world.specs.declared.State.TheVariants.{Fresh, Greeted, Sender, 
 use Rattle.mail_world.specs.declared.Reply.TheVariants as replies
 use Rattle.mail_world.specs.declared.limits.TheConstants.{RECIPIENT_LIMIT, MESSAGE_LIMIT}
 use Rattle.mail_world.specs.Site.{Site}
-use Rattle.mail_world.specs.Commands.{Answer, Lhlo, Mail, Rcpt, StartData, Rset, Noop, Quit, Vrfy, Help, command, command_at, Parameter, mail_with, mail_path,
-    mail, by_verb, parameters, trimmed, after_spaces}
+use Rattle.mail_world.specs.Commands.{
+  Answer,
+  Lhlo,
+  Mail,
+  Rcpt,
+  StartData,
+  Rset,
+  Noop,
+  Quit,
+  Vrfy,
+  Help,
+  command,
+  command_at,
+  Parameter,
+  mail_with,
+  mail_path,
+  mail,
+  by_verb,
+  parameters,
+  trimmed,
+  after_spaces,
+}
 use Rattle.mail_world.specs.Paths.{Found, reverse_path}
 use Rattle.mail_world.specs.Text.{space}
 use Rattle.std.specs.List.{before_first, after_first}
@@ -212,7 +232,7 @@ pub quits_line : (site : Site) (s : Session) (xs : List Input) (text : List ℕ)
     → QuitsWith (session_after site s (Line text ∷ [])).state (xs ++ Line text ∷ [])
 quits_line site s xs text h q = quits_more xs (Line text ∷ []) s.state _ (not_ended s.state h) q
     (λ e. or_last (is_quit (Line text)) (line_ends site s text h e))
-        (λ e. quit_ends site s (command_at site.message_limit text) (command_quit site.message_limit text ∙ or_one (is_quit (Line text)) e))
+    (λ e. quit_ends site s (command_at site.message_limit text) (command_quit site.message_limit text ∙ or_one (is_quit (Line text)) e))
 
 pub quits_long : (site : Site) (s : Session) (xs : List Input) → TakesLines s.state → QuitsWith s.state xs
     → QuitsWith (session_after site s (LongLine ∷ [])).state (xs ++ LongLine ∷ [])

@@ -26,7 +26,7 @@ pub said_none : (s : PeerState) (outbox : OutboxView) → (outbox.pending ≡ []
 said_none s outbox new =
     let at : Bool → List ℕ → Type 0 = λ b l. HasSaid s s (record { pending = l; broken = b }) [] [] in
     subst (λ b. at b outbox.pending) (sym new.1)
-        (subst (λ l. at false l) (sym new.0) (record { written = []; moved = moved_none s; is = record { whole = refl; sound = refl } }))
+    (subst (λ l. at false l) (sym new.0) (record { written = []; moved = moved_none s; is = record { whole = refl; sound = refl } }))
 
 -- a peer gave more bytes
 pub stands_reading : (site : Site) (start peer later : PeerState) (Before Come : ℕ → List Transaction → Type 0)
@@ -55,7 +55,7 @@ pub stands_still : (site : Site) (start peer later : PeerState) (Before Come : �
     → IsSoFar (beginning site start Before) (standing dialogue later Come Drafting) handled came
 stands_still site start peer later Before Come Drafting dialogue handled came h w =
     subst (λ l. IsSoFar (beginning site start Before) (standing dialogue later Come Drafting) handled l) (append-nil came)
-        (stands_reading site start peer later Before Come Drafting dialogue handled came [] h w)
+    (stands_reading site start peer later Before Come Drafting dialogue handled came [] h w)
 
 inside_same : (state : State) (dialogue : Dialogue) (outbox : OutboxView) (rest : List ℕ) (come : Type 0) (drafts : List ℕ → Type 0)
     → IsInside state dialogue rest come drafts → IsInside state (record dialogue { outbox = outbox }) rest come drafts
@@ -127,7 +127,7 @@ module _ {D : Type 0} (HasCome : D → ℕ → List Transaction → Type 0) (IsD
       → IsSoFar (beginning site start (HasCome first)) (standing new after (HasCome later) (IsDrafting later)) (handled ++ piece) (handled ++ piece)
   handled_all w handles site start first handled h =
       handles site start first handled
-          (stands_reading site start before read (HasCome first) (HasCome delivery) (IsDrafting delivery) old handled handled piece h w)
+      (stands_reading site start before read (HasCome first) (HasCome delivery) (IsDrafting delivery) old handled handled piece h w)
 
   goes_on : 0 < length piece → HasTransferred before read piece [] → HandlesPiece HasCome IsDrafting (talk old read delivery) (talk new after later) piece
       → TakesTurn HasCome IsDrafting (talk old before delivery) (talk new after later)
@@ -138,11 +138,11 @@ module _ {D : Type 0} (HasCome : D → ℕ → List Transaction → Type 0) (IsD
       → EndsTurn HasCome IsDrafting reads (talk old before delivery) (talk new after later) (quit_or broken)
   ends_with reads true ended broken none w handles site start first handled h =
       served reads site start after (HasCome first) (HasCome later) (HasCome later) (IsDrafting later) new (handled ++ piece) ends.WriteFault
-          (handled_all w handles site start first handled h)
+      (handled_all w handles site start first handled h)
       (leave_none new.session.session.state (HasCome later) (IsDrafting later) (λ e. let wrong : Content ≡ Ended = sym e ∙ ended in cc)) broken
   ends_with reads false ended broken none w handles site start first handled h =
       served reads site start after (HasCome first) (HasCome later) (HasCome later) (IsDrafting later) new (handled ++ piece) ends.Quit
-          (handled_all w handles site start first handled h)
+      (handled_all w handles site start first handled h)
       (leave_none new.session.session.state (HasCome later) (IsDrafting later) (λ e. let wrong : Content ≡ Ended = sym e ∙ ended in cc))
       (record { whole = broken; none = none }, ended)
 
@@ -152,7 +152,7 @@ module _ {D : Type 0} (HasCome : D → ℕ → List Transaction → Type 0) (IsD
   never_waits reads broken waits w handles site start first handled h =
       let s = handled_all w handles site start first handled h in
       absurd (subst (λ (x : State). IsInside x new s.rest (Comes site s.done (HasCome first) (HasCome later))
-          (λ made. Comes site s.done (HasCome first) (λ n ts. IsDrafting later n ts made))) waits s.inside)
+      (λ made. Comes site s.done (HasCome first) (λ n ts. IsDrafting later n ts made))) waits s.inside)
 
   pub turns_by : (state : State) → new.session.session.state ≡ state → new.outbox.pending ≡ [] → 0 < length piece → HasTransferred before read piece []
       → HandlesPiece HasCome IsDrafting (talk old read delivery) (talk new after later) piece

@@ -1,6 +1,35 @@
 -- What is written to a peer, piece by piece.
-use Rattle.std.proofs.Common.{◌≡◌, ℕ, ◌+◌, ◌-◌, ◌<◌, add-one, List, [], ◌∷◌, ◌++◌, length, take, drop, Some, Result, Ok, Err, refl, sym, ap, ◌∙◌, subst, ◌≤◌,
-    arith, append_assoc, append-nil, length-append, length-take-le, take-take}
+use Rattle.std.proofs.Common.{
+  ◌≡◌,
+  ℕ,
+  ◌+◌,
+  ◌-◌,
+  ◌<◌,
+  add-one,
+  List,
+  [],
+  ◌∷◌,
+  ◌++◌,
+  length,
+  take,
+  drop,
+  Some,
+  Result,
+  Ok,
+  Err,
+  refl,
+  sym,
+  ap,
+  ◌∙◌,
+  subst,
+  ◌≤◌,
+  arith,
+  append_assoc,
+  append-nil,
+  length-append,
+  length-take-le,
+  take-take,
+}
 use Rattle.std.specs.Prelude.{OnErr, OnOk, Bool, true, false}
 use Rattle.std.specs.Prelude.{slice_get}
 use Rattle.std.specs.Result.{is_err}
@@ -49,8 +78,13 @@ pub given_next : (s t u : PeerState) (text a b : List ℕ) → GivenUpTo s t tex
 given_next s t u text a b x y = record {
   prefix = x.prefix ++ a;
   whole = x.whole ∙ sym (append_assoc x.prefix a b);
-  worked = record { moved = moved_writing s t u [] x.prefix a x.worked.moved y.moved; sound = y.sound ∙ x.worked.sound; same = y.same
-      ∙ x.worked.same; untold = y.untold ∙ x.worked.untold };
+  worked = record {
+    moved = moved_writing s t u [] x.prefix a x.worked.moved y.moved;
+    sound = y.sound ∙ x.worked.sound;
+    same = y.same
+        ∙ x.worked.same;
+    untold = y.untold ∙ x.worked.untold;
+  };
 }
 
 pub given_more : (s t u : PeerState) (text rest : List ℕ) (n : ℕ) → GivenUpTo s t text rest → HasTransferred t u [] (take n rest)
@@ -122,7 +156,7 @@ pub put_after : (k n size : ℕ) (buffer new post tail : List ℕ) → k ≤ len
 put_after k n size buffer new post tail within fits wrote =
     let prefix : length (take k buffer) ≡ k = length-take-le k buffer within in
     let long : k + n ≤ length (take k buffer ++ (new ++ post)) =
-        omega (arith, prefix, wrote, length-append (take k buffer) (new ++ post), length-append new post) in
+    omega (arith, prefix, wrote, length-append (take k buffer) (new ++ post), length-append new post) in
     take-take (k + n) size ((take k buffer ++ (new ++ post)) ++ tail) fits
     ∙ take-append-le (k + n) (take k buffer ++ (new ++ post)) tail long
     ∙ ap (λ j. take (j + n) (take k buffer ++ (new ++ post))) (sym prefix)

@@ -77,8 +77,13 @@ is_day (suc n) = next n (date_after n) (is_day n)
 no_later : (p : Plain) (n : ℕ) (d : Date) → IsDay n d → epoch_day p ≡ pos n → pos d.year ≤ℤ p.year
 no_later p n d h e =
     by_lt_z p.year (pos d.year)
-    (λ lt. absurd (omega (arith, signed_arith, days_from_civil-day_count p.year p.month p.day, days_from_civil-day_count (pos d.year) d.month d.day,
-        day_count-lt_year p.year p.month p.day (pos d.year) d.month d.day (civil p) h.day_in.0 lt)))
+    (λ lt. absurd (omega (
+      arith,
+      signed_arith,
+      days_from_civil-day_count p.year p.month p.day,
+      days_from_civil-day_count (pos d.year) d.month d.day,
+      day_count-lt_year p.year p.month p.day (pos d.year) d.month d.day (civil p) h.day_in.0 lt,
+    )))
     (λ le. le)
 
 as_plain : (d : Date) (n : ℕ) → IsDay n d → pos d.year ≤ℤ pos 9999 → Plain

@@ -73,13 +73,13 @@ with_size_tallies limit t u ps p is w h =
     let none : cond (has_keyword (codes "BODY") p) 1 0 ≡ 0 = rw n refl in
     let k : list_all is_known (ps ++ p ∷ []) ≡ list_all is_known ps = all_more is_known ps p ∙ and_true _ _ known in
     let v : list_all is_well_valued (ps ++ p ∷ []) ≡ (list_all is_well_valued ps && is_size_value p.value) =
-        all_more is_well_valued ps p ∙ ap (λ b. list_all is_well_valued ps && b) valued in
+    all_more is_well_valued ps p ∙ ap (λ b. list_all is_well_valued ps && b) valued in
     let l : list_any (is_too_large limit) (ps ++ p ∷ []) ≡ (list_any (is_too_large limit) ps || is_above_limit limit p.value) =
-        any_more (is_too_large limit) ps p ∙ ap (λ b. list_any (is_too_large limit) ps || b) large in
+    any_more (is_too_large limit) ps p ∙ ap (λ b. list_any (is_too_large limit) ps || b) large in
     let s : count_of (codes "SIZE") (ps ++ p ∷ []) ≡ count_of (codes "SIZE") ps + 1 =
-        count_more (codes "SIZE") ps p ∙ ap (λ m. count_of (codes "SIZE") ps + m) one in
+    count_more (codes "SIZE") ps p ∙ ap (λ m. count_of (codes "SIZE") ps + m) one in
     let b : count_of (codes "BODY") (ps ++ p ∷ []) ≡ count_of (codes "BODY") ps =
-        count_more (codes "BODY") ps p ∙ ap (λ m. count_of (codes "BODY") ps + m) none ∙ add-zero _ in
+    count_more (codes "BODY") ps p ∙ ap (λ m. count_of (codes "BODY") ps + m) none ∙ add-zero _ in
     record {
       unknown = w.unknown ∙ h.unknown ∙ ap not (sym k);
       has_size = w.has_size ∙ rw s (sym (above_zero _));

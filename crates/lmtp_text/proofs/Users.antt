@@ -36,7 +36,7 @@ at_delimiter : (c b : ℕ) (text : List ℕ) (escaped : Bool) → IsDelimiter c 
     → unescaped escaped (before c (b ∷ text)) ≡ before c (unescaped escaped (b ∷ text))
 at_delimiter c b text escaped known here =
     ap (unescaped escaped) (before_here c b text here)
-        ∙ sym (ap (before c) (keep_byte b text escaped (no_pair escaped _ (no_backslash c b known here))) ∙ before_here c b (unescaped false text) here)
+    ∙ sym (ap (before c) (keep_byte b text escaped (no_pair escaped _ (no_backslash c b known here))) ∙ before_here c b (unescaped false text) here)
 
 further_on : (c b : ℕ) (text : List ℕ) (escaped pair : Bool) → (not escaped && (b == 92)) ≡ pair → (b == c) ≡ false
     → unescaped pair (before c text) ≡ before c (unescaped pair text)

@@ -1,6 +1,32 @@
 -- The lanes' reports, taken together.
-use Rattle.std.proofs.Common.{◌≡◌, ℕ, zero, suc, ◌+◌, ◌<◌, Bool, false, List, [], ◌∷◌, ◌++◌, length, map, append-nil, refl, sym, ap, ◌∙◌, subst, arith, Option,
-    Some, None, inl, inr}
+use Rattle.std.proofs.Common.{
+  ◌≡◌,
+  ℕ,
+  zero,
+  suc,
+  ◌+◌,
+  ◌<◌,
+  Bool,
+  false,
+  List,
+  [],
+  ◌∷◌,
+  ◌++◌,
+  length,
+  map,
+  append-nil,
+  refl,
+  sym,
+  ap,
+  ◌∙◌,
+  subst,
+  arith,
+  Option,
+  Some,
+  None,
+  inl,
+  inr,
+}
 use Rattle.std.specs.Prelude.{slice_get, flat_map}
 use Rattle.std.specs.List.{AllZip, AllByRecursion}
 use Rattle.std.proofs.lemmas.List.{length-map}
@@ -176,9 +202,9 @@ module _ {V C R : Type 0} (May : C → ℕ → Type 0) (view : VisitsView V)
         let Given : LaneTask V C → LaneDone → Type 0 = λ j d. HasGiven (λ b. due j.site j.lane b (conversations_of d.work.visits)) j.senders (rs p.right) in
         let Heard : LaneTask V C → LaneDone → Type 0 = λ j d. TookSlips d.work.heard j.slips (rt p.right) in
         let InTime : LaneTask V C → LaneDone → Type 0 =
-            λ j d. AreInTime lane_sorts d.deeds (record { senders = j.senders; inbox = j.slips }) (record { senders = rs p.right; inbox = rt p.right }) in
+        λ j d. AreInTime lane_sorts d.deeds (record { senders = j.senders; inbox = j.slips }) (record { senders = rs p.right; inbox = rt p.right }) in
         let Did : LaneTask V C → LaneDone → Type 0 =
-            λ j d. LaneDid (flat_map (copies j.lane) (transactions j.site 0 (conversations_of d.work.visits))) d.work.heard d.deeds in
+        λ j d. LaneDid (flat_map (copies j.lane) (transactions j.site 0 (conversations_of d.work.visits))) d.work.heard d.deeds in
         let InTurn : LaneTask V C → LaneDone → Type 0 = λ j d.
         AreExchanges RECIPIENT_LIMIT j.lane (transactions j.site 0 (conversations_of d.work.visits)) (whats d.deeds) in
         let came : h.came ≡ h.heard = merged_none h.came h.heard (subst (λ l. IsMerged h.came l h.heard) none_own h.exchanged.merged) in
@@ -239,7 +265,7 @@ module _ {V C R : Type 0} (May : C → ℕ → Type 0) (view : VisitsView V)
           let count_is : rc l.report ≡ count = sym (n.gives ∙ ap rc same_n) in
           let Served : V → V → ℕ → Type 0 = λ x y m. IsServedLane site (May clock) (view.MayGive x) k (works k) (lane_told view x y m) in
           subst (λ m. Served old new m) count_is
-              (subst (λ y. Served old y (rc l.report)) new_is (subst (λ x. Served x (rv l.report) (rc l.report)) old_is l.served));
+          (subst (λ y. Served old y (rc l.report)) new_is (subst (λ x. Served x (rv l.report) (rc l.report)) old_is l.served));
       deeds = deeds_of;
       did = λ k below. (lane_is k below).did;
       in_turn = λ k below. (lane_is k below).in_turn;

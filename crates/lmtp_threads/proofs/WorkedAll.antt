@@ -76,8 +76,13 @@ pub record BoxDone : Type 0 where
 module _ {S R : Type 0} (state : S → SpoolState) (rr : R → Inbox Note) (rs : R → List (Sender Slip)) (rp : R → S) (rt : R → Tally) (rl : R → Bool) where
   abbrev pub BoxOk : BoxTask S → R → Type 0
   BoxOk j r = HasWorked (setting_of j.share (worker_of j.slips)) j.receiver (rr r) (idle j.slips (state j.spool))
-      (record { slips = rs r; mailbox = mailbox_of (state (rp r)) (rt r).stored (rt r).over (rt r).faulty; in_use = (rt r).in_use; taken = (rt r).taken;
-          lost = rl r })
+      (record {
+        slips = rs r;
+        mailbox = mailbox_of (state (rp r)) (rt r).stored (rt r).over (rt r).faulty;
+        in_use = (rt r).in_use;
+        taken = (rt r).taken;
+        lost = rl r;
+      })
 
   abbrev box_done : (j : BoxTask S) (r : R) → BoxOk j r → BoxDone
   box_done j r h = record { work = record { taken = taken (rr r); outcomes = h.handled.outcomes }; deeds = h.turns.deeds }
@@ -97,7 +102,7 @@ module _ {S R : Type 0} (state : S → SpoolState) (rr : R → Inbox Note) (rs :
   module _ (site : Site) (channels : List (Channel Slip)) (given : WorkersGiven S) (reports : List R)
       (inboxes_count : length given.inboxes ≡ length given.spools) (some : 0 < length channels) (are : AreRows (length given.spools) channels none given.rows)
       (all : AllZip BoxOk (box_tasks (share_of site given.quota) given.inboxes given.rows given.spools) reports)
-          (sound : AllByRecursion (λ r. rl r ≡ false) reports) where
+      (sound : AllByRecursion (λ r. rl r ≡ false) reports) where
     abbrev share : WorkerShare
     share = share_of site given.quota
 
@@ -148,7 +153,7 @@ module _ {S R : Type 0} (state : S → SpoolState) (rr : R → Inbox Note) (rs :
         let Took : Inbox Note → BoxWork → Type 0 = λ inbox w. TookAllNotes w.taken inbox (rr p.right) in
         let Did : ℕ → BoxDone → Type 0 = λ b d. whats d.deeds ≡ turns_of b d.work.taken d.work.outcomes in
         let InTime : BoxTask S → BoxDone → Type 0 =
-            λ j d. AreInTime worker_sorts d.deeds (record { senders = j.slips; inbox = j.receiver }) (record { senders = rs p.right; inbox = rr p.right }) in
+        λ j d. AreInTime worker_sorts d.deeds (record { senders = j.slips; inbox = j.receiver }) (record { senders = rs p.right; inbox = rr p.right }) in
         let handled = h.handled in
         let stored : Stored p.left.share (worker_of p.left.slips) p.left.spool (box_done p.left p.right h).work = record {
           each = handled.each;
@@ -160,7 +165,7 @@ module _ {S R : Type 0} (state : S → SpoolState) (rr : R → Inbox Note) (rs :
         } in
         let stored_at : Stored share (worker_of t.row) t.spool (works k) =
         subst (λ (j : BoxTask S). Stored j.share (worker_of j.slips) j.spool (works k)) t.is
-            (subst (λ d. Stored p.left.share (worker_of p.left.slips) p.left.spool d.work) (sym p.picked) stored) in
+        (subst (λ d. Stored p.left.share (worker_of p.left.slips) p.left.spool d.work) (sym p.picked) stored) in
         let given_out : Given (worker_of p.left.slips) p.left.slips (box_done p.left p.right h).work = record {
           as_many = h.handled.told.as_many;
           each = λ j before after e f.
@@ -177,7 +182,7 @@ module _ {S R : Type 0} (state : S → SpoolState) (rr : R → Inbox Note) (rs :
         } in
         let given_at : Given (worker_of t.row) t.row (works k) =
         subst (λ (j : BoxTask S). Given (worker_of j.slips) j.slips (works k)) t.is
-            (subst (λ d. Given (worker_of p.left.slips) p.left.slips d.work) (sym p.picked) given_out) in
+        (subst (λ d. Given (worker_of p.left.slips) p.left.slips d.work) (sym p.picked) given_out) in
         let did_at : Did (worker_of t.row) (dones k) =
         subst (λ (j : BoxTask S). Did (worker_of j.slips) (dones k)) t.is
         (subst (λ d. Did (worker_of p.left.slips) d) (sym p.picked) (h.turns.all (none_came_back _ _ _ _ _ h no))) in record {

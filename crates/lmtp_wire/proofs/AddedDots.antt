@@ -1,6 +1,38 @@
 -- A message with its dots doubled, run by run.
-use Rattle.std.proofs.Common.{◌≡◌, ℕ, suc, ◌+◌, List, [], ◌∷◌, ◌++◌, take, drop, Bool, true, false, cond, ◌&&◌, ◌==◌, Option, Some, None, length, subst,
-    length-append, append_assoc, take_all, length-drop, ◌-◌, ◌≤◌, refl, sym, ap, ◌∙◌, arith}
+use Rattle.std.proofs.Common.{
+  ◌≡◌,
+  ℕ,
+  suc,
+  ◌+◌,
+  List,
+  [],
+  ◌∷◌,
+  ◌++◌,
+  take,
+  drop,
+  Bool,
+  true,
+  false,
+  cond,
+  ◌&&◌,
+  ◌==◌,
+  Option,
+  Some,
+  None,
+  length,
+  subst,
+  length-append,
+  append_assoc,
+  take_all,
+  length-drop,
+  ◌-◌,
+  ◌≤◌,
+  refl,
+  sym,
+  ap,
+  ◌∙◌,
+  arith,
+}
 use Rattle.std.specs.Prelude.{option_map}
 use Rattle.std.proofs.lemmas.Bool.Decides.{nat_tests}
 use Rattle.mail_world.proofs.Shortest.{same_window}
@@ -55,7 +87,7 @@ dot_here a b c text e =
     let b_is : b ≡ lf = grind (arith, nat_tests, ends.0) in
     let c_is : c ≡ dot = grind (arith, nat_tests, ends.1) in
     ap (λ x. cond x (dot ∷ c ∷ with_dots b c text) (c ∷ with_dots b c text)) e ∙ ap (λ y. dot ∷ c ∷ with_dots y c text) b_is
-        ∙ ap (λ y. dot ∷ y ∷ with_dots lf y text) c_is
+    ∙ ap (λ y. dot ∷ y ∷ with_dots lf y text) c_is
 
 some_by : (x : Bool) (a b c : ℕ) (text : List ℕ) (o : Option ℕ) (n : ℕ) → begins_with dotted (a ∷ b ∷ c ∷ text) ≡ x
     → cond x (Some 0) (option_map (λ n. suc n) o) ≡ Some n
@@ -89,7 +121,7 @@ pub next_run : (text : List ℕ) (n : ℕ) → place_of dotted text ≡ Some n
     → with_dots lf dot text ≡ take (n + 2) text ++ dot ∷ dot ∷ with_dots lf dot (drop (n + 3) text)
 next_run text n e =
     one_dot lf dot text (n + 2) (after_dot text ∙ ap (λ o. option_map (λ n. suc (suc n)) o) e
-        ∙ ap (λ k. Some k) (let r : suc (suc n) ≡ n + 2 = omega arith in r))
+    ∙ ap (λ k. Some k) (let r : suc (suc n) ≡ n + 2 = omega arith in r))
     ∙ ap (λ k. take (n + 2) text ++ dot ∷ dot ∷ with_dots lf dot (drop k text)) (let r : n + 2 + 1 ≡ n + 3 = omega arith in r)
 
 pub last_run : (text : List ℕ) → place_of dotted text ≡ None → with_dots lf dot text ≡ text
@@ -116,7 +148,7 @@ pub dot_first : (text : List ℕ) → begins_with (dot ∷ []) text ≡ true →
 dot_first text e =
     let whole : text ≡ dot ∷ drop 1 text = begins_with-prefix (dot ∷ []) text e in
     ap (λ l. with_dots cr lf l) whole ∙ ap (λ l. dot ∷ dot ∷ l) (same_window lf dot dot (drop 1 text) refl refl)
-        ∙ ap (λ l. dot ∷ with_dots lf dot l) (sym whole)
+    ∙ ap (λ l. dot ∷ with_dots lf dot l) (sym whole)
 
 other_by : (x : Bool) (b : ℕ) (text : List ℕ) → (dot == b) ≡ x → x && true ≡ false → with_dots cr lf (b ∷ text) ≡ with_dots lf dot (b ∷ text)
 other_by true b text e f = cc

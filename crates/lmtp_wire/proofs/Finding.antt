@@ -1,6 +1,30 @@
 -- A search for a needle finds the place of the definitions.
-use Rattle.std.proofs.Common.{◌≡◌, ℕ, ◌+◌, ◌<◌, ◌≤◌, List, ◌∷◌, ◌++◌, length, take, drop, get_or, Option, Some, None, refl, sym, ap, ◌∙◌, arith, append_assoc,
-    length-append, get_or-append-add, take-append-drop}
+use Rattle.std.proofs.Common.{
+  ◌≡◌,
+  ℕ,
+  ◌+◌,
+  ◌<◌,
+  ◌≤◌,
+  List,
+  ◌∷◌,
+  ◌++◌,
+  length,
+  take,
+  drop,
+  get_or,
+  Option,
+  Some,
+  None,
+  refl,
+  sym,
+  ap,
+  ◌∙◌,
+  arith,
+  append_assoc,
+  length-append,
+  get_or-append-add,
+  take-append-drop,
+}
 use Rattle.std.proofs.lemmas.List.{get_or_append_left, length-take-le}
 use Rattle.memchr.specs.Find.{OccursAt, FindsNeedle}
 use Rattle.memchr.proofs.lemmas.MatchLemmas.{OccursAt-part}
@@ -11,7 +35,7 @@ stands_occurs : (part text : List ℕ) (n : ℕ) → StandsAt part text n → Oc
 stands_occurs part text n at =
     let whole : text ≡ at.prefix ++ (part ++ at.rest) = at.whole ∙ append_assoc at.prefix part at.rest in
     let fits : n + length part ≤ length text =
-        omega (arith, at.place, ap length whole, length-append at.prefix (part ++ at.rest), length-append part at.rest) in
+    omega (arith, at.place, ap length whole, length-append at.prefix (part ++ at.rest), length-append part at.rest) in
     record {
       fits = fits;
       reads = λ j h. ap (λ (l : List ℕ). get_or l (n + j) 0) whole
@@ -49,7 +73,7 @@ found_by p part text (Some k) (Some m) e h =
     let is : by.place ≡ m = cc in
     let least = by.least in
     let none : k ≡ m = by_order k m (omega arith)
-        (λ lt. h.0.before m (omega arith) lt (stands_occurs (p ∷ part) text m (place_of_stands (p ∷ part) text m e))) in
+    (λ lt. h.0.before m (omega arith) lt (stands_occurs (p ∷ part) text m (place_of_stands (p ∷ part) text m e))) in
     ap (λ x. Some x) none
 
 pub finds_place : (p : ℕ) (part text : List ℕ) (r : Option ℕ) → FindsNeedle text (p ∷ part) 0 r → r ≡ place_of (p ∷ part) text

@@ -1,6 +1,35 @@
 -- What one byte makes of the message after data that was taken, by where the data stands.
-use Rattle.std.proofs.Common.{◌≡◌, ℕ, ◌+◌, ◌-◌, List, [], ◌∷◌, ◌++◌, length, take, drop, Bool, true, false, cond, not, ◌&&◌, ◌==◌, Some, None, refl, ap, sym,
-    ◌∙◌, arith, length-append, append_assoc, append-nil, subst}
+use Rattle.std.proofs.Common.{
+  ◌≡◌,
+  ℕ,
+  ◌+◌,
+  ◌-◌,
+  List,
+  [],
+  ◌∷◌,
+  ◌++◌,
+  length,
+  take,
+  drop,
+  Bool,
+  true,
+  false,
+  cond,
+  not,
+  ◌&&◌,
+  ◌==◌,
+  Some,
+  None,
+  refl,
+  ap,
+  sym,
+  ◌∙◌,
+  arith,
+  length-append,
+  append_assoc,
+  append-nil,
+  subst,
+}
 use Rattle.std.specs.Prelude.{unwrap_or}
 use Rattle.std.proofs.Math.Seq.{take-append_seam, drop-append_seam}
 use Rattle.std.proofs.lemmas.Bool.{eqb-true, and_parts}
@@ -12,10 +41,36 @@ use Rattle.lmtp_wire.specs.declared.dot.DataPlace.{DataPlace}
 use Rattle.lmtp_wire.specs.declared.dot.DataPlace.TheVariants.{InText, AfterCr, LineStart, AfterDot, AfterDotCr}
 use Rattle.lmtp_wire.specs.declared.dot.Effect.{Effect}
 use Rattle.lmtp_wire.specs.declared.dot.Effect.TheVariants.{Nothing, Byte, HeldCr, End}
-use Rattle.lmtp_wire.specs.DataPlace.{came, in_doubt, held_back, is_cr, is_start, is_dot, place_next, place_after, is_content, effect_of, without_dots_at,
-    moved, IsAtPlace, IsDataEnd}
-use Rattle.lmtp_wire.proofs.EndSteps.{end_in, text_other, cr_again, cr_other, start_cr, start_other, dot_other, dot_cr_again, dot_cr_other, moved_more,
-    moved_none, moved_some}
+use Rattle.lmtp_wire.specs.DataPlace.{
+  came,
+  in_doubt,
+  held_back,
+  is_cr,
+  is_start,
+  is_dot,
+  place_next,
+  place_after,
+  is_content,
+  effect_of,
+  without_dots_at,
+  moved,
+  IsAtPlace,
+  IsDataEnd,
+}
+use Rattle.lmtp_wire.proofs.EndSteps.{
+  end_in,
+  text_other,
+  cr_again,
+  cr_other,
+  start_cr,
+  start_other,
+  dot_other,
+  dot_cr_again,
+  dot_cr_other,
+  moved_more,
+  moved_none,
+  moved_some,
+}
 use Rattle.lmtp_wire.proofs.LastBytes.{eqb_comm, ends_more, fades, fades_cr}
 
 -- with one more byte the data stands there, and more of the message is sure
@@ -85,7 +140,7 @@ step_finds : (p q : DataPlace) (taken : List ℕ) (b : ℕ) (new : List ℕ) (s 
     → end_in (crlf ++ ((taken ++ b ∷ []) ++ rest)) ≡ moved (s.before + e.gone) (end_in (came q ++ rest))
 step_finds p q taken b new s e rest =
     ap (λ l. end_in (crlf ++ l)) (snoc taken b rest) ∙ s.finds (b ∷ rest) ∙ ap (λ o. moved s.before o) (e.finds rest)
-        ∙ moved_more s.before e.gone (end_in (came q ++ rest))
+    ∙ moved_more s.before e.gone (end_in (came q ++ rest))
 
 nothing_at : (place : DataPlace) → without_dots_at place [] ≡ []
 nothing_at InText = refl
@@ -122,7 +177,7 @@ ends_in_none : (u : List ℕ) → ends_in [] u ≡ true
 ends_in_none u =
     let n : length u - 0 ≡ length u = omega arith in
     ap (λ k. pointwise nat_eq [] (drop k u)) n ∙ ap (λ l. pointwise nat_eq [] (drop (length u) l)) (sym (append-nil u))
-        ∙ ap (λ l. pointwise nat_eq [] l) (drop-append_seam u [])
+    ∙ ap (λ l. pointwise nat_eq [] l) (drop-append_seam u [])
 
 stands_next : (p q : DataPlace) (taken : List ℕ) (b : ℕ) (new : List ℕ) → IsAtPlace p taken → PlaceStep p q b new → (lead : List ℕ)
     → taken ++ b ∷ [] ≡ lead ++ in_doubt q
@@ -190,7 +245,7 @@ unfolding data_end message
 ends_data taken s =
     let at : length s.lead ≡ s.before = omega (arith, s.count, ap length s.whole, length-append s.lead (dot ∷ cr ∷ [])) in
     let found : place_of end_of_data (crlf ++ (taken ++ lf ∷ [])) ≡ Some (length s.lead) =
-        s.finds (lf ∷ []) ∙ moved_some s.before ∙ ap (λ n. Some n) (sym at) in
+    s.finds (lf ∷ []) ∙ moved_some s.before ∙ ap (λ n. Some n) (sym at) in
     let parts : taken ++ lf ∷ [] ≡ s.lead ++ (dot ∷ crlf) = ap (λ l. l ++ lf ∷ []) s.whole ∙ append_assoc s.lead (dot ∷ cr ∷ []) (lf ∷ []) in
     record {
       end = length s.lead;

@@ -1,6 +1,35 @@
 -- What a call makes of what was made before: a byte, a run of text, a byte that was owed.
-use Rattle.std.proofs.Common.{◌≡◌, ℕ, ◌+◌, ◌-◌, ◌<◌, ◌≤◌, List, [], ◌∷◌, ◌++◌, length, take, drop, get_or, set, Bool, true, false, not, Option, Some, None, ap,
-    sym, ◌∙◌, subst, arith, append_assoc, append-nil}
+use Rattle.std.proofs.Common.{
+  ◌≡◌,
+  ℕ,
+  ◌+◌,
+  ◌-◌,
+  ◌<◌,
+  ◌≤◌,
+  List,
+  [],
+  ◌∷◌,
+  ◌++◌,
+  length,
+  take,
+  drop,
+  get_or,
+  set,
+  Bool,
+  true,
+  false,
+  not,
+  Option,
+  Some,
+  None,
+  ap,
+  sym,
+  ◌∙◌,
+  subst,
+  arith,
+  append_assoc,
+  append-nil,
+}
 use Rattle.std.proofs.lemmas.List.{take_more, take_more_set, drop-drop}
 use Rattle.std.proofs.Math.Seq.{take-add}
 use Rattle.mail_world.specs.Data.{shown}
@@ -81,7 +110,7 @@ takes_run old new piece out out' used n m m' run none none' settled place is con
       goes_on = stands_none new.place (taken ++ take (used + n) piece) stands;
       shows = ap shown (sym more) ∙ all.shows ∙ ap (λ l. l ++ run) (all_made old now (made ++ take m out) none h)
           ∙ append_assoc made (take m out) run ∙ ap (λ l. made ++ l) (sym bytes) ∙ sym (append-nil (made ++ take m' out'))
-              ∙ ap (λ o. (made ++ take m' out') ++ owed_bytes o) (sym none');
+          ∙ ap (λ o. (made ++ take m' out') ++ owed_bytes o) (sym none');
       stands = stands;
     }
 

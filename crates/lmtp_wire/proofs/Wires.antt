@@ -1,6 +1,36 @@
 -- Where the first CRLF is in bytes that were taken in parts, and how the parts end.
-use Rattle.std.proofs.Common.{◌≡◌, ℕ, suc, ◌+◌, ◌-◌, ◌<◌, ◌≤◌, List, [], ◌∷◌, ◌++◌, length, take, drop, Bool, true, false, cond, Option, Some, None, refl, sym,
-    ap, ◌∙◌, subst, arith, append_assoc, length-append, length-take-le}
+use Rattle.std.proofs.Common.{
+  ◌≡◌,
+  ℕ,
+  suc,
+  ◌+◌,
+  ◌-◌,
+  ◌<◌,
+  ◌≤◌,
+  List,
+  [],
+  ◌∷◌,
+  ◌++◌,
+  length,
+  take,
+  drop,
+  Bool,
+  true,
+  false,
+  cond,
+  Option,
+  Some,
+  None,
+  refl,
+  sym,
+  ap,
+  ◌∙◌,
+  subst,
+  arith,
+  append_assoc,
+  length-append,
+  length-take-le,
+}
 use Rattle.std.specs.Prelude.{option_map, ◌&&◌, nat_eq}
 use Rattle.std.proofs.Math.Seq.{drop-append-add}
 use Rattle.std.proofs.lemmas.List.{take-append-drop, take-append-le}
@@ -100,7 +130,7 @@ further_by : (b : ℕ) (taken piece : List ℕ) → place_of crlf (b ∷ taken) 
     → (place_of crlf taken ≡ None → ends_in (cr ∷ []) taken && begins_with (lf ∷ []) piece ≡ false → IsInPiece taken piece) → IsInPiece (b ∷ taken) piece
 further_by b [] piece e h ih =
     ap (λ v. cond v (Some 0) (option_map (λ n. suc n) (place_of crlf piece))) (both (nat_eq cr b) (begins_with (lf ∷ []) piece) h)
-        ∙ one_more (place_of crlf piece)
+    ∙ one_more (place_of crlf piece)
 further_by b (c ∷ t) piece e h ih =
     let p = apart (begins_with crlf (b ∷ c ∷ t)) (place_of crlf (c ∷ t)) e in
     let found = ih p.1 (rw (ends_in-append (b ∷ []) c t) at h) in

@@ -1,6 +1,33 @@
 -- The first CRLF of a text, found by the LFs in it.
-use Rattle.std.proofs.Common.{◌≡◌, ℕ, ◌+◌, ◌-◌, ◌<◌, ◌≤◌, List, [], ◌∷◌, ◌++◌, length, take, drop, get_or, Option, Some, None, refl, sym, ap, ◌∙◌, arith,
-    append_assoc, length-append, length-drop, get_or-append-add, eq-eqb}
+use Rattle.std.proofs.Common.{
+  ◌≡◌,
+  ℕ,
+  ◌+◌,
+  ◌-◌,
+  ◌<◌,
+  ◌≤◌,
+  List,
+  [],
+  ◌∷◌,
+  ◌++◌,
+  length,
+  take,
+  drop,
+  get_or,
+  Option,
+  Some,
+  None,
+  refl,
+  sym,
+  ap,
+  ◌∙◌,
+  arith,
+  append_assoc,
+  length-append,
+  length-drop,
+  get_or-append-add,
+  eq-eqb,
+}
 use Rattle.std.proofs.lemmas.Bool.{eqb-true}
 use Rattle.std.proofs.lemmas.List.{length-take-le, get_or-drop, take-append-drop, drop_more}
 use Rattle.memchr.specs.Find.{NoneBefore, Nowhere, Passes, is_byte}
@@ -47,7 +74,7 @@ seen_before : (text : List ℕ) (seen n : ℕ) → IsSeen text seen → NoneBefo
 seen_before text seen n s h k lt at =
     let low : k + 1 < seen → ⊥ = λ before. s.none k before at in
     h.before (k + 1 - seen) (omega arith) (omega (arith, low))
-        (is_lf text seen (k + 1 - seen) (ap (λ i. get_or text i 0) (omega (arith, low)) ∙ lf_of text k at))
+    (is_lf text seen (k + 1 - seen) (ap (λ i. get_or text i 0) (omega (arith, low)) ∙ lf_of text k at))
 
 -- nor with it, unless a CR stands before it
 pub seen_to : (text : List ℕ) (seen n : ℕ) → IsSeen text seen → NoneBefore (Passes (is_byte 10) (drop seen text)) 0 (length (drop seen text)) n
@@ -83,4 +110,4 @@ found_nowhere text seen s h = none_found text (place_of crlf text) refl (λ k at
     let within = within_of text k at in
     let below : k + 1 < seen → ⊥ = λ before. s.none k before at in
     h (k + 1 - seen) (omega arith) (omega (arith, below, length-drop seen text))
-        (is_lf text seen (k + 1 - seen) (ap (λ i. get_or text i 0) (omega (arith, below)) ∙ lf_of text k at)))
+    (is_lf text seen (k + 1 - seen) (ap (λ i. get_or text i 0) (omega (arith, below)) ∙ lf_of text k at)))

@@ -24,7 +24,7 @@ same_order : (n h d c b t : Bool) → n ≡ false → (b ≡ true) ⊎ (c ≡ fa
     → option_map (λ r. refusal (cause r))
     (cond (not h) (Some BadHost) (cond (not d) (Some BadDomain) (cond (n || c) (Some BadCount) (cond (not b) (Some BadBox) (cond t (Some NamedTwice) None)))))
     ≡ cond n (Some fault.NoBox) (cond (not h) (Some fault.Host)
-        (cond (not d) (Some fault.Domain) (cond (not b) (Some fault.Box) (cond c (Some fault.TooManyBoxes) (cond t (Some fault.BoxTwice) None)))))
+    (cond (not d) (Some fault.Domain) (cond (not b) (Some fault.Box) (cond c (Some fault.TooManyBoxes) (cond t (Some fault.BoxTwice) None)))))
 same_order true h d c b t e o = absurd (true≢false e)
 same_order false false d c b t e o = refl
 same_order false true false c b t e o = refl
@@ -91,7 +91,7 @@ pub box_refused : (host : List ℕ) (domains boxes : List (Bor (List ℕ))) (nam
     → first_fault (site_of host domains boxes) ≡ Some f
 box_refused host domains boxes name f e some bad =
     lifted (has_none (site_of host domains boxes)) (is_host_name host) (list_all is_host_name (texts domains)) (is_box_name name)
-        (list_all is_box_name (texts boxes))
+    (list_all is_box_name (texts boxes))
     (cond (has_too_many (site_of host domains boxes)) (Some fault.TooManyBoxes) (cond (has_twice (texts boxes)) (Some fault.BoxTwice) None)) f some bad e
 
 -- a site of names has none exactly where there are none

@@ -68,7 +68,7 @@ pub not_rehearsed : {X : Type 0} (words : RehearseWords) (cause : HouseFault) �
     → IsNotRehearsed words (house_refusal cause)
 not_rehearsed {X} words cause sound only size =
     elim (unrun (IsBlockCount words.blocks) cause (block_count words.blocks) (λ e. only (ap Err e))
-        (λ bad. causes {X = X} cause house.Size house.Memory (size bad))) [
+    (λ bad. causes {X = X} cause house.Size house.Memory (size bad))) [
       | inl memory ↦ inl memory
       | inr not_run ↦ inr (inr (sound, not_run))
     ]

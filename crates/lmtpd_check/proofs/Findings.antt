@@ -1,6 +1,29 @@
 -- Findings whose lines were written, one after another.
-use Rattle.std.proofs.Common.{◌≡◌, ◌∙◌, ◌<◌, ◌+◌, ℕ, List, [], ◌∷◌, ◌++◌, length, take, get_or, Option, true, All, sym, ap, subst, refl, arith, append_assoc,
-    append-nil, length-append}
+use Rattle.std.proofs.Common.{
+  ◌≡◌,
+  ◌∙◌,
+  ◌<◌,
+  ◌+◌,
+  ℕ,
+  List,
+  [],
+  ◌∷◌,
+  ◌++◌,
+  length,
+  take,
+  get_or,
+  Option,
+  true,
+  All,
+  sym,
+  ap,
+  subst,
+  refl,
+  arith,
+  append_assoc,
+  append-nil,
+  length-append,
+}
 use Rattle.std.specs.Borrow.{Bor}
 use Rattle.std.specs.Io.KnownBytes.{Appends}
 use Rattle.std.proofs.lemmas.List.{get_or-map, length-map}
@@ -52,7 +75,7 @@ line_more names i findings finding d count within =
     pairs_more finding_line (texts names) findings finding d.now below
     ∙ ap (λ (k : ℕ). finding_lines (texts names) findings ++ finding_line (get_or (texts names) k d.now) finding) count
     ∙ ap (λ (name : List ℕ). finding_lines (texts names) findings ++ finding_line name finding)
-        (get_or-map (λ (name : Bor (List ℕ)). name.now) names i d d.now within)
+    (get_or-map (λ (name : Bor (List ℕ)). name.now) names i d d.now within)
 
 module _ {F : Type 0} (remaining : F → Option (List ℕ)) (names : List (Bor (List ℕ))) (i : ℕ) (u v w : Option (List ℕ)) (findings : List Finding)
     (finding : Finding) (d : Bor (List ℕ)) where

@@ -1,6 +1,28 @@
 -- Texts that a writer takes one after another.
-use Rattle.std.proofs.Common.{◌≡◌, ℕ, ◌+◌, ◌-◌, ◌<◌, List, [], ◌++◌, length, Option, Some, None, take, drop, get_or, sym, ap, ◌∙◌, refl, subst, append_assoc,
-    append-nil}
+use Rattle.std.proofs.Common.{
+  ◌≡◌,
+  ℕ,
+  ◌+◌,
+  ◌-◌,
+  ◌<◌,
+  List,
+  [],
+  ◌++◌,
+  length,
+  Option,
+  Some,
+  None,
+  take,
+  drop,
+  get_or,
+  sym,
+  ap,
+  ◌∙◌,
+  refl,
+  subst,
+  append_assoc,
+  append-nil,
+}
 use Rattle.std.proofs.lemmas.List.{take-append-drop, take_rest, drop_more}
 use Rattle.std.specs.List.{flat_map}
 use Rattle.std.specs.Io.KnownBytes.{Appends, Keeps}
@@ -78,10 +100,10 @@ pub writes_text : {X : Type 0} (f : X → List ℕ) (u v w : Option (List ℕ)) 
     → WritesUpTo u v (flat_map f xs) (flat_map f (drop k xs)) → Appends v w (f (get_or xs k d)) → WritesUpTo u w (flat_map f xs) (flat_map f (drop (k + 1) xs))
 writes_text f u v w xs k d h x y =
     writes_next u v w (flat_map f xs) (f (get_or xs k d)) _
-        (let P : List ℕ → Type 0 = λ l. WritesUpTo u v (flat_map f xs) l in subst P (texts_split f xs k d h) x) y
+    (let P : List ℕ → Type 0 = λ l. WritesUpTo u v (flat_map f xs) l in subst P (texts_split f xs k d h) x) y
 
 pub breaks_text : {X : Type 0} (f : X → List ℕ) (u v w : Option (List ℕ)) (xs : List X) (k : ℕ) (d : X) → k < length xs
     → WritesUpTo u v (flat_map f xs) (flat_map f (drop k xs)) → IsCutOff v w (f (get_or xs k d)) → IsCutOff u w (flat_map f xs)
 breaks_text f u v w xs k d h x y =
     breaks_next u v w (flat_map f xs) (f (get_or xs k d)) _
-        (let P : List ℕ → Type 0 = λ l. WritesUpTo u v (flat_map f xs) l in subst P (texts_split f xs k d h) x) y
+    (let P : List ℕ → Type 0 = λ l. WritesUpTo u v (flat_map f xs) l in subst P (texts_split f xs k d h) x) y

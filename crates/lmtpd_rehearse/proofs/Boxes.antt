@@ -1,6 +1,36 @@
 -- The mailboxes of a server that has run, by their spools and what their workers say of them.
-use Rattle.std.proofs.Common.{◌≡◌, ℕ, zero, suc, ◌+◌, ◌*◌, ◌<◌, ◌≤◌, List, [], ◌∷◌, ◌++◌, length, map, take, drop, replicate, Bool, true, false, Option, Some,
-    inl, inr, refl, ap, sym, ◌∙◌, subst, arith}
+use Rattle.std.proofs.Common.{
+  ◌≡◌,
+  ℕ,
+  zero,
+  suc,
+  ◌+◌,
+  ◌*◌,
+  ◌<◌,
+  ◌≤◌,
+  List,
+  [],
+  ◌∷◌,
+  ◌++◌,
+  length,
+  map,
+  take,
+  drop,
+  replicate,
+  Bool,
+  true,
+  false,
+  Option,
+  Some,
+  inl,
+  inr,
+  refl,
+  ap,
+  sym,
+  ◌∙◌,
+  subst,
+  arith,
+}
 use Rattle.std.specs.Prelude.{slice_get, ◌||◌}
 use Rattle.std.specs.List.{list_any}
 use Rattle.std.proofs.Math.Nat.{le-max_left}
@@ -26,8 +56,14 @@ use Rattle.lmtpd_rehearse.proofs.Keeping.{kept_prefix, kept_parts, length-marked
 
 -- a spool in memory as every spool is seen
 abbrev pub state_of : MemorySpool → SpoolState
-state_of spool = record { bytes = Some spool.bytes; failures = spool.failures; limit = Some (length spool.bytes + spool.room); synced = spool.synced;
-    held = length spool.bytes; sharing = alone spool.is_unsynced }
+state_of spool = record {
+  bytes = Some spool.bytes;
+  failures = spool.failures;
+  limit = Some (length spool.bytes + spool.room);
+  synced = spool.synced;
+  held = length spool.bytes;
+  sharing = alone spool.is_unsynced;
+}
 
 -- lists of one length
 pub get_some : {A : Type 0} (xs : List A) (n : ℕ) → n < length xs → (x : A) × (slice_get xs n ≡ Some x)
@@ -192,7 +228,7 @@ module _ (site : Site) (quota : Option ℕ) (b start : ℕ) (notes : List Note) 
         let left : drop stored all ≡ later = ap (drop stored) parts ∙ ap (λ n. drop n (first ++ later)) count ∙ drop-append_seam first later in
         let long : length all ≡ length first + length later = ap length parts ∙ length-append first later in
         let few : length later ≤ length (drop (stored + over) notes) =
-            length-marked (drop (stored + over) (are_kept civil_at site.host quota [] notes)) (drop (stored + over) notes) in
+        length-marked (drop (stored + over) (are_kept civil_at site.host quota [] notes)) (drop (stored + over) notes) in
         let rest = length-drop (stored + over) notes in
         let more = some.1 in
         let low : stored + over < length notes = omega (arith, count, long, few, rest, more) in

@@ -162,7 +162,7 @@ all_agree (x ∷ xs) left n p rise =
     let slip : Slip = slip_of x.mailbox x (next_of (left x.mailbox)) in
     let rest : List Slip = slips_all (λ b. left_after_one left x.mailbox b) xs in
     let later : AllByRecursion (IsSlipFrom x.txn.number (x.place + 1)) rest =
-        slips_rise xs (λ b. left_after_one left x.mailbox b) x.txn.number (x.place + 1) x.txn.number (x.place + 1) rise.1 (inr (refl, omega arith)) in (
+    slips_rise xs (λ b. left_after_one left x.mailbox b) x.txn.number (x.place + 1) x.txn.number (x.place + 1) rise.1 (inr (refl, omega arith)) in (
       ((λ e. refl), all_map (IsSlipFrom x.txn.number (x.place + 1)) (λ other. SayTheSame other slip) rest (λ other from. agrees_earlier slip other from) later),
       all_both (λ other. SayTheSame slip other) (λ other. AllByRecursion (λ third. SayTheSame third other) rest) rest
           (all_map (IsSlipFrom x.txn.number (x.place + 1)) (λ other. SayTheSame slip other) rest (λ other from. agrees_later slip other from) later)

@@ -1,6 +1,36 @@
 -- A rehearsal from its parts: the run of the server, and how the mailboxes were written.
-use Rattle.std.proofs.Common.{◌≡◌, ℕ, cond, ◌<◌, ◌≤◌, ◌+◌, ◌-◌, List, [], ◌∷◌, ◌++◌, length, map, take, drop, replicate, Bool, true, false, Option, Some, inl,
-    inr, refl, ap, sym, ◌∙◌, subst, append-nil, arith}
+use Rattle.std.proofs.Common.{
+  ◌≡◌,
+  ℕ,
+  cond,
+  ◌<◌,
+  ◌≤◌,
+  ◌+◌,
+  ◌-◌,
+  List,
+  [],
+  ◌∷◌,
+  ◌++◌,
+  length,
+  map,
+  take,
+  drop,
+  replicate,
+  Bool,
+  true,
+  false,
+  Option,
+  Some,
+  inl,
+  inr,
+  refl,
+  ap,
+  sym,
+  ◌∙◌,
+  subst,
+  append-nil,
+  arith,
+}
 use Rattle.std.specs.Prelude.{◌==◌, ◌^◌, nat_lt, slice_get}
 use Rattle.std.specs.List.{AllByRecursion, list_any}
 use Rattle.std.specs.Io.KnownBytes.{Appends, Consumes}
@@ -44,8 +74,18 @@ use Rattle.lmtpd_rehearse.specs.Account.{IsSettled, IsAllSettled}
 use Rattle.lmtpd_rehearse.specs.Copies.{HoldsCopies, kept_later}
 use Rattle.lmtpd_rehearse.specs.Client.{MayGive, told as told_by, is_over, IsOnlyOver}
 use Rattle.lmtpd_rehearse.specs.Mailboxes.{MailboxContent, kept_all, kept_at, bytes_of_all, empty_spool, mailbox_room, texts_of_mailboxes, IsCalm}
-use Rattle.lmtpd_rehearse.specs.Rehearsal.{AreMailboxes, copies_due, told_of_box, IsRunOfRehearsal, RehearsalEndsFor, HeldState, IsHeld, IsListed, IsRehearsed,
-    Streams}
+use Rattle.lmtpd_rehearse.specs.Rehearsal.{
+  AreMailboxes,
+  copies_due,
+  told_of_box,
+  IsRunOfRehearsal,
+  RehearsalEndsFor,
+  HeldState,
+  IsHeld,
+  IsListed,
+  IsRehearsed,
+  Streams,
+}
 use Rattle.lmtpd_rehearse.proofs.Boxes.{state_of, get_some, get_same, kept_is, length-kept, bytes_are, none_failed, all_calm, is_full, spool_has, holds_settled}
 use Rattle.mail_world.specs.Runs.{events_of, offers_by}
 use Rattle.mail_runs.specs.Histories.{Threads}
@@ -265,7 +305,7 @@ delivered site quota c work spools tallies faulty is accounted h size faulty_is 
     let calm : faulty ≡ false → IsCalm ks = λ f. none_failed spools tallies as_many (sym faulty_is ∙ f) in
     let many : length ks ≡ work.count = length-kept spools tallies as_many ∙ h.as_many.0 in
     let H : Conversation → ℕ → List ℕ → Bool → Type 0 =
-        λ x box bytes failed. HoldsCopies civil_at site.host quota (due site 0 box (x ∷ [])) (outcomes_told site box (x ∷ [])) bytes failed in
+    λ x box bytes failed. HoldsCopies civil_at site.host quota (due site 0 box (x ∷ [])) (outcomes_told site box (x ∷ [])) bytes failed in
     let each : (box : ℕ) → box < length site.boxes → H (conversation c.bytes c.dispositions) box (kept_at ks box).bytes (kept_at ks box).failed = λ box within.
     let low : box < work.count = omega (arith, size, within) in
     let at = h.each box low in
@@ -298,7 +338,7 @@ delivered site quota c work spools tallies faulty is accounted h size faulty_is 
           subst S told_it (all_told_settled work.heard quota told work.count ts h.answered h.known h.begun (λ b low.
           let at = h.each b low in
           tells_settled site quota b (work.boxes b) at.spool at.tally at.did
-              (sym (ap (λ (k : MailboxContent). k.failed) at.is) ∙ calm f b (omega (arith, many, low)))));
+          (sym (ap (λ (k : MailboxContent). k.failed) at.is) ∙ calm f b (omega (arith, many, low)))));
       told = λ f box within. (whole f box within).told;
       held = λ f box within. (whole f box within).held;
     }
@@ -469,4 +509,4 @@ pub as_many_spools : (site : Site) (quota : Option ℕ) (moment : ℕ) (old new 
     → length left.spools ≡ length site.boxes
 as_many_spools site quota moment old new left h =
     sym (length-map left.spools (λ (x : MemorySpool). x.bytes)) ∙ ap length (sym h.holds) ∙ length-map h.mailboxes (λ (k : MailboxContent). k.bytes)
-        ∙ h.delivered.count
+    ∙ h.delivered.count

@@ -1,6 +1,31 @@
 -- What a close takes together.
-use Rattle.std.proofs.Common.{◌≡◌, ◌==◌, ◌<◌, ◌≤◌, ◌⊎◌, ℕ, true, false, Option, Some, List, [], ◌∷◌, ◌++◌, length, length-append, slice_index_or, append-nil,
-    refl, sym, ap, ◌∙◌, subst, ⊎_elim, arith}
+use Rattle.std.proofs.Common.{
+  ◌≡◌,
+  ◌==◌,
+  ◌<◌,
+  ◌≤◌,
+  ◌⊎◌,
+  ℕ,
+  true,
+  false,
+  Option,
+  Some,
+  List,
+  [],
+  ◌∷◌,
+  ◌++◌,
+  length,
+  length-append,
+  slice_index_or,
+  append-nil,
+  refl,
+  sym,
+  ap,
+  ◌∙◌,
+  subst,
+  ⊎_elim,
+  arith,
+}
 use Rattle.std.proofs.lemmas.Bool.{eq-eqb, cond-true}
 use Rattle.std.proofs.lemmas.List.Elements.{filter-append}
 use Rattle.std.proofs.Math.ListN.{get_or-eq_default}
@@ -77,7 +102,7 @@ module _ {M : Type 0} (lane : M → ℕ) where
   module _ (lanes marks : ℕ) (v w : View M) (inbox : Inbox M) (sent : List (List M)) (sent_at : List (List ℕ)) (h : IsInbox lane lanes marks inbox.gone v)
       (is : (inbox.got ≡ v.got) × (inbox.got_at ≡ v.got_at) × (inbox.took_at ≡ v.took_at))
       (lanes_are : w.lanes ≡ lanes) (got : w.got ≡ v.got) (got_at : w.got_at ≡ v.got_at) (took_at : w.took_at ≡ v.took_at) (known : w.known ≡ sent)
-          (known_at : w.known_at ≡ sent_at)
+      (known_at : w.known_at ≡ sent_at)
       (len : length sent ≡ lanes) (as_many : length sent_at ≡ length sent) (room : 0 < lanes → w.room ≡ inbox.capacity)
       (agrees : Agrees lane w) (passed : HasPassed lane w) where
     mine : messages w.got ≡ taken inbox
@@ -117,8 +142,13 @@ module _ {M : Type 0} (lane : M → ℕ) where
         none_waits (messages w.got) passed.waiting (λ k. (all_sent k).0 ∙ sym (everything k) ∙ (λ i. of lane k (messages (sym got i)))) in record {
           accepted = messages w.got ++ passed.waiting;
           accepted_at = times.got_at ++ times.queue_at;
-          as_many = omega (arith, length-append times.got_at times.queue_at, length-append (messages w.got) passed.waiting, keeps.got_as_many,
-              keeps.queue_as_many);
+          as_many = omega (
+            arith,
+            length-append times.got_at times.queue_at,
+            length-append (messages w.got) passed.waiting,
+            keeps.got_as_many,
+            keeps.queue_as_many,
+          );
           until = times.latest;
           rises = keeps.rises;
           same = λ k. (all_sent k).0;

@@ -82,16 +82,16 @@ module _ {M : Type 0} (lane : M → ℕ) where
   last_fits got x n fair =
       let k : ℕ = lane_of lane x in
       let both : part lane k (got ++ x ∷ []) ≡ part lane k got ++ x ∷ [] =
-          part-append lane k got (x ∷ []) ∙ ap (λ l. part lane k got ++ l) (part-here lane k x refl) in
+      part-append lane k got (x ∷ []) ∙ ap (λ l. part lane k got ++ l) (part-here lane k x refl) in
       ⊎_elim (λ (low : k < n). low) (λ (le : n ≤ k). absurd (not_nil (part lane k got) x (sym both ∙ (fair k).1 le))) (below? k n)
 
   pub after_mark : (got : List (Parcel M)) (j n : ℕ) → IsFair lane n (got ++ Mark j ∷ []) → count_marks (got ++ Mark j ∷ []) n ≡ count_marks got n + 1
   after_mark got j n fair =
       let both : part lane j (got ++ Mark j ∷ []) ≡ part lane j got ++ Mark j ∷ [] =
-          part-append lane j got (Mark j ∷ []) ∙ ap (λ l. part lane j got ++ l) (part-here lane j (Mark j) refl) in
+      part-append lane j got (Mark j ∷ []) ∙ ap (λ l. part lane j got ++ l) (part-here lane j (Mark j) refl) in
       let open_before : has_mark j got ≡ false = false_from_ne_true (has_mark j got)
       (λ h. not_nil [] (Mark j) (prefix-has_mark lane j (part lane j got) (Mark j ∷ []) (fair j).0.0 (fair j).0.1 (sym both ∙ (fair j).0.2)
-          (has_mark-part lane j got ∙ h))) in
+      (has_mark-part lane j got ∙ h))) in
       count_more (λ k. has_mark k got) (λ k. has_mark k (got ++ Mark j ∷ [])) j n (last_fits got (Mark j) n fair) open_before
       (has_mark-append lane j got (Mark j ∷ []) ∙ (λ i. has_mark j got || (eq-eqb j j refl i || false)) ∙ or_true (has_mark j got))
       (λ k other. has_mark-append lane k got (Mark j ∷ []) ∙ (λ i. has_mark k got || (ne_eqb j k (λ t. other (sym t)) i || false)) ∙ or_false (has_mark k got))

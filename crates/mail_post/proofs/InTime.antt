@@ -1,6 +1,31 @@
 -- One deed more of a thread, at a time after all that it knows.
-use Rattle.std.proofs.Common.{◌≡◌, ◌≢◌, ℕ, zero, suc, ◌<◌, ◌≤◌, List, [], ◌∷◌, ◌++◌, Bool, true, false, Some, inl, inr, refl, ap, sym, ◌∙◌, subst, append-nil,
-    append_assoc, arith}
+use Rattle.std.proofs.Common.{
+  ◌≡◌,
+  ◌≢◌,
+  ℕ,
+  zero,
+  suc,
+  ◌<◌,
+  ◌≤◌,
+  List,
+  [],
+  ◌∷◌,
+  ◌++◌,
+  Bool,
+  true,
+  false,
+  Some,
+  inl,
+  inr,
+  refl,
+  ap,
+  sym,
+  ◌∙◌,
+  subst,
+  append-nil,
+  append_assoc,
+  arith,
+}
 use Rattle.std.specs.Prelude.{sum_by, slice_get, slice_set}
 use Rattle.std.proofs.lemmas.List.{map-append}
 use Rattle.std.proofs.lemmas.List.Elements.{filter-append}
@@ -54,7 +79,7 @@ part_same : (f : Deed → Bool) (deeds : List TimedDeed) (what : Deed) (t : ℕ)
     → new ≡ old ++ times (those f (deeds ++ deed what t ∷ []))
 part_same f deeds what t old new e none_such =
     e ∙ ap (λ l. old ++ l) (sym (append-nil (times (those f deeds))))
-        ∙ ap (λ l. old ++ (times (those f deeds) ++ l)) (sym (none_of_those f (deed what t) none_such))
+    ∙ ap (λ l. old ++ (times (those f deeds) ++ l)) (sym (none_of_those f (deed what t) none_such))
     ∙ ap (λ l. old ++ l) (sym (times_of_more f deeds (deed what t)))
 
 times_more : (deeds : List TimedDeed) (what : Deed) (t : ℕ) → times (deeds ++ deed what t ∷ []) ≡ times deeds ++ t ∷ []
@@ -94,7 +119,7 @@ module _ {A B : Type 0} (sorts : Sorts) where
       record {
         rises = subst (RisesTo (clock_of old.senders old.inbox) (clock_of (slice_set now.senders at next) now.inbox)) (sym (times_more deeds what t))
             (rises_more (clock_of old.senders old.inbox) (clock_of now.senders now.inbox) (clock_of (slice_set now.senders at next) now.inbox) t (times deeds)
-                x.rises later within);
+            x.rises later within);
         as_many = length_set now.senders at next ∙ x.as_many;
         gave = λ c before after was is'. elim (get_set now.senders at c next after is') [
           | inl here ↦
@@ -123,7 +148,7 @@ module _ {A B : Type 0} (sorts : Sorts) where
           | inl here ↦
               let was_at : slice_get old.senders at ≡ Some before = subst (λ n. slice_get old.senders n ≡ Some before) here.0 was in
               sym (ap (λ (s : Sender A). s.sent_at) here.1) ∙ x.gave at before sender was_at is
-                  ∙ ap (λ n. before.sent_at ++ times (those (sorts.gives n) deeds)) (sym here.0)
+              ∙ ap (λ n. before.sent_at ++ times (those (sorts.gives n) deeds)) (sym here.0)
           | inr other ↦ x.gave c before after was other.1
         ];
         took = x.took;

@@ -1,6 +1,41 @@
 -- Each move keeps the rule of the channel.
-use Rattle.std.proofs.Common.{◌≡◌, ◌≢◌, ◌==◌, ◌+◌, ◌≤◌, ◌<◌, ◌⊎◌, ℕ, zero, suc, Bool, true, false, cond, List, [], ◌∷◌, ◌++◌, length, get_or, slice_index_or,
-    set, refl, sym, ap, ◌∙◌, subst, ⊎_elim, inl, inr, arith, append_assoc, append-nil, length-append, true≢false}
+use Rattle.std.proofs.Common.{
+  ◌≡◌,
+  ◌≢◌,
+  ◌==◌,
+  ◌+◌,
+  ◌≤◌,
+  ◌<◌,
+  ◌⊎◌,
+  ℕ,
+  zero,
+  suc,
+  Bool,
+  true,
+  false,
+  cond,
+  List,
+  [],
+  ◌∷◌,
+  ◌++◌,
+  length,
+  get_or,
+  slice_index_or,
+  set,
+  refl,
+  sym,
+  ap,
+  ◌∙◌,
+  subst,
+  ⊎_elim,
+  inl,
+  inr,
+  arith,
+  append_assoc,
+  append-nil,
+  length-append,
+  true≢false,
+}
 use Rattle.std.proofs.lemmas.Bool.{eq-eqb, ne_eqb, cond-true, cond-false}
 use Rattle.std.proofs.lemmas.List.{get_or_append_left}
 use mathlib.Core.Option.{Option, some, none, some-ne-none, some-injective}
@@ -15,8 +50,20 @@ use Rattle.mail_post.specs.Times.{HaveMoments, Times, KeepsTime}
 use Rattle.mail_post.specs.Views.{sender, taker, knower, settled, IsPut, IsTook}
 use Rattle.mail_post.specs.Parcels.{of, lane_of, part, messages, all_of_lane}
 use Rattle.mail_post.specs.Rule.{Traffic, FitsKnown, Fits, Carries, IsFair, Agrees, HasPassed}
-use Rattle.mail_post.proofs.Parcels.{part-append, part-here, part-else, messages_at_most, of-copies, copies-append, copies-all_of_lane, all_of_lane-put,
-    all_of_lane-end, prefix, all-there, has_mark-part}
+use Rattle.mail_post.proofs.Parcels.{
+  part-append,
+  part-here,
+  part-else,
+  messages_at_most,
+  of-copies,
+  copies-append,
+  copies-all_of_lane,
+  all_of_lane-put,
+  all_of_lane-end,
+  prefix,
+  all-there,
+  has_mark-part,
+}
 use Rattle.mail_post.proofs.Timing.{begin_time, same_time, put_time, take_time, timed_of, any_room, roomier}
 
 module _ {M : Type 0} (lane : M → ℕ) where
@@ -59,9 +106,9 @@ module _ {M : Type 0} (lane : M → ℕ) where
       → g k ≡ f k ++ x ∷ [] → ((j : ℕ) → j ≢ k → g j ≡ f j) → (j : ℕ) → part lane j (got ++ (items ++ x ∷ [])) ≡ g j
   grows got items x f g k is was here else j = ⊎_elim
       (λ (e : j ≡ k). part_after j got items x ∙ ap (λ l. l ++ part lane j (x ∷ [])) (was j) ∙ ap (λ l. f j ++ l) (part-here lane j (x) (is ∙ sym e))
-          ∙ subst (λ i. f i ++ x ∷ [] ≡ g i) (sym e) (sym here))
+      ∙ subst (λ i. f i ++ x ∷ [] ≡ g i) (sym e) (sym here))
       (λ (n : j ≢ k). part_after j got items x ∙ ap (λ l. l ++ part lane j (x ∷ [])) (was j) ∙ ap (λ l. f j ++ l) (part-else lane j (x) (λ e. n (sym e ∙ is)))
-          ∙ append-nil (f j) ∙ sym (else j n))
+      ∙ append-nil (f j) ∙ sym (else j n))
       (same? j k)
 
   below? : (k n : ℕ) → (k < n) ⊎ (n ≤ k)
@@ -119,18 +166,24 @@ module _ {M : Type 0} (lane : M → ℕ) where
       let new : Traffic M = record h.traffic { sent = sent; closed = closed; sent_at = sent_at; times = q } in
       let here : all_of_lane v.lane (sent v.lane) (closed v.lane) ≡ all_of_lane v.lane (h.traffic.sent v.lane) (h.traffic.closed v.lane) ++ x ∷ [] =
       (λ i. all_of_lane v.lane (changed_here h.traffic.sent v.lane s i) (changed_here h.traffic.closed v.lane b i)) ∙ grown
-          ∙ (λ i. all_of_lane v.lane (sym mine.1 i) (sym mine.2 i) ++ x ∷ []) in
+      ∙ (λ i. all_of_lane v.lane (sym mine.1 i) (sym mine.2 i) ++ x ∷ []) in
       let taken : (k : ℕ) → h.traffic.seat k ≡ none → k ≢ v.lane = λ k e q. some-ne-none pass (sym mine.0 ∙ ap h.traffic.seat (sym q) ∙ e) in record {
         traffic = new;
         order = grows h.traffic.got items x (λ j. all_of_lane j (h.traffic.sent j) (h.traffic.closed j)) (λ j. all_of_lane j (sent j) (closed j)) v.lane is
             h.order here (λ j other i. all_of_lane j (changed_else h.traffic.sent v.lane s j other i) (changed_else h.traffic.closed v.lane b j other i));
-        others = λ k le. let q = h.others k le in let other = taken k q.0 in
-            (q.0, changed_else h.traffic.sent v.lane s k other ∙ q.1, changed_else h.traffic.closed v.lane b k other
-                ∙ q.2, changed_else h.traffic.sent_at v.lane told k other ∙ q.3);
+        others = λ k le. let q = h.others k le in let other = taken k q.0 in (
+          q.0,
+          changed_else h.traffic.sent v.lane s k other ∙ q.1,
+          changed_else h.traffic.closed v.lane b k other
+              ∙ q.2,
+          changed_else h.traffic.sent_at v.lane told k other ∙ q.3,
+        );
         timed = timed;
-        fits = all_set (Fits new) views pass w
-            ((λ _. (mine.0, changed_here h.traffic.sent v.lane s, changed_here h.traffic.closed v.lane b, changed_here h.traffic.sent_at v.lane told, mine.4)),
-                (λ p. absurd (true≢false (sym p))), (λ k l. absurd (omega arith)))
+        fits = all_set (Fits new) views pass w (
+          (λ _. (mine.0, changed_here h.traffic.sent v.lane s, changed_here h.traffic.closed v.lane b, changed_here h.traffic.sent_at v.lane told, mine.4)),
+          (λ p. absurd (true≢false (sym p))),
+          (λ k l. absurd (omega arith)),
+        )
             (λ j u apart e. let f = h.fits j u e in (
               (λ p. let q = f.0 p in let other : u.lane ≢ v.lane = λ t. apart (some-injective j pass (sym q.0 ∙ ap h.traffic.seat t ∙ mine.0)) in (
                 q.0,
@@ -178,8 +231,7 @@ module _ {M : Type 0} (lane : M → ℕ) where
       (λ (n : j ≢ v.lane). changed_else old.sent_at v.lane v.sent_at j n) (same? j v.lane) in
       let grown : all_of_lane v.lane v.sent true ≡ all_of_lane v.lane v.sent v.shut ++ Mark v.lane ∷ [] =
       sym (all_of_lane-end lane v.lane v.sent) ∙ (λ i. all_of_lane v.lane v.sent (sym not_shut i) ++ Mark v.lane ∷ []) in
-      let none_more : messages items ≡ messages (items ++ Mark v.lane ∷ []) = sym (copies-append lane items (Mark v.lane ∷ []) ∙ append-nil (messages items)) in
-          (
+      let none_more : messages items ≡ messages (items ++ Mark v.lane ∷ []) = sym (copies-append lane items (Mark v.lane ∷ []) ∙ append-nil (messages items)) in (
         sender v.room v.lane v.sent v.sent_at true,
         moved pass v (Mark v.lane) v.sent v.sent_at true items views h old.times may refl grown at (refl, refl)
             (subst (λ (l : List M). KeepsTime lane old.room (messages old.got) l g old.times) none_more
@@ -202,9 +254,9 @@ module _ {M : Type 0} (lane : M → ℕ) where
       let got : List (Parcel M) = h.traffic.got ++ x ∷ [] in
       let new : Traffic M = record h.traffic { got = got; times = q } in
       let there : (k : ℕ) → part lane k (got ++ items) ≡ all_of_lane k (h.traffic.sent k) (h.traffic.closed k) =
-          λ k. ap (part lane k) (append_assoc h.traffic.got (x ∷ []) items) ∙ h.order k in
+      λ k. ap (part lane k) (append_assoc h.traffic.got (x ∷ []) items) ∙ h.order k in
       let split : (k : ℕ) → part lane k got ++ part lane k items ≡ all_of_lane k (h.traffic.sent k) (h.traffic.closed k) =
-          λ k. sym (part-append lane k got items) ∙ there k in
+      λ k. sym (part-append lane k got items) ∙ there k in
       let fair : IsFair lane h.traffic.lanes got = λ k. (
         prefix lane k (part lane k got) (part lane k items) (h.traffic.sent k) (h.traffic.closed k) (split k),
         λ le. let q = h.others k le in nil_left (part lane k got) (part lane k items) (split k ∙ (λ i. all_of_lane k (q.1 i) (q.2 i))),
@@ -237,7 +289,7 @@ module _ {M : Type 0} (lane : M → ℕ) where
       let s : ℕ = step.accepted_at in
       let q : Times = record { got_at = old.times.got_at ++ s ∷ []; took_at = old.times.took_at ++ t ∷ []; queue_at = step.rest; latest = t } in
       let all = taken_as pass v (Copy m) items views h (v.got_at ++ s ∷ []) (v.took_at ++ t ∷ []) q may at (ap (λ l. l ++ s ∷ []) mine.3)
-          (ap (λ l. l ++ t ∷ []) mine.4)
+      (ap (λ l. l ++ t ∷ []) mine.4)
       (subst (λ (l : List M). KeepsTime lane old.room l (messages items) old.sent_at q) (sym (copies-append lane old.got (Copy m ∷ []))) step.keeps) in
       let below : s ≤ old.times.latest = step.below in (
         taker v.room v.lanes (v.got ++ Copy m ∷ []) (v.got_at ++ s ∷ []) (v.took_at ++ t ∷ []),
@@ -319,7 +371,7 @@ module _ {M : Type 0} (lane : M → ℕ) where
         timed = h.timed;
         fits = (λ j u e. ⊎_elim (old j u)
             (λ (is : (j ≡ length vs) × (knower [] [] ≡ u)). subst (F j) is.1
-                ((λ p. absurd (true≢false (sym p))), (λ p. absurd (true≢false (sym p))), (λ k l. absurd (omega arith))))
+            ((λ p. absurd (true≢false (sym p))), (λ p. absurd (true≢false (sym p))), (λ k l. absurd (omega arith))))
             (at_end vs (knower [] []) u j e));
       }
 
@@ -335,12 +387,17 @@ module _ {M : Type 0} (lane : M → ℕ) where
       let mine = (h.fits pass v at).2 in
       let seat : ℕ → Option ℕ = changed h.traffic.seat w.lane none in
       let gone : (k : ℕ) → h.traffic.seat k ≡ none → seat k ≡ none =
-          λ k e. ⊎_elim (λ t. ap seat t ∙ changed_here h.traffic.seat w.lane none) (λ n. changed_else h.traffic.seat w.lane none k n ∙ e) (same? k w.lane) in
+      λ k e. ⊎_elim (λ t. ap seat t ∙ changed_here h.traffic.seat w.lane none) (λ n. changed_else h.traffic.seat w.lane none k n ∙ e) (same? k w.lane) in
       let F : ℕ → View M → Type 0 = Fits (record h.traffic { seat = seat }) in
       let known : FitsKnown (record h.traffic { seat = seat }) both = λ k l. ⊎_elim
       (λ (low : k < length v.known). let q = mine k
-          low in (q.0, gone k q.1, get_or_append_left v.known (w.sent ∷ []) [] k low
-          ∙ q.2, get_or_append_left v.known_at (w.sent_at ∷ []) [] k (omega (arith, as_many)) ∙ q.3))
+      low in (
+        q.0,
+        gone k q.1,
+        get_or_append_left v.known (w.sent ∷ []) [] k low
+            ∙ q.2,
+        get_or_append_left v.known_at (w.sent_at ∷ []) [] k (omega (arith, as_many)) ∙ q.3,
+      ))
       (λ (is : k ≡ length v.known). let at_k : k ≡ w.lane = is ∙ next in (
         ⊎_elim (λ (x : k < h.traffic.lanes). x)
             (λ (le : h.traffic.lanes ≤ k). absurd (some-ne-none other (sym theirs.0 ∙ ap h.traffic.seat (sym at_k) ∙ (h.others k le).0)))
@@ -399,12 +456,12 @@ module _ {M : Type 0} (lane : M → ℕ) where
       let f = h.fits pass v at in
       let got : v.got ≡ h.traffic.got = (f.1 may).2 in
       let split : part lane k v.got ++ part lane k items ≡ all_of_lane k (h.traffic.sent k) (h.traffic.closed k) =
-          (λ i. part lane k (got i) ++ part lane k items) ∙ sym (part-append lane k h.traffic.got items) ∙ h.order k in
+      (λ i. part lane k (got i) ++ part lane k items) ∙ sym (part-append lane k h.traffic.got items) ∙ h.order k in
       let sent : h.traffic.sent k ≡ slice_index_or v.known k [] = sym (f.2 k l).2 in
       let rest : List M = messages (part lane k items) in
       let both : messages (part lane k v.got) ++ rest ≡ h.traffic.sent k =
-          sym (copies-append lane (part lane k v.got) (part lane k items)) ∙ ap messages split
-          ∙ copies-all_of_lane lane k (h.traffic.sent k) (h.traffic.closed k) in (
+      sym (copies-append lane (part lane k v.got) (part lane k items)) ∙ ap messages split
+      ∙ copies-all_of_lane lane k (h.traffic.sent k) (h.traffic.closed k) in (
         record { rest = rest; whole = sym ((λ i. of-copies lane k v.got i ++ rest) ∙ both ∙ sent) },
         (λ mark. of-copies lane k v.got
             ∙ all-there lane k (part lane k v.got) (part lane k items) (h.traffic.sent k) (h.traffic.closed k) split (has_mark-part lane k v.got ∙ mark)

@@ -71,7 +71,7 @@ module _ {M : Type 0} (lane : M → ℕ) where
       let all : part lane k v.got ≡ all_of_lane k s true = is_whole ∙ ap (all_of_lane k s) shut in
       let mine : messages (part lane k v.got) ≡ s = ap messages all ∙ copies-all_of_lane lane k s true in
       sym (before_mark-part k v.got) ∙ ap (before_mark lane k) all ∙ before_mark-all_of_lane k s (subst (AreOf k) mine (are_of_part k v.got))
-          ∙ ap Some (sym mine ∙ sym (of-copies lane k v.got))
+      ∙ ap Some (sym mine ∙ sym (of-copies lane k v.got))
 
   -- the rule in other words
   pub in_order : IsInOrder lane
@@ -86,4 +86,4 @@ module _ {M : Type 0} (lane : M → ℕ) where
       let xs : List (Parcel M) = h.traffic.got ++ items in
       let mine : messages (part lane k xs) ≡ h.traffic.sent k = ap messages (h.order k) ∙ copies-all_of_lane lane k (h.traffic.sent k) (h.traffic.closed k) in
       sym (before_mark-part k xs) ∙ ap (before_mark lane k) (h.order k ∙ ap (all_of_lane k (h.traffic.sent k)) is)
-          ∙ before_mark-all_of_lane k (h.traffic.sent k) (subst (AreOf k) mine (are_of_part k xs))
+      ∙ before_mark-all_of_lane k (h.traffic.sent k) (subst (AreOf k) mine (are_of_part k xs))

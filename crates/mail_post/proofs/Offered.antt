@@ -1,6 +1,32 @@
 -- Once one more message is owed to one of several senders, and offered by it or not.
-use Rattle.std.proofs.Common.{◌≡◌, ◌≢◌, ℕ, zero, suc, ◌+◌, arith, List, [], ◌∷◌, ◌++◌, length, Bool, true, false, ◌||◌, Some, inl, inr, refl, ap, sym, ◌∙◌,
-    subst, append_assoc, append-nil}
+use Rattle.std.proofs.Common.{
+  ◌≡◌,
+  ◌≢◌,
+  ℕ,
+  zero,
+  suc,
+  ◌+◌,
+  arith,
+  List,
+  [],
+  ◌∷◌,
+  ◌++◌,
+  length,
+  Bool,
+  true,
+  false,
+  ◌||◌,
+  Some,
+  inl,
+  inr,
+  refl,
+  ap,
+  sym,
+  ◌∙◌,
+  subst,
+  append_assoc,
+  append-nil,
+}
 use Rattle.std.specs.Prelude.{slice_get, slice_set, Result, Ok, Err, OnOk, OnErr}
 use Rattle.std.proofs.Common.{length-set}
 use Rattle.std.proofs.lemmas.Bool.{or_parts}
@@ -173,7 +199,7 @@ module _ {M : Type 0} where
                 let P : List M → Type 0 = λ l. HasSent l before changed in
                 let Q : Sender M → Type 0 = λ s. HasSent (accepted' k) before s in
                 subst Q here.1 (subst P (sym same)
-                    (sent_given (accepted k) m o.when before o.sender (x.each k before o.sender was (ap (slice_get now) here.0 ∙ o.is))))
+                (sent_given (accepted k) m o.when before o.sender (x.each k before o.sender was (ap (slice_get now) here.0 ∙ o.is))))
             | inr other ↦
                 let P : List M → Type 0 = λ l. HasSent l before sender in
                 subst P (sym (more.other k other.0)) (x.each k before sender was other.1)
@@ -190,7 +216,7 @@ module _ {M : Type 0} where
             | inl here ↦
                 let Q : Sender M → Type 0 = λ s. HasSent (accepted k) before s in
                 subst Q here.1 (sent_back (accepted k) (message o.sender) o.when before o.sender
-                    (x.each k before o.sender was (ap (slice_get now) here.0 ∙ o.is)))
+                (x.each k before o.sender was (ap (slice_get now) here.0 ∙ o.is)))
             | inr other ↦ x.each k before sender was other.1
           ];
         }
@@ -210,7 +236,7 @@ module _ {M : Type 0} where
                 let P : List M → Type 0 = λ l. HasAccepted l before changed in
                 let Q : Sender M → Type 0 = λ s. HasAccepted (owed' k) before s in
                 subst Q here.1 (subst P (sym same)
-                    (accepted_by (owed k) m o.when accepted before o.sender (x.each k before o.sender was (ap (slice_get now) here.0 ∙ o.is))))
+                (accepted_by (owed k) m o.when accepted before o.sender (x.each k before o.sender was (ap (slice_get now) here.0 ∙ o.is))))
             | inr other ↦
                 let P : List M → Type 0 = λ l. HasAccepted l before sender in
                 subst P (sym (owes.other k other.0)) (x.each k before sender was other.1)

@@ -1,6 +1,28 @@
 -- The steps of one lane among those of all.
-use Rattle.std.proofs.Common.{◌≡◌, ◌≢◌, ◌==◌, ℕ, Bool, true, false, ◌||◌, ◌≤◌, cond, List, [], ◌∷◌, ◌++◌, length, refl, sym, ap, ◌∙◌, true≢false, append-nil,
-    arith}
+use Rattle.std.proofs.Common.{
+  ◌≡◌,
+  ◌≢◌,
+  ◌==◌,
+  ℕ,
+  Bool,
+  true,
+  false,
+  ◌||◌,
+  ◌≤◌,
+  cond,
+  List,
+  [],
+  ◌∷◌,
+  ◌++◌,
+  length,
+  refl,
+  sym,
+  ap,
+  ◌∙◌,
+  true≢false,
+  append-nil,
+  arith,
+}
 use Rattle.std.proofs.lemmas.Bool.{eq-eqb, ne_eqb, cond-true, cond-false}
 use Rattle.std.proofs.lemmas.List.Elements.{filter-append}
 use Rattle.mail_post.specs.declared.rule.Parcel.{Parcel}
@@ -33,7 +55,7 @@ module _ {M : Type 0} (lane : M → ℕ) where
   of-copies k (Copy n ∷ xs) =
       let more : of lane k (messages xs) ≡ messages (part lane k xs) = of-copies k xs in
       elim (lane n == k) as (λ b. cond b (n ∷ of lane k (messages xs)) (of lane k (messages xs)) ≡ messages (cond b (Copy n ∷ part lane k xs) (part lane k xs)))
-          [ true ↦ ap (λ l. n ∷ l) more | false ↦ more ]
+      [ true ↦ ap (λ l. n ∷ l) more | false ↦ more ]
   of-copies k (Mark j ∷ xs) =
       let more : of lane k (messages xs) ≡ messages (part lane k xs) = of-copies k xs in
       elim (j == k) as (λ b. of lane k (messages xs) ≡ messages (cond b (Mark j ∷ part lane k xs) (part lane k xs))) [ true ↦ more | false ↦ more ]

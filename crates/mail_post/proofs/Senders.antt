@@ -1,6 +1,31 @@
 -- The senders of one channel, for callers.
-use Rattle.std.proofs.Common.{◌≡◌, false, ◌+◌, ◌<◌, ℕ, zero, suc, List, [], ◌∷◌, ◌++◌, length, get_or, set, refl, sym, ap, ◌∙◌, arith, add-zero, add-one,
-    slice_index_or, ⊎_elim, ◌⊎◌, length-append}
+use Rattle.std.proofs.Common.{
+  ◌≡◌,
+  false,
+  ◌+◌,
+  ◌<◌,
+  ℕ,
+  zero,
+  suc,
+  List,
+  [],
+  ◌∷◌,
+  ◌++◌,
+  length,
+  get_or,
+  set,
+  refl,
+  sym,
+  ap,
+  ◌∙◌,
+  arith,
+  add-zero,
+  add-one,
+  slice_index_or,
+  ⊎_elim,
+  ◌⊎◌,
+  length-append,
+}
 use Rattle.std.proofs.lemmas.List.{get_or_append_left, length-map}
 use Rattle.mail_post.specs.Channel.{Channel, Sender, AreSendersFrom, new_senders, sent_by}
 
@@ -48,7 +73,7 @@ module _ {M : Type 0} where
       → x.channel ≡ next → x.number ≡ n → x.sent ≡ [] → x.sent_at ≡ [] → x.gone ≡ false → ys ≡ new_senders next (n + 1)
   fresh_more channel next n xs ys x was pushed same a b e f sound =
       pushed ∙ (λ i. was i ++ x ∷ []) ∙ (λ i. new_senders (same i) n ++ record { channel = a i; number = b i; sent = e i; sent_at = f i; gone = sound i } ∷ [])
-          ∙ ap (new_senders next) (sym (add-one n))
+      ∙ ap (new_senders next) (sym (add-one n))
 
   -- lane k of those that a channel begins with
   pub fresh_at : (channel : Channel M) (n k : ℕ) (d : Sender M) → k < n
@@ -60,7 +85,7 @@ module _ {M : Type 0} where
       ⊎_elim
       (λ (low : k < n). get_or_append_left (new_senders channel n) (last ∷ []) d k (omega arith) ∙ fresh_at channel n k d low)
       (λ (is : k ≡ n). ap (λ (j : ℕ). slice_index_or (new_senders channel n ++ last ∷ []) j d) (is ∙ sym len) ∙ at_last (new_senders channel n) last d
-          ∙ (λ i. record { channel = channel; number = sym is i; sent = []; sent_at = []; gone = false }))
+      ∙ (λ i. record { channel = channel; number = sym is i; sent = []; sent_at = []; gone = false }))
       (below_or_last k n l)
 
   -- two names of the one channel

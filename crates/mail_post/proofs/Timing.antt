@@ -1,6 +1,32 @@
 -- Times that rise, and one more after them.
-use Rattle.std.proofs.Common.{◌≡◌, ◌≢◌, ◌==◌, ◌+◌, ◌≤◌, ◌<◌, ◌⊎◌, ℕ, true, false, cond, List, [], ◌∷◌, ◌++◌, length, refl, sym, ap, ◌∙◌, subst, ⊎_elim, arith,
-    append_assoc, append-nil, length-append}
+use Rattle.std.proofs.Common.{
+  ◌≡◌,
+  ◌≢◌,
+  ◌==◌,
+  ◌+◌,
+  ◌≤◌,
+  ◌<◌,
+  ◌⊎◌,
+  ℕ,
+  true,
+  false,
+  cond,
+  List,
+  [],
+  ◌∷◌,
+  ◌++◌,
+  length,
+  refl,
+  sym,
+  ap,
+  ◌∙◌,
+  subst,
+  ⊎_elim,
+  arith,
+  append_assoc,
+  append-nil,
+  length-append,
+}
 use Rattle.std.proofs.lemmas.Bool.{eq-eqb, ne_eqb, cond-true, cond-false}
 use Rattle.mail_runs.specs.Timed.{RisesTo}
 use Rattle.mail_post.specs.Times.{HaveMoments, Times, KeepsTime}
@@ -45,7 +71,7 @@ module _ {M : Type 0} (lane : M → ℕ) where
   times_snoc k (y ∷ ms) (x ∷ ts) m t e =
       let more = times_snoc k ms ts m t (omega arith) in
       elim (lane y == k) as (λ b. cond b (x ∷ times_of lane k (ms ++ m ∷ []) (ts ++ t ∷ [])) (times_of lane k (ms ++ m ∷ []) (ts ++ t ∷ []))
-          ≡ cond b (x ∷ times_of lane k ms ts) (times_of lane k ms ts) ++ times_of lane k (m ∷ []) (t ∷ [])) [
+      ≡ cond b (x ∷ times_of lane k ms ts) (times_of lane k ms ts) ++ times_of lane k (m ∷ []) (t ∷ [])) [
         | true ↦ ap (λ l. x ∷ l) more
         | false ↦ more
       ]
@@ -124,9 +150,9 @@ module _ {M : Type 0} (lane : M → ℕ) where
       let short : length all_at < room + length times.took_at =
       omega (arith, length-append times.got_at times.queue_at, h.queue_as_many, later_length times.got_at times.took_at h.later, fits) in
       let snoc : (j : ℕ) → times_of lane j (got ++ (queue ++ m ∷ [])) (times.got_at ++ (times.queue_at ++ t ∷ [])) ≡ times_of lane j (got ++ queue) all_at
-          ++ times_of lane j (m ∷ []) (t ∷ []) =
+      ++ times_of lane j (m ∷ []) (t ∷ []) =
       λ j. (λ i. times_of lane j (sym (append_assoc got queue (m ∷ [])) i) (sym (append_assoc times.got_at times.queue_at (t ∷ [])) i))
-          ∙ times_snoc j (got ++ queue) all_at m t len in record {
+      ∙ times_snoc j (got ++ queue) all_at m t len in record {
         got_as_many = h.got_as_many;
         queue_as_many = omega (arith, length-append times.queue_at (t ∷ []), length-append queue (m ∷ []), h.queue_as_many);
         each = λ j. ⊎_elim
@@ -159,9 +185,9 @@ module _ {M : Type 0} (lane : M → ℕ) where
   take_of room after got queue f times m h (s ∷ rest) is =
       let t : ℕ = (times.latest + after) + 1 in
       let there : (times.got_at ++ s ∷ []) ++ rest ≡ times.got_at ++ times.queue_at =
-          append_assoc times.got_at (s ∷ []) rest ∙ ap (λ l. times.got_at ++ l) (sym is) in
+      append_assoc times.got_at (s ∷ []) rest ∙ ap (λ l. times.got_at ++ l) (sym is) in
       let below : s ≤ times.latest =
-          rises_mid 0 times.latest times.got_at s rest (subst (λ (l : List ℕ). RisesTo 0 times.latest (times.got_at ++ l)) is h.rises) in
+      rises_mid 0 times.latest times.got_at s rest (subst (λ (l : List ℕ). RisesTo 0 times.latest (times.got_at ++ l)) is h.rises) in
       let all : RisesTo 0 times.latest ((times.got_at ++ s ∷ []) ++ rest) = subst (λ (l : List ℕ). RisesTo 0 times.latest l) (sym there) h.rises in record {
         accepted_at = s;
         rest = rest;

@@ -1,6 +1,33 @@
 -- Where nothing goes on, all is finished.
-use Rattle.std.proofs.Common.{◌≡◌, ◌≢◌, ℕ, zero, suc, ◌+◌, ◌<◌, ◌≤◌, List, [], ◌∷◌, ◌++◌, length, drop, map, Option, Some, None, inl, inr, refl, ap, sym, ◌∙◌,
-    subst, arith, append-nil}
+use Rattle.std.proofs.Common.{
+  ◌≡◌,
+  ◌≢◌,
+  ℕ,
+  zero,
+  suc,
+  ◌+◌,
+  ◌<◌,
+  ◌≤◌,
+  List,
+  [],
+  ◌∷◌,
+  ◌++◌,
+  length,
+  drop,
+  map,
+  Option,
+  Some,
+  None,
+  inl,
+  inr,
+  refl,
+  ap,
+  sym,
+  ◌∙◌,
+  subst,
+  arith,
+  append-nil,
+}
 use Rattle.std.specs.Prelude.{slice_get, sum_by}
 use Rattle.std.specs.List.{AllByRecursion, range_with_len}
 use Rattle.mail_world.specs.declared.Outcome.{Outcome}
@@ -87,9 +114,9 @@ none_on_way : (Movers : ℕ → Mover → Type 0) (room blocks : ℕ) (next : �
     → (k number p : ℕ) → way_at k number p h.boxes ≡ 0
 none_on_way Movers room blocks next events h s k number p =
     elim (search_list (λ w box. IsBusy box) (λ w box. on_way box ≡ []) h.boxes (λ w box is. busy_way box)) [
-  | inl there ↦ absurd (busy there.0 there.1 there.2 there.3)
-  | inr none ↦ sum_none on_way (copy_at k number p) h.boxes (λ w box is. ap (sum_by (copy_at k number p)) (none w box is))
-]
+      | inl there ↦ absurd (busy there.0 there.1 there.2 there.3)
+      | inr none ↦ sum_none on_way (copy_at k number p) h.boxes (λ w box is. ap (sum_by (copy_at k number p)) (none w box is))
+    ]
   where
     busy : (w : ℕ) (box : Box) → BoxIs h w box → IsBusy box → ⊥
     busy w box at (inl low) = s.still (goes_on (TheWorker w) room next h (s.moved.accepted w box at low))
@@ -104,7 +131,7 @@ heard_of Movers room blocks next events h s k lane i place t at is low =
     let given = (s.tracked k lane at).given number place in
     let some = count_some (is_given number place) lane.messages i t is (given_there t place low) in
     let no_slips : times_named (txn_of k number) place (drop lane.collected lane.slips) ≡ 0 =
-        ap (times_named (txn_of k number) place) (drop_all lane.collected lane.slips (all_collected Movers room blocks next events h s k lane at)) in
+    ap (times_named (txn_of k number) place) (drop_all lane.collected lane.slips (all_collected Movers room blocks next events h s k lane at)) in
     let no_way = none_on_way Movers room blocks next events h s k number place in
     omega arith
 

@@ -48,7 +48,7 @@ finishes_at : (room blocks : ℕ) (start : House) (P : House → Type 0) → Fin
 finishes_at room blocks start P finish events h run to can holds =
     subst (Finishes room blocks events) to.there
     (subst (λ es. Finishes room blocks es (last_house start run)) to.tells
-        (finish run to.runs to.orderly (subst (CanOffer start) (sym to.there) can) (subst P (sym to.there) holds)))
+    (finish run to.runs to.orderly (subst (CanOffer start) (sym to.there) can) (subst P (sym to.there) holds)))
 
 abbrev FewerCopies : ℕ → ℕ → House → Type 0
 FewerCopies room n h = copies_left room h < n
@@ -101,7 +101,7 @@ firsts room blocks next _ _ (WhateverFollows events h tried onward) all = elim (
       let st = first.1.happens.1 in
       one_first room blocks next events h event new first.1 st
       (firsts room blocks next (events ++ event ∷ []) new (onward (next h) event new first.1.goes_on first.1.in_order st)
-          (λ run r. all (record { event = event; house = new } ∷ run) (st, r)))
+      (λ run r. all (record { event = event; house = new } ∷ run) (st, r)))
 ]
 
 pub finishes_in_turn : FinishesInTurn

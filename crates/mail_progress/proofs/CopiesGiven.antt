@@ -1,13 +1,53 @@
 -- In an orderly run a lane gives away all copies of a message before it begins another.
-use Rattle.std.proofs.Common.{◌≡◌, ◌≢◌, ◌⊎◌, ℕ, suc, ◌+◌, ◌<◌, List, [], ◌∷◌, ◌++◌, length, map, Some, inl, inr, refl, ap, sym, ◌∙◌, subst, arith, append-nil,
-    append_assoc, length-append}
+use Rattle.std.proofs.Common.{
+  ◌≡◌,
+  ◌≢◌,
+  ◌⊎◌,
+  ℕ,
+  suc,
+  ◌+◌,
+  ◌<◌,
+  List,
+  [],
+  ◌∷◌,
+  ◌++◌,
+  length,
+  map,
+  Some,
+  inl,
+  inr,
+  refl,
+  ap,
+  sym,
+  ◌∙◌,
+  subst,
+  arith,
+  append-nil,
+  append_assoc,
+  length-append,
+}
 use Rattle.std.specs.Prelude.{slice_get, slice_set, remove}
 use Rattle.std.specs.List.{AllByRecursion}
 use Rattle.std.proofs.lemmas.Bool.{eq-eqb}
 use Rattle.std.proofs.lemmas.Option.{slice_get_within}
 use Rattle.mail_world.specs.declared.Event.{Event}
-use Rattle.mail_world.specs.declared.Event.TheVariants.{Begin, Put, Cancel, Seal, Split, Offer, HandBack, Collect, Take, Write, Sync, Release, GiveSlip,
-    Reclaim, Close}
+use Rattle.mail_world.specs.declared.Event.TheVariants.{
+  Begin,
+  Put,
+  Cancel,
+  Seal,
+  Split,
+  Offer,
+  HandBack,
+  Collect,
+  Take,
+  Write,
+  Sync,
+  Release,
+  GiveSlip,
+  Reclaim,
+  Close,
+}
 use Rattle.mail_world.specs.House.{Hold, SealedMessage, Lane, House, IsFreshLane, IsStart}
 use Rattle.mail_world.specs.Events.{Step, LaneIs}
 use Rattle.mail_world.specs.Runs.{Happened, Run, last_house, events_of}
@@ -103,7 +143,7 @@ goes_away : (k i at : ℕ) (e : Event) (old new : Lane) (n : ℕ) (t : SealedMes
 goes_away k i at e old new n t none last hold is messages holds = record {
   goes = λ ns g.
       let less : to_give (remove old.holds at) + 1 ≡ to_give old.holds =
-          sum_remove (λ (x : Hold). x.weight) old.holds at (record { key = t.key; weight = 1 }) hold in
+      sum_remove (λ (x : Hold). x.weight) old.holds at (record { key = t.key; weight = 1 }) hold in
       let top : length old.messages ≡ i + 1 = last_of_its_key old.messages old.holds n i at t hold is last in
       let now = one_away old.messages ns i (to_give (remove old.holds at)) t is top (subst (λ w. AreSealedFor old.messages w ns) (sym less) g) in
       subst (λ ms. LaneSealedFor new (ns ++ ms)) (sym none) (subst (LaneSealedFor new) (sym (append-nil ns)) (rw (messages, holds) now));
@@ -115,11 +155,11 @@ one_lane : (h new : House) (e : Event) (v : ℕ) (old changed : Lane) → new.la
     → (ns : ℕ → List ℕ) → AllSealedFor ns h → AllSealedFor (λ k. ns k ++ sealed_by k e) new
 one_lane h new e v old changed lanes was here elsewhere ns all k lane is =
     elim (get_set h.lanes v k changed lane (ap (λ ls. slice_get ls k) (sym lanes) ∙ is)) [
-  | inl at ↦ let P : Lane → Type 0 = λ x. LaneSealedFor x (ns k ++ sealed_by k e) in
-      let Q : ℕ → Type 0 = λ n. LaneSealedFor changed (ns n ++ sealed_by n e) in
-      subst P at.1 (subst Q (sym at.0) (here.goes (ns v) (all v old was)))
-  | inr other ↦ (goes_as k e lane lane (elsewhere k (λ s. other.0 (sym s))) refl refl).goes (ns k) (all k lane other.1)
-]
+      | inl at ↦ let P : Lane → Type 0 = λ x. LaneSealedFor x (ns k ++ sealed_by k e) in
+          let Q : ℕ → Type 0 = λ n. LaneSealedFor changed (ns n ++ sealed_by n e) in
+          subst P at.1 (subst Q (sym at.0) (here.goes (ns v) (all v old was)))
+      | inr other ↦ (goes_as k e lane lane (elsewhere k (λ s. other.0 (sym s))) refl refl).goes (ns k) (all k lane other.1)
+    ]
 
 no_lane : (h new : House) (e : Event) → new.lanes ≡ h.lanes → ((k : ℕ) → sealed_by k e ≡ []) → (ns : ℕ → List ℕ) → AllSealedFor ns h
     → AllSealedFor (λ k. ns k ++ sealed_by k e) new
@@ -134,12 +174,12 @@ sealed_step room h (Cancel k) new w kept s st =
     one_lane h new (Cancel k) k st.lane _ (ap (λ (x : House). x.lanes) st.after) st.is (goes_as k (Cancel k) st.lane _ refl refl refl) (λ v ne. refl)
 sealed_step room h (Seal k n) new w kept s st =
     let idle : st.lane.holds ≡ [] =
-        no_hold st.lane.holds (each_at (λ (l : Lane). AllByRecursion IsSome l.holds) h.lanes k st.lane kept.lanes st.is)
-        (let p = (w k st.lane st.is).drafting st.key st.draft in omega arith) in
+    no_hold st.lane.holds (each_at (λ (l : Lane). AllByRecursion IsSome l.holds) h.lanes k st.lane kept.lanes st.is)
+    (let p = (w k st.lane st.is).drafting st.key st.draft in omega arith) in
     let hold : Hold = record { key = st.key; weight = n } in
     let t : SealedMessage = record { number = st.lane.number; key = st.key; message = st.seals.bytes; offered = 0 } in
     let weight : to_give (st.lane.holds ++ hold ∷ []) ≡ n = let nothing : to_give st.lane.holds ≡ 0 = ap to_give idle in
-        omega (arith, sum_last (λ (x : Hold). x.weight) st.lane.holds hold) in
+    omega (arith, sum_last (λ (x : Hold). x.weight) st.lane.holds hold) in
     let nothing : to_give st.lane.holds ≡ 0 = ap to_give idle in
     let own : sealed_by k (Seal k n) ≡ n ∷ [] = rw (eq-eqb k k refl) refl in
     one_lane h new (Seal k n) k st.lane _ (ap (λ (x : House). x.lanes) st.after) st.is
@@ -149,18 +189,21 @@ sealed_step room h (Split k i) new w kept s st =
     let rest : Hold = record { key = st.key; weight = st.weight } in
     let one : Hold = record { key = st.key; weight = 1 } in
     let same : to_give (slice_set st.lane.holds i rest ++ one ∷ []) ≡ to_give st.lane.holds =
-    omega (arith, sum_set (λ (hold : Hold). hold.weight) st.lane.holds i (record { key = st.key; weight = st.weight + 1 }) rest st.hold,
-        sum_last (λ (hold : Hold). hold.weight) (slice_set st.lane.holds i rest) one) in
+    omega (
+      arith,
+      sum_set (λ (hold : Hold). hold.weight) st.lane.holds i (record { key = st.key; weight = st.weight + 1 }) rest st.hold,
+      sum_last (λ (hold : Hold). hold.weight) (slice_set st.lane.holds i rest) one,
+    ) in
     one_lane h new (Split k i) k st.lane _ (ap (λ (x : House). x.lanes) st.after) st.is (goes_as k (Split k i) st.lane _ refl refl same) (λ v ne. refl)
 sealed_step room h (Offer k note) new w kept s st =
     let t : SealedMessage = record { number = note.txn.number; key = st.key; message = note.message; offered = note.place } in
     one_lane h new (Offer k note) k st.lane _ (ap (λ (x : House). x.lanes) st.after) st.is
     (goes_away k st.t st.at (Offer k note) st.lane _ (length st.lane.gather.places) t refl (s k st.lane st.is).last st.copy.hold st.copy.is refl refl)
-        (λ v ne. refl)
+    (λ v ne. refl)
 sealed_step room h (HandBack k i m) new w kept s st =
     one_lane h new (HandBack k i m) k st.lane _ (ap (λ (x : House). x.lanes) st.after) st.is
     (goes_away k st.t i (HandBack k i m) st.lane _ (length st.lane.gather.places) st.sealed refl (s k st.lane st.is).last st.copy.hold st.copy.is refl refl)
-        (λ v ne. refl)
+    (λ v ne. refl)
 sealed_step room h (Collect k) new w kept s st =
     one_lane h new (Collect k) k st.lane _ (ap (λ (x : House). x.lanes) st.after) st.is (goes_as k (Collect k) st.lane _ refl refl refl) (λ v ne. refl)
 sealed_step room h (Take x) new w kept s st = no_lane h new (Take x) (ap (λ (x : House). x.lanes) st.after) (λ v. refl)
@@ -178,7 +221,7 @@ sealed_run : (room : ℕ) (h : House) (run : List Happened) → AllWithin room h
 sealed_run room h [] w kept s r o ns g k lane is = subst (LaneSealedFor lane) (sym (append-nil (ns k))) (g k lane is)
 sealed_run room h (x ∷ xs) w kept s r o ns g k lane is =
     let rest = sealed_run room x.house xs (within_step room h x.event x.house w r.0 o.0) (kept_step h x.event x.house kept r.0)
-        (tracked_step room h x.event x.house w kept s r.0) r.1 o.1 (λ v. ns v ++ sealed_by v x.event)
+    (tracked_step room h x.event x.house w kept s r.0) r.1 o.1 (λ v. ns v ++ sealed_by v x.event)
     (sealed_step room h x.event x.house w kept s r.0 ns g) in
     subst (LaneSealedFor lane) (append_assoc (ns k) (sealed_by k x.event) (copies_sealed k (events_of xs))) (rest k lane is)
 
@@ -193,7 +236,7 @@ pub every_orderly_sealed_for : (room blocks : ℕ) (start : House) (run : List H
     → AllSealedFor (λ k. copies_sealed k (events_of run)) (last_house start run)
 every_orderly_sealed_for room blocks start run is r o =
     sealed_run room start run (within_start room blocks start is) (kept_start blocks start is) (tracked_start blocks start is) r o (λ k. [])
-        (sealed_start blocks start is)
+    (sealed_start blocks start is)
 
 -- where nothing is left of the last one, as many were given away of each as it was sealed for
 pub all_given : (ts : List SealedMessage) (ns : List ℕ) → AreSealedFor ts 0 ns → map (λ (t : SealedMessage). t.offered) ts ≡ ns

@@ -45,14 +45,14 @@ offer_less : (room : ℕ) (h : House) (k : ℕ) (note : Note) (new : House) → 
 offer_less room h k note new st =
     let give = sum_remove weight st.lane.holds st.at (record { key = st.key; weight = 1 }) st.copy.hold in
     let lanes = sum_set copies_of_lane h.lanes k st.lane (without_copy st.lane st.at st.t (sealed_up_to st.key note.txn.number note.message note.place))
-        st.is in
+    st.is in
     subst (λ (x : House). copies_left room x < copies_left room h) (sym st.after) (omega (arith, give, lanes))
 
 seal_fewer : (room : ℕ) (h : House) (k n : ℕ) (new : House) → n ≤ room → SealStep h k n new → NoMore room h new
 seal_fewer room h k n new o st =
     let p = st.seals in
     let slots = held_changes (copies_of_held room) h.depot st.depot st.key (Draft p.bytes p.blocks) (Sealed p.bytes p.blocks n) h.depot.free p.draft (λ e. cc)
-        p.after in
+    p.after in
     let hold : Hold = record { key = st.key; weight = n } in
     let more = sum_last weight st.lane.holds hold in
     let lanes = sum_set copies_of_lane h.lanes k st.lane (record st.lane {
@@ -67,10 +67,10 @@ back_fewer : (room : ℕ) (h : House) (k i m : ℕ) (new : House) → HandBackSt
 back_fewer room h k i m new st =
     let r = st.releases in
     let slots = held_changes (copies_of_held room) h.depot st.depot st.sealed.key (Sealed r.bytes r.blocks (r.weight + 1)) (Sealed r.bytes r.blocks r.weight)
-        h.depot.free r.message (λ e. cc) r.after in
+    h.depot.free r.message (λ e. cc) r.after in
     let give = sum_remove weight st.lane.holds i (record { key = st.sealed.key; weight = 1 }) st.copy.hold in
     let lanes = sum_set copies_of_lane h.lanes k st.lane (with_heard (without_copy st.lane i st.t st.sealed) (own_slip k st.sealed.number st.sealed.offered m))
-        st.is in
+    st.is in
     subst (NoMore room h) (sym st.after) (omega (arith, slots, give, lanes))
 
 fewer : (room : ℕ) (next : ℕ → ℕ) (h : House) (event : Event) (new : House) → GoesOn next h event → IsInOrder room h event → Step h event new
@@ -95,16 +95,16 @@ fewer room next h (Collect k) new g o st =
 fewer room next h (Release w) new g o st =
     let r = st.releases in
     let slots = held_changes (copies_of_held room) h.depot st.depot st.copy.post.key (Sealed r.bytes r.blocks (r.weight + 1)) (Sealed r.bytes r.blocks r.weight)
-        h.depot.free r.message (λ e. cc) r.after in
+    h.depot.free r.message (λ e. cc) r.after in
     subst (NoMore room h) (sym st.after) (omega (arith, slots))
 fewer room next h (GiveSlip w outcome) new g o st =
     let k = st.copy.post.note.txn.lane in
     let lanes = sum_set copies_of_lane h.lanes k st.lane (record st.lane { slips = st.lane.slips ++ slip_of w st.copy.post.note (outcome_of st.copy) ∷ [] })
-        st.to in
+    st.to in
     subst (NoMore room h) (sym st.after) (omega (arith, lanes))
 fewer room next h (Reclaim slot generation) new g o st =
     let slots = held_goes (copies_of_held room) refl refl h.depot (record { slot = slot; generation = generation }) (λ x y. Sealed x y 0) st.0 st.1
-        (λ x y e. cc) in
+    (λ x y e. cc) in
     subst (NoMore room h) (sym st.2) (omega (arith, slots))
 fewer room next h (Begin k) new g o st = absurd g
 fewer room next h (Put k bytes) new g o st = absurd g

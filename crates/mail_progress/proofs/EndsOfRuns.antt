@@ -45,7 +45,7 @@ all_finished blocks events h lane box lanes boxes slots free f = record {
   answered = λ k x i t at is.
       each_at (λ (u : SealedMessage). AllByRecursion HasOutcome (answers (txn_of k u.number) u.offered x.heard)) x.messages i t
       (of_only (λ v (y : Lane). AllByRecursion (λ (u : SealedMessage). AllByRecursion HasOutcome (answers (txn_of v u.number) u.offered y.heard)) y.messages)
-          h.lanes lane lanes f.answered k x at) is;
+      h.lanes lane lanes f.answered k x at) is;
   gathered = of_only (λ k (x : Lane). AllByRecursion HasOutcome x.gather.places) h.lanes lane lanes f.gathered;
   reclaimed = λ i slot bytes its weight at e. let bad : Free ≡ Sealed bytes its weight =
       sym (each_at (λ (s : Slot). s.held ≡ Free) h.depot.slots i slot slots at) ∙ e in cc;
@@ -55,11 +55,27 @@ all_finished blocks events h lane box lanes boxes slots free f = record {
 pub delivers_all : IsFinished 2 (events_of delivered.one_run) delivered.house₁₂
 unfolding everything
 delivers_all = all_finished 2 (events_of delivered.one_run) delivered.house₁₂ _ _ refl refl (refl, tt) each_once
-    (record { no_draft = refl; none_to_offer = refl; collected = refl; given_away = refl; answered = ((tt, tt), tt); gathered = (tt, tt); drained = refl;
-        free_hand = refl })
+    (record {
+      no_draft = refl;
+      none_to_offer = refl;
+      collected = refl;
+      given_away = refl;
+      answered = ((tt, tt), tt);
+      gathered = (tt, tt);
+      drained = refl;
+      free_hand = refl;
+    })
 
 pub fails_all : IsFinished 2 (events_of failed.one_run) failed.house₁₅
 unfolding everything
 fails_all = all_finished 2 (events_of failed.one_run) failed.house₁₅ _ _ refl refl (refl, (refl, tt)) each_once
-    (record { no_draft = refl; none_to_offer = refl; collected = refl; given_away = refl; answered = ((tt, (tt, tt)), tt); gathered = (tt, (tt, tt));
-        drained = refl; free_hand = refl })
+    (record {
+      no_draft = refl;
+      none_to_offer = refl;
+      collected = refl;
+      given_away = refl;
+      answered = ((tt, (tt, tt)), tt);
+      gathered = (tt, (tt, tt));
+      drained = refl;
+      free_hand = refl;
+    })

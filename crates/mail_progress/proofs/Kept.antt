@@ -5,8 +5,23 @@ use Rattle.std.specs.List.{AllByRecursion}
 use Rattle.std.proofs.lemmas.List.{length-drop}
 use Rattle.std.proofs.lemmas.Option.{slice_get_within}
 use Rattle.mail_world.specs.declared.Event.{Event}
-use Rattle.mail_world.specs.declared.Event.TheVariants.{Begin, Put, Cancel, Seal, Split, Offer, HandBack, Collect, Take, Write, Sync, Release, GiveSlip,
-    Reclaim, Close}
+use Rattle.mail_world.specs.declared.Event.TheVariants.{
+  Begin,
+  Put,
+  Cancel,
+  Seal,
+  Split,
+  Offer,
+  HandBack,
+  Collect,
+  Take,
+  Write,
+  Sync,
+  Release,
+  GiveSlip,
+  Reclaim,
+  Close,
+}
 use Rattle.mail_world.specs.House.{Hold, Post, Copy, Box, Lane, House, IsFreshBox, IsFreshLane, IsStart}
 use Rattle.mail_world.specs.Events.{Step, LaneIs, BoxIs}
 use Rattle.mail_world.specs.Runs.{Happened, Run, last_house}
@@ -120,7 +135,7 @@ kept_box h new w old next s sizes was lanes boxes ok =
     record {
       boxes = subst (AllByRecursion (IsBoxRight new)) (sym boxes)
           (all_set (IsBoxRight new) h.boxes w next (weaken (IsBoxRight h) (IsBoxRight new) (box_right h new f) h.boxes s.boxes)
-              (ok (box_right h new f old (each_at (IsBoxRight h) h.boxes w old s.boxes was))));
+          (ok (box_right h new f old (each_at (IsBoxRight h) h.boxes w old s.boxes was))));
       lanes = subst (AllByRecursion P) (sym lanes) s.lanes;
     }
 
@@ -133,7 +148,7 @@ kept_both h new w old next k was after s sizes there here boxes lanes ok fine =
     record {
       boxes = subst (AllByRecursion (IsBoxRight new)) (sym boxes)
           (all_set (IsBoxRight new) h.boxes w next (weaken (IsBoxRight h) (IsBoxRight new) (box_right h new f) h.boxes s.boxes)
-              (ok (box_right h new f old (each_at (IsBoxRight h) h.boxes w old s.boxes there))));
+          (ok (box_right h new f old (each_at (IsBoxRight h) h.boxes w old s.boxes there))));
       lanes = subst (AllByRecursion P) (sym lanes) (all_set P h.lanes k after s.lanes (fine (each_at P h.lanes k was s.lanes here)));
     }
 
@@ -147,12 +162,12 @@ kept_step h (Put k bytes) new s st = subst IsKept (sym st.after) (kept_none h _ 
 kept_step h (Cancel k) new s st = subst IsKept (sym st.after) (kept_lane h _ k st.lane _ s (λ note. refl) st.is refl refl (λ ok. ok))
 kept_step h (Seal k n) new s st =
     subst IsKept (sym st.after) (kept_lane h _ k st.lane _ s (λ note. refl) st.is refl refl
-        (λ ok. all_more IsSome st.lane.holds (record { key = st.key; weight = n }) ok st.some))
+    (λ ok. all_more IsSome st.lane.holds (record { key = st.key; weight = n }) ok st.some))
 kept_step h (Split k i) new s st =
     let rest : Hold = record { key = st.key; weight = st.weight } in
     let one : Hold = record { key = st.key; weight = 1 } in
     subst IsKept (sym st.after) (kept_lane h _ k st.lane _ s (λ note. refl) st.is refl refl
-        (λ ok. all_more IsSome (slice_set st.lane.holds i rest) one (all_set IsSome st.lane.holds i rest ok st.above) (omega arith)))
+    (λ ok. all_more IsSome (slice_set st.lane.holds i rest) one (all_set IsSome st.lane.holds i rest ok st.above) (omega arith)))
 kept_step h (Offer k note) new s st =
     subst IsKept (sym st.after) (kept_both h _ note.mailbox st.box _ k st.lane _ s (λ note. refl) st.channel st.is refl refl
     (λ ok. record {
@@ -167,23 +182,26 @@ kept_step h (HandBack k i b) new s st =
 kept_step h (Collect k) new s st = subst IsKept (sym st.after) (kept_lane h _ k st.lane _ s (λ note. refl) st.is refl refl (λ ok. ok))
 kept_step h (Take w) new s st =
     subst IsKept (sym st.after) (kept_box h _ w st.box _ s (λ note. refl) st.is refl refl
-    (λ ok. record { posts = ok.posts; hand = (each_at (OfLanes h.lanes) st.box.accepted st.box.taken st.post ok.posts st.oldest, omega arith);
-        prefix = let below = slice_get_within st.box.accepted st.box.taken st.post st.oldest in omega arith }))
+    (λ ok. record {
+      posts = ok.posts;
+      hand = (each_at (OfLanes h.lanes) st.box.accepted st.box.taken st.post ok.posts st.oldest, omega arith);
+      prefix = let below = slice_get_within st.box.accepted st.box.taken st.post st.oldest in omega arith;
+    }))
 kept_step h (Write w bytes) new s st =
     let len : size h st.copy.post.note - st.copy.written ≡ length bytes + length st.more =
-        sym (length-drop st.copy.written _) ∙ ap length st.next ∙ length-append bytes st.more in
+    sym (length-drop st.copy.written _) ∙ ap length st.next ∙ length-append bytes st.more in
     subst IsKept (sym st.after) (kept_box h _ w st.box _ s (λ note. refl) st.is refl refl
     (λ ok. let r = hand_of h st.box st.copy st.in_hand
-        ok.hand in let low = r.1 in record { posts = ok.posts; hand = (r.0, omega (arith, len, low)); prefix = ok.prefix }))
+    ok.hand in let low = r.1 in record { posts = ok.posts; hand = (r.0, omega (arith, len, low)); prefix = ok.prefix }))
 kept_step h (Sync w) new s st =
     subst IsKept (sym st.after) (kept_box h _ w st.box _ s (λ note. refl) st.is refl refl
-        (λ ok. record { posts = ok.posts; hand = hand_of h st.box st.copy st.in_hand ok.hand; prefix = ok.prefix }))
+    (λ ok. record { posts = ok.posts; hand = hand_of h st.box st.copy st.in_hand ok.hand; prefix = ok.prefix }))
 kept_step h (Release w) new s st =
     subst IsKept (sym st.after) (kept_box h _ w st.box _ s (λ note. refl) st.is refl refl
-        (λ ok. record { posts = ok.posts; hand = hand_of h st.box st.copy st.in_hand ok.hand; prefix = ok.prefix }))
+    (λ ok. record { posts = ok.posts; hand = hand_of h st.box st.copy st.in_hand ok.hand; prefix = ok.prefix }))
 kept_step h (GiveSlip w o) new s st =
     subst IsKept (sym st.after) (kept_both h _ w st.box _ st.copy.post.note.txn.lane st.lane _ s (λ note. refl) st.is st.to refl refl
-        (λ ok. record { posts = ok.posts; hand = tt; prefix = ok.prefix }) (λ ok. ok))
+    (λ ok. record { posts = ok.posts; hand = tt; prefix = ok.prefix }) (λ ok. ok))
 kept_step h (Reclaim slot generation) new s st = subst IsKept (sym st.2) (kept_none h _ s (λ note. refl) refl refl)
 kept_step h (Close b) new s st =
     subst IsKept (sym st.3) (kept_box h _ b st.0 _ s (λ note. refl) st.1 refl refl (λ ok. record { posts = ok.posts; hand = ok.hand; prefix = ok.prefix }))
@@ -195,8 +213,11 @@ kept_run h (x ∷ xs) s r = kept_run x.house xs (kept_step h x.event x.house s r
 pub kept_start : (blocks : ℕ) (h : House) → IsStart blocks h → IsKept h
 kept_start blocks h start = record {
   boxes = weaken IsFreshBox (IsBoxRight h)
-      (λ box f. record { posts = subst (AllByRecursion (OfLanes h.lanes)) (sym f.accepted) tt; hand = subst (HandIsRight h) (sym f.hand) tt;
-      prefix = let t = f.taken in omega arith }) h.boxes start.boxes;
+      (λ box f. record {
+        posts = subst (AllByRecursion (OfLanes h.lanes)) (sym f.accepted) tt;
+        hand = subst (HandIsRight h) (sym f.hand) tt;
+        prefix = let t = f.taken in omega arith;
+      }) h.boxes start.boxes;
   lanes = weaken IsFreshLane (λ (lane : Lane). AllByRecursion IsSome lane.holds) (λ lane f. subst (AllByRecursion IsSome) (sym f.holds) tt) h.lanes start.lanes;
 }
 

@@ -1,6 +1,33 @@
 -- The steps of lanes, by rank: one of the rank goes on, or none does.
-use Rattle.std.proofs.Common.{◌≡◌, ◌≢◌, ◌⊎◌, ℕ, zero, suc, ◌+◌, ◌<◌, ◌≤◌, List, [], ◌∷◌, length, Bool, true, false, Option, Some, None, inl, inr, refl, ap, sym,
-    ◌∙◌, subst, arith}
+use Rattle.std.proofs.Common.{
+  ◌≡◌,
+  ◌≢◌,
+  ◌⊎◌,
+  ℕ,
+  zero,
+  suc,
+  ◌+◌,
+  ◌<◌,
+  ◌≤◌,
+  List,
+  [],
+  ◌∷◌,
+  length,
+  Bool,
+  true,
+  false,
+  Option,
+  Some,
+  None,
+  inl,
+  inr,
+  refl,
+  ap,
+  sym,
+  ◌∙◌,
+  subst,
+  arith,
+}
 use Rattle.std.specs.Prelude.{slice_get, IfSome}
 use Rattle.std.proofs.lemmas.Option.{slice_get_within}
 use Rattle.std.proofs.Math.Bool.{Bool-discrete}
@@ -119,12 +146,22 @@ no_copy : (next : ℕ → ℕ) (h : House) (room : ℕ) → NoLane h (HasCopyToG
 no_copy next h room none (Offer k note) g o happens e =
     let st = happens.1 in
     let low : not_taken st.box < h.capacity = subst (λ b. IfSome b (λ (box : Box). not_taken box < h.capacity)) st.channel o in
-    none k st.lane st.is (record { some = some_of st.lane.holds st.at _ st.copy.hold; box = st.box; channel = ap (slice_get h.boxes) (sym g)
-        ∙ st.channel; ready = inr low })
+    none k st.lane st.is (record {
+      some = some_of st.lane.holds st.at _ st.copy.hold;
+      box = st.box;
+      channel = ap (slice_get h.boxes) (sym g)
+          ∙ st.channel;
+      ready = inr low;
+    })
 no_copy next h room none (HandBack k i b) g o happens e =
     let st = happens.1 in
-    none k st.lane st.is (record { some = some_of st.lane.holds i _ st.copy.hold; box = g.1.0; channel = ap (slice_get h.boxes) (sym g.0)
-        ∙ g.1.1; ready = inl g.1.2 })
+    none k st.lane st.is (record {
+      some = some_of st.lane.holds i _ st.copy.hold;
+      box = g.1.0;
+      channel = ap (slice_get h.boxes) (sym g.0)
+          ∙ g.1.1;
+      ready = inl g.1.2;
+    })
 no_copy next h room none event g o happens e = absurd (omega arith)
 
 one_ranks : (room blocks : ℕ) (next : ℕ → ℕ) (h : House) → IsReached room blocks h → (k : ℕ) (lane : Lane) (hold : Hold) (box : Box) → LaneIs h k lane

@@ -1,6 +1,36 @@
 -- Each event but Begin, and a Put or Write of no bytes, lowers the number of the steps that are left.
-use Rattle.std.proofs.Common.{◌≡◌, ℕ, ◌+◌, ◌-◌, ◌*◌, ◌<◌, ◌≤◌, List, [], ◌∷◌, ◌++◌, length, drop, Bool, true, false, cond, not, ◌||◌, ◌==◌, Some, None, refl,
-    ap, sym, ◌∙◌, subst, arith, add-one, length-append}
+use Rattle.std.proofs.Common.{
+  ◌≡◌,
+  ℕ,
+  ◌+◌,
+  ◌-◌,
+  ◌*◌,
+  ◌<◌,
+  ◌≤◌,
+  List,
+  [],
+  ◌∷◌,
+  ◌++◌,
+  length,
+  drop,
+  Bool,
+  true,
+  false,
+  cond,
+  not,
+  ◌||◌,
+  ◌==◌,
+  Some,
+  None,
+  refl,
+  ap,
+  sym,
+  ◌∙◌,
+  subst,
+  arith,
+  add-one,
+  length-append,
+}
 use Rattle.std.specs.Prelude.{slice_get, slice_set, sum_by, remove, nat_lt, if◌then◌else◌}
 use Rattle.std.proofs.lemmas.List.Sums.{sum_by-cons}
 use Rattle.std.proofs.lemmas.List.{length-drop}
@@ -8,8 +38,23 @@ use Rattle.std.proofs.lemmas.Option.{slice_get_within}
 use Rattle.std.proofs.Math.Nat.{mul-le-mul_right}
 use Rattle.mail_world.specs.declared.limits.TheConstants.{BLOCK_SIZE}
 use Rattle.mail_world.specs.declared.Event.{Event}
-use Rattle.mail_world.specs.declared.Event.TheVariants.{Begin, Put, Cancel, Seal, Split, Offer, HandBack, Collect, Take, Write, Sync, Release, GiveSlip,
-    Reclaim, Close}
+use Rattle.mail_world.specs.declared.Event.TheVariants.{
+  Begin,
+  Put,
+  Cancel,
+  Seal,
+  Split,
+  Offer,
+  HandBack,
+  Collect,
+  Take,
+  Write,
+  Sync,
+  Release,
+  GiveSlip,
+  Reclaim,
+  Close,
+}
 use Rattle.mail_world.specs.Slips.{slip_of, own_slip, txn_of, gather_for}
 use Rattle.mail_world.specs.Depot.{Key, Slot, Draft, Sealed, Depot, blocks_for, occurrences, blocks_of, blocks_in_use, HasEachBlockOnce, Puts}
 use Rattle.mail_world.specs.House.{Hold, Post, Copy, Box, House, is_settled}
@@ -18,8 +63,21 @@ use Rattle.mail_world.specs.Runs.{Happened, Run, last_house}
 use Rattle.mail_world.proofs.Depots.{set_at, used, times-append, begins_turn, puts_turn, seals_turn, releases_turn, drops_turn}
 use Rattle.mail_world.proofs.Holds.{drop_get}
 use Rattle.mail_progress.specs.Orderly.{IsInOrder, IsOrderly}
-use Rattle.mail_progress.specs.StepsLeft.{size, steps_of_copy, steps_in_hand, steps_of_one, steps_of_hold, steps_of_lane, steps_of_box, steps_of_slot,
-    steps_left, IsBounded, AreBounded, EachLowers, Ends}
+use Rattle.mail_progress.specs.StepsLeft.{
+  size,
+  steps_of_copy,
+  steps_in_hand,
+  steps_of_one,
+  steps_of_hold,
+  steps_of_lane,
+  steps_of_box,
+  steps_of_slot,
+  steps_left,
+  IsBounded,
+  AreBounded,
+  EachLowers,
+  Ends,
+}
 use Rattle.mail_world.proofs.Holds.{sum_set, sum_remove, part_le}
 use Rattle.mail_progress.proofs.Sums.{sum_last, sum_one_more}
 use Rattle.mail_progress.proofs.Slots.{held_changes, held_goes}
@@ -32,7 +90,7 @@ each_step n h (Put k bytes) new s st =
     subst (λ (x : House). HasEachBlockOnce n x.depot) (sym st.after) ((puts_turn h.depot st.key bytes st.depot st.puts).blocks n s)
 each_step n h (Cancel k) new s st =
     subst (λ (x : House). HasEachBlockOnce n x.depot) (sym st.after)
-        ((drops_turn h.depot st.key Draft st.depot (λ b blocks. refl) (λ b blocks. refl) (λ b blocks e. cc) st.cancels).blocks n s)
+    ((drops_turn h.depot st.key Draft st.depot (λ b blocks. refl) (λ b blocks. refl) (λ b blocks e. cc) st.cancels).blocks n s)
 each_step n h (Seal k m) new s st =
     subst (λ (x : House). HasEachBlockOnce n x.depot) (sym st.after) ((seals_turn h.depot st.key m st.depot st.seals).blocks n s)
 each_step n h (HandBack k i m) new s st =
@@ -42,7 +100,7 @@ each_step n h (Release w) new s st =
 each_step n h (Reclaim slot generation) new s st =
     subst (λ (x : House). HasEachBlockOnce n x.depot) (sym st.2)
     ((drops_turn h.depot (record { slot = slot; generation = generation }) (λ b blocks. Sealed b blocks 0) st.0 (λ b blocks. refl) (λ b blocks. refl)
-        (λ b blocks e. cc) st.1).blocks n s)
+    (λ b blocks e. cc) st.1).blocks n s)
 each_step n h (Split k i) new s st = subst (λ (x : House). HasEachBlockOnce n x.depot) (sym st.after) s
 each_step n h (Offer k note) new s st = subst (λ (x : House). HasEachBlockOnce n x.depot) (sym st.after) s
 each_step n h (Collect k) new s st = subst (λ (x : House). HasEachBlockOnce n x.depot) (sym st.after) s
@@ -90,8 +148,13 @@ holds_split bound holds i w key at some =
     let c = steps_of_one bound in
     let e : steps_of_hold bound (record { key = key; weight = w + 1 }) ≡ w * c + c - 1 = ap (λ n. n - 1) (one_more_weight w c) in
     let high : c ≤ w * c = some_weight w c some in
-    omega (arith, sum_set (steps_of_hold bound) holds i (record { key = key; weight = w + 1 }) rest at,
-        sum_last (steps_of_hold bound) (slice_set holds i rest) one, e, high)
+    omega (
+      arith,
+      sum_set (steps_of_hold bound) holds i (record { key = key; weight = w + 1 }) rest at,
+      sum_last (steps_of_hold bound) (slice_set holds i rest) one,
+      e,
+      high,
+    )
 
 holds_fewer : (bound : ℕ) (holds : List Hold) (i : ℕ) (key : Key) → slice_get holds i ≡ Some (record { key = key; weight = 1 })
     → sum_by (steps_of_hold bound) (remove holds i) + (bound + 6) ≡ sum_by (steps_of_hold bound) holds
@@ -110,7 +173,7 @@ waiting_take : (h : House) (box : Box) (post : Post) → slice_get box.accepted 
 waiting_take h box post at =
     let f : Post → ℕ = λ p. steps_of_copy (size h p.note) in
     ap (sum_by f) (drop_get box.accepted box.taken post at ∙ ap (λ j. post ∷ drop j box.accepted) (sym (add-one box.taken)))
-        ∙ sum_by-cons f post (drop (box.taken + 1) box.accepted)
+    ∙ sum_by-cons f post (drop (box.taken + 1) box.accepted)
 
 -- a copy in hand
 in_hand_by : (h : House) (box : Box) (copy : Copy) → box.hand ≡ Some copy
@@ -152,7 +215,7 @@ lowers blocks room bound h (Put k bytes) new s st o b =
     let fits = put_fits blocks h.depot st.key bytes st.depot p each in
     let len = length-append p.bytes bytes in
     let slots = held_changes (steps_of_slot blocks room bound) h.depot st.depot st.key (Draft p.bytes p.blocks)
-        (Draft (p.bytes ++ bytes) (p.blocks ++ p.picked)) p.rest p.draft (λ e. cc) p.after in
+    (Draft (p.bytes ++ bytes) (p.blocks ++ p.picked)) p.rest p.draft (λ e. cc) p.after in
     subst (Left blocks room bound h) (sym st.after) (omega (arith, slots, len, fits, b))
 lowers blocks room bound h (Cancel k) new s st o b =
     let slots = held_goes (steps_of_slot blocks room bound) refl refl h.depot st.key Draft st.depot st.cancels (λ x y e. cc) in
@@ -161,7 +224,7 @@ lowers blocks room bound h (Cancel k) new s st o b =
 lowers blocks room bound h (Seal k n) new s st o b =
     let p = st.seals in
     let slots = held_changes (steps_of_slot blocks room bound) h.depot st.depot st.key (Draft p.bytes p.blocks) (Sealed p.bytes p.blocks n) h.depot.free p.draft
-        (λ e. cc) p.after in
+    (λ e. cc) p.after in
     let hold : Hold = record { key = st.key; weight = n } in
     let more = sum_last (steps_of_hold bound) st.lane.holds hold in
     let most : n * steps_of_one bound ≤ room * steps_of_one bound = mul-le-mul_right (steps_of_one bound) o in
@@ -175,23 +238,23 @@ lowers blocks room bound h (Seal k n) new s st o b =
 lowers blocks room bound h (Split k i) new s st o b =
     let less = holds_split bound st.lane.holds i st.weight st.key st.hold st.above in
     let lanes = sum_set (steps_of_lane bound) h.lanes k st.lane
-        (record st.lane { holds = slice_set st.lane.holds i (record { key = st.key; weight = st.weight }) ++ record { key = st.key; weight = 1 } ∷ [] })
-        st.is in
+    (record st.lane { holds = slice_set st.lane.holds i (record { key = st.key; weight = st.weight }) ++ record { key = st.key; weight = 1 } ∷ [] })
+    st.is in
     subst (Left blocks room bound h) (sym st.after) (omega (arith, less, lanes))
 lowers blocks room bound h (Offer k note) new s st o b =
     let post : Post = record { note = note; key = st.key } in
     let less = holds_fewer bound st.lane.holds st.at st.key st.copy.hold in
     let lanes = sum_set (steps_of_lane bound) h.lanes k st.lane (without_copy st.lane st.at st.t (sealed_up_to st.key note.txn.number note.message note.place))
-        st.is in
+    st.is in
     let boxes = sum_set (steps_of_box h) h.boxes note.mailbox st.box (record st.box { accepted = st.box.accepted ++ post ∷ [] }) st.channel in
     subst (Left blocks room bound h) (sym st.after) (omega (arith, less, lanes, boxes, waiting_offer h st.box post, b))
 lowers blocks room bound h (HandBack k i m) new s st o b =
     let r = st.releases in
     let slots = held_changes (steps_of_slot blocks room bound) h.depot st.depot st.sealed.key (Sealed r.bytes r.blocks (r.weight + 1))
-        (Sealed r.bytes r.blocks r.weight) h.depot.free r.message (λ e. cc) r.after in
+    (Sealed r.bytes r.blocks r.weight) h.depot.free r.message (λ e. cc) r.after in
     let less = holds_fewer bound st.lane.holds i st.sealed.key st.copy.hold in
     let lanes = sum_set (steps_of_lane bound) h.lanes k st.lane
-        (with_heard (without_copy st.lane i st.t st.sealed) (own_slip k st.sealed.number st.sealed.offered m)) st.is in
+    (with_heard (without_copy st.lane i st.t st.sealed) (own_slip k st.sealed.number st.sealed.offered m)) st.is in
     subst (Left blocks room bound h) (sym st.after) (omega (arith, slots, less, lanes))
 lowers blocks room bound h (Collect k) new s st o b =
     let below = slice_get_within st.lane.slips st.lane.collected st.slip st.oldest in
@@ -201,38 +264,45 @@ lowers blocks room bound h (Take w) new s st o b =
     let over = is_over_quota h st.box st.post.note in
     let boxes = sum_set (steps_of_box h) h.boxes w st.box (with_taken st.box st.post over) st.is in
     subst (Left blocks room bound h) (sym st.after)
-        (omega (arith, boxes, free_hand_by h st.box st.free_hand, waiting_take h st.box st.post st.oldest, taken_less h st.post over))
+    (omega (arith, boxes, free_hand_by h st.box st.free_hand, waiting_take h st.box st.post st.oldest, taken_less h st.post over))
 lowers blocks room bound h (Write w bytes) new s st o b =
     let next : Copy = record st.copy { written = st.copy.written + length bytes } in
     let len : size h st.copy.post.note - st.copy.written ≡ length bytes + length st.more =
-        sym (length-drop st.copy.written _) ∙ ap length st.next ∙ length-append bytes st.more in
+    sym (length-drop st.copy.written _) ∙ ap length st.next ∙ length-append bytes st.more in
     let boxes = sum_set (steps_of_box h) h.boxes w st.box (record st.box { spool = st.box.spool ++ bytes; hand = Some next }) st.is in
     subst (Left blocks room bound h) (sym st.after)
-    (omega (arith, boxes, in_hand_by h st.box st.copy st.in_hand, unsettled_steps h st.copy st.held st.unsettled, unsettled_steps h next st.held st.unsettled,
-        len, b))
+    (omega (
+      arith,
+      boxes,
+      in_hand_by h st.box st.copy st.in_hand,
+      unsettled_steps h st.copy st.held st.unsettled,
+      unsettled_steps h next st.held st.unsettled,
+      len,
+      b,
+    ))
 lowers blocks room bound h (Sync w) new s st o b =
     let boxes = sum_set (steps_of_box h) h.boxes w st.box (record st.box { settled = st.box.settled + 1; hand = Some (record st.copy { synced = true }) })
-        st.is in
+    st.is in
     let now : steps_in_hand h (Some (record st.copy { synced = true })) ≡ 3 = rw (st.held) refl in
     subst (Left blocks room bound h) (sym st.after)
-        (omega (arith, boxes, in_hand_by h st.box st.copy st.in_hand, unsettled_steps h st.copy st.held st.unsettled, now))
+    (omega (arith, boxes, in_hand_by h st.box st.copy st.in_hand, unsettled_steps h st.copy st.held st.unsettled, now))
 lowers blocks room bound h (Release w) new s st o b =
     let r = st.releases in
     let slots = held_changes (steps_of_slot blocks room bound) h.depot st.depot st.copy.post.key (Sealed r.bytes r.blocks (r.weight + 1))
-        (Sealed r.bytes r.blocks r.weight) h.depot.free r.message (λ e. cc) r.after in
+    (Sealed r.bytes r.blocks r.weight) h.depot.free r.message (λ e. cc) r.after in
     let boxes = sum_set (steps_of_box h) h.boxes w st.box
-        (record st.box { faulty = st.box.faulty || not (is_settled st.copy); hand = Some (record st.copy { released = true }) }) st.is in
+    (record st.box { faulty = st.box.faulty || not (is_settled st.copy); hand = Some (record st.copy { released = true }) }) st.is in
     subst (Left blocks room bound h) (sym st.after) (omega (arith, slots, boxes, in_hand_by h st.box st.copy st.in_hand, held_more h st.copy st.held))
 lowers blocks room bound h (GiveSlip w outcome) new s st o b =
     let len = length-append st.lane.slips (slip_of w st.copy.post.note (outcome_of st.copy) ∷ []) in
     let lanes = sum_set (steps_of_lane bound) h.lanes st.copy.post.note.txn.lane st.lane
-        (record st.lane { slips = st.lane.slips ++ slip_of w st.copy.post.note (outcome_of st.copy) ∷ [] }) st.to in
+    (record st.lane { slips = st.lane.slips ++ slip_of w st.copy.post.note (outcome_of st.copy) ∷ [] }) st.to in
     let boxes = sum_set (steps_of_box h) h.boxes w st.box (record st.box { hand = None }) st.is in
     subst (Left blocks room bound h) (sym st.after)
-        (omega (arith, len, lanes, boxes, in_hand_by h st.box st.copy st.in_hand, released_steps h st.copy st.let_go))
+    (omega (arith, len, lanes, boxes, in_hand_by h st.box st.copy st.in_hand, released_steps h st.copy st.let_go))
 lowers blocks room bound h (Reclaim slot generation) new s st o b =
     let slots = held_goes (steps_of_slot blocks room bound) refl refl h.depot (record { slot = slot; generation = generation }) (λ x y. Sealed x y 0) st.0 st.1
-        (λ x y e. cc) in
+    (λ x y e. cc) in
     subst (Left blocks room bound h) (sym st.2) (omega (arith, slots))
 lowers blocks room bound h (Close m) new s st o b =
     let open' : ◌≡◌ {A = ℕ} (if st.0.closed then 0 else 1) 1 = rw (st.2) refl in

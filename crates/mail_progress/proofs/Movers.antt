@@ -1,6 +1,39 @@
 -- In an orderly run whatever is under way is moved.
-use Rattle.std.proofs.Common.{◌≡◌, ◌≢◌, ◌⊎◌, ℕ, zero, suc, ◌+◌, ◌-◌, ◌<◌, ◌≤◌, List, [], ◌∷◌, ◌++◌, length, drop, map, Bool, true, false, ◌||◌, Option, Some,
-    None, inl, inr, refl, ap, sym, ◌∙◌, subst, arith, append-nil}
+use Rattle.std.proofs.Common.{
+  ◌≡◌,
+  ◌≢◌,
+  ◌⊎◌,
+  ℕ,
+  zero,
+  suc,
+  ◌+◌,
+  ◌-◌,
+  ◌<◌,
+  ◌≤◌,
+  List,
+  [],
+  ◌∷◌,
+  ◌++◌,
+  length,
+  drop,
+  map,
+  Bool,
+  true,
+  false,
+  ◌||◌,
+  Option,
+  Some,
+  None,
+  inl,
+  inr,
+  refl,
+  ap,
+  sym,
+  ◌∙◌,
+  subst,
+  arith,
+  append-nil,
+}
 use Rattle.std.specs.Prelude.{slice_get, flat_map, IfSome, sum_by, count_by, find, option_map, nat_lt, cond}
 use Rattle.std.specs.List.{list_any, range_with_len}
 use Rattle.std.proofs.lemmas.List.Sums.{sum_by-append}
@@ -26,8 +59,24 @@ use Rattle.mail_world.proofs.Depots.{times-append}
 use Rattle.mail_world.proofs.Once.{is_copy}
 use Rattle.mail_world.proofs.OtherSteps.{there_is}
 use Rattle.mail_progress.specs.Orderly.{uncollected, not_taken, on_way}
-use Rattle.mail_progress.specs.NothingStuck.{Mover, AnyHolder, IsMovedBy, TheLane, TheWorker, LaneOrWorker, HasToOffer, IsOpenAndFull, IsAtWork, HasHold,
-    IsHolder, HasCopyFor, AreThere, AreClosed, NothingIsStuck, NothingIsStuckWhenClosed}
+use Rattle.mail_progress.specs.NothingStuck.{
+  Mover,
+  AnyHolder,
+  IsMovedBy,
+  TheLane,
+  TheWorker,
+  LaneOrWorker,
+  HasToOffer,
+  IsOpenAndFull,
+  IsAtWork,
+  HasHold,
+  IsHolder,
+  HasCopyFor,
+  AreThere,
+  AreClosed,
+  NothingIsStuck,
+  NothingIsStuckWhenClosed,
+}
 use Rattle.mail_progress.proofs.Within.{to_give}
 use Rattle.mail_progress.proofs.Found.{found_in}
 use Rattle.mail_progress.proofs.Kept.{capacity_run}
@@ -79,8 +128,20 @@ write_moves room blocks next h f w box copy at hand held unsettled sound [] e =
       by = refl;
       goes_on = tt;
       in_order = tt;
-      happens = (_, record { box = box; copy = copy; is = at; in_hand = hand; sound = sound; held = held; unsettled = unsettled; whole = omega arith;
-          after = refl });
+      happens = (
+        _,
+        record {
+          box = box;
+          copy = copy;
+          is = at;
+          in_hand = hand;
+          sound = sound;
+          held = held;
+          unsettled = unsettled;
+          whole = omega arith;
+          after = refl;
+        },
+      );
     }
 write_moves room blocks next h f w box copy at hand held unsettled sound (x ∷ xs) e =
     let P : Copy → Type 0 = λ c. drop c.written (record_of h.calendar h.host c.post.note) ≡ x ∷ xs in
@@ -90,8 +151,22 @@ write_moves room blocks next h f w box copy at hand held unsettled sound (x ∷ 
       by = refl;
       goes_on = (omega arith, subst (λ o. IfSome o (λ (b : Box). IfSome b.hand P)) (sym at) in_hand);
       in_order = tt;
-      happens = (_, record { box = box; copy = copy; more = []; is = at; in_hand = hand; sound = sound; held = held; unsettled = unsettled; next = e
-          ∙ sym (append-nil (x ∷ xs)); after = refl });
+      happens = (
+        _,
+        record {
+          box = box;
+          copy = copy;
+          more = [];
+          is = at;
+          in_hand = hand;
+          sound = sound;
+          held = held;
+          unsettled = unsettled;
+          next = e
+              ∙ sym (append-nil (x ∷ xs));
+          after = refl;
+        },
+      );
     }
 
 held_moves : (room blocks : ℕ) (next : ℕ → ℕ) (h : House) → IsReached room blocks h → (w : ℕ) (box : Box) (copy : Copy) → BoxIs h w box → box.hand ≡ Some copy
@@ -116,8 +191,13 @@ unfoldable pub take_moves : (room : ℕ) (next : ℕ → ℕ) (h : House) (w : �
     → IsMovedBy (TheWorker w) room next h
 take_moves room next h w box at some e =
     let oldest = there_is box.accepted box.taken some in
-    record { event = Take w; by = refl; goes_on = tt; in_order = tt;
-        happens = (_, record { box = box; post = oldest.0; is = at; free_hand = e; oldest = oldest.1; after = refl }) }
+    record {
+      event = Take w;
+      by = refl;
+      goes_on = tt;
+      in_order = tt;
+      happens = (_, record { box = box; post = oldest.0; is = at; free_hand = e; oldest = oldest.1; after = refl });
+    }
 
 accepted_by : (room blocks : ℕ) (next : ℕ → ℕ) (h : House) → IsReached room blocks h → (w : ℕ) (box : Box) → BoxIs h w box → box.taken < length box.accepted
     → (hand : Option Copy) → box.hand ≡ hand → IsMovedBy (TheWorker w) room next h
@@ -133,9 +213,14 @@ unfoldable pub split_moves : (room : ℕ) (next : ℕ → ℕ) (h : House) (k i 
     → 2 ≤ hold.weight → IsMovedBy (TheLane k) room next h
 split_moves room next h k i lane hold at there heavy =
     let its : slice_get lane.holds i ≡ Some (record { key = hold.key; weight = hold.weight - 1 + 1 }) =
-        there ∙ ap (λ m. let x : Hold = record { key = hold.key; weight = m } in Some x) (let s : hold.weight ≡ hold.weight - 1 + 1 = omega arith in s) in
-    record { event = Split k i; by = refl; goes_on = tt; in_order = tt;
-        happens = (_, record { lane = lane; key = hold.key; weight = hold.weight - 1; is = at; hold = its; above = omega arith; after = refl }) }
+    there ∙ ap (λ m. let x : Hold = record { key = hold.key; weight = m } in Some x) (let s : hold.weight ≡ hold.weight - 1 + 1 = omega arith in s) in
+    record {
+      event = Split k i;
+      by = refl;
+      goes_on = tt;
+      in_order = tt;
+      happens = (_, record { lane = lane; key = hold.key; weight = hold.weight - 1; is = at; hold = its; above = omega arith; after = refl });
+    }
 
 unfoldable pub offer_moves : (room blocks : ℕ) (next : ℕ → ℕ) (h : House) → IsReached room blocks h → 1 ≤ h.capacity
     → (k : ℕ) (lane : Lane) (hold : Hold) (box : Box) → LaneIs h k lane → slice_get lane.holds 0 ≡ Some hold → hold.weight ≡ 1
@@ -143,10 +228,17 @@ unfoldable pub offer_moves : (room blocks : ℕ) (next : ℕ → ℕ) (h : House
 offer_moves room blocks next h f c k lane hold box at there one channel opened low =
     let of = each_at _ lane.holds 0 hold (f.holds.of_lanes k lane at) there in
     let m : SealedMessage = of.message in
-    let note : Note = record { txn = record { lane = k; number = m.number }; place = m.offered; mailbox = next k; sender = []; client = []; moment = 0;
-        message = m.message } in
+    let note : Note = record {
+      txn = record { lane = k; number = m.number };
+      place = m.offered;
+      mailbox = next k;
+      sender = [];
+      client = [];
+      moment = 0;
+      message = m.message;
+    } in
     let its : slice_get lane.holds 0 ≡ Some (record { key = hold.key; weight = 1 }) =
-        there ∙ ap (λ n. let x : Hold = record { key = hold.key; weight = n } in Some x) one in
+    there ∙ ap (λ n. let x : Hold = record { key = hold.key; weight = n } in Some x) one in
     let message : slice_get lane.messages of.place ≡ Some (record { number = m.number; key = hold.key; message = m.message; offered = m.offered }) =
     of.is ∙ ap (λ key. let x : SealedMessage = record { number = m.number; key = key; message = m.message; offered = m.offered } in Some x) (sym of.key) in
     let below : not_taken box < h.capacity = omega arith in
@@ -155,16 +247,36 @@ offer_moves room blocks next h f c k lane hold box at there one channel opened l
       by = refl;
       goes_on = refl;
       in_order = subst (λ o. IfSome o (λ (b : Box). not_taken b < h.capacity)) (sym channel) below;
-      happens = (_, record { lane = lane; box = box; at = 0; t = of.place; key = hold.key; is = at; copy = record { hold = its; is = message }; own = refl;
-          channel = channel; still_open = opened; room = low; after = refl });
+      happens = (
+        _,
+        record {
+          lane = lane;
+          box = box;
+          at = 0;
+          t = of.place;
+          key = hold.key;
+          is = at;
+          copy = record { hold = its; is = message };
+          own = refl;
+          channel = channel;
+          still_open = opened;
+          room = low;
+          after = refl;
+        },
+      );
     }
 
 unfoldable pub back_moves : (room blocks : ℕ) (next : ℕ → ℕ) (h : House) → IsReached room blocks h → (k : ℕ) (lane : Lane) (hold : Hold) (box : Box)
     → LaneIs h k lane → slice_get lane.holds 0 ≡ Some hold → hold.weight ≡ 1
     → BoxIs h (next k) box → box.closed ≡ true → IsMovedBy (TheLane k) room next h
 back_moves room blocks next h f k lane hold box at there one channel closed =
-    record { event = HandBack k 0 (next k); by = refl; goes_on = (refl, (box, channel, closed)); in_order = tt;
-        happens = f.backs k (next k) lane hold at there one }
+    record {
+      event = HandBack k 0 (next k);
+      by = refl;
+      goes_on = (refl, (box, channel, closed));
+      in_order = tt;
+      happens = f.backs k (next k) lane hold at there one;
+    }
 
 pub low_or_full : (a b : ℕ) → (a < b) ⊎ (b ≤ a)
 low_or_full a b = grind arith
@@ -303,9 +415,22 @@ reclaim_moves room next h i slot bytes its at e =
       by = refl;
       goes_on = tt;
       in_order = tt;
-      happens = (_, (given_back h.depot key (its ++ h.depot.free),
-          record { bytes = bytes; blocks = its; free = its ++ h.depot.free; message = under h i slot at
-          ∙ e; given = λ x. times-append x its h.depot.free; after = refl }, refl));
+      happens = (
+        _,
+        (
+          given_back h.depot key (its ++ h.depot.free),
+          record {
+            bytes = bytes;
+            blocks = its;
+            free = its ++ h.depot.free;
+            message = under h i slot at
+                ∙ e;
+            given = λ x. times-append x its h.depot.free;
+            after = refl;
+          },
+          refl,
+        ),
+      );
     }
 
 sealed_by : (Movers : ℕ → Mover → Type 0) (room blocks : ℕ) (next : ℕ → ℕ) (h : House) → IsReached room blocks h → OffersMove Movers room next h
@@ -333,7 +458,7 @@ sealed_by Movers room blocks next h f offers i slot bytes its (suc weight) at e 
         | inr no_box ↦
             let sum : weight_of key (holds_of h) ≡ weight_under h.depot key = f.holds.sum key in
             let parts : weight_of key (holds_of h) ≡ sum_by g (flat_map lanes h.lanes) + sum_by g (flat_map boxes h.boxes) =
-                sum_by-append g (flat_map lanes h.lanes) (flat_map boxes h.boxes) in
+            sum_by-append g (flat_map lanes h.lanes) (flat_map boxes h.boxes) in
             absurd (omega arith)
       ]
     ]
@@ -377,12 +502,12 @@ no_answer k d lane boxes p s answered for_last idle all none at (t ∷ ts) e =
     let given = s.given z.1.number p in
     let some = count_some (is_given z.1.number p) lane.messages z.0 z.1 is (given_there z.1 p (omega arith)) in
     let no_slips : times_named (txn_of k z.1.number) p (drop lane.collected lane.slips) ≡ 0 =
-        ap (times_named (txn_of k z.1.number) p) (drop_all lane.collected lane.slips all) in
+    ap (times_named (txn_of k z.1.number) p) (drop_all lane.collected lane.slips all) in
     let no_way : way_at k z.1.number p boxes ≡ 0 =
-        subst (λ txn. sum_by (λ (post : Post). cond (is_copy txn p post.note) 1 0) (flat_map on_way boxes) ≡ 0) (for_last z.0 z.1 is top) none in
+    subst (λ txn. sum_by (λ (post : Post). cond (is_copy txn p post.note) 1 0) (flat_map on_way boxes) ≡ 0) (for_last z.0 z.1 is top) none in
     let empty : answer lane.gather.txn lane.heard p ≡ None =
-        ap (answer lane.gather.txn lane.heard) (let z : p ≡ 0 + p = omega arith in z)
-        ∙ nth_of (answer lane.gather.txn lane.heard) 0 (length lane.gather.places) p None (ap (λ xs. slice_get xs p) (sym answered) ∙ at) in
+    ap (answer lane.gather.txn lane.heard) (let z : p ≡ 0 + p = omega arith in z)
+    ∙ nth_of (answer lane.gather.txn lane.heard) 0 (length lane.gather.places) p None (ap (λ xs. slice_get xs p) (sym answered) ∙ at) in
     let its : answer (txn_of k z.1.number) lane.heard p ≡ None = subst (λ txn. answer txn lane.heard p ≡ None) (for_last z.0 z.1 is top) empty in
     let unheard = none_found (names (txn_of k z.1.number) p) lane.heard its in
     absurd (omega arith)

@@ -12,8 +12,24 @@ use Rattle.mail_world.specs.Events.{Step}
 use Rattle.mail_world.specs.Runs.{Happened, Run}
 use Rattle.mail_world.specs.Rows.{calendar, site}
 use Rattle.mail_world.proofs.Computed.{everything}
-use Rattle.mail_world.proofs.OneHouse.{bytes, key, just_taken, lane₀, box₀, free_slot, with_draft, with_bytes, with_message, then', each_once, starts, fresh,
-    begins, puts, seals}
+use Rattle.mail_world.proofs.OneHouse.{
+  bytes,
+  key,
+  just_taken,
+  lane₀,
+  box₀,
+  free_slot,
+  with_draft,
+  with_bytes,
+  with_message,
+  then',
+  each_once,
+  starts,
+  fresh,
+  begins,
+  puts,
+  seals,
+}
 use Rattle.mail_world.proofs.OneHouse as one_house
 use Rattle.mail_progress.specs.Orderly.{IsOrderly}
 use Rattle.mail_progress.specs.GoingOn.{StandsStill}
@@ -129,9 +145,9 @@ abbrev pub run : List Happened
 run =
     then' (Begin 0) house₁ ∷ then' (Put 0 bytes) house₂
     ∷ then' (Seal 0 4) house₃ ∷ then' (Split 0 0) house₄ ∷ then' (Split 0 0) house₅ ∷ then' (Split 0 0) house₆ ∷ then' (Offer 0 (note 0)) house₇
-        ∷ then' (Take 0) house₈ ∷ then' (Write 0 text) house₉ ∷ then' (Sync 0) house₁₀ ∷ then' (Release 0) house₁₁ ∷ then' (GiveSlip 0 Stored) house₁₂
-        ∷ then' (Offer 0 (note 1)) house₁₃ ∷ then' (Take 0) house₁₄ ∷ then' (Write 0 text) house₁₅ ∷ then' (Sync 0) house₁₆ ∷ then' (Release 0) house₁₇
-        ∷ then' (Offer 0 (note 2)) house₁₈ ∷ []
+    ∷ then' (Take 0) house₈ ∷ then' (Write 0 text) house₉ ∷ then' (Sync 0) house₁₀ ∷ then' (Release 0) house₁₁ ∷ then' (GiveSlip 0 Stored) house₁₂
+    ∷ then' (Offer 0 (note 1)) house₁₃ ∷ then' (Take 0) house₁₄ ∷ then' (Write 0 text) house₁₅ ∷ then' (Sync 0) house₁₆ ∷ then' (Release 0) house₁₇
+    ∷ then' (Offer 0 (note 2)) house₁₈ ∷ []
 
 pub it_starts : IsStart 2 start
 it_starts = starts 1 None (free_slot ∷ []) (record { held = refl; generation = lit≤ tt }, tt) each_once
@@ -151,8 +167,20 @@ step₆ = record { lane = lane (of_weight 2 ∷ one ∷ one ∷ []) 0 ([]); key 
 
 step₇ : Step house₆ (Offer 0 (note 0)) house₇
 unfolding everything
-step₇ = record { lane = lane (one ∷ one ∷ one ∷ one ∷ []) 0 ([]); box = box₀; at = 0; t = 0; key = key; is = refl; copy = record { hold = refl; is = refl };
-    own = refl; channel = refl; still_open = refl; room = lit< tt; after = refl }
+step₇ = record {
+  lane = lane (one ∷ one ∷ one ∷ one ∷ []) 0 ([]);
+  box = box₀;
+  at = 0;
+  t = 0;
+  key = key;
+  is = refl;
+  copy = record { hold = refl; is = refl };
+  own = refl;
+  channel = refl;
+  still_open = refl;
+  room = lit< tt;
+  after = refl;
+}
 
 step₈ : Step house₇ (Take 0) house₈
 unfolding everything
@@ -160,28 +188,76 @@ step₈ = record { box = channel (post 0 ∷ []) 0 0 []; post = post 0; is = ref
 
 step₉ : Step house₈ (Write 0 text) house₉
 unfolding everything
-step₉ = record { box = holding (channel (post 0 ∷ []) 1 0 []) (just_taken (post 0)); copy = just_taken (post 0); more = []; is = refl; in_hand = refl;
-    sound = refl; held = refl; unsettled = refl; next = refl; after = refl }
+step₉ = record {
+  box = holding (channel (post 0 ∷ []) 1 0 []) (just_taken (post 0));
+  copy = just_taken (post 0);
+  more = [];
+  is = refl;
+  in_hand = refl;
+  sound = refl;
+  held = refl;
+  unsettled = refl;
+  next = refl;
+  after = refl;
+}
 
 step₁₀ : Step house₉ (Sync 0) house₁₀
 unfolding everything
-step₁₀ = record { box = holding (channel (post 0 ∷ []) 1 0 text) (written 0); copy = written 0; is = refl; in_hand = refl; sound = refl; held = refl;
-    unsettled = refl; whole = refl; after = refl }
+step₁₀ = record {
+  box = holding (channel (post 0 ∷ []) 1 0 text) (written 0);
+  copy = written 0;
+  is = refl;
+  in_hand = refl;
+  sound = refl;
+  held = refl;
+  unsettled = refl;
+  whole = refl;
+  after = refl;
+}
 
 step₁₁ : Step house₁₀ (Release 0) house₁₁
 unfolding everything
-step₁₁ = record { box = holding (channel (post 0 ∷ []) 1 1 text) (synced 0); copy = synced 0; depot = house₁₁.depot; is = refl; in_hand = refl; held = refl;
-    releases = record { bytes = bytes; blocks = 0 ∷ []; weight = 3; message = refl; after = refl }; after = refl }
+step₁₁ = record {
+  box = holding (channel (post 0 ∷ []) 1 1 text) (synced 0);
+  copy = synced 0;
+  depot = house₁₁.depot;
+  is = refl;
+  in_hand = refl;
+  held = refl;
+  releases = record { bytes = bytes; blocks = 0 ∷ []; weight = 3; message = refl; after = refl };
+  after = refl;
+}
 
 step₁₂ : Step house₁₁ (GiveSlip 0 Stored) house₁₂
 unfolding everything
-step₁₂ = record { box = holding (channel (post 0 ∷ []) 1 1 text) (released 0); copy = released 0; lane = lane (one ∷ one ∷ one ∷ []) 1 ([]); is = refl;
-    in_hand = refl; let_go = refl; says = refl; to = refl; after = refl }
+step₁₂ = record {
+  box = holding (channel (post 0 ∷ []) 1 1 text) (released 0);
+  copy = released 0;
+  lane = lane (one ∷ one ∷ one ∷ []) 1 ([]);
+  is = refl;
+  in_hand = refl;
+  let_go = refl;
+  says = refl;
+  to = refl;
+  after = refl;
+}
 
 step₁₃ : Step house₁₂ (Offer 0 (note 1)) house₁₃
 unfolding everything
-step₁₃ = record { lane = lane (one ∷ one ∷ one ∷ []) 1 (slip ∷ []); box = channel (post 0 ∷ []) 1 1 text; at = 0; t = 0; key = key; is = refl;
-    copy = record { hold = refl; is = refl }; own = refl; channel = refl; still_open = refl; room = lit< tt; after = refl }
+step₁₃ = record {
+  lane = lane (one ∷ one ∷ one ∷ []) 1 (slip ∷ []);
+  box = channel (post 0 ∷ []) 1 1 text;
+  at = 0;
+  t = 0;
+  key = key;
+  is = refl;
+  copy = record { hold = refl; is = refl };
+  own = refl;
+  channel = refl;
+  still_open = refl;
+  room = lit< tt;
+  after = refl;
+}
 
 step₁₄ : Step house₁₃ (Take 0) house₁₄
 unfolding everything
@@ -189,32 +265,83 @@ step₁₄ = record { box = channel (post 0 ∷ post 1 ∷ []) 1 1 text; post = 
 
 step₁₅ : Step house₁₄ (Write 0 text) house₁₅
 unfolding everything
-step₁₅ = record { box = holding (channel (post 0 ∷ post 1 ∷ []) 2 1 text) (just_taken (post 1)); copy = just_taken (post 1); more = []; is = refl;
-    in_hand = refl; sound = refl; held = refl; unsettled = refl; next = refl; after = refl }
+step₁₅ = record {
+  box = holding (channel (post 0 ∷ post 1 ∷ []) 2 1 text) (just_taken (post 1));
+  copy = just_taken (post 1);
+  more = [];
+  is = refl;
+  in_hand = refl;
+  sound = refl;
+  held = refl;
+  unsettled = refl;
+  next = refl;
+  after = refl;
+}
 
 step₁₆ : Step house₁₅ (Sync 0) house₁₆
 unfolding everything
-step₁₆ = record { box = holding (channel (post 0 ∷ post 1 ∷ []) 2 1 (text ++ text)) (written 1); copy = written 1; is = refl; in_hand = refl; sound = refl;
-    held = refl; unsettled = refl; whole = refl; after = refl }
+step₁₆ = record {
+  box = holding (channel (post 0 ∷ post 1 ∷ []) 2 1 (text ++ text)) (written 1);
+  copy = written 1;
+  is = refl;
+  in_hand = refl;
+  sound = refl;
+  held = refl;
+  unsettled = refl;
+  whole = refl;
+  after = refl;
+}
 
 step₁₇ : Step house₁₆ (Release 0) house₁₇
 unfolding everything
-step₁₇ = record { box = holding (channel (post 0 ∷ post 1 ∷ []) 2 2 (text ++ text)) (synced 1); copy = synced 1; depot = house₁₇.depot; is = refl;
-    in_hand = refl; held = refl; releases = record { bytes = bytes; blocks = 0 ∷ []; weight = 2; message = refl; after = refl }; after = refl }
+step₁₇ = record {
+  box = holding (channel (post 0 ∷ post 1 ∷ []) 2 2 (text ++ text)) (synced 1);
+  copy = synced 1;
+  depot = house₁₇.depot;
+  is = refl;
+  in_hand = refl;
+  held = refl;
+  releases = record { bytes = bytes; blocks = 0 ∷ []; weight = 2; message = refl; after = refl };
+  after = refl;
+}
 
 step₁₈ : Step house₁₇ (Offer 0 (note 2)) house₁₈
 unfolding everything
-step₁₈ = record { lane = lane (one ∷ one ∷ []) 2 (slip ∷ []); box = holding (channel (post 0 ∷ post 1 ∷ []) 2 2 (text ++ text)) (released 1); at = 0; t = 0;
-    key = key; is = refl; copy = record { hold = refl; is = refl }; own = refl; channel = refl; still_open = refl; room = lit< tt; after = refl }
+step₁₈ = record {
+  lane = lane (one ∷ one ∷ []) 2 (slip ∷ []);
+  box = holding (channel (post 0 ∷ post 1 ∷ []) 2 2 (text ++ text)) (released 1);
+  at = 0;
+  t = 0;
+  key = key;
+  is = refl;
+  copy = record { hold = refl; is = refl };
+  own = refl;
+  channel = refl;
+  still_open = refl;
+  room = lit< tt;
+  after = refl;
+}
 
 pub it_runs : Run start run
-it_runs = (begins 1 None [], (puts 1 None [],
-    (seals 1 None [] 4 (lit≤ tt), (step₄,
-    (step₅, (step₆, (step₇, (step₈, (step₉, (step₁₀, (step₁₁, (step₁₂, (step₁₃, (step₁₄, (step₁₅, (step₁₆, (step₁₇, (step₁₈, tt))))))))))))))))))
+it_runs = (
+  begins 1 None [],
+  (
+    puts 1 None [],
+    (
+      seals 1 None [] 4 (lit≤ tt),
+      (
+        step₄,
+        (step₅, (step₆, (step₇, (step₈, (step₉, (step₁₀, (step₁₁, (step₁₂, (step₁₃, (step₁₄, (step₁₅, (step₁₆, (step₁₇, (step₁₈, tt)))))))))))))),
+      ),
+    ),
+  ),
+)
 
 pub it_is_orderly : IsOrderly 4 start run
-it_is_orderly = (record { given_away = refl; answered = tt },
-    (tt, (lit≤ tt, (tt, (tt, (tt, (lit< tt, (tt, (tt, (tt, (tt, (lit< tt, (lit< tt, (tt, (tt, (tt, (tt, (lit< tt, tt))))))))))))))))))
+it_is_orderly = (
+  record { given_away = refl; answered = tt },
+  (tt, (lit≤ tt, (tt, (tt, (tt, (lit< tt, (tt, (tt, (tt, (tt, (lit< tt, (lit< tt, (tt, (tt, (tt, (tt, (lit< tt, tt))))))))))))))))),
+)
 
 pub it_stands : StandsStill 1 house₁₈
 it_stands = stands 1 house₁₈ (record {
@@ -248,5 +375,10 @@ it_remains = record {
 }
 
 pub it_has_released : HasReleased house₁₈
-it_has_released = record { box = holding (channel (post 0 ∷ post 1 ∷ post 2 ∷ []) 2 2 (text ++ text)) (released 1); copy = released 1; box_is = refl;
-    in_hand = refl; released = refl }
+it_has_released = record {
+  box = holding (channel (post 0 ∷ post 1 ∷ post 2 ∷ []) 2 2 (text ++ text)) (released 1);
+  copy = released 1;
+  box_is = refl;
+  in_hand = refl;
+  released = refl;
+}

@@ -2,8 +2,23 @@
 use Rattle.std.proofs.Common.{◌≡◌, ◌≢◌, ℕ, suc, ◌+◌, List, [], ◌∷◌, ◌++◌, Bool, true, false, cond, Some, None, inl, inr, refl, ap, sym, ◌∙◌, subst}
 use Rattle.std.specs.Prelude.{slice_get, slice_set, flat_map, nat_lt}
 use Rattle.mail_world.specs.declared.Event.{Event}
-use Rattle.mail_world.specs.declared.Event.TheVariants.{Begin, Put, Cancel, Seal, Split, Offer, HandBack, Collect, Take, Write, Sync, Release, GiveSlip,
-    Reclaim, Close}
+use Rattle.mail_world.specs.declared.Event.TheVariants.{
+  Begin,
+  Put,
+  Cancel,
+  Seal,
+  Split,
+  Offer,
+  HandBack,
+  Collect,
+  Take,
+  Write,
+  Sync,
+  Release,
+  GiveSlip,
+  Reclaim,
+  Close,
+}
 use Rattle.mail_world.specs.Depot.{Key, Depot, Slot, Held, Free, Draft, Sealed, Retired, with_held, last_generation, GivesBack, blocks_of}
 use Rattle.mail_world.specs.House.{Lane, House, IsFreshSlot, IsStart}
 use Rattle.mail_world.specs.Events.{Step}
@@ -81,21 +96,21 @@ owned_step h (Begin k) new s st =
     let next : Lane = record st.lane { number = st.number; draft = Some st.key } in
     subst AllOwned (sym st.after)
     (owned_draft h.depot st.depot st.key (Draft [] []) h.depot.free h.lanes (slice_set h.lanes k next) st.begins.1
-        (k, next, set_at h.lanes k next st.lane st.is, refl)
+    (k, next, set_at h.lanes k next st.lane st.is, refl)
     (λ its o. owner_other h.lanes k st.lane next its st.is (λ h. let bad : None ≡ Some its = sym st.no_draft ∙ h in absurd (let f : ⊥ = cc in f)) o) s)
 owned_step h (Put k bytes) new s st =
     let p = st.puts in
     subst AllOwned (sym st.after) (owned_draft h.depot st.depot st.key (Draft (p.bytes ++ bytes) (p.blocks ++ p.picked)) p.rest h.lanes h.lanes p.after
-        (k, st.lane, st.is, st.draft) (λ its o. o) s)
+    (k, st.lane, st.is, st.draft) (λ its o. o) s)
 owned_step h (Cancel k) new s st =
     subst AllOwned (sym st.after)
     (owned_drop h.depot st.depot st.key.slot h.lanes _ (drops_back h.depot st.key Draft st.depot st.cancels)
     (λ its ne o. owner_other h.lanes k st.lane (record st.lane { draft = None }) its st.is
-        (λ h. absurd (ne (ap (λ (x : Key). x.slot) (same_some st.lane.draft its st.key h st.draft)))) o) s)
+    (λ h. absurd (ne (ap (λ (x : Key). x.slot) (same_some st.lane.draft its st.key h st.draft)))) o) s)
 owned_step h (Seal k n) new s st =
     subst AllOwned (sym st.after)
     (owned_drop h.depot st.depot st.key.slot h.lanes _
-        (drops_to h.depot st.depot st.key (Sealed st.seals.bytes st.seals.blocks n) h.depot.free st.seals.after (λ bytes blocks e. cc))
+    (drops_to h.depot st.depot st.key (Sealed st.seals.bytes st.seals.blocks n) h.depot.free st.seals.after (λ bytes blocks e. cc))
     (λ its ne o. owner_other h.lanes k st.lane _ its st.is (λ h. absurd (ne (ap (λ (x : Key). x.slot) (same_some st.lane.draft its st.key h st.draft)))) o) s)
 owned_step h (Split k i) new s st = subst AllOwned (sym st.after) (owned_lane h.depot h.lanes k st.lane _ st.is refl s)
 owned_step h (Offer k note) new s st = subst AllOwned (sym st.after) (owned_lane h.depot h.lanes k st.lane _ st.is refl s)
@@ -103,7 +118,7 @@ owned_step h (HandBack k i m) new s st =
     let r = st.releases in
     subst AllOwned (sym st.after)
     (owned_drop h.depot st.depot st.sealed.key.slot h.lanes _
-        (drops_to h.depot st.depot st.sealed.key (Sealed r.bytes r.blocks r.weight) h.depot.free r.after (λ bytes blocks e. cc))
+    (drops_to h.depot st.depot st.sealed.key (Sealed r.bytes r.blocks r.weight) h.depot.free r.after (λ bytes blocks e. cc))
     (λ its ne o. owner_other h.lanes k st.lane _ its st.is (λ h. h) o) s)
 owned_step h (Collect k) new s st = subst AllOwned (sym st.after) (owned_lane h.depot h.lanes k st.lane _ st.is refl s)
 owned_step h (Take w) new s st = subst AllOwned (sym st.after) s
@@ -113,12 +128,12 @@ owned_step h (Release w) new s st =
     let r = st.releases in
     subst AllOwned (sym st.after)
     (owned_drop h.depot st.depot st.copy.post.key.slot h.lanes h.lanes
-        (drops_to h.depot st.depot st.copy.post.key (Sealed r.bytes r.blocks r.weight) h.depot.free r.after (λ bytes blocks e. cc)) (λ its ne o. o) s)
+    (drops_to h.depot st.depot st.copy.post.key (Sealed r.bytes r.blocks r.weight) h.depot.free r.after (λ bytes blocks e. cc)) (λ its ne o. o) s)
 owned_step h (GiveSlip w o) new s st = subst AllOwned (sym st.after) (owned_lane h.depot h.lanes st.copy.post.note.txn.lane st.lane _ st.to refl s)
 owned_step h (Reclaim slot generation) new s st =
     subst AllOwned (sym st.2)
     (owned_drop h.depot st.0 slot h.lanes h.lanes
-        (drops_back h.depot (record { slot = slot; generation = generation }) (λ b blocks. Sealed b blocks 0) st.0 st.1) (λ its ne o. o) s)
+    (drops_back h.depot (record { slot = slot; generation = generation }) (λ b blocks. Sealed b blocks 0) st.0 st.1) (λ its ne o. o) s)
 owned_step h (Close b) new s st = subst AllOwned (sym st.3) s
 
 owned_run : (h : House) (run : List Happened) → AllOwned h → Run h run → AllOwned (last_house h run)
@@ -136,7 +151,7 @@ pub none_in_use : (slots : List Slot) → ((i : ℕ) (slot : Slot) (bytes blocks
 none_in_use [] f g = refl
 none_in_use (x ∷ slots) f g =
     let rest = none_in_use slots (λ i slot bytes blocks at. f (suc i) slot bytes blocks at)
-        (λ i slot bytes blocks weight at. g (suc i) slot bytes blocks weight at) in
+    (λ i slot bytes blocks weight at. g (suc i) slot bytes blocks weight at) in
     by x.held refl rest
   where
     by : (held : Held) → x.held ≡ held → flat_map (λ (slot : Slot). blocks_of slot.held) slots ≡ []

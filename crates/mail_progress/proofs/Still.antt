@@ -3,8 +3,23 @@ use Rattle.std.proofs.Common.{◌≡◌, ◌⊎◌, ℕ, zero, suc, ◌+◌, ◌
 use Rattle.std.specs.Prelude.{slice_get, IfSome}
 use Rattle.std.proofs.lemmas.Option.{slice_get_within}
 use Rattle.mail_world.specs.declared.Event.{Event}
-use Rattle.mail_world.specs.declared.Event.TheVariants.{Begin, Put, Cancel, Seal, Split, Offer, HandBack, Collect, Take, Write, Sync, Release, GiveSlip,
-    Reclaim, Close}
+use Rattle.mail_world.specs.declared.Event.TheVariants.{
+  Begin,
+  Put,
+  Cancel,
+  Seal,
+  Split,
+  Offer,
+  HandBack,
+  Collect,
+  Take,
+  Write,
+  Sync,
+  Release,
+  GiveSlip,
+  Reclaim,
+  Close,
+}
 use Rattle.mail_world.specs.Depot.{Key, Slot, Sealed}
 use Rattle.mail_world.specs.House.{Hold, Copy, Box, Lane, House}
 use Rattle.mail_world.specs.Events.{Step}
@@ -111,7 +126,7 @@ no_event room h s next (Seal k n) g o new st = no_draft_there room h s k st.lane
 no_event room h s next (Split k i) g o new st =
     let holds : st.lane.holds ≡ record { key = s.key; weight = 1 } ∷ [] = ap (λ (x : Lane). x.holds) (sym (same_lane room h s k st.lane st.is)) ∙ s.one_hold in
     let same = only (record { key = s.key; weight = 1 }) (record { key = st.key; weight = st.weight + 1 }) i
-        (ap (λ hs. slice_get hs i) (sym holds) ∙ st.hold) in
+    (ap (λ hs. slice_get hs i) (sym holds) ∙ st.hold) in
     let one : 1 ≡ st.weight + 1 = ap (λ (x : Hold). x.weight) same in
     let some : 1 ≤ st.weight = st.above in absurd (omega arith)
 no_event room h s next (Offer k note) g o new st =

@@ -1,6 +1,35 @@
 -- In an orderly run each place of a lane's last message has a copy to offer, a copy on its way, a slip to collect, or its answer.
-use Rattle.std.proofs.Common.{◌≡◌, ◌≢◌, ℕ, suc, ◌+◌, ◌≤◌, List, [], ◌∷◌, ◌++◌, length, drop, Bool, cond, ◌&&◌, ◌==◌, Option, Some, None, inl, inr, refl, ap,
-    sym, ◌∙◌, subst, arith, add-one, length-append}
+use Rattle.std.proofs.Common.{
+  ◌≡◌,
+  ◌≢◌,
+  ℕ,
+  suc,
+  ◌+◌,
+  ◌≤◌,
+  List,
+  [],
+  ◌∷◌,
+  ◌++◌,
+  length,
+  drop,
+  Bool,
+  cond,
+  ◌&&◌,
+  ◌==◌,
+  Option,
+  Some,
+  None,
+  inl,
+  inr,
+  refl,
+  ap,
+  sym,
+  ◌∙◌,
+  subst,
+  arith,
+  add-one,
+  length-append,
+}
 use Rattle.std.specs.Prelude.{slice_get, slice_set, flat_map, sum_by, count_by, remove}
 use Rattle.std.specs.List.{AllByRecursion}
 use Rattle.std.proofs.lemmas.Bool.{eq-eqb}
@@ -10,8 +39,23 @@ use Rattle.std.proofs.lemmas.Option.{slice_get_within}
 use Rattle.mail_world.specs.declared.Outcome.{Outcome}
 use Rattle.mail_world.specs.declared.Slip.{Slip}
 use Rattle.mail_world.specs.declared.Event.{Event}
-use Rattle.mail_world.specs.declared.Event.TheVariants.{Begin, Put, Cancel, Seal, Split, Offer, HandBack, Collect, Take, Write, Sync, Release, GiveSlip,
-    Reclaim, Close}
+use Rattle.mail_world.specs.declared.Event.TheVariants.{
+  Begin,
+  Put,
+  Cancel,
+  Seal,
+  Split,
+  Offer,
+  HandBack,
+  Collect,
+  Take,
+  Write,
+  Sync,
+  Release,
+  GiveSlip,
+  Reclaim,
+  Close,
+}
 use Rattle.mail_world.specs.Slips.{Gather, names, times_named, txn_of, gathered, own_slip, slip_of}
 use Rattle.mail_world.specs.Depot.{Key, Depot, Slot, Draft, Sealed, held_under}
 use Rattle.mail_world.specs.House.{Hold, Post, Copy, Box, SealedMessage, Lane, House, IsFreshLane, IsStart}
@@ -95,7 +139,7 @@ tracked_as k d new lane next bs ms f messages holds places prefix told s = recor
   none = rw (messages, places) s.none;
   given = λ number p. let a = s.given number p in let b = told number p in
       let e : count_by (is_given number p) next.messages ≡ count_by (is_given number p) lane.messages = ap (count_by (is_given number p)) messages in
-          omega arith;
+      omega arith;
 }
 
 -- the lanes of a house
@@ -131,9 +175,9 @@ way_offered : (v number p : ℕ) (bs : List Box) (b : ℕ) (old : Box) (post : P
     → way_at v number p (slice_set bs b (record old { accepted = old.accepted ++ post ∷ [] })) ≡ way_at v number p bs + copy_at v number p post
 way_offered v number p bs b old post was prefix =
     let e : sum_by (copy_at v number p) (drop old.taken (old.accepted ++ post ∷ [])) ≡ sum_by (copy_at v number p) (drop old.taken old.accepted)
-        + copy_at v number p post =
+    + copy_at v number p post =
     ap (sum_by (copy_at v number p)) (drop-append-le old.taken old.accepted (post ∷ []) prefix)
-        ∙ sum_last (copy_at v number p) (drop old.taken old.accepted) post in
+    ∙ sum_last (copy_at v number p) (drop old.taken old.accepted) post in
     omega (
       arith,
       way_set v number p bs b old (record old { accepted = old.accepted ++ post ∷ [] }) was,
@@ -147,7 +191,7 @@ way_gave : (v number p : ℕ) (bs : List Box) (w : ℕ) (box : Box) (copy : Copy
 way_gave v number p bs w box copy was hand =
     let e : sum_by (copy_at v number p) (on_way box) ≡ copy_at v number p copy.post + sum_by (copy_at v number p) (drop box.taken box.accepted) =
     ap (λ x. sum_by (copy_at v number p) (post_of x ++ drop box.taken box.accepted)) hand
-        ∙ sum_by-cons (copy_at v number p) copy.post (drop box.taken box.accepted) in
+    ∙ sum_by-cons (copy_at v number p) copy.post (drop box.taken box.accepted) in
     omega (arith, way_set v number p bs w box (record box { hand = None }) was)
 
 not_there : (v k number p : ℕ) (post : Post) → post.note.txn.lane ≡ k → v ≢ k → copy_at v number p post ≡ 0
@@ -251,7 +295,7 @@ seal_tracked k n d new lane next bs key message bytes blocks f draft there idle 
       given = λ number p.
           let a = s.given number p in
           let e : count_by (is_given number p) next.messages ≡ count_by (is_given number p) lane.messages =
-              ap (count_by (is_given number p)) messages ∙ count_sealed lane.messages key lane.number number p message in
+          ap (count_by (is_given number p)) messages ∙ count_sealed lane.messages key lane.number number p message in
           let told : told_at k number p next ≡ told_at k number p lane = rw (slips, count, heard) refl in omega arith;
     }
 
@@ -272,8 +316,11 @@ split_tracked k i w d lane bs key at s =
           record {
             own = all_more P (slice_set lane.holds i rest) one (all_set P lane.holds i rest l.own its) its;
             alone = l.alone;
-            all = omega (arith, sum_set (λ (hold : Hold). hold.weight) lane.holds i (record { key = key; weight = w + 1 }) rest at,
-                sum_last (λ (hold : Hold). hold.weight) (slice_set lane.holds i rest) one);
+            all = omega (
+              arith,
+              sum_set (λ (hold : Hold). hold.weight) lane.holds i (record { key = key; weight = w + 1 }) rest at,
+              sum_last (λ (hold : Hold). hold.weight) (slice_set lane.holds i rest) one,
+            );
           };
       none = s.none;
       given = s.given;
@@ -289,7 +336,7 @@ away_tracked k i at d new lane next bs ms t f hold is messages holds places pref
     let more : SealedMessage = record t { offered = t.offered + 1 } in
     let kept = kept_sealed d new f lane.messages s.sealed in
     let last : AreLast (slice_set lane.messages i more) (remove lane.holds at) (length next.gather.places) =
-        away_last lane.messages lane.holds (length lane.gather.places) (length next.gather.places) i at t hold is places s.last in
+    away_last lane.messages lane.holds (length lane.gather.places) (length next.gather.places) i at t hold is places s.last in
     record {
       sealed = subst (AllByRecursion (IsKeptIn new)) (sym messages)
           (all_set (IsKeptIn new) lane.messages i more kept (each_at (IsKeptIn new) lane.messages i t kept is));
@@ -301,7 +348,7 @@ away_tracked k i at d new lane next bs ms t f hold is messages holds places pref
           let a = s.given number p in
           let b = told number p in
           let e : count_by (is_given number p) next.messages ≡ count_by (is_given number p) (slice_set lane.messages i more) =
-              ap (count_by (is_given number p)) messages in
+          ap (count_by (is_given number p)) messages in
           omega (arith, e, count_given lane.messages i t.key t.number number p t.offered t.message is);
     }
 
@@ -325,41 +372,41 @@ tracked_step room h (Begin k) new w kept s st =
     let boxes = ap (λ (x : House). x.boxes) st.after in
     one_lane h new k st.lane _ (ap (λ (x : House). x.lanes) st.after) st.is f
     (λ t. tracked_as k h.depot new.depot st.lane (record st.lane { number = st.number; draft = Some st.key }) h.boxes new.boxes f refl refl refl t.prefix
-        (λ number p. let a = same_way h.boxes new.boxes boxes k number p in omega arith) t)
+    (λ number p. let a = same_way h.boxes new.boxes boxes k number p in omega arith) t)
     (λ v ne. same_way h.boxes new.boxes boxes v) s
 tracked_step room h (Put k bytes) new w kept s st =
     let f : Keeps h.depot new.depot = subst (λ (x : House). Keeps h.depot x.depot) (sym st.after) (puts_turn h.depot st.key bytes st.depot st.puts).fits in
     no_lane h new (ap (λ (x : House). x.lanes) st.after) f (λ v. same_way h.boxes new.boxes (ap (λ (x : House). x.boxes) st.after) v) s
 tracked_step room h (Cancel k) new w kept s st =
     let f : Keeps h.depot new.depot =
-        subst (λ (x : House). Keeps h.depot x.depot) (sym st.after)
-        (drops_turn h.depot st.key Draft st.depot (λ b blocks. refl) (λ b blocks. refl) (λ b blocks e. cc) st.cancels).fits in
+    subst (λ (x : House). Keeps h.depot x.depot) (sym st.after)
+    (drops_turn h.depot st.key Draft st.depot (λ b blocks. refl) (λ b blocks. refl) (λ b blocks e. cc) st.cancels).fits in
     let boxes = ap (λ (x : House). x.boxes) st.after in
     one_lane h new k st.lane _ (ap (λ (x : House). x.lanes) st.after) st.is f
     (λ t. tracked_as k h.depot new.depot st.lane (record st.lane { draft = None }) h.boxes new.boxes f refl refl refl t.prefix
-        (λ number p. let a = same_way h.boxes new.boxes boxes k number p in omega arith) t)
+    (λ number p. let a = same_way h.boxes new.boxes boxes k number p in omega arith) t)
     (λ v ne. same_way h.boxes new.boxes boxes v) s
 tracked_step room h (Seal k n) new w kept s st =
     let idle : st.lane.holds ≡ [] =
-        no_hold st.lane.holds (each_at (λ (l : Lane). AllByRecursion IsSome l.holds) h.lanes k st.lane kept.lanes st.is)
-        (let p = (w k st.lane st.is).drafting st.key st.draft in omega arith) in
+    no_hold st.lane.holds (each_at (λ (l : Lane). AllByRecursion IsSome l.holds) h.lanes k st.lane kept.lanes st.is)
+    (let p = (w k st.lane st.is).drafting st.key st.draft in omega arith) in
     let f = (seals_turn h.depot st.key n st.depot st.seals).fits in
     subst AllTracked (sym st.after)
     (lane_after h st.depot h.boxes k st.lane _ st.is f
     (λ t. seal_tracked k n h.depot st.depot st.lane _ h.boxes st.key st.seals.bytes st.seals.bytes st.seals.blocks f st.seals.draft
-        (seals_fits h.depot st.key n st.depot st.seals) idle refl refl (length-replicate {A = Option Outcome} n None) refl refl refl t)
+    (seals_fits h.depot st.key n st.depot st.seals) idle refl refl (length-replicate {A = Option Outcome} n None) refl refl refl t)
     (λ v ne. same_way h.boxes h.boxes refl v) s)
 tracked_step room h (Split k i) new w kept s st =
     subst AllTracked (sym st.after)
     (lane_after h h.depot h.boxes k st.lane _ st.is (same_depot h.depot) (λ t. split_tracked k i st.weight h.depot st.lane h.boxes st.key st.hold t)
-        (λ v ne. same_way h.boxes h.boxes refl v) s)
+    (λ v ne. same_way h.boxes h.boxes refl v) s)
 tracked_step room h (Offer k note) new w kept s st =
     let post : Post = record { note = note; key = st.key } in
     let t : SealedMessage = record { number = note.txn.number; key = st.key; message = note.message; offered = note.place } in
     let prefix = (each_at (IsBoxRight h) h.boxes note.mailbox st.box kept.boxes st.channel).prefix in
     let ms = slice_set h.boxes note.mailbox (record st.box { accepted = st.box.accepted ++ post ∷ [] }) in
     let more : (v number p : ℕ) → way_at v number p ms ≡ way_at v number p h.boxes + copy_at v number p post =
-        λ v number p. way_offered v number p h.boxes note.mailbox st.box post st.channel prefix in
+    λ v number p. way_offered v number p h.boxes note.mailbox st.box post st.channel prefix in
     subst AllTracked (sym st.after)
     (lane_after h h.depot ms k st.lane _ st.is (same_depot h.depot)
     (λ x. away_tracked k st.t st.at h.depot h.depot st.lane _ h.boxes ms t (same_depot h.depot) st.copy.hold st.copy.is refl refl refl x.prefix
@@ -371,9 +418,9 @@ tracked_step room h (HandBack k i m) new w kept s st =
     subst AllTracked (sym st.after)
     (lane_after h st.depot h.boxes k st.lane _ st.is f
     (λ x. away_tracked k st.t i h.depot st.depot st.lane _ h.boxes h.boxes st.sealed f st.copy.hold st.copy.is refl refl (length_gathered st.lane.gather slip)
-        x.prefix
+    x.prefix
     (λ number p. let b = own_match k k st.sealed.number number (st.sealed.offered == p) refl in omega
-        (arith, b, count-append (names (txn_of k number) p) st.lane.heard (slip ∷ []))) x)
+    (arith, b, count-append (names (txn_of k number) p) st.lane.heard (slip ∷ []))) x)
     (λ v ne. same_way h.boxes h.boxes refl v) s)
 tracked_step room h (Collect k) new w kept s st =
     let below = slice_get_within st.lane.slips st.lane.collected st.slip st.oldest in
@@ -382,35 +429,35 @@ tracked_step room h (Collect k) new w kept s st =
     (λ x. tracked_as k h.depot h.depot st.lane _ h.boxes h.boxes (same_depot h.depot) refl refl (length_gathered st.lane.gather st.slip) (omega arith)
     (λ number p.
     let was : times_named (txn_of k number) p (drop st.lane.collected st.lane.slips) ≡ cond (names (txn_of k number) p st.slip) 1 0
-        + times_named (txn_of k number) p (drop (st.lane.collected + 1) st.lane.slips) =
+    + times_named (txn_of k number) p (drop (st.lane.collected + 1) st.lane.slips) =
     ap (times_named (txn_of k number) p)
-        (drop_get st.lane.slips st.lane.collected st.slip st.oldest ∙ ap (λ n. st.slip ∷ drop n st.lane.slips) (sym (add-one st.lane.collected)))
+    (drop_get st.lane.slips st.lane.collected st.slip st.oldest ∙ ap (λ n. st.slip ∷ drop n st.lane.slips) (sym (add-one st.lane.collected)))
     ∙ count-cons (names (txn_of k number) p) st.slip (drop (st.lane.collected + 1) st.lane.slips) in
     omega (arith, was, count-append (names (txn_of k number) p) st.lane.heard (st.slip ∷ []))) x)
     (λ v ne. same_way h.boxes h.boxes refl v) s)
 tracked_step room h (Take x) new w kept s st =
     let posts : on_way st.box ≡ st.post ∷ drop (st.box.taken + 1) st.box.accepted =
     ap (λ hand. post_of hand ++ drop st.box.taken st.box.accepted) st.free_hand ∙ drop_get st.box.accepted st.box.taken st.post st.oldest
-        ∙ ap (λ j. st.post ∷ drop j st.box.accepted) (sym (add-one st.box.taken)) in
+    ∙ ap (λ j. st.post ∷ drop j st.box.accepted) (sym (add-one st.box.taken)) in
     subst AllTracked (sym st.after) (none_after h h.depot _ (same_depot h.depot) (λ v. box_way h.boxes _ x st.box _ refl st.is (sym posts) v) s)
 tracked_step room h (Write x bytes) new w kept s st =
     subst AllTracked (sym st.after)
-        (none_after h h.depot _ (same_depot h.depot)
-        (λ v. box_way h.boxes _ x st.box _ refl st.is (ap (λ hand. post_of hand ++ drop st.box.taken st.box.accepted) (sym st.in_hand)) v) s)
+    (none_after h h.depot _ (same_depot h.depot)
+    (λ v. box_way h.boxes _ x st.box _ refl st.is (ap (λ hand. post_of hand ++ drop st.box.taken st.box.accepted) (sym st.in_hand)) v) s)
 tracked_step room h (Sync x) new w kept s st =
     subst AllTracked (sym st.after)
-        (none_after h h.depot _ (same_depot h.depot)
-        (λ v. box_way h.boxes _ x st.box _ refl st.is (ap (λ hand. post_of hand ++ drop st.box.taken st.box.accepted) (sym st.in_hand)) v) s)
+    (none_after h h.depot _ (same_depot h.depot)
+    (λ v. box_way h.boxes _ x st.box _ refl st.is (ap (λ hand. post_of hand ++ drop st.box.taken st.box.accepted) (sym st.in_hand)) v) s)
 tracked_step room h (Release x) new w kept s st =
     subst AllTracked (sym st.after)
     (none_after h st.depot _ (releases_turn h.depot st.copy.post.key st.depot st.releases).fits
-        (λ v. box_way h.boxes _ x st.box _ refl st.is (ap (λ hand. post_of hand ++ drop st.box.taken st.box.accepted) (sym st.in_hand)) v) s)
+    (λ v. box_way h.boxes _ x st.box _ refl st.is (ap (λ hand. post_of hand ++ drop st.box.taken st.box.accepted) (sym st.in_hand)) v) s)
 tracked_step room h (GiveSlip x o) new w kept s st =
     let k = st.copy.post.note.txn.lane in
     let slip = slip_of x st.copy.post.note (outcome_of st.copy) in
     let ms = slice_set h.boxes x (record st.box { hand = None }) in
     let less : (v number p : ℕ) → way_at v number p ms + copy_at v number p st.copy.post ≡ way_at v number p h.boxes =
-        λ v number p. way_gave v number p h.boxes x st.box st.copy st.is st.in_hand in
+    λ v number p. way_gave v number p h.boxes x st.box st.copy st.is st.in_hand in
     subst AllTracked (sym st.after)
     (lane_after h h.depot ms k st.lane _ st.to (same_depot h.depot)
     (λ t. let prefix = t.prefix in
@@ -418,15 +465,15 @@ tracked_step room h (GiveSlip x o) new w kept s st =
     (λ number p.
     let a = less k number p in
     let more : times_named (txn_of k number) p (drop st.lane.collected (st.lane.slips ++ slip ∷ []))
-        ≡ times_named (txn_of k number) p (drop st.lane.collected st.lane.slips) + cond (names (txn_of k number) p slip) 1 0 =
+    ≡ times_named (txn_of k number) p (drop st.lane.collected st.lane.slips) + cond (names (txn_of k number) p slip) 1 0 =
     ap (times_named (txn_of k number) p) (drop-append-le st.lane.collected st.lane.slips (slip ∷ []) prefix)
-        ∙ sum_last (λ (z : Slip). cond (names (txn_of k number) p z) 1 0) (drop st.lane.collected st.lane.slips) slip in
+    ∙ sum_last (λ (z : Slip). cond (names (txn_of k number) p z) 1 0) (drop st.lane.collected st.lane.slips) slip in
     omega (arith, a, more)) t)
     (λ v ne number p. let a = less v number p in let b = not_there v k number p st.copy.post refl ne in omega arith) s)
 tracked_step room h (Reclaim slot generation) new w kept s st =
     subst AllTracked (sym st.2)
     (none_after h st.0 h.boxes (drops_turn h.depot (record { slot = slot; generation = generation }) (λ b blocks. Sealed b blocks 0) st.0 (λ b blocks. refl)
-        (λ b blocks. refl) (λ b blocks e. cc) st.1).fits (λ v. same_way h.boxes h.boxes refl v) s)
+    (λ b blocks. refl) (λ b blocks e. cc) st.1).fits (λ v. same_way h.boxes h.boxes refl v) s)
 tracked_step room h (Close b) new w kept s st =
     subst AllTracked (sym st.3) (none_after h h.depot _ (same_depot h.depot) (λ v. box_way h.boxes _ b st.0 _ refl st.1 refl v) s)
 
@@ -435,7 +482,7 @@ tracked_run : (room : ℕ) (h : House) (run : List Happened) → AllWithin room 
 tracked_run room h [] w kept s r o = s
 tracked_run room h (x ∷ xs) w kept s r o =
     tracked_run room x.house xs (within_step room h x.event x.house w r.0 o.0) (kept_step h x.event x.house kept r.0)
-        (tracked_step room h x.event x.house w kept s r.0) r.1 o.1
+    (tracked_step room h x.event x.house w kept s r.0) r.1 o.1
 
 pub tracked_start : (blocks : ℕ) (h : House) → IsStart blocks h → AllTracked h
 tracked_start blocks h start k lane is =

@@ -1,6 +1,34 @@
 -- In an orderly run no lane has more copies and slips under way than unanswered places, so that a released copy's slip finds room.
-use Rattle.std.proofs.Common.{◌≡◌, ◌≢◌, ℕ, ◌+◌, ◌≤◌, List, [], ◌∷◌, ◌++◌, drop, Bool, true, false, cond, ◌==◌, Option, Some, None, inl, inr, refl, ap, sym, ◌∙◌,
-    subst, arith, add-one, length-append}
+use Rattle.std.proofs.Common.{
+  ◌≡◌,
+  ◌≢◌,
+  ℕ,
+  ◌+◌,
+  ◌≤◌,
+  List,
+  [],
+  ◌∷◌,
+  ◌++◌,
+  drop,
+  Bool,
+  true,
+  false,
+  cond,
+  ◌==◌,
+  Option,
+  Some,
+  None,
+  inl,
+  inr,
+  refl,
+  ap,
+  sym,
+  ◌∙◌,
+  subst,
+  arith,
+  add-one,
+  length-append,
+}
 use Rattle.std.specs.Prelude.{slice_get, slice_set, flat_map, sum_by, replicate, IfSome}
 use Rattle.std.specs.List.{AllByRecursion}
 use Rattle.std.proofs.lemmas.Bool.{eq-eqb}
@@ -9,8 +37,23 @@ use Rattle.std.proofs.lemmas.Option.{slice_get_within}
 use Rattle.mail_world.specs.declared.Outcome.{Outcome}
 use Rattle.mail_world.specs.declared.Slip.{Slip}
 use Rattle.mail_world.specs.declared.Event.{Event}
-use Rattle.mail_world.specs.declared.Event.TheVariants.{Begin, Put, Cancel, Seal, Split, Offer, HandBack, Collect, Take, Write, Sync, Release, GiveSlip,
-    Reclaim, Close}
+use Rattle.mail_world.specs.declared.Event.TheVariants.{
+  Begin,
+  Put,
+  Cancel,
+  Seal,
+  Split,
+  Offer,
+  HandBack,
+  Collect,
+  Take,
+  Write,
+  Sync,
+  Release,
+  GiveSlip,
+  Reclaim,
+  Close,
+}
 use Rattle.mail_world.specs.Slips.{Gather, place_outcome, is_same_txn, gathered, own_slip, slip_of}
 use Rattle.mail_world.specs.Depot.{Key}
 use Rattle.mail_world.specs.House.{Hold, Post, Copy, Box, Lane, House, IsFreshBox, IsFreshLane, IsStart}
@@ -89,7 +132,7 @@ lane_alone : (room : ℕ) (h new : House) (k : ℕ) (old changed : Lane) → new
     → (IsWithin room k old h.boxes → IsWithin room k changed h.boxes) → AllWithin room h → AllWithin room new
 lane_alone room h new k old changed boxes lanes was here all =
     one_lane room h new k old changed lanes was (λ s. let P : List Box → Type 0 = λ bs. IsWithin room k changed bs in subst P (sym boxes) (here s))
-        (λ v ne. rw boxes (omega arith)) all
+    (λ v ne. rw boxes (omega arith)) all
 
 no_lane : (room : ℕ) (h new : House) → new.lanes ≡ h.lanes → ((v : ℕ) → way v new.boxes ≤ way v h.boxes) → AllWithin room h → AllWithin room new
 no_lane room h new lanes less all k lane is = within_same room k lane h.boxes new.boxes (less k) (all k lane (ap (λ ls. slice_get ls k) (sym lanes) ∙ is))
@@ -158,7 +201,7 @@ seal_within room k n lane next bs key its draft none holds slips count places le
     let idle = s.drafting key draft in
     let same : uncollected next ≡ uncollected lane = rw (slips, count) refl in
     let give : to_give next.holds ≡ to_give lane.holds + n =
-        ap to_give holds ∙ sum_last (λ (hold : Hold). hold.weight) lane.holds (record { key = its; weight = n }) in
+    ap to_give holds ∙ sum_last (λ (hold : Hold). hold.weight) lane.holds (record { key = its; weight = n }) in
     let all : open_places next ≡ n = ap unanswered places ∙ sum_replicate unanswered_one n None refl in
     record { below = omega arith; bound = omega arith; drafting = λ other e. let bad : None ≡ Some other = sym none ∙ e in absurd (let f : ⊥ = cc in f) }
 
@@ -176,7 +219,7 @@ pub within_step : (room : ℕ) (h : House) (e : Event) (new : House) → AllWith
 within_step room h (Begin k) new s st o =
     let done : IsLaneDone st.lane = subst (λ p. IfSome p IsLaneDone) st.is o in
     lane_alone room h new k st.lane _ (ap (λ (x : House). x.boxes) st.after) (ap (λ (x : House). x.lanes) st.after) st.is
-        (λ w. begin_within room k st.lane _ h.boxes done refl refl refl refl w) s
+    (λ w. begin_within room k st.lane _ h.boxes done refl refl refl refl w) s
 within_step room h (Put k bytes) new s st o = no_lane room h new (ap (λ (x : House). x.lanes) st.after) (λ v. rw (st.after) (omega arith)) s
 within_step room h (Cancel k) new s st o =
     lane_alone room h new k st.lane _ (ap (λ (x : House). x.boxes) st.after) (ap (λ (x : House). x.lanes) st.after) st.is
@@ -189,8 +232,11 @@ within_step room h (Split k i) new s st o =
     let one : Hold = record { key = st.key; weight = 1 } in
     let next : Lane = record st.lane { holds = slice_set st.lane.holds i rest ++ one ∷ [] } in
     let give : to_give next.holds ≡ to_give st.lane.holds =
-    omega (arith, sum_set (λ (hold : Hold). hold.weight) st.lane.holds i (record { key = st.key; weight = st.weight + 1 }) rest st.hold,
-        sum_last (λ (hold : Hold). hold.weight) (slice_set st.lane.holds i rest) one) in
+    omega (
+      arith,
+      sum_set (λ (hold : Hold). hold.weight) st.lane.holds i (record { key = st.key; weight = st.weight + 1 }) rest st.hold,
+      sum_last (λ (hold : Hold). hold.weight) (slice_set st.lane.holds i rest) one,
+    ) in
     lane_alone room h new k st.lane next (ap (λ (x : House). x.boxes) st.after) (ap (λ (x : House). x.lanes) st.after) st.is
     (λ w. within_kept room k st.lane next h.boxes h.boxes (omega arith) (omega arith) (omega arith) (λ key e. e) w) s
 within_step room h (Offer k note) new s st o =
@@ -215,17 +261,17 @@ within_step room h (Collect k) new s st o =
 within_step room h (Take w) new s st o =
     let posts : on_way st.box ≡ st.post ∷ drop (st.box.taken + 1) st.box.accepted =
     ap (λ hand. post_of hand ++ drop st.box.taken st.box.accepted) st.free_hand ∙ drop_get st.box.accepted st.box.taken st.post st.oldest
-        ∙ ap (λ j. st.post ∷ drop j st.box.accepted) (sym (add-one st.box.taken)) in
+    ∙ ap (λ j. st.post ∷ drop j st.box.accepted) (sym (add-one st.box.taken)) in
     box_alone room h new w st.box _ (ap (λ (x : House). x.boxes) st.after) (ap (λ (x : House). x.lanes) st.after) st.is (sym posts) s
 within_step room h (Write w bytes) new s st o =
     box_alone room h new w st.box _ (ap (λ (x : House). x.boxes) st.after) (ap (λ (x : House). x.lanes) st.after) st.is
-        (ap (λ hand. post_of hand ++ drop st.box.taken st.box.accepted) (sym st.in_hand)) s
+    (ap (λ hand. post_of hand ++ drop st.box.taken st.box.accepted) (sym st.in_hand)) s
 within_step room h (Sync w) new s st o =
     box_alone room h new w st.box _ (ap (λ (x : House). x.boxes) st.after) (ap (λ (x : House). x.lanes) st.after) st.is
-        (ap (λ hand. post_of hand ++ drop st.box.taken st.box.accepted) (sym st.in_hand)) s
+    (ap (λ hand. post_of hand ++ drop st.box.taken st.box.accepted) (sym st.in_hand)) s
 within_step room h (Release w) new s st o =
     box_alone room h new w st.box _ (ap (λ (x : House). x.boxes) st.after) (ap (λ (x : House). x.lanes) st.after) st.is
-        (ap (λ hand. post_of hand ++ drop st.box.taken st.box.accepted) (sym st.in_hand)) s
+    (ap (λ hand. post_of hand ++ drop st.box.taken st.box.accepted) (sym st.in_hand)) s
 within_step room h (GiveSlip w outcome) new s st o =
     let boxes : new.boxes ≡ slice_set h.boxes w (record st.box { hand = None }) = ap (λ (x : House). x.boxes) st.after in
     let k = st.copy.post.note.txn.lane in
@@ -247,7 +293,7 @@ pub within_start : (room blocks : ℕ) (h : House) → IsStart blocks h → AllW
 within_start room blocks h start k lane is =
     let f = each_at IsFreshLane h.lanes k lane start.lanes is in
     let none : way k h.boxes ≡ 0 =
-        sum_none on_way (one_of k) h.boxes (λ b box at. let g = each_at IsFreshBox h.boxes b box start.boxes at in rw (g.hand, g.taken, g.accepted) refl) in
+    sum_none on_way (one_of k) h.boxes (λ b box at. let g = each_at IsFreshBox h.boxes b box start.boxes at in rw (g.hand, g.taken, g.accepted) refl) in
     let give : to_give lane.holds ≡ 0 = ap to_give f.holds in
     let slips : uncollected lane ≡ 0 = rw (f.slips, f.collected) refl in
     let places : open_places lane ≡ 0 = ap unanswered f.places in

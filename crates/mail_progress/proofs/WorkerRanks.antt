@@ -1,6 +1,29 @@
 -- The steps of workers, by rank: one of the rank goes on, or none does.
-use Rattle.std.proofs.Common.{◌≡◌, ℕ, ◌<◌, ◌≤◌, List, [], ◌∷◌, length, drop, true, false, ◌||◌, Option, Some, None, inl, inr, refl, ap, subst, arith, ◌++◌,
-    length-append}
+use Rattle.std.proofs.Common.{
+  ◌≡◌,
+  ℕ,
+  ◌<◌,
+  ◌≤◌,
+  List,
+  [],
+  ◌∷◌,
+  length,
+  drop,
+  true,
+  false,
+  ◌||◌,
+  Option,
+  Some,
+  None,
+  inl,
+  inr,
+  refl,
+  ap,
+  subst,
+  arith,
+  ◌++◌,
+  length-append,
+}
 use Rattle.std.specs.Prelude.{IfSome}
 use Rattle.std.proofs.lemmas.List.{length-drop}
 use Rattle.std.proofs.lemmas.Option.{slice_get_within}
@@ -151,7 +174,7 @@ release_ranks room blocks next h f w box at has =
 pub releases_decided : (room blocks : ℕ) (next : ℕ → ℕ) (h : House) → IsReached room blocks h → IsDecided room next h 6
 releases_decided room blocks next h f =
     by_boxes room next h 6 IsToLetGo
-        (λ box. in_hand _ (λ copy. Dec.and (Bool-discrete copy.released false) (Bool-discrete (is_settled copy || box.faulty) true)) box)
+    (λ box. in_hand _ (λ copy. Dec.and (Bool-discrete copy.released false) (Bool-discrete (is_settled copy || box.faulty) true)) box)
     (release_ranks room blocks next h f) (λ none m e. no_release next h none m.event m.goes_on m.happens e)
 
 -- a copy whose slip is to give
@@ -169,4 +192,4 @@ give_ranks room blocks next h f w box at has = (goes_on (TheWorker w) room next 
 pub gives_decided : (room blocks : ℕ) (next : ℕ → ℕ) (h : House) → IsReached room blocks h → IsDecided room next h 7
 gives_decided room blocks next h f =
     by_boxes room next h 7 HasLetGo (λ box. in_hand _ (λ copy. Bool-discrete copy.released true) box) (give_ranks room blocks next h f)
-        (λ none m e. no_give h none m.event m.happens e)
+    (λ none m e. no_give h none m.event m.happens e)

@@ -36,7 +36,7 @@ pub one_box : (s : Server) (t : Threads) (capacity : ℕ) (d : Deed) (rest : Lis
     → BoxStands s capacity b (t.courses b) rest changed → AllBoxes s t capacity (d ∷ rest) boxes → AllBoxes s t capacity rest (slice_set boxes b changed)
 one_box s t capacity d rest boxes b changed past here all =
     each_set (λ n x. BoxStands s capacity n (t.courses n) rest x) boxes b changed
-        (λ c x other was. box_past s capacity c (t.courses c) d rest x (past c other) (all c x was)) here
+    (λ c x other was. box_past s capacity c (t.courses c) d rest x (past c other) (all c x was)) here
 
 pub one_lane : {m : Manner} (t : Threads) (d : Deed) (rest : List Deed) (lanes : List Lane) (k : ℕ) (changed : Lane) → ((c : ℕ) → c ≢ k → IsPastLane c d)
     → LaneStands m k (t.heard k) rest changed → AllLanes m t (d ∷ rest) lanes → AllLanes m t rest (slice_set lanes k changed)

@@ -1,6 +1,33 @@
 -- The house in which a history ends, once all channels are closed.
-use Rattle.std.proofs.Common.{◌≡◌, ◌≢◌, ℕ, zero, suc, ◌+◌, ◌<◌, ◌≤◌, List, [], ◌∷◌, length, drop, true, Option, Some, None, inl, inr, refl, ap, sym, ◌∙◌, subst,
-    append-nil, arith, length-drop}
+use Rattle.std.proofs.Common.{
+  ◌≡◌,
+  ◌≢◌,
+  ℕ,
+  zero,
+  suc,
+  ◌+◌,
+  ◌<◌,
+  ◌≤◌,
+  List,
+  [],
+  ◌∷◌,
+  length,
+  drop,
+  true,
+  Option,
+  Some,
+  None,
+  inl,
+  inr,
+  refl,
+  ap,
+  sym,
+  ◌∙◌,
+  subst,
+  append-nil,
+  arith,
+  length-drop,
+}
 use Rattle.std.specs.Prelude.{◌⊎◌, slice_get}
 use Rattle.std.proofs.lemmas.Option.{slice_get_within}
 use Rattle.mail_world.specs.declared.Note.{Note}
@@ -151,9 +178,9 @@ ends {m} s t next =
     let host = sym (ap (λ (f : Frame). f.host) frame) ∙ c.setting.1 in
     let accepts = every_run_in_order story.blocks story.start story.run story.starts story.runs in
     let box_is : (b : ℕ) (box : Box) → BoxIs c.house b box → BoxIs (last_house story.start story.run) b box =
-        λ b box is. ap (λ (x : House). slice_get x.boxes b) last ∙ is in
+    λ b box is. ap (λ (x : House). slice_get x.boxes b) last ∙ is in
     let below : (b : ℕ) (box : Box) → BoxIs c.house b box → b < s.boxes =
-        λ b box is. subst (λ n. b < n) c.as_many.0 (slice_get_within c.house.boxes b box is) in
+    λ b box is. subst (λ n. b < n) c.as_many.0 (slice_get_within c.house.boxes b box is) in
     record {
       is = record {
         blocks = story.blocks;

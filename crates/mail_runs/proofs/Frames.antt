@@ -1,6 +1,29 @@
 -- What a deed leaves alone: the mailboxes and the lanes that it isn't of.
-use Rattle.std.proofs.Common.{◌≡◌, ◌≢◌, ℕ, ◌+◌, ◌-◌, ◌<◌, ◌≤◌, ◌==◌, List, [], ◌∷◌, ◌++◌, length, drop, inl, inr, refl, ap, sym, ◌∙◌, subst, arith,
-    length-append}
+use Rattle.std.proofs.Common.{
+  ◌≡◌,
+  ◌≢◌,
+  ℕ,
+  ◌+◌,
+  ◌-◌,
+  ◌<◌,
+  ◌≤◌,
+  ◌==◌,
+  List,
+  [],
+  ◌∷◌,
+  ◌++◌,
+  length,
+  drop,
+  inl,
+  inr,
+  refl,
+  ap,
+  sym,
+  ◌∙◌,
+  subst,
+  arith,
+  length-append,
+}
 use Rattle.std.specs.Prelude.{⊤, ◌⊎◌, flat_map, slice_get}
 use Rattle.std.proofs.lemmas.List.Elements.{filter-append}
 use Rattle.std.proofs.lemmas.Grind.{flat_map-append}
@@ -10,8 +33,27 @@ use Rattle.mail_world.specs.declared.Slip.{Slip}
 use Rattle.mail_world.specs.Lists.{Transaction, copies_from}
 use Rattle.mail_world.specs.House.{Lane, Box, notes_of}
 use Rattle.mail_world.specs.Depot.{Depot}
-use Rattle.mail_runs.specs.Deeds.{Deed, Gave, Took, Told, Heard, turns_of, given_in, taken_in, told_in, heard_in, given_by, given_to, taken_by, told_to,
-    heard_by, is_of_worker, worked_by, of_mailbox, slips_to}
+use Rattle.mail_runs.specs.Deeds.{
+  Deed,
+  Gave,
+  Took,
+  Told,
+  Heard,
+  turns_of,
+  given_in,
+  taken_in,
+  told_in,
+  heard_in,
+  given_by,
+  given_to,
+  taken_by,
+  told_to,
+  heard_by,
+  is_of_worker,
+  worked_by,
+  of_mailbox,
+  slips_to,
+}
 use Rattle.mail_runs.specs.Courses.{Server, Course}
 use Rattle.mail_runs.specs.Histories.{HearsTold}
 use Rattle.mail_runs.specs.Timed.{is_of_lane}
@@ -79,9 +121,9 @@ pub tells_on : (k w n : ℕ) (d : Deed) (rest : List Deed) → n + length (heard
 tells_on k w n d rest e fed before after whole =
     let f : length (heard_by k (d ∷ before)) ≤ w + length (told_to k (d ∷ before)) = fed (d ∷ before) after (ap (λ ds. d ∷ ds) whole) in
     let t : length (heard_by k (d ∷ before)) ≡ length (heard_by k (d ∷ [])) + length (heard_by k before) =
-        ap length (heard_by-append k (d ∷ []) before) ∙ length-append (heard_by k (d ∷ [])) (heard_by k before) in
+    ap length (heard_by-append k (d ∷ []) before) ∙ length-append (heard_by k (d ∷ [])) (heard_by k before) in
     let g : length (told_to k (d ∷ before)) ≡ length (told_to k (d ∷ [])) + length (told_to k before) =
-        ap length (told_to-append k (d ∷ []) before) ∙ length-append (told_to k (d ∷ [])) (told_to k before) in
+    ap length (told_to-append k (d ∷ []) before) ∙ length-append (told_to k (d ∷ [])) (told_to k before) in
     omega arith
 
 -- what a deed that isn't of the mailbox leaves alone

@@ -75,7 +75,7 @@ pub held_now : (d : Depot) (key : Key) (slot : Slot) (held : Held) (free : List 
     → held_under (with_held d key held free) key ≡ held
 held_now d key slot held free is =
     let now : slice_get (slice_set d.slots key.slot (record { generation = key.generation; held = held })) key.slot
-        ≡ Some (record { generation = key.generation; held = held }) =
+    ≡ Some (record { generation = key.generation; held = held }) =
     set_at d.slots key.slot (record { generation = key.generation; held = held }) slot is in
     ap (held_at key) now ∙ rw (same_number key.generation key.generation refl) refl
 
@@ -98,7 +98,7 @@ pub placed : (d : Depot) (note : Note) (rest : List Deed) → DepotStands (Gave 
 placed d note rest stands =
     let slots : 1 + sum_by slots_for rest ≤ sum_by free_slot d.slots = let h = stands.slots in omega (arith, sum_by-cons slots_for (Gave note) rest) in
     let blocks : blocks_for (length note.message) + sum_by blocks_to_give rest ≤ length d.free = let h = stands.blocks in
-        omega (arith, sum_by-cons blocks_to_give (Gave note) rest) in
+    omega (arith, sum_by-cons blocks_to_give (Gave note) rest) in
     let found = one_counts free_slot d.slots (omega arith) in
     let slot : Slot = found.1 in
     let some : 1 ≤ free_slot slot = found.3 in
@@ -117,13 +117,13 @@ given_here s capacity t note key rest box stands =
     let b : ℕ = note.mailbox in
     let post : Post = record { note = note; key = key } in
     let given : (ds : List Deed) → given_to b (Gave note ∷ ds) ≡ note ∷ given_to b ds =
-        λ ds. passes (λ (n : Note). n.mailbox == b) note (flat_map given_in ds) (same_number b b refl) in
+    λ ds. passes (λ (n : Note). n.mailbox == b) note (flat_map given_in ds) (same_number b b refl) in
     let longer : length (box.accepted ++ post ∷ []) ≡ length box.accepted + 1 = length-append box.accepted (post ∷ []) in
     let one : length (given_to b (Gave note ∷ [])) ≡ 1 = ap length (given []) in
     let notes : notes_of (box.accepted ++ post ∷ []) ≡ notes_of box.accepted ++ note ∷ [] = map-append (λ (p : Post). p.note) box.accepted (post ∷ []) in
     let waiting : notes_of (drop box.taken (box.accepted ++ post ∷ [])) ≡ notes_of (drop box.taken box.accepted) ++ note ∷ [] =
     ap notes_of (drop-append-le box.taken box.accepted (post ∷ []) stands.prefix)
-        ∙ map-append (λ (p : Post). p.note) (drop box.taken box.accepted) (post ∷ []) in
+    ∙ map-append (λ (p : Post). p.note) (drop box.taken box.accepted) (post ∷ []) in
     let low = stands.prefix in
     record {
       old = stands.old;

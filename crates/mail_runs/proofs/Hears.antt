@@ -1,6 +1,31 @@
 -- A lane collects a slip.
-use Rattle.std.proofs.Common.{◌≡◌, ℕ, suc, ◌+◌, ◌-◌, ◌<◌, ◌≤◌, ◌==◌, List, [], ◌∷◌, ◌++◌, length, drop, Option, Some, inl, inr, refl, ap, sym, ◌∙◌, subst,
-    append_assoc, arith}
+use Rattle.std.proofs.Common.{
+  ◌≡◌,
+  ℕ,
+  suc,
+  ◌+◌,
+  ◌-◌,
+  ◌<◌,
+  ◌≤◌,
+  ◌==◌,
+  List,
+  [],
+  ◌∷◌,
+  ◌++◌,
+  length,
+  drop,
+  Option,
+  Some,
+  inl,
+  inr,
+  refl,
+  ap,
+  sym,
+  ◌∙◌,
+  subst,
+  append_assoc,
+  arith,
+}
 use Rattle.std.specs.Prelude.{◌⊎◌, flat_map, IfSome}
 use Rattle.mail_world.specs.declared.Note.{Note}
 use Rattle.mail_world.specs.declared.Slip.{Slip}
@@ -43,7 +68,7 @@ hears {m} s t slip rest h stands story =
     let lane : Lane = l.0 in
     let stood : LaneStands m k (t.heard k) (Heard slip ∷ rest) lane = stands.lanes k lane l.1 in
     let heard : (ds : List Deed) → heard_by k (Heard slip ∷ ds) ≡ slip ∷ heard_by k ds =
-        λ ds. passes (λ (x : Slip). x.txn.lane == k) slip (flat_map heard_in ds) (same_number k k refl) in
+    λ ds. passes (λ (x : Slip). x.txn.lane == k) slip (flat_map heard_in ds) (same_number k k refl) in
     let one : length (heard_by k (Heard slip ∷ [])) ≡ 1 = ap length (heard []) in
     let waits : length (heard_by k (Heard slip ∷ [])) ≤ (length lane.slips - lane.collected) + 0 = stood.fed (Heard slip ∷ []) rest refl in
     let low_one : lane.collected < length lane.slips = omega arith in

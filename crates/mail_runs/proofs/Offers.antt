@@ -88,7 +88,7 @@ offer_last {m} s t note rest r last =
     let sealed : slice_get r.lane.messages g.at ≡ Some (sealed_up_to g.key note.txn.number note.message note.place) =
     rw (c.number, c.message, c.place) g.message in
     let new : House = with_box (with_lane h k (lane_after r.lane (remove r.lane.holds 0) g.at g.key note)) note.mailbox
-        (record b.0 { accepted = b.0.accepted ++ record { note = note; key = g.key } ∷ [] }) in
+    (record b.0 { accepted = b.0.accepted ++ record { note = note; key = g.key } ∷ [] }) in
     let step : OfferStep h k note new = record {
       lane = r.lane;
       box = b.0;
@@ -135,9 +135,9 @@ offer_more {m} s t note rest r box boxes more =
     let split : Lane = record r.lane { holds = holds } in
     let between : House = with_lane h k split in
     let first : SplitStep h k 0 between =
-        record { lane = r.lane; key = g.key; weight = n; is = r.is; hold = ap (λ hs. slice_get hs 0) hold; above = omega arith; after = refl } in
+    record { lane = r.lane; key = g.key; weight = n; is = r.is; hold = ap (λ hs. slice_get hs 0) hold; above = omega arith; after = refl } in
     let new : House = with_box (with_lane between k (lane_after split (remove holds 1) g.at g.key note)) note.mailbox
-        (record b.0 { accepted = b.0.accepted ++ record { note = note; key = g.key } ∷ [] }) in
+    (record b.0 { accepted = b.0.accepted ++ record { note = note; key = g.key } ∷ [] }) in
     let step : OfferStep between k note new = record {
       lane = split;
       box = b.0;
@@ -156,7 +156,7 @@ offer_more {m} s t note rest r box boxes more =
     let there : Story m new = goes_on between new (Offer k note) (goes_on h between (Split k 0) r.story first (λ o. tt)) step
     (λ o. offer_in_order m.room between k note b.0 b.1 room) in
     let lanes : slice_set (slice_set h.lanes k split) k (lane_after split (remove holds 1) g.at g.key note)
-        ≡ slice_set h.lanes k (lane_after r.lane (one_hold g.key n ∷ []) g.at g.key note) =
+    ≡ slice_set h.lanes k (lane_after r.lane (one_hold g.key n ∷ []) g.at g.key note) =
     set_twice h.lanes k split (lane_after split (remove holds 1) g.at g.key note) ∙ ap (λ hs. slice_set h.lanes k (lane_after r.lane hs g.at g.key note)) one in
     record {
       box = b.0;
@@ -225,7 +225,7 @@ given_by_boxes {m} s t note rest r (box ∷ boxes) more =
     let one_more : n ≡ length boxes + 1 = omega arith in
     let next : SealedMessage = record (sealed_up_to g.key note.txn.number note.message note.place) { offered = note.place + 1 } in
     let there : slice_get (slice_set r.lane.messages g.at next) g.at ≡ Some next =
-        set_at r.lane.messages g.at next (sealed_up_to g.key g.t.number g.t.message g.place) g.message in
+    set_at r.lane.messages g.at next (sealed_up_to g.key g.t.number g.t.message g.place) g.message in
     offered s t note rest r (one_hold g.key n ∷ []) (offer_more s t note rest r box boxes more)
     (inr (record {
       key = g.key;

@@ -1,6 +1,32 @@
 -- A lane seals its next message: it begins a draft, puts the bytes and seals it for all its copies.
-use Rattle.std.proofs.Common.{◌≡◌, ℕ, ◌+◌, ◌-◌, ◌<◌, ◌≤◌, ◌==◌, List, [], ◌∷◌, ◌++◌, length, take, drop, Option, Some, None, inl, inr, refl, ap, sym, ◌∙◌,
-    subst, arith, length-drop}
+use Rattle.std.proofs.Common.{
+  ◌≡◌,
+  ℕ,
+  ◌+◌,
+  ◌-◌,
+  ◌<◌,
+  ◌≤◌,
+  ◌==◌,
+  List,
+  [],
+  ◌∷◌,
+  ◌++◌,
+  length,
+  take,
+  drop,
+  Option,
+  Some,
+  None,
+  inl,
+  inr,
+  refl,
+  ap,
+  sym,
+  ◌∙◌,
+  subst,
+  arith,
+  length-drop,
+}
 use Rattle.std.specs.Prelude.{◌⊎◌, IfSome, flat_map, slice_get, slice_set, sum_by}
 use Rattle.std.specs.List.{AllByRecursion}
 use Rattle.std.proofs.lemmas.List.{take-append-drop, length-take-le}
@@ -57,7 +83,7 @@ depot_sealed : (d : Depot) (note : Note) (rest : List Deed) (key : Key) (message
 depot_sealed d note rest key message blocks n slots free stands is same after left enough =
     let sum = sum_set free_slot d.slots key.slot (record { generation = key.generation; held = Free }) (sealed_slot key message blocks n) is in
     let now : sum_by free_slot slots ≡ sum_by free_slot (slice_set d.slots key.slot (sealed_slot key message blocks n)) =
-        ap (λ xs. sum_by free_slot xs) after in
+    ap (λ xs. sum_by free_slot xs) after in
     let fewer : length free ≡ length d.free - blocks_for (length message) = ap length left ∙ length-drop (blocks_for (length message)) d.free in
     let size : blocks_for (length note.message) ≡ blocks_for (length message) = ap (λ m. blocks_for (length m)) same in
     let s = stands.slots in
@@ -103,8 +129,17 @@ module _ (h : House) (k : ℕ) (lane : Lane) (x : Transaction) (key : Key) (n : 
 
   begins : LaneIs h k lane → lane.draft ≡ None → lane.number < x.number
       → slice_get h.depot.slots key.slot ≡ Some (record { generation = key.generation; held = Free }) → BeginStep h k house₁
-  begins is none later free = record { lane = lane; key = key; number = x.number; depot = depot₁; is = is; no_draft = none; later = later;
-      begins = (free, refl); after = refl }
+  begins is none later free = record {
+    lane = lane;
+    key = key;
+    number = x.number;
+    depot = depot₁;
+    is = is;
+    no_draft = none;
+    later = later;
+    begins = (free, refl);
+    after = refl;
+  }
 
   puts : LaneIs h k lane → slice_get h.depot.slots key.slot ≡ Some (record { generation = key.generation; held = Free }) → need ≤ length h.depot.free
       → PutStep house₁ k x.message house₂
@@ -156,7 +191,7 @@ module _ (h : House) (k : ℕ) (lane : Lane) (x : Transaction) (key : Key) (n : 
   slots_are : depot₃.slots ≡ slice_set h.depot.slots key.slot (sealed_slot key x.message (take need h.depot.free) n)
   slots_are =
       set_twice (slice_set h.depot.slots key.slot (record { generation = key.generation; held = Draft [] [] })) key.slot
-          (record { generation = key.generation; held = Draft x.message (take need h.depot.free) })
+      (record { generation = key.generation; held = Draft x.message (take need h.depot.free) })
       (sealed_slot key x.message (take need h.depot.free) n)
       ∙ set_twice h.depot.slots key.slot (record { generation = key.generation; held = Draft [] [] }) (sealed_slot key x.message (take need h.depot.free) n)
 

@@ -1,6 +1,32 @@
 -- The house in which a history begins.
-use Rattle.std.proofs.Common.{◌≡◌, ℕ, zero, suc, ◌+◌, ◌<◌, ◌==◌, List, [], ◌∷◌, ◌++◌, length, Bool, true, false, cond, Some, None, inl, refl, ap, sym, ◌∙◌,
-    subst, append-nil, arith}
+use Rattle.std.proofs.Common.{
+  ◌≡◌,
+  ℕ,
+  zero,
+  suc,
+  ◌+◌,
+  ◌<◌,
+  ◌==◌,
+  List,
+  [],
+  ◌∷◌,
+  ◌++◌,
+  length,
+  Bool,
+  true,
+  false,
+  cond,
+  Some,
+  None,
+  inl,
+  refl,
+  ap,
+  sym,
+  ◌∙◌,
+  subst,
+  append-nil,
+  arith,
+}
 use Rattle.std.specs.Prelude.{flat_map, sum_by, slice_get, replicate, nat_lt, if◌then◌else◌}
 use Rattle.std.specs.List.{AllByRecursion}
 use Rattle.std.proofs.lemmas.Bool.Decides.{nat_tests}
@@ -71,7 +97,7 @@ unfolding numbers_below
 each_once zero x = none_below x 0 (nat_lt x 0) refl refl
 each_once (suc n) x =
     count-cons (λ y. y == x) n (numbers_below n) ∙ ap (λ m. cond (n == x) 1 0 + m) (each_once n x)
-        ∙ one_more_below x n (n == x) (nat_lt x n) (nat_lt x (suc n)) refl refl refl
+    ∙ one_more_below x n (n == x) (nat_lt x n) (nat_lt x (suc n)) refl refl refl
 
 abbrev unused : Slot
 unused = record { generation = 0; held = Free }
@@ -99,8 +125,16 @@ abbrev first_box : Course → List ℕ → Bool → Box
 first_box course spool faulty = record { old = course.old; accepted = []; taken = 0; settled = 0; closed = false; spool = spool; hand = None; faulty = faulty }
 
 abbrev first_lane : Lane
-first_lane = record { number = 0; draft = None; messages = []; holds = []; gather = record { txn = txn_of 0 0; places = [] }; slips = []; collected = 0;
-    heard = [] }
+first_lane = record {
+  number = 0;
+  draft = None;
+  messages = [];
+  holds = [];
+  gather = record { txn = txn_of 0 0; places = [] };
+  slips = [];
+  collected = 0;
+  heard = [];
+}
 
 record IsFirst (s : Server) (capacity b : ℕ) (course : Course) (deeds : List Deed) (box : Box) : Type 0 where
   fresh : IsFreshBox box

@@ -1,6 +1,29 @@
 -- The dispositions of a conversation's transactions are those of its account.
-use Rattle.std.proofs.Common.{◌≡◌, ℕ, zero, suc, ◌+◌, take, drop, List, [], ◌∷◌, ◌++◌, length, Option, Some, None, refl, sym, ap, ◌∙◌, subst, arith,
-    append_assoc, length-append}
+use Rattle.std.proofs.Common.{
+  ◌≡◌,
+  ℕ,
+  zero,
+  suc,
+  ◌+◌,
+  take,
+  drop,
+  List,
+  [],
+  ◌∷◌,
+  ◌++◌,
+  length,
+  Option,
+  Some,
+  None,
+  refl,
+  sym,
+  ap,
+  ◌∙◌,
+  subst,
+  arith,
+  append_assoc,
+  length-append,
+}
 use Rattle.std.specs.Prelude.{map, option_map}
 use Rattle.std.proofs.lemmas.List.{append-nil}
 use Rattle.mail_world.specs.declared.State.{State}
@@ -9,8 +32,21 @@ use Rattle.mail_world.specs.Text.{crlf, place_of}
 use Rattle.mail_world.specs.Data.{data_end}
 use Rattle.mail_world.specs.Site.{Site}
 use Rattle.mail_world.specs.Session.{Session, fresh}
-use Rattle.mail_world.specs.Conversation.{Disposition, Part, CommandLine, MailData, Cut, cut, cut_then, inputs_of, session_after, parts_within, parts,
-    Conversation, IsAccount}
+use Rattle.mail_world.specs.Conversation.{
+  Disposition,
+  Part,
+  CommandLine,
+  MailData,
+  Cut,
+  cut,
+  cut_then,
+  inputs_of,
+  session_after,
+  parts_within,
+  parts,
+  Conversation,
+  IsAccount,
+}
 use Rattle.mail_world.specs.Dispositions.{disposition_of, dispositions_of}
 use Rattle.mail_world.specs.Lists.{transactions_of}
 use Rattle.mail_world.proofs.Handled.{counted}
@@ -74,7 +110,7 @@ dispositions_are : (site : Site) (c : Conversation) → IsAccount site c → dis
 unfolding parts
 dispositions_are site c h =
     all_taken _ c.dispositions (prefix_of (length c.bytes) site fresh c.bytes c.dispositions)
-        (sym (counted (parts_within (length c.bytes) site fresh c.bytes c.dispositions)) ∙ h.none_left)
+    (sym (counted (parts_within (length c.bytes) site fresh c.bytes c.dispositions)) ∙ h.none_left)
 
 told_of_parts : (site : Site) (n : ℕ) (session : Session) (ps : List Part) → map (λ t. t.disposition) (transactions_of site n session ps) ≡ dispositions_of ps
 told_of_parts site n session [] = refl

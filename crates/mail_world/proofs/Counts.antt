@@ -1,6 +1,31 @@
 -- How many of the copies that a mailbox took were settled.
-use Rattle.std.proofs.Common.{◌≡◌, ℕ, suc, ◌+◌, ◌-◌, ◌≤◌, ◌<◌, List, length, Bool, true, false, not, ◌||◌, Option, Some, None, inl, inr, refl, sym, ◌∙◌, subst,
-    arith, add-one}
+use Rattle.std.proofs.Common.{
+  ◌≡◌,
+  ℕ,
+  suc,
+  ◌+◌,
+  ◌-◌,
+  ◌≤◌,
+  ◌<◌,
+  List,
+  length,
+  Bool,
+  true,
+  false,
+  not,
+  ◌||◌,
+  Option,
+  Some,
+  None,
+  inl,
+  inr,
+  refl,
+  sym,
+  ◌∙◌,
+  subst,
+  arith,
+  add-one,
+}
 use Rattle.std.proofs.lemmas.Bool.{or_parts}
 use Rattle.mail_world.specs.declared.Note.{Note}
 use Rattle.mail_world.specs.Records.{record_of}
@@ -67,8 +92,15 @@ counts_take : (over : Bool) (box : Box) (post : Post) → (over ≡ true → box
     → box.settled ≤ box.taken → Counted (with_taken box post over)
 counts_take true box post works all le =
     let now : box.settled ≡ box.taken = all (works refl) in
-    record { before = box.taken; last = add-one box.taken; test = λ y. omega arith; all = λ f n. cc; one = λ f y. omega arith; most = λ n. cc;
-        bound = omega arith }
+    record {
+      before = box.taken;
+      last = add-one box.taken;
+      test = λ y. omega arith;
+      all = λ f n. cc;
+      one = λ f y. omega arith;
+      most = λ n. cc;
+      bound = omega arith;
+    }
 counts_take false box post works all le =
     record { before = box.taken; last = add-one box.taken; test = λ y. cc; all = λ f n. all f; one = λ f y. cc; most = λ n. le; bound = omega (arith, le) }
 
@@ -123,6 +155,7 @@ pub counted_give : (h : House) (box : Box) (copy : Copy) → box.hand ≡ Some c
     → Counted (record box { hand = None })
 counted_give h box copy e gone s c =
     let k = counted_hand box copy e c in
-    let in_hand = held h.calendar h.host h.quota box copy e s in
-    ((λ f. let now : box.settled ≡ suc k.before = k.one f (in_hand.sound gone f) in now ∙ sym k.last),
-        (let bound = k.bound in let last = k.last in omega arith))
+    let in_hand = held h.calendar h.host h.quota box copy e s in (
+      (λ f. let now : box.settled ≡ suc k.before = k.one f (in_hand.sound gone f) in now ∙ sym k.last),
+      (let bound = k.bound in let last = k.last in omega arith),
+    )

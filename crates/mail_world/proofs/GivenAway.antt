@@ -1,6 +1,31 @@
 -- How many copies a lane gave away of a transaction and a place: one at most, and as many as were heard of or are on their way.
-use Rattle.std.proofs.Common.{◌≡◌, ◌≢◌, ℕ, zero, suc, ◌+◌, ◌≤◌, List, [], ◌∷◌, ◌++◌, drop, Bool, true, false, cond, ◌&&◌, ◌==◌, Some, refl, ap, sym, ◌∙◌, subst,
-    arith}
+use Rattle.std.proofs.Common.{
+  ◌≡◌,
+  ◌≢◌,
+  ℕ,
+  zero,
+  suc,
+  ◌+◌,
+  ◌≤◌,
+  List,
+  [],
+  ◌∷◌,
+  ◌++◌,
+  drop,
+  Bool,
+  true,
+  false,
+  cond,
+  ◌&&◌,
+  ◌==◌,
+  Some,
+  refl,
+  ap,
+  sym,
+  ◌∙◌,
+  subst,
+  arith,
+}
 use Rattle.std.specs.Prelude.{slice_get, slice_set, count_by, nat_lt}
 use Rattle.std.proofs.lemmas.Bool.{eqb-true}
 use Rattle.std.proofs.lemmas.Bool.Decides.{nat_tests}
@@ -161,7 +186,7 @@ pub given_offer : (k : ℕ) (txn : Txn) (p told way way' : ℕ) (ts : List Seale
 given_offer k txn p told way way' ts t key note own at more h =
     let P : ℕ → Type 0 = λ n. way' ≤ way + cond ((n == txn.lane) && (note.txn.number == txn.number) && (note.place == p)) 1 0 in
     offer_by (k == txn.lane) (note.txn.number == txn.number) (note.place == p) told way way' _ _ (subst P own more)
-        (count_given ts t key note.txn.number txn.number p note.place note.message at) h
+    (count_given ts t key note.txn.number txn.number p note.place note.message at) h
 
 elsewhere_by : (t w : Bool) (told way way' old : ℕ) → (t ≡ true → w ≡ false) → way' ≤ way + cond w 1 0 → told + cond t way 0 ≤ cond t old 0
     → told + cond t way' 0 ≤ cond t old 0
@@ -180,4 +205,4 @@ pub given_once : (k : ℕ) (h : House) (lane : Lane) → LaneIs h k lane → IsO
 given_once k h lane is o number p = count_at_most_one (is_given number p) lane.messages
     (λ i j t u at here e e'. o.distinct k lane i j t u is at here
     (eqb-true t.number number (and_parts (t.number == number) (nat_lt p t.offered) e).0
-        ∙ sym (eqb-true u.number number (and_parts (u.number == number) (nat_lt p u.offered) e').0)))
+    ∙ sym (eqb-true u.number number (and_parts (u.number == number) (nat_lt p u.offered) e').0)))

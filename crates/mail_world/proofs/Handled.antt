@@ -1,6 +1,30 @@
 -- What an engine has handled of the bytes of a conversation: parts at their beginning, and what goes on from there.
-use Rattle.std.proofs.Common.{◌≡◌, ℕ, cond, ◌+◌, ◌≤◌, List, [], ◌∷◌, ◌++◌, length, take, drop, Some, None, refl, sym, ap, ◌∙◌, arith, append_assoc, length-drop,
-    length-append, drop-drop, length-take-le}
+use Rattle.std.proofs.Common.{
+  ◌≡◌,
+  ℕ,
+  cond,
+  ◌+◌,
+  ◌≤◌,
+  List,
+  [],
+  ◌∷◌,
+  ◌++◌,
+  length,
+  take,
+  drop,
+  Some,
+  None,
+  refl,
+  sym,
+  ap,
+  ◌∙◌,
+  arith,
+  append_assoc,
+  length-drop,
+  length-append,
+  drop-drop,
+  length-take-le,
+}
 use Rattle.std.specs.Prelude.{option_map, flat_map, sum_by, count_by, false, ⊤}
 use Rattle.std.proofs.lemmas.List.{append-nil}
 use Rattle.std.proofs.lemmas.Grind.{flat_map-append}
@@ -12,8 +36,29 @@ use Rattle.mail_world.specs.Text.{crlf, place_of}
 use Rattle.mail_world.specs.Data.{data_end, end_of_data}
 use Rattle.mail_world.specs.Site.{Site}
 use Rattle.mail_world.specs.Session.{Session, fresh, Input, step}
-use Rattle.mail_world.specs.Conversation.{Disposition, Part, CommandLine, MailData, cut_line, cut, cut_then, inputs_of, session_after, replies_to, parts,
-    session_after_parts, size_of, is_data, OutcomesFit, AllFit, NoDataEnded, Conversation, stop_at, inputs, IsAccount}
+use Rattle.mail_world.specs.Conversation.{
+  Disposition,
+  Part,
+  CommandLine,
+  MailData,
+  cut_line,
+  cut,
+  cut_then,
+  inputs_of,
+  session_after,
+  replies_to,
+  parts,
+  session_after_parts,
+  size_of,
+  is_data,
+  OutcomesFit,
+  AllFit,
+  NoDataEnded,
+  Conversation,
+  stop_at,
+  inputs,
+  IsAccount,
+}
 use Rattle.mail_world.specs.Dispositions.{disposition_of, dispositions_of}
 use Rattle.mail_world.proofs.Places.{place_of_stands}
 use Rattle.mail_world.proofs.Cuts.{parts-cut}
@@ -65,10 +110,12 @@ AllFit-append : (site : Site) (session : Session) (ps qs : List Part) → AllFit
 AllFit-append site session [] qs f g = g
 AllFit-append site session (CommandLine text ∷ ps) qs f g =
     AllFit-append site (session_after site session (inputs_of (CommandLine text))) ps qs f
-        (rw (session_after_parts-cons site session (CommandLine text) ps) at g)
-AllFit-append site session (MailData text d ∷ ps) qs f g =
-    (f.0, AllFit-append site (session_after site session (inputs_of (MailData text d))) ps qs f.1
-        (rw (session_after_parts-cons site session (MailData text d) ps) at g))
+    (rw (session_after_parts-cons site session (CommandLine text) ps) at g)
+AllFit-append site session (MailData text d ∷ ps) qs f g = (
+  f.0,
+  AllFit-append site (session_after site session (inputs_of (MailData text d))) ps qs f.1
+      (rw (session_after_parts-cons site session (MailData text d) ps) at g),
+)
 
 dispositions-snoc : (ps : List Part) (p : Part) (ds : List Disposition) → dispositions_of (ps ++ p ∷ []) ++ ds ≡ dispositions_of ps ++ (disposition_of p ++ ds)
 dispositions-snoc ps p ds =
@@ -104,7 +151,7 @@ handled_one site s at ps p n h is size within fit = record {
       ap (λ l. parts site fresh s l) (dispositions-snoc ps p ds)
       ∙ h.goes (disposition_of p ++ ds)
       ∙ ap (λ l. ps ++ l) (parts-cut site session (drop at s) (disposition_of p ++ ds)
-          ∙ ap (λ o. cut_then o (λ c. parts site (session_after site session (inputs_of c.part)) (drop c.size (drop at s)) c.dispositions)) (is ds))
+      ∙ ap (λ o. cut_then o (λ c. parts site (session_after site session (inputs_of c.part)) (drop c.size (drop at s)) c.dispositions)) (is ds))
       ∙ ap (λ l. ps ++ p ∷ parts site (session_after site session (inputs_of p)) l ds) (drop-drop n at s)
       ∙ ap (λ x. ps ++ p ∷ parts site x (drop (at + n) s) ds) (sym (session_after_parts-snoc site fresh ps p))
       ∙ sym (append_assoc ps (p ∷ []) _);
@@ -204,8 +251,8 @@ all_parts site s at ps h none =
     ap (λ ds. parts site fresh s ds) (sym (append-nil (dispositions_of ps)))
     ∙ h.goes []
     ∙ ap (λ l. ps ++ l) (parts-cut site session (drop at s) []
-        ∙ ap (λ o. cut_then o (λ c. parts site (session_after site session (inputs_of c.part)) (drop c.size (drop at s)) c.dispositions))
-        (no_cut session.state (drop at s) none))
+    ∙ ap (λ o. cut_then o (λ c. parts site (session_after site session (inputs_of c.part)) (drop c.size (drop at s)) c.dispositions))
+    (no_cut session.state (drop at s) none))
     ∙ append-nil ps
 
 pub all_inputs : (site : Site) (s : List ℕ) (ps : List Part) → parts site fresh s (dispositions_of ps) ≡ ps

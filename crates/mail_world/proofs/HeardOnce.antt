@@ -1,14 +1,57 @@
 -- What a lane heard names each transaction and place at most once: each copy that was given away is on its way to a worker's slip, has its slip in the lane's channel, or was heard of.
-use Rattle.std.proofs.Common.{◌≡◌, ◌≢◌, ℕ, suc, ◌+◌, ◌-◌, ◌≤◌, List, [], ◌∷◌, ◌++◌, drop, Bool, true, false, cond, ◌==◌, Some, None, inl, inr, refl, ap, sym,
-    ◌∙◌, subst, arith, add-one}
+use Rattle.std.proofs.Common.{
+  ◌≡◌,
+  ◌≢◌,
+  ℕ,
+  suc,
+  ◌+◌,
+  ◌-◌,
+  ◌≤◌,
+  List,
+  [],
+  ◌∷◌,
+  ◌++◌,
+  drop,
+  Bool,
+  true,
+  false,
+  cond,
+  ◌==◌,
+  Some,
+  None,
+  inl,
+  inr,
+  refl,
+  ap,
+  sym,
+  ◌∙◌,
+  subst,
+  arith,
+  add-one,
+}
 use Rattle.std.specs.Prelude.{slice_get, slice_set, flat_map, count_by}
 use Rattle.mail_world.specs.declared.Txn.{Txn}
 use Rattle.mail_world.specs.declared.Slip.{Slip}
 use Rattle.mail_world.specs.Slips.{names, times_named, gather_for, txn_of, own_slip, slip_of}
 use Rattle.mail_world.specs.House.{Post, Copy, Box, Lane, House, IsFreshBox, IsFreshLane, IsStart}
 use Rattle.mail_world.specs.declared.Event.{Event}
-use Rattle.mail_world.specs.declared.Event.TheVariants.{Begin, Put, Cancel, Seal, Split, Offer, HandBack, Collect, Take, Write, Sync, Release, GiveSlip,
-    Reclaim, Close}
+use Rattle.mail_world.specs.declared.Event.TheVariants.{
+  Begin,
+  Put,
+  Cancel,
+  Seal,
+  Split,
+  Offer,
+  HandBack,
+  Collect,
+  Take,
+  Write,
+  Sync,
+  Release,
+  GiveSlip,
+  Reclaim,
+  Close,
+}
 use Rattle.mail_world.specs.Events.{Step, LaneIs, BoxIs, without_copy, sealed_up_to, with_heard, outcome_of}
 use Rattle.mail_world.specs.Runs.{Happened, Run, last_house, finished_by, HearsOnce}
 use Rattle.mail_world.proofs.Accepted.{get_set, each_at}
@@ -16,8 +59,19 @@ use Rattle.mail_world.proofs.Spools.{AllSound, sound_step, sound_fresh, held}
 use Rattle.mail_world.proofs.Depots.{total_set}
 use Rattle.mail_world.proofs.Holds.{drop_get}
 use Rattle.mail_world.proofs.Once.{is_copy, every_run_is_once}
-use Rattle.mail_world.proofs.GivenAway.{count-append, count-cons, count_one_more, AreGiven, given_fewer, given_none, given_seal, given_back, given_offer,
-    given_elsewhere, given_once}
+use Rattle.mail_world.proofs.GivenAway.{
+  count-append,
+  count-cons,
+  count_one_more,
+  AreGiven,
+  given_fewer,
+  given_none,
+  given_seal,
+  given_back,
+  given_offer,
+  given_elsewhere,
+  given_once,
+}
 
 -- the copies on their way, in a mailbox and in all
 abbrev on_way : Box → List Post
@@ -50,11 +104,11 @@ one_lane : (h new : House) (k : ℕ) (old changed : Lane) → new.lanes ≡ slic
     → AllBounded h → AllBounded new
 one_lane h new k old changed lanes was here elsewhere all v lane is txn p =
     elim (get_set h.lanes k v changed lane (ap (λ ls. slice_get ls v) (sym lanes) ∙ is)) [
-  | inl at ↦ let P : Lane → Type 0 = λ x. IsBounded v x new.boxes txn p in
-      let Q : ℕ → Type 0 = λ n. IsBounded n changed new.boxes txn p in
-      subst P at.1 (subst Q (sym at.0) (here txn p (all k old was txn p)))
-  | inr other ↦ elsewhere v lane txn p other.0 (all v lane other.1 txn p)
-]
+      | inl at ↦ let P : Lane → Type 0 = λ x. IsBounded v x new.boxes txn p in
+          let Q : ℕ → Type 0 = λ n. IsBounded n changed new.boxes txn p in
+          subst P at.1 (subst Q (sym at.0) (here txn p (all k old was txn p)))
+      | inr other ↦ elsewhere v lane txn p other.0 (all v lane other.1 txn p)
+    ]
 
 lane_alone : (h new : House) (k : ℕ) (old changed : Lane) → new.boxes ≡ h.boxes → new.lanes ≡ slice_set h.lanes k changed → LaneIs h k old
     → ((txn : Txn) (p : ℕ) → IsBounded k old h.boxes txn p → IsBounded k changed h.boxes txn p) → AllBounded h → AllBounded new
@@ -87,7 +141,7 @@ collected k lane next slip bs txn p oldest slips count heard ts h =
     ap (times_named txn p) (drop_get lane.slips lane.collected slip oldest ∙ ap (λ n. slip ∷ drop n lane.slips) (sym (add-one lane.collected)))
     ∙ count-cons (names txn p) slip (drop (lane.collected + 1) lane.slips) in
     let same : times_told txn p next ≡ times_told txn p lane =
-        rw (slips, count, heard) (omega (arith, was, count-append (names txn p) lane.heard (slip ∷ []))) in
+    rw (slips, count, heard) (omega (arith, was, count-append (names txn p) lane.heard (slip ∷ []))) in
     rw (same, ts) h
 
 way_offered : (txn : Txn) (p : ℕ) (bs : List Box) (b : ℕ) (old new : Box) (post : Post) → slice_get bs b ≡ Some old → new.accepted ≡ old.accepted ++ post ∷ []
@@ -95,7 +149,7 @@ way_offered : (txn : Txn) (p : ℕ) (bs : List Box) (b : ℕ) (old new : Box) (p
     → times_on_way txn p (slice_set bs b new) ≤ times_on_way txn p bs + cond (is_of txn p post) 1 0
 way_offered txn p bs b old new post was accepted taken hand =
     let same : count_by (is_of txn p) (on_way new) ≡ count_by (is_of txn p) (drop (finished_by old.taken old.hand) (old.accepted ++ post ∷ [])) =
-        rw (accepted, taken, hand) refl in
+    rw (accepted, taken, hand) refl in
     omega (arith, way_set txn p bs b old new was, count_one_more (is_of txn p) (finished_by old.taken old.hand) old.accepted post)
 
 -- a slip is given
@@ -115,7 +169,7 @@ gave lane next w copy bs ms txn p heard count ts slips way h =
     let more : times_told txn p next ≤ times_told txn p lane + cond (is_of txn p copy.post) 1 0 =
     rw (heard, count, slips) (omega (arith, count_one_more (names txn p) lane.collected lane.slips slip)) in
     rw (ts) (gave_by (is_of txn p copy.post) (times_told txn p lane) (times_told txn p next) (times_on_way txn p bs) (times_on_way txn p ms) _
-        (copy.post.note.txn.lane == txn.lane) (λ e. rw e refl) more way h)
+    (copy.post.note.txn.lane == txn.lane) (λ e. rw e refl) more way h)
 
 way_gave : (txn : Txn) (p : ℕ) (bs : List Box) (w : ℕ) (box : Box) (copy : Copy) (before : ℕ) → slice_get bs w ≡ Some box → box.hand ≡ Some copy
     → box.taken ≡ suc before → slice_get box.accepted before ≡ Some copy.post
@@ -124,7 +178,7 @@ way_gave txn p bs w box copy before was in_hand last at =
     let one : box.taken - 1 ≡ before = omega arith in
     let list : on_way box ≡ copy.post ∷ drop box.taken box.accepted =
     ap (λ n. drop n box.accepted) (ap (finished_by box.taken) in_hand ∙ one) ∙ drop_get box.accepted before copy.post at
-        ∙ ap (λ n. copy.post ∷ drop n box.accepted) (sym last) in
+    ∙ ap (λ n. copy.post ∷ drop n box.accepted) (sym last) in
     let counts : count_by (is_of txn p) (on_way box) ≡ cond (is_of txn p copy.post) 1 0 + count_by (is_of txn p) (drop box.taken box.accepted) =
     ap (count_by (is_of txn p)) list ∙ count-cons (is_of txn p) copy.post (drop box.taken box.accepted) in
     omega (arith, way_set txn p bs w box (record box { hand = None }) was)
@@ -150,7 +204,7 @@ bounded_step h (HandBack k i m) new sound all st =
     let next : Lane = with_heard (without_copy st.lane i st.t st.sealed) (own_slip k st.sealed.number st.sealed.offered m) in
     lane_alone h new k st.lane next (ap (λ (x : House). x.boxes) st.after) (ap (λ (x : House). x.lanes) st.after) st.is
     (λ txn p b. given_back k txn p (times_told txn p st.lane) (times_told txn p next) (times_on_way txn p h.boxes) st.lane.messages st.t st.sealed.key
-        st.sealed.number st.sealed.offered m st.sealed.message st.copy.is
+    st.sealed.number st.sealed.offered m st.sealed.message st.copy.is
     (omega (arith, count-append (names txn p) st.lane.heard (own_slip k st.sealed.number st.sealed.offered m ∷ []))) b) all
 bounded_step h (Collect k) new sound all st =
     let next : Lane = record (with_heard st.lane st.slip) { collected = st.lane.collected + 1 } in
@@ -165,22 +219,22 @@ bounded_step h (Offer k note) new sound all st =
     (λ txn p. rw (boxes) (way_offered txn p h.boxes note.mailbox st.box changed post st.channel refl refl refl)) in
     one_lane h new k st.lane next (ap (λ (x : House). x.lanes) st.after) st.is
     (λ txn p b. given_offer k txn p (times_told txn p st.lane) (times_on_way txn p h.boxes) (times_on_way txn p new.boxes) st.lane.messages st.t st.key note
-        st.own st.copy.is (way txn p) b)
+    st.own st.copy.is (way txn p) b)
     (λ v lane txn p ne b. given_elsewhere k v txn p (times_told txn p lane) (times_on_way txn p h.boxes) (times_on_way txn p new.boxes) lane.messages note
-        st.own ne (way txn p) b) all
+    st.own ne (way txn p) b) all
 bounded_step h (Take w) new sound all st =
     let one : st.box.taken + 1 - 1 ≡ st.box.taken = omega arith in
     box_alone h new w st.box _ (ap (λ (x : House). x.boxes) st.after) (ap (λ (x : House). x.lanes) st.after) st.is
     (ap (λ n. drop n st.box.accepted) (one ∙ ap (finished_by st.box.taken) (sym st.free_hand))) all
 bounded_step h (Write w bytes) new sound all st =
     box_alone h new w st.box _ (ap (λ (x : House). x.boxes) st.after) (ap (λ (x : House). x.lanes) st.after) st.is
-        (ap (λ hand. drop (finished_by st.box.taken hand) st.box.accepted) (sym st.in_hand)) all
+    (ap (λ hand. drop (finished_by st.box.taken hand) st.box.accepted) (sym st.in_hand)) all
 bounded_step h (Sync w) new sound all st =
     box_alone h new w st.box _ (ap (λ (x : House). x.boxes) st.after) (ap (λ (x : House). x.lanes) st.after) st.is
-        (ap (λ hand. drop (finished_by st.box.taken hand) st.box.accepted) (sym st.in_hand)) all
+    (ap (λ hand. drop (finished_by st.box.taken hand) st.box.accepted) (sym st.in_hand)) all
 bounded_step h (Release w) new sound all st =
     box_alone h new w st.box _ (ap (λ (x : House). x.boxes) st.after) (ap (λ (x : House). x.lanes) st.after) st.is
-        (ap (λ hand. drop (finished_by st.box.taken hand) st.box.accepted) (sym st.in_hand)) all
+    (ap (λ hand. drop (finished_by st.box.taken hand) st.box.accepted) (sym st.in_hand)) all
 bounded_step h (GiveSlip w o) new sound all st =
     let hand = held h.calendar h.host h.quota st.box st.copy st.in_hand (sound w st.box st.is) in
     let next : Lane = record st.lane { slips = st.lane.slips ++ slip_of w st.copy.post.note (outcome_of st.copy) ∷ [] } in
@@ -205,7 +259,7 @@ bounded_start : (blocks : ℕ) (h : House) → IsStart blocks h → AllBounded h
 bounded_start blocks h start k lane is txn p =
     let f = each_at IsFreshLane h.lanes k lane start.lanes is in
     let none : times_on_way txn p h.boxes ≡ 0 =
-        none_on_way txn p h.boxes (λ b box at. let g = each_at IsFreshBox h.boxes b box start.boxes at in rw (g.hand, g.taken, g.accepted) refl) in
+    none_on_way txn p h.boxes (λ b box at. let g = each_at IsFreshBox h.boxes b box start.boxes at in rw (g.hand, g.taken, g.accepted) refl) in
     rw (f.heard, f.slips, f.collected, f.messages, none) (given_none k txn p)
 
 once_by : (t : Bool) (a b way old : ℕ) → old ≤ 1 → a + b + cond t way 0 ≤ cond t old 0 → a ≤ 1
@@ -215,6 +269,6 @@ once_by false a b way old le h = omega arith
 pub every_run_hears_once : (blocks : ℕ) (start : House) (run : List Happened) → IsStart blocks start → Run start run → HearsOnce (last_house start run)
 every_run_hears_once blocks start run is r k lane at txn p =
     let all = bounded_run start run (λ b box here. sound_fresh start.calendar start.host start.quota box (each_at IsFreshBox start.boxes b box is.boxes here))
-        (bounded_start blocks start is) r in
+    (bounded_start blocks start is) r in
     once_by (k == txn.lane) (times_named txn p lane.heard) (times_named txn p (drop lane.collected lane.slips)) _ _
     (given_once k (last_house start run) lane at (every_run_is_once blocks start run is r) txn.number p) (all k lane at txn p)

@@ -1,6 +1,39 @@
 -- What a lane heard is what it collected of its channel's slips, and between them its own slips, one for each copy that it handed back.
-use Rattle.std.proofs.Common.{◌≡◌, ◌≢◌, ℕ, ◌+◌, ◌<◌, ◌≤◌, ◌⊎◌, List, [], ◌∷◌, ◌++◌, length, take, map, Bool, true, false, cond, ◌==◌, Some, None, inl, inr,
-    refl, ap, sym, ◌∙◌, subst, append_assoc, append-nil, arith, add-one, length-append}
+use Rattle.std.proofs.Common.{
+  ◌≡◌,
+  ◌≢◌,
+  ℕ,
+  ◌+◌,
+  ◌<◌,
+  ◌≤◌,
+  ◌⊎◌,
+  List,
+  [],
+  ◌∷◌,
+  ◌++◌,
+  length,
+  take,
+  map,
+  Bool,
+  true,
+  false,
+  cond,
+  ◌==◌,
+  Some,
+  None,
+  inl,
+  inr,
+  refl,
+  ap,
+  sym,
+  ◌∙◌,
+  subst,
+  append_assoc,
+  append-nil,
+  arith,
+  add-one,
+  length-append,
+}
 use Rattle.std.specs.Prelude.{slice_get, slice_set, count_by}
 use Rattle.std.specs.List.{AllByRecursion}
 use Rattle.std.proofs.lemmas.Bool.{eq-eqb}
@@ -13,11 +46,37 @@ use Rattle.mail_world.specs.Slips.{names, times_named, gather_for, txn_of, own_s
 use Rattle.mail_world.specs.Depot.{Key}
 use Rattle.mail_world.specs.House.{Post, Box, SealedMessage, Lane, House, IsFreshBox, IsFreshLane, IsStart}
 use Rattle.mail_world.specs.declared.Event.{Event}
-use Rattle.mail_world.specs.declared.Event.TheVariants.{Begin, Put, Cancel, Seal, Split, Offer, HandBack, Collect, Take, Write, Sync, Release, GiveSlip,
-    Reclaim, Close}
+use Rattle.mail_world.specs.declared.Event.TheVariants.{
+  Begin,
+  Put,
+  Cancel,
+  Seal,
+  Split,
+  Offer,
+  HandBack,
+  Collect,
+  Take,
+  Write,
+  Sync,
+  Release,
+  GiveSlip,
+  Reclaim,
+  Close,
+}
 use Rattle.mail_world.specs.Events.{Step, LaneIs, BoxIs, without_copy, sealed_up_to, with_heard, outcome_of}
-use Rattle.mail_world.specs.Runs.{Happened, Run, last_house, events_of, times_copied, is_collect, handed_back_by, handed_back, IsOfMessage, IsHandedBack,
-    HasHeard}
+use Rattle.mail_world.specs.Runs.{
+  Happened,
+  Run,
+  last_house,
+  events_of,
+  times_copied,
+  is_collect,
+  handed_back_by,
+  handed_back,
+  IsOfMessage,
+  IsHandedBack,
+  HasHeard,
+}
 use Rattle.mail_world.proofs.OneLine.{other_byte}
 use Rattle.mail_world.proofs.Accepted.{get_set, each_at}
 use Rattle.mail_world.proofs.Spools.{take_one_more, slice_get-append}
@@ -26,8 +85,18 @@ use Rattle.mail_world.proofs.Depots.{set_at, set_past}
 use Rattle.mail_world.proofs.WrongSteps.{same_some}
 use Rattle.mail_world.proofs.Holds.{all_of}
 use Rattle.mail_world.proofs.Once.{accepted_in, is_copy, times_same, times_offer, IsOnce, every_run_is_once}
-use Rattle.mail_world.proofs.GivenAway.{count-append, count_some, AreGiven, given_fewer, given_none, given_seal, given_back, given_offer, given_elsewhere,
-    given_once}
+use Rattle.mail_world.proofs.GivenAway.{
+  count-append,
+  count_some,
+  AreGiven,
+  given_fewer,
+  given_none,
+  given_seal,
+  given_back,
+  given_offer,
+  given_elsewhere,
+  given_once,
+}
 
 pub same_or_not : (k at : ℕ) → (k ≡ at) ⊎ (k ≢ at)
 same_or_not k at = grind arith
@@ -98,8 +167,14 @@ of_set messages t old slip was x = elim (same_or_not x.at t) [
         number = x.number ∙ ap (λ (m : SealedMessage). m.number) same;
         place = omega (arith, below);
       }
-  | inr away ↦ record { at = x.at; message = x.message; is = set_past messages t x.at (record old { offered = old.offered + 1 }) (λ same. away (sym same))
-      ∙ x.is; number = x.number; place = x.place }
+  | inr away ↦ record {
+    at = x.at;
+    message = x.message;
+    is = set_past messages t x.at (record old { offered = old.offered + 1 }) (λ same. away (sym same))
+        ∙ x.is;
+    number = x.number;
+    place = x.place;
+  }
 ]
 
 of_given : (messages : List SealedMessage) (t : ℕ) (old : SealedMessage) (slip : Slip) → slice_get messages t ≡ Some old → slip.txn.number ≡ old.number
@@ -165,7 +240,7 @@ own_lane events k i m lane next bs t key number place message at slips count hea
       made = all_more (IsMade k) s.own slip s.made refl;
       sealed = all_more (IsOfMessage next.messages) s.own slip
           (weaken (IsOfMessage lane.messages) (IsOfMessage next.messages) (λ x o. subst (λ ms. IsOfMessage ms x) (sym ts) (of_set lane.messages t _ x at o))
-              s.own s.sealed)
+          s.own s.sealed)
           (subst (λ ms. IsOfMessage ms slip) (sym ts) (of_given lane.messages t _ slip at refl refl));
       given = λ txn p. rw (ts) (given_back k txn p (times_named txn p s.own) (times_named txn p (s.own ++ slip ∷ [])) (copied txn p bs) lane.messages t key
           number place m message at
@@ -199,11 +274,11 @@ one_lane : (events : List Event) (e : Event) (h new : House) (k : ℕ) (old chan
     → AllSoFar events h → AllSoFar (events ++ e ∷ []) new
 one_lane events e h new k old changed lanes was here elsewhere all v lane is =
     elim (get_set h.lanes k v changed lane (ap (λ ls. slice_get ls v) (sym lanes) ∙ is)) [
-  | inl at ↦ let P : Lane → Type 0 = λ x. IsSoFar (events ++ e ∷ []) v x new.boxes in
-      let Q : ℕ → Type 0 = λ n. IsSoFar (events ++ e ∷ []) n changed new.boxes in
-      subst P at.1 (subst Q (sym at.0) (here (all k old was)))
-  | inr other ↦ elsewhere v lane other.0 (all v lane other.1)
-]
+      | inl at ↦ let P : Lane → Type 0 = λ x. IsSoFar (events ++ e ∷ []) v x new.boxes in
+          let Q : ℕ → Type 0 = λ n. IsSoFar (events ++ e ∷ []) n changed new.boxes in
+          subst P at.1 (subst Q (sym at.0) (here (all k old was)))
+      | inr other ↦ elsewhere v lane other.0 (all v lane other.1)
+    ]
 
 abbrev NoCopy : House → House → Type 0
 NoCopy h new = (txn : Txn) (p : ℕ) → copied txn p new.boxes ≤ copied txn p h.boxes
@@ -229,13 +304,13 @@ one_box h new w old changed boxes was same txn p = rw (boxes) (let e = times_sam
 so_far_step : (events : List Event) (h : House) (e : Event) (new : House) → AllSoFar events h → Step h e new → AllSoFar (events ++ e ∷ []) new
 so_far_step events h (Begin k) new all st =
     lane_alone events (Begin k) h new k st.lane _ (ap (λ (x : House). x.lanes) st.after) st.is (no_box h new (ap (λ (x : House). x.boxes) st.after))
-        (λ v ne. (refl, refl))
+    (λ v ne. (refl, refl))
     (same_lane events (Begin k) k st.lane _ h.boxes new.boxes (refl, refl) refl refl refl refl (no_box h new (ap (λ (x : House). x.boxes) st.after))) all
 so_far_step events h (Put k bytes) new all st =
     no_lane events (Put k bytes) h new (ap (λ (x : House). x.lanes) st.after) (no_box h new (ap (λ (x : House). x.boxes) st.after)) (λ v. (refl, refl)) all
 so_far_step events h (Cancel k) new all st =
     lane_alone events (Cancel k) h new k st.lane _ (ap (λ (x : House). x.lanes) st.after) st.is (no_box h new (ap (λ (x : House). x.boxes) st.after))
-        (λ v ne. (refl, refl))
+    (λ v ne. (refl, refl))
     (same_lane events (Cancel k) k st.lane _ h.boxes new.boxes (refl, refl) refl refl refl refl (no_box h new (ap (λ (x : House). x.boxes) st.after))) all
 so_far_step events h (Seal k n) new all st =
     let le = no_box h new (ap (λ (x : House). x.boxes) st.after) in
@@ -252,48 +327,48 @@ so_far_step events h (Seal k n) new all st =
     (given_fewer k txn p told (copied txn p h.boxes) (copied txn p new.boxes) st.lane.messages (le txn p) g))) all
 so_far_step events h (Split k i) new all st =
     lane_alone events (Split k i) h new k st.lane _ (ap (λ (x : House). x.lanes) st.after) st.is (no_box h new (ap (λ (x : House). x.boxes) st.after))
-        (λ v ne. (refl, refl))
+    (λ v ne. (refl, refl))
     (same_lane events (Split k i) k st.lane _ h.boxes new.boxes (refl, refl) refl refl refl refl (no_box h new (ap (λ (x : House). x.boxes) st.after))) all
 so_far_step events h (HandBack k i m) new all st =
     let boxes : new.boxes ≡ h.boxes = ap (λ (x : House). x.boxes) st.after in
     let next : Lane = with_heard (without_copy st.lane i st.t st.sealed) (own_slip k st.sealed.number st.sealed.offered m) in
     let P : List Box → Type 0 = λ bs. IsSoFar (events ++ HandBack k i m ∷ []) k next bs in
     lane_alone events (HandBack k i m) h new k st.lane next (ap (λ (x : House). x.lanes) st.after) st.is (no_box h new boxes)
-        (λ v ne. (rw (other_byte k v (λ same. ne (sym same))) refl, refl))
+    (λ v ne. (rw (other_byte k v (λ same. ne (sym same))) refl, refl))
     (λ s. subst P (sym boxes) (own_lane events k i m st.lane next h.boxes st.t st.sealed.key st.sealed.number st.sealed.offered st.sealed.message st.copy.is
-        refl refl refl refl s)) all
+    refl refl refl refl s)) all
 so_far_step events h (Collect k) new all st =
     let boxes : new.boxes ≡ h.boxes = ap (λ (x : House). x.boxes) st.after in
     let next : Lane = record (with_heard st.lane st.slip) { collected = st.lane.collected + 1 } in
     let P : List Box → Type 0 = λ bs. IsSoFar (events ++ Collect k ∷ []) k next bs in
     lane_alone events (Collect k) h new k st.lane next (ap (λ (x : House). x.lanes) st.after) st.is (no_box h new boxes)
-        (λ v ne. (refl, other_byte k v (λ same. ne (sym same))))
+    (λ v ne. (refl, other_byte k v (λ same. ne (sym same))))
     (λ s. subst P (sym boxes) (collecting_lane events k st.lane next h.boxes st.slip st.oldest refl refl refl refl s)) all
 so_far_step events h (Offer k note) new all st =
     let post : Post = record { note = note; key = st.key } in
     let next : Lane = without_copy st.lane st.at st.t (sealed_up_to st.key note.txn.number note.message note.place) in
     let more : (txn : Txn) (p : ℕ) → copied txn p new.boxes ≤ copied txn p h.boxes + cond (is_copy txn p note) 1 0 =
     (λ txn p. rw (ap (λ (x : House). x.boxes) st.after)
-        (omega (arith, times_offer txn p h.boxes note.mailbox st.box (record st.box { accepted = st.box.accepted ++ post ∷ [] }) post st.channel refl))) in
+    (omega (arith, times_offer txn p h.boxes note.mailbox st.box (record st.box { accepted = st.box.accepted ++ post ∷ [] }) post st.channel refl))) in
     one_lane events (Offer k note) h new k st.lane next (ap (λ (x : House). x.lanes) st.after) st.is
     (quiet_lane events (Offer k note) k st.lane next h.boxes new.boxes [] (refl, refl) refl refl (sym (append-nil st.lane.slips))
     (λ slip x. of_set st.lane.messages st.t _ slip st.copy.is x)
     (λ txn p told g. given_offer k txn p told (copied txn p h.boxes) (copied txn p new.boxes) st.lane.messages st.t st.key note st.own st.copy.is (more txn p)
-        g))
+    g))
     (λ v lane ne. quiet_lane events (Offer k note) v lane lane h.boxes new.boxes [] (refl, refl) refl refl (sym (append-nil lane.slips)) (λ slip x. x)
     (λ txn p told g. given_elsewhere k v txn p told (copied txn p h.boxes) (copied txn p new.boxes) lane.messages note st.own ne (more txn p) g)) all
 so_far_step events h (Take w) new all st =
     no_lane events (Take w) h new (ap (λ (x : House). x.lanes) st.after) (one_box h new w st.box _ (ap (λ (x : House). x.boxes) st.after) st.is refl)
-        (λ v. (refl, refl)) all
+    (λ v. (refl, refl)) all
 so_far_step events h (Write w bytes) new all st =
     no_lane events (Write w bytes) h new (ap (λ (x : House). x.lanes) st.after) (one_box h new w st.box _ (ap (λ (x : House). x.boxes) st.after) st.is refl)
-        (λ v. (refl, refl)) all
+    (λ v. (refl, refl)) all
 so_far_step events h (Sync w) new all st =
     no_lane events (Sync w) h new (ap (λ (x : House). x.lanes) st.after) (one_box h new w st.box _ (ap (λ (x : House). x.boxes) st.after) st.is refl)
-        (λ v. (refl, refl)) all
+    (λ v. (refl, refl)) all
 so_far_step events h (Release w) new all st =
     no_lane events (Release w) h new (ap (λ (x : House). x.lanes) st.after) (one_box h new w st.box _ (ap (λ (x : House). x.boxes) st.after) st.is refl)
-        (λ v. (refl, refl)) all
+    (λ v. (refl, refl)) all
 so_far_step events h (GiveSlip w o) new all st =
     let k : ℕ = st.copy.post.note.txn.lane in
     let slip : Slip = slip_of w st.copy.post.note (outcome_of st.copy) in
@@ -306,14 +381,14 @@ so_far_step events h (Reclaim slot generation) new all st =
     no_lane events (Reclaim slot generation) h new (ap (λ (x : House). x.lanes) st.2) (no_box h new (ap (λ (x : House). x.boxes) st.2)) (λ v. (refl, refl)) all
 so_far_step events h (Close m) new all st =
     no_lane events (Close m) h new (ap (λ (x : House). x.lanes) st.3) (one_box h new m st.0 _ (ap (λ (x : House). x.boxes) st.3) st.1 refl) (λ v. (refl, refl))
-        all
+    all
 
 so_far_run : (events : List Event) (h : House) (run : List Happened) → AllSoFar events h → Run h run → AllSoFar (events ++ events_of run) (last_house h run)
 so_far_run events h [] all r = rw (append-nil events) all
 so_far_run events h (x ∷ xs) all r =
     let P : List Event → Type 0 = λ es. AllSoFar es (last_house x.house xs) in
     subst P (append_assoc events (x.event ∷ []) (events_of xs))
-        (so_far_run (events ++ x.event ∷ []) x.house xs (so_far_step events h x.event x.house all r.0) r.1)
+    (so_far_run (events ++ x.event ∷ []) x.house xs (so_far_step events h x.event x.house all r.0) r.1)
 
 none_copied : (txn : Txn) (p : ℕ) (bs : List Box) → AllByRecursion IsFreshBox bs → copied txn p bs ≡ 0
 none_copied txn p [] f = refl

@@ -1,6 +1,32 @@
 -- Steps of a lane that have no result.
-use Rattle.std.proofs.Common.{◌≡◌, ◌≢◌, ℕ, suc, ◌+◌, ◌<◌, ◌≤◌, List, [], ◌∷◌, ◌++◌, length, Bool, true, false, cond, ◌==◌, Some, None, refl, ap, sym, ◌∙◌,
-    subst, arith, length-append}
+use Rattle.std.proofs.Common.{
+  ◌≡◌,
+  ◌≢◌,
+  ℕ,
+  suc,
+  ◌+◌,
+  ◌<◌,
+  ◌≤◌,
+  List,
+  [],
+  ◌∷◌,
+  ◌++◌,
+  length,
+  Bool,
+  true,
+  false,
+  cond,
+  ◌==◌,
+  Some,
+  None,
+  refl,
+  ap,
+  sym,
+  ◌∙◌,
+  subst,
+  arith,
+  length-append,
+}
 use Rattle.std.specs.Prelude.{slice_get}
 use Rattle.std.proofs.lemmas.Bool.{eqb-true, eq-eqb}
 use Rattle.std.proofs.lemmas.Option.{slice_get_within}
@@ -89,7 +115,7 @@ pub split_of_one : (h new : House) (k i : ℕ) (lane : Lane) (hold : Hold) → L
     → SplitStep h k i new → ⊥
 split_of_one h new k i lane hold is at one st =
     let there : slice_get lane.holds i ≡ Some (record { key = st.key; weight = st.weight + 1 }) =
-        ap (λ (x : Lane). slice_get x.holds i) (same_lane h k lane st.lane is st.is) ∙ st.hold in
+    ap (λ (x : Lane). slice_get x.holds i) (same_lane h k lane st.lane is st.is) ∙ st.hold in
     let same = same_some (slice_get lane.holds i) hold (record { key = st.key; weight = st.weight + 1 }) at there in
     let weight : hold.weight ≡ st.weight + 1 = ap (λ (x : Hold). x.weight) same in
     absurd (omega (arith, st.above))
@@ -97,7 +123,7 @@ split_of_one h new k i lane hold is at one st =
 pub split_of_nothing : (h new : House) (k i : ℕ) (lane : Lane) → LaneIs h k lane → slice_get lane.holds i ≡ None → SplitStep h k i new → ⊥
 split_of_nothing h new k i lane is nothing st =
     none_some (slice_get lane.holds i) (record { key = st.key; weight = st.weight + 1 }) nothing
-        (ap (λ (x : Lane). slice_get x.holds i) (same_lane h k lane st.lane is st.is) ∙ st.hold)
+    (ap (λ (x : Lane). slice_get x.holds i) (same_lane h k lane st.lane is st.is) ∙ st.hold)
 
 pub offer_without_hold : (h new : House) (k : ℕ) (note : Note) (lane : Lane) → LaneIs h k lane
     → ((i : ℕ) (hold : Hold) → slice_get lane.holds i ≡ Some hold → hold.weight ≢ 1) → OfferStep h k note new → ⊥
@@ -114,7 +140,7 @@ pub offer_with_other_hold : (h new : House) (k : ℕ) (note : Note) (lane : Lane
     → hold.key ≢ x.key) → OfferStep h k note new → ⊥
 offer_with_other_hold h new k note lane is other st =
     other st.at st.t (record { key = st.key; weight = 1 }) _ (ap (λ (x : Lane). slice_get x.holds st.at) (same_lane h k lane st.lane is st.is) ∙ st.copy.hold)
-        (offered_of h new k note lane is st) refl refl
+    (offered_of h new k note lane is st) refl refl
 
 pub offer_of_other_bytes : (h new : House) (k : ℕ) (note : Note) (lane : Lane) → LaneIs h k lane
     → ((t : ℕ) (x : SealedMessage) → slice_get lane.messages t ≡ Some x → x.number ≡ note.txn.number → x.message ≢ note.message) → OfferStep h k note new → ⊥
@@ -149,7 +175,7 @@ pub hand_back_with_other_hold : (h new : House) (k i b : ℕ) (lane : Lane) → 
 hand_back_with_other_hold h new k i b lane is other st =
     let same = same_lane h k lane st.lane is st.is in
     other st.t (record { key = st.sealed.key; weight = 1 }) st.sealed (ap (λ (x : Lane). slice_get x.holds i) same ∙ st.copy.hold)
-        (ap (λ (x : Lane). slice_get x.messages st.t) same ∙ st.copy.is) refl
+    (ap (λ (x : Lane). slice_get x.messages st.t) same ∙ st.copy.is) refl
 
 pub collect_of_none : (h new : House) (k : ℕ) (lane : Lane) → LaneIs h k lane → length lane.slips ≤ lane.collected → CollectStep h k new → ⊥
 collect_of_none h new k lane is none st =

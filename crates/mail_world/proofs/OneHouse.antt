@@ -23,16 +23,31 @@ key = record { slot = 0; generation = 0 }
 
 -- the only copy of the lane's transaction of that number
 abbrev pub only_copy : ℕ → List ℕ → Note
-only_copy number message = record { txn = record { lane = 0; number = number }; place = 0; mailbox = 0; sender = []; client = codes "c"; moment = 0;
-    message = message }
+only_copy number message = record {
+  txn = record { lane = 0; number = number };
+  place = 0;
+  mailbox = 0;
+  sender = [];
+  client = codes "c";
+  moment = 0;
+  message = message;
+}
 
 -- a copy of which nothing is written
 abbrev pub just_taken : Post → Copy
 just_taken post = record { post = post; written = 0; synced = false; over = false; released = false }
 
 abbrev pub lane₀ : Lane
-lane₀ = record { number = 0; draft = None; messages = []; holds = []; gather = record { txn = record { lane = 0; number = 0 }; places = [] }; slips = [];
-    collected = 0; heard = [] }
+lane₀ = record {
+  number = 0;
+  draft = None;
+  messages = [];
+  holds = [];
+  gather = record { txn = record { lane = 0; number = 0 }; places = [] };
+  slips = [];
+  collected = 0;
+  heard = [];
+}
 
 abbrev pub box₀ : Box
 box₀ = record { old = []; accepted = []; taken = 0; settled = 0; closed = false; spool = []; hand = None; faulty = false }

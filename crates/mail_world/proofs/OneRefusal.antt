@@ -12,8 +12,25 @@ use Rattle.mail_world.specs.Events.{with_heard, with_taken, without_copy, sealed
 use Rattle.mail_world.specs.Runs.{Happened, Run, HasSpoolAndPlaces, HasHeardSlips}
 use Rattle.mail_world.specs.Rows.{calendar, site}
 use Rattle.mail_world.proofs.Computed.{everything}
-use Rattle.mail_world.proofs.OneHouse.{bytes, key, only_copy, just_taken, box₀, with_draft, with_bytes, lane_sealed, with_message, then', split, each_once,
-    starts, fresh, begins, puts, seals}
+use Rattle.mail_world.proofs.OneHouse.{
+  bytes,
+  key,
+  only_copy,
+  just_taken,
+  box₀,
+  with_draft,
+  with_bytes,
+  lane_sealed,
+  with_message,
+  then',
+  split,
+  each_once,
+  starts,
+  fresh,
+  begins,
+  puts,
+  seals,
+}
 
 abbrev next : Key
 next = record { slot = 0; generation = 1 }
@@ -190,43 +207,137 @@ it_runs = (
     (
       seals 1 (Some (length text)) [] 1 (lit≤ tt),
       (
-        record { lane = lane₃; box = box₀; at = 0; t = 0; key = key; is = refl; copy = record { hold = refl; is = refl }; own = refl; channel = refl;
-            still_open = refl; room = lit< tt; after = refl },
+        record {
+          lane = lane₃;
+          box = box₀;
+          at = 0;
+          t = 0;
+          key = key;
+          is = refl;
+          copy = record { hold = refl; is = refl };
+          own = refl;
+          channel = refl;
+          still_open = refl;
+          room = lit< tt;
+          after = refl;
+        },
         (
           record { box = box₄; post = post₁; is = refl; free_hand = refl; oldest = refl; after = refl },
           (
-            record { box = box₅; copy = copy₅; depot = house₆.depot; is = refl; in_hand = refl; held = refl;
-                releases = record { bytes = bytes; blocks = 0 ∷ []; weight = 0; message = refl; after = refl }; after = refl },
+            record {
+              box = box₅;
+              copy = copy₅;
+              depot = house₆.depot;
+              is = refl;
+              in_hand = refl;
+              held = refl;
+              releases = record { bytes = bytes; blocks = 0 ∷ []; weight = 0; message = refl; after = refl };
+              after = refl;
+            },
             (
-              record { box = box₆; copy = record copy₅ { released = true }; lane = lane₄; is = refl; in_hand = refl; let_go = refl; says = refl; to = refl;
-                  after = refl },
+              record {
+                box = box₆;
+                copy = record copy₅ { released = true };
+                lane = lane₄;
+                is = refl;
+                in_hand = refl;
+                let_go = refl;
+                says = refl;
+                to = refl;
+                after = refl;
+              },
               (
                 record { lane = lane₇; slip = slip₁; is = refl; oldest = refl; after = refl },
                 (
                   (house₉.depot, record { bytes = bytes; blocks = 0 ∷ []; free = 0 ∷ 1 ∷ []; message = refl; given = split; after = refl }, refl),
                   (
-                    record { lane = lane₈; key = next; number = 2; depot = house₁₀.depot; is = refl; no_draft = refl; later = lit< tt; begins = (refl, refl);
-                        after = refl },
+                    record {
+                      lane = lane₈;
+                      key = next;
+                      number = 2;
+                      depot = house₁₀.depot;
+                      is = refl;
+                      no_draft = refl;
+                      later = lit< tt;
+                      begins = (refl, refl);
+                      after = refl;
+                    },
                     (
-                      record { lane = lane₁₀; key = next; depot = house₁₁.depot; is = refl; draft = refl; some = lit≤ tt;
-                          seals = record { bytes = []; blocks = []; draft = refl; after = refl }; after = refl },
+                      record {
+                        lane = lane₁₀;
+                        key = next;
+                        depot = house₁₁.depot;
+                        is = refl;
+                        draft = refl;
+                        some = lit≤ tt;
+                        seals = record { bytes = []; blocks = []; draft = refl; after = refl };
+                        after = refl;
+                      },
                       (
-                        record { lane = lane₁₁; box = box₇; at = 0; t = 1; key = next; is = refl; copy = record { hold = refl; is = refl }; own = refl;
-                            channel = refl; still_open = refl; room = lit< tt; after = refl },
+                        record {
+                          lane = lane₁₁;
+                          box = box₇;
+                          at = 0;
+                          t = 1;
+                          key = next;
+                          is = refl;
+                          copy = record { hold = refl; is = refl };
+                          own = refl;
+                          channel = refl;
+                          still_open = refl;
+                          room = lit< tt;
+                          after = refl;
+                        },
                         (
                           record { box = box₁₂; post = post₂; is = refl; free_hand = refl; oldest = refl; after = refl },
                           (
-                            record { box = box₁₃; copy = copy₁₃; more = []; is = refl; in_hand = refl; sound = refl; held = refl; unsettled = refl; next = refl;
-                                after = refl },
+                            record {
+                              box = box₁₃;
+                              copy = copy₁₃;
+                              more = [];
+                              is = refl;
+                              in_hand = refl;
+                              sound = refl;
+                              held = refl;
+                              unsettled = refl;
+                              next = refl;
+                              after = refl;
+                            },
                             (
-                              record { box = box₁₄; copy = copy₁₄; is = refl; in_hand = refl; sound = refl; held = refl; unsettled = refl; whole = refl;
-                                  after = refl },
+                              record {
+                                box = box₁₄;
+                                copy = copy₁₄;
+                                is = refl;
+                                in_hand = refl;
+                                sound = refl;
+                                held = refl;
+                                unsettled = refl;
+                                whole = refl;
+                                after = refl;
+                              },
                               (
-                                record { box = box₁₅; copy = copy₁₅; depot = house₁₆.depot; is = refl; in_hand = refl; held = refl;
-                                    releases = record { bytes = []; blocks = []; weight = 0; message = refl; after = refl }; after = refl },
+                                record {
+                                  box = box₁₅;
+                                  copy = copy₁₅;
+                                  depot = house₁₆.depot;
+                                  is = refl;
+                                  in_hand = refl;
+                                  held = refl;
+                                  releases = record { bytes = []; blocks = []; weight = 0; message = refl; after = refl };
+                                  after = refl;
+                                },
                                 (
-                                  record { box = box₁₆; copy = record copy₁₅ { released = true }; lane = lane₁₂; is = refl; in_hand = refl; let_go = refl;
-                                      says = refl; to = refl; after = refl },
+                                  record {
+                                    box = box₁₆;
+                                    copy = record copy₁₅ { released = true };
+                                    lane = lane₁₂;
+                                    is = refl;
+                                    in_hand = refl;
+                                    let_go = refl;
+                                    says = refl;
+                                    to = refl;
+                                    after = refl;
+                                  },
                                   (
                                     record { lane = lane₁₇; slip = slip₂; is = refl; oldest = refl; after = refl },
                                     tt,

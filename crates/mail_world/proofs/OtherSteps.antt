@@ -20,9 +20,20 @@ pub begin : (h : House) (k i : ℕ) (lane : Lane) (slot : Slot) → LaneIs h k l
 begin h k i lane slot is none at empty =
     let key : Key = record { slot = i; generation = slot.generation } in
     let begins : slice_get h.depot.slots i ≡ Some (record { generation = slot.generation; held = Free }) =
-    at ∙ ap (λ (held : Held). let x : Slot = record { generation = slot.generation; held = held } in Some x) empty in
-    (_, record { lane = lane; key = key; number = lane.number + 1; depot = with_held h.depot key (Draft [] []) h.depot.free; is = is; no_draft = none;
-        later = omega arith; begins = (begins, refl); after = refl })
+    at ∙ ap (λ (held : Held). let x : Slot = record { generation = slot.generation; held = held } in Some x) empty in (
+      _,
+      record {
+        lane = lane;
+        key = key;
+        number = lane.number + 1;
+        depot = with_held h.depot key (Draft [] []) h.depot.free;
+        is = is;
+        no_draft = none;
+        later = omega arith;
+        begins = (begins, refl);
+        after = refl;
+      },
+    )
 
 pub split : (h : House) (k i : ℕ) (lane : Lane) (hold : Hold) → LaneIs h k lane → slice_get lane.holds i ≡ Some hold → 1 < hold.weight → MayHappen h (Split k i)
 split h k i lane hold is at more =
@@ -34,9 +45,23 @@ split h k i lane hold is at more =
 pub offer : (h : House) (k i t : ℕ) (key : Key) (note : Note) (lane : Lane) (box : Box) → LaneIs h k lane
     → HasCopy lane i t (sealed_up_to key note.txn.number note.message note.place) → note.txn.lane ≡ k
     → BoxIs h note.mailbox box → box.closed ≡ false → length box.accepted < box.taken + h.capacity → MayHappen h (Offer k note)
-offer h k i t key note lane box is copy own channel still_open room =
-    (_, record { lane = lane; box = box; at = i; t = t; key = key; is = is; copy = copy; own = own; channel = channel; still_open = still_open; room = room;
-        after = refl })
+offer h k i t key note lane box is copy own channel still_open room = (
+  _,
+  record {
+    lane = lane;
+    box = box;
+    at = i;
+    t = t;
+    key = key;
+    is = is;
+    copy = copy;
+    own = own;
+    channel = channel;
+    still_open = still_open;
+    room = room;
+    after = refl;
+  },
+)
 
 pub collect : (h : House) (k : ℕ) (lane : Lane) → LaneIs h k lane → lane.collected < length lane.slips → MayHappen h (Collect k)
 collect h k lane is more =
@@ -62,9 +87,14 @@ sync h w box copy is hand held unsettled sound whole =
 
 pub reclaim : (h : House) (key : Key) (bytes blocks : List ℕ) → held_under h.depot key ≡ Sealed bytes blocks 0 → MayHappen h (Reclaim key.slot key.generation)
 reclaim h key bytes blocks held =
-    let free = blocks ++ h.depot.free in
-    (_, (given_back h.depot key free,
-        record { bytes = bytes; blocks = blocks; free = free; message = held; given = λ x. times-append x blocks h.depot.free; after = refl }, refl))
+    let free = blocks ++ h.depot.free in (
+      _,
+      (
+        given_back h.depot key free,
+        record { bytes = bytes; blocks = blocks; free = free; message = held; given = λ x. times-append x blocks h.depot.free; after = refl },
+        refl,
+      ),
+    )
 
 pub close : (h : House) (b : ℕ) (box : Box) → BoxIs h b box → box.closed ≡ false → MayHappen h (Close b)
 close h b box is still_open = (_, (box, is, still_open, refl))

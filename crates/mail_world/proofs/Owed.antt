@@ -48,10 +48,10 @@ transactions-append site n session (MailData text d ∷ ps) qs =
     ap (λ l. record { number = n; session = session; message = message text; disposition = d } ∷ l)
     (transactions-append site n (session_after site session (inputs_of p)) ps qs
     ∙ ap (λ x. transactions_of site n (session_after site session (inputs_of p)) ps
-        ++ transactions_of site (accepted_after site n (session_after site session (inputs_of p)) ps) x qs)
+    ++ transactions_of site (accepted_after site n (session_after site session (inputs_of p)) ps) x qs)
     (sym (session_after-append site session (inputs_of p) (flat_map inputs_of ps)))
     ∙ ap (λ k. transactions_of site n (session_after site session (inputs_of p)) ps
-        ++ transactions_of site (accepted_after site k (session_after site session (inputs_of p)) ps) (session_after_parts site session (p ∷ ps)) qs)
+    ++ transactions_of site (accepted_after site k (session_after site session (inputs_of p)) ps) (session_after_parts site session (p ∷ ps)) qs)
     (sym (same_after_data site n session text d)))
 
 -- one more part
@@ -78,7 +78,7 @@ pub all_transactions : (site : Site) (s : List ℕ) (ps : List Part) → parts s
 unfolding transactions
 all_transactions site s ps e =
     ap (λ (l : List Part). transactions_of site 0 fresh l ++ transactions site (accepted_after site 0 fresh l) []) e
-        ∙ append-nil (transactions_of site 0 fresh ps)
+    ∙ append-nil (transactions_of site 0 fresh ps)
 
 pub all_due : (site : Site) (box : ℕ) (s : List ℕ) (ps : List Part) → parts site fresh s (dispositions_of ps) ≡ ps
     → due site 0 box (account_of s ps ∷ []) ≡ copies_owed 0 box (transactions_of site 0 fresh ps)

@@ -1,6 +1,44 @@
 -- What is read as a path is spelled so.
-use Rattle.std.proofs.Common.{◌≡◌, ◌≢◌, ℕ, suc, ◌+◌, ◌-◌, ◌<◌, ◌≤◌, List, [], ◌∷◌, ◌++◌, length, take, drop, map, Bool, true, false, cond, not, ◌&&◌, ◌||◌,
-    ◌==◌, Option, Some, None, inl, inr, refl, ap, sym, ◌∙◌, subst, append_assoc, arith, length-append, add-one}
+use Rattle.std.proofs.Common.{
+  ◌≡◌,
+  ◌≢◌,
+  ℕ,
+  suc,
+  ◌+◌,
+  ◌-◌,
+  ◌<◌,
+  ◌≤◌,
+  List,
+  [],
+  ◌∷◌,
+  ◌++◌,
+  length,
+  take,
+  drop,
+  map,
+  Bool,
+  true,
+  false,
+  cond,
+  not,
+  ◌&&◌,
+  ◌||◌,
+  ◌==◌,
+  Option,
+  Some,
+  None,
+  inl,
+  inr,
+  refl,
+  ap,
+  sym,
+  ◌∙◌,
+  subst,
+  append_assoc,
+  arith,
+  length-append,
+  add-one,
+}
 use Rattle.std.specs.Prelude.{option_map, option_and_then, nat_le, nat_lt}
 use Rattle.std.specs.List.{list_all, prefix_len, join_with_byte, slice_split, onto_first, before_first, after_first, AllByRecursion}
 use Rattle.std.specs.Str.{byte}
@@ -11,11 +49,43 @@ use Rattle.std.proofs.lemmas.List.Splits.{join_with_byte-slice_split}
 use Rattle.std.proofs.lemmas.Bool.{eqb-true, eqb-false, or_parts}
 use Rattle.std.proofs.lemmas.Bool.Decides.{nat_tests}
 use Rattle.mail_world.specs.Text.{has_byte, begins}
-use Rattle.mail_world.specs.Grammar.{is_between, is_plain, is_of_domain, is_of_literal, is_domain, Target, IsSomeOf, IsQuotedText, IsLocalPart, IsLiteral,
-    IsHostPart, IsMailbox, local_text, host_text, mailbox_text, route_text}
+use Rattle.mail_world.specs.Grammar.{
+  is_between,
+  is_plain,
+  is_of_domain,
+  is_of_literal,
+  is_domain,
+  Target,
+  IsSomeOf,
+  IsQuotedText,
+  IsLocalPart,
+  IsLiteral,
+  IsHostPart,
+  IsMailbox,
+  local_text,
+  host_text,
+  mailbox_text,
+  route_text,
+}
 use Rattle.mail_world.specs.declared.limits.TheConstants.{PATH_LIMIT}
-use Rattle.mail_world.specs.Paths.{quoted_len, Found, some_prefix, plain_local, quoted_local, domain_at, literal_at, host_at, with_host, mailbox_at, is_hop,
-    after_route, Path, closed_at, forward_path, IsPathRead}
+use Rattle.mail_world.specs.Paths.{
+  quoted_len,
+  Found,
+  some_prefix,
+  plain_local,
+  quoted_local,
+  domain_at,
+  literal_at,
+  host_at,
+  with_host,
+  mailbox_at,
+  is_hop,
+  after_route,
+  Path,
+  closed_at,
+  forward_path,
+  IsPathRead,
+}
 use Rattle.mail_world.proofs.PathsSpelled.{and_parts}
 
 -- what a test or a step that gave a value says
@@ -88,16 +158,22 @@ closed_more : (escaped : Bool) (b : ℕ) (text : List ℕ) (m n : ℕ) → IsClo
     → (IsQuotedText escaped (take m text) → IsQuotedText false (b ∷ take m text)) → IsClosed false (b ∷ text) n
 closed_more escaped b text m n c e onto =
     let P : ℕ → Type 0 = λ k. IsClosed false (b ∷ text) k in
-    subst P e (record { inside = onto c.inside;
-        whole = rw (add-one) (let w : text ≡ take m text
-        ++ byte "\"" ∷ drop (suc m) text = rw (add-one) at c.whole in ap (λ l. b ∷ l) w); within = let h = c.within in omega arith })
+    subst P e (record {
+      inside = onto c.inside;
+      whole = rw (add-one) (let w : text ≡ take m text
+          ++ byte "\"" ∷ drop (suc m) text = rw (add-one) at c.whole in ap (λ l. b ∷ l) w);
+      within = let h = c.within in omega arith;
+    })
 
 pair_more : (b : ℕ) (text : List ℕ) (m n : ℕ) → IsClosed false text m → suc m ≡ n → is_between 32 126 b ≡ true → IsClosed true (b ∷ text) n
 pair_more b text m n c e range =
     let P : ℕ → Type 0 = λ k. IsClosed true (b ∷ text) k in
-    subst P e (record { inside = (range, c.inside);
-        whole = rw (add-one) (let w : text ≡ take m text
-        ++ byte "\"" ∷ drop (suc m) text = rw (add-one) at c.whole in ap (λ l. b ∷ l) w); within = let h = c.within in omega arith })
+    subst P e (record {
+      inside = (range, c.inside);
+      whole = rw (add-one) (let w : text ≡ take m text
+          ++ byte "\"" ∷ drop (suc m) text = rw (add-one) at c.whole in ap (λ l. b ∷ l) w);
+      within = let h = c.within in omega arith;
+    })
 
 quote_by : (b : ℕ) (text : List ℕ) (n : ℕ) (t : Bool) → (b == byte "\"") ≡ t
     → ((m : ℕ) → quoted_len (b == byte "\\") text ≡ Some m → IsClosed (b == byte "\\") text m)
@@ -189,12 +265,12 @@ record IsHosted (quoted : Bool) (local : Found (List ℕ)) (found : Found Target
 hosted_by : (quoted : Bool) (local : Found (List ℕ)) (found : Found Target) (t : Bool) → begins (byte "@") local.rest ≡ t
     → cond t
     (option_map (λ host. record { value = record { local = local.value; quoted = quoted; domain = Some host.value }; rest = host.rest })
-        (host_at (drop 1 local.rest)))
+    (host_at (drop 1 local.rest)))
     (Some (record { value = record { local = local.value; quoted = quoted; domain = None }; rest = local.rest })) ≡ Some found
     → IsHosted quoted local found
 hosted_by quoted local found true at e =
     let step = map_some (λ (host : Found (List ℕ)).
-        record { value = record { local = local.value; quoted = quoted; domain = Some host.value }; rest = host.rest }) (host_at (drop 1 local.rest)) found e in
+    record { value = record { local = local.value; quoted = quoted; domain = Some host.value }; rest = host.rest }) (host_at (drop 1 local.rest)) found e in
     let read = host-reads (drop 1 local.rest) step.0 step.1 in
     let P : Found Target → Type 0 = λ g. IsHosted quoted local g in
     subst P step.2 (record { name = refl; quotes = refl; host = read.0; whole = begins-is (byte "@") local.rest at ∙ ap (λ l. byte "@" ∷ l) read.1 })
@@ -310,10 +386,10 @@ closed-reads text found path read e =
     let both = and_parts (begins (byte ">") found.rest) (nat_le n PATH_LIMIT) tests.0 in
     let len : n ≡ length (mailbox_text found.value) = omega (arith, ap length read.whole, length-append (mailbox_text found.value) found.rest) in
     let prefix : take n text ≡ mailbox_text found.value =
-        rw (len) (ap (λ l. take (length (mailbox_text found.value)) l) read.whole ∙ take-append_seam (mailbox_text found.value) found.rest) in
+    rw (len) (ap (λ l. take (length (mailbox_text found.value)) l) read.whole ∙ take-append_seam (mailbox_text found.value) found.rest) in
     let same : record { value = record { mailbox = take n text; target = found.value }; rest = drop 1 found.rest } ≡ path = cc (tests.1) in
     let P : Found Path → Type 0 = λ g. (g.value.target ≡ found.value) × (g.value.mailbox ≡ mailbox_text found.value)
-        × (length (mailbox_text found.value) ≤ PATH_LIMIT) × (found.rest ≡ byte ">" ∷ g.rest) in
+    × (length (mailbox_text found.value) ≤ PATH_LIMIT) × (found.rest ≡ byte ">" ∷ g.rest) in
     subst P same (refl, prefix, (let fits : n ≤ PATH_LIMIT = grind (arith, nat_tests, both.1) in omega arith), begins-is (byte ">") found.rest both.0)
 
 pub forward_path_reads : (text : List ℕ) (path : Found Path) → forward_path text ≡ Some path → IsPathRead text path

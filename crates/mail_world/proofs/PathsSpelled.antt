@@ -1,16 +1,77 @@
 -- What is spelled as a path is read as that path, whatever follows it.
-use Rattle.std.proofs.Common.{◌≡◌, ℕ, ◌+◌, ◌-◌, ◌<◌, ◌≤◌, List, [], ◌∷◌, ◌++◌, length, drop, map, Bool, true, false, not, ◌&&◌, ◌==◌, Option, Some, None, inl,
-    inr, refl, ap, sym, ◌∙◌, append_assoc, arith, length-append, add-one}
+use Rattle.std.proofs.Common.{
+  ◌≡◌,
+  ℕ,
+  ◌+◌,
+  ◌-◌,
+  ◌<◌,
+  ◌≤◌,
+  List,
+  [],
+  ◌∷◌,
+  ◌++◌,
+  length,
+  drop,
+  map,
+  Bool,
+  true,
+  false,
+  not,
+  ◌&&◌,
+  ◌==◌,
+  Option,
+  Some,
+  None,
+  inl,
+  inr,
+  refl,
+  ap,
+  sym,
+  ◌∙◌,
+  append_assoc,
+  arith,
+  length-append,
+  add-one,
+}
 use Rattle.std.specs.Prelude.{option_and_then, nat_le, nat_lt}
 use Rattle.std.specs.List.{list_all, prefix_len, join_with_byte, slice_split, before_first, after_first, AllByRecursion}
 use Rattle.std.specs.Str.{byte}
 use Rattle.std.proofs.Math.Seq.{take-append_seam, drop-append_seam, drop-append-add}
 use Rattle.mail_world.specs.Text.{has_byte, begins}
-use Rattle.mail_world.specs.Grammar.{is_between, is_plain, is_of_domain, is_of_literal, is_domain, Target, IsSomeOf, IsQuotedText, IsLocalPart, IsHostPart,
-    local_text, host_text, mailbox_text, route_text, IsPath, path_text}
+use Rattle.mail_world.specs.Grammar.{
+  is_between,
+  is_plain,
+  is_of_domain,
+  is_of_literal,
+  is_domain,
+  Target,
+  IsSomeOf,
+  IsQuotedText,
+  IsLocalPart,
+  IsHostPart,
+  local_text,
+  host_text,
+  mailbox_text,
+  route_text,
+  IsPath,
+  path_text,
+}
 use Rattle.mail_world.specs.declared.limits.TheConstants.{PATH_LIMIT}
-use Rattle.mail_world.specs.Paths.{quoted_len, some_prefix, plain_local, quoted_local, domain_at, literal_at, host_at, with_host, mailbox_at, is_hop,
-    after_route, closed_at, forward_path}
+use Rattle.mail_world.specs.Paths.{
+  quoted_len,
+  some_prefix,
+  plain_local,
+  quoted_local,
+  domain_at,
+  literal_at,
+  host_at,
+  with_host,
+  mailbox_at,
+  is_hop,
+  after_route,
+  closed_at,
+  forward_path,
+}
 use Rattle.std.proofs.Math.Bool.{or-true}
 use Rattle.std.proofs.lemmas.Bool.{eq-eqb}
 use Rattle.std.proofs.lemmas.List.Folds.{list_all-append}
@@ -105,10 +166,10 @@ mailbox-stop : (quoted : Bool) (local : List ℕ) (domain : Option (List ℕ)) (
     ≡ Some (record { value = record { local = local; quoted = quoted; domain = domain }; rest = byte ">" ∷ rest })
 mailbox-stop quoted local None rest l h =
     ap mailbox_at (append_assoc (local_text quoted local) [] (byte ">" ∷ rest)) ∙ local-stop quoted local (byte ">") rest l refl
-        ∙ with_host-stop quoted local None rest h
+    ∙ with_host-stop quoted local None rest h
 mailbox-stop quoted local (Some text) rest l h =
     ap mailbox_at (append_assoc (local_text quoted local) (byte "@" ∷ text) (byte ">" ∷ rest))
-        ∙ local-stop quoted local (byte "@") (text ++ byte ">" ∷ rest) l refl
+    ∙ local-stop quoted local (byte "@") (text ++ byte ">" ∷ rest) l refl
     ∙ with_host-stop quoted local (Some text) rest h
 
 -- a mailbox begins with no at sign
@@ -195,7 +256,7 @@ route-stop (d ∷ ds) text h first =
     let back : after_first (λ b. b == byte ":") whole ≡ text = rw len (drop-append-add route (byte ":" ∷ text) 1) in
     ap after_route (append_assoc route (byte ":" ∷ []) text)
     ∙ route_by whole route text (joined-first d ds (byte ":" ∷ text)) (has-seam route (byte ":") text) prefix (rw (split-joined d ds h) (all_hops (d ∷ ds) h))
-        back
+    back
 
 -- the bracket that closes a path
 closed-stop : (text : List ℕ) (target : Target) (rest : List ℕ) → length text ≤ PATH_LIMIT

@@ -44,7 +44,7 @@ module _ (calendar : Calendar) (host : List ℕ) where
       ap (λ l. t ∷ l) (
       next_after quota after notes note
       ∙ ap (λ n. are_kept_after calendar host quota after notes ++ fits quota n (size note) ∷ [])
-          (grows_by t len x notes (are_kept_after calendar host quota after notes))
+      (grows_by t len x notes (are_kept_after calendar host quota after notes))
       )
 
   pub all_after : (len : ℕ) (notes : List Note) → marked (are_kept_after calendar host None len notes) notes ≡ notes
@@ -73,7 +73,7 @@ module _ (calendar : Calendar) (host : List ℕ) where
   pub kept_next : (quota : Option ℕ) (old : List ℕ) (notes : List Note) (note : Note)
       → are_kept calendar host quota old (notes ++ note ∷ [])
       ≡ are_kept calendar host quota old notes
-          ++ fits quota (length (mailbox calendar host old (kept calendar host quota old notes))) (length (record_of calendar host note)) ∷ []
+      ++ fits quota (length (mailbox calendar host old (kept calendar host quota old notes))) (length (record_of calendar host note)) ∷ []
   unfolding are_kept
   kept_next quota old notes note =
       next_after quota (length (old ++ mended old)) notes note

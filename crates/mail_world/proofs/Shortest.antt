@@ -1,6 +1,29 @@
 -- No data that is read as a message is shorter than what a client sends for it.
-use Rattle.std.proofs.Common.{◌≡◌, ℕ, suc, ◌+◌, ◌≤◌, List, [], ◌∷◌, length, take, Bool, true, false, cond, ◌&&◌, ◌==◌, Some, refl, ap, sym, ◌∙◌, arith,
-    length-append}
+use Rattle.std.proofs.Common.{
+  ◌≡◌,
+  ℕ,
+  suc,
+  ◌+◌,
+  ◌≤◌,
+  List,
+  [],
+  ◌∷◌,
+  length,
+  take,
+  Bool,
+  true,
+  false,
+  cond,
+  ◌&&◌,
+  ◌==◌,
+  Some,
+  refl,
+  ap,
+  sym,
+  ◌∙◌,
+  arith,
+  length-append,
+}
 use Rattle.std.specs.Prelude.{unwrap_or}
 use Rattle.std.proofs.lemmas.Bool.{eqb-true}
 use Rattle.std.proofs.lemmas.List.{length-take-le}
@@ -22,11 +45,11 @@ after_dot_by : (d : ℕ) (text : List ℕ) (t : Bool) → (d == dot) ≡ t → l
     → length (cond t (dot ∷ d ∷ with_dots lf d (without_dots dot d text)) (d ∷ with_dots lf d (without_dots dot d text))) ≤ suc (suc (length text))
 after_dot_by d text true e ih =
     let same : length (with_dots lf d (without_dots dot d text)) ≡ length (again dot d text) =
-        ap length (same_window lf dot d (without_dots dot d text) refl refl) in
+    ap length (same_window lf dot d (without_dots dot d text) refl refl) in
     omega arith
 after_dot_by d text false e ih =
     let same : length (with_dots lf d (without_dots dot d text)) ≡ length (again dot d text) =
-        ap length (same_window lf dot d (without_dots dot d text) refl refl) in
+    ap length (same_window lf dot d (without_dots dot d text) refl refl) in
     omega arith
 
 shorter_by : (a b c : ℕ) (text : List ℕ) (t : Bool) → ((a == cr) && (b == lf) && (c == dot)) ≡ t → length (again b c text) ≤ length text

@@ -21,4 +21,4 @@ pub whole_name_first : (site : Site) (target : Target) (n : ℕ) → box_by_name
 unfolding box_of
 whole_name_first site target n e =
     found_first (is_here site target.domain) (box_named site.boxes (local_name target))
-        (box_named site.boxes (user_of site.recipient_delimiter (local_name target))) n e
+    (box_named site.boxes (user_of site.recipient_delimiter (local_name target))) n e

@@ -1,6 +1,27 @@
 -- The lines of a mailbox: each From line but the first stands after an empty line, and the last line is empty.
-use Rattle.std.proofs.Common.{◌≡◌, ◌⊎◌, inl, inr, ℕ, Bool, true, false, ◌==◌, List, [], ◌∷◌, ◌++◌, map, sym, ap, ◌∙◌, refl, append_assoc, append-nil,
-    true≢false}
+use Rattle.std.proofs.Common.{
+  ◌≡◌,
+  ◌⊎◌,
+  inl,
+  inr,
+  ℕ,
+  Bool,
+  true,
+  false,
+  ◌==◌,
+  List,
+  [],
+  ◌∷◌,
+  ◌++◌,
+  map,
+  sym,
+  ap,
+  ◌∙◌,
+  refl,
+  append_assoc,
+  append-nil,
+  true≢false,
+}
 use Rattle.std.specs.Prelude.{codes}
 use Rattle.std.specs.List.{AllByRecursion}
 use Rattle.std.proofs.lemmas.Bool.{eqb-true, false≢true}
@@ -90,9 +111,11 @@ letter_end_by : (first body : List ℕ) → EmptyOrEndsIn (lf ∷ []) body → E
 letter_end_by first body h =
     let line : List ℕ = first ++ (lf ∷ []) in
     elim h [
-      | inl e ↦
-          (first, ap (λ (l : List ℕ). line ++ l ++ (lf ∷ [])) e ∙ ap (λ (l : List ℕ). l ++ (lf ∷ [])) (append-nil line)
-              ∙ append_assoc first (lf ∷ []) (lf ∷ []))
+      | inl e ↦ (
+        first,
+        ap (λ (l : List ℕ). line ++ l ++ (lf ∷ [])) e ∙ ap (λ (l : List ℕ). l ++ (lf ∷ [])) (append-nil line)
+            ∙ append_assoc first (lf ∷ []) (lf ∷ []),
+      )
       | inr f ↦ (
         line ++ f.0,
         ap (λ (l : List ℕ). line ++ l ++ (lf ∷ [])) f.1 ∙ ap (λ (l : List ℕ). l ++ (lf ∷ [])) (sym (append_assoc line f.0 (lf ∷ [])))

@@ -1,6 +1,29 @@
 -- Pieces that are taken, whatever came before.
-use Rattle.std.proofs.Common.{◌≡◌, ℕ, suc, ◌+◌, ◌-◌, ◌<◌, arith, true, false, List, [], ◌∷◌, ◌++◌, length, take, drop, sym, ap, subst, ◌∙◌, refl, append_assoc,
-    append-nil}
+use Rattle.std.proofs.Common.{
+  ◌≡◌,
+  ℕ,
+  suc,
+  ◌+◌,
+  ◌-◌,
+  ◌<◌,
+  arith,
+  true,
+  false,
+  List,
+  [],
+  ◌∷◌,
+  ◌++◌,
+  length,
+  take,
+  drop,
+  sym,
+  ap,
+  subst,
+  ◌∙◌,
+  refl,
+  append_assoc,
+  append-nil,
+}
 use Rattle.std.specs.Prelude.{slice_index}
 use Rattle.std.proofs.lemmas.Bool.{eqb-true, false≢true}
 use Rattle.std.proofs.lemmas.List.{length-append, length-take-le, take_more, take_all, take_rest, take-append-drop}
@@ -77,7 +100,7 @@ line_taken form text k e none here =
     let cut = IsLineCut-found text k none here in
     let high : k < length text = none.high in
     let whole : take (k + 1) text ≡ take k text ++ lf ∷ [] =
-        take_more text k 0 high ∙ ap (λ b. take k text ++ b ∷ []) (eqb-true (slice_index text k) lf here) in
+    take_more text k 0 high ∙ ap (λ b. take k text ++ b ∷ []) (eqb-true (slice_index text k) lf here) in
     record {
       goes = λ prefix s. record {
         n = s.n;
@@ -144,7 +167,7 @@ whole_at (Start part) text n letters e at f =
 whole_at (Open part) text n letters e at f =
     let ended = body_ended at.before n at.body in
     let whole : text ≡ at.before ++ lf ∷ [] =
-        at.whole ∙ ap (λ (l : List ℕ). (at.before ++ lf ∷ []) ++ l) (nothing_text part f) ∙ append-nil (at.before ++ lf ∷ []) in
+    at.whole ∙ ap (λ (l : List ℕ). (at.before ++ lf ∷ []) ++ l) (nothing_text part f) ∙ append-nil (at.before ++ lf ∷ []) in
     (ended.letters, subst (λ (l : List ℕ). IsMailboxOf l ended.letters) (sym whole) ended.is, e ∙ ap (λ k. counted k) ended.count)
 whole_at (Line part) text n letters e at f = absurd (false≢true f)
 whole_at Inside text n letters e at f = absurd (false≢true f)

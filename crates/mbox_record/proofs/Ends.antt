@@ -1,6 +1,29 @@
 -- Where a line ends within a piece.
-use Rattle.std.proofs.Common.{◌≡◌, ℕ, zero, suc, ◌+◌, ◌<◌, arith, true, false, ◌==◌, List, [], ◌∷◌, ◌++◌, length, take, drop, sym, ap, ◌∙◌, refl, append_assoc,
-    append-nil}
+use Rattle.std.proofs.Common.{
+  ◌≡◌,
+  ℕ,
+  zero,
+  suc,
+  ◌+◌,
+  ◌<◌,
+  arith,
+  true,
+  false,
+  ◌==◌,
+  List,
+  [],
+  ◌∷◌,
+  ◌++◌,
+  length,
+  take,
+  drop,
+  sym,
+  ap,
+  ◌∙◌,
+  refl,
+  append_assoc,
+  append-nil,
+}
 use Rattle.std.specs.Prelude.{slice_index}
 use Rattle.std.proofs.lemmas.Bool.{or_parts, or_from, eqb-true, false≢true}
 use Rattle.std.proofs.lemmas.List.{take_more, drop_more, take-append-drop, length-append, length-take}
@@ -89,10 +112,10 @@ ends_crlf piece text n rest end e =
     let back = drop (n + 1) piece in
     let split = crlf_whole piece text n end e in
     ap (λ (l : List ℕ). l ++ line_rest (unix (drop n piece ++ rest)))
-        (append-nil (take (length text) piece) ∙ ap (take (length text)) split ∙ take-append_seam text (cr ∷ lf ∷ back))
+    (append-nil (take (length text) piece) ∙ ap (take (length text)) split ∙ take-append_seam text (cr ∷ lf ∷ back))
     ∙ ap (λ (l : List ℕ). text ++ line_rest (unix (l ++ rest))) end.back
     ∙ sym (inside_line text (cr ∷ lf ∷ (back ++ rest)) (plain_prefix text (cr ∷ []) (ap (λ (l : List ℕ). has_byte l lf) (sym e) ∙ end.plain))
-        (λ t. absurd (false≢true t)))
+    (λ t. absurd (false≢true t)))
     ∙ ap (λ (l : List ℕ). line_rest (unix l)) (sym (append_assoc text (cr ∷ lf ∷ back) rest))
     ∙ ap (λ (l : List ℕ). line_rest (unix (l ++ rest))) (sym split)
 
@@ -101,7 +124,7 @@ pub ends_cr : (piece text rest : List ℕ) → has_byte piece lf ≡ false → p
     → (take (length text) piece ++ []) ++ line_rest (unix (cr ∷ (drop (length piece) piece ++ rest))) ≡ line_rest (unix (piece ++ rest))
 ends_cr piece text rest plain e =
     ap (λ (l : List ℕ). l ++ line_rest (unix (cr ∷ (drop (length piece) piece ++ rest))))
-        (append-nil (take (length text) piece) ∙ ap (take (length text)) e ∙ take-append_seam text (cr ∷ []))
+    (append-nil (take (length text) piece) ∙ ap (take (length text)) e ∙ take-append_seam text (cr ∷ []))
     ∙ ap (λ (l : List ℕ). text ++ line_rest (unix (cr ∷ (l ++ rest)))) (drop-length piece)
     ∙ sym (inside_line text (cr ∷ rest) (plain_prefix text (cr ∷ []) (ap (λ (l : List ℕ). has_byte l lf) (sym e) ∙ plain)) (λ t. absurd (false≢true t)))
     ∙ ap (λ (l : List ℕ). line_rest (unix l)) (sym (append_assoc text (cr ∷ []) rest))

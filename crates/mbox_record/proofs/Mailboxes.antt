@@ -1,6 +1,31 @@
 -- The letters of a mailbox, read one by one.
-use Rattle.std.proofs.Common.{◌≡◌, ◌≢◌, ◌⊎◌, inl, inr, ℕ, ◌-◌, length, take, drop, arith, true, false, Result, Err, List, [], ◌∷◌, ◌++◌, map, sym, ap, ◌∙◌,
-    refl, append_assoc}
+use Rattle.std.proofs.Common.{
+  ◌≡◌,
+  ◌≢◌,
+  ◌⊎◌,
+  inl,
+  inr,
+  ℕ,
+  ◌-◌,
+  length,
+  take,
+  drop,
+  arith,
+  true,
+  false,
+  Result,
+  Err,
+  List,
+  [],
+  ◌∷◌,
+  ◌++◌,
+  map,
+  sym,
+  ap,
+  ◌∙◌,
+  refl,
+  append_assoc,
+}
 use Rattle.std.specs.Prelude.{codes}
 use Rattle.std.specs.List.{AllByRecursion}
 use Rattle.std.proofs.lemmas.List.{append_cancel_left}
@@ -47,7 +72,7 @@ pub no_head : (text : List ℕ) → begins_from text ≡ true → has_byte (take
     → IsLetterRead text letter rest → ⊥
 no_head text e none letter rest read =
     let yes' : has_byte (take (length text - 5) (drop 5 text)) lf ≡ true =
-        ap (λ l. has_byte l lf) (head_cut text letter rest e read) ∙ has_lf letter.head (quoted_text letter.body ++ lf ∷ rest) in cc
+    ap (λ l. has_byte l lf) (head_cut text letter rest e read) ∙ has_lf letter.head (quoted_text letter.body ++ lf ∷ rest) in cc
 
 pub no_body : (text head lines : List ℕ) → begins_from text ≡ true → IsLineCut (take (length text - 5) (drop 5 text)) head lines
     → ((body rest : List ℕ) → IsBodyRead lines body rest → ⊥) → (letter : Letter) (rest : List ℕ) → IsLetterRead text letter rest → ⊥
@@ -120,7 +145,7 @@ same_start (l ∷ found) [] rest h k b e = cc
 same_start (l ∷ found) (x ∷ letters) rest h k b e =
     same_start found letters rest h.1 k.1 b
     (one_letter x l (written letters) (written found ++ rest) k.0 h.0 (boundary-written letters) (boundary-letters found rest b)
-        (e ∙ append_assoc (letter_text l) (written found) rest))
+    (e ∙ append_assoc (letter_text l) (written found) rest))
 
 no_rest : (rest : List ℕ) → rest ≢ [] → ((letter : Letter) (more : List ℕ) → IsLetterRead rest letter more → ⊥) → (ls : List Letter) → AreLetters ls
     → rest ≡ written ls → ⊥

@@ -41,9 +41,9 @@ IsWriterStep-both before piece step more same none x y =
           ap (λ (n : ℕ). (take (n + more.len) piece ++ more.extra.now) ++ bytes_owed more.next (drop (step.taken + more.taken) piece ++ rest)) same
           ∙ both_goes piece more.extra.now _ step.taken more.len
           ∙ ap (λ (l : List ℕ). take step.taken piece ++ ((take more.len (drop step.taken piece) ++ more.extra.now) ++ bytes_owed more.next (l ++ rest)))
-              (sym (drop-drop more.taken step.taken piece))
+          (sym (drop-drop more.taken step.taken piece))
           ∙ ap (λ (l : List ℕ). take step.taken piece ++ l) (y.goes rest)
           ∙ ap (λ (l : List ℕ). l ++ bytes_owed step.next (drop step.taken piece ++ rest))
-              (ap (λ (n : ℕ). take n piece) (sym same) ∙ sym (append-nil (take step.len piece)) ∙ ap (λ (l : List ℕ). take step.len piece ++ l) (sym none))
+          (ap (λ (n : ℕ). take n piece) (sym same) ∙ sym (append-nil (take step.len piece)) ∙ ap (λ (l : List ℕ). take step.len piece ++ l) (sym none))
           ∙ x.goes rest;
     }

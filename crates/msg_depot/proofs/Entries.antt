@@ -1,6 +1,33 @@
 -- What an event on the arena does to the entries that the keeper's seat knows.
-use Rattle.std.proofs.Common.{◌≡◌, ℕ, zero, suc, ◌+◌, ◌<◌, ◌≤◌, List, [], ◌∷◌, ◌++◌, Bool, true, false, cond, ◌==◌, Some, length, map, get_or, sym, ap, ◌∙◌,
-    subst, refl, arith, length-set}
+use Rattle.std.proofs.Common.{
+  ◌≡◌,
+  ℕ,
+  zero,
+  suc,
+  ◌+◌,
+  ◌<◌,
+  ◌≤◌,
+  List,
+  [],
+  ◌∷◌,
+  ◌++◌,
+  Bool,
+  true,
+  false,
+  cond,
+  ◌==◌,
+  Some,
+  length,
+  map,
+  get_or,
+  sym,
+  ap,
+  ◌∙◌,
+  subst,
+  refl,
+  arith,
+  length-set,
+}
 use Rattle.std.specs.Prelude.{slice_get, slice_set, nat_lt, replicate}
 use Rattle.std.proofs.lemmas.List.{map-set, get_or-map, set-set, length-map}
 use Rattle.std.proofs.lemmas.Option.{slice_get_within, slice_get-get_or, get_or_from_slice_get, same_Some}
@@ -8,8 +35,24 @@ use Rattle.std.proofs.lemmas.Bool.{eq-eqb}
 use Rattle.atomic_table.specs.Table.{Me}
 use Rattle.atomic_table.specs.Seated.{TableId}
 use Rattle.mail_world.specs.Depot as d
-use Rattle.mail_world.specs.Depot.{Depot, Slot, Key, Held, held_under, last_generation, HasEachBlockOnce, Begins, Puts, Seals, GivesBack, Reclaims, Releases,
-    weight_held, weight_under, blocks_of}
+use Rattle.mail_world.specs.Depot.{
+  Depot,
+  Slot,
+  Key,
+  Held,
+  held_under,
+  last_generation,
+  HasEachBlockOnce,
+  Begins,
+  Puts,
+  Seals,
+  GivesBack,
+  Reclaims,
+  Releases,
+  weight_held,
+  weight_under,
+  blocks_of,
+}
 use Rattle.mail_world.proofs.Depots.{used, begins_turn, puts_turn, seals_turn, drops_turn, releases_turn}
 use Rattle.mail_world.proofs.Holds.{part_own}
 use Rattle.block_arena.specs.Calls.{ReleasesAll, IsGivenBack}
@@ -56,7 +99,7 @@ sealed_under depot key bytes book same {i} place within found counts =
     let is : entry_of slot ≡ entry Sealed key.generation bytes = sym (entry_there depot key.slot slot there) ∙ (λ n. entry_at (sym same n) key.slot) ∙ found in
     let now : (slot.generation == key.generation) ≡ true = eq-eqb slot.generation key.generation (ap (λ (x : Entry). x.generation) is) in
     sealed_if depot key bytes slot.held (ap (d.held_at key) there ∙ ap (λ (t : Bool). cond t slot.held d.Free) now) (ap (λ (x : Entry). x.phase) is)
-        (ap (λ (x : Entry). x.bytes) is) (counts key.slot slot there)
+    (ap (λ (x : Entry). x.bytes) is) (counts key.slot slot there)
 
 -- one slot changes, and no block is lost or stands twice
 pub record Turned (old new : Depot) (i : ℕ) (next : Slot) : Type 0 where
@@ -165,7 +208,7 @@ lighter (suc k) old key new r =
     let one = r.1 in
     let rest = lighter k between key new r.2 in
     let changed : between.slots ≡ slice_set old.slots key.slot (record { generation = key.generation; held = d.Sealed one.bytes one.blocks one.weight }) =
-        ap (λ (x : Depot). x.slots) one.after in
+    ap (λ (x : Depot). x.slots) one.after in
     record {
       slots = λ next. rest.slots next ∙ ap (λ (l : List Slot). slice_set l key.slot next) changed
           ∙ set-set old.slots key.slot (record { generation = key.generation; held = d.Sealed one.bytes one.blocks one.weight }) next;

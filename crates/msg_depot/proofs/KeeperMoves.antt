@@ -1,6 +1,35 @@
 -- The steps of the keeper's seat keep the rule.
-use Rattle.std.proofs.Common.{◌≡◌, ◌≢◌, ℕ, zero, suc, ◌+◌, ◌*◌, ◌%◌, ◌^◌, ◌<◌, ◌≤◌, eqb, List, [], ◌∷◌, ◌++◌, length, replicate, set, get_or, Bool, true, refl,
-    sym, ap, ◌∙◌, subst, ⊎_elim, arith}
+use Rattle.std.proofs.Common.{
+  ◌≡◌,
+  ◌≢◌,
+  ℕ,
+  zero,
+  suc,
+  ◌+◌,
+  ◌*◌,
+  ◌%◌,
+  ◌^◌,
+  ◌<◌,
+  ◌≤◌,
+  eqb,
+  List,
+  [],
+  ◌∷◌,
+  ◌++◌,
+  length,
+  replicate,
+  set,
+  get_or,
+  Bool,
+  true,
+  refl,
+  sym,
+  ap,
+  ◌∙◌,
+  subst,
+  ⊎_elim,
+  arith,
+}
 use Rattle.std.proofs.lemmas.List.{set-get_or, length-replicate, get_or-replicate}
 use mathlib.Core.Option.{none, some, some-injective, some-ne-none}
 use lib.ListN.{get_elem?}
@@ -18,8 +47,29 @@ use Rattle.msg_depot.specs.declared.view.Kind.{Kind}
 use Rattle.msg_depot.specs.declared.view.Kind.TheVariants.{Nothing, Draft, Spent}
 use Rattle.msg_depot.specs.declared.view.Phase.{Phase}
 use Rattle.msg_depot.specs.declared.view.Phase.TheVariants.{Free, Drafted, Sealed, Retired}
-use Rattle.msg_depot.specs.Rules.{ObeysHoldRule, MatchesEntry, IsWordOf, Used, weight, drafts, spents, draft_of, spent_of, at, when, total, positive, token,
-    keeping, resting, nobody, entry, phase_of, free_slots, word_of}
+use Rattle.msg_depot.specs.Rules.{
+  ObeysHoldRule,
+  MatchesEntry,
+  IsWordOf,
+  Used,
+  weight,
+  drafts,
+  spents,
+  draft_of,
+  spent_of,
+  at,
+  when,
+  total,
+  positive,
+  token,
+  keeping,
+  resting,
+  nobody,
+  entry,
+  phase_of,
+  free_slots,
+  word_of,
+}
 use Rattle.msg_depot.specs.Moves.{emptied, handed, Checked, entry_at, begun, Begun, put, Put, sealed, SealedBy, freed, Freed, RetiredNow, IsOver}
 use Rattle.msg_depot.proofs.Totals.{total_set, within, elem_at, elem_is, when_zero, positive_one, total_has, at_here}
 use Rattle.msg_depot.proofs.Keeps.{off, splits, viewed}
@@ -43,7 +93,7 @@ hands id es k c s r here = splits s.words s.views id (keeping es k c) (emptied (
 pub takes : (id : ℕ) (es : List Entry) (other : ℕ) (k : Kind) (c : Claim) → Joins Rule id (resting es) other (token k c) (keeping es k c) nobody
 takes id es other k c s r here apart there = viewed s.words s.views (set (set s.views id (keeping es k c)) other nobody) r
     (λ j u at_j. cases j u at_j (λ n x. x.keeps ≡ true → (n ≡ r.seat) × (x.book ≡ r.book)) (λ n q. absurd (off q)) (λ _. r.keeper id (resting es) here refl)
-        r.keeper)
+    r.keeper)
     (λ j u at_j. cases j u at_j (λ _ x. MatchesEntry r.book x) (λ _. ((λ q. absurd (q refl)), refl)) (r.fits other (token k c) was) r.fits)
     (λ i. record {
       weights = moved (at i weight) refl (when_zero (eqb 0 i)) (when_zero (eqb 0 i));
@@ -60,7 +110,7 @@ takes id es other k c s r here apart there = viewed s.words s.views (set (set s.
         (λ (t : (j ≡ other) × (nobody ≡ u)). subst (P j) t.1 (a j))
         (λ (t : (j ≢ other) × (get_elem? (set s.views id (keeping es k c)) j ≡ some u)).
         ⊎_elim (λ (x : (j ≡ id) × ((keeping es k c) ≡ u)). subst (λ (z : ℕ × View). P z.0 z.1) (λ n. (sym x.0 n, x.1 n)) b)
-            (λ (x : (j ≢ id) × (get_elem? s.views j ≡ some u)). d j u x.1) (at_set s.views id j (keeping es k c) u t.1))
+        (λ (x : (j ≢ id) × (get_elem? s.views j ≡ some u)). d j u x.1) (at_set s.views id j (keeping es k c) u t.1))
         (at_set (set s.views id (keeping es k c)) other j nobody u e)
 
     moved : (f : View → ℕ) → f (keeping es k c) ≡ f (token k c) → f nobody ≡ 0 → f (resting es) ≡ 0
@@ -90,7 +140,7 @@ begins slots id es i inside free s r _ here small =
     let there : get_elem? r.book i ≡ some e = subst (λ (l : List Entry). get_elem? l i ≡ some e) m.1 (elem_at es i _ inside) in
     let st = r.stands i e there in
     let used : Used Free (total (at i weight) s.views) (total (at i drafts) s.views) (total (at i spents) s.views) =
-        subst (λ (p : Phase). Used p (total (at i weight) s.views) (total (at i drafts) s.views) (total (at i spents) s.views)) free st.3 in
+    subst (λ (p : Phase). Used p (total (at i weight) s.views) (total (at i drafts) s.views) (total (at i spents) s.views)) free st.3 in
     let small = used.0 in (
       w,
       keeps,
@@ -152,7 +202,7 @@ seals slots id es c k more few s r _ here small =
     let one : positive k ≡ 1 = positive_one k more in
     let n : ℕ = (get_or s.words (word_of c.slot) 0 + k) % 2 ^ 64 in
     let word : n ≡ c.generation * GENERATION_UNIT + k =
-        seal_word c.generation (get_or s.words (word_of c.slot) 0) k st.2 few (st.0 ∙ ap (λ (x : ℕ). c.generation * GENERATION_UNIT + x) empty) in (
+    seal_word c.generation (get_or s.words (word_of c.slot) 0) k st.2 few (st.0 ∙ ap (λ (x : ℕ). c.generation * GENERATION_UNIT + x) empty) in (
       w,
       keeps,
       tt,
@@ -195,9 +245,14 @@ over s r id es k c here which = ⊎_elim draft spent which
         let there : get_elem? r.book c.slot ≡ some (of_token k c) = (r.fits id (keeping es k c) here).0 (some_draft d) in
         let st = r.stands c.slot (of_token k c) there in
         let used = subst (λ (p : Phase). Used p (total (at c.slot weight) s.views) (total (at c.slot drafts) s.views) (total (at c.slot spents) s.views))
-            (ap phase_of d) st.3 in
-        (some_draft d, there, alone_draft s.words s.views r id (keeping es k c) c.slot (of_token k c) here d refl there (ap phase_of d), st.0
-            ∙ ap (λ (x : ℕ). c.generation * GENERATION_UNIT + x) used.0, st.2)
+        (ap phase_of d) st.3 in (
+          some_draft d,
+          there,
+          alone_draft s.words s.views r id (keeping es k c) c.slot (of_token k c) here d refl there (ap phase_of d),
+          st.0
+              ∙ ap (λ (x : ℕ). c.generation * GENERATION_UNIT + x) used.0,
+          st.2,
+        )
 
     spent : k ≡ Spent → (k ≢ Nothing) × (get_elem? r.book c.slot ≡ some (of_token k c)) × Alone s.views id c.slot
         × (get_or s.words (word_of c.slot) 0 ≡ c.generation * GENERATION_UNIT + 0) × (c.generation ≤ last_generation)
@@ -205,34 +260,46 @@ over s r id es k c here which = ⊎_elim draft spent which
         let there : get_elem? r.book c.slot ≡ some (of_token k c) = (r.fits id (keeping es k c) here).0 (some_spent d) in
         let st = r.stands c.slot (of_token k c) there in
         let used = subst (λ (p : Phase). Used p (total (at c.slot weight) s.views) (total (at c.slot drafts) s.views) (total (at c.slot spents) s.views))
-            (ap phase_of d) st.3 in
+        (ap phase_of d) st.3 in
         let mine = total_has (at c.slot spents) s.views id (keeping es k c) here in
         let is : at c.slot spents (keeping es k c) ≡ 1 = at_here c.slot spents (keeping es k c) refl ∙ ap spent_of d in
         let one = used.1 in
         let none_left : total (at c.slot weight) s.views ≡ 0 =
-            dite (ℕ_discrete (total (at c.slot weight) s.views) 0) (λ z. z)
-            (λ ne. let p = positive_one (total (at c.slot weight) s.views) (omega arith) in absurd (omega arith)) in
-        (some_spent d, there, alone_spent s.words s.views r id (keeping es k c) c.slot (of_token k c) here d refl there (ap phase_of d), st.0
-            ∙ ap (λ (x : ℕ). c.generation * GENERATION_UNIT + x) none_left, st.2)
+        dite (ℕ_discrete (total (at c.slot weight) s.views) 0) (λ z. z)
+        (λ ne. let p = positive_one (total (at c.slot weight) s.views) (omega arith) in absurd (omega arith)) in (
+          some_spent d,
+          there,
+          alone_spent s.words s.views r id (keeping es k c) c.slot (of_token k c) here d refl there (ap phase_of d),
+          st.0
+              ∙ ap (λ (x : ℕ). c.generation * GENERATION_UNIT + x) none_left,
+          st.2,
+        )
 
 -- the slot is free, with the next generation
 pub frees : (slots id : ℕ) (es : List Entry) (k : Kind) (c : Claim) → IsOver k → c.generation < last_generation
     → Allows Rule slots id (keeping es k c, []) (word_of c.slot) (λ n. (n + GENERATION_UNIT) % 2 ^ 64)
     (Freed (step slots (word_of c.slot) GENERATION_UNIT 0 none) (keeping es k c, []))
 frees slots id es k c which few s r _ here small =
-    let o = over s r id es k c here which in
-    (freed (keeping es k c) Free 1, keeps, tt,
-        ends s r id es k c here Free 1 ((get_or s.words (word_of c.slot) 0 + GENERATION_UNIT) % 2 ^ 64) (λ _ _ _ a b d. (a, b, d)) o.0 o.1 o.2
-        (free_word c.generation (get_or s.words (word_of c.slot) 0) few o.3) (omega (arith, few)), refl)
+    let o = over s r id es k c here which in (
+      freed (keeping es k c) Free 1,
+      keeps,
+      tt,
+      ends s r id es k c here Free 1 ((get_or s.words (word_of c.slot) 0 + GENERATION_UNIT) % 2 ^ 64) (λ _ _ _ a b d. (a, b, d)) o.0 o.1 o.2
+          (free_word c.generation (get_or s.words (word_of c.slot) 0) few o.3) (omega (arith, few)),
+      refl,
+    )
 
 -- the same, with the generation that it had
 pub retires : (slots id : ℕ) (es : List Entry) (k : Kind) (c : Claim) → IsOver k
     → Allows Rule slots id (keeping es k c, []) (word_of c.slot) (λ n. n) (RetiredNow (step slots (word_of c.slot) 0 0 none) (keeping es k c, []))
 retires slots id es k c which s r _ here small =
-    let o = over s r id es k c here which in
-    (freed (keeping es k c) Retired 0, keeps, tt,
-        ends s r id es k c here Retired 0 (get_or s.words (word_of c.slot) 0) (λ _ _ _ a b d. (a, b, d)) o.0 o.1 o.2 (omega (arith, o.3)) (omega (arith, o.4)),
-        refl)
+    let o = over s r id es k c here which in (
+      freed (keeping es k c) Retired 0,
+      keeps,
+      tt,
+      ends s r id es k c here Retired 0 (get_or s.words (word_of c.slot) 0) (λ _ _ _ a b d. (a, b, d)) o.0 o.1 o.2 (omega (arith, o.3)) (omega (arith, o.4)),
+      refl,
+    )
 
 -- the rule at the start
 pub opens : (words : List ℕ) (n g : ℕ) → words ≡ replicate (word_of n) (g * GENERATION_UNIT) → g ≤ last_generation
@@ -248,11 +315,11 @@ opens words n g is few = record {
       let inside : i < n = omega (arith, within (free_slots n g) i e at_i, length-replicate n d) in
       let same : e ≡ d = sym (elem_is (free_slots n g) i d e at_i) ∙ get_or-replicate n i d d inside in
       let word : get_or words (word_of i) 0 ≡ g * GENERATION_UNIT =
-          ap (λ (l : List ℕ). get_or l (word_of i) 0) is ∙ get_or-replicate (word_of n) (word_of i) (g * GENERATION_UNIT) 0 (omega arith) in
+      ap (λ (l : List ℕ). get_or l (word_of i) 0) is ∙ get_or-replicate (word_of n) (word_of i) (g * GENERATION_UNIT) 0 (omega arith) in
       let z : at i weight (resting (free_slots n g)) ≡ 0 = when_zero (eqb 0 i) in
       let w : total (at i weight) (resting (free_slots n g) ∷ []) ≡ 0 = omega arith in
       subst (λ (x : Entry). IsWordOf x (get_or words (word_of i) 0) (total (at i weight) (resting (free_slots n g) ∷ []))
-          (total (at i drafts) (resting (free_slots n g) ∷ [])) (total (at i spents) (resting (free_slots n g) ∷ []))) (sym same)
+      (total (at i drafts) (resting (free_slots n g) ∷ [])) (total (at i spents) (resting (free_slots n g) ∷ []))) (sym same)
       (omega arith, omega arith, omega arith, (w, w, w));
 }
   where

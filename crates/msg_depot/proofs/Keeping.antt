@@ -9,8 +9,23 @@ use Rattle.msg_depot.specs.declared.view.Kind.{Kind}
 use Rattle.msg_depot.specs.declared.view.Kind.TheVariants.{Nothing, Draft, Hold, Spent}
 use Rattle.msg_depot.specs.declared.view.Phase.{Phase}
 use Rattle.msg_depot.specs.declared.view.Phase.TheVariants.{Free, Drafted, Sealed}
-use Rattle.msg_depot.specs.Rules.{ObeysHoldRule, MatchesEntry, IsWordOf, Weighs, Used, weight, drafts, spents, draft_of, spent_of, at, total, entry, phase_of,
-    word_of}
+use Rattle.msg_depot.specs.Rules.{
+  ObeysHoldRule,
+  MatchesEntry,
+  IsWordOf,
+  Weighs,
+  Used,
+  weight,
+  drafts,
+  spents,
+  draft_of,
+  spent_of,
+  at,
+  total,
+  entry,
+  phase_of,
+  word_of,
+}
 use Rattle.msg_depot.proofs.Totals.{total_has, total_two, total_alone, at_here, at_else, at_none, within, positive_one}
 use Rattle.msg_depot.proofs.Keeps.{turns}
 
@@ -42,7 +57,7 @@ record Zeros (k : ℕ) (u : View) : Type 0 where
 zeros : (k : ℕ) (u : View) → Weighs u.kind u.claim.weight → (u.kind ≢ Nothing → u.claim.slot ≢ k) → Zeros k u
 zeros k u h away = ⊎_elim
     (λ (e : u.kind ≡ Nothing). let c = nothing_counts u e
-        h in record { weights = at_none k weight u c.weights; drafted = at_none k drafts u c.drafted; spent = at_none k spents u c.spent })
+    h in record { weights = at_none k weight u c.weights; drafted = at_none k drafts u c.drafted; spent = at_none k spents u c.spent })
     (λ (e : u.kind ≢ Nothing). record { weights = at_else k weight u (away e); drafted = at_else k drafts u (away e); spent = at_else k spents u (away e) })
     (is_nothing u.kind)
 
@@ -55,8 +70,12 @@ record Alls (i : ℕ) (u : View) : Type 0 where
 alls : (i : ℕ) (u : View) → Weighs u.kind u.claim.weight → (u.kind ≢ Nothing → u.claim.slot ≡ i) → Alls i u
 alls i u h here = ⊎_elim
     (λ (e : u.kind ≡ Nothing). let c = nothing_counts u e
-        h in record { weights = at_none i weight u c.weights ∙ sym c.weights; drafted = at_none i drafts u c.drafted
-        ∙ sym c.drafted; spent = at_none i spents u c.spent ∙ sym c.spent })
+    h in record {
+      weights = at_none i weight u c.weights ∙ sym c.weights;
+      drafted = at_none i drafts u c.drafted
+          ∙ sym c.drafted;
+      spent = at_none i spents u c.spent ∙ sym c.spent;
+    })
     (λ (e : u.kind ≢ Nothing). record { weights = at_here i weight u (here e); drafted = at_here i drafts u (here e); spent = at_here i spents u (here e) })
     (is_nothing u.kind)
 
@@ -74,11 +93,11 @@ keeper_turns words views r id v w here keeps i n e e' there book mine mine' alon
     λ j u apart at_j. let was : get_elem? views j ≡ some u = sym (set_else views id j w apart) ∙ at_j in zeros i u (r.fits j u was).1 (alone j u apart was) in
     let at_id : get_elem? (set views id w) id ≡ some w = set_here views id w (within views id v here) in
     let weights : weight w ≡ total (at i weight) (set views id w) =
-        sym (total_alone (at i weight) (set views id w) id w (λ j u apart at_j. (none_else j u apart at_j).weights) at_id ∙ a.weights) in
+    sym (total_alone (at i weight) (set views id w) id w (λ j u apart at_j. (none_else j u apart at_j).weights) at_id ∙ a.weights) in
     let drafted : drafts w ≡ total (at i drafts) (set views id w) =
-        sym (total_alone (at i drafts) (set views id w) id w (λ j u apart at_j. (none_else j u apart at_j).drafted) at_id ∙ a.drafted) in
+    sym (total_alone (at i drafts) (set views id w) id w (λ j u apart at_j. (none_else j u apart at_j).drafted) at_id ∙ a.drafted) in
     let spent : spents w ≡ total (at i spents) (set views id w) =
-        sym (total_alone (at i spents) (set views id w) id w (λ j u apart at_j. (none_else j u apart at_j).spent) at_id ∙ a.spent) in
+    sym (total_alone (at i spents) (set views id w) id w (λ j u apart at_j. (none_else j u apart at_j).spent) at_id ∙ a.spent) in
     turns words views r id v w here i n e e' there
     (λ k. (m.0, book ∙ ap (λ (l : List Entry). set l i e') m.1))
     (λ j u apart at_j k. absurd (apart ((r.keeper j u at_j k).0 ∙ sym m.0)))
@@ -93,7 +112,7 @@ claimed_phase : (words : List ℕ) (views : List View) (r : ObeysHoldRule words 
     → get_elem? r.book i ≡ some e → u.kind ≢ Nothing → u.claim.slot ≡ i → phase_of u.kind ≡ e.phase
 claimed_phase words views r j u i e at_j there some_kind slot =
     ap (λ (x : Entry). x.phase) (some-injective (entry (phase_of u.kind) u.claim.generation u.claim.bytes) e
-        (sym ((r.fits j u at_j).0 some_kind) ∙ ap (λ (k : ℕ). get_elem? r.book k) slot ∙ there))
+    (sym ((r.fits j u at_j).0 some_kind) ∙ ap (λ (k : ℕ). get_elem? r.book k) slot ∙ there))
 
 pub alone_free : (words : List ℕ) (views : List View) (r : ObeysHoldRule words views) (id i : ℕ) (e : Entry) → get_elem? r.book i ≡ some e → e.phase ≡ Free
     → Alone views id i

@@ -1,6 +1,29 @@
 -- What a change of views, of one word and of one entry has to show to keep the rule.
-use Rattle.std.proofs.Common.{◌≡◌, ◌≢◌, ℕ, ◌+◌, ◌<◌, List, [], ◌∷◌, ◌++◌, length, set, get_or, true, false, sym, ap, ◌∙◌, subst, ⊎_elim, arith, length-set,
-    get_or-set_same, get_or-set_other}
+use Rattle.std.proofs.Common.{
+  ◌≡◌,
+  ◌≢◌,
+  ℕ,
+  ◌+◌,
+  ◌<◌,
+  List,
+  [],
+  ◌∷◌,
+  ◌++◌,
+  length,
+  set,
+  get_or,
+  true,
+  false,
+  sym,
+  ap,
+  ◌∙◌,
+  subst,
+  ⊎_elim,
+  arith,
+  length-set,
+  get_or-set_same,
+  get_or-set_other,
+}
 use mathlib.Core.Option.{some}
 use lib.ListN.{get_elem?}
 use Rattle.atomic_table.proofs.Lists.{at_set, at_snoc}
@@ -64,7 +87,7 @@ splits words views id v left right r here same_keeps same_book outside fit parts
         → ((k : ℕ) (x : View) → get_elem? views k ≡ some x → P k x) → P j u
     cases j u e P a b c = ⊎_elim
         (λ was. ⊎_elim (λ (t : (j ≡ id) × (left ≡ u)). subst (λ (z : ℕ × View). P z.0 z.1) (λ k. (sym t.0 k, t.1 k)) a)
-            (λ (t : (j ≢ id) × (get_elem? views j ≡ some u)). c j u t.1) (at_set views id j left u was))
+        (λ (t : (j ≢ id) × (get_elem? views j ≡ some u)). c j u t.1) (at_set views id j left u was))
         (λ (t : right ≡ u). subst (P j) t (b j))
         (at_snoc (set views id left) right u j e)
 
@@ -99,16 +122,19 @@ turns words views r id v w here i n e e' there mine others fit fits elsewhere no
   fits = λ j u at_j. cases j u at_j (λ _ x. MatchesEntry (set r.book i e') x) fit fits;
   stands = λ k d at_k. ⊎_elim
       (λ (t : (k ≡ i) × (e' ≡ d)). subst
-          (λ (z : ℕ × Entry). IsWordOf z.1 (get_or (set words (word_of i) n) (word_of z.0) 0) (total (at z.0 weight) (set views id w))
-          (total (at z.0 drafts) (set views id w)) (total (at z.0 spents) (set views id w))) (λ q. (sym t.0 q, t.1 q))
+      (λ (z : ℕ × Entry). IsWordOf z.1 (get_or (set words (word_of i) n) (word_of z.0) 0) (total (at z.0 weight) (set views id w))
+      (total (at z.0 drafts) (set views id w)) (total (at z.0 spents) (set views id w))) (λ q. (sym t.0 q, t.1 q))
       (subst (λ (z : ℕ). IsWordOf e' z (total (at i weight) (set views id w)) (total (at i drafts) (set views id w)) (total (at i spents) (set views id w)))
-          (sym (get_or-set_same words (word_of i) n 0 inside)) now))
+      (sym (get_or-set_same words (word_of i) n 0 inside)) now))
       (λ (t : (k ≢ i) × (get_elem? r.book k ≡ some d)).
       subst (λ (z : ℕ). IsWordOf d z (total (at k weight) (set views id w)) (total (at k drafts) (set views id w)) (total (at k spents) (set views id w)))
-          (sym (get_or-set_other words (word_of i) (word_of k) n 0 (words_apart i k t.0)))
+      (sym (get_or-set_other words (word_of i) (word_of k) n 0 (words_apart i k t.0)))
       (stands_as d (get_or words (word_of k) 0) _ _ _ _ _ _
-      (record { weights = still (at k weight) (elsewhere k t.0).weights; drafted = still (at k drafts) (elsewhere k t.0).drafted;
-          spent = still (at k spents) (elsewhere k t.0).spent })
+      (record {
+        weights = still (at k weight) (elsewhere k t.0).weights;
+        drafted = still (at k drafts) (elsewhere k t.0).drafted;
+        spent = still (at k spents) (elsewhere k t.0).spent;
+      })
       (r.stands k d t.1)))
       (at_set r.book i k e' d at_k);
 }

@@ -1,6 +1,32 @@
 -- The steps of a hold's own seat keep the rule.
-use Rattle.std.proofs.Common.{◌≡◌, ◌≢◌, ℕ, ◌+◌, ◌-◌, ◌*◌, ◌%◌, ◌^◌, ◌<◌, ◌≤◌, eqb, List, [], set, get_or, Bool, true, false, refl, sym, ap, ◌∙◌, subst, arith,
-    eq-eqb, ne_eqb}
+use Rattle.std.proofs.Common.{
+  ◌≡◌,
+  ◌≢◌,
+  ℕ,
+  ◌+◌,
+  ◌-◌,
+  ◌*◌,
+  ◌%◌,
+  ◌^◌,
+  ◌<◌,
+  ◌≤◌,
+  eqb,
+  List,
+  [],
+  set,
+  get_or,
+  Bool,
+  true,
+  false,
+  refl,
+  sym,
+  ap,
+  ◌∙◌,
+  subst,
+  arith,
+  eq-eqb,
+  ne_eqb,
+}
 use mathlib.Core.Logic.{dite}
 use native.Mathlib.Decide.{ℕ_discrete}
 use mathlib.Core.Option.{none, some}
@@ -133,7 +159,17 @@ pub releases : (slots id : ℕ) (q : Bool) (es : List Entry) (c : Claim) → c.w
 releases slots id q es c is_one s r _ here small =
     let n : ℕ = get_or s.words (word_of c.slot) 0 in
     dite (ℕ_discrete (n % GENERATION_UNIT) 1)
-    (λ last. (released true (hold_view q es c), keeps, tt, release_last s.words s.views r id q es c here is_one last,
-        ap (λ (b : Bool). (released b (hold_view q es c), [])) (sym (eq-eqb (n % GENERATION_UNIT) 1 last))))
-    (λ more. (released false (hold_view q es c), keeps, tt, release_more s.words s.views r id q es c here is_one more,
-        ap (λ (b : Bool). (released b (hold_view q es c), [])) (sym (ne_eqb (n % GENERATION_UNIT) 1 more))))
+    (λ last. (
+      released true (hold_view q es c),
+      keeps,
+      tt,
+      release_last s.words s.views r id q es c here is_one last,
+      ap (λ (b : Bool). (released b (hold_view q es c), [])) (sym (eq-eqb (n % GENERATION_UNIT) 1 last)),
+    ))
+    (λ more. (
+      released false (hold_view q es c),
+      keeps,
+      tt,
+      release_more s.words s.views r id q es c here is_one more,
+      ap (λ (b : Bool). (released b (hold_view q es c), [])) (sym (ne_eqb (n % GENERATION_UNIT) 1 more)),
+    ))

@@ -40,9 +40,11 @@ module _ (named t0 : TableId) (m0 : Seen) (old : Depot) (keeper : IsKeeper named
       → (word_of key.slot < named.words) × (key.slot < length m0.0.book) × ((entry_at m0.0.book key.slot).phase ≡ Free)
   slot_there new b =
       let within : key.slot < length old.slots = slice_get_within old.slots key.slot _ b.0 in
-      let size : length m0.0.book ≡ length old.slots = ap length knows ∙ length-map old.slots entry_of in
-      (omega (arith, within, keeper.long), omega (arith, within, size),
-          ap (λ (x : Entry). x.phase) ((λ n. entry_at (knows n) key.slot) ∙ entry_there old key.slot _ b.0))
+      let size : length m0.0.book ≡ length old.slots = ap length knows ∙ length-map old.slots entry_of in (
+        omega (arith, within, keeper.long),
+        omega (arith, within, size),
+        ap (λ (x : Entry). x.phase) ((λ n. entry_at (knows n) key.slot) ∙ entry_there old key.slot _ b.0),
+      )
 
   pub draft_kept : (new : Depot) → Begins old key new → (t1 t2 : TableId) (m1 m2 : Seen) → t1 ≡ t0 → m1 ≡ (begun m0.0 key.slot, []) → t2 ≡ t1
       → m2 ≡ (resting m1.0.book, []) → IsKeeper named t2 m2 new
@@ -80,7 +82,7 @@ module _ (named t0 : TableId) (m0 : Seen) (old : Depot) (keeper : IsKeeper named
   free_kept new t him t1 t2 m1 m2 same1 is1 same2 is2 =
       let e : Entry = entry_of (slot_given_back key.generation) in
       kept_on named t0 t2 m0 m2 old new key.slot _ m0.0.book key.slot e keeper t (same2 ∙ same1)
-          (is2 ∙ ap (λ (m : Seen). (resting (entered m.0.book key.slot e), [])) is1) refl refl refl
+      (is2 ∙ ap (λ (m : Seen). (resting (entered m.0.book key.slot e), [])) is1) refl refl refl
 
   -- the arena holds a joined hold's or Spent's message
   pub sealed_joined : (him : Seen) (k : Kind) (c : Claim) → k ≢ Nothing → phase_of k ≡ Sealed → him ≡ (token k c, []) → key.slot ≡ c.slot

@@ -1,6 +1,32 @@
 -- Channels of one kind, from their opening to what is settled.
-use Rattle.std.proofs.Common.{◌≡◌, ℕ, zero, suc, ◌+◌, ◌<◌, false, List, [], ◌∷◌, ◌++◌, length, get_or, map, refl, sym, ap, ◌∙◌, subst, arith, length-append,
-    Option, Some, None, inl, inr}
+use Rattle.std.proofs.Common.{
+  ◌≡◌,
+  ℕ,
+  zero,
+  suc,
+  ◌+◌,
+  ◌<◌,
+  false,
+  List,
+  [],
+  ◌∷◌,
+  ◌++◌,
+  length,
+  get_or,
+  map,
+  refl,
+  sym,
+  ap,
+  ◌∙◌,
+  subst,
+  arith,
+  length-append,
+  Option,
+  Some,
+  None,
+  inl,
+  inr,
+}
 use Rattle.std.proofs.lemmas.Bool.{cases_lt}
 use Rattle.std.specs.Prelude.{slice_get, option_map}
 use Rattle.std.specs.List.{All, AllZip, AllByRecursion}
@@ -95,7 +121,7 @@ module _ {T : Type 0} where
       let col_is : get_or g i [] ≡ col = get_or_from_slice_get g i col [] a in
       let wide : length row ≡ length g = ap length (sym row_is) ∙ turn.widths j j_in in
       let same : get_or row i x ≡ x =
-          ap (λ l. get_or l i x) (sym row_is) ∙ (turn.cells i j x i_in j_in ∙ (ap (λ l. get_or l j x) col_is ∙ get_or_from_slice_get col j x x e)) in
+      ap (λ l. get_or l i x) (sym row_is) ∙ (turn.cells i j x i_in j_in ∙ (ap (λ l. get_or l j x) col_is ∙ get_or_from_slice_get col j x x e)) in
       slice_get-get_or row i x (omega (arith, wide, i_in)) ∙ ap (λ v. Some v) same
 
   pub turned_width : (g h : List (List T)) (j : ℕ) (row : List T) → IsTransposed g h → slice_get h j ≡ Some row → length row ≡ length g
@@ -114,7 +140,7 @@ module _ {M : Type 0} where
         | inl low ↦ at_left (new_senders channel n) (lane_at channel n [] [] ∷ []) k (lane_at channel k [] []) (before low)
         | inr high ↦
             let same : n ≡ k = omega (arith, below, high) in
-                at_seam (new_senders channel n) [] (lane_at channel n [] []) k (new_count channel n ∙ same) ∙ ap (λ j. Some (lane_at channel j [] [])) same
+            at_seam (new_senders channel n) [] (lane_at channel n [] []) k (new_count channel n ∙ same) ∙ ap (λ j. Some (lane_at channel j [] [])) same
       ]
 
   new_at : (channel : Channel M) (n k : ℕ) → k < n → slice_get (new_senders channel n) k ≡ Some (lane_at channel k [] [])
@@ -147,7 +173,7 @@ module _ {M : Type 0} where
     new_row rows turn rows_count k b row channel e f =
         let c = at columns b (omega (arith, columns_new.count, slice_get_within (channels_of inboxes) b channel f)) in
         turned_at columns rows b k c.value row (lane_at channel k [] []) turn c.is e
-            (new_cell b k c.value channel c.is f (omega (arith, rows_count, slice_get_within rows k row e)))
+        (new_cell b k c.value channel c.is f (omega (arith, rows_count, slice_get_within rows k row e)))
 
     pub rows_new : (count : ℕ) (rows : List (List (Sender M))) → IsTransposed columns rows → length rows ≡ n → length inboxes ≡ count
         → AreNewChannels capacity n count rows inboxes
@@ -205,7 +231,7 @@ module _ {M : Type 0} where
       let l = at channels b (omega (arith, are.count, slice_get_within columns b column e)) in
       lanes_by column l.value (omega (arith, are.widths b column e, some)) (λ k x g.
       let same = column_at n channels sent columns are b column l.value e l.is k x g in
-          (ap (λ (v : Sender M). v.channel) same.1, ap (λ (v : Sender M). v.number) same.1)))
+      (ap (λ (v : Sender M). v.channel) same.1, ap (λ (v : Sender M). v.number) same.1)))
 
   first_channel : (channel other : Channel M) (column : List (Sender M)) (x : Sender M) → AreSendersOf channel column → slice_get column 0 ≡ Some x
       → channel ≡ x.channel
@@ -257,7 +283,7 @@ module _ {M : Type 0} where
     count = count;
     widths = λ k row' e.
         let r = at rows k (omega (arith, are.count, count, slice_get_within rows_after k row' e)) in
-            (given k r.value row' r.is e).as_many ∙ are.widths k r.value r.is;
+        (given k r.value row' r.is e).as_many ∙ are.widths k r.value r.is;
     cells = λ k b row' channel e f.
         let r = at rows k (omega (arith, are.count, count, slice_get_within rows_after k row' e)) in
         let g = given k r.value row' r.is e in

@@ -1,5 +1,31 @@
-use Rattle.std.proofs.Common.{◌≡◌, ℕ, zero, suc, ◌+◌, ◌<◌, ◌≤◌, List, [], ◌∷◌, ◌++◌, length, get_or, take, drop, map, ap, sym, refl, ◌∙◌, arith, add-zero,
-    zero-add, length-append, vec_len, vec_capacity}
+use Rattle.std.proofs.Common.{
+  ◌≡◌,
+  ℕ,
+  zero,
+  suc,
+  ◌+◌,
+  ◌<◌,
+  ◌≤◌,
+  List,
+  [],
+  ◌∷◌,
+  ◌++◌,
+  length,
+  get_or,
+  take,
+  drop,
+  map,
+  ap,
+  sym,
+  refl,
+  ◌∙◌,
+  arith,
+  add-zero,
+  zero-add,
+  length-append,
+  vec_len,
+  vec_capacity,
+}
 use Rattle.std.proofs.Math.ListN.{set}
 use Rattle.std.specs.List.{All}
 use Rattle.std.proofs.lemmas.List.{append-nil, append_assoc, get_or-map, length-map, get_or_default}
@@ -19,7 +45,7 @@ module _ {T : Type 0} where
   set-zip_push (q ∷ qs) [] rest (suc k) x r at below is = absurd (cc)
   set-zip_push (q ∷ qs) (y ∷ ys) rest zero x r at below is =
       let e : y ≡ x = cc in ap (λ (z : List T). (z ++ x ∷ []) ∷ qs) is
-          ∙ (ap (λ (z : T). (q ++ z ∷ []) ∷ qs) (sym e) ∙ ap (λ (z : List (List T)). (q ++ y ∷ []) ∷ z) (sym (zip_push-nil qs)))
+      ∙ (ap (λ (z : T). (q ++ z ∷ []) ∷ qs) (sym e) ∙ ap (λ (z : List (List T)). (q ++ y ∷ []) ∷ z) (sym (zip_push-nil qs)))
   set-zip_push (q ∷ qs) (y ∷ ys) rest (suc k) x r at below is =
       ap (λ (z : List (List T)). (q ++ y ∷ []) ∷ z) (set-zip_push qs ys rest k x r at (omega arith) is)
 

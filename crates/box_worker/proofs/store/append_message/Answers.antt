@@ -8,7 +8,7 @@ use Rattle.box_worker.proofs.store.append_message.Goals as goal
 pub returns-in_err-writer-clause-err : goal.returns-in_err-writer-clause-err
 returns-in_err-writer-clause-err g c =
     OnErr-any c.from_residual.result
-        (fails_next (g.S.Spool.state c.args.spool.now) _ _ c.args.begun c.loop-n.writer c.args.hold.now.bytes _ c.loop-n.at c.loop-n.n
+    (fails_next (g.S.Spool.state c.args.spool.now) _ _ c.args.begun c.loop-n.writer c.args.hold.now.bytes _ c.loop-n.at c.loop-n.n
     c.loop-n.invariant.next c.loop-n.invariant.written c.in_err-writer.ensures.err)
 
 pub loop-n-preserved : goal.loop-n-preserved

@@ -16,5 +16,5 @@ returns-clause-ok g c =
 pub returns-clause-err : goal.returns-clause-err
 returns-clause-err g c =
     OnErr-map c.append_text.result
-        (record_failed civil_at c.args.host.now c.args.envelope.now c.args.hold.now.bytes c.in_ok-begun.begun c.in_ok-begun.ensures.new
+    (record_failed civil_at c.args.host.now c.args.envelope.now c.args.hold.now.bytes c.in_ok-begun.begun c.in_ok-begun.ensures.new
     _ _ _ c.in_ok-begun.ensures.ok) c.append_text.ensures.err

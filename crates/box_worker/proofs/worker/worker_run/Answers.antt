@@ -17,7 +17,7 @@ loop-init g c =
     let at : Setting = record { calendar = civil_at; host = c.args.host.now; quota = c.args.quota; worker = worker_of c.args.slips.items } in
     let start : WorkerState = idle c.args.slips.items (g.S.Spool.state c.args.spool) in
     let State : List (Sender Slip) → WorkerState =
-        λ slips. record { slips = slips; mailbox = c.on.result.mailbox; in_use = c.on.result.in_use; taken = 0; lost = any_gone slips } in
+    λ slips. record { slips = slips; mailbox = c.on.result.mailbox; in_use = c.on.result.in_use; taken = 0; lost = any_gone slips } in
     let P : List Note → Type 0 = λ copies. IsWorking at copies c.args.receiver c.args.receiver start (State c.new.result) c.on.result.limit in
     let R : List (Sender Slip) → Type 0 = λ slips. IsWorking at [] c.args.receiver c.args.receiver start (State slips) c.on.result.limit in
     record {
@@ -35,15 +35,15 @@ loop-preserved g c =
     let start : WorkerState = idle c.args.slips.items (g.S.Spool.state c.args.spool) in
     let now = c.handle.new.self in
     let P : List Note → Type 0 = λ copies. IsWorking at copies c.args.receiver c.take_next.new.receiver start
-        (record { slips = now.slips; mailbox = now.mailbox.mailbox; in_use = now.mailbox.in_use; taken = now.taken; lost = any_gone now.slips })
-        now.mailbox.limit in
+    (record { slips = now.slips; mailbox = now.mailbox.mailbox; in_use = now.mailbox.in_use; taken = now.taken; lost = any_gone now.slips })
+    now.mailbox.limit in
     record {
       channel = c.take_next.ensures.same.0 ∙ c.loop.invariant.channel;
       lanes = c.take_next.ensures.same.1 ∙ c.loop.invariant.lanes;
       capacity = c.take_next.ensures.same.2 ∙ c.loop.invariant.capacity;
       working = subst P (sym c.in-Ok.ensures.post)
           (c.handle.ensures c.args.quota (worker_of c.args.slips.items) (taken c.loop.receiver) start c.args.receiver c.loop.receiver c.in-Ok.ensures.timed
-              c.loop.invariant.working);
+          c.loop.invariant.working);
     }
 
 pub returns-in-Err-Lost : goal.returns-in-Err-Lost
@@ -52,13 +52,20 @@ returns-in-Err-Lost g c =
     let after = c.take_next.new.receiver in
     let at : Setting = record { calendar = civil_at; host = c.args.host.now; quota = c.args.quota; worker = worker_of c.args.slips.items } in
     let start : WorkerState = idle c.args.slips.items (g.S.Spool.state c.args.spool) in
-    let now : WorkerState = record { slips = worker.slips; mailbox = worker.mailbox.mailbox; in_use = worker.mailbox.in_use; taken = worker.taken;
-        lost = any_gone worker.slips } in
+    let now : WorkerState = record {
+      slips = worker.slips;
+      mailbox = worker.mailbox.mailbox;
+      in_use = worker.mailbox.in_use;
+      taken = worker.taken;
+      lost = any_gone worker.slips;
+    } in
     let gone : after.gone ≡ Some Lost = search rules in
     let e = c.report-in-Err-Lost.ensures in
     let P : Inbox Note × WorkerState → Type 0 = λ p. HasWorked at c.args.receiver p.0 start p.1 in
-    subst P (λ i. (sym e.ends.0 i,
-        record { slips = sym e.ends.1 i; mailbox = sym e.mailbox i; in_use = sym e.in_use i; taken = sym e.taken i; lost = sym e.lost i }))
+    subst P (λ i. (
+      sym e.ends.0 i,
+      record { slips = sym e.ends.1 i; mailbox = sym e.mailbox i; in_use = sym e.in_use i; taken = sym e.taken i; lost = sym e.lost i },
+    ))
     (worked at c.args.receiver c.loop.receiver after start now worker.mailbox.limit c.loop.invariant.working (search rules) (search rules) (search rules)
     c.in-Err-Lost.ensures.nothing c.in-Err-Lost.ensures.no_time
     (subst IsSome (sym gone) refl) (any_gone worker.slips || true) (ap (λ (w : Option Gone). any_gone worker.slips || is_lost w) (sym gone)))
@@ -69,13 +76,20 @@ returns-in-Err-Closed g c =
     let after = c.take_next.new.receiver in
     let at : Setting = record { calendar = civil_at; host = c.args.host.now; quota = c.args.quota; worker = worker_of c.args.slips.items } in
     let start : WorkerState = idle c.args.slips.items (g.S.Spool.state c.args.spool) in
-    let now : WorkerState = record { slips = worker.slips; mailbox = worker.mailbox.mailbox; in_use = worker.mailbox.in_use; taken = worker.taken;
-        lost = any_gone worker.slips } in
+    let now : WorkerState = record {
+      slips = worker.slips;
+      mailbox = worker.mailbox.mailbox;
+      in_use = worker.mailbox.in_use;
+      taken = worker.taken;
+      lost = any_gone worker.slips;
+    } in
     let gone : after.gone ≡ Some Closed = search rules in
     let e = c.report.ensures in
     let P : Inbox Note × WorkerState → Type 0 = λ p. HasWorked at c.args.receiver p.0 start p.1 in
-    subst P (λ i. (sym e.ends.0 i,
-        record { slips = sym e.ends.1 i; mailbox = sym e.mailbox i; in_use = sym e.in_use i; taken = sym e.taken i; lost = sym e.lost i }))
+    subst P (λ i. (
+      sym e.ends.0 i,
+      record { slips = sym e.ends.1 i; mailbox = sym e.mailbox i; in_use = sym e.in_use i; taken = sym e.taken i; lost = sym e.lost i },
+    ))
     (worked at c.args.receiver c.loop.receiver after start now worker.mailbox.limit c.loop.invariant.working (search rules) (search rules) (search rules)
     c.in-Err-Closed.ensures.nothing c.in-Err-Closed.ensures.no_time
     (subst IsSome (sym gone) refl) (any_gone worker.slips || false) (ap (λ (w : Option Gone). any_gone worker.slips || is_lost w) (sym gone)))

@@ -18,6 +18,6 @@ returns-clause-greets g c =
       untold = c.flush.ensures.untold ∙ c.say.ensures.untold;
       said = subst said
           (ap (λ (x : Site). reply_text x c.greeting-greeting.result) (c.site.ensures ∙ c.greeting-greeting.ensures.site)
-              ∙ ap (λ (r : Reply). reply_text c.args.dialogue.now.session.site r) c.greeting-greeting.ensures.reply)
+          ∙ ap (λ (r : Reply). reply_text c.args.dialogue.now.session.site r) c.greeting-greeting.ensures.reply)
           (c.flush.ensures.said start [] _ (c.say.ensures.says start [] [] (said_none start c.clear-2.new.self c.clear-2.ensures)));
     }

@@ -9,7 +9,7 @@ returns-clause-serves g c =
     let start = g.P.Peer.state c.args.peer.now in
     c.take_turns.ensures.ends site start c.args.delivery.now []
     (begins site start (g.P.Peer.state c.greet.new.peer) (g.D.Delivery.HasCome c.args.delivery.now) (g.D.Delivery.IsDrafting c.args.delivery.now)
-        c.args.dialogue.now c.greet.new.dialogue refl c.greet.ensures.greets)
+    c.args.dialogue.now c.greet.new.dialogue refl c.greet.ensures.greets)
 
 pub returns-clause-reads : goal.returns-clause-reads
 returns-clause-reads g c = read_from c.args.reads (g.P.Peer.state c.args.peer.now) (g.P.Peer.state c.greet.new.peer) (g.P.Peer.state c.take_turns.new.peer)

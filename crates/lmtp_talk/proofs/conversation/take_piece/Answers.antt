@@ -6,6 +6,6 @@ pub returns-clause-handles : goal.returns-clause-handles
 returns-clause-handles g c site start first handled h =
     let came = handled ++ c.args.piece.now in
     stands_flushed site start (g.P.Peer.state c.handle.new.peer) (g.P.Peer.state c.flush.new.peer) (g.D.Delivery.HasCome first)
-        (g.D.Delivery.HasCome c.handle.new.delivery) (g.D.Delivery.IsDrafting c.handle.new.delivery)
+    (g.D.Delivery.HasCome c.handle.new.delivery) (g.D.Delivery.IsDrafting c.handle.new.delivery)
     c.handle.new.dialogue c.flush.new.self came came (λ text x. c.flush.ensures.said start came text x) c.flush.ensures.goes c.flush.ensures.untold
-        (c.handle.ensures.stands site start first handled came h)
+    (c.handle.ensures.stands site start first handled came h)

@@ -16,63 +16,65 @@ use Rattle.lmtp_talk.proofs.conversation.take_turn.Goals as goal
 pub returns-then-is_broken-clause-turn : goal.returns-then-is_broken-clause-turn
 returns-then-is_broken-clause-turn g c reads site start first handled h =
     served reads site start (g.P.Peer.state c.args.peer.now) (g.D.Delivery.HasCome first) (g.D.Delivery.HasCome c.args.delivery.now)
-        (g.D.Delivery.HasCome c.leave.new.delivery) (g.D.Delivery.IsDrafting c.args.delivery.now)
+    (g.D.Delivery.HasCome c.leave.new.delivery) (g.D.Delivery.IsDrafting c.args.delivery.now)
     c.args.dialogue.now handled ends.WriteFault h c.leave.ensures.leaves (sym c.is_broken.ensures ∙ c.if-is_broken.true)
 
 pub returns-in-Ok-Bytes-clause-turn : goal.returns-in-Ok-Bytes-clause-turn
 returns-in-Ok-Bytes-clause-turn g c =
     let came : HasBrought (g.P.Peer.state c.args.peer.now) (g.P.Peer.state c.read.new.self) c.read.new.buffer (Bytes c.in-Ok-Bytes.size) =
     subst (λ (x : Came). HasBrought (g.P.Peer.state c.args.peer.now) (g.P.Peer.state c.read.new.self) c.read.new.buffer x) c.in-Ok-Bytes.field-0-is
-        c.in-Ok-Bytes.ensures.ok in
+    c.in-Ok-Bytes.ensures.ok in
     let size : length (take c.in-Ok-Bytes.size c.read.new.buffer) ≡ c.in-Ok-Bytes.size = length-take-le c.in-Ok-Bytes.size c.read.new.buffer came.1 in
     let some : 0 < length (take c.in-Ok-Bytes.size c.read.new.buffer) = omega (arith, size, came.0) in
     let by : Option EndCause → Type 0 = λ o. MatchOption o
     (TakesTurn g.D.Delivery.HasCome g.D.Delivery.IsDrafting (talk c.args.dialogue.now (g.P.Peer.state c.args.peer.now) c.args.delivery.now)
-        (talk c.take_piece.new.dialogue (g.P.Peer.state c.take_piece.new.peer) c.take_piece.new.delivery))
+    (talk c.take_piece.new.dialogue (g.P.Peer.state c.take_piece.new.peer) c.take_piece.new.delivery))
     (λ end. (reads : ℕ) → EndsTurn g.D.Delivery.HasCome g.D.Delivery.IsDrafting reads
-        (talk c.args.dialogue.now (g.P.Peer.state c.args.peer.now) c.args.delivery.now)
-        (talk c.take_piece.new.dialogue (g.P.Peer.state c.take_piece.new.peer) c.take_piece.new.delivery) end) in
+    (talk c.args.dialogue.now (g.P.Peer.state c.args.peer.now) c.args.delivery.now)
+    (talk c.take_piece.new.dialogue (g.P.Peer.state c.take_piece.new.peer) c.take_piece.new.delivery) end) in
     subst by (sym c.end_or_go_on.ensures)
     (turns_by g.D.Delivery.HasCome g.D.Delivery.IsDrafting c.args.dialogue.now c.take_piece.new.dialogue (g.P.Peer.state c.args.peer.now)
-        (g.P.Peer.state c.read.new.self) (g.P.Peer.state c.take_piece.new.peer)
+    (g.P.Peer.state c.read.new.self) (g.P.Peer.state c.take_piece.new.peer)
     c.args.delivery.now c.take_piece.new.delivery (take c.in-Ok-Bytes.size c.read.new.buffer) c.take_piece.new.dialogue.session.session.state refl
-        c.take_piece.ensures.none some came.2 c.take_piece.ensures.handles)
+    c.take_piece.ensures.none some came.2 c.take_piece.ensures.handles)
 
 pub returns-in-Ok-End-clause-turn : goal.returns-in-Ok-End-clause-turn
 returns-in-Ok-End-clause-turn g c reads site start first handled h =
     let came : HasBrought (g.P.Peer.state c.args.peer.now) (g.P.Peer.state c.read.new.self) c.read.new.buffer End =
     subst (λ (x : Came). HasBrought (g.P.Peer.state c.args.peer.now) (g.P.Peer.state c.read.new.self) c.read.new.buffer x) c.in-Ok-End.field-0-is
-        c.in-Ok-End.ensures.ok in
+    c.in-Ok-End.ensures.ok in
     served reads site start (g.P.Peer.state c.read.new.self) (g.D.Delivery.HasCome first) (g.D.Delivery.HasCome c.args.delivery.now)
-        (g.D.Delivery.HasCome c.leave-in-Ok-End.new.delivery) (g.D.Delivery.IsDrafting c.args.delivery.now)
+    (g.D.Delivery.HasCome c.leave-in-Ok-End.new.delivery) (g.D.Delivery.IsDrafting c.args.delivery.now)
     c.args.dialogue.now handled ends.EndOfInput
     (stands_still site start (g.P.Peer.state c.args.peer.now) (g.P.Peer.state c.read.new.self) (g.D.Delivery.HasCome first)
-        (g.D.Delivery.HasCome c.args.delivery.now) (g.D.Delivery.IsDrafting c.args.delivery.now) c.args.dialogue.now handled handled h came.0)
-    c.leave-in-Ok-End.ensures.leaves
-    (record { whole = sym c.is_broken.ensures ∙ c.if-is_broken.false; none = c.requires.none },
-        may_not_ended c.args.dialogue.now.session.session.state c.requires.may, came.1)
+    (g.D.Delivery.HasCome c.args.delivery.now) (g.D.Delivery.IsDrafting c.args.delivery.now) c.args.dialogue.now handled handled h came.0)
+    c.leave-in-Ok-End.ensures.leaves (
+      record { whole = sym c.is_broken.ensures ∙ c.if-is_broken.false; none = c.requires.none },
+      may_not_ended c.args.dialogue.now.session.session.state c.requires.may,
+      came.1,
+    )
 
 pub returns-in-Ok-Stop-clause-turn : goal.returns-in-Ok-Stop-clause-turn
 returns-in-Ok-Stop-clause-turn g c reads site start first handled h =
     let came : HasBrought (g.P.Peer.state c.args.peer.now) (g.P.Peer.state c.read.new.self) c.read.new.buffer Stop =
     subst (λ (x : Came). HasBrought (g.P.Peer.state c.args.peer.now) (g.P.Peer.state c.read.new.self) c.read.new.buffer x) c.in-Ok-Stop.field-0-is
-        c.in-Ok-Stop.ensures.ok in
+    c.in-Ok-Stop.ensures.ok in
     let by : EndCause → Type 0 = λ end. IsServed (terms site reads) start (g.P.Peer.state c.stop.new.peer) (g.D.Delivery.HasCome first)
-        (g.D.Delivery.HasCome c.leave-in-Ok-Stop.new.delivery) end in
+    (g.D.Delivery.HasCome c.leave-in-Ok-Stop.new.delivery) end in
     subst by (sym (c.stopped_or_fault.ensures ∙ ap stopped_or c.is_broken-in-Ok-Stop.ensures))
     (served_stopped reads site start (g.P.Peer.state c.args.peer.now) (g.P.Peer.state c.read.new.self) (g.P.Peer.state c.stop.new.peer)
-        (g.D.Delivery.HasCome first) (g.D.Delivery.HasCome c.args.delivery.now) (g.D.Delivery.HasCome c.leave-in-Ok-Stop.new.delivery)
-        (g.D.Delivery.IsDrafting c.args.delivery.now)
+    (g.D.Delivery.HasCome first) (g.D.Delivery.HasCome c.args.delivery.now) (g.D.Delivery.HasCome c.leave-in-Ok-Stop.new.delivery)
+    (g.D.Delivery.IsDrafting c.args.delivery.now)
     c.args.dialogue.now c.stop.new.dialogue handled h
     c.leave-in-Ok-Stop.ensures.leaves (may_not_ended c.args.dialogue.now.session.session.state c.requires.may) came c.stop.ensures.takes c.stop.ensures.untold
-        c.stop.ensures.none)
+    c.stop.ensures.none)
 
 pub returns-in-Err-clause-turn : goal.returns-in-Err-clause-turn
 returns-in-Err-clause-turn g c reads site start first handled h =
     served_read_fault reads site start (g.P.Peer.state c.args.peer.now) (g.P.Peer.state c.read.new.self) (g.D.Delivery.HasCome first)
-        (g.D.Delivery.HasCome c.args.delivery.now) (g.D.Delivery.HasCome c.leave-in-Err.new.delivery) (g.D.Delivery.IsDrafting c.args.delivery.now)
+    (g.D.Delivery.HasCome c.args.delivery.now) (g.D.Delivery.HasCome c.leave-in-Err.new.delivery) (g.D.Delivery.IsDrafting c.args.delivery.now)
     c.args.dialogue.now handled h c.leave-in-Err.ensures.leaves (record { whole = sym c.is_broken.ensures ∙ c.if-is_broken.false; none = c.requires.none })
-        (may_not_ended c.args.dialogue.now.session.session.state c.requires.may) c.in-Err.ensures.err
+    (may_not_ended c.args.dialogue.now.session.session.state c.requires.may) c.in-Err.ensures.err
 
 pub returns-in-Ok-Bytes-clause-reads : goal.returns-in-Ok-Bytes-clause-reads
 returns-in-Ok-Bytes-clause-reads g c =

@@ -40,7 +40,7 @@ pub returns-then-is_broken-clause-ends : goal.returns-then-is_broken-clause-ends
 returns-then-is_broken-clause-ends g c site start first handled h =
     let w = c.loop-made.invariant.stands site start first handled h in
     served c.args.reads site start (g.P.Peer.state c.loop-made.peer) (g.D.Delivery.HasCome first) (g.D.Delivery.HasCome c.loop-made.delivery)
-        (g.D.Delivery.HasCome c.leave.new.delivery) (g.D.Delivery.IsDrafting c.loop-made.delivery)
+    (g.D.Delivery.HasCome c.leave.new.delivery) (g.D.Delivery.IsDrafting c.loop-made.delivery)
     c.loop-made.dialogue w.0 ends.WriteFault w.2 c.leave.ensures.leaves (sym c.is_broken.ensures ∙ c.if-is_broken.true)
 
 pub returns-else-is_broken-clause-ends : goal.returns-else-is_broken-clause-ends
@@ -49,7 +49,9 @@ returns-else-is_broken-clause-ends g c site start first handled h =
     let made : c.loop-made._made ≤ length w.0 = w.1 in
     let bound : c.args.reads ≤ length w.0 = omega (arith, made, c.loop-made-test.false) in
     served c.args.reads site start (g.P.Peer.state c.loop-made.peer) (g.D.Delivery.HasCome first) (g.D.Delivery.HasCome c.loop-made.delivery)
-        (g.D.Delivery.HasCome c.leave.new.delivery) (g.D.Delivery.IsDrafting c.loop-made.delivery)
-    c.loop-made.dialogue w.0 ends.ReadBound w.2 c.leave.ensures.leaves
-    (record { whole = sym c.is_broken.ensures ∙ c.if-is_broken.false; none = c.loop-made.invariant.none },
-        may_not_ended c.loop-made.dialogue.session.session.state c.loop-made.invariant.may, bound)
+    (g.D.Delivery.HasCome c.leave.new.delivery) (g.D.Delivery.IsDrafting c.loop-made.delivery)
+    c.loop-made.dialogue w.0 ends.ReadBound w.2 c.leave.ensures.leaves (
+      record { whole = sym c.is_broken.ensures ∙ c.if-is_broken.false; none = c.loop-made.invariant.none },
+      may_not_ended c.loop-made.dialogue.session.session.state c.loop-made.invariant.may,
+      bound,
+    )

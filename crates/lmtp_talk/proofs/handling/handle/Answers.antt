@@ -23,9 +23,9 @@ loop-at-preserved g c =
           (talk c.take_prefix.new.dialogue (g.P.Peer.state c.take_prefix.new.peer) c.take_prefix.new.delivery) l)
           (take_more at used piece c.loop-at.invariant.within)
           (subst (λ l. Advances HasCome IsDrafting (talk c.args.dialogue.now (g.P.Peer.state c.args.peer.now) c.args.delivery.now)
-              (talk c.take_prefix.new.dialogue (g.P.Peer.state c.take_prefix.new.peer) c.take_prefix.new.delivery) (take at piece ++ take used l)) rest
+          (talk c.take_prefix.new.dialogue (g.P.Peer.state c.take_prefix.new.peer) c.take_prefix.new.delivery) (take at piece ++ take used l)) rest
           (advances_then HasCome IsDrafting c.args.dialogue.now c.loop-at.dialogue c.take_prefix.new.dialogue (g.P.Peer.state c.args.peer.now)
-              (g.P.Peer.state c.loop-at.peer) (g.P.Peer.state c.take_prefix.new.peer)
+          (g.P.Peer.state c.loop-at.peer) (g.P.Peer.state c.take_prefix.new.peer)
           c.args.delivery.now c.loop-at.delivery c.take_prefix.new.delivery (take at piece) (take used (take (length piece - at) (drop at piece)))
-              c.loop-at.invariant.stands step.stands));
+          c.loop-at.invariant.stands step.stands));
     }

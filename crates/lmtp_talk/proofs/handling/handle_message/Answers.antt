@@ -9,18 +9,18 @@ pub returns-in-Ok-clause-ends : goal.returns-in-Ok-clause-ends
 returns-in-Ok-clause-ends g c =
     let told : List Outcome = g.D.Delivery.outcomes c.end.new.self in
     whole_message g.D.Delivery.HasCome g.D.Delivery.IsDrafting c.args.dialogue.now _ c.data_done.new.self (g.P.Peer.state c.args.peer.now)
-        (g.P.Peer.state c.answer.new.peer)
+    (g.P.Peer.state c.answer.new.peer)
     c.args.delivery.now c.end.new.self (g.D.Delivery.moment c.end.new.self) told c.data_done.result c.outcomes-answered.result c.number-number.result
-        c.size-size.result
+    c.size-size.result
     c.in-Ok.ensures.ended c.in-Ok.ensures.count c.data_done.ensures.step
     (subst (λ (os : List Outcome). IsStep c.data_done.new.self (Outcomes os) c.outcomes-answered.result c.outcomes-answered.new.self) c.outcomes.ensures
-        c.outcomes-answered.ensures.step) refl c.answer.ensures.goes c.answer.ensures.says c.number-number.ensures c.size-size.ensures c.answer.ensures.told
+    c.outcomes-answered.ensures.step) refl c.answer.ensures.goes c.answer.ensures.says c.number-number.ensures c.size-size.ensures c.answer.ensures.told
 
 pub returns-in-Err-clause-ends : goal.returns-in-Err-clause-ends
 returns-in-Err-clause-ends g c =
     refused_message g.D.Delivery.HasCome g.D.Delivery.IsDrafting c.args.dialogue.now _ (g.P.Peer.state c.args.peer.now)
-        (g.P.Peer.state c.answer-in-Err.new.peer)
+    (g.P.Peer.state c.answer-in-Err.new.peer)
     c.args.delivery.now c.end.new.self c.in-Err.verdict (g.D.Delivery.moment c.end.new.self) (g.D.Delivery.outcomes c.end.new.self) c.data_done-refused.result
-        c.number-number.result c.size-size.result
+    c.number-number.result c.size-size.result
     c.in-Err.ensures.refused c.in-Err.ensures.ended c.data_done-refused.ensures.step refl c.answer-in-Err.ensures.goes c.answer-in-Err.ensures.says
-        c.number-number.ensures c.size-size.ensures c.answer-in-Err.ensures.told
+    c.number-number.ensures c.size-size.ensures c.answer-in-Err.ensures.told

@@ -8,5 +8,5 @@ use Rattle.lmtp_text.proofs.names.is_listed.Goals as goal
 pub returns : goal.returns
 returns c =
     any_from_yields_List (λ name. is_word name.items c.args.domain.now) _ _ c.any.result c.any.ensures.ran (YieldsList-from_slice c.args.domains.now cc)
-        (λ x b q k. search (rules, tests))
+    (λ x b q k. search (rules, tests))
     ∙ sym (list_any_owned (λ name. is_word name c.args.domain.now) c.args.domains.now)

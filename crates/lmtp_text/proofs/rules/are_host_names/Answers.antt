@@ -8,5 +8,5 @@ use Rattle.lmtp_text.proofs.rules.are_host_names.Goals as goal
 pub returns : goal.returns
 returns c =
     all_from_yields_List (λ name. is_host_name name.now) _ _ c.all.result c.all.ensures.ran (YieldsList-from_slice c.args.names.now cc)
-        (λ x b q k. search (rules, tests))
+    (λ x b q k. search (rules, tests))
     ∙ sym (list_all_texts is_host_name c.args.names.now)

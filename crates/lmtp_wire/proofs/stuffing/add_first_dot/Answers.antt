@@ -11,5 +11,5 @@ returns-then-not-starts_with-clause-ok c =
 pub returns-clause-ok : goal.returns-clause-ok
 returns-clause-ok c =
     ap (λ l. l ++ with_dots lf dot c.args.message.now) c.in_ok-extend_from_slice.ensures.items
-        ∙ append_assoc c.args.out.now.items (dot ∷ []) (with_dots lf dot c.args.message.now)
+    ∙ append_assoc c.args.out.now.items (dot ∷ []) (with_dots lf dot c.args.message.now)
     ∙ ap (λ l. c.args.out.now.items ++ l) (sym (dot_first c.args.message.now (sym c.starts_with.ensures.value ∙ c.if-not-starts_with.false)))

@@ -7,7 +7,7 @@ use Rattle.lmtp_wire.proofs.wire.place_of_crlf.Goals.{else-lf-gt0-via-then-lf-gt
 pub returns-then-text-lf-eq13-clause-place : goal.returns-then-text-lf-eq13-clause-place
 returns-then-text-lf-eq13-clause-place c =
     found_at c.args.text.now c.loop-n.seen c.in-Some.n (c.loop-n.seen + c.in-Some.n - 1) c.loop-n.invariant (rw take_rest at c.in-Some.ensures.0)
-        (rw take_rest at c.in-Some.ensures.1) (omega arith) c.if-text-lf-eq13.true
+    (rw take_rest at c.in-Some.ensures.1) (omega arith) c.if-text-lf-eq13.true
 
 pub loop-n-preserved : goal.loop-n-preserved
 loop-n-preserved c = seen_to c.args.text.now c.loop-n.seen c.in-Some.n c.loop-n.invariant (rw take_rest at c.in-Some.ensures.0) (λ k e is.

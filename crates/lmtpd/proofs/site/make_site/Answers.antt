@@ -9,5 +9,5 @@ returns-in_err-site-clause-order c =
     let p = err_from_is_err_and c.from_residual-in_err-site.result c.from_residual-in_err-site.ensures.1 in
     let site = site_of c.args.host.now c.args.domains.now c.args.boxes.now in
     rw (p.1, p.2) (site_refused site c.in_err-site.field-0.0
-        (none_of_none c.args.host.now c.args.domains.now c.args.boxes.now false (sym c.if-is_empty.false ∙ c.is_empty.ensures))
-        (inl c.in_ok-try_each_box.ensures) c.in_err-site.ensures.broken c.in_err-site.ensures.whole)
+    (none_of_none c.args.host.now c.args.domains.now c.args.boxes.now false (sym c.if-is_empty.false ∙ c.is_empty.ensures))
+    (inl c.in_ok-try_each_box.ensures) c.in_err-site.ensures.broken c.in_err-site.ensures.whole)

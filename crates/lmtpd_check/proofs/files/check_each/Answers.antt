@@ -27,13 +27,13 @@ loop-name-init g c = record {
 pub returns-then-is_err : goal.returns-then-is_err
 returns-then-is_err g c =
     subst (λ (found : List Finding). IsChecked g.P.File.Read.remaining (texts c.args.names.now) (g.W.Write.contents c.args.writer.now)
-        (g.W.Write.contents c.write_finding.new.writer) found (texts c.keep_if.new.kept.items) true)
+    (g.W.Write.contents c.write_finding.new.writer) found (texts c.keep_if.new.kept.items) true)
     (sym c.push_reserved.ensures.items)
     (checked_cut g.P.File.Read.remaining c.args.names.now c.loop-name.name-index _ _ _ c.loop-name.findings.items c.check_file-reading.result.finding _
-        (texts c.keep_if.new.kept.items)
+    (texts c.keep_if.new.kept.items)
     c.loop-name.invariant.written c.loop-name-test.true c.check_file-reading.ensures
     (among_next c.args.names.now c.loop-name.name-index _ c.loop-name-test.true c.check_file-reading.result.is_unlocked c.loop-name.unlocked.items _
-        c.keep_if.ensures.items c.loop-name.invariant.among)
+    c.keep_if.ensures.items c.loop-name.invariant.among)
     (failed c.write_finding.result (sym c.is_err.ensures.value ∙ c.if-is_err.true) c.write_finding.ensures.err))
 
 pub loop-name-preserved : goal.loop-name-preserved

@@ -6,5 +6,5 @@ use Rattle.lmtpd_check.proofs.lines.write_unlocked.Goals as goal
 pub returns-clause-err : goal.returns-clause-err
 returns-clause-err g c =
     subst (λ (name : List ℕ). OnErr c.write_each.result
-        (IsCutOff (g.E.Write.contents c.args.error.now) (g.E.Write.contents c.write_each.new.writer) (unlocked_line name)))
+    (IsCutOff (g.E.Write.contents c.args.error.now) (g.E.Write.contents c.write_each.new.writer) (unlocked_line name)))
     c.as_bytes.ensures.value c.write_each.ensures.err

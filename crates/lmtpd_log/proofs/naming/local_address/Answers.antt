@@ -9,5 +9,5 @@ returns-then-quoted c =
     let quote = codes "\"" in
     rw c.if-quoted.true
     (with_two PATH_LIMIT quote c.args.local.now quote (address_text c.add.new.self) (address_text c.add-then-quoted.new.self)
-        (address_text c.add-then-quoted-2.new.self)
+    (address_text c.add-then-quoted-2.new.self)
     (c.add.ensures ∙ ap (λ t. take PATH_LIMIT (t ++ quote)) c.empty-address.ensures) c.add-then-quoted.ensures c.add-then-quoted-2.ensures)

@@ -11,7 +11,7 @@ returns-in-Some-after c =
     rw (c.as_bytes.ensures.value, c.format.ensures.text) at c.in-Some.ensures in
     let decides : Decides c.eq.result (c.in-Some-after.rest.now ≡ decimal c.args.inode) =
     rw (c.as_bytes-in-Some-after.ensures.value, c.format-in-Some-after.ensures.text) at
-        (slice_eq-Decides Decides-eqb c.in-Some-after.rest.now c.as_bytes-in-Some-after.result.now c.eq.result c.eq.ensures) in
+    (slice_eq-Decides Decides-eqb c.in-Some-after.rest.now c.as_bytes-in-Some-after.result.now c.eq.result c.eq.ensures) in
     is_named c.args.text.now (decimal c.args.device) (decimal c.args.inode) c.in-Some.rest.now begins c.in-Some-after.rest.now c.eq.result
     c.in-Some-after.ensures decides
 

@@ -12,7 +12,7 @@ returns-in_err-write_mailbox-clause-err g c =
     within c.requires c.box_name.ensures.value c.index-spools-number.is c.bytes.ensures in
     OnErr-any c.from_residual.result (
     pair_broken mailbox_output c.args.site.now (bytes_of_all c.args.spools.now) c.loop-number.number c.box_name.result.now c.bytes.result.now _ _ _ _ mailbox
-        c.loop-number.invariant c.in_err-write_mailbox.ensures.err)
+    c.loop-number.invariant c.in_err-write_mailbox.ensures.err)
 
 pub loop-number-preserved : goal.loop-number-preserved
 loop-number-preserved g c =
@@ -20,4 +20,4 @@ loop-number-preserved g c =
     let mailbox = mailbox_at c.args.site.now c.args.spools.now c.loop-number.number c.box_name.result.now c.bytes.result.now c.index-spools-number.result _
     within c.requires c.box_name.ensures.value c.index-spools-number.is c.bytes.ensures in
     pair_written mailbox_output c.args.site.now (bytes_of_all c.args.spools.now) c.loop-number.number c.box_name.result.now c.bytes.result.now _ _ _ _ mailbox
-        c.loop-number.invariant c.in_ok-write_mailbox.ensures.ok
+    c.loop-number.invariant c.in_ok-write_mailbox.ensures.ok

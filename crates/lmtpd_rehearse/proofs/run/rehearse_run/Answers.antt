@@ -17,7 +17,7 @@ is_cut-cut-requires g c =
     let H : Site → Type 0 = λ s. IsHeld s c.args.quota c.args.moment old new left in
     let held : H site = subst H c.in_ok-clone.ensures.cases c.in_ok-held.ensures.held in
     ap length c.deref-2.ensures.value ∙ as_many_spools site c.args.quota c.args.moment old new left held
-        ∙ ap (λ (s : Site). length s.boxes) (sym c.deref.ensures)
+    ∙ ap (λ (s : Site). length s.boxes) (sym c.deref.ensures)
 
 pub returns-clause-rehearses : goal.returns-clause-rehearses
 returns-clause-rehearses g c =
@@ -29,8 +29,8 @@ returns-clause-rehearses g c =
     let H : Site → Type 0 = λ s. IsHeld s c.args.quota c.args.moment old new left in
     let held : H site = subst H c.in_ok-clone.ensures.cases c.in_ok-held.ensures.held in
     let L : Site → List MemorySpool → Type 0 =
-        λ s spools. IsListed (texts_of_mailboxes s.boxes (bytes_of_all spools)) (g.W.Write.contents c.in_ok-held.held.peer.writer)
-        (g.W.Write.contents c.is_cut-cut.new.writer) c.is_cut-cut.result in
+    λ s spools. IsListed (texts_of_mailboxes s.boxes (bytes_of_all spools)) (g.W.Write.contents c.in_ok-held.held.peer.writer)
+    (g.W.Write.contents c.is_cut-cut.new.writer) c.is_cut-cut.result in
     let listed = subst (λ s. L s c.in_ok-held.held.spools.items) c.deref.ensures
-        (subst (λ spools. L c.deref.result.now spools) c.deref-2.ensures.value c.is_cut-cut.ensures) in
+    (subst (λ spools. L c.deref.result.now spools) c.deref-2.ensures.value c.is_cut-cut.ensures) in
     rehearsed site c.args.quota c.args.moment old new left _ _ held listed

@@ -13,7 +13,7 @@ returns-in_err-write_trouble-clause-err g c =
     OnErr-any c.from_residual.result (
     pair_broken (trouble_told c.args.trouble) (arc_value served.site) served.tallies.items c.loop-number.number c.box_name.result.now _ _ _ _ _
     (told_at served c.deref-site.result.now c.loop-number.number c.box_name.result.now c.index-tally.result.now c.deref-site.ensures within
-        c.box_name.ensures.value c.index-tally.ensures)
+    c.box_name.ensures.value c.index-tally.ensures)
     c.loop-number.invariant c.in_err-write_trouble.ensures.err)
 
 pub loop-number-preserved : goal.loop-number-preserved
@@ -22,5 +22,5 @@ loop-number-preserved g c =
     let within : c.loop-number.number < length c.deref-site.result.now.boxes = omega (arith, c.loop-number-test.true, c.box_count-number-end.ensures.value) in
     pair_written (trouble_told c.args.trouble) (arc_value served.site) served.tallies.items c.loop-number.number c.box_name.result.now _ _ _ _ _
     (told_at served c.deref-site.result.now c.loop-number.number c.box_name.result.now c.index-tally.result.now c.deref-site.ensures within
-        c.box_name.ensures.value c.index-tally.ensures)
+    c.box_name.ensures.value c.index-tally.ensures)
     c.loop-number.invariant c.in_ok-write_trouble.ensures.ok

@@ -7,7 +7,7 @@ pub returns-in-Some : goal.returns-in-Some
 returns-in-Some c =
     let f = found_of c.args.matches.now in
     let is : ◌≡◌ {A = Option Text} (first_of (codes "dir") (rows_of f)) (Some c.in-Some.text.now) =
-        sym (first_value-rows f (codes "dir")) ∙ sym c.in-Some.ensures in
+    sym (first_value-rows f (codes "dir")) ∙ sym c.in-Some.ensures in
     rw is c.path_in.ensures
 
 pub returns-in-None : goal.returns-in-None

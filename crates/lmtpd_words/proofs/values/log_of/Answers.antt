@@ -7,7 +7,7 @@ pub returns-in-Some : goal.returns-in-Some
 returns-in-Some c =
     let f = found_of c.args.matches.now in
     let is : ◌≡◌ {A = Option Text} (first_of (codes "log") (rows_of f)) (Some c.in-Some.name.now) =
-        sym (first_value-rows f (codes "log")) ∙ sym c.in-Some.ensures in
+    sym (first_value-rows f (codes "log")) ∙ sym c.in-Some.ensures in
     rw is c.level_of.ensures
 
 pub returns-in-None : goal.returns-in-None

@@ -46,9 +46,9 @@ returns-clause-passed g c =
     let both = c.absorb.ensures.rule in
     let gone = ap (λ (r : Inbox _). r.gone) is in
     let inbox = subst (λ (x : _). IsInbox g.M.FromSender.sender c.receiver.inside.lanes c.receiver.inside.marks x (view_of c.receiver.inside.pass)) gone
-        c.receiver.invariant.1 in
+    c.receiver.invariant.1 in
     passed_through g.M.FromSender.sender c.receiver.inside.lanes c.receiver.inside.marks (view_of c.receiver.inside.pass) (view_of c.absorb.new.pass)
-        c.args.receiver c.args.closed.sent c.args.closed.sent_at inbox
+    c.args.receiver c.args.closed.sent c.args.closed.sent_at inbox
     (ap (λ (r : Inbox _). r.got) (sym is), ap (λ (r : Inbox _). r.got_at) (sym is), ap (λ (r : Inbox _). r.took_at) (sym is))
     (ap (λ (t : View _). t.lanes) both ∙ ap (λ (t : View _). t.lanes) c.receiver.invariant.1.knows)
     (ap (λ (t : View _). t.got) both) (ap (λ (t : View _). t.got_at) both) (ap (λ (t : View _). t.took_at) both)

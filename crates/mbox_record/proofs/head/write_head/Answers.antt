@@ -13,11 +13,11 @@ returns-in_err-write_from_line-clause-err g c = OnErr-any c.from_residual.result
 pub returns-clause-ok : goal.returns-clause-ok
 returns-clause-ok g c = OnOk-rest c.write_trace.result _ _ _ _ _
     (TakesUpTo-first _ _ _ _ _ (head_split c.args.host.now _ _ c.args.envelope.now c.sender.ensures (c.of_unix-stamp.ensures ∙ ap civil_at c.moment.ensures))
-        c.in_ok-write_from_line.ensures.ok)
+    c.in_ok-write_from_line.ensures.ok)
     c.write_trace.ensures.ok
 
 pub returns-clause-err : goal.returns-clause-err
 returns-clause-err g c = OnErr-rest c.write_trace.result _ _ _ _ _
     (TakesUpTo-first _ _ _ _ _ (head_split c.args.host.now _ _ c.args.envelope.now c.sender.ensures (c.of_unix-stamp.ensures ∙ ap civil_at c.moment.ensures))
-        c.in_ok-write_from_line.ensures.ok)
+    c.in_ok-write_from_line.ensures.ok)
     c.write_trace.ensures.err

@@ -31,7 +31,7 @@ returns-in-None-strip_suffix c =
     let free = strip_suffix_is Decides-eqb (take n piece) (cr ∷ []) None c.in-None-strip_suffix.ensures.cases in
     let high = end.high in
     IsWriterStep-plain Inside Start piece (n + 1) c.unchanged.result c.unchanged.ensures.len c.unchanged.ensures.taken c.unchanged.ensures.extra
-        c.unchanged.ensures.next
+    c.unchanged.ensures.next
     (omega (arith, high)) tt (omega (arith, high)) (λ rest. ends_lf piece n rest end free)
 
 pub returns-in-Some-strip_suffix-2 : goal.returns-in-Some-strip_suffix-2

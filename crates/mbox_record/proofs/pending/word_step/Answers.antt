@@ -41,7 +41,7 @@ returns-then-starts_with c =
 pub returns-then-starts_with-2 : goal.returns-then-starts_with-2
 returns-then-starts_with-2 c =
     let prefix = (starts_is Decides-eqb (missing c.args.n) c.args.piece.now c.starts_with-else-starts_with.result
-        c.starts_with-else-starts_with.ensures.value).0 c.if-starts_with-2.true in
+    c.starts_with-else-starts_with.ensures.value).0 c.if-starts_with-2.true in
     let other = (starts_is Decides-eqb c.args.piece.now (missing c.args.n) c.starts_with.result c.starts_with.ensures.value).1 in
     let within = shorter (missing c.args.n) c.args.piece.now _ prefix (λ more e. true≢false (sym (other more e) ∙ c.if-starts_with.false)) in
     let len = missing_len c.args.n c.requires.within in record {
@@ -55,7 +55,7 @@ returns-then-starts_with-2 c =
 pub returns-else-starts_with-2 : goal.returns-else-starts_with-2
 returns-else-starts_with-2 c =
     let other = (starts_is Decides-eqb (missing c.args.n) c.args.piece.now c.starts_with-else-starts_with.result
-        c.starts_with-else-starts_with.ensures.value).1 in
+    c.starts_with-else-starts_with.ensures.value).1 in
     let another = (starts_is Decides-eqb c.args.piece.now (missing c.args.n) c.starts_with.result c.starts_with.ensures.value).1 in record {
       len = omega arith;
       taken = omega arith;

@@ -21,5 +21,5 @@ fetch_sub-found-requires g c =
       subst (λ (x : Me (Unit {0}) View × ℕ). Allows Rule c.args.board.now.shared.table_id.slots c.seat_of-seat.result.id x.0 x.1
           (λ n. (n + (2 ^ 64 - 1)) % 2 ^ 64) (Released (step c.args.board.now.shared.table_id.slots x.1 1 0 none) x.0))
           (λ k. (sym me k, sym (c.word_at-word.ensures ∙ ap word_of i.2) k))
-              (releases c.args.board.now.shared.table_id.slots c.seat_of-seat.result.id false [] cl one),
+          (releases c.args.board.now.shared.table_id.slots c.seat_of-seat.result.id false [] cl one),
     )

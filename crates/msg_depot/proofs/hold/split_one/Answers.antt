@@ -15,7 +15,7 @@ split_seat-one-requires g c =
     let r = c.replace.ensures.value in
     let views : c.replace.result.views ≡ token Hold (claim_of c.hold.inside.badge.views) ∷ [] = ap (λ b. b.views) r ∙ i.1 in
     let me : c.seat_of-seat.result.me.0 ≡ hold_view false [] (claim_of c.hold.inside.badge.views) =
-        ap (λ m. m.0) s.1 ∙ ap (λ (l : List View). token (kind_of l) (claim_of l)) views in
+    ap (λ m. m.0) s.1 ∙ ap (λ (l : List View). token (kind_of l) (claim_of l)) views in
     let more : 1 < (claim_of c.hold.inside.badge.views).weight = subst (λ (x : Claim). 1 < x.weight) (sym c.hold.view_is) c.requires.more in
     let words = ap (λ t. t.words) c.requires.board in (
       s.0 ∙ ap (λ b. b.table_id) r ∙ i.0 ∙ sym c.requires.board,

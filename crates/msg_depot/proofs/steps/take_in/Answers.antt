@@ -27,7 +27,7 @@ load-requires c =
     let id = c.join_seat.new.seat.id in
     let j = c.join_seat.ensures in
     let me : c.join_seat.new.seat.me ≡ (keeping c.args.seat.now.me.0.book c.args.other.me.0.kind c.args.other.me.0.claim, []) =
-        j.2 ∙ (λ k. (taking (c.requires.seat.1 k).0 (c.requires.other.1 k).0, (c.requires.seat.1 k).1)) in (
+    j.2 ∙ (λ k. (taking (c.requires.seat.1 k).0 (c.requires.other.1 k).0, (c.requires.seat.1 k).1)) in (
       j.0 ∙ c.requires.seat.0,
       subst (λ (w : ℕ). w < c.args.board.now.shared.table_id.words) (sym c.word_at.ensures) c.requires.slot,
       subst (λ (m : Me (Unit {0}) View). Allows Rule slots id m c.word_at.result (λ n. n) (Checked (step slots c.word_at.result 0 0 none) m)) (sym me)
@@ -38,8 +38,10 @@ pub returns-clause-agrees : goal.returns-clause-agrees
 returns-clause-agrees c =
     let j = c.join_seat.ensures in
     let me : c.join_seat.new.seat.me ≡ (keeping c.args.seat.now.me.0.book c.args.other.me.0.kind c.args.other.me.0.claim, []) =
-        j.2 ∙ (λ k. (taking (c.requires.seat.1 k).0 (c.requires.other.1 k).0, (c.requires.seat.1 k).1)) in
+    j.2 ∙ (λ k. (taking (c.requires.seat.1 k).0 (c.requires.other.1 k).0, (c.requires.seat.1 k).1)) in
     let fit : MatchesEntry c.args.seat.now.me.0.book (keeping c.args.seat.now.me.0.book c.args.other.me.0.kind c.args.other.me.0.claim) =
     (subst (λ (m : Me (Unit {0}) View). Checked (step 0 0 0 0 none) m 0 c.load.new.seat.me) me c.load.ensures.2).1 refl in
-    λ some_kind. (within c.args.seat.now.me.0.book c.args.other.me.0.claim.slot _ (fit.0 some_kind),
-        elem_is c.args.seat.now.me.0.book c.args.other.me.0.claim.slot empty_entry _ (fit.0 some_kind))
+    λ some_kind. (
+      within c.args.seat.now.me.0.book c.args.other.me.0.claim.slot _ (fit.0 some_kind),
+      elem_is c.args.seat.now.me.0.book c.args.other.me.0.claim.slot empty_entry _ (fit.0 some_kind),
+    )

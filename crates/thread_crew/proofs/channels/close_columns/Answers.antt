@@ -10,7 +10,7 @@ use Rattle.thread_crew.proofs.channels.close_columns.Goals as goal
 pub close_channel-requires : goal.close_channel-requires
 close_channel-requires g c =
     All-first AreSenders (lists (into_iter_items c.loop-senders.senders-iterator)) (lists (into_iter_items c.next.new.self)) (vec_items c.in-Some.senders)
-        (ap lists c.in-Some.ensures.steps.0) c.loop-senders.invariant.all
+    (ap lists c.in-Some.ensures.steps.0) c.loop-senders.invariant.all
 
 pub loop-senders-preserved : goal.loop-senders-preserved
 loop-senders-preserved g c =
@@ -22,7 +22,7 @@ loop-senders-preserved g c =
     let pushed = c.push_reserved.ensures in
     let is : rest ≡ senders ∷ rest' = ap lists steps.0 in
     let shut : IsShut senders c.close_channel.result =
-        record { channel = c.close_channel.ensures.channel; sent = c.close_channel.ensures.sent; sent_at = c.close_channel.ensures.sent_at } in record {
+    record { channel = c.close_channel.ensures.channel; sent = c.close_channel.ensures.sent; sent_at = c.close_channel.ensures.sent_at } in record {
       room = omega (arith, was.room, steps.1, pushed.len, pushed.capacity);
       all = All-rest AreSenders rest rest' senders is was.all;
       done = (

@@ -18,8 +18,15 @@ transpose-requires-clause-room g c k d below =
     let same =
     AllZip-length (IsNewChannel c.args.capacity c.args.lanes) (lists (vec_items c.in_ok-columns.columns)) (vec_items c.in_ok-columns.receivers)
     c.in_ok-columns.ensures.channels in
-    omega (arith, c.in_ok-rows.ensures.room k d below, same, length-map (vec_items c.in_ok-columns.columns) (λ v. vec_items v), c.in_ok-columns.columns.ok.0,
-        c.in_ok-columns.receivers.ok.0, c.in_ok-columns.ensures.count)
+    omega (
+      arith,
+      c.in_ok-rows.ensures.room k d below,
+      same,
+      length-map (vec_items c.in_ok-columns.columns) (λ v. vec_items v),
+      c.in_ok-columns.columns.ok.0,
+      c.in_ok-columns.receivers.ok.0,
+      c.in_ok-columns.ensures.count,
+    )
 
 pub returns : goal.returns
 returns g c =
@@ -27,4 +34,4 @@ returns g c =
     rows_new c.args.capacity c.args.lanes (lists (vec_items c.in_ok-columns.columns)) (vec_items c.in_ok-columns.receivers)
     c.in_ok-columns.ensures.channels c.args.count (lists (vec_items rows)) c.transpose.ensures.turned
     (length-map (vec_items rows) (λ v. vec_items v) ∙ omega (arith, rows.ok.0, c.transpose.ensures.len, c.in_ok-rows.ensures.len))
-        (sym c.in_ok-columns.receivers.ok.0 ∙ c.in_ok-columns.ensures.count)
+    (sym c.in_ok-columns.receivers.ok.0 ∙ c.in_ok-columns.ensures.count)

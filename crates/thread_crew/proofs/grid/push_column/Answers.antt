@@ -18,7 +18,7 @@ loop-x-preserved g c =
     let same = c.index_mut-row.ensures.value in
     let below : k < length old = omega (arith, was.count, step.1, c.requires.len, c.args.rows.now.ok.0) in
     let row_is : row.items ≡ get_or (lists old) k [] =
-        ap (λ (v : _). v.items) (same ∙ was.above k row (omega arith)) ∙ sym (get_or-map (λ (v : _). v.items) old k row [] below) in record {
+    ap (λ (v : _). v.items) (same ∙ was.above k row (omega arith)) ∙ sym (get_or-map (λ (v : _). v.items) old k row [] below) in record {
       rest = rw add-one (drop-next column _ k c.in-Some.x at);
       count = omega (arith, step.1, was.count);
       rows = was.rows;
@@ -37,7 +37,7 @@ returns-clause-items g c =
     let was = c.loop-x.invariant in
     let column = vec_items c.args.column in
     was.pushed ∙ ap (λ (z : List _). zip_push (lists (vec_items c.args.rows.now)) z)
-        (take_all c.loop-x.k column (omega (arith, was.count, c.in-None.ensures.steps.0, c.args.column.ok.0)))
+    (take_all c.loop-x.k column (omega (arith, was.count, c.in-None.ensures.steps.0, c.args.column.ok.0)))
 
 pub returns-clause-capacity : goal.returns-clause-capacity
 returns-clause-capacity g c = c.loop-x.invariant.capacity

@@ -17,7 +17,7 @@ push_column-requires-clause-room g c =
     let was = c.loop-column.invariant in
     let step = c.in-Some.ensures.steps in
     room_for_push (vec_items c.loop-column.rows) (vec_items c.args.rows) (into_iter_len c.next.new.self) (vec_len c.args.columns) (rw step.1 was.filled)
-        was.capacity c.requires.room
+    was.capacity c.requires.room
 
 pub loop-column-preserved : goal.loop-column-preserved
 loop-column-preserved g c =
@@ -30,7 +30,7 @@ loop-column-preserved g c =
     let same : length (vec_items column) ≡ length (lists (vec_items rows)) =
     rw length-map (let wide = (rw step.0 at was.widths) 0 [] (omega arith) in omega (arith, wide, was.rows, rows.ok.0)) in
     let counts : length (vec_items new) ≡ length (vec_items rows) =
-        sym (length-map (vec_items new) vec_capacity) ∙ (ap length c.push_column.ensures.capacity ∙ length-map (vec_items rows) vec_capacity) in record {
+    sym (length-map (vec_items new) vec_capacity) ∙ (ap length c.push_column.ensures.capacity ∙ length-map (vec_items rows) vec_capacity) in record {
       leads = ap (λ (z : List (List _)). push_all z (lists (into_iter_items c.next.new.self))) pushed
           ∙ (ap (λ (z : List _). push_all (lists (vec_items rows)) (lists z)) (sym step.0) ∙ was.leads);
       rows = omega (arith, counts, new.ok.0, rows.ok.0, was.rows);
@@ -47,4 +47,4 @@ returns-clause-turned g c =
     let grid_is : lists (vec_items c.loop-column.rows) ≡ push_all (lists (vec_items c.args.rows)) (lists (vec_items c.args.columns)) =
     ap (λ (z : List _). push_all (lists (vec_items c.loop-column.rows)) (lists z)) (sym rest) ∙ was.leads in
     rw grid_is (turned (lists (vec_items c.args.rows)) (lists (vec_items c.args.columns))
-        (λ k d below. c.requires.widths k d below ∙ (c.args.rows.ok.0 ∙ sym (length-map (vec_items c.args.rows) (λ (v : _). v.items)))) c.requires.empty)
+    (λ k d below. c.requires.widths k d below ∙ (c.args.rows.ok.0 ∙ sym (length-map (vec_items c.args.rows) (λ (v : _). v.items)))) c.requires.empty)

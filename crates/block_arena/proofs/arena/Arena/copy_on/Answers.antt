@@ -13,57 +13,57 @@ use Rattle.block_arena.proofs.arena.Arena.copy_on.Goals as goal
 pub place_at-from-requires-clause-low : goal.place_at-from-requires-clause-low
 place_at-from-requires-clause-low c =
     let s : Sees c.args.key c.args.self.now (fields_of c.self.inside) (Sealed c.in-Sealed.run' c.in-Sealed.field-1) =
-        sees c.args.key c.args.self.now (fields_of c.self.inside) c.deref.result.now c.content_under.result _ c.self.invariant c.self.view_is
-        c.deref.ensures.value c.content_under.ensures c.in-Sealed.is in
+    sees c.args.key c.args.self.now (fields_of c.self.inside) c.deref.result.now c.content_under.result _ c.self.invariant c.self.view_is
+    c.deref.ensures.value c.content_under.ensures c.in-Sealed.is in
     subst (λ ns. AllByRecursion (λ b. b < length ns) (blocks_in ns c.in-Sealed.run')) (sym c.deref-in-Sealed-2.ensures.value)
-        ((readable c.args.key c.args.self.now (fields_of c.self.inside) c.in-Sealed.run' c.in-Sealed.field-1 s).low)
+    ((readable c.args.key c.args.self.now (fields_of c.self.inside) c.in-Sealed.run' c.in-Sealed.field-1 s).low)
 
 pub place_at-from-requires-clause-few : goal.place_at-from-requires-clause-few
 place_at-from-requires-clause-few c =
     let s : Sees c.args.key c.args.self.now (fields_of c.self.inside) (Sealed c.in-Sealed.run' c.in-Sealed.field-1) =
-        sees c.args.key c.args.self.now (fields_of c.self.inside) c.deref.result.now c.content_under.result _ c.self.invariant c.self.view_is
-        c.deref.ensures.value c.content_under.ensures c.in-Sealed.is in
+    sees c.args.key c.args.self.now (fields_of c.self.inside) c.deref.result.now c.content_under.result _ c.self.invariant c.self.view_is
+    c.deref.ensures.value c.content_under.ensures c.in-Sealed.is in
     message_few c.args.key c.args.self.now (fields_of c.self.inside) c.in-Sealed.run' c.in-Sealed.field-1 s
 
 pub place_at-from-requires-clause-from : goal.place_at-from-requires-clause-from
 place_at-from-requires-clause-from c =
     let s : Sees c.args.key c.args.self.now (fields_of c.self.inside) (Sealed c.in-Sealed.run' c.in-Sealed.field-1) =
-        sees c.args.key c.args.self.now (fields_of c.self.inside) c.deref.result.now c.content_under.result _ c.self.invariant c.self.view_is
-        c.deref.ensures.value c.content_under.ensures c.in-Sealed.is in
+    sees c.args.key c.args.self.now (fields_of c.self.inside) c.deref.result.now c.content_under.result _ c.self.invariant c.self.view_is
+    c.deref.ensures.value c.content_under.ensures c.in-Sealed.is in
     subst (λ ns. IsPlace ns c.in-Sealed.run' c.start-known.result) (sym c.deref-in-Sealed-2.ensures.value)
     (start_is c.args.key c.args.self.now (fields_of c.self.inside) c.in-Sealed.run' c.in-Sealed.field-1 c.deref-in-Sealed.result.now c.args.mark.now
-        c.start-known.result s c.deref-in-Sealed.ensures.value c.start-known.ensures)
+    c.start-known.result s c.deref-in-Sealed.ensures.value c.start-known.ensures)
 
 pub copy_run-count-requires-clause-run : goal.copy_run-count-requires-clause-run
 copy_run-count-requires-clause-run c =
     let s : Sees c.args.key c.args.self.now (fields_of c.self.inside) (Sealed c.in-Sealed.run' c.in-Sealed.field-1) =
-        sees c.args.key c.args.self.now (fields_of c.self.inside) c.deref.result.now c.content_under.result _ c.self.invariant c.self.view_is
-        c.deref.ensures.value c.content_under.ensures c.in-Sealed.is in
+    sees c.args.key c.args.self.now (fields_of c.self.inside) c.deref.result.now c.content_under.result _ c.self.invariant c.self.view_is
+    c.deref.ensures.value c.content_under.ensures c.in-Sealed.is in
     readable_as _ _ _ _ c.in-Sealed.run' refl c.deref-in-Sealed-3.ensures.value
-        (readable c.args.key c.args.self.now (fields_of c.self.inside) c.in-Sealed.run' c.in-Sealed.field-1 s)
+    (readable c.args.key c.args.self.now (fields_of c.self.inside) c.in-Sealed.run' c.in-Sealed.field-1 s)
 
 pub copy_run-count-requires-clause-there : goal.copy_run-count-requires-clause-there
 copy_run-count-requires-clause-there c =
     let s : Sees c.args.key c.args.self.now (fields_of c.self.inside) (Sealed c.in-Sealed.run' c.in-Sealed.field-1) =
-        sees c.args.key c.args.self.now (fields_of c.self.inside) c.deref.result.now c.content_under.result _ c.self.invariant c.self.view_is
-        c.deref.ensures.value c.content_under.ensures c.in-Sealed.is in
+    sees c.args.key c.args.self.now (fields_of c.self.inside) c.deref.result.now c.content_under.result _ c.self.invariant c.self.view_is
+    c.deref.ensures.value c.content_under.ensures c.in-Sealed.is in
     λ inside. c.place_at-from.ensures.there
-        (block_at_byte c.in-Sealed.run' c.args.at
-        ((readable c.args.key c.args.self.now (fields_of c.self.inside) c.in-Sealed.run' c.in-Sealed.field-1 s).enough) inside)
+    (block_at_byte c.in-Sealed.run' c.args.at
+    ((readable c.args.key c.args.self.now (fields_of c.self.inside) c.in-Sealed.run' c.in-Sealed.field-1 s).enough) inside)
 
 pub place_at-requires-clause-low : goal.place_at-requires-clause-low
 place_at-requires-clause-low c =
     let s : Sees c.args.key c.args.self.now (fields_of c.self.inside) (Sealed c.in-Sealed.run' c.in-Sealed.field-1) =
-        sees c.args.key c.args.self.now (fields_of c.self.inside) c.deref.result.now c.content_under.result _ c.self.invariant c.self.view_is
-        c.deref.ensures.value c.content_under.ensures c.in-Sealed.is in
+    sees c.args.key c.args.self.now (fields_of c.self.inside) c.deref.result.now c.content_under.result _ c.self.invariant c.self.view_is
+    c.deref.ensures.value c.content_under.ensures c.in-Sealed.is in
     subst (λ ns. AllByRecursion (λ b. b < length ns) (blocks_in ns c.in-Sealed.run')) (sym c.deref-in-Sealed-4.ensures.value)
-        ((readable c.args.key c.args.self.now (fields_of c.self.inside) c.in-Sealed.run' c.in-Sealed.field-1 s).low)
+    ((readable c.args.key c.args.self.now (fields_of c.self.inside) c.in-Sealed.run' c.in-Sealed.field-1 s).low)
 
 pub place_at-requires-clause-few : goal.place_at-requires-clause-few
 place_at-requires-clause-few c =
     let s : Sees c.args.key c.args.self.now (fields_of c.self.inside) (Sealed c.in-Sealed.run' c.in-Sealed.field-1) =
-        sees c.args.key c.args.self.now (fields_of c.self.inside) c.deref.result.now c.content_under.result _ c.self.invariant c.self.view_is
-        c.deref.ensures.value c.content_under.ensures c.in-Sealed.is in
+    sees c.args.key c.args.self.now (fields_of c.self.inside) c.deref.result.now c.content_under.result _ c.self.invariant c.self.view_is
+    c.deref.ensures.value c.content_under.ensures c.in-Sealed.is in
     message_few c.args.key c.args.self.now (fields_of c.self.inside) c.in-Sealed.run' c.in-Sealed.field-1 s
 
 pub returns-in-Free-clause-fault : goal.returns-in-Free-clause-fault
@@ -81,24 +81,24 @@ returns-in-Draft-clause-fault c =
 pub returns-in-Sealed-clause-message : goal.returns-in-Sealed-clause-message
 returns-in-Sealed-clause-message c =
     let s : Sees c.args.key c.args.self.now (fields_of c.self.inside) (Sealed c.in-Sealed.run' c.in-Sealed.field-1) =
-        sees c.args.key c.args.self.now (fields_of c.self.inside) c.deref.result.now c.content_under.result _ c.self.invariant c.self.view_is
-        c.deref.ensures.value c.content_under.ensures c.in-Sealed.is in
+    sees c.args.key c.args.self.now (fields_of c.self.inside) c.deref.result.now c.content_under.result _ c.self.invariant c.self.view_is
+    c.deref.ensures.value c.content_under.ensures c.in-Sealed.is in
     subst (λ (h : d.Held). IsMessage h) (sym (under c.args.key c.args.self.now (fields_of c.self.inside) (Sealed c.in-Sealed.run' c.in-Sealed.field-1) s)) tt
 
 pub returns-in-Sealed-clause-count : goal.returns-in-Sealed-clause-count
 returns-in-Sealed-clause-count c =
     let s : Sees c.args.key c.args.self.now (fields_of c.self.inside) (Sealed c.in-Sealed.run' c.in-Sealed.field-1) =
-        sees c.args.key c.args.self.now (fields_of c.self.inside) c.deref.result.now c.content_under.result _ c.self.invariant c.self.view_is
-        c.deref.ensures.value c.content_under.ensures c.in-Sealed.is in
+    sees c.args.key c.args.self.now (fields_of c.self.inside) c.deref.result.now c.content_under.result _ c.self.invariant c.self.view_is
+    c.deref.ensures.value c.content_under.ensures c.in-Sealed.is in
     c.copy_run-count.ensures.count
-        ∙ ap (λ n. min (length c.args.out.now) (n - c.args.at))
-        (sealed_length c.args.key c.args.self.now (fields_of c.self.inside) c.in-Sealed.run' c.in-Sealed.field-1 s)
+    ∙ ap (λ n. min (length c.args.out.now) (n - c.args.at))
+    (sealed_length c.args.key c.args.self.now (fields_of c.self.inside) c.in-Sealed.run' c.in-Sealed.field-1 s)
 
 pub returns-in-Sealed-clause-bytes : goal.returns-in-Sealed-clause-bytes
 returns-in-Sealed-clause-bytes c =
     let s : Sees c.args.key c.args.self.now (fields_of c.self.inside) (Sealed c.in-Sealed.run' c.in-Sealed.field-1) =
-        sees c.args.key c.args.self.now (fields_of c.self.inside) c.deref.result.now c.content_under.result _ c.self.invariant c.self.view_is
-        c.deref.ensures.value c.content_under.ensures c.in-Sealed.is in
+    sees c.args.key c.args.self.now (fields_of c.self.inside) c.deref.result.now c.content_under.result _ c.self.invariant c.self.view_is
+    c.deref.ensures.value c.content_under.ensures c.in-Sealed.is in
     c.copy_run-count.ensures.bytes ∙ ap (λ bytes. take c.copy_run-count.result (drop c.args.at bytes) ++ drop c.copy_run-count.result c.args.out.now)
     (bytes_seen _ _ _ _ c.in-Sealed.run' _ _ refl c.deref-in-Sealed-3.ensures.value
-        (under c.args.key c.args.self.now (fields_of c.self.inside) (Sealed c.in-Sealed.run' c.in-Sealed.field-1) s))
+    (under c.args.key c.args.self.now (fields_of c.self.inside) (Sealed c.in-Sealed.run' c.in-Sealed.field-1) s))

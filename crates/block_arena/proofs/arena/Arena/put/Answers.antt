@@ -13,41 +13,41 @@ use Rattle.block_arena.proofs.arena.Arena.put.Goals as goal
 pub room-requires-clause-few : goal.room-requires-clause-few
 room-requires-clause-few c =
     let s : Sees c.args.key c.args.self.now (fields_of c.self.inside) (Draft c.in-Draft.run') =
-        sees c.args.key c.args.self.now (fields_of c.self.inside) c.deref.result.now c.content_under.result _ c.self.invariant c.self.view_is
-        c.deref.ensures.value c.content_under.ensures c.in-Draft.is in
+    sees c.args.key c.args.self.now (fields_of c.self.inside) c.deref.result.now c.content_under.result _ c.self.invariant c.self.view_is
+    c.deref.ensures.value c.content_under.ensures c.in-Draft.is in
     omega (arith, run_few c.args.key c.args.self.now (fields_of c.self.inside) c.in-Draft.run' s)
 
 pub room-requires-clause-enough : goal.room-requires-clause-enough
 room-requires-clause-enough c =
     let s : Sees c.args.key c.args.self.now (fields_of c.self.inside) (Draft c.in-Draft.run') =
-        sees c.args.key c.args.self.now (fields_of c.self.inside) c.deref.result.now c.content_under.result _ c.self.invariant c.self.view_is
-        c.deref.ensures.value c.content_under.ensures c.in-Draft.is in
+    sees c.args.key c.args.self.now (fields_of c.self.inside) c.deref.result.now c.content_under.result _ c.self.invariant c.self.view_is
+    c.deref.ensures.value c.content_under.ensures c.in-Draft.is in
     (run_few c.args.key c.args.self.now (fields_of c.self.inside) c.in-Draft.run' s).1
 
 pub returns-then-room-bytes-clause-fault : goal.returns-then-room-bytes-clause-fault
 returns-then-room-bytes-clause-fault c =
     let s : Sees c.args.key c.args.self.now (fields_of c.self.inside) (Draft c.in-Draft.run') =
-        sees c.args.key c.args.self.now (fields_of c.self.inside) c.deref.result.now c.content_under.result _ c.self.invariant c.self.view_is
-        c.deref.ensures.value c.content_under.ensures c.in-Draft.is in
+    sees c.args.key c.args.self.now (fields_of c.self.inside) c.deref.result.now c.content_under.result _ c.self.invariant c.self.view_is
+    c.deref.ensures.value c.content_under.ensures c.in-Draft.is in
     let no_room : d.HasRoom c.args.self.now (depot_key c.args.key) c.args.bytes.now → ⊥ =
-        λ h. let fits : length c.args.bytes.now ≤ BLOCK_SIZE * (c.in-Draft.run'.blocks + c.self.inside.free_count) - c.in-Draft.run'.length =
-        (room_is c.args.key c.args.self.now (fields_of c.self.inside) c.in-Draft.run' c.args.bytes.now s).0 h in
-        omega (arith, fits, c.room.ensures, c.if-room-bytes.true) in
+    λ h. let fits : length c.args.bytes.now ≤ BLOCK_SIZE * (c.in-Draft.run'.blocks + c.self.inside.free_count) - c.in-Draft.run'.length =
+    (room_is c.args.key c.args.self.now (fields_of c.self.inside) c.in-Draft.run' c.args.bytes.now s).0 h in
+    omega (arith, fits, c.room.ensures, c.if-room-bytes.true) in
     subst (λ (h : d.Held). RefusesDraft (¬ d.HasRoom c.args.self.now (depot_key c.args.key) c.args.bytes.now) h fault.Full)
-        (sym (under c.args.key c.args.self.now (fields_of c.self.inside) _ s)) (refl, no_room)
+    (sym (under c.args.key c.args.self.now (fields_of c.self.inside) _ s)) (refl, no_room)
 
 pub put_all-requires-clause-none : goal.put_all-requires-clause-none
 put_all-requires-clause-none c =
     let s : Sees c.args.key c.args.self.now (fields_of c.self.inside) (Draft c.in-Draft.run') =
-        sees c.args.key c.args.self.now (fields_of c.self.inside) c.deref.result.now c.content_under.result _ c.self.invariant c.self.view_is
-        c.deref.ensures.value c.content_under.ensures c.in-Draft.is in
+    sees c.args.key c.args.self.now (fields_of c.self.inside) c.deref.result.now c.content_under.result _ c.self.invariant c.self.view_is
+    c.deref.ensures.value c.content_under.ensures c.in-Draft.is in
     puts_none c.args.key c.args.self.now (fields_of c.self.inside) c.in-Draft.run' s
 
 pub put_all-requires-clause-room : goal.put_all-requires-clause-room
 put_all-requires-clause-room c =
     let s : Sees c.args.key c.args.self.now (fields_of c.self.inside) (Draft c.in-Draft.run') =
-        sees c.args.key c.args.self.now (fields_of c.self.inside) c.deref.result.now c.content_under.result _ c.self.invariant c.self.view_is
-        c.deref.ensures.value c.content_under.ensures c.in-Draft.is in
+    sees c.args.key c.args.self.now (fields_of c.self.inside) c.deref.result.now c.content_under.result _ c.self.invariant c.self.view_is
+    c.deref.ensures.value c.content_under.ensures c.in-Draft.is in
     (room_is c.args.key c.args.self.now (fields_of c.self.inside) c.in-Draft.run' c.args.bytes.now s).1 (omega (arith, c.room.ensures, c.if-room-bytes.false))
 
 pub returns-in-Free-clause-fault : goal.returns-in-Free-clause-fault

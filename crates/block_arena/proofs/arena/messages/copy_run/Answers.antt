@@ -8,8 +8,8 @@ pub loop-done-init : goal.loop-done-init
 loop-done-init c =
     let short : c.min-total.result ≡ min (length c.args.out.now) (c.args.run.length - c.args.at) = c.min-total.ensures in
     reads_in c.args.store.now c.args.next.now c.args.run c.min-total.result c.args.at c.args.out.now c.args.from.block c.requires.run c.if-run-at.false
-        (omega (arith, short)) (omega (arith, short))
-        (block_there c.args.next.now c.args.run c.args.from (c.args.at / BLOCK_SIZE) c.requires.from (c.requires.there c.if-run-at.false))
+    (omega (arith, short)) (omega (arith, short))
+    (block_there c.args.next.now c.args.run c.args.from (c.args.at / BLOCK_SIZE) c.requires.from (c.requires.there c.if-run-at.false))
 
 pub loop-done-preserved : goal.loop-done-preserved
 loop-done-preserved c = reads_step c.args.store.now c.args.next.now _ _ c.min-n.result _ c.copy_piece.new.out
@@ -19,4 +19,4 @@ pub returns-clause-bytes : goal.returns-clause-bytes
 returns-clause-bytes c =
     let short : c.min-total.result ≡ min (length c.args.out.now) (c.args.run.length - c.args.at) = c.min-total.ensures in
     reads_all c.args.store.now c.args.next.now c.args.run c.min-total.result c.args.at c.args.out.now _ c.loop-done.invariant c.loop-done-test.false
-        (omega (arith, short))
+    (omega (arith, short))

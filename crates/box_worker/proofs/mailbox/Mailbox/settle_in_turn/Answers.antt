@@ -15,7 +15,7 @@ use Rattle.box_worker.proofs.mailbox.Mailbox.settle_in_turn.Goals as goal
 pub returns-then-not-fits-clause-does : goal.returns-then-not-fits-clause-does
 returns-then-not-fits-clause-does g c quota start counts starts =
     does_refuse quota start (record_text civil_at c.args.host.now c.args.envelope.now c.args.hold.now.bytes) c.args.self.now c.lets_in-fits.new.self
-        c.refuse.new.self
+    c.refuse.new.self
     (some_record civil_at c.args.host.now c.args.envelope.now c.args.hold.now.bytes) counts starts c.requires.sound c.if-not-fits.ensures.measured
     c.refuse.result c.refuse.ensures
 

@@ -20,4 +20,4 @@ returns g c =
     let P : List (Sender Slip) → Type 0 = λ l. (x : Bool) × IsOffered g.K.Moment.after lane message x l (slice_set senders lane c.offer.new.self) in
     subst P c.self.view_is
     (offer_answered g.K.Moment.after lane message (slip c.number.result) senders sender c.offer.new.self is (ap slip (sym c.number.ensures)) c.offer.result
-        c.offer.ensures.accepted c.offer.ensures.gone)
+    c.offer.ensures.accepted c.offer.ensures.gone)

@@ -22,8 +22,13 @@ returns g c quota worker copies old before was timed x =
     let took = c.take-outcome in
     let told = c.tell in
     let at : Setting = record { calendar = civil_at; host = host; quota = quota; worker = worker } in
-    let now : WorkerState = record { slips = self.slips; mailbox = self.mailbox.mailbox; in_use = self.mailbox.in_use; taken = self.taken;
-        lost = any_gone self.slips } in
+    let now : WorkerState = record {
+      slips = self.slips;
+      mailbox = self.mailbox.mailbox;
+      in_use = self.mailbox.in_use;
+      taken = self.taken;
+      lost = any_gone self.slips;
+    } in
     let parts = c.parts-place in
     let text : record_text civil_at host parts.result.envelope parts.result.hold.bytes ≡ record_of civil_at host c.args.post =
     ap (λ (e : Envelope). record_text civil_at host e parts.result.hold.bytes) parts.ensures.envelope
@@ -45,4 +50,4 @@ returns g c quota worker copies old before was timed x =
     subst H (sym c.saturating_add-self.ensures)
     (working_more at copies before was c.args.receiver.now old now self.mailbox.limit told.new.self c.args.post accepted x timed took.result took.new.self
     took.ensures.tallied took.ensures.whose (λ e. subst P text (took.ensures.alone e)) took.ensures.never_in_use (λ e. subst K text (took.ensures.shared e))
-        (subst R (gone.1 ∙ parts.ensures.names.1) (subst Q (gone.0 ∙ parts.ensures.names.0) told.ensures.1)))
+    (subst R (gone.1 ∙ parts.ensures.names.1) (subst Q (gone.0 ∙ parts.ensures.names.0) told.ensures.1)))

@@ -30,7 +30,7 @@ returns-in-Ok-clause-ended g c n ts message h =
       ended_whole limit g.S.LaneStart.May g.S.LaneStart.ends (ends_of self.exchange) (ends_of new.exchange) self.accepted new.accepted self.incoming.size
           self.incoming.draft c.in-Ok.draft
           c.args.session.now.session c.unix-self.result new.moment (told_by new.exchange.gather.gather) c.deliver.ensures.same
-              (subst Low self.limited.0 self.limited.1) c.in-Ok.ensures.number c.in-Ok.ensures.whole.0
+          (subst Low self.limited.0 self.limited.1) c.in-Ok.ensures.number c.in-Ok.ensures.whole.0
           (subst (Fits Whole) self.limited.0 c.in-Ok.ensures.whole.1)
           (h.1 c.unix-self.result c.unix-self.ensures) c.deliver.ensures.delivers n ts message (h.0, h.2),
       λ moment may. h.1 moment (c.deliver.ensures.clock moment may),

@@ -7,12 +7,12 @@ use Rattle.lmtp_lane.proofs.exchange.Exchange.answer_failed.Goals as goal
 pub returns-in-Ok-clause-room : goal.returns-in-Ok-clause-room
 returns-in-Ok-clause-room g c =
     same_room (sending_of c.args.self.now) c.args.self.now.slips c.args.self.now.gone c.put.new.self.gather c.args.slip
-        (ap (λ (x : Gathering). x.gather) c.put.ensures.gathered)
+    (ap (λ (x : Gathering). x.gather) c.put.ensures.gathered)
 
 pub returns-in-Err-clause-room : goal.returns-in-Err-clause-room
 returns-in-Err-clause-room g c =
     same_room (sending_of c.args.self.now) c.args.self.now.slips c.args.self.now.gone c.put.new.self.gather c.args.slip
-        (ap (λ (x : Gathering). x.gather) c.put.ensures.gathered)
+    (ap (λ (x : Gathering). x.gather) c.put.ensures.gathered)
 
 pub returns-in-Ok-clause-takes : goal.returns-in-Ok-clause-takes
 returns-in-Ok-clause-takes g c =

@@ -47,5 +47,5 @@ returns-in-Err-clause-way g c =
     left_way c.args.failed c.args.post (sending_of self) (sending_of c.answer_failed-in-Err.new.self)
     (found_gone (with_senders (ends_of self) c.offer_to.new.senders.items)) c.answer_failed-in-Err.result c.requires.lane c.requires.copy
     (leaves_gone c.args.failed.worker c.args.post (ends_of self) c.offer_to.new.senders.items (sym (ap (λ (s : Slip). s.worker) c.requires.copy))
-        c.in-Err.ensures) refl
+    c.in-Err.ensures) refl
     c.answer_failed-in-Err.ensures.same c.answer_failed-in-Err.ensures.takes

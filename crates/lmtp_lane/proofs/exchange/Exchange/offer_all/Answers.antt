@@ -12,7 +12,7 @@ loop-place-preserved g c =
     let session = c.args.session.now.session in
     let sent : List ℕ → Transaction = λ bytes. sent_as c.args.mark.number session c.args.mark.moment bytes in
     let within : c.loop-place.place + 1 < length session.recipients =
-        omega (arith, c.loop-place-test.true, c.recipient_count-last.ensures.count, c.requires.some) in
+    omega (arith, c.loop-place-test.true, c.recipient_count-last.ensures.count, c.requires.some) in
     record {
       weight = omega (arith, c.split_one-one.ensures.left.1, c.loop-place.invariant.weight);
       bytes = c.split_one-one.ensures.left.0 ∙ c.loop-place.invariant.bytes;
@@ -30,8 +30,8 @@ returns-clause-way g c =
     let session = c.args.session.now.session in
     let sent : List ℕ → Transaction = λ bytes. sent_as c.args.mark.number session c.args.mark.moment bytes in
     let last : c.loop-place.place + 1 ≡ length session.recipients =
-        omega (arith, c.loop-place-test.false, c.loop-place.auto.place-end, c.recipient_count-last.ensures.count, c.requires.some) in
+    omega (arith, c.loop-place-test.false, c.loop-place.auto.place-end, c.recipient_count-last.ensures.count, c.requires.some) in
     let at : c.recipient_count-last.result - 1 ≡ c.loop-place.place = omega (arith, last, c.recipient_count-last.ensures.count) in
     offered_last self.lane now.lane (sent c.args.hold.bytes) (sent c.loop-place.hold.bytes) c.loop-place.place (c.recipient_count-last.result - 1)
     (sending_of self) (sending_of now) (sending_of new) c.loop-place.invariant.room.lane (ap sent c.loop-place.invariant.bytes) at last
-        c.loop-place.invariant.way c.offer_at-2.ensures.way
+    c.loop-place.invariant.way c.offer_at-2.ensures.way

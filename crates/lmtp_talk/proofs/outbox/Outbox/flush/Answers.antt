@@ -13,7 +13,7 @@ returns-clause-said g c start came text h =
     let size : ℕ = c.self.inside.size in
     let pending : List ℕ = take size c.self.inside.bytes.items in
     let whole : HasSaid start s (record { pending = pending; broken = c.self.inside.broken }) came text =
-        subst (λ (o : OutboxView). HasSaid start s o came text) (sym c.self.view_is) h in
+    subst (λ (o : OutboxView). HasSaid start s o came text) (sym c.self.view_is) h in
     let before : Bool → Type 0 = λ b. HasSaid start s (record { pending = pending; broken = b }) came text in
     let ok : List ℕ → Type 0 = λ l. OnOk r (HasTransferred s t [] (take size l)) in
     let err : List ℕ → Type 0 = λ l. OnErr r (BreaksOff s t (take size l)) in

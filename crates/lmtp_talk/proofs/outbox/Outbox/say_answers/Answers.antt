@@ -25,7 +25,7 @@ loop-i-preserved g c = record {
       let said : List ℕ → Type 0 = λ l. HasSaid start (g.P.Peer.state c.say.new.peer) c.say.new.self came l in
       let before : List ℕ = text ++ reply_texts c.args.session.now.site (take c.loop-i.i c.args.session.now.answers) in
       subst said (ap (λ (site : Site). before ++ reply_text site c.reply_at.result) c.site.ensures
-          ∙ one_more c.args.session.now.site c.args.session.now.answers c.loop-i.i c.reply_at.result text within c.reply_at.ensures)
+      ∙ one_more c.args.session.now.site c.args.session.now.answers c.loop-i.i c.reply_at.result text within c.reply_at.ensures)
       (c.say.ensures.says start came before (c.loop-i.invariant.says start came text h));
 }
 
@@ -33,5 +33,5 @@ pub returns-clause-says : goal.returns-clause-says
 returns-clause-says g c start came text h =
     let said : List ℕ → Type 0 = λ l. HasSaid start (g.P.Peer.state c.loop-i.peer) c.loop-i.self came l in
     subst said (all_said c.args.session.now.site c.args.session.now.answers c.loop-i.i text
-        (omega (arith, c.requires, c.loop-i.auto.i-end, c.loop-i-test.false)))
+    (omega (arith, c.requires, c.loop-i.auto.i-end, c.loop-i-test.false)))
     (c.loop-i.invariant.says start came text h)

@@ -13,7 +13,7 @@ pub returns-in-None-clause-value : goal.returns-in-None-clause-value
 returns-in-None-clause-value c =
     let here : is_here c.args.self.now (seen_target c.args.target.now).domain ≡ true = cc in
     sym (box_of-user c.args.self.now (seen_target c.args.target.now) c.named.result c.user_named.result here c.named.ensures.value c.in-None.is
-        c.user_named.ensures.value)
+    c.user_named.ensures.value)
 
 pub returns-then-not-serves-clause-value : goal.returns-then-not-serves-clause-value
 returns-then-not-serves-clause-value c =

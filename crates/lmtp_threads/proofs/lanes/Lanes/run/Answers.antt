@@ -10,8 +10,13 @@ use Rattle.lmtp_threads.proofs.lanes.Lanes.run.Goals as goal
 -- as many reports as jobs
 reports_len : (g : _) (c : After-join g) → vec_len c.join.result ≡ vec_len c.self.inside.jobs
 reports_len g c =
-    omega (arith, AllZip-length _ c.start_all.new.self.tasks (vec_items c.join.result) c.join.ensures, ap length c.in-Ok.ensures, c.join.result.ok.0,
-        c.self.inside.jobs.ok.0)
+    omega (
+      arith,
+      AllZip-length _ c.start_all.new.self.tasks (vec_items c.join.result) c.join.ensures,
+      ap length c.in-Ok.ensures,
+      c.join.result.ok.0,
+      c.self.inside.jobs.ok.0,
+    )
 
 pub take_all-requires : goal.take_all-requires
 take_all-requires g c =
@@ -30,10 +35,10 @@ returns-in-Ok g c not_gone site clock channels given is count are =
     let view : VisitsView _ = record { MayGive = g.V.Visits.MayGive; finished = g.V.Visits.finished; over = g.V.Visits.over } in
     let tasks_are : c.start_all.new.self.tasks ≡ lane_tasks site clock 0 given.visits given.rows given.inboxes = c.in-Ok.ensures ∙ (c.self.view_is ∙ is) in
     let all = subst (λ l. AllZip (LaneOk g.C.Clock.May view (λ r. r.visits) (λ r. vec_items r.senders) (λ r. r.slips) (λ r. r.conversations) (λ r. r.gone)) l
-        reports) tasks_are c.join.ensures in
+    reports) tasks_are c.join.ensures in
     rw (parts.visits, parts.senders, parts.slips, parts.conversations)
     (have_served g.C.Clock.May view (λ r. r.visits) (λ r. vec_items r.senders) (λ r. r.slips) (λ r. r.conversations) (λ r. r.gone) site clock channels given
-        reports count are all (parts.gone not_gone))
+    reports count are all (parts.gone not_gone))
 
 pub start_all-requires-clause-ready : goal.start_all-requires-clause-ready
 start_all-requires-clause-ready g c κs within = subst (λ l. AllByRecursion (λ t. IsLaneReady g.V.Visits.out t) l) (sym c.self.view_is) c.requires

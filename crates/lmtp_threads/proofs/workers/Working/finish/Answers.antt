@@ -28,7 +28,7 @@ returns g c not_lost site channels given is count some are =
     let reports = vec_items c.join.result in
     let tasks_are : c.self.inside.crew.tasks ≡ box_tasks (share_of site given.quota) given.inboxes given.rows given.spools = c.self.view_is ∙ is in
     let all = subst (λ l. AllZip (BoxOk g.S.Spool.state (λ r. r.receiver) (λ r. vec_items r.slips) (λ r. r.spool)
-        (λ r. tally_of r.taken r.stored r.over r.in_use r.faulty) (λ r. r.lost)) l reports) tasks_are c.join.ensures in
+    (λ r. tally_of r.taken r.stored r.over r.in_use r.faulty) (λ r. r.lost)) l reports) tasks_are c.join.ensures in
     rw (parts.spools, parts.slips, parts.receivers, parts.tallies)
     (have_worked g.S.Spool.state (λ r. r.receiver) (λ r. vec_items r.slips) (λ r. r.spool) (λ r. tally_of r.taken r.stored r.over r.in_use r.faulty)
-        (λ r. r.lost) site channels given reports count some are all (parts.lost not_lost))
+    (λ r. r.lost) site channels given reports count some are all (parts.lost not_lost))

@@ -9,7 +9,7 @@ use Rattle.lmtp_wire.proofs.wire.Wire.line_end.Goals.{else-ends_in_cr-via-then-e
 pub returns-then-starts_with-clause-place : goal.returns-then-starts_with-clause-place
 returns-then-starts_with-clause-place c = λ taken h.
     ends_at_lf taken c.args.piece.now h.goes_on (sym (c.ends_in_cr.ensures taken h) ∙ c.if-ends_in_cr.true)
-        (sym c.starts_with.ensures.value ∙ c.if-starts_with.true)
+    (sym c.starts_with.ensures.value ∙ c.if-starts_with.true)
 
 pub returns-in_err-before-clause-place : goal.returns-in_err-before-clause-place
 returns-in_err-before-clause-place c = λ taken h.

@@ -15,6 +15,6 @@ absorb-requires-clause-channel g c =
     let here = c.self.invariant.0 in
     let there = c.put_mark-self-inside.ensures.seat in
     let own = same_channel g.M.FromSender.sender c.from.inside.pass c.put_mark-self-inside.new.pass (there.0 ∙ sym c.from.invariant.0.0)
-        (there.1 ∙ sym c.from.invariant.0.1) in
+    (there.1 ∙ sym c.from.invariant.0.1) in
     let channel = own ∙ ap (λ (l : Sender _). l.channel) c.from.view_is ∙ c.requires.channel ∙ sym (ap (λ (s : Sent _). s.channel) c.self.view_is) in
     (here, (ap (λ (l : Channel _). l.0) channel ∙ here.0, ap (λ (l : Channel _). l.1) channel ∙ here.1, there.2, here.3))

@@ -2,8 +2,19 @@ use Rattle.std.proofs.Common.{◌≡◌, ◌≤◌, ◌<◌, ℕ, ◌+◌, ◌++
 use Rattle.mail_post.specs.Channel.{Inbox, view_of, taken}
 use Rattle.mail_post.specs.declared.rule.View.{View}
 use Rattle.mail_post.proofs.Keeps.{takes}
-use Rattle.mail_post.proofs.Inboxes.{room_copy, room_mark, inbox_copy, taken_copy, timed_copy, copy_fits, inbox_mark, taken_mark, timeless_mark, more_marks_fit,
-    inbox_lost}
+use Rattle.mail_post.proofs.Inboxes.{
+  room_copy,
+  room_mark,
+  inbox_copy,
+  taken_copy,
+  timed_copy,
+  copy_fits,
+  inbox_mark,
+  taken_mark,
+  timeless_mark,
+  more_marks_fit,
+  inbox_lost,
+}
 use Rattle.mail_post.specs.declared.channel.Gone.TheVariants.{Closed}
 use Rattle.mail_post.proofs.Names.{drained}
 use Rattle.mail_post.proofs.channel.ChannelReceiver.next.Goals as goal
@@ -23,8 +34,8 @@ invariant_of-self g c =
 pub overflow_add-self : goal.overflow_add-self
 overflow_add-self g c =
     let h : c.self.inside.marks + 1 ≤ c.self.inside.lanes =
-        more_marks_fit g.M.FromSender.sender g.K.Moment.after _ _ _ _ _ _ c.self.invariant.1 (rw c.in-Ok-Mark.field-0-is at c.in-Ok-Mark.ensures.rule) in
-        search rules
+    more_marks_fit g.M.FromSender.sender g.K.Moment.after _ _ _ _ _ _ c.self.invariant.1 (rw c.in-Ok-Mark.field-0-is at c.in-Ok-Mark.ensures.rule) in
+    search rules
 
 pub invariant_of-self-then-self-lanes : goal.invariant_of-self-then-self-lanes
 invariant_of-self-then-self-lanes g c =

@@ -22,11 +22,11 @@ returns-clause-begun c =
     let limit : length c.self.inside.heard.items ≡ c.args.self.now.limit = ap (λ (v : Gathering). v.limit) c.self.view_is in
     let low : c.args.places ≤ length c.self.inside.heard.items = omega (arith, limit, c.requires) in
     let places = begun-places c.args.places (length c.self.inside.heard.items) c.fill.new.self.items c.self.inside.outcomes.items filled low
-        (sym c.self.invariant.room) in
+    (sym c.self.invariant.room) in
     ap₂ (λ (ps : List (Option Outcome)) (n : ℕ). let v : Gathering = record { gather = record { txn = c.args.txn; places = ps }; limit = n } in v) places
-        (room ∙ limit)
+    (room ∙ limit)
 
 pub returns-clause-heard : goal.returns-clause-heard
 returns-clause-heard c = λ heard none.
     subst (λ (v : Gathering). HasGathered c.args.txn c.args.places heard v.gather) (sym (returns-clause-begun c))
-        (heard_none c.args.txn c.args.places heard none)
+    (heard_none c.args.txn c.args.places heard none)

@@ -10,4 +10,4 @@ returns-else-ne-clause-stranger c =
 pub returns-else-ne-clause-own : goal.returns-else-ne-clause-own
 returns-else-ne-clause-own c = λ low.
     subst (λ (v : Gathering). IsOwn v.gather c.args.slip) c.self.view_is
-        (owns c.self.inside c.args.slip c.self.invariant (sym c.if-ne.false ∙ c.ne.ensures) low)
+    (owns c.self.inside c.args.slip c.self.invariant (sym c.if-ne.false ∙ c.ne.ensures) low)

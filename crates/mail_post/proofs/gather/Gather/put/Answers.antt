@@ -1,8 +1,18 @@
 use Rattle.std.proofs.Common.{[], ◌∷◌, ◌++◌, true, refl, ap, sym, subst, ◌∙◌, arith, length-set}
 use Rattle.mail_world.specs.Slips.{Gather}
 use Rattle.mail_post.specs.Gathering.{Gathering, HasGathered}
-use Rattle.mail_post.proofs.Gathers.{heard_more, own-stranger, gathered-stranger, gathered-double, double-awaited, finds_double, finds_open, place-within,
-    taken-view, counted_down}
+use Rattle.mail_post.proofs.Gathers.{
+  heard_more,
+  own-stranger,
+  gathered-stranger,
+  gathered-double,
+  double-awaited,
+  finds_double,
+  finds_open,
+  place-within,
+  taken-view,
+  counted_down,
+}
 use Rattle.mail_post.proofs.gather.Gather.put.Goals as goal
 
 -- a stranger
@@ -23,7 +33,7 @@ returns-then-index c =
     let g = c.args.self.now.gather in
     let own = c.is_stranger.ensures.own c.if-is_stranger.false in
     let double = finds_double c.self.inside c.args.self.now c.args.slip c.index.result.now c.self.view_is c.self.invariant own
-        (sym c.index.ensures ∙ c.if-index.true) in
+    (sym c.index.ensures ∙ c.if-index.true) in
     let stays = gathered-double g c.args.slip double in
     record {
       stranger = (λ e. cc, λ stranger. absurd (own-stranger g c.args.slip own stranger));
@@ -70,7 +80,7 @@ returns c =
     let own = c.is_stranger.ensures.own c.if-is_stranger.false in
     let low = place-within c.self.inside c.args.self.now c.args.slip c.self.view_is c.self.invariant own in
     let awaited = finds_open c.self.inside c.args.self.now c.args.slip c.index.result.now c.self.view_is c.self.invariant own
-        (sym c.index.ensures ∙ c.if-index.false) in
+    (sym c.index.ensures ∙ c.if-index.false) in
     let new = taken-view c.self.inside c.args.self.now c.args.slip c.self.view_is c.self.invariant low awaited in
     record {
       stranger = (λ e. cc, λ stranger. absurd (own-stranger g c.args.slip own stranger));

@@ -16,8 +16,8 @@ invariant_of-result c =
     let b = c.in_ok-board.ensures in
     let a = c.in_ok-arena.ensures in
     let words : length c.as_slice.result.now ≡ word_of c.args.slots =
-        ap length (let e : c.as_slice.result.now ≡ replicate (word_of c.args.slots) (c.args.generation * GENERATION_UNIT) = search rules in e)
-        ∙ length-replicate (word_of c.args.slots) (c.args.generation * GENERATION_UNIT) in
+    ap length (let e : c.as_slice.result.now ≡ replicate (word_of c.args.slots) (c.args.generation * GENERATION_UNIT) = search rules in e)
+    ∙ length-replicate (word_of c.args.slots) (c.args.generation * GENERATION_UNIT) in
     record {
       same_table = b.2;
       knows = b.4 ∙ ap (λ (l : List Entry). (resting l, [])) (sym (new_entries c.args.slots c.args.generation _ a.slots));

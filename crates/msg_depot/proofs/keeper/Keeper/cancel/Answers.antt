@@ -10,4 +10,4 @@ invariant_of-self g c =
     let f = c.free.ensures in
     let key : Key = depot_key c.draft.inside.key in
     free_kept _ _ _ c.self.inside.arena c.self.invariant key c.drop_draft.new.self
-        (cancels_turned c.self.inside.arena key c.drop_draft.new.self c.in-Ok.ensures.done) c.seat_of.result.me _ _ _ _ t.0 t.1 f.0 f.1
+    (cancels_turned c.self.inside.arena key c.drop_draft.new.self c.in-Ok.ensures.done) c.seat_of.result.me _ _ _ _ t.0 t.1 f.0 f.1

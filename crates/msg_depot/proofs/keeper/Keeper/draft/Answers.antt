@@ -16,7 +16,7 @@ pub returns-clause-begun : goal.returns-clause-begun
 returns-clause-begun g c =
     let key : Key = depot_key c.in-Some.key in
     let generation : generation_at c.self.inside.seat.me.0.book key.slot ≡ key.generation =
-        generation_there _ _ _ c.self.inside.arena c.self.invariant key c.begin.new.self c.in-Some.ensures.some in
+    generation_there _ _ _ c.self.inside.arena c.self.invariant key c.begin.new.self c.in-Some.ensures.some in
     search rules
 
 pub begin-requires-2-clause-free : goal.begin-requires-2-clause-free
@@ -33,5 +33,5 @@ invariant_of-result g c =
     let there = (slot_there _ _ _ c.self.inside.arena c.self.invariant (depot_key c.in-Some.key) c.begin.new.self c.in-Some.ensures.some).0 in
     let key : Key = depot_key c.in-Some.key in
     let generation : generation_at c.self.inside.seat.me.0.book key.slot ≡ key.generation =
-        generation_there _ _ _ c.self.inside.arena c.self.invariant key c.begin.new.self c.in-Some.ensures.some in
+    generation_there _ _ _ c.self.inside.arena c.self.invariant key c.begin.new.self c.in-Some.ensures.some in
     search rules

@@ -14,6 +14,6 @@ invariant_of-self-2 g c =
     let h = c.hand_out-2.ensures.seat in
     let views : c.replace.result.views ≡ token Draft (claim_of c.draft.inside.badge.views) ∷ [] = ap (λ b. b.views) c.replace.ensures.value ∙ d.1 in
     let was : c.seat_of-seat.result.me ≡ (token Draft (claim_of c.draft.inside.badge.views), []) =
-        c.seat_of-seat.ensures.1 ∙ ap (λ (l : List View). (token (kind_of l) (claim_of l), [])) views in
+    c.seat_of-seat.ensures.1 ∙ ap (λ (l : List View). (token (kind_of l) (claim_of l), [])) views in
     put_kept _ _ _ c.self.inside.arena c.self.invariant (depot_key c.draft.inside.key) c.put.new.self c.args.piece.now c.in-Ok.ensures.done _ _ was d.2 t.agrees
-        _ _ _ _ _ _ t.seat.0 t.seat.1 s.0 s.1 h.0 h.1
+    _ _ _ _ _ _ t.seat.0 t.seat.1 s.0 s.1 h.0 h.1

@@ -20,21 +20,21 @@ module _ (g : _) (c : After-transpose g) where
   columns channels sent are =
       turned_back c.args.self.lanes channels sent (lists (vec_items c.args.rows)) (lists (vec_items c.transpose.result)) are c.transpose.ensures.turned
       (count ∙ (ap (λ s. s.count) c.self.view_is
-          ∙ (sym c.requires.count ∙ channels_count c.args.self.lanes c.requires.channels channels c.requires.sent sent (lists (vec_items c.args.rows))
-          c.requires.some c.requires.rows_are are)))
+      ∙ (sym c.requires.count ∙ channels_count c.args.self.lanes c.requires.channels channels c.requires.sent sent (lists (vec_items c.args.rows))
+      c.requires.some c.requires.rows_are are)))
 
 pub close_columns-requires-clause-senders : goal.close_columns-requires-clause-senders
 close_columns-requires-clause-senders g c =
     all_lanes c.args.self.lanes c.requires.channels c.requires.sent (lists (vec_items c.transpose.result)) c.requires.some
-        (columns g c c.requires.channels c.requires.sent c.requires.rows_are)
+    (columns g c c.requires.channels c.requires.sent c.requires.rows_are)
 
 pub returns-clause-sent : goal.returns-clause-sent
 returns-clause-sent g c channels sent are =
     let e = (goal.at.returns-clause-sent g c).After-transpose in
     all_closed c.args.self.lanes channels sent (lists (vec_items c.transpose.result)) (vec_items c.close_columns.result) c.requires.some
-        (columns g e channels sent are) c.close_columns.ensures
+    (columns g e channels sent are) c.close_columns.ensures
 
 pub returns-clause-times : goal.returns-clause-times
 returns-clause-times g c =
     all_times (lists (vec_items c.args.rows)) (lists (vec_items c.transpose.result)) (vec_items c.close_columns.result) c.transpose.ensures.turned
-        c.close_columns.ensures
+    c.close_columns.ensures
