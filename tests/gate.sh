@@ -40,7 +40,7 @@ play_on_sources() {
 # play_others: plays each script of tests/ that wasn't, as many at a time as there are cores but one; beside them the
 # wrong bodies that are tried at once, at a lower priority.
 play_others() {
-    local script room=$(($(nproc) > 2 ? $(nproc) - 1 : 1))
+    local script room=$(($(nproc) > 2 ? $(nproc) : 2)) # with those wrong bodies
     touch "$said/refused_at_once.sh.status"
     (renice -n 15 "$BASHPID" > "$said/renice" && play tests/refused_at_once.sh 3600) &
     for script in tests/*.sh; do

@@ -1,37 +1,6 @@
 -- A piece goes into a draft's last block: no block moves.
-use Rattle.std.proofs.Common.{
-  ◌≡◌,
-  ℕ,
-  zero,
-  suc,
-  ◌+◌,
-  ◌-◌,
-  ◌*◌,
-  ◌%◌,
-  ◌<◌,
-  ◌≤◌,
-  List,
-  [],
-  ◌∷◌,
-  ◌++◌,
-  Some,
-  get_or,
-  take,
-  drop,
-  length,
-  set,
-  refl,
-  ap,
-  sym,
-  ◌∙◌,
-  subst,
-  arith,
-  length-set,
-  length-append,
-  length-take,
-  length-drop,
-  append-nil,
-}
+use Rattle.std.proofs.Common.{◌≡◌, ℕ, zero, suc, ◌+◌, ◌-◌, ◌*◌, ◌%◌, ◌<◌, ◌≤◌, List, [], ◌∷◌, ◌++◌, Some, get_or, take, drop, length, set, refl, ap, sym, ◌∙◌}
+use Rattle.std.proofs.Common.{subst, arith, length-set, length-append, length-take, length-drop, append-nil}
 use Rattle.std.specs.Prelude.{slice_get, slice_set}
 use Rattle.std.specs.List.{AllByRecursion}
 use Rattle.std.proofs.lemmas.List.Elements.{All-set}

@@ -1,44 +1,6 @@
 -- A draft gets a free block, which is written first and linked after its last.
-use Rattle.std.proofs.Common.{
-  ◌≡◌,
-  ℕ,
-  suc,
-  ◌+◌,
-  ◌-◌,
-  ◌*◌,
-  ◌%◌,
-  ◌<◌,
-  ◌≤◌,
-  ◌≢◌,
-  List,
-  [],
-  ◌∷◌,
-  ◌++◌,
-  Bool,
-  true,
-  false,
-  cond,
-  ◌==◌,
-  Some,
-  get_or,
-  min,
-  take,
-  drop,
-  length,
-  set,
-  map,
-  refl,
-  ap,
-  sym,
-  ◌∙◌,
-  subst,
-  arith,
-  length-set,
-  length-append,
-  length-take,
-  length-drop,
-  append-nil,
-}
+use Rattle.std.proofs.Common.{◌≡◌, ℕ, suc, ◌+◌, ◌-◌, ◌*◌, ◌%◌, ◌<◌, ◌≤◌, ◌≢◌, List, [], ◌∷◌, ◌++◌, Bool, true, false, cond, ◌==◌, Some, get_or, min, take, drop}
+use Rattle.std.proofs.Common.{length, set, map, refl, ap, sym, ◌∙◌, subst, arith, length-set, length-append, length-take, length-drop, append-nil}
 use Rattle.std.specs.Prelude.{slice_get, slice_set, flat_map, nat_lt}
 use Rattle.std.specs.List.{AllByRecursion}
 use Rattle.std.proofs.lemmas.Bool.{eqb-true, eqb-false}
@@ -52,23 +14,8 @@ use Rattle.block_arena.specs.declared.slot.Run.{Run}
 use Rattle.block_arena.specs.declared.slot.Content.{Content}
 use Rattle.block_arena.specs.declared.slot.Content.TheVariants.{Free, Draft}
 use Rattle.block_arena.specs.declared.slot.Slot.{Slot}
-use Rattle.block_arena.specs.Fields.{
-  ArenaFields,
-  chain,
-  node,
-  bytes_in,
-  slot_of,
-  depot_of,
-  longer,
-  linked_run,
-  linked_next,
-  stamp_for,
-  IsContent,
-  IsRun,
-  IsStamped,
-  AreStamped,
-  IsArena,
-}
+use Rattle.block_arena.specs.Fields.{ArenaFields, chain, node, bytes_in, slot_of, depot_of, longer, linked_run, linked_next, stamp_for, IsContent, IsRun}
+use Rattle.block_arena.specs.Fields.{IsStamped, AreStamped, IsArena}
 use Rattle.block_arena.specs.Calls.{depot_key}
 use Rattle.block_arena.proofs.Chains.{times_cons, apart, chain_keeps, node_keeps, chain_length, splice, node_splice}
 use Rattle.mail_world.proofs.Heard.{all_set}

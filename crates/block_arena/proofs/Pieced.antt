@@ -1,31 +1,6 @@
 -- What a put of one piece owes, from what its code knows.
-use Rattle.std.proofs.Common.{
-  ◌≡◌,
-  ℕ,
-  ◌+◌,
-  ◌-◌,
-  ◌*◌,
-  ◌%◌,
-  ◌<◌,
-  ◌≤◌,
-  List,
-  [],
-  ◌++◌,
-  Some,
-  get_or,
-  min,
-  take,
-  drop,
-  length,
-  set,
-  refl,
-  ap,
-  sym,
-  ◌∙◌,
-  subst,
-  arith,
-  length-take,
-}
+use Rattle.std.proofs.Common.{◌≡◌, ℕ, ◌+◌, ◌-◌, ◌*◌, ◌%◌, ◌<◌, ◌≤◌, List, [], ◌++◌, Some, get_or, min, take, drop, length, set, refl, ap, sym, ◌∙◌, subst}
+use Rattle.std.proofs.Common.{arith, length-take}
 use Rattle.std.specs.Prelude.{slice_get, slice_set}
 use Rattle.std.proofs.lemmas.List.{get_or-set_same}
 use Rattle.mail_world.specs.Depot as d

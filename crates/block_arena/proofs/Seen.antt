@@ -1,40 +1,6 @@
 -- What the depot says under a key, from what lies in the slot.
-use Rattle.std.proofs.Common.{
-  ◌≡◌,
-  ℕ,
-  zero,
-  suc,
-  ◌+◌,
-  ◌*◌,
-  ◌<◌,
-  ◌≤◌,
-  List,
-  [],
-  ◌∷◌,
-  ◌++◌,
-  Bool,
-  true,
-  false,
-  cond,
-  ◌==◌,
-  ◌⊎◌,
-  inl,
-  inr,
-  Option,
-  Some,
-  None,
-  get_or,
-  length,
-  map,
-  refl,
-  ap,
-  sym,
-  ◌∙◌,
-  subst,
-  arith,
-  length-append,
-  length-take,
-}
+use Rattle.std.proofs.Common.{◌≡◌, ℕ, zero, suc, ◌+◌, ◌*◌, ◌<◌, ◌≤◌, List, [], ◌∷◌, ◌++◌, Bool, true, false, cond, ◌==◌, ◌⊎◌, inl, inr, Option, Some, None}
+use Rattle.std.proofs.Common.{get_or, length, map, refl, ap, sym, ◌∙◌, subst, arith, length-append, length-take}
 use Rattle.std.specs.Prelude.{slice_get, slice_set, flat_map, nat_lt, option_map}
 use Rattle.std.specs.List.{All, AllByRecursion}
 use Rattle.std.proofs.lemmas.Bool.{eq-eqb, ltb-true}

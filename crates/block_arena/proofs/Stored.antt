@@ -1,30 +1,6 @@
 -- Blocks that are made, and zeros in the place of the others.
-use Rattle.std.proofs.Common.{
-  ◌≡◌,
-  ℕ,
-  zero,
-  suc,
-  ◌+◌,
-  ◌-◌,
-  ◌<◌,
-  ◌≤◌,
-  List,
-  [],
-  ◌∷◌,
-  ◌++◌,
-  get_or,
-  length,
-  replicate,
-  set,
-  refl,
-  ap,
-  sym,
-  ◌∙◌,
-  arith,
-  length-append,
-  length-set,
-  append_assoc,
-}
+use Rattle.std.proofs.Common.{◌≡◌, ℕ, zero, suc, ◌+◌, ◌-◌, ◌<◌, ◌≤◌, List, [], ◌∷◌, ◌++◌, get_or, length, replicate, set, refl, ap, sym, ◌∙◌, arith}
+use Rattle.std.proofs.Common.{length-append, length-set, append_assoc}
 use Rattle.block_arena.specs.Rows.{zeros, padded, written}
 
 length_same : {A : Type 0} (n : ℕ) (x : A) → length (replicate n x) ≡ n

@@ -1,35 +1,6 @@
 -- One copy more that a worker handled.
-use Rattle.std.proofs.Common.{
-  ◌≡◌,
-  ℕ,
-  ◌+◌,
-  ◌-◌,
-  ◌≤◌,
-  ◌^◌,
-  min,
-  List,
-  [],
-  ◌∷◌,
-  ◌++◌,
-  length,
-  Bool,
-  true,
-  false,
-  Option,
-  Some,
-  None,
-  IsSome,
-  inl,
-  inr,
-  refl,
-  ap,
-  sym,
-  ◌∙◌,
-  subst,
-  true≢false,
-  arith,
-  length-append,
-}
+use Rattle.std.proofs.Common.{◌≡◌, ℕ, ◌+◌, ◌-◌, ◌≤◌, ◌^◌, min, List, [], ◌∷◌, ◌++◌, length, Bool, true, false, Option, Some, None, IsSome, inl, inr, refl, ap}
+use Rattle.std.proofs.Common.{sym, ◌∙◌, subst, true≢false, arith, length-append}
 use Rattle.std.specs.Prelude.{if◌then◌else◌}
 use Rattle.std.specs.Option.{IfSome}
 use Rattle.std.specs.List.{count_by}
@@ -58,20 +29,8 @@ use Rattle.box_worker.specs.Limits.{Setting, StartsAt, CountsTo, marks_after}
 use Rattle.box_worker.specs.Stored.{MailboxState, mailbox_of, CountedMailbox, TakesCopy, Tallies, HasStored, HasSettled}
 use Rattle.box_worker.specs.Told.{slip_by, owed_to, is_stored, is_over}
 use Rattle.box_worker.specs.Turned.{shared_of, TurnsCopy}
-use Rattle.box_worker.specs.Worked.{
-  WorkerState,
-  counted_of,
-  idle,
-  is_lost,
-  outcomes_after,
-  bytes_after,
-  IsAccounted,
-  HasHandled,
-  IsCounted,
-  IsTended,
-  IsCounting,
-  HasWorked,
-}
+use Rattle.box_worker.specs.Worked.{WorkerState, counted_of, idle, is_lost, outcomes_after, bytes_after, IsAccounted, HasHandled, IsCounted, IsTended}
+use Rattle.box_worker.specs.Worked.{IsCounting, HasWorked}
 use Rattle.box_worker.proofs.Turning.{turned_more, tells_told}
 use Rattle.box_worker.proofs.Counting.{let_in, kept_out}
 use Rattle.box_worker.proofs.Settling.{is_kept, marks_count, marks_next, bytes_one, bytes_none, settled_stored, settled_over, settled_not, settled_later}

@@ -1,36 +1,6 @@
 -- A worker's turns at a shared spool: one copy, one more copy, and what a spool that tells its bytes lists of them.
-use Rattle.std.proofs.Common.{
-  ◌≡◌,
-  ◌⊎◌,
-  ℕ,
-  ◌+◌,
-  ◌≤◌,
-  List,
-  [],
-  ◌∷◌,
-  ◌++◌,
-  length,
-  Bool,
-  true,
-  false,
-  Option,
-  Some,
-  None,
-  Result,
-  Ok,
-  Err,
-  inl,
-  inr,
-  refl,
-  ap,
-  sym,
-  ◌∙◌,
-  subst,
-  true≢false,
-  arith,
-  append_assoc,
-  append-nil,
-}
+use Rattle.std.proofs.Common.{◌≡◌, ◌⊎◌, ℕ, ◌+◌, ◌≤◌, List, [], ◌∷◌, ◌++◌, length, Bool, true, false, Option, Some, None, Result, Ok, Err, inl, inr, refl, ap}
+use Rattle.std.proofs.Common.{sym, ◌∙◌, subst, true≢false, arith, append_assoc, append-nil}
 use Rattle.std.specs.Prelude.{is_some, count_by, MatchBool}
 use Rattle.std.specs.Option.{IfSome, option_map}
 use Rattle.std.specs.Result.{OnOk, OnErr}
@@ -49,25 +19,8 @@ use Rattle.mbox_record.specs.Spool.{SpoolState, tail_of, CoversAll, standing, Be
 use Rattle.box_worker.specs.declared.limit.Limit.{Limit}
 use Rattle.box_worker.specs.Limits.{Setting, StartsAt, CountsTo, missing, IsLetIn, IsKeptOut}
 use Rattle.box_worker.specs.Stored.{MailboxState, CountedMailbox, HasKept, HasNotKept}
-use Rattle.box_worker.specs.Turned.{
-  MeasuresAnew,
-  SharedMailbox,
-  shared_of,
-  HasKeptMended,
-  HasNotKeptMended,
-  Measures,
-  StoresInTurn,
-  KeepsOutOfTurn,
-  BreaksTurn,
-  FromLock,
-  HadTurn,
-  TakesTurn,
-  DoesInTurn,
-  EndsInTurn,
-  HaveTurned,
-  is_not_had,
-  TellsTurns,
-}
+use Rattle.box_worker.specs.Turned.{MeasuresAnew, SharedMailbox, shared_of, HasKeptMended, HasNotKeptMended, Measures, StoresInTurn, KeepsOutOfTurn, BreaksTurn}
+use Rattle.box_worker.specs.Turned.{FromLock, HadTurn, TakesTurn, DoesInTurn, EndsInTurn, HaveTurned, is_not_had, TellsTurns}
 use Rattle.mbox_record.specs.Mending.{HasMended, HasNotMended}
 use Rattle.mbox_record.specs.declared.spool.Tail.{Tail}
 use Rattle.mbox_record.proofs.Taken.{Appends-then, FailsTurn-then}

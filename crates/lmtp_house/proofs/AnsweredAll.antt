@@ -1,30 +1,6 @@
 -- The outcomes of a lane's transactions are those of all the slips that it heard.
-use Rattle.std.proofs.Common.{
-  ◌≡◌,
-  ℕ,
-  zero,
-  suc,
-  ◌+◌,
-  ◌≤◌,
-  List,
-  [],
-  ◌∷◌,
-  ◌++◌,
-  length,
-  map,
-  Bool,
-  true,
-  false,
-  cond,
-  Option,
-  Some,
-  None,
-  sym,
-  ◌∙◌,
-  ap,
-  subst,
-  arith,
-}
+use Rattle.std.proofs.Common.{◌≡◌, ℕ, zero, suc, ◌+◌, ◌≤◌, List, [], ◌∷◌, ◌++◌, length, map, Bool, true, false, cond, Option, Some, None, sym, ◌∙◌, ap, subst}
+use Rattle.std.proofs.Common.{arith}
 use Rattle.std.specs.Prelude.{find, option_map, count_by}
 use Rattle.std.specs.List.{AllByRecursion, range_with_len}
 use Rattle.mail_world.specs.declared.Txn.{Txn}

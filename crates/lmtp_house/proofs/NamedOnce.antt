@@ -1,35 +1,6 @@
 -- What a lane heard names each transaction and place once at most.
-use Rattle.std.proofs.Common.{
-  ◌≡◌,
-  ℕ,
-  zero,
-  suc,
-  ◌+◌,
-  ◌<◌,
-  ◌≤◌,
-  Bool,
-  true,
-  false,
-  cond,
-  ◌&&◌,
-  ◌==◌,
-  nat_lt,
-  List,
-  [],
-  ◌∷◌,
-  length,
-  drop,
-  refl,
-  ap,
-  ◌∙◌,
-  subst,
-  arith,
-  Option,
-  Some,
-  None,
-  add-one,
-  take,
-}
+use Rattle.std.proofs.Common.{◌≡◌, ℕ, zero, suc, ◌+◌, ◌<◌, ◌≤◌, Bool, true, false, cond, ◌&&◌, ◌==◌, nat_lt, List, [], ◌∷◌, length, drop, refl, ap, ◌∙◌, subst}
+use Rattle.std.proofs.Common.{arith, Option, Some, None, add-one, take}
 use Rattle.std.proofs.lemmas.Bool.Decides.{nat_tests}
 use Rattle.std.specs.Prelude.{filter, flat_map, count_by, option_map, if◌then◌else◌}
 use Rattle.std.specs.List.{AllByRecursion}
@@ -47,21 +18,8 @@ use Rattle.mail_world.specs.Data.{message, data_end}
 use Rattle.mail_world.specs.Prefixes.{IsPrefix}
 use Rattle.mail_world.specs.Site.{Site}
 use Rattle.mail_world.specs.Session.{Session, fresh}
-use Rattle.mail_world.specs.Conversation.{
-  Disposition,
-  Part,
-  CommandLine,
-  MailData,
-  Cut,
-  cut,
-  cut_then,
-  is_data,
-  inputs_of,
-  session_after,
-  parts_within,
-  parts,
-  Conversation,
-}
+use Rattle.mail_world.specs.Conversation.{Disposition, Part, CommandLine, MailData, Cut, cut, cut_then, is_data, inputs_of, session_after, parts_within, parts}
+use Rattle.mail_world.specs.Conversation.{Conversation}
 use Rattle.mail_world.specs.Slips.{of_worker, names, times_named, slip_of, slips_from}
 use Rattle.mail_world.specs.Lists.{Transaction, is_content, accepted_after, transactions_of, transactions, copies_from, copies_if, copies, of_lane, due}
 use Rattle.mail_world.proofs.GivenAway.{count-append, count-cons}

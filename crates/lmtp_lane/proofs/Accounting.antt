@@ -1,35 +1,6 @@
 -- What a lane's account says once another DATA command came, or another data ended.
-use Rattle.std.proofs.Common.{
-  ◌≡◌,
-  ℕ,
-  zero,
-  suc,
-  cond,
-  ◌+◌,
-  ◌<◌,
-  ◌≤◌,
-  ◌^◌,
-  List,
-  [],
-  ◌∷◌,
-  ◌++◌,
-  length,
-  map,
-  Bool,
-  true,
-  false,
-  Option,
-  Some,
-  None,
-  refl,
-  ap,
-  sym,
-  ◌∙◌,
-  subst,
-  append_assoc,
-  append-nil,
-  arith,
-}
+use Rattle.std.proofs.Common.{◌≡◌, ℕ, zero, suc, cond, ◌+◌, ◌<◌, ◌≤◌, ◌^◌, List, [], ◌∷◌, ◌++◌, length, map, Bool, true, false, Option, Some, None, refl, ap}
+use Rattle.std.proofs.Common.{sym, ◌∙◌, subst, append_assoc, append-nil, arith}
 use Rattle.std.specs.Prelude.{is_some, ◌||◌, nat_lt, if◌then◌else◌, flat_map, find, option_map}
 use Rattle.std.specs.List.{AllByRecursion, range_with_len}
 use Rattle.std.specs.Option.{IfSome}

@@ -1,39 +1,6 @@
 -- What is under way while copies are offered one by one, and while their slips come.
-use Rattle.std.proofs.Common.{
-  ◌≡◌,
-  ℕ,
-  zero,
-  suc,
-  ◌+◌,
-  ◌<◌,
-  List,
-  [],
-  ◌∷◌,
-  ◌++◌,
-  length,
-  map,
-  take,
-  get_or,
-  Bool,
-  true,
-  false,
-  cond,
-  Option,
-  Some,
-  None,
-  inl,
-  inr,
-  refl,
-  ap,
-  sym,
-  ◌∙◌,
-  subst,
-  append_assoc,
-  append-nil,
-  add-one,
-  arith,
-  length-take-le,
-}
+use Rattle.std.proofs.Common.{◌≡◌, ℕ, zero, suc, ◌+◌, ◌<◌, List, [], ◌∷◌, ◌++◌, length, map, take, get_or, Bool, true, false, cond, Option, Some, None, inl}
+use Rattle.std.proofs.Common.{inr, refl, ap, sym, ◌∙◌, subst, append_assoc, append-nil, add-one, arith, length-take-le}
 use Rattle.std.proofs.Math.Seq.{take-suc}
 use Rattle.std.proofs.lemmas.List.{take_all, map-append}
 use Rattle.mail_world.specs.declared.Txn.{Txn}
@@ -50,24 +17,8 @@ use Rattle.mail_runs.specs.Deeds.{Deed, Gave}
 use Rattle.mail_post.specs.Channel.{IsTimed, HasSameTimes, Inbox, taken}
 use Rattle.mail_post.specs.Gathering.{HasGathered, IsAwaited}
 use Rattle.mail_world.proofs.LastSeal.{length_placed}
-use Rattle.lmtp_lane.specs.LaneExchange.{
-  LaneEnds,
-  Sending,
-  found_gone,
-  slips_gone,
-  KeepsRoom,
-  IsAmong,
-  own_slip_of,
-  HasExchangedBy,
-  IsUnderWay,
-  IsOffering,
-  Continues,
-  Awaits,
-  Sends,
-  TakesOne,
-  sent_as,
-  copy_at,
-}
+use Rattle.lmtp_lane.specs.LaneExchange.{LaneEnds, Sending, found_gone, slips_gone, KeepsRoom, IsAmong, own_slip_of, HasExchangedBy, IsUnderWay, IsOffering}
+use Rattle.lmtp_lane.specs.LaneExchange.{Continues, Awaits, Sends, TakesOne, sent_as, copy_at}
 use Rattle.lmtp_lane.proofs.Doing.{lane_clock}
 use Rattle.lmtp_lane.proofs.Exchanging.{HearsSlip, sending, with_inbox, no_episode, joined_none, way_failed, way_heard, way_gone}
 

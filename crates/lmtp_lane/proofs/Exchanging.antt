@@ -18,26 +18,8 @@ use Rattle.mail_post.specs.Gathering.{HasGathered}
 use Rattle.mail_post.specs.Offered.{any_gone, IsOffered}
 use Rattle.mail_post.proofs.Offered.{OwesOneMore, sent_more, sent_no_more, gone_now, gone_as_before}
 use Rattle.lmtp_lane.proofs.Doing.{lane_clock, done_offered, done_gone, done_heard, done_none}
-use Rattle.lmtp_lane.specs.LaneExchange.{
-  LaneEnds,
-  Sending,
-  found_gone,
-  slips_gone,
-  IsAmong,
-  for_box,
-  own_slip_of,
-  IsOwnSlip,
-  Episode,
-  joined,
-  HasExchanged,
-  HasExchangedBy,
-  IsTimely,
-  IsEpisode,
-  IsUnderWay,
-  IsOffering,
-  TakesOne,
-  Continues,
-}
+use Rattle.lmtp_lane.specs.LaneExchange.{LaneEnds, Sending, found_gone, slips_gone, IsAmong, for_box, own_slip_of, IsOwnSlip, Episode, joined, HasExchanged}
+use Rattle.lmtp_lane.specs.LaneExchange.{HasExchangedBy, IsTimely, IsEpisode, IsUnderWay, IsOffering, TakesOne, Continues}
 use Rattle.lmtp_lane.proofs.Turns.{gave_last, heard_last}
 
 -- one more at the end of a list that is merged in time

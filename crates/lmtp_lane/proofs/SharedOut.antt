@@ -1,31 +1,6 @@
 -- Connections that are shared out among lanes.
-use Rattle.std.proofs.Common.{
-  ℕ,
-  zero,
-  suc,
-  ◌+◌,
-  ◌*◌,
-  ◌/◌,
-  ◌%◌,
-  ◌<◌,
-  ◌≡◌,
-  List,
-  [],
-  ◌∷◌,
-  ◌++◌,
-  min,
-  cond,
-  nat_lt,
-  sum,
-  map,
-  ap,
-  ◌∙◌,
-  sym,
-  arith,
-  mod-lt,
-  suc-mul,
-  zero-add,
-}
+use Rattle.std.proofs.Common.{ℕ, zero, suc, ◌+◌, ◌*◌, ◌/◌, ◌%◌, ◌<◌, ◌≡◌, List, [], ◌∷◌, ◌++◌, min, cond, nat_lt, sum, map, ap, ◌∙◌, sym, arith, mod-lt}
+use Rattle.std.proofs.Common.{suc-mul, zero-add}
 use Rattle.std.proofs.lemmas.Bool.Decides.{nat_tests}
 use Rattle.std.proofs.lemmas.List.FromFn.{map-range_with_len_more, sum_by-map-range_with_len_more}
 use Rattle.std.proofs.lemmas.List.{map-append}

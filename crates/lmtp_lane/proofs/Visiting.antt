@@ -1,28 +1,6 @@
 -- The clients of a lane, one after another.
-use Rattle.std.proofs.Common.{
-  ◌≡◌,
-  ℕ,
-  ◌+◌,
-  List,
-  [],
-  ◌∷◌,
-  ◌++◌,
-  length,
-  map,
-  Option,
-  Some,
-  None,
-  inl,
-  refl,
-  ap,
-  sym,
-  ◌∙◌,
-  subst,
-  append_assoc,
-  append-nil,
-  length-append,
-  arith,
-}
+use Rattle.std.proofs.Common.{◌≡◌, ℕ, ◌+◌, List, [], ◌∷◌, ◌++◌, length, map, Option, Some, None, inl, refl, ap, sym, ◌∙◌, subst, append_assoc, append-nil}
+use Rattle.std.proofs.Common.{length-append, arith}
 use Rattle.std.specs.List.{AllByRecursion}
 use Rattle.mail_world.specs.Site.{Site}
 use Rattle.mail_world.specs.Conversation.{Conversation}
@@ -33,21 +11,8 @@ use Rattle.lmtp_talk.specs.Served.{Terms, terms, HasRead, IsServed, transactions
 use Rattle.lmtp_talk.proofs.Counting.{rises_then}
 use Rattle.lmtp_talk.specs.Entries.{Entry, OfEnd, entries_in, with_entries}
 use Rattle.lmtp_talk.proofs.Entered.{with_none, with_both}
-use Rattle.lmtp_lane.specs.Visits.{
-  VisitsTold,
-  Finished,
-  TellsFinished,
-  Visit,
-  IsVisit,
-  finished_of,
-  conversations_of,
-  HasFinished,
-  HasVisited,
-  HasConversed,
-  LendsLog,
-  visit_entries,
-  lane_entries,
-}
+use Rattle.lmtp_lane.specs.Visits.{VisitsTold, Finished, TellsFinished, Visit, IsVisit, finished_of, conversations_of, HasFinished, HasVisited, HasConversed}
+use Rattle.lmtp_lane.specs.Visits.{LendsLog, visit_entries, lane_entries}
 use Rattle.mail_world.specs.Counts.{counted}
 
 -- a client that was served, and is handed back

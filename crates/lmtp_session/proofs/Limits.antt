@@ -6,23 +6,8 @@ use Rattle.std.specs.List.{before_first, after_first}
 use Rattle.std.proofs.lemmas.List.{length-take}
 use Rattle.mail_world.specs.declared.BadCommand.TheVariants as bad
 use Rattle.mail_world.specs.declared.limits.TheConstants.{NAME_LIMIT, PATH_LIMIT}
-use Rattle.mail_world.specs.Commands.{
-  Answer,
-  Lhlo,
-  mail_with,
-  mail_path,
-  mail,
-  rcpt_with,
-  rcpt_path,
-  rcpt,
-  by_verb,
-  command_at,
-  Parameter,
-  is_client_name,
-  parameters,
-  trimmed,
-  after_spaces,
-}
+use Rattle.mail_world.specs.Commands.{Answer, Lhlo, mail_with, mail_path, mail, rcpt_with, rcpt_path, rcpt, by_verb, command_at, Parameter, is_client_name}
+use Rattle.mail_world.specs.Commands.{parameters, trimmed, after_spaces}
 use Rattle.mail_world.specs.Paths.{Found, Path, reverse_path, forward_path, closed_at, mailbox_at, after_route}
 use Rattle.mail_world.specs.Text.{begins, space}
 use Rattle.mail_world.specs.Grammar.{Target}

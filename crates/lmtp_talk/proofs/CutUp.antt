@@ -1,30 +1,6 @@
 -- Parts at the beginning of a text stay its parts, whatever follows them.
-use Rattle.std.proofs.Common.{
-  ◌≡◌,
-  ℕ,
-  ◌+◌,
-  ◌-◌,
-  ◌≤◌,
-  List,
-  [],
-  ◌∷◌,
-  ◌++◌,
-  length,
-  take,
-  drop,
-  Option,
-  Some,
-  sym,
-  ap,
-  ◌∙◌,
-  subst,
-  arith,
-  append_assoc,
-  length-append,
-  length-take-le,
-  take-append-drop,
-  take-take,
-}
+use Rattle.std.proofs.Common.{◌≡◌, ℕ, ◌+◌, ◌-◌, ◌≤◌, List, [], ◌∷◌, ◌++◌, length, take, drop, Option, Some, sym, ap, ◌∙◌, subst, arith, append_assoc}
+use Rattle.std.proofs.Common.{length-append, length-take-le, take-append-drop, take-take}
 use Rattle.std.specs.Prelude.{Bool, flat_map}
 use Rattle.std.proofs.lemmas.List.{take-append-le}
 use Rattle.std.proofs.Math.Seq.{drop-append_seam, take-append_seam, take-append-add}
@@ -34,32 +10,12 @@ use Rattle.mail_world.specs.Text.{cr, lf, crlf, place_of, StandsAt, IsFoundBy}
 use Rattle.mail_world.specs.Data.{dot, data_end}
 use Rattle.mail_world.specs.Site.{Site}
 use Rattle.mail_world.specs.Session.{fresh}
-use Rattle.mail_world.specs.Conversation.{
-  Disposition,
-  Part,
-  CommandLine,
-  MailData,
-  inputs_of,
-  session_after_parts,
-  parts,
-  OutcomesFit,
-  stop_at,
-  inputs,
-  IsAccount,
-}
+use Rattle.mail_world.specs.Conversation.{Disposition, Part, CommandLine, MailData, inputs_of, session_after_parts, parts, OutcomesFit, stop_at, inputs}
+use Rattle.mail_world.specs.Conversation.{IsAccount}
 use Rattle.mail_world.specs.Dispositions.{dispositions_of}
 use Rattle.mail_world.proofs.Places.{place_of_stands, place_of_least, StandsAt-more}
-use Rattle.mail_world.proofs.Handled.{
-  HasNoPart,
-  Handled,
-  ReadsLines,
-  handled_none,
-  handled_line,
-  handled_data,
-  line_within,
-  all_parts,
-  all_accounted as accounted_at,
-}
+use Rattle.mail_world.proofs.Handled.{HasNoPart, Handled, ReadsLines, handled_none, handled_line, handled_data, line_within, all_parts}
+use Rattle.mail_world.proofs.Handled.{all_accounted as accounted_at}
 use Rattle.lmtp_session.specs.Steps.{TakesLines}
 use Rattle.lmtp_talk.specs.Standing.{IsCutUp}
 

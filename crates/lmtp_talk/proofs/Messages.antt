@@ -116,7 +116,8 @@ refused_message {D} HasCome IsDrafting old new before after delivery later TooLa
       };
       fits = tt;
       ended = ended;
-      told = λ n ts message h. copies_told number size (counted n) (counted (length message)) new.session.session.client old.session.session.client _ _ before.told
+      told = λ n ts message h.
+          copies_told number size (counted n) (counted (length message)) new.session.session.client old.session.session.client _ _ before.told
           after.told (numbered n ts message h) (sized n ts message h)
           (ap (λ (x : Session). x.client) one.next)
           (said_is act (step old.session.site old.session.session (DataEnded TooLarge)) new.session.answers one.fits ∙ sym (append-nil _)) entered;
@@ -136,7 +137,8 @@ refused_message {D} HasCome IsDrafting old new before after delivery later NoRoo
       };
       fits = tt;
       ended = ended;
-      told = λ n ts message h. copies_told number size (counted n) (counted (length message)) new.session.session.client old.session.session.client _ _ before.told
+      told = λ n ts message h.
+          copies_told number size (counted n) (counted (length message)) new.session.session.client old.session.session.client _ _ before.told
           after.told (numbered n ts message h) (sized n ts message h)
           (ap (λ (x : Session). x.client) one.next)
           (said_is act (step old.session.site old.session.session (DataEnded NoRoom)) new.session.answers one.fits ∙ sym (append-nil _)) entered;

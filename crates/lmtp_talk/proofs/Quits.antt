@@ -9,28 +9,8 @@ use Rattle.mail_world.specs.declared.State.TheVariants.{Fresh, Greeted, Sender, 
 use Rattle.mail_world.specs.declared.Reply.TheVariants as replies
 use Rattle.mail_world.specs.declared.limits.TheConstants.{RECIPIENT_LIMIT, MESSAGE_LIMIT}
 use Rattle.mail_world.specs.Site.{Site}
-use Rattle.mail_world.specs.Commands.{
-  Answer,
-  Lhlo,
-  Mail,
-  Rcpt,
-  StartData,
-  Rset,
-  Noop,
-  Quit,
-  Vrfy,
-  Help,
-  command,
-  command_at,
-  Parameter,
-  mail_with,
-  mail_path,
-  mail,
-  by_verb,
-  parameters,
-  trimmed,
-  after_spaces,
-}
+use Rattle.mail_world.specs.Commands.{Answer, Lhlo, Mail, Rcpt, StartData, Rset, Noop, Quit, Vrfy, Help, command, command_at, Parameter, mail_with, mail_path}
+use Rattle.mail_world.specs.Commands.{mail, by_verb, parameters, trimmed, after_spaces}
 use Rattle.mail_world.specs.Paths.{Found, reverse_path}
 use Rattle.mail_world.specs.Text.{space}
 use Rattle.std.specs.List.{before_first, after_first}

@@ -1,35 +1,6 @@
 -- What is written to a peer, piece by piece.
-use Rattle.std.proofs.Common.{
-  ◌≡◌,
-  ℕ,
-  ◌+◌,
-  ◌-◌,
-  ◌<◌,
-  add-one,
-  List,
-  [],
-  ◌∷◌,
-  ◌++◌,
-  length,
-  take,
-  drop,
-  Some,
-  Result,
-  Ok,
-  Err,
-  refl,
-  sym,
-  ap,
-  ◌∙◌,
-  subst,
-  ◌≤◌,
-  arith,
-  append_assoc,
-  append-nil,
-  length-append,
-  length-take-le,
-  take-take,
-}
+use Rattle.std.proofs.Common.{◌≡◌, ℕ, ◌+◌, ◌-◌, ◌<◌, add-one, List, [], ◌∷◌, ◌++◌, length, take, drop, Some, Result, Ok, Err, refl, sym, ap, ◌∙◌, subst, ◌≤◌}
+use Rattle.std.proofs.Common.{arith, append_assoc, append-nil, length-append, length-take-le, take-take}
 use Rattle.std.specs.Prelude.{OnErr, OnOk, Bool, true, false}
 use Rattle.std.specs.Prelude.{slice_get}
 use Rattle.std.specs.Result.{is_err}

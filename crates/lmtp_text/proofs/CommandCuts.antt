@@ -1,29 +1,6 @@
 -- What the searches for a byte find, as the lengths of prefixes and ends.
-use Rattle.std.proofs.Common.{
-  ◌≡◌,
-  ℕ,
-  suc,
-  ◌+◌,
-  ◌-◌,
-  Bool,
-  cond,
-  nat_lt,
-  true,
-  false,
-  not,
-  ◌==◌,
-  ◌||◌,
-  List,
-  [],
-  ◌∷◌,
-  length,
-  get_or,
-  sym,
-  ◌∙◌,
-  refl,
-  arith,
-  rules,
-}
+use Rattle.std.proofs.Common.{◌≡◌, ℕ, suc, ◌+◌, ◌-◌, Bool, cond, nat_lt, true, false, not, ◌==◌, ◌||◌, List, [], ◌∷◌, length, get_or, sym, ◌∙◌, refl, arith}
+use Rattle.std.proofs.Common.{rules}
 use Rattle.std.specs.List.{position_or_len, prefix_len, suffix_len}
 use Rattle.std.proofs.lemmas.Bool.{false_from_ne_true}
 use Rattle.std.proofs.lemmas.Bool.Decides.{nat_tests}

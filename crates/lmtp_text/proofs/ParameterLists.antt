@@ -1,33 +1,6 @@
 -- The parameters in a text, piece by piece.
-use Rattle.std.proofs.Common.{
-  ◌≡◌,
-  ℕ,
-  Bool,
-  true,
-  false,
-  not,
-  ◌==◌,
-  ◌||◌,
-  cond,
-  nat_lt,
-  List,
-  [],
-  ◌∷◌,
-  ◌++◌,
-  length,
-  map,
-  Option,
-  Some,
-  None,
-  Err,
-  if◌then◌else◌,
-  ap,
-  sym,
-  ◌∙◌,
-  refl,
-  append-nil,
-  arith,
-}
+use Rattle.std.proofs.Common.{◌≡◌, ℕ, Bool, true, false, not, ◌==◌, ◌||◌, cond, nat_lt, List, [], ◌∷◌, ◌++◌, length, map, Option, Some, None, Err}
+use Rattle.std.proofs.Common.{if◌then◌else◌, ap, sym, ◌∙◌, refl, append-nil, arith}
 use Rattle.std.specs.List.{list_any, slice_split, onto_first, filter_map, cons_option}
 use Rattle.std.specs.Borrow.{Bor}
 use Rattle.std.proofs.lemmas.List.{map-append}

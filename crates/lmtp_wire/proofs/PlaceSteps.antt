@@ -1,35 +1,6 @@
 -- What one byte makes of the message after data that was taken, by where the data stands.
-use Rattle.std.proofs.Common.{
-  ◌≡◌,
-  ℕ,
-  ◌+◌,
-  ◌-◌,
-  List,
-  [],
-  ◌∷◌,
-  ◌++◌,
-  length,
-  take,
-  drop,
-  Bool,
-  true,
-  false,
-  cond,
-  not,
-  ◌&&◌,
-  ◌==◌,
-  Some,
-  None,
-  refl,
-  ap,
-  sym,
-  ◌∙◌,
-  arith,
-  length-append,
-  append_assoc,
-  append-nil,
-  subst,
-}
+use Rattle.std.proofs.Common.{◌≡◌, ℕ, ◌+◌, ◌-◌, List, [], ◌∷◌, ◌++◌, length, take, drop, Bool, true, false, cond, not, ◌&&◌, ◌==◌, Some, None, refl, ap, sym}
+use Rattle.std.proofs.Common.{◌∙◌, arith, length-append, append_assoc, append-nil, subst}
 use Rattle.std.specs.Prelude.{unwrap_or}
 use Rattle.std.proofs.Math.Seq.{take-append_seam, drop-append_seam}
 use Rattle.std.proofs.lemmas.Bool.{eqb-true, and_parts}
@@ -41,36 +12,10 @@ use Rattle.lmtp_wire.specs.declared.dot.DataPlace.{DataPlace}
 use Rattle.lmtp_wire.specs.declared.dot.DataPlace.TheVariants.{InText, AfterCr, LineStart, AfterDot, AfterDotCr}
 use Rattle.lmtp_wire.specs.declared.dot.Effect.{Effect}
 use Rattle.lmtp_wire.specs.declared.dot.Effect.TheVariants.{Nothing, Byte, HeldCr, End}
-use Rattle.lmtp_wire.specs.DataPlace.{
-  came,
-  in_doubt,
-  held_back,
-  is_cr,
-  is_start,
-  is_dot,
-  place_next,
-  place_after,
-  is_content,
-  effect_of,
-  without_dots_at,
-  moved,
-  IsAtPlace,
-  IsDataEnd,
-}
-use Rattle.lmtp_wire.proofs.EndSteps.{
-  end_in,
-  text_other,
-  cr_again,
-  cr_other,
-  start_cr,
-  start_other,
-  dot_other,
-  dot_cr_again,
-  dot_cr_other,
-  moved_more,
-  moved_none,
-  moved_some,
-}
+use Rattle.lmtp_wire.specs.DataPlace.{came, in_doubt, held_back, is_cr, is_start, is_dot, place_next, place_after, is_content, effect_of, without_dots_at}
+use Rattle.lmtp_wire.specs.DataPlace.{moved, IsAtPlace, IsDataEnd}
+use Rattle.lmtp_wire.proofs.EndSteps.{end_in, text_other, cr_again, cr_other, start_cr, start_other, dot_other, dot_cr_again, dot_cr_other, moved_more}
+use Rattle.lmtp_wire.proofs.EndSteps.{moved_none, moved_some}
 use Rattle.lmtp_wire.proofs.LastBytes.{eqb_comm, ends_more, fades, fades_cr}
 
 -- with one more byte the data stands there, and more of the message is sure

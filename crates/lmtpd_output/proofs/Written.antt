@@ -1,28 +1,6 @@
 -- Texts that a writer takes one after another.
-use Rattle.std.proofs.Common.{
-  ◌≡◌,
-  ℕ,
-  ◌+◌,
-  ◌-◌,
-  ◌<◌,
-  List,
-  [],
-  ◌++◌,
-  length,
-  Option,
-  Some,
-  None,
-  take,
-  drop,
-  get_or,
-  sym,
-  ap,
-  ◌∙◌,
-  refl,
-  subst,
-  append_assoc,
-  append-nil,
-}
+use Rattle.std.proofs.Common.{◌≡◌, ℕ, ◌+◌, ◌-◌, ◌<◌, List, [], ◌++◌, length, Option, Some, None, take, drop, get_or, sym, ap, ◌∙◌, refl, subst, append_assoc}
+use Rattle.std.proofs.Common.{append-nil}
 use Rattle.std.proofs.lemmas.List.{take-append-drop, take_rest, drop_more}
 use Rattle.std.specs.List.{flat_map}
 use Rattle.std.specs.Io.KnownBytes.{Appends, Keeps}

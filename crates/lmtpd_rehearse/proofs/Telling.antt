@@ -1,30 +1,6 @@
 -- What recipients were told, where each outcome is that of a slip that was heard.
-use Rattle.std.proofs.Common.{
-  ◌≡◌,
-  ℕ,
-  zero,
-  suc,
-  ◌+◌,
-  ◌<◌,
-  List,
-  [],
-  ◌∷◌,
-  ◌++◌,
-  length,
-  map,
-  Bool,
-  true,
-  false,
-  cond,
-  Option,
-  Some,
-  refl,
-  ap,
-  sym,
-  ◌∙◌,
-  subst,
-  arith,
-}
+use Rattle.std.proofs.Common.{◌≡◌, ℕ, zero, suc, ◌+◌, ◌<◌, List, [], ◌∷◌, ◌++◌, length, map, Bool, true, false, cond, Option, Some, refl, ap, sym, ◌∙◌, subst}
+use Rattle.std.proofs.Common.{arith}
 use Rattle.std.specs.Prelude.{find, flat_map, option_map, ◌==◌}
 use Rattle.std.specs.List.{AllByRecursion, range_with_len}
 use Rattle.std.proofs.lemmas.Bool.{eq-eqb}
@@ -44,19 +20,8 @@ use Rattle.mail_world.proofs.Deliveries.{copy_at}
 use Rattle.box_worker.specs.Told.{owed_to}
 use Rattle.lmtpd_rehearse.specs.Account.{IsSettled, IsSettledIf, IsAllSettled}
 use Rattle.mail_runs.proofs.Rising.{NumbersRise, copies_rise}
-use Rattle.lmtpd_rehearse.proofs.Naming.{
-  SayTheSame,
-  all_agree,
-  all_after,
-  all_filter,
-  all_prefix,
-  all_turned,
-  left_after,
-  next_of,
-  slips_all,
-  slips_all-append,
-  slips_of_box,
-}
+use Rattle.lmtpd_rehearse.proofs.Naming.{SayTheSame, all_agree, all_after, all_filter, all_prefix, all_turned, left_after, next_of, slips_all, slips_all-append}
+use Rattle.lmtpd_rehearse.proofs.Naming.{slips_of_box}
 
 -- the first of a list that may lack it
 first_of : (P : Slip → Type 0) (t : Bool) (slip : Slip) (rest : List Slip) → t ≡ true → AllByRecursion P (cond t (slip ∷ rest) rest) → P slip

@@ -1,31 +1,11 @@
 -- The limits of a server, and its numbers and level where the words name none, as the help tells them.
 use Rattle.std.proofs.Common.{◌≡◌, refl, codes}
-use Rattle.mail_world.specs.declared.limits.TheConstants.{
-  BLOCK_SIZE,
-  BLOCK_LIMIT,
-  LANE_LIMIT,
-  CAPACITY_LIMIT,
-  LOCK_WAIT_LIMIT,
-  MODE_LIMIT,
-  MESSAGE_LIMIT,
-  LEAST_MESSAGE_LIMIT,
-  LARGEST_MESSAGE_LIMIT,
-}
+use Rattle.mail_world.specs.declared.limits.TheConstants.{BLOCK_SIZE, BLOCK_LIMIT, LANE_LIMIT, CAPACITY_LIMIT, LOCK_WAIT_LIMIT, MODE_LIMIT, MESSAGE_LIMIT}
+use Rattle.mail_world.specs.declared.limits.TheConstants.{LEAST_MESSAGE_LIMIT, LARGEST_MESSAGE_LIMIT}
 use Rattle.log.specs.declared.level.LevelFilter.TheVariants as filter
 use Rattle.lmtpd_words.specs.Words.{octal, usual_blocks}
-use Rattle.lmtpd_words.specs.declared.words.TheConstants.{
-  BOXES_FILE_LIMIT,
-  DEFAULT_BLOCKS,
-  DEFAULT_CAPACITY,
-  DEFAULT_LANES,
-  DEFAULT_LOCK_WAIT,
-  DEFAULT_LOG,
-  DEFAULT_MAILBOX_MODE,
-  DEFAULT_READS,
-  DEFAULT_SESSION_TIME,
-  DEFAULT_SOCKET_MODE,
-  DEFAULT_TIMEOUT,
-}
+use Rattle.lmtpd_words.specs.declared.words.TheConstants.{BOXES_FILE_LIMIT, DEFAULT_BLOCKS, DEFAULT_CAPACITY, DEFAULT_LANES, DEFAULT_LOCK_WAIT, DEFAULT_LOG}
+use Rattle.lmtpd_words.specs.declared.words.TheConstants.{DEFAULT_MAILBOX_MODE, DEFAULT_READS, DEFAULT_SESSION_TIME, DEFAULT_SOCKET_MODE, DEFAULT_TIMEOUT}
 
 pub lanes : DEFAULT_LANES ≡ 4
 lanes = refl

@@ -1,31 +1,6 @@
 -- What a close takes together.
-use Rattle.std.proofs.Common.{
-  ◌≡◌,
-  ◌==◌,
-  ◌<◌,
-  ◌≤◌,
-  ◌⊎◌,
-  ℕ,
-  true,
-  false,
-  Option,
-  Some,
-  List,
-  [],
-  ◌∷◌,
-  ◌++◌,
-  length,
-  length-append,
-  slice_index_or,
-  append-nil,
-  refl,
-  sym,
-  ap,
-  ◌∙◌,
-  subst,
-  ⊎_elim,
-  arith,
-}
+use Rattle.std.proofs.Common.{◌≡◌, ◌==◌, ◌<◌, ◌≤◌, ◌⊎◌, ℕ, true, false, Option, Some, List, [], ◌∷◌, ◌++◌, length, length-append, slice_index_or, append-nil}
+use Rattle.std.proofs.Common.{refl, sym, ap, ◌∙◌, subst, ⊎_elim, arith}
 use Rattle.std.proofs.lemmas.Bool.{eq-eqb, cond-true}
 use Rattle.std.proofs.lemmas.List.Elements.{filter-append}
 use Rattle.std.proofs.Math.ListN.{get_or-eq_default}

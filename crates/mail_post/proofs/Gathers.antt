@@ -1,46 +1,6 @@
 -- The fields of a gatherer follow the definitions' gatherer.
-use Rattle.std.proofs.Common.{
-  ◌≡◌,
-  ◌≢◌,
-  ◌↔◌,
-  inl,
-  inr,
-  ℕ,
-  zero,
-  suc,
-  ◌+◌,
-  ◌<◌,
-  ◌≤◌,
-  List,
-  [],
-  ◌∷◌,
-  ◌++◌,
-  length,
-  take,
-  set,
-  get_or,
-  map,
-  replicate,
-  Bool,
-  true,
-  false,
-  not,
-  cond,
-  if◌then◌else◌,
-  Option,
-  Some,
-  None,
-  IsSome,
-  refl,
-  ap,
-  ap₂,
-  sym,
-  subst,
-  ◌∙◌,
-  arith,
-  All,
-  length-set,
-}
+use Rattle.std.proofs.Common.{◌≡◌, ◌≢◌, ◌↔◌, inl, inr, ℕ, zero, suc, ◌+◌, ◌<◌, ◌≤◌, List, [], ◌∷◌, ◌++◌, length, take, set, get_or, map, replicate, Bool, true}
+use Rattle.std.proofs.Common.{false, not, cond, if◌then◌else◌, Option, Some, None, IsSome, refl, ap, ap₂, sym, subst, ◌∙◌, arith, All, length-set}
 use Rattle.std.specs.Prelude.{slice_get, count_by, IsSomeAnd, IsTrue, nat_le, ◌==◌}
 use Rattle.std.proofs.Math.Seq.{take-set-lt}
 use Rattle.std.proofs.lemmas.Bool.{eq-eqb, eqb-true, leb-true, leb-false, not-false, and_parts}

@@ -1,41 +1,6 @@
 -- Each move keeps the rule of the channel.
-use Rattle.std.proofs.Common.{
-  ◌≡◌,
-  ◌≢◌,
-  ◌==◌,
-  ◌+◌,
-  ◌≤◌,
-  ◌<◌,
-  ◌⊎◌,
-  ℕ,
-  zero,
-  suc,
-  Bool,
-  true,
-  false,
-  cond,
-  List,
-  [],
-  ◌∷◌,
-  ◌++◌,
-  length,
-  get_or,
-  slice_index_or,
-  set,
-  refl,
-  sym,
-  ap,
-  ◌∙◌,
-  subst,
-  ⊎_elim,
-  inl,
-  inr,
-  arith,
-  append_assoc,
-  append-nil,
-  length-append,
-  true≢false,
-}
+use Rattle.std.proofs.Common.{◌≡◌, ◌≢◌, ◌==◌, ◌+◌, ◌≤◌, ◌<◌, ◌⊎◌, ℕ, zero, suc, Bool, true, false, cond, List, [], ◌∷◌, ◌++◌, length, get_or, slice_index_or}
+use Rattle.std.proofs.Common.{set, refl, sym, ap, ◌∙◌, subst, ⊎_elim, inl, inr, arith, append_assoc, append-nil, length-append, true≢false}
 use Rattle.std.proofs.lemmas.Bool.{eq-eqb, ne_eqb, cond-true, cond-false}
 use Rattle.std.proofs.lemmas.List.{get_or_append_left}
 use mathlib.Core.Option.{Option, some, none, some-ne-none, some-injective}
@@ -50,20 +15,8 @@ use Rattle.mail_post.specs.Times.{HaveMoments, Times, KeepsTime}
 use Rattle.mail_post.specs.Views.{sender, taker, knower, settled, IsPut, IsTook}
 use Rattle.mail_post.specs.Parcels.{of, lane_of, part, messages, all_of_lane}
 use Rattle.mail_post.specs.Rule.{Traffic, FitsKnown, Fits, Carries, IsFair, Agrees, HasPassed}
-use Rattle.mail_post.proofs.Parcels.{
-  part-append,
-  part-here,
-  part-else,
-  messages_at_most,
-  of-copies,
-  copies-append,
-  copies-all_of_lane,
-  all_of_lane-put,
-  all_of_lane-end,
-  prefix,
-  all-there,
-  has_mark-part,
-}
+use Rattle.mail_post.proofs.Parcels.{part-append, part-here, part-else, messages_at_most, of-copies, copies-append, copies-all_of_lane, all_of_lane-put}
+use Rattle.mail_post.proofs.Parcels.{all_of_lane-end, prefix, all-there, has_mark-part}
 use Rattle.mail_post.proofs.Timing.{begin_time, same_time, put_time, take_time, timed_of, any_room, roomier}
 
 module _ {M : Type 0} (lane : M → ℕ) where
@@ -231,7 +184,8 @@ module _ {M : Type 0} (lane : M → ℕ) where
       (λ (n : j ≢ v.lane). changed_else old.sent_at v.lane v.sent_at j n) (same? j v.lane) in
       let grown : all_of_lane v.lane v.sent true ≡ all_of_lane v.lane v.sent v.shut ++ Mark v.lane ∷ [] =
       sym (all_of_lane-end lane v.lane v.sent) ∙ (λ i. all_of_lane v.lane v.sent (sym not_shut i) ++ Mark v.lane ∷ []) in
-      let none_more : messages items ≡ messages (items ++ Mark v.lane ∷ []) = sym (copies-append lane items (Mark v.lane ∷ []) ∙ append-nil (messages items)) in (
+      let none_more : messages items ≡ messages (items ++ Mark v.lane ∷ []) =
+      sym (copies-append lane items (Mark v.lane ∷ []) ∙ append-nil (messages items)) in (
         sender v.room v.lane v.sent v.sent_at true,
         moved pass v (Mark v.lane) v.sent v.sent_at true items views h old.times may refl grown at (refl, refl)
             (subst (λ (l : List M). KeepsTime lane old.room (messages old.got) l g old.times) none_more

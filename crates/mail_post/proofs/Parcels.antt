@@ -1,28 +1,6 @@
 -- The steps of one lane among those of all.
-use Rattle.std.proofs.Common.{
-  ◌≡◌,
-  ◌≢◌,
-  ◌==◌,
-  ℕ,
-  Bool,
-  true,
-  false,
-  ◌||◌,
-  ◌≤◌,
-  cond,
-  List,
-  [],
-  ◌∷◌,
-  ◌++◌,
-  length,
-  refl,
-  sym,
-  ap,
-  ◌∙◌,
-  true≢false,
-  append-nil,
-  arith,
-}
+use Rattle.std.proofs.Common.{◌≡◌, ◌≢◌, ◌==◌, ℕ, Bool, true, false, ◌||◌, ◌≤◌, cond, List, [], ◌∷◌, ◌++◌, length, refl, sym, ap, ◌∙◌, true≢false, append-nil}
+use Rattle.std.proofs.Common.{arith}
 use Rattle.std.proofs.lemmas.Bool.{eq-eqb, ne_eqb, cond-true, cond-false}
 use Rattle.std.proofs.lemmas.List.Elements.{filter-append}
 use Rattle.mail_post.specs.declared.rule.Parcel.{Parcel}

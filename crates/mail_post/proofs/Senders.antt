@@ -1,31 +1,6 @@
 -- The senders of one channel, for callers.
-use Rattle.std.proofs.Common.{
-  ◌≡◌,
-  false,
-  ◌+◌,
-  ◌<◌,
-  ℕ,
-  zero,
-  suc,
-  List,
-  [],
-  ◌∷◌,
-  ◌++◌,
-  length,
-  get_or,
-  set,
-  refl,
-  sym,
-  ap,
-  ◌∙◌,
-  arith,
-  add-zero,
-  add-one,
-  slice_index_or,
-  ⊎_elim,
-  ◌⊎◌,
-  length-append,
-}
+use Rattle.std.proofs.Common.{◌≡◌, false, ◌+◌, ◌<◌, ℕ, zero, suc, List, [], ◌∷◌, ◌++◌, length, get_or, set, refl, sym, ap, ◌∙◌, arith, add-zero, add-one}
+use Rattle.std.proofs.Common.{slice_index_or, ⊎_elim, ◌⊎◌, length-append}
 use Rattle.std.proofs.lemmas.List.{get_or_append_left, length-map}
 use Rattle.mail_post.specs.Channel.{Channel, Sender, AreSendersFrom, new_senders, sent_by}
 

@@ -1,27 +1,13 @@
--- What the house keeps in every run, so that steps may be taken: the capacity, the lanes of the copies, weights of 1 or more, and no more written than there is.
+-- What the house keeps in every run, so that steps may be taken: the capacity, the lanes of the copies, weights of 1 or
+-- more, and no more written than there is.
 use Rattle.std.proofs.Common.{◌≡◌, ℕ, ◌+◌, ◌-◌, ◌≤◌, List, [], ◌∷◌, length, Option, Some, None, inl, inr, refl, ap, sym, ◌∙◌, subst, arith, length-append}
 use Rattle.std.specs.Prelude.{slice_get, slice_set}
 use Rattle.std.specs.List.{AllByRecursion}
 use Rattle.std.proofs.lemmas.List.{length-drop}
 use Rattle.std.proofs.lemmas.Option.{slice_get_within}
 use Rattle.mail_world.specs.declared.Event.{Event}
-use Rattle.mail_world.specs.declared.Event.TheVariants.{
-  Begin,
-  Put,
-  Cancel,
-  Seal,
-  Split,
-  Offer,
-  HandBack,
-  Collect,
-  Take,
-  Write,
-  Sync,
-  Release,
-  GiveSlip,
-  Reclaim,
-  Close,
-}
+use Rattle.mail_world.specs.declared.Event.TheVariants.{Begin, Put, Cancel, Seal, Split, Offer, HandBack, Collect, Take, Write, Sync, Release, GiveSlip}
+use Rattle.mail_world.specs.declared.Event.TheVariants.{Reclaim, Close}
 use Rattle.mail_world.specs.House.{Hold, Post, Copy, Box, Lane, House, IsFreshBox, IsFreshLane, IsStart}
 use Rattle.mail_world.specs.Events.{Step, LaneIs, BoxIs}
 use Rattle.mail_world.specs.Runs.{Happened, Run, last_house}

@@ -15,6 +15,7 @@ pub mod AlwaysFinishes
 pub mod ThereStays
 pub mod Kept
 pub mod Reached
+pub mod CopyMovers
 pub mod Movers
 pub mod Tracked
 pub mod CopiesGiven

@@ -1,36 +1,6 @@
 -- Each event but Begin, and a Put or Write of no bytes, lowers the number of the steps that are left.
-use Rattle.std.proofs.Common.{
-  ◌≡◌,
-  ℕ,
-  ◌+◌,
-  ◌-◌,
-  ◌*◌,
-  ◌<◌,
-  ◌≤◌,
-  List,
-  [],
-  ◌∷◌,
-  ◌++◌,
-  length,
-  drop,
-  Bool,
-  true,
-  false,
-  cond,
-  not,
-  ◌||◌,
-  ◌==◌,
-  Some,
-  None,
-  refl,
-  ap,
-  sym,
-  ◌∙◌,
-  subst,
-  arith,
-  add-one,
-  length-append,
-}
+use Rattle.std.proofs.Common.{◌≡◌, ℕ, ◌+◌, ◌-◌, ◌*◌, ◌<◌, ◌≤◌, List, [], ◌∷◌, ◌++◌, length, drop, Bool, true, false, cond, not, ◌||◌, ◌==◌, Some, None, refl}
+use Rattle.std.proofs.Common.{ap, sym, ◌∙◌, subst, arith, add-one, length-append}
 use Rattle.std.specs.Prelude.{slice_get, slice_set, sum_by, remove, nat_lt, if◌then◌else◌}
 use Rattle.std.proofs.lemmas.List.Sums.{sum_by-cons}
 use Rattle.std.proofs.lemmas.List.{length-drop}
@@ -38,23 +8,8 @@ use Rattle.std.proofs.lemmas.Option.{slice_get_within}
 use Rattle.std.proofs.Math.Nat.{mul-le-mul_right}
 use Rattle.mail_world.specs.declared.limits.TheConstants.{BLOCK_SIZE}
 use Rattle.mail_world.specs.declared.Event.{Event}
-use Rattle.mail_world.specs.declared.Event.TheVariants.{
-  Begin,
-  Put,
-  Cancel,
-  Seal,
-  Split,
-  Offer,
-  HandBack,
-  Collect,
-  Take,
-  Write,
-  Sync,
-  Release,
-  GiveSlip,
-  Reclaim,
-  Close,
-}
+use Rattle.mail_world.specs.declared.Event.TheVariants.{Begin, Put, Cancel, Seal, Split, Offer, HandBack, Collect, Take, Write, Sync, Release, GiveSlip}
+use Rattle.mail_world.specs.declared.Event.TheVariants.{Reclaim, Close}
 use Rattle.mail_world.specs.Slips.{slip_of, own_slip, txn_of, gather_for}
 use Rattle.mail_world.specs.Depot.{Key, Slot, Draft, Sealed, Depot, blocks_for, occurrences, blocks_of, blocks_in_use, HasEachBlockOnce, Puts}
 use Rattle.mail_world.specs.House.{Hold, Post, Copy, Box, House, is_settled}
@@ -63,21 +18,8 @@ use Rattle.mail_world.specs.Runs.{Happened, Run, last_house}
 use Rattle.mail_world.proofs.Depots.{set_at, used, times-append, begins_turn, puts_turn, seals_turn, releases_turn, drops_turn}
 use Rattle.mail_world.proofs.Holds.{drop_get}
 use Rattle.mail_progress.specs.Orderly.{IsInOrder, IsOrderly}
-use Rattle.mail_progress.specs.StepsLeft.{
-  size,
-  steps_of_copy,
-  steps_in_hand,
-  steps_of_one,
-  steps_of_hold,
-  steps_of_lane,
-  steps_of_box,
-  steps_of_slot,
-  steps_left,
-  IsBounded,
-  AreBounded,
-  EachLowers,
-  Ends,
-}
+use Rattle.mail_progress.specs.StepsLeft.{size, steps_of_copy, steps_in_hand, steps_of_one, steps_of_hold, steps_of_lane, steps_of_box, steps_of_slot}
+use Rattle.mail_progress.specs.StepsLeft.{steps_left, IsBounded, AreBounded, EachLowers, Ends}
 use Rattle.mail_world.proofs.Holds.{sum_set, sum_remove, part_le}
 use Rattle.mail_progress.proofs.Sums.{sum_last, sum_one_more}
 use Rattle.mail_progress.proofs.Slots.{held_changes, held_goes}

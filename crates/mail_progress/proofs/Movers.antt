@@ -1,39 +1,6 @@
 -- In an orderly run whatever is under way is moved.
-use Rattle.std.proofs.Common.{
-  ◌≡◌,
-  ◌≢◌,
-  ◌⊎◌,
-  ℕ,
-  zero,
-  suc,
-  ◌+◌,
-  ◌-◌,
-  ◌<◌,
-  ◌≤◌,
-  List,
-  [],
-  ◌∷◌,
-  ◌++◌,
-  length,
-  drop,
-  map,
-  Bool,
-  true,
-  false,
-  ◌||◌,
-  Option,
-  Some,
-  None,
-  inl,
-  inr,
-  refl,
-  ap,
-  sym,
-  ◌∙◌,
-  subst,
-  arith,
-  append-nil,
-}
+use Rattle.std.proofs.Common.{◌≡◌, ◌≢◌, ◌⊎◌, ℕ, zero, suc, ◌+◌, ◌-◌, ◌<◌, ◌≤◌, List, [], ◌∷◌, ◌++◌, length, drop, map, Bool, true, false, Option, Some}
+use Rattle.std.proofs.Common.{None, inl, inr, refl, ap, sym, ◌∙◌, subst, arith}
 use Rattle.std.specs.Prelude.{slice_get, flat_map, IfSome, sum_by, count_by, find, option_map, nat_lt, cond}
 use Rattle.std.specs.List.{list_any, range_with_len}
 use Rattle.std.proofs.lemmas.List.Sums.{sum_by-append}
@@ -46,167 +13,25 @@ use Rattle.mail_world.specs.Slips.{txn_of, names, times_named, answer, answers}
 use Rattle.mail_world.proofs.GivenAway.{is_given, count-cons, count_some}
 use Rattle.mail_progress.proofs.Tracked.{way_at, IsTracked, last_there}
 use Rattle.std.proofs.lemmas.Bool.{eq-eqb}
-use Rattle.std.proofs.lemmas.List.{length-drop, drop_all}
+use Rattle.std.proofs.lemmas.List.{drop_all}
 use Rattle.mail_world.specs.declared.Note.{Note}
-use Rattle.mail_world.specs.declared.Event.TheVariants.{Seal, Split, Offer, HandBack, Collect, Take, Write, Sync, Release, GiveSlip, Reclaim}
-use Rattle.mail_world.specs.Records.{record_of}
+use Rattle.mail_world.specs.declared.Event.TheVariants.{Seal, Split, Offer, HandBack, Collect, Reclaim}
 use Rattle.mail_world.specs.Depot.{Key, Slot, Sealed, held_under, weight_held, weight_under, given_back, Depot}
-use Rattle.mail_world.specs.House.{Hold, Post, Copy, Box, SealedMessage, Lane, House, is_settled}
-use Rattle.mail_world.specs.Events.{LaneIs, BoxIs, outcome_of}
+use Rattle.mail_world.specs.House.{Hold, Post, Copy, Box, SealedMessage, Lane, House}
+use Rattle.mail_world.specs.Events.{LaneIs, BoxIs}
 use Rattle.mail_world.specs.Runs.{last_house, hold_of, posts_of, is_same_key, weight_of, holds_of}
 use Rattle.mail_world.proofs.Accepted.{each_at}
 use Rattle.mail_world.proofs.Depots.{times-append}
 use Rattle.mail_world.proofs.Once.{is_copy}
 use Rattle.mail_world.proofs.OtherSteps.{there_is}
-use Rattle.mail_progress.specs.Orderly.{uncollected, not_taken, on_way}
-use Rattle.mail_progress.specs.NothingStuck.{
-  Mover,
-  AnyHolder,
-  IsMovedBy,
-  TheLane,
-  TheWorker,
-  LaneOrWorker,
-  HasToOffer,
-  IsOpenAndFull,
-  IsAtWork,
-  HasHold,
-  IsHolder,
-  HasCopyFor,
-  AreThere,
-  AreClosed,
-  NothingIsStuck,
-  NothingIsStuckWhenClosed,
-}
+use Rattle.mail_progress.specs.Orderly.{not_taken, on_way}
+use Rattle.mail_progress.specs.NothingStuck.{Mover, AnyHolder, IsMovedBy, TheLane, TheWorker, LaneOrWorker, HasToOffer, IsOpenAndFull, IsAtWork, HasHold}
+use Rattle.mail_progress.specs.NothingStuck.{IsHolder, HasCopyFor, AreThere, AreClosed, NothingIsStuck, NothingIsStuckWhenClosed}
 use Rattle.mail_progress.proofs.Within.{to_give}
 use Rattle.mail_progress.proofs.Found.{found_in}
 use Rattle.mail_progress.proofs.Kept.{capacity_run}
 use Rattle.mail_progress.proofs.Reached.{IsReached, reached, widen}
-
--- a copy in hand
-or_false : (a b : Bool) → (a || b) ≡ false → (a ≡ false) × (b ≡ false)
-or_false true b e = cc
-or_false false b e = (refl, e)
-
-unfoldable pub give_moves : (room blocks : ℕ) (next : ℕ → ℕ) (h : House) → IsReached room blocks h → (w : ℕ) (box : Box) (copy : Copy) → BoxIs h w box
-    → box.hand ≡ Some copy → copy.released ≡ true → IsMovedBy (TheWorker w) room next h
-give_moves room blocks next h f w box copy at hand released =
-    let there = f.kept.lane_there w box copy at hand in
-    let below : uncollected there.0 < room = f.slips w box copy there.0 at hand released there.1 in
-    let P : Copy → Type 0 = λ c. IfSome (slice_get h.lanes c.post.note.txn.lane) (λ lane. uncollected lane < room) in
-    let in_lane : P copy = subst (λ o. IfSome o (λ (lane : Lane). uncollected lane < room)) (sym there.1) below in
-    let in_hand : IfSome box.hand P = subst (λ o. IfSome o P) (sym hand) in_lane in
-    record {
-      event = GiveSlip w (outcome_of copy);
-      by = refl;
-      goes_on = tt;
-      in_order = subst (λ o. IfSome o (λ (b : Box). IfSome b.hand P)) (sym at) in_hand;
-      happens = (_, record { box = box; copy = copy; lane = there.0; is = at; in_hand = hand; let_go = released; says = refl; to = there.1; after = refl });
-    }
-
-unfoldable pub release_moves : (room blocks : ℕ) (next : ℕ → ℕ) (h : House) → IsReached room blocks h → (w : ℕ) (box : Box) (copy : Copy) → BoxIs h w box
-    → box.hand ≡ Some copy → copy.released ≡ false → (is_settled copy || box.faulty) ≡ true
-    → IsMovedBy (TheWorker w) room next h
-release_moves room blocks next h f w box copy at hand held may =
-    let P : Box → Copy → Type 0 = λ b c. (is_settled c || b.faulty) ≡ true in
-    let in_hand : IfSome box.hand (P box) = subst (λ o. IfSome o (P box)) (sym hand) may in
-    record {
-      event = Release w;
-      by = refl;
-      goes_on = subst (λ o. IfSome o (λ (b : Box). IfSome b.hand (P b))) (sym at) in_hand;
-      in_order = tt;
-      happens = f.releases w box copy at hand held;
-    }
-
-unfoldable pub write_moves : (room blocks : ℕ) (next : ℕ → ℕ) (h : House) → IsReached room blocks h → (w : ℕ) (box : Box) (copy : Copy) → BoxIs h w box
-    → box.hand ≡ Some copy → copy.released ≡ false → is_settled copy ≡ false → box.faulty ≡ false
-    → (rest : List ℕ) → drop copy.written (record_of h.calendar h.host copy.post.note) ≡ rest → IsMovedBy (TheWorker w) room next h
-write_moves room blocks next h f w box copy at hand held unsettled sound [] e =
-    let low = f.kept.written w box copy at hand in
-    let none : length (record_of h.calendar h.host copy.post.note) - copy.written ≡ 0 = sym (length-drop copy.written _) ∙ ap length e in
-    record {
-      event = Sync w;
-      by = refl;
-      goes_on = tt;
-      in_order = tt;
-      happens = (
-        _,
-        record {
-          box = box;
-          copy = copy;
-          is = at;
-          in_hand = hand;
-          sound = sound;
-          held = held;
-          unsettled = unsettled;
-          whole = omega arith;
-          after = refl;
-        },
-      );
-    }
-write_moves room blocks next h f w box copy at hand held unsettled sound (x ∷ xs) e =
-    let P : Copy → Type 0 = λ c. drop c.written (record_of h.calendar h.host c.post.note) ≡ x ∷ xs in
-    let in_hand : IfSome box.hand P = subst (λ o. IfSome o P) (sym hand) e in
-    record {
-      event = Write w (x ∷ xs);
-      by = refl;
-      goes_on = (omega arith, subst (λ o. IfSome o (λ (b : Box). IfSome b.hand P)) (sym at) in_hand);
-      in_order = tt;
-      happens = (
-        _,
-        record {
-          box = box;
-          copy = copy;
-          more = [];
-          is = at;
-          in_hand = hand;
-          sound = sound;
-          held = held;
-          unsettled = unsettled;
-          next = e
-              ∙ sym (append-nil (x ∷ xs));
-          after = refl;
-        },
-      );
-    }
-
-held_moves : (room blocks : ℕ) (next : ℕ → ℕ) (h : House) → IsReached room blocks h → (w : ℕ) (box : Box) (copy : Copy) → BoxIs h w box → box.hand ≡ Some copy
-    → copy.released ≡ false
-    → (t : Bool) → (is_settled copy || box.faulty) ≡ t → IsMovedBy (TheWorker w) room next h
-held_moves room blocks next h f w box copy at hand held true e = release_moves room blocks next h f w box copy at hand held e
-held_moves room blocks next h f w box copy at hand held false e =
-    let both = or_false (is_settled copy) box.faulty e in
-    write_moves room blocks next h f w box copy at hand held both.0 both.1 (drop copy.written (record_of h.calendar h.host copy.post.note)) refl
-
-hand_by : (room blocks : ℕ) (next : ℕ → ℕ) (h : House) → IsReached room blocks h → (w : ℕ) (box : Box) (copy : Copy) → BoxIs h w box → box.hand ≡ Some copy
-    → (t : Bool) → copy.released ≡ t → IsMovedBy (TheWorker w) room next h
-hand_by room blocks next h f w box copy at hand true e = give_moves room blocks next h f w box copy at hand e
-hand_by room blocks next h f w box copy at hand false e = held_moves room blocks next h f w box copy at hand e (is_settled copy || box.faulty) refl
-
-pub hand_moves : (room blocks : ℕ) (next : ℕ → ℕ) (h : House) → IsReached room blocks h → (w : ℕ) (box : Box) (copy : Copy) → BoxIs h w box
-    → box.hand ≡ Some copy → IsMovedBy (TheWorker w) room next h
-hand_moves room blocks next h f w box copy at hand = hand_by room blocks next h f w box copy at hand copy.released refl
-
--- a copy that is accepted
-unfoldable pub take_moves : (room : ℕ) (next : ℕ → ℕ) (h : House) (w : ℕ) (box : Box) → BoxIs h w box → box.taken < length box.accepted → box.hand ≡ None
-    → IsMovedBy (TheWorker w) room next h
-take_moves room next h w box at some e =
-    let oldest = there_is box.accepted box.taken some in
-    record {
-      event = Take w;
-      by = refl;
-      goes_on = tt;
-      in_order = tt;
-      happens = (_, record { box = box; post = oldest.0; is = at; free_hand = e; oldest = oldest.1; after = refl });
-    }
-
-accepted_by : (room blocks : ℕ) (next : ℕ → ℕ) (h : House) → IsReached room blocks h → (w : ℕ) (box : Box) → BoxIs h w box → box.taken < length box.accepted
-    → (hand : Option Copy) → box.hand ≡ hand → IsMovedBy (TheWorker w) room next h
-accepted_by room blocks next h f w box at some None e = take_moves room next h w box at some e
-accepted_by room blocks next h f w box at some (Some copy) e = hand_moves room blocks next h f w box copy at e
-
-pub accepted_moves : (room blocks : ℕ) (next : ℕ → ℕ) (h : House) → IsReached room blocks h → (w : ℕ) (box : Box) → BoxIs h w box
-    → box.taken < length box.accepted → IsMovedBy (TheWorker w) room next h
-accepted_moves room blocks next h f w box at some = accepted_by room blocks next h f w box at some box.hand refl
+use Rattle.mail_progress.proofs.CopyMovers.{hand_moves, accepted_moves}
 
 -- a copy to offer
 unfoldable pub split_moves : (room : ℕ) (next : ℕ → ℕ) (h : House) (k i : ℕ) (lane : Lane) (hold : Hold) → LaneIs h k lane → slice_get lane.holds i ≡ Some hold

@@ -4,23 +4,8 @@ use Rattle.mail_world.specs.declared.Event.TheVariants.{Begin, Put, Seal}
 use Rattle.mail_world.specs.Depot.{Sealed}
 use Rattle.mail_world.specs.House.{Lane, House, IsStart}
 use Rattle.mail_world.specs.Runs.{Happened, Run}
-use Rattle.mail_world.proofs.OneHouse.{
-  bytes,
-  key,
-  box₀,
-  free_slot,
-  with_draft,
-  with_bytes,
-  lane_sealed,
-  with_message,
-  then',
-  each_once,
-  starts,
-  fresh,
-  begins,
-  puts,
-  seals,
-}
+use Rattle.mail_world.proofs.OneHouse.{bytes, key, box₀, free_slot, with_draft, with_bytes, lane_sealed, with_message, then', each_once, starts, fresh, begins}
+use Rattle.mail_world.proofs.OneHouse.{puts, seals}
 use Rattle.mail_progress.specs.Orderly.{IsOrderly}
 use Rattle.mail_progress.specs.GoingOn.{StandsStill}
 use Rattle.mail_progress.specs.Remaining.{Remains}

@@ -12,24 +12,8 @@ use Rattle.mail_world.specs.Events.{Step}
 use Rattle.mail_world.specs.Runs.{Happened, Run}
 use Rattle.mail_world.specs.Rows.{calendar, site}
 use Rattle.mail_world.proofs.Computed.{everything}
-use Rattle.mail_world.proofs.OneHouse.{
-  bytes,
-  key,
-  just_taken,
-  lane₀,
-  box₀,
-  free_slot,
-  with_draft,
-  with_bytes,
-  with_message,
-  then',
-  each_once,
-  starts,
-  fresh,
-  begins,
-  puts,
-  seals,
-}
+use Rattle.mail_world.proofs.OneHouse.{bytes, key, just_taken, lane₀, box₀, free_slot, with_draft, with_bytes, with_message, then', each_once, starts, fresh}
+use Rattle.mail_world.proofs.OneHouse.{begins, puts, seals}
 use Rattle.mail_world.proofs.OneHouse as one_house
 use Rattle.mail_progress.specs.Orderly.{IsOrderly}
 use Rattle.mail_progress.specs.GoingOn.{StandsStill}

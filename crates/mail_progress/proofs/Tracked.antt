@@ -1,35 +1,6 @@
 -- In an orderly run each place of a lane's last message has a copy to offer, a copy on its way, a slip to collect, or its answer.
-use Rattle.std.proofs.Common.{
-  ◌≡◌,
-  ◌≢◌,
-  ℕ,
-  suc,
-  ◌+◌,
-  ◌≤◌,
-  List,
-  [],
-  ◌∷◌,
-  ◌++◌,
-  length,
-  drop,
-  Bool,
-  cond,
-  ◌&&◌,
-  ◌==◌,
-  Option,
-  Some,
-  None,
-  inl,
-  inr,
-  refl,
-  ap,
-  sym,
-  ◌∙◌,
-  subst,
-  arith,
-  add-one,
-  length-append,
-}
+use Rattle.std.proofs.Common.{◌≡◌, ◌≢◌, ℕ, suc, ◌+◌, ◌≤◌, List, [], ◌∷◌, ◌++◌, length, drop, Bool, cond, ◌&&◌, ◌==◌, Option, Some, None, inl, inr, refl, ap}
+use Rattle.std.proofs.Common.{sym, ◌∙◌, subst, arith, add-one, length-append}
 use Rattle.std.specs.Prelude.{slice_get, slice_set, flat_map, sum_by, count_by, remove}
 use Rattle.std.specs.List.{AllByRecursion}
 use Rattle.std.proofs.lemmas.Bool.{eq-eqb}
@@ -39,23 +10,8 @@ use Rattle.std.proofs.lemmas.Option.{slice_get_within}
 use Rattle.mail_world.specs.declared.Outcome.{Outcome}
 use Rattle.mail_world.specs.declared.Slip.{Slip}
 use Rattle.mail_world.specs.declared.Event.{Event}
-use Rattle.mail_world.specs.declared.Event.TheVariants.{
-  Begin,
-  Put,
-  Cancel,
-  Seal,
-  Split,
-  Offer,
-  HandBack,
-  Collect,
-  Take,
-  Write,
-  Sync,
-  Release,
-  GiveSlip,
-  Reclaim,
-  Close,
-}
+use Rattle.mail_world.specs.declared.Event.TheVariants.{Begin, Put, Cancel, Seal, Split, Offer, HandBack, Collect, Take, Write, Sync, Release, GiveSlip}
+use Rattle.mail_world.specs.declared.Event.TheVariants.{Reclaim, Close}
 use Rattle.mail_world.specs.Slips.{Gather, names, times_named, txn_of, gathered, own_slip, slip_of}
 use Rattle.mail_world.specs.Depot.{Key, Depot, Slot, Draft, Sealed, held_under}
 use Rattle.mail_world.specs.House.{Hold, Post, Copy, Box, SealedMessage, Lane, House, IsFreshLane, IsStart}

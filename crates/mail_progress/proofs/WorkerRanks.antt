@@ -1,29 +1,6 @@
 -- The steps of workers, by rank: one of the rank goes on, or none does.
-use Rattle.std.proofs.Common.{
-  ◌≡◌,
-  ℕ,
-  ◌<◌,
-  ◌≤◌,
-  List,
-  [],
-  ◌∷◌,
-  length,
-  drop,
-  true,
-  false,
-  ◌||◌,
-  Option,
-  Some,
-  None,
-  inl,
-  inr,
-  refl,
-  ap,
-  subst,
-  arith,
-  ◌++◌,
-  length-append,
-}
+use Rattle.std.proofs.Common.{◌≡◌, ℕ, ◌<◌, ◌≤◌, List, [], ◌∷◌, length, drop, true, false, ◌||◌, Option, Some, None, inl, inr, refl, ap, subst, arith, ◌++◌}
+use Rattle.std.proofs.Common.{length-append}
 use Rattle.std.specs.Prelude.{IfSome}
 use Rattle.std.proofs.lemmas.List.{length-drop}
 use Rattle.std.proofs.lemmas.Option.{slice_get_within}
@@ -41,7 +18,7 @@ use Rattle.mail_progress.specs.NothingStuck.{TheWorker}
 use Rattle.mail_progress.specs.InTurn.{rank}
 use Rattle.mail_progress.proofs.Search.{search_for}
 use Rattle.mail_progress.proofs.Reached.{IsReached}
-use Rattle.mail_progress.proofs.Movers.{take_moves, write_moves, release_moves, give_moves}
+use Rattle.mail_progress.proofs.CopyMovers.{take_moves, write_moves, release_moves, give_moves}
 use Rattle.mail_progress.proofs.AllFinished.{goes_on}
 use Rattle.mail_progress.proofs.Ranks.{HasRank, NoRank, IsDecided}
 

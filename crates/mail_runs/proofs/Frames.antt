@@ -1,29 +1,6 @@
 -- What a deed leaves alone: the mailboxes and the lanes that it isn't of.
-use Rattle.std.proofs.Common.{
-  ◌≡◌,
-  ◌≢◌,
-  ℕ,
-  ◌+◌,
-  ◌-◌,
-  ◌<◌,
-  ◌≤◌,
-  ◌==◌,
-  List,
-  [],
-  ◌∷◌,
-  ◌++◌,
-  length,
-  drop,
-  inl,
-  inr,
-  refl,
-  ap,
-  sym,
-  ◌∙◌,
-  subst,
-  arith,
-  length-append,
-}
+use Rattle.std.proofs.Common.{◌≡◌, ◌≢◌, ℕ, ◌+◌, ◌-◌, ◌<◌, ◌≤◌, ◌==◌, List, [], ◌∷◌, ◌++◌, length, drop, inl, inr, refl, ap, sym, ◌∙◌, subst, arith}
+use Rattle.std.proofs.Common.{length-append}
 use Rattle.std.specs.Prelude.{⊤, ◌⊎◌, flat_map, slice_get}
 use Rattle.std.proofs.lemmas.List.Elements.{filter-append}
 use Rattle.std.proofs.lemmas.Grind.{flat_map-append}
@@ -33,27 +10,8 @@ use Rattle.mail_world.specs.declared.Slip.{Slip}
 use Rattle.mail_world.specs.Lists.{Transaction, copies_from}
 use Rattle.mail_world.specs.House.{Lane, Box, notes_of}
 use Rattle.mail_world.specs.Depot.{Depot}
-use Rattle.mail_runs.specs.Deeds.{
-  Deed,
-  Gave,
-  Took,
-  Told,
-  Heard,
-  turns_of,
-  given_in,
-  taken_in,
-  told_in,
-  heard_in,
-  given_by,
-  given_to,
-  taken_by,
-  told_to,
-  heard_by,
-  is_of_worker,
-  worked_by,
-  of_mailbox,
-  slips_to,
-}
+use Rattle.mail_runs.specs.Deeds.{Deed, Gave, Took, Told, Heard, turns_of, given_in, taken_in, told_in, heard_in, given_by, given_to, taken_by, told_to}
+use Rattle.mail_runs.specs.Deeds.{heard_by, is_of_worker, worked_by, of_mailbox, slips_to}
 use Rattle.mail_runs.specs.Courses.{Server, Course}
 use Rattle.mail_runs.specs.Histories.{HearsTold}
 use Rattle.mail_runs.specs.Timed.{is_of_lane}

@@ -1,32 +1,6 @@
 -- What is known of each thread and each channel gives times that agree.
-use Rattle.std.proofs.Common.{
-  ◌≡◌,
-  ℕ,
-  zero,
-  suc,
-  ◌+◌,
-  ◌<◌,
-  ◌≤◌,
-  ◌==◌,
-  if◌then◌else◌,
-  List,
-  [],
-  ◌∷◌,
-  ◌++◌,
-  length,
-  map,
-  filter,
-  Bool,
-  true,
-  false,
-  refl,
-  ap,
-  sym,
-  ◌∙◌,
-  subst,
-  ⊎_elim,
-  arith,
-}
+use Rattle.std.proofs.Common.{◌≡◌, ℕ, zero, suc, ◌+◌, ◌<◌, ◌≤◌, ◌==◌, if◌then◌else◌, List, [], ◌∷◌, ◌++◌, length, map, filter, Bool, true, false, refl, ap, sym}
+use Rattle.std.proofs.Common.{◌∙◌, subst, ⊎_elim, arith}
 use Rattle.std.specs.Prelude.{flat_map}
 use Rattle.std.specs.List.{AllByRecursion}
 use Rattle.std.proofs.lemmas.Bool.{eqb-true}
@@ -40,22 +14,8 @@ use Rattle.mail_world.specs.Lists.{copies}
 use Rattle.mail_runs.specs.Deeds.{Deed, Gave, Took, Told, Heard, given_in, taken_in, told_in, heard_in, of_mailbox, slips_to, is_of_worker, turns_of}
 use Rattle.mail_runs.specs.Courses.{Server, Course, IsCourse}
 use Rattle.mail_runs.specs.Histories.{Threads, IsWithin}
-use Rattle.mail_runs.specs.Timed.{
-  TimedDeed,
-  Timed,
-  whats,
-  times,
-  those,
-  is_of_lane,
-  gives_to,
-  takes_from,
-  tells_to,
-  hears_from,
-  accepted_by,
-  taken_of,
-  RisesTo,
-  AreTimed,
-}
+use Rattle.mail_runs.specs.Timed.{TimedDeed, Timed, whats, times, those, is_of_lane, gives_to, takes_from, tells_to, hears_from, accepted_by, taken_of, RisesTo}
+use Rattle.mail_runs.specs.Timed.{AreTimed}
 use Rattle.mail_runs.specs.Known.{AreLater, times_of, passed, is_of_lanes, is_heard, is_taken, Known, AreKnown, timed_of}
 use Rattle.mail_runs.proofs.Parts.{passes, fails, same_number}
 use Rattle.mail_runs.proofs.ByTime.{low?}

@@ -1,32 +1,7 @@
 -- With one lane all copies can be given first. Then, for each slip that was heard, its worker takes the next copy of its
 -- mailbox and tells the slip, and the lane hears it.
-use Rattle.std.proofs.Common.{
-  ◌≡◌,
-  ◌≢◌,
-  ℕ,
-  ◌+◌,
-  ◌<◌,
-  ◌≤◌,
-  ◌==◌,
-  List,
-  [],
-  ◌∷◌,
-  ◌++◌,
-  length,
-  map,
-  Bool,
-  true,
-  false,
-  cond,
-  refl,
-  ap,
-  sym,
-  ◌∙◌,
-  subst,
-  ⊎_elim,
-  arith,
-  length-append,
-}
+use Rattle.std.proofs.Common.{◌≡◌, ◌≢◌, ℕ, ◌+◌, ◌<◌, ◌≤◌, ◌==◌, List, [], ◌∷◌, ◌++◌, length, map, Bool, true, false, cond, refl, ap, sym, ◌∙◌, subst, ⊎_elim}
+use Rattle.std.proofs.Common.{arith, length-append}
 use Rattle.std.specs.Prelude.{flat_map}
 use Rattle.std.specs.List.{AllByRecursion}
 use Rattle.std.proofs.lemmas.Bool.{eqb-true}
@@ -38,27 +13,8 @@ use Rattle.mail_world.specs.declared.Verdict.{Verdict}
 use Rattle.mail_world.specs.declared.Verdict.TheVariants.{Whole}
 use Rattle.mail_world.specs.Slips.{slip_of, slips_from, of_worker}
 use Rattle.mail_world.specs.Lists.{Transaction, copies, copies_if, copies_from, of_lane}
-use Rattle.mail_runs.specs.Deeds.{
-  Deed,
-  Gave,
-  Took,
-  Told,
-  Heard,
-  turns_of,
-  given_in,
-  taken_in,
-  told_in,
-  heard_in,
-  given_by,
-  given_to,
-  taken_by,
-  told_to,
-  heard_by,
-  is_of_worker,
-  worked_by,
-  of_mailbox,
-  slips_to,
-}
+use Rattle.mail_runs.specs.Deeds.{Deed, Gave, Took, Told, Heard, turns_of, given_in, taken_in, told_in, heard_in, given_by, given_to, taken_by, told_to}
+use Rattle.mail_runs.specs.Deeds.{heard_by, is_of_worker, worked_by, of_mailbox, slips_to}
 use Rattle.mail_runs.specs.Courses.{Server, Spooled, TakesAll}
 use Rattle.mail_runs.specs.Histories.{Threads, RiseAbove, IsWithin, TakesGiven, HearsTold, IsHistory}
 use Rattle.mail_runs.specs.OneLane.{IsOfOneLane}

@@ -14,25 +14,8 @@ use Rattle.mail_world.specs.Site.{Site}
 use Rattle.mail_world.specs.Grammar.{Target}
 use Rattle.mail_world.specs.Commands.{Command, Lhlo, Mail, Rcpt, StartData, Rset, Noop, Quit, Vrfy, Help, is_word, command_at}
 use Rattle.mail_world.specs.Targets.{local_name, is_here, box_or, box_named, user_of, found_or, box_for, box_of}
-use Rattle.mail_world.specs.Session.{
-  Session,
-  fresh,
-  Input,
-  Line,
-  LongLine,
-  DataEnded,
-  Outcomes,
-  Stop,
-  Transition,
-  add_recipient,
-  on_mail,
-  on_rcpt,
-  on_data,
-  on_rset,
-  on_command,
-  on_verdict,
-  step,
-}
+use Rattle.mail_world.specs.Session.{Session, fresh, Input, Line, LongLine, DataEnded, Outcomes, Stop, Transition, add_recipient, on_mail, on_rcpt, on_data}
+use Rattle.mail_world.specs.Session.{on_rset, on_command, on_verdict, step}
 use Rattle.mail_world.specs.Conversation.{Part, CommandLine, MailData, inputs_of, session_after, parts, Conversation}
 use Rattle.mail_world.specs.Lists.{Transaction, accepted_after, transactions_of, transactions, copies, copies_if, copies_from}
 use Rattle.mail_world.proofs.Owed.{accepted_after_part}

@@ -1,32 +1,6 @@
 -- The transactions of a lane rise by their numbers, and the copies of a conversation by these and by their places.
-use Rattle.std.proofs.Common.{
-  ◌≡◌,
-  ℕ,
-  zero,
-  suc,
-  ◌+◌,
-  ◌<◌,
-  ◌≤◌,
-  length,
-  take,
-  drop,
-  List,
-  [],
-  ◌∷◌,
-  ◌++◌,
-  Bool,
-  true,
-  false,
-  cond,
-  Option,
-  Some,
-  None,
-  inl,
-  inr,
-  refl,
-  subst,
-  arith,
-}
+use Rattle.std.proofs.Common.{◌≡◌, ℕ, zero, suc, ◌+◌, ◌<◌, ◌≤◌, length, take, drop, List, [], ◌∷◌, ◌++◌, Bool, true, false, cond, Option, Some, None, inl, inr}
+use Rattle.std.proofs.Common.{refl, subst, arith}
 use Rattle.std.specs.Prelude.{⊤, ◌⊎◌, flat_map, option_map, if◌then◌else◌}
 use Rattle.std.specs.List.{AllByRecursion}
 use Rattle.mail_world.specs.declared.Note.{Note}
@@ -37,20 +11,8 @@ use Rattle.mail_world.specs.declared.State.TheVariants.{Fresh, Greeted, Sender, 
 use Rattle.mail_world.specs.Text.{crlf, place_of}
 use Rattle.mail_world.specs.Site.{Site}
 use Rattle.mail_world.specs.Session.{Session, fresh}
-use Rattle.mail_world.specs.Conversation.{
-  Disposition,
-  Part,
-  CommandLine,
-  MailData,
-  Cut,
-  cut,
-  cut_then,
-  inputs_of,
-  session_after,
-  parts_within,
-  parts,
-  Conversation,
-}
+use Rattle.mail_world.specs.Conversation.{Disposition, Part, CommandLine, MailData, Cut, cut, cut_then, inputs_of, session_after, parts_within, parts}
+use Rattle.mail_world.specs.Conversation.{Conversation}
 use Rattle.mail_world.specs.Lists.{Transaction, is_content, accepted_after, transactions_of, transactions, copies, copies_if, copies_from}
 use Rattle.mail_world.proofs.Owed.{accepted_after_part, same_after_data}
 use Rattle.mail_runs.specs.Histories.{RiseAbove}

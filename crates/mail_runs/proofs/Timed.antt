@@ -1,35 +1,6 @@
 -- The deeds of all threads, merged by time, are a history.
-use Rattle.std.proofs.Common.{
-  ◌≡◌,
-  ◌≢◌,
-  ◌⊎◌,
-  ℕ,
-  ◌+◌,
-  ◌<◌,
-  ◌≤◌,
-  ◌==◌,
-  List,
-  [],
-  ◌∷◌,
-  ◌++◌,
-  length,
-  map,
-  filter,
-  Bool,
-  true,
-  false,
-  refl,
-  ap,
-  sym,
-  ◌∙◌,
-  subst,
-  ⊎_elim,
-  inl,
-  inr,
-  append-nil,
-  arith,
-  length-append,
-}
+use Rattle.std.proofs.Common.{◌≡◌, ◌≢◌, ◌⊎◌, ℕ, ◌+◌, ◌<◌, ◌≤◌, ◌==◌, List, [], ◌∷◌, ◌++◌, length, map, filter, Bool, true, false, refl, ap, sym, ◌∙◌, subst}
+use Rattle.std.proofs.Common.{⊎_elim, inl, inr, append-nil, arith, length-append}
 use Rattle.std.specs.Prelude.{flat_map}
 use Rattle.std.specs.List.{AllByRecursion}
 use Rattle.std.proofs.lemmas.Bool.{eqb-true}
@@ -37,65 +8,15 @@ use Rattle.std.proofs.lemmas.List.Elements.{filter-append}
 use Rattle.mail_world.specs.declared.Note.{Note}
 use Rattle.mail_world.specs.declared.Slip.{Slip}
 use Rattle.mail_world.specs.declared.Outcome.{Outcome}
-use Rattle.mail_runs.specs.Deeds.{
-  Deed,
-  Gave,
-  Took,
-  Told,
-  Heard,
-  given_in,
-  taken_in,
-  told_in,
-  heard_in,
-  given_by,
-  given_to,
-  taken_by,
-  told_to,
-  heard_by,
-  is_of_worker,
-  turns_of,
-}
+use Rattle.mail_runs.specs.Deeds.{Deed, Gave, Took, Told, Heard, given_in, taken_in, told_in, heard_in, given_by, given_to, taken_by, told_to, heard_by}
+use Rattle.mail_runs.specs.Deeds.{is_of_worker, turns_of}
 use Rattle.mail_runs.specs.Courses.{Server}
 use Rattle.mail_runs.specs.Histories.{Threads, IsWithin, TakesGiven, HearsTold, IsHistory}
-use Rattle.mail_runs.specs.Timed.{
-  TimedDeed,
-  Passed,
-  Timed,
-  whats,
-  those,
-  is_of_lane,
-  gives_to,
-  takes_from,
-  tells_to,
-  hears_from,
-  accepted_by,
-  taken_of,
-  AreTimed,
-}
+use Rattle.mail_runs.specs.Timed.{TimedDeed, Passed, Timed, whats, those, is_of_lane, gives_to, takes_from, tells_to, hears_from, accepted_by, taken_of}
+use Rattle.mail_runs.specs.Timed.{AreTimed}
 use Rattle.mail_runs.proofs.Parts.{passes, fails, same_number, other_number}
-use Rattle.mail_runs.proofs.ByTime.{
-  upto,
-  filter_apart,
-  filter_within,
-  all_filter,
-  all_both,
-  all_upto,
-  filter_upto,
-  upto_same,
-  here,
-  Rises,
-  whole,
-  all_at_time,
-  none_at_time,
-  only_at_time,
-  HasOwner,
-  parts_make,
-  ats,
-  ClimbsTo,
-  climbs_lists,
-  climbs_pair,
-  climbs_until,
-}
+use Rattle.mail_runs.proofs.ByTime.{upto, filter_apart, filter_within, all_filter, all_both, all_upto, filter_upto, upto_same, here, Rises, whole, all_at_time}
+use Rattle.mail_runs.proofs.ByTime.{none_at_time, only_at_time, HasOwner, parts_make, ats, ClimbsTo, climbs_lists, climbs_pair, climbs_until}
 use Rattle.mail_runs.proofs.Parted.{at, Cut, cut_at, Parted, parted, no_more_taken}
 use Rattle.mail_runs.proofs.OneLane.{many}
 

@@ -1,29 +1,6 @@
 -- The dispositions of a conversation's transactions are those of its account.
-use Rattle.std.proofs.Common.{
-  ◌≡◌,
-  ℕ,
-  zero,
-  suc,
-  ◌+◌,
-  take,
-  drop,
-  List,
-  [],
-  ◌∷◌,
-  ◌++◌,
-  length,
-  Option,
-  Some,
-  None,
-  refl,
-  sym,
-  ap,
-  ◌∙◌,
-  subst,
-  arith,
-  append_assoc,
-  length-append,
-}
+use Rattle.std.proofs.Common.{◌≡◌, ℕ, zero, suc, ◌+◌, take, drop, List, [], ◌∷◌, ◌++◌, length, Option, Some, None, refl, sym, ap, ◌∙◌, subst, arith}
+use Rattle.std.proofs.Common.{append_assoc, length-append}
 use Rattle.std.specs.Prelude.{map, option_map}
 use Rattle.std.proofs.lemmas.List.{append-nil}
 use Rattle.mail_world.specs.declared.State.{State}
@@ -32,21 +9,8 @@ use Rattle.mail_world.specs.Text.{crlf, place_of}
 use Rattle.mail_world.specs.Data.{data_end}
 use Rattle.mail_world.specs.Site.{Site}
 use Rattle.mail_world.specs.Session.{Session, fresh}
-use Rattle.mail_world.specs.Conversation.{
-  Disposition,
-  Part,
-  CommandLine,
-  MailData,
-  Cut,
-  cut,
-  cut_then,
-  inputs_of,
-  session_after,
-  parts_within,
-  parts,
-  Conversation,
-  IsAccount,
-}
+use Rattle.mail_world.specs.Conversation.{Disposition, Part, CommandLine, MailData, Cut, cut, cut_then, inputs_of, session_after, parts_within, parts}
+use Rattle.mail_world.specs.Conversation.{Conversation, IsAccount}
 use Rattle.mail_world.specs.Dispositions.{disposition_of, dispositions_of}
 use Rattle.mail_world.specs.Lists.{transactions_of}
 use Rattle.mail_world.proofs.Handled.{counted}

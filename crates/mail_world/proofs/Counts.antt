@@ -1,31 +1,6 @@
 -- How many of the copies that a mailbox took were settled.
-use Rattle.std.proofs.Common.{
-  ◌≡◌,
-  ℕ,
-  suc,
-  ◌+◌,
-  ◌-◌,
-  ◌≤◌,
-  ◌<◌,
-  List,
-  length,
-  Bool,
-  true,
-  false,
-  not,
-  ◌||◌,
-  Option,
-  Some,
-  None,
-  inl,
-  inr,
-  refl,
-  sym,
-  ◌∙◌,
-  subst,
-  arith,
-  add-one,
-}
+use Rattle.std.proofs.Common.{◌≡◌, ℕ, suc, ◌+◌, ◌-◌, ◌≤◌, ◌<◌, List, length, Bool, true, false, not, ◌||◌, Option, Some, None, inl, inr, refl, sym, ◌∙◌, subst}
+use Rattle.std.proofs.Common.{arith, add-one}
 use Rattle.std.proofs.lemmas.Bool.{or_parts}
 use Rattle.mail_world.specs.declared.Note.{Note}
 use Rattle.mail_world.specs.Records.{record_of}

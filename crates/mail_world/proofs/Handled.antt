@@ -1,30 +1,6 @@
 -- What an engine has handled of the bytes of a conversation: parts at their beginning, and what goes on from there.
-use Rattle.std.proofs.Common.{
-  ◌≡◌,
-  ℕ,
-  cond,
-  ◌+◌,
-  ◌≤◌,
-  List,
-  [],
-  ◌∷◌,
-  ◌++◌,
-  length,
-  take,
-  drop,
-  Some,
-  None,
-  refl,
-  sym,
-  ap,
-  ◌∙◌,
-  arith,
-  append_assoc,
-  length-drop,
-  length-append,
-  drop-drop,
-  length-take-le,
-}
+use Rattle.std.proofs.Common.{◌≡◌, ℕ, cond, ◌+◌, ◌≤◌, List, [], ◌∷◌, ◌++◌, length, take, drop, Some, None, refl, sym, ap, ◌∙◌, arith, append_assoc, length-drop}
+use Rattle.std.proofs.Common.{length-append, drop-drop, length-take-le}
 use Rattle.std.specs.Prelude.{option_map, flat_map, sum_by, count_by, false, ⊤}
 use Rattle.std.proofs.lemmas.List.{append-nil}
 use Rattle.std.proofs.lemmas.Grind.{flat_map-append}
@@ -36,29 +12,8 @@ use Rattle.mail_world.specs.Text.{crlf, place_of}
 use Rattle.mail_world.specs.Data.{data_end, end_of_data}
 use Rattle.mail_world.specs.Site.{Site}
 use Rattle.mail_world.specs.Session.{Session, fresh, Input, step}
-use Rattle.mail_world.specs.Conversation.{
-  Disposition,
-  Part,
-  CommandLine,
-  MailData,
-  cut_line,
-  cut,
-  cut_then,
-  inputs_of,
-  session_after,
-  replies_to,
-  parts,
-  session_after_parts,
-  size_of,
-  is_data,
-  OutcomesFit,
-  AllFit,
-  NoDataEnded,
-  Conversation,
-  stop_at,
-  inputs,
-  IsAccount,
-}
+use Rattle.mail_world.specs.Conversation.{Disposition, Part, CommandLine, MailData, cut_line, cut, cut_then, inputs_of, session_after, replies_to, parts}
+use Rattle.mail_world.specs.Conversation.{session_after_parts, size_of, is_data, OutcomesFit, AllFit, NoDataEnded, Conversation, stop_at, inputs, IsAccount}
 use Rattle.mail_world.specs.Dispositions.{disposition_of, dispositions_of}
 use Rattle.mail_world.proofs.Places.{place_of_stands}
 use Rattle.mail_world.proofs.Cuts.{parts-cut}

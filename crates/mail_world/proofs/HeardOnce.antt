@@ -1,57 +1,15 @@
--- What a lane heard names each transaction and place at most once: each copy that was given away is on its way to a worker's slip, has its slip in the lane's channel, or was heard of.
-use Rattle.std.proofs.Common.{
-  ◌≡◌,
-  ◌≢◌,
-  ℕ,
-  suc,
-  ◌+◌,
-  ◌-◌,
-  ◌≤◌,
-  List,
-  [],
-  ◌∷◌,
-  ◌++◌,
-  drop,
-  Bool,
-  true,
-  false,
-  cond,
-  ◌==◌,
-  Some,
-  None,
-  inl,
-  inr,
-  refl,
-  ap,
-  sym,
-  ◌∙◌,
-  subst,
-  arith,
-  add-one,
-}
+-- What a lane heard names each transaction and place at most once: each copy that was given away is on its way to a
+-- worker's slip, has its slip in the lane's channel, or was heard of.
+use Rattle.std.proofs.Common.{◌≡◌, ◌≢◌, ℕ, suc, ◌+◌, ◌-◌, ◌≤◌, List, [], ◌∷◌, ◌++◌, drop, Bool, true, false, cond, ◌==◌, Some, None, inl, inr, refl, ap, sym}
+use Rattle.std.proofs.Common.{◌∙◌, subst, arith, add-one}
 use Rattle.std.specs.Prelude.{slice_get, slice_set, flat_map, count_by}
 use Rattle.mail_world.specs.declared.Txn.{Txn}
 use Rattle.mail_world.specs.declared.Slip.{Slip}
 use Rattle.mail_world.specs.Slips.{names, times_named, gather_for, txn_of, own_slip, slip_of}
 use Rattle.mail_world.specs.House.{Post, Copy, Box, Lane, House, IsFreshBox, IsFreshLane, IsStart}
 use Rattle.mail_world.specs.declared.Event.{Event}
-use Rattle.mail_world.specs.declared.Event.TheVariants.{
-  Begin,
-  Put,
-  Cancel,
-  Seal,
-  Split,
-  Offer,
-  HandBack,
-  Collect,
-  Take,
-  Write,
-  Sync,
-  Release,
-  GiveSlip,
-  Reclaim,
-  Close,
-}
+use Rattle.mail_world.specs.declared.Event.TheVariants.{Begin, Put, Cancel, Seal, Split, Offer, HandBack, Collect, Take, Write, Sync, Release, GiveSlip}
+use Rattle.mail_world.specs.declared.Event.TheVariants.{Reclaim, Close}
 use Rattle.mail_world.specs.Events.{Step, LaneIs, BoxIs, without_copy, sealed_up_to, with_heard, outcome_of}
 use Rattle.mail_world.specs.Runs.{Happened, Run, last_house, finished_by, HearsOnce}
 use Rattle.mail_world.proofs.Accepted.{get_set, each_at}
@@ -59,19 +17,8 @@ use Rattle.mail_world.proofs.Spools.{AllSound, sound_step, sound_fresh, held}
 use Rattle.mail_world.proofs.Depots.{total_set}
 use Rattle.mail_world.proofs.Holds.{drop_get}
 use Rattle.mail_world.proofs.Once.{is_copy, every_run_is_once}
-use Rattle.mail_world.proofs.GivenAway.{
-  count-append,
-  count-cons,
-  count_one_more,
-  AreGiven,
-  given_fewer,
-  given_none,
-  given_seal,
-  given_back,
-  given_offer,
-  given_elsewhere,
-  given_once,
-}
+use Rattle.mail_world.proofs.GivenAway.{count-append, count-cons, count_one_more, AreGiven, given_fewer, given_none, given_seal, given_back, given_offer}
+use Rattle.mail_world.proofs.GivenAway.{given_elsewhere, given_once}
 
 -- the copies on their way, in a mailbox and in all
 abbrev on_way : Box → List Post

@@ -1,39 +1,6 @@
 -- What a lane heard is what it collected of its channel's slips, and between them its own slips, one for each copy that it handed back.
-use Rattle.std.proofs.Common.{
-  ◌≡◌,
-  ◌≢◌,
-  ℕ,
-  ◌+◌,
-  ◌<◌,
-  ◌≤◌,
-  ◌⊎◌,
-  List,
-  [],
-  ◌∷◌,
-  ◌++◌,
-  length,
-  take,
-  map,
-  Bool,
-  true,
-  false,
-  cond,
-  ◌==◌,
-  Some,
-  None,
-  inl,
-  inr,
-  refl,
-  ap,
-  sym,
-  ◌∙◌,
-  subst,
-  append_assoc,
-  append-nil,
-  arith,
-  add-one,
-  length-append,
-}
+use Rattle.std.proofs.Common.{◌≡◌, ◌≢◌, ℕ, ◌+◌, ◌<◌, ◌≤◌, ◌⊎◌, List, [], ◌∷◌, ◌++◌, length, take, map, Bool, true, false, cond, ◌==◌, Some, None, inl, inr}
+use Rattle.std.proofs.Common.{refl, ap, sym, ◌∙◌, subst, append_assoc, append-nil, arith, add-one, length-append}
 use Rattle.std.specs.Prelude.{slice_get, slice_set, count_by}
 use Rattle.std.specs.List.{AllByRecursion}
 use Rattle.std.proofs.lemmas.Bool.{eq-eqb}
@@ -46,37 +13,11 @@ use Rattle.mail_world.specs.Slips.{names, times_named, gather_for, txn_of, own_s
 use Rattle.mail_world.specs.Depot.{Key}
 use Rattle.mail_world.specs.House.{Post, Box, SealedMessage, Lane, House, IsFreshBox, IsFreshLane, IsStart}
 use Rattle.mail_world.specs.declared.Event.{Event}
-use Rattle.mail_world.specs.declared.Event.TheVariants.{
-  Begin,
-  Put,
-  Cancel,
-  Seal,
-  Split,
-  Offer,
-  HandBack,
-  Collect,
-  Take,
-  Write,
-  Sync,
-  Release,
-  GiveSlip,
-  Reclaim,
-  Close,
-}
+use Rattle.mail_world.specs.declared.Event.TheVariants.{Begin, Put, Cancel, Seal, Split, Offer, HandBack, Collect, Take, Write, Sync, Release, GiveSlip}
+use Rattle.mail_world.specs.declared.Event.TheVariants.{Reclaim, Close}
 use Rattle.mail_world.specs.Events.{Step, LaneIs, BoxIs, without_copy, sealed_up_to, with_heard, outcome_of}
-use Rattle.mail_world.specs.Runs.{
-  Happened,
-  Run,
-  last_house,
-  events_of,
-  times_copied,
-  is_collect,
-  handed_back_by,
-  handed_back,
-  IsOfMessage,
-  IsHandedBack,
-  HasHeard,
-}
+use Rattle.mail_world.specs.Runs.{Happened, Run, last_house, events_of, times_copied, is_collect, handed_back_by, handed_back, IsOfMessage, IsHandedBack}
+use Rattle.mail_world.specs.Runs.{HasHeard}
 use Rattle.mail_world.proofs.OneLine.{other_byte}
 use Rattle.mail_world.proofs.Accepted.{get_set, each_at}
 use Rattle.mail_world.proofs.Spools.{take_one_more, slice_get-append}
@@ -85,18 +26,8 @@ use Rattle.mail_world.proofs.Depots.{set_at, set_past}
 use Rattle.mail_world.proofs.WrongSteps.{same_some}
 use Rattle.mail_world.proofs.Holds.{all_of}
 use Rattle.mail_world.proofs.Once.{accepted_in, is_copy, times_same, times_offer, IsOnce, every_run_is_once}
-use Rattle.mail_world.proofs.GivenAway.{
-  count-append,
-  count_some,
-  AreGiven,
-  given_fewer,
-  given_none,
-  given_seal,
-  given_back,
-  given_offer,
-  given_elsewhere,
-  given_once,
-}
+use Rattle.mail_world.proofs.GivenAway.{count-append, count_some, AreGiven, given_fewer, given_none, given_seal, given_back, given_offer, given_elsewhere}
+use Rattle.mail_world.proofs.GivenAway.{given_once}
 
 pub same_or_not : (k at : ℕ) → (k ≡ at) ⊎ (k ≢ at)
 same_or_not k at = grind arith

@@ -12,25 +12,8 @@ use Rattle.mail_world.specs.Events.{with_heard, with_taken, without_copy, sealed
 use Rattle.mail_world.specs.Runs.{Happened, Run, HasSpoolAndPlaces, HasHeardSlips}
 use Rattle.mail_world.specs.Rows.{calendar, site}
 use Rattle.mail_world.proofs.Computed.{everything}
-use Rattle.mail_world.proofs.OneHouse.{
-  bytes,
-  key,
-  only_copy,
-  just_taken,
-  box₀,
-  with_draft,
-  with_bytes,
-  lane_sealed,
-  with_message,
-  then',
-  split,
-  each_once,
-  starts,
-  fresh,
-  begins,
-  puts,
-  seals,
-}
+use Rattle.mail_world.proofs.OneHouse.{bytes, key, only_copy, just_taken, box₀, with_draft, with_bytes, lane_sealed, with_message, then', split, each_once}
+use Rattle.mail_world.proofs.OneHouse.{starts, fresh, begins, puts, seals}
 
 abbrev next : Key
 next = record { slot = 0; generation = 1 }

@@ -1,44 +1,6 @@
 -- What is read as a path is spelled so.
-use Rattle.std.proofs.Common.{
-  ◌≡◌,
-  ◌≢◌,
-  ℕ,
-  suc,
-  ◌+◌,
-  ◌-◌,
-  ◌<◌,
-  ◌≤◌,
-  List,
-  [],
-  ◌∷◌,
-  ◌++◌,
-  length,
-  take,
-  drop,
-  map,
-  Bool,
-  true,
-  false,
-  cond,
-  not,
-  ◌&&◌,
-  ◌||◌,
-  ◌==◌,
-  Option,
-  Some,
-  None,
-  inl,
-  inr,
-  refl,
-  ap,
-  sym,
-  ◌∙◌,
-  subst,
-  append_assoc,
-  arith,
-  length-append,
-  add-one,
-}
+use Rattle.std.proofs.Common.{◌≡◌, ◌≢◌, ℕ, suc, ◌+◌, ◌-◌, ◌<◌, ◌≤◌, List, [], ◌∷◌, ◌++◌, length, take, drop, map, Bool, true, false, cond, not, ◌&&◌, ◌||◌}
+use Rattle.std.proofs.Common.{◌==◌, Option, Some, None, inl, inr, refl, ap, sym, ◌∙◌, subst, append_assoc, arith, length-append, add-one}
 use Rattle.std.specs.Prelude.{option_map, option_and_then, nat_le, nat_lt}
 use Rattle.std.specs.List.{list_all, prefix_len, join_with_byte, slice_split, onto_first, before_first, after_first, AllByRecursion}
 use Rattle.std.specs.Str.{byte}
@@ -49,43 +11,11 @@ use Rattle.std.proofs.lemmas.List.Splits.{join_with_byte-slice_split}
 use Rattle.std.proofs.lemmas.Bool.{eqb-true, eqb-false, or_parts}
 use Rattle.std.proofs.lemmas.Bool.Decides.{nat_tests}
 use Rattle.mail_world.specs.Text.{has_byte, begins}
-use Rattle.mail_world.specs.Grammar.{
-  is_between,
-  is_plain,
-  is_of_domain,
-  is_of_literal,
-  is_domain,
-  Target,
-  IsSomeOf,
-  IsQuotedText,
-  IsLocalPart,
-  IsLiteral,
-  IsHostPart,
-  IsMailbox,
-  local_text,
-  host_text,
-  mailbox_text,
-  route_text,
-}
+use Rattle.mail_world.specs.Grammar.{is_between, is_plain, is_of_domain, is_of_literal, is_domain, Target, IsSomeOf, IsQuotedText, IsLocalPart, IsLiteral}
+use Rattle.mail_world.specs.Grammar.{IsHostPart, IsMailbox, local_text, host_text, mailbox_text, route_text}
 use Rattle.mail_world.specs.declared.limits.TheConstants.{PATH_LIMIT}
-use Rattle.mail_world.specs.Paths.{
-  quoted_len,
-  Found,
-  some_prefix,
-  plain_local,
-  quoted_local,
-  domain_at,
-  literal_at,
-  host_at,
-  with_host,
-  mailbox_at,
-  is_hop,
-  after_route,
-  Path,
-  closed_at,
-  forward_path,
-  IsPathRead,
-}
+use Rattle.mail_world.specs.Paths.{quoted_len, Found, some_prefix, plain_local, quoted_local, domain_at, literal_at, host_at, with_host, mailbox_at, is_hop}
+use Rattle.mail_world.specs.Paths.{after_route, Path, closed_at, forward_path, IsPathRead}
 use Rattle.mail_world.proofs.PathsSpelled.{and_parts}
 
 -- what a test or a step that gave a value says

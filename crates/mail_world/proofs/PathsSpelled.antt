@@ -1,77 +1,16 @@
 -- What is spelled as a path is read as that path, whatever follows it.
-use Rattle.std.proofs.Common.{
-  ◌≡◌,
-  ℕ,
-  ◌+◌,
-  ◌-◌,
-  ◌<◌,
-  ◌≤◌,
-  List,
-  [],
-  ◌∷◌,
-  ◌++◌,
-  length,
-  drop,
-  map,
-  Bool,
-  true,
-  false,
-  not,
-  ◌&&◌,
-  ◌==◌,
-  Option,
-  Some,
-  None,
-  inl,
-  inr,
-  refl,
-  ap,
-  sym,
-  ◌∙◌,
-  append_assoc,
-  arith,
-  length-append,
-  add-one,
-}
+use Rattle.std.proofs.Common.{◌≡◌, ℕ, ◌+◌, ◌-◌, ◌<◌, ◌≤◌, List, [], ◌∷◌, ◌++◌, length, drop, map, Bool, true, false, not, ◌&&◌, ◌==◌, Option, Some, None, inl}
+use Rattle.std.proofs.Common.{inr, refl, ap, sym, ◌∙◌, append_assoc, arith, length-append, add-one}
 use Rattle.std.specs.Prelude.{option_and_then, nat_le, nat_lt}
 use Rattle.std.specs.List.{list_all, prefix_len, join_with_byte, slice_split, before_first, after_first, AllByRecursion}
 use Rattle.std.specs.Str.{byte}
 use Rattle.std.proofs.Math.Seq.{take-append_seam, drop-append_seam, drop-append-add}
 use Rattle.mail_world.specs.Text.{has_byte, begins}
-use Rattle.mail_world.specs.Grammar.{
-  is_between,
-  is_plain,
-  is_of_domain,
-  is_of_literal,
-  is_domain,
-  Target,
-  IsSomeOf,
-  IsQuotedText,
-  IsLocalPart,
-  IsHostPart,
-  local_text,
-  host_text,
-  mailbox_text,
-  route_text,
-  IsPath,
-  path_text,
-}
+use Rattle.mail_world.specs.Grammar.{is_between, is_plain, is_of_domain, is_of_literal, is_domain, Target, IsSomeOf, IsQuotedText, IsLocalPart, IsHostPart}
+use Rattle.mail_world.specs.Grammar.{local_text, host_text, mailbox_text, route_text, IsPath, path_text}
 use Rattle.mail_world.specs.declared.limits.TheConstants.{PATH_LIMIT}
-use Rattle.mail_world.specs.Paths.{
-  quoted_len,
-  some_prefix,
-  plain_local,
-  quoted_local,
-  domain_at,
-  literal_at,
-  host_at,
-  with_host,
-  mailbox_at,
-  is_hop,
-  after_route,
-  closed_at,
-  forward_path,
-}
+use Rattle.mail_world.specs.Paths.{quoted_len, some_prefix, plain_local, quoted_local, domain_at, literal_at, host_at, with_host, mailbox_at, is_hop}
+use Rattle.mail_world.specs.Paths.{after_route, closed_at, forward_path}
 use Rattle.std.proofs.Math.Bool.{or-true}
 use Rattle.std.proofs.lemmas.Bool.{eq-eqb}
 use Rattle.std.proofs.lemmas.List.Folds.{list_all-append}

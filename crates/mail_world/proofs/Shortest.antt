@@ -1,29 +1,6 @@
 -- No data that is read as a message is shorter than what a client sends for it.
-use Rattle.std.proofs.Common.{
-  ◌≡◌,
-  ℕ,
-  suc,
-  ◌+◌,
-  ◌≤◌,
-  List,
-  [],
-  ◌∷◌,
-  length,
-  take,
-  Bool,
-  true,
-  false,
-  cond,
-  ◌&&◌,
-  ◌==◌,
-  Some,
-  refl,
-  ap,
-  sym,
-  ◌∙◌,
-  arith,
-  length-append,
-}
+use Rattle.std.proofs.Common.{◌≡◌, ℕ, suc, ◌+◌, ◌≤◌, List, [], ◌∷◌, length, take, Bool, true, false, cond, ◌&&◌, ◌==◌, Some, refl, ap, sym, ◌∙◌, arith}
+use Rattle.std.proofs.Common.{length-append}
 use Rattle.std.specs.Prelude.{unwrap_or}
 use Rattle.std.proofs.lemmas.Bool.{eqb-true}
 use Rattle.std.proofs.lemmas.List.{length-take-le}

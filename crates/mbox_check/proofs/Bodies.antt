@@ -1,31 +1,6 @@
 -- A letter that has begun: more lines, its end, the next letter.
-use Rattle.std.proofs.Common.{
-  ◌≡◌,
-  inl,
-  inr,
-  ℕ,
-  suc,
-  Bool,
-  true,
-  false,
-  cond,
-  ◌&&◌,
-  ◌==◌,
-  List,
-  [],
-  ◌∷◌,
-  ◌++◌,
-  map,
-  length,
-  sym,
-  ap,
-  subst,
-  ◌∙◌,
-  refl,
-  append_assoc,
-  append-nil,
-  true≢false,
-}
+use Rattle.std.proofs.Common.{◌≡◌, inl, inr, ℕ, suc, Bool, true, false, cond, ◌&&◌, ◌==◌, List, [], ◌∷◌, ◌++◌, map, length, sym, ap, subst, ◌∙◌, refl}
+use Rattle.std.proofs.Common.{append_assoc, append-nil, true≢false}
 use Rattle.std.specs.Prelude.{codes}
 use Rattle.std.specs.Str.{byte}
 use Rattle.std.proofs.lemmas.Bool.{and_parts, or_from, eqb-true}

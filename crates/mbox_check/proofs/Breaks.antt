@@ -1,31 +1,6 @@
 -- The place that breaks the form.
-use Rattle.std.proofs.Common.{
-  ◌≡◌,
-  inl,
-  inr,
-  ℕ,
-  suc,
-  ◌+◌,
-  arith,
-  true,
-  false,
-  ◌==◌,
-  List,
-  [],
-  ◌∷◌,
-  ◌++◌,
-  length,
-  take,
-  None,
-  sym,
-  ap,
-  subst,
-  ◌∙◌,
-  refl,
-  append_assoc,
-  append-nil,
-  true≢false,
-}
+use Rattle.std.proofs.Common.{◌≡◌, inl, inr, ℕ, suc, ◌+◌, arith, true, false, ◌==◌, List, [], ◌∷◌, ◌++◌, length, take, None, sym, ap, subst, ◌∙◌, refl}
+use Rattle.std.proofs.Common.{append_assoc, append-nil, true≢false}
 use Rattle.std.specs.Prelude.{codes}
 use Rattle.std.proofs.lemmas.List.{length-append, take_all}
 use Rattle.mail_world.specs.Counts.{counted}

@@ -1,31 +1,6 @@
 -- The letters of a mailbox, read one by one.
-use Rattle.std.proofs.Common.{
-  ◌≡◌,
-  ◌≢◌,
-  ◌⊎◌,
-  inl,
-  inr,
-  ℕ,
-  ◌-◌,
-  length,
-  take,
-  drop,
-  arith,
-  true,
-  false,
-  Result,
-  Err,
-  List,
-  [],
-  ◌∷◌,
-  ◌++◌,
-  map,
-  sym,
-  ap,
-  ◌∙◌,
-  refl,
-  append_assoc,
-}
+use Rattle.std.proofs.Common.{◌≡◌, ◌≢◌, ◌⊎◌, inl, inr, ℕ, ◌-◌, length, take, drop, arith, true, false, Result, Err, List, [], ◌∷◌, ◌++◌, map, sym, ap, ◌∙◌}
+use Rattle.std.proofs.Common.{refl, append_assoc}
 use Rattle.std.specs.Prelude.{codes}
 use Rattle.std.specs.List.{AllByRecursion}
 use Rattle.std.proofs.lemmas.List.{append_cancel_left}

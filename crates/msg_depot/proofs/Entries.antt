@@ -1,33 +1,6 @@
 -- What an event on the arena does to the entries that the keeper's seat knows.
-use Rattle.std.proofs.Common.{
-  ◌≡◌,
-  ℕ,
-  zero,
-  suc,
-  ◌+◌,
-  ◌<◌,
-  ◌≤◌,
-  List,
-  [],
-  ◌∷◌,
-  ◌++◌,
-  Bool,
-  true,
-  false,
-  cond,
-  ◌==◌,
-  Some,
-  length,
-  map,
-  get_or,
-  sym,
-  ap,
-  ◌∙◌,
-  subst,
-  refl,
-  arith,
-  length-set,
-}
+use Rattle.std.proofs.Common.{◌≡◌, ℕ, zero, suc, ◌+◌, ◌<◌, ◌≤◌, List, [], ◌∷◌, ◌++◌, Bool, true, false, cond, ◌==◌, Some, length, map, get_or, sym, ap, ◌∙◌}
+use Rattle.std.proofs.Common.{subst, refl, arith, length-set}
 use Rattle.std.specs.Prelude.{slice_get, slice_set, nat_lt, replicate}
 use Rattle.std.proofs.lemmas.List.{map-set, get_or-map, set-set, length-map}
 use Rattle.std.proofs.lemmas.Option.{slice_get_within, slice_get-get_or, get_or_from_slice_get, same_Some}
@@ -35,24 +8,8 @@ use Rattle.std.proofs.lemmas.Bool.{eq-eqb}
 use Rattle.atomic_table.specs.Table.{Me}
 use Rattle.atomic_table.specs.Seated.{TableId}
 use Rattle.mail_world.specs.Depot as d
-use Rattle.mail_world.specs.Depot.{
-  Depot,
-  Slot,
-  Key,
-  Held,
-  held_under,
-  last_generation,
-  HasEachBlockOnce,
-  Begins,
-  Puts,
-  Seals,
-  GivesBack,
-  Reclaims,
-  Releases,
-  weight_held,
-  weight_under,
-  blocks_of,
-}
+use Rattle.mail_world.specs.Depot.{Depot, Slot, Key, Held, held_under, last_generation, HasEachBlockOnce, Begins, Puts, Seals, GivesBack, Reclaims, Releases}
+use Rattle.mail_world.specs.Depot.{weight_held, weight_under, blocks_of}
 use Rattle.mail_world.proofs.Depots.{used, begins_turn, puts_turn, seals_turn, drops_turn, releases_turn}
 use Rattle.mail_world.proofs.Holds.{part_own}
 use Rattle.block_arena.specs.Calls.{ReleasesAll, IsGivenBack}

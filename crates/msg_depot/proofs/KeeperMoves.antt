@@ -1,35 +1,6 @@
 -- The steps of the keeper's seat keep the rule.
-use Rattle.std.proofs.Common.{
-  ◌≡◌,
-  ◌≢◌,
-  ℕ,
-  zero,
-  suc,
-  ◌+◌,
-  ◌*◌,
-  ◌%◌,
-  ◌^◌,
-  ◌<◌,
-  ◌≤◌,
-  eqb,
-  List,
-  [],
-  ◌∷◌,
-  ◌++◌,
-  length,
-  replicate,
-  set,
-  get_or,
-  Bool,
-  true,
-  refl,
-  sym,
-  ap,
-  ◌∙◌,
-  subst,
-  ⊎_elim,
-  arith,
-}
+use Rattle.std.proofs.Common.{◌≡◌, ◌≢◌, ℕ, zero, suc, ◌+◌, ◌*◌, ◌%◌, ◌^◌, ◌<◌, ◌≤◌, eqb, List, [], ◌∷◌, ◌++◌, length, replicate, set, get_or, Bool, true, refl}
+use Rattle.std.proofs.Common.{sym, ap, ◌∙◌, subst, ⊎_elim, arith}
 use Rattle.std.proofs.lemmas.List.{set-get_or, length-replicate, get_or-replicate}
 use mathlib.Core.Option.{none, some, some-injective, some-ne-none}
 use lib.ListN.{get_elem?}
@@ -47,29 +18,8 @@ use Rattle.msg_depot.specs.declared.view.Kind.{Kind}
 use Rattle.msg_depot.specs.declared.view.Kind.TheVariants.{Nothing, Draft, Spent}
 use Rattle.msg_depot.specs.declared.view.Phase.{Phase}
 use Rattle.msg_depot.specs.declared.view.Phase.TheVariants.{Free, Drafted, Sealed, Retired}
-use Rattle.msg_depot.specs.Rules.{
-  ObeysHoldRule,
-  MatchesEntry,
-  IsWordOf,
-  Used,
-  weight,
-  drafts,
-  spents,
-  draft_of,
-  spent_of,
-  at,
-  when,
-  total,
-  positive,
-  token,
-  keeping,
-  resting,
-  nobody,
-  entry,
-  phase_of,
-  free_slots,
-  word_of,
-}
+use Rattle.msg_depot.specs.Rules.{ObeysHoldRule, MatchesEntry, IsWordOf, Used, weight, drafts, spents, draft_of, spent_of, at, when, total, positive, token}
+use Rattle.msg_depot.specs.Rules.{keeping, resting, nobody, entry, phase_of, free_slots, word_of}
 use Rattle.msg_depot.specs.Moves.{emptied, handed, Checked, entry_at, begun, Begun, put, Put, sealed, SealedBy, freed, Freed, RetiredNow, IsOver}
 use Rattle.msg_depot.proofs.Totals.{total_set, within, elem_at, elem_is, when_zero, positive_one, total_has, at_here}
 use Rattle.msg_depot.proofs.Keeps.{off, splits, viewed}

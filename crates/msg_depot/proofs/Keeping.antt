@@ -9,23 +9,8 @@ use Rattle.msg_depot.specs.declared.view.Kind.{Kind}
 use Rattle.msg_depot.specs.declared.view.Kind.TheVariants.{Nothing, Draft, Hold, Spent}
 use Rattle.msg_depot.specs.declared.view.Phase.{Phase}
 use Rattle.msg_depot.specs.declared.view.Phase.TheVariants.{Free, Drafted, Sealed}
-use Rattle.msg_depot.specs.Rules.{
-  ObeysHoldRule,
-  MatchesEntry,
-  IsWordOf,
-  Weighs,
-  Used,
-  weight,
-  drafts,
-  spents,
-  draft_of,
-  spent_of,
-  at,
-  total,
-  entry,
-  phase_of,
-  word_of,
-}
+use Rattle.msg_depot.specs.Rules.{ObeysHoldRule, MatchesEntry, IsWordOf, Weighs, Used, weight, drafts, spents, draft_of, spent_of, at, total, entry, phase_of}
+use Rattle.msg_depot.specs.Rules.{word_of}
 use Rattle.msg_depot.proofs.Totals.{total_has, total_two, total_alone, at_here, at_else, at_none, within, positive_one}
 use Rattle.msg_depot.proofs.Keeps.{turns}
 

@@ -1,31 +1,5 @@
-use Rattle.std.proofs.Common.{
-  ◌≡◌,
-  ℕ,
-  zero,
-  suc,
-  ◌+◌,
-  ◌<◌,
-  ◌≤◌,
-  List,
-  [],
-  ◌∷◌,
-  ◌++◌,
-  length,
-  get_or,
-  take,
-  drop,
-  map,
-  ap,
-  sym,
-  refl,
-  ◌∙◌,
-  arith,
-  add-zero,
-  zero-add,
-  length-append,
-  vec_len,
-  vec_capacity,
-}
+use Rattle.std.proofs.Common.{◌≡◌, ℕ, zero, suc, ◌+◌, ◌<◌, ◌≤◌, List, [], ◌∷◌, ◌++◌, length, get_or, take, drop, map, ap, sym, refl, ◌∙◌, arith, add-zero}
+use Rattle.std.proofs.Common.{zero-add, length-append, vec_len, vec_capacity}
 use Rattle.std.proofs.Math.ListN.{set}
 use Rattle.std.specs.List.{All}
 use Rattle.std.proofs.lemmas.List.{append-nil, append_assoc, get_or-map, length-map, get_or_default}

@@ -1,26 +1,5 @@
-use Rattle.std.proofs.Common.{
-  ◌≡◌,
-  ◌+◌,
-  refl,
-  Bool,
-  true,
-  false,
-  true≢false,
-  ◌||◌,
-  suc,
-  zero,
-  List,
-  [],
-  ◌∷◌,
-  ◌++◌,
-  length,
-  map,
-  ap,
-  sym,
-  ◌∙◌,
-  length-append,
-  arith,
-}
+use Rattle.std.proofs.Common.{◌≡◌, ◌+◌, refl, Bool, true, false, true≢false, ◌||◌, suc, zero, List, [], ◌∷◌, ◌++◌, length, map, ap, sym, ◌∙◌, length-append}
+use Rattle.std.proofs.Common.{arith}
 use Rattle.std.specs.List.{All, AllByRecursion}
 use Rattle.std.proofs.lemmas.List.{append_assoc, append-nil}
 

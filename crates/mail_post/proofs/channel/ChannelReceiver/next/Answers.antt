@@ -2,19 +2,8 @@ use Rattle.std.proofs.Common.{◌≡◌, ◌≤◌, ◌<◌, ℕ, ◌+◌, ◌++
 use Rattle.mail_post.specs.Channel.{Inbox, view_of, taken}
 use Rattle.mail_post.specs.declared.rule.View.{View}
 use Rattle.mail_post.proofs.Keeps.{takes}
-use Rattle.mail_post.proofs.Inboxes.{
-  room_copy,
-  room_mark,
-  inbox_copy,
-  taken_copy,
-  timed_copy,
-  copy_fits,
-  inbox_mark,
-  taken_mark,
-  timeless_mark,
-  more_marks_fit,
-  inbox_lost,
-}
+use Rattle.mail_post.proofs.Inboxes.{room_copy, room_mark, inbox_copy, taken_copy, timed_copy, copy_fits, inbox_mark, taken_mark, timeless_mark, more_marks_fit}
+use Rattle.mail_post.proofs.Inboxes.{inbox_lost}
 use Rattle.mail_post.specs.declared.channel.Gone.TheVariants.{Closed}
 use Rattle.mail_post.proofs.Names.{drained}
 use Rattle.mail_post.proofs.channel.ChannelReceiver.next.Goals as goal

@@ -1,18 +1,8 @@
 use Rattle.std.proofs.Common.{[], ◌∷◌, ◌++◌, true, refl, ap, sym, subst, ◌∙◌, arith, length-set}
 use Rattle.mail_world.specs.Slips.{Gather}
 use Rattle.mail_post.specs.Gathering.{Gathering, HasGathered}
-use Rattle.mail_post.proofs.Gathers.{
-  heard_more,
-  own-stranger,
-  gathered-stranger,
-  gathered-double,
-  double-awaited,
-  finds_double,
-  finds_open,
-  place-within,
-  taken-view,
-  counted_down,
-}
+use Rattle.mail_post.proofs.Gathers.{heard_more, own-stranger, gathered-stranger, gathered-double, double-awaited, finds_double, finds_open, place-within}
+use Rattle.mail_post.proofs.Gathers.{taken-view, counted_down}
 use Rattle.mail_post.proofs.gather.Gather.put.Goals as goal
 
 -- a stranger
