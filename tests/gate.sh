@@ -1,11 +1,11 @@
 #!/usr/bin/env bash
 # The gate. First the program's version gets the name of the toolchain that proves it (`make toolchain`), which is said
 # where it had another. Then `rt ci`: proves every crate, tries the must-fail edits and runs the program; and beside it,
-# on the cores that it leaves idle, the scripts of tests/ that need the sources alone. Then, over what was built, the
-# other scripts, side by side, and on what they leave idle the wrong bodies that are tried at once. A script that lacks
-# something of the machine says so and ends with status 77: that is counted apart, as absent. The last line counts all:
-# 'N passed, M failed'. The benchmarks' programs are only compiled (tests/benchmarks.sh), and proved by `make
-# benchmarks`.
+# on the cores that it leaves idle, the scripts of tests/ that need the sources alone, and the wrong bodies that are
+# tried at once, each crate's once those below it are proved. Then, over what was built, the other scripts, side by
+# side. A script that lacks something of the machine says so and ends with status 77: that is counted apart, as absent.
+# The last line counts all: 'N passed, M failed'. The benchmarks' programs are only compiled (tests/benchmarks.sh), and
+# proved by `make benchmarks`.
 # usage: tests/gate.sh [--scripts]: with the word only the scripts, on what stands built
 set -uo pipefail
 cd "$(dirname "$0")/.."
@@ -37,12 +37,16 @@ play_on_sources() {
     for script in tests/{calls,units,memory,benchmarks,wrong_bodies}.sh; do play "$script" 3600; done
 }
 
-# play_others: plays each script of tests/ that wasn't, as many at a time as there are cores but one; beside them the
-# wrong bodies that are tried at once, at a lower priority.
+# play_at_once: plays the wrong bodies that are tried at once, on half of the cores and at a lower priority.
+play_at_once() {
+    renice -n 15 "$BASHPID" > "$said/renice"
+    JOBS=$((($(nproc) + 1) / 2)) RT_SAID=$said/rt play tests/refused_at_once.sh 9000
+}
+
+# play_others: plays each script of tests/ that wasn't, as many at a time as there are cores but one; the wrong bodies
+# may go on beside them.
 play_others() {
-    local script room=$(($(nproc) > 2 ? $(nproc) : 2)) # with those wrong bodies
-    touch "$said/refused_at_once.sh.status"
-    (renice -n 15 "$BASHPID" > "$said/renice" && play tests/refused_at_once.sh 3600) &
+    local script room=$(($(nproc) > 2 ? $(nproc) : 2))
     for script in tests/*.sh; do
         [ "$script" != tests/gate.sh ] && [ ! -e "$said/$(basename "$script").status" ] || continue
         while [ "$(jobs -rp | wc -l)" -ge "$room" ]; do wait -n; done
@@ -71,10 +75,13 @@ said=$(mktemp -d)
 trap 'rm -rf "$said"' EXIT
 if [ "${1:-}" != --scripts ]; then
     make -s toolchain || failed=$((failed + 1))
+    touch "$said/rt" "$said/refused_at_once.sh.status"
+    play_at_once &
     play_on_sources &
+    sources=$!
     RT_JOBS=${RT_JOBS:-$(building/jobs_at_once)} rt ci 2>&1 | tee "$said/rt"
     count "$said/rt"
-    wait
+    wait "$sources"
 fi
 if [ -x "$LMTPD" ]; then
     play_others

@@ -10,10 +10,12 @@ import contextlib
 import dataclasses
 import os
 import pathlib
+import re
 import shutil
 import subprocess
 import sys
 import tempfile
+import time
 
 import apply
 import stamps
@@ -36,19 +38,21 @@ def crates_of(root):
 
 
 class Room:
-    """A copy of a crate and of what it stands on."""
+    """A copy of a crate, with what its checks kept, and of what it stands on."""
 
-    def __init__(self, root, name, crates, folder):
+    def __init__(self, root, name, crates, folder, has_kept):
         row, below = crates[name]
         self.top = folder / name
         self.crate = self.top / "crates" / name
         self.crate.parent.mkdir(parents=True)
         shutil.copy(root / "HANDLES", self.top)
         (self.top / "crates.txt").write_text("".join(f"{it}\n" for it in [row, *(crates[one][0] for one in below)]))
-        shutil.copytree(root / "crates" / name, self.crate, ignore=shutil.ignore_patterns("must-fail*"))
+        left = shutil.ignore_patterns("must-fail*", *([] if has_kept else ["out"]))
+        shutil.copytree(root / "crates" / name, self.crate, ignore=left)
         for it in below:
-            left = shutil.ignore_patterns("incremental", "must-fail*")
-            shutil.copytree(root / "crates" / it, self.top / "crates" / it, copy_function=os.link, ignore=left)
+            left, to = shutil.ignore_patterns("must-fail*", "out"), self.top / "crates" / it
+            shutil.copytree(root / "crates" / it, to, copy_function=os.link, ignore=left)
+            shutil.copytree(root / "crates" / it / "out/rlib", to / "out/rlib", copy_function=os.link)
         stamps.write(self.top, below)
 
     def check(self, *words):
@@ -111,10 +115,25 @@ class Batch:
     texts: dict
 
 
-def try_crate(root, name, edits, crates, folder, is_proved):
-    """Tries these wrong bodies of the crate, and gives how each was met. Where it isn't known to be proved as it
-    stands, that is checked too."""
-    room, kinds = Room(root, name, crates, folder), []
+def are_proved(names, said):
+    """Waits until `rt ci`, which says so in the file, has proved these crates; false where it ends first."""
+    left = set(names)
+    while left and said.exists():
+        lines = said.read_text(encoding="utf-8", errors="replace").splitlines()
+        left -= {it[1] for it in (re.match(r"rt: (\w+) (proved|is kept)", line) for line in lines) if it}
+        if left and lines and re.match(r"\d+ passed, \d+ failed", lines[-1]):
+            return False
+        time.sleep(2 if left else 0)
+    return not left
+
+
+def try_crate(root, name, edits, crates, folder, said):
+    """Tries these wrong bodies of the crate, and gives how each was met. Where a file is given to which `rt ci` writes
+    what it says, they are tried once it has proved the crates below; else the crate is checked as it stands too."""
+    if said and not are_proved(crates[name][1], said):
+        print(f"{name}: a crate below it isn't proved", flush=True)
+        return [told.NOT_TRIED]
+    room, kinds = Room(root, name, crates, folder, not said), []
 
     def tell(edit, kind, more):
         print(f"{name}/{edit.name}: {kind}{more and ': ' + more}", flush=True)
@@ -127,9 +146,9 @@ def try_crate(root, name, edits, crates, folder, is_proved):
         for edit in batch.edits:
             if edit not in refused:
                 tell(edit, *room.try_one(edit))
-    status, said = (0, "") if is_proved else room.check()
+    status, words = (0, "") if said else room.check()
     if status:
-        print(f"{name} is not proved as it stands:", *said.splitlines()[-6:], sep="\n", flush=True)
+        print(f"{name} is not proved as it stands:", *words.splitlines()[-6:], sep="\n", flush=True)
         kinds.append(told.NOT_TRIED)
     shutil.rmtree(room.top)
     return kinds
@@ -140,12 +159,14 @@ def main(root, jobs, words):
     kind, names = next((it for it in words if it in FOLDERS), None), [it for it in words if it not in FOLDERS]
     folders = {it: root / "crates" / it / FOLDERS[kind] if kind else root / "tests/wrong_bodies" / it for it in crates}
     edits = {it: sorted(folders[it].glob("*.edit")) for it in names or crates}
-    # those with the most to prove first
-    order = sorted((it for it in edits if edits[it]), key=lambda it: -len(edits[it]))
+    said = pathlib.Path(os.environ["RT_SAID"]) if kind == "--gate" and "RT_SAID" in os.environ else None
+    # lowest first, as rt ci goes on, or those with the most to prove
+    first = (lambda it: len(crates[it][1])) if said else (lambda it: -len(edits[it]))
+    order = sorted(filter(edits.get, edits), key=first)
     with tempfile.TemporaryDirectory(prefix=".trying-", dir=root) as folder:
         with concurrent.futures.ThreadPoolExecutor(jobs) as pool:
             room = pathlib.Path(folder)
-            tried = [pool.submit(try_crate, root, it, edits[it], crates, room, kind == "--gate") for it in order]
+            tried = [pool.submit(try_crate, root, it, edits[it], crates, room, said) for it in order]
             kinds = [kind for it in tried for kind in it.result()]
     print(", ".join(f"{kinds.count(kind)} {kind}" for kind in told.KINDS))
     return 1 if any(kind in told.BAD for kind in kinds) else 0
