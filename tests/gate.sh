@@ -79,7 +79,7 @@ if [ "${1:-}" != --scripts ]; then
     play_at_once &
     play_on_sources &
     sources=$!
-    RT_JOBS=${RT_JOBS:-$(building/jobs_at_once)} rt ci 2>&1 | tee "$said/rt"
+    rt ci 2>&1 | tee "$said/rt"
     count "$said/rt"
     wait "$sources"
 fi
