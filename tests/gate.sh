@@ -40,7 +40,7 @@ play_on_sources() {
 # play_at_once: plays the wrong bodies that are tried at once, on half of the cores and at a lower priority.
 play_at_once() {
     renice -n 15 "$BASHPID" > "$said/renice"
-    JOBS=$((($(nproc) + 1) / 2)) RT_SAID=$said/rt play tests/refused_at_once.sh 9000
+    JOBS=${JOBS:-$((($(nproc) + 1) / 2))} RT_SAID=$said/rt play tests/refused_at_once.sh 9000
 }
 
 # play_others: plays each script of tests/ that wasn't, as many at a time as there are cores but one; the wrong bodies
