@@ -29,7 +29,7 @@ use Rattle.box_worker.specs.Limits.{Setting, StartsAt, CountsTo, marks_after}
 use Rattle.box_worker.specs.Stored.{MailboxState, mailbox_of, CountedMailbox, TakesCopy, Tallies, HasStored, HasSettled}
 use Rattle.box_worker.specs.Told.{slip_by, owed_to, is_stored, is_over}
 use Rattle.box_worker.specs.Turned.{shared_of, TurnsCopy}
-use Rattle.box_worker.specs.Worked.{WorkerState, counted_of, idle, is_lost, outcomes_after, bytes_after, IsAccounted, HasHandled, IsCounted, IsTended}
+use Rattle.box_worker.specs.Worked.{WorkerState, counted_of, idle, is_lost, outcomes_after, bytes_after, IsAccounted, HasHandled, IsTendedAlone, IsTended}
 use Rattle.box_worker.specs.Worked.{IsCounting, HasWorked}
 use Rattle.box_worker.proofs.Turning.{turned_more, tells_told}
 use Rattle.box_worker.proofs.Counting.{let_in, kept_out}
@@ -78,7 +78,7 @@ module _ (at : Setting) (start : ℕ) (copies : List Note) (note : Note) where
       ∙ failed_more n (marks_after at start copies) (is_kept at start copies note) (omega (arith, within, count))
 
 module _ (at : Setting) (copies : List Note) (old : SpoolState) (now : MailboxState) (before : Option Limit) (used : ℕ) (note : Note) (outs : List Outcome)
-    (x : IsCounted at copies outs old now before) where
+    (x : IsTendedAlone at copies outs old now before) where
   abbrev h : IsAccounted at copies outs old now
   h = x.accounted
 
@@ -87,7 +87,7 @@ module _ (at : Setting) (copies : List Note) (old : SpoolState) (now : MailboxSt
       → HasSettled at h.start (copies ++ note ∷ []) old (mailbox_of mailbox.state stored over mailbox.faulty)
       → mailbox.stored ≡ counted stored → mailbox.over ≡ counted over
       → (mailbox.faulty ≡ false → CountsTo at.quota (bytes_after at h.start (copies ++ note ∷ [])) limit)
-      → IsCounted at (copies ++ note ∷ []) (outs ++ outcome ∷ []) old mailbox limit
+      → IsTendedAlone at (copies ++ note ∷ []) (outs ++ outcome ∷ []) old mailbox limit
   counted_by mailbox limit outcome stored over tells settled stored_is over_is counts = record {
     accounted = record {
       start = h.start;
@@ -110,7 +110,7 @@ module _ (at : Setting) (copies : List Note) (old : SpoolState) (now : MailboxSt
 
   pub copy_counted : (outcome : Outcome) (after : CountedMailbox)
       → TakesCopy (record_of at.calendar at.host note) outcome (record { mailbox = now; limit = before; in_use = used }) after
-      → IsCounted at (copies ++ note ∷ []) (outs ++ outcome ∷ []) old after.mailbox after.limit
+      → IsTendedAlone at (copies ++ note ∷ []) (outs ++ outcome ∷ []) old after.mailbox after.limit
   copy_counted Stored after take =
       let was = settled_at false take.0 in
       let fit = let_in at.quota (bytes_after at h.start copies) size before after.limit (some_text at.calendar at.host note) (x.counts take.0) take.1 in
@@ -262,7 +262,7 @@ counting_none at slips old new mine stored broken left none begins whose =
     let P : MailboxState → Type 0 = λ m. HasStored at.calendar at.host [] old m in
     let Q : ℕ → Type 0 = λ n. CountsTo at.quota n limit in
     let start_is : begins.0 ≡ begins.0 + 0 = omega arith in
-    let k : old.sharing.is_shared ≡ false → IsCounted at [] [] old mailbox limit = λ e. record {
+    let k : old.sharing.is_shared ≡ false → IsTendedAlone at [] [] old mailbox limit = λ e. record {
       accounted = record {
         start = begins.0;
         stored = 0;

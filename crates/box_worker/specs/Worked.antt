@@ -82,7 +82,7 @@ pub record HasHandled (at : Setting) (copies : List Note) (old new : WorkerState
       (shared_of new.mailbox.state new.mailbox.faulty new.in_use)
 
 -- a private mailbox between two copies: until its spool fails its worker counts what stands there
-pub record IsCounted (at : Setting) (copies : List Note) (outcomes : List Outcome) (old : SpoolState)
+pub record IsTendedAlone (at : Setting) (copies : List Note) (outcomes : List Outcome) (old : SpoolState)
     (new : MailboxState) (limit : Option Limit) : Type 0 where
   pub accounted : IsAccounted at copies outcomes old new
   pub counts : new.faulty ≡ false → CountsTo at.quota (bytes_after at accounted.start copies) limit
@@ -91,7 +91,7 @@ pub record IsCounted (at : Setting) (copies : List Note) (outcomes : List Outcom
 pub record IsTended (at : Setting) (copies : List Note) (outcomes : List Outcome) (old : SpoolState)
     (new : CountedMailbox) : Type 0 where
   pub whose : new.mailbox.state.sharing.is_shared ≡ old.sharing.is_shared
-  pub alone : old.sharing.is_shared ≡ false → IsCounted at copies outcomes old new.mailbox new.limit
+  pub alone : old.sharing.is_shared ≡ false → IsTendedAlone at copies outcomes old new.mailbox new.limit
   pub never_in_use : old.sharing.is_shared ≡ false → new.in_use ≡ 0
   pub shared : old.sharing.is_shared ≡ true
       → HaveTurned at copies outcomes (shared_of old false 0)

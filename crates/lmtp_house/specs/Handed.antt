@@ -28,8 +28,8 @@ handed_in visits spools capacity quota = record {
 }
 
 -- what contracts see of a server's report
-abbrev pub handed_back : {V S G : Type 0} → HouseReport V S G → HandedBack V S
-handed_back report = record {
+abbrev pub as_handed_back : {V S G : Type 0} → HouseReport V S G → HandedBack V S
+as_handed_back report = record {
   visits = report.visits.items;
   spools = report.spools.items;
   conversations = report.conversations.items;

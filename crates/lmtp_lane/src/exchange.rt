@@ -34,6 +34,6 @@ pub struct Exchange<N: DepotName> {
     pub gone: bool,
     ghost of_lane: { HaveNumber lane senders.items },
     ghost room: { RECIPIENT_LIMIT ≤ gather.limit },
-    ghost handed_back: { box_gone ≡ any_gone senders.items },
+    ghost gone_is_told: { box_gone ≡ any_gone senders.items },
     ghost tells: { box_gone ≡ true → gone ≡ true },
 }

@@ -6,7 +6,7 @@ use Rattle.std.proofs.lemmas.List.{take_all}
 use Rattle.mail_world.specs.Lists.{Transaction}
 use Rattle.lmtp_talk.specs.declared.dialogue.Dialogue.{Dialogue}
 use Rattle.lmtp_talk.specs.Peer.{PeerState}
-use Rattle.lmtp_talk.specs.Standing.{IsSoFar, standing, beginning}
+use Rattle.lmtp_talk.specs.TalkState.{IsSoFar, talk_state, beginning}
 use Rattle.lmtp_talk.specs.Steps.{Advances, talk}
 
 module _ {D : Type 0} (HasCome : D → ℕ → List Transaction → Type 0) (IsDrafting : D → ℕ → List Transaction → List ℕ → Type 0) where
@@ -14,7 +14,7 @@ module _ {D : Type 0} (HasCome : D → ℕ → List Transaction → Type 0) (IsD
       → Advances HasCome IsDrafting (talk b q e) (talk c r f) y
       → Advances HasCome IsDrafting (talk a p d) (talk c r f) (x ++ y)
   advances_then a b c p q r d e f x y one two site start first handled came h =
-      subst (λ l. IsSoFar (beginning site start (HasCome first)) (standing c r (HasCome f) (IsDrafting f)) l came) (append_assoc handled x y)
+      subst (λ l. IsSoFar (beginning site start (HasCome first)) (talk_state c r (HasCome f) (IsDrafting f)) l came) (append_assoc handled x y)
       (two site start first (handled ++ x) came (one site start first handled came h))
 
 pub rest_of : (at : ℕ) (s : List ℕ) → take (length s - at) (drop at s) ≡ drop at s

@@ -24,7 +24,7 @@ use Rattle.lmtp_wire.specs.Wire.{WireView, IsAfter, LineGoesOn, EndsLine}
 use Rattle.lmtp_talk.specs.declared.dialogue.Dialogue.{Dialogue}
 use Rattle.lmtp_talk.specs.Peer.{PeerState}
 use Rattle.lmtp_talk.specs.Saying.{HasSaid}
-use Rattle.lmtp_talk.specs.Standing.{QuitsWith, InLine, InData, IsInside, IsSoFar, standing, beginning}
+use Rattle.lmtp_talk.specs.TalkState.{QuitsWith, InLine, InData, IsInside, IsSoFar, talk_state, beginning}
 use Rattle.lmtp_talk.specs.Steps.{TakesInputs, TellsLine, Talk, talk, BeginsIf, TakesLine}
 use Rattle.lmtp_talk.specs.Entries.{line_kept, line_in}
 use Rattle.lmtp_talk.proofs.Entered.{logged_more, entries_line}
@@ -112,8 +112,8 @@ pub more_of_line : (site : Site) (start : PeerState) (Before Come : ℕ → List
     (old : Dialogue) (wire : WireView) (peer : PeerState)
     (handled came piece : List ℕ) (used : ℕ) → TakesLines old.session.session.state
     → ((taken : List ℕ) → IsAfter old.wire taken → LineGoesOn wire (taken ++ piece) (length piece) used)
-    → IsSoFar (beginning site start Before) (standing old peer Come Drafting) handled came
-    → IsSoFar (beginning site start Before) (standing (record old { wire = wire }) peer Come Drafting) (handled ++ take used piece) came
+    → IsSoFar (beginning site start Before) (talk_state old peer Come Drafting) handled came
+    → IsSoFar (beginning site start Before) (talk_state (record old { wire = wire }) peer Come Drafting) (handled ++ take used piece) came
 more_of_line site start Before Come Drafting old wire peer handled came piece used lines takes h =
     let line = in_line old.session.session.state old h.rest _ _ lines h.inside in
     let t = takes h.rest line.after in
@@ -142,14 +142,14 @@ ended_line : (site : Site) (start : PeerState) (Before : ℕ → List Transactio
     (IsDrafting : D → ℕ → List Transaction → List ℕ → Type 0)
     (old new : Dialogue) (wire : WireView) (before after : PeerState) (delivery later : D) (handled came piece : List ℕ) (used end : ℕ) (input : Input)
     → TakesLines old.session.session.state
-    → (h : IsSoFar (beginning site start Before) (standing old before (HasCome delivery) (IsDrafting delivery)) handled came)
+    → (h : IsSoFar (beginning site start Before) (talk_state old before (HasCome delivery) (IsDrafting delivery)) handled came)
     → EndsLine wire (h.rest ++ piece) (length h.rest) used end
     → inputs_of (CommandLine (take end (h.rest ++ piece))) ≡ input ∷ []
     → line_kept (take end (h.rest ++ piece)) ≡ line_in input
     → TakesLine HasCome IsDrafting input (talk (record old { wire = wire }) before delivery) (talk new after later)
     → GoesOn (step old.session.site old.session.session input).next.state
     → QuitsWith (session_after old.session.site old.session.session (input ∷ [])).state (flat_map inputs_of h.done ++ input ∷ [])
-    → IsSoFar (beginning site start Before) (standing new after (HasCome later) (IsDrafting later)) (handled ++ take used piece) came
+    → IsSoFar (beginning site start Before) (talk_state new after (HasCome later) (IsDrafting later)) (handled ++ take used piece) came
 ended_line site start Before {D} HasCome IsDrafting old new wire before after delivery later handled came piece used end input lines h ends input_is line_is t
     goes quits =
     let bytes : List ℕ = h.rest ++ piece in
@@ -217,8 +217,8 @@ pub line_of : (site : Site) (start : PeerState) (Before : ℕ → List Transacti
     → ((taken : List ℕ) → IsAfter old.wire taken
     → (end : ℕ) × EndsLine wire (taken ++ piece) (length taken) used end × (end + 2 ≤ LINE_LIMIT) × (wire.line ≡ take end (taken ++ piece)))
     → TakesLine HasCome IsDrafting (Line wire.line) (talk (record old { wire = wire }) before delivery) (talk new after later)
-    → IsSoFar (beginning site start Before) (standing old before (HasCome delivery) (IsDrafting delivery)) handled came
-    → IsSoFar (beginning site start Before) (standing new after (HasCome later) (IsDrafting later)) (handled ++ take used piece) came
+    → IsSoFar (beginning site start Before) (talk_state old before (HasCome delivery) (IsDrafting delivery)) handled came
+    → IsSoFar (beginning site start Before) (talk_state new after (HasCome later) (IsDrafting later)) (handled ++ take used piece) came
 line_of site start Before {D} HasCome IsDrafting old new wire before after delivery later handled came piece used lines takes t h =
     let line = in_line old.session.session.state old h.rest _ _ lines h.inside in
     let e = takes h.rest line.after in
@@ -239,8 +239,8 @@ pub long_line_of : (site : Site) (start : PeerState) (Before : ℕ → List Tran
     → (end : ℕ) × EndsLine wire (taken ++ piece) (length taken) used end × (LINE_LIMIT < end + 2) × (wire.line ≡ []))
     → TakesInputs (LongLine ∷ []) (record old { wire = wire }) new before after
     → TellsLine LongLine (record old { wire = wire }) before after
-    → IsSoFar (beginning site start Before) (standing old before (HasCome delivery) (IsDrafting delivery)) handled came
-    → IsSoFar (beginning site start Before) (standing new after (HasCome delivery) (IsDrafting delivery)) (handled ++ take used piece) came
+    → IsSoFar (beginning site start Before) (talk_state old before (HasCome delivery) (IsDrafting delivery)) handled came
+    → IsSoFar (beginning site start Before) (talk_state new after (HasCome delivery) (IsDrafting delivery)) (handled ++ take used piece) came
 long_line_of site start Before {D} HasCome IsDrafting old new wire before after delivery handled came piece used lines takes t told h =
     let line = in_line old.session.session.state old h.rest _ _ lines h.inside in
     let e = takes h.rest line.after in

@@ -17,7 +17,7 @@ use Rattle.lmtp_wire.specs.Dot.{HasMade, DataGoesOn}
 use Rattle.lmtp_wire.specs.DataPlace.{IsDataEnd}
 use Rattle.lmtp_talk.specs.declared.dialogue.Dialogue.{Dialogue}
 use Rattle.lmtp_talk.specs.Peer.{PeerState}
-use Rattle.lmtp_talk.specs.Standing.{QuitsWith, Comes, InLine, InData, IsInside, IsSoFar, standing, beginning}
+use Rattle.lmtp_talk.specs.TalkState.{QuitsWith, Comes, InLine, InData, IsInside, IsSoFar, talk_state, beginning}
 use Rattle.lmtp_talk.specs.Steps.{EndsData, talk}
 use Rattle.lmtp_talk.proofs.CutUp.{cut_data}
 use Rattle.lmtp_talk.proofs.Quits.{quits_data, data_greets}
@@ -35,8 +35,9 @@ pub more_of_data : (site : Site) (start : PeerState) (Before : ℕ → List Tran
     → old.session.session.state ≡ Content
     → ((taken made : List ℕ) → HasMade old.dot taken made → DataGoesOn dot (taken ++ take fed.used piece) (made ++ bytes) size room fed)
     → ((n : ℕ) (ts : List Transaction) (draft : List ℕ) → IsDrafting delivery n ts draft → IsDrafting later n ts (draft ++ bytes))
-    → IsSoFar (beginning site start Before) (standing old peer (HasCome delivery) (IsDrafting delivery)) handled came
-    → IsSoFar (beginning site start Before) (standing (record old { dot = dot }) peer (HasCome later) (IsDrafting later)) (handled ++ take fed.used piece) came
+    → IsSoFar (beginning site start Before) (talk_state old peer (HasCome delivery) (IsDrafting delivery)) handled came
+    → IsSoFar (beginning site start Before) (talk_state (record old { dot = dot }) peer (HasCome later) (IsDrafting later))
+    (handled ++ take fed.used piece) came
 more_of_data site start Before {D} HasCome IsDrafting old dot peer delivery later handled came piece bytes size room fed content feeds grows h =
     let inside = in_data old.session.session.state old h.rest _ _ content h.inside in
     let text : List ℕ = h.rest ++ take fed.used piece in
@@ -71,8 +72,8 @@ pub end_of_data : (site : Site) (start : PeerState) (Before : ℕ → List Trans
     → ((taken made : List ℕ) → HasMade old.dot taken made → IsDataEnd (taken ++ take used piece) (made ++ bytes))
     → ((n : ℕ) (ts : List Transaction) (draft : List ℕ) → IsDrafting delivery n ts draft → IsDrafting mid n ts (draft ++ bytes))
     → EndsData HasCome IsDrafting (talk (record old { dot = dot }) before mid) (talk new after later)
-    → IsSoFar (beginning site start Before) (standing old before (HasCome delivery) (IsDrafting delivery)) handled came
-    → IsSoFar (beginning site start Before) (standing new after (HasCome later) (IsDrafting later)) (handled ++ take used piece) came
+    → IsSoFar (beginning site start Before) (talk_state old before (HasCome delivery) (IsDrafting delivery)) handled came
+    → IsSoFar (beginning site start Before) (talk_state new after (HasCome later) (IsDrafting later)) (handled ++ take used piece) came
 end_of_data site start Before {D} HasCome IsDrafting old new dot before after delivery mid later handled came piece bytes used content feeds grows e h =
     let inside = in_data old.session.session.state old h.rest _ _ content h.inside in
     let text : List ℕ = h.rest ++ take used piece in

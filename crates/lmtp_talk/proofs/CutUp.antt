@@ -17,7 +17,7 @@ use Rattle.mail_world.proofs.Places.{place_of_stands, place_of_least, StandsAt-m
 use Rattle.mail_world.proofs.Handled.{HasNoPart, Handled, ReadsLines, handled_none, handled_line, handled_data, line_within, all_parts}
 use Rattle.mail_world.proofs.Handled.{all_accounted as accounted_at}
 use Rattle.lmtp_session.specs.Steps.{TakesLines}
-use Rattle.lmtp_talk.specs.Standing.{IsCutUp}
+use Rattle.lmtp_talk.specs.TalkState.{IsCutUp}
 
 -- the same in the words of one text
 handled : (site : Site) (prefix more : List ℕ) (ps : List Part) → IsCutUp site prefix ps → Handled site (prefix ++ more) (length prefix) ps

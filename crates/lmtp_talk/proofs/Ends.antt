@@ -22,7 +22,7 @@ use Rattle.lmtp_talk.specs.Entries.{entries_of, with_entries}
 use Rattle.lmtp_talk.specs.Peer.{PeerState, HasMoved, PeerFailed, HasStopped}
 use Rattle.lmtp_talk.specs.Saying.{HasSaid}
 use Rattle.lmtp_talk.specs.Served.{terms, is_quit, has_quit, IsWritten, IsServed}
-use Rattle.lmtp_talk.specs.Standing.{Comes, IsInside, IsSoFar, standing, beginning}
+use Rattle.lmtp_talk.specs.TalkState.{Comes, IsInside, IsSoFar, talk_state, beginning}
 use Rattle.lmtp_talk.specs.Steps.{TakesInputs}
 use Rattle.lmtp_talk.specs.Turns.{Leaves, stopped_or}
 use Rattle.lmtp_talk.proofs.Written.{moved_writing, said_on}
@@ -181,7 +181,7 @@ record EndsConversation (site : Site) (at : Final) (ps : List Part) (start now :
 finished : (reads : ℕ) (site : Site) (start before now : PeerState) (Before Come Last : ℕ → List Transaction → Type 0)
     (Drafting : ℕ → List Transaction → List ℕ → Type 0)
     (dialogue : Dialogue) (handled : List ℕ) (stopped : Bool) (end : EndCause)
-    → (h : IsSoFar (beginning site start Before) (standing dialogue before Come Drafting) handled handled) → Comes site h.done Before Last
+    → (h : IsSoFar (beginning site start Before) (talk_state dialogue before Come Drafting) handled handled) → Comes site h.done Before Last
     → now.told ≡ before.told → EndsConversation site (final reads dialogue.session.session.state stopped handled) h.done start now end
     → IsServed (terms site reads) start now Before Last end
 finished reads site start before now Before Come Last Drafting dialogue handled stopped end h comes untold f =
@@ -221,14 +221,14 @@ finished reads site start before now Before Come Last Drafting dialogue handled 
 -- a draft that is dropped, or none
 comes_in_the_end : (site : Site) (start before : PeerState) (Before Come Last : ℕ → List Transaction → Type 0)
     (Drafting : ℕ → List Transaction → List ℕ → Type 0) (dialogue : Dialogue) (handled came : List ℕ)
-    → (h : IsSoFar (beginning site start Before) (standing dialogue before Come Drafting) handled came)
+    → (h : IsSoFar (beginning site start Before) (talk_state dialogue before Come Drafting) handled came)
     → Leaves (is_content dialogue.session.session.state) Come Drafting Last → Comes site h.done Before Last
 comes_in_the_end site start before Before Come Last Drafting dialogue handled came h l =
     leaves_by dialogue.session.session.state site h.done Before Come Last Drafting dialogue h.rest h.inside l
 
 pub may_stop : (site : Site) (start before : PeerState) (Before Come : ℕ → List Transaction → Type 0) (Drafting : ℕ → List Transaction → List ℕ → Type 0)
     (dialogue : Dialogue) (handled came : List ℕ)
-    → IsSoFar (beginning site start Before) (standing dialogue before Come Drafting) handled came → (dialogue.session.session.state ≡ Ended → ⊥)
+    → IsSoFar (beginning site start Before) (talk_state dialogue before Come Drafting) handled came → (dialogue.session.session.state ≡ Ended → ⊥)
     → MayStop dialogue.session.session.state
 may_stop site start before Before Come Drafting dialogue handled came h open' = may_stop_by dialogue.session.session.state dialogue h.rest _ _ h.inside open'
 
@@ -383,7 +383,7 @@ stop_ends reads state handled start now open' may sound = record {
 -- all that came is handled, and it ends so
 pub served : (reads : ℕ) (site : Site) (start now : PeerState) (Before Come Last : ℕ → List Transaction → Type 0)
     (Drafting : ℕ → List Transaction → List ℕ → Type 0) (dialogue : Dialogue) (handled : List ℕ) (end : EndCause)
-    → IsSoFar (beginning site start Before) (standing dialogue now Come Drafting) handled handled
+    → IsSoFar (beginning site start Before) (talk_state dialogue now Come Drafting) handled handled
     → Leaves (is_content dialogue.session.session.state) Come Drafting Last
     → EndsAs reads end dialogue now handled → IsServed (terms site reads) start now Before Last end
 served reads site start now Before Come Last Drafting dialogue handled ends.Quit h l e =
@@ -412,7 +412,7 @@ served reads site start now Before Come Last Drafting dialogue handled ends.Stop
 -- the read after it failed
 pub served_read_fault : (reads : ℕ) (site : Site) (start before now : PeerState) (Before Come Last : ℕ → List Transaction → Type 0)
     (Drafting : ℕ → List Transaction → List ℕ → Type 0) (dialogue : Dialogue) (handled : List ℕ)
-    → IsSoFar (beginning site start Before) (standing dialogue before Come Drafting) handled handled
+    → IsSoFar (beginning site start Before) (talk_state dialogue before Come Drafting) handled handled
     → Leaves (is_content dialogue.session.session.state) Come Drafting Last
     → IsQuiet dialogue → (dialogue.session.session.state ≡ Ended → ⊥) → PeerFailed before now → IsServed (terms site reads) start now Before Last ends.ReadFault
 served_read_fault reads site start before now Before Come Last Drafting dialogue handled h l q open' f =
@@ -434,7 +434,7 @@ served_read_fault reads site start before now Before Come Last Drafting dialogue
 -- the session was told to stop, and what it said to that was written as far as it could be
 text_in_the_end : (site : Site) (start before : PeerState) (Before Come : ℕ → List Transaction → Type 0) (Drafting : ℕ → List Transaction → List ℕ → Type 0)
     (dialogue : Dialogue) (handled came : List ℕ)
-    → (h : IsSoFar (beginning site start Before) (standing dialogue before Come Drafting) handled came) → MayStop dialogue.session.session.state
+    → (h : IsSoFar (beginning site start Before) (talk_state dialogue before Come Drafting) handled came) → MayStop dialogue.session.session.state
     → last_text site (flat_map inputs_of h.done) ++ reply_texts dialogue.session.site (replies_to dialogue.session.site dialogue.session.session (Stop ∷ []))
     ≡ last_text site (last_inputs site h.done true)
 text_in_the_end site start before Before Come Drafting dialogue handled came h may =
@@ -460,7 +460,7 @@ stopped_by reads false site start now pending state ps handled text open' may is
 
 pub served_stopped : (reads : ℕ) (site : Site) (start earlier before now : PeerState) (Before Come Last : ℕ → List Transaction → Type 0)
     (Drafting : ℕ → List Transaction → List ℕ → Type 0) (dialogue new : Dialogue) (handled : List ℕ)
-    → IsSoFar (beginning site start Before) (standing dialogue earlier Come Drafting) handled handled
+    → IsSoFar (beginning site start Before) (talk_state dialogue earlier Come Drafting) handled handled
     → Leaves (is_content dialogue.session.session.state) Come Drafting Last
     → (dialogue.session.session.state ≡ Ended → ⊥) → HasStopped earlier before → TakesInputs (Stop ∷ []) dialogue new before now → now.told ≡ before.told
     → new.outbox.pending ≡ []

@@ -19,7 +19,7 @@ use Rattle.mail_world.specs.Session.{Session, Input, Line, LongLine, DataEnded, 
 use Rattle.mail_world.specs.Conversation.{Disposition, outcomes_of, session_after}
 use Rattle.lmtp_session.specs.Steps.{TakesLines}
 use Rattle.lmtp_talk.specs.Served.{is_quit, is_quit_answer, has_quit}
-use Rattle.lmtp_talk.specs.Standing.{QuitsWith}
+use Rattle.lmtp_talk.specs.TalkState.{QuitsWith}
 
 -- where a command leads from a state: there, or to one of these
 module _ (P : State → Type 0) where

@@ -13,7 +13,7 @@ use Rattle.lmtp_talk.specs.declared.dialogue.Dialogue.{Dialogue}
 use Rattle.lmtp_talk.specs.declared.ending.EndCause.TheVariants as ends
 use Rattle.lmtp_talk.specs.Peer.{PeerState, HasTransferred}
 use Rattle.lmtp_talk.specs.Saying.{OutboxView, HasSaid}
-use Rattle.lmtp_talk.specs.Standing.{Comes, IsInside, IsSoFar, standing, beginning}
+use Rattle.lmtp_talk.specs.TalkState.{Comes, IsInside, IsSoFar, talk_state, beginning}
 use Rattle.lmtp_talk.specs.Turns.{Greets, TakesTurn, EndsTurn, HandlesPiece, quit_or, end_after}
 use Rattle.lmtp_talk.proofs.Written.{moved_none, said_reading}
 use Rattle.lmtp_talk.proofs.CutUp.{cut_none}
@@ -31,8 +31,8 @@ said_none s outbox new =
 -- a peer gave more bytes
 pub stands_reading : (site : Site) (start peer later : PeerState) (Before Come : ℕ → List Transaction → Type 0)
     (Drafting : ℕ → List Transaction → List ℕ → Type 0) (dialogue : Dialogue) (handled came more : List ℕ)
-    → IsSoFar (beginning site start Before) (standing dialogue peer Come Drafting) handled came → HasTransferred peer later more []
-    → IsSoFar (beginning site start Before) (standing dialogue later Come Drafting) handled (came ++ more)
+    → IsSoFar (beginning site start Before) (talk_state dialogue peer Come Drafting) handled came → HasTransferred peer later more []
+    → IsSoFar (beginning site start Before) (talk_state dialogue later Come Drafting) handled (came ++ more)
 stands_reading site start peer later Before Come Drafting dialogue handled came more h w = record {
   done = h.done;
   prefix = h.prefix;
@@ -51,10 +51,10 @@ stands_reading site start peer later Before Come Drafting dialogue handled came 
 -- a peer gave nothing more
 pub stands_still : (site : Site) (start peer later : PeerState) (Before Come : ℕ → List Transaction → Type 0)
     (Drafting : ℕ → List Transaction → List ℕ → Type 0) (dialogue : Dialogue) (handled came : List ℕ)
-    → IsSoFar (beginning site start Before) (standing dialogue peer Come Drafting) handled came → HasTransferred peer later [] []
-    → IsSoFar (beginning site start Before) (standing dialogue later Come Drafting) handled came
+    → IsSoFar (beginning site start Before) (talk_state dialogue peer Come Drafting) handled came → HasTransferred peer later [] []
+    → IsSoFar (beginning site start Before) (talk_state dialogue later Come Drafting) handled came
 stands_still site start peer later Before Come Drafting dialogue handled came h w =
-    subst (λ l. IsSoFar (beginning site start Before) (standing dialogue later Come Drafting) handled l) (append-nil came)
+    subst (λ l. IsSoFar (beginning site start Before) (talk_state dialogue later Come Drafting) handled l) (append-nil came)
     (stands_reading site start peer later Before Come Drafting dialogue handled came [] h w)
 
 inside_same : (state : State) (dialogue : Dialogue) (outbox : OutboxView) (rest : List ℕ) (come : Type 0) (drafts : List ℕ → Type 0)
@@ -71,8 +71,8 @@ inside_same Ended dialogue outbox rest come drafts x = x
 pub stands_flushed : (site : Site) (start peer later : PeerState) (Before Come : ℕ → List Transaction → Type 0)
     (Drafting : ℕ → List Transaction → List ℕ → Type 0) (dialogue : Dialogue) (outbox : OutboxView) (handled came : List ℕ)
     → ((text : List ℕ) → HasSaid start peer dialogue.outbox came text → HasSaid start later outbox came text)
-    → later.stops ≡ peer.stops → later.told ≡ peer.told → IsSoFar (beginning site start Before) (standing dialogue peer Come Drafting) handled came
-    → IsSoFar (beginning site start Before) (standing (record dialogue { outbox = outbox }) later Come Drafting) handled came
+    → later.stops ≡ peer.stops → later.told ≡ peer.told → IsSoFar (beginning site start Before) (talk_state dialogue peer Come Drafting) handled came
+    → IsSoFar (beginning site start Before) (talk_state (record dialogue { outbox = outbox }) later Come Drafting) handled came
 stands_flushed site start peer later Before Come Drafting dialogue outbox handled came says same untold h = record {
   done = h.done;
   prefix = h.prefix;
@@ -100,7 +100,7 @@ may_not_ended Ended h e = cc
 -- the beginning of a conversation
 pub begins : (site : Site) (before after : PeerState) (Come : ℕ → List Transaction → Type 0) (Drafting : ℕ → List Transaction → List ℕ → Type 0)
     (old new : Dialogue)
-    → old.session.site ≡ site → Greets old new before after → IsSoFar (beginning site before Come) (standing new after Come Drafting) [] []
+    → old.session.site ≡ site → Greets old new before after → IsSoFar (beginning site before Come) (talk_state new after Come Drafting) [] []
 begins site before after Come Drafting old new here h = record {
   done = [];
   prefix = [];
@@ -123,8 +123,8 @@ module _ {D : Type 0} (HasCome : D → ℕ → List Transaction → Type 0) (IsD
     (before read after : PeerState) (delivery later : D) (piece : List ℕ) where
   handled_all : HasTransferred before read piece [] → HandlesPiece HasCome IsDrafting (talk old read delivery) (talk new after later) piece
       → (site : Site) (start : PeerState) (first : D) (handled : List ℕ)
-      → IsSoFar (beginning site start (HasCome first)) (standing old before (HasCome delivery) (IsDrafting delivery)) handled handled
-      → IsSoFar (beginning site start (HasCome first)) (standing new after (HasCome later) (IsDrafting later)) (handled ++ piece) (handled ++ piece)
+      → IsSoFar (beginning site start (HasCome first)) (talk_state old before (HasCome delivery) (IsDrafting delivery)) handled handled
+      → IsSoFar (beginning site start (HasCome first)) (talk_state new after (HasCome later) (IsDrafting later)) (handled ++ piece) (handled ++ piece)
   handled_all w handles site start first handled h =
       handles site start first handled
       (stands_reading site start before read (HasCome first) (HasCome delivery) (IsDrafting delivery) old handled handled piece h w)

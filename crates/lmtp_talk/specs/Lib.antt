@@ -4,7 +4,7 @@ pub mod Delivery
 pub mod Saying
 pub mod Telling
 pub mod Served
-pub mod Standing
+pub mod TalkState
 pub mod Steps
 pub mod Turns
 pub mod ReadBuffer

@@ -12,7 +12,7 @@ use Rattle.lmtp_talk.specs.Entries.{with_entries, line_entries, copy_entries, li
 use Rattle.lmtp_talk.specs.Peer.{PeerState}
 use Rattle.lmtp_talk.specs.Saying.{Says}
 use Rattle.lmtp_talk.specs.Delivery.{EndsDraft}
-use Rattle.lmtp_talk.specs.Standing.{beginning, Standing, standing, IsSoFar}
+use Rattle.lmtp_talk.specs.TalkState.{beginning, TalkState, talk_state, IsSoFar}
 
 -- the session takes the inputs, and their replies are said
 pub record TakesInputs (inputs : List Input) (old new : Dialogue) (before after : PeerState) : Type 0 where
@@ -45,8 +45,8 @@ abbrev pub talk : {D : Type 0} → Dialogue → PeerState → D → Talk D
 talk dialogue peer delivery = record { dialogue = dialogue; peer = peer; delivery = delivery }
 
 abbrev pub standing_of : {D : Type 0} → (D → ℕ → List Transaction → Type 0)
-    → (D → ℕ → List Transaction → List ℕ → Type 0) → Talk D → Standing
-standing_of HasCome IsDrafting now = standing now.dialogue now.peer (HasCome now.delivery) (IsDrafting now.delivery)
+    → (D → ℕ → List Transaction → List ℕ → Type 0) → Talk D → TalkState
+standing_of HasCome IsDrafting now = talk_state now.dialogue now.peer (HasCome now.delivery) (IsDrafting now.delivery)
 
 -- a draft begins where the data is asked for, and else the delivery stays as it was
 abbrev pub BeginsIf : {D : Type 0} → (D → ℕ → List Transaction → Type 0) → (D → ℕ → List Transaction → List ℕ → Type 0)

@@ -14,7 +14,7 @@ use Rattle.mail_world.specs.declared.State.TheVariants.{Waiting, Ended}
 use Rattle.lmtp_talk.specs.Peer.{PeerState}
 use Rattle.lmtp_talk.specs.Saying.{HasSaid}
 use Rattle.lmtp_talk.specs.Served.{terms, IsServed}
-use Rattle.lmtp_talk.specs.Standing.{Beginning, beginning, Standing, IsSoFar}
+use Rattle.lmtp_talk.specs.TalkState.{Beginning, beginning, TalkState, IsSoFar}
 use Rattle.lmtp_talk.specs.Steps.{Talk, standing_of}
 
 -- a conversation has begun, and its greeting was said
@@ -33,7 +33,7 @@ Leaves true Come Drafting Last = (n : ℕ) (ts : List Transaction) (message : Li
 Leaves false Come Drafting Last = (n : ℕ) (ts : List Transaction) → Come n ts → Last n ts
 
 -- more bytes have come and are handled
-pub record IsFurther (first : Beginning) (now : Standing) (handled : List ℕ) : Type 0 where
+pub record IsFurther (first : Beginning) (now : TalkState) (handled : List ℕ) : Type 0 where
   pub more : List ℕ
   pub some : 0 < length more
   pub stands : IsSoFar first now (handled ++ more) (handled ++ more)

@@ -20,16 +20,6 @@ pub pays : (out : List ℕ) (byte : ℕ) (owed : Option ℕ) → 0 < length out 
 pays [] byte owed h e = absurd (omega arith)
 pays (x ∷ out) byte owed h e = sym (ap owed_bytes e)
 
-pub paid : (old new : Dot) (out : List ℕ) (n : ℕ) → new.owed ≡ None → new.place ≡ old.place → take n out ≡ owed_bytes old.owed
-    → (taken made : List ℕ) → HasMade old taken made → HasMade new taken (made ++ take n out)
-paid old new out n none same bytes taken made h =
-    let P : DataPlace → Type 0 = λ p. IsAtPlace p taken in
-    record {
-      goes_on = h.goes_on;
-      shows = h.shows ∙ ap (λ l. made ++ l) (sym bytes) ∙ sym (append-nil (made ++ take n out)) ∙ ap (λ o. (made ++ take n out) ++ owed_bytes o) (sym none);
-      stands = subst P (sym same) h.stands;
-    }
-
 -- nothing was owed
 all_made : (dot : Dot) (taken made : List ℕ) → dot.owed ≡ None → HasMade dot taken made → shown taken ≡ made
 all_made dot taken made none h = h.shows ∙ ap (λ o. made ++ owed_bytes o) none ∙ append-nil made

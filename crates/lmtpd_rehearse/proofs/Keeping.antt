@@ -11,7 +11,7 @@ use Rattle.mail_world.specs.Quotas.{fits, are_kept_after, are_kept, kept, marked
 use Rattle.mbox_record.specs.Spool.{SpoolState}
 use Rattle.box_worker.specs.Limits.{StartsAt}
 use Rattle.lmtp_house.proofs.Courses.{unlimited}
-use Rattle.lmtpd_rehearse.specs.Account.{IsSettled}
+use Rattle.lmtpd_rehearse.specs.Account.{IsSettledOutcome}
 use Rattle.lmtpd_rehearse.specs.Copies.{kept_later}
 
 pub marked_none : {A : Type 0} (marks : List Bool) → marked {A = A} marks [] ≡ []
@@ -83,13 +83,13 @@ module _ (calendar : Calendar) (host : List ℕ) where
       let nothing : start ≡ 0 = subst P empty starts.known in
       ap (λ n. are_kept_after calendar host (Some quota) n notes) nothing
 
-  kept_or_over : (quota : ℕ) (t : Bool) → IsSettled (Some quota) (if t then Stored else OverQuota)
+  kept_or_over : (quota : ℕ) (t : Bool) → IsSettledOutcome (Some quota) (if t then Stored else OverQuota)
   kept_or_over quota true = inl refl
   kept_or_over quota false = inr refl
 
   -- where all copies are settled
   pub all_settled : (quota : Option ℕ) (len n : ℕ) (notes : List Note) → length notes ≤ n
-      → AllByRecursion (IsSettled quota) (outcomes_settled n (are_kept_after calendar host quota len notes))
+      → AllByRecursion (IsSettledOutcome quota) (outcomes_settled n (are_kept_after calendar host quota len notes))
   all_settled quota len n [] h = tt
   all_settled quota len zero (x ∷ notes) h = absurd (omega (arith, h))
   all_settled None len (suc n) (x ∷ notes) h = (refl, all_settled None (len + length (record_of calendar host x)) n notes (omega (arith, h)))

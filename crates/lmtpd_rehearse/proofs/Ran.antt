@@ -40,7 +40,7 @@ use Rattle.lmtpd_words.specs.declared.words.TheConstants.{DEFAULT_CAPACITY}
 use Rattle.lmtp_lane.specs.Visits.{Finished, Visit, IsVisit, conversations_of, finished_of}
 use Rattle.lmtpd_rehearse.specs.declared.client.OnlyClient.{OnlyClient}
 use Rattle.lmtpd_rehearse.specs.declared.client.OnlyClient.TheVariants.{Waiting, Over}
-use Rattle.lmtpd_rehearse.specs.Account.{IsSettled, IsAllSettled}
+use Rattle.lmtpd_rehearse.specs.Account.{IsSettledOutcome, IsAllSettled}
 use Rattle.lmtpd_rehearse.specs.Copies.{HoldsCopies, kept_later}
 use Rattle.lmtpd_rehearse.specs.Client.{MayGive, told as told_by, is_over, IsOnlyOver}
 use Rattle.lmtpd_rehearse.specs.Mailboxes.{MailboxContent, kept_all, kept_at, bytes_of_all, empty_spool, mailbox_room, texts_of_mailboxes, IsCalm}
@@ -199,10 +199,10 @@ module _ (site : Site) (quota : Option ℕ) (b : ℕ) (work : BoxWork) (spool : 
   tells = acc.told ∙ ap (outcomes_settled (acc.stored + acc.over))
       (same_marks civil_at site.host quota (state_of (empty_spool site)) acc.start work.taken refl acc.settled.starts)
 
-  tells_settled : tally.faulty ≡ false → AllByRecursion (IsSettled quota) work.outcomes
+  tells_settled : tally.faulty ≡ false → AllByRecursion (IsSettledOutcome quota) work.outcomes
   tells_settled sound =
       let all : acc.stored + acc.over ≡ length work.taken = acc.settled.all sound in
-      let P : List Outcome → Type 0 = λ os. AllByRecursion (IsSettled quota) os in
+      let P : List Outcome → Type 0 = λ os. AllByRecursion (IsSettledOutcome quota) os in
       subst P (sym acc.told) (all_settled civil_at site.host quota acc.start (acc.stored + acc.over) work.taken (omega (arith, all)))
 
   holds : HoldsCopies civil_at site.host quota work.taken work.outcomes spool.bytes tally.faulty

@@ -18,7 +18,7 @@ use Rattle.mail_world.specs.Lists.{Transaction, OutcomesIn, copies, copies_if, c
 use Rattle.mail_world.specs.Slips.{names, answer, of_worker, slip_of, slips_from}
 use Rattle.mail_world.proofs.Deliveries.{copy_at}
 use Rattle.box_worker.specs.Told.{owed_to}
-use Rattle.lmtpd_rehearse.specs.Account.{IsSettled, IsSettledIf, IsAllSettled}
+use Rattle.lmtpd_rehearse.specs.Account.{IsSettledOutcome, IsSettledIf, IsAllSettled}
 use Rattle.mail_runs.proofs.Rising.{NumbersRise, copies_rise}
 use Rattle.lmtpd_rehearse.proofs.Naming.{SayTheSame, all_agree, all_after, all_filter, all_prefix, all_turned, left_after, next_of, slips_all, slips_all-append}
 use Rattle.lmtpd_rehearse.proofs.Naming.{slips_of_box}
@@ -171,15 +171,15 @@ module _ (heard : List Slip) where
       ∙ ap (map (λ (s : Slip). s.outcome)) (slips_of_box b notes told (sized b low))
       ∙ outcomes_of b (told b) (copies_owed 0 b ts) (sized b low)
 
-  verdict_settled : (quota : Option ℕ) (v : Verdict) (t : Transaction) → OutcomesIn 0 heard t v → AllByRecursion (Says (IsSettled quota)) heard
+  verdict_settled : (quota : Option ℕ) (v : Verdict) (t : Transaction) → OutcomesIn 0 heard t v → AllByRecursion (Says (IsSettledOutcome quota)) heard
       → IsSettledIf quota t.disposition v
   verdict_settled quota verdicts.Whole t e h =
-      outcomes_say (IsSettled quota) heard (record { lane = 0; number = t.number }) t.disposition.outcomes 0 (length t.session.recipients) h e
+      outcomes_say (IsSettledOutcome quota) heard (record { lane = 0; number = t.number }) t.disposition.outcomes 0 (length t.session.recipients) h e
   verdict_settled quota verdicts.TooLarge t e h = tt
   verdict_settled quota verdicts.NoRoom t e h = tt
 
   each_settled : (quota : Option ℕ) (ts : List Transaction) → AllByRecursion (λ t. OutcomesIn 0 heard t t.disposition.verdict) ts
-      → AllByRecursion (Says (IsSettled quota)) heard
+      → AllByRecursion (Says (IsSettledOutcome quota)) heard
       → AllByRecursion (IsAllSettled quota) (map (λ t. t.disposition) ts)
   each_settled quota [] e h = tt
   each_settled quota (t ∷ ts) e h = (verdict_settled quota t.disposition.verdict t e.0 h, each_settled quota ts e.1 h)
@@ -188,7 +188,8 @@ module _ (heard : List Slip) where
   pub all_told_settled : (quota : Option ℕ) (told : ℕ → List Outcome) (n : ℕ) (ts : List Transaction)
       → AllByRecursion (λ t. OutcomesIn 0 heard t t.disposition.verdict) ts
       → AllByRecursion (λ slip. slip.worker < n) heard → ((b : ℕ) → b < n → IsPrefixOfOwed told heard ts b)
-      → ((b : ℕ) → b < n → AllByRecursion (IsSettled quota) (told b)) → AllByRecursion (IsAllSettled quota) (map (λ t. t.disposition) ts)
+      → ((b : ℕ) → b < n → AllByRecursion (IsSettledOutcome quota) (told b)) → AllByRecursion (IsAllSettled quota) (map (λ t. t.disposition) ts)
   all_told_settled quota told n ts answered known begun settled =
       each_settled quota ts answered
-      (heard_owed (Says (IsSettled quota)) told n ts known begun (λ b low. slips_say (IsSettled quota) b (told b) (copies_owed 0 b ts) (settled b low)))
+      (heard_owed (Says (IsSettledOutcome quota)) told n ts known begun
+      (λ b low. slips_say (IsSettledOutcome quota) b (told b) (copies_owed 0 b ts) (settled b low)))

@@ -8,13 +8,13 @@ use Rattle.mail_world.specs.declared.Verdict.TheVariants.{Whole}
 use Rattle.mail_world.specs.Conversation.{Disposition}
 
 -- what is told of a copy that is settled: Stored, and under a quota it may be OverQuota
-abbrev pub IsSettled : Option ℕ → Outcome → Type 0
-IsSettled None outcome = outcome ≡ Stored
-IsSettled (Some quota) outcome = (outcome ≡ Stored) ⊎ (outcome ≡ OverQuota)
+abbrev pub IsSettledOutcome : Option ℕ → Outcome → Type 0
+IsSettledOutcome None outcome = outcome ≡ Stored
+IsSettledOutcome (Some quota) outcome = (outcome ≡ Stored) ⊎ (outcome ≡ OverQuota)
 
 -- each outcome of a whole message is that of a copy that is settled
 abbrev pub IsSettledIf : Option ℕ → Disposition → Verdict → Type 0
-IsSettledIf quota d Whole = AllByRecursion (IsSettled quota) d.outcomes
+IsSettledIf quota d Whole = AllByRecursion (IsSettledOutcome quota) d.outcomes
 IsSettledIf quota d _ = ⊤
 
 abbrev pub IsAllSettled : Option ℕ → Disposition → Type 0

@@ -7,7 +7,7 @@ use Rattle.mail_post.specs.declared.rule.View.{View}
 use Rattle.mail_post.specs.declared.channel.Gone.{Gone}
 use Rattle.mail_post.specs.declared.channel.Gone.TheVariants.{Closed}
 use Rattle.mail_post.specs.Parcels.{of, part, messages, has_mark, all_of_lane}
-use Rattle.mail_post.specs.Order.{IsInOrder, IsNothingElse, NamesAll}
+use Rattle.mail_post.specs.Order.{KeepsOrder, IsNothingElse, NamesAll}
 use Rattle.mail_post.specs.Channel.{IsInbox, with, before_mark}
 use Rattle.mail_post.proofs.Parcels.{of-copies, copies-all_of_lane, has_mark-part}
 use Rattle.mail_post.proofs.Counts.{count_all}
@@ -74,7 +74,7 @@ module _ {M : Type 0} (lane : M → ℕ) where
       ∙ ap Some (sym mine ∙ sym (of-copies lane k v.got))
 
   -- the rule in other words
-  pub in_order : IsInOrder lane
+  pub in_order : KeepsOrder lane
   in_order items views h k = of-copies lane k (h.traffic.got ++ items) ∙ ap messages (h.order k)
       ∙ copies-all_of_lane lane k (h.traffic.sent k) (h.traffic.closed k)
 

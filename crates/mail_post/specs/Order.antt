@@ -10,8 +10,8 @@ use Rattle.mail_post.specs.Channel.{before_mark}
 
 module _ {M : Type 0} (lane : M → ℕ) where
   -- of each lane, what was taken and then what waits is what the lane was told was accepted
-  abbrev pub IsInOrder : Type 0
-  IsInOrder = (items : List (Parcel M)) (views : List (View M)) (h : Carries lane items views) (k : ℕ)
+  abbrev pub KeepsOrder : Type 0
+  KeepsOrder = (items : List (Parcel M)) (views : List (View M)) (h : Carries lane items views) (k : ℕ)
       → of lane k (messages (h.traffic.got ++ items)) ≡ h.traffic.sent k
 
   -- nothing is of another than the lanes

@@ -1,6 +1,6 @@
 //! What the rule of a channel says, in the words of what lanes and receivers are told.
 
-ghost use Rattle.mail_post.specs.Order.{IsInOrder, IsNothingElse, NamesAll, AreTold};
+ghost use Rattle.mail_post.specs.Order.{KeepsOrder, IsNothingElse, NamesAll, AreTold};
 
 use crate::rule::FromSender;
 
@@ -8,7 +8,7 @@ use crate::rule::FromSender;
 /// lane was told was accepted, and nothing of another than the lanes. A mark that was put names all of it, and no
 /// message of its lane stands after it.
 pub fn each_lane_in_order<M: FromSender>()
-    ensures order { IsInOrder M.sender }
+    ensures order { KeepsOrder M.sender }
     ensures others { IsNothingElse M.sender }
     ensures marks { NamesAll M.sender }
     ensures told { AreTold M.sender }

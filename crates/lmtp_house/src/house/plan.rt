@@ -4,7 +4,7 @@ ghost use Rattle.std.specs.Prelude.{◌≡◌, ◌≢◌, ◌<◌, ◌≤◌, le
 ghost use Rattle.std.specs.Arc.{arc_value};
 ghost use Rattle.mail_world.specs.declared.limits.TheConstants.{LANE_LIMIT};
 ghost use Rattle.lmtp_threads.specs.Works.{view_of};
-ghost use Rattle.lmtp_house.specs.Handed.{handed_back, handed_in};
+ghost use Rattle.lmtp_house.specs.Handed.{as_handed_back, handed_in};
 ghost use Rattle.lmtp_house.specs.HousePlan.{IsPlanned, MayRun, HasRunAll};
 
 use crate::house::channels::{Channels, Closings};
@@ -111,7 +111,7 @@ where
     ) -> Result<HouseReport<V, S, G>, HouseFault>
         requires { MayRun V.out self }
         ensures ran { IfOk result (λ report. HasRunAll C.May (view_of V.MayGive V.finished V.over) S.state self
-            (handed_back report)) }
+            (as_handed_back report)) }
         ensures not_size { result ≢ Err HouseFault.Size }
     {
         let Plan {

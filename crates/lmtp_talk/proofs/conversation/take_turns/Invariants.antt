@@ -2,7 +2,7 @@ use Rattle.std.proofs.Common.{◌≡◌, ◌≤◌, ℕ, List, [], length}
 use Rattle.mail_world.specs.Site.{Site}
 use Rattle.lmtp_session.specs.Steps.{MayStop}
 use Rattle.lmtp_talk.specs.Peer.{PeerState, WasRead}
-use Rattle.lmtp_talk.specs.Standing.{IsSoFar, standing, beginning}
+use Rattle.lmtp_talk.specs.TalkState.{IsSoFar, talk_state, beginning}
 use Rattle.lmtp_talk.proofs.conversation.take_turns.Given as goal
 
 -- each turn so far brought a byte at least
@@ -16,9 +16,9 @@ invariant-loop-made g l = record {
   reads : WasRead l._made (g.P.Peer.state l.initial.peer) (g.P.Peer.state l.peer);
   stands : (site : Site) (start : PeerState) (first : g.row.D.Denot) (handled : List ℕ)
       → IsSoFar (beginning site start (g.D.Delivery.HasCome first))
-      (standing l.initial.dialogue (g.P.Peer.state l.initial.peer) (g.D.Delivery.HasCome l.initial.delivery) (g.D.Delivery.IsDrafting l.initial.delivery))
+      (talk_state l.initial.dialogue (g.P.Peer.state l.initial.peer) (g.D.Delivery.HasCome l.initial.delivery) (g.D.Delivery.IsDrafting l.initial.delivery))
       handled handled
       → (all : List ℕ) × (l._made ≤ length all)
       × IsSoFar (beginning site start (g.D.Delivery.HasCome first))
-      (standing l.dialogue (g.P.Peer.state l.peer) (g.D.Delivery.HasCome l.delivery) (g.D.Delivery.IsDrafting l.delivery)) all all;
+      (talk_state l.dialogue (g.P.Peer.state l.peer) (g.D.Delivery.HasCome l.delivery) (g.D.Delivery.IsDrafting l.delivery)) all all;
 }

@@ -9,7 +9,7 @@ pub returns-then-self-clause-way : goal.returns-then-self-clause-way
 returns-then-self-clause-way g c =
     let self = c.args.self.now in
     left_way c.args.failed c.args.post (sending_of self) (sending_of c.answer_failed.new.self) (ends_of self) c.answer_failed.result
-    c.requires.lane c.requires.copy (leaves_unoffered c.args.post (ends_of self) (sym self.handed_back ∙ c.if-self.true)) (self.tells c.if-self.true)
+    c.requires.lane c.requires.copy (leaves_unoffered c.args.post (ends_of self) (sym self.gone_is_told ∙ c.if-self.true)) (self.tells c.if-self.true)
     c.answer_failed.ensures.same c.answer_failed.ensures.takes
 
 pub invariant_of-self : goal.invariant_of-self
@@ -19,7 +19,7 @@ invariant_of-self g c =
       of_lane = still_numbered self.lane _ c.args.failed.worker (λ sender. c.args.post) true self.senders.items c.offer_to.new.senders.items self.of_lane
           c.in-Ok.ensures;
       room = self.room;
-      handed_back = self.handed_back
+      gone_is_told = self.gone_is_told
           ∙ sym (gone_as_before _ c.args.failed.worker (λ sender. c.args.post) self.senders.items c.offer_to.new.senders.items c.in-Ok.ensures);
       tells = self.tells;
     }
@@ -31,7 +31,7 @@ invariant_of-self-in-Err g c =
       of_lane = still_numbered self.lane _ c.args.failed.worker (λ sender. c.args.post) false self.senders.items c.offer_to.new.senders.items self.of_lane
           c.in-Err.ensures;
       room = self.room;
-      handed_back = sym (gone_now _ c.args.failed.worker (λ sender. c.args.post) self.senders.items c.offer_to.new.senders.items c.in-Err.ensures);
+      gone_is_told = sym (gone_now _ c.args.failed.worker (λ sender. c.args.post) self.senders.items c.offer_to.new.senders.items c.in-Err.ensures);
       tells = λ box_gone. refl;
     }
 
@@ -39,7 +39,7 @@ pub returns-in-Ok-clause-way : goal.returns-in-Ok-clause-way
 returns-in-Ok-clause-way g c =
     let self = c.args.self.now in
     offered_way c.args.failed.worker c.args.post (sending_of self) c.offer_to.new.senders.items (sym (ap (λ (s : Slip). s.worker) c.requires.copy))
-    (sym self.handed_back ∙ c.if-self.false) c.in-Ok.ensures
+    (sym self.gone_is_told ∙ c.if-self.false) c.in-Ok.ensures
 
 pub returns-in-Err-clause-way : goal.returns-in-Err-clause-way
 returns-in-Err-clause-way g c =

@@ -64,18 +64,19 @@ abbrev pub beginning : Site → PeerState → (ℕ → List Transaction → Type
 beginning site peer come = record { site = site; peer = peer; come = come }
 
 -- where its parts stand now: the delivery has come to this, with this draft in hand where there is one
-pub record Standing : Type 1 where
+pub record TalkState : Type 1 where
   pub dialogue : Dialogue
   pub peer : PeerState
   pub come : ℕ → List Transaction → Type 0
   pub drafting : ℕ → List Transaction → List ℕ → Type 0
 
-abbrev pub standing : Dialogue → PeerState → (ℕ → List Transaction → Type 0) → (ℕ → List Transaction → List ℕ → Type 0)
-    → Standing
-standing dialogue peer come drafting = record { dialogue = dialogue; peer = peer; come = come; drafting = drafting }
+abbrev pub talk_state : Dialogue → PeerState → (ℕ → List Transaction → Type 0)
+    → (ℕ → List Transaction → List ℕ → Type 0)
+    → TalkState
+talk_state dialogue peer come drafting = record { dialogue = dialogue; peer = peer; come = come; drafting = drafting }
 
 -- Of the bytes that came since the beginning of the conversation, these are handled.
-pub record IsSoFar (first : Beginning) (now : Standing) (handled came : List ℕ) : Type 0 where
+pub record IsSoFar (first : Beginning) (now : TalkState) (handled came : List ℕ) : Type 0 where
   pub done : List Part
   pub prefix : List ℕ
   pub rest : List ℕ
