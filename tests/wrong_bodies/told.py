@@ -6,7 +6,8 @@ import typing
 
 NOT_TRIED = "not tried"
 NO_SUCH_PATH = 2  # the status of a check that was to look at what isn't there
-KINDS = ["refused by a goal of its function", "refused elsewhere", "doesn't compile", "still proved", NOT_TRIED]
+STILL_PROVED = "still proved"
+KINDS = ["refused by a goal of its function", "refused elsewhere", "doesn't compile", STILL_PROVED, NOT_TRIED]
 BAD = KINDS[2:]
 # a text that can't be read says nothing of a contract
 UNREAD = r"is not in scope|has no field|is no name|operand is missing|expected the end|cannot continue"
@@ -32,10 +33,11 @@ class Place(typing.NamedTuple):
         return self.name and "::".join(filter(None, [self.owner or self.module(), self.name]))
 
     def is_refused(self, said):
-        """Whether the check found goals of this function that aren't proved."""
+        """Whether the check found goals of this function that aren't proved. One that calls a function that isn't proved
+        wasn't looked at."""
         # the name of a trait or a type with parameters goes on
         within = rf"(\S+::)?{self.owner}\S*" if self.owner else self.module()
-        refused = rf"fn \w+::{within}(::)?{self.name}: (no proof|not proved)(?!: it calls)"
+        refused = rf"fn \w+::{within}(::)?{self.name}: (no proof|not proved)(?![:;] it calls)"
         return bool(self.name) and any(re.match(refused, it) for it in said.splitlines())
 
 
@@ -108,7 +110,7 @@ def met(edit, crate, texts, status, said):
     """How it was met, as one of KINDS, and what more is to be said. The texts are those that it makes, by their paths;
     the crate's files are as they were before it."""
     if status == 0:
-        return "still proved", ""
+        return STILL_PROVED, ""
     lines = said.splitlines()
     compiler = next((it for it in lines if re.search(r"\S+:\d+:\d+: error\[", it) or is_unread(it, texts)), None)
     if compiler:

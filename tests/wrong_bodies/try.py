@@ -2,9 +2,10 @@
 of this folder, or with a word those that stand with the crates themselves: in must-fail, which `rt ci` tries one by
 one, or in must-fail-at-once, which the gate tries by this script. Each crate has a room of its own, with its sources
 and what its checks kept, and the crates below it by hard links. There wrong bodies of different functions are put into
-their places at once, and these functions checked; each that no goal of its own function refuses then is tried again
-alone, since a function isn't tried that calls a refused one. What is said of each, and the last line, are those of
-told.py."""
+their places at once, and these functions checked. As a function isn't looked at that calls a refused one, those that no
+goal of their own functions refused are tried at once again without the others, and alone where that refuses no more;
+one that its own functions' check lets through, in the whole crate. What is said of each, and the last line, are those
+of told.py."""
 import concurrent.futures
 import contextlib
 import dataclasses
@@ -61,16 +62,16 @@ class Room:
         ran = subprocess.run(["rt", "check", "--jobs", "1", *words], stdout=subprocess.PIPE, check=False, **how)
         return ran.returncode, ran.stdout
 
-    def said_with(self, texts, places):
+    def said_with(self, texts, places=()):
         """How a check of the functions at these places ended, and what it said, with these texts in place of the
-        crate's own; of the whole crate, where a place is in no function."""
+        crate's own; of the whole crate, where there are none or a place is in no function."""
         before = {path: (self.crate / path).read_text(encoding="utf-8") for path in texts}
         for path, text in texts.items():
             (self.crate / path).write_text(text, encoding="utf-8")
         # where a function's name fits none or several, all functions of its module
         for name_of in (told.Place.checked_as, told.Place.module, None):
             names = set(map(name_of, places)) if name_of else ()
-            if not all(names):
+            if name_of and not (names and all(names)):
                 continue
             status, said = self.check(*(f"--only={it}" for it in sorted(names)))
             if status != told.NO_SUCH_PATH:
@@ -81,8 +82,11 @@ class Room:
 
     def try_one(self, edit):
         """What is to be said of the wrong body: how it was met, and what more."""
-        texts, places = apply.texts_of(edit, self.crate), told.places_of(edit, self.crate)
-        return told.met(edit, self.crate, texts, *self.said_with(texts, places))
+        texts = apply.texts_of(edit, self.crate)
+        met = told.met(edit, self.crate, texts, *self.said_with(texts, told.places_of(edit, self.crate)))
+        if met[0] == told.STILL_PROVED:
+            met = told.met(edit, self.crate, texts, *self.said_with(texts))
+        return met
 
     def refused_at_once(self, batch):
         """Those of the batch that a goal of each of their functions refuses."""
@@ -139,13 +143,19 @@ def try_crate(root, name, edits, crates, folder, said):
         print(f"{name}/{edit.name}: {kind}{more and ': ' + more}", flush=True)
         kinds.append(kind)
 
-    for batch in room.batches(edits):
-        refused = room.refused_at_once(batch) if len(batch.edits) > 1 else []
-        for edit in refused:
-            tell(edit, told.KINDS[0], ", ".join(sorted(told.changed_by(edit, room.crate))))
-        for edit in batch.edits:
-            if edit not in refused:
-                tell(edit, *room.try_one(edit))
+    def try_all(edits):
+        for batch in room.batches(edits):
+            refused = room.refused_at_once(batch) if len(batch.edits) > 1 else []
+            for edit in refused:
+                tell(edit, told.KINDS[0], ", ".join(sorted(told.changed_by(edit, room.crate))))
+            left = [it for it in batch.edits if it not in refused]
+            if refused:
+                try_all(left)
+            else:
+                for edit in left:
+                    tell(edit, *room.try_one(edit))
+
+    try_all(edits)
     status, words = (0, "") if said else room.check()
     if status:
         print(f"{name} is not proved as it stands:", *words.splitlines()[-6:], sep="\n", flush=True)

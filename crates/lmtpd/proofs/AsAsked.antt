@@ -12,14 +12,17 @@ use Rattle.lmtp_house.specs.declared.house.fault.HouseFault.{HouseFault}
 use Rattle.lmtp_house.specs.declared.house.fault.HouseFault.TheVariants as house
 use Rattle.lmtpd_words.specs.Words.{named_site}
 use Rattle.lmtpd_words.specs.declared.words.ServeWords.{ServeWords}
-use Rattle.lmtpd.specs.declared.fault.Fault.TheVariants as fault
-use Rattle.lmtpd.specs.declared.stop.Stop.TheVariants as stop
-use Rattle.lmtpd.specs.Faults.{first_fault, house_refusal}
+use Rattle.lmtpd_setup.specs.declared.fault.Fault.TheVariants as fault
+use Rattle.lmtpd_setup.specs.declared.stop.Stop.TheVariants as stop
+use Rattle.lmtpd_setup.specs.Faults.{first_fault}
+use Rattle.lmtpd.specs.Lacking.{house_refusal}
 use Rattle.lmtpd_listen.specs.Listening.{Names}
 use Rattle.lmtpd_listen.specs.declared.fault.ListenFault.TheVariants as listen
 use Rattle.lmtpd_listen.specs.declared.listen_address.ListenAddress.{ListenAddress}
-use Rattle.lmtpd.specs.declared.fault.Fault.{Fault}
-use Rattle.lmtpd.specs.Program.{IsUnopenedAt, IsListenAddress, IsNotRun, IsNotServed, IsServedAsAsked, IsSizeAsked, sizes_asked}
+use Rattle.lmtpd_setup.specs.declared.fault.Fault.{Fault}
+use Rattle.lmtpd_setup.specs.Setup.{IsNotSetUp, IsUnopenedAt}
+use Rattle.lmtpd_setup.specs.declared.stop.Stop.{Stop}
+use Rattle.lmtpd.specs.Program.{IsListenAddress, IsNotRun, IsNotServed, IsServedAsAsked, IsSizeAsked, sizes_asked}
 use Rattle.lmtpd.proofs.Unrun.{causes, unrun}
 
 not_run : (words : ServeWords) (cause : HouseFault) → IsListenAddress words.listen.now → first_fault (named_site words.site) ≡ None
@@ -81,6 +84,15 @@ no_server words cause site sizes count address made asked boxes only (inr good) 
     not_run words cause address made.1 (unrun (IsSizeAsked words) cause (inl (size_asked words site sizes count made.0 asked boxes good))
     (λ f asks. only (ap Err f) (size_given words site sizes count made.0 asked boxes asks))
     (λ bad. absurd (bad (size_asked words site sizes count made.0 asked boxes good))))
+
+-- it wasn't set up
+pub unset : (words : ServeWords) (s : Stop) → IsListenAddress words.listen.now → IsNotSetUp words.site s → IsNotServed words s
+unset words s address (inl memory) = inl memory
+unset words s address (inr (inl (f, is, fault_of_site))) = inr (inr (address, inl (f, is, fault_of_site)))
+unset words (stop.Unopened name) address (inr (inr (sound, named))) = inr (inr (address, inr (sound, named)))
+unset words (stop.Fault f) address (inr (inr (sound, is))) = inl (ap stop.Fault is)
+unset words (stop.Words refused) address (inr (inr (sound, never))) = absurd never
+unset words (stop.Unread path) address (inr (inr (sound, never))) = absurd never
 
 -- what listens wasn't opened
 pub unopened : (words : ServeWords) (listen_address : ListenAddress) (f : Fault) → Names words.listen.now listen_address

@@ -1,11 +1,11 @@
 -- What the definitions of faults give, by computing: a row for each case that no run of the program reaches as easily.
-use Rattle.std.proofs.Common.{◌≡◌, refl, Bool, true, false, [], Some, None, codes}
+use Rattle.std.proofs.Common.{◌≡◌, refl, Bool, true, false, Some, None}
 use Rattle.lmtp_talk.specs.declared.ending.EndCause.{EndCause}
 use Rattle.lmtp_talk.specs.declared.ending.EndCause.TheVariants.{EndOfInput, Quit, ReadFault, WriteFault}
 use Rattle.lmtpd_rehearse.specs.declared.ending.Ending.{Ending}
 use Rattle.lmtpd_serve.specs.declared.served.ServerEnding.{ServerEnding}
-use Rattle.lmtpd.specs.declared.fault.Fault.TheVariants as fault
-use Rattle.lmtpd.specs.Faults.{first_fault, rehearsal_fault, server_fault}
+use Rattle.lmtpd_setup.specs.declared.fault.Fault.TheVariants as fault
+use Rattle.lmtpd.specs.Lacking.{rehearsal_fault, server_fault}
 
 abbrev pub ended : EndCause → Bool → Bool → Ending
 ended end faulty cut = record { end = end; faulty = faulty; cut = cut }
@@ -49,8 +49,3 @@ spool_and_listener_failed = refl
 
 pub write_and_listener_failed : server_fault (served false true true) ≡ Some fault.Device
 write_and_listener_failed = refl
-
--- no mailbox, which is looked for before a bad host
-pub no_box : first_fault (record { host = codes "mx_example"; domains = []; boxes = []; message_limit = 1048576; recipient_delimiter = None })
-    ≡ Some fault.NoBox
-no_box = refl

@@ -1,6 +1,4 @@
 mod FaultRows
 pub mod AfterLines
 pub mod AsAsked
-pub mod Orders
 pub mod Unrun
-pub mod Whole

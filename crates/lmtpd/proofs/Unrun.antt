@@ -5,10 +5,11 @@ use Rattle.std.proofs.lemmas.Bool.{ltb-true, ltb-false}
 use Rattle.mail_world.specs.declared.limits.TheConstants.{BLOCK_LIMIT}
 use Rattle.lmtp_house.specs.declared.house.fault.HouseFault.{HouseFault}
 use Rattle.lmtp_house.specs.declared.house.fault.HouseFault.TheVariants as house
-use Rattle.lmtpd.specs.declared.fault.Fault.TheVariants as fault
+use Rattle.lmtpd_setup.specs.declared.fault.Fault.TheVariants as fault
 use Rattle.lmtpd_words.specs.Words.{named_site}
 use Rattle.lmtpd_words.specs.declared.words.RehearseWords.{RehearseWords}
-use Rattle.lmtpd.specs.Faults.{first_fault, house_refusal}
+use Rattle.lmtpd_setup.specs.Faults.{first_fault}
+use Rattle.lmtpd.specs.Lacking.{house_refusal}
 use Rattle.lmtpd.specs.Program.{IsNotRun, IsNotRehearsed}
 use Rattle.lmtpd_rehearse.specs.Rehearsal.{IsBlockCount}
 

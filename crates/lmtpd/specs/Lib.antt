@@ -1,4 +1,2 @@
-pub mod Boxes
-pub mod Faults
-pub mod Unopened
+pub mod Lacking
 pub mod Program

@@ -1,19 +1,16 @@
 -- What a run of the program comes to: the words say what is asked for, and then come what was done, the lines on
 -- standard error and the status.
-use Rattle.std.specs.Prelude.{◌≡◌, ◌⊎◌, ◌*◌, ◌-◌, ◌^◌, min, ℕ, true, List, [], ◌∷◌, ◌++◌, length, codes, Option, Some}
-use Rattle.std.specs.Prelude.{None, Contains}
+use Rattle.std.specs.Prelude.{◌≡◌, ◌⊎◌, ◌*◌, ◌-◌, ◌^◌, min, ℕ, true, List, ◌++◌, length, Option, Some, None, Contains}
 use Rattle.std.specs.Option.{option_map_or}
 use Rattle.clap.specs.Words.{Text, kind_of, subcommand_of, takes}
 use Rattle.clap.specs.declared.error.Error.{Error}
 use Rattle.clap.specs.declared.error.kind.ErrorKind.TheVariants.{OutOfMemory}
-use Rattle.mail_world.specs.Text.{lf}
 use Rattle.lmtp_text.specs.Sites.{texts}
 use Rattle.mbox_record.specs.Spool.{SpoolState}
 use Rattle.lmtp_talk.specs.Entries.{Entry}
 use Rattle.lmtp_house.specs.House.{IsSize}
 use Rattle.lmtp_house.specs.declared.house.sizes.Sizes.{Sizes}
 use Rattle.lmtp_talk.specs.declared.tcp.peer.Bounds.{Bounds}
-use Rattle.lmtpd_serve.specs.declared.ends.Ends.{Ends}
 use Rattle.lmtpd_words.specs.CommandLine.{program_app}
 use Rattle.lmtpd_words.specs.Words.{IsAsked, IsLacking, named_site}
 use Rattle.lmtpd_words.specs.declared.words.RehearseWords.{RehearseWords}
@@ -22,52 +19,24 @@ use Rattle.lmtpd_words.specs.declared.words.CheckWords.{CheckWords}
 use Rattle.lmtpd_words.specs.declared.words.SiteWords.{SiteWords}
 use Rattle.lmtpd_words.specs.declared.words.Words.TheVariants.{Rehearse, Serve, Check}
 use Rattle.lmtpd_listen.specs.Listening.{AsksInherited, IsRefused, Names}
-use Rattle.lmtpd_listen.specs.Opened.{IsUnopened}
 use Rattle.lmtpd_listen.specs.declared.fault.ListenFault.{ListenFault}
 use Rattle.lmtpd_listen.specs.declared.listen_address.ListenAddress.{ListenAddress}
-use Rattle.lmtpd.specs.Boxes.{IsUnfilled}
-use Rattle.lmtpd.specs.Faults.{check_fault, check_status, fault_text, first_fault, listen_refusal, rehearsal_fault}
-use Rattle.lmtpd.specs.Faults.{server_fault, status_of, stop_for, stop_status}
+use Rattle.lmtpd_setup.specs.Boxes.{IsUnfilled}
+use Rattle.lmtpd_setup.specs.Faults.{first_fault, listen_refusal, stop_for, stop_status}
+use Rattle.lmtpd_setup.specs.Lines.{line_after, status_after, stop_line}
+use Rattle.lmtpd_setup.specs.declared.fault.Fault.{Fault}
+use Rattle.lmtpd_setup.specs.declared.fault.Fault.TheVariants as fault
+use Rattle.lmtpd_setup.specs.declared.stop.Stop.{Stop}
+use Rattle.lmtpd_setup.specs.declared.stop.Stop.TheVariants as stop
 use Rattle.lmtpd_check.specs.Checked.{IsChecked, unlocked_lines}
 use Rattle.lmtpd_check.specs.declared.checked.Checked.{Checked as CheckedFiles}
 use Rattle.lmtpd_rehearse.specs.Rehearsal.{IsBlockCount, IsRehearsed, Streams}
+use Rattle.lmtpd_rehearse.specs.declared.ending.Ending.{Ending}
 use Rattle.lmtpd_serve.specs.Served.{IsServerRun, trouble_lines}
-use Rattle.lmtpd.specs.declared.fault.Fault.{Fault}
-use Rattle.lmtpd.specs.declared.fault.Fault.TheVariants as fault
+use Rattle.lmtpd_serve.specs.declared.served.Served.{Served as ServedRun}
+use Rattle.lmtpd.specs.Lacking.{check_fault, check_status, rehearsal_fault, server_fault}
 use Rattle.lmtpd.specs.declared.program.Done.{Done}
 use Rattle.lmtpd.specs.declared.program.Done.TheVariants.{Rehearsed, Served, Checked, Stopped}
-use Rattle.lmtpd_rehearse.specs.declared.ending.Ending.{Ending}
-use Rattle.lmtpd_serve.specs.declared.served.Served.{Served as ServedRun}
-use Rattle.lmtpd.specs.declared.stop.Stop.{Stop}
-use Rattle.lmtpd.specs.declared.stop.Stop.TheVariants as stop
-
--- the line on standard error for a fault
-abbrev pub fault_line : Fault → List ℕ
-fault_line f = codes "lmtpd: " ++ fault_text f ++ (lf ∷ [])
-
--- the line for a mailbox whose file can't be opened
-abbrev pub unopened_line : List ℕ → List ℕ
-unopened_line name = codes "lmtpd: cannot open " ++ name ++ (codes ".mbox" ++ (lf ∷ []))
-
--- the line for a file of mailboxes that can't be read
-abbrev pub unread_line : List ℕ → List ℕ
-unread_line path = codes "lmtpd: cannot read " ++ path ++ (lf ∷ [])
-
--- what the program itself says where it stops early; clap says its own text
-abbrev pub stop_line : Stop → List ℕ
-stop_line (stop.Words error) = []
-stop_line (stop.Fault f) = fault_line f
-stop_line (stop.Unopened name) = unopened_line name.now
-stop_line (stop.Unread path) = unread_line path.now
-
--- the line and the status where all was done that was asked for, but for a fault
-abbrev pub line_after : Option Fault → List ℕ
-line_after None = []
-line_after (Some f) = fault_line f
-
-abbrev pub status_after : Option Fault → ℕ
-status_after None = 0
-status_after (Some f) = status_of f
 
 -- why a server of a size didn't run, where memory wasn't lacking
 abbrev pub IsNotRun : Type 0 → Fault → Type 0
@@ -105,11 +74,6 @@ IsNotRehearsedFilled Fills words s = IsUnfilled words.site s
 abbrev pub IsListenAddress : List ℕ → Type 0
 IsListenAddress text = (listen_address : ListenAddress) × Names text listen_address
 
--- why nothing was opened there
-abbrev pub IsUnopenedAt : ListenAddress → Fault → Type 0
-IsUnopenedAt listen_address f = (refused : ListenFault) × (f ≡ listen_refusal refused)
-    × IsUnopened listen_address refused
-
 -- the sizes that the words of a server ask for: a slot for each lane
 abbrev pub sizes_asked : ServeWords → Sizes
 sizes_asked words = record {
@@ -126,10 +90,6 @@ connections_asked words = option_map_or (λ count. count) words.connections (2 ^
 -- what a conversation may ask of its client: two waits make a second
 abbrev pub bounds_asked : ServeWords → Bounds
 bounds_asked words = record { reads = words.reads; waits = min (words.timeout * 2) (2 ^ 32 - 1) }
-
--- what else ends the server, and a conversation
-abbrev pub ends_asked : ServeWords → Ends
-ends_asked words = record { stop_file = words.stop_file; heals = words.heal; session_time = words.session_time }
 
 abbrev pub IsSizeAsked : ServeWords → Type 0
 IsSizeAsked words =

@@ -3,16 +3,16 @@
 ghost use Rattle.std.specs.Prelude.{◌≡◌, ◌++◌, MatchResult, OnOk, OnErr};
 ghost use Rattle.std.specs.Io.KnownBytes.{Appends};
 ghost use Rattle.std.specs.List.{list_all};
-ghost use Rattle.lmtpd.specs.Faults.{check_fault, check_status};
-ghost use Rattle.lmtpd.specs.Program.{IsCheckedAsAsked, line_after};
+ghost use Rattle.lmtpd.specs.Lacking.{check_fault, check_status};
+ghost use Rattle.lmtpd.specs.Program.{IsCheckedAsAsked};
+ghost use Rattle.lmtpd_setup.specs.Lines.{line_after};
 ghost use Rattle.lmtpd_check.specs.Checked.{is_letters, unlocked_lines};
-ghost use Rattle.lmtpd_output.specs.Output.{IsCutOff};
-ghost use Rattle.lmtpd_rehearse.specs.Rehearsal.{IsListed};
+ghost use Rattle.lmtpd_output.specs.Output.{IsCutOff, IsListed};
 
-use crate::fault::{Fault, check_fault};
-use crate::stop::{Exit, write_fault};
+use crate::lacking::check_fault;
 use lmtpd_check::{Checked, Finding, check_files, write_unlocked_lines};
 use lmtpd_output::WriteFault;
+use lmtpd_setup::{Exit, Fault, write_fault};
 use lmtpd_words::CheckWords;
 use mbox_rd::RangeLock;
 use std::fs::Files;

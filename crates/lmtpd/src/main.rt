@@ -1,25 +1,22 @@
 //! `lmtpd`, the last hop of a mail site: it speaks LMTP (RFC 2033) and delivers into mboxrd mailboxes.
 //!
-//! `run_program` does what the words ask for: here the site is made, sockets and files are opened, and faults become a
-//! line on standard error and a status. Nothing stands above it but the system; how mail is served it never knows: that
+//! `run_program` does what the words ask for: here a rehearsal, a server or a check is run over what was made ready for it,
+//! and faults become a line on standard error and a status. Nothing stands above it but the system; how mail is served it never knows: that
 //! is done below.
 #![tactic(auto)]
 
-mod boxes;
 mod check;
-mod fault;
+mod lacking;
 mod program;
 mod rehearse;
 mod serve;
-mod site;
-mod stop;
 
+use lmtpd_setup::Stop;
 use lmtpd_words::not_text;
 use program::run_program;
 use std::alloc::AllocError;
 use std::process::ExitCode;
 use std::{env, io};
-use stop::Stop;
 
 // It hands on the words, room for the text of a file that they name, standard input, output and error, and ends with
 // the status that it is given: that is all that no contract says of it. The lanes and workers start by a handle of

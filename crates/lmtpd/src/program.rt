@@ -2,22 +2,22 @@
 
 ghost use Rattle.std.specs.Prelude.{◌≡◌};
 ghost use Rattle.lmtpd_listen.specs.declared.server.ServerSocket.{ServerSocket};
-ghost use Rattle.lmtpd_serve.specs.declared.ends.ServerCurfew.{ServerCurfew};
+ghost use Rattle.lmtpd_setup.specs.declared.ends.ServerCurfew.{ServerCurfew};
 ghost use Rattle.lmtpd_words.specs.Words.{as_texts};
-ghost use Rattle.lmtpd.specs.Boxes.{IsFilled};
+ghost use Rattle.lmtpd_setup.specs.Boxes.{IsFilled};
 ghost use Rattle.lmtpd.specs.Program.{IsCheckedAsAsked, IsDoneAsAsked, IsServedAsAsked, exit_lines, exit_status};
 ghost use Rattle.lmtpd.specs.Program.{streams_of};
-ghost use Rattle.lmtpd_rehearse.specs.Rehearsal.{IsListed};
+ghost use Rattle.lmtpd_output.specs.Output.{IsListed};
 
 use crate::check::{check_asked, report_checked};
-use crate::fault::rehearsal_fault;
+use crate::lacking::rehearsal_fault;
 use crate::rehearse::rehearse_filled;
-use crate::serve::{ServedMailbox, ServerLog, report_served, serve_filled};
-use crate::stop::{Exit, Stop, report_fault};
+use crate::serve::{report_served, serve_filled};
 use lmtpd_check::Checked;
 use lmtpd_log::{LaneLog, LineLog};
 use lmtpd_rehearse::Rehearsed;
 use lmtpd_serve::Served;
+use lmtpd_setup::{Exit, ServedMailbox, ServerLog, Stop, report_fault};
 use lmtpd_words::{Words, read_words};
 use mbox_rd::{FileLock, RangeLock, Spool};
 use std::env::Env;

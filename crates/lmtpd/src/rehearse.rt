@@ -1,15 +1,13 @@
 //! The rehearsal that the program's words ask for.
 
 ghost use Rattle.std.specs.Prelude.{MatchResult};
-ghost use Rattle.lmtpd.specs.Boxes.{IsFilled};
+ghost use Rattle.lmtpd_setup.specs.Boxes.{IsFilled};
 ghost use Rattle.lmtpd.specs.Program.{IsNotRehearsed, IsNotRehearsedFilled, IsRehearsedAsAsked, IsRehearsedFilled};
 ghost use Rattle.lmtpd.specs.Program.{streams_of};
 
-use crate::boxes::fill;
-use crate::fault::Fault;
-use crate::site::site_of;
-use crate::stop::Stop;
+use crate::lacking::house_fault;
 use lmtpd_rehearse::{Rehearsed, rehearse_run};
+use lmtpd_setup::{Fault, Stop, fill, site_of};
 use lmtpd_words::RehearseWords;
 use std::alloc::Global;
 use std::fs::Files;
@@ -71,6 +69,9 @@ where
         words.time,
         reader,
         writer,
-    )?;
-    Ok(rehearsed)
+    );
+    match rehearsed {
+        Ok(rehearsed) => Ok(rehearsed),
+        Err(cause) => Err(house_fault(cause)),
+    }
 }

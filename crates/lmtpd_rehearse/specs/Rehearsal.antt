@@ -152,12 +152,6 @@ pub record IsHeld (site : Site) (quota : Option ℕ) (moment : ℕ) (old new : S
   pub says : IsWritten (replies site (inputs site (conversation read account))) (held.end ≡ WriteFault) said
   pub ends : RehearsalEndsFor site read account new.unread held.end
 
--- a text was written after that, or a prefix of it where it was cut
-pub record IsListed (text : List ℕ) (before after : Option (List ℕ)) (cut : Bool) : Type 0 where
-  pub listed : List ℕ
-  pub output : Appends before after listed
-  pub lists : IsWritten text (cut ≡ true) listed
-
 -- how many blocks there may be
 abbrev pub IsBlockCount : ℕ → Type 0
 IsBlockCount blocks = (1 ≤ blocks) × (blocks ≤ BLOCK_LIMIT)

@@ -6,18 +6,12 @@
 
 mod busy;
 mod conversations;
-mod ends;
-mod hurried;
 mod lines;
 mod run;
 mod served;
-mod watched;
 
 pub use conversations::Conversations;
-pub use ends::{Ends, ServerCurfew};
-pub use hurried::HurriedClock;
 pub use lines::{Trouble, write_trouble_lines};
 pub use lmtp_house::{Bounds, ClientStream, Curfew, Endpoint, Listener, Sizes, Tally, WAIT_MS};
 pub use run::serve_run;
 pub use served::{Served, ServerEnding};
-pub use watched::WatchedMailbox;

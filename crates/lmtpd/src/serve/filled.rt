@@ -2,17 +2,14 @@
 
 ghost use Rattle.std.specs.Prelude.{MatchResult};
 ghost use Rattle.lmtpd_listen.specs.declared.server.ServerSocket.{ServerSocket};
-ghost use Rattle.lmtpd_serve.specs.declared.ends.ServerCurfew.{ServerCurfew};
-ghost use Rattle.lmtpd.specs.Boxes.{IsFilled};
+ghost use Rattle.lmtpd_setup.specs.declared.ends.ServerCurfew.{ServerCurfew};
+ghost use Rattle.lmtpd_setup.specs.Boxes.{IsFilled};
 ghost use Rattle.lmtpd.specs.Program.{IsNotServedFilled, IsServedAsAsked, IsServedFilled};
 
 use super::asked::serve_asked;
-use super::logger::ServerLog;
-use super::mailboxes::ServedMailbox;
-use crate::boxes::fill;
-use crate::stop::Stop;
 use lmtpd_log::{LaneLog, LineLog};
 use lmtpd_serve::Served;
+use lmtpd_setup::{ServedMailbox, ServerLog, Stop, fill};
 use lmtpd_words::ServeWords;
 use mbox_rd::{FileLock, RangeLock, Spool};
 use std::env::Env;

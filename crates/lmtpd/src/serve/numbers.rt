@@ -1,9 +1,9 @@
-//! The numbers that the words of a server name, and what ends it.
+//! The numbers that the words of a server name.
 
 ghost use Rattle.std.specs.Prelude.{◌≡◌};
-ghost use Rattle.lmtpd.specs.Program.{bounds_asked, connections_asked, ends_asked, sizes_asked};
+ghost use Rattle.lmtpd.specs.Program.{bounds_asked, connections_asked, sizes_asked};
 
-use lmtpd_serve::{Bounds, Ends, Sizes, WAIT_MS};
+use lmtpd_serve::{Bounds, Sizes, WAIT_MS};
 use lmtpd_words::ServeWords;
 
 /// Its sizes, with a slot for each lane.
@@ -36,16 +36,5 @@ pub fn bounds_asked(words: &ServeWords<'_>) -> Bounds
     Bounds {
         reads: u64::from(words.reads),
         waits: words.timeout.saturating_mul(waits_a_second),
-    }
-}
-
-/// What else ends it, and a conversation.
-pub fn ends_asked<'a>(words: &ServeWords<'a>) -> Ends<'a>
-    ensures { result ≡ ends_asked words.now }
-{
-    Ends {
-        stop_file: words.stop_file,
-        heals: words.heal,
-        session_time: words.session_time,
     }
 }

@@ -2,7 +2,7 @@ use Rattle.std.proofs.Common.{ap, inl, inr, subst}
 use Rattle.clap.specs.Words.{subcommand_of}
 use Rattle.lmtpd_words.specs.CommandLine.{program_app}
 use Rattle.lmtpd_words.specs.Words.{IsAsked, as_texts}
-use Rattle.lmtpd.specs.declared.stop.Stop.TheVariants as stop
+use Rattle.lmtpd_setup.specs.declared.stop.Stop.TheVariants as stop
 use Rattle.lmtpd.proofs.program.do_asked.Goals as goal
 
 pub returns-in-Ok : goal.returns-in-Ok

@@ -1,0 +1,12 @@
+use Rattle.std.proofs.lemmas.Result.{err_from_is_err_and}
+use Rattle.lmtpd.proofs.AsAsked.{unopened}
+use Rattle.lmtpd.proofs.serve.asked.serve_asked.Goals as goal
+
+pub serve_opened-requires-clause-address : goal.serve_opened-requires-clause-address
+serve_opened-requires-clause-address g c κs within = (c.in_ok-listen_address.listen_address, c.in_ok-listen_address.ensures)
+
+pub returns-in_err-opened : goal.returns-in_err-opened
+returns-in_err-opened g c =
+    let p = err_from_is_err_and c.from_residual-in_err-opened.result c.from_residual-in_err-opened.ensures.1 in
+    rw (p.1, p.2) (unopened c.args.words.now c.in_ok-listen_address.listen_address c.in_err-opened.field-0.0 c.in_ok-listen_address.ensures
+    c.in_ok-setup.ensures.sound c.in_err-opened.ensures)

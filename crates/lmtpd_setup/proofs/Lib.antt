@@ -1,0 +1,3 @@
+mod SiteRows
+pub mod Orders
+mod Whole

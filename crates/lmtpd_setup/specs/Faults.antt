@@ -1,0 +1,111 @@
+-- What the program's words may lack, and what the program then answers.
+use Rattle.std.specs.Prelude.{ℕ, Bool, true, false, not, nat_lt, ◌==◌, List, [], ◌∷◌, length, if◌then◌else◌}
+use Rattle.std.specs.Prelude.{Option, Some, None, codes}
+use Rattle.std.specs.Borrow.{Bor}
+use Rattle.std.specs.List.{list_all}
+use Rattle.mail_world.specs.declared.limits.TheConstants.{BOX_LIMIT, MESSAGE_LIMIT}
+use Rattle.mail_world.specs.Site.{Site, is_host_name, is_box_name, has_twice}
+use Rattle.lmtp_text.specs.Sites.{texts}
+use Rattle.lmtp_text.specs.declared.site.SiteFault.{SiteFault}
+use Rattle.lmtp_text.specs.declared.site.SiteFault.TheVariants as cause
+use Rattle.lmtpd_listen.specs.declared.fault.ListenFault.{ListenFault}
+use Rattle.lmtpd_listen.specs.declared.fault.ListenFault.TheVariants as listen
+use Rattle.lmtpd_setup.specs.declared.fault.Fault.{Fault}
+use Rattle.lmtpd_setup.specs.declared.fault.Fault.TheVariants as fault
+use Rattle.lmtpd_setup.specs.declared.stop.Stop.{Stop}
+use Rattle.lmtpd_setup.specs.declared.stop.Stop.TheVariants as stop
+use Rattle.clap.specs.Words.{kind_of}
+use Rattle.clap.specs.declared.error.Error.{Error}
+use Rattle.clap.specs.declared.error.kind.ErrorKind.{ErrorKind}
+use Rattle.clap.specs.declared.error.kind.ErrorKind.TheVariants.{DisplayHelp, DisplayVersion, OutOfMemory}
+
+-- the program's exit status
+abbrev pub status_of : Fault → ℕ
+status_of fault.Memory = 1
+status_of fault.Listen = 1
+status_of fault.Size = 1
+status_of fault.NoThread = 1
+status_of fault.ChannelGone = 1
+status_of fault.Device = 1
+status_of _ = 2
+
+-- what standard error says of it
+abbrev pub fault_text : Fault → List ℕ
+fault_text fault.Address = codes "bad address"
+fault_text fault.Port = codes "port 25"
+fault_text fault.NoBox = codes "no box"
+fault_text fault.Host = codes "bad host"
+fault_text fault.Domain = codes "bad domain"
+fault_text fault.Box = codes "bad box"
+fault_text fault.TooManyBoxes = codes "too many boxes"
+fault_text fault.BoxTwice = codes "box named twice"
+fault_text fault.Memory = codes "memory"
+fault_text fault.Listen = codes "cannot listen"
+fault_text fault.Size = codes "size"
+fault_text fault.NoThread = codes "no thread"
+fault_text fault.ChannelGone = codes "channel gone"
+fault_text fault.Device = codes "device fault"
+
+-- the fault for a site that could not be made
+abbrev pub refusal : SiteFault → Fault
+refusal cause.Memory = fault.Memory
+refusal cause.Host = fault.Host
+refusal cause.Domain = fault.Domain
+refusal cause.Box = fault.Box
+refusal cause.Count = fault.TooManyBoxes
+refusal cause.Twice = fault.BoxTwice
+
+-- the fault for words that name no address to listen at, or one where nothing could be opened
+abbrev pub listen_refusal : ListenFault → Fault
+listen_refusal listen.Address = fault.Address
+listen_refusal listen.Port = fault.Port
+listen_refusal listen.Memory = fault.Memory
+listen_refusal (listen.Listen reason) = fault.Listen
+
+abbrev pub is_memory : ErrorKind → Bool
+is_memory OutOfMemory = true
+is_memory _ = false
+
+-- the first fault of a site, in the order in which the program looks: whether there is a box comes before all names,
+-- and each box alone before their number
+abbrev pub first_fault : Site → Option Fault
+first_fault site =
+    if length site.boxes == 0 then Some fault.NoBox
+    else if not (is_host_name site.host) then Some fault.Host
+    else if not (list_all is_host_name site.domains) then Some fault.Domain
+    else if not (list_all is_box_name site.boxes) then Some fault.Box
+    else if nat_lt BOX_LIMIT (length site.boxes) then Some fault.TooManyBoxes
+    else if has_twice site.boxes then Some fault.BoxTwice
+    else None
+
+-- the site of that host with those further domains and one mailbox
+abbrev pub site_of_one : List ℕ → List (Bor (List ℕ)) → List ℕ → Site
+site_of_one host domains name =
+    record {
+      host = host;
+      domains = texts domains;
+      boxes = name ∷ [];
+      message_limit = MESSAGE_LIMIT;
+      recipient_delimiter = None;
+    }
+
+-- why the program ends where clap answers so
+abbrev pub stop_for : Error → Stop
+stop_for error = if is_memory (kind_of error) then stop.Fault fault.Memory else stop.Words error
+
+-- help was asked for, and so it is no mistake
+abbrev pub is_shown : ErrorKind → Bool
+is_shown DisplayHelp = true
+is_shown DisplayVersion = true
+is_shown _ = false
+
+-- the exit status after clap's answer
+abbrev pub words_status : ErrorKind → ℕ
+words_status kind = if is_shown kind then 0 else 2
+
+-- the program's exit status where it stops early
+abbrev pub stop_status : Stop → ℕ
+stop_status (stop.Words error) = words_status (kind_of error)
+stop_status (stop.Fault f) = status_of f
+stop_status (stop.Unopened name) = 1
+stop_status (stop.Unread path) = 1

@@ -1,0 +1,31 @@
+-- What a server has before it listens, and why it hasn't.
+use Rattle.std.specs.Prelude.{◌≡◌, ◌⊎◌, Some, None}
+use Rattle.lmtpd_words.specs.Words.{named_site}
+use Rattle.lmtpd_words.specs.declared.words.ServeWords.{ServeWords}
+use Rattle.lmtpd_words.specs.declared.words.SiteWords.{SiteWords}
+use Rattle.lmtpd_listen.specs.Opened.{IsUnopened}
+use Rattle.lmtpd_listen.specs.declared.fault.ListenFault.{ListenFault}
+use Rattle.lmtpd_listen.specs.declared.listen_address.ListenAddress.{ListenAddress}
+use Rattle.lmtpd_setup.specs.Faults.{first_fault, listen_refusal}
+use Rattle.lmtpd_setup.specs.Unopened.{AreNotOpen}
+use Rattle.lmtpd_setup.specs.declared.ends.Ends.{Ends}
+use Rattle.lmtpd_setup.specs.declared.fault.Fault.{Fault}
+use Rattle.lmtpd_setup.specs.declared.fault.Fault.TheVariants as fault
+use Rattle.lmtpd_setup.specs.declared.stop.Stop.{Stop}
+use Rattle.lmtpd_setup.specs.declared.stop.Stop.TheVariants as stop
+
+-- what else ends the server, and a conversation
+abbrev pub ends_asked : ServeWords → Ends
+ends_asked words = record { stop_file = words.stop_file; heals = words.heal; session_time = words.session_time }
+
+-- why a server isn't set up: memory is lacking, and else the first fault of the site, and then one of its mailboxes'
+-- files
+abbrev pub IsNotSetUp : SiteWords → Stop → Type 0
+IsNotSetUp words s = (s ≡ stop.Fault fault.Memory)
+    ⊎ (((f : Fault) × (s ≡ stop.Fault f) × (first_fault (named_site words) ≡ Some f))
+    ⊎ ((first_fault (named_site words) ≡ None) × AreNotOpen words.boxes.items s))
+
+-- why nothing was opened there
+abbrev pub IsUnopenedAt : ListenAddress → Fault → Type 0
+IsUnopenedAt listen_address f = (refused : ListenFault) × (f ≡ listen_refusal refused)
+    × IsUnopened listen_address refused

@@ -1,0 +1,134 @@
+//! What ends a server though its clients aren't done: a file that an administrator makes, and a mailbox that failed.
+
+ghost use Rattle.std.specs.Prelude.{◌≡◌, ◌*◌, IfOk};
+ghost use Rattle.std.specs.Duration.{as_nanos};
+
+use lmtp_talk::{Curfew, has_passed};
+use std::alloc::{AllocError, Global};
+use std::fs;
+use std::fs::Files;
+use std::sync::atomic::{AtomicBool, AtomicU64, Ordering};
+use std::time::{Clock, Duration};
+
+/// How often the stop file is looked for, at most.
+const LOOK_MS: u64 = 250;
+
+/// How long a server that heals goes on after a mailbox failed.
+const HEAL_MS: u64 = 30_000;
+
+/// No mailbox has failed.
+const NEVER: u64 = u64::MAX;
+
+/// What ends a server, beside the number of its conversations, and what ends each of these.
+#[derive(Clone, Copy, Debug, PartialEq, Eq)]
+pub struct Ends<'a> {
+    /// The server ends in order once this file is there.
+    pub stop_file: Option<&'a str>,
+    /// The server ends a while after a mailbox failed.
+    pub heals: bool,
+    /// How many seconds a conversation may last.
+    pub session_time: u32,
+}
+
+/// The curfew of a server, which its lanes and mailboxes share.
+#[derive(Drop)]
+pub struct ServerCurfew<R> {
+    rt: R,
+    stop_file: Option<String>,
+    heals: bool,
+    session: Duration,
+    // by the monotonic clock, in milliseconds
+    looked: AtomicU64,
+    failed: AtomicU64,
+    is_asked: AtomicBool,
+}
+
+impl<R: Drop> ServerCurfew<R> {
+    /// Nothing has ended the server yet. From here on it takes no memory.
+    pub fn new(rt: R, alloc: Global, ends: Ends<'_>) -> Result<ServerCurfew<R>, AllocError>
+        ensures session { IfOk result (λ curfew. as_nanos curfew.session ≡ ends.entry.session_time * 1_000_000_000) }
+        ensures heals { IfOk result (λ curfew. curfew.heals ≡ ends.entry.heals) }
+    {
+        let stop_file = match ends.stop_file {
+            Some(path) => Some(format!(in alloc; "{path}")?),
+            None => None,
+        };
+        Ok(ServerCurfew {
+            rt,
+            stop_file,
+            heals: ends.heals,
+            session: Duration::from_secs(u64::from(ends.session_time)),
+            looked: AtomicU64::new(0),
+            failed: AtomicU64::new(NEVER),
+            is_asked: AtomicBool::new(false),
+        })
+    }
+}
+
+impl<R: Clock> ServerCurfew<R> {
+    /// A mailbox has failed; the first that did counts.
+    pub fn mailbox_failed(&self) {
+        if self.failed.load(Ordering::SeqCst) == NEVER {
+            self.failed.store(self.now_ms(), Ordering::SeqCst);
+        }
+    }
+
+    // Without a clock that tells the time nothing is over.
+    fn now(&self) -> Duration {
+        self.rt.monotonic().unwrap_or(Duration::ZERO)
+    }
+
+    fn now_ms(&self) -> u64 {
+        u64::try_from(self.now().as_millis()).unwrap_or(u64::MAX)
+    }
+
+    // Whether a mailbox failed so long ago that the server is to be started again.
+    fn is_to_heal(&self, now: u64) -> bool {
+        let failed = self.failed.load(Ordering::SeqCst);
+        self.heals && failed != NEVER && now.saturating_sub(failed) >= HEAL_MS
+    }
+}
+
+impl<R: Clock + Files> ServerCurfew<R> {
+    // Whether the stop file was there when it was looked for last.
+    fn is_stop_file_there(&self, now: u64) -> bool {
+        let Some(path) = &self.stop_file else {
+            return false;
+        };
+        let looked = self.looked.load(Ordering::SeqCst);
+        if looked != 0 && now.saturating_sub(looked) < LOOK_MS {
+            return false;
+        }
+        self.looked.store(now, Ordering::SeqCst);
+        fs::symlink_metadata(&self.rt, path.as_str()).is_ok()
+    }
+}
+
+impl<R: Clock + Files + Drop> Curfew for ServerCurfew<R> {
+    ghost use Rattle.std.specs.Prelude.{⊤};
+
+    ghost IsAsked = { λ _. ⊤ };
+
+    ghost IsOver = { λ _ _. ⊤ };
+
+    /// Once it was asked for it stays so.
+    fn is_asked(&self) -> bool {
+        if self.is_asked.load(Ordering::SeqCst) {
+            return true;
+        }
+        let now = self.now_ms();
+        let is_asked = self.is_to_heal(now) || self.is_stop_file_there(now);
+        if is_asked {
+            self.is_asked.store(true, Ordering::SeqCst);
+        }
+        is_asked
+    }
+
+    fn moment(&self) -> Duration {
+        self.rt.monotonic().unwrap_or(Duration::MAX)
+    }
+
+    fn is_over(&self, begun: Duration) -> bool {
+        has_passed(begun, self.now(), self.session) || self.is_asked()
+    }
+}

@@ -1,0 +1,31 @@
+//! What the program makes ready before its work begins: the site that its words name, with the mailboxes of the file
+//! that they name, the log, what ends a server, and its mailboxes' files; and what standard error says where that fails.
+//!
+//! The program uses that each is what its words ask for, and why it stops where one can't be had. It never knows of a
+//! server's run, of workers, or of a rehearsal.
+#![tactic(auto)]
+
+mod boxes;
+mod ends;
+mod fault;
+mod hurried;
+mod logger;
+mod mailboxes;
+mod opening;
+mod room;
+mod setup;
+mod site;
+mod stop;
+mod watched;
+
+pub use boxes::fill;
+pub use ends::{Ends, ServerCurfew};
+pub use fault::Fault;
+pub use hurried::HurriedClock;
+pub use logger::ServerLog;
+pub use mailboxes::ServedMailbox;
+pub use opening::open_address;
+pub use setup::{ServerSetup, set_up};
+pub use site::site_of;
+pub use stop::{Exit, Stop, report_fault, status_after, write_fault};
+pub use watched::WatchedMailbox;

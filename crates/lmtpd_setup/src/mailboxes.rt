@@ -1,0 +1,158 @@
+//! The files of a server's mailboxes.
+
+ghost use Rattle.std.specs.Prelude.{◌≡◌, length, vec_len, IfOk, IfErr};
+ghost use Rattle.lmtpd_log.specs.Logged.{file_in, spool_in};
+ghost use Rattle.lmtpd_setup.specs.Unopened.{AreNotOpen, IsNotOpen};
+
+use crate::ends::ServerCurfew;
+use crate::fault::Fault;
+use crate::hurried::HurriedClock;
+use crate::stop::Stop;
+use crate::watched::WatchedMailbox;
+use lmtpd_log::{LoggedFile, LoggedMailbox};
+use log::{Log, error};
+use mbox_rd::{RangeLock, SharedSpool, StdMailboxFile};
+use std::alloc::{AllocError, Global};
+use std::fs::Files;
+use std::io;
+use std::io::ErrorKind;
+use std::sync::Arc;
+use std::time::Clock;
+
+/// A mailbox's file that other programs read and empty too, whose failure is logged, and that waits for them until the
+/// server is to end.
+type SharedMailbox<R, G> = SharedSpool<LoggedFile<StdMailboxFile<R>, G>, HurriedClock<R>>;
+
+/// One whose failure ends a server that heals, and of which it is logged that it is in use.
+pub type ServedMailbox<R, G> = LoggedMailbox<WatchedMailbox<SharedMailbox<R, G>, R>, G>;
+
+/// Where mailboxes are, how many seconds a turn at one is waited for, and the permission bits of a file that is made.
+#[derive(Clone, Copy, Debug)]
+pub struct Access<'a> {
+    pub folder: &'a str,
+    pub wait: u32,
+    pub mode: u32,
+}
+
+/// Opens the file of each mailbox, `FOLDER/NAME.mbox`, in their order, up to the first that can't be opened, of which
+/// the log says why. A mailbox that fails is logged, and one that is in use.
+pub fn open_mailboxes<'a, R, G>(
+    rt: R,
+    alloc: Global,
+    access: Access<'_>,
+    names: &[&'a str],
+    curfew: &Arc<ServerCurfew<R>>,
+    log: G,
+) -> Result<Vec<ServedMailbox<R, G>>, Stop<'a>>
+where
+    R: Files + Clock + Copy + Drop,
+    R::File: RangeLock,
+    G: Log + Copy + Drop,
+    ensures count { IfOk result (λ spools. vec_len spools ≡ length names.now) }
+    ensures refused { IfErr result (AreNotOpen names.now) }
+{
+    let mut spools = match Vec::with_capacity(alloc, names.len()) {
+        Ok(spools) => spools,
+        Err(_) => return Err(Stop::Fault(Fault::Memory)),
+    };
+    for name in names {
+        let spool = open_mailbox(rt, alloc, access, name, curfew, log)?;
+        spools.push_reserved(logged_mailbox(alloc, spool, name, log)?);
+    }
+    Ok(spools)
+}
+
+fn logged_mailbox<'a, S: Drop, G: Drop>(
+    alloc: Global,
+    spool: S,
+    name: &'a str,
+    log: G,
+) -> Result<LoggedMailbox<S, G>, Stop<'a>>
+    ensures ok { IfOk result (λ mailbox. spool_in mailbox ≡ spool) }
+    ensures err { IfErr result (λ stop. stop ≡ Stop.Fault Fault.Memory) }
+{
+    match format!(in alloc; "{name}") {
+        Ok(name) => Ok(LoggedMailbox::new(spool, name, log)),
+        Err(_) => Err(Stop::Fault(Fault::Memory)),
+    }
+}
+
+fn open_mailbox<'a, R, G>(
+    rt: R,
+    alloc: Global,
+    access: Access<'_>,
+    name: &'a str,
+    curfew: &Arc<ServerCurfew<R>>,
+    log: G,
+) -> Result<WatchedMailbox<SharedMailbox<R, G>, R>, Stop<'a>>
+where
+    R: Files + Clock + Copy + Drop,
+    R::File: RangeLock,
+    G: Log + Drop,
+    ensures { IfErr result (IsNotOpen name.entry) }
+{
+    let file = open_file(rt, alloc, access, name, &log)?;
+    let file = logged_file(alloc, file, name, log)?;
+    let clock = HurriedClock::new(rt, shared(curfew)?);
+    match SharedSpool::new(alloc, file, clock, access.wait) {
+        Ok(spool) => Ok(WatchedMailbox::new(spool, shared(curfew)?)),
+        Err(_) => Err(Stop::Fault(Fault::Memory)),
+    }
+}
+
+// Where it can't be opened the log says why.
+fn open_file<'a, R: Files + Clock + Copy + Drop, G: Log>(
+    rt: R,
+    alloc: Global,
+    access: Access<'_>,
+    name: &'a str,
+    log: &G,
+) -> Result<StdMailboxFile<R>, Stop<'a>>
+where
+    R::File: RangeLock,
+    ensures { IfErr result (IsNotOpen name.entry) }
+{
+    let folder = access.folder;
+    let path = match format!(in alloc; "{folder}/{name}.mbox") {
+        Ok(path) => path,
+        Err(_) => return Err(Stop::Fault(Fault::Memory)),
+    };
+    match StdMailboxFile::open(rt, alloc, path.as_str(), access.mode) {
+        Ok(file) => Ok(file),
+        Err(reason) => Err(unopened(name, reason, log)),
+    }
+}
+
+fn unopened<'a, G: Log>(name: &'a str, reason: io::Error, log: &G) -> Stop<'a>
+    ensures { IsNotOpen name.entry result }
+{
+    if reason.kind() == ErrorKind::OutOfMemory {
+        return Stop::Fault(Fault::Memory);
+    }
+    error!(log; target: "lmtpd", mailbox = name, reason:%; "cannot open");
+    Stop::Unopened(name)
+}
+
+fn logged_file<'a, F: Drop, G: Drop>(
+    alloc: Global,
+    file: F,
+    name: &'a str,
+    log: G,
+) -> Result<LoggedFile<F, G>, Stop<'a>>
+    ensures ok { IfOk result (λ logged. file_in logged ≡ file) }
+    ensures err { IfErr result (λ stop. stop ≡ Stop.Fault Fault.Memory) }
+{
+    match format!(in alloc; "{name}") {
+        Ok(name) => Ok(LoggedFile::new(file, name, log)),
+        Err(_) => Err(Stop::Fault(Fault::Memory)),
+    }
+}
+
+fn shared<'a, T: Drop>(curfew: &Arc<T>) -> Result<Arc<T>, Stop<'a>>
+    ensures { IfErr result (λ stop. stop ≡ Stop.Fault Fault.Memory) }
+{
+    match Arc::try_clone(curfew) {
+        Ok(curfew) => Ok(curfew),
+        Err(_) => Err(Stop::Fault(Fault::Memory)),
+    }
+}

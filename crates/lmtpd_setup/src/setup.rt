@@ -1,0 +1,103 @@
+//! What a server has before it listens.
+
+ghost use Rattle.std.specs.Prelude.{◌≡◌, length, None, IfOk, IfErr};
+ghost use Rattle.std.specs.Arc.{arc_value};
+ghost use Rattle.lmtpd_words.specs.Words.{named_site};
+ghost use Rattle.lmtpd_setup.specs.Faults.{first_fault};
+ghost use Rattle.lmtpd_setup.specs.Setup.{IsNotSetUp, ends_asked};
+
+use crate::ends::{Ends, ServerCurfew};
+use crate::fault::Fault;
+use crate::logger::{ServerLog, line_setting, server_log};
+use crate::mailboxes::{Access, ServedMailbox, open_mailboxes};
+use crate::room::tell_of_room;
+use crate::site::shared_site;
+use crate::stop::Stop;
+use lmtp_text::Site;
+use lmtpd_log::LineSetting;
+use lmtpd_words::ServeWords;
+use mbox_rd::RangeLock;
+use std::alloc::Global;
+use std::env::Env;
+use std::fs::Files;
+use std::sync::Arc;
+use std::time::Clock;
+
+/// What a server has before it listens.
+#[derive(Drop)]
+pub struct ServerSetup<H>
+where
+    H: Files + Clock + Eprint + Copy + Drop,
+    H::File: RangeLock,
+{
+    pub site: Arc<Site>,
+    /// By it the program says what it can't open.
+    pub log: ServerLog<H>,
+    /// Of the server, its conversations and its mailboxes.
+    pub curfew: Arc<ServerCurfew<H>>,
+    /// One for each mailbox of the site, in its order.
+    pub spools: Vec<ServedMailbox<H, ServerLog<H>>>,
+    /// What the lanes' logs have in common.
+    pub logs: LineSetting<ServerLog<H>, H>,
+}
+
+/// Sets up the server that the words ask for: its site, and the files of its mailboxes, which are made where they
+/// aren't there. By `rt` it is seen whether standard error is the journal; `threads` is the handle that the server's
+/// threads take.
+pub fn set_up<'a, P, H>(
+    rt: &P,
+    threads: H,
+    words: &ServeWords<'a>,
+) -> Result<ServerSetup<H>, Stop<'a>>
+where
+    P: AllocGlobal + Files + Env,
+    H::File: RangeLock,
+    H: Clock + Files + Eprint + Copy + Drop,
+    ensures site { IfOk result (λ setup. arc_value setup.site ≡ named_site words.now.site) }
+    ensures sound { IfOk result (λ setup. first_fault (named_site words.now.site) ≡ None) }
+    ensures count { IfOk result (λ setup. length setup.spools.items ≡ length words.now.site.boxes.items) }
+    ensures refused { IfErr result (IsNotSetUp words.now.site) }
+{
+    let alloc = rt.alloc();
+    let site = shared_site(alloc, &words.site)?;
+    let log = server_log(rt, threads, words.log);
+    tell_of_room(words, &log);
+    let access = Access {
+        folder: words.dir,
+        wait: words.lock_wait,
+        mode: words.mailbox_mode,
+    };
+    let curfew = shared_curfew(threads, alloc, words)?;
+    let spools = open_mailboxes(threads, alloc, access, &words.site.boxes, &curfew, log)?;
+    let logs = line_setting(threads, log, words, &site)?;
+    Ok(ServerSetup {
+        site,
+        log,
+        curfew,
+        spools,
+        logs,
+    })
+}
+
+// What ends the server and its conversations, for lanes and mailboxes to share.
+fn shared_curfew<H: Drop>(
+    threads: H,
+    alloc: Global,
+    words: &ServeWords<'_>,
+) -> Result<Arc<ServerCurfew<H>>, Fault>
+    ensures { IfErr result (λ f. f ≡ Fault.Memory) }
+{
+    let curfew = ServerCurfew::new(threads, alloc, ends_asked(words))?;
+    Ok(Arc::new(alloc, curfew)?)
+}
+
+// What else ends the server, and a conversation.
+fn ends_asked<'a>(words: &ServeWords<'a>) -> Ends<'a>
+    ensures { result ≡ ends_asked words.now }
+{
+    Ends {
+        stop_file: words.stop_file,
+        heals: words.heal,
+        session_time: words.session_time,
+    }
+}

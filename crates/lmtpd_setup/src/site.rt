@@ -1,0 +1,88 @@
+//! The site that the program's words name.
+
+ghost use Rattle.std.specs.Prelude.{◌≡◌, ◌⊎◌, true, Some, None, IfOk, MatchResult};
+ghost use Rattle.std.specs.Arc.{arc_value};
+ghost use Rattle.mail_world.specs.Site.{IsSite, is_box_name};
+ghost use Rattle.std.specs.List.{list_all};
+ghost use Rattle.lmtp_text.specs.Sites.{site_of, texts};
+ghost use Rattle.lmtpd_words.specs.Words.{named_site};
+ghost use Rattle.lmtpd_setup.specs.Faults.{first_fault, site_of_one};
+
+use crate::fault::Fault;
+use lmtp_text::Site;
+use lmtpd_words::SiteWords;
+use std::alloc::{AllocError, Global};
+use std::sync::Arc;
+
+/// The site of these words. That there is a mailbox is looked at first; then each is tried alone, so that a bad name
+/// comes before too many.
+pub fn site_of(alloc: Global, words: &SiteWords) -> Result<Site, Fault>
+    ensures made { IfOk result (λ site. site ≡ named_site words.now) }
+    ensures sound { IfOk result IsSite }
+    ensures order { MatchResult result (λ _. first_fault (named_site words.now) ≡ None)
+        (λ fault. (fault ≡ Fault.Memory) ⊎ (first_fault (named_site words.now) ≡ Some fault)) }
+{
+    let domains = bytes_of(alloc, &words.domains)?;
+    let boxes = bytes_of(alloc, &words.boxes)?;
+    let site = make_site(alloc, words.host.as_bytes(), &domains, &boxes)?;
+    let site = site.with_message_limit(words.message_limit);
+    match words.recipient_delimiter {
+        Some(delimiter) => Ok(site.with_recipient_delimiter(delimiter)),
+        None => Ok(site),
+    }
+}
+
+/// The same, to be shared by threads.
+pub fn shared_site(alloc: Global, words: &SiteWords) -> Result<Arc<Site>, Fault>
+    ensures { MatchResult result
+        (λ site. (arc_value site ≡ named_site words.now) × (first_fault (named_site words.now) ≡ None))
+        (λ fault. (fault ≡ Fault.Memory) ⊎ (first_fault (named_site words.now) ≡ Some fault)) }
+{
+    let site = Arc::new(alloc, site_of(alloc, words)?)?;
+    Ok(site)
+}
+
+fn bytes_of<'a>(alloc: Global, names: &[&'a str]) -> Result<Vec<&'a [u8]>, AllocError>
+    ensures { IfOk result (λ v. texts v.items ≡ texts names.now) }
+{
+    let mut all = Vec::with_capacity(alloc, names.len())?;
+    for name in names {
+        all.push(name.as_bytes())?;
+    }
+    Ok(all)
+}
+
+#[tactic(auto, using(crate::proofs::Orders::none_refused))]
+fn make_site(alloc: Global, host: &[u8], domains: &[&[u8]], boxes: &[&[u8]]) -> Result<Site, Fault>
+    ensures made { IfOk result (λ site. site ≡ site_of host.now domains.now boxes.now) }
+    ensures sound { IfOk result IsSite }
+    ensures order { let site = site_of host.now domains.now boxes.now in
+        MatchResult result (λ _. first_fault site ≡ None)
+        (λ fault. (fault ≡ Fault.Memory) ⊎ (first_fault site ≡ Some fault)) }
+{
+    if boxes.is_empty() {
+        return Err(Fault::NoBox);
+    }
+    try_each_box(alloc, host, domains, boxes)?;
+    let site = Site::new(alloc, host, domains, boxes)?;
+    Ok(site)
+}
+
+fn try_each_box(alloc: Global, host: &[u8], domains: &[&[u8]], boxes: &[&[u8]]) -> Result<(), Fault>
+    ensures { MatchResult result (λ _. list_all is_box_name (texts boxes.now) ≡ true)
+        (λ fault. (fault ≡ Fault.Memory) ⊎ (first_fault (site_of host.now domains.now boxes.now) ≡ Some fault)) }
+{
+    for name in boxes {
+        try_box(alloc, host, domains, name)?;
+    }
+    Ok(())
+}
+
+fn try_box(alloc: Global, host: &[u8], domains: &[&[u8]], name: &[u8]) -> Result<(), Fault>
+    ensures { let site = site_of_one host.now domains.now name.now in
+        MatchResult result (λ _. first_fault site ≡ None)
+        (λ fault. (fault ≡ Fault.Memory) ⊎ (first_fault site ≡ Some fault)) }
+{
+    let _site = Site::new(alloc, host, domains, &[name])?;
+    Ok(())
+}
