@@ -27,12 +27,12 @@ toolchain:
 	grep -qF " ($$named)\";" $(TEXTS) || { echo 'make toolchain: $(TEXTS) has no version' >&2; exit 1; }; \
 	cd crates/lmtpd_words && rt fmt && echo "$(TEXTS) names another toolchain now, $$named: commit it"
 
-# Proves what isn't proved, side by side, and then builds the program over that: `rt run` proves what a crate's stamp
-# doesn't say is proved as it stands, and only a proved crate is built. The line that starts the program gives it a
-# message, so that it ends by itself.
+# Proves the libraries that aren't proved, side by side, and then proves and builds the program over that: `rt run`
+# proves what a crate's stamp doesn't say is proved as it stands, and only a proved crate is built. The line that starts
+# the program gives it a message, so that it ends by itself.
 build: toolchain
 	building/prove.py
-	cd crates/lmtpd && rt run -- $$(cat args) < stdin > /dev/null
+	cd crates/lmtpd && rt run --jobs $$(../../building/jobs_at_once) -- $$(cat args) < stdin > /dev/null
 
 # Installs the program that `make build` made, its manual page, its units for systemd with the user and the folder that
 # they need, those of several servers, what bash completes, and the files of its words and mailboxes, each where Debian

@@ -1,12 +1,12 @@
 #!/usr/bin/env python3
-"""Proves side by side each crate that isn't proved as it stands, for `make build`.
+"""Proves side by side each library that isn't proved as it stands, for `make build`.
 
 `rt all check` gives each crate one process, and our crates are one long chain: most of the time it goes on with one or
-two of them. Here the crate with the longest chain above it is proved by as many processes as there are cores, up to
-four, and the others fill what it leaves, by up to two processes each and at a lower priority. As rt holds the folders of all
-crates below the one that it works in, each works in a room of its own, which has the crates below by hard links; what
-it kept is moved to the crate's own folder then, where `rt run` takes it. A crate that isn't proved
-ends this with status 1, and what it said is printed.
+two of them. Here the crate with the longest chain above it, by the seconds of building/seconds, is proved by as many
+processes as there are cores, up to four, and the others fill what it leaves, by one or two processes each and at a
+lower priority. As rt holds the folders of all crates below the one that it works in, each works in a room of its own, which
+has the crates below by hard links; what it kept is moved to the crate's own folder then, where `rt run` takes it, which
+proves the program itself. A crate that isn't proved ends this with status 1, and what it said is printed.
 usage: building/prove.py, at the top of the repository
 """
 
@@ -21,10 +21,11 @@ import tempfile
 import time
 
 CRATES = pathlib.Path("crates")
+SECONDS = pathlib.Path("building/seconds")
 PARTS = ["src", "specs", "proofs"]
 ROOMS = ".proving-"
 MOST_JOBS = 4  # of the first check: more have nothing to do
-FILLING_JOBS = 2  # of one that fills what the first leaves: one process would leave cores idle where few are ready
+FILLING_JOBS = 2  # of one that alone fills what the first leaves; of several each has one, as each process reads all
 JOB_KIB = 2_500_000  # of memory that a process may take
 LOWER = 10  # the niceness of those that fill what the first leaves
 
@@ -36,28 +37,29 @@ class Crate:
         self.name = row.replace(":", " ").split()[0]
         self.folder = CRATES / self.name
         self.libraries = [it for it in row.partition(":")[2].split() if (CRATES / it).is_dir()]
-        self.is_program = (self.folder / "src/main.rt").exists()
         self.below = []
         self.chain = 0  # the cost of the longest chain from this one upwards
 
-    def cost(self):
-        """About what its check takes: a line of code is as dear as four lines of proofs."""
-        lines = lambda files: sum(path.read_bytes().count(b"\n") for path in self.folder.glob(files))  # noqa: E731
-        return lines("src/**/*.rt") + lines("proofs/**/*.antt") // 4
-
     def kept(self):
         """When its last check ended well; 0 where none did."""
-        stamp = self.folder / ("out/incremental" if self.is_program else "out/rlib/stamp")
+        stamp = self.folder / "out/rlib/stamp"
         return stamp.stat().st_mtime if stamp.exists() else 0
 
     def changed(self):
         return max(path.stat().st_mtime for part in PARTS for path in self.folder.glob(f"{part}/**/*"))
 
 
+def rows_of(path):
+    """Its lines, without comments and empty ones."""
+    return list(filter(None, (line.partition("#")[0].strip() for line in path.read_text().splitlines())))
+
+
 def read_crates():
-    """All crates of crates.txt by name, each with all crates below it and its chain."""
-    lines = [line.partition("#")[0].strip() for line in pathlib.Path("crates.txt").read_text().splitlines()]
-    crates = {it.name: it for it in map(Crate, filter(None, lines))}
+    """All libraries of crates.txt by name, each with all crates below it and its chain."""
+    crates = {it.name: it for it in map(Crate, rows_of(pathlib.Path("crates.txt")))}
+    crates = {name: it for name, it in crates.items() if not (it.folder / "src/main.rt").exists()}
+    seconds = {name: int(count) for name, count in map(str.split, rows_of(SECONDS))}
+    usual = sum(seconds.values()) // len(seconds)  # of a crate that has no row
 
     def below(crate):
         found = {it.name: it for name in crate.libraries for it in [crates[name], *below(crates[name])]}
@@ -66,7 +68,7 @@ def read_crates():
     def chain(crate):
         if not crate.chain:
             above = [it for it in crates.values() if crate.name in it.libraries]
-            crate.chain = crate.cost() + max(map(chain, above), default=0)
+            crate.chain = seconds.get(crate.name, usual) + max(map(chain, above), default=0)
         return crate.chain
 
     for crate in crates.values():
@@ -91,8 +93,8 @@ class Check:
         if (crate.folder / "out").exists():
             os.rename(crate.folder / "out", self.folder / "out")
         self.said = (self.room / "said").open("w+b")
-        # rt lib makes a crate into a library for those above; a program is only checked, and rt run builds it
-        words = ["rt", "check" if crate.is_program else "lib", "--jobs", str(jobs)]
+        # rt lib makes a crate into a library for those above
+        words = ["rt", "lib", "--jobs", str(jobs)]
         # a group of processes, and no session: the kernel weighs niceness within a session alone
         begin = lambda: (os.setpgrp(), os.nice(niceness))  # noqa: E731
         ends = {"stdin": subprocess.DEVNULL, "stdout": self.said, "stderr": subprocess.STDOUT}
@@ -152,7 +154,8 @@ def next_check(left, proved, running, room):
     leads = all(it.crate.chain < crate.chain for it in running)
     if running and (fits < 1 or not leads and len(running) > cores):
         return None
-    jobs = max(1, min(MOST_JOBS if leads else FILLING_JOBS, cores, fits))
+    filling = FILLING_JOBS if len(ready) + len(running) == 2 else 1
+    jobs = max(1, min(MOST_JOBS if leads else filling, cores, fits))
     left.remove(crate)
     return Check(crate, room, jobs, 0 if leads else LOWER)
 

@@ -1,7 +1,6 @@
 //! What a server listens on, be it TCP or a Unix socket.
 
-ghost use Rattle.std.specs.Prelude.{◌≡◌, IfOk};
-ghost use Rattle.std.specs.Prelude.{Some, None, string_bytes};
+ghost use Rattle.std.specs.Prelude.{◌≡◌, IfOk, IfErr, Some, None, string_bytes};
 ghost use Rattle.lmtpd_listen.specs.Opened.{IsClient, IsEndpoint, socket_path};
 
 use crate::client::ClientSocket;
@@ -85,7 +84,8 @@ impl Listener for ServerSocket {
     }
 
     fn endpoint(&self) -> io::Result<Endpoint<'_>>
-        ensures { IfOk result (IsEndpoint (socket_path self.now)) }
+        ensures ok { IfOk result (IsEndpoint (socket_path self.now)) }
+        ensures err { IfErr result (λ _. socket_path self.now ≡ None) }
     {
         match &self.listening {
             Listening::Tcp(listener) => Ok(Endpoint::Ip(listener.local_addr()?)),
