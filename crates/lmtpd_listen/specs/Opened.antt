@@ -47,11 +47,11 @@ IsEndpoint path (endpoint.Unix name) = path ≡ Some name.now
 
 -- What was opened is of the kind that was asked for: a Unix socket that was made listens at its path, and its file is
 -- removed at the end; any other is left where it is.
-abbrev pub IsOpened : ListenAddress → Opened → Type 0
-IsOpened (listen_address.Tcp address) opened = (socket_path opened.socket ≡ None) × (file_path opened.file ≡ None)
-IsOpened (listen_address.Unix path) opened = (socket_path opened.socket ≡ Some path.now)
+abbrev pub IsOpenedFor : ListenAddress → Opened → Type 0
+IsOpenedFor (listen_address.Tcp address) opened = (socket_path opened.socket ≡ None) × (file_path opened.file ≡ None)
+IsOpenedFor (listen_address.Unix path) opened = (socket_path opened.socket ≡ Some path.now)
     × (file_path opened.file ≡ Some path.now)
-IsOpened listen_address.Inherited opened = file_path opened.file ≡ None
+IsOpenedFor listen_address.Inherited opened = file_path opened.file ≡ None
 
 -- nothing could be opened at an address, and the log says why
 abbrev pub IsListenFault : ListenFault → Type 0

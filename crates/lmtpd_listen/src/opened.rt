@@ -1,7 +1,7 @@
 //! Opening what a server listens on.
 
 ghost use Rattle.std.specs.Prelude.{MatchResult};
-ghost use Rattle.lmtpd_listen.specs.Opened.{IsOpened, IsUnopened};
+ghost use Rattle.lmtpd_listen.specs.Opened.{IsOpenedFor, IsUnopened};
 
 use crate::fault::ListenFault;
 use crate::inherited::take_inherited;
@@ -33,7 +33,7 @@ pub fn open<'a, R>(
 where
     R: Files + Net<Listener = TcpListener, Stream = TcpStream> + Env + Clock,
     R::File: FileLock,
-    ensures { MatchResult result (IsOpened listen_address.entry) (IsUnopened listen_address.entry) }
+    ensures { MatchResult result (IsOpenedFor listen_address.entry) (IsUnopened listen_address.entry) }
 {
     let socket = match listen_address {
         ListenAddress::Unix(path) => return open_unix(rt, alloc, path, mode),

@@ -1,7 +1,7 @@
 //! A Unix socket at a path.
 
 ghost use Rattle.std.specs.Prelude.{◌≡◌, IfErr, MatchResult, Some, string_bytes};
-ghost use Rattle.lmtpd_listen.specs.Opened.{IsListenFault, IsOpened, IsUnopened, socket_path};
+ghost use Rattle.lmtpd_listen.specs.Opened.{IsListenFault, IsOpenedFor, IsUnopened, socket_path};
 ghost use Rattle.lmtpd_listen.specs.declared.listen_address.ListenAddress.TheVariants as listen_address;
 
 use crate::fault::{ListenFault, Reason, last_fault};
@@ -37,7 +37,7 @@ pub(crate) fn open_unix<'a, R: Files + Net + Clock>(
 ) -> Result<Opened<'a>, ListenFault>
 where
     R::File: FileLock,
-    ensures { MatchResult result (IsOpened (listen_address.Unix path.entry))
+    ensures { MatchResult result (IsOpenedFor (listen_address.Unix path.entry))
         (IsUnopened (listen_address.Unix path.entry)) }
 {
     let mode = mode & MODE_BITS;
@@ -56,7 +56,7 @@ fn open_locked<'a, R: Files + Net>(
     mode: u32,
 ) -> Result<Opened<'a>, ListenFault>
     requires { string_bytes name ≡ path.now }
-    ensures { MatchResult result (IsOpened (listen_address.Unix path.entry))
+    ensures { MatchResult result (IsOpenedFor (listen_address.Unix path.entry))
         (IsUnopened (listen_address.Unix path.entry)) }
 {
     make_room(rt, path)?;

@@ -11,11 +11,11 @@ use Rattle.lmtp_talk.specs.Entries.{Entry, OfLine, OfCopy, OfEnd}
 use Rattle.lmtpd_log.specs.declared.address.Address.{Address}
 
 -- the sender, and the recipients of whose copies the log wasn't told yet, in their order
-pub record Letter : Type 0 where
+pub record LoggedLetter : Type 0 where
   pub sender : List ℕ
   pub recipients : List (List ℕ)
 
-abbrev pub no_letter : Letter
+abbrev pub no_letter : LoggedLetter
 no_letter = record { sender = []; recipients = [] }
 
 -- an address, and none longer than one may be
@@ -36,22 +36,22 @@ abbrev pub named_by : List ℕ → List ℕ
 named_by line = option_map_or (λ text. text) (address_in line) []
 
 -- one more recipient, as many as a message may have
-abbrev pub with_recipient : Letter → List ℕ → Letter
+abbrev pub with_recipient : LoggedLetter → List ℕ → LoggedLetter
 with_recipient letter recipient =
     if nat_lt (length letter.recipients) RECIPIENT_LIMIT
     then record letter { recipients = letter.recipients ++ recipient ∷ [] } else letter
 
 -- after the reply to a line: a sender begins a letter
-abbrev pub after_line : Letter → List ℕ → Reply → Letter
+abbrev pub after_line : LoggedLetter → List ℕ → Reply → LoggedLetter
 after_line letter line replies.SenderOk = record { sender = named_by line; recipients = [] }
 after_line letter line replies.RecipientOk = with_recipient letter (named_by line)
 after_line letter line _ = letter
 
 -- after the reply for a copy, which is that of the first recipient
-abbrev pub after_copy : Letter → Letter
+abbrev pub after_copy : LoggedLetter → LoggedLetter
 after_copy letter = record letter { recipients = drop 1 letter.recipients }
 
-abbrev pub after_entry : Letter → Entry → Letter
+abbrev pub after_entry : LoggedLetter → Entry → LoggedLetter
 after_entry letter (OfLine line reply) = after_line letter line reply
 after_entry letter (OfCopy number size client reply) = after_copy letter
 after_entry letter (OfEnd cause) = letter

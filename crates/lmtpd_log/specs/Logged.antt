@@ -29,8 +29,8 @@ told_here told None = None
 told_here told (Some log) = told log
 
 -- what visits tell, where `told` is what their log tells
-abbrev pub told_of : {L G C E : Type 0} → (G → Option (List Entry)) → LoggedVisits L G C E → VisitsTold
-told_of told v = record (told_by (visits_in v)) { log = told_here told (log_in v) }
+abbrev pub told_with_log : {L G C E : Type 0} → (G → Option (List Entry)) → LoggedVisits L G C E → VisitsTold
+told_with_log told v = record (told_by (visits_in v)) { log = told_here told (log_in v) }
 
 -- the spool that is written to
 abbrev pub spool_in : {S G : Type 0} → LoggedMailbox S G → S
@@ -50,12 +50,12 @@ cause_text ends.Stopped = codes "stopped"
 cause_text ends.ReadBound = codes "read-bound"
 
 -- what the log calls what became of a copy
-abbrev pub outcome_text : Outcome → List ℕ
-outcome_text outcomes.Stored = codes "stored"
-outcome_text outcomes.Failed = codes "not-stored"
-outcome_text outcomes.NoRoom = codes "no-room"
-outcome_text outcomes.TooLarge = codes "too-large"
-outcome_text outcomes.OverQuota = codes "over-quota"
+abbrev pub outcome_word : Outcome → List ℕ
+outcome_word outcomes.Stored = codes "stored"
+outcome_word outcomes.Failed = codes "not-stored"
+outcome_word outcomes.NoRoom = codes "no-room"
+outcome_word outcomes.TooLarge = codes "too-large"
+outcome_word outcomes.OverQuota = codes "over-quota"
 
 -- the replies that refuse a command
 abbrev pub is_refusal : Reply → Bool

@@ -29,13 +29,13 @@ pub(crate) struct Addresses {
 
 impl Addresses {
     ghost use Rattle.std.specs.Prelude.{◌+◌, [], IfOk, length, get_or, nat_lt};
-    ghost use Rattle.lmtpd_log.specs.Kept.{kept_texts, letter_of, KeepsPair, KeepsOne};
+    ghost use Rattle.lmtpd_log.specs.Kept.{kept_texts, logged_letter, KeepsPair, KeepsOne};
     ghost use Rattle.lmtpd_log.specs.Letters.{address_in, address_text, after_copy, after_line};
     ghost use Rattle.lmtpd_log.specs.Letters.{no_letter, with_recipient};
 
     /// Of no letter, and with none kept. No other call takes memory.
     pub(crate) fn new(alloc: Global) -> Result<Addresses, AllocError>
-        ensures letter { IfOk result (λ a. letter_of a ≡ no_letter) }
+        ensures letter { IfOk result (λ a. logged_letter a ≡ no_letter) }
         ensures kept { IfOk result (λ a. kept_texts a ≡ []) }
     {
         Ok(Addresses {
@@ -47,7 +47,7 @@ impl Addresses {
 
     /// Takes note of the reply to a line.
     pub(crate) fn line(&mut self, line: &[u8], reply: Reply)
-        ensures letter { letter_of self.new ≡ after_line (letter_of self.old) line.now reply }
+        ensures letter { logged_letter self.new ≡ after_line (logged_letter self.old) line.now reply }
         ensures kept { kept_texts self.new ≡ kept_texts self.old }
     {
         match reply {
@@ -59,7 +59,7 @@ impl Addresses {
 
     // Begins a letter.
     fn begin(&mut self, sender: Address)
-        ensures letter { letter_of self.new ≡ record { sender = address_text sender; recipients = [] } }
+        ensures letter { logged_letter self.new ≡ record { sender = address_text sender; recipients = [] } }
         ensures kept { kept_texts self.new ≡ kept_texts self.old }
     {
         self.sender = sender;
@@ -68,7 +68,7 @@ impl Addresses {
 
     // One more recipient, as many as a message may have.
     fn add(&mut self, recipient: Address)
-        ensures letter { letter_of self.new ≡ with_recipient (letter_of self.old) (address_text recipient) }
+        ensures letter { logged_letter self.new ≡ with_recipient (logged_letter self.old) (address_text recipient) }
         ensures kept { kept_texts self.new ≡ kept_texts self.old }
     {
         if self.recipients.len() < RECIPIENT_LIMIT {
@@ -87,8 +87,8 @@ impl Addresses {
     /// None where no recipient is known.
     pub(crate) fn copy(&mut self) -> Option<u32>
         requires room { length (kept_texts self.old) + 2 ≤ KEPT_LIMIT }
-        ensures letter { letter_of self.new ≡ after_copy (letter_of self.old) }
-        ensures kept { KeepsPair (letter_of self.old) (kept_texts self.old) result (kept_texts self.new) }
+        ensures letter { logged_letter self.new ≡ after_copy (logged_letter self.old) }
+        ensures kept { KeepsPair (logged_letter self.old) (kept_texts self.old) result (kept_texts self.new) }
     {
         let recipient = self.recipients.pop_front()?;
         let at = self.kept.len() as u32;
@@ -100,7 +100,7 @@ impl Addresses {
     /// Keeps the address that a command line names: where it is. None where it names none.
     pub(crate) fn keep(&mut self, line: &[u8]) -> Option<u32>
         requires room { length (kept_texts self.old) + 2 ≤ KEPT_LIMIT }
-        ensures letter { letter_of self.new ≡ letter_of self.old }
+        ensures letter { logged_letter self.new ≡ logged_letter self.old }
         ensures kept { KeepsOne (address_in line.now) (kept_texts self.old) result (kept_texts self.new) }
     {
         let address = address_in(line)?;
@@ -121,7 +121,7 @@ impl Addresses {
 
     /// Keeps none any longer.
     pub(crate) fn forget_kept(&mut self)
-        ensures letter { letter_of self.new ≡ letter_of self.old }
+        ensures letter { logged_letter self.new ≡ logged_letter self.old }
         ensures kept { kept_texts self.new ≡ [] }
     {
         self.kept.clear();

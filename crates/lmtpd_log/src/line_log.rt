@@ -6,7 +6,7 @@ ghost use Rattle.std.specs.Option.{IfSome};
 ghost use Rattle.lmtpd_log.specs.Kept.{kept_texts};
 ghost use Rattle.lmtpd_log.specs.Letters.{after_copy, after_line};
 ghost use Rattle.lmtpd_log.specs.Lines.{letter_in, shows_addresses};
-ghost use Rattle.lmtpd_log.specs.Logged.{cause_text, outcome_text, is_refusal};
+ghost use Rattle.lmtpd_log.specs.Logged.{cause_text, outcome_word, is_refusal};
 ghost use Rattle.lmtpd_log.specs.declared.addresses.TheConstants.{KEPT_LIMIT};
 
 use crate::addresses::Addresses;
@@ -216,7 +216,7 @@ impl<G: Log + Drop, C: Clock + Drop> LineLog<G, C> {
                 number: answered.number,
             },
             mailbox: text_of(self.site.box_name(answered.mailbox)),
-            outcome: outcome_text(answered.outcome),
+            outcome: outcome_word(answered.outcome),
             code: text_of(&text[..3]),
             bytes: answered.size,
             seconds: answered.seconds,
@@ -366,8 +366,8 @@ fn cause_text(end: EndCause) -> &'static str
 }
 
 /// What the log calls what became of a copy.
-fn outcome_text(outcome: Outcome) -> &'static str
-    ensures { result.now ≡ outcome_text outcome }
+fn outcome_word(outcome: Outcome) -> &'static str
+    ensures { result.now ≡ outcome_word outcome }
 {
     match outcome {
         Outcome::Stored => "stored",

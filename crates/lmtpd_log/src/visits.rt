@@ -63,11 +63,11 @@ where
     type P = LoggedPeer<TcpPeer<CountedStream<L::Stream>, E>, G>;
 
     ghost use Rattle.lmtp_lane.specs.TcpVisits.{IsNewcomer, is_over};
-    ghost use Rattle.lmtpd_log.specs.Logged.{told_of, visits_in};
+    ghost use Rattle.lmtpd_log.specs.Logged.{told_with_log, visits_in};
 
     ghost MayGive = { λ visits peer. IsNewcomer peer };
 
-    ghost finished = { λ visits. told_of G.told visits };
+    ghost finished = { λ visits. told_with_log G.told visits };
 
     ghost out = { λ visits. is_out (visits_in visits) };
 

@@ -42,7 +42,7 @@ use Rattle.lmtpd_rehearse.specs.declared.client.OnlyClient.{OnlyClient}
 use Rattle.lmtpd_rehearse.specs.declared.client.OnlyClient.TheVariants.{Waiting, Over}
 use Rattle.lmtpd_rehearse.specs.Account.{IsSettledOutcome, IsAllSettled}
 use Rattle.lmtpd_rehearse.specs.Copies.{HoldsCopies, kept_later}
-use Rattle.lmtpd_rehearse.specs.Client.{MayGive, told as told_by, is_over, IsOnlyOver}
+use Rattle.lmtpd_rehearse.specs.Client.{MayGive, told as told_by, is_last_told, IsOnlyOver}
 use Rattle.lmtpd_rehearse.specs.Mailboxes.{MailboxContent, kept_all, kept_at, bytes_of_all, empty_spool, mailbox_room, texts_of_mailboxes, IsCalm}
 use Rattle.lmtpd_rehearse.specs.Rehearsal.{AreMailboxes, copies_due, told_of_box, IsRunOfRehearsal, RehearsalEndsFor, HeldState, IsHeld, IsRehearsed}
 use Rattle.lmtpd_output.specs.Output.{IsListed}
@@ -308,7 +308,7 @@ delivered site quota c work spools tallies faulty is accounted h size faulty_is 
 abbrev pub HasRunAlone : (site : Site) (quota : Option ℕ) (moment : ℕ) {P : Type 0} (state : P → PeerState) (peer : P) (count : ℕ)
     (back : HandedBack (OnlyClient P) MemorySpool) → Type 0
 HasRunAlone site quota moment state peer count back =
-    HasRun site (λ m. m ≡ moment) (record { MayGive = λ c p. MayGive state c p; finished = λ c. told_by state c; over = λ c. is_over c }) state_of
+    HasRun site (λ m. m ≡ moment) (record { MayGive = λ c p. MayGive state c p; finished = λ c. told_by state c; over = λ c. is_last_told c }) state_of
     (record { visits = Waiting peer ∷ []; spools = replicate count (empty_spool site); capacity = DEFAULT_CAPACITY; quota = quota }) back
 
 module _ (site : Site) (quota : Option ℕ) (moment : ℕ) {P : Type 0} (state : P → PeerState) (peer : P) (count : ℕ)

@@ -28,15 +28,15 @@ module _ {P : Type 0} where
   }
 
   -- the client is being served
-  abbrev pub is_out : OnlyClient P → Bool
-  is_out Out = true
-  is_out _ = false
+  abbrev pub is_being_served : OnlyClient P → Bool
+  is_being_served Out = true
+  is_being_served _ = false
 
   -- it was said that there is no other
-  abbrev pub is_over : OnlyClient P → Bool
-  is_over (Over client end) = true
-  is_over _ = false
+  abbrev pub is_last_told : OnlyClient P → Bool
+  is_last_told (Over client end) = true
+  is_last_told _ = false
 
   -- there is one client alone, who has left
   abbrev pub IsOnlyOver : List (OnlyClient P) → Type 0
-  IsOnlyOver clients = (client : OnlyClient P) × (clients ≡ client ∷ []) × (is_over client ≡ true)
+  IsOnlyOver clients = (client : OnlyClient P) × (clients ≡ client ∷ []) × (is_last_told client ≡ true)

@@ -1,6 +1,6 @@
 //! The only client of a server.
 
-ghost use Rattle.lmtpd_rehearse.specs.Client.{MayGive, told, is_out, is_over};
+ghost use Rattle.lmtpd_rehearse.specs.Client.{MayGive, told, is_being_served, is_last_told};
 
 use lmtp_house::{EndCause, Peer, Visits};
 use std::mem;
@@ -25,9 +25,9 @@ impl<P: Peer + Drop> Visits for OnlyClient<P> {
 
     ghost finished = { λ c. told P.state c };
 
-    ghost out = { λ c. is_out c };
+    ghost out = { λ c. is_being_served c };
 
-    ghost over = { λ c. is_over c };
+    ghost over = { λ c. is_last_told c };
 
     fn next<R: Wait>(&mut self, rt: &R) -> Option<P> {
         let _ = rt;

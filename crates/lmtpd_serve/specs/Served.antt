@@ -14,7 +14,7 @@ use Rattle.lmtp_house.specs.Handed.{HandedBack}
 use Rattle.lmtp_house.specs.House.{HasRun}
 use Rattle.lmtp_lane.specs.TcpVisits.{conversations_ended, IsNewcomer, is_over}
 use Rattle.lmtp_talk.specs.Entries.{Entry}
-use Rattle.lmtpd_log.specs.Logged.{visits_in, log_in, told_of}
+use Rattle.lmtpd_log.specs.Logged.{visits_in, log_in, told_with_log}
 use Rattle.lmtpd_log.specs.declared.visits.LoggedVisits.{LoggedVisits}
 use Rattle.lmtpd_output.specs.Output.{pair_texts}
 use Rattle.lmtpd_serve.specs.declared.lines.Trouble.{Trouble}
@@ -34,9 +34,9 @@ abbrev pub counts_text : List (List ℕ) → List Tally → List ℕ
 counts_text names tallies = pair_texts count_line names tallies
 
 -- the copies of a mailbox that an administrator is told of: those whose turn was missed, or those over the quota
-abbrev pub count_of : Trouble → Tally → ℕ
-count_of InUse tally = tally.in_use
-count_of OverQuota tally = tally.over
+abbrev pub count_told : Trouble → Tally → ℕ
+count_told InUse tally = tally.in_use
+count_told OverQuota tally = tally.over
 
 abbrev pub words_of : Trouble → List ℕ
 words_of InUse = codes " in use "
@@ -49,13 +49,13 @@ trouble_line words name count = codes "lmtpd: " ++ (name ++ words ++ decimal cou
 -- what is said of a mailbox: its line where there were any, and else nothing
 abbrev pub trouble_told : Trouble → List ℕ → Tally → List ℕ
 trouble_told trouble name tally =
-    if count_of trouble tally == 0 then [] else trouble_line (words_of trouble) name (count_of trouble tally)
+    if count_told trouble tally == 0 then [] else trouble_line (words_of trouble) name (count_told trouble tally)
 
-abbrev pub lines_of : Trouble → Served → List ℕ
-lines_of trouble served = pair_texts (trouble_told trouble) (arc_value served.site).boxes served.tallies.items
+abbrev pub trouble_lines_of : Trouble → Served → List ℕ
+trouble_lines_of trouble served = pair_texts (trouble_told trouble) (arc_value served.site).boxes served.tallies.items
 
 abbrev pub trouble_lines : Served → List ℕ
-trouble_lines served = lines_of InUse served ++ lines_of OverQuota served
+trouble_lines served = trouble_lines_of InUse served ++ trouble_lines_of OverQuota served
 
 -- how many lanes a server has, how many copies may wait for a mailbox's worker, and the limit of bytes for each mailbox
 pub record Extent : Type 0 where
@@ -80,7 +80,7 @@ pub record IsServerRun (L C E : Type 0) {S G : Type 0} (site : Site) (state : S 
   pub ran : HasRun site (λ moment. moment < 2 ^ 32)
       (record {
         MayGive = λ _ peer. IsNewcomer peer;
-        finished = λ v. told_of told v;
+        finished = λ v. told_with_log told v;
         over = λ v. is_over (visits_in v);
       })
       state (record { visits = visits; spools = spools; capacity = extent.capacity; quota = extent.quota }) back

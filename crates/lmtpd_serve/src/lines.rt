@@ -4,8 +4,8 @@
 ghost use Rattle.std.specs.Prelude.{◌≡◌, length, string_bytes, IfOk, OnOk, OnErr};
 ghost use Rattle.std.specs.Io.KnownBytes.{Appends};
 ghost use Rattle.lmtpd_output.specs.Output.{IsCutOff};
-ghost use Rattle.lmtpd_serve.specs.Served.{endpoint_line, count_line, counts_text, count_of, words_of, trouble_line};
-ghost use Rattle.lmtpd_serve.specs.Served.{trouble_told, lines_of, trouble_lines};
+ghost use Rattle.lmtpd_serve.specs.Served.{endpoint_line, count_line, counts_text, count_told, words_of, trouble_line};
+ghost use Rattle.lmtpd_serve.specs.Served.{trouble_told, trouble_lines_of, trouble_lines};
 
 use super::served::Served;
 use itoa::Buffer;
@@ -67,7 +67,7 @@ pub enum Trouble {
 
 impl Trouble {
     fn count(self, tally: &Tally) -> u64
-        ensures { result ≡ count_of self tally.now }
+        ensures { result ≡ count_told self tally.now }
     {
         match self {
             Trouble::InUse => tally.in_use,
@@ -128,9 +128,9 @@ fn write_all_of<W: Write>(
     served: &Served,
 ) -> Result<(), WriteFault>
     ensures ok { OnOk result (Appends (W.contents writer.old) (W.contents writer.new)
-        (lines_of trouble served.now)) }
+        (trouble_lines_of trouble served.now)) }
     ensures err { OnErr result (IsCutOff (W.contents writer.old) (W.contents writer.new)
-        (lines_of trouble served.now)) }
+        (trouble_lines_of trouble served.now)) }
 {
     let site: &Site = &served.site;
     for number in 0..site.box_count() {

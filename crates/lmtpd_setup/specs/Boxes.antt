@@ -9,14 +9,14 @@ use Rattle.lmtpd_setup.specs.declared.stop.Stop.{Stop}
 use Rattle.lmtpd_setup.specs.declared.stop.Stop.TheVariants as stop
 
 -- all of what was left to read, where that is known, within the limit
-abbrev pub IsWhole : Option Text → Text → Type 0
-IsWhole left text = IfSome left (λ all. text ≡ all) × (length text ≤ BOXES_FILE_LIMIT)
+abbrev pub IsAllOfFile : Option Text → Text → Type 0
+IsAllOfFile left text = IfSome left (λ all. text ≡ all) × (length text ≤ BOXES_FILE_LIMIT)
 
 -- `remaining` is what contracts see of a file: what its reads give
 module _ {F : Type 0} (remaining : F → Option Text) where
   -- the text of some file
   abbrev pub IsTextOfFile : Text → Type 0
-  IsTextOfFile text = (file : F) × IsWhole (remaining file) text
+  IsTextOfFile text = (file : F) × IsAllOfFile (remaining file) text
 
   -- the words, with the mailboxes that the file lists where they name one, and else as they are
   abbrev pub IsFilled : SiteWords → SiteWords → Type 0

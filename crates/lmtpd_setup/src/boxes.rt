@@ -1,7 +1,7 @@
 //! The file that the program's words name, which lists further mailboxes.
 
 ghost use Rattle.std.specs.Prelude.{IfOk, MatchResult};
-ghost use Rattle.lmtpd_setup.specs.Boxes.{IsFilled, IsTextOfFile, IsUnfilled, IsWhole};
+ghost use Rattle.lmtpd_setup.specs.Boxes.{IsFilled, IsTextOfFile, IsUnfilled, IsAllOfFile};
 
 use crate::fault::Fault;
 use crate::stop::Stop;
@@ -76,7 +76,7 @@ fn open_plain<P: Files>(rt: &P, path: &str) -> Result<P::File, TextFault> {
 
 // All that the file has left, where that is text within the limit.
 fn whole_text<'a, F: Read + Drop>(file: F, room: &'a mut Vec<u8>) -> Result<&'a str, TextFault>
-    ensures { IfOk result (λ text. IsWhole (F.remaining file) text.now) }
+    ensures { IfOk result (λ text. IsAllOfFile (F.remaining file) text.now) }
 {
     room.clear();
     let mut file = file.take(BOXES_FILE_LIMIT as u64 + 1);

@@ -1,7 +1,7 @@
 //! Opening what the server listens on, and what the log says where that fails.
 
 ghost use Rattle.std.specs.Prelude.{MatchResult};
-ghost use Rattle.lmtpd_listen.specs.Opened.{IsOpened};
+ghost use Rattle.lmtpd_listen.specs.Opened.{IsOpenedFor};
 ghost use Rattle.lmtpd_setup.specs.Setup.{IsUnopenedAt};
 
 use crate::fault::Fault;
@@ -27,7 +27,7 @@ where
     R: Files + Net<Listener = TcpListener, Stream = TcpStream> + Env + Clock,
     R::File: FileLock,
     G: Log,
-    ensures { MatchResult result (IsOpened listen_address.entry) (IsUnopenedAt listen_address.entry) }
+    ensures { MatchResult result (IsOpenedFor listen_address.entry) (IsUnopenedAt listen_address.entry) }
 {
     match open(rt, alloc, listen_address, mode) {
         Ok(opened) => Ok(opened),

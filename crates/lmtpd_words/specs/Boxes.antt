@@ -9,13 +9,13 @@ abbrev pub without_prefix : List ℕ → List ℕ
 without_prefix text = drop (prefix_len is_ascii_whitespace text) text
 
 -- and without that which it ends with
-abbrev pub trimmed : List ℕ → List ℕ
-trimmed text = take (length (without_prefix text) - suffix_len is_ascii_whitespace (without_prefix text))
+abbrev pub without_white_space : List ℕ → List ℕ
+without_white_space text = take (length (without_prefix text) - suffix_len is_ascii_whitespace (without_prefix text))
     (without_prefix text)
 
 -- the name in a line: what stands before the first #, without white space around it
 abbrev pub name_in : List ℕ → List ℕ
-name_in line = trimmed (before_first (λ b. b == 35) line)
+name_in line = without_white_space (before_first (λ b. b == 35) line)
 
 abbrev pub is_named : List ℕ → Bool
 is_named name = not (length name == 0)

@@ -116,12 +116,12 @@ abbrev pub IsNoMode : Option Text → Type 0
 IsNoMode given = (text : Text) × (given ≡ Some text) × (WritesMode text → ⊥)
 
 -- the path that a text is: an empty text is none
-abbrev pub IsPath : Option Text → Text → Type 0
-IsPath given path = (given ≡ Some path) × (0 < length path)
+abbrev pub NamesPath : Option Text → Text → Type 0
+NamesPath given path = (given ≡ Some path) × (0 < length path)
 
 -- no text is given, or an empty one
 abbrev pub IsNoPath : Option Text → Type 0
-IsNoPath given = (path : Text) → IsPath given path → ⊥
+IsNoPath given = (path : Text) → NamesPath given path → ⊥
 
 -- a text is given, and an empty one
 abbrev pub IsEmpty : Option Text → Type 0
@@ -130,7 +130,7 @@ IsEmpty given = given ≡ Some []
 -- the path of a text that is given, and none where none is
 abbrev pub IsPathIfGiven : Option Text → Option Text → Type 0
 IsPathIfGiven given None = given ≡ None
-IsPathIfGiven given (Some path) = IsPath given path
+IsPathIfGiven given (Some path) = NamesPath given path
 
 -- a flag is given: clap has a text for that, and another one for a flag that isn't
 abbrev pub IsFlag : Option Text → Bool → Type 0
@@ -156,7 +156,7 @@ pub record IsRehearseRead (rows : List Row) (words : RehearseWords) : Type 0 whe
 pub record IsServeRead (rows : List Row) (words : ServeWords) : Type 0 where
   pub site : IsSiteRead rows words.site
   pub listen : first_of (codes "listen") rows ≡ Some words.listen.now
-  pub dir : IsPath (first_of (codes "dir") rows) words.dir.now
+  pub dir : NamesPath (first_of (codes "dir") rows) words.dir.now
   pub lanes : IsNumberOr DEFAULT_LANES (one_of (codes "lanes") rows) words.lanes
   pub blocks : IsNumberOr (usual_blocks words.lanes words.site.message_limit)
       (one_of (codes "blocks") rows) words.blocks

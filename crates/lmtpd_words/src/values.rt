@@ -5,7 +5,7 @@ ghost use Rattle.clap.specs.Words.{Text, all_of, first_of, found_of, one_of, row
 ghost use Rattle.std.specs.Option.{option_map, option_map_or};
 ghost use Rattle.lmtp_text.specs.Sites.{texts};
 ghost use Rattle.lmtpd_words.specs.Words.{IsAsked, IsCheckRead, IsLimit, IsNumberOr, IsRehearseRead, IsServeRead};
-ghost use Rattle.lmtpd_words.specs.Words.{IsEmpty, IsModeOr, IsNoMode, IsNoPath, IsPath, IsPathIfGiven, WritesMode};
+ghost use Rattle.lmtpd_words.specs.Words.{IsEmpty, IsModeOr, IsNoMode, IsNoPath, NamesPath, IsPathIfGiven, WritesMode};
 ghost use Rattle.lmtpd_words.specs.Words.{IsFlag, IsLevel, IsNoLevel, IsNoNumber, IsSiteRead, octal};
 ghost use Rattle.lmtpd_words.specs.Words.{IsDelimiterIfGiven, IsNoDelimiter};
 ghost use Rattle.lmtpd_words.specs.Words.{IsMessageLimitOr, IsNoMessageLimit, usual_blocks};
@@ -289,7 +289,7 @@ fn connections_of(matches: &ArgMatches<'_>) -> Option<Option<u32>>
 // The folder that was given; none where none was, or an empty text.
 fn folder_of<'a>(matches: &ArgMatches<'a>) -> Option<&'a str>
     ensures { let given = first_of (codes "dir") (rows_of (found_of matches.now)) in
-        MatchOption result (IsNoPath given) (λ folder. IsPath given folder.now) }
+        MatchOption result (IsNoPath given) (λ folder. NamesPath given folder.now) }
 {
     match matches.get_str("dir") {
         Some(text) => path_in(text),
@@ -309,7 +309,7 @@ fn stop_file_of<'a>(matches: &ArgMatches<'a>) -> Option<Option<&'a str>>
 }
 
 fn path_in(text: &str) -> Option<&str>
-    ensures { MatchOption result (IsNoPath (Some text.now)) (λ path. IsPath (Some text.now) path.now) }
+    ensures { MatchOption result (IsNoPath (Some text.now)) (λ path. NamesPath (Some text.now) path.now) }
 {
     if text.is_empty() {
         return None;

@@ -13,7 +13,7 @@ use Rattle.mbox_check.specs.declared.place.FormPlace.TheVariants.{Start, Open, L
 use Rattle.mbox_check.specs.declared.fault.BadForm.TheVariants.{NoFromLine, NoEmptyLine}
 use Rattle.mbox_check.specs.Form.{IsMailboxOf, BeginsMailbox, BreaksAt, IsBad}
 use Rattle.mbox_check.specs.Places.{part_text, next_byte, longer_part, is_whole, bad_at}
-use Rattle.mbox_check.specs.SoFar.{IsLine, IsAt}
+use Rattle.mbox_check.specs.SoFar.{IsLine, EndsAt}
 use Rattle.mbox_check.proofs.MailLines.{from_after}
 use Rattle.mbox_record.proofs.Mailboxes.{boundary-letters}
 use Rattle.mbox_check.proofs.Bodies.{ends_not_lf, ends_not_empty}
@@ -47,7 +47,7 @@ breaks_end text begins short = record {
 
 -- ---- at the end
 
-pub bad_end : (place : FormPlace) (text : List ℕ) (n taken : ℕ) → taken ≡ counted (length text) → IsAt text n place → is_whole place ≡ false
+pub bad_end : (place : FormPlace) (text : List ℕ) (n taken : ℕ) → taken ≡ counted (length text) → EndsAt text n place → is_whole place ≡ false
     → IsBad text (bad_at place taken)
 bad_end (Start part) text n taken t at e =
     (start_bad part text at.1 e, (length text, t, breaks_end text (at_begins (Start part) text n at) (at_short (Start part) text n at e)))
@@ -67,7 +67,8 @@ no_prefix part text b e f m =
     let bad : is_boundary (text ++ b ∷ m.more) ≡ false = ap (λ (l : List ℕ). is_boundary (l ++ b ∷ m.more)) e ∙ boundary_else part b m.more f in
     true≢false (sym good ∙ ap is_boundary (m.is.whole ∙ append_assoc text (b ∷ []) m.more) ∙ bad)
 
-pub start_breaks : (part : Part) (text more : List ℕ) (n b taken : ℕ) → taken ≡ counted (length text) → IsAt text n (Start part) → (next_byte part == b) ≡ false
+pub start_breaks : (part : Part) (text more : List ℕ) (n b taken : ℕ) → taken ≡ counted (length text) → EndsAt text n (Start part)
+    → (next_byte part == b) ≡ false
     → IsBad (text ++ b ∷ more) (NoFromLine taken)
 start_breaks part text more n b taken t at e = (
   ap (λ (l : List ℕ). is_boundary (l ++ b ∷ more)) at.1 ∙ boundary_else part b more e,

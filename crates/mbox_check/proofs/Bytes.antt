@@ -16,7 +16,7 @@ use Rattle.mbox_check.specs.declared.place.Effect.{Effect}
 use Rattle.mbox_check.specs.declared.place.Effect.TheVariants.{To, Begin, Break}
 use Rattle.mbox_check.specs.Form.{IsBad}
 use Rattle.mbox_check.specs.Places.{part_text, next_byte, longer_part, is_nothing, line_place, start_with, open_with, line_with, effect_at, bad_at}
-use Rattle.mbox_check.specs.SoFar.{EndsInLine, IsBody, IsOpen, IsLine, IsInsideLine, IsAt}
+use Rattle.mbox_check.specs.SoFar.{EndsInLine, IsBody, IsOpen, IsLine, IsInsideLine, EndsAt}
 use Rattle.mbox_record.proofs.Mailboxes.{boundary-letters}
 use Rattle.mbox_check.proofs.Bodies.{ends_after, line_ends, body_line, body_ended, body_first}
 use Rattle.mbox_check.proofs.Begins.{part_one, part_grown, part_else, ends_in_part, IsStarted, open_started, line_started, started_begins, started_line}
@@ -24,8 +24,8 @@ use Rattle.mbox_check.proofs.Breaks.{start_breaks, line_breaks}
 
 -- the text with the byte
 abbrev pub LeadsTo : FormPlace → List ℕ → ℕ → ℕ → Effect → Type 0
-LeadsTo from text n b (To place) = IsAt (text ++ b ∷ []) n place
-LeadsTo from text n b Begin = IsAt (text ++ b ∷ []) (suc n) Inside
+LeadsTo from text n b (To place) = EndsAt (text ++ b ∷ []) n place
+LeadsTo from text n b Begin = EndsAt (text ++ b ∷ []) (suc n) Inside
 LeadsTo from text n b Break = (more : List ℕ) (taken : ℕ) → taken ≡ counted (length text) → IsBad (text ++ b ∷ more) (bad_at from taken)
 
 -- ---- a letter begins
@@ -83,7 +83,7 @@ started_line_lf part text n s e = record {
   whole = sym (append-nil (text ++ lf ∷ []));
 }
 
-started_lf : (part : Part) (text : List ℕ) (n : ℕ) → IsStarted text n part → IsAt (text ++ lf ∷ []) n (cond (is_nothing part) (Open Nothing) (Line Nothing))
+started_lf : (part : Part) (text : List ℕ) (n : ℕ) → IsStarted text n part → EndsAt (text ++ lf ∷ []) n (cond (is_nothing part) (Open Nothing) (Line Nothing))
 started_lf Nothing text n s = record {
   before = text;
   body = subst (λ (l : List ℕ). IsBody l n) (sym (s.whole ∙ append-nil s.start)) s.body;
@@ -112,19 +112,19 @@ started_else part text n b s e f = record {
 }
 
 started_byte : (part : Part) (text : List ℕ) (n b : ℕ) → IsStarted text n part → (next_byte part == b) ≡ false → (t : Bool) → (b == lf) ≡ t
-    → IsAt (text ++ b ∷ []) n (cond t (cond (is_nothing part) (Open Nothing) (Line Nothing)) Inside)
+    → EndsAt (text ++ b ∷ []) n (cond t (cond (is_nothing part) (Open Nothing) (Line Nothing)) Inside)
 started_byte part text n b s e true f =
-    subst (λ c. IsAt (text ++ c ∷ []) n (cond (is_nothing part) (Open Nothing) (Line Nothing))) (sym (eqb-true b lf f)) (started_lf part text n s)
+    subst (λ c. EndsAt (text ++ c ∷ []) n (cond (is_nothing part) (Open Nothing) (Line Nothing))) (sym (eqb-true b lf f)) (started_lf part text n s)
 started_byte part text n b s e false f = started_else part text n b s e f
 
 -- ---- at each place
 
-start_option : (part : Part) (text : List ℕ) (n b : ℕ) → IsAt text n (Start part) → next_byte part ≡ b → (o : Option Part) → longer_part part ≡ o
+start_option : (part : Part) (text : List ℕ) (n b : ℕ) → EndsAt text n (Start part) → next_byte part ≡ b → (o : Option Part) → longer_part part ≡ o
     → LeadsTo (Start part) text n b (start_with o)
 start_option part text n b at e (Some more) f = (at.0, part_grown part text [] b (Some more) at.1 e f)
 start_option part text n b at e None f = letter_begins (text ++ b ∷ []) [] n [] tt refl at.0 (part_grown part text [] b None at.1 e f)
 
-start_byte : (part : Part) (text : List ℕ) (n b : ℕ) → IsAt text n (Start part) → (t : Bool) → (next_byte part == b) ≡ t
+start_byte : (part : Part) (text : List ℕ) (n b : ℕ) → EndsAt text n (Start part) → (t : Bool) → (next_byte part == b) ≡ t
     → LeadsTo (Start part) text n b (cond t (start_with (longer_part part)) Break)
 start_byte part text n b at true e = start_option part text n b at (eqb-true (next_byte part) b e) (longer_part part) refl
 start_byte part text n b at false e = λ more taken t. start_breaks part text more n b taken t at e
@@ -154,7 +154,7 @@ line_byte : (part : Part) (text : List ℕ) (n b : ℕ) → IsLine text n part �
 line_byte part text n b at true e = line_option part text n b at (eqb-true (next_byte part) b e) (longer_part part) refl
 line_byte part text n b at false e = started_byte part text n b (line_started text n part at) e (b == lf) refl
 
-pub byte_leads : (place : FormPlace) (text : List ℕ) (n b : ℕ) → IsAt text n place → LeadsTo place text n b (effect_at place b)
+pub byte_leads : (place : FormPlace) (text : List ℕ) (n b : ℕ) → EndsAt text n place → LeadsTo place text n b (effect_at place b)
 byte_leads (Start part) text n b at = start_byte part text n b at (next_byte part == b) refl
 byte_leads (Open part) text n b at = open_byte part text n b at (next_byte part == b) refl
 byte_leads (Line part) text n b at = line_byte part text n b at (next_byte part == b) refl

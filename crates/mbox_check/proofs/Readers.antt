@@ -7,7 +7,7 @@ use Rattle.mbox_check.specs.declared.fault.BadForm.{BadForm}
 use Rattle.mbox_check.specs.declared.fault.CheckFault.TheVariants.{Form}
 use Rattle.mbox_check.specs.declared.form.FormCheck.{FormCheck}
 use Rattle.mbox_check.specs.Form.{IsBad, IsFaultOf}
-use Rattle.mbox_check.specs.SoFar.{IsReadSoFar, HasTaken, BreaksIn}
+use Rattle.mbox_check.specs.SoFar.{IsReadSoFar, ReadsOn, BreaksIn}
 
 -- what the reader had is what came, and then what it has
 pub record IsReadUpTo (old new : Option (List ℕ)) (form : FormCheck) : Type 0 where
@@ -16,7 +16,7 @@ pub record IsReadUpTo (old new : Option (List ℕ)) (form : FormCheck) : Type 0 
   pub read : IsReadSoFar prefix form
 
 pub read_more : (old mid new : Option (List ℕ)) (form next : FormCheck) (piece : List ℕ) → IsReadUpTo old mid form → Consumes mid new piece
-    → HasTaken form next piece → IsReadUpTo old new next
+    → ReadsOn form next piece → IsReadUpTo old new next
 read_more old mid new form next piece r c h =
     record { prefix = r.prefix ++ piece; came = Consumes-trans old mid new r.prefix piece r.came c; read = h.goes r.prefix r.read }
 

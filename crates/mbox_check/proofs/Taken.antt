@@ -17,7 +17,7 @@ use Rattle.mbox_check.specs.declared.place.FormPlace.TheVariants.{Start, Open, L
 use Rattle.mbox_check.specs.declared.place.Effect.TheVariants.{To, Begin, Break}
 use Rattle.mbox_check.specs.Form.{IsMailboxOf, IsBad, IsLetterCount}
 use Rattle.mbox_check.specs.Places.{part_text, is_nothing, is_whole, effect_at, bad_at}
-use Rattle.mbox_check.specs.SoFar.{IsInsideLine, IsLine, IsAt, IsReadSoFar, HasTaken, BreaksIn}
+use Rattle.mbox_check.specs.SoFar.{IsInsideLine, IsLine, EndsAt, IsReadSoFar, ReadsOn, BreaksIn}
 use Rattle.mbox_check.proofs.Bodies.{body_ended}
 use Rattle.mbox_check.proofs.Breaks.{bad_end}
 use Rattle.mbox_check.proofs.Bytes.{LeadsTo, byte_leads, inside_more, inside_lf}
@@ -33,7 +33,7 @@ one_more letters n e = omega arith
 -- ---- a byte
 
 pub byte_to : (form : FormCheck) (b : ℕ) (place : FormPlace) → effect_at form.place b ≡ To place
-    → HasTaken form (record form { place = place; taken = counted (form.taken + 1) }) (b ∷ [])
+    → ReadsOn form (record form { place = place; taken = counted (form.taken + 1) }) (b ∷ [])
 byte_to form b place e = record {
   goes = λ prefix s. record {
     n = s.n;
@@ -44,7 +44,7 @@ byte_to form b place e = record {
 }
 
 pub byte_begin : (form : FormCheck) (b : ℕ) → effect_at form.place b ≡ Begin
-    → HasTaken form (record form { letters = counted (form.letters + 1); place = Inside; taken = counted (form.taken + 1) }) (b ∷ [])
+    → ReadsOn form (record form { letters = counted (form.letters + 1); place = Inside; taken = counted (form.taken + 1) }) (b ∷ [])
 byte_begin form b e = record {
   goes = λ prefix s. record {
     n = suc s.n;
@@ -72,7 +72,7 @@ inside_on text (b ∷ piece) n some i one = inside_more text n b piece i one
 
 pub line_taken : (form : FormCheck) (text : List ℕ) (k : ℕ) → form.place ≡ Inside → NoneBefore (Passes (is_byte 10) text) 0 (length text) k
     → Passes (is_byte 10) text k
-    → HasTaken form (record form { place = Line Nothing; taken = counted (form.taken + (k + 1)) }) (take (k + 1) text)
+    → ReadsOn form (record form { place = Line Nothing; taken = counted (form.taken + (k + 1)) }) (take (k + 1) text)
 line_taken form text k e none here =
     let cut = IsLineCut-found text k none here in
     let high : k < length text = none.high in
@@ -84,12 +84,12 @@ line_taken form text k e none here =
         count = s.count;
         taken = taken_on prefix (take (k + 1) text) form.taken (k + 1) s.taken (length-take-le (k + 1) text (omega arith));
         at = subst (λ (l : List ℕ). IsLine (prefix ++ l) s.n Nothing) (sym whole)
-            (inside_line prefix (take k text) s.n (subst (λ p. IsAt prefix s.n p) e s.at) cut.one);
+            (inside_line prefix (take k text) s.n (subst (λ p. EndsAt prefix s.n p) e s.at) cut.one);
       };
     }
 
 pub rest_taken : (form : FormCheck) (text : List ℕ) → form.place ≡ Inside → 0 < length text → Nowhere (Passes (is_byte 10) text) 0 (length text)
-    → HasTaken form (record form { place = Inside; taken = counted (form.taken + length text) }) (take (length text) text)
+    → ReadsOn form (record form { place = Inside; taken = counted (form.taken + length text) }) (take (length text) text)
 rest_taken form text e some none =
     let whole : take (length text) text ≡ text = take_all (length text) text (omega arith) in
     record {
@@ -98,7 +98,7 @@ rest_taken form text e some none =
         count = s.count;
         taken = taken_on prefix (take (length text) text) form.taken (length text) s.taken (ap (λ (l : List ℕ). length l) whole);
         at = subst (λ (l : List ℕ). IsInsideLine (prefix ++ l) s.n) (sym whole)
-            (inside_on prefix text s.n some (subst (λ p. IsAt prefix s.n p) e s.at) (record { no_lf = has_no_lf text none }));
+            (inside_on prefix text s.n some (subst (λ p. EndsAt prefix s.n p) e s.at) (record { no_lf = has_no_lf text none }));
       };
     }
 
@@ -107,9 +107,9 @@ rest_taken form text e some none =
 pub record IsTakenUpTo (old new : FormCheck) (piece rest : List ℕ) : Type 0 where
   pub used : List ℕ
   pub whole : piece ≡ used ++ rest
-  pub taken : HasTaken old new used
+  pub taken : ReadsOn old new used
 
-pub taken_more : (old mid new : FormCheck) (piece rest : List ℕ) (n : ℕ) → IsTakenUpTo old mid piece rest → HasTaken mid new (take n rest)
+pub taken_more : (old mid new : FormCheck) (piece rest : List ℕ) (n : ℕ) → IsTakenUpTo old mid piece rest → ReadsOn mid new (take n rest)
     → IsTakenUpTo old new piece (take (length rest - n) (drop n rest))
 taken_more old mid new piece rest n t h = record {
   used = t.used ++ take n rest;
@@ -138,7 +138,7 @@ nothing_text Fr e = absurd (false≢true e)
 nothing_text Fro e = absurd (false≢true e)
 nothing_text From e = absurd (false≢true e)
 
-whole_at : (place : FormPlace) (text : List ℕ) (n letters : ℕ) → letters ≡ counted n → IsAt text n place → is_whole place ≡ true → IsLetterCount text letters
+whole_at : (place : FormPlace) (text : List ℕ) (n letters : ℕ) → letters ≡ counted n → EndsAt text n place → is_whole place ≡ true → IsLetterCount text letters
 whole_at (Start part) text n letters e at f =
     ([], record { are = tt; whole = sym (at.1 ∙ nothing_text part f) }, e ∙ ap (λ k. counted k) at.0)
 whole_at (Open part) text n letters e at f =

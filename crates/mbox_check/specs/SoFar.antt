@@ -52,20 +52,20 @@ pub record IsInsideLine (text : List ℕ) (n : ℕ) : Type 0 where
   pub goes : (more : List ℕ) → IsOneLine more → IsBody (text ++ (more ++ lf ∷ [])) n
 
 -- the text, in which n letters have begun, ends at the place
-abbrev pub IsAt : List ℕ → ℕ → FormPlace → Type 0
-IsAt text n (Start part) = (n ≡ 0) × (text ≡ part_text part)
-IsAt text n (Open part) = IsOpen text n part
-IsAt text n (Line part) = IsLine text n part
-IsAt text n Inside = IsInsideLine text n
+abbrev pub EndsAt : List ℕ → ℕ → FormPlace → Type 0
+EndsAt text n (Start part) = (n ≡ 0) × (text ≡ part_text part)
+EndsAt text n (Open part) = IsOpen text n part
+EndsAt text n (Line part) = IsLine text n part
+EndsAt text n Inside = IsInsideLine text n
 
 pub record IsReadSoFar (text : List ℕ) (form : FormCheck) : Type 0 where
   pub n : ℕ
   pub count : form.letters ≡ counted n
   pub taken : form.taken ≡ counted (length text)
-  pub at : IsAt text n form.place
+  pub at : EndsAt text n form.place
 
 -- whatever came before, the bytes came after it
-pub record HasTaken (old new : FormCheck) (bytes : List ℕ) : Type 0 where
+pub record ReadsOn (old new : FormCheck) (bytes : List ℕ) : Type 0 where
   pub goes : (prefix : List ℕ) → IsReadSoFar prefix old → IsReadSoFar (prefix ++ bytes) new
 
 -- whatever came before, and whatever comes after them, the bytes break the form

@@ -3,7 +3,7 @@ ghost use Rattle.std.specs.Prelude.{◌≡◌, ◌+◌, ◌<◌, ◌≤◌, ℕ,
 ghost use Rattle.mail_world.specs.Counts.{counted};
 ghost use Rattle.mbox_check.specs.Form.{IsBad, IsLetterCount};
 ghost use Rattle.mbox_check.specs.Places.{bad_at};
-ghost use Rattle.mbox_check.specs.SoFar.{IsReadSoFar, HasTaken, BreaksIn};
+ghost use Rattle.mbox_check.specs.SoFar.{IsReadSoFar, ReadsOn, BreaksIn};
 
 use crate::fault::BadForm;
 use crate::place::{Effect, FormPlace, Part, effect_at, is_whole};
@@ -31,7 +31,7 @@ impl FormCheck {
 
     /// Takes the bytes that come next. After an error it is of no use.
     pub(crate) fn piece(&mut self, piece: &[u8]) -> Result<(), BadForm>
-        ensures ok { OnOk result (HasTaken self.old self.new piece.now) }
+        ensures ok { OnOk result (ReadsOn self.old self.new piece.now) }
         ensures err { IfErr result (λ bad. BreaksIn self.old piece.now bad) }
     {
         let mut rest = piece;
@@ -58,7 +58,7 @@ impl FormCheck {
     fn turn(&mut self, text: &[u8]) -> Result<usize, BadForm>
         requires { 0 < length text.now }
         ensures within { IfOk result (λ n. (1 ≤ n) × (n ≤ length text.now)) }
-        ensures ok { IfOk result (λ n. HasTaken self.old self.new (take n text.now)) }
+        ensures ok { IfOk result (λ n. ReadsOn self.old self.new (take n text.now)) }
         ensures err { IfErr result (λ bad. BreaksIn self.old text.now bad) }
     {
         match self.place {
@@ -75,7 +75,7 @@ impl FormCheck {
         requires inside { self.old.place ≡ FormPlace.Inside }
         requires some { 0 < length text.now }
         ensures within { (1 ≤ result) × (result ≤ length text.now) }
-        ensures ok { HasTaken self.old self.new (take result text.now) }
+        ensures ok { ReadsOn self.old self.new (take result text.now) }
     {
         match memchr(b'\n', text) {
             Some(at) => {
@@ -90,7 +90,7 @@ impl FormCheck {
     }
 
     fn byte(&mut self, byte: u8) -> Result<(), BadForm>
-        ensures ok { OnOk result (HasTaken self.old self.new (byte ∷ [])) }
+        ensures ok { OnOk result (ReadsOn self.old self.new (byte ∷ [])) }
         ensures err { IfErr result (λ bad. BreaksIn self.old (byte ∷ []) bad) }
     {
         match effect_at(self.place, byte) {
