@@ -169,7 +169,7 @@ def main(root, jobs, words):
     kind, names = next((it for it in words if it in FOLDERS), None), [it for it in words if it not in FOLDERS]
     folders = {it: root / "crates" / it / FOLDERS[kind] if kind else root / "tests/wrong_bodies" / it for it in crates}
     edits = {it: sorted(folders[it].glob("*.edit")) for it in names or crates}
-    said = pathlib.Path(os.environ["RT_SAID"]) if kind == "--gate" and "RT_SAID" in os.environ else None
+    said = pathlib.Path(os.environ["RT_SAID"]) if "RT_SAID" in os.environ else None
     # lowest first, as rt ci goes on, or those with the most to prove
     first = (lambda it: len(crates[it][1])) if said else (lambda it: -len(edits[it]))
     order = sorted(filter(edits.get, edits), key=first)
