@@ -4,9 +4,9 @@
 `rt all check` gives each crate one process, and our crates are one long chain: most of the time it goes on with one or
 two of them. Here the crate with the longest chain above it, by the seconds of building/seconds, is proved by as many
 processes as there are cores, up to four, and the others fill what it leaves, by one or two processes each and at a
-lower priority. As rt holds the folders of all crates below the one that it works in, each works in a room of its own, which
-has the crates below by hard links; what it kept is moved to the crate's own folder then, where `rt run` takes it, which
-proves the program itself. A crate that isn't proved ends this with status 1, and what it said is printed.
+lower priority. As rt holds the folders of all crates below the one that it works in, each works in a room of its own,
+which has the crates below by hard links; what it kept is moved to the crate's own folder then, where `rt run` takes it,
+which proves the program itself. A crate that isn't proved ends this with status 1, and what it said is printed.
 usage: building/prove.py, at the top of the repository
 """
 

@@ -29,7 +29,8 @@ def postfix_delivers(folder):
 
 @case
 def a_full_disk_keeps_the_queue(folder):
-    """Postfix and a full disk: 451, the copy stays queued, and is sent once there is room and the server was restarted"""
+    """Postfix and a full disk: 451, the copy stays queued, and is sent once there is room and the server was
+    restarted"""
     listen = f"127.0.0.1:{free_port()}"
     with small_disk(folder / "mail") as mail, Postfix(folder, f"virtual_transport = lmtp:inet:{listen}") as postfix:
         filler = mail / "filler"

@@ -33,8 +33,8 @@ class Place(typing.NamedTuple):
         return self.name and "::".join(filter(None, [self.owner or self.module(), self.name]))
 
     def is_refused(self, said):
-        """Whether the check found goals of this function that aren't proved. One that calls a function that isn't proved
-        wasn't looked at."""
+        """Whether the check found goals of this function that aren't proved. One that calls a function that isn't
+        proved wasn't looked at."""
         # the name of a trait or a type with parameters goes on
         within = rf"(\S+::)?{self.owner}\S*" if self.owner else self.module()
         refused = rf"fn \w+::{within}(::)?{self.name}: (no proof|not proved)(?![:;] it calls)"

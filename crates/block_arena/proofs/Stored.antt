@@ -1,7 +1,7 @@
 -- Blocks that are made, and zeros in the place of the others.
 use Rattle.std.proofs.Common.{◌≡◌, ℕ, zero, suc, ◌+◌, ◌-◌, ◌<◌, ◌≤◌, List, [], ◌∷◌, ◌++◌, get_or, length, replicate, set, refl, ap, sym, ◌∙◌, arith}
 use Rattle.std.proofs.Common.{length-append, length-set, append_assoc}
-use Rattle.block_arena.specs.Rows.{zeros, padded, written}
+use Rattle.block_arena.specs.Rows.{zeros, padded, with_piece}
 
 length_same : {A : Type 0} (n : ℕ) (x : A) → length (replicate n x) ≡ n
 length_same zero x = refl
@@ -67,7 +67,8 @@ get_any (x ∷ xs) (suc i) a b h = get_any xs i a b (omega (arith, h))
 -- a block is made and written
 pub filled : (made made' all : List (List ℕ)) (count block at : ℕ) (piece old row other : List ℕ) → padded made count ≡ all
     → made' ≡ made ++ replicate ((block + 1) - length made) zeros → length made ≤ count → block < length all
-    → old ≡ get_or made' block other → row ≡ written old at piece → padded (set made' block row) count ≡ set all block (written (get_or all block []) at piece)
+    → old ≡ get_or made' block other → row ≡ with_piece old at piece
+    → padded (set made' block row) count ≡ set all block (with_piece (get_or all block []) at piece)
 filled made made' all count block at piece old row other view e low inside was is =
     let size : length all ≡ count = ap length (sym view) ∙ length_padded made count low in
     let long : length made' ≡ length (made ++ replicate ((block + 1) - length made) zeros) = ap length e in
@@ -80,4 +81,4 @@ filled made made' all count block at piece old row other view e low inside was i
     ap (λ k. set made' block row ++ replicate (count - k) zeros) (length-set made' block row)
     ∙ sym (set_prefix made' (replicate (count - length made') zeros) block row there)
     ∙ ap (λ xs. set xs block row) same
-    ∙ ap (set all block) (is ∙ ap (λ r. written r at piece) here)
+    ∙ ap (set all block) (is ∙ ap (λ r. with_piece r at piece) here)

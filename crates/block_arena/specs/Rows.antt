@@ -10,5 +10,5 @@ abbrev pub padded : List (List ℕ) → ℕ → List (List ℕ)
 padded made count = made ++ replicate (count - length made) zeros
 
 -- a block's bytes with a piece at a place
-abbrev pub written : List ℕ → ℕ → List ℕ → List ℕ
-written row at piece = take at row ++ piece ++ drop (at + length piece) row
+abbrev pub with_piece : List ℕ → ℕ → List ℕ → List ℕ
+with_piece row at piece = take at row ++ piece ++ drop (at + length piece) row

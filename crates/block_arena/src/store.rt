@@ -2,7 +2,7 @@
 
 ghost use Rattle.std.specs.Prelude.{◌≡◌, ◌+◌, ◌-◌, ◌<◌, ◌≤◌, ◌++◌, [], length, get_or, take, drop, replicate};
 ghost use Rattle.std.specs.Prelude.{slice_set, vec_capacity, IfOk};
-ghost use Rattle.block_arena.specs.Rows.{zeros, written};
+ghost use Rattle.block_arena.specs.Rows.{zeros, with_piece};
 
 use mail_world::limits::BLOCK_SIZE;
 use std::alloc::{AllocError, Global};
@@ -52,7 +52,7 @@ impl Store {
     pub fn fill(&mut self, block: u32, at: usize, piece: &[u8])
         requires block { block < length self.old }
         requires fits { at + length piece.now ≤ length (get_or self.old block []) }
-        ensures { self.new ≡ slice_set self.old block (written (get_or self.old block []) at piece.now) }
+        ensures { self.new ≡ slice_set self.old block (with_piece (get_or self.old block []) at piece.now) }
     {
         make(&mut self.made, block as usize + 1);
         fill(&mut self.made[block as usize], at, piece);
@@ -73,7 +73,7 @@ fn make(made: &mut Vec<[u8; BLOCK_SIZE]>, count: usize)
 /// Writes a piece into a block's bytes.
 fn fill(row: &mut [u8; BLOCK_SIZE], at: usize, piece: &[u8])
     requires { at + length piece.now ≤ length row.old }
-    ensures { row.new ≡ written row.old at piece.now }
+    ensures { row.new ≡ with_piece row.old at piece.now }
 {
     row[at..at + piece.len()].copy_from_slice(piece);
 }

@@ -26,8 +26,8 @@ use Rattle.mbox_record.specs.Spool.{SpoolState}
 use Rattle.mbox_record.specs.Envelope.{record_text}
 use Rattle.box_worker.specs.declared.limit.Limit.{Limit}
 use Rattle.box_worker.specs.Limits.{Setting, StartsAt, CountsTo, marks_after}
-use Rattle.box_worker.specs.Stored.{MailboxState, mailbox_of, CountedMailbox, TakesCopy, Tallies, HasStored, HasSettled}
-use Rattle.box_worker.specs.Told.{slip_by, owed_to, is_stored, is_over}
+use Rattle.box_worker.specs.Stored.{MailboxState, mailbox_of, CountedMailbox, TakesCopy, CountsOutcome, HasStored, HasSettled}
+use Rattle.box_worker.specs.Told.{slip_by, owed_to, is_stored, says_over_quota}
 use Rattle.box_worker.specs.Turned.{shared_of, TurnsCopy}
 use Rattle.box_worker.specs.Worked.{WorkerState, counted_of, idle, is_lost, outcomes_after, bytes_after, IsAccounted, HasHandled, IsTendedAlone, IsTended}
 use Rattle.box_worker.specs.Worked.{IsCounting, HasWorked}
@@ -156,7 +156,7 @@ module _ (at : Setting) (copies : List Note) (old : SpoolState) (now : MailboxSt
   copy_counted TooLarge after take = absurd take
 
 -- a count of one more outcome
-stored_more' : (outcome : Outcome) (n : ℕ) (old new : MailboxState) → Tallies outcome old new → old.stored ≡ counted n
+stored_more' : (outcome : Outcome) (n : ℕ) (old new : MailboxState) → CountsOutcome outcome old new → old.stored ≡ counted n
     → new.stored ≡ counted (n + count_by is_stored (outcome ∷ []))
 stored_more' Stored n old new t e = t.0 ∙ ap (λ m. counted (m + 1)) e ∙ counted_more n
 stored_more' Failed n old new t e = let z : n ≡ n + 0 = omega arith in t.0 ∙ e ∙ ap counted z
@@ -164,8 +164,8 @@ stored_more' NoRoom n old new t e = let z : n ≡ n + 0 = omega arith in t.0 ∙
 stored_more' TooLarge n old new t e = let z : n ≡ n + 0 = omega arith in t.0 ∙ e ∙ ap counted z
 stored_more' OverQuota n old new t e = let z : n ≡ n + 0 = omega arith in t.0 ∙ e ∙ ap counted z
 
-over_more' : (outcome : Outcome) (n : ℕ) (old new : MailboxState) → Tallies outcome old new → old.over ≡ counted n
-    → new.over ≡ counted (n + count_by is_over (outcome ∷ []))
+over_more' : (outcome : Outcome) (n : ℕ) (old new : MailboxState) → CountsOutcome outcome old new → old.over ≡ counted n
+    → new.over ≡ counted (n + count_by says_over_quota (outcome ∷ []))
 over_more' Stored n old new t e = let z : n ≡ n + 0 = omega arith in t.1 ∙ e ∙ ap counted z
 over_more' Failed n old new t e = let z : n ≡ n + 0 = omega arith in t.1 ∙ e ∙ ap counted z
 over_more' NoRoom n old new t e = let z : n ≡ n + 0 = omega arith in t.1 ∙ e ∙ ap counted z
@@ -192,7 +192,7 @@ module _ (at : Setting) (copies : List Note) (old now : WorkerState) (before : O
     counts = λ e. (shared (t.whose ∙ e) at.quota (t.counts e).0 (t.counts e).1).1;
   }
 
-  pub handled_more : (moment : ℕ) (outcome : Outcome) (after : CountedMailbox) → Tallies outcome now.mailbox after.mailbox
+  pub handled_more : (moment : ℕ) (outcome : Outcome) (after : CountedMailbox) → CountsOutcome outcome now.mailbox after.mailbox
       → after.mailbox.state.sharing.is_shared ≡ now.mailbox.state.sharing.is_shared
       → (now.mailbox.state.sharing.is_shared ≡ false → TakesCopy (record_of at.calendar at.host note) outcome (counted_of now before) after)
       → (now.mailbox.state.sharing.is_shared ≡ false → after.in_use ≡ now.in_use)
@@ -219,8 +219,8 @@ module _ (at : Setting) (copies : List Note) (old now : WorkerState) (before : O
           taken_count = ap (λ m. counted (m + 1)) x.taken_count ∙ counted_more (length copies) ∙ ap counted (sym more);
           stored_count = stored_more' outcome (count_by is_stored x.outcomes) now.mailbox after.mailbox tallied x.stored_count
               ∙ ap counted (sym (count-append is_stored x.outcomes (outcome ∷ [])));
-          over_count = over_more' outcome (count_by is_over x.outcomes) now.mailbox after.mailbox tallied x.over_count
-              ∙ ap counted (sym (count-append is_over x.outcomes (outcome ∷ [])));
+          over_count = over_more' outcome (count_by says_over_quota x.outcomes) now.mailbox after.mailbox tallied x.over_count
+              ∙ ap counted (sym (count-append says_over_quota x.outcomes (outcome ∷ [])));
           tended = tended_more outcome after whose alone never shared;
         },
         refl,

@@ -13,7 +13,7 @@ use Rattle.mbox_record.specs.Sharing.{Sharing}
 use Rattle.mbox_record.specs.Spool.{SpoolState, CoversAll}
 use Rattle.mail_world.specs.declared.Outcome.{Outcome}
 use Rattle.mail_world.specs.declared.Outcome.TheVariants.{Stored, Failed, NoRoom, TooLarge, OverQuota}
-use Rattle.box_worker.specs.Stored.{HasKept, HasNotKept, IsTornAt, MailboxState, mailbox_of, CountedMailbox, TakesCopy, Tallies, HasStored}
+use Rattle.box_worker.specs.Stored.{HasKept, HasNotKept, IsTornAt, MailboxState, mailbox_of, CountedMailbox, TakesCopy, CountsOutcome, HasStored}
 
 one_more : (copies : List Note) (note : Note) → length (copies ++ note ∷ []) ≡ length copies + 1
 one_more copies note = length-append copies (note ∷ [])
@@ -177,7 +177,7 @@ module _ (calendar : Calendar) (host : List ℕ) (note : Note) where
     }
 
 -- what is counted follows from what is done
-pub tallies_of : (text : List ℕ) (outcome : Outcome) (old new : CountedMailbox) → TakesCopy text outcome old new → Tallies outcome old.mailbox new.mailbox
+pub tallies_of : (text : List ℕ) (outcome : Outcome) (old new : CountedMailbox) → TakesCopy text outcome old new → CountsOutcome outcome old.mailbox new.mailbox
 tallies_of text Stored old new take = (ap (λ (m : MailboxState). m.stored) take.3, ap (λ (m : MailboxState). m.over) take.3)
 tallies_of text OverQuota old new take = (ap (λ (m : MailboxState). m.stored) take.3, ap (λ (m : MailboxState). m.over) take.3)
 tallies_of text Failed old new take = (ap (λ (m : MailboxState). m.stored) take.0, ap (λ (m : MailboxState). m.over) take.0)

@@ -37,13 +37,13 @@ turned_more at (x ∷ xs) [] note outcome old now new h t = absurd h
 turned_more at (x ∷ xs) (o ∷ os) note outcome old now new h t = (h.0, h.1, turned_more at xs os note outcome h.0 now new h.2 t)
 
 -- a turn that ends, by what was done in it
-pub ends_of : (quota : Option ℕ) (text : List ℕ) (outcome : Outcome) (old done new : MailboxState)
+pub ends_in_turn : (quota : Option ℕ) (text : List ℕ) (outcome : Outcome) (old done new : MailboxState)
     → DoesInTurn quota text outcome old done → EndsTurn done.state new.state → new.faulty ≡ done.faulty → EndsInTurn quota text outcome old new
-ends_of quota text Stored old done new d e f = (record { done = done.state; does = d.0; ends = e }, f ∙ d.1)
-ends_of quota text OverQuota old done new d e f = (record { done = done.state; does = d.0; ends = e }, f ∙ d.1)
-ends_of quota text Failed old done new d e f = (record { done = done.state; does = d.0; ends = e }, f ∙ d.1)
-ends_of quota text NoRoom old done new d e f = absurd d
-ends_of quota text TooLarge old done new d e f = absurd d
+ends_in_turn quota text Stored old done new d e f = (record { done = done.state; does = d.0; ends = e }, f ∙ d.1)
+ends_in_turn quota text OverQuota old done new d e f = (record { done = done.state; does = d.0; ends = e }, f ∙ d.1)
+ends_in_turn quota text Failed old done new d e f = (record { done = done.state; does = d.0; ends = e }, f ∙ d.1)
+ends_in_turn quota text NoRoom old done new d e f = absurd d
+ends_in_turn quota text TooLarge old done new d e f = absurd d
 
 -- a copy's turn, by its end
 module _ (quota : Option ℕ) (text : List ℕ) (old locked new : MailboxState) (held before after : ℕ) (sound : old.faulty ≡ false)

@@ -20,11 +20,11 @@ use Rattle.mail_post.proofs.InTime.{deed, none_done, gave_more, gone_keeps_time,
 use Rattle.mail_post.proofs.Offered.{part_more, part_both, gone_now, gone_as_before}
 use Rattle.box_worker.specs.declared.limit.Limit.{Limit}
 use Rattle.box_worker.specs.Limits.{Setting, StartsAt, CountsTo}
-use Rattle.box_worker.specs.Stored.{mailbox_of, CountedMailbox, TakesCopy, Tallies, HasStored}
+use Rattle.box_worker.specs.Stored.{mailbox_of, CountedMailbox, TakesCopy, CountsOutcome, HasStored}
 use Rattle.box_worker.specs.Told.{slip_by}
 use Rattle.box_worker.specs.Turned.{TurnsCopy}
 use Rattle.box_worker.specs.TurnTimes.{worker_sorts, TakeTurns}
-use Rattle.box_worker.specs.Worked.{WorkerState, counted_of, idle, is_lost, HasHandled, ends_of, IsWorking, HasWorked}
+use Rattle.box_worker.specs.Worked.{WorkerState, counted_of, idle, is_lost, HasHandled, worker_ends, IsWorking, HasWorked}
 use Rattle.box_worker.proofs.Handling.{handled_more, counting_none, handled_of, handled_lost}
 
 turns_more : (worker : ℕ) (copies : List Note) (outcomes : List Outcome) (note : Note) (outcome : Outcome) → length outcomes ≡ length copies
@@ -116,7 +116,7 @@ turns_end worker copies outcomes before slips was now same x = record {
 pub working_more : (at : Setting) (copies : List Note) (before was inbox : Inbox Note) (old now : WorkerState) (limit : Option Limit)
     (next : List (Sender Slip)) (note : Note) (accepted : Bool)
     → IsWorking at copies before was old now limit → IsTimed (clock_of now.slips was) was inbox → (outcome : Outcome) (after : CountedMailbox)
-    → Tallies outcome now.mailbox after.mailbox
+    → CountsOutcome outcome now.mailbox after.mailbox
     → after.mailbox.state.sharing.is_shared ≡ now.mailbox.state.sharing.is_shared
     → (now.mailbox.state.sharing.is_shared ≡ false → TakesCopy (record_of at.calendar at.host note) outcome (counted_of now limit) after)
     → (now.mailbox.state.sharing.is_shared ≡ false → after.in_use ≡ now.in_use)
@@ -129,8 +129,8 @@ working_more at copies before was inbox old now limit next note accepted x timed
     offered in
     record {
       counting = y.0;
-      turns = subst (λ os. TakeTurns at.worker (copies ++ note ∷ []) os (ends_of old before) (record { senders = next; inbox = inbox })) (sym y.1)
-          (turn_more at.worker copies x.counting.outcomes note outcome (ends_of old before) now.slips next was inbox x.counting.each x.turns timed accepted
+      turns = subst (λ os. TakeTurns at.worker (copies ++ note ∷ []) os (worker_ends old before) (record { senders = next; inbox = inbox })) (sym y.1)
+          (turn_more at.worker copies x.counting.outcomes note outcome (worker_ends old before) now.slips next was inbox x.counting.each x.turns timed accepted
           offered
           (x.counting.numbered note.txn.lane offered.sender offered.is));
     }
@@ -158,7 +158,7 @@ pub worked : (at : Setting) (before was after : Inbox Note) (old now : WorkerSta
 worked at before was after old now limit x channel lanes capacity took same over lost found =
     let new : WorkerState = record now { lost = lost } in
     let P : List Note → Type 0 = λ copies. (h : HasHandled at copies old new)
-    × TakeTurns at.worker copies h.outcomes (ends_of old before) (ends_of new after) in
+    × TakeTurns at.worker copies h.outcomes (worker_ends old before) (worker_ends new after) in
     let h : HasHandled at (taken was) old new = handled_lost at (taken was) old now lost (handled_of at (taken was) old now limit x.counting) in
-    let all = subst P (sym took) (h, turns_end at.worker (taken was) x.counting.outcomes (ends_of old before) now.slips was after same x.turns) in
+    let all = subst P (sym took) (h, turns_end at.worker (taken was) x.counting.outcomes (worker_ends old before) now.slips was after same x.turns) in
     record { channel = channel; lanes = lanes; capacity = capacity; ended = over; lost = found; handled = all.0; turns = all.1 }

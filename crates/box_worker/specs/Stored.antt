@@ -73,10 +73,10 @@ TakesCopy text Failed old new = (new.mailbox ≡ mailbox_of new.mailbox.state ol
 TakesCopy text _ old new = ⊥
 
 -- what is counted of a copy by what its lane is told
-abbrev pub Tallies : Outcome → MailboxState → MailboxState → Type 0
-Tallies Stored old new = (new.stored ≡ counted (old.stored + 1)) × (new.over ≡ old.over)
-Tallies OverQuota old new = (new.stored ≡ old.stored) × (new.over ≡ counted (old.over + 1))
-Tallies _ old new = (new.stored ≡ old.stored) × (new.over ≡ old.over)
+abbrev pub CountsOutcome : Outcome → MailboxState → MailboxState → Type 0
+CountsOutcome Stored old new = (new.stored ≡ counted (old.stored + 1)) × (new.over ≡ old.over)
+CountsOutcome OverQuota old new = (new.stored ≡ old.stored) × (new.over ≡ counted (old.over + 1))
+CountsOutcome _ old new = (new.stored ≡ old.stored) × (new.over ≡ old.over)
 
 -- What a spool that held these bytes holds once its worker failed: the first notes' records and a prefix of that of the
 -- next one, which is lost, or, where no copy was settled, a prefix of what mending adds.

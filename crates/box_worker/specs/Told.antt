@@ -26,6 +26,6 @@ abbrev pub is_stored : Outcome → Bool
 is_stored Stored = true
 is_stored _ = false
 
-abbrev pub is_over : Outcome → Bool
-is_over OverQuota = true
-is_over _ = false
+abbrev pub says_over_quota : Outcome → Bool
+says_over_quota OverQuota = true
+says_over_quota _ = false

@@ -17,7 +17,7 @@ use Rattle.box_worker.specs.declared.limit.Limit.{Limit}
 use Rattle.box_worker.specs.Limits.{Setting, marks_after, kept_after, CountsTo}
 use Rattle.box_worker.specs.Stored.{MailboxState, mailbox_of, CountedMailbox, HasSettled}
 use Rattle.box_worker.specs.Turned.{shared_of, HaveTurned, HasTurned}
-use Rattle.box_worker.specs.Told.{owed_to, is_stored, is_over}
+use Rattle.box_worker.specs.Told.{owed_to, is_stored, says_over_quota}
 use Rattle.box_worker.specs.TurnTimes.{TakeTurns}
 
 -- a worker: its senders of slips, its mailbox, how many turns were missed, how many copies it took, and whether a
@@ -74,7 +74,7 @@ pub record HasHandled (at : Setting) (copies : List Note) (old new : WorkerState
   pub numbered : HaveNumber at.worker new.slips
   pub taken_count : new.taken ≡ counted (length copies)
   pub stored_count : new.mailbox.stored ≡ counted (count_by is_stored outcomes)
-  pub over_count : new.mailbox.over ≡ counted (count_by is_over outcomes)
+  pub over_count : new.mailbox.over ≡ counted (count_by says_over_quota outcomes)
   pub alone : old.mailbox.state.sharing.is_shared ≡ false
       → IsAlone at copies outcomes old.mailbox.state new.mailbox new.in_use
   pub shared : old.mailbox.state.sharing.is_shared ≡ true
@@ -106,18 +106,18 @@ pub record IsCounting (at : Setting) (copies : List Note) (old new : WorkerState
   pub numbered : HaveNumber at.worker new.slips
   pub taken_count : new.taken ≡ counted (length copies)
   pub stored_count : new.mailbox.stored ≡ counted (count_by is_stored outcomes)
-  pub over_count : new.mailbox.over ≡ counted (count_by is_over outcomes)
+  pub over_count : new.mailbox.over ≡ counted (count_by says_over_quota outcomes)
   pub tended : IsTended at copies outcomes old.mailbox.state (counted_of new limit)
 
 -- its ends of the channels
-abbrev pub ends_of : WorkerState → Inbox Note → Ends Slip Note
-ends_of worker inbox = record { senders = worker.slips; inbox = inbox }
+abbrev pub worker_ends : WorkerState → Inbox Note → Ends Slip Note
+worker_ends worker inbox = record { senders = worker.slips; inbox = inbox }
 
 -- and what it did at its ends of the channels
 pub record IsWorking (at : Setting) (copies : List Note) (before now : Inbox Note) (old new : WorkerState)
     (limit : Option Limit) : Type 0 where
   pub counting : IsCounting at copies old new limit
-  pub turns : TakeTurns at.worker copies counting.outcomes (ends_of old before) (ends_of new now)
+  pub turns : TakeTurns at.worker copies counting.outcomes (worker_ends old before) (worker_ends new now)
 
 -- whether its channel was found gone before it was closed
 abbrev pub is_lost : Option Gone → Bool
@@ -134,4 +134,4 @@ pub record HasWorked (at : Setting) (before after : Inbox Note) (old new : Worke
   pub ended : IsSome after.gone
   pub lost : new.lost ≡ (any_gone new.slips || is_lost after.gone)
   pub handled : HasHandled at (taken after) old new
-  pub turns : TakeTurns at.worker (taken after) handled.outcomes (ends_of old before) (ends_of new after)
+  pub turns : TakeTurns at.worker (taken after) handled.outcomes (worker_ends old before) (worker_ends new after)

@@ -7,7 +7,7 @@ ghost use Rattle.mbox_record.specs.Envelope.{record_text};
 ghost use Rattle.mbox_record.specs.Mending.{HasNotMended};
 ghost use Rattle.mail_world.specs.Counts.{counted};
 ghost use Rattle.box_worker.specs.Limits.{CountsTo, StartsAt};
-ghost use Rattle.box_worker.specs.Stored.{mailbox_of, HasStored, IsMeasured, TakesCopy, Tallies};
+ghost use Rattle.box_worker.specs.Stored.{mailbox_of, HasStored, IsMeasured, TakesCopy, CountsOutcome};
 ghost use Rattle.box_worker.specs.Turned.{MeasuresAnew, DoesInTurn, EndsInTurn, CountsInTurn, TurnsCopy};
 
 use crate::limit::Limit;
@@ -83,7 +83,7 @@ impl<S: Spool> Mailbox<S> {
         envelope: &Envelope,
         hold: &mut Hold<N>,
     ) -> Outcome
-        ensures tallied { Tallies result self.old.mailbox self.new.mailbox }
+        ensures tallied { CountsOutcome result self.old.mailbox self.new.mailbox }
         ensures whose { self.new.mailbox.state.sharing.is_shared ≡ self.old.mailbox.state.sharing.is_shared }
         ensures alone { self.old.mailbox.state.sharing.is_shared ≡ false
             → TakesCopy (record_text civil_at host.now envelope.now hold.old.bytes) result self.old self.new }
@@ -119,7 +119,7 @@ impl<S: Spool> Mailbox<S> {
     ) -> Outcome
         requires private { self.old.mailbox.state.sharing.is_shared ≡ false }
         requires sound { self.old.mailbox.faulty ≡ false }
-        ensures tallied { Tallies result self.old.mailbox self.new.mailbox }
+        ensures tallied { CountsOutcome result self.old.mailbox self.new.mailbox }
         ensures takes { TakesCopy (record_text civil_at host.now envelope.now hold.old.bytes) result self.old self.new }
         ensures in_use { self.new.in_use ≡ self.old.in_use }
         ensures hold { hold.new ≡ hold.old }
@@ -139,7 +139,7 @@ impl<S: Spool> Mailbox<S> {
         hold: &mut Hold<N>,
     ) -> Outcome
         requires sound { self.old.mailbox.faulty ≡ false }
-        ensures tallied { Tallies result self.old.mailbox self.new.mailbox }
+        ensures tallied { CountsOutcome result self.old.mailbox self.new.mailbox }
         ensures takes { TakesCopy (record_text civil_at host.now envelope.now hold.old.bytes) result self.old self.new }
         ensures in_use { self.new.in_use ≡ self.old.in_use }
         ensures hold { hold.new ≡ hold.old }
@@ -205,7 +205,7 @@ impl<S: Spool> Mailbox<S> {
     ) -> Outcome
         requires sound { self.old.mailbox.faulty ≡ false }
         requires turn { self.old.mailbox.state.sharing.in_turn ≡ true }
-        ensures tallied { Tallies result self.old.mailbox self.new.mailbox }
+        ensures tallied { CountsOutcome result self.old.mailbox self.new.mailbox }
         ensures whose { self.new.mailbox.state.sharing.is_shared ≡ self.old.mailbox.state.sharing.is_shared }
         ensures ends { CountsInTurn (λ quota.
             EndsInTurn quota (record_text civil_at host.now envelope.now hold.old.bytes) result
@@ -227,7 +227,7 @@ impl<S: Spool> Mailbox<S> {
         hold: &mut Hold<N>,
     ) -> Outcome
         requires sound { self.old.mailbox.faulty ≡ false }
-        ensures tallied { Tallies result self.old.mailbox self.new.mailbox }
+        ensures tallied { CountsOutcome result self.old.mailbox self.new.mailbox }
         ensures turn { (self.new.mailbox.state.sharing.is_shared ≡ self.old.mailbox.state.sharing.is_shared)
             × (self.new.mailbox.state.sharing.in_turn ≡ self.old.mailbox.state.sharing.in_turn) }
         ensures does { CountsInTurn (λ quota.

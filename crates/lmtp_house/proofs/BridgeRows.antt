@@ -4,7 +4,7 @@ use Rattle.std.specs.Prelude.{slice_get}
 use Rattle.std.specs.List.{AllZip}
 use Rattle.mail_world.proofs.OtherSteps.{there_is}
 use Rattle.mail_post.specs.Channel.{Channel, Sender, Inbox, Sent, taken}
-use Rattle.thread_crew.specs.Channels.{AreRows, AreClosed, HaveTimes, IsSettled}
+use Rattle.thread_crew.specs.Channels.{AreRows, AreClosedWith, HaveTimes, IsSettled}
 use Rattle.lmtp_house.proofs.Bridge.{IsSettledAs}
 
 zip_at : {X Y : Type 0} (R : X → Y → Type 0) (xs : List X) (ys : List Y) → AllZip R xs ys → (k : ℕ) (x : X) (y : Y) → slice_get xs k ≡ Some x
@@ -28,7 +28,7 @@ module _ {M : Type 0} where
     pub channel_count : length channels ≡ count
     pub inbox_count : length inboxes ≡ count
     pub rows_are : AreRows n channels sent rows
-    pub shut : AreClosed n channels sent closed
+    pub shut : AreClosedWith n channels sent closed
     pub shut_at : HaveTimes rows closed
     pub settled : AllZip (IsSettled lane) inboxes closed
     pub told : (k b : ℕ) (row : List (Sender M)) (sender : Sender M) → slice_get rows k ≡ Some row → slice_get row b ≡ Some sender

@@ -14,7 +14,7 @@ use Rattle.lmtp_lane.specs.Visits.{conversations_of}
 use Rattle.lmtp_threads.specs.Works.{VisitsView}
 use Rattle.lmtp_house.specs.Handed.{HandedIn}
 use Rattle.lmtp_house.specs.House.{HasRun}
-use Rattle.thread_crew.specs.Channels.{Shape, channels_of, AreRows, AreClosed, HaveTimes, MayClose, CanSettle, IsSettled}
+use Rattle.thread_crew.specs.Channels.{Shape, channels_of, AreRows, AreClosedWith, HaveTimes, MayClose, CanSettle, IsSettled}
 use Rattle.lmtp_threads.specs.Tasks.{BoxTask, LanesGiven, LanesBack, WorkersGiven, WorkersBack, HaveServed, HaveServedAll, HaveWorked, HaveWorkedAll}
 use Rattle.lmtp_house.specs.HousePlan.{PlanState, IsPlanned}
 use Rattle.lmtp_house.proofs.HousePlan.{may_close}
@@ -33,7 +33,7 @@ worked_as state working tasks boxes same worked = subst (λ l. HaveWorkedAll sta
 -- closing gives this
 abbrev pub Closes : {M : Type 0} → Shape → List (List (Sender M)) → List (Sent M) → Type 0
 Closes {M} shape rows closed =
-    (channels : List (Channel M)) (sent : ℕ → ℕ → List M) → AreRows shape.lanes channels sent rows → AreClosed shape.lanes channels sent closed
+    (channels : List (Channel M)) (sent : ℕ → ℕ → List M) → AreRows shape.lanes channels sent rows → AreClosedWith shape.lanes channels sent closed
 
 module _ {V S C : Type 0} (May : C → ℕ → Type 0) (view : VisitsView V) (state : S → SpoolState) (plan : PlanState V S C)
     (site : Site) (clock : C) (handed : HandedIn V S) (p : IsPlanned site clock handed plan)
@@ -65,10 +65,10 @@ module _ {V S C : Type 0} (May : C → ℕ → Type 0) (view : VisitsView V) (st
     abbrev owed_slips : ℕ → ℕ → List Slip
     owed_slips b k = owed_to b (boxes_ran.works b).outcomes k (boxes_ran.works b).taken
 
-    mail_shut : AreClosed (length handed.visits) (channels_of p.mail) owed_by mail_closed
+    mail_shut : AreClosedWith (length handed.visits) (channels_of p.mail) owed_by mail_closed
     mail_shut =
         let lanes_are : plan.mail.lanes ≡ length handed.visits = ap (λ (s : Shape). s.lanes) p.mail_closes in
-        subst (λ n. AreClosed n (channels_of p.mail) owed_by mail_closed) lanes_are
+        subst (λ n. AreClosedWith n (channels_of p.mail) owed_by mail_closed) lanes_are
         (closes (channels_of p.mail) owed_by (subst (λ n. AreRows n (channels_of p.mail) owed_by lanes.rows) (sym lanes_are) lanes_ran.rows_are))
 
     pub mail_may_settle : AllZip CanSettle boxes.inboxes mail_closed
@@ -82,10 +82,10 @@ module _ {V S C : Type 0} (May : C → ℕ → Type 0) (view : VisitsView V) (st
         boxes_ran.rows_are
 
     module _ (slips_closed : List (Sent Slip)) (slips_close : Closes plan.slips boxes.rows slips_closed) where
-      slips_shut : AreClosed (length handed.spools) (channels_of p.slips) owed_slips slips_closed
+      slips_shut : AreClosedWith (length handed.spools) (channels_of p.slips) owed_slips slips_closed
       slips_shut =
           let workers_are : plan.slips.lanes ≡ length handed.spools = ap (λ (s : Shape). s.lanes) p.slips_close in
-          subst (λ n. AreClosed n (channels_of p.slips) owed_slips slips_closed) workers_are
+          subst (λ n. AreClosedWith n (channels_of p.slips) owed_slips slips_closed) workers_are
           (slips_close (channels_of p.slips) owed_slips
           (subst (λ n. AreRows n (channels_of p.slips) owed_slips boxes.rows) (sym workers_are) boxes_ran.rows_are))
 

@@ -20,7 +20,7 @@ use Rattle.lmtp_lane.specs.Visits.{conversations_of}
 use Rattle.lmtp_threads.specs.Works.{VisitsView}
 use Rattle.lmtp_house.specs.Handed.{HandedIn, HandedBack, handed_in}
 use Rattle.lmtp_house.specs.House.{HasRun}
-use Rattle.thread_crew.specs.Channels.{channels_of, AreNewChannels, IsClosedWith, AreClosed, HaveTimes, CanSettle, IsSettled}
+use Rattle.thread_crew.specs.Channels.{channels_of, AreNewChannels, IsClosedWith, AreClosedWith, HaveTimes, CanSettle, IsSettled}
 use Rattle.lmtp_threads.specs.Tasks.{LanesGiven, LanesBack, WorkersGiven, WorkersBack, HaveServed, HaveWorked}
 use Rattle.lmtp_house.proofs.AnsweredAll.{outcomes_are_answers}
 use Rattle.lmtp_house.proofs.HeardAll.{heard_all}
@@ -80,7 +80,7 @@ module _ {M : Type 0} where
   pub can_settle : {capacity : ℕ} (n count : ℕ) (sent : ℕ → ℕ → List M) (rows : List (List (Sender M))) (inboxes after : List (Inbox M))
       (closed : List (Sent M)) → AreNewChannels capacity n count rows inboxes → length after ≡ count
       → ((b : ℕ) (x y : Inbox M) → slice_get inboxes b ≡ Some x → slice_get after b ≡ Some y → (y.channel ≡ x.channel) × (y.lanes ≡ x.lanes))
-      → AreClosed n (channels_of inboxes) sent closed → AllZip CanSettle after closed
+      → AreClosedWith n (channels_of inboxes) sent closed → AllZip CanSettle after closed
   can_settle n count sent rows inboxes after closed new after_count same are =
       at_zip CanSettle after closed (after_count ∙ (sym new.counts ∙ (sym (length-map inboxes (λ (i : Inbox M). i.channel)) ∙ sym are.count))) (λ b y c e f.
       let x = at inboxes b (omega (arith, new.counts, after_count, slice_get_within after b y e)) in
@@ -98,9 +98,9 @@ module _ {V S : Type 0} {capacity room : ℕ} (site : Site) (May : ℕ → Type 
     (slips_new : AreNewChannels room (length old_boxes.spools) (length old_lanes.visits) old_boxes.rows old_lanes.inboxes)
     (lanes : HaveServed site May view (channels_of old_boxes.inboxes) old_lanes new_lanes)
     (boxes : HaveWorked site state (channels_of old_lanes.inboxes) old_boxes new_boxes)
-    (mail_shut : AreClosed (length old_lanes.visits) (channels_of old_boxes.inboxes) (λ k b. due site k b (conversations_of (lanes.works k).visits))
+    (mail_shut : AreClosedWith (length old_lanes.visits) (channels_of old_boxes.inboxes) (λ k b. due site k b (conversations_of (lanes.works k).visits))
     mail_closed)
-    (slips_shut : AreClosed (length old_boxes.spools) (channels_of old_lanes.inboxes) (λ b k. owed_to b (boxes.works b).outcomes k (boxes.works b).taken)
+    (slips_shut : AreClosedWith (length old_boxes.spools) (channels_of old_lanes.inboxes) (λ b k. owed_to b (boxes.works b).outcomes k (boxes.works b).taken)
     slips_closed)
     (mail_times : HaveTimes new_lanes.rows mail_closed) (slips_times : HaveTimes new_boxes.rows slips_closed)
     (mail_settled : AllZip (IsSettled (λ (n : Note). n.txn.lane)) new_boxes.inboxes mail_closed)

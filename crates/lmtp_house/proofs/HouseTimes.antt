@@ -17,7 +17,7 @@ use Rattle.box_worker.specs.TurnTimes.{worker_sorts}
 use Rattle.lmtp_lane.specs.LaneExchange.{lane_sorts}
 use Rattle.lmtp_lane.specs.Visits.{conversations_of}
 use Rattle.lmtp_threads.specs.Works.{VisitsView}
-use Rattle.thread_crew.specs.Channels.{channels_of, AreNewChannels, AreClosed, HaveTimes, IsSettled}
+use Rattle.thread_crew.specs.Channels.{channels_of, AreNewChannels, AreClosedWith, HaveTimes, IsSettled}
 use Rattle.thread_crew.proofs.ChannelRows.{at_map, same_at}
 use Rattle.lmtp_threads.specs.Tasks.{LanesGiven, LanesBack, WorkersGiven, WorkersBack, IsInTime, HaveServed, HaveWorked}
 use Rattle.lmtp_house.proofs.Bridge.{AreFresh, HasEnded, has_ended}
@@ -43,9 +43,9 @@ module _ {V S : Type 0} {capacity room : ℕ} (site : Site) (May : ℕ → Type 
     (slips_new : AreNewChannels room (length old_boxes.spools) (length old_lanes.visits) old_boxes.rows old_lanes.inboxes)
     (lanes : HaveServed site May view (channels_of old_boxes.inboxes) old_lanes new_lanes)
     (boxes : HaveWorked site state (channels_of old_lanes.inboxes) old_boxes new_boxes)
-    (mail_shut : AreClosed (length old_lanes.visits) (channels_of old_boxes.inboxes) (λ k b. due site k b (conversations_of (lanes.works k).visits))
+    (mail_shut : AreClosedWith (length old_lanes.visits) (channels_of old_boxes.inboxes) (λ k b. due site k b (conversations_of (lanes.works k).visits))
     mail_closed)
-    (slips_shut : AreClosed (length old_boxes.spools) (channels_of old_lanes.inboxes) (λ b k. owed_to b (boxes.works b).outcomes k (boxes.works b).taken)
+    (slips_shut : AreClosedWith (length old_boxes.spools) (channels_of old_lanes.inboxes) (λ b k. owed_to b (boxes.works b).outcomes k (boxes.works b).taken)
     slips_closed)
     (mail_times : HaveTimes new_lanes.rows mail_closed) (slips_times : HaveTimes new_boxes.rows slips_closed)
     (mail_settled : AllZip (IsSettled (λ (n : Note). n.txn.lane)) new_boxes.inboxes mail_closed)

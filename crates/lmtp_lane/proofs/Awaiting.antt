@@ -18,7 +18,7 @@ use Rattle.mail_post.specs.Channel.{IsTimed, HasSameTimes, Inbox, taken}
 use Rattle.mail_post.specs.Gathering.{HasGathered, IsAwaited}
 use Rattle.mail_world.proofs.LastSeal.{length_placed}
 use Rattle.lmtp_lane.specs.LaneExchange.{LaneEnds, Sending, found_gone, slips_gone, KeepsRoom, IsAmong, own_slip_of, HasExchangedBy, IsUnderWay, IsOffering}
-use Rattle.lmtp_lane.specs.LaneExchange.{Continues, Awaits, Sends, TakesOne, sent_as, copy_at}
+use Rattle.lmtp_lane.specs.LaneExchange.{Continues, Awaits, Sends, GathersOne, sent_as, copy_at}
 use Rattle.lmtp_lane.proofs.Doing.{lane_clock}
 use Rattle.lmtp_lane.proofs.Exchanging.{HearsSlip, sending, with_inbox, no_episode, joined_none, way_failed, way_heard, way_gone}
 
@@ -45,7 +45,7 @@ with_copies notes lane number session moment message = notes ++ copies_from lane
 -- a copy that had no slip is answered by the lane; one that had is left
 answered_by : (number place mailbox : ℕ) (session : Session) (now : Sending) (gather : Gather) (taken_so : Bool)
     → place < length session.recipients → mailbox ≡ get_or session.recipients place 0 → now.ends.gone ≡ true → slips_gone now.ends ≡ true
-    → TakesOne (own_slip now.ends.lane number place mailbox) now.gather gather taken_so → Awaits number session now (sending now.ends gather)
+    → GathersOne (own_slip now.ends.lane number place mailbox) now.gather gather taken_so → Awaits number session now (sending now.ends gather)
 answered_by number place mailbox session now gather true low is went lost takes moment message notes gave n past old x =
     let lane : ℕ = now.ends.lane in
     let t : Transaction = sent_as number session moment message in
@@ -69,7 +69,7 @@ answered_by number place mailbox session now gather false low is went lost kept 
 pub answered_next : (number place mailbox : ℕ) (session : Session) (now next : Sending) (taken_so : Bool)
     → place < length session.recipients → mailbox ≡ get_or session.recipients place 0 → (now.ends.gone ≡ true) × (slips_gone now.ends ≡ true)
     → next.ends ≡ now.ends
-    → TakesOne (own_slip now.ends.lane number place mailbox) now.gather next.gather taken_so → Awaits number session now next
+    → GathersOne (own_slip now.ends.lane number place mailbox) now.gather next.gather taken_so → Awaits number session now next
 answered_next number place mailbox session now next taken_so low is went same takes =
     subst (λ e. Awaits number session now (sending e next.gather)) (sym same)
     (answered_by number place mailbox session now next.gather taken_so low is went.0 went.1 takes)
@@ -216,7 +216,7 @@ none_found : (p : Slip → Bool) (xs : List Slip) → option_map (λ s. s.outcom
 none_found p [] e = refl
 none_found p (x ∷ xs) e = count-cons p x xs ∙ none_by p x xs (p x) (none_found p xs) e
 
-pub takes_open : (slip : Slip) (old new : Gather) → IsAwaited old slip → HearsSlip slip old new → TakesOne slip old new true
+pub takes_open : (slip : Slip) (old new : Gather) → IsAwaited old slip → HearsSlip slip old new → GathersOne slip old new true
 takes_open slip old new awaited hears txn n heard g =
     let same : txn ≡ slip.txn = sym (awaited.0 ∙ g.same) in
     let P : Txn → Type 0 = λ t. times_named t slip.place heard ≡ 0 in

@@ -19,7 +19,7 @@ use Rattle.mail_post.specs.Offered.{any_gone, IsOffered}
 use Rattle.mail_post.proofs.Offered.{OwesOneMore, sent_more, sent_no_more, gone_now, gone_as_before}
 use Rattle.lmtp_lane.proofs.Doing.{lane_clock, done_offered, done_gone, done_heard, done_none}
 use Rattle.lmtp_lane.specs.LaneExchange.{LaneEnds, Sending, found_gone, slips_gone, IsAmong, for_box, own_slip_of, IsOwnSlip, Episode, joined, HasExchanged}
-use Rattle.lmtp_lane.specs.LaneExchange.{HasExchangedBy, IsTimely, IsEpisode, IsUnderWay, IsOffering, TakesOne, Continues}
+use Rattle.lmtp_lane.specs.LaneExchange.{HasExchangedBy, IsTimely, IsEpisode, IsUnderWay, IsOffering, GathersOne, Continues}
 use Rattle.lmtp_lane.proofs.Turns.{gave_last, heard_last}
 
 -- one more at the end of a list that is merged in time
@@ -414,7 +414,7 @@ HearsSlip slip old new = (txn : Txn) (n : ℕ) (heard : List Slip) → HasGather
 -- a copy was left: the lane's own slip of it was given to the gatherer, or its place keeps the slip that it has
 left_by : (note : Note) (now : Sending) (next : LaneEnds) (gather : Gather) (taken_so : Bool) → note.txn.lane ≡ now.ends.lane → Leaves note now.ends next
     → next.gone ≡ true
-    → TakesOne (own_slip_of now.ends.lane note) now.gather gather taken_so
+    → GathersOne (own_slip_of now.ends.lane note) now.gather gather taken_so
     → Continues note.txn (note ∷ []) now (sending next gather)
 left_by note now next gather true here leaves went takes notes gave n past old x =
     let same : now.ends.lane ≡ old.lane = x.way.exchanged.exchanged.lane in
@@ -429,9 +429,10 @@ left_by note now next gather false here leaves went kept notes gave n past old x
 
 pub left_way : (slip : Slip) (note : Note) (now next : Sending) (ends : LaneEnds) (taken_so : Bool) → note.txn.lane ≡ now.ends.lane
     → slip ≡ own_slip_of now.ends.lane note
-    → Leaves note now.ends ends → ends.gone ≡ true → next.ends ≡ ends → TakesOne slip now.gather next.gather taken_so → Continues note.txn (note ∷ []) now next
+    → Leaves note now.ends ends → ends.gone ≡ true → next.ends ≡ ends → GathersOne slip now.gather next.gather taken_so
+    → Continues note.txn (note ∷ []) now next
 left_way slip note now next ends taken_so here is leaves went same takes notes gave n past old x =
-    let T : Slip → Type 0 = λ s. TakesOne s now.gather next.gather taken_so in
+    let T : Slip → Type 0 = λ s. GathersOne s now.gather next.gather taken_so in
     subst (λ e. IsOffering (notes ++ note ∷ []) (gave ++ map Gave (note ∷ [])) note.txn n past old (sending e next.gather)) (sym same)
     (left_by note now ends next.gather taken_so here leaves went (subst T is takes) notes gave n past old x)
 

@@ -182,10 +182,10 @@ pub record IsOffering (notes : List Note) (gave : List Deed) (txn : Txn) (n : �
   pub none_heard : new.ends.gone ≡ false → way.now.heard ≡ []
 
 -- a gatherer that was given a slip for a place that had none, or for one that keeps what it has
-abbrev pub TakesOne : Slip → Gather → Gather → Bool → Type 0
-TakesOne slip old new true = (txn : Txn) (n : ℕ) (heard : List Slip) → HasGathered txn n heard old
+abbrev pub GathersOne : Slip → Gather → Gather → Bool → Type 0
+GathersOne slip old new true = (txn : Txn) (n : ℕ) (heard : List Slip) → HasGathered txn n heard old
     → (times_named slip.txn slip.place heard ≡ 0) × HasGathered txn n (heard ++ slip ∷ []) new
-TakesOne slip old new false = new ≡ old
+GathersOne slip old new false = new ≡ old
 
 -- what was offered is so with these further copies
 abbrev pub Continues : Txn → List Note → Sending → Sending → Type 0

@@ -5,7 +5,7 @@ use Rattle.mail_world.specs.declared.State.{State}
 use Rattle.mail_world.specs.declared.State.TheVariants.{Fresh, Greeted, Sender, Recipients, Content, Waiting, Ended}
 use Rattle.lmtp_talk.specs.declared.ending.EndCause.{EndCause}
 use Rattle.lmtp_talk.specs.declared.ending.EndCause.TheVariants as ends
-use Rattle.lmtp_talk.specs.Turns.{quit_or, end_after}
+use Rattle.lmtp_talk.specs.Rounds.{quit_or, end_after}
 use Rattle.lmtp_talk.specs.Peer.{PeerState, RisesBy, WasRead}
 use Rattle.lmtp_talk.specs.Served.{HasRead}
 

@@ -24,7 +24,7 @@ use Rattle.lmtp_talk.specs.Saying.{HasSaid}
 use Rattle.lmtp_talk.specs.Served.{terms, is_quit, has_quit, IsWritten, IsServed}
 use Rattle.lmtp_talk.specs.TalkState.{Comes, IsInside, IsSoFar, talk_state, beginning}
 use Rattle.lmtp_talk.specs.Steps.{TakesInputs}
-use Rattle.lmtp_talk.specs.Turns.{Leaves, stopped_or}
+use Rattle.lmtp_talk.specs.Rounds.{Leaves, stopped_or}
 use Rattle.lmtp_talk.proofs.Written.{moved_writing, said_on}
 use Rattle.lmtp_talk.proofs.CutUp.{all_cut, all_accounted, all_inputs}
 

@@ -7,6 +7,6 @@ pub mod CarriedData
 pub mod Messages
 pub mod Advancing
 pub mod Ends
-pub mod Turning
+pub mod Rounds
 pub mod HandedOut
 pub mod Counting

@@ -6,7 +6,7 @@ pub mod Telling
 pub mod Served
 pub mod TalkState
 pub mod Steps
-pub mod Turns
+pub mod Rounds
 pub mod ReadBuffer
 pub mod Silence
 pub mod TcpPeer

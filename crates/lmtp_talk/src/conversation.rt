@@ -5,7 +5,7 @@ ghost use Rattle.mail_world.specs.Session.{Stop};
 ghost use Rattle.mail_world.specs.Lists.{is_content};
 ghost use Rattle.lmtp_session.specs.Steps.{MayStop};
 ghost use Rattle.lmtp_talk.specs.Steps.{talk, TakesInputs};
-ghost use Rattle.lmtp_talk.specs.Turns.{Greets, Leaves, TakesTurn, EndsTurn, HandlesPiece, end_after, stopped_or};
+ghost use Rattle.lmtp_talk.specs.Rounds.{Greets, Leaves, TakesRound, EndsRound, HandlesPiece, end_after, stopped_or};
 ghost use Rattle.lmtp_talk.specs.Peer.{WasRead};
 ghost use Rattle.lmtp_talk.specs.Served.{terms, HasRead, IsServed};
 
@@ -36,7 +36,7 @@ pub fn serve<P: Peer, D: Delivery>(
     ensures same { D.site delivery.new ≡ D.site delivery.old }
 {
     greet(dialogue, peer);
-    take_turns(dialogue, peer, delivery, reads)
+    take_rounds(dialogue, peer, delivery, reads)
 }
 
 // The first reply (RFC 5321, 4.3.1).
@@ -52,8 +52,8 @@ fn greet<P: Peer>(dialogue: &mut Dialogue, peer: &mut P)
     dialogue.outbox.flush(peer);
 }
 
-// Takes turns until the conversation ends.
-fn take_turns<P: Peer, D: Delivery>(
+// Takes rounds until the conversation ends.
+fn take_rounds<P: Peer, D: Delivery>(
     dialogue: &mut Dialogue,
     peer: &mut P,
     delivery: &mut D,
@@ -62,7 +62,7 @@ fn take_turns<P: Peer, D: Delivery>(
     requires may { MayStop dialogue.old.session.session.state }
     requires none { dialogue.old.outbox.pending ≡ [] }
     requires here { D.site delivery.old ≡ dialogue.old.session.site }
-    ensures ends { EndsTurn D.HasCome D.IsDrafting reads (talk dialogue.old (P.state peer.old) delivery.old)
+    ensures ends { EndsRound D.HasCome D.IsDrafting reads (talk dialogue.old (P.state peer.old) delivery.old)
         (talk dialogue.new (P.state peer.new) delivery.new) result }
     ensures reads { HasRead reads (P.state peer.old) (P.state peer.new) result }
     ensures site { dialogue.new.session.site ≡ dialogue.old.session.site }
@@ -70,7 +70,7 @@ fn take_turns<P: Peer, D: Delivery>(
 {
     let mut buffer = [0; READ_SIZE];
     for _made in 0..reads {
-        if let Some(end) = take_turn(dialogue, peer, delivery, &mut buffer) {
+        if let Some(end) = take_round(dialogue, peer, delivery, &mut buffer) {
             return end;
         }
     }
@@ -83,7 +83,7 @@ fn take_turns<P: Peer, D: Delivery>(
 }
 
 // One read and all that it brings; the cause where the conversation ends with it.
-fn take_turn<P: Peer, D: Delivery>(
+fn take_round<P: Peer, D: Delivery>(
     dialogue: &mut Dialogue,
     peer: &mut P,
     delivery: &mut D,
@@ -93,10 +93,10 @@ fn take_turn<P: Peer, D: Delivery>(
     requires may { MayStop dialogue.old.session.session.state }
     requires none { dialogue.old.outbox.pending ≡ [] }
     requires here { D.site delivery.old ≡ dialogue.old.session.site }
-    ensures turn { MatchOption result
-        (TakesTurn D.HasCome D.IsDrafting (talk dialogue.old (P.state peer.old) delivery.old)
+    ensures round { MatchOption result
+        (TakesRound D.HasCome D.IsDrafting (talk dialogue.old (P.state peer.old) delivery.old)
         (talk dialogue.new (P.state peer.new) delivery.new))
-        (λ end. (reads : ℕ) → EndsTurn D.HasCome D.IsDrafting reads
+        (λ end. (reads : ℕ) → EndsRound D.HasCome D.IsDrafting reads
         (talk dialogue.old (P.state peer.old) delivery.old) (talk dialogue.new (P.state peer.new) delivery.new) end) }
     ensures reads { MatchOption result (WasRead 1 (P.state peer.old) (P.state peer.new))
         (λ end. (end ≢ EndCause.ReadBound) × HasRead 1 (P.state peer.old) (P.state peer.new) end) }
@@ -150,7 +150,7 @@ fn take_piece<P: Peer, D: Delivery>(
     dialogue.outbox.flush(peer);
 }
 
-// After QUIT the conversation has ended. A write that failed before it is noticed now, and else in the next turn.
+// After QUIT the conversation has ended. A write that failed before it is noticed now, and else in the next round.
 fn end_or_go_on(dialogue: &Dialogue) -> Option<EndCause>
     ensures { result ≡ end_after dialogue.now.session.session.state dialogue.now.outbox.broken }
 {

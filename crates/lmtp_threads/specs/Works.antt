@@ -25,8 +25,8 @@ pub record VisitsView (V : Type 0) : Type 1 where
   pub over : V → Bool
 
 -- the same, part by part
-abbrev pub view_of : {V : Type 0} → (V → PeerState → Type 0) → (V → VisitsTold) → (V → Bool) → VisitsView V
-view_of MayGive finished over = record { MayGive = MayGive; finished = finished; over = over }
+abbrev pub visits_view : {V : Type 0} → (V → PeerState → Type 0) → (V → VisitsTold) → (V → Bool) → VisitsView V
+visits_view MayGive finished over = record { MayGive = MayGive; finished = finished; over = over }
 
 -- what a lane did: the clients that it served, and the slips that it heard
 pub record LaneWork : Type 0 where

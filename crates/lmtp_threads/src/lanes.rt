@@ -6,7 +6,7 @@ ghost use Rattle.std.specs.List.{AllZip, AllByRecursion};
 ghost use Rattle.std.specs.Arc.{arc_value};
 ghost use Rattle.thread_crew.specs.Grid.{lists};
 ghost use Rattle.lmtp_threads.specs.Reports.{HaveLaneRoom, lanes_back};
-ghost use Rattle.lmtp_threads.specs.Works.{view_of};
+ghost use Rattle.lmtp_threads.specs.Works.{visits_view};
 ghost use Rattle.lmtp_threads.specs.Tasks.{lane_task, lane_tasks, lane_before, IsLaneReady, HaveServedAll};
 ghost use Rattle.mail_world.specs.declared.limits.TheConstants.{LANE_LIMIT};
 ghost use Rattle.mail_world.specs.declared.limits.TheConstants.{READ_LIMIT};
@@ -88,7 +88,7 @@ where
     ghost ready = { λ job. IsLaneReady V.out job };
 
     ghost done = { λ job r. HasServed (terms job.site READ_LIMIT) (C.May job.clock) (V.MayGive job.visits)
-        (lane_before (view_of V.MayGive V.finished V.over) job)
+        (lane_before (visits_view V.MayGive V.finished V.over) job)
         (record {
           finished = V.finished r.visits;
           over = V.over r.visits;
@@ -267,7 +267,7 @@ where
     ) -> Result<LaneReports<N, V>, Refused>
         requires { AllByRecursion (IsLaneReady V.out) self }
         ensures { IfOk result (λ back. back.gone ≡ false → HaveServedAll C.May
-            (view_of V.MayGive V.finished V.over) self
+            (visits_view V.MayGive V.finished V.over) self
             (lanes_back back)) }
     {
         let Lanes {

@@ -12,7 +12,7 @@ use Rattle.lmtp_wire.specs.declared.dot.DataPlace.{DataPlace}
 use Rattle.lmtp_wire.specs.declared.dot.DataPlace.TheVariants.{InText, AfterCr, LineStart, AfterDot, AfterDotCr}
 use Rattle.lmtp_wire.specs.declared.dot.Effect.{Effect}
 use Rattle.lmtp_wire.specs.declared.dot.Effect.TheVariants.{Nothing, Byte, HeldCr, End}
-use Rattle.lmtp_wire.specs.DataPlace.{came, in_doubt, held_back, is_cr, is_start, is_dot, place_next, place_after, is_content, effect_of, without_dots_at}
+use Rattle.lmtp_wire.specs.DataPlace.{came, in_doubt, held_back, is_cr, is_start, is_dot, place_next, place_after, is_undotted, effect_of, without_dots_at}
 use Rattle.lmtp_wire.specs.DataPlace.{moved, IsAtPlace, IsDataEnd}
 use Rattle.lmtp_wire.proofs.EndSteps.{end_in, text_other, cr_again, cr_other, start_cr, start_other, dot_other, dot_cr_again, dot_cr_other, moved_more}
 use Rattle.lmtp_wire.proofs.EndSteps.{moved_none, moved_some}
@@ -384,12 +384,12 @@ pub record AddsRun (place : DataPlace) (taken run : List ℕ) : Type 0 where
   pub stands : IsAtPlace place (taken ++ run)
   pub shows : shown (taken ++ run) ≡ shown taken ++ run
 
-pub adds_run : (p : DataPlace) (taken run : List ℕ) → in_doubt p ≡ [] → is_content p run ≡ true → IsAtPlace p taken → AddsRun (place_after p run) taken run
+pub adds_run : (p : DataPlace) (taken run : List ℕ) → in_doubt p ≡ [] → is_undotted p run ≡ true → IsAtPlace p taken → AddsRun (place_after p run) taken run
 adds_run p taken [] settled e s =
     let P : List ℕ → Type 0 = λ l. IsAtPlace p l in
     record { stands = subst P (sym (append-nil taken)) s; shows = ap shown (append-nil taken) ∙ sym (append-nil (shown taken)) }
 adds_run p taken (b ∷ run) settled e s =
-    let parts = and_parts (not (is_start p && (b == dot))) (is_content (place_next p b) run) e in
+    let parts = and_parts (not (is_start p && (b == dot))) (is_undotted (place_next p b) run) e in
     let one = adds_content p taken b settled parts.0 s in
     let more = adds_run (place_next p b) (taken ++ b ∷ []) run (settled_by (b == cr) (is_cr p && (b == lf))) parts.1 one.stands in
     let P : List ℕ → Type 0 = λ l. IsAtPlace (place_after (place_next p b) run) l in

@@ -6,7 +6,7 @@ use Rattle.std.proofs.Math.Seq.{take-add}
 use Rattle.mail_world.specs.Data.{shown}
 use Rattle.lmtp_wire.specs.declared.dot.Dot.{Dot}
 use Rattle.lmtp_wire.specs.declared.dot.DataPlace.{DataPlace}
-use Rattle.lmtp_wire.specs.DataPlace.{in_doubt, place_after, is_content, IsAtPlace, IsDataEnd}
+use Rattle.lmtp_wire.specs.DataPlace.{in_doubt, place_after, is_undotted, IsAtPlace, IsDataEnd}
 use Rattle.lmtp_wire.specs.Dot.{HasMade, HasFed, owed_bytes}
 use Rattle.lmtp_wire.proofs.PlaceSteps.{stands_none, Adds, adds_run}
 
@@ -57,7 +57,7 @@ takes_last old piece out used m none within ends taken made h =
 
 -- a run of content
 pub takes_run : (old new : Dot) (piece out out' : List ℕ) (used n m m' : ℕ) (run : List ℕ) → old.owed ≡ None → new.owed ≡ None → in_doubt old.place ≡ []
-    → new.place ≡ place_after old.place run → run ≡ take n (drop used piece) → is_content old.place run ≡ true → take m' out' ≡ take m out ++ run
+    → new.place ≡ place_after old.place run → run ≡ take n (drop used piece) → is_undotted old.place run ≡ true → take m' out' ≡ take m out ++ run
     → (taken made : List ℕ) → HasMade old (taken ++ take used piece) (made ++ take m out) → HasMade new (taken ++ take (used + n) piece) (made ++ take m' out')
 takes_run old new piece out out' used n m m' run none none' settled place is content bytes taken made h =
     let now : List ℕ = taken ++ take used piece in

@@ -63,9 +63,9 @@ place_after place [] = place
 place_after place (byte ∷ run) = place_after (place_next place byte) run
 
 -- no byte of the run is a dot that a line starts with
-abbrev pub is_content : DataPlace → List ℕ → Bool
-is_content place [] = true
-is_content place (byte ∷ run) = not (is_start place && (byte == dot)) && is_content (place_next place byte) run
+abbrev pub is_undotted : DataPlace → List ℕ → Bool
+is_undotted place [] = true
+is_undotted place (byte ∷ run) = not (is_start place && (byte == dot)) && is_undotted (place_next place byte) run
 
 -- what a byte makes of the message, and where it leaves the data
 abbrev pub effect_of : DataPlace → ℕ → Effect

@@ -2,7 +2,7 @@
 
 ghost use Rattle.std.specs.Prelude.{◌≡◌, ℕ, ◌+◌, ◌<◌, ◌≤◌, Bool, true, List, [], ◌∷◌, ◌++◌, length, take, drop};
 ghost use Rattle.mail_world.specs.Text.{cr};
-ghost use Rattle.lmtp_wire.specs.DataPlace.{in_doubt, is_start, place_next, place_after, is_content, effect_of};
+ghost use Rattle.lmtp_wire.specs.DataPlace.{in_doubt, is_start, place_next, place_after, is_undotted, effect_of};
 ghost use Rattle.lmtp_wire.specs.Dot.{HasMade, Feeds, PutsAfter, MayTake, TakesOn, owed_bytes};
 
 use memchr::memchr;
@@ -205,7 +205,7 @@ impl Dot {
 // How many bytes of a text are content as they stand: all before the first dot that a line starts with.
 fn content_len(place: DataPlace, text: &[u8]) -> usize
     ensures within { result ≤ length text.now }
-    ensures content { is_content place (take result text.now) ≡ true }
+    ensures content { is_undotted place (take result text.now) ≡ true }
 {
     let mut seen = 0;
     while let Some(n) = memchr(DOT, &text[seen..]) {

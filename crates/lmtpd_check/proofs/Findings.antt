@@ -27,7 +27,7 @@ module _ {X : Type 0} (f : List ℕ → X → List ℕ) where
       ∙ sym (append_assoc (f name y) (pair_texts f names xs) (f (get_or names (length xs) d) x))
 
 -- that many files have their findings and their lines
-pub record HasWritten {F : Type 0} (remaining : F → Option (List ℕ)) (names : List (Bor (List ℕ))) (i : ℕ) (before after : Option (List ℕ))
+pub record WroteFindings {F : Type 0} (remaining : F → Option (List ℕ)) (names : List (Bor (List ℕ))) (i : ℕ) (before after : Option (List ℕ))
     (findings : List Finding) : Type 0 where
   pub count : length findings ≡ i
   pub each : All (IsFindingOf remaining) findings
@@ -35,9 +35,9 @@ pub record HasWritten {F : Type 0} (remaining : F → Option (List ℕ)) (names 
 
 -- none yet
 pub written_none : {F : Type 0} (remaining : F → Option (List ℕ)) (names : List (Bor (List ℕ))) (u : Option (List ℕ)) (findings : List Finding) → findings ≡ []
-    → HasWritten remaining names 0 u u findings
+    → WroteFindings remaining names 0 u u findings
 written_none remaining names u findings none =
-    let P : List Finding → Type 0 = λ found. HasWritten remaining names 0 u u found in
+    let P : List Finding → Type 0 = λ found. WroteFindings remaining names 0 u u found in
     subst P (sym none) (record {
       count = refl;
       each = All-nil (IsFindingOf remaining);
@@ -57,8 +57,8 @@ line_more names i findings finding d count within =
 module _ {F : Type 0} (remaining : F → Option (List ℕ)) (names : List (Bor (List ℕ))) (i : ℕ) (u v w : Option (List ℕ)) (findings : List Finding)
     (finding : Finding) (d : Bor (List ℕ)) where
   -- one more file
-  pub written_more : HasWritten remaining names i u v findings → i < length names → IsFindingOf remaining finding
-      → Appends v w (finding_line (get_or names i d).now finding) → HasWritten remaining names (i + 1) u w (findings ++ finding ∷ [])
+  pub written_more : WroteFindings remaining names i u v findings → i < length names → IsFindingOf remaining finding
+      → Appends v w (finding_line (get_or names i d).now finding) → WroteFindings remaining names (i + 1) u w (findings ++ finding ∷ [])
   written_more h within found taken = record {
     count = length-append findings (finding ∷ []) ∙ ap (λ (k : ℕ). k + 1) h.count;
     each = All-push (IsFindingOf remaining) findings finding h.each found;
@@ -67,7 +67,7 @@ module _ {F : Type 0} (remaining : F → Option (List ℕ)) (names : List (Bor (
   }
 
   -- a file whose line was cut off
-  pub checked_cut : (unlocked : List (List ℕ)) → HasWritten remaining names i u v findings → i < length names → IsFindingOf remaining finding
+  pub checked_cut : (unlocked : List (List ℕ)) → WroteFindings remaining names i u v findings → i < length names → IsFindingOf remaining finding
       → AreAmong (take (i + 1) (texts names)) unlocked
       → IsCutOff v w (finding_line (get_or names i d).now finding) → IsChecked remaining (texts names) u w (findings ++ finding ∷ []) unlocked true
   checked_cut unlocked h within found among broken =

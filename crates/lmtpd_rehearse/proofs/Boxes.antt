@@ -19,7 +19,7 @@ use Rattle.box_worker.specs.Limits.{Setting, kept_after}
 use Rattle.box_worker.specs.Stored.{mailbox_of, HasStored, HasSettled}
 use Rattle.lmtp_threads.specs.Works.{share_of, setting_of}
 use Rattle.lmtp_threads.specs.declared.tally.Tally.{Tally}
-use Rattle.mbox_record.specs.Sharing.{alone}
+use Rattle.mbox_record.specs.Sharing.{unshared}
 use Rattle.lmtpd_rehearse.specs.Mailboxes.{MailboxContent, kept_all, kept_at, bytes_of_all, empty_spool, mailbox_room, IsCalm}
 use Rattle.lmtpd_rehearse.specs.Copies.{HoldsCopies, kept_later}
 use Rattle.lmtpd_rehearse.proofs.Keeping.{kept_prefix, kept_parts, length-marked, marked_next, marked_none, same_marks}
@@ -32,7 +32,7 @@ state_of spool = record {
   limit = Some (length spool.bytes + spool.room);
   synced = spool.synced;
   held = length spool.bytes;
-  sharing = alone spool.is_unsynced;
+  sharing = unshared spool.is_unsynced;
 }
 
 -- lists of one length

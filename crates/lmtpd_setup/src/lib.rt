@@ -1,5 +1,6 @@
 //! What the program makes ready before its work begins: the site that its words name, with the mailboxes of the file
-//! that they name, the log, what ends a server, and its mailboxes' files; and what standard error says where that fails.
+//! that they name, the log, what ends a server, and its mailboxes' files; and what is said on standard error where that
+//! fails.
 //!
 //! The program uses that each is what its words ask for, and why it stops where one can't be had. It never knows of a
 //! server's run, of workers, or of a rehearsal.

@@ -208,12 +208,12 @@ kept_start blocks h start = record {
 }
 
 -- what follows of it
-pub record HasKept (h : House) : Type 0 where
+pub record FollowsOfKept (h : House) : Type 0 where
   pub lane_there : (w : ℕ) (box : Box) (copy : Copy) → BoxIs h w box → box.hand ≡ Some copy → HasLane h.lanes copy.post.note.txn.lane
   pub written : (w : ℕ) (box : Box) (copy : Copy) → BoxIs h w box → box.hand ≡ Some copy → copy.written ≤ size h copy.post.note
   pub some : (k : ℕ) (lane : Lane) (i : ℕ) (hold : Hold) → LaneIs h k lane → slice_get lane.holds i ≡ Some hold → 1 ≤ hold.weight
 
-pub every_run_keeps : (blocks : ℕ) (start : House) (run : List Happened) → IsStart blocks start → Run start run → HasKept (last_house start run)
+pub every_run_keeps : (blocks : ℕ) (start : House) (run : List Happened) → IsStart blocks start → Run start run → FollowsOfKept (last_house start run)
 every_run_keeps blocks start run is r =
     let h = last_house start run in
     let s = kept_run start run (kept_start blocks start is) r in

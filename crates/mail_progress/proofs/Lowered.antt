@@ -19,7 +19,7 @@ use Rattle.mail_world.proofs.Depots.{set_at, used, times-append, begins_turn, pu
 use Rattle.mail_world.proofs.Holds.{drop_get}
 use Rattle.mail_progress.specs.Orderly.{IsInOrder, IsOrderly}
 use Rattle.mail_progress.specs.StepsLeft.{size, steps_of_copy, steps_in_hand, steps_of_one, steps_of_hold, steps_of_lane, steps_of_box, steps_of_slot}
-use Rattle.mail_progress.specs.StepsLeft.{steps_left, IsBounded, AreBounded, EachLowers, Ends}
+use Rattle.mail_progress.specs.StepsLeft.{steps_left, IsBounded, AreBounded, EachLowers, EveryRunEnds}
 use Rattle.mail_world.proofs.Holds.{sum_set, sum_remove, part_le}
 use Rattle.mail_progress.proofs.Sums.{sum_last, sum_one_more}
 use Rattle.mail_progress.proofs.Slots.{held_changes, held_goes}
@@ -269,7 +269,7 @@ pub each_lowers : EachLowers
 each_lowers room blocks bound start run event new is r o st order b =
     lowers blocks room bound (last_house start run) event new (each_run blocks start run is.free r) st order b
 
-pub it_ends : Ends
+pub it_ends : EveryRunEnds
 it_ends room blocks bound start before after is r o b =
     let p = run_parts room start before after r o in
     ends_from room blocks bound (last_house start before) after (each_run blocks start before is.free p.0) p.2 p.3 b

@@ -16,11 +16,11 @@ use Rattle.mail_progress.specs.Orderly.{IsOrderly}
 use Rattle.mail_progress.specs.OrderlyRuns.{SlipsFindRoom}
 use Rattle.mail_progress.specs.NothingStuck.{Mover, IsMovedBy}
 use Rattle.mail_progress.proofs.Within.{slips_find_room}
-use Rattle.mail_progress.proofs.Kept.{HasKept, every_run_keeps}
+use Rattle.mail_progress.proofs.Kept.{FollowsOfKept, every_run_keeps}
 
 pub record IsReached (room blocks : ℕ) (h : House) : Type 0 where
   pub slips : SlipsFindRoom room h
-  pub kept : HasKept h
+  pub kept : FollowsOfKept h
   pub holds : HasHolds blocks h
   pub seals : (k : ℕ) (lane : Lane) (key : Key) → LaneIs h k lane → lane.draft ≡ Some key → MayHappen h (Seal k 1)
   pub releases : (w : ℕ) (box : Box) (copy : Copy) → BoxIs h w box → box.hand ≡ Some copy → copy.released ≡ false → MayHappen h (Release w)

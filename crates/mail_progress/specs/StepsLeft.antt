@@ -77,8 +77,8 @@ EachLowers = (room blocks bound : ℕ) (start : House) (run : List Happened) (ev
     → steps_left blocks room bound new < steps_left blocks room bound h
 
 -- so there are at most that many of them
-abbrev pub Ends : Type 0
-Ends = (room blocks bound : ℕ) (start : House) (before after : List Happened) → IsStart blocks start
+abbrev pub EveryRunEnds : Type 0
+EveryRunEnds = (room blocks bound : ℕ) (start : House) (before after : List Happened) → IsStart blocks start
     → Run start (before ++ after) → IsOrderly room start (before ++ after)
     → let h = last_house start before in AreBounded bound h after
     → length after + steps_left blocks room bound (last_house h after) ≤ steps_left blocks room bound h

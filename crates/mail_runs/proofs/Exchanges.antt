@@ -164,9 +164,9 @@ over_by : (room k : ℕ) (note : Note) (ts : List Transaction) (g : Gather) (dee
 over_by room k note ts g deeds after [] e answered goes = record { answered = answered; goes = subst (GoOn room k ts) (sym e) goes }
 over_by room k note ts g deeds after (s ∷ slips) e answered goes = cc
 
-pub is_over : (room k : ℕ) (note : Note) (ts : List Transaction) (g : Gather) (all deeds : List Deed) → all ≡ Gave note ∷ deeds → Keeps room k [] ts g all
-    → IsOver room k ts g (Gave note ∷ deeds)
-is_over room k note ts g all deeds e h = over_by room k note ts g deeds h.after h.slips (sym e ∙ h.are) h.answered h.goes
+pub exchange_is_over : (room k : ℕ) (note : Note) (ts : List Transaction) (g : Gather) (all deeds : List Deed)
+    → all ≡ Gave note ∷ deeds → Keeps room k [] ts g all → IsOver room k ts g (Gave note ∷ deeds)
+exchange_is_over room k note ts g all deeds e h = over_by room k note ts g deeds h.after h.slips (sym e ∙ h.are) h.answered h.goes
 
 -- past a transaction that owes no copies
 past_by : (room k : ℕ) (note : Note) (ts : List Transaction) (deeds rest : List Deed) (slips : List Slip) → Gave note ∷ deeds ≡ map Heard slips ++ rest

@@ -22,7 +22,7 @@ use Rattle.mail_runs.specs.Histories.{Threads, IsWithin}
 use Rattle.mail_runs.specs.Timed.{is_of_lane}
 use Rattle.mail_runs.specs.Ordered.{done_by}
 use Rattle.mail_runs.proofs.Manners.{Manner, Owed}
-use Rattle.mail_runs.proofs.Exchanges.{AreAnswered, Keeps, IsOver, is_over}
+use Rattle.mail_runs.proofs.Exchanges.{AreAnswered, Keeps, IsOver, exchange_is_over}
 use Rattle.mail_runs.proofs.Parts.{passes, same_number, each_set, set_twice}
 use Rattle.mail_runs.proofs.Frames.{depot_past}
 use Rattle.mail_runs.proofs.Changes.{lane_there}
@@ -258,7 +258,7 @@ by_state {m} s t note rest h stands story lane is (inl idle) =
     passes (λ (n : Note). n.txn.lane == k) note (flat_map given_in rest) (same_number k k refl) in
     let own : done_by k (Gave note ∷ rest) ≡ Gave note ∷ done_by k rest = passes (is_of_lane k) (Gave note) rest (same_number k k refl) in
     let over : Owed m → IsOver m.room k idle.ts lane.gather (Gave note ∷ done_by k rest) =
-    λ owed. is_over m.room k note idle.ts lane.gather (done_by k (Gave note ∷ rest)) (done_by k rest) own (idle.keeps owed) in
+    λ owed. exchange_is_over m.room k note idle.ts lane.gather (done_by k (Gave note ∷ rest)) (done_by k rest) own (idle.keeps owed) in
     opened s t note rest h stands story lane is idle.no_hold (λ owed. (over owed).answered)
     (opening m k lane.number note (given_by k rest) (done_by k rest) idle.ts idle.rise (sym first ∙ idle.gives) (λ owed. (over owed).goes))
 by_state s t note rest h stands story lane is (inr giving) = record {

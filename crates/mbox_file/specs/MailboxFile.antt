@@ -95,12 +95,12 @@ pub record HasFoundEnd (old new : FileState) (end : FileEnd) : Type 0 where
   pub is_end : IsEnd new end
 
 -- the bytes stand after what was there
-pub record HasWritten (old new : FileState) (text : List ℕ) : Type 0 where
+pub record HasAppended (old new : FileState) (text : List ℕ) : Type 0 where
   pub same : new ≡ record old { bytes = old.bytes ++ text; changes = new.changes }
   pub changed : Rises old.changes new.changes
 
 -- a write failed after some of the bytes
-pub record HasNotWritten (old new : FileState) (text : List ℕ) : Type 0 where
+pub record HasNotAppended (old new : FileState) (text : List ℕ) : Type 0 where
   pub prefix : List ℕ
   pub part : IsPrefix prefix text
   pub same : new ≡ record old { bytes = old.bytes ++ prefix; changes = new.changes; faults = new.faults }
@@ -108,11 +108,11 @@ pub record HasNotWritten (old new : FileState) (text : List ℕ) : Type 0 where
   pub failed : Rises old.faults new.faults
 
 -- a crash leaves all of it
-abbrev pub HasKept : FileState → FileState → Type 0
-HasKept old new = new ≡ record old { kept = length old.bytes }
+abbrev pub KeepsFile : FileState → FileState → Type 0
+KeepsFile old new = new ≡ record old { kept = length old.bytes }
 
 -- nobody knows what a crash leaves
-pub record HasNotKept (old new : FileState) : Type 0 where
+pub record FailsToKeep (old new : FileState) : Type 0 where
   pub same : new ≡ record old { kept = new.kept; faults = new.faults }
   pub failed : Rises old.faults new.faults
 

@@ -2,7 +2,7 @@
 ghost use Rattle.std.specs.Prelude.{◌≡◌, Bool, true, false, IfOk, OnOk, OnErr};
 ghost use Rattle.mbox_file.specs.MailboxFile.{FileState, HasMadeLockFile, HasNotMadeLockFile, HasRemovedLockFile};
 ghost use Rattle.mbox_file.specs.MailboxFile.{HasLockedRange, HasNotLockedRange, HasReopened, HasRefused, HasLooked};
-ghost use Rattle.mbox_file.specs.MailboxFile.{HasFoundEnd, HasWritten, HasNotWritten, HasKept, HasNotKept, HasCut};
+ghost use Rattle.mbox_file.specs.MailboxFile.{HasFoundEnd, HasAppended, HasNotAppended, KeepsFile, FailsToKeep, HasCut};
 ghost use Rattle.mbox_file.specs.MailboxFile.{HasNotCut};
 
 use crate::file::FileEnd;
@@ -54,13 +54,13 @@ pub trait MailboxFile {
 
     /// Writes all the bytes at the end of the open file.
     fn write(&mut self, bytes: &[u8]) -> io::Result<()>
-        ensures ok { tells ≡ true → OnOk result (HasWritten (state self.old) (state self.new) bytes.now) }
-        ensures err { tells ≡ true → OnErr result (HasNotWritten (state self.old) (state self.new) bytes.now) };
+        ensures ok { tells ≡ true → OnOk result (HasAppended (state self.old) (state self.new) bytes.now) }
+        ensures err { tells ≡ true → OnErr result (HasNotAppended (state self.old) (state self.new) bytes.now) };
 
     /// Has all bytes of the open file kept through a crash.
     fn keep(&mut self) -> io::Result<()>
-        ensures ok { tells ≡ true → OnOk result (HasKept (state self.old) (state self.new)) }
-        ensures err { tells ≡ true → OnErr result (HasNotKept (state self.old) (state self.new)) };
+        ensures ok { tells ≡ true → OnOk result (KeepsFile (state self.old) (state self.new)) }
+        ensures err { tells ≡ true → OnErr result (FailsToKeep (state self.old) (state self.new)) };
 
     /// Cuts the open file to its first bytes.
     fn cut(&mut self, size: u64) -> io::Result<()>

@@ -155,7 +155,7 @@ fn write_and_keep<F: Write + OpenFile + Drop>(writer: &mut BufWriter<F>) -> io::
 
 impl<F: Write + OpenFile + Drop> Spool for FileSpool<F> {
     ghost use Rattle.std.specs.Prelude.{None};
-    ghost use Rattle.mbox_record.specs.Sharing.{alone};
+    ghost use Rattle.mbox_record.specs.Sharing.{unshared};
     ghost use Rattle.mbox_rd.specs.FileSpool.{StaysSound, Breaks, contents_of, failed_again};
 
     ghost state = { λ s. record {
@@ -164,7 +164,7 @@ impl<F: Write + OpenFile + Drop> Spool for FileSpool<F> {
       limit = None;
       synced = 0;
       held = s.held;
-      sharing = alone s.is_unsynced;
+      sharing = unshared s.is_unsynced;
     } };
 
     /// Other programs that lock as mail programs do aren't kept out, so that it has to be nobody else's.

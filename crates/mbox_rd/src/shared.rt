@@ -95,7 +95,7 @@ impl<F: MailboxFile + Drop, C: Clock + Drop> SharedSpool<F, C> {
 }
 
 impl<F: MailboxFile + Drop, C: Clock + Drop> SharedSpool<F, C> {
-    ghost use Rattle.mbox_file.specs.MailboxFile.{HasWritten, HasNotWritten};
+    ghost use Rattle.mbox_file.specs.MailboxFile.{HasAppended, HasNotAppended};
     ghost use Rattle.mbox_rd.specs.SharedSpool.{KeepsAll, HasLost, failed_again};
 
     // Counts a failure, and throws away what waits.
@@ -114,10 +114,10 @@ impl<F: MailboxFile + Drop, C: Clock + Drop> SharedSpool<F, C> {
         ensures same { self.new ≡ record self.old { file = self.new.file; waiting = self.new.waiting } }
         ensures empty { OnOk result (self.new.waiting ≡ []) }
         ensures written { F.tells ≡ true
-            → OnOk result (HasWritten (F.state self.old.file) (F.state self.new.file) self.old.waiting) }
+            → OnOk result (HasAppended (F.state self.old.file) (F.state self.new.file) self.old.waiting) }
         ensures left { OnErr result (self.new.waiting ≡ self.old.waiting) }
         ensures failed { F.tells ≡ true
-            → OnErr result (HasNotWritten (F.state self.old.file) (F.state self.new.file) self.old.waiting) }
+            → OnErr result (HasNotAppended (F.state self.old.file) (F.state self.new.file) self.old.waiting) }
     {
         self.file.write(&self.waiting)?;
         self.waiting.clear();

@@ -18,8 +18,8 @@ pub record Sharing : Type 0 where
   pub turns : List Turn
 
 -- a private spool, which has no turns
-abbrev pub alone : Bool → Sharing
-alone is_unsynced = record {
+abbrev pub unshared : Bool → Sharing
+unshared is_unsynced = record {
   is_shared = false;
   in_turn = false;
   has_failed = false;

@@ -4,7 +4,7 @@ ghost use Rattle.std.specs.Prelude.{OnErr};
 ghost use Rattle.std.specs.Prelude.{true, false};
 ghost use Rattle.mail_world.specs.Counts.{counted};
 ghost use Rattle.mbox_record.specs.Spool.{SpoolTook, SpoolFailed, HasSynced, HasNotSynced, tail_of};
-ghost use Rattle.mbox_record.specs.Sharing.{alone};
+ghost use Rattle.mbox_record.specs.Sharing.{unshared};
 
 use crate::spool::{InUse, Spool, SpoolFault, Tail, tail_of};
 use std::marker::Model;
@@ -63,7 +63,7 @@ impl Spool for CountSpool {
       limit = None;
       synced = 0;
       held = s.held;
-      sharing = alone s.is_unsynced;
+      sharing = unshared s.is_unsynced;
     } };
 
     fn is_shared(&self) -> bool {

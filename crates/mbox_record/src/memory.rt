@@ -4,7 +4,7 @@ ghost use Rattle.std.specs.Prelude.{OnOk, OnErr, Some, true, false};
 ghost use Rattle.std.specs.Option.{IfSome};
 ghost use Rattle.mail_world.specs.Counts.{counted};
 ghost use Rattle.mbox_record.specs.Spool.{SpoolTook, SpoolFailed, HasSynced, HasNotSynced, tail_of};
-ghost use Rattle.mbox_record.specs.Sharing.{alone};
+ghost use Rattle.mbox_record.specs.Sharing.{unshared};
 
 use crate::spool::{InUse, Spool, SpoolFault, Tail, tail_of};
 use std::alloc::{AllocError, Global};
@@ -74,7 +74,7 @@ impl Spool for MemorySpool {
       limit = Some (length s.bytes + s.room);
       synced = s.synced;
       held = length s.bytes;
-      sharing = alone s.is_unsynced;
+      sharing = unshared s.is_unsynced;
     } };
 
     fn is_shared(&self) -> bool {

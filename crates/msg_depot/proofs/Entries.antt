@@ -18,15 +18,15 @@ use Rattle.msg_depot.specs.declared.view.Entry.{Entry}
 use Rattle.msg_depot.specs.declared.view.Phase.TheVariants.{Free, Sealed}
 use Rattle.msg_depot.specs.Rules.{entry, free_slots, resting, word_of}
 use Rattle.msg_depot.specs.Moves.{entry_at, empty_entry, entered}
-use Rattle.msg_depot.specs.Entries.{entry_of, entries_of, phase_held, slot_given_back, HasCount, IsKeeper}
+use Rattle.msg_depot.specs.Entries.{entry_of, slot_entries, phase_held, slot_given_back, HasCount, IsKeeper}
 
 -- the entry of a slot that is there
-pub entry_there : (depot : Depot) (i : ℕ) (slot : Slot) → slice_get depot.slots i ≡ Some slot → entry_at (entries_of depot) i ≡ entry_of slot
+pub entry_there : (depot : Depot) (i : ℕ) (slot : Slot) → slice_get depot.slots i ≡ Some slot → entry_at (slot_entries depot) i ≡ entry_of slot
 entry_there depot i slot is = get_or-map entry_of depot.slots i slot empty_entry (slice_get_within depot.slots i slot is)
     ∙ ap entry_of (get_or_from_slice_get depot.slots i slot slot is)
 
 -- a joined token's entry is the slot's
-pub agreed : (depot : Depot) (book : List Entry) (i j : ℕ) (e : Entry) (slot : Slot) → book ≡ entries_of depot → j ≡ i → entry_at book j ≡ e
+pub agreed : (depot : Depot) (book : List Entry) (i j : ℕ) (e : Entry) (slot : Slot) → book ≡ slot_entries depot → j ≡ i → entry_at book j ≡ e
     → slice_get depot.slots i ≡ Some slot → e ≡ entry_of slot
 agreed depot book i j e slot same place found is = sym found ∙ (λ k. entry_at (same k) (place k)) ∙ entry_there depot i slot is
 
@@ -46,7 +46,7 @@ sealed_if depot key bytes (d.Sealed x blocks weight) is p b count =
 sealed_if depot key bytes d.Retired is p b count = absurd (cc)
 
 -- the message that the keeper's entry of a slot tells of
-pub sealed_under : (depot : Depot) (key : Key) (bytes : List ℕ) (book : List Entry) → book ≡ entries_of depot → {i : ℕ} → key.slot ≡ i → i < length book
+pub sealed_under : (depot : Depot) (key : Key) (bytes : List ℕ) (book : List Entry) → book ≡ slot_entries depot → {i : ℕ} → key.slot ≡ i → i < length book
     → entry_at book key.slot ≡ entry Sealed key.generation bytes
     → ((i : ℕ) (slot : Slot) → slice_get depot.slots i ≡ Some slot → HasCount slot.held) → IsSealed depot key bytes
 sealed_under depot key bytes book same {i} place within found counts =

@@ -14,7 +14,7 @@ use Rattle.msg_depot.specs.declared.view.Kind.TheVariants.{Nothing, Draft}
 use Rattle.msg_depot.specs.declared.view.Phase.TheVariants.{Free, Drafted, Sealed}
 use Rattle.msg_depot.specs.Rules.{token, keeping, resting, entry, phase_of, word_of}
 use Rattle.msg_depot.specs.Moves.{entry_at, generation_at, entered, begun, put, sealed}
-use Rattle.msg_depot.specs.Entries.{entry_of, entries_of, slot_given_back, IsKeeper}
+use Rattle.msg_depot.specs.Entries.{entry_of, slot_entries, slot_given_back, IsKeeper}
 use Rattle.msg_depot.proofs.Entries.{entry_there, agreed, kept_on, Turned, begins_turned, puts_turned, seals_turned, IsSealed, sealed_under}
 
 abbrev pub Seen : Type 0
@@ -30,7 +30,7 @@ claims_entry : (book : List Entry) (him : Seen) (k : Kind) (c : Claim) → k ≢
 claims_entry book him k c some_kind is agrees = subst (MatchesSeen book) is agrees some_kind
 
 module _ (named t0 : TableId) (m0 : Seen) (old : Depot) (keeper : IsKeeper named t0 m0 old) (key : Key) where
-  knows : m0.0.book ≡ entries_of old
+  knows : m0.0.book ≡ slot_entries old
   knows = ap (λ (m : Seen). m.0.book) keeper.knows
 
   pub generation_there : (new : Depot) → Begins old key new → generation_at m0.0.book key.slot ≡ key.generation

@@ -26,8 +26,8 @@ abbrev pub entry_of : d.Slot → Entry
 entry_of slot = entry (phase_held slot.held) slot.generation (d.bytes_of slot.held)
 
 -- what it knows of all slots
-abbrev pub entries_of : d.Depot → List Entry
-entries_of depot = map entry_of depot.slots
+abbrev pub slot_entries : d.Depot → List Entry
+slot_entries depot = map entry_of depot.slots
 
 -- the slot after a message of that generation
 abbrev pub slot_given_back : ℕ → d.Slot
@@ -51,7 +51,7 @@ pub record Unnamed : Type 0 where
 -- block is in one message or free, and stands there once.
 pub record IsKeeper (named table : TableId) (me : Me (Unit {0}) View) (depot : d.Depot) : Type 0 where
   pub same_table : table ≡ named
-  pub knows : me ≡ (resting (entries_of depot), [])
+  pub knows : me ≡ (resting (slot_entries depot), [])
   pub long : named.words ≡ word_of (length depot.slots)
   pub blocks : ℕ
   pub once : d.HasEachBlockOnce blocks depot

@@ -8,7 +8,8 @@ use Rattle.std.proofs.lemmas.List.{length-map}
 use Rattle.std.proofs.lemmas.Option.{slice_get-map, slice_get-get_or, slice_get_within, get_or_from_slice_get}
 use Rattle.mail_post.specs.Channel.{Channel, Sender, Inbox, Sent, new_senders, AreSendersFrom, AreSendersOf, AreSenders}
 use Rattle.thread_crew.specs.Grid.{IsTransposed}
-use Rattle.thread_crew.specs.Channels.{lane_at, none, channels_of, IsNewChannel, AreRows, AreColumns, AreNewChannels, AreClosed, IsShut, HaveTimes, HasGiven}
+use Rattle.thread_crew.specs.Channels.{lane_at, none, channels_of, IsNewChannel, AreRows, AreColumns, AreNewChannels, AreClosedWith, IsShut, HaveTimes}
+use Rattle.thread_crew.specs.Channels.{HasGiven}
 use Rattle.thread_crew.proofs.Pairs.{AllZip-length}
 
 module _ {X : Type 0} where
@@ -215,7 +216,7 @@ module _ {M : Type 0} where
 
   pub all_closed : (n : ℕ) (channels : List (Channel M)) (sent : ℕ → ℕ → List M) (columns : List (List (Sender M))) (closed : List (Sent M)) → 0 < n
       → AreColumns n channels sent columns → AllZip IsShut columns closed
-      → AreClosed n channels sent closed
+      → AreClosedWith n channels sent closed
   all_closed n channels sent columns closed some are shut = record {
     count = sym (AllZip-length IsShut columns closed shut) ∙ are.count;
     each = λ b channel c f e.

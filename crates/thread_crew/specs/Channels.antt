@@ -63,7 +63,7 @@ module _ {M : Type 0} where
     pub count : length closed.sent ≡ n
     pub each : (k : ℕ) → k < n → slice_get closed.sent k ≡ Some (sent k)
 
-  pub record AreClosed (n : ℕ) (channels : List (Channel M)) (sent : ℕ → ℕ → List M) (closed : List (Sent M))
+  pub record AreClosedWith (n : ℕ) (channels : List (Channel M)) (sent : ℕ → ℕ → List M) (closed : List (Sent M))
       : Type 0 where
     pub count : length closed ≡ length channels
     pub each : (b : ℕ) (channel : Channel M) (c : Sent M) → slice_get channels b ≡ Some channel

@@ -4,7 +4,7 @@ ghost use Rattle.std.specs.Prelude.{◌≡◌, ◌<◌, ◌≤◌, ℕ, List, []
 ghost use Rattle.std.specs.List.{All, AllZip};
 ghost use Rattle.mail_post.specs.Channel.{Channel, AreSenders, AreSendersOf, sent_by};
 ghost use Rattle.thread_crew.specs.Grid.{lists, IsRoom};
-ghost use Rattle.thread_crew.specs.Channels.{IsNewChannel, AreRows, AreNewChannels, AreClosed, CanSettle};
+ghost use Rattle.thread_crew.specs.Channels.{IsNewChannel, AreRows, AreNewChannels, AreClosedWith, CanSettle};
 ghost use Rattle.thread_crew.specs.Channels.{IsSettled, IsShut, MayClose, HaveTimes};
 
 use crate::grid::{empty_rows, transpose};
@@ -91,7 +91,8 @@ impl<M: FromSender> Closing<M> {
     pub fn close<R: Wait>(self, rt: &R, rows: Vec<Vec<ChannelSender<M>>>) -> Vec<ChannelClosed<M>>
         requires { MayClose self (lists rows.items) }
         ensures sent { (channels : List (Channel M)) (sent : ℕ → ℕ → List M)
-            → AreRows self.lanes channels sent (lists rows.items) → AreClosed self.lanes channels sent result.items }
+            → AreRows self.lanes channels sent (lists rows.items)
+            → AreClosedWith self.lanes channels sent result.items }
         ensures times { HaveTimes (lists rows.items) result.items }
     {
         let Closing {

@@ -3,7 +3,7 @@
 ghost use Rattle.std.specs.Prelude.{◌≡◌, ◌≢◌, ◌<◌, ◌≤◌, length, IfOk, Err, false};
 ghost use Rattle.std.specs.Arc.{arc_value};
 ghost use Rattle.mail_world.specs.declared.limits.TheConstants.{LANE_LIMIT};
-ghost use Rattle.lmtp_threads.specs.Works.{view_of};
+ghost use Rattle.lmtp_threads.specs.Works.{visits_view};
 ghost use Rattle.lmtp_house.specs.Handed.{as_handed_back, handed_in};
 ghost use Rattle.lmtp_house.specs.HousePlan.{IsPlanned, MayRun, HasRunAll};
 
@@ -110,7 +110,7 @@ where
         depot: &Depot<N>,
     ) -> Result<HouseReport<V, S, G>, HouseFault>
         requires { MayRun V.out self }
-        ensures ran { IfOk result (λ report. HasRunAll C.May (view_of V.MayGive V.finished V.over) S.state self
+        ensures ran { IfOk result (λ report. HasRunAll C.May (visits_view V.MayGive V.finished V.over) S.state self
             (as_handed_back report)) }
         ensures not_size { result ≢ Err HouseFault.Size }
     {

@@ -4,7 +4,7 @@ ghost use Rattle.std.specs.Prelude.{◌≡◌, ◌≢◌, ◌<◌, ◌≤◌, �
 ghost use Rattle.std.specs.List.{AllByRecursion};
 ghost use Rattle.std.specs.Arc.{arc_value};
 ghost use Rattle.mail_world.specs.declared.limits.TheConstants.{LANE_LIMIT};
-ghost use Rattle.lmtp_threads.specs.Works.{view_of};
+ghost use Rattle.lmtp_threads.specs.Works.{visits_view};
 ghost use Rattle.lmtp_house.specs.Handed.{as_handed_back, handed_in};
 ghost use Rattle.lmtp_house.specs.House.{HasRun, IsSize};
 
@@ -45,7 +45,7 @@ where
     R: Threads + Wait + Copy + Send + 'static,
     requires none_out { AllByRecursion (λ v. V.out v ≡ false) visits.items }
     ensures ran { IfOk result (λ report. HasRun (arc_value site) (C.May clock)
-        (view_of V.MayGive V.finished V.over) S.state
+        (visits_view V.MayGive V.finished V.over) S.state
         (handed_in visits.items spools.items sizes.capacity sizes.quota) (as_handed_back report)) }
     ensures size { result ≡ Err HouseFault.Size
         ↔ ¬ IsSize (arc_value site) sizes (length visits.items) (length spools.items) (length gates.items) }
@@ -90,7 +90,7 @@ where
     requires gates { length handed.gates.items ≡ length handed.spools.items }
     requires none_out { AllByRecursion (λ v. V.out v ≡ false) handed.visits.items }
     ensures ran { IfOk result (λ report. HasRun (arc_value site) (C.May (arc_value clock))
-        (view_of V.MayGive V.finished V.over) S.state
+        (visits_view V.MayGive V.finished V.over) S.state
         (handed_in handed.visits.items handed.spools.items handed.capacity handed.quota) (as_handed_back report)) }
     ensures not_size { result ≢ Err HouseFault.Size }
 {

@@ -3,7 +3,7 @@
 ghost use Rattle.std.specs.Prelude.{◌≡◌, ◌≢◌, IfOk, Err, false};
 ghost use Rattle.std.specs.List.{AllByRecursion};
 ghost use Rattle.lmtp_threads.specs.Reports.{lanes_back};
-ghost use Rattle.lmtp_threads.specs.Works.{view_of};
+ghost use Rattle.lmtp_threads.specs.Works.{visits_view};
 ghost use Rattle.lmtp_threads.specs.Tasks.{IsLaneReady, IsBoxReady, HaveServedAll};
 
 use crate::house::fault::HouseFault;
@@ -46,7 +46,7 @@ where
     requires lanes { AllByRecursion (IsLaneReady V.out) lanes }
     requires workers { AllByRecursion IsBoxReady workers }
     ensures served { IfOk result (λ ended. HaveServedAll C.May
-        (view_of V.MayGive V.finished V.over) lanes
+        (visits_view V.MayGive V.finished V.over) lanes
         (lanes_back ended.lanes)) }
     ensures working { IfOk result (λ ended. ended.workers ≡ workers) }
     ensures not_size { result ≢ Err HouseFault.Size }

@@ -3,7 +3,7 @@
 ghost use Rattle.std.specs.Prelude.{◌≡◌, ◌++◌, ◌∷◌, [], true, None, Some, IfOk, IfErr, OnOk, OnErr};
 ghost use Rattle.mail_post.specs.Channel.{taken, IsTimed, HasSameTimes};
 ghost use Rattle.mail_post.specs.Gathering.{IsDone};
-ghost use Rattle.lmtp_lane.specs.LaneExchange.{ends_of, sending_of, slips_gone, KeepsRoom, Awaits, TakesOne};
+ghost use Rattle.lmtp_lane.specs.LaneExchange.{ends_of, sending_of, slips_gone, KeepsRoom, Awaits, GathersOne};
 
 use super::Exchange;
 use lmtp_session::Session;
@@ -36,7 +36,7 @@ impl<N: DepotName> Exchange<N> {
     pub fn answer_failed(&mut self, slip: Slip) -> bool
         ensures same { ends_of self.new ≡ ends_of self.old }
         ensures room { KeepsRoom (sending_of self.old) (sending_of self.new) }
-        ensures takes { TakesOne slip self.old.gather.gather self.new.gather.gather result }
+        ensures takes { GathersOne slip self.old.gather.gather self.new.gather.gather result }
     {
         match self.gather.put(slip) {
             Ok(()) => true,

@@ -3,7 +3,7 @@ use Rattle.mail_world.specs.declared.Reply.{Reply}
 use Rattle.mail_world.specs.Site.{Site}
 use Rattle.mail_world.specs.Replies.{reply_text}
 use Rattle.lmtp_talk.specs.Saying.{HasSaid}
-use Rattle.lmtp_talk.proofs.Turning.{said_none}
+use Rattle.lmtp_talk.proofs.Rounds.{said_none}
 use Rattle.lmtp_talk.proofs.conversation.greet.Goals as goal
 
 pub returns-clause-greets : goal.returns-clause-greets

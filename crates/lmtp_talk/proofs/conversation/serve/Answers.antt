@@ -1,5 +1,5 @@
 use Rattle.std.proofs.Common.{[], refl}
-use Rattle.lmtp_talk.proofs.Turning.{begins}
+use Rattle.lmtp_talk.proofs.Rounds.{begins}
 use Rattle.lmtp_talk.proofs.Counting.{read_from}
 use Rattle.lmtp_talk.proofs.conversation.serve.Goals as goal
 
@@ -7,10 +7,10 @@ pub returns-clause-serves : goal.returns-clause-serves
 returns-clause-serves g c =
     let site = c.args.dialogue.now.session.site in
     let start = g.P.Peer.state c.args.peer.now in
-    c.take_turns.ensures.ends site start c.args.delivery.now []
+    c.take_rounds.ensures.ends site start c.args.delivery.now []
     (begins site start (g.P.Peer.state c.greet.new.peer) (g.D.Delivery.HasCome c.args.delivery.now) (g.D.Delivery.IsDrafting c.args.delivery.now)
     c.args.dialogue.now c.greet.new.dialogue refl c.greet.ensures.greets)
 
 pub returns-clause-reads : goal.returns-clause-reads
-returns-clause-reads g c = read_from c.args.reads (g.P.Peer.state c.args.peer.now) (g.P.Peer.state c.greet.new.peer) (g.P.Peer.state c.take_turns.new.peer)
-    c.take_turns.result c.greet.ensures.reads c.take_turns.ensures.reads
+returns-clause-reads g c = read_from c.args.reads (g.P.Peer.state c.args.peer.now) (g.P.Peer.state c.greet.new.peer) (g.P.Peer.state c.take_rounds.new.peer)
+    c.take_rounds.result c.greet.ensures.reads c.take_rounds.ensures.reads

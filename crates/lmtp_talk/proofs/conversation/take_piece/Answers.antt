@@ -1,5 +1,5 @@
 use Rattle.std.proofs.Common.{◌++◌}
-use Rattle.lmtp_talk.proofs.Turning.{stands_flushed}
+use Rattle.lmtp_talk.proofs.Rounds.{stands_flushed}
 use Rattle.lmtp_talk.proofs.conversation.take_piece.Goals as goal
 
 pub returns-clause-handles : goal.returns-clause-handles

@@ -4,7 +4,7 @@ use Rattle.lmtp_text.specs.Sites.{texts}
 use Rattle.lmtpd_check.specs.Checked.{IsChecked}
 use Rattle.lmtpd_check.specs.declared.checked.Finding.{Finding}
 use Rattle.lmtpd_check.proofs.Among.{among_none, among_next, next_long}
-use Rattle.lmtpd_check.proofs.Findings.{HasWritten, written_none, written_more, checked_cut}
+use Rattle.lmtpd_check.proofs.Findings.{WroteFindings, written_none, written_more, checked_cut}
 use Rattle.lmtpd_check.proofs.files.check_each.Goals as goal
 
 failed : {T E Q : Type 0} (r : Result T E) → is_err r ≡ true → OnErr r Q → Q
@@ -38,7 +38,7 @@ returns-then-is_err g c =
 
 pub loop-name-preserved : goal.loop-name-preserved
 loop-name-preserved g c = record {
-  written = subst (λ (found : List Finding). HasWritten g.P.File.Read.remaining c.args.names.now (c.loop-name.name-index + 1)
+  written = subst (λ (found : List Finding). WroteFindings g.P.File.Read.remaining c.args.names.now (c.loop-name.name-index + 1)
       (g.W.Write.contents c.args.writer.now) (g.W.Write.contents c.write_finding.new.writer) found)
       (sym c.push_reserved.ensures.items)
       (written_more g.P.File.Read.remaining c.args.names.now c.loop-name.name-index _ _ _ c.loop-name.findings.items c.check_file-reading.result.finding _

@@ -1,14 +1,14 @@
 use Rattle.std.proofs.Common.{◌<◌, ◌≤◌, ◌++◌, ◌+◌, length, sym, ◌∙◌, arith, length-append}
 use Rattle.lmtp_talk.specs.declared.ending.EndCause.TheVariants as ends
 use Rattle.lmtp_talk.proofs.Ends.{served}
-use Rattle.lmtp_talk.proofs.Turning.{may_not_ended}
+use Rattle.lmtp_talk.proofs.Rounds.{may_not_ended}
 use Rattle.lmtp_talk.proofs.Counting.{rises_then}
-use Rattle.lmtp_talk.proofs.conversation.take_turns.Goals as goal
+use Rattle.lmtp_talk.proofs.conversation.take_rounds.Goals as goal
 
 pub returns-in-Some-clause-ends : goal.returns-in-Some-clause-ends
 returns-in-Some-clause-ends g c site start first handled h =
     let w = c.loop-made.invariant.stands site start first handled h in
-    c.in-Some.ensures.turn c.args.reads site start first w.0 w.2
+    c.in-Some.ensures.round c.args.reads site start first w.0 w.2
 
 pub returns-in-Some-clause-reads : goal.returns-in-Some-clause-reads
 returns-in-Some-clause-reads g c =
@@ -30,7 +30,7 @@ loop-made-preserved g c = record {
   reads = rises_then c.loop-made._made 1 _ _ _ c.loop-made.invariant.reads c.in_default.ensures.reads;
   stands = λ site start first handled h.
       let w = c.loop-made.invariant.stands site start first handled h in
-      let t = c.in_default.ensures.turn site start first w.0 w.2 in
+      let t = c.in_default.ensures.round site start first w.0 w.2 in
       let made : c.loop-made._made ≤ length w.0 = w.1 in
       let some : 0 < length t.more = t.some in
       (w.0 ++ t.more, omega (arith, made, some, length-append w.0 t.more), t.stands);

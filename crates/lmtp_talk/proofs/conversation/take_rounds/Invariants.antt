@@ -3,9 +3,9 @@ use Rattle.mail_world.specs.Site.{Site}
 use Rattle.lmtp_session.specs.Steps.{MayStop}
 use Rattle.lmtp_talk.specs.Peer.{PeerState, WasRead}
 use Rattle.lmtp_talk.specs.TalkState.{IsSoFar, talk_state, beginning}
-use Rattle.lmtp_talk.proofs.conversation.take_turns.Given as goal
+use Rattle.lmtp_talk.proofs.conversation.take_rounds.Given as goal
 
--- each turn so far brought a byte at least
+-- each round so far brought a byte at least
 abbrev pub invariant-loop-made : goal.invariant-loop-made
 invariant-loop-made g l = record {
   may : MayStop l.dialogue.session.session.state;

@@ -6,30 +6,30 @@ use Rattle.lmtp_talk.specs.declared.peer.Came.{Came}
 use Rattle.lmtp_talk.specs.declared.peer.Came.TheVariants.{Bytes, End, Stop}
 use Rattle.lmtp_talk.specs.Peer.{HasBrought}
 use Rattle.lmtp_talk.specs.Served.{terms, IsServed}
-use Rattle.lmtp_talk.specs.Turns.{TakesTurn, EndsTurn, stopped_or}
+use Rattle.lmtp_talk.specs.Rounds.{TakesRound, EndsRound, stopped_or}
 use Rattle.lmtp_talk.proofs.Ends.{served, served_read_fault, served_stopped}
-use Rattle.lmtp_talk.proofs.Turning.{stands_still, may_not_ended, turns_by}
+use Rattle.lmtp_talk.proofs.Rounds.{stands_still, may_not_ended, turns_by}
 use Rattle.lmtp_talk.proofs.Counting.{read_one}
 use Rattle.lmtp_talk.specs.Steps.{talk}
-use Rattle.lmtp_talk.proofs.conversation.take_turn.Goals as goal
+use Rattle.lmtp_talk.proofs.conversation.take_round.Goals as goal
 
-pub returns-then-is_broken-clause-turn : goal.returns-then-is_broken-clause-turn
-returns-then-is_broken-clause-turn g c reads site start first handled h =
+pub returns-then-is_broken-clause-round : goal.returns-then-is_broken-clause-round
+returns-then-is_broken-clause-round g c reads site start first handled h =
     served reads site start (g.P.Peer.state c.args.peer.now) (g.D.Delivery.HasCome first) (g.D.Delivery.HasCome c.args.delivery.now)
     (g.D.Delivery.HasCome c.leave.new.delivery) (g.D.Delivery.IsDrafting c.args.delivery.now)
     c.args.dialogue.now handled ends.WriteFault h c.leave.ensures.leaves (sym c.is_broken.ensures ∙ c.if-is_broken.true)
 
-pub returns-in-Ok-Bytes-clause-turn : goal.returns-in-Ok-Bytes-clause-turn
-returns-in-Ok-Bytes-clause-turn g c =
+pub returns-in-Ok-Bytes-clause-round : goal.returns-in-Ok-Bytes-clause-round
+returns-in-Ok-Bytes-clause-round g c =
     let came : HasBrought (g.P.Peer.state c.args.peer.now) (g.P.Peer.state c.read.new.self) c.read.new.buffer (Bytes c.in-Ok-Bytes.size) =
     subst (λ (x : Came). HasBrought (g.P.Peer.state c.args.peer.now) (g.P.Peer.state c.read.new.self) c.read.new.buffer x) c.in-Ok-Bytes.field-0-is
     c.in-Ok-Bytes.ensures.ok in
     let size : length (take c.in-Ok-Bytes.size c.read.new.buffer) ≡ c.in-Ok-Bytes.size = length-take-le c.in-Ok-Bytes.size c.read.new.buffer came.1 in
     let some : 0 < length (take c.in-Ok-Bytes.size c.read.new.buffer) = omega (arith, size, came.0) in
     let by : Option EndCause → Type 0 = λ o. MatchOption o
-    (TakesTurn g.D.Delivery.HasCome g.D.Delivery.IsDrafting (talk c.args.dialogue.now (g.P.Peer.state c.args.peer.now) c.args.delivery.now)
+    (TakesRound g.D.Delivery.HasCome g.D.Delivery.IsDrafting (talk c.args.dialogue.now (g.P.Peer.state c.args.peer.now) c.args.delivery.now)
     (talk c.take_piece.new.dialogue (g.P.Peer.state c.take_piece.new.peer) c.take_piece.new.delivery))
-    (λ end. (reads : ℕ) → EndsTurn g.D.Delivery.HasCome g.D.Delivery.IsDrafting reads
+    (λ end. (reads : ℕ) → EndsRound g.D.Delivery.HasCome g.D.Delivery.IsDrafting reads
     (talk c.args.dialogue.now (g.P.Peer.state c.args.peer.now) c.args.delivery.now)
     (talk c.take_piece.new.dialogue (g.P.Peer.state c.take_piece.new.peer) c.take_piece.new.delivery) end) in
     subst by (sym c.end_or_go_on.ensures)
@@ -38,8 +38,8 @@ returns-in-Ok-Bytes-clause-turn g c =
     c.args.delivery.now c.take_piece.new.delivery (take c.in-Ok-Bytes.size c.read.new.buffer) c.take_piece.new.dialogue.session.session.state refl
     c.take_piece.ensures.none some came.2 c.take_piece.ensures.handles)
 
-pub returns-in-Ok-End-clause-turn : goal.returns-in-Ok-End-clause-turn
-returns-in-Ok-End-clause-turn g c reads site start first handled h =
+pub returns-in-Ok-End-clause-round : goal.returns-in-Ok-End-clause-round
+returns-in-Ok-End-clause-round g c reads site start first handled h =
     let came : HasBrought (g.P.Peer.state c.args.peer.now) (g.P.Peer.state c.read.new.self) c.read.new.buffer End =
     subst (λ (x : Came). HasBrought (g.P.Peer.state c.args.peer.now) (g.P.Peer.state c.read.new.self) c.read.new.buffer x) c.in-Ok-End.field-0-is
     c.in-Ok-End.ensures.ok in
@@ -54,8 +54,8 @@ returns-in-Ok-End-clause-turn g c reads site start first handled h =
       came.1,
     )
 
-pub returns-in-Ok-Stop-clause-turn : goal.returns-in-Ok-Stop-clause-turn
-returns-in-Ok-Stop-clause-turn g c reads site start first handled h =
+pub returns-in-Ok-Stop-clause-round : goal.returns-in-Ok-Stop-clause-round
+returns-in-Ok-Stop-clause-round g c reads site start first handled h =
     let came : HasBrought (g.P.Peer.state c.args.peer.now) (g.P.Peer.state c.read.new.self) c.read.new.buffer Stop =
     subst (λ (x : Came). HasBrought (g.P.Peer.state c.args.peer.now) (g.P.Peer.state c.read.new.self) c.read.new.buffer x) c.in-Ok-Stop.field-0-is
     c.in-Ok-Stop.ensures.ok in
@@ -69,8 +69,8 @@ returns-in-Ok-Stop-clause-turn g c reads site start first handled h =
     c.leave-in-Ok-Stop.ensures.leaves (may_not_ended c.args.dialogue.now.session.session.state c.requires.may) came c.stop.ensures.takes c.stop.ensures.untold
     c.stop.ensures.none)
 
-pub returns-in-Err-clause-turn : goal.returns-in-Err-clause-turn
-returns-in-Err-clause-turn g c reads site start first handled h =
+pub returns-in-Err-clause-round : goal.returns-in-Err-clause-round
+returns-in-Err-clause-round g c reads site start first handled h =
     served_read_fault reads site start (g.P.Peer.state c.args.peer.now) (g.P.Peer.state c.read.new.self) (g.D.Delivery.HasCome first)
     (g.D.Delivery.HasCome c.args.delivery.now) (g.D.Delivery.HasCome c.leave-in-Err.new.delivery) (g.D.Delivery.IsDrafting c.args.delivery.now)
     c.args.dialogue.now handled h c.leave-in-Err.ensures.leaves (record { whole = sym c.is_broken.ensures ∙ c.if-is_broken.false; none = c.requires.none })

@@ -1,4 +1,4 @@
--- The turns of a conversation: a read, what it brings, and how it ends.
+-- The rounds of a conversation: a read, what it brings, and how it ends.
 use Rattle.std.specs.Prelude.{◌≡◌, ◌<◌, ℕ, Bool, true, false, List, [], ◌++◌, length, Option, Some, None}
 use Rattle.mail_world.specs.declared.Reply.TheVariants.{Greeting}
 use Rattle.mail_world.specs.Site.{Site}
@@ -38,17 +38,17 @@ pub record IsFurther (first : Beginning) (now : TalkState) (handled : List ℕ) 
   pub some : 0 < length more
   pub stands : IsSoFar first now (handled ++ more) (handled ++ more)
 
--- a turn after which the conversation goes on
-abbrev pub TakesTurn : {D : Type 0} → (D → ℕ → List Transaction → Type 0)
+-- a round after which the conversation goes on
+abbrev pub TakesRound : {D : Type 0} → (D → ℕ → List Transaction → Type 0)
     → (D → ℕ → List Transaction → List ℕ → Type 0) → Talk D → Talk D → Type 0
-TakesTurn {D} HasCome IsDrafting old new = (site : Site) (start : PeerState) (first : D) (handled : List ℕ)
+TakesRound {D} HasCome IsDrafting old new = (site : Site) (start : PeerState) (first : D) (handled : List ℕ)
     → IsSoFar (beginning site start (HasCome first)) (standing_of HasCome IsDrafting old) handled handled
     → IsFurther (beginning site start (HasCome first)) (standing_of HasCome IsDrafting new) handled
 
--- what holds after the last turn of a conversation that may make that many reads
-abbrev pub EndsTurn : {D : Type 0} → (D → ℕ → List Transaction → Type 0) → (D → ℕ → List Transaction → List ℕ → Type 0)
+-- what holds after the last round of a conversation that may make that many reads
+abbrev pub EndsRound : {D : Type 0} → (D → ℕ → List Transaction → Type 0) → (D → ℕ → List Transaction → List ℕ → Type 0)
     → ℕ → Talk D → Talk D → EndCause → Type 0
-EndsTurn {D} HasCome IsDrafting reads old new end = (site : Site) (start : PeerState) (first : D) (handled : List ℕ)
+EndsRound {D} HasCome IsDrafting reads old new end = (site : Site) (start : PeerState) (first : D) (handled : List ℕ)
     → IsSoFar (beginning site start (HasCome first)) (standing_of HasCome IsDrafting old) handled handled
     → IsServed (terms site reads) start new.peer (HasCome first) (HasCome new.delivery) end
 
@@ -60,7 +60,7 @@ HandlesPiece {D} HasCome IsDrafting old new piece = (site : Site) (start : PeerS
     → IsSoFar (beginning site start (HasCome first)) (standing_of HasCome IsDrafting new) (handled ++ piece)
     (handled ++ piece)
 
--- where a turn ends with QUIT; a write that failed comes before it
+-- where a round ends with QUIT; a write that failed comes before it
 abbrev pub quit_or : Bool → EndCause
 quit_or true = ends.WriteFault
 quit_or false = ends.Quit

@@ -1,4 +1,4 @@
--- Turns of a conversation, from what was read to what it comes to.
+-- Rounds of a conversation, from what was read to what it comes to.
 use Rattle.std.proofs.Common.{◌≡◌, ℕ, ◌<◌, Bool, true, false, List, [], ◌++◌, length, refl, sym, ap, ◌∙◌, subst, append-nil}
 use Rattle.std.specs.Prelude.{MatchOption}
 use Rattle.mail_world.specs.declared.State.{State}
@@ -14,7 +14,7 @@ use Rattle.lmtp_talk.specs.declared.ending.EndCause.TheVariants as ends
 use Rattle.lmtp_talk.specs.Peer.{PeerState, HasTransferred}
 use Rattle.lmtp_talk.specs.Saying.{OutboxView, HasSaid}
 use Rattle.lmtp_talk.specs.TalkState.{Comes, IsInside, IsSoFar, talk_state, beginning}
-use Rattle.lmtp_talk.specs.Turns.{Greets, TakesTurn, EndsTurn, HandlesPiece, quit_or, end_after}
+use Rattle.lmtp_talk.specs.Rounds.{Greets, TakesRound, EndsRound, HandlesPiece, quit_or, end_after}
 use Rattle.lmtp_talk.proofs.Written.{moved_none, said_reading}
 use Rattle.lmtp_talk.proofs.CutUp.{cut_none}
 use Rattle.lmtp_talk.proofs.Entered.{with_none}
@@ -130,12 +130,12 @@ module _ {D : Type 0} (HasCome : D → ℕ → List Transaction → Type 0) (IsD
       (stands_reading site start before read (HasCome first) (HasCome delivery) (IsDrafting delivery) old handled handled piece h w)
 
   goes_on : 0 < length piece → HasTransferred before read piece [] → HandlesPiece HasCome IsDrafting (talk old read delivery) (talk new after later) piece
-      → TakesTurn HasCome IsDrafting (talk old before delivery) (talk new after later)
+      → TakesRound HasCome IsDrafting (talk old before delivery) (talk new after later)
   goes_on some w handles site start first handled h = record { more = piece; some = some; stands = handled_all w handles site start first handled h }
 
   ends_with : (reads : ℕ) (broken : Bool) → new.session.session.state ≡ Ended → new.outbox.broken ≡ broken → new.outbox.pending ≡ []
       → HasTransferred before read piece [] → HandlesPiece HasCome IsDrafting (talk old read delivery) (talk new after later) piece
-      → EndsTurn HasCome IsDrafting reads (talk old before delivery) (talk new after later) (quit_or broken)
+      → EndsRound HasCome IsDrafting reads (talk old before delivery) (talk new after later) (quit_or broken)
   ends_with reads true ended broken none w handles site start first handled h =
       served reads site start after (HasCome first) (HasCome later) (HasCome later) (IsDrafting later) new (handled ++ piece) ends.WriteFault
       (handled_all w handles site start first handled h)
@@ -148,7 +148,7 @@ module _ {D : Type 0} (HasCome : D → ℕ → List Transaction → Type 0) (IsD
 
   never_waits : (reads : ℕ) (broken : Bool) → new.session.session.state ≡ Waiting → HasTransferred before read piece []
       → HandlesPiece HasCome IsDrafting (talk old read delivery) (talk new after later) piece
-      → EndsTurn HasCome IsDrafting reads (talk old before delivery) (talk new after later) (quit_or broken)
+      → EndsRound HasCome IsDrafting reads (talk old before delivery) (talk new after later) (quit_or broken)
   never_waits reads broken waits w handles site start first handled h =
       let s = handled_all w handles site start first handled h in
       absurd (subst (λ (x : State). IsInside x new s.rest (Comes site s.done (HasCome first) (HasCome later))
@@ -156,8 +156,8 @@ module _ {D : Type 0} (HasCome : D → ℕ → List Transaction → Type 0) (IsD
 
   pub turns_by : (state : State) → new.session.session.state ≡ state → new.outbox.pending ≡ [] → 0 < length piece → HasTransferred before read piece []
       → HandlesPiece HasCome IsDrafting (talk old read delivery) (talk new after later) piece
-      → MatchOption (end_after state new.outbox.broken) (TakesTurn HasCome IsDrafting (talk old before delivery) (talk new after later))
-      (λ end. (reads : ℕ) → EndsTurn HasCome IsDrafting reads (talk old before delivery) (talk new after later) end)
+      → MatchOption (end_after state new.outbox.broken) (TakesRound HasCome IsDrafting (talk old before delivery) (talk new after later))
+      (λ end. (reads : ℕ) → EndsRound HasCome IsDrafting reads (talk old before delivery) (talk new after later) end)
   turns_by Fresh e none some w handles = goes_on some w handles
   turns_by Greeted e none some w handles = goes_on some w handles
   turns_by Sender e none some w handles = goes_on some w handles
